@@ -1,0 +1,38 @@
+-- Where the elements of an array lie.
+-- GVariant Specification, "Arrays". Of a fixed size: one after the other, none where the bytes aren't a
+-- multiple of it. Of no fixed size: the bytes end with the end of each element as a framing offset; the
+-- last offset is where the offsets begin, and so tells how many there are. None where it can't be.
+use Rattle.std.specs.Prelude.{ℕ, zero, suc, ◌+◌, ◌-◌, ◌/◌, ◌%◌, List, [], ◌∷◌, length, take, drop, Option, Some, None, nat_le, ◌==◌, ◌&&◌, if◌then◌else◌}
+use Rattle.gv_model.specs.Ty.{Ty}
+use Rattle.gv_model.specs.Layout.{alignment, round_up, offset_width}
+use Rattle.gv_model.specs.BasicValue.{number_in}
+use Rattle.gv_model.specs.Children.{Span}
+
+-- count elements of one size from p on
+unfoldable pub even_spans : Ty → ℕ → ℕ → ℕ → List (Ty × Span)
+even_spans t size p zero = []
+even_spans t size p (suc count) = (t, Some (p, p + size)) ∷ even_spans t size (p + size) count
+
+-- count numbers of w bytes each
+unfoldable pub numbers_in : ℕ → ℕ → List ℕ → List ℕ
+numbers_in w zero b = []
+numbers_in w (suc count) b = number_in (take w b) ∷ numbers_in w count (drop w b)
+
+-- elements with these ends, each from the end of the one before, aligned
+unfoldable pub framed_spans : Ty → ℕ → List ℕ → List (Ty × Span)
+framed_spans t p [] = []
+framed_spans t p (e ∷ ends) = (t, Some (round_up (alignment t) p, e)) ∷ framed_spans t e ends
+
+-- the elements of an array whose offsets, of w bytes each, begin at e
+abbrev pub framed_from : Ty → ℕ → ℕ → List ℕ → List (Ty × Span)
+framed_from t w e b =
+    if nat_le e (length b) && ((length b - e) % w == 0)
+    then framed_spans t 0 (numbers_in w ((length b - e) / w) (drop e b))
+    else []
+
+-- the elements by their size, if it is fixed
+abbrev pub element_spans : Ty → List ℕ → Option ℕ → List (Ty × Span)
+element_spans t b (Some size) = if length b % size == 0 then even_spans t size 0 (length b / size) else []
+element_spans t b None =
+    let w = offset_width (length b) in
+    if length b == 0 then [] else framed_from t w (number_in (drop (length b - w) b)) b

@@ -1,0 +1,38 @@
+-- Where a container's children lie in its bytes.
+-- GVariant Specification, "Framing Offsets", and of "Handling Non-Normal Serialised Data" the parts on
+-- framing offsets. A child without valid bounds lies at (0, 0), and so has no bytes.
+use Rattle.std.specs.Prelude.{ℕ, ◌+◌, ◌-◌, ◌*◌, List, map, length, take, drop, slice_range, Option, Some, None, nat_le, nat_lt, ◌&&◌, if◌then◌else◌}
+use Rattle.gv_model.specs.Ty.{Ty}
+use Rattle.gv_model.specs.BasicValue.{number_in}
+
+-- a child of a container: its type, and where its bytes begin and end
+pub record Child : Type 0 where
+  pub type : Ty
+  pub from : ℕ
+  pub to : ℕ
+
+-- where a child should lie by the framing offsets, if these are there
+abbrev pub Span : Type 0
+Span = Option (ℕ × ℕ)
+
+-- (0, 0) where it doesn't lie so within n bytes
+abbrev pub bounds : ℕ → Span → ℕ × ℕ
+bounds n None = (0, 0)
+bounds n (Some s) = if nat_le s.0 s.1 && nat_le s.1 n then s else (0, 0)
+
+abbrev pub child_at : ℕ → Ty × Span → Child
+child_at n c = let s = bounds n c.1 in record { type = c.0; from = s.0; to = s.1 }
+
+abbrev pub children_at : ℕ → List (Ty × Span) → List Child
+children_at n cs = map (child_at n) cs
+
+-- framing offset k from the end, each of w bytes, where it stands whole within the bytes
+abbrev pub framing_offset : ℕ → List ℕ → ℕ → Option ℕ
+framing_offset w b k =
+    if nat_lt 0 w && nat_le (w * (k + 1)) (length b)
+    then Some (number_in (take w (drop (length b - w * (k + 1)) b)))
+    else None
+
+-- the bytes of a child of b
+abbrev pub bytes_of : List ℕ → Child → List ℕ
+bytes_of b c = slice_range b c.from c.to

@@ -1,0 +1,17 @@
+pub mod Ty
+pub mod TypeText
+pub mod TypeFault
+pub mod Layout
+pub mod Tree
+pub mod Texts
+pub mod Typed
+pub mod BasicValue
+pub mod Children
+pub mod Arrays
+pub mod Maybes
+pub mod Tuples
+pub mod Variants
+pub mod Decode
+pub mod Quoted
+pub mod Printed
+pub mod Laws

@@ -1,0 +1,35 @@
+//! What GVariant means: definitions of types, values, bytes and printed text in specs/, and their laws as
+//! functions with empty bodies, whose contracts are the laws. There is no program code here: nothing is
+//! computed when the functions are called, and nothing fails.
+#![tactic(auto)]
+
+ghost use Rattle.gv_model.specs.Laws.{NoTypeBeginsAnother, HasTypeWhereSpelled, EmptyReadsAsDefault, IsReading, IsOnlyReading, HasChildrenOfCut, ChildIsRead};
+ghost use Rattle.gv_model.specs.Decode.{decode};
+
+/// No type's text begins another's, so a sequence of types is read in one way only.
+pub fn no_type_begins_another()
+    ensures { NoTypeBeginsAnother }
+{}
+
+/// A text has a type exactly where it is that type's spelling, within the limits of depth and length.
+pub fn has_type_where_spelled()
+    ensures { HasTypeWhereSpelled }
+{}
+
+/// The value of a container's bytes is the tree over the values of its children's bytes, and no other
+/// function from types and bytes to trees reads so.
+pub fn one_reading()
+    ensures reads { IsReading decode }
+    ensures alone { IsOnlyReading }
+{}
+
+/// A value has as many children as its bytes are cut into, and child i is the value of child i's bytes.
+pub fn children_are_read()
+    ensures count { HasChildrenOfCut }
+    ensures each { ChildIsRead }
+{}
+
+/// No bytes read as the default of every type.
+pub fn empty_reads_as_default()
+    ensures { EmptyReadsAsDefault }
+{}
