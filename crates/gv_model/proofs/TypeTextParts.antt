@@ -1,12 +1,13 @@
--- The parts of a type's text.
-use Rattle.std.proofs.Common.{◌<◌, ◌⊎◌, inl, inr, ℕ, ◌≤◌, ◌≡◌, List, [], ◌∷◌, length, Option, Some, None, true, false, refl, sym, ap, ◌∙◌, subst, arith}
+-- The type that a checked text spells, and what lies within its limits.
+use Rattle.std.proofs.Common.{ℕ, zero, suc, ◌≤◌, ◌<◌, ◌≡◌, List, [], ◌∷◌, ◌++◌, length, Option, Some, None, true, false, refl, sym, ap, subst, ◌∙◌, arith}
 use Rattle.std.specs.Prelude.{is_some, unwrap_or}
-use Rattle.gv_model.specs.Ty.{Ty, Basic, spelling, nesting, letter}
+use Rattle.std.specs.Str.{IsAscii}
+use Rattle.std.proofs.lemmas.Str.{IsAscii-append}
+use Rattle.gv_model.specs.Ty.{Ty, Types, Basic, letter, spelling, spellings, nesting}
 use Rattle.gv_model.specs.Ty.Ty.{basic, variant, array, maybe, tuple, entry}
-use Rattle.gv_model.specs.Ty.Types.{end}
+use Rattle.gv_model.specs.Ty.Types.{end, member}
 use Rattle.gv_model.specs.TypeText.{type_of_text, is_within_limits, is_type, type_at}
-use Rattle.gv_model.proofs.TypeTextLaws.{type_of_text-spelling}
-use Rattle.gv_model.proofs.TypeTextSound.{spelling_of_read}
+use Rattle.gv_model.proofs.TypeTextSound.{spelling_of_read, type_where_spelled}
 
 -- what a text of a type spells
 pub spelling-type_at : (w : List ℕ) → is_type w ≡ true → (spelling (type_at w) ≡ w) × (is_within_limits (type_at w) w ≡ true)
@@ -19,45 +20,46 @@ spelling-type_at w h = go (type_of_text w) refl h
         false_true p = cc
     go (Some t) e k = spelling_of_read w t e
 
-limits_down : (t u : Ty) (w v : List ℕ) → nesting u ≤ nesting t → length v ≤ length w → is_within_limits t w ≡ true → is_within_limits u v ≡ true
+-- a text of a type within the limits
+pub record IsTextOfType (t : Ty) (w : List ℕ) : Type 0 where
+  pub checked : is_type w ≡ true
+  pub type : type_at w ≡ t
+
+pub text_of_type : (t : Ty) (w : List ℕ) → spelling t ≡ w → is_within_limits t w ≡ true → IsTextOfType t w
+text_of_type t w e h =
+    let found : type_of_text w ≡ Some t = (type_where_spelled w t).1 (e, h) in
+    record { checked = ap is_some found; type = ap (λ (o : Option Ty). unwrap_or o (tuple end)) found }
+
+-- a part of a type lies within the limits that the type lies within
+pub limits_down : (t u : Ty) (w v : List ℕ) → nesting u ≤ nesting t → length v ≤ length w → is_within_limits t w ≡ true → is_within_limits u v ≡ true
 limits_down t u w v h g k = grind arith
 
-heads : (c d : ℕ) (xs ys : List ℕ) → c ∷ xs ≡ d ∷ ys → c ≡ d
-heads c d xs ys e = cc
+-- ---- a type's text is ASCII
 
-tails : (c d : ℕ) (xs ys : List ℕ) → c ∷ xs ≡ d ∷ ys → xs ≡ ys
-tails c d xs ys e = cc
+IsAscii-cons : (c : ℕ) (bs : List ℕ) → c < 128 → IsAscii bs → IsAscii (c ∷ bs)
+IsAscii-cons c bs low h zero = low
+IsAscii-cons c bs low h (suc i) = h i
 
-letter_not_a : (k : Basic) → letter k ≡ 97 → ⊥
-letter_not_a Basic.boolean p = omega arith
-letter_not_a Basic.byte p = omega arith
-letter_not_a _ p = omega arith
+IsAscii-nil : IsAscii []
+IsAscii-nil i = omega arith
 
-other_head : (c : ℕ) (xs w : List ℕ) → 97 < c ⊎ c < 97 → c ∷ xs ≡ 97 ∷ w → ⊥
-other_head c xs w h e = let same : c ≡ 97 = heads c 97 xs w e in omega arith
+letter_low : (k : Basic) → letter k < 128
+letter_low Basic.boolean = omega arith
+letter_low _ = omega arith
 
-array_of : (t : Ty) (w : List ℕ) → spelling t ≡ 97 ∷ w → is_within_limits t (97 ∷ w) ≡ true → (u : Ty) × (t ≡ array u) × (type_of_text w ≡ Some u)
-unfolding spelling nesting
-array_of (basic k) w e h = absurd (letter_not_a k (heads _ 97 [] w e))
-array_of variant w e h = absurd (other_head 118 _ w (inl (omega arith)) e)
-array_of (array u) w e h =
-    let same : spelling u ≡ w = tails _ _ _ _ e in
-    (u, refl, ap type_of_text (sym same) ∙ type_of_text-spelling u (subst (λ (v : List ℕ). is_within_limits u v ≡ true) (sym same) (limits_down (array u) u (97 ∷ w) w (omega arith) (omega arith) h)))
-array_of (maybe u) w e h = absurd (other_head 109 _ w (inl (omega arith)) e)
-array_of (tuple ts) w e h = absurd (other_head 40 _ w (inr (omega arith)) e)
-array_of (entry k u) w e h = absurd (other_head 123 _ w (inl (omega arith)) e)
+mutual
+  unfolding spelling spellings
+  pub spelling_is_ascii : (t : Ty) → IsAscii (spelling t)
+  spelling_is_ascii (basic k) = IsAscii-cons (letter k) [] (letter_low k) IsAscii-nil
+  spelling_is_ascii variant = IsAscii-cons 118 [] (omega arith) IsAscii-nil
+  spelling_is_ascii (array t) = IsAscii-cons 97 (spelling t) (omega arith) (spelling_is_ascii t)
+  spelling_is_ascii (maybe t) = IsAscii-cons 109 (spelling t) (omega arith) (spelling_is_ascii t)
+  spelling_is_ascii (tuple ts) = IsAscii-cons 40 (spellings ts ++ 41 ∷ []) (omega arith) (IsAscii-append (spellings ts) (41 ∷ []) (spellings_are_ascii ts) (IsAscii-cons 41 [] (omega arith) IsAscii-nil))
+  spelling_is_ascii (entry k t) = IsAscii-cons 123 (letter k ∷ (spelling t ++ 125 ∷ [])) (omega arith) (IsAscii-cons (letter k) (spelling t ++ 125 ∷ []) (letter_low k) (IsAscii-append (spelling t) (125 ∷ []) (spelling_is_ascii t) (IsAscii-cons 125 [] (omega arith) IsAscii-nil)))
 
--- behind `a` stands the text of the element
-pub text_of_element : (w : List ℕ) → is_type (97 ∷ w) ≡ true → (is_type w ≡ true) × (type_at (97 ∷ w) ≡ array (type_at w))
-text_of_element w h =
-    let whole = spelling-type_at (97 ∷ w) h in
-    let part = array_of (type_at (97 ∷ w)) w whole.0 whole.1 in
-    (ap is_some part.2, part.1 ∙ ap array (ap (λ (o : Option Ty). unwrap_or o (tuple end)) (sym part.2)))
+  spellings_are_ascii : (ts : Types) → IsAscii (spellings ts)
+  spellings_are_ascii end = IsAscii-nil
+  spellings_are_ascii (member t ts) = IsAscii-append (spelling t) (spellings ts) (spelling_is_ascii t) (spellings_are_ascii ts)
 
-spelling_array : (u : Ty) → spelling (array u) ≡ 97 ∷ spelling u
-unfolding spelling
-spelling_array u = refl
-
--- a text that doesn't begin with `a` is no array's
-pub no_array_text : (w : List ℕ) → ((rest : List ℕ) → w ≡ 97 ∷ rest → ⊥) → is_type w ≡ true → (u : Ty) → type_at w ≡ array u → ⊥
-no_array_text w f h u e = f (spelling u) (sym (spelling-type_at w h).0 ∙ (ap spelling e ∙ spelling_array u))
+pub type_text_is_ascii : (w : List ℕ) → is_type w ≡ true → IsAscii w
+type_text_is_ascii w h = subst IsAscii (spelling-type_at w h).0 (spelling_is_ascii (type_at w))

@@ -10,7 +10,7 @@ use Rattle.gv_model.specs.TypeText.Seen.{nothing, type, tuple_end, entry_end, wr
 use Rattle.gv_model.proofs.TypeTextLaws.{type_of_text-spelling}
 
 -- the byte of a mark
-abbrev IsByteOf : Mark → ℕ → Type 0
+abbrev pub IsByteOf : Mark → ℕ → Type 0
 IsByteOf (letter k) c = c ≡ letter_of k
 IsByteOf of_variant c = c ≡ 118
 IsByteOf of_array c = c ≡ 97
@@ -28,7 +28,7 @@ either c n m rest f h = go (c == n) refl
     go true e = f (eqb-true c n e)
     go false e = h
 
-byte_of_mark : (c : ℕ) → IsByteOf (mark c) c
+pub byte_of_mark : (c : ℕ) → IsByteOf (mark c) c
 unfolding mark
 byte_of_mark c =
     either c 98 _ _ (λ e. e) (either c 121 _ _ (λ e. e) (either c 110 _ _ (λ e. e) (either c 113 _ _ (λ e. e)

@@ -1,0 +1,19 @@
+-- What a type text shows: its text, its type, the type of its elements.
+use Rattle.std.specs.Prelude.{ℕ, List, Option, Some, None}
+use Rattle.gv_model.specs.Ty.{Ty}
+use Rattle.gv_model.specs.Ty.Ty.{array, maybe}
+use Rattle.gv_model.specs.TypeText.{type_at}
+use Rattle.gv_types.specs.declared.type_str.TypeStr.{TypeStr}
+
+abbrev pub text_of : TypeStr → List ℕ
+text_of t = t.text.now
+
+-- the type that the text spells
+abbrev pub ty : TypeStr → Ty
+ty t = type_at t.text.now
+
+-- the type that an array or a maybe holds
+abbrev pub element_of : Ty → Option Ty
+element_of (array t) = Some t
+element_of (maybe t) = Some t
+element_of _ = None
