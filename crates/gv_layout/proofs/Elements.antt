@@ -54,7 +54,7 @@ pub record CutsEvenly (t : Ty) (b : List ℕ) (u : Ty) (size : ℕ) : Type 0 whe
   pub within : (i : ℕ) → i < length (cut t b) → size * i + size ≤ length b
   pub at : (i : ℕ) → i < length (cut t b) → slice_get (cut t b) i ≡ Some (record { type = u; from = size * i; to = size * i + size })
 
-settle : (c d n : ℕ) → c ≤ d → d ≤ n → bounds n (Some (c, d)) ≡ (c, d)
+pub settle : (c d n : ℕ) → c ≤ d → d ≤ n → bounds n (Some (c, d)) ≡ (c, d)
 settle c d n h g =
     let first : nat_le c d ≡ true = grind arith in
     let second : nat_le d n ≡ true = grind arith in
@@ -142,7 +142,28 @@ even_array (maybe t) b i h lt = absurd (false_true h)
 even_array (tuple ts) b i h lt = absurd (false_true h)
 even_array (entry k t) b i h lt = absurd (false_true h)
 
-fixed_size-basic : (k : Basic) → fixed_size (basic k) ≡ basic_size k
+pub even_of_element : (t u : Ty) → is_handled t ≡ true → element_of t ≡ Some u → IsEvenArray t
+even_of_element (array (basic k)) u h e = sized_basic k h
+even_of_element (basic k) u h e = absurd (none_some u e)
+even_of_element variant u h e = absurd (false_true h)
+even_of_element (array variant) u h e = absurd (false_true h)
+even_of_element (array (array t)) u h e = absurd (false_true h)
+even_of_element (array (maybe t)) u h e = absurd (false_true h)
+even_of_element (array (tuple ts)) u h e = absurd (false_true h)
+even_of_element (array (entry k t)) u h e = absurd (false_true h)
+even_of_element (maybe t) u h e = absurd (false_true h)
+even_of_element (tuple ts) u h e = absurd (false_true h)
+even_of_element (entry k t) u h e = absurd (false_true h)
+
+pub no_element_no_child : (t : Ty) (b : List ℕ) → is_handled t ≡ true → element_of t ≡ None → cut t b ≡ []
+no_element_no_child (basic k) b h e = cut-basic k b
+no_element_no_child (array t) b h e = absurd (none_some t (sym e))
+no_element_no_child variant b h e = absurd (false_true h)
+no_element_no_child (maybe t) b h e = absurd (false_true h)
+no_element_no_child (tuple ts) b h e = absurd (false_true h)
+no_element_no_child (entry k t) b h e = absurd (false_true h)
+
+pub fixed_size-basic : (k : Basic) → fixed_size (basic k) ≡ basic_size k
 unfolding fixed_size
 fixed_size-basic k = refl
 

@@ -1,0 +1,8 @@
+-- The text in bytes, if there is one.
+use Rattle.std.specs.Prelude.{ℕ, List, Option, Some, None, if◌then◌else◌, option_and_then}
+use Rattle.std.specs.Str.{is_utf8}
+use Rattle.gv_model.specs.BasicValue.{text_in}
+
+-- the text before a zero byte that is the last and the only one, if it is UTF-8
+abbrev pub utf8_in : List ℕ → Option (List ℕ)
+utf8_in b = option_and_then (λ s. if is_utf8 s then Some s else None) (text_in b)

@@ -1,0 +1,41 @@
+-- What a view shows: a type, bytes, and the value that they are at that type.
+use Rattle.std.specs.Prelude.{◌≡◌, ℕ, Bool, true, false, List, Option, Some, None}
+use Rattle.gv_model.specs.Ty.{Ty}
+use Rattle.gv_model.specs.Tree.{Tree}
+use Rattle.gv_model.specs.Children.{Child, bytes_of}
+use Rattle.gv_model.specs.Decode.{decode}
+use Rattle.gv_types.specs.declared.type_str.TypeStr.{TypeStr}
+use Rattle.gv_types.specs.TypeStr.{ty}
+use Rattle.gv_view.specs.declared.view.View.{View}
+
+-- its type's text, and that type
+abbrev pub type_str_of : View → TypeStr
+type_str_of v = v.type_str
+
+abbrev pub view_ty : View → Ty
+view_ty v = ty v.type_str
+
+-- the bytes that it reads
+abbrev pub view_bytes : View → List ℕ
+view_bytes v = v.bytes.now
+
+-- the value that the bytes are at the type
+abbrev pub value : View → Tree
+value v = decode (ty v.type_str) v.bytes.now
+
+-- the view of a child has the child's type and exactly the child's bytes
+pub record Shows (b : List ℕ) (child : Child) (v : View) : Type 0 where
+  pub type : ty v.type_str ≡ child.type
+  pub bytes : v.bytes.now ≡ bytes_of b child
+
+-- the view of this child of b, where there is one
+abbrev pub Lends : List ℕ → Option Child → Option View → Type 0
+Lends b None None = Unit {0}
+Lends b (Some child) (Some v) = Shows b child v
+Lends b None (Some v) = ⊥
+Lends b (Some child) None = ⊥
+
+-- the bits of a boolean
+abbrev pub truth_bits : Bool → ℕ
+truth_bits true = 1
+truth_bits false = 0
