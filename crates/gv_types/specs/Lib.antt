@@ -1,3 +1,4 @@
 pub mod Classes
 pub mod Handled
 pub mod TypeStr
+pub mod TypeFaults

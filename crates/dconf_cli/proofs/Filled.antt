@@ -1,0 +1,231 @@
+-- After a walk over words, each row has a value, where the flags only ask for help or the version.
+use Rattle.std.proofs.Common.{◌≡◌, ◌<◌, ◌++◌, ◌&&◌, ℕ, Bool, true, false, zero, suc, List, [], ◌∷◌, length, refl, sym, subst, Option, Some, None, arith, length-append, if◌then◌else◌}
+use Rattle.std.specs.Prelude.{⊤, IsSome, fold, slice_get, drop, encode_utf8}
+use Rattle.std.specs.Str.{bytes_eq, chars}
+use Rattle.clap.specs.declared.builder.ArgAction.{ArgAction}
+use Rattle.clap.specs.declared.builder.ArgAction.TheVariants as action
+use Rattle.clap.specs.declared.builder.value_parser.Reading.{Reading}
+use Rattle.clap.specs.declared.parser.matches.ValueSource.{ValueSource}
+use Rattle.clap.specs.Lexer.{long_of, short_of}
+use Rattle.clap.specs.Walk.{Row, Rule, Text, Held, Walk, Names, Waiting, idle, option, positional, Step, next, trailing, subcommand, value, Outcome, done, waits, plain, refused}
+use Rattle.clap.specs.Walk.{at_row, without, with_values, more_values, used_as, used, used_by_id, settled_rows, settled, reacted, started, pushed, action_of, reading_by, takes_values, takes_several, is_pending, has_row, with_default, default_rows, finished}
+use Rattle.clap.specs.Walk.{arg_by_id, arg_by_long, arg_by_short, arg_by_index, flag_met, long_met, short_met, bundle_step, bundle_met, bundle, option_word, plain_word, after_flag, short_or_plain, long_or_other, subcommand_met, subcommand_or_other, word_met, positional_held, to_positional, after_step, walked_from, walked, walk_from, walk}
+use Rattle.clap.specs.Takes.{is_given}
+use Rattle.clap.specs.Words.{first_of}
+
+-- each row has a value
+abbrev pub Filled : List Row → Type 0
+Filled [] = ⊤
+Filled (r ∷ rows) = (0 < length r.values) × Filled rows
+
+-- and so has what is pending
+abbrev FilledPending : Option (Text × List Text) → Type 0
+FilledPending None = ⊤
+FilledPending (Some p) = 0 < length p.1
+
+abbrev pub FilledHeld : Held → Type 0
+FilledHeld h = Filled h.rows × FilledPending h.pending
+
+-- ---- one use of an argument
+
+append_filled : (xs ys : List Row) → Filled xs → Filled ys → Filled (xs ++ ys)
+append_filled [] ys p q = q
+append_filled (x ∷ xs) ys p q = (p.0, append_filled xs ys p.1 q)
+
+at_row_filled : (id : Text) (change : Row → List Row) (missing rows : List Row)
+    → ((r : Row) → 0 < length r.values → Filled (change r)) → Filled missing → Filled rows → Filled (at_row id change missing rows)
+at_row_filled id change missing [] each m f = m
+at_row_filled id change missing (r ∷ rows) each m f =
+    go (bytes_eq r.id id) (append_filled (change r) rows (each r f.0) f.1) (f.0, at_row_filled id change missing rows each m f.1)
+  where
+    go : (t : Bool) → Filled (change r ++ rows) → Filled (r ∷ at_row id change missing rows)
+        → Filled (if t then change r ++ rows else r ∷ at_row id change missing rows)
+    go true a b = a
+    go false a b = b
+
+without_filled : (id : Text) (rows : List Row) → Filled rows → Filled (without id rows)
+without_filled id rows f = at_row_filled id (λ _. []) [] rows (λ r lt. tt) tt f
+
+with_values_filled : (id : Text) (how : Reading) (s : ValueSource) (values : List Text) (rows : List Row)
+    → 0 < length values → Filled rows → Filled (with_values id how s values rows)
+with_values_filled id how s values rows lt f =
+    at_row_filled id (more_values s values) _ rows (λ r some. (omega (arith, length-append r.values values), tt)) (lt, tt) f
+
+used_as_filled : (x : ArgAction) (id : Text) (how : Reading) (v : Text) (vs : List Text) (rows : List Row)
+    → Filled rows → Filled (used_as x id how (v ∷ vs) rows)
+used_as_filled action.Set id how v vs rows f = with_values_filled id how _ (v ∷ vs) (without id rows) (omega arith) (without_filled id rows f)
+used_as_filled action.SetTrue id how v vs rows f = with_values_filled id how _ (v ∷ vs) (without id rows) (omega arith) (without_filled id rows f)
+used_as_filled action.SetFalse id how v vs rows f = with_values_filled id how _ (v ∷ vs) (without id rows) (omega arith) (without_filled id rows f)
+used_as_filled action.Count id how v vs rows f = with_values_filled id how _ (v ∷ vs) (without id rows) (omega arith) (without_filled id rows f)
+used_as_filled action.Append id how v vs rows f = with_values_filled id how _ (v ∷ vs) rows (omega arith) f
+used_as_filled action.Help id how v vs rows f = f
+used_as_filled action.HelpShort id how v vs rows f = f
+used_as_filled action.HelpLong id how v vs rows f = f
+used_as_filled action.Version id how v vs rows f = f
+
+used_by_id_filled : (a : Option Rule) (values : List Text) (rows : List Row) → 0 < length values → Filled rows → Filled (used_by_id a values rows)
+used_by_id_filled None values rows lt f = f
+used_by_id_filled (Some a) [] rows lt f = absurd (omega arith)
+used_by_id_filled (Some a) (v ∷ vs) rows lt f = used_as_filled (action_of a) a.id (reading_by a) v vs rows f
+
+module _ (c : List Rule) where
+  settled_rows_filled : (p : Option (Text × List Text)) (rows : List Row) → FilledPending p → Filled rows → Filled (settled_rows c p rows)
+  settled_rows_filled None rows lt f = f
+  settled_rows_filled (Some p) rows lt f = used_by_id_filled (arg_by_id c p.0) p.1 rows lt f
+
+  settled_filled : (h : Held) → FilledHeld h → Filled (settled c h).rows
+  settled_filled h f = settled_rows_filled h.pending h.rows f.1 f.0
+
+  -- a flag that takes no value, and leaves none
+  abbrev pub OnlyAsks : Option Rule → Type 0
+  OnlyAsks None = ⊤
+  OnlyAsks (Some a) = (takes_values a ≡ false) × ((rows : List Row) → used a [] rows ≡ rows)
+
+  reacted_filled : (a : Rule) (h : Held) → ((rows : List Row) → used a [] rows ≡ rows) → FilledHeld h → FilledHeld (reacted c a [] h)
+  reacted_filled a h same f = (subst Filled (sym (same (settled c h).rows)) (settled_filled h f), tt)
+
+  flag_met_filled : (a : Rule) (v : Option Text) (h : Held) → ((rows : List Row) → used a [] rows ≡ rows) → FilledHeld h → FilledHeld (flag_met c a v h).0
+  flag_met_filled a None h same f = reacted_filled a h same f
+  flag_met_filled a (Some v) h same f = f
+
+  long_met_filled : (found : Option Rule) (v : Option Text) (h : Held) → OnlyAsks found → FilledHeld h → FilledHeld (long_met c found v h).0
+  long_met_filled None v h asks f = f
+  long_met_filled (Some a) v h asks f = rw asks.0 (flag_met_filled a v h asks.1 f)
+
+  short_met_filled : (found : Option Rule) (rest : Text) (h : Held) (go_on : Held → Held × Outcome) → OnlyAsks found
+      → ((g : Held) → FilledHeld g → FilledHeld (go_on g).0) → FilledHeld h → FilledHeld (short_met c found rest h go_on).0
+  short_met_filled None rest h go_on asks each f = f
+  short_met_filled (Some a) rest h go_on asks each f = rw asks.0 (each (reacted c a [] h) (reacted_filled a h asks.1 f))
+
+  module _ (long_asks : (name : Text) → OnlyAsks (arg_by_long c name)) (short_asks : (x : ℕ) → OnlyAsks (arg_by_short c x)) where
+    bundle_step_filled : (x : Option ℕ) (flags : Text) (skip : ℕ) (so_far : Outcome) (h : Held) (go_on : Text → ℕ → Outcome → Held → Held × Outcome)
+        → ((fs : Text) (n : ℕ) (o : Outcome) (g : Held) → FilledHeld g → FilledHeld (go_on fs n o g).0)
+        → FilledHeld h → FilledHeld (bundle_step c x flags skip so_far h go_on).0
+    bundle_step_filled None flags skip so_far h go_on each f = f
+    bundle_step_filled (Some x) flags zero so_far h go_on each f =
+        let rest = drop (length (encode_utf8 x)) flags in
+        short_met_filled (arg_by_short c x) rest h (go_on rest 0 done) (short_asks x) (each rest 0 done) f
+    bundle_step_filled (Some x) flags (suc skip) so_far h go_on each f = each (drop (length (encode_utf8 x)) flags) skip so_far h f
+
+    bundle_met_filled : (k : ℕ) (flags : Text) (skip : ℕ) (so_far : Outcome) (h : Held) → FilledHeld h → FilledHeld (bundle_met c k flags skip so_far h).0
+    unfolding bundle_met
+    bundle_met_filled zero flags skip so_far h f = f
+    bundle_met_filled (suc k) flags skip so_far h f =
+        bundle_step_filled (slice_get (chars flags) 0) flags skip so_far h (bundle_met c k) (λ fs n o g. bundle_met_filled k fs n o g) f
+
+    -- ---- a word
+
+    pushed_filled : (id word : Text) (h : Held) → Filled h.rows → FilledHeld (pushed id word h)
+    pushed_filled id word h f = (f, omega (arith, length-append (started id h.pending).1 (word ∷ [])))
+
+    option_word_filled : (a : Option Rule) (id word : Text) (h : Held) → FilledHeld h → FilledHeld (option_word a id word h).0
+    option_word_filled None id word h f = f
+    option_word_filled (Some a) id word h f = pushed_filled id word h f.0
+
+    plain_word_filled : (waiting : Waiting) (word : Text) (h : Held) → FilledHeld h → FilledHeld (plain_word c waiting word h).0
+    plain_word_filled idle word h f = f
+    plain_word_filled (option id) word h f = option_word_filled (arg_by_id c id) id word h f
+    plain_word_filled positional word h f = f
+
+    after_flag_filled : (waiting : Waiting) (word : Text) (h : Held) (o : Outcome) → FilledHeld h → FilledHeld (after_flag c waiting word h o).0
+    after_flag_filled waiting word h done f = f
+    after_flag_filled waiting word h (waits id) f = f
+    after_flag_filled waiting word h plain f = plain_word_filled waiting word h f
+    after_flag_filled waiting word h refused f = plain_word_filled waiting word h f
+
+    short_or_plain_filled : (waiting : Waiting) (word : Text) (flags : Option Text) (h : Held) → FilledHeld h → FilledHeld (short_or_plain c waiting word flags h).0
+    short_or_plain_filled waiting word None h f = plain_word_filled waiting word h f
+    short_or_plain_filled waiting word (Some flags) h f =
+        after_flag_filled waiting word (bundle c flags h).0 (bundle c flags h).1 (bundle_met_filled (length flags) flags h.skip plain (record h { skip = 0 }) f)
+
+    long_or_other_filled : (waiting : Waiting) (word : Text) (p : Option (Text × Option Text)) (h : Held) → FilledHeld h → FilledHeld (long_or_other c waiting word p h).0
+    long_or_other_filled waiting word None h f = short_or_plain_filled waiting word (short_of word) h f
+    long_or_other_filled waiting word (Some p) h f =
+        after_flag_filled waiting word (long_met c (arg_by_long c p.0) p.1 h).0 (long_met c (arg_by_long c p.0) p.1 h).1
+        (long_met_filled (arg_by_long c p.0) p.1 h (long_asks p.0) f)
+
+    subcommand_or_other_filled : (name : Option Text) (waiting : Waiting) (place : ℕ) (word : Text) (h : Held)
+        → FilledHeld h → FilledHeld (subcommand_or_other c name waiting place word h).0
+    subcommand_or_other_filled (Some name) waiting place word h f = f
+    subcommand_or_other_filled None waiting place word h f =
+        go (bytes_eq word (45 ∷ 45 ∷ [])) (long_or_other c waiting word (long_of word) h) (long_or_other_filled waiting word (long_of word) h f)
+      where
+        go : (t : Bool) (other : Held × Step) → FilledHeld other.0 → FilledHeld (if t then (h, trailing place) else other).0
+        go true other g = f
+        go false other g = g
+
+    word_met_filled : (names : Names) (is_trailing : Bool) (waiting : Waiting) (place : ℕ) (word : Text) (h : Held)
+        → FilledHeld h → FilledHeld (word_met c names is_trailing waiting place word h).0
+    word_met_filled names true waiting place word h f = f
+    word_met_filled names false waiting place word h f = subcommand_or_other_filled (subcommand_met names waiting word) waiting place word h f
+
+    positional_filled : (a : Rule) (word : Text) (h : Held) → FilledHeld h → FilledHeld (positional_held c a word h)
+    positional_filled a word h f =
+        pushed_filled a.id word (if is_pending a h.pending && takes_several a then h else settled c h) (go (is_pending a h.pending && takes_several a))
+      where
+        go : (t : Bool) → Filled (if t then h else settled c h).rows
+        go true = f.0
+        go false = settled_filled h f
+
+    to_positional_filled : (a : Option Rule) (word : Text) (w : Walk) (h : Held) → FilledHeld h → FilledHeld (to_positional c a word w h).held
+    to_positional_filled None word w h f = f
+    to_positional_filled (Some a) word w h f = positional_filled a word h f
+
+    after_step_filled : (word : Text) (w : Walk) (h : Held) (step : Step) → FilledHeld h → FilledHeld (after_step c word w h step).held
+    after_step_filled word w h (next waiting) f = f
+    after_step_filled word w h (trailing place) f = f
+    after_step_filled word w h (subcommand name) f = f
+    after_step_filled word w h value f = to_positional_filled (arg_by_index c w.position) word w h f
+
+    walked_from_filled : (names : Names) (stop : Option (Text × List Text)) (w : Walk) (word : Text)
+        → FilledHeld w.held → FilledHeld (walked_from c names stop w word).held
+    walked_from_filled names (Some p) w word f = f
+    walked_from_filled names None w word f =
+        let met = word_met c names w.is_trailing w.waiting w.position word w.held in
+        after_step_filled word w met.0 met.1 (word_met_filled names w.is_trailing w.waiting w.position word w.held f)
+
+    walked_filled : (names : Names) (w : Walk) (word : Text) → FilledHeld w.held → FilledHeld (walked c names w word).held
+    unfolding walked
+    walked_filled names w word f = walked_from_filled names w.stopped w word f
+
+    -- ---- the whole walk
+
+    fold_filled : (names : Names) (words : List Text) (w : Walk) → FilledHeld w.held → FilledHeld (fold (walked c names) w words).held
+    fold_filled names [] w f = f
+    fold_filled names (word ∷ rest) w f = fold_filled names rest (walked c names w word) (walked_filled names w word f)
+
+    default_rows_filled : (id : Text) (how : Reading) (values : List Text) (rows : List Row) → Filled rows → Filled (default_rows id how values rows)
+    default_rows_filled id how [] rows f = f
+    default_rows_filled id how (v ∷ vs) rows f = with_values_filled id how _ (v ∷ vs) rows (omega arith) f
+
+    with_default_filled : (rows : List Row) (a : Rule) → Filled rows → Filled (with_default rows a)
+    with_default_filled rows a f = go (has_row a.id rows) (default_rows a.id (reading_by a) a.defaults rows) (default_rows_filled a.id (reading_by a) a.defaults rows f)
+      where
+        go : (t : Bool) (other : List Row) → Filled other → Filled (if t then rows else other)
+        go true other g = f
+        go false other g = g
+
+    defaults_filled : (rules : List Rule) (rows : List Row) → Filled rows → Filled (fold with_default rows rules)
+    defaults_filled [] rows f = f
+    defaults_filled (a ∷ rules) rows f = defaults_filled rules (with_default rows a) (with_default_filled rows a f)
+
+    pub walk_filled : (names : Names) (h : Held) (words : List Text) → FilledHeld h → Filled (finished c (walk c names h words).held)
+    walk_filled names h words f =
+        let end = (walk c names h words).held in
+        defaults_filled c (settled c end).rows (settled_filled end (fold_filled names words (walk_from h) f))
+
+-- ---- what such rows give
+
+slice_some : (values : List Text) → 0 < length values → IsSome (slice_get values 0)
+slice_some [] lt = absurd (omega arith)
+slice_some (v ∷ vs) lt = refl
+
+-- an argument that was given has a first value
+pub given_first : (id : Text) (rows : List Row) → Filled rows → is_given id rows ≡ true → IsSome (first_of id rows)
+given_first id [] f given = cc
+given_first id (r ∷ rows) f given = go (bytes_eq r.id id) refl (λ e. given_first id rows f.1 e) given
+  where
+    go : (t : Bool) → bytes_eq r.id id ≡ t → (is_given id rows ≡ true → IsSome (first_of id rows)) → is_given id (r ∷ rows) ≡ true
+        → IsSome (first_of id (r ∷ rows))
+    go true e rest g = rw e (slice_some r.values f.0)
+    go false e rest g = rw e (rest (rw e at g))

@@ -1,0 +1,11 @@
+pub mod Puts
+pub mod Lines
+pub mod Wholes
+pub mod Filled
+pub mod Shown
+pub mod Quotes
+pub mod Figures
+pub mod Lists
+pub mod ArrayTexts
+pub mod Sizes
+pub mod Runs

@@ -1,0 +1,21 @@
+-- What clap is told of a command line, setting by setting.
+use Rattle.std.proofs.Common.{◌≡◌, ◌&&◌, Bool, true, false, not, refl}
+use Rattle.clap.specs.Words.{App}
+
+-- the three settings of `dconfdb`
+abbrev pub versioned : App → App
+versioned a = record a { top = record a.top { has_version = true } }
+
+abbrev pub wanting_subcommand : App → App
+wanting_subcommand a = record a { top = record a.top { subcommand_required = true } }
+
+abbrev pub without_help_subcommand : App → App
+without_help_subcommand a = record a { top = record a.top { disable_help_subcommand = true } }
+
+pub second : (a b : Bool) → (a && b) ≡ true → b ≡ true
+second true b e = e
+second false b e = cc
+
+pub first_not : (a b : Bool) → (not a && b) ≡ true → a ≡ false
+first_not true b e = cc
+first_not false b e = refl

@@ -1,0 +1,23 @@
+-- Writing bytes piece by piece.
+use Rattle.std.proofs.Common.{◌≡◌, ◌+◌, ◌-◌, ℕ, List, length, take, drop, sym, ap, subst, ◌∙◌, Option, arith, length-drop, take-add}
+use Rattle.std.proofs.lemmas.List.{drop-drop, take_all}
+use Rattle.std.proofs.KnownBytes.{Appends-trans}
+use Rattle.std.specs.Io.KnownBytes.{Appends}
+
+-- what is known grew by the first n of the bytes, and the others are left
+pub record HasPut (old new : Option (List ℕ)) (bytes rest : List ℕ) : Type 0 where
+  pub n : ℕ
+  pub left : rest ≡ drop n bytes
+  pub grown : Appends old new (take n bytes)
+
+-- the first n of the rest are put too
+pub HasPut-more : (old mid new : Option (List ℕ)) (bytes rest : List ℕ) (n : ℕ) → HasPut old mid bytes rest
+    → Appends mid new (take n rest) → HasPut old new bytes (take (length rest - n) (drop n rest))
+HasPut-more old mid new bytes rest n h more =
+    let after : Appends mid new (take n (drop h.n bytes)) = subst (λ (l : List ℕ). Appends mid new (take n l)) h.left more in
+    let whole : take (length rest - n) (drop n rest) ≡ drop n rest = take_all (length rest - n) (drop n rest) (omega (arith, length-drop n rest)) in
+    record {
+      n = h.n + n;
+      left = whole ∙ ap (drop n) h.left ∙ drop-drop n h.n bytes;
+      grown = subst (Appends old new) (sym (take-add h.n n bytes)) (Appends-trans old mid new (take h.n bytes) (take n (drop h.n bytes)) h.grown after);
+    }

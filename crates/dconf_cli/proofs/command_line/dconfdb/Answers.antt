@@ -1,0 +1,19 @@
+use Rattle.std.proofs.Common.{◌≡◌, ◌∙◌, ap, ap₂, codes}
+use Rattle.std.proofs.lemmas.Result.{IfOk-weaker}
+use Rattle.clap.specs.Simple.{app_of_fields}
+use Rattle.clap.specs.Words.{App, app_of, new_app, with_subcommand}
+use Rattle.dconf_cli.specs.CommandLine.{dconfdb_line}
+use Rattle.dconf_cli.proofs.Lines.{versioned, wanting_subcommand, without_help_subcommand, second, first_not}
+use Rattle.dconf_cli.proofs.command_line.dconfdb.Goals as goal
+
+pub returns : goal.returns
+returns c =
+    let start : app_of c.about.result ≡ new_app (codes "dconfdb") = ap app_of_fields c.about.ensures ∙ c.new.ensures.app in
+    let version : app_of c.version.result ≡ versioned (app_of c.about.result) = ap app_of_fields c.version.ensures in
+    let wants : app_of c.subcommand_required.result ≡ wanting_subcommand (app_of c.version.result) = ap app_of_fields c.subcommand_required.ensures in
+    let plain : app_of c.disable_help_subcommand.result ≡ without_help_subcommand (app_of c.subcommand_required.result) = ap app_of_fields c.disable_help_subcommand.ensures in
+    let line : app_of c.disable_help_subcommand.result ≡ dconfdb_line =
+    plain ∙ ap without_help_subcommand (wants ∙ ap wanting_subcommand (version ∙ ap versioned start)) in
+    let shown = c.in_ok-show.ensures in
+    let own = first_not _ _ (second _ _ (second _ _ (ap (λ (a : App). a.top.is_plain) shown))) in
+    IfOk-weaker c.subcommand.result _ _ (λ r h. h.shape own ∙ ap₂ with_subcommand line (ap (λ (a : App). a.top) shown)) c.subcommand.ensures

@@ -1,0 +1,25 @@
+-- The command line of `dconfdb`, as clap sees it.
+use Rattle.std.specs.Prelude.{true, Some, codes}
+use Rattle.clap.specs.Words.{App, Rule, Text, new_app, new_rule, with_rule, with_subcommand}
+use Rattle.clap.specs.declared.builder.action.ArgAction.TheVariants.{Set}
+
+-- a word that must be there, in its place
+abbrev pub required_word : Text → Rule
+required_word id = record (new_rule id) { required = true; action = Some Set }
+
+-- `show TYPE FILE`
+abbrev pub show_line : App
+show_line = with_rule (with_rule (new_app (codes "show")) (required_word (codes "TYPE"))) (required_word (codes "FILE"))
+
+-- `dconfdb`, which wants a subcommand, has a version and no subcommand `help`
+abbrev pub dconfdb_line : App
+dconfdb_line = record (new_app (codes "dconfdb")) {
+  top = record (new_app (codes "dconfdb")).top {
+    subcommand_required = true;
+    has_version = true;
+    disable_help_subcommand = true;
+  };
+}
+
+abbrev pub command_line : App
+command_line = with_subcommand dconfdb_line show_line.top

@@ -1,0 +1,12 @@
+pub mod Streams
+pub mod Counted
+pub mod Folders
+pub mod MemoryFolders
+pub mod StdFolders
+pub mod CommandLine
+pub mod Asked
+pub mod Printing
+pub mod PrintFaults
+pub mod Output
+pub mod Answers
+pub mod Runs

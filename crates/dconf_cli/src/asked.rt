@@ -1,0 +1,8 @@
+//! What the words of a command line ask for.
+
+/// A command with its words, as they were given.
+#[derive(Debug, Drop)]
+pub enum Command {
+    /// Prints the bytes of `file`, read as a value of the type that `type_text` spells.
+    Show { type_text: String, file: String },
+}

@@ -1,0 +1,168 @@
+//! The command line of `dconfdb`, by clap's builder.
+ghost use Rattle.std.specs.Prelude.{◌≡◌, false, IfOk, IsSome, Some, map, string_bytes};
+ghost use Rattle.clap.specs.Words.{FailsBy, app_of, fault_of, first_value, found_of, rule_of};
+ghost use Rattle.dconf_cli.specs.CommandLine.{command_line, required_word, show_line};
+ghost use Rattle.dconf_cli.specs.Asked.{IsAskedBy};
+
+use crate::asked::Command;
+use clap::{Arg, ArgAction, ArgMatches};
+use std::alloc::{AllocError, Global};
+
+/// The command that the words ask for, where the first word is the program's name and a word after
+/// `--` is a value even if it starts with `-`.
+///
+/// An error is clap's own: its `Display` is the text for the user, and its `exit_code` the status.
+/// It is a fault in the words, a request for help or the version, or `OutOfMemory`.
+///
+/// It costs a few short lists for clap, and a copy of the words in the answer.
+pub fn command(alloc: Global, words: &[String]) -> Result<Command, clap::Error>
+    ensures asked { IfOk result (IsAskedBy (map string_bytes words.now)) }
+    ensures faults { FailsBy (fault_of command_line (map string_bytes words.now)) result }
+{
+    let matches = dconfdb(alloc)?.try_get_matches_from(words)?;
+    let show = matches.subcommand_matches("show").unwrap();
+    Ok(Command::Show {
+        type_text: value(alloc, show, "TYPE")?,
+        file: value(alloc, show, "FILE")?,
+    })
+}
+
+// The whole command line.
+fn dconfdb<'a>(alloc: Global) -> Result<clap::Command<'a>, AllocError>
+    ensures { IfOk result (λ c. app_of c ≡ command_line) }
+{
+    clap::Command::new(alloc, "dconfdb")
+        .about("Reads settings databases in the GVariant format")
+        .version("0.1.0")
+        .subcommand_required(true)
+        .disable_help_subcommand(true)
+        .subcommand(show(alloc)?)
+}
+
+// `show TYPE FILE`.
+fn show<'a>(alloc: Global) -> Result<clap::Command<'a>, AllocError>
+    ensures { IfOk result (λ c. app_of c ≡ show_line) }
+{
+    let type_text = required(alloc, "TYPE").help("a GVariant type text, such as au or s");
+    let file = required(alloc, "FILE").help("a file in the current folder");
+    clap::Command::new(alloc, "show")
+        .about("Prints the bytes of FILE, read as a value of the GVariant type TYPE")
+        .arg(type_text)?
+        .arg(file)
+}
+
+// A word that must be there, in its place.
+fn required<'a>(alloc: Global, name: &'a str) -> Arg<'a>
+    ensures rule { rule_of result ≡ required_word name.now }
+    ensures own { result.global ≡ false }
+{
+    Arg::new(alloc, name).required(true).action(ArgAction::Set)
+}
+
+// The value of an argument that has one.
+fn value(alloc: Global, matches: &ArgMatches<'_>, id: &str) -> Result<String, AllocError>
+    requires { IsSome (first_value (found_of matches.now) id.now) }
+    ensures { IfOk result (λ text.
+        first_value (found_of matches.now) id.now ≡ Some (string_bytes text)) }
+{
+    String::from_str(alloc, matches.get_str(id).unwrap())
+}
+
+#[cfg(test)]
+mod tests {
+    use super::*;
+    use clap::error::ErrorKind;
+    use std::test::Fail;
+
+    fn texts(alloc: Global, words: &[&str]) -> Result<Vec<String>, AllocError> {
+        let mut texts = Vec::new(alloc);
+        for word in words {
+            texts.push(String::from_str(alloc, word)?)?;
+        }
+        Ok(texts)
+    }
+
+    #[test]
+    fn reads_show(rt: HostRuntime) -> Result<(), Fail> {
+        let alloc = rt.alloc();
+        let lines = [
+            ["dconfdb", "show", "au", "two"].as_slice(),
+            ["dconfdb", "show", "--", "au", "two"].as_slice(),
+        ];
+        for line in lines {
+            let words = texts(alloc, line)?;
+            let Command::Show { type_text, file } = command(alloc, &words)?;
+            assert!(rt; type_text.as_str() == "au" && file.as_str() == "two");
+        }
+        let words = texts(alloc, &["dconfdb", "show", "s", "--", "-x"])?;
+        let Command::Show { type_text, file } = command(alloc, &words)?;
+        assert!(rt; type_text.as_str() == "s" && file.as_str() == "-x");
+        Ok(())
+    }
+
+    #[test]
+    fn refuses_other_words(rt: HostRuntime) -> Result<(), Fail> {
+        let alloc = rt.alloc();
+        let lines = [
+            (["dconfdb"].as_slice(), ErrorKind::MissingSubcommand),
+            (
+                ["dconfdb", "shoe", "au", "two"].as_slice(),
+                ErrorKind::InvalidSubcommand,
+            ),
+            (
+                ["dconfdb", "show", "au"].as_slice(),
+                ErrorKind::MissingRequiredArgument,
+            ),
+            (
+                ["dconfdb", "show", "au", "two", "three"].as_slice(),
+                ErrorKind::UnknownArgument,
+            ),
+            (
+                ["dconfdb", "show", "au", "-x"].as_slice(),
+                ErrorKind::UnknownArgument,
+            ),
+            (["dconfdb", "--help"].as_slice(), ErrorKind::DisplayHelp),
+            (
+                ["dconfdb", "show", "--help"].as_slice(),
+                ErrorKind::DisplayHelp,
+            ),
+            (
+                ["dconfdb", "--version"].as_slice(),
+                ErrorKind::DisplayVersion,
+            ),
+        ];
+        for (line, kind) in lines {
+            let words = texts(alloc, line)?;
+            match command(alloc, &words) {
+                Ok(_) => assert!(rt; false, "taken"),
+                Err(error) => assert!(rt; error.kind() == kind, "{error}"),
+            }
+        }
+        Ok(())
+    }
+
+    #[test]
+    fn shows_help(rt: HostRuntime) -> Result<(), Fail> {
+        let alloc = rt.alloc();
+        let lines = [
+            (
+                ["dconfdb", "--help"].as_slice(),
+                "show  Prints the bytes of FILE, read as a value",
+            ),
+            (
+                ["dconfdb", "show", "--help"].as_slice(),
+                "Usage: dconfdb show <TYPE> <FILE>",
+            ),
+            (["dconfdb", "--version"].as_slice(), "dconfdb 0.1.0"),
+        ];
+        for (line, part) in lines {
+            let words = texts(alloc, line)?;
+            let shown = match command(alloc, &words) {
+                Ok(_) => String::new(alloc),
+                Err(error) => format!(in alloc; "{error}")?,
+            };
+            assert!(rt; shown.contains(part), "{shown}");
+        }
+        Ok(())
+    }
+}

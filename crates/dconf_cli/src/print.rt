@@ -1,0 +1,86 @@
+//! The text of a value (GLib, "GVariant Text Format"), annotated so that its type can be read back.
+ghost use Rattle.std.specs.Prelude.{◌≡◌, ◌++◌, true, false, IfOk, IfErr, MatchResult, OnOk, string_bytes};
+ghost use Rattle.dconf_cli.specs.declared.print.PrintFault.TheVariants.{Memory};
+ghost use Rattle.gv_model.specs.Printed.{printed, is_too_large, holds_double};
+ghost use Rattle.gv_view.specs.Views.{value};
+ghost use Rattle.dconf_cli.specs.Printing.{IsUnprintable, IsElementFault};
+
+mod array;
+mod basic;
+mod quoted;
+
+use array::push_array;
+use basic::push_basic;
+use gv_types::Class;
+use gv_view::View;
+use std::alloc::{AllocError, Global};
+use std::error::Error;
+use std::fmt;
+
+/// The greatest number of values, a container and each value in it, that are printed.
+const MAX_VALUES: usize = 1_000_000;
+
+/// Why a value is not printed.
+#[derive(Clone, Copy, Debug, PartialEq, Eq)]
+pub(crate) enum PrintFault {
+    /// It has over 1,000,000 values.
+    TooLarge,
+    /// A double is to be printed.
+    DoubleText,
+    /// A growth was refused.
+    Memory,
+}
+
+impl fmt::Display for PrintFault {
+    ghost use Rattle.std.specs.Prelude.{Some};
+    ghost use Rattle.dconf_cli.specs.PrintFaults.{fault_name};
+
+    ghost output = { λ fault. Some (fault_name fault) };
+
+    fn fmt<W: fmt::Write>(&self, f: &mut fmt::Formatter<W>) -> fmt::Result {
+        match self {
+            PrintFault::TooLarge => write!(f, "TooLarge"),
+            PrintFault::DoubleText => write!(f, "DoubleText"),
+            PrintFault::Memory => write!(f, "Memory"),
+        }
+    }
+}
+
+impl Error for PrintFault {}
+
+impl From<AllocError> for PrintFault {
+    ghost from_gives = { λ _ e. e ≡ Memory };
+
+    fn from(_error: AllocError) -> PrintFault {
+        PrintFault::Memory
+    }
+}
+
+/// The text of the value that the view reads, annotated.
+///
+/// It takes time linear in the bytes and the text.
+pub(crate) fn print(alloc: Global, view: View<'_>) -> Result<String, PrintFault>
+    ensures text { IfOk result (λ s. string_bytes s ≡ printed (value view.entry) true) }
+    ensures printable { OnOk result ((is_too_large (value view.entry) ≡ false) × (holds_double (value view.entry) ≡ false)) }
+    ensures fault { IfErr result (IsUnprintable (value view.entry)) }
+{
+    if view.n_children() >= MAX_VALUES {
+        return Err(PrintFault::TooLarge);
+    }
+    let mut text = String::new(alloc);
+    push_value(&mut text, view)?;
+    Ok(text)
+}
+
+/// Writes the value that the view reads, annotated.
+fn push_value(to: &mut String, view: View<'_>) -> Result<(), PrintFault>
+    ensures { MatchResult result
+        (λ _. (holds_double (value view.entry) ≡ false)
+        × (string_bytes to.new ≡ string_bytes to.old ++ printed (value view.entry) true))
+        (IsElementFault (value view.entry)) }
+{
+    match view.type_str().class() {
+        Class::Basic(basic) => push_basic(to, view, basic, true),
+        _ => push_array(to, view),
+    }
+}
