@@ -48,6 +48,7 @@ pub(crate) fn give<O: Write, E: Write>(
         (E.contents (inner_of err.old)) (E.contents (inner_of err.new)) }
     ensures zero { result ≡ 0 → IsDone answer × (failures_of out.new ≡ failures_of out.old) }
     ensures broken_out { failures_of out.new ≢ failures_of out.old → (result ≡ 1) × (err.new ≡ err.old) }
+    ensures refusal { NoneFailed (failures_of out.old) (failures_of out.new) → result ≡ 1 → out.new ≡ out.old }
     ensures status { result ≤ 1 }
 {
     match answer {

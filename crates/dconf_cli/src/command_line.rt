@@ -32,7 +32,7 @@ fn dconfdb<'a>(alloc: Global) -> Result<clap::Command<'a>, AllocError>
     ensures { IfOk result (λ c. app_of c ≡ command_line) }
 {
     clap::Command::new(alloc, "dconfdb")
-        .about("Reads settings databases in the GVariant format")
+        .about("Prints GVariant values from files")
         .version("0.1.0")
         .subcommand_required(true)
         .disable_help_subcommand(true)
@@ -44,7 +44,9 @@ fn show<'a>(alloc: Global) -> Result<clap::Command<'a>, AllocError>
     ensures { IfOk result (λ c. app_of c ≡ show_line) }
 {
     let type_text = required(alloc, "TYPE").help("a GVariant type text, such as au or s");
-    let file = required(alloc, "FILE").help("a file in the current folder");
+    let file = required(alloc, "FILE").help(
+        "the file to read, by its path from the current folder",
+    );
     clap::Command::new(alloc, "show")
         .about("Prints the bytes of FILE, read as a value of the GVariant type TYPE")
         .arg(type_text)?

@@ -5,7 +5,7 @@
 //!
 //! What can never happen: a word that a command needs is made up; a failure of a stream or of a folder's
 //! device goes uncounted (up to `u64::MAX`, where the count stays); a write is given up half way and called
-//! done; a file that can't be read is taken for missing; a refusal writes to out.
+//! done; a failure of a folder is taken for a missing file; a refusal writes to out.
 //!
 //! What a call costs: `command` takes memory for clap's lists and for the words of its answer; `run` for the
 //! file's bytes, once, and for the text that it writes, in time linear in both; a `Counted` takes none.

@@ -39,6 +39,7 @@ pub fn run<F: Folder, I: Read, O: Write, E: Write>(
         (E.contents (inner_of err.old)) (E.contents (inner_of err.new)) }
     ensures zero { result ≡ 0 → (F.failed folder.new ≡ F.failed folder.old)
         × (failures_of out.new ≡ failures_of out.old) }
+    ensures refusal { NoneFailed (failures_of out.old) (failures_of out.new) → result ≡ 1 → out.new ≡ out.old }
     ensures status { result ≤ 1 }
 
     // What stands where something failed.

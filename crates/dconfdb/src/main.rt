@@ -25,20 +25,14 @@ fn main(rt: HostRuntime) -> ExitCode {
     match command(alloc, &words) {
         Ok(asked) => {
             let Ok(host) = rt.clone() else {
+                let _ = rt.eprintln("error: Memory");
                 return ExitCode::from(USAGE);
             };
             let mut folder = StdFolder::new(host);
             let mut input = Counted::new(rt.stdin());
             let mut out = Counted::new(rt.stdout());
             let mut err = Counted::new(rt.stderr());
-            ExitCode::from(run(
-                alloc,
-                asked,
-                &mut folder,
-                &mut input,
-                &mut out,
-                &mut err,
-            ))
+            ExitCode::from(run(alloc, asked, &mut folder, &mut input, &mut out, &mut err))
         }
         Err(error) => {
             let printed = error.print(&rt);

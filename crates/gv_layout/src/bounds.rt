@@ -9,8 +9,8 @@ use gv_types::TypeStr;
 
 /// Where child `i` of a container of this type starts and ends in the container's bytes.
 ///
-/// It is (0, 0) for a child that has no valid bounds there. The type is an array, a maybe, a tuple or an
-/// entry, and `i` is below the number of children.
+/// `i` is below the number of children. Of the types that are read so far only arrays of a fixed size have
+/// children, and each of them has its bounds within the bytes.
 pub fn member_bounds(of: TypeStr<'_>, bytes: &[u8], i: usize) -> (usize, usize)
     requires kind { ty of ≢ variant }
     requires child { i < length (cut (ty of) bytes.now) }
@@ -20,4 +20,19 @@ pub fn member_bounds(of: TypeStr<'_>, bytes: &[u8], i: usize) -> (usize, usize)
 {
     let size = fixed_size(of.element().unwrap()).unwrap();
     (size * i, size * i + size)
+}
+
+#[cfg(test)]
+mod tests {
+    use super::*;
+    use std::test::Fail;
+
+    #[test]
+    fn elements_lie_one_after_the_other(rt: HostRuntime) -> Result<(), Fail> {
+        let of = TypeStr::parse("au")?;
+        let bytes = [1, 0, 0, 0, 2, 0, 0, 0];
+        assert_eq!(rt; member_bounds(of, &bytes, 0), (0, 4));
+        assert_eq!(rt; member_bounds(of, &bytes, 1), (4, 8));
+        Ok(())
+    }
 }

@@ -29,8 +29,8 @@ pub fn fixed_size(of: TypeStr<'_>) -> Option<usize>
     }
 }
 
-#[tactic(auto, unfolding(gv_model::specs::Layout::offset_width))]
 /// The width in bytes of each framing offset of a container of this many bytes: 0, 1, 2, 4 or 8.
+#[tactic(auto, unfolding(gv_model::specs::Layout::offset_width))]
 pub fn offset_width(len: usize) -> u8
     ensures { result ≡ offset_width len }
 {
@@ -53,5 +53,55 @@ fn basic_size(of: BasicType) -> Option<u8>
         BasicType::Int32 | BasicType::Uint32 | BasicType::Handle => Some(4),
         BasicType::Int64 | BasicType::Uint64 | BasicType::Double => Some(8),
         BasicType::Text | BasicType::ObjectPath | BasicType::Signature => None,
+    }
+}
+
+#[cfg(test)]
+mod tests {
+    use super::*;
+    use std::test::Fail;
+
+    #[test]
+    fn sizes_and_alignments(rt: HostRuntime) -> Result<(), Fail> {
+        let cases = [
+            ("b", 1, Some(1)),
+            ("y", 1, Some(1)),
+            ("n", 2, Some(2)),
+            ("q", 2, Some(2)),
+            ("i", 4, Some(4)),
+            ("u", 4, Some(4)),
+            ("h", 4, Some(4)),
+            ("x", 8, Some(8)),
+            ("t", 8, Some(8)),
+            ("d", 8, Some(8)),
+            ("s", 1, None),
+            ("ay", 1, None),
+            ("aq", 2, None),
+            ("au", 4, None),
+            ("ad", 8, None),
+        ];
+        for (text, aligned, size) in cases {
+            let of = TypeStr::parse(text)?;
+            assert_eq!(rt; alignment(of), aligned, "at {text}");
+            assert_eq!(rt; fixed_size(of), size, "at {text}");
+        }
+        Ok(())
+    }
+
+    #[test]
+    fn widths_of_offsets(rt: HostRuntime) {
+        let cases = [
+            (0, 0),
+            (1, 1),
+            (255, 1),
+            (256, 2),
+            (65535, 2),
+            (65536, 4),
+            (4294967295, 4),
+            (4294967296, 8),
+        ];
+        for (len, width) in cases {
+            assert_eq!(rt; offset_width(len), width, "at {len}");
+        }
     }
 }

@@ -1,5 +1,5 @@
 -- The type that a checked text spells, and what lies within its limits.
-use Rattle.std.proofs.Common.{ℕ, zero, suc, ◌≤◌, ◌<◌, ◌≡◌, List, [], ◌∷◌, ◌++◌, length, Option, Some, None, true, false, refl, sym, ap, subst, ◌∙◌, arith}
+use Rattle.std.proofs.Common.{ℕ, zero, suc, ◌≤◌, ◌<◌, ◌≡◌, List, [], ◌∷◌, ◌++◌, length, Option, Some, None, true, false, refl, ap, subst, arith}
 use Rattle.std.specs.Prelude.{is_some, unwrap_or}
 use Rattle.std.specs.Str.{IsAscii}
 use Rattle.std.proofs.lemmas.Str.{IsAscii-append}
@@ -49,6 +49,7 @@ letter_low _ = omega arith
 
 mutual
   unfolding spelling spellings
+
   pub spelling_is_ascii : (t : Ty) → IsAscii (spelling t)
   spelling_is_ascii (basic k) = IsAscii-cons (letter k) [] (letter_low k) IsAscii-nil
   spelling_is_ascii variant = IsAscii-cons 118 [] (omega arith) IsAscii-nil

@@ -105,3 +105,55 @@ fn is_read_in_array(class: Option<Class>) -> bool
         _ => false,
     }
 }
+
+#[cfg(test)]
+mod tests {
+    use super::*;
+    use std::test::Fail;
+
+    #[test]
+    fn parses_the_types_read_so_far(rt: HostRuntime) -> Result<(), Fail> {
+        for text in [
+            "b", "y", "n", "q", "i", "u", "x", "t", "h", "d", "s", "ab", "ay", "an", "aq", "ai",
+            "au", "ax", "at", "ah", "ad",
+        ] {
+            assert_eq!(rt; TypeStr::parse(text)?.as_str(), text);
+        }
+        for text in [
+            "", "o", "g", "v", "as", "ao", "aay", "(i)", "ii", "mi", "a", "az", "a{sv}", "aé",
+        ] {
+            assert_eq!(rt;
+                TypeStr::parse(text).err(),
+                Some(TypeFault::NotYet),
+                "at {text}"
+            );
+        }
+        Ok(())
+    }
+
+    #[test]
+    fn tells_the_class_and_the_element(rt: HostRuntime) -> Result<(), Fail> {
+        let cases = [
+            ("b", Class::Basic(BasicType::Boolean), true, None),
+            ("y", Class::Basic(BasicType::Byte), true, None),
+            ("n", Class::Basic(BasicType::Int16), true, None),
+            ("q", Class::Basic(BasicType::Uint16), true, None),
+            ("i", Class::Basic(BasicType::Int32), true, None),
+            ("u", Class::Basic(BasicType::Uint32), true, None),
+            ("x", Class::Basic(BasicType::Int64), true, None),
+            ("t", Class::Basic(BasicType::Uint64), true, None),
+            ("h", Class::Basic(BasicType::Handle), true, None),
+            ("d", Class::Basic(BasicType::Double), true, None),
+            ("s", Class::Basic(BasicType::Text), true, None),
+            ("ay", Class::Array, false, Some("y")),
+            ("ad", Class::Array, false, Some("d")),
+        ];
+        for (text, class, is_basic, element) in cases {
+            let found = TypeStr::parse(text)?;
+            assert_eq!(rt; found.class(), class, "at {text}");
+            assert_eq!(rt; found.is_basic(), is_basic, "at {text}");
+            assert_eq!(rt; found.element().map(|it| it.as_str()), element, "at {text}");
+        }
+        Ok(())
+    }
+}

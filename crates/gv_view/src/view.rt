@@ -215,3 +215,167 @@ impl<'a> View<'a> {
         }
     }
 }
+
+#[cfg(test)]
+mod tests {
+    use super::*;
+    use gv_types::TypeFault;
+    use std::test::Fail;
+
+    fn view<'a>(text: &'a str, bytes: &'a [u8]) -> Result<View<'a>, TypeFault> {
+        Ok(View::new(TypeStr::parse(text)?, bytes))
+    }
+
+    #[test]
+    fn reads_small_numbers(rt: HostRuntime) -> Result<(), Fail> {
+        let booleans: [(&[u8], bool); 5] = [
+            (&[0], false),
+            (&[1], true),
+            (&[5], true),
+            (&[], false),
+            (&[1, 0], false),
+        ];
+        for (bytes, value) in booleans {
+            assert_eq!(rt; view("b", bytes)?.as_bool(), Some(value), "at {bytes:?}");
+        }
+        assert_eq!(rt; view("y", &[1])?.as_bool(), None);
+        let octets: [(&[u8], u8); 4] = [(&[0], 0), (&[255], 255), (&[], 0), (&[1, 2], 0)];
+        for (bytes, value) in octets {
+            assert_eq!(rt; view("y", bytes)?.as_u8(), Some(value), "at {bytes:?}");
+        }
+        assert_eq!(rt; view("b", &[1])?.as_u8(), None);
+        let signed: [(&[u8], i16); 5] = [
+            (&[0, 0], 0),
+            (&[0, 128], -32768),
+            (&[255, 127], 32767),
+            (&[255, 255], -1),
+            (&[5], 0),
+        ];
+        for (bytes, value) in signed {
+            assert_eq!(rt; view("n", bytes)?.as_i16(), Some(value), "at {bytes:?}");
+        }
+        assert_eq!(rt; view("q", &[1, 0])?.as_i16(), None);
+        let unsigned: [(&[u8], u16); 4] = [
+            (&[0, 0], 0),
+            (&[255, 255], 65535),
+            (&[1, 2], 513),
+            (&[5], 0),
+        ];
+        for (bytes, value) in unsigned {
+            assert_eq!(rt; view("q", bytes)?.as_u16(), Some(value), "at {bytes:?}");
+        }
+        assert_eq!(rt; view("n", &[1, 0])?.as_u16(), None);
+        Ok(())
+    }
+
+    #[test]
+    fn reads_large_numbers(rt: HostRuntime) -> Result<(), Fail> {
+        let signed: [(&[u8], i32); 5] = [
+            (&[0, 0, 0, 0], 0),
+            (&[0, 0, 0, 128], -2147483648),
+            (&[255, 255, 255, 127], 2147483647),
+            (&[255, 255, 255, 255], -1),
+            (&[1, 2, 3], 0),
+        ];
+        for (bytes, value) in signed {
+            assert_eq!(rt; view("i", bytes)?.as_i32(), Some(value), "at {bytes:?}");
+            assert_eq!(rt; view("h", bytes)?.as_handle(), Some(value), "at {bytes:?}");
+        }
+        assert_eq!(rt; view("h", &[1, 0, 0, 0])?.as_i32(), None);
+        assert_eq!(rt; view("i", &[1, 0, 0, 0])?.as_handle(), None);
+        let unsigned: [(&[u8], u32); 3] = [
+            (&[1, 2, 3, 4], 0x0403_0201),
+            (&[255, 255, 255, 255], 4294967295),
+            (&[], 0),
+        ];
+        for (bytes, value) in unsigned {
+            assert_eq!(rt; view("u", bytes)?.as_u32(), Some(value), "at {bytes:?}");
+        }
+        assert_eq!(rt; view("i", &[1, 0, 0, 0])?.as_u32(), None);
+        let signed_long: [(&[u8], i64); 4] = [
+            (&[0, 0, 0, 0, 0, 0, 0, 128], i64::MIN),
+            (&[255, 255, 255, 255, 255, 255, 255, 127], i64::MAX),
+            (&[255; 8], -1),
+            (&[1; 7], 0),
+        ];
+        for (bytes, value) in signed_long {
+            assert_eq!(rt; view("x", bytes)?.as_i64(), Some(value), "at {bytes:?}");
+        }
+        assert_eq!(rt; view("t", &[1; 8])?.as_i64(), None);
+        let unsigned_long: [(&[u8], u64, [u8; 8]); 4] = [
+            (
+                &[0, 0, 0, 0, 0, 0, 240, 63],
+                0x3ff0_0000_0000_0000,
+                [0, 0, 0, 0, 0, 0, 240, 63],
+            ),
+            (
+                &[1, 2, 3, 4, 5, 6, 7, 8],
+                0x0807_0605_0403_0201,
+                [1, 2, 3, 4, 5, 6, 7, 8],
+            ),
+            (&[255; 8], u64::MAX, [255; 8]),
+            (&[1; 9], 0, [0; 8]),
+        ];
+        for (bytes, value, bits) in unsigned_long {
+            assert_eq!(rt; view("t", bytes)?.as_u64(), Some(value), "at {bytes:?}");
+            assert_eq!(rt;
+                view("d", bytes)?.as_double_bits(),
+                Some(bits),
+                "at {bytes:?}"
+            );
+        }
+        assert_eq!(rt; view("x", &[1; 8])?.as_u64(), None);
+        assert_eq!(rt; view("t", &[1; 8])?.as_double_bits(), None);
+        Ok(())
+    }
+
+    #[test]
+    fn reads_texts_and_children(rt: HostRuntime) -> Result<(), Fail> {
+        let texts: [(&[u8], &str); 8] = [
+            (b"hi\0", "hi"),
+            (b"\xc3\xa9\0", "é"),
+            (b"\0", ""),
+            (b"", ""),
+            (b"hi", ""),
+            (b"h\0i\0", ""),
+            (b"hi\0\0", ""),
+            (b"\xff\0", ""),
+        ];
+        for (bytes, text) in texts {
+            assert_eq!(rt; view("s", bytes)?.as_str(), Some(text), "at {bytes:?}");
+        }
+        assert_eq!(rt; view("ay", b"hi\0")?.as_str(), None);
+        assert_eq!(rt; view("s", b"hi\0")?.as_bytes(), None);
+        assert_eq!(rt; view("au", &[0; 8])?.as_bytes(), None);
+        let bytes = [1, 0, 0, 0, 255, 255, 255, 255];
+        let counts: [(&str, &[u8], usize); 6] = [
+            ("au", &bytes, 2),
+            ("au", &bytes[..7], 0),
+            ("au", &[], 0),
+            ("ay", &bytes, 8),
+            ("ad", &bytes, 1),
+            ("u", &[1, 0, 0, 0], 0),
+        ];
+        for (text, bytes, count) in counts {
+            let array = view(text, bytes)?;
+            assert_eq!(rt; array.n_children(), count, "at {text} {bytes:?}");
+            assert!(rt; array.child(count).is_none(), "at {text} {bytes:?}");
+        }
+        let numbers = view("au", &bytes)?;
+        assert_eq!(rt; numbers.child(0).and_then(|it| it.as_u32()), Some(1));
+        assert_eq!(rt;
+            numbers.child(1).and_then(|it| it.as_u32()),
+            Some(4294967295)
+        );
+        let last = numbers.child(1).ok_or("no child")?;
+        assert_eq!(rt; last.type_str().as_str(), "u");
+        assert_eq!(rt; last.bytes(), [255, 255, 255, 255].as_slice());
+        let doubles = view("ad", &bytes)?;
+        assert_eq!(rt;
+            doubles.child(0).and_then(|it| it.as_double_bits()),
+            Some(bytes)
+        );
+        assert_eq!(rt; view("ay", &bytes)?.as_bytes(), Some(bytes.as_slice()));
+        Ok(())
+    }
+}
