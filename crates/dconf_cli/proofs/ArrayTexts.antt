@@ -1,91 +1,25 @@
--- The texts of arrays: byte strings and lists.
-use Rattle.std.proofs.Common.{◌≡◌, ◌<◌, ◌+◌, ℕ, zero, suc, List, [], ◌∷◌, ◌++◌, true, false, ◌==◌, take, Some, None, refl, sym, ap, subst, ◌∙◌, arith, append_assoc, below_more}
-use Rattle.std.specs.Prelude.{slice_get, option_map, IfSome}
-use Rattle.gv_model.specs.Ty.{Ty, Basic, spelling}
+-- The texts of arrays: byte strings, and elements in their brackets.
+use Rattle.std.proofs.Common.{◌≡◌, ℕ, List, [], ◌∷◌, ◌++◌, Bool, true, false, ◌&&◌, Some, None, Result, MatchResult, refl, sym, ap, ◌∙◌, arith, nat_eq, ne_eqb}
+use Rattle.std.proofs.lemmas.Result.{MatchResult-weaker}
+use Rattle.std.proofs.lemmas.Option.{none-some}
+use Rattle.gv_model.specs.Ty.{Ty, Basic}
 use Rattle.gv_model.specs.Ty.Ty.{basic, variant, array, maybe, tuple, entry}
-use Rattle.gv_model.specs.Ty.Basic.{boolean, byte, int16, uint16, int32, uint32, int64, uint64, handle, double, string, path, signature}
-use Rattle.gv_model.specs.Tree.{Tree, Trees, children, tree_at, trees_len, byte_trees}
-use Rattle.gv_model.specs.Tree.Tree.{node}
+use Rattle.gv_model.specs.Ty.Basic.{byte}
+use Rattle.gv_model.specs.Tree.{Tree, Trees, children, trees_len, byte_trees}
+use Rattle.gv_model.specs.Tree.Tree.{number, text, node}
 use Rattle.gv_model.specs.Tree.Trees.{none, first}
 use Rattle.gv_model.specs.BasicValue.{text_in}
-use Rattle.gv_model.specs.Quoted.{byte_string}
-use Rattle.gv_model.specs.Decode.{decode, cut}
-use Rattle.gv_model.specs.Printed.{printed, text_of, texts, joined, comma, numbers, holds_double, hold_double}
-use Rattle.gv_model.proofs.DecodeLaws.{decode_children}
-use Rattle.gv_model.proofs.ChildLaws.{children_count}
-use Rattle.gv_types.specs.declared.class.BasicType.{BasicType}
+use Rattle.gv_model.specs.Decode.{decode}
+use Rattle.gv_model.specs.Quoted.{between, byte_string}
+use Rattle.gv_model.specs.Printed.{Text, comma, holds_double, hold_double, is_empty, joined, numbers, text_of, type_mark, when}
+use Rattle.gv_types.specs.Classes.{class_of}
+use Rattle.gv_types.specs.TypeStr.{element_of}
 use Rattle.gv_types.specs.declared.class.Class.TheVariants as classes
-use Rattle.gv_types.specs.Classes.{class_of, basic_type}
-use Rattle.gv_types.specs.Handled.{is_handled}
-use Rattle.gv_layout.proofs.Elements.{even_child}
-use Rattle.gv_view.specs.declared.view.View.{View}
-use Rattle.gv_view.specs.Views.{view_ty, Lends}
 use Rattle.dconf_cli.specs.declared.print.PrintFault.{PrintFault}
-use Rattle.dconf_cli.specs.declared.print.PrintFault.TheVariants.{TooLarge, DoubleText, Memory}
-use Rattle.dconf_cli.specs.Printing.{IsElementFault, IsArrayOfBasic, elements_text, list_text, led}
-use Rattle.dconf_cli.proofs.Lists.{texts_next, texts_whole, no_double, some_double}
-
--- ---- the value of an array
-
-pub array_node : (t : Ty) (k : Basic) (b : List ℕ) → t ≡ array (basic k) → decode t b ≡ node t (children (decode t b))
-array_node t k b e = subst (λ (u : Ty). decode u b ≡ node u (children (decode u b))) (sym e) (go (decode_children (array (basic k)) b))
-  where
-    go : {vs : Trees} → decode (array (basic k)) b ≡ node (array (basic k)) vs → decode (array (basic k)) b ≡ node (array (basic k)) (children (decode (array (basic k)) b))
-    go h = h ∙ ap (λ v. node (array (basic k)) (children v)) (sym h)
-
-doubles_of : (t : Ty) (vs : Trees) → holds_double (node t vs) ≡ hold_double vs
-unfolding holds_double
-doubles_of t vs = refl
-
-pub doubles_in : (t : Ty) (k : Basic) (b : List ℕ) → t ≡ array (basic k) → holds_double (decode t b) ≡ hold_double (children (decode t b))
-doubles_in t k b e = ap holds_double (array_node t k b e) ∙ doubles_of t (children (decode t b))
-
--- ---- as a list
-
-printed_list : (k : Basic) (vs : Trees) → (k ≡ byte → text_in (numbers vs) ≡ None) → printed (node (array (basic k)) vs) true ≡ list_text (array (basic k)) vs
-unfolding text_of
-printed_list byte vs h = rw (h refl) refl
-printed_list boolean vs h = refl
-printed_list int16 vs h = refl
-printed_list uint16 vs h = refl
-printed_list int32 vs h = refl
-printed_list uint32 vs h = refl
-printed_list int64 vs h = refl
-printed_list uint64 vs h = refl
-printed_list handle vs h = refl
-printed_list double vs h = refl
-printed_list string vs h = refl
-printed_list path vs h = refl
-printed_list signature vs h = refl
-
-pub list_printed : (t : Ty) (k : Basic) (b : List ℕ) → t ≡ array (basic k) → (k ≡ byte → text_in (numbers (children (decode t b))) ≡ None) → list_text t (children (decode t b)) ≡ printed (decode t b) true
-list_printed t k b e h =
-    let vs = children (decode t b) in
-    ap (λ (u : Ty). list_text u vs) e ∙ (sym (printed_list k vs h) ∙ ap (λ v. printed v true) (sym (array_node t k b e ∙ ap (λ (u : Ty). node u vs) e)))
-
-pub list_full : (t : Ty) (vs : Trees) → 0 < trees_len vs → elements_text vs ≡ list_text t vs
-unfolding trees_len
-list_full t none lt = absurd (omega arith)
-list_full t (first v vs) lt = refl
-
-empty_is : (vs : Trees) → trees_len vs ≡ 0 → vs ≡ none
-unfolding trees_len
-empty_is none e = refl
-empty_is (first v vs) e = absurd (omega arith)
-
-list_none : (t : Ty) → list_text t none ≡ 64 ∷ (spelling t ++ 32 ∷ 91 ∷ 93 ∷ [])
-unfolding texts
-list_none t = ap (λ (l : List ℕ). 64 ∷ l) (append_assoc (spelling t) (32 ∷ []) (91 ∷ 93 ∷ []))
-
-pub list_empty : (t : Ty) (vs : Trees) (old marked typed new text : List ℕ) → trees_len vs ≡ 0 → text ≡ spelling t → marked ≡ old ++ 64 ∷ [] → typed ≡ marked ++ text → new ≡ typed ++ 32 ∷ 91 ∷ 93 ∷ [] → new ≡ old ++ list_text t vs
-list_empty t vs old marked typed new text none_of is marks types closes =
-    closes ∙ (ap (λ (l : List ℕ). l ++ 32 ∷ 91 ∷ 93 ∷ []) (types ∙ (ap (λ (l : List ℕ). l ++ text) marks ∙ ap (λ (l : List ℕ). (old ++ 64 ∷ []) ++ l) is))
-    ∙ (append_assoc (old ++ 64 ∷ []) (spelling t) (32 ∷ 91 ∷ 93 ∷ []) ∙ (append_assoc old (64 ∷ []) (spelling t ++ 32 ∷ 91 ∷ 93 ∷ [])
-    ∙ ap (λ (l : List ℕ). old ++ l) (sym (ap (list_text t) (empty_is vs none_of) ∙ list_none t)))))
-
-pub no_doubles : (vs : Trees) → trees_len vs ≡ 0 → hold_double vs ≡ false
-unfolding holds_double
-no_doubles vs e = ap hold_double (empty_is vs e)
+use Rattle.dconf_cli.specs.Printing.{AreFaultOf, brackets_of, byte_string_of, child_texts}
+use Rattle.dconf_cli.proofs.Containers.{fault_of_children, value_node}
+use Rattle.dconf_cli.proofs.ContainerTexts.{IsWritten, array_doubles, marked_text}
+use Rattle.dconf_cli.proofs.Figures.{of_basic}
 
 -- ---- as a byte string
 
@@ -94,94 +28,105 @@ unfolding byte_trees
 numbers-byte_trees [] = refl
 numbers-byte_trees (x ∷ b) = ap (λ (l : List ℕ). x ∷ l) (numbers-byte_trees b)
 
-bytes_hold : (b : List ℕ) → hold_double (byte_trees b) ≡ false
+other_array : (k : Basic) (vs : Trees) → (k ≡ byte → ⊥) → byte_string_of (node (array (basic k)) vs) ≡ None
+other_array byte vs h = absurd (h refl)
+other_array _ vs h = refl
+
+other_node : (t : Ty) (vs : Trees) → (t ≡ array (basic byte) → ⊥) → byte_string_of (node t vs) ≡ None
+other_node (array (basic k)) vs h = other_array k vs (λ e. h (ap (λ (u : Basic). array (basic u)) e))
+other_node (array _) vs h = refl
+other_node _ vs h = refl
+
+-- only an array of bytes is a byte string
+pub no_byte_string : (t : Ty) (b : List ℕ) → (t ≡ array (basic byte) → ⊥) → byte_string_of (decode t b) ≡ None
+no_byte_string (basic k) b h = (of_basic (basic k) k b refl).bytes
+no_byte_string variant b h = ap byte_string_of (value_node variant b tt) ∙ other_node variant (children (decode variant b)) h
+no_byte_string (array t) b h = ap byte_string_of (value_node (array t) b tt) ∙ other_node (array t) (children (decode (array t) b)) h
+no_byte_string (maybe t) b h = ap byte_string_of (value_node (maybe t) b tt) ∙ other_node (maybe t) (children (decode (maybe t) b)) h
+no_byte_string (tuple ts) b h = ap byte_string_of (value_node (tuple ts) b tt) ∙ other_node (tuple ts) (children (decode (tuple ts) b)) h
+no_byte_string (entry k t) b h = ap byte_string_of (value_node (entry k t) b tt) ∙ other_node (entry k t) (children (decode (entry k t) b)) h
+
+filled_text : (annotated : Bool) (s : Text) → when (annotated && false) s ≡ []
+filled_text true s = refl
+filled_text false s = refl
+
+bytes_text : (vs : Trees) (body : List ℕ) (annotated in_array : Bool) → text_in (numbers vs) ≡ Some body → text_of (node (array (basic byte)) vs) annotated in_array ≡ byte_string body
+unfolding text_of text_in
+bytes_text none body annotated in_array e = absurd (none-some body e)
+bytes_text (first v vs) body annotated in_array e = rw (filled_text annotated (type_mark (array (basic byte))), e) refl
+
+no_byte_text : (v : Tree) (body : List ℕ) → byte_string_of v ≡ None → byte_string_of v ≡ Some body → ⊥
+no_byte_text v body e f = none-some body (sym e ∙ f)
+
+byte_array : (k : Basic) (vs : Trees) (body : List ℕ) (annotated in_array : Bool) → byte_string_of (node (array (basic k)) vs) ≡ Some body → text_of (node (array (basic k)) vs) annotated in_array ≡ byte_string body
+byte_array byte vs body annotated in_array e = bytes_text vs body annotated in_array e
+byte_array _ vs body annotated in_array e = absurd (none-some body e)
+
+-- a byte string is printed as one
+pub byte_string_text : (v : Tree) (body : List ℕ) (annotated in_array : Bool) → byte_string_of v ≡ Some body → text_of v annotated in_array ≡ byte_string body
+byte_string_text (node (array (basic k)) vs) body annotated in_array e = byte_array k vs body annotated in_array e
+byte_string_text (node (array _) vs) body annotated in_array e = absurd (none-some body e)
+byte_string_text (node _ vs) body annotated in_array e = absurd (none-some body e)
+byte_string_text (number k n) body annotated in_array e = absurd (none-some body e)
+byte_string_text (text k s) body annotated in_array e = absurd (none-some body e)
+
+bytes_plain : (b : List ℕ) → hold_double (byte_trees b) ≡ false
 unfolding byte_trees holds_double
-bytes_hold [] = refl
-bytes_hold (x ∷ b) = bytes_hold b
+bytes_plain [] = refl
+bytes_plain (x ∷ b) = bytes_plain b
 
-no_text_of_none : (body : List ℕ) → Some body ≡ text_in [] → ⊥
-unfolding text_in
-no_text_of_none body e = cc
+pub value_bytes_plain : (v : Tree) (b : List ℕ) → v ≡ node (array (basic byte)) (byte_trees b) → holds_double v ≡ false
+unfolding holds_double
+value_bytes_plain v b e = ap holds_double e ∙ bytes_plain b
 
-bytes_printed : (b body : List ℕ) → Some body ≡ text_in b → printed (node (array (basic byte)) (byte_trees b)) true ≡ byte_string body
-unfolding byte_trees text_of
-bytes_printed [] body e = absurd (no_text_of_none body e)
-bytes_printed (x ∷ b) body e = let found : text_in (x ∷ numbers (byte_trees b)) ≡ Some body = ap (λ (l : List ℕ). text_in (x ∷ l)) (numbers-byte_trees b) ∙ sym e in rw found refl
+-- ---- as a list
 
-pub wrote_bytes : (v : Tree) (b body old new : List ℕ) → v ≡ node (array (basic byte)) (byte_trees b) → Some body ≡ text_in b → new ≡ old ++ byte_string body → (holds_double v ≡ false) × (new ≡ old ++ printed v true)
-wrote_bytes v b body old new is found wrote =
-    (ap holds_double is ∙ (doubles_of (array (basic byte)) (byte_trees b) ∙ bytes_hold b), wrote ∙ ap (λ (l : List ℕ). old ++ l) (sym (ap (λ u. printed u true) is ∙ bytes_printed b body found)))
+-- elements in the brackets of an array of this type
+abbrev list_text : Ty → Trees → Bool → Text
+list_text t vs annotated = between (brackets_of (element_of t)).0 (joined comma (child_texts vs annotated true)) (brackets_of (element_of t)).1
 
--- ---- element by element
+abbrev marked : Ty → Trees → Bool → Text
+marked t vs annotated = when (annotated && is_empty vs) (type_mark t) ++ list_text t vs annotated
 
-none_some : {X : Type 0} (x : X) → None ≡ Some x → ⊥
-none_some x e = cc
+basics_text : (k : Basic) (vs : Trees) (annotated in_array : Bool) → byte_string_of (node (array (basic k)) vs) ≡ None → text_of (node (array (basic k)) vs) annotated in_array ≡ marked (array (basic k)) vs annotated
+unfolding text_of
+basics_text byte vs annotated in_array e = rw e refl
+basics_text _ vs annotated in_array e = refl
 
--- a tree there is, where there are more
-tree_there : (vs : Trees) (i : ℕ) → i < trees_len vs → (v : Tree) × (tree_at vs i ≡ Some v)
-unfolding tree_at trees_len
-tree_there none i lt = absurd (omega arith)
-tree_there (first v vs) zero lt = (v, refl)
-tree_there (first v vs) (suc i) lt = tree_there vs i (omega arith)
+array_text : (t : Ty) (vs : Trees) (annotated in_array : Bool) → byte_string_of (node (array t) vs) ≡ None → text_of (node (array t) vs) annotated in_array ≡ marked (array t) vs annotated
+unfolding text_of
+array_text (basic k) vs annotated in_array e = basics_text k vs annotated in_array e
+array_text (entry k t) vs annotated in_array e = refl
+array_text variant vs annotated in_array e = refl
+array_text (array t) vs annotated in_array e = refl
+array_text (maybe t) vs annotated in_array e = refl
+array_text (tuple ts) vs annotated in_array e = refl
 
-abbrev Plain : Trees → ℕ → Type 0
-Plain vs n = (k : ℕ) → k < n → option_map holds_double (tree_at vs k) ≡ Some false
+-- another array is printed as its elements in their brackets, behind its type if it has none
+value_array_text : (t : Ty) (b : List ℕ) (annotated in_array : Bool) → class_of t ≡ classes.Array → byte_string_of (decode t b) ≡ None
+    → text_of (decode t b) annotated in_array ≡ when (annotated && is_empty (children (decode t b))) (type_mark t) ++ list_text t (children (decode t b)) annotated
+value_array_text (array t) b annotated in_array h e =
+    let is = value_node (array t) b tt in
+    ap (λ v. text_of v annotated in_array) is ∙ array_text t (children (decode (array t) b)) annotated in_array (sym (ap byte_string_of is) ∙ e)
+value_array_text (basic k) b annotated in_array h e = absurd cc
+value_array_text variant b annotated in_array h e = absurd cc
+value_array_text (maybe t) b annotated in_array h e = absurd cc
+value_array_text (tuple ts) b annotated in_array h e = absurd cc
+value_array_text (entry k t) b annotated in_array h e = absurd cc
 
-plain_more : (vs : Trees) (i : ℕ) (v : Tree) → tree_at vs i ≡ Some v → holds_double v ≡ false → Plain vs i → Plain vs (i + 1)
-plain_more vs i v e h so_far = below_more _ i so_far (ap (option_map holds_double) e ∙ ap Some h)
+pub empty_by_count : (vs : Trees) (n : ℕ) → n ≡ trees_len vs → nat_eq n 0 ≡ is_empty vs
+unfolding trees_len
+empty_by_count none n e = rw e refl
+empty_by_count (first v vs) n e = ne_eqb n 0 (omega arith)
 
-pub element_written : (vs : Trees) (i : ℕ) (start old new : List ℕ) → i < trees_len vs
-    → IfSome (tree_at vs i) (λ v. (holds_double v ≡ false) × (new ≡ old ++ led i (text_of v (i == 0) true)))
-    → old ≡ start ++ joined comma (take i (texts vs true false true)) → ((k : ℕ) → k < i → option_map holds_double (tree_at vs k) ≡ Some false)
-    → (new ≡ start ++ joined comma (take (i + 1) (texts vs true false true))) × ((k : ℕ) → k < i + 1 → option_map holds_double (tree_at vs k) ≡ Some false)
-element_written vs i start old new lt wrote so_far plain =
-    let v = tree_there vs i lt in
-    let here = rw v.1 at wrote in
-    let step : suc i ≡ i + 1 = omega arith in
-    (texts_next vs i v.0 start old new v.1 so_far here.1 ∙ ap (λ (n : ℕ). start ++ joined comma (take n (texts vs true false true))) step, plain_more vs i v.0 v.1 here.0 plain)
-
-fault_up : (u v : Tree) (e : PrintFault) → IsElementFault u e → (holds_double u ≡ true → holds_double v ≡ true) → IsElementFault v e
-fault_up u v TooLarge h f = h
-fault_up u v DoubleText h f = f h
-fault_up u v Memory h f = tt
-
-pub element_fault : (v : Tree) (vs : Trees) (i : ℕ) (e : PrintFault) → i < trees_len vs → holds_double v ≡ hold_double vs → IfSome (tree_at vs i) (λ u. IsElementFault u e) → IsElementFault v e
-element_fault v vs i e lt same h =
-    let u = tree_there vs i lt in
-    fault_up u.0 v e (rw u.1 at h) (λ d. same ∙ some_double vs i u.0 u.1 d)
-
-pub elements_whole : (vs : Trees) (n : ℕ) (old start loop new : List ℕ) → n ≡ trees_len vs → start ≡ old ++ 91 ∷ [] → loop ≡ start ++ joined comma (take n (texts vs true false true)) → new ≡ loop ++ 93 ∷ [] → new ≡ old ++ elements_text vs
-elements_whole vs n old start loop new count opened written closed =
-    closed ∙ (ap (λ (l : List ℕ). l ++ 93 ∷ []) (written ∙ (ap (λ (l : List ℕ). start ++ l) (texts_whole vs n count) ∙ ap (λ (l : List ℕ). l ++ joined comma (texts vs true false true)) opened))
-    ∙ (append_assoc (old ++ 91 ∷ []) (joined comma (texts vs true false true)) (93 ∷ []) ∙ append_assoc old (91 ∷ []) (joined comma (texts vs true false true) ++ 93 ∷ [])))
-
-pub no_double_at_all : (v : Tree) (vs : Trees) (n : ℕ) → holds_double v ≡ hold_double vs → n ≡ trees_len vs → ((k : ℕ) → k < n → option_map holds_double (tree_at vs k) ≡ Some false) → holds_double v ≡ false
-no_double_at_all v vs n same count plain = same ∙ no_double vs (λ k lt. plain k (omega arith))
-
--- ---- the types of children
-
-pub record IsBasicView (v : View) : Type 0 where
-  pub kind : Basic
-  pub is : view_ty v ≡ basic kind
-
-pub child_basic : (t : Ty) (b : List ℕ) (i : ℕ) (v : View) → is_handled t ≡ true → i < trees_len (children (decode t b)) → Lends b (slice_get (cut t b) i) (Some v) → IsBasicView v
-child_basic t b i v h lt lends =
-    let m = even_child t b i h (omega (arith, lt, children_count t b)) in
-    let shows = rw m.at at lends in
-    record { kind = m.element; is = shows.type }
-
-false_true : false ≡ true → ⊥
-false_true e = cc
-
-pub array_of_basic : (t : Ty) → is_handled t ≡ true → ((b : BasicType) → class_of t ≡ classes.Basic b → ⊥) → IsArrayOfBasic t
-array_of_basic (array (basic k)) h not_basic = record { element = k; is = refl }
-array_of_basic (basic k) h not_basic = absurd (not_basic (basic_type k) refl)
-array_of_basic variant h not_basic = absurd (false_true h)
-array_of_basic (array variant) h not_basic = absurd (false_true h)
-array_of_basic (array (array t)) h not_basic = absurd (false_true h)
-array_of_basic (array (maybe t)) h not_basic = absurd (false_true h)
-array_of_basic (array (tuple ts)) h not_basic = absurd (false_true h)
-array_of_basic (array (entry k t)) h not_basic = absurd (false_true h)
-array_of_basic (maybe t) h not_basic = absurd (false_true h)
-array_of_basic (tuple ts) h not_basic = absurd (false_true h)
-array_of_basic (entry k t) h not_basic = absurd (false_true h)
+pub array_written : {X : Type 0} (result : Result X PrintFault) (t : Ty) (b : List ℕ) (annotated : Bool) (brackets : ℕ × ℕ) (old mid new : Text) → class_of t ≡ classes.Array → byte_string_of (decode t b) ≡ None → brackets ≡ brackets_of (element_of t)
+    → mid ≡ old ++ when (annotated && is_empty (children (decode t b))) (type_mark t)
+    → MatchResult result (λ _. (hold_double (children (decode t b)) ≡ false) × (new ≡ mid ++ between brackets.0 (joined comma (child_texts (children (decode t b)) annotated true)) brackets.1)) (AreFaultOf (children (decode t b)))
+    → IsWritten result (decode t b) (text_of (decode t b) annotated false) old new
+array_written result t b annotated brackets old mid new h e is marks wrote =
+    let vs = children (decode t b) in
+    MatchResult-weaker result wrote (λ x p. (
+      array_doubles t b h ∙ p.0,
+      marked_text (list_text t vs annotated) (text_of (decode t b) annotated false) (when (annotated && is_empty vs) (type_mark t)) old mid new (value_array_text t b annotated false h e) marks
+          (p.1 ∙ ap (λ (q : ℕ × ℕ). mid ++ between q.0 (joined comma (child_texts vs annotated true)) q.1) is),
+    )) (λ f q. fault_of_children (decode t b) f (array_doubles t b h) q)

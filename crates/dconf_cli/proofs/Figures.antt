@@ -1,5 +1,6 @@
 -- The texts of basic values.
 use Rattle.std.proofs.Common.{◌≡◌, ◌++◌, ℕ, List, [], Option, Some, None, Bool, true, false, cond, refl, sym, ap, ◌∙◌, append_assoc, length, ◌==◌, subst}
+use Rattle.std.proofs.lemmas.Option.{none-some}
 use Rattle.gv_model.specs.Ty.{Ty, Basic}
 use Rattle.gv_model.specs.Ty.Ty.{basic}
 use Rattle.gv_model.specs.Ty.Basic.{boolean, double, string, path, signature}
@@ -10,9 +11,9 @@ use Rattle.gv_model.specs.Tree.Trees.{none}
 use Rattle.gv_model.specs.Texts.{is_text}
 use Rattle.gv_model.specs.BasicValue.{basic_value, basic_of_size, text_or_default, text_in, bits_of, number_in}
 use Rattle.gv_model.specs.Decode.{decode}
-use Rattle.gv_model.specs.Printed.{text_of, word, when, figures, holds_double, is_double}
+use Rattle.gv_model.specs.Printed.{text_of, word, when, ends_in_nothing, figures, holds_double, is_double}
 use Rattle.gv_model.proofs.DecodeLaws.{decode_children}
-use Rattle.dconf_cli.specs.Printing.{figures_of}
+use Rattle.dconf_cli.specs.Printing.{byte_string_of, figures_of}
 
 -- ---- a value of a basic type
 
@@ -23,14 +24,16 @@ pub record IsOf (k : Basic) (v : Tree) : Type 0 where
   pub one : nodes v ≡ 1
   pub flat : depth v ≡ 1
   pub childless : children v ≡ none
+  pub just : ends_in_nothing v ≡ false
+  pub bytes : byte_string_of v ≡ None
 
 of_number : (k : Basic) (n : ℕ) → IsOf k (number k n)
 unfolding text_of holds_double nodes depth
-of_number k n = record { text = λ a i. refl; double = refl; one = refl; flat = refl; childless = refl }
+of_number k n = record { text = λ a i. refl; double = refl; one = refl; flat = refl; childless = refl; just = refl; bytes = refl }
 
 of_text : (k : Basic) (s : List ℕ) → is_double k ≡ false → IsOf k (text k s)
 unfolding text_of holds_double nodes depth
-of_text k s h = record { text = λ a i. refl; double = sym h; one = refl; flat = refl; childless = refl }
+of_text k s h = record { text = λ a i. refl; double = sym h; one = refl; flat = refl; childless = refl; just = refl; bytes = refl }
 
 of_default : (k : Basic) → IsOf k (basic_default k)
 of_default string = of_text string [] refl
@@ -40,11 +43,8 @@ of_default boolean = of_number boolean 0
 of_default Basic.byte = of_number Basic.byte 0
 of_default _ = of_number _ 0
 
-no_none : (n : ℕ) → Some n ≡ None → ⊥
-no_none n e = cc
-
 no_double : (k : Basic) → basic_size k ≡ None → is_double k ≡ false
-no_double double e = absurd (no_none 8 e)
+no_double double e = absurd (none-some 8 (sym e))
 no_double _ e = refl
 
 of_size : (k : Basic) (b : List ℕ) (o : Option ℕ) → basic_size k ≡ o → IsOf k (basic_of_size k b o)
@@ -83,6 +83,6 @@ pub wrote_text : (k : Basic) (s : List ℕ) (v : Tree) (old new : List ℕ) → 
 unfolding holds_double
 wrote_text k s v old new e wrote = (ap holds_double e, wrote ∙ ap (λ (u : Tree). old ++ figures_of u) (sym e))
 
-pub wrote_basic : (k : Basic) (v : Tree) (annotated : Bool) (old mid new : List ℕ) → IsOf k v → mid ≡ old ++ when annotated (word k) → new ≡ mid ++ figures_of v → new ≡ old ++ text_of v annotated true
+pub wrote_basic : (k : Basic) (v : Tree) (annotated : Bool) (old mid new : List ℕ) → IsOf k v → mid ≡ old ++ when annotated (word k) → new ≡ mid ++ figures_of v → new ≡ old ++ text_of v annotated false
 wrote_basic k v annotated old mid new is before wrote =
-    wrote ∙ (ap (λ (l : List ℕ). l ++ figures_of v) before ∙ (append_assoc old (when annotated (word k)) (figures_of v) ∙ ap (λ (l : List ℕ). old ++ l) (sym (is.text annotated true))))
+    wrote ∙ (ap (λ (l : List ℕ). l ++ figures_of v) before ∙ (append_assoc old (when annotated (word k)) (figures_of v) ∙ ap (λ (l : List ℕ). old ++ l) (sym (is.text annotated false))))

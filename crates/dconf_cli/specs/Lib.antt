@@ -6,6 +6,7 @@ pub mod StdFolders
 pub mod CommandLine
 pub mod Asked
 pub mod Printing
+pub mod Counting
 pub mod PrintFaults
 pub mod Output
 pub mod Answers

@@ -1,11 +1,12 @@
 -- What each command writes for what its files hold: a text to out, or one line to err.
-use Rattle.std.specs.Prelude.{ℕ, List, [], ◌∷◌, ◌++◌, length, Option, Some, None, codes, true, nat_lt, if◌then◌else◌, option_and_then, string_bytes}
+use Rattle.std.specs.Prelude.{◌≡◌, ℕ, List, [], ◌∷◌, ◌++◌, length, Option, Some, None, codes, true, nat_lt, if◌then◌else◌, string_bytes}
 use Rattle.gv_model.specs.Ty.{Ty}
 use Rattle.gv_model.specs.TypeText.{type_of_text}
+use Rattle.gv_model.specs.TypeFault.{Fault, IsFault}
 use Rattle.gv_model.specs.Tree.{Tree}
 use Rattle.gv_model.specs.Decode.{decode}
 use Rattle.gv_model.specs.Printed.{printed, is_too_large, holds_double}
-use Rattle.gv_types.specs.Handled.{is_handled}
+use Rattle.gv_types.specs.TypeFaults.{fault_text}
 use Rattle.dconf_cli.specs.declared.asked.Command.{Command}
 use Rattle.dconf_cli.specs.declared.asked.Command.TheVariants.{Show}
 
@@ -41,19 +42,16 @@ abbrev pub file_output : Ty → List ℕ → Option (List ℕ) → Output
 file_output t file None = refused (codes "NoFile " ++ file)
 file_output t file (Some bytes) = if nat_lt 4294967295 (length bytes) then refused (codes "TooBig") else value_output (decode t bytes)
 
--- the type that a text spells, if it is one of those that are read so far
-abbrev pub handled_type : List ℕ → Option Ty
-handled_type type_text = option_and_then (λ t. if is_handled t then Some t else None) (type_of_text type_text)
-
--- the type comes first
-abbrev pub typed_output : Option Ty → List ℕ → Option (List ℕ) → Output
-typed_output None file held = refused (codes "NotYet")
-typed_output (Some t) file held = file_output t file held
+-- the type comes first: a text that is no type is refused with its first fault
+abbrev pub IsShown : List ℕ → Option Ty → List ℕ → Option (List ℕ) → Output → Type 0
+IsShown type_text None file held o = (f : Fault) × IsFault type_text f × (o ≡ refused (fault_text f))
+IsShown type_text (Some t) file held o = o ≡ file_output t file held
 
 -- ---- every command
 
-abbrev pub output : Command → Content → Output
-output (Show type_text file) content = typed_output (handled_type (string_bytes type_text)) (string_bytes file) (content (string_bytes file))
+abbrev pub IsOutput : Command → Content → Output → Type 0
+IsOutput (Show type_text file) content o =
+    IsShown (string_bytes type_text) (type_of_text (string_bytes type_text)) (string_bytes file) (content (string_bytes file)) o
 
 -- the file that a command reads
 abbrev pub file_of : Command → List ℕ

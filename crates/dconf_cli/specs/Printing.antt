@@ -1,11 +1,13 @@
 -- What printing answers.
-use Rattle.std.specs.Prelude.{◌≡◌, ℕ, zero, suc, List, [], ◌++◌, true, false}
-use Rattle.gv_model.specs.Ty.{Ty, Basic}
-use Rattle.gv_model.specs.Ty.Ty.{basic, array}
-use Rattle.gv_model.specs.Tree.{Tree, Trees}
+use Rattle.std.specs.Prelude.{◌≡◌, ◌<◌, ℕ, List, [], Option, Some, None, Bool, true, false}
+use Rattle.gv_model.specs.Ty.{Ty}
+use Rattle.gv_model.specs.Ty.Ty.{basic, array, entry}
+use Rattle.gv_model.specs.Ty.Basic.{byte}
+use Rattle.gv_model.specs.Tree.{Tree, Trees, depth}
 use Rattle.gv_model.specs.Tree.Tree.{number, text, node}
-use Rattle.gv_model.specs.Quoted.{between, quoted}
-use Rattle.gv_model.specs.Printed.{comma, figures, holds_double, is_empty, is_too_large, joined, texts, type_mark, when}
+use Rattle.gv_model.specs.BasicValue.{text_in}
+use Rattle.gv_model.specs.Quoted.{quoted}
+use Rattle.gv_model.specs.Printed.{Text, ends_in_nothing, figures, holds_double, hold_double, is_too_large, numbers, text_of, texts}
 use Rattle.dconf_cli.specs.declared.print.PrintFault.{PrintFault}
 use Rattle.dconf_cli.specs.declared.print.PrintFault.TheVariants.{TooLarge, DoubleText, Memory}
 
@@ -21,27 +23,50 @@ IsElementFault v TooLarge = ⊥
 IsElementFault v DoubleText = holds_double v ≡ true
 IsElementFault v Memory = Unit {0}
 
+-- the same of values
+abbrev pub AreFaultOf : Trees → PrintFault → Type 0
+AreFaultOf vs TooLarge = ⊥
+AreFaultOf vs DoubleText = hold_double vs ≡ true
+AreFaultOf vs Memory = Unit {0}
+
 -- the text of a basic value without its type's word
 abbrev pub figures_of : Tree → List ℕ
 figures_of (number k n) = figures k n
 figures_of (text k s) = quoted s
 figures_of (node t vs) = []
 
--- ---- arrays of a basic type
+-- ---- children
 
-pub record IsArrayOfBasic (t : Ty) : Type 0 where
-  pub element : Basic
-  pub is : t ≡ array (basic element)
+-- whether the children behind the first are annotated where it is: not in an array
+abbrev pub rest_annotated : Bool → Bool → Bool
+rest_annotated annotated true = false
+rest_annotated annotated false = annotated
 
--- element i and what stands before it
-abbrev pub led : ℕ → List ℕ → List ℕ
-led zero s = s
-led (suc i) s = comma ++ s
+-- the texts of children, of elements of an array or of others
+abbrev pub child_texts : Trees → Bool → Bool → List Text
+child_texts vs annotated in_array = texts vs annotated (rest_annotated annotated in_array) in_array
 
--- elements in brackets, the first of them annotated
-abbrev pub elements_text : Trees → List ℕ
-elements_text vs = between 91 (joined comma (texts vs true false true)) 93
+-- ---- arrays
 
--- the same, after the type of an array that has none
-abbrev pub list_text : Ty → Trees → List ℕ
-list_text t vs = when (is_empty vs) (type_mark t) ++ elements_text vs
+-- the brackets of an array whose elements have this type
+abbrev pub brackets_of : Option Ty → ℕ × ℕ
+brackets_of (Some (entry k t)) = (123, 125)
+brackets_of _ = (91, 93)
+
+-- the bytes of a byte string, without its zero byte
+abbrev pub byte_string_of : Tree → Option (List ℕ)
+byte_string_of (node (array (basic byte)) vs) = text_in (numbers vs)
+byte_string_of _ = None
+
+-- ---- maybes
+
+-- Nothing, or levels of Just around it
+pub record IsNothing (v : Tree) : Type 0 where
+  pub ends : ends_in_nothing v ≡ true
+  pub plain : holds_double v ≡ false
+
+-- u stands in v within levels of Just, and is no maybe: it is printed for v
+pub record IsWithin (v u : Tree) : Type 0 where
+  pub text : text_of v false false ≡ text_of u false false
+  pub double : holds_double v ≡ holds_double u
+  pub deeper : depth u < depth v

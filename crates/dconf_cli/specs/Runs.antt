@@ -4,7 +4,7 @@ use Rattle.std.specs.Io.KnownBytes.{Appends}
 use Rattle.dconf_cli.specs.declared.asked.Command.{Command}
 use Rattle.dconf_cli.specs.declared.answer.Answer.{Answer}
 use Rattle.dconf_cli.specs.Answers.{Answers}
-use Rattle.dconf_cli.specs.Output.{Output, Content, refused, output}
+use Rattle.dconf_cli.specs.Output.{Output, Content, IsOutput, refused}
 
 -- what a writer holds, where it says that
 abbrev pub Held : Type 0
@@ -31,10 +31,14 @@ Agrees (Some known) content = content ≡ known
 pub record RanOn (known : Option Content) (command : Command) (status : ℕ) (out_old out_new err_old err_new : Held) : Type 0 where
   pub content : Content
   pub agrees : Agrees known content
-  pub ran : Ran (output command content) status out_old out_new err_old err_new
+  pub output : Output
+  pub is_output : IsOutput command content output
+  pub ran : Ran output status out_old out_new err_old err_new
 
 -- the answer is what the folder's content gives: what is known of it, or else some content
-pub record AnswersOn (known : Option Content) (answer : Answer) (given : Content → Output) : Type 0 where
+pub record AnswersOn (known : Option Content) (answer : Answer) (Gives : Content → Output → Type 0) : Type 0 where
   pub content : Content
   pub agrees : Agrees known content
-  pub answers : Answers answer (given content)
+  pub output : Output
+  pub is_output : Gives content output
+  pub answers : Answers answer output

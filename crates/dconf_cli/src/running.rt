@@ -16,9 +16,9 @@ use std::io::{Read, Write};
 /// Runs the command on the folder, and gives its status: 0 is done, 1 is refused.
 ///
 /// Done, its text is on out; refused, one line on err says why, and out got nothing. A failed write to out
-/// is status 1 with nothing on err, and a failed one to err changes no status. The lines are `error: NotYet`
-/// for a type that isn't read so far, `error: NoFile FILE`, `error: Device FILE` where the folder failed,
-/// `error: TooBig` for a file over 4,294,967,295 bytes, `error: TooLarge` for over 1,000,000 values,
+/// is status 1 with nothing on err, and a failed one to err changes no status. The lines are the fault of a text
+/// that is no type, as `error: KeyNotBasic at 2`, `error: NoFile FILE`, `error: Device FILE` where the folder failed,
+/// `error: TooBig` for a file over 4,294,967,295 bytes, `error: TooLarge` for over 1,000,000 values or 128 levels,
 /// `error: DoubleText` where a double is to be printed, and `error: Memory`.
 ///
 /// It holds the file's bytes once and the text once, in time linear in both.

@@ -1,2 +1,11 @@
+pub mod Lists
 pub mod Sizes
+pub mod MemberWalk
+pub mod Numbers
+pub mod Widths
+pub mod Alike
 pub mod Elements
+pub mod MemberLaws
+pub mod Cuts
+pub mod Counts
+pub mod Found

@@ -1,14 +1,15 @@
 -- The children of a value are the values of its children.
 use Rattle.std.proofs.Common.{ℕ, zero, suc, ◌≡◌, List, [], ◌∷◌, length, Option, Some, None, Bool, true, false, cond, ◌==◌, refl, ap, ◌∙◌}
-use Rattle.std.specs.Prelude.{slice_get, option_map}
+use Rattle.std.specs.Prelude.{map, slice_get, option_map}
 use Rattle.gv_model.specs.Ty.{Ty, Basic}
 use Rattle.gv_model.specs.Ty.Ty.{basic, variant, array, maybe, tuple, entry}
 use Rattle.gv_model.specs.Ty.Basic.{string, path, signature}
 use Rattle.gv_model.specs.Layout.{basic_size}
-use Rattle.gv_model.specs.Tree.{Tree, children, tree_at, trees_len, basic_default}
+use Rattle.gv_model.specs.Tree.{Tree, Trees, children, tree_at, trees_len, basic_default}
 use Rattle.gv_model.specs.Tree.Trees.{none}
 use Rattle.gv_model.specs.Children.{Child, bytes_of}
 use Rattle.gv_model.specs.Decode.{decode, tree_with, each, cut, spans}
+use Rattle.gv_model.specs.Parts.{part_of, parts, trees_of}
 use Rattle.gv_model.specs.BasicValue.{basic_value, basic_of_size, text_or_default, text_in, bits_of, number_in}
 use Rattle.gv_model.specs.Texts.{is_text}
 use Rattle.gv_model.proofs.DecodeLaws.{decode_children}
@@ -65,3 +66,13 @@ pub children_count : (t : Ty) (b : List ℕ) → trees_len (children (decode t b
 children_count t b =
     ap (λ v. trees_len (children v)) (decode_children t b)
     ∙ (ap trees_len (tree_children (λ c. decode c.type (bytes_of b c)) t b) ∙ len_each (λ c. decode c.type (bytes_of b c)) (cut t b))
+
+pub each_part : (b : List ℕ) (cs : List Child) → each (λ c. decode c.type (bytes_of b c)) cs ≡ trees_of (map (part_of b) cs)
+each_part b [] = refl
+each_part b (c ∷ cs) = ap (Trees.first (decode c.type (bytes_of b c))) (each_part b cs)
+
+-- the children of a value are the values of its parts
+pub children_are_parts : (t : Ty) (b : List ℕ) → children (decode t b) ≡ trees_of (parts t b)
+unfolding parts
+children_are_parts t b =
+    ap children (decode_children t b) ∙ (tree_children (λ c. decode c.type (bytes_of b c)) t b ∙ each_part b (cut t b))

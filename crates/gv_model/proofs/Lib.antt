@@ -1,8 +1,14 @@
 pub mod TypeTextLaws
 pub mod TypeTextSound
 pub mod TypeTextParts
+pub mod Fronts
+pub mod TwoFronts
+pub mod TypeFaultLaws
+pub mod OneFault
 pub mod DecodeLaws
 pub mod EmptyLaws
 pub mod ChildLaws
+pub mod PartLaws
+pub mod WellTyped
 pub mod WorkedValues
 pub mod WorkedFaults

@@ -38,7 +38,7 @@ byte_of_mark c =
     (either c 40 _ _ (λ e. e) (either c 41 _ _ (λ e. e) (either c 123 _ _ (λ e. e) (either c 125 _ _ (λ e. e) tt)))))))))))))))))))
 
 -- the text is that of what is seen
-abbrev Shows : Seen → List ℕ → Type 0
+abbrev pub Shows : Seen → List ℕ → Type 0
 Shows nothing w = w ≡ []
 Shows (type t s) w = (r : List ℕ) × (w ≡ spelling t ++ r) × Shows s r
 Shows (tuple_end s) w = (r : List ℕ) × (w ≡ 41 ∷ r) × Shows s r
@@ -94,7 +94,7 @@ before_shows open_entry s c w e h = at_byte (entry_before s) c 123 w e (entry_sh
 before_shows close_entry s c w e h = (w, ap (λ x. x ∷ w) e, h)
 before_shows other s c w e h = tt
 
-seen_shows : (w : List ℕ) → Shows (seen w) w
+pub seen_shows : (w : List ℕ) → Shows (seen w) w
 unfolding seen
 seen_shows [] = refl
 seen_shows (c ∷ w) = before_shows (mark c) (seen w) c w (byte_of_mark c) (seen_shows w)

@@ -9,9 +9,7 @@ use Rattle.gv_model.specs.TypeFault.{Front, IsFault, front_text, front_nesting, 
 use Rattle.gv_model.specs.TypeFault.Front.{nothing, array_of, tuple_with, entry_start}
 use Rattle.gv_model.specs.TypeFault.Want.{a_type, key}
 use Rattle.gv_model.specs.TypeFault.Fault.{empty, bad_char, key_not_basic, too_deep, unclosed, trailing}
-
-head_of : (c d : ℕ) (xs ys : List ℕ) → c ∷ xs ≡ d ∷ ys → c ≡ d
-head_of c d xs ys e = cc
+use Rattle.gv_model.proofs.Fronts.{heads}
 
 no_key_v : (k : Basic) → 118 ≡ letter k → ⊥
 no_key_v Basic.boolean e = omega arith
@@ -22,11 +20,11 @@ no_letter_r Basic.boolean e = omega arith
 no_letter_r _ e = omega arith
 
 other_byte : (c : ℕ) (xs ys : List ℕ) → (c < 114) ⊎ (114 < c) → c ∷ xs ≡ 114 ∷ ys → ⊥
-other_byte c xs ys h e = let same : c ≡ 114 = head_of c 114 xs ys e in elim h [ inl l ↦ omega arith | inr g ↦ omega arith ]
+other_byte c xs ys h e = let same : c ≡ 114 = heads e in elim h [ inl l ↦ omega arith | inr g ↦ omega arith ]
 
 no_type_begins_with_r : (t : Ty) (more : List ℕ) → spelling t ≡ 114 ∷ more → ⊥
 unfolding spelling
-no_type_begins_with_r (basic k) more e = no_letter_r k (head_of (letter k) 114 [] more e)
+no_type_begins_with_r (basic k) more e = no_letter_r k (heads e)
 no_type_begins_with_r variant more e = other_byte 118 [] more (inr (omega arith)) e
 no_type_begins_with_r (array t) more e = other_byte 97 (spelling t) more (inl (omega arith)) e
 no_type_begins_with_r (maybe t) more e = other_byte 109 (spelling t) more (inl (omega arith)) e

@@ -1,10 +1,14 @@
 -- Laws of types, of their texts and of the meaning of bytes.
-use Rattle.std.specs.Prelude.{◌≡◌, ◌↔◌, ℕ, List, [], ◌++◌, length, Some, true, slice_get, option_map}
+use Rattle.std.specs.Prelude.{◌≡◌, ◌≤◌, ◌<◌, ◌↔◌, ℕ, List, [], ◌++◌, length, Some, None, true, slice_get, option_map}
+use Rattle.std.specs.List.{AllByRecursion}
 use Rattle.gv_model.specs.Ty.{Ty, spelling}
 use Rattle.gv_model.specs.TypeText.{type_of_text, is_within_limits}
+use Rattle.gv_model.specs.TypeFault.{Fault, IsFault}
 use Rattle.gv_model.specs.Tree.{Tree, default, children, tree_at, trees_len}
-use Rattle.gv_model.specs.Children.{bytes_of}
+use Rattle.gv_model.specs.Typed.{HasType}
+use Rattle.gv_model.specs.Children.{Child, bytes_of}
 use Rattle.gv_model.specs.Decode.{decode, cut, tree_with}
+use Rattle.gv_model.specs.Parts.{Part, part_at, subtree_at}
 
 -- no type's text begins another's
 abbrev pub NoTypeBeginsAnother : Type 0
@@ -14,9 +18,21 @@ NoTypeBeginsAnother = (t u : Ty) (x y : List ℕ) → spelling t ++ x ≡ spelli
 abbrev pub HasTypeWhereSpelled : Type 0
 HasTypeWhereSpelled = (w : List ℕ) (t : Ty) → (type_of_text w ≡ Some t) ↔ ((spelling t ≡ w) × (is_within_limits t w ≡ true))
 
+-- a text with a fault has no type
+abbrev pub FaultsAreOfNoType : Type 0
+FaultsAreOfNoType = (w : List ℕ) (f : Fault) → IsFault w f → type_of_text w ≡ None
+
+-- a text has no other fault
+abbrev pub HasOneFault : Type 0
+HasOneFault = (w : List ℕ) (f g : Fault) → IsFault w f → IsFault w g → f ≡ g
+
 -- no bytes read as the default
 abbrev pub EmptyReadsAsDefault : Type 0
 EmptyReadsAsDefault = (t : Ty) → decode t [] ≡ default t
+
+-- whatever bytes are read at a type, the value is of that type
+abbrev pub ReadsAtType : Type 0
+ReadsAtType = (t : Ty) (b : List ℕ) → AllByRecursion (λ x. x < 256) b → HasType (decode t b) t
 
 -- f gives of each value the tree over what it gives of its children
 abbrev pub IsReading : (Ty → List ℕ → Tree) → Type 0
@@ -34,3 +50,16 @@ HasChildrenOfCut = (t : Ty) (b : List ℕ) → trees_len (children (decode t b))
 abbrev pub ChildIsRead : Type 0
 ChildIsRead = (t : Ty) (b : List ℕ) (i : ℕ)
     → tree_at (children (decode t b)) i ≡ option_map (λ c. decode c.type (bytes_of b c)) (slice_get (cut t b) i)
+
+-- a child lies within n bytes
+pub record LiesWithin (n : ℕ) (c : Child) : Type 0 where
+  pub ordered : c.from ≤ c.to
+  pub inside : c.to ≤ n
+
+-- each child lies within its container's bytes
+abbrev pub ChildrenLieWithin : Type 0
+ChildrenLieWithin = (t : Ty) (b : List ℕ) (i : ℕ) (c : Child) → slice_get (cut t b) i ≡ Some c → LiesWithin (length b) c
+
+-- what lies in a value where children are followed is the value of what lies there in its bytes
+abbrev pub EveryPartIsRead : Type 0
+EveryPartIsRead = (p : Part) (is : List ℕ) → subtree_at (decode p.0 p.1) is ≡ option_map (λ q. decode q.0 q.1) (part_at p is)

@@ -12,6 +12,8 @@ pub mod Maybes
 pub mod Tuples
 pub mod Variants
 pub mod Decode
+pub mod Parts
+pub mod Entries
 pub mod Quoted
 pub mod Printed
 pub mod Laws

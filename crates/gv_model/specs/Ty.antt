@@ -70,3 +70,13 @@ abbrev pub members : Ty → Types
 members (tuple ts) = ts
 members (entry k t) = member (basic k) (member t end)
 members _ = end
+
+-- the types in a list
+unfoldable pub listed : Types → List Ty
+listed end = []
+listed (member t ts) = t ∷ listed ts
+
+-- types in a list, as members
+abbrev pub types_from : List Ty → Types
+types_from [] = end
+types_from (t ∷ ts) = member t (types_from ts)

@@ -3,7 +3,7 @@
 //! computed when the functions are called, and nothing fails.
 #![tactic(auto)]
 
-ghost use Rattle.gv_model.specs.Laws.{NoTypeBeginsAnother, HasTypeWhereSpelled, EmptyReadsAsDefault, IsReading, IsOnlyReading, HasChildrenOfCut, ChildIsRead};
+ghost use Rattle.gv_model.specs.Laws.{NoTypeBeginsAnother, HasTypeWhereSpelled, EmptyReadsAsDefault, ReadsAtType, IsReading, IsOnlyReading, HasChildrenOfCut, ChildIsRead, FaultsAreOfNoType, HasOneFault, ChildrenLieWithin, EveryPartIsRead};
 ghost use Rattle.gv_model.specs.Decode.{decode};
 
 /// No type's text begins another's, so a sequence of types is read in one way only.
@@ -14,6 +14,16 @@ pub fn no_type_begins_another()
 /// A text has a type exactly where it is that type's spelling, within the limits of depth and length.
 pub fn has_type_where_spelled()
     ensures { HasTypeWhereSpelled }
+{}
+
+/// A text with a fault has no type.
+pub fn faults_are_of_no_type()
+    ensures { FaultsAreOfNoType }
+{}
+
+/// A text has one fault only.
+pub fn one_fault()
+    ensures { HasOneFault }
 {}
 
 /// The value of a container's bytes is the tree over the values of its children's bytes, and no other
@@ -27,6 +37,22 @@ pub fn one_reading()
 pub fn children_are_read()
     ensures count { HasChildrenOfCut }
     ensures each { ChildIsRead }
+{}
+
+/// Each child lies within its container's bytes, and ends no earlier than it begins.
+pub fn children_lie_within()
+    ensures { ChildrenLieWithin }
+{}
+
+/// What is found in a value by following children, any number of times, is the value of the bytes that are
+/// found so.
+pub fn every_part_is_read()
+    ensures { EveryPartIsRead }
+{}
+
+/// Whatever bytes are read at a type, the value is of that type.
+pub fn reads_at_type()
+    ensures { ReadsAtType }
 {}
 
 /// No bytes read as the default of every type.

@@ -1,3 +1,11 @@
+pub mod Trivia
 pub mod Letters
-pub mod Parts
 pub mod ClassLaws
+pub mod Firsts
+pub mod MemberLaws
+pub mod Steps
+pub mod Stops
+pub mod Whole
+pub mod TypeLists
+pub mod Parts
+pub mod PathLaws

@@ -1,23 +1,22 @@
 -- The parts of a type's text are texts of its parts.
-use Rattle.std.proofs.Common.{ℕ, ◌≡◌, ◌≤◌, List, drop, Some, None, true, false, refl, sym, ap, ◌∙◌, arith, length-drop, ◌⊎◌, inl, inr}
-use Rattle.std.specs.Prelude.{is_some}
-use Rattle.gv_model.specs.Ty.Basic.{path, signature}
-use Rattle.gv_model.specs.Layout.{basic_size}
+use Rattle.std.proofs.Common.{ℕ, ◌≡◌, ◌≤◌, ◌-◌, List, [], ◌∷◌, ◌++◌, length, take, drop, Some, true, refl, sym, ap, ◌∙◌, subst, arith, length-append, append-nil, length-drop, ◌⊎◌, inl, inr}
+use Rattle.std.specs.Prelude.{slice_range}
+use Rattle.std.proofs.Math.Seq.{take-append_seam}
+use Rattle.std.proofs.lemmas.List.{length-take}
+use Rattle.gv_model.specs.Ty.{Ty, Types, Basic, letter, spelling, spellings, nesting, greatest_nesting, members, listed}
+use Rattle.gv_model.specs.Ty.Ty.{basic, variant, array, maybe, tuple, entry}
+use Rattle.gv_model.specs.TypeText.{seen, is_type, type_at, is_within_limits}
+use Rattle.gv_model.specs.Texts.{are_types}
+use Rattle.gv_model.proofs.TypeTextParts.{spelling-type_at, limits_down, text_of_type, IsTextOfType}
 use Rattle.gv_types.specs.declared.class.Class.{Class}
 use Rattle.gv_types.specs.declared.class.Class.TheVariants as classes
 use Rattle.gv_types.specs.Classes.{class_of}
-use Rattle.gv_types.specs.Handled.{is_handled}
-use Rattle.gv_model.specs.Ty.{Ty, Basic, spelling, nesting}
-use Rattle.gv_model.specs.Ty.Ty.{basic, variant, array, maybe, tuple, entry}
-use Rattle.gv_model.specs.TypeText.{is_type, type_at}
-use Rattle.gv_model.proofs.TypeTextParts.{spelling-type_at, limits_down, text_of_type, IsTextOfType}
-use Rattle.gv_types.specs.TypeStr.{element_of}
+use Rattle.gv_types.specs.TypeStr.{element_of, key_of}
+use Rattle.gv_types.specs.Members.{types_in}
+use Rattle.gv_types.proofs.Trivia.{some_is, none_is}
+use Rattle.gv_types.proofs.TypeLists.{types_in_spellings, members_are_types}
 
-some_is : (t u : Ty) → Some t ≡ Some u → t ≡ u
-some_is t u e = cc
-
-none_is : (u : Ty) → None ≡ Some u → ⊥
-none_is u e = cc
+-- ---- the element of an array or a maybe
 
 -- behind the first letter stands the element's text
 element_text : (t u : Ty) → element_of t ≡ Some u → (spelling u ≡ drop 1 (spelling t)) × (nesting u ≤ nesting t)
@@ -35,14 +34,10 @@ text_of_element w u h e =
     let part = element_text (type_at w) u e in
     text_of_type u (drop 1 w) (part.0 ∙ ap (drop 1) whole.0) (limits_down (type_at w) u w (drop 1 w) part.1 (omega (arith, length-drop 1 w)) whole.1)
 
--- a container of a class that has elements has one
+-- a type of a class that has elements has one
 pub record HasElement (t : Ty) : Type 0 where
   pub element : Ty
   pub is : element_of t ≡ Some element
-
-classes_differ : (c d : Class) → c ≡ d → (c ≡ classes.Array) ⊎ (c ≡ classes.Maybe) → (d ≡ classes.Array) ⊎ (d ≡ classes.Maybe)
-classes_differ c d e (inl h) = inl (sym e ∙ h)
-classes_differ c d e (inr h) = inr (sym e ∙ h)
 
 holds_element : (t : Ty) → (class_of t ≡ classes.Array) ⊎ (class_of t ≡ classes.Maybe) → HasElement t
 holds_element (array t) h = record { element = t; is = refl }
@@ -56,27 +51,127 @@ holds_element (tuple ts) (inr e) = absurd cc
 holds_element (entry k t) (inl e) = absurd cc
 holds_element (entry k t) (inr e) = absurd cc
 
+class_same : (c d : Class) → c ≡ d → (c ≡ classes.Array) ⊎ (c ≡ classes.Maybe) → (d ≡ classes.Array) ⊎ (d ≡ classes.Maybe)
+class_same c d e h = subst (λ (x : Class). (x ≡ classes.Array) ⊎ (x ≡ classes.Maybe)) e h
+
 pub has_element : (c : Class) (t : Ty) → c ≡ class_of t → (c ≡ classes.Array) ⊎ (c ≡ classes.Maybe) → HasElement t
-has_element c t e h = holds_element t (classes_differ c (class_of t) e h)
+has_element c t e h = holds_element t (class_same c (class_of t) e h)
 
-false_true : false ≡ true → ⊥
-false_true e = cc
+-- ---- the key of an entry
 
-fixed_is_handled : (k : Basic) → is_some (basic_size k) ≡ true → is_handled (basic k) ≡ true
-fixed_is_handled path e = absurd (false_true e)
-fixed_is_handled signature e = absurd (false_true e)
-fixed_is_handled _ e = refl
+-- its text has at least four bytes, and the second is the key's
+pub record HasKey (w : List ℕ) (t : Ty) : Type 0 where
+  pub key : Ty
+  pub is : key_of t ≡ Some key
+  pub some : 2 ≤ length w
+  pub spelled : spelling key ≡ slice_range w 1 2
+  pub nested : nesting key ≤ nesting t
 
--- the element of a type that is read so far is one too
-pub handled_element : (t u : Ty) → is_handled t ≡ true → element_of t ≡ Some u → is_handled u ≡ true
-handled_element (array (basic k)) u h e = ap is_handled (sym (some_is (basic k) u e)) ∙ fixed_is_handled k h
-handled_element (array variant) u h e = absurd (false_true h)
-handled_element (array (array t)) u h e = absurd (false_true h)
-handled_element (array (maybe t)) u h e = absurd (false_true h)
-handled_element (array (tuple ts)) u h e = absurd (false_true h)
-handled_element (array (entry k t)) u h e = absurd (false_true h)
-handled_element (maybe t) u h e = absurd (false_true h)
-handled_element (basic k) u h e = absurd (none_is u e)
-handled_element variant u h e = absurd (none_is u e)
-handled_element (tuple ts) u h e = absurd (none_is u e)
-handled_element (entry k t) u h e = absurd (none_is u e)
+spelled_key : (k : Basic) (t : Ty) → HasKey (spelling (entry k t)) (entry k t)
+unfolding spelling nesting
+spelled_key k t = record { key = basic k; is = refl; some = omega arith; spelled = refl; nested = omega arith }
+
+key_of_entry : (t : Ty) → class_of t ≡ classes.Entry → HasKey (spelling t) t
+key_of_entry (entry k t) e = spelled_key k t
+key_of_entry (basic k) e = absurd cc
+key_of_entry variant e = absurd cc
+key_of_entry (array t) e = absurd cc
+key_of_entry (maybe t) e = absurd cc
+key_of_entry (tuple ts) e = absurd cc
+
+pub has_key : (w : List ℕ) → is_type w ≡ true → class_of (type_at w) ≡ classes.Entry → HasKey w (type_at w)
+has_key w h e = subst (λ (v : List ℕ). HasKey v (type_at w)) (spelling-type_at w h).0 (key_of_entry (type_at w) e)
+
+pub text_of_key : (w : List ℕ) → is_type w ≡ true → (k : HasKey w (type_at w)) → IsTextOfType k.key (slice_range w 1 2)
+text_of_key w h k =
+    text_of_type k.key (slice_range w 1 2) k.spelled (limits_down (type_at w) k.key w (slice_range w 1 2) k.nested (omega (arith, length-take 1 (drop 1 w), length-drop 1 w)) (spelling-type_at w h).1)
+
+-- ---- the members of a tuple or an entry
+
+-- between the brackets stand the members' texts
+pub record HasMembers (w : List ℕ) (t : Ty) : Type 0 where
+  pub some : 2 ≤ length w
+  pub spelled : slice_range w 1 (length w - 1) ≡ spellings (members t)
+  pub nested : greatest_nesting (members t) ≤ nesting t
+  pub shorter : length (spellings (members t)) ≤ length w
+
+between : (b c : ℕ) (x : List ℕ) → slice_range (b ∷ (x ++ c ∷ [])) 1 (length (b ∷ (x ++ c ∷ [])) - 1) ≡ x
+between b c x =
+    let n : length (b ∷ (x ++ c ∷ [])) - 1 - 1 ≡ length x = omega (arith, length-append x (c ∷ [])) in
+    ap (λ i. take i (x ++ c ∷ [])) n ∙ take-append_seam x (c ∷ [])
+
+tuple_members : (ts : Types) → HasMembers (spelling (tuple ts)) (tuple ts)
+unfolding spelling nesting
+tuple_members ts = record {
+  some = omega (arith, length-append (spellings ts) (41 ∷ []));
+  spelled = between 40 41 (spellings ts);
+  nested = omega arith;
+  shorter = omega (arith, length-append (spellings ts) (41 ∷ []));
+}
+
+entry_text : (k : Basic) (t : Ty) → spellings (members (entry k t)) ≡ letter k ∷ spelling t
+unfolding spelling
+entry_text k t = ap (λ x. letter k ∷ x) (append-nil (spelling t))
+
+entry_members : (k : Basic) (t : Ty) → HasMembers (spelling (entry k t)) (entry k t)
+unfolding spelling nesting
+entry_members k t = record {
+  some = omega (arith, length-append (letter k ∷ spelling t) (125 ∷ []));
+  spelled = between 123 125 (letter k ∷ spelling t) ∙ sym (entry_text k t);
+  nested = omega arith;
+  shorter = omega (arith, ap length (entry_text k t), length-append (letter k ∷ spelling t) (125 ∷ []));
+}
+
+abbrev pub AreBracketed : Class → Type 0
+AreBracketed c = (c ≡ classes.Tuple) ⊎ (c ≡ classes.Entry)
+
+members_of : (t : Ty) → AreBracketed (class_of t) → HasMembers (spelling t) t
+members_of (tuple ts) h = tuple_members ts
+members_of (entry k t) h = entry_members k t
+members_of (basic k) (inl e) = absurd cc
+members_of (basic k) (inr e) = absurd cc
+members_of variant (inl e) = absurd cc
+members_of variant (inr e) = absurd cc
+members_of (array t) (inl e) = absurd cc
+members_of (array t) (inr e) = absurd cc
+members_of (maybe t) (inl e) = absurd cc
+members_of (maybe t) (inr e) = absurd cc
+
+pub has_members : (w : List ℕ) (c : Class) → is_type w ≡ true → c ≡ class_of (type_at w) → AreBracketed c → HasMembers w (type_at w)
+has_members w c h e b = subst (λ (v : List ℕ). HasMembers v (type_at w)) (spelling-type_at w h).0 (members_of (type_at w) (subst AreBracketed e b))
+
+-- the text between the brackets is read as the members
+pub record IsTextOfMembers (t : Ty) (w : List ℕ) : Type 0 where
+  pub are : are_types (seen w) ≡ true
+  pub listed : types_in (seen w) ≡ listed (members t)
+
+within_128 : (t : Ty) (w : List ℕ) → is_within_limits t w ≡ true → (nesting t ≤ 128) × (length w ≤ 67108864)
+within_128 t w h = (grind arith, grind arith)
+
+spelled_members : (ts : Types) (w : List ℕ) → spellings ts ≡ w → greatest_nesting ts ≤ 128 → length (spellings ts) ≤ 67108864 → (are_types (seen w) ≡ true) × (types_in (seen w) ≡ listed ts)
+spelled_members ts w e h g =
+    (subst (λ (v : List ℕ). are_types (seen v) ≡ true) e (members_are_types ts h g), subst (λ (v : List ℕ). types_in (seen v) ≡ listed ts) e (types_in_spellings ts))
+
+pub text_of_members : (w : List ℕ) → is_type w ≡ true → HasMembers w (type_at w) → IsTextOfMembers (type_at w) (slice_range w 1 (length w - 1))
+text_of_members w h m =
+    let within = within_128 (type_at w) w (spelling-type_at w h).1 in
+    let is = spelled_members (members (type_at w)) (slice_range w 1 (length w - 1)) (sym m.spelled) (omega (arith, m.nested, within.0)) (omega (arith, m.shorter, within.1)) in
+    record { are = is.0; listed = is.1 }
+
+-- a type of another class has no members
+no_members : (t : Ty) → (class_of t ≡ classes.Tuple → ⊥) → (class_of t ≡ classes.Entry → ⊥) → listed (members t) ≡ []
+unfolding listed
+no_members (tuple ts) h g = absurd (h refl)
+no_members (entry k t) h g = absurd (g refl)
+no_members (basic k) h g = refl
+no_members variant h g = refl
+no_members (array t) h g = refl
+no_members (maybe t) h g = refl
+
+pub has_no_members : (c : Class) (t : Ty) → c ≡ class_of t → (c ≡ classes.Tuple → ⊥) → (c ≡ classes.Entry → ⊥) → listed (members t) ≡ []
+has_no_members c t e h g = no_members t (λ b. h (e ∙ b)) (λ b. g (e ∙ b))
+
+-- no types stand in no text
+pub no_types : (are_types (seen []) ≡ true) × (types_in (seen []) ≡ [])
+unfolding seen
+no_types = (refl, refl)

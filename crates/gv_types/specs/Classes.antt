@@ -1,5 +1,5 @@
 -- What the first letter of a type says.
-use Rattle.std.specs.Prelude.{Bool, true, false, Option, Some, None}
+use Rattle.std.specs.Prelude.{Option, Some, None}
 use Rattle.gv_model.specs.Ty.{Ty, Basic}
 use Rattle.gv_model.specs.Ty.Ty.{basic, variant, array, maybe, tuple, entry}
 use Rattle.gv_model.specs.Ty.Basic.{boolean, byte, int16, uint16, int32, uint32, int64, uint64, handle, double, string, path, signature}
@@ -59,18 +59,3 @@ class_of_mark of_maybe = Some classes.Maybe
 class_of_mark open_tuple = Some classes.Tuple
 class_of_mark open_entry = Some classes.Entry
 class_of_mark _ = None
-
--- ---- which classes are read so far, alone and as an array's element
-
-abbrev pub is_read_alone : Option Class → Bool
-is_read_alone (Some (classes.Basic basics.ObjectPath)) = false
-is_read_alone (Some (classes.Basic basics.Signature)) = false
-is_read_alone (Some (classes.Basic k)) = true
-is_read_alone _ = false
-
-abbrev pub is_read_in_array : Option Class → Bool
-is_read_in_array (Some (classes.Basic basics.Text)) = false
-is_read_in_array (Some (classes.Basic basics.ObjectPath)) = false
-is_read_in_array (Some (classes.Basic basics.Signature)) = false
-is_read_in_array (Some (classes.Basic k)) = true
-is_read_in_array _ = false

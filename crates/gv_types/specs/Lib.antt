@@ -1,4 +1,6 @@
 pub mod Classes
-pub mod Handled
 pub mod TypeStr
+pub mod Reading
+pub mod Members
 pub mod TypeFaults
+pub mod Paths

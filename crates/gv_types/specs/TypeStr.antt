@@ -1,7 +1,7 @@
--- What a type text shows: its text, its type, the type of its elements.
+-- What a type text shows: its text, its type, the types of its parts.
 use Rattle.std.specs.Prelude.{ℕ, List, Option, Some, None}
 use Rattle.gv_model.specs.Ty.{Ty}
-use Rattle.gv_model.specs.Ty.Ty.{array, maybe}
+use Rattle.gv_model.specs.Ty.Ty.{basic, array, maybe, entry}
 use Rattle.gv_model.specs.TypeText.{type_at}
 use Rattle.gv_types.specs.declared.type_str.TypeStr.{TypeStr}
 
@@ -17,3 +17,8 @@ abbrev pub element_of : Ty → Option Ty
 element_of (array t) = Some t
 element_of (maybe t) = Some t
 element_of _ = None
+
+-- the type of an entry's key
+abbrev pub key_of : Ty → Option Ty
+key_of (entry k t) = Some (basic k)
+key_of _ = None

@@ -2,22 +2,43 @@
 use std::error::Error;
 use std::fmt;
 
-/// Why a text is refused as a type. It is printed as its name.
+/// Why a text is refused as a type: its first fault from left to right, with the index of its byte.
+///
+/// At one byte `BadChar` comes before `KeyNotBasic`, and this before `TooDeep`. A fault is printed as its name
+/// and index, `KeyNotBasic at 2`.
 #[derive(Clone, Copy, Debug, PartialEq, Eq)]
 pub enum TypeFault {
-    /// The text is not one of the types that are read so far.
-    NotYet,
+    /// The text has more than 67,108,864 bytes. This is looked at before all else.
+    TooLong,
+    /// There are no bytes.
+    Empty,
+    /// A byte that can't stand there.
+    BadChar(usize),
+    /// An entry's key starts with `v`, `a`, `m`, `(` or `{`.
+    KeyNotBasic(usize),
+    /// A type begins at nesting 129.
+    TooDeep(usize),
+    /// The text ends inside a type; the index is its length.
+    Unclosed(usize),
+    /// The first byte behind a whole type.
+    Trailing(usize),
 }
 
 impl fmt::Display for TypeFault {
     ghost use Rattle.std.specs.Prelude.{Some};
-    ghost use Rattle.gv_types.specs.TypeFaults.{fault_name};
+    ghost use Rattle.gv_types.specs.TypeFaults.{fault_of, fault_text};
 
-    ghost output = { λ fault. Some (fault_name fault) };
+    ghost output = { λ fault. Some (fault_text (fault_of fault)) };
 
     fn fmt<W: fmt::Write>(&self, f: &mut fmt::Formatter<W>) -> fmt::Result {
         match self {
-            TypeFault::NotYet => write!(f, "NotYet"),
+            TypeFault::TooLong => write!(f, "TooLong"),
+            TypeFault::Empty => write!(f, "Empty at 0"),
+            TypeFault::BadChar(at) => write!(f, "BadChar at {at}"),
+            TypeFault::KeyNotBasic(at) => write!(f, "KeyNotBasic at {at}"),
+            TypeFault::TooDeep(at) => write!(f, "TooDeep at {at}"),
+            TypeFault::Unclosed(at) => write!(f, "Unclosed at {at}"),
+            TypeFault::Trailing(at) => write!(f, "Trailing at {at}"),
         }
     }
 }

@@ -1,13 +1,20 @@
-//! Texts of GVariant types, such as `au` and `s`, checked once and then taken apart by slices.
+//! Texts of GVariant types, such as `a{sv}` and `(ii)`, checked once and then taken apart by slices.
 //!
 //! A [`TypeStr`] always holds the text of one type. No call takes memory, and none fails but
-//! [`TypeStr::parse`]. Each call looks at no more than the first byte of a text, and `parse` at two.
+//! [`TypeStr::parse`].
 #![tactic(auto)]
 
 mod class;
 mod fault;
+mod grammar;
+mod members;
+mod object_path;
+mod signature;
 mod type_str;
 
 pub use class::{BasicType, Class};
 pub use fault::TypeFault;
+pub use members::Members;
+pub use object_path::is_object_path;
+pub use signature::is_signature;
 pub use type_str::TypeStr;

@@ -1,36 +1,52 @@
 //! The text of one type.
 ghost use Rattle.std.specs.Prelude.{◌≡◌, ◌↔◌, ℕ, IfOk, IfErr, IsOk, IsTrue, option_map};
-ghost use Rattle.gv_model.specs.Ty.{Basic, Ty.basic, spelling};
-ghost use Rattle.gv_model.specs.TypeText.{is_type, type_at};
-ghost use Rattle.gv_types.specs.Classes.{class_of, is_read_alone, is_read_in_array};
-ghost use Rattle.gv_types.specs.Handled.{is_handled, SpellsHandled};
+ghost use Rattle.gv_model.specs.Ty.{Basic, Ty.basic, spelling, members, listed};
+ghost use Rattle.gv_model.specs.TypeText.{is_type};
+ghost use Rattle.gv_model.specs.TypeFault.{IsFault};
+ghost use Rattle.gv_types.specs.Classes.{class_of};
+ghost use Rattle.gv_types.specs.TypeFaults.{fault_of};
 
 use crate::class::{BasicType, Class, class_of_letter};
 use crate::fault::TypeFault;
+use crate::grammar::after_type;
+use crate::members::Members;
+
+/// How many bytes a type's text has at most.
+pub(crate) const MAX_LEN: usize = 67_108_864;
+
+/// How deep a type nests at most.
+pub(crate) const MAX_LEVELS: u8 = 128;
 
 /// The text of one type, lent from where it was found.
 #[derive(Clone, Copy, Debug)]
 pub struct TypeStr<'a> {
-    text: &'a str,
+    pub(crate) text: &'a str,
     ghost spells_type: { IsTrue (is_type text.now) },
-    ghost handled: { IsTrue (is_handled (type_at text.now)) },
 }
 
 impl<'a> TypeStr<'a> {
-    ghost use Rattle.gv_types.specs.TypeStr.{text_of, ty, element_of};
+    ghost use Rattle.gv_types.specs.TypeStr.{text_of, ty, element_of, key_of};
+    ghost use Rattle.gv_types.specs.Members.{members_left};
 
-    /// Takes a text that is one type: a basic type but `o` and `g`, or `a` and one basic type of fixed size.
+    /// Takes a text that is one type, of at most 128 levels and 67,108,864 bytes.
     ///
-    /// Any other text is refused as [`TypeFault::NotYet`]. It looks at two bytes at most.
+    /// Any other is refused with its first fault from left to right; a text that is too long is refused before it
+    /// is looked at. It looks at each byte once.
     pub fn parse(text: &'a str) -> Result<TypeStr<'a>, TypeFault>
-        ensures accepts { IsOk result ↔ SpellsHandled text.entry.now }
+        ensures accepts { IsOk result ↔ IsTrue (is_type text.entry.now) }
         ensures found { IfOk result (λ t. text_of t ≡ text.entry.now) }
-        ensures refuses { IfErr result (λ e. e ≡ TypeFault.NotYet) }
+        ensures fault { IfErr result (λ e. IsFault text.entry.now (fault_of e)) }
     {
-        if spells_handled(text.as_bytes()) {
-            Ok(TypeStr { text })
-        } else {
-            Err(TypeFault::NotYet)
+        if text.len() > MAX_LEN {
+            return Err(TypeFault::TooLong);
+        }
+        if text.is_empty() {
+            return Err(TypeFault::Empty);
+        }
+        match after_type(text.as_bytes(), MAX_LEVELS) {
+            Ok([]) => Ok(TypeStr { text }),
+            Ok(rest) => Err(TypeFault::Trailing(text.len() - rest.len())),
+            Err(stop) => Err(stop.halt.at(text.len() - stop.rest.len())),
         }
     }
 
@@ -61,48 +77,37 @@ impl<'a> TypeStr<'a> {
         ensures { option_map ty result ≡ element_of (ty self.entry) }
     {
         match self.class() {
-            Class::Array | Class::Maybe => {
-                let (_, text) = self.text.split_at(1);
-                Some(TypeStr { text })
-            }
+            Class::Array | Class::Maybe => Some(TypeStr {
+                text: &self.text[1..],
+            }),
             _ => None,
         }
     }
-}
 
-/// Whether the text spells one of the types that are read so far.
-fn spells_handled(text: &[u8]) -> bool
-    ensures { IsTrue result ↔ SpellsHandled text.now }
-{
-    match text {
-        [letter] => is_read_alone(class_of_letter(*letter)),
-        [first, letter] => *first == b'a' && is_read_in_array(class_of_letter(*letter)),
-        _ => false,
-    }
-}
-
-/// Whether values of this class are read so far.
-fn is_read_alone(class: Option<Class>) -> bool
-    ensures { result ≡ is_read_alone class }
-{
-    match class {
-        Some(Class::Basic(basic)) => {
-            !matches!(basic, BasicType::ObjectPath | BasicType::Signature)
+    /// The type of an entry's key, or None for any other type. It looks at the first byte.
+    pub fn key(self) -> Option<TypeStr<'a>>
+        ensures { option_map ty result ≡ key_of (ty self.entry) }
+    {
+        match self.class() {
+            Class::Entry => Some(TypeStr {
+                text: &self.text[1..2],
+            }),
+            _ => None,
         }
-        _ => false,
     }
-}
 
-/// Whether arrays of this class are read so far.
-fn is_read_in_array(class: Option<Class>) -> bool
-    ensures { result ≡ is_read_in_array class }
-{
-    match class {
-        Some(Class::Basic(basic)) => !matches!(
-            basic,
-            BasicType::Text | BasicType::ObjectPath | BasicType::Signature
-        ),
-        _ => false,
+    /// The types of a tuple's members, or of an entry's key and value, in order. No other type has members.
+    ///
+    /// A walk along them looks at each byte once.
+    pub fn members(self) -> Members<'a>
+        ensures { members_left result ≡ listed (members (ty self.entry)) }
+    {
+        match self.class() {
+            Class::Tuple | Class::Entry => Members {
+                rest: &self.text[1..self.text.len() - 1],
+            },
+            _ => Members { rest: "" },
+        }
     }
 }
 
@@ -112,19 +117,33 @@ mod tests {
     use std::test::Fail;
 
     #[test]
-    fn parses_the_types_read_so_far(rt: HostRuntime) -> Result<(), Fail> {
-        for text in [
-            "b", "y", "n", "q", "i", "u", "x", "t", "h", "d", "s", "ab", "ay", "an", "aq", "ai",
-            "au", "ax", "at", "ah", "ad",
-        ] {
-            assert_eq!(rt; TypeStr::parse(text)?.as_str(), text);
-        }
-        for text in [
-            "", "o", "g", "v", "as", "ao", "aay", "(i)", "ii", "mi", "a", "az", "a{sv}", "aé",
-        ] {
+    fn tells_the_class(rt: HostRuntime) -> Result<(), Fail> {
+        let cases = [
+            ("b", Class::Basic(BasicType::Boolean)),
+            ("y", Class::Basic(BasicType::Byte)),
+            ("n", Class::Basic(BasicType::Int16)),
+            ("q", Class::Basic(BasicType::Uint16)),
+            ("i", Class::Basic(BasicType::Int32)),
+            ("u", Class::Basic(BasicType::Uint32)),
+            ("x", Class::Basic(BasicType::Int64)),
+            ("t", Class::Basic(BasicType::Uint64)),
+            ("h", Class::Basic(BasicType::Handle)),
+            ("d", Class::Basic(BasicType::Double)),
+            ("s", Class::Basic(BasicType::Text)),
+            ("o", Class::Basic(BasicType::ObjectPath)),
+            ("g", Class::Basic(BasicType::Signature)),
+            ("v", Class::Variant),
+            ("ai", Class::Array),
+            ("m(ii)", Class::Maybe),
+            ("()", Class::Tuple),
+            ("{sv}", Class::Entry),
+        ];
+        for (text, class) in cases {
+            let found = TypeStr::parse(text)?;
+            assert_eq!(rt; found.class(), class, "at {text}");
             assert_eq!(rt;
-                TypeStr::parse(text).err(),
-                Some(TypeFault::NotYet),
+                found.is_basic(),
+                matches!(class, Class::Basic(_)),
                 "at {text}"
             );
         }
@@ -132,27 +151,31 @@ mod tests {
     }
 
     #[test]
-    fn tells_the_class_and_the_element(rt: HostRuntime) -> Result<(), Fail> {
+    fn keeps_the_text(rt: HostRuntime) -> Result<(), Fail> {
+        for text in ["s", "a{sv}", "((i)(sv))", "()"] {
+            assert_eq!(rt; TypeStr::parse(text)?.as_str(), text);
+        }
+        Ok(())
+    }
+
+    #[test]
+    fn takes_an_element_or_a_key(rt: HostRuntime) -> Result<(), Fail> {
         let cases = [
-            ("b", Class::Basic(BasicType::Boolean), true, None),
-            ("y", Class::Basic(BasicType::Byte), true, None),
-            ("n", Class::Basic(BasicType::Int16), true, None),
-            ("q", Class::Basic(BasicType::Uint16), true, None),
-            ("i", Class::Basic(BasicType::Int32), true, None),
-            ("u", Class::Basic(BasicType::Uint32), true, None),
-            ("x", Class::Basic(BasicType::Int64), true, None),
-            ("t", Class::Basic(BasicType::Uint64), true, None),
-            ("h", Class::Basic(BasicType::Handle), true, None),
-            ("d", Class::Basic(BasicType::Double), true, None),
-            ("s", Class::Basic(BasicType::Text), true, None),
-            ("ay", Class::Array, false, Some("y")),
-            ("ad", Class::Array, false, Some("d")),
+            ("ai", Some("i"), None),
+            ("m(ii)", Some("(ii)"), None),
+            ("aa{sv}", Some("a{sv}"), None),
+            ("{s(ii)}", None, Some("s")),
+            ("{yv}", None, Some("y")),
+            ("(ia{sv}s)", None, None),
+            ("((i)(sv))", None, None),
+            ("()", None, None),
+            ("s", None, None),
+            ("v", None, None),
         ];
-        for (text, class, is_basic, element) in cases {
+        for (text, element, key) in cases {
             let found = TypeStr::parse(text)?;
-            assert_eq!(rt; found.class(), class, "at {text}");
-            assert_eq!(rt; found.is_basic(), is_basic, "at {text}");
             assert_eq!(rt; found.element().map(|it| it.as_str()), element, "at {text}");
+            assert_eq!(rt; found.key().map(|it| it.as_str()), key, "at {text}");
         }
         Ok(())
     }

@@ -1,3 +1,10 @@
+pub mod Lists
 pub mod Numbers
+pub mod AsciiTexts
 pub mod TextLemmas
-pub mod ChildLemmas
+pub mod VariantLemmas
+pub mod ByteArrays
+pub mod PartLemmas
+pub mod ChildPlaces
+pub mod TreeParts
+pub mod EntryLemmas

@@ -1,2 +1,6 @@
 pub mod Views
 pub mod Texts
+pub mod Variants
+pub mod Children
+pub mod Dictionaries
+pub mod Laws

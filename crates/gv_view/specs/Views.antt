@@ -1,9 +1,12 @@
 -- What a view shows: a type, bytes, and the value that they are at that type.
-use Rattle.std.specs.Prelude.{◌≡◌, ℕ, Bool, true, false, List, Option, Some, None}
+use Rattle.std.specs.Prelude.{◌≡◌, ◌⊎◌, ℕ, Bool, true, false, List, Option, Some, None}
 use Rattle.gv_model.specs.Ty.{Ty}
+use Rattle.gv_model.specs.Ty.Ty.{basic}
+use Rattle.gv_model.specs.Ty.Basic.{string, path, signature}
 use Rattle.gv_model.specs.Tree.{Tree}
 use Rattle.gv_model.specs.Children.{Child, bytes_of}
 use Rattle.gv_model.specs.Decode.{decode}
+use Rattle.gv_model.specs.Parts.{Part}
 use Rattle.gv_types.specs.declared.type_str.TypeStr.{TypeStr}
 use Rattle.gv_types.specs.TypeStr.{ty}
 use Rattle.gv_view.specs.declared.view.View.{View}
@@ -34,6 +37,14 @@ Lends b None None = Unit {0}
 Lends b (Some child) (Some v) = Shows b child v
 Lends b None (Some v) = ⊥
 Lends b (Some child) None = ⊥
+
+-- a type of texts
+abbrev pub IsTextType : Ty → Type 0
+IsTextType t = (t ≡ basic string) ⊎ ((t ≡ basic path) ⊎ (t ≡ basic signature))
+
+-- what it shows, as a type and the bytes that are read at it
+abbrev pub shown : View → Part
+shown v = (ty v.type_str, v.bytes.now)
 
 -- the bits of a boolean
 abbrev pub truth_bits : Bool → ℕ

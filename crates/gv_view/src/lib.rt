@@ -1,14 +1,18 @@
-//! GVariant values of any bytes, read in place.
+//! Values of GVariant types, read in place.
 //!
 //! A [`View`] is a type and bytes: nothing is copied and no call takes memory. Any bytes have a value at
 //! any type (GVariant Specification, "Handling Non-Normal Serialised Data"), so no call fails: an `as_` call is None
 //! exactly at another type, and `child` exactly where there is no such child.
-//!
-//! Each call is O(1), but [`View::as_str`], which looks at each byte of the text.
 #![tactic(auto)]
 
+mod children;
+mod entry;
 mod number;
+mod parts;
 mod text;
+mod variant;
 mod view;
 
+pub use children::Children;
+pub use parts::parts_are_lent;
 pub use view::View;

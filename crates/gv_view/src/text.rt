@@ -1,16 +1,66 @@
-//! Texts in bytes (GVariant Specification, "Strings").
+//! Texts in bytes (GVariant Specification, "Strings", with the D-Bus Specification's "Valid Object Paths").
 ghost use Rattle.std.specs.Prelude.{◌≡◌, option_map};
-ghost use Rattle.gv_view.specs.Texts.{utf8_in};
+ghost use Rattle.gv_model.specs.Ty.{Ty.basic, Basic.string, Basic.path, Basic.signature};
+ghost use Rattle.gv_model.specs.Tree.{Tree.text};
+ghost use Rattle.gv_model.specs.Decode.{decode};
+ghost use Rattle.gv_model.specs.Variants.{at_last_zero};
+ghost use Rattle.gv_view.specs.Texts.{utf8_of, utf8_in};
 
-use memchr::memchr;
+use gv_types::{is_object_path, is_signature};
+use memchr::{memchr, memrchr};
+
+/// The string in the bytes, empty where there is none.
+pub(crate) fn string_in(bytes: &[u8]) -> &str
+    ensures { decode (basic string) bytes.now ≡ text string result.now }
+{
+    match text_in(bytes) {
+        Some(text) => text,
+        None => "",
+    }
+}
+
+/// The object path in the bytes, `/` where there is none.
+pub(crate) fn object_path_in(bytes: &[u8]) -> &str
+    ensures { decode (basic path) bytes.now ≡ text path result.now }
+{
+    match text_in(bytes) {
+        Some(text) if is_object_path(text) => text,
+        _ => "/",
+    }
+}
+
+/// The signature in the bytes, empty where there is none.
+pub(crate) fn signature_in(bytes: &[u8]) -> &str
+    ensures { decode (basic signature) bytes.now ≡ text signature result.now }
+{
+    match text_in(bytes) {
+        Some(text) if is_signature(text) => text,
+        _ => "",
+    }
+}
 
 /// The text before a zero byte that is the last and the only one, if it is UTF-8.
-pub(crate) fn text_of(bytes: &[u8]) -> Option<&str>
+fn text_in(bytes: &[u8]) -> Option<&str>
     ensures { option_map (λ s. s.now) result ≡ utf8_in bytes.now }
 {
     let end = memchr(0, bytes)?;
     if end + 1 != bytes.len() {
         return None;
     }
-    simdutf8::compat::from_utf8(&bytes[..end]).ok()
+    utf8_of(&bytes[..end])
+}
+
+/// The bytes before the last zero byte, and those behind it.
+pub(crate) fn around_last_zero(bytes: &[u8]) -> Option<(&[u8], &[u8])>
+    ensures { option_map (λ p. (p.0.now, p.1.now)) result ≡ at_last_zero bytes.now }
+{
+    let zero = memrchr(0, bytes)?;
+    Some((&bytes[..zero], &bytes[zero + 1..]))
+}
+
+/// The bytes as a text, if they are UTF-8. This is the one place where bytes become a text.
+pub(crate) fn utf8_of(bytes: &[u8]) -> Option<&str>
+    ensures { option_map (λ s. s.now) result ≡ utf8_of bytes.now }
+{
+    simdutf8::compat::from_utf8(bytes).ok()
 }

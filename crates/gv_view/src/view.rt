@@ -1,17 +1,15 @@
-//! A type and bytes, the bytes' children and what they are at basic types.
-ghost use Rattle.std.specs.Prelude.{◌≡◌, ◌<◌, ◌↔◌, ℕ, Some, IsSome, IfSome, length, option_map, slice_get};
+//! A type and bytes, and what the bytes are at basic types.
+ghost use Rattle.std.specs.Prelude.{◌≡◌, ◌↔◌, Some, IsSome, IfSome, length};
 ghost use Rattle.std.specs.Int.{cast_unsigned, w16, w32, w64};
-ghost use Rattle.gv_model.specs.Ty.{Ty.array, Ty.basic, Basic.boolean, Basic.byte, Basic.int16, Basic.uint16, Basic.int32, Basic.uint32, Basic.int64, Basic.uint64, Basic.handle, Basic.double, Basic.string};
-ghost use Rattle.gv_model.specs.Tree.{Tree.number, Tree.text, Tree.node, children, trees_len, tree_at, byte_trees};
+ghost use Rattle.gv_model.specs.Ty.{Basic, Ty.array, Ty.basic, Basic.boolean, Basic.byte, Basic.int16, Basic.uint16, Basic.int32, Basic.uint32, Basic.int64, Basic.uint64, Basic.handle, Basic.double};
+ghost use Rattle.gv_model.specs.Tree.{Tree.number, Tree.text, Tree.node, byte_trees};
 ghost use Rattle.gv_model.specs.BasicValue.{number_in, bits_of};
 ghost use Rattle.gv_model.specs.Layout.{basic_size};
-ghost use Rattle.gv_model.specs.Decode.{cut};
 ghost use Rattle.gv_types.specs.Classes.{basic_of};
 
 use crate::number::{double_bits, is_true};
-use crate::text::text_of;
+use crate::text::{object_path_in, signature_in, string_in};
 use byteorder::{ByteOrder, LittleEndian};
-use gv_layout::{fixed_size, member_bounds};
 use gv_types::{BasicType, Class, TypeStr};
 
 /// The bytes of a number that reads as its default.
@@ -20,12 +18,12 @@ static ZEROS: [u8; 8] = [0; 8];
 /// Bytes that are read as a value of a type.
 #[derive(Clone, Copy, Debug)]
 pub struct View<'a> {
-    type_str: TypeStr<'a>,
-    bytes: &'a [u8],
+    pub(crate) type_str: TypeStr<'a>,
+    pub(crate) bytes: &'a [u8],
 }
 
 impl<'a> View<'a> {
-    ghost use Rattle.gv_view.specs.Views.{type_str_of, view_ty, view_bytes, value, Lends, truth_bits};
+    ghost use Rattle.gv_view.specs.Views.{type_str_of, view_ty, view_bytes, value, IsTextType, truth_bits};
 
     /// Reads the bytes at the type.
     pub fn new(type_str: TypeStr<'a>, bytes: &'a [u8]) -> View<'a>
@@ -143,17 +141,21 @@ impl<'a> View<'a> {
         Some(double_bits(bytes))
     }
 
-    /// The text at `s`, lent from the bytes, or an empty one where the bytes are no text. None at another type.
+    /// The text at `s`, `o` or `g`, lent from the bytes, or that of the default where they are no such text. None at
+    /// another type.
     ///
     /// It looks at each byte once for the zero byte and once for UTF-8.
     pub fn as_str(self) -> Option<&'a str>
-        ensures some { IsSome result ↔ (view_ty self.entry ≡ basic string) }
-        ensures value { IfSome result (λ s. value self.entry ≡ text string s.now) }
+        ensures some { IsSome result ↔ IsTextType (view_ty self.entry) }
+        ensures value { IfSome result (λ s.
+            (k : Basic) × (view_ty self.entry ≡ basic k) × (value self.entry ≡ text k s.now)) }
     {
-        if self.type_str.class() != Class::Basic(BasicType::Text) {
-            return None;
+        match self.type_str.class() {
+            Class::Basic(BasicType::Text) => Some(string_in(self.bytes)),
+            Class::Basic(BasicType::ObjectPath) => Some(object_path_in(self.bytes)),
+            Class::Basic(BasicType::Signature) => Some(signature_in(self.bytes)),
+            _ => None,
         }
-        Some(text_of(self.bytes).unwrap_or(""))
     }
 
     /// The bytes at `ay`, as they were handed in. None at another type.
@@ -161,40 +163,13 @@ impl<'a> View<'a> {
         ensures some { IsSome result ↔ (view_ty self.entry ≡ array (basic byte)) }
         ensures value { IfSome result (λ b. value self.entry ≡ node (array (basic byte)) (byte_trees b.now)) }
     {
+        if self.type_str.class() != Class::Array {
+            return None;
+        }
         match self.type_str.element()?.class() {
             Class::Basic(BasicType::Byte) => Some(self.bytes),
             _ => None,
         }
-    }
-
-    /// How many children the value has: a basic value has none.
-    pub fn n_children(self) -> usize
-        ensures { result ≡ trees_len (children (value self.entry)) }
-    {
-        let Some(element) = self.type_str.element() else {
-            return 0;
-        };
-        let size = fixed_size(element).unwrap();
-        if self.bytes.len() % size == 0 {
-            self.bytes.len() / size
-        } else {
-            0
-        }
-    }
-
-    /// Child `i` with its type and its bytes. None exactly where `i` is not below `n_children`.
-    pub fn child(self, i: usize) -> Option<View<'a>>
-        ensures some { IsSome result ↔ (i < trees_len (children (value self.entry))) }
-        ensures lends { Lends (view_bytes self.entry)
-            (slice_get (cut (view_ty self.entry) (view_bytes self.entry)) i) result }
-        ensures value { option_map value result ≡ tree_at (children (value self.entry)) i }
-    {
-        if i >= self.n_children() {
-            return None;
-        }
-        let (from, to) = member_bounds(self.type_str, self.bytes, i);
-        let element = self.type_str.element().unwrap();
-        Some(View::new(element, &self.bytes[from..to]))
     }
 
     /// The bytes of a number of this basic type and size, or as many zeros where there are too few or too many.
@@ -283,10 +258,12 @@ mod tests {
         }
         assert_eq!(rt; view("h", &[1, 0, 0, 0])?.as_i32(), None);
         assert_eq!(rt; view("i", &[1, 0, 0, 0])?.as_handle(), None);
-        let unsigned: [(&[u8], u32); 3] = [
+        let unsigned: [(&[u8], u32); 5] = [
+            (&[0, 0, 0, 0], 0),
             (&[1, 2, 3, 4], 0x0403_0201),
             (&[255, 255, 255, 255], 4294967295),
             (&[], 0),
+            (&[1; 5], 0),
         ];
         for (bytes, value) in unsigned {
             assert_eq!(rt; view("u", bytes)?.as_u32(), Some(value), "at {bytes:?}");
@@ -302,7 +279,8 @@ mod tests {
             assert_eq!(rt; view("x", bytes)?.as_i64(), Some(value), "at {bytes:?}");
         }
         assert_eq!(rt; view("t", &[1; 8])?.as_i64(), None);
-        let unsigned_long: [(&[u8], u64, [u8; 8]); 4] = [
+        let unsigned_long: [(&[u8], u64, [u8; 8]); 5] = [
+            (&[0; 8], 0, [0; 8]),
             (
                 &[0, 0, 0, 0, 0, 0, 240, 63],
                 0x3ff0_0000_0000_0000,
@@ -330,8 +308,8 @@ mod tests {
     }
 
     #[test]
-    fn reads_texts_and_children(rt: HostRuntime) -> Result<(), Fail> {
-        let texts: [(&[u8], &str); 8] = [
+    fn reads_texts(rt: HostRuntime) -> Result<(), Fail> {
+        let strings: [(&[u8], &str); 8] = [
             (b"hi\0", "hi"),
             (b"\xc3\xa9\0", "é"),
             (b"\0", ""),
@@ -341,41 +319,51 @@ mod tests {
             (b"hi\0\0", ""),
             (b"\xff\0", ""),
         ];
-        for (bytes, text) in texts {
+        for (bytes, text) in strings {
             assert_eq!(rt; view("s", bytes)?.as_str(), Some(text), "at {bytes:?}");
         }
-        assert_eq!(rt; view("ay", b"hi\0")?.as_str(), None);
-        assert_eq!(rt; view("s", b"hi\0")?.as_bytes(), None);
-        assert_eq!(rt; view("au", &[0; 8])?.as_bytes(), None);
-        let bytes = [1, 0, 0, 0, 255, 255, 255, 255];
-        let counts: [(&str, &[u8], usize); 6] = [
-            ("au", &bytes, 2),
-            ("au", &bytes[..7], 0),
-            ("au", &[], 0),
-            ("ay", &bytes, 8),
-            ("ad", &bytes, 1),
-            ("u", &[1, 0, 0, 0], 0),
+        let paths: [(&[u8], &str); 9] = [
+            (b"/a\0", "/a"),
+            (b"/a/b_9\0", "/a/b_9"),
+            (b"/\0", "/"),
+            (b"a\0", "/"),
+            (b"/a/\0", "/"),
+            (b"/a\0/b\0", "/"),
+            (b"/\xff\0", "/"),
+            (b"/a", "/"),
+            (b"", "/"),
         ];
-        for (text, bytes, count) in counts {
-            let array = view(text, bytes)?;
-            assert_eq!(rt; array.n_children(), count, "at {text} {bytes:?}");
-            assert!(rt; array.child(count).is_none(), "at {text} {bytes:?}");
+        for (bytes, text) in paths {
+            assert_eq!(rt; view("o", bytes)?.as_str(), Some(text), "at {bytes:?}");
         }
-        let numbers = view("au", &bytes)?;
-        assert_eq!(rt; numbers.child(0).and_then(|it| it.as_u32()), Some(1));
-        assert_eq!(rt;
-            numbers.child(1).and_then(|it| it.as_u32()),
-            Some(4294967295)
-        );
-        let last = numbers.child(1).ok_or("no child")?;
-        assert_eq!(rt; last.type_str().as_str(), "u");
-        assert_eq!(rt; last.bytes(), [255, 255, 255, 255].as_slice());
-        let doubles = view("ad", &bytes)?;
-        assert_eq!(rt;
-            doubles.child(0).and_then(|it| it.as_double_bits()),
-            Some(bytes)
-        );
-        assert_eq!(rt; view("ay", &bytes)?.as_bytes(), Some(bytes.as_slice()));
+        let signatures: [(&[u8], &str); 8] = [
+            (b"as\0", "as"),
+            (b"a{sv}\0", "a{sv}"),
+            (b"asi\0", "asi"),
+            (b"\0", ""),
+            (b"mi\0", ""),
+            (b"a\0", ""),
+            (b"i\0i\0", ""),
+            (b"", ""),
+        ];
+        for (bytes, text) in signatures {
+            assert_eq!(rt; view("g", bytes)?.as_str(), Some(text), "at {bytes:?}");
+        }
+        assert_eq!(rt; view("ay", b"hi\0")?.as_str(), None);
+        Ok(())
+    }
+
+    #[test]
+    fn hands_out_what_it_was_given(rt: HostRuntime) -> Result<(), Fail> {
+        let bytes = [1, 0, 255];
+        let octets = view("ay", &bytes)?;
+        assert_eq!(rt; octets.as_bytes(), Some(bytes.as_slice()));
+        assert_eq!(rt; octets.bytes(), bytes.as_slice());
+        assert_eq!(rt; octets.type_str().as_str(), "ay");
+        assert_eq!(rt; view("ay", &[])?.as_bytes(), Some([].as_slice()));
+        for other in ["my", "aay", "ab", "y", "s", "(y)"] {
+            assert_eq!(rt; view(other, &bytes)?.as_bytes(), None, "at {other}");
+        }
         Ok(())
     }
 }

@@ -2,6 +2,16 @@
 #![tactic(auto)]
 
 #[cfg(test)]
+mod containers;
+#[cfg(test)]
+mod limits;
+#[cfg(test)]
+mod runs;
+#[cfg(test)]
 mod show;
 #[cfg(test)]
 mod streams;
+#[cfg(test)]
+mod type_faults;
+#[cfg(test)]
+mod widths;

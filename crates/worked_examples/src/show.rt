@@ -1,39 +1,12 @@
 //! `show TYPE FILE` over a folder in memory.
+use crate::runs::{asked, one_file, shown, wants_refusal, wants_text};
 use crate::streams::{Broken, Refusing, Slow};
-use dconf_cli::{Command, Counted, Folder, FolderFault, MemoryFolder, command, run};
-use std::alloc::{AllocError, Global};
+use dconf_cli::{Counted, Folder, FolderFault, MemoryFolder, command, run};
 use std::io::ErrorKind;
 use std::test::Fail;
 
-fn asked(alloc: Global, type_text: &str, file: &str) -> Result<Command, AllocError> {
-    Ok(Command::Show {
-        type_text: String::from_str(alloc, type_text)?,
-        file: String::from_str(alloc, file)?,
-    })
-}
-
-/// A folder with one file, `f`.
-fn one_file(alloc: Global, bytes: &[u8]) -> Result<MemoryFolder, AllocError> {
-    let mut folder = MemoryFolder::new(alloc);
-    folder.insert(alloc, "f", bytes)?;
-    Ok(folder)
-}
-
-/// What a run of `show` of the file `f` leaves on out and err, each behind its name, and its status.
-fn shown<F: Folder>(alloc: Global, type_text: &str, folder: &mut F) -> Result<String, AllocError> {
-    let mut input = Counted::new(b"".as_slice());
-    let mut out = Counted::new(Vec::new(alloc));
-    let mut err = Counted::new(Vec::new(alloc));
-    let command = asked(alloc, type_text, "f")?;
-    let status = run(alloc, command, folder, &mut input, &mut out, &mut err);
-    let out = String::from_utf8_lossy(alloc, out.get_ref().as_slice())?;
-    let err = String::from_utf8_lossy(alloc, err.get_ref().as_slice())?;
-    format!(in alloc; "{status} out={out} err={err}")
-}
-
 #[test]
 fn prints_values(rt: HostRuntime) -> Result<(), Fail> {
-    let alloc = rt.alloc();
     let cases = [
         ("au", b"\x01\0\0\0\x02\0\0\0".as_slice(), "[uint32 1, 2]"),
         ("au", b"\x01\0\0\0\x02\0\0".as_slice(), "@au []"),
@@ -54,22 +27,7 @@ fn prints_values(rt: HostRuntime) -> Result<(), Fail> {
             "'\\a\\b\\n\\v\\f\\r'",
         ),
         ("s", b"\xff\0".as_slice(), "''"),
-        ("b", b"\0".as_slice(), "false"),
-        ("b", b"\x05".as_slice(), "true"),
-        ("y", b"\xff".as_slice(), "byte 0xff"),
-        ("n", b"\0\x80".as_slice(), "int16 -32768"),
         ("i", b"\xff\xff\xff\xff".as_slice(), "-1"),
-        ("h", b"\x02\0\0\0".as_slice(), "handle 2"),
-        (
-            "x",
-            b"\0\0\0\0\0\0\0\x80".as_slice(),
-            "int64 -9223372036854775808",
-        ),
-        (
-            "t",
-            b"\xff\xff\xff\xff\xff\xff\xff\xff".as_slice(),
-            "uint64 18446744073709551615",
-        ),
         ("ab", b"\x01\0".as_slice(), "[true, false]"),
         ("ai", b"\xff\xff\xff\xff\x02\0\0\0".as_slice(), "[-1, 2]"),
         ("an", b"\x01\0\xff\xff".as_slice(), "[int16 1, -1]"),
@@ -81,12 +39,57 @@ fn prints_values(rt: HostRuntime) -> Result<(), Fail> {
         ("ad", b"".as_slice(), "@ad []"),
     ];
     for (type_text, bytes, text) in cases {
-        let mut folder = one_file(alloc, bytes)?;
-        let ran = shown(alloc, type_text, &mut folder)?;
-        assert_eq!(rt;
-            ran.as_str(),
-            format!(in alloc; "0 out={text}\n err=")?.as_str()
-        );
+        wants_text(rt.alloc(), type_text, bytes, text)?;
+    }
+    Ok(())
+}
+
+#[test]
+fn prints_extremes(rt: HostRuntime) -> Result<(), Fail> {
+    let cases = [
+        ("b", b"\0".as_slice(), "false"),
+        ("b", b"\x01".as_slice(), "true"),
+        ("b", b"\x05".as_slice(), "true"),
+        ("b", b"\xff".as_slice(), "true"),
+        ("y", b"\0".as_slice(), "byte 0x00"),
+        ("y", b"\xff".as_slice(), "byte 0xff"),
+        ("n", b"\0\x80".as_slice(), "int16 -32768"),
+        ("n", b"\xff\x7f".as_slice(), "int16 32767"),
+        ("q", b"\0\0".as_slice(), "uint16 0"),
+        ("q", b"\xff\xff".as_slice(), "uint16 65535"),
+        ("i", b"\0\0\0\x80".as_slice(), "-2147483648"),
+        ("i", b"\xff\xff\xff\x7f".as_slice(), "2147483647"),
+        ("u", b"\0\0\0\0".as_slice(), "uint32 0"),
+        ("u", b"\xff\xff\xff\xff".as_slice(), "uint32 4294967295"),
+        ("h", b"\0\0\0\x80".as_slice(), "handle -2147483648"),
+        ("h", b"\xff\xff\xff\x7f".as_slice(), "handle 2147483647"),
+        (
+            "x",
+            b"\0\0\0\0\0\0\0\x80".as_slice(),
+            "int64 -9223372036854775808",
+        ),
+        (
+            "x",
+            b"\xff\xff\xff\xff\xff\xff\xff\x7f".as_slice(),
+            "int64 9223372036854775807",
+        ),
+        ("t", b"\0\0\0\0\0\0\0\0".as_slice(), "uint64 0"),
+        (
+            "t",
+            b"\xff\xff\xff\xff\xff\xff\xff\xff".as_slice(),
+            "uint64 18446744073709551615",
+        ),
+        ("s", b"\0".as_slice(), "''"),
+        ("s", b"\xf4\x8f\xbf\xbf\0".as_slice(), "'\u{10ffff}'"),
+        ("o", b"/\0".as_slice(), "objectpath '/'"),
+        ("o", b"/a/b_9\0".as_slice(), "objectpath '/a/b_9'"),
+        ("o", b"/a/\0".as_slice(), "objectpath '/'"),
+        ("g", b"\0".as_slice(), "signature ''"),
+        ("g", b"a{sv}(ii)\0".as_slice(), "signature 'a{sv}(ii)'"),
+        ("g", b"mi\0".as_slice(), "signature ''"),
+    ];
+    for (type_text, bytes, text) in cases {
+        wants_text(rt.alloc(), type_text, bytes, text)?;
     }
     Ok(())
 }
@@ -94,21 +97,8 @@ fn prints_values(rt: HostRuntime) -> Result<(), Fail> {
 #[test]
 fn names_its_refusals(rt: HostRuntime) -> Result<(), Fail> {
     let alloc = rt.alloc();
-    let cases = [
-        ("as", "NotYet"),
-        ("", "NotYet"),
-        ("o", "NotYet"),
-        ("(i", "NotYet"),
-        ("d", "DoubleText"),
-        ("ad", "DoubleText"),
-    ];
-    for (type_text, name) in cases {
-        let mut folder = one_file(alloc, &[0; 8])?;
-        let ran = shown(alloc, type_text, &mut folder)?;
-        assert_eq!(rt;
-            ran.as_str(),
-            format!(in alloc; "1 out= err=error: {name}\n")?.as_str()
-        );
+    for type_text in ["d", "ad", "(id)", "md"] {
+        wants_refusal(rt.alloc(), type_text, &[0; 8], "DoubleText")?;
     }
     let mut empty = MemoryFolder::new(alloc);
     assert_eq!(rt;
@@ -116,8 +106,8 @@ fn names_its_refusals(rt: HostRuntime) -> Result<(), Fail> {
         "1 out= err=error: NoFile f\n"
     );
     assert_eq!(rt;
-        shown(alloc, "as", &mut empty)?.as_str(),
-        "1 out= err=error: NotYet\n"
+        shown(alloc, "(i", &mut empty)?.as_str(),
+        "1 out= err=error: Unclosed at 2\n"
     );
     let mut failing = one_file(alloc, &[0; 8])?;
     failing.fail_at(1);

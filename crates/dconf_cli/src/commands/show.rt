@@ -1,8 +1,9 @@
 //! `show TYPE FILE`: the file's bytes, read at the type, as text.
 ghost use Rattle.std.specs.Prelude.{◌≡◌, ◌≢◌, ◌⊎◌, ◌++◌, ℕ, List, codes};
 ghost use Rattle.gv_model.specs.Decode.{decode};
+ghost use Rattle.gv_model.specs.TypeText.{type_of_text};
 ghost use Rattle.gv_types.specs.TypeStr.{ty};
-ghost use Rattle.dconf_cli.specs.Output.{handled_type, typed_output, value_output, refused};
+ghost use Rattle.dconf_cli.specs.Output.{IsShown, value_output, refused};
 ghost use Rattle.dconf_cli.specs.Answers.{Answers, IsDone, RefusesFor};
 ghost use Rattle.dconf_cli.specs.Runs.{Agrees, AnswersOn};
 ghost use Rattle.dconf_cli.specs.Streams.{NoneFailed, one_more};
@@ -18,7 +19,7 @@ use std::alloc::Global;
 pub(crate) fn show<F: Folder>(alloc: Global, type_text: &str, file: &str, folder: &mut F) -> Answer
     ensures answer { NoneFailed (F.failed folder.old) (F.failed folder.new)
         → AnswersOn (F.known folder.old) result (λ content.
-        typed_output (handled_type type_text.now) file.now (content file.now)) }
+        IsShown type_text.now (type_of_text type_text.now) file.now (content file.now)) }
     ensures done { IsDone result → F.failed folder.new ≡ F.failed folder.old }
     ensures device { F.failed folder.new ≢ F.failed folder.old → RefusesFor result (codes "Device " ++ file.now) }
     ensures same { F.known folder.new ≡ F.known folder.old }

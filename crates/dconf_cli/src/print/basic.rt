@@ -1,6 +1,6 @@
 //! Values of basic types as text (GLib, "GVariant Text Format": "Numbers" and "Strings").
-ghost use Rattle.std.specs.Prelude.{◌≡◌, ◌++◌, false, true, MatchResult, OnOk, string_bytes};
-ghost use Rattle.gv_model.specs.Ty.{Basic, Ty.basic};
+ghost use Rattle.std.specs.Prelude.{◌≡◌, ◌++◌, false, MatchResult, OnOk, string_bytes};
+ghost use Rattle.gv_model.specs.Ty.{Ty.basic};
 ghost use Rattle.gv_model.specs.Printed.{word, hex_byte, text_of, holds_double};
 ghost use Rattle.gv_types.specs.Classes.{basic_of};
 ghost use Rattle.gv_view.specs.Views.{value, view_ty};
@@ -48,7 +48,7 @@ pub(crate) fn push_basic(
     requires { view_ty view ≡ basic (basic_of of) }
     ensures { MatchResult result
         (λ _. (holds_double (value view.entry) ≡ false)
-        × (string_bytes to.new ≡ string_bytes to.old ++ text_of (value view.entry) annotated true))
+        × (string_bytes to.new ≡ string_bytes to.old ++ text_of (value view.entry) annotated false))
         (IsElementFault (value view.entry)) }
 {
     if annotated {
@@ -79,9 +79,10 @@ fn push_figures(to: &mut String, view: View<'_>, of: BasicType) -> Result<(), Pr
         BasicType::Int64 => write!(to, "{}", view.as_i64().unwrap())?,
         BasicType::Uint64 => write!(to, "{}", view.as_u64().unwrap())?,
         BasicType::Handle => write!(to, "{}", view.as_handle().unwrap())?,
-        BasicType::Text => push_quoted(to, view.as_str().unwrap())?,
+        BasicType::Text | BasicType::ObjectPath | BasicType::Signature => {
+            push_quoted(to, view.as_str().unwrap())?
+        }
         BasicType::Double => return Err(PrintFault::DoubleText),
-        BasicType::ObjectPath | BasicType::Signature => unreachable!(),
     }
     Ok(())
 }

@@ -2,7 +2,7 @@
 //!
 //! Printable ASCII and all from U+00A0 stand for themselves; the quote in use and the backslash have a
 //! backslash before them; the others are escaped by a letter or by their number.
-ghost use Rattle.std.specs.Prelude.{◌≡◌, ◌<◌, ◌++◌, OnOk, string_bytes, slice_range};
+ghost use Rattle.std.specs.Prelude.{◌≡◌, ◌<◌, ◌++◌, OnOk, string_bytes};
 ghost use Rattle.gv_model.specs.Quoted.{digit, escape_letter, four_hex, three_octal, plain, char_text, byte_text, quote_for, quoted, byte_string};
 ghost use Rattle.std.specs.Prelude.{encode_utf8};
 

@@ -1,6 +1,6 @@
 use Rattle.std.proofs.Common.{◌≡◌, refl, sym, ap, ◌∙◌, string_bytes, w16, w32, w64}
 use Rattle.std.specs.Int.{cast_unsigned}
-use Rattle.gv_model.specs.Ty.Basic.{boolean, byte, int16, uint16, int32, uint32, int64, uint64, handle, string}
+use Rattle.gv_model.specs.Ty.Basic.{boolean, byte, int16, uint16, int32, uint32, int64, uint64, handle}
 use Rattle.gv_model.specs.Printed.{figures, is_double}
 use Rattle.gv_types.specs.Classes.{basic_of}
 use Rattle.gv_view.specs.Views.{value, view_ty, view_bytes, truth_bits}
@@ -53,4 +53,5 @@ returns-in_ok-write-in-Handle c =
 
 pub returns-in_ok-push_quoted-in-Text : goal.returns-in_ok-push_quoted-in-Text
 returns-in_ok-push_quoted-in-Text c =
-    wrote_text string c.unwrap-in-Text.result.now (value c.args.view) (string_bytes c.args.to.now) (string_bytes c.push_quoted.new.to) (rw c.unwrap-in-Text.ensures at c.as_str.ensures.value) c.in_ok-push_quoted-in-Text.ensures
+    let is = rw c.unwrap-in-Text.ensures at c.as_str.ensures.value in
+    wrote_text is.0 c.unwrap-in-Text.result.now (value c.args.view) (string_bytes c.args.to.now) (string_bytes c.push_quoted.new.to) is.2 c.in_ok-push_quoted-in-Text.ensures

@@ -1,28 +1,24 @@
-use Rattle.std.proofs.Common.{Some, sym, ap, ◌∙◌, arith}
+use Rattle.std.proofs.Common.{Some, sym, ap, ◌∙◌}
+use Rattle.std.proofs.lemmas.Str.{IsCharBoundary-from_ascii}
 use Rattle.gv_model.specs.TypeText.{type_at}
 use Rattle.gv_model.proofs.TypeTextParts.{type_text_is_ascii}
-use Rattle.gv_types.specs.Handled.{is_handled}
 use Rattle.gv_types.proofs.Letters.{first_class}
-use Rattle.gv_types.proofs.Parts.{has_element, text_of_element, handled_element}
+use Rattle.gv_types.proofs.Parts.{has_element, text_of_element}
 use Rattle.gv_types.proofs.type_str.TypeStr.element.Goals as goal
 
-pub split_at-requires : goal.split_at-requires
-split_at-requires c =
-    let some = (first_class c.args.self.text.now c.args.self.spells_type).some in
-    let low = type_text_is_ascii c.args.self.text.now c.args.self.spells_type 1 in
-    (omega (arith, some), λ _ wide. omega (arith, low, wide))
+pub range_from-requires : goal.range_from-requires
+range_from-requires c =
+    let w = c.args.self.text.now in
+    λ _. IsCharBoundary-from_ascii w 1 (type_text_is_ascii w c.args.self.spells_type) (first_class w c.args.self.spells_type).some
 
 pub invariant_of-result : goal.invariant_of-result
 invariant_of-result c =
-    let u = has_element c.class.result (type_at c.args.self.text.now) c.class.ensures c.in-Array.is in
-    let e = text_of_element c.args.self.text.now u.element c.args.self.spells_type u.is in
-    record {
-      spells_type = rw c.split_at.ensures.back e.checked;
-      handled = rw c.split_at.ensures.back (ap is_handled e.type ∙ handled_element (type_at c.args.self.text.now) u.element c.args.self.handled u.is);
-    }
+    let w = c.args.self.text.now in
+    let u = has_element c.class.result (type_at w) c.class.ensures c.in-Array.is in
+    record { spells_type = rw c.range_from.ensures.value (text_of_element w u.element c.args.self.spells_type u.is).checked }
 
 pub returns-in-Array : goal.returns-in-Array
 returns-in-Array c =
-    let u = has_element c.class.result (type_at c.args.self.text.now) c.class.ensures c.in-Array.is in
-    let e = text_of_element c.args.self.text.now u.element c.args.self.spells_type u.is in
-    ap (λ w. Some (type_at w)) c.split_at.ensures.back ∙ (ap Some e.type ∙ sym u.is)
+    let w = c.args.self.text.now in
+    let u = has_element c.class.result (type_at w) c.class.ensures c.in-Array.is in
+    ap (λ v. Some (type_at v)) c.range_from.ensures.value ∙ (ap Some (text_of_element w u.element c.args.self.spells_type u.is).type ∙ sym u.is)

@@ -1,38 +1,46 @@
-use Rattle.std.proofs.Common.{◌<◌, ◌≤◌, length, Some, ap, ◌∙◌, arith}
-use Rattle.gv_model.specs.Ty.{Ty}
-use Rattle.gv_model.specs.Decode.{decode, cut}
-use Rattle.gv_types.specs.TypeStr.{ty}
-use Rattle.gv_view.specs.Views.{view_ty, view_bytes}
-use Rattle.gv_view.proofs.ChildLemmas.{len_cut, no_child, no_tree, element_of_child, child_found, element_found}
+use Rattle.std.proofs.Common.{Some, None, sym, subst}
+use Rattle.std.specs.Prelude.{slice_get}
+use Rattle.gv_types.proofs.ClassLaws.{variant_class}
+use Rattle.gv_model.proofs.PartLaws.{child_within}
+use Rattle.gv_model.specs.Decode.{cut}
+use Rattle.gv_layout.specs.Places.{child_of}
+use Rattle.gv_view.specs.Views.{view_ty, view_bytes, Lends}
+use Rattle.gv_view.proofs.ChildPlaces.{lent_child, lent_place, variant_alone}
 use Rattle.gv_view.proofs.view.View.child.Goals as goal
 
-pub returns-then-i-n_children-clause-lends : goal.returns-then-i-n_children-clause-lends
-returns-then-i-n_children-clause-lends c =
-    let past : length (cut (view_ty c.args.self) (view_bytes c.args.self)) ≤ c.args.i = omega (arith, c.n_children.ensures, len_cut (view_ty c.args.self) (view_bytes c.args.self)) in
-    rw (no_child (view_ty c.args.self) (view_bytes c.args.self) c.args.i past) tt
+pub returns-in_err-place-in_default : goal.returns-in_err-place-in_default
+returns-in_err-place-in_default c =
+    let t = view_ty c.args.self in
+    let b = view_bytes c.args.self in
+    let lends : Lends b (slice_get (cut t b) c.args.i) None = subst (λ o. Lends b o None) c.in_err-place-in_default.ensures tt in
+    let child = lent_child t b c.args.i None lends in
+    rw c.from_residual.ensures (record { some = child.some; lends = lends; value = child.value })
 
-pub returns-then-i-n_children-clause-value : goal.returns-then-i-n_children-clause-value
-returns-then-i-n_children-clause-value c =
-    no_tree (view_ty c.args.self) (view_bytes c.args.self) c.args.i (omega (arith, c.n_children.ensures, len_cut (view_ty c.args.self) (view_bytes c.args.self)))
+pub view_at-requires : goal.view_at-requires
+view_at-requires c = child_within (view_ty c.args.self) (view_bytes c.args.self) c.args.i (child_of c.in_ok-place-in_default.place) (sym c.in_ok-place-in_default.ensures)
 
-pub member_bounds-from-requires-clause-child : goal.member_bounds-from-requires-clause-child
-member_bounds-from-requires-clause-child c = omega (arith, c.n_children.ensures, len_cut (view_ty c.args.self) (view_bytes c.args.self))
+pub returns-in-Variant : goal.returns-in-Variant
+returns-in-Variant c =
+    let t = view_ty c.args.self in
+    let b = view_bytes c.args.self in
+    let e = variant_class t c.in-Variant.ensures in
+    let lends : Lends b (slice_get (cut t b) c.args.i) (Some c.of_variant.result) = rw (e, c.if-i-eq0.true) c.of_variant.ensures.lends in
+    let child = lent_child t b c.args.i (Some c.of_variant.result) lends in
+    record { some = child.some; lends = lends; value = child.value }
 
-pub unwrap-element-requires : goal.unwrap-element-requires
-unwrap-element-requires c =
-    let below : c.args.i < length (cut (view_ty c.args.self) (view_bytes c.args.self)) = omega (arith, c.n_children.ensures, len_cut (view_ty c.args.self) (view_bytes c.args.self)) in
-    element_of_child ty (view_ty c.args.self) (view_bytes c.args.self) c.args.i c.element.result c.args.self.type_str.handled below c.element.ensures
+pub returns-in-Variant-2 : goal.returns-in-Variant-2
+returns-in-Variant-2 c =
+    let t = view_ty c.args.self in
+    let b = view_bytes c.args.self in
+    let alone = variant_alone t b c.args.i (variant_class t c.in-Variant-2.ensures) c.if-i-eq0.false in
+    let lends : Lends b (slice_get (cut t b) c.args.i) None = subst (λ o. Lends b o None) (sym alone) tt in
+    let child = lent_child t b c.args.i None lends in
+    record { some = child.some; lends = lends; value = child.value }
 
-pub returns-clause-lends : goal.returns-clause-lends
-returns-clause-lends c =
-    let below : c.args.i < length (cut (view_ty c.args.self) (view_bytes c.args.self)) = omega (arith, c.n_children.ensures, len_cut (view_ty c.args.self) (view_bytes c.args.self)) in
-    let element = element_found ty (view_ty c.args.self) c.element.result c.unwrap-element.result c.element.ensures c.unwrap-element.ensures in
-    let child = child_found (view_ty c.args.self) (ty c.unwrap-element.result) (view_bytes c.args.self) c.args.i c.member_bounds-from.result.0 c.member_bounds-from.result.1 c.args.self.type_str.handled element below c.member_bounds-from.ensures.bounds in
-    rw child.at (record { type = ap ty c.new.ensures.type_str; bytes = c.new.ensures.bytes })
-
-pub returns-clause-value : goal.returns-clause-value
-returns-clause-value c =
-    let below : c.args.i < length (cut (view_ty c.args.self) (view_bytes c.args.self)) = omega (arith, c.n_children.ensures, len_cut (view_ty c.args.self) (view_bytes c.args.self)) in
-    let element = element_found ty (view_ty c.args.self) c.element.result c.unwrap-element.result c.element.ensures c.unwrap-element.ensures in
-    let child = child_found (view_ty c.args.self) (ty c.unwrap-element.result) (view_bytes c.args.self) c.args.i c.member_bounds-from.result.0 c.member_bounds-from.result.1 c.args.self.type_str.handled element below c.member_bounds-from.ensures.bounds in
-    ap (λ (t : Ty). Some (decode t (view_bytes c.new.result))) (ap ty c.new.ensures.type_str) ∙ (ap (λ b. Some (decode (ty c.unwrap-element.result) b)) c.new.ensures.bytes ∙ child.tree)
+pub returns-in_ok-place-in_default : goal.returns-in_ok-place-in_default
+returns-in_ok-place-in_default c =
+    let t = view_ty c.args.self in
+    let b = view_bytes c.args.self in
+    let lends = lent_place t b c.args.i (child_of c.in_ok-place-in_default.place) c.view_at.result c.in_ok-place-in_default.ensures c.view_at.ensures in
+    let child = lent_child t b c.args.i (Some c.view_at.result) lends in
+    record { some = child.some; lends = lends; value = child.value }

@@ -1,0 +1,53 @@
+use Rattle.std.proofs.Common.{arith, length, ap, ◌∙◌}
+use Rattle.std.specs.Prelude.{option_map}
+use Rattle.gv_model.specs.Layout.{fixed_size, round_up}
+use Rattle.gv_types.specs.TypeStr.{ty}
+use Rattle.gv_types.specs.Members.{members_left}
+use Rattle.gv_layout.specs.Places.{child_of, clamp, end_by}
+use Rattle.gv_layout.proofs.Sizes.{alignment_pos}
+use Rattle.gv_layout.proofs.MemberLaws.{none_next, lost_next, unknown_next, known_next, end_by-member_end, counted}
+use Rattle.gv_layout.proofs.tuple.Following.first.Goals as goal
+
+pub returns-in_err-member : goal.returns-in_err-member
+returns-in_err-member c =
+    let self = c.args.self in
+    rw c.from_residual.ensures (none_next (length self.bytes.now) self.width self.used self.bytes.now self.previous (members_left self.members) c.in_err-member.ensures.steps.0)
+
+pub returns-in_default : goal.returns-in_default
+returns-in_default c =
+    let self = c.args.self in
+    lost_next (length self.bytes.now) self.width self.used self.bytes.now self.previous (ty c.in_ok-member.member)
+    (members_left c.next.new.self) (members_left self.members) c.in_ok-member.ensures.steps c.in_default.is
+
+pub aligned-from-requires-clause-some : goal.aligned-from-requires-clause-some
+aligned-from-requires-clause-some c = omega (arith, c.alignment.ensures, alignment_pos (ty c.in_ok-member.member))
+
+pub returns-in_default-end : goal.returns-in_default-end
+returns-in_default-end c =
+    let self = c.args.self in
+    let n = length self.bytes.now in
+    let xs = members_left c.next.new.self in
+    unknown_next n self.width self.used c.in-Some.previous c.aligned-from.result self.bytes.now self.previous (ty c.in_ok-member.member)
+    xs (members_left self.members) c.in_ok-member.ensures.steps c.in-Some.is
+    (c.aligned-from.ensures ∙ ap (λ a. clamp n (round_up a c.in-Some.previous)) c.alignment.ensures)
+    (c.in_default-end.ensures.end
+    ∙ (ap (λ o. option_map (clamp n) (end_by self.width self.bytes.now self.used c.aligned-from.result o c.is_none-is_last.result)) c.fixed_size.ensures
+    ∙ ap (option_map (clamp n)) (end_by-member_end ty c.next-2.result c.is_none-is_last.result xs (members_left c.next-2.new.self) c.next-2.ensures.steps c.is_none-is_last.ensures
+    self.width self.used c.aligned-from.result self.bytes.now (fixed_size (ty c.in_ok-member.member)))))
+
+pub returns : goal.returns
+returns c =
+    let self = c.args.self in
+    let n = length self.bytes.now in
+    let t = ty c.in_ok-member.member in
+    let xs = members_left c.next.new.self in
+    known_next n self.width self.used c.in-Some-end.used c.in-Some.previous c.aligned-from.result c.in-Some-end.to self.bytes.now self.previous t
+    xs (members_left self.members) (child_of c.within-place.result) c.in_ok-member.ensures.steps c.in-Some.is
+    (c.aligned-from.ensures ∙ ap (λ a. clamp n (round_up a c.in-Some.previous)) c.alignment.ensures)
+    (c.in-Some-end.ensures.end
+    ∙ (ap (λ o. option_map (clamp n) (end_by self.width self.bytes.now self.used c.aligned-from.result o c.is_none-is_last.result)) c.fixed_size.ensures
+    ∙ ap (option_map (clamp n)) (end_by-member_end ty c.next-2.result c.is_none-is_last.result xs (members_left c.next-2.new.self) c.next-2.ensures.steps c.is_none-is_last.ensures
+    self.width self.used c.aligned-from.result self.bytes.now (fixed_size t))))
+    (counted ty c.next-2.result c.is_none-is_last.result xs (members_left c.next-2.new.self) self.used c.in-Some-end.used c.fixed_size.result (fixed_size t)
+    c.next-2.ensures.steps c.is_none-is_last.ensures c.fixed_size.ensures c.in-Some-end.ensures.used)
+    c.within-place.ensures

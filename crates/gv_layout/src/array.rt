@@ -1,0 +1,227 @@
+//! Where the elements of an array lie (GVariant Specification, "Arrays"). Of a fixed size: one after the other.
+//! Of no fixed size: the bytes end with the end of each element, as a framing offset.
+ghost use Rattle.std.specs.Prelude.{◌≡◌, ◌<◌, ◌≤◌, ◌+◌, ◌*◌, ◌^◌, MatchOption, length, drop, [], ◌∷◌, Some, None};
+ghost use Rattle.gv_model.specs.Layout.{alignment, fixed_size};
+ghost use Rattle.gv_model.specs.Arrays.{element_spans};
+ghost use Rattle.gv_model.specs.Maybes.{just_span};
+ghost use Rattle.gv_model.specs.Children.{children_at};
+ghost use Rattle.gv_types.specs.TypeStr.{ty};
+
+use crate::offset::number;
+use crate::place::Place;
+use crate::size::{alignment, fixed_size, offset_width};
+use crate::walk::aligned;
+use gv_types::TypeStr;
+
+/// Children of one type and size, one after the other, from `at` on.
+#[derive(Clone, Copy, Debug)]
+pub(crate) struct Even<'a> {
+    element: TypeStr<'a>,
+    size: usize,
+    at: usize,
+    left: usize,
+    len: usize,
+    ghost inside: { at + size * left ≤ len },
+}
+
+impl<'a> Even<'a> {
+    ghost use Rattle.gv_layout.specs.Places.{child_of, even_left};
+
+    /// No children.
+    pub(crate) fn none(element: TypeStr<'a>) -> Even<'a>
+        ensures { even_left result ≡ [] }
+    {
+        Even {
+            element,
+            size: 0,
+            at: 0,
+            left: 0,
+            len: 0,
+        }
+    }
+
+    /// The elements of an array of `len` bytes, whose elements have this size.
+    pub(crate) fn of_array(element: TypeStr<'a>, size: usize, bytes: &[u8]) -> Even<'a>
+        requires { fixed_size (ty element) ≡ Some size }
+        ensures { even_left result ≡ children_at (length bytes.now) (element_spans (ty element.entry) bytes.now (Some size)) }
+    {
+        let len = bytes.len();
+        let left = if len % size == 0 { len / size } else { 0 };
+        Even {
+            element,
+            size,
+            at: 0,
+            left,
+            len,
+        }
+    }
+
+    /// The child of a maybe of `len` bytes.
+    pub(crate) fn of_maybe(child: TypeStr<'a>, len: usize) -> Even<'a>
+        ensures { even_left result ≡ children_at len (just_span (ty child.entry) len (fixed_size (ty child.entry))) }
+    {
+        match fixed_size(child) {
+            Some(size) if size == len => Even::one(child, len, len),
+            None if len > 0 => Even::one(child, len - 1, len),
+            _ => Even::none(child),
+        }
+    }
+
+    /// One child, in the first `to` bytes of `len`.
+    fn one(element: TypeStr<'a>, to: usize, len: usize) -> Even<'a>
+        requires { to ≤ len }
+        ensures { even_left result ≡ children_at len ((ty element.entry, Some (0, to)) ∷ []) }
+    {
+        Even {
+            element,
+            size: to,
+            at: 0,
+            left: 1,
+            len,
+        }
+    }
+
+    /// How many children are left.
+    pub(crate) fn len(self) -> usize
+        ensures { result ≡ length (even_left self.entry) }
+    {
+        self.left
+    }
+
+    /// The first child, and those behind it.
+    pub(crate) fn first(self) -> Option<(Place<'a>, Even<'a>)>
+        ensures { MatchOption result (even_left self.entry ≡ [])
+            (λ r. even_left self.entry ≡ child_of r.0 ∷ even_left r.1) }
+    {
+        let left = self.left.checked_sub(1)?;
+        let to = self.at + self.size;
+        let place = Place {
+            type_str: self.element,
+            from: self.at,
+            to,
+        };
+        let behind = Even {
+            element: self.element,
+            size: self.size,
+            at: to,
+            left,
+            len: self.len,
+        };
+        Some((place, behind))
+    }
+
+    /// The children behind the first `i`.
+    pub(crate) fn behind(self, i: usize) -> Even<'a>
+        ensures { even_left result ≡ drop i (even_left self.entry) }
+    {
+        let passed = i.min(self.left);
+        let at = self.at + self.size * passed;
+        Even {
+            element: self.element,
+            size: self.size,
+            at,
+            left: self.left - passed,
+            len: self.len,
+        }
+    }
+}
+
+/// Elements whose ends are given by framing offsets.
+#[derive(Clone, Copy, Debug)]
+pub(crate) struct Framed<'a, 'b> {
+    element: TypeStr<'a>,
+    aligned_to: u8,
+    end: usize,
+    offsets: &'b [u8],
+    width: usize,
+    left: usize,
+    len: usize,
+    ghost aligned: { aligned_to ≡ alignment (ty element) },
+    ghost narrow: { width ≤ 8 },
+    ghost whole: { length offsets.now ≡ width * left },
+    ghost small: { len + 256 < 2 ^ 64 },
+}
+
+impl<'a, 'b> Framed<'a, 'b> {
+    ghost use Rattle.gv_layout.specs.Places.{child_of, framed_left};
+
+    /// The elements of an array whose elements have no fixed size.
+    pub(crate) fn of_array(element: TypeStr<'a>, bytes: &'b [u8]) -> Framed<'a, 'b>
+        ensures { framed_left result ≡ children_at (length bytes.entry.now) (element_spans (ty element.entry) bytes.entry.now None) }
+    {
+        let len = bytes.len();
+        let aligned_to = alignment(element);
+        let width = usize::from(offset_width(len));
+        let begin = number(&bytes[len - width..]);
+        if width > 0 && begin <= len && (len - begin) % width == 0 {
+            let left = (len - begin) / width;
+            return Framed {
+                element,
+                aligned_to,
+                end: 0,
+                offsets: &bytes[begin..],
+                width,
+                left,
+                len,
+            };
+        }
+        Framed {
+            element,
+            aligned_to,
+            end: 0,
+            offsets: &[],
+            width,
+            left: 0,
+            len,
+        }
+    }
+
+    /// How many children are left.
+    pub(crate) fn len(self) -> usize
+        ensures { result ≡ length (framed_left self.entry) }
+    {
+        self.left
+    }
+
+    /// The first child, and those behind it.
+    pub(crate) fn first(self) -> Option<(Place<'a>, Framed<'a, 'b>)>
+        ensures { MatchOption result (framed_left self.entry ≡ [])
+            (λ r. framed_left self.entry ≡ child_of r.0 ∷ framed_left r.1) }
+    {
+        let left = self.left.checked_sub(1)?;
+        let (offset, offsets) = self.offsets.split_at(self.width);
+        let end = number(offset);
+        let from = aligned(self.end, self.aligned_to, self.len);
+        let place = Place::within(self.element, from, end, self.len);
+        let behind = Framed {
+            element: self.element,
+            aligned_to: self.aligned_to,
+            end,
+            offsets,
+            width: self.width,
+            left,
+            len: self.len,
+        };
+        Some((place, behind))
+    }
+
+    /// The children behind the first `i`.
+    pub(crate) fn behind(self, i: usize) -> Framed<'a, 'b>
+        ensures { framed_left result ≡ drop i (framed_left self.entry) }
+    {
+        let passed = i.min(self.left);
+        if passed == 0 {
+            return self;
+        }
+        let start = self.width * passed;
+        Framed {
+            element: self.element,
+            aligned_to: self.aligned_to,
+            end: number(&self.offsets[start - self.width..start]),
+            offsets: &self.offsets[start..],
+            width: self.width,
+            left: self.left - passed,
+            len: self.len,
+        }
+    }
+}

@@ -1,0 +1,29 @@
+//! Framing offsets: the numbers at the end of a container that say where its children end (GVariant
+//! Specification, "Framing Offsets").
+ghost use Rattle.std.specs.Prelude.{◌≡◌, ◌≤◌, ◌*◌, length};
+ghost use Rattle.gv_model.specs.BasicValue.{number_in};
+ghost use Rattle.gv_model.specs.Children.{framing_offset};
+
+/// The number in at most eight bytes, the lowest byte first.
+pub(crate) fn number(bytes: &[u8]) -> usize
+    requires { length bytes.now ≤ 8 }
+    ensures { result ≡ number_in bytes.now }
+{
+    match bytes {
+        [] => 0,
+        [low, rest @ ..] => usize::from(*low) + 256 * number(rest),
+    }
+}
+
+/// Offset `k` from the end, where it stands whole within the bytes; those behind it do.
+pub(crate) fn framing_offset(width: usize, bytes: &[u8], k: usize) -> Option<usize>
+    requires narrow { width ≤ 8 }
+    requires behind { width * k ≤ length bytes.now }
+    ensures { result ≡ framing_offset width bytes.now k }
+{
+    let end = bytes.len() - width * k;
+    if width == 0 || end < width {
+        return None;
+    }
+    Some(number(&bytes[end - width..end]))
+}

@@ -1,0 +1,57 @@
+//! Places of children, one after the other.
+ghost use Rattle.std.specs.Prelude.{◌≡◌, Some};
+ghost use Rattle.gv_model.specs.Children.{child_at};
+ghost use Rattle.gv_types.specs.TypeStr.{ty};
+
+use crate::walk::Walk;
+use gv_types::TypeStr;
+
+/// A child of a container: its type, and where its bytes start and end in the container's.
+#[derive(Clone, Copy, Debug)]
+pub struct Place<'a> {
+    pub type_str: TypeStr<'a>,
+    pub from: usize,
+    pub to: usize,
+}
+
+impl<'a> Place<'a> {
+    ghost use Rattle.gv_layout.specs.Places.{child_of};
+
+    /// A child between these places, at (0, 0) where it doesn't lie so within `len` bytes.
+    pub(crate) fn within(type_str: TypeStr<'a>, from: usize, to: usize, len: usize) -> Place<'a>
+        ensures { child_of result ≡ child_at len (ty type_str.entry, Some (from, to)) }
+    {
+        if from <= to && to <= len {
+            Place { type_str, from, to }
+        } else {
+            Place {
+                type_str,
+                from: 0,
+                to: 0,
+            }
+        }
+    }
+}
+
+/// The places of a container's children that are left, in order.
+#[derive(Clone, Copy, Debug)]
+pub struct Places<'a> {
+    pub(crate) walk: Walk<'a, 'a>,
+}
+
+impl<'a> Iterator for Places<'a> {
+    type Item = Place<'a>;
+
+    ghost use Rattle.std.specs.Iterator.{YieldsFirstBy, item_count};
+    ghost use Rattle.gv_layout.specs.Places.{child_of, places_left};
+
+    ghost next_gives = { YieldsFirstBy child_of places_left };
+
+    ghost remaining = { item_count places_left };
+
+    fn next(&mut self) -> Option<Place<'a>> {
+        let (place, behind) = self.walk.first()?;
+        self.walk = behind;
+        Some(place)
+    }
+}

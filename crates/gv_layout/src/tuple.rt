@@ -1,0 +1,128 @@
+//! Where the members of a tuple or an entry lie (GVariant Specification, "Structures" and "Dictionary Entries").
+//! Each begins where the one before ends, aligned; the framing offsets stand at the end, the first one last.
+ghost use Rattle.std.specs.Prelude.{◌≡◌, ◌<◌, ◌≤◌, ◌^◌, ◌+◌, ◌*◌, ◌⊎◌, MatchOption, IfSome, IsTrue, option_map, length, drop, [], ◌∷◌};
+ghost use Rattle.gv_model.specs.Ty.{members};
+ghost use Rattle.gv_model.specs.Tuples.{tuple_spans, next_offset};
+ghost use Rattle.gv_model.specs.Children.{children_at};
+ghost use Rattle.gv_types.specs.TypeStr.{ty};
+ghost use Rattle.gv_types.specs.Members.{members_left};
+
+use crate::offset::framing_offset;
+use crate::place::Place;
+use crate::size::{alignment, fixed_size, offset_width};
+use crate::walk::aligned;
+use gv_types::{Members, TypeStr};
+
+/// Members, of which the one before ends at `previous`, if its end is known. The last `used` framing offsets
+/// belong to members before.
+#[derive(Clone, Copy, Debug)]
+pub(crate) struct Following<'a, 'b> {
+    members: Members<'a>,
+    bytes: &'b [u8],
+    width: usize,
+    used: usize,
+    previous: Option<usize>,
+    ghost narrow: { width ≤ 8 },
+    ghost behind: { width * used ≤ length bytes.now },
+    ghost few: { length (members_left members) < 2 ^ 64 },
+}
+
+impl<'a, 'b> Following<'a, 'b> {
+    ghost use Rattle.gv_layout.specs.Places.{child_of, clamp, end_by, following_left};
+
+    /// The members of a tuple or an entry.
+    pub(crate) fn of_tuple(of: TypeStr<'a>, bytes: &'b [u8]) -> Following<'a, 'b>
+        ensures { following_left result ≡ children_at (length bytes.entry.now) (tuple_spans (ty of.entry) (members (ty of.entry)) bytes.entry.now) }
+    {
+        let width = usize::from(offset_width(bytes.len()));
+        let previous = match fixed_size(of) {
+            Some(size) if size != bytes.len() => None,
+            _ => Some(0),
+        };
+        Following {
+            members: of.members(),
+            bytes,
+            width,
+            used: 0,
+            previous,
+        }
+    }
+
+    /// How many children are left.
+    pub(crate) fn len(self) -> usize
+        ensures { result ≡ length (following_left self.entry) }
+    {
+        self.members.count()
+    }
+
+    /// The first child, and those behind it.
+    pub(crate) fn first(self) -> Option<(Place<'a>, Following<'a, 'b>)>
+        ensures { MatchOption result (following_left self.entry ≡ [])
+            (λ r. following_left self.entry ≡ child_of r.0 ∷ following_left r.1) }
+    {
+        let mut members = self.members;
+        let member = members.next()?;
+        let mut others = members;
+        let is_last = others.next().is_none();
+        let unknown = Place {
+            type_str: member,
+            from: 0,
+            to: 0,
+        };
+        let lost = Following {
+            members,
+            bytes: self.bytes,
+            width: self.width,
+            used: self.used,
+            previous: None,
+        };
+        let Some(previous) = self.previous else {
+            return Some((unknown, lost));
+        };
+        let from = aligned(previous, alignment(member), self.bytes.len());
+        let Some((to, used)) = self.end(fixed_size(member), from, is_last) else {
+            return Some((unknown, lost));
+        };
+        let place = Place::within(member, from, to, self.bytes.len());
+        let behind = Following {
+            members,
+            bytes: self.bytes,
+            width: self.width,
+            used,
+            previous: Some(to),
+        };
+        Some((place, behind))
+    }
+
+    /// The children behind the first `i`.
+    pub(crate) fn behind(self, i: usize) -> Following<'a, 'b>
+        ensures { following_left result ≡ drop i (following_left self.entry) }
+    {
+        let mut left = self;
+        for _ in 0..i {
+            match left.first() {
+                Some((_, behind)) => left = behind,
+                None => return left,
+            }
+        }
+        left
+    }
+
+    /// Where a member ends that begins at `from`, and how many offsets are used then. None where its offset isn't
+    /// there.
+    fn end(self, size: Option<usize>, from: usize, is_last: bool) -> Option<(usize, usize)>
+        ensures end { option_map (λ r. clamp (length self.entry.bytes.now) r.0) result
+            ≡ option_map (clamp (length self.entry.bytes.now)) (end_by self.entry.width self.entry.bytes.now self.entry.used from size is_last) }
+        ensures used { IfSome result (λ r. IsTrue is_last ⊎ (r.1 ≡ next_offset self.entry.used size)) }
+        ensures behind { IfSome result (λ r. self.entry.width * r.1 ≤ length self.entry.bytes.now) }
+    {
+        if let Some(size) = size {
+            return Some((from.saturating_add(size), self.used));
+        }
+        if is_last {
+            return Some((self.bytes.len() - self.width * self.used, self.used));
+        }
+        let end = framing_offset(self.width, self.bytes, self.used)?;
+        Some((end, self.used + 1))
+    }
+}

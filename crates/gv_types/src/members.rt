@@ -1,0 +1,66 @@
+//! The members of a tuple or an entry, one after the other.
+ghost use Rattle.std.specs.Prelude.{IsTrue};
+ghost use Rattle.gv_model.specs.Texts.{are_types};
+ghost use Rattle.gv_model.specs.TypeText.{seen};
+
+use crate::grammar::after_type;
+use crate::type_str::{MAX_LEVELS, TypeStr};
+
+/// The types of the members of a tuple or an entry that are left, in order.
+#[derive(Clone, Copy, Debug)]
+pub struct Members<'a> {
+    pub(crate) rest: &'a str,
+    ghost are_types: { IsTrue (are_types (seen rest.now)) },
+}
+
+impl<'a> Iterator for Members<'a> {
+    type Item = TypeStr<'a>;
+
+    ghost use Rattle.std.specs.Iterator.{YieldsFirstBy, item_count};
+    ghost use Rattle.gv_types.specs.TypeStr.{ty};
+    ghost use Rattle.gv_types.specs.Members.{members_left};
+
+    ghost next_gives = { YieldsFirstBy ty members_left };
+
+    ghost remaining = { item_count members_left };
+
+    fn next(&mut self) -> Option<TypeStr<'a>> {
+        let behind = match after_type(self.rest.as_bytes(), MAX_LEVELS) {
+            Ok(behind) => behind,
+            // Types alone stand in the text, so reading stops only at its end.
+            Err(_) => return None,
+        };
+        let (text, rest) = self.rest.split_at(self.rest.len() - behind.len());
+        self.rest = rest;
+        Some(TypeStr { text })
+    }
+}
+
+#[cfg(test)]
+mod tests {
+    use super::*;
+    use std::fmt::Write;
+    use std::test::Fail;
+
+    #[test]
+    fn gives_each_member_once_in_order(rt: HostRuntime) -> Result<(), Fail> {
+        let cases = [
+            ("(ia{sv}s)", "i a{sv} s "),
+            ("((i)(sv))", "(i) (sv) "),
+            ("()", ""),
+            ("(())", "() "),
+            ("{s(ii)}", "s (ii) "),
+            ("ai", ""),
+            ("m(ii)", ""),
+            ("s", ""),
+        ];
+        for (text, members) in cases {
+            let mut found = String::new(rt.alloc());
+            for member in TypeStr::parse(text)?.members() {
+                write!(found, "{} ", member.as_str())?;
+            }
+            assert_eq!(rt; found.as_str(), members, "at {text}");
+        }
+        Ok(())
+    }
+}

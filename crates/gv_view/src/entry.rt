@@ -1,0 +1,95 @@
+//! Looking up a key in a dictionary of strings, an array of entries: of equal keys the first one counts.
+ghost use Rattle.std.specs.Prelude.{◌≡◌, ◌↔◌, IfSome, IsTrue, MatchOption, option_map};
+ghost use Rattle.gv_model.specs.Ty.{Ty.array, Ty.entry, Basic.string};
+ghost use Rattle.gv_model.specs.Entries.{HasKey, IsLookedUp};
+ghost use Rattle.gv_types.specs.TypeStr.{ty};
+ghost use Rattle.gv_view.specs.Dictionaries.{IsDictionary, IsTextEntry, IsValueUnder};
+
+use crate::view::View;
+use gv_types::{BasicType, Class, TypeStr};
+
+impl<'a> View<'a> {
+    ghost use Rattle.gv_view.specs.Views.{value, view_ty};
+
+    /// The value of the first entry with this key in an `a{sT}`. None where no entry has it, and at another type.
+    ///
+    /// It goes over the entries once.
+    pub fn entry(self, key: &str) -> Option<View<'a>>
+        ensures found { IsLookedUp (value self.entry) key.now (option_map value result) }
+        ensures at_type { IfSome result (λ v. view_ty self.entry ≡ array (entry string (view_ty v))) }
+    {
+        if !is_dictionary(self.type_str) {
+            return None;
+        }
+        for entry in self.children() {
+            if let Some(value) = entry.value_under(key) {
+                return Some(value);
+            }
+        }
+        None
+    }
+
+    /// The value of an entry `{sT}`. None where its key is another.
+    fn value_under(self, key: &str) -> Option<View<'a>>
+        requires { IsTextEntry (view_ty self) }
+        ensures { MatchOption result (¬ HasKey (value self.entry) key.now) (IsValueUnder self.entry key.now) }
+    {
+        let mut members = self.children();
+        let name = members.next()?.as_str()?;
+        if name == key { members.next() } else { None }
+    }
+}
+
+/// Whether it is a type `a{sT}`.
+fn is_dictionary(of: TypeStr<'_>) -> bool
+    ensures { IsTrue result ↔ IsDictionary (ty of.entry) }
+{
+    if of.class() != Class::Array {
+        return false;
+    }
+    let key = of.element().and_then(TypeStr::key);
+    matches!(key.map(TypeStr::class), Some(Class::Basic(BasicType::Text)))
+}
+
+#[cfg(test)]
+mod tests {
+    use super::*;
+    use gv_types::TypeFault;
+    use std::test::Fail;
+
+    fn view<'a>(text: &'a str, bytes: &'a [u8]) -> Result<View<'a>, TypeFault> {
+        Ok(View::new(TypeStr::parse(text)?, bytes))
+    }
+
+    #[test]
+    fn the_first_entry_with_a_key_counts(rt: HostRuntime) -> Result<(), Fail> {
+        let twice: &[u8] = &[
+            b'a', 0, 0, 0, 1, 0, 0, 0, 2, 0, 0, 0, b'a', 0, 0, 0, 2, 0, 0, 0, 2, 9, 21,
+        ];
+        let rows: [(&str, &str, Option<i32>); 8] = [
+            ("a{si}", "a", Some(1)),
+            ("a{si}", "b", None),
+            ("a{si}", "", None),
+            ("a{si}", "aa", None),
+            ("a{is}", "a", None),
+            ("a(si)", "a", None),
+            ("as", "a", None),
+            ("s", "a", None),
+        ];
+        for (text, key, expected) in rows {
+            let found = view(text, twice)?.entry(key).and_then(View::as_i32);
+            assert_eq!(rt; found, expected, "{key:?} in {text}");
+        }
+        Ok(())
+    }
+
+    #[test]
+    fn the_second_entry_is_looked_up(rt: HostRuntime) -> Result<(), Fail> {
+        let bytes: &[u8] = b"a\0\x01\x02bc\0\x02\x03\x04\x09";
+        let dictionary = view("a{sy}", bytes)?;
+        assert_eq!(rt; dictionary.entry("a").and_then(View::as_u8), Some(1));
+        assert_eq!(rt; dictionary.entry("bc").and_then(View::as_u8), Some(2));
+        assert_eq!(rt; dictionary.entry("b").and_then(View::as_u8), None);
+        Ok(())
+    }
+}
