@@ -1,12 +1,3 @@
-pub mod Trivia
-pub mod Quotes
-pub mod Figures
-pub mod Containers
-pub mod ContainerTexts
-pub mod ChildTexts
-pub mod ArrayTexts
-pub mod Maybes
-pub mod Counts
 pub mod Filled
 pub mod Shown
 pub mod Lines

@@ -5,9 +5,6 @@ pub mod MemoryFolders
 pub mod StdFolders
 pub mod CommandLine
 pub mod Asked
-pub mod Printing
-pub mod Counting
-pub mod PrintFaults
 pub mod Output
 pub mod Answers
 pub mod Runs

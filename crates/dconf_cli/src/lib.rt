@@ -17,7 +17,6 @@ mod command_line;
 mod commands;
 mod counted;
 mod folder;
-mod print;
 mod running;
 
 pub use asked::Command;

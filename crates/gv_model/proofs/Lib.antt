@@ -12,3 +12,10 @@ pub mod PartLaws
 pub mod WellTyped
 pub mod WorkedValues
 pub mod WorkedFaults
+pub mod NumberBytes
+pub mod PlacedParts
+pub mod FramedArrays
+pub mod MemberLaws
+pub mod RoundTrip
+pub mod NormalLaws
+pub mod WrittenLaws

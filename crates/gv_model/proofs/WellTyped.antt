@@ -22,6 +22,7 @@ use Rattle.gv_model.specs.Maybes.{just_span}
 use Rattle.gv_model.specs.Tuples.{tuple_spans, is_other_size, empty_spans, member_spans}
 use Rattle.gv_model.specs.Variants.{variant_span, typed_span, at_last_zero}
 use Rattle.gv_model.specs.Decode.{decode, decode_within, tree_with, each, cut, spans}
+use Rattle.gv_model.specs.Normal.{IsContainer}
 use Rattle.gv_model.proofs.TypeTextSound.{spelling_of_read}
 use Rattle.gv_model.proofs.DecodeLaws.{decode_children, Each, OfTypes, of_elements}
 
@@ -104,7 +105,7 @@ not_zero c h = grind (arith, h)
 truth_below : (n : ℕ) → truth n < 2
 truth_below n = grind arith
 
-default_value : (k : Basic) → IsValue (basic_default k)
+pub default_value : (k : Basic) → IsValue (basic_default k)
 unfolding is_utf8 chars seen
 default_value string = record { no_number = refl; no_zero = tt; allowed = refl }
 default_value path = record { no_number = refl; no_zero = (omega arith, tt); allowed = refl }
@@ -139,7 +140,7 @@ no_zero_in (c ∷ d ∷ cs) s e = go (c == 0) refl e (no_zero_in (d ∷ cs))
     go true n p f = absurd (none-some s p)
     go false n p f = more (text_in (d ∷ cs)) (omega (arith, not_zero c n)) f p
 
-text_value : (k : Basic) (b : List ℕ) → basic_size k ≡ None → IsValue (text_or_default k (text_in b))
+pub text_value : (k : Basic) (b : List ℕ) → basic_size k ≡ None → IsValue (text_or_default k (text_in b))
 text_value k b e = go (text_in b) refl
   where
     chosen : (s : List ℕ) (c : Bool) → text_in b ≡ Some s → is_text k s ≡ c → IsValue (cond c (text k s) (basic_default k))
@@ -176,17 +177,21 @@ values_of_each : (f : Child → Tree) (cs : List Child) → Each (Fine f) cs →
 values_of_each f [] h = tt
 values_of_each f (c ∷ cs) h = (h.0.1, values_of_each f cs h.1)
 
-all_of_each : (f : Child → Tree) (t : Ty) (n : ℕ) (xs : List (Ty × Span)) → OfTypes (λ u. u ≡ t) xs → Each (Fine f) (children_at n xs) → AllOf t (each f (children_at n xs))
+-- each child is read at its type
+abbrev AtTypes : (Child → Tree) → Type 0
+AtTypes f = (c : Child) → type_of (f c) ≡ c.type
+
+all_of_each : (f : Child → Tree) (t : Ty) (n : ℕ) (xs : List (Ty × Span)) → OfTypes (λ u. u ≡ t) xs → AtTypes f → AllOf t (each f (children_at n xs))
 all_of_each f t n [] h g = tt
-all_of_each f t n (x ∷ xs) h g = (g.0.0 ∙ h.0, all_of_each f t n xs h.1 g.1)
+all_of_each f t n (x ∷ xs) h g = (g _ ∙ h.0, all_of_each f t n xs h.1 g)
 
 abbrev span_types : List (Ty × Span) → Types
 span_types [] = end
 span_types (x ∷ xs) = member x.0 (span_types xs)
 
-types_of_each : (f : Child → Tree) (n : ℕ) (xs : List (Ty × Span)) → Each (Fine f) (children_at n xs) → types_of (each f (children_at n xs)) ≡ span_types xs
+types_of_each : (f : Child → Tree) (n : ℕ) (xs : List (Ty × Span)) → AtTypes f → types_of (each f (children_at n xs)) ≡ span_types xs
 types_of_each f n [] g = refl
-types_of_each f n (x ∷ xs) g = ap₂ member g.0.0 (types_of_each f n xs g.1)
+types_of_each f n (x ∷ xs) g = ap₂ member (g _) (types_of_each f n xs g)
 
 types-members : (w : ℕ) (b : List ℕ) (ts : Types) (k : ℕ) (p : Option ℕ) → span_types (member_spans w b k p ts) ≡ ts
 unfolding member_spans
@@ -205,19 +210,19 @@ types-tuple t ts b = go (is_other_size (fixed_size t) (length b))
     go true = types-empty ts
     go false = types-members (offset_width (length b)) b ts 0 (Some 0)
 
-just_held : (f : Child → Tree) (t : Ty) (n : ℕ) (o : Option ℕ) → Each (Fine f) (children_at n (just_span t n o)) → MayHold (maybe t) (each f (children_at n (just_span t n o)))
-just_held f t n (Some size) = go (n == size)
+just_held : (f : Child → Tree) (t : Ty) (n : ℕ) (o : Option ℕ) → AtTypes f → MayHold (maybe t) (each f (children_at n (just_span t n o)))
+just_held f t n (Some size) g = go (n == size)
   where
-    go : (c : Bool) → Each (Fine f) (children_at n (cond c ((t, Some (0, n)) ∷ []) [])) → MayHold (maybe t) (each f (children_at n (cond c ((t, Some (0, n)) ∷ []) [])))
-    go true h = h.0.0
-    go false h = tt
-just_held f t n None = go (n == 0)
+    go : (c : Bool) → MayHold (maybe t) (each f (children_at n (cond c ((t, Some (0, n)) ∷ []) [])))
+    go true = g _
+    go false = tt
+just_held f t n None g = go (n == 0)
   where
-    go : (c : Bool) → Each (Fine f) (children_at n (cond c [] ((t, Some (0, n - 1)) ∷ []))) → MayHold (maybe t) (each f (children_at n (cond c [] ((t, Some (0, n - 1)) ∷ []))))
-    go true h = tt
-    go false h = h.0.0
+    go : (c : Bool) → MayHold (maybe t) (each f (children_at n (cond c [] ((t, Some (0, n - 1)) ∷ []))))
+    go true = tt
+    go false = g _
 
-unit_limits : is_within_limits (tuple end) (spelling (tuple end)) ≡ true
+pub unit_limits : is_within_limits (tuple end) (spelling (tuple end)) ≡ true
 unfolding spelling nesting
 unit_limits = refl
 
@@ -230,14 +235,26 @@ variant_limits (Some p) = go (type_of_text p.1) refl
     go None e = unit_limits
     go (Some t) e = let read = spelling_of_read p.1 t e in ap (is_within_limits t) read.0 ∙ read.1
 
-tree_is_value : (f : Child → Tree) (t : Ty) (b : List ℕ) → IsBytes b → Each (Fine f) (cut t b) → IsValue (tree_with f t b)
+-- children that are read at their types are such as the container may have, whatever the bytes
+held_of_each : (f : Child → Tree) (t : Ty) (b : List ℕ) → IsContainer t → AtTypes f → MayHold t (each f (cut t b))
 unfolding cut spans
-tree_is_value f (basic k) b h g = basic_is_value k b h
-tree_is_value f variant b h g = (subst (λ (u : Ty). is_within_limits u (spelling u) ≡ true) (sym g.0.0) (variant_limits (at_last_zero b)), values_of_each f (cut variant b) g)
-tree_is_value f (array t) b h g = (all_of_each f t (length b) (element_spans t b (fixed_size t)) (of_elements (λ u. u ≡ t) t b (fixed_size t) refl) g, values_of_each f (cut (array t) b) g)
-tree_is_value f (maybe t) b h g = (just_held f t (length b) (fixed_size t) g, values_of_each f (cut (maybe t) b) g)
-tree_is_value f (tuple ts) b h g = (types_of_each f (length b) (tuple_spans (tuple ts) ts b) g ∙ types-tuple (tuple ts) ts b, values_of_each f (cut (tuple ts) b) g)
-tree_is_value f (entry k t) b h g = (types_of_each f (length b) (tuple_spans (entry k t) (member (basic k) (member t end)) b) g ∙ types-tuple (entry k t) (member (basic k) (member t end)) b, values_of_each f (cut (entry k t) b) g)
+held_of_each f (basic k) b h g = absurd h
+held_of_each f variant b h g = subst (λ (u : Ty). is_within_limits u (spelling u) ≡ true) (sym (g _)) (variant_limits (at_last_zero b))
+held_of_each f (array t) b h g = all_of_each f t (length b) (element_spans t b (fixed_size t)) (of_elements (λ u. u ≡ t) t b (fixed_size t) refl) g
+held_of_each f (maybe t) b h g = just_held f t (length b) (fixed_size t) g
+held_of_each f (tuple ts) b h g = types_of_each f (length b) (tuple_spans (tuple ts) ts b) g ∙ types-tuple (tuple ts) ts b
+held_of_each f (entry k t) b h g = types_of_each f (length b) (tuple_spans (entry k t) (member (basic k) (member t end)) b) g ∙ types-tuple (entry k t) (member (basic k) (member t end)) b
+
+pub children_held : (t : Ty) (b : List ℕ) → IsContainer t → MayHold t (each (λ c. decode c.type (bytes_of b c)) (cut t b))
+children_held t b h = held_of_each (λ c. decode c.type (bytes_of b c)) t b h (λ c. type_of-decode c.type (bytes_of b c))
+
+tree_is_value : (f : Child → Tree) (t : Ty) (b : List ℕ) → IsBytes b → AtTypes f → Each (Fine f) (cut t b) → IsValue (tree_with f t b)
+tree_is_value f (basic k) b h g fine = basic_is_value k b h
+tree_is_value f variant b h g fine = (held_of_each f variant b tt g, values_of_each f (cut variant b) fine)
+tree_is_value f (array t) b h g fine = (held_of_each f (array t) b tt g, values_of_each f (cut (array t) b) fine)
+tree_is_value f (maybe t) b h g fine = (held_of_each f (maybe t) b tt g, values_of_each f (cut (maybe t) b) fine)
+tree_is_value f (tuple ts) b h g fine = (held_of_each f (tuple ts) b tt g, values_of_each f (cut (tuple ts) b) fine)
+tree_is_value f (entry k t) b h g fine = (held_of_each f (entry k t) b tt g, values_of_each f (cut (entry k t) b) fine)
 
 mutual
   unfolding default
@@ -267,7 +284,7 @@ unfolding decode_within
 within_is_value zero t b h = default_is_value t
 within_is_value (suc n) t b h =
     let f = λ (c : Child). decode_within n c.type (bytes_of b c) in
-    tree_is_value f t b h (each_all f (λ c. (type_within n c.type (bytes_of b c), within_is_value n c.type (bytes_of b c) (bytes_of_bytes b c h))) (cut t b))
+    tree_is_value f t b h (λ c. type_within n c.type (bytes_of b c)) (each_all f (λ c. (type_within n c.type (bytes_of b c), within_is_value n c.type (bytes_of b c) (bytes_of_bytes b c h))) (cut t b))
 
 pub decode_is_value : (t : Ty) (b : List ℕ) → IsBytes b → IsValue (decode t b)
 unfolding decode

@@ -8,7 +8,9 @@ use Rattle.gv_model.specs.Tree.{Tree, default, children, tree_at, trees_len}
 use Rattle.gv_model.specs.Typed.{HasType}
 use Rattle.gv_model.specs.Children.{Child, bytes_of}
 use Rattle.gv_model.specs.Decode.{decode, cut, tree_with}
-use Rattle.gv_model.specs.Parts.{Part, part_at, subtree_at}
+use Rattle.gv_model.specs.Parts.{Part, parts, part_at, subtree_at}
+use Rattle.gv_model.specs.Encode.{encode, packed}
+use Rattle.gv_model.specs.Normal.{IsContainer, IsPartWritten, IsWritten}
 
 -- no type's text begins another's
 abbrev pub NoTypeBeginsAnother : Type 0
@@ -63,3 +65,12 @@ ChildrenLieWithin = (t : Ty) (b : List ℕ) (i : ℕ) (c : Child) → slice_get 
 -- what lies in a value where children are followed is the value of what lies there in its bytes
 abbrev pub EveryPartIsRead : Type 0
 EveryPartIsRead = (p : Part) (is : List ℕ) → subtree_at (decode p.0 p.1) is ≡ option_map (λ q. decode q.0 q.1) (part_at p is)
+
+-- what is written for a value of a type is read as that value
+abbrev pub WrittenReadsBack : Type 0
+WrittenReadsBack = (t : Ty) (v : Tree) → HasType v t → decode t (encode v) ≡ v
+
+-- a container's bytes are written so exactly where its parts' are, and they are packed of these
+abbrev pub ContainerIsPacked : Type 0
+ContainerIsPacked = (t : Ty) (b : List ℕ) → AllByRecursion (λ x. x < 256) b → IsContainer t
+    → IsWritten t b ↔ (AllByRecursion IsPartWritten (parts t b) × (b ≡ packed t (parts t b)))

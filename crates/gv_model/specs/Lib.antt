@@ -14,6 +14,8 @@ pub mod Variants
 pub mod Decode
 pub mod Parts
 pub mod Entries
+pub mod Encode
+pub mod Normal
 pub mod Quoted
 pub mod Printed
 pub mod Laws

@@ -3,7 +3,7 @@
 //! computed when the functions are called, and nothing fails.
 #![tactic(auto)]
 
-ghost use Rattle.gv_model.specs.Laws.{NoTypeBeginsAnother, HasTypeWhereSpelled, EmptyReadsAsDefault, ReadsAtType, IsReading, IsOnlyReading, HasChildrenOfCut, ChildIsRead, FaultsAreOfNoType, HasOneFault, ChildrenLieWithin, EveryPartIsRead};
+ghost use Rattle.gv_model.specs.Laws.{WrittenReadsBack, ContainerIsPacked, NoTypeBeginsAnother, HasTypeWhereSpelled, EmptyReadsAsDefault, ReadsAtType, IsReading, IsOnlyReading, HasChildrenOfCut, ChildIsRead, FaultsAreOfNoType, HasOneFault, ChildrenLieWithin, EveryPartIsRead};
 ghost use Rattle.gv_model.specs.Decode.{decode};
 
 /// No type's text begins another's, so a sequence of types is read in one way only.
@@ -58,4 +58,15 @@ pub fn reads_at_type()
 /// No bytes read as the default of every type.
 pub fn empty_reads_as_default()
     ensures { EmptyReadsAsDefault }
+{}
+
+/// What is written for a value of a type is read back as that value.
+pub fn written_reads_back()
+    ensures { WrittenReadsBack }
+{}
+
+/// A container's bytes are what is written for its value exactly where each child's are, and the container is packed of
+/// its children's.
+pub fn container_is_packed()
+    ensures { ContainerIsPacked }
 {}

@@ -50,6 +50,14 @@ impl<'a> TypeStr<'a> {
         }
     }
 
+    /// Takes a text that is known to be one type. It looks at no byte.
+    pub fn of_checked(text: &'a str) -> TypeStr<'a>
+        requires { IsTrue (is_type text.now) }
+        ensures { text_of result ≡ text.entry.now }
+    {
+        TypeStr { text }
+    }
+
     /// The text itself. It looks at no byte.
     pub fn as_str(self) -> &'a str
         ensures text { result.now ≡ text_of self.entry }

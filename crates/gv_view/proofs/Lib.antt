@@ -8,3 +8,7 @@ pub mod PartLemmas
 pub mod ChildPlaces
 pub mod TreeParts
 pub mod EntryLemmas
+pub mod Counts
+pub mod PartValues
+pub mod BasicCopies
+pub mod Copies

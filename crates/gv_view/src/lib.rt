@@ -6,13 +6,17 @@
 #![tactic(auto)]
 
 mod children;
+mod copy;
+mod count;
 mod entry;
 mod number;
+mod owned;
 mod parts;
 mod text;
 mod variant;
 mod view;
 
 pub use children::Children;
+pub use owned::ViewFault;
 pub use parts::parts_are_lent;
 pub use view::View;

@@ -10,7 +10,7 @@ ghost use Rattle.dconf_cli.specs.Streams.{NoneFailed, one_more};
 
 use crate::answer::{Answer, refused};
 use crate::folder::{Folder, FolderFault};
-use crate::print::{PrintFault, print};
+use gv_text::{PrintFault, print};
 use gv_types::TypeStr;
 use gv_view::View;
 use std::alloc::Global;

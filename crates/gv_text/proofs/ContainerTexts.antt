@@ -1,0 +1,166 @@
+-- The texts of variants, tuples and entries, and what the text of a container rests on.
+use Rattle.std.proofs.Common.{◌≡◌, ◌++◌, List, Bool, true, false, Result, MatchResult, refl, sym, ap, ◌∙◌, append-nil, append_assoc}
+use Rattle.std.specs.Prelude.{ℕ, codes}
+use Rattle.std.proofs.lemmas.Result.{MatchResult-weaker}
+use Rattle.gv_model.specs.Ty.{Ty}
+use Rattle.gv_model.specs.Ty.Ty.{basic, variant, array, maybe, tuple, entry}
+use Rattle.gv_model.specs.Tree.{Tree, Trees, children}
+use Rattle.gv_model.specs.Tree.Tree.{node}
+use Rattle.gv_model.specs.Decode.{decode}
+use Rattle.gv_model.specs.Quoted.{between}
+use Rattle.gv_model.specs.Printed.{Text, comma, holds_double, hold_double, joined, text_of, tuple_text, when}
+use Rattle.gv_types.specs.Classes.{class_of, basic_type}
+use Rattle.gv_types.specs.declared.class.BasicType.{BasicType}
+use Rattle.gv_types.specs.declared.class.Class.TheVariants as classes
+use Rattle.gv_text.specs.declared.printing.PrintFault.{PrintFault}
+use Rattle.gv_text.specs.Printing.{AreFaultOf, IsElementFault, child_texts}
+use Rattle.gv_text.proofs.Containers.{IsContainer, doubles_in, fault_of_children, value_node}
+use Rattle.gv_text.proofs.Figures.{of_basic}
+
+-- ---- classes differ
+
+pub basic_no_entry : (k : BasicType) → classes.Basic k ≡ classes.Entry → ⊥
+basic_no_entry k e = cc
+
+pub array_no_entry : classes.Array ≡ classes.Entry → ⊥
+array_no_entry e = cc
+
+pub maybe_no_entry : classes.Maybe ≡ classes.Entry → ⊥
+maybe_no_entry e = cc
+
+pub tuple_no_entry : classes.Tuple ≡ classes.Entry → ⊥
+tuple_no_entry e = cc
+
+contained : (t : Ty) → ((k : BasicType) → class_of t ≡ classes.Basic k → ⊥) → IsContainer t
+contained (basic k) h = h (basic_type k) refl
+contained variant h = tt
+contained (array t) h = tt
+contained (maybe t) h = tt
+contained (tuple ts) h = tt
+contained (entry k t) h = tt
+
+-- the doubles of a container are those of its children
+doubles_by_class : (t : Ty) (b : List ℕ) → ((k : BasicType) → class_of t ≡ classes.Basic k → ⊥) → holds_double (decode t b) ≡ hold_double (children (decode t b))
+doubles_by_class t b h = doubles_in t b (contained t h)
+
+pub variant_doubles : (t : Ty) (b : List ℕ) → class_of t ≡ classes.Variant → holds_double (decode t b) ≡ hold_double (children (decode t b))
+variant_doubles t b h = doubles_by_class t b (λ k e. absurd cc)
+
+pub array_doubles : (t : Ty) (b : List ℕ) → class_of t ≡ classes.Array → holds_double (decode t b) ≡ hold_double (children (decode t b))
+array_doubles t b h = doubles_by_class t b (λ k e. absurd cc)
+
+pub tuple_doubles : (t : Ty) (b : List ℕ) → class_of t ≡ classes.Tuple → holds_double (decode t b) ≡ hold_double (children (decode t b))
+tuple_doubles t b h = doubles_by_class t b (λ k e. absurd cc)
+
+pub entry_doubles : (t : Ty) (b : List ℕ) → class_of t ≡ classes.Entry → holds_double (decode t b) ≡ hold_double (children (decode t b))
+entry_doubles t b h = doubles_by_class t b (λ k e. absurd cc)
+
+-- ---- variants
+
+variant_node : (vs : Trees) (annotated in_array : Bool) → text_of (node variant vs) annotated in_array ≡ between 60 (joined comma (child_texts vs true false)) 62
+unfolding text_of
+variant_node vs annotated in_array = refl
+
+pub variant_text : (t : Ty) (b : List ℕ) (annotated in_array : Bool) → class_of t ≡ classes.Variant → text_of (decode t b) annotated in_array ≡ between 60 (joined comma (child_texts (children (decode t b)) true false)) 62
+variant_text variant b annotated in_array h = ap (λ v. text_of v annotated in_array) (value_node variant b tt) ∙ variant_node (children (decode variant b)) annotated in_array
+variant_text (basic k) b annotated in_array h = absurd cc
+variant_text (array t) b annotated in_array h = absurd cc
+variant_text (maybe t) b annotated in_array h = absurd cc
+variant_text (tuple ts) b annotated in_array h = absurd cc
+variant_text (entry k t) b annotated in_array h = absurd cc
+
+-- it is always annotated
+pub variant_alike : (t : Ty) (b : List ℕ) (annotated in_array : Bool) → class_of t ≡ classes.Variant → text_of (decode t b) true false ≡ text_of (decode t b) annotated in_array
+variant_alike t b annotated in_array h = variant_text t b true false h ∙ sym (variant_text t b annotated in_array h)
+
+-- ---- tuples
+
+tuple_node : (t : Ty) (vs : Trees) (annotated : Bool) → class_of t ≡ classes.Tuple → text_of (node t vs) annotated false ≡ tuple_text (child_texts vs annotated false)
+unfolding text_of
+tuple_node (tuple ts) vs annotated h = refl
+tuple_node (basic k) vs annotated h = absurd cc
+tuple_node variant vs annotated h = absurd cc
+tuple_node (array t) vs annotated h = absurd cc
+tuple_node (maybe t) vs annotated h = absurd cc
+tuple_node (entry k t) vs annotated h = absurd cc
+
+pub tuple_text_of : (t : Ty) (b : List ℕ) (annotated : Bool) → class_of t ≡ classes.Tuple → text_of (decode t b) annotated false ≡ tuple_text (child_texts (children (decode t b)) annotated false)
+tuple_text_of t b annotated h =
+    ap (λ v. text_of v annotated false) (value_node t b (contained t (λ k e. absurd cc))) ∙ tuple_node t (children (decode t b)) annotated h
+
+-- ---- entries
+
+alone_node : (t : Ty) (vs : Trees) (annotated : Bool) → class_of t ≡ classes.Entry → text_of (node t vs) annotated false ≡ between 123 (joined comma (child_texts vs annotated false)) 125
+unfolding text_of
+alone_node (entry k t) vs annotated h = refl
+alone_node (basic k) vs annotated h = absurd cc
+alone_node variant vs annotated h = absurd cc
+alone_node (array t) vs annotated h = absurd cc
+alone_node (maybe t) vs annotated h = absurd cc
+alone_node (tuple ts) vs annotated h = absurd cc
+
+element_node : (t : Ty) (vs : Trees) (annotated : Bool) → class_of t ≡ classes.Entry → text_of (node t vs) annotated true ≡ joined (codes ": ") (child_texts vs annotated false)
+unfolding text_of
+element_node (entry k t) vs annotated h = refl
+element_node (basic k) vs annotated h = absurd cc
+element_node variant vs annotated h = absurd cc
+element_node (array t) vs annotated h = absurd cc
+element_node (maybe t) vs annotated h = absurd cc
+element_node (tuple ts) vs annotated h = absurd cc
+
+pub entry_alone : (t : Ty) (b : List ℕ) (annotated : Bool) → class_of t ≡ classes.Entry → text_of (decode t b) annotated false ≡ between 123 (joined comma (child_texts (children (decode t b)) annotated false)) 125
+entry_alone t b annotated h =
+    ap (λ v. text_of v annotated false) (value_node t b (contained t (λ k e. absurd cc))) ∙ alone_node t (children (decode t b)) annotated h
+
+pub entry_in_array : (t : Ty) (b : List ℕ) (annotated : Bool) → class_of t ≡ classes.Entry → text_of (decode t b) annotated true ≡ joined (codes ": ") (child_texts (children (decode t b)) annotated false)
+entry_in_array t b annotated h =
+    ap (λ v. text_of v annotated true) (value_node t b (contained t (λ k e. absurd cc))) ∙ element_node t (children (decode t b)) annotated h
+
+-- ---- only an entry is printed otherwise in an array
+
+same_node : (t : Ty) (vs : Trees) (annotated in_array : Bool) → (class_of t ≡ classes.Entry → ⊥) → text_of (node t vs) annotated in_array ≡ text_of (node t vs) annotated false
+unfolding text_of
+same_node (entry k t) vs annotated in_array h = absurd (h refl)
+same_node (basic k) vs annotated in_array h = refl
+same_node variant vs annotated in_array h = refl
+same_node (array t) vs annotated in_array h = refl
+same_node (maybe t) vs annotated in_array h = refl
+same_node (tuple ts) vs annotated in_array h = refl
+
+same_container : (t : Ty) (b : List ℕ) (annotated in_array : Bool) → IsContainer t → (class_of t ≡ classes.Entry → ⊥) → text_of (decode t b) annotated false ≡ text_of (decode t b) annotated in_array
+same_container t b annotated in_array c h =
+    let is = value_node t b c in
+    ap (λ v. text_of v annotated false) is ∙ (sym (same_node t (children (decode t b)) annotated in_array h) ∙ ap (λ v. text_of v annotated in_array) (sym is))
+
+pub same_in_array : (t : Ty) (b : List ℕ) (annotated in_array : Bool) → (class_of t ≡ classes.Entry → ⊥) → text_of (decode t b) annotated false ≡ text_of (decode t b) annotated in_array
+same_in_array (basic k) b annotated in_array h = let is = of_basic (basic k) k b refl in is.text annotated false ∙ sym (is.text annotated in_array)
+same_in_array variant b annotated in_array h = same_container variant b annotated in_array tt h
+same_in_array (array t) b annotated in_array h = same_container (array t) b annotated in_array tt h
+same_in_array (maybe t) b annotated in_array h = same_container (maybe t) b annotated in_array tt h
+same_in_array (tuple ts) b annotated in_array h = same_container (tuple ts) b annotated in_array tt h
+same_in_array (entry k t) b annotated in_array h = absurd (h refl)
+
+-- ---- what the code wrote
+
+-- v is written as r, or refused
+abbrev pub IsWritten : {X : Type 0} → Result X PrintFault → Tree → Text → Text → Text → Type 0
+IsWritten result v r old new = MatchResult result (λ _. (holds_double v ≡ false) × (new ≡ old ++ r)) (IsElementFault v)
+
+pub written_as : {X : Type 0} (result : Result X PrintFault) (v : Tree) (s r old new : Text) → s ≡ r → IsWritten result v s old new → IsWritten result v r old new
+written_as result v s r old new same h = MatchResult-weaker result h (λ x p. (p.0, p.1 ∙ ap (λ (l : Text). old ++ l) same)) (λ e q. q)
+
+pub written_by_children : {X : Type 0} (result : Result X PrintFault) (v : Tree) (s r old new : Text) → holds_double v ≡ hold_double (children v) → s ≡ r
+    → MatchResult result (λ _. (hold_double (children v) ≡ false) × (new ≡ old ++ s)) (AreFaultOf (children v)) → IsWritten result v r old new
+written_by_children result v s r old new doubles same h =
+    MatchResult-weaker result h (λ x p. (doubles ∙ p.0, p.1 ∙ ap (λ (l : Text). old ++ l) same)) (λ e q. fault_of_children v e doubles q)
+
+-- a mark that is wanted is written, another left out
+pub wanted_mark : (wanted : Bool) (mark old new : Text) → wanted ≡ true → new ≡ old ++ mark → new ≡ old ++ when wanted mark
+wanted_mark wanted mark old new h wrote = wrote ∙ ap (λ b. old ++ when b mark) (sym h)
+
+pub unwanted_mark : (wanted : Bool) (mark old : Text) → wanted ≡ false → old ≡ old ++ when wanted mark
+unwanted_mark wanted mark old h = sym (append-nil old) ∙ ap (λ b. old ++ when b mark) (sym h)
+
+-- a text behind its mark
+pub marked_text : (s r mark old mid new : Text) → r ≡ mark ++ s → mid ≡ old ++ mark → new ≡ mid ++ s → new ≡ old ++ r
+marked_text s r mark old mid new text marks wrote = wrote ∙ (ap (λ (l : Text). l ++ s) marks ∙ (append_assoc old mark s ∙ ap (λ (l : Text). old ++ l) (sym text)))

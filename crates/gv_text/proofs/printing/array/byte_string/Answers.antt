@@ -1,0 +1,19 @@
+use Rattle.std.proofs.Common.{sym, ap, ◌∙◌}
+use Rattle.std.specs.Prelude.{option_map}
+use Rattle.gv_model.specs.BasicValue.{text_in}
+use Rattle.gv_view.specs.Views.{value, view_ty, view_bytes}
+use Rattle.gv_text.specs.Printing.{byte_string_of}
+use Rattle.gv_text.proofs.ArrayTexts.{no_byte_string, numbers-byte_trees, value_bytes_plain}
+use Rattle.gv_text.proofs.Trivia.{false_true, if_some}
+use Rattle.gv_text.proofs.printing.array.byte_string.Goals as goal
+
+pub returns-in_err-as_bytes-clause-text : goal.returns-in_err-as_bytes-clause-text
+returns-in_err-as_bytes-clause-text c =
+    ap (option_map (λ b. b.now)) c.from_residual.ensures ∙ sym (no_byte_string (view_ty c.args.view) (view_bytes c.args.view) (λ e. false_true (c.in_err-as_bytes.ensures.some.1 e)))
+
+pub returns-clause-text : goal.returns-clause-text
+returns-clause-text c =
+    c.byte_string_body.ensures ∙ (sym (ap text_in (numbers-byte_trees c.in_ok-as_bytes.field-0.now)) ∙ sym (ap byte_string_of c.in_ok-as_bytes.ensures.value))
+
+pub returns-clause-plain : goal.returns-clause-plain
+returns-clause-plain c = if_some c.byte_string_body.result (value_bytes_plain (value c.args.view) c.in_ok-as_bytes.field-0.now c.in_ok-as_bytes.ensures.value)

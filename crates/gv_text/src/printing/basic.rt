@@ -1,0 +1,88 @@
+//! Values of basic types as text (GLib, "GVariant Text Format": "Numbers" and "Strings").
+ghost use Rattle.std.specs.Prelude.{◌≡◌, ◌++◌, false, MatchResult, OnOk, string_bytes};
+ghost use Rattle.gv_model.specs.Ty.{Ty.basic};
+ghost use Rattle.gv_model.specs.Printed.{word, hex_byte, text_of, holds_double};
+ghost use Rattle.gv_types.specs.Classes.{basic_of};
+ghost use Rattle.gv_view.specs.Views.{value, view_ty};
+ghost use Rattle.gv_text.specs.Printing.{IsElementFault, figures_of};
+
+use super::PrintFault;
+use super::quoted::{digit, push_quoted};
+use gv_types::{BasicType, Class};
+use gv_view::View;
+use std::alloc::AllocError;
+
+/// The word before a value of this type that is annotated.
+fn word(of: BasicType) -> &'static str
+    ensures { result.now ≡ word (basic_of of) }
+{
+    match of {
+        BasicType::Byte => "byte ",
+        BasicType::Int16 => "int16 ",
+        BasicType::Uint16 => "uint16 ",
+        BasicType::Uint32 => "uint32 ",
+        BasicType::Int64 => "int64 ",
+        BasicType::Uint64 => "uint64 ",
+        BasicType::Handle => "handle ",
+        BasicType::ObjectPath => "objectpath ",
+        BasicType::Signature => "signature ",
+        BasicType::Boolean | BasicType::Int32 | BasicType::Double | BasicType::Text => "",
+    }
+}
+
+fn push_hex_byte(to: &mut String, byte: u8) -> Result<(), AllocError>
+    ensures { OnOk result (string_bytes to.new ≡ string_bytes to.old ++ hex_byte byte) }
+{
+    to.push_str("0x")?;
+    to.push(digit(byte / 16))?;
+    to.push(digit(byte % 16))
+}
+
+/// Writes a value of a basic type, after its type's word if it is annotated.
+pub(crate) fn push_basic(
+    to: &mut String,
+    view: View<'_>,
+    of: BasicType,
+    annotated: bool,
+) -> Result<(), PrintFault>
+    requires { view_ty view ≡ basic (basic_of of) }
+    ensures { MatchResult result
+        (λ _. (holds_double (value view.entry) ≡ false)
+        × (string_bytes to.new ≡ string_bytes to.old ++ text_of (value view.entry) annotated false))
+        (IsElementFault (value view.entry)) }
+{
+    if annotated {
+        to.push_str(word(of))?;
+    }
+    push_figures(to, view, of)
+}
+
+/// Writes a value of a basic type without its type's word.
+fn push_figures(to: &mut String, view: View<'_>, of: BasicType) -> Result<(), PrintFault>
+    requires { view_ty view ≡ basic (basic_of of) }
+    ensures { MatchResult result
+        (λ _. (holds_double (value view.entry) ≡ false)
+        × (string_bytes to.new ≡ string_bytes to.old ++ figures_of (value view.entry)))
+        (IsElementFault (value view.entry)) }
+{
+    match of {
+        BasicType::Boolean => to.push_str(if view.as_bool().unwrap() {
+            "true"
+        } else {
+            "false"
+        })?,
+        BasicType::Byte => push_hex_byte(to, view.as_u8().unwrap())?,
+        BasicType::Int16 => write!(to, "{}", view.as_i16().unwrap())?,
+        BasicType::Uint16 => write!(to, "{}", view.as_u16().unwrap())?,
+        BasicType::Int32 => write!(to, "{}", view.as_i32().unwrap())?,
+        BasicType::Uint32 => write!(to, "{}", view.as_u32().unwrap())?,
+        BasicType::Int64 => write!(to, "{}", view.as_i64().unwrap())?,
+        BasicType::Uint64 => write!(to, "{}", view.as_u64().unwrap())?,
+        BasicType::Handle => write!(to, "{}", view.as_handle().unwrap())?,
+        BasicType::Text | BasicType::ObjectPath | BasicType::Signature => {
+            push_quoted(to, view.as_str().unwrap())?
+        }
+        BasicType::Double => return Err(PrintFault::DoubleText),
+    }
+    Ok(())
+}

@@ -1,0 +1,62 @@
+//! The children of a container as text, one after the other.
+ghost use Rattle.std.specs.Prelude.{◌≡◌, ◌<◌, ◌≤◌, ◌++◌, false, MatchResult, string_bytes};
+ghost use Rattle.gv_model.specs.Tree.{children, depth};
+ghost use Rattle.gv_model.specs.Printed.{comma, joined, hold_double};
+ghost use Rattle.gv_model.specs.Quoted.{between};
+ghost use Rattle.gv_view.specs.Views.{value};
+ghost use Rattle.gv_text.specs.Printing.{AreFaultOf, child_texts};
+
+use super::{PrintFault, push_value};
+use gv_view::View;
+
+/// Writes a value's children with commas between them, in brackets.
+#[cycle(values)]
+pub(super) fn push_between(
+    to: &mut String,
+    view: View<'_>,
+    brackets: (char, char),
+    annotated: bool,
+    in_array: bool,
+) -> Result<(), PrintFault>
+    requires left { brackets.0 < 128 }
+    requires right { brackets.1 < 128 }
+    requires shallow { depth (value view) ≤ 128 }
+    ensures { MatchResult result
+        (λ _. (hold_double (children (value view.entry)) ≡ false)
+        × (string_bytes to.new ≡ string_bytes to.old
+        ++ between brackets.0 (joined comma (child_texts (children (value view.entry)) annotated in_array)) brackets.1))
+        (AreFaultOf (children (value view.entry))) }
+{
+    to.push(brackets.0)?;
+    push_children(to, view, ", ", annotated, in_array)?;
+    to.push(brackets.1)?;
+    Ok(())
+}
+
+/// Writes a value's children with `mark` between them. Of elements of an array only the first is annotated.
+#[cycle(values)]
+pub(super) fn push_children(
+    to: &mut String,
+    view: View<'_>,
+    mark: &str,
+    annotated: bool,
+    in_array: bool,
+) -> Result<(), PrintFault>
+    requires { depth (value view) ≤ 128 }
+    ensures { MatchResult result
+        (λ _. (hold_double (children (value view.entry)) ≡ false)
+        × (string_bytes to.new ≡ string_bytes to.old
+        ++ joined mark.now (child_texts (children (value view.entry)) annotated in_array)))
+        (AreFaultOf (children (value view.entry))) }
+{
+    let mut children = view.children();
+    let Some(first) = children.next() else {
+        return Ok(());
+    };
+    push_value(to, first, annotated, in_array)?;
+    for child in children {
+        to.push_str(mark)?;
+        push_value(to, child, annotated && !in_array, in_array)?;
+    }
+    Ok(())
+}

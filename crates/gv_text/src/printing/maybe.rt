@@ -1,0 +1,63 @@
+//! Maybes as text (GLib, "GVariant Text Format": "Maybe Types").
+//!
+//! Levels of Just around a value are not written, and those around Nothing are, each as `just `. The type that
+//! stands before an annotated maybe says the rest, so that nothing inside is annotated.
+ghost use Rattle.std.specs.Prelude.{◌≡◌, ◌<◌, ◌≤◌, ◌++◌, true, false, MatchOption, MatchResult, OnOk, string_bytes};
+ghost use Rattle.gv_model.specs.Tree.{depth};
+ghost use Rattle.gv_model.specs.Printed.{text_of, holds_double, ends_in_nothing};
+ghost use Rattle.gv_types.specs.Classes.{class_of};
+ghost use Rattle.gv_types.specs.declared.class.Class.TheVariants.{Maybe};
+ghost use Rattle.gv_view.specs.Views.{value, view_ty};
+ghost use Rattle.gv_text.specs.Printing.{IsElementFault, IsNothing, IsWithin};
+
+use super::type_mark::push_type_mark;
+use super::{PrintFault, push_value};
+use gv_types::Class;
+use gv_view::View;
+use std::alloc::AllocError;
+
+/// Writes a maybe.
+#[cycle(values)]
+pub(super) fn push_maybe(to: &mut String, view: View<'_>, annotated: bool) -> Result<(), PrintFault>
+    requires kind { class_of (view_ty view) ≡ Maybe }
+    requires shallow { depth (value view) ≤ 128 }
+    ensures { MatchResult result
+        (λ _. (holds_double (value view.entry) ≡ false)
+        × (string_bytes to.new ≡ string_bytes to.old ++ text_of (value view.entry) annotated false))
+        (IsElementFault (value view.entry)) }
+{
+    if annotated {
+        push_type_mark(to, view.type_str())?;
+    }
+    match innermost(view) {
+        Some(inner) => push_value(to, inner, false, false),
+        None => Ok(push_nothing(to, view)?),
+    }
+}
+
+/// The value inside all levels of Just, or None where they end in Nothing.
+fn innermost<'a>(view: View<'a>) -> Option<View<'a>>
+    requires { class_of (view_ty view) ≡ Maybe }
+    ensures { MatchOption result (IsNothing (value view.entry))
+        (λ inner. IsWithin (value view.entry) (value inner)) }
+{
+    let mut inner = view;
+    while let Class::Maybe = inner.type_str().class() {
+        inner = inner.child(0)?;
+    }
+    Some(inner)
+}
+
+/// Writes Nothing, and before it `just ` for each level of Just around it.
+fn push_nothing(to: &mut String, view: View<'_>) -> Result<(), AllocError>
+    requires { ends_in_nothing (value view) ≡ true }
+    ensures { OnOk result (string_bytes to.new ≡ string_bytes to.old ++ text_of (value view.entry) false false) }
+{
+    let mut level = view;
+    while let Some(child) = level.child(0) {
+        to.push_str("just ")?;
+        level = child;
+    }
+    to.push_str("nothing")?;
+    Ok(())
+}

@@ -1,0 +1,25 @@
+//! Variants as text (GLib, "GVariant Text Format": "Variants"): the child in angle brackets, always annotated.
+ghost use Rattle.std.specs.Prelude.{◌≡◌, ◌≤◌, ◌++◌, true, false, MatchResult, string_bytes};
+ghost use Rattle.gv_model.specs.Tree.{depth};
+ghost use Rattle.gv_model.specs.Printed.{text_of, holds_double};
+ghost use Rattle.gv_types.specs.Classes.{class_of};
+ghost use Rattle.gv_types.specs.declared.class.Class.TheVariants.{Variant};
+ghost use Rattle.gv_view.specs.Views.{value, view_ty};
+ghost use Rattle.gv_text.specs.Printing.{IsElementFault};
+
+use super::PrintFault;
+use super::children::push_between;
+use gv_view::View;
+
+/// Writes a variant.
+#[cycle(values)]
+pub(super) fn push_variant(to: &mut String, view: View<'_>) -> Result<(), PrintFault>
+    requires kind { class_of (view_ty view) ≡ Variant }
+    requires shallow { depth (value view) ≤ 128 }
+    ensures { MatchResult result
+        (λ _. (holds_double (value view.entry) ≡ false)
+        × (string_bytes to.new ≡ string_bytes to.old ++ text_of (value view.entry) true false))
+        (IsElementFault (value view.entry)) }
+{
+    push_between(to, view, ('<', '>'), true, false)
+}

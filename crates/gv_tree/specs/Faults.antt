@@ -1,0 +1,64 @@
+-- Why a tree is not made.
+use Rattle.std.specs.Prelude.{◌≡◌, ◌≢◌, ◌≤◌, ◌<◌, ◌⊎◌, ℕ, zero, suc, List, length, Bool, true, false, Option, Some, None, ◌==◌}
+use Rattle.std.specs.List.{list_any}
+use Rattle.gv_model.specs.Ty.{Ty, Basic, spelling, nesting}
+use Rattle.gv_model.specs.Ty.Basic.{path, signature}
+use Rattle.gv_model.specs.Texts.{is_path, is_signature}
+use Rattle.gv_model.specs.Tree.{Tree, Trees, type_of, children, depth}
+use Rattle.gv_model.specs.Tree.Tree.{text}
+use Rattle.gv_model.specs.Tree.Trees.{none, first}
+use Rattle.gv_model.specs.Typed.{AllOf}
+use Rattle.gv_tree.specs.declared.fault.TreeFault.{TreeFault}
+use Rattle.gv_tree.specs.declared.fault.TreeFault.TheVariants.{HasNul, BadObjectPath, BadSignature, WrongType, KeyNotBasic, TooDeep, TooLarge, Memory}
+
+abbrev pub has_zero : List ℕ → Bool
+has_zero s = list_any (λ c. c == 0) s
+
+-- a text without a zero byte that isn't allowed at its type
+pub record IsBadText (is : Basic) (good : Bool) (k : Basic) (s : List ℕ) : Type 0 where
+  pub type : k ≡ is
+  pub no_zero : has_zero s ≡ false
+  pub bad : good ≡ false
+
+abbrev pub IsTextFault : Basic → List ℕ → TreeFault → Type 0
+IsTextFault k s HasNul = has_zero s ≡ true
+IsTextFault k s BadObjectPath = IsBadText path (is_path s) k s
+IsTextFault k s BadSignature = IsBadText signature (is_signature s) k s
+IsTextFault k s _ = ⊥
+
+-- a number is never refused
+abbrev pub IsBasicFault : Tree → TreeFault → Type 0
+IsBasicFault (text k s) fault = IsTextFault k s fault
+IsBasicFault _ fault = ⊥
+
+abbrev pub IsTooDeep : Tree → Type 0
+IsTooDeep v = (128 < depth v) ⊎ (128 < nesting (type_of v))
+
+pub record IsTooLarge (v : Tree) : Type 0 where
+  pub levels : depth v ≤ 128
+  pub type_levels : nesting (type_of v) ≤ 128
+  pub long : 67108864 < length (spelling (type_of v))
+
+-- why a container that is a value of its type isn't made
+abbrev pub IsSizeFault : Tree → TreeFault → Type 0
+IsSizeFault v TooDeep = IsTooDeep v
+IsSizeFault v TooLarge = IsTooLarge v
+IsSizeFault v Memory = Unit {0}
+IsSizeFault v _ = ⊥
+
+-- the tree at this index is the first of another type
+abbrev pub IsFirstOther : Ty → Trees → ℕ → Type 0
+IsFirstOther t none i = ⊥
+IsFirstOther t (first v vs) zero = type_of v ≢ t
+IsFirstOther t (first v vs) (suc i) = (type_of v ≡ t) × IsFirstOther t vs i
+
+-- why a container whose children are to be of type t isn't made
+abbrev pub IsContentFault : Ty → Tree → TreeFault → Type 0
+IsContentFault t v (WrongType i) = IsFirstOther t (children v) i
+IsContentFault t v fault = AllOf t (children v) × IsSizeFault v fault
+
+-- why an entry isn't made, if its key is basic
+abbrev pub IsEntryFault : Option Tree → TreeFault → Type 0
+IsEntryFault None KeyNotBasic = Unit {0}
+IsEntryFault None _ = ⊥
+IsEntryFault (Some v) fault = IsSizeFault v fault

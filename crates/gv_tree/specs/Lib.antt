@@ -1,0 +1,10 @@
+pub mod Basics
+pub mod Codes
+pub mod Nodes
+pub mod Falls
+pub mod Wholes
+pub mod Kept
+pub mod Shapes
+pub mod Faults
+pub mod FaultTexts
+pub mod Sums

@@ -1,0 +1,35 @@
+//! Copies of trees.
+ghost use Rattle.std.specs.Prelude.{◌≡◌, IfOk, IfErr};
+ghost use Rattle.gv_tree.specs.declared.fault.TreeFault.TheVariants.{Memory};
+
+use crate::fault::TreeFault;
+use crate::tree::{Node, Tree};
+use std::alloc::Global;
+
+impl Tree {
+    /// A copy of the whole tree. It fails for want of memory alone.
+    ///
+    /// It takes time linear in the tree.
+    pub fn try_copy(&self, alloc: Global) -> Result<Tree, TreeFault>
+        ensures copy { IfOk result (λ t. t ≡ self.now) }
+        ensures fault { IfErr result (λ e. e ≡ Memory) }
+    {
+        let node = match &self.node {
+            Node::Basic(value) => Node::Basic(value.try_copy(alloc)?),
+            Node::Container(text, children) => {
+                let text = String::from_str(alloc, text.as_str())?;
+                let mut copies = Vec::with_capacity(alloc, children.len())?;
+                for child in children {
+                    copies.push(child.try_copy(alloc)?)?;
+                }
+                Node::Container(text, copies)
+            }
+        };
+        Ok(Tree {
+            node,
+            levels: self.levels,
+            type_levels: self.type_levels,
+            values: self.values,
+        })
+    }
+}

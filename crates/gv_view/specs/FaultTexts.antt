@@ -1,0 +1,8 @@
+-- How a fault is printed.
+use Rattle.std.specs.Prelude.{ℕ, List, codes}
+use Rattle.gv_view.specs.declared.owned.ViewFault.{ViewFault}
+use Rattle.gv_view.specs.declared.owned.ViewFault.TheVariants.{TooLarge, Memory}
+
+abbrev pub fault_text : ViewFault → List ℕ
+fault_text TooLarge = codes "TooLarge"
+fault_text Memory = codes "Memory"

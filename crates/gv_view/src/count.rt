@@ -1,0 +1,61 @@
+//! How many values a value holds, and how deep they lie: more than 1,000,000 or deeper than 128 are too large to be
+//! copied or printed.
+ghost use Rattle.std.specs.Prelude.{◌≡◌};
+ghost use Rattle.gv_model.specs.Printed.{is_too_large};
+ghost use Rattle.gv_view.specs.Views.{value};
+ghost use Rattle.gv_view.specs.Counting.{left_after};
+
+use crate::view::View;
+
+/// The most values, a container and each value in it.
+const MOST_VALUES: u32 = 1_000_000;
+
+/// The most levels of values.
+const MOST_LEVELS: u8 = 128;
+
+impl<'a> View<'a> {
+    /// Whether the value and the values in it are more than 1,000,000, or more than 128 levels deep.
+    ///
+    /// It looks at no more than 1,000,000 values.
+    pub fn is_too_large(self) -> bool
+        ensures { result ≡ is_too_large (value self.entry) }
+    {
+        values_left(self, MOST_LEVELS, MOST_VALUES).is_none()
+    }
+}
+
+/// How many of these values are left behind the value and all in it, which has no more than these levels. None
+/// where there are too few of either.
+fn values_left(view: View<'_>, levels: u8, values: u32) -> Option<u32>
+    ensures { result ≡ left_after levels values (value view.entry) }
+{
+    if levels == 0 || values == 0 {
+        return None;
+    }
+    let mut left = values - 1;
+    for child in view.children() {
+        left = values_left(child, levels - 1, left)?;
+    }
+    Some(left)
+}
+
+#[cfg(test)]
+mod tests {
+    use super::*;
+    use gv_types::TypeStr;
+    use std::test::Fail;
+
+    #[test]
+    fn counts_levels(rt: HostRuntime) -> Result<(), Fail> {
+        let mut nested = Vec::from_slice(rt.alloc(), &[5, 0, 0, 0, 0, b'i'])?;
+        for _ in 1..127 {
+            nested.extend_from_slice(&[0, b'v'])?;
+        }
+        assert_eq!(rt; nested.len(), 258);
+        let variant = TypeStr::parse("v")?;
+        assert!(rt; !View::new(variant, &nested).is_too_large());
+        nested.extend_from_slice(&[0, b'v'])?;
+        assert!(rt; View::new(variant, &nested).is_too_large());
+        Ok(())
+    }
+}
