@@ -135,8 +135,8 @@ mod tests {
             makes(
                 alloc,
                 "d",
-                &minus,
-                Tree::basic(alloc, Basic::DoubleBits(minus))?
+                &[0, 0, 0, 0, 0, 0, 0xf0, 0x3f],
+                Tree::basic(alloc, Basic::DoubleBits([0, 0, 0, 0, 0, 0, 0xf0, 0x3f]))?
             )?
         );
         assert!(rt; makes(alloc, "s", b"hi\0", text(alloc, "hi")?)?);
