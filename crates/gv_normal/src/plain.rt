@@ -38,6 +38,14 @@ mod tests {
     use gv_types::TypeStr;
     use std::test::Fail;
 
+    /// Whether the view's bytes are normal, which are few.
+    fn is_normal(alloc: Global, view: View<'_>) -> Result<bool, NormalFault> {
+        if view.bytes().len() > 4_294_967_295 {
+            return Err(NormalFault::Memory);
+        }
+        is_normal_plain(alloc, view)
+    }
+
     #[test]
     fn tells_normal_bytes(rt: HostRuntime) -> Result<(), Fail> {
         let rows: [(&str, &[u8], bool); 15] = [
@@ -70,7 +78,7 @@ mod tests {
         for (text, bytes, normal) in rows {
             let view = View::new(TypeStr::parse(text)?, bytes);
             assert_eq!(rt;
-                is_normal_plain(rt.alloc(), view),
+                is_normal(rt.alloc(), view),
                 Ok(normal),
                 "{text} at {bytes:?}"
             );
@@ -83,15 +91,9 @@ mod tests {
         let mut bytes: Vec<u8> = vec![in rt.alloc(); b'x'; 253]?;
         bytes.extend_from_slice(&[0, 0xfe])?;
         let of = TypeStr::parse("as")?;
-        assert_eq!(rt;
-            is_normal_plain(rt.alloc(), View::new(of, &bytes)),
-            Ok(true)
-        );
+        assert_eq!(rt; is_normal(rt.alloc(), View::new(of, &bytes)), Ok(true));
         bytes.push(0)?;
-        assert_eq!(rt;
-            is_normal_plain(rt.alloc(), View::new(of, &bytes)),
-            Ok(false)
-        );
+        assert_eq!(rt; is_normal(rt.alloc(), View::new(of, &bytes)), Ok(false));
         Ok(())
     }
 
@@ -103,12 +105,12 @@ mod tests {
         }
         let variant = TypeStr::parse("v")?;
         assert_eq!(rt;
-            is_normal_plain(rt.alloc(), View::new(variant, &nested)),
+            is_normal(rt.alloc(), View::new(variant, &nested)),
             Ok(true)
         );
         nested.extend_from_slice(&[0, b'v'])?;
         assert_eq!(rt;
-            is_normal_plain(rt.alloc(), View::new(variant, &nested)),
+            is_normal(rt.alloc(), View::new(variant, &nested)),
             Ok(false)
         );
         Ok(())
@@ -122,10 +124,7 @@ mod tests {
             bytes.extend_from_slice(&[0, b'v'])?;
         }
         let deep = View::new(TypeStr::parse("v")?, &bytes);
-        assert_eq!(rt;
-            is_normal_plain(rt.alloc(), deep),
-            Err(NormalFault::TooLarge)
-        );
+        assert_eq!(rt; is_normal(rt.alloc(), deep), Err(NormalFault::TooLarge));
         Ok(())
     }
 }
