@@ -178,6 +178,39 @@ fn too_deep_is_refused(rt: HostRuntime) -> Result<(), Fail> {
     Ok(())
 }
 
+/// The text of a tuple of bytes, so many bytes long.
+fn tuple_text(alloc: Global, length: usize) -> Result<String, Fail> {
+    let mut text = String::with_capacity(alloc, length)?;
+    text.push('(')?;
+    for _ in 2..length {
+        text.push('y')?;
+    }
+    text.push(')')?;
+    Ok(text)
+}
+
+#[test]
+fn too_long_types_are_refused(rt: HostRuntime) -> Result<(), Fail> {
+    let alloc = rt.alloc();
+    let longest = tuple_text(alloc, 67_108_864)?;
+    let of = TypeStr::parse(longest.as_str())?;
+    let too_large = Some(TreeFault::TooLarge);
+    assert_eq!(rt; Tree::maybe(alloc, of, None).err(), too_large);
+    assert_eq!(rt; Tree::array(alloc, of, Vec::new(alloc)).err(), too_large);
+    let shorter = tuple_text(alloc, 67_108_863)?;
+    let nothing = Tree::maybe(alloc, TypeStr::parse(shorter.as_str())?, None)?;
+    assert_eq!(rt; nothing.type_text().as_str().len(), 67_108_864);
+    let copy = nothing.try_copy(alloc)?;
+    assert_eq!(rt; Tree::entry(alloc, int32(alloc, 5)?, copy).err(), too_large);
+    let copy = nothing.try_copy(alloc)?;
+    assert_eq!(rt;
+        Tree::tuple(alloc, Vec::from_array(alloc, [copy])?).err(),
+        too_large
+    );
+    assert_eq!(rt; Tree::variant(alloc, nothing)?.type_text().as_str(), "v");
+    Ok(())
+}
+
 #[test]
 fn equal_compares_types_and_bits(rt: HostRuntime) -> Result<(), Fail> {
     let alloc = rt.alloc();

@@ -6,6 +6,8 @@ mod containers;
 #[cfg(test)]
 mod limits;
 #[cfg(test)]
+mod owned;
+#[cfg(test)]
 mod runs;
 #[cfg(test)]
 mod show;
