@@ -60,10 +60,9 @@ fn normal_forms_of_other_bytes(rt: HostRuntime) -> Result<(), Fail> {
 #[test]
 fn doubles_are_lent_and_never_printed(rt: HostRuntime) -> Result<(), Fail> {
     let alloc = rt.alloc();
-    let bits = [0, 0, 0, 0, 0, 0, 0xf8, 0x3f];
-    let view = View::new(TypeStr::parse("d")?, &bits);
-    assert_eq!(rt; view.as_double_bits(), Some(bits));
-    assert!(rt; is_normal(alloc, "d", &bits)?);
+    let view = View::new(TypeStr::parse("d")?, &[0, 0, 0, 0, 0, 0, 0xf8, 0x3f]);
+    assert_eq!(rt; view.as_double_bits(), Some([0, 0, 0, 0, 0, 0, 0xf8, 0x3f]));
+    assert!(rt; is_normal(alloc, "d", view.bytes())?);
     assert_eq!(rt;
         print(alloc, view).err(),
         Some(gv_text::PrintFault::DoubleText)
