@@ -1,7 +1,9 @@
-//! What GVariant means: definitions of types, values, bytes and printed text in specs/, and their laws as
+//! What GVariant means: definitions of types, values, bytes and text in specs/, and their laws as
 //! functions with empty bodies, whose contracts are the laws. There is no program code here: nothing is
 //! computed when the functions are called, and nothing fails.
 #![tactic(auto)]
+
+pub mod text;
 
 ghost use Rattle.gv_model.specs.Laws.{WrittenReadsBack, ContainerIsPacked, NoTypeBeginsAnother, HasTypeWhereSpelled, EmptyReadsAsDefault, ReadsAtType, IsReading, IsOnlyReading, HasChildrenOfCut, ChildIsRead, FaultsAreOfNoType, HasOneFault, ChildrenLieWithin, EveryPartIsRead};
 ghost use Rattle.gv_model.specs.Decode.{decode};
