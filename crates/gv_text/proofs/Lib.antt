@@ -6,3 +6,11 @@ pub mod ContainerTexts
 pub mod ChildTexts
 pub mod ArrayTexts
 pub mod Maybes
+pub mod Lists
+pub mod QuotedLaws
+pub mod NumeralLaws
+pub mod EscapeLaws
+pub mod TokenSteps
+pub mod WordLaws
+pub mod TypeFronts
+pub mod TokenKinds

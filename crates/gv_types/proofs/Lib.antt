@@ -3,9 +3,10 @@ pub mod Letters
 pub mod ClassLaws
 pub mod Firsts
 pub mod MemberLaws
-pub mod Steps
+pub mod TypeSteps
 pub mod Stops
 pub mod Whole
 pub mod TypeLists
 pub mod Parts
 pub mod PathLaws
+pub mod FrontTypes

@@ -12,10 +12,10 @@ use Rattle.gv_types.specs.Reading.{Reads, StopsAt}
 use Rattle.gv_types.proofs.Firsts.{spelling_is_long}
 use Rattle.gv_types.proofs.Stops.{no_type_where_stopped}
 
-limits : (t : Ty) (w : List ℕ) → nesting t ≤ 128 → length w ≤ 67108864 → is_within_limits t w ≡ true
+pub limits : (t : Ty) (w : List ℕ) → nesting t ≤ 128 → length w ≤ 67108864 → is_within_limits t w ≡ true
 limits t w n l = grind arith
 
-within_limits : (t : Ty) (w : List ℕ) → is_within_limits t w ≡ true → (nesting t ≤ 128) × (length w ≤ 67108864)
+pub within_limits : (t : Ty) (w : List ℕ) → is_within_limits t w ≡ true → (nesting t ≤ 128) × (length w ≤ 67108864)
 within_limits t w h = (grind arith, grind arith)
 
 -- a text that is read to its end is a type's

@@ -1,7 +1,7 @@
 //! Texts of GVariant types, such as `a{sv}` and `(ii)`, checked once and then taken apart by slices.
 //!
 //! A [`TypeStr`] always holds the text of one type. No call takes memory, and none fails but
-//! [`TypeStr::parse`].
+//! [`TypeStr::parse`]. [`Steps`] counts the steps of a walk.
 #![tactic(auto)]
 
 mod class;
@@ -10,6 +10,7 @@ mod grammar;
 mod members;
 mod object_path;
 mod signature;
+mod steps;
 mod type_str;
 
 pub use class::{BasicType, Class};
@@ -17,4 +18,5 @@ pub use fault::TypeFault;
 pub use members::Members;
 pub use object_path::is_object_path;
 pub use signature::is_signature;
+pub use steps::Steps;
 pub use type_str::TypeStr;

@@ -1,8 +1,9 @@
 //! The text of one type.
-ghost use Rattle.std.specs.Prelude.{◌≡◌, ◌↔◌, ℕ, IfOk, IfErr, IsOk, IsTrue, option_map};
+ghost use Rattle.std.specs.Prelude.{◌≡◌, ◌↔◌, ℕ, [], IfOk, IfErr, IsOk, IsTrue, option_map};
 ghost use Rattle.gv_model.specs.Ty.{Basic, Ty.basic, spelling, members, listed};
 ghost use Rattle.gv_model.specs.TypeText.{is_type};
 ghost use Rattle.gv_model.specs.TypeFault.{IsFault};
+ghost use Rattle.gv_model.specs.Lexing.{type_in_front};
 ghost use Rattle.gv_types.specs.Classes.{class_of};
 ghost use Rattle.gv_types.specs.TypeFaults.{fault_of};
 
@@ -48,6 +49,22 @@ impl<'a> TypeStr<'a> {
             Ok(rest) => Err(TypeFault::Trailing(text.len() - rest.len())),
             Err(stop) => Err(stop.halt.at(text.len() - stop.rest.len())),
         }
+    }
+
+    /// The type that the front of a text spells, of at most 128 levels and 67,108,864 bytes, or None.
+    ///
+    /// There is one at most, since no type's text begins another's. It looks at each byte of the type once.
+    pub fn in_front(text: &'a str) -> Option<TypeStr<'a>>
+        ensures { option_map ty result ≡ type_in_front [] text.entry.now }
+    {
+        let Ok(rest) = after_type(text.as_bytes(), MAX_LEVELS) else {
+            return None;
+        };
+        let len = text.len() - rest.len();
+        if len > MAX_LEN {
+            return None;
+        }
+        Some(TypeStr { text: &text[..len] })
     }
 
     /// Takes a text that is known to be one type. It looks at no byte.

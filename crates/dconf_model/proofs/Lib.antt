@@ -1,0 +1,9 @@
+pub mod NameSteps
+pub mod ComputedNames
+pub mod RowLaws
+pub mod OpenLaws
+pub mod WorkedTables
+pub mod PathLaws
+pub mod WorkedPaths
+pub mod SoundLaws
+pub mod WorkedSound

@@ -1,0 +1,21 @@
+-- Numbers in the bytes of a file, and the hash of a name.
+-- GVDB, file version 0 (gvdb-format.h): numbers are little-endian.
+use Rattle.std.specs.Prelude.{ℕ, ◌+◌, ◌*◌, ◌-◌, ◌%◌, ◌^◌, List, fold, if◌then◌else◌, nat_lt, slice_range, slice_index}
+use Rattle.gv_model.specs.BasicValue.{number_in}
+
+-- the numbers of four bytes, of two and of one that stand at a place
+unfoldable pub u32_at : List ℕ → ℕ → ℕ
+u32_at file at = number_in (slice_range file at (at + 4))
+
+unfoldable pub u16_at : List ℕ → ℕ → ℕ
+u16_at file at = number_in (slice_range file at (at + 2))
+
+unfoldable pub u8_at : List ℕ → ℕ → ℕ
+u8_at file at = slice_index file at
+
+-- 33 times the hash so far, and the byte as a signed number, modulo 2^32
+abbrev pub hash_step : ℕ → ℕ → ℕ
+hash_step hash byte = (hash * 33 + (if nat_lt byte 128 then byte else byte + (2 ^ 32 - 256))) % 2 ^ 32
+
+abbrev pub hash_of : List ℕ → ℕ
+hash_of name = fold hash_step 5381 name

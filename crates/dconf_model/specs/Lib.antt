@@ -1,0 +1,11 @@
+pub mod Bytes
+pub mod Table
+pub mod Opening
+pub mod Names
+pub mod Search
+pub mod Listed
+pub mod Searchable
+pub mod Laws
+pub mod Paths
+pub mod Sound
+pub mod Settings

@@ -1,0 +1,58 @@
+//! A count of steps.
+ghost use Rattle.std.specs.Prelude.{◌≡◌, ◌+◌, ◌<◌, ◌^◌, ℕ};
+
+use std::marker::Model;
+
+/// How many steps were taken. It starts at 0, and goes up to `u128::MAX`.
+#[derive(Drop, Debug)]
+pub struct Steps {
+    count: u128,
+}
+
+impl Model for Steps {
+    ghost Value = { ℕ };
+
+    ghost view = { λ s. s.count };
+}
+
+impl Steps {
+    /// No steps yet.
+    pub fn new() -> Steps
+        ensures { result ≡ 0 }
+    {
+        Steps { count: 0 }
+    }
+
+    /// Counts one more step.
+    pub fn tick(&mut self)
+        requires { self.old + 1 < 2 ^ 128 }
+        ensures { self.new ≡ self.old + 1 }
+    {
+        self.count += 1;
+    }
+
+    /// How many steps were counted.
+    pub fn count(&self) -> u128
+        ensures { result ≡ self.now }
+    {
+        self.count
+    }
+}
+
+#[cfg(test)]
+mod tests {
+    use super::*;
+    use std::test::Fail;
+
+    #[test]
+    fn counts_each_step(rt: HostRuntime) -> Result<(), Fail> {
+        let mut steps = Steps::new();
+        assert_eq!(rt; steps.count(), 0);
+        steps.tick();
+        assert_eq!(rt; steps.count(), 1);
+        steps.tick();
+        steps.tick();
+        assert_eq!(rt; steps.count(), 3);
+        Ok(())
+    }
+}

@@ -1,0 +1,75 @@
+use Rattle.std.proofs.Common.{◌≡◌, ◌≢◌, ◌<◌, ℕ, IsTrue, Bool, true, false, List, [], ◌∷◌, ◌++◌, length, arith, sym, subst, ap, ◌∙◌, Some, None, eqb, refl, length-append}
+use borrow.Author.Tests.{eqb-true, eqb-false}
+use Rattle.std.proofs.lemmas.Slice.Eq.{strip_suffix_is}
+use Rattle.std.proofs.lemmas.Bool.Decides.{Decides-eqb}
+use Rattle.dconf_model.specs.Names.{HasName}
+use Rattle.dconf_model.specs.Table.{Item, item, key}
+use Rattle.gvdb_read.specs.Tables.{region}
+use Rattle.dconf_model.proofs.NameSteps.{is_item, no_suffix, at_root, moves_up, empty_key}
+use Rattle.gvdb_read.proofs.table.Table.is_named.Goals as goal
+
+never : {P : Type 0} → (P → ⊥) → (IsTrue false → P) × (P → IsTrue false)
+never refuted = (λ h. let bad : false ≡ true = h in cc, λ p. absurd (refuted p))
+
+empty_test : (xs : List ℕ) (b : Bool) → b ≡ eqb (length xs) 0 → (IsTrue b → xs ≡ []) × (xs ≡ [] → IsTrue b)
+empty_test [] b e = (λ h. refl, λ h. e)
+empty_test (x ∷ xs) b e = (λ h. let bad : eqb (length (x ∷ xs)) 0 ≡ true = sym e ∙ h in let no_way : length (x ∷ xs) ≡ 0 = eqb-true _ _ bad in absurd (omega arith), λ h. cc)
+
+empty_key_test : (xs : List ℕ) (b : Bool) → b ≡ eqb (length xs) 0 → b ≡ true → length xs ≡ 0
+empty_key_test xs b e h = eqb-true _ _ (sym e ∙ h)
+
+long_key_test : (xs : List ℕ) (b : Bool) → b ≡ eqb (length xs) 0 → b ≡ false → 0 < length xs
+long_key_test xs b e h = let d : length xs ≢ 0 = eqb-false _ _ (sym e ∙ h) in omega arith
+
+pub returns-in_default-clause-named : goal.returns-in_default-clause-named
+returns-in_default-clause-named c = never (λ h. c.in_default.ensures.none (is_item _ _ _ (c.loop-stored.invariant.named.1 h)))
+
+pub returns-in_default-strip_suffix-clause-named : goal.returns-in_default-strip_suffix-clause-named
+returns-in_default-strip_suffix-clause-named c =
+    let t = region c.args.self in
+    let rest = c.loop-stored.rest.now in
+    let none = strip_suffix_is Decides-eqb rest c.in-Some.key.now None c.in_default-strip_suffix.ensures.cases in
+    let other = subst (λ (k : List ℕ). (front : List ℕ) → rest ≢ front ++ k) c.in-Some.ensures.some.2 none in
+    never (λ h. no_suffix t c.loop-stored.at rest other (c.loop-stored.invariant.named.1 h))
+
+pub returns-in_default-parent-clause-named : goal.returns-in_default-parent-clause-named
+returns-in_default-parent-clause-named c =
+    let t = region c.args.self in
+    let rest = c.loop-stored.rest.now in
+    let some = c.in-Some.ensures.some in
+    let front = c.in-Some-strip_suffix.front.now in
+    let cut = strip_suffix_is Decides-eqb rest c.in-Some.key.now (Some c.in-Some-strip_suffix.front) c.in-Some-strip_suffix.ensures.cases in
+    let is = cut ∙ ap (λ (k : List ℕ). front ++ k) some.2 in
+    let orphan : (item t c.loop-stored.at).parent ≡ None = sym (ap (λ (e : Item). e.parent) some.1) ∙ c.in_default-parent.is in
+    let root = at_root t c.loop-stored.at front rest some.0 orphan is in
+    let test = empty_test front c.is_empty.result c.is_empty.ensures in
+    (λ h. c.loop-stored.invariant.named.0 (root.0 (test.0 h)), λ h. test.1 (root.1 (c.loop-stored.invariant.named.1 h)))
+
+pub returns-then-is_empty-clause-named : goal.returns-then-is_empty-clause-named
+returns-then-is_empty-clause-named c =
+    let t = region c.args.self in
+    let rest = c.loop-stored.rest.now in
+    let some = c.in-Some.ensures.some in
+    let front = c.in-Some-strip_suffix.front.now in
+    let cut = strip_suffix_is Decides-eqb rest c.in-Some.key.now (Some c.in-Some-strip_suffix.front) c.in-Some-strip_suffix.ensures.cases in
+    let is = cut ∙ ap (λ (k : List ℕ). front ++ k) some.2 in
+    let up : (item t c.loop-stored.at).parent ≡ Some c.in-Some-parent.parent = sym (ap (λ (e : Item). e.parent) some.1) ∙ c.in-Some-parent.is in
+    let long = λ (h : HasName t c.loop-stored.at rest). empty_key t c.loop-stored.at c.in-Some-parent.parent front rest up is h in
+    let none : length (key t c.loop-stored.at) ≡ 0 = sym (ap (λ (k : List ℕ). length k) some.2) ∙ empty_key_test _ _ c.is_empty-in-loop-stored.ensures c.if-is_empty.true in
+    never (λ h. let l : 0 < length (key t c.loop-stored.at) = long (c.loop-stored.invariant.named.1 h) in omega (arith, l, none))
+
+pub loop-stored-preserved : goal.loop-stored-preserved
+loop-stored-preserved c =
+    let t = region c.args.self in
+    let rest = c.loop-stored.rest.now in
+    let some = c.in-Some.ensures.some in
+    let front = c.in-Some-strip_suffix.front.now in
+    let cut = strip_suffix_is Decides-eqb rest c.in-Some.key.now (Some c.in-Some-strip_suffix.front) c.in-Some-strip_suffix.ensures.cases in
+    let is = cut ∙ ap (λ (k : List ℕ). front ++ k) some.2 in
+    let up : (item t c.loop-stored.at).parent ≡ Some c.in-Some-parent.parent = sym (ap (λ (e : Item). e.parent) some.1) ∙ c.in-Some-parent.is in
+    let long : 0 < length (key t c.loop-stored.at) = subst (λ (k : List ℕ). 0 < length k) some.2 (long_key_test _ _ c.is_empty-in-loop-stored.ensures c.if-is_empty.false) in
+    let moved = moves_up t c.loop-stored.at c.in-Some-parent.parent front rest some.0 up long is in
+    record {
+      named = (λ h. c.loop-stored.invariant.named.0 (moved.0 h), λ h. moved.1 (c.loop-stored.invariant.named.1 h));
+      cost = omega (arith, c.loop-stored.invariant.cost, c.tick.ensures, long, length-append front (key t c.loop-stored.at), ap (λ (k : List ℕ). length k) is);
+    }

@@ -1,0 +1,39 @@
+//! The hash of a name: Bernstein's, over bytes that are taken as signed numbers.
+ghost use Rattle.std.specs.Prelude.{◌≡◌};
+ghost use Rattle.dconf_model.specs.Bytes.{hash_of};
+
+/// The hash of a name's bytes, by which a table's items are sorted into buckets. It looks at each byte once.
+pub fn hash(name: &[u8]) -> u32
+    ensures { result ≡ hash_of name.now }
+{
+    let mut hash = 5381u32;
+    for byte in name {
+        let signed = if *byte < 128 {
+            u32::from(*byte)
+        } else {
+            u32::from(*byte) + 0xffff_ff00
+        };
+        hash = hash.wrapping_mul(33).wrapping_add(signed);
+    }
+    hash
+}
+
+#[cfg(test)]
+mod tests {
+    use super::*;
+    use std::test::Fail;
+
+    #[test]
+    fn takes_bytes_as_signed_numbers(rt: HostRuntime) -> Result<(), Fail> {
+        let rows: [(&[u8], u32); 4] = [
+            (b"", 5381),
+            (b"/", 177620),
+            (b"/k", 5861567),
+            (b"\xc3\xa9", 5857809),
+        ];
+        for (name, expected) in rows {
+            assert_eq!(rt; hash(name), expected, "at {name:?}");
+        }
+        Ok(())
+    }
+}

@@ -1,0 +1,24 @@
+//! Databases in GVDB's format (file version 0), read in place.
+//!
+//! A [`Table`] is a part of a file that was handed in: opening it looks at its head alone, and whatever is found is
+//! lent from the file. No call takes memory. Any bytes may be handed in: those that are no database are refused by
+//! [`Table::open`], and in a table that opens every call ends and gives what the format's search gives, whatever
+//! its items say of their parents, keys and contents.
+#![tactic(auto)]
+
+mod fault;
+mod find;
+mod hashing;
+mod item;
+mod names;
+mod number;
+mod search;
+mod table;
+#[cfg(test)]
+mod vectors;
+
+pub use fault::OpenFault;
+pub use hashing::hash;
+pub use item::Item;
+pub use names::Names;
+pub use table::Table;

@@ -1,0 +1,29 @@
+//! Numbers in a file: little-endian, at any place.
+ghost use Rattle.std.specs.Prelude.{◌≡◌, ◌+◌, ◌<◌, ◌≤◌, length};
+ghost use Rattle.dconf_model.specs.Bytes.{u32_at, u16_at, u8_at};
+
+use byteorder::{ByteOrder, LittleEndian};
+
+/// The number in the four bytes from there on.
+pub(crate) fn read_u32(file: &[u8], at: usize) -> u32
+    requires { at + 4 ≤ length file.now }
+    ensures { result ≡ u32_at file.now at }
+{
+    LittleEndian::read_u32(&file[at..at + 4])
+}
+
+/// The number in the two bytes from there on.
+pub(crate) fn read_u16(file: &[u8], at: usize) -> u16
+    requires { at + 2 ≤ length file.now }
+    ensures { result ≡ u16_at file.now at }
+{
+    LittleEndian::read_u16(&file[at..at + 2])
+}
+
+/// The byte there.
+pub(crate) fn read_u8(file: &[u8], at: usize) -> u8
+    requires { at < length file.now }
+    ensures { result ≡ u8_at file.now at }
+{
+    file[at]
+}

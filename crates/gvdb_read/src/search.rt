@@ -1,0 +1,140 @@
+//! The search of a table for a name and kind: the bloom words may rule the name out, its hash names a bucket, and in
+//! the bucket's span names are compared from their ends, along the parents.
+ghost use Rattle.std.specs.Prelude.{◌≡◌, ◌+◌, ◌*◌, ◌<◌, ◌≤◌, ◌^◌, ◌↔◌, ℕ, IfNone, IfSome, IsTrue, length};
+ghost use Rattle.dconf_model.specs.Bytes.{hash_of};
+ghost use Rattle.dconf_model.specs.Table.{bucket, bucket_count, item, key};
+ghost use Rattle.dconf_model.specs.Names.{HasName, IsItem};
+ghost use Rattle.dconf_model.specs.Search.{Fits, IsLeast, IsWanted, PassesBloom, span_end, span_size, span_start};
+
+use crate::hashing::hash;
+use crate::item::Stored;
+use crate::number::read_u32;
+use crate::table::Table;
+use gv_types::Steps;
+
+/// How many bytes a bloom word has, and a bucket.
+const WORD_LEN: usize = 4;
+
+impl<'a> Table<'a> {
+    ghost use Rattle.gvdb_read.specs.Tables.{item_of, region};
+
+    /// The least item of the span with this hash, name and kind, whatever it points to. Each item that is looked at
+    /// along a chain of parents is a step.
+    pub(crate) fn find_item(self, name: &[u8], kind: u8, steps: &mut Steps) -> Option<u32>
+        requires { steps.old + span_size (region self) (hash_of name.now) * (length name.now + 1) < 2 ^ 128 }
+        ensures found { IfSome result (IsLeast (region self.entry) name.now kind) }
+        ensures none { IfNone result ((i : ℕ) → ¬ Fits (region self.entry) name.now kind i) }
+        ensures cost { steps.new ≤ steps.old
+            + span_size (region self.entry) (hash_of name.now) * (length name.now + 1) }
+    {
+        let hash = hash(name);
+        if !self.passes_bloom(hash) {
+            return None;
+        }
+        let (first, end) = self.span(hash);
+        for i in first..end {
+            if self.is_wanted(i, hash, name, kind, steps) {
+                return Some(i);
+            }
+        }
+        None
+    }
+
+    /// Whether the bloom words don't rule the hash out.
+    #[tactic(auto, using(std::proofs::lemmas::Nat::bit_set_by_shift))]
+    fn passes_bloom(self, hash: u32) -> bool
+        ensures { IsTrue result ↔ PassesBloom (region self.entry) hash }
+    {
+        if self.bloom_words == 0 {
+            return true;
+        }
+        let k = (hash / 32 % self.bloom_words) as usize;
+        let word = read_u32(self.file, self.start + 8 + WORD_LEN * k);
+        (word >> (hash % 32)) & 1 == 1 && (word >> ((hash >> self.bloom_shift) % 32)) & 1 == 1
+    }
+
+    /// Where the items of a hash's bucket start and end.
+    fn span(self, hash: u32) -> (u32, u32)
+        ensures first { result.0 ≡ span_start (region self.entry) hash }
+        ensures end { result.1 ≡ span_end (region self.entry) hash }
+    {
+        if self.buckets == 0 {
+            return (0, 0);
+        }
+        let k = hash % self.buckets;
+        let mut end = self.items;
+        if k + 1 < self.buckets {
+            let next = self.bucket(k + 1);
+            if next <= self.items {
+                end = next;
+            }
+        }
+        (self.bucket(k), end)
+    }
+
+    /// The number of a bucket's first item.
+    fn bucket(self, k: u32) -> u32
+        requires { k < bucket_count (region self) }
+        ensures { result ≡ bucket (region self.entry) k }
+    {
+        let buckets = self.start + 8 + WORD_LEN * self.bloom_words as usize;
+        read_u32(self.file, buckets + WORD_LEN * k as usize)
+    }
+
+    /// Whether item `i` has this hash, name and kind.
+    fn is_wanted(self, i: u32, hash: u32, name: &[u8], kind: u8, steps: &mut Steps) -> bool
+        requires { steps.old + length name.now + 1 < 2 ^ 128 }
+        ensures wanted { IsTrue result ↔ IsWanted (region self.entry) hash name.now kind i }
+        ensures cost { steps.new ≤ steps.old + length name.now + 1 }
+    {
+        let Some((stored, _)) = self.named_item(i) else {
+            return false;
+        };
+        if stored.hash != hash || stored.kind != kind {
+            return false;
+        }
+        self.is_named(i, name, steps)
+    }
+
+    /// Whether item `i` has this full name. It is compared from its end, key by key up the parents; each item with a
+    /// parent takes at least one byte of it, so that it ends where parents go round in a circle.
+    fn is_named(self, i: u32, name: &[u8], steps: &mut Steps) -> bool
+        requires { steps.old + length name.now + 1 < 2 ^ 128 }
+        ensures named { IsTrue result ↔ HasName (region self.entry) i name.now }
+        ensures cost { steps.new ≤ steps.old + length name.now + 1 }
+    {
+        let mut at = i;
+        let mut rest = name;
+        loop {
+            steps.tick();
+            let Some((stored, key)) = self.named_item(at) else {
+                return false;
+            };
+            let Some(front) = rest.strip_suffix(key) else {
+                return false;
+            };
+            let Some(parent) = stored.parent else {
+                return front.is_empty();
+            };
+            if key.is_empty() {
+                return false;
+            }
+            at = parent;
+            rest = front;
+        }
+    }
+
+    /// Item `i` and its key. None where there is no such item, and where its key doesn't lie in the file.
+    pub(crate) fn named_item(self, i: u32) -> Option<(Stored, &'a [u8])>
+        ensures some { IfSome result (λ found. IsItem (region self.entry) i
+            × (item_of found.0 ≡ item (region self.entry) i) × (found.1.now ≡ key (region self.entry) i)) }
+        ensures none { IfNone result (¬ IsItem (region self.entry) i) }
+    {
+        if i >= self.n_items() {
+            return None;
+        }
+        let stored = self.stored(i);
+        let key = self.key_of(stored)?;
+        Some((stored, key))
+    }
+}

@@ -1,0 +1,279 @@
+//! A table of a file: where it opens, and its items.
+ghost use Rattle.std.specs.Prelude.{◌≡◌, ◌+◌, ◌<◌, ◌≤◌, ◌^◌, ◌↔◌, length};
+ghost use Rattle.std.specs.Prelude.{IsOk, IsSome, IsTrue, IfErr, IfNone, IfOk, IfSome};
+ghost use Rattle.dconf_model.specs.Table.{HasHead, HasItems, item, item_count, table_of};
+ghost use Rattle.dconf_model.specs.Opening.{IsDatabase, IsOpenFault, root_of};
+ghost use Rattle.gvdb_read.specs.Faults.{fault_of};
+ghost use Rattle.gvdb_read.specs.Opened.{IsOpened};
+
+use crate::fault::OpenFault;
+use crate::item::{Item, Stored};
+use crate::number::read_u32;
+
+/// How many bytes a file's header has, a table's head, and an item.
+const HEADER_LEN: usize = 24;
+
+const HEAD_LEN: usize = 8;
+
+const ITEM_LEN: usize = 24;
+
+/// What a database begins with.
+const SIGNATURE: &[u8] = b"GVariant";
+
+/// The kinds of items: a value, a list of items, a table.
+pub(crate) const VALUE: u8 = b'v';
+
+pub(crate) const LIST: u8 = b'L';
+
+pub(crate) const TABLE: u8 = b'H';
+
+/// A table that opened, in the file where it was found.
+#[derive(Clone, Copy, Debug)]
+pub struct Table<'a> {
+    pub(crate) file: &'a [u8],
+    pub(crate) start: usize,
+    pub(crate) end: usize,
+    pub(crate) bloom_words: u32,
+    pub(crate) bloom_shift: u32,
+    pub(crate) buckets: u32,
+    pub(crate) first_item: usize,
+    pub(crate) items: u32,
+    ghost opened: { IsOpened (record { file = file.now; start = start; end = end })
+        bloom_words bloom_shift buckets first_item items },
+}
+
+impl<'a> Table<'a> {
+    ghost use Rattle.gvdb_read.specs.Tables.{region, item_of, key_at, content_at};
+    ghost use Rattle.gvdb_read.specs.Tables.{IsKeyInside, IsPointer, Shows, PointsToTable};
+
+    /// Opens a database: gives its root table.
+    ///
+    /// Other bytes are refused, with the first fault in the order of [`OpenFault`]. It looks at the header and at the
+    /// two first numbers of the table, and at nothing else.
+    pub fn open(file: &'a [u8]) -> Result<Table<'a>, OpenFault>
+        ensures opens { IsOk result ↔ IsDatabase file.entry.now }
+        ensures root { IfOk result (λ t. region t ≡ root_of file.entry.now) }
+        ensures fault { IfErr result (λ e. IsOpenFault file.entry.now (fault_of e)) }
+    {
+        if file.len() < HEADER_LEN {
+            return Err(OpenFault::Short);
+        }
+        if !file.starts_with(SIGNATURE) {
+            return Err(OpenFault::BadSignature);
+        }
+        if read_u32(file, 8) != 0 {
+            return Err(OpenFault::BadVersion);
+        }
+        let start = read_u32(file, 16) as usize;
+        let end = read_u32(file, 20) as usize;
+        if !has_head(file, start, end) {
+            return Err(OpenFault::BadRoot);
+        }
+        Table::within(file, start, end).ok_or(OpenFault::BadTable)
+    }
+
+    /// How many items the table has.
+    pub fn n_items(self) -> u32
+        ensures { result ≡ item_count (region self.entry) }
+    {
+        self.items
+    }
+
+    /// Item `i`, which counts from 0. None exactly where there are not so many.
+    pub fn item(self, i: u32) -> Option<Item<'a>>
+        ensures some { IsSome result ↔ (i < item_count (region self.entry)) }
+        ensures shows { IfSome result (Shows (region self.entry) i) }
+    {
+        if i >= self.n_items() {
+            return None;
+        }
+        let stored = self.stored(i);
+        Some(Item {
+            parent: stored.parent,
+            key: self.key_of(stored),
+            kind: stored.kind,
+            bytes: self.pointed(stored),
+        })
+    }
+
+    /// The table that item `i` points to. None where there is no such item, where it is of another kind than `H`, and
+    /// where no table opens there.
+    pub fn table_at(self, i: u32) -> Option<Table<'a>>
+        ensures some { IsSome result ↔ PointsToTable (region self.entry) i }
+        ensures table { IfSome result (λ t. region t ≡ table_of (region self.entry) i) }
+    {
+        if i >= self.n_items() {
+            return None;
+        }
+        let stored = self.stored(i);
+        let (start, end) = (stored.start as usize, stored.end as usize);
+        if stored.kind != TABLE || !has_head(self.file, start, end) {
+            return None;
+        }
+        Table::within(self.file, start, end)
+    }
+
+    /// The table between two places where a table's head lies. None where no table opens there.
+    fn within(file: &'a [u8], start: usize, end: usize) -> Option<Table<'a>>
+        requires small { end < 2 ^ 32 }
+        requires head { HasHead (record { file = file.now; start = start; end = end }) }
+        ensures some { IsSome result ↔ HasItems (record { file = file.entry.now; start = start; end = end }) }
+        ensures table { IfSome result (λ t. region t ≡ record { file = file.entry.now; start = start; end = end }) }
+    {
+        let head = read_u32(file, start);
+        let bloom_words = head % 0x800_0000;
+        let buckets = read_u32(file, start + 4);
+        let first_item = start + HEAD_LEN + 4 * bloom_words as usize + 4 * buckets as usize;
+        if first_item > end || (end - first_item) % ITEM_LEN != 0 {
+            return None;
+        }
+        Some(Table {
+            file,
+            start,
+            end,
+            bloom_words,
+            bloom_shift: head / 0x800_0000,
+            buckets,
+            first_item,
+            items: ((end - first_item) / ITEM_LEN) as u32,
+        })
+    }
+
+    /// The numbers of item `i`.
+    pub(crate) fn stored(self, i: u32) -> Stored
+        requires { i < item_count (region self) }
+        ensures { item_of result ≡ item (region self.entry) i }
+    {
+        Stored::read(self.file, self.first_item + ITEM_LEN * i as usize)
+    }
+
+    /// An item's key: the one place where a key is cut out of the file. None where its bytes don't lie there.
+    pub(crate) fn key_of(self, stored: Stored) -> Option<&'a [u8]>
+        ensures lent { IfSome result (λ key. IsKeyInside self.entry.file.now (item_of stored)
+            × (key.now ≡ key_at self.entry.file.now (item_of stored))) }
+        ensures none { IfNone result (¬ IsKeyInside self.entry.file.now (item_of stored)) }
+    {
+        let start = stored.key_start as usize;
+        self.file.get(start..start + usize::from(stored.key_len))
+    }
+
+    /// What an item points to: the one place where a pointer is followed. None where the pointer isn't valid.
+    pub(crate) fn pointed(self, stored: Stored) -> Option<&'a [u8]>
+        ensures lent { IfSome result (λ bytes. IsPointer self.entry.file.now (item_of stored)
+            × (bytes.now ≡ content_at self.entry.file.now (item_of stored))) }
+        ensures none { IfNone result (¬ IsPointer self.entry.file.now (item_of stored)) }
+    {
+        let alignment = if stored.kind == VALUE { 8 } else { 4 };
+        if stored.start % alignment != 0 {
+            return None;
+        }
+        self.file.get(stored.start as usize..stored.end as usize)
+    }
+}
+
+/// Whether a pointer to a table is valid, and spans its head.
+fn has_head(file: &[u8], start: usize, end: usize) -> bool
+    requires end_small { end < 2 ^ 32 }
+    requires start_small { start < 2 ^ 32 }
+    ensures { IsTrue result ↔ HasHead (record { file = file.now; start = start; end = end }) }
+{
+    end <= file.len() && start % 4 == 0 && start + HEAD_LEN <= end
+}
+
+#[cfg(test)]
+mod tests {
+    use super::*;
+    use crate::vectors::{BUCKETS, LOCKED, PLAIN};
+    use std::test::Fail;
+
+    /// The fault of the file with one byte set.
+    fn fault_with(at: usize, byte: u8) -> Option<OpenFault> {
+        let mut file = PLAIN;
+        if at < file.len() {
+            file[at] = byte;
+        }
+        Table::open(&file).err()
+    }
+
+    #[test]
+    fn opens_exactly_databases(rt: HostRuntime) -> Result<(), Fail> {
+        assert_eq!(rt; Table::open(&[]).err(), Some(OpenFault::Short));
+        assert_eq!(rt; Table::open(&PLAIN[..23]).err(), Some(OpenFault::Short));
+        assert_eq!(rt; Table::open(&PLAIN[..24]).err(), Some(OpenFault::BadRoot));
+        assert_eq!(rt; Table::open(&PLAIN[..101]).err(), None);
+        let rows = [
+            (0, 0x67, Some(OpenFault::BadSignature)),
+            (7, 0x54, Some(OpenFault::BadSignature)),
+            (8, 0x01, Some(OpenFault::BadVersion)),
+            (12, 0x01, None),
+            (16, 0x19, Some(OpenFault::BadRoot)),
+            (20, 0x1f, Some(OpenFault::BadRoot)),
+            (20, 0x67, Some(OpenFault::BadRoot)),
+            (20, 0x20, Some(OpenFault::BadTable)),
+            (20, 0x53, Some(OpenFault::BadTable)),
+            (24, 0x40, Some(OpenFault::BadTable)),
+            (27, 0x28, None),
+            (28, 0x07, None),
+            (28, 0x40, Some(OpenFault::BadTable)),
+        ];
+        for (at, byte, fault) in rows {
+            assert_eq!(rt; fault_with(at, byte), fault, "byte {at} as {byte}");
+        }
+        assert_eq!(rt; Table::open(&BUCKETS).err(), None);
+        Ok(())
+    }
+
+    /// An item's parent, key, kind and the length of its content.
+    fn shown(table: Table<'_>, i: u32) -> Option<(Option<u32>, Option<&[u8]>, u8, Option<usize>)> {
+        let item = table.item(i)?;
+        let len = match item.bytes {
+            Some(bytes) => Some(bytes.len()),
+            None => None,
+        };
+        Some((item.parent, item.key, item.kind, len))
+    }
+
+    #[test]
+    fn shows_its_items(rt: HostRuntime) -> Result<(), Fail> {
+        let table = Table::open(&LOCKED)?;
+        assert_eq!(rt; table.n_items(), 3);
+        let locks: &[u8] = b".locks";
+        let root: &[u8] = b"/";
+        let key: &[u8] = b"k";
+        assert_eq!(rt; shown(table, 0), Some((None, Some(locks), b'H', Some(36))));
+        assert_eq!(rt; shown(table, 1), Some((None, Some(root), b'L', Some(4))));
+        assert_eq!(rt; shown(table, 2), Some((Some(1), Some(key), b'v', Some(6))));
+        assert_eq!(rt; shown(table, 3), None);
+        assert_eq!(rt; shown(table, u32::MAX), None);
+        Ok(())
+    }
+
+    #[test]
+    fn an_item_hides_what_does_not_lie_in_the_file(rt: HostRuntime) -> Result<(), Fail> {
+        let mut file = PLAIN;
+        file[68] = 0x66;
+        file[76] = 0x61;
+        let table = Table::open(&file)?;
+        assert_eq!(rt; shown(table, 1), Some((Some(0), None, b'v', None)));
+        Ok(())
+    }
+
+    /// The key of the first item of the table that an item points to.
+    fn first_key_at(table: Table<'_>, i: u32) -> Option<&[u8]> {
+        table.table_at(i)?.item(0)?.key
+    }
+
+    #[test]
+    fn opens_the_table_of_an_item(rt: HostRuntime) -> Result<(), Fail> {
+        let table = Table::open(&LOCKED)?;
+        let lock: &[u8] = b"/k";
+        assert_eq!(rt; first_key_at(table, 0), Some(lock));
+        for i in 1..5 {
+            assert!(rt; table.table_at(i).is_none(), "item {i}");
+        }
+        let mut file = LOCKED;
+        file[56] = 0x9b;
+        assert!(rt; Table::open(&file)?.table_at(0).is_none());
+        Ok(())
+    }
+}

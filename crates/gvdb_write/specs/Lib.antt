@@ -1,0 +1,3 @@
+pub mod Faults
+pub mod Maps
+pub mod Left

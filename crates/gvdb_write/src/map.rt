@@ -1,0 +1,162 @@
+//! A map of paths to the bytes of their values, and a set of locked paths.
+ghost use Rattle.std.specs.Prelude.{◌≡◌, OnOk, OnErr, option_map};
+ghost use Rattle.std.specs.FinMap.{contains_key, get, keys};
+ghost use Rattle.dconf_model.specs.Settings.{no_settings, with_value, with_lock};
+ghost use Rattle.dconf_path.specs.Paths.{key_text};
+ghost use Rattle.gvdb_write.specs.Maps.{AreKeyPaths, texts};
+
+use crate::fault::MapFault;
+use dconf_path::KeyPath;
+use std::alloc::Global;
+use std::collections::{BTreeMap, BTreeSet, btree_map, btree_set};
+use std::marker::Model;
+
+/// The bytes of the value at each path that has one, and the paths that are locked.
+///
+/// The bytes of a value are those of a `v` that holds it; they are kept as they are given.
+#[derive(Drop)]
+pub struct Map {
+    alloc: Global,
+    values: BTreeMap<String, Vec<u8>>,
+    locks: BTreeSet<String>,
+}
+
+impl Model for Map {
+    ghost use Rattle.dconf_model.specs.Settings.{Settings, settings_code};
+
+    ghost Value = { Settings };
+
+    ghost coded = { settings_code };
+
+    ghost use Rattle.dconf_model.specs.Settings.{IsSettings};
+    ghost use Rattle.gvdb_write.specs.Maps.{settings_of};
+
+    ghost view = { λ m. settings_of m.values m.locks };
+
+    ghost invariant = { λ m. IsSettings (settings_of m.values m.locks) };
+}
+
+impl Map {
+    ghost use Rattle.gvdb_write.specs.Left.{keys_left, locks_left};
+
+    /// A map with no value and no lock. It takes no memory.
+    pub fn new(alloc: Global) -> Map
+        ensures { result ≡ no_settings }
+    {
+        let values = BTreeMap::new(alloc);
+        let locks = BTreeSet::new(alloc);
+        Map {
+            alloc,
+            values,
+            locks,
+        }
+    }
+
+    /// Sets the bytes of the value at a path, in the place of those that it had.
+    ///
+    /// `Memory` comes where a growth is refused, and then the map stays as it was. It copies the path and the bytes,
+    /// and compares as many paths as the map is deep.
+    pub fn insert(&mut self, path: KeyPath<'_>, value: &[u8]) -> Result<(), MapFault>
+        ensures ok { OnOk result (self.new ≡ with_value self.old (key_text path.entry) value.now) }
+        ensures err { OnErr result (self.new ≡ self.old) }
+    {
+        let path = String::from_str(self.alloc, path.as_str())?;
+        let value = value.to_vec(self.alloc)?;
+        self.values.insert(path, value)?;
+        Ok(())
+    }
+
+    /// Locks a path, whether or not it has a value.
+    ///
+    /// `Memory` comes where a growth is refused, and then the map stays as it was. It copies the path, and compares
+    /// as many paths as the set of locks is deep.
+    pub fn lock(&mut self, path: KeyPath<'_>) -> Result<(), MapFault>
+        ensures ok { OnOk result (self.new ≡ with_lock self.old (key_text path.entry)) }
+        ensures err { OnErr result (self.new ≡ self.old) }
+    {
+        let path = String::from_str(self.alloc, path.as_str())?;
+        self.locks.insert(path)?;
+        Ok(())
+    }
+
+    /// The bytes of the value at a path, or None where it has none. It compares as many paths as the map is deep.
+    pub fn get(&self, path: KeyPath<'_>) -> Option<&[u8]>
+        ensures { option_map (λ bytes. bytes.now) result ≡ get self.now.values (key_text path.entry) }
+    {
+        match self.values.get(path.as_str()) {
+            Some(value) => Some(value.as_slice()),
+            None => None,
+        }
+    }
+
+    /// Whether a path is locked. It compares as many paths as the set of locks is deep.
+    pub fn is_locked(&self, path: KeyPath<'_>) -> bool
+        ensures { result ≡ contains_key self.now.locks (key_text path.entry) }
+    {
+        self.locks.contains(path.as_str())
+    }
+
+    /// The paths that have a value, in the order of their bytes.
+    pub fn keys(&self) -> Keys<'_>
+        ensures { keys_left result ≡ keys self.now.values }
+    {
+        let rest = self.values.keys();
+        Keys { rest }
+    }
+
+    /// The paths that are locked, in the order of their bytes.
+    pub fn locks(&self) -> Locks<'_>
+        ensures { locks_left result ≡ keys self.now.locks }
+    {
+        let rest = self.locks.iter();
+        Locks { rest }
+    }
+}
+
+/// The paths of a map that have a value, of those that are left.
+#[derive(Drop)]
+pub struct Keys<'a> {
+    rest: btree_map::Keys<'a, String, Vec<u8>>,
+    ghost are_paths: { AreKeyPaths (texts rest) },
+}
+
+impl<'a> Iterator for Keys<'a> {
+    ghost use Rattle.std.specs.Iterator.{YieldsFirstBy, item_count};
+    ghost use Rattle.dconf_path.specs.Paths.{key_text};
+    ghost use Rattle.gvdb_write.specs.Left.{keys_left};
+
+    type Item = KeyPath<'a>;
+
+    ghost next_gives = { YieldsFirstBy key_text keys_left };
+
+    ghost remaining = { item_count keys_left };
+
+    fn next(&mut self) -> Option<KeyPath<'a>> {
+        // Each is the path of a key, so none is refused.
+        KeyPath::parse(self.rest.next()?.as_str()).ok()
+    }
+}
+
+/// The locked paths of a map, of those that are left.
+#[derive(Drop)]
+pub struct Locks<'a> {
+    rest: btree_set::Iter<'a, String>,
+    ghost are_paths: { AreKeyPaths (texts rest) },
+}
+
+impl<'a> Iterator for Locks<'a> {
+    ghost use Rattle.std.specs.Iterator.{YieldsFirstBy, item_count};
+    ghost use Rattle.dconf_path.specs.Paths.{key_text};
+    ghost use Rattle.gvdb_write.specs.Left.{locks_left};
+
+    type Item = KeyPath<'a>;
+
+    ghost next_gives = { YieldsFirstBy key_text locks_left };
+
+    ghost remaining = { item_count locks_left };
+
+    fn next(&mut self) -> Option<KeyPath<'a>> {
+        // Each is the path of a key, so none is refused.
+        KeyPath::parse(self.rest.next()?.as_str()).ok()
+    }
+}
