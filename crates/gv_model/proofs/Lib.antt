@@ -22,6 +22,7 @@ pub mod WrittenLaws
 pub mod TokenLaws
 pub mod TokenSizes
 pub mod StringParts
+pub mod PlainTextLaws
 pub mod TokenLoops
 pub mod LevelLimits
 pub mod GrammarLaws

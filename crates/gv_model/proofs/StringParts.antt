@@ -18,7 +18,7 @@ use Rattle.gv_model.specs.TextLaws.{StringPart, written, meant, IsPart, AreParts
 
 -- A part takes a byte at least, and only the quote closes
 
-choose : (P : Part → Type 0) (b : Bool) (x y : Part) → (b ≡ true → P x) → (b ≡ false → P y) → P (cond b x y)
+pub choose : (P : Part → Type 0) (b : Bool) (x y : Part) → (b ≡ true → P x) → (b ≡ false → P y) → P (cond b x y)
 choose P true x y h g = h refl
 choose P false x y h g = g refl
 
@@ -259,7 +259,7 @@ pick : (P : Start → Type 0) (b : Bool) (x y : Start) → (b ≡ true → P x) 
 pick P true x y h g = h refl
 pick P false x y h g = g
 
-both_true : (a b : Bool) → (a && b) ≡ true → (a ≡ true) × (b ≡ true)
+pub both_true : (a b : Bool) → (a && b) ≡ true → (a ≡ true) × (b ≡ true)
 both_true true true e = (refl, refl)
 both_true true false e = cc
 both_true false b e = cc

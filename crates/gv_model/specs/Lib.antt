@@ -27,6 +27,7 @@ pub mod Strings
 pub mod Lexing
 pub mod Lexed
 pub mod Syntax
+pub mod PlainTexts
 pub mod Grammar
 pub mod GrammarFaults
 pub mod Parsing

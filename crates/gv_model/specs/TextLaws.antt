@@ -12,7 +12,8 @@ use Rattle.gv_model.specs.Lexing.{Begins, Lexes}
 use Rattle.gv_model.specs.Syntax.{Syntax, levels}
 use Rattle.gv_model.specs.Grammar.{tokens_of}
 use Rattle.gv_model.specs.GrammarFaults.{NumberedFault, grammar_fault}
-use Rattle.gv_model.specs.Parsing.{Parses}
+use Rattle.gv_model.specs.Parsing.{IsTree, Parses}
+use Rattle.gv_model.specs.PlainTexts.{IsPlain}
 use Rattle.gv_model.specs.Ty.{Ty}
 use Rattle.gv_model.specs.Admits.{Admits}
 use Rattle.gv_model.specs.Order.{Below}
@@ -65,6 +66,10 @@ StringIsParts = (at : ℕ) (s : List ℕ) (t : Placed) (string : List ℕ) → B
 abbrev pub ByteStringIsParts : Type 0
 ByteStringIsParts = (at : ℕ) (s : List ℕ) (t : Placed) (string : List ℕ) → Begins at s t → t.token ≡ byte_string string
     → (rest : List ℕ) × (s ≡ 98 ∷ rest) × IsQuoted true (suc at) rest t.stop string
+
+-- a text's tree has no zero byte in a string
+abbrev pub StringsArePlain : Type 0
+StringsArePlain = (text : List ℕ) (x : Syntax) → IsTree text x → IsPlain x
 
 -- no tree's tokens begin another tree's
 abbrev pub NoTreeBeginsAnother : Type 0

@@ -1,6 +1,6 @@
 //! Laws of text: its tokens, its syntax tree or first fault, and the type that is chosen for a tree.
 
-ghost use Rattle.gv_model.specs.TextLaws.{EachTextLexes, HasOneLexing, StringIsParts, ByteStringIsParts, NoTreeBeginsAnother, TreesHaveNoFault, FaultlessIsTree, FaultEndsFront, EachTextParses, HasOneOutcome, AdmitsOrNot, IsBelowItself, IsBelowThird, IsBelowOneWay, HasOneChosen};
+ghost use Rattle.gv_model.specs.TextLaws.{EachTextLexes, HasOneLexing, StringIsParts, ByteStringIsParts, StringsArePlain, NoTreeBeginsAnother, TreesHaveNoFault, FaultlessIsTree, FaultEndsFront, EachTextParses, HasOneOutcome, AdmitsOrNot, IsBelowItself, IsBelowThird, IsBelowOneWay, HasOneChosen};
 ghost use Rattle.gv_model.specs.LeastTypes.{choice};
 ghost use Rattle.gv_model.specs.TextValues.{IsChoice};
 
@@ -15,6 +15,11 @@ pub fn one_list_of_tokens()
 pub fn string_is_parts()
     ensures string { StringIsParts }
     ensures bytes { ByteStringIsParts }
+{}
+
+/// The strings in a text's syntax tree have no zero byte. Its byte strings may.
+pub fn strings_are_plain()
+    ensures { StringsArePlain }
 {}
 
 /// No syntax tree's tokens begin another's, so tokens are of one tree at most.

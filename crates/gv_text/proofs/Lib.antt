@@ -14,3 +14,9 @@ pub mod TokenSteps
 pub mod WordLaws
 pub mod TypeFronts
 pub mod TokenKinds
+pub mod SyntaxLaws
+pub mod ReadingLaws
+pub mod SequenceLaws
+pub mod HeldLaws
+pub mod BracketLaws
+pub mod NumberedFaults

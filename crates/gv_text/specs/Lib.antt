@@ -6,3 +6,9 @@ pub mod FaultTexts
 pub mod ByteClasses
 pub mod Runs
 pub mod Found
+pub mod SyntaxCodes
+pub mod SyntaxNodes
+pub mod SyntaxFalls
+pub mod Parsed
+pub mod Reading
+pub mod Held

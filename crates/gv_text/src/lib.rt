@@ -1,17 +1,21 @@
-//! GVariant values as text, and the tokens of texts (GLib, "GVariant Text Format").
+//! GVariant values as text, and the tokens and syntax of texts (GLib, "GVariant Text Format").
 //!
-//! Printing takes memory for the text alone, and nothing fails but what has no text or is too large. [`tokens`] takes memory
-//! for the tokens alone, and is linear in the text. Nothing recurses deeper than 128.
+//! Printing takes memory for the text alone, and nothing fails but what has no text or is too large. [`tokens`] and [`parse`]
+//! take memory for the tokens and the tree alone, and are linear in the text. Nothing recurses deeper than 128.
 #![tactic(auto)]
 
 mod fault;
 mod lexing;
+mod parsing;
 mod printing;
+mod syntax;
 mod token;
 mod type_text;
 
 pub use fault::{TextCause, TextFault};
 pub use lexing::tokens;
+pub use parsing::parse;
 pub use printing::{PrintFault, print};
+pub use syntax::{Syntax, SyntaxKind, SyntaxNode};
 pub use token::{Mark, Span, Token, TokenKind, Word};
 pub use type_text::TypeText;

@@ -1,6 +1,6 @@
 //! An owned text of a type.
 ghost use Rattle.std.specs.Prelude.{◌≡◌, IfOk, IsTrue, string_bytes};
-ghost use Rattle.gv_model.specs.TypeText.{is_type};
+ghost use Rattle.gv_model.specs.TypeText.{is_type, type_at};
 ghost use Rattle.gv_types.specs.TypeStr.{ty};
 
 use gv_types::TypeStr;
@@ -25,10 +25,31 @@ impl TypeText {
         })
     }
 
+    /// Takes a text that is known to be one type. It looks at no byte.
+    pub fn of_checked(text: String) -> TypeText
+        requires { IsTrue (is_type (string_bytes text)) }
+        ensures { type_of_owned result ≡ type_at (string_bytes text) }
+    {
+        TypeText { text }
+    }
+
     /// The type. It looks at no byte.
     pub fn as_type(&self) -> TypeStr<'_>
         ensures { ty result ≡ type_of_owned self.now }
     {
         TypeStr::of_checked(self.text.as_str())
+    }
+}
+
+#[cfg(test)]
+mod tests {
+    use super::*;
+    use std::test::Fail;
+
+    #[test]
+    fn keeps_the_text(rt: HostRuntime) -> Result<(), Fail> {
+        let copy = TypeText::copy(rt.alloc(), TypeStr::parse("a{sv}")?)?;
+        assert_eq!(rt; copy.as_type().as_str(), "a{sv}");
+        Ok(())
     }
 }

@@ -204,4 +204,26 @@ mod tests {
         }
         Ok(())
     }
+
+    #[test]
+    fn takes_the_type_in_front(rt: HostRuntime) -> Result<(), Fail> {
+        let cases = [
+            ("i", Some("i")),
+            ("ayb'x'", Some("ay")),
+            ("a{sv}{}", Some("a{sv}")),
+            ("()()", Some("()")),
+            ("", None),
+            ("a", None),
+            (" i", None),
+            ("{vs}", None),
+        ];
+        for (text, front) in cases {
+            assert_eq!(rt;
+                TypeStr::in_front(text).map(|it| it.as_str()),
+                front,
+                "at {text}"
+            );
+        }
+        Ok(())
+    }
 }
