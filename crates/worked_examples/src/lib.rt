@@ -14,6 +14,8 @@ mod show;
 #[cfg(test)]
 mod streams;
 #[cfg(test)]
+mod text;
+#[cfg(test)]
 mod type_faults;
 #[cfg(test)]
 mod widths;

@@ -1,0 +1,64 @@
+-- When a type is the one that is asked for.
+use Rattle.std.proofs.Common.{◌≡◌, ◌↔◌, Bool, true, List, [], ◌∷◌, refl, sym, ap, ◌∙◌}
+use Rattle.std.specs.Prelude.{IsTrue}
+use Rattle.gv_model.specs.Ty.{Ty, Types, Basic, spelling, listed, types_from}
+use Rattle.gv_model.specs.Ty.Ty.{basic, variant, array, maybe, tuple, entry}
+use Rattle.gv_model.specs.Ty.Types.{end, member}
+use Rattle.gv_model.specs.Ty.Basic.{boolean, byte, int16, uint16, int32, uint32, int64, uint64, handle, double, string, path, signature}
+use Rattle.gv_model.specs.Syntax.{Syntax, Syntaxes}
+use Rattle.gv_model.specs.Admits.{AlsoMaybe, Admit}
+use Rattle.gv_types.specs.Classes.{class_of}
+use Rattle.gv_types.specs.declared.class.Class.{Class}
+use Rattle.gv_types.specs.declared.class.Class.TheVariants as classes
+use Rattle.gv_types.specs.declared.class.BasicType.TheVariants as basics
+use Rattle.gv_tree.proofs.ListLaws.{same_type}
+use Rattle.gv_infer.specs.BareTypes.{bare_type}
+use Rattle.gv_infer.proofs.TypeShapes.{also_bare}
+
+-- what is asked of the bare type is asked of the type
+pub also_where_bare : (P : Ty → Type 0) (b : Bool) (t u : Ty) → u ≡ bare_type t → (IsTrue b ↔ P u) → (IsTrue b ↔ AlsoMaybe P t)
+also_where_bare P b t u e h =
+    let also = also_bare P t in
+    (λ y. also.1 (rw e at (h.0 y)), λ y. h.1 (rw e (also.0 y)))
+
+pub is_boolean : (t : Ty) (c : Class) → c ≡ class_of t → (c ≡ classes.Basic basics.Boolean) ↔ (t ≡ basic boolean)
+is_boolean (basic boolean) c h = (λ e. refl, λ e. h)
+is_boolean (basic byte) c h = (λ e. absurd cc, λ e. absurd cc)
+is_boolean (basic int16) c h = (λ e. absurd cc, λ e. absurd cc)
+is_boolean (basic uint16) c h = (λ e. absurd cc, λ e. absurd cc)
+is_boolean (basic int32) c h = (λ e. absurd cc, λ e. absurd cc)
+is_boolean (basic uint32) c h = (λ e. absurd cc, λ e. absurd cc)
+is_boolean (basic int64) c h = (λ e. absurd cc, λ e. absurd cc)
+is_boolean (basic uint64) c h = (λ e. absurd cc, λ e. absurd cc)
+is_boolean (basic handle) c h = (λ e. absurd cc, λ e. absurd cc)
+is_boolean (basic double) c h = (λ e. absurd cc, λ e. absurd cc)
+is_boolean (basic string) c h = (λ e. absurd cc, λ e. absurd cc)
+is_boolean (basic path) c h = (λ e. absurd cc, λ e. absurd cc)
+is_boolean (basic signature) c h = (λ e. absurd cc, λ e. absurd cc)
+is_boolean variant c h = (λ e. absurd cc, λ e. absurd cc)
+is_boolean (array t) c h = (λ e. absurd cc, λ e. absurd cc)
+is_boolean (maybe t) c h = (λ e. absurd cc, λ e. absurd cc)
+is_boolean (tuple ts) c h = (λ e. absurd cc, λ e. absurd cc)
+is_boolean (entry k t) c h = (λ e. absurd cc, λ e. absurd cc)
+
+pub is_variant : (t : Ty) (c : Class) → c ≡ class_of t → (c ≡ classes.Variant) ↔ (t ≡ variant)
+is_variant variant c h = (λ e. refl, λ e. h)
+is_variant (basic k) c h = (λ e. absurd cc, λ e. absurd cc)
+is_variant (array t) c h = (λ e. absurd cc, λ e. absurd cc)
+is_variant (maybe t) c h = (λ e. absurd cc, λ e. absurd cc)
+is_variant (tuple ts) c h = (λ e. absurd cc, λ e. absurd cc)
+is_variant (entry k t) c h = (λ e. absurd cc, λ e. absurd cc)
+
+pub is_byte_array : (t : Ty) (s : List _) → s ≡ spelling t → (s ≡ 97 ∷ 121 ∷ []) ↔ (t ≡ array (basic byte))
+unfolding spelling
+is_byte_array t s h = (λ e. same_type t (array (basic byte)) (sym h ∙ e), λ e. h ∙ ap spelling e)
+
+pub types_from_listed : (ts : Types) → types_from (listed ts) ≡ ts
+unfolding listed
+types_from_listed end = refl
+types_from_listed (member t ts) = ap (member t) (types_from_listed ts)
+
+pub admit_listed : (xs : Syntaxes) (ts : Types) (left : List Ty) → left ≡ listed ts → Admit xs ts ↔ Admit xs (types_from left)
+admit_listed xs ts left e =
+    let same : types_from left ≡ ts = ap types_from e ∙ types_from_listed ts in
+    (λ h. rw same h, λ h. rw same at h)

@@ -1,0 +1,134 @@
+-- The contents of `<..>`, typed one after the other.
+use Rattle.std.proofs.Common.{ℕ, ◌+◌, ◌<◌, ◌≡◌, List, [], ◌∷◌, ◌++◌, length, drop, get_or, Result, Ok, Err, IfOk, IfErr, IsErrAnd, refl, sym, ap, ◌∙◌, subst}
+use Rattle.std.proofs.lemmas.Result.{err_from_is_err_and}
+use Rattle.gv_model.specs.Ty.{Ty}
+use Rattle.gv_model.specs.Syntax.{Syntax}
+use Rattle.gv_model.specs.Syntax.Syntax.{lone, boxed}
+use Rattle.gv_model.specs.Chosen.{Choice}
+use Rattle.gv_model.specs.Chosen.Choice.{is, no_common_type, ambiguous}
+use Rattle.gv_model.specs.LeastTypes.{choice}
+use Rattle.gv_model.specs.TextValues.{contents, all_contents, pairs_contents, first_choice, HasChoice}
+use Rattle.gv_model.proofs.PatternLaws.{choice_right}
+use Rattle.gv_infer.specs.declared.fault.TypingFault.{TypingFault}
+use Rattle.gv_infer.specs.declared.fault.TypingFault.TheVariants.{NoCommonType, Ambiguous, Memory}
+use Rattle.gv_text.specs.TypeTexts.{type_of_owned}
+use Rattle.gv_text.specs.declared.type_text.TypeText.{TypeText}
+use Rattle.gv_text.specs.SyntaxNodes.{nodes_of, pairs_of}
+use Rattle.gv_infer.proofs.ListLaws.{drop_item}
+use Rattle.gv_infer.specs.Typings.{IsTypingFault, IsChoiceFault, AreTyped, IsFirstFault}
+
+first_append : (choose : Syntax → Choice) (xs ys : List Syntax) (last : Choice) → first_choice choose (xs ++ ys) last ≡ first_choice choose xs (first_choice choose ys last)
+first_append choose [] ys last = refl
+first_append choose (x ∷ xs) ys last = rw (first_append choose xs ys last) refl
+
+pub none_typed : AreTyped []
+none_typed = λ last. refl
+
+pub typed_append : (xs ys : List Syntax) → AreTyped xs → AreTyped ys → AreTyped (xs ++ ys)
+typed_append xs ys h g = λ last. first_append choice xs ys last ∙ h (first_choice choice ys last) ∙ g last
+
+pub fault_before : (xs ys : List Syntax) (f : TypingFault) → IsFirstFault xs f → IsFirstFault (xs ++ ys) f
+fault_before xs ys f h = λ last. subst (λ c. IsChoiceFault c f) (sym (first_append choice xs ys last)) (h (first_choice choice ys last))
+
+pub fault_behind : (xs ys : List Syntax) (f : TypingFault) → AreTyped xs → IsFirstFault ys f → IsFirstFault (xs ++ ys) f
+fault_behind xs ys f h g = λ last. subst (λ c. IsChoiceFault c f) (sym (first_append choice xs ys last ∙ h (first_choice choice ys last))) (g last)
+
+one_is : (choose : Syntax → Choice) (x : Syntax) (t : Ty) (last : Choice) → choose x ≡ is t → first_choice choose (x ∷ []) last ≡ last
+one_is choose x t last e = rw e refl
+
+one_has_none : (choose : Syntax → Choice) (x : Syntax) (last : Choice) → choose x ≡ no_common_type → first_choice choose (x ∷ []) last ≡ no_common_type
+one_has_none choose x last e = rw e refl
+
+one_is_not_clear : (choose : Syntax → Choice) (x : Syntax) (last : Choice) → choose x ≡ ambiguous → first_choice choose (x ∷ []) last ≡ ambiguous
+one_is_not_clear choose x last e = rw e refl
+
+pub typed_one : (x : Syntax) (t : Ty) → choice x ≡ is t → AreTyped (x ∷ [])
+typed_one x t e = λ last. one_is choice x t last e
+
+pub fault_one : (x : Syntax) (f : TypingFault) → IsChoiceFault (choice x) f → IsFirstFault (x ∷ []) f
+fault_one x NoCommonType h = λ last. one_has_none choice x last h
+fault_one x Ambiguous h = λ last. one_is_not_clear choice x last h
+fault_one x Memory h = λ last. tt
+
+-- what comes of the choice, where the contents have types
+pub typed_whole : (x : Syntax) (t : Ty) → AreTyped (contents x) → choice x ≡ is t → HasChoice x (is t)
+typed_whole x t h e = record { choose = choice; chosen = choice_right; comes = sym (h (choice x) ∙ e) }
+
+pub fault_whole : (x : Syntax) (f : TypingFault) → AreTyped (contents x) → IsChoiceFault (choice x) f → IsTypingFault x f
+fault_whole x NoCommonType h e = record { choose = choice; chosen = choice_right; comes = sym (h (choice x) ∙ e) }
+fault_whole x Ambiguous h e = record { choose = choice; chosen = choice_right; comes = sym (h (choice x) ∙ e) }
+fault_whole x Memory h e = tt
+
+pub fault_inside : (x : Syntax) (f : TypingFault) → IsFirstFault (contents x) f → IsTypingFault x f
+fault_inside x NoCommonType h = record { choose = choice; chosen = choice_right; comes = sym (h (choice x)) }
+fault_inside x Ambiguous h = record { choose = choice; chosen = choice_right; comes = sym (h (choice x)) }
+fault_inside x Memory h = tt
+
+-- ---- in the parts of a syntax
+
+stops : {A : Type 0} (r : Result A TypingFault) (f : TypingFault) (xs : List Syntax) → IsFirstFault xs f → IsErrAnd r (λ e. e ≡ f) → IfErr r (IsFirstFault xs)
+stops r f xs h stop =
+    let p = err_from_is_err_and r stop in
+    rw p.1 (subst (IsFirstFault xs) (sym p.2) h)
+
+fault_then : {A : Type 0} (r : Result A TypingFault) (xs ys : List Syntax) → ((f : TypingFault) → IsFirstFault xs f → IsFirstFault ys f) → IfErr r (IsFirstFault xs) → IfErr r (IsFirstFault ys)
+fault_then (Ok a) xs ys m h = tt
+fault_then (Err f) xs ys m h = m f h
+
+of_entry : (x k v : Syntax) → x ≡ lone k v → contents k ++ contents v ≡ contents x
+unfolding contents
+of_entry x k v e = rw e refl
+
+of_variant : (x y : Syntax) → x ≡ boxed y → contents y ++ y ∷ [] ≡ contents x
+unfolding contents
+of_variant x y e = rw e refl
+
+fault_of_whole : (xs ys : List Syntax) (f : TypingFault) → xs ≡ ys → IsFirstFault xs f → IsFirstFault ys f
+fault_of_whole xs ys f e h = subst (λ zs. IsFirstFault zs f) e h
+
+pub stops_in_key : {A : Type 0} (r : Result A TypingFault) (x k v : Syntax) (f : TypingFault) → x ≡ lone k v → IsFirstFault (contents k) f → IsErrAnd r (λ e. e ≡ f) → IfErr r (IsFirstFault (contents x))
+stops_in_key r x k v f e h stop = stops r f (contents x) (fault_of_whole _ _ f (of_entry x k v e) (fault_before (contents k) (contents v) f h)) stop
+
+pub stops_in_value : {A : Type 0} (r : Result A TypingFault) (x k v : Syntax) → x ≡ lone k v → AreTyped (contents k) → IfErr r (IsFirstFault (contents v)) → IfErr r (IsFirstFault (contents x))
+stops_in_value r x k v e typed h = fault_then r (contents v) (contents x) (λ f g. fault_of_whole _ _ f (of_entry x k v e) (fault_behind (contents k) (contents v) f typed g)) h
+
+pub stops_inside : {A : Type 0} (r : Result A TypingFault) (x y : Syntax) (f : TypingFault) → x ≡ boxed y → IsFirstFault (contents y) f → IsErrAnd r (λ e. e ≡ f) → IfErr r (IsFirstFault (contents x))
+stops_inside r x y f e h stop = stops r f (contents x) (fault_of_whole _ _ f (of_variant x y e) (fault_before (contents y) (y ∷ []) f h)) stop
+
+pub stops_itself : {A : Type 0} (r : Result A TypingFault) (x y : Syntax) (f : TypingFault) → x ≡ boxed y → AreTyped (contents y) → IsChoiceFault (choice y) f → IsErrAnd r (λ e. e ≡ f) → IfErr r (IsFirstFault (contents x))
+stops_itself r x y f e typed h stop = stops r f (contents x) (fault_of_whole _ _ f (of_variant x y e) (fault_behind (contents y) (y ∷ []) f typed (fault_one y f h))) stop
+
+-- ---- along a list
+
+-- the first that has no type is among the rest
+abbrev pub IsLeft : List Syntax → List Syntax → Type 0
+IsLeft all rest = (last : Choice) → first_choice choice all last ≡ first_choice choice rest last
+
+pub left_after : (all xs ys rest : List Syntax) → rest ≡ xs ++ ys → IsLeft all rest → AreTyped xs → IsLeft all ys
+left_after all xs ys rest e left typed = λ last. left last ∙ ap (λ zs. first_choice choice zs last) e ∙ first_append choice xs ys last ∙ typed (first_choice choice ys last)
+
+pub stops_at : {A : Type 0} (r : Result A TypingFault) (all xs ys rest : List Syntax) (f : TypingFault) → rest ≡ xs ++ ys → IsLeft all rest → IsFirstFault xs f → IsErrAnd r (λ e. e ≡ f) → IfErr r (IsFirstFault all)
+stops_at r all xs ys rest f e left h stop = stops r f all (λ last. subst (λ c. IsChoiceFault c f) (sym (left last)) (fault_of_whole _ _ f (sym e) (fault_before xs ys f h) last)) stop
+
+pub next_node : (xs : List Syntax) (i : ℕ) (x : Syntax) → i < length xs → x ≡ get_or xs i x → all_contents (nodes_of (drop i xs)) ≡ contents x ++ all_contents (nodes_of (drop (i + 1) xs))
+unfolding contents
+next_node xs i x lt e = ap (λ l. all_contents (nodes_of l)) (drop_item xs i x lt e)
+
+pub next_pair : (xs : List (Syntax × Syntax)) (i : ℕ) (p : Syntax × Syntax) → i < length xs → p ≡ get_or xs i p → pairs_contents (pairs_of (drop i xs)) ≡ contents p.0 ++ (contents p.1 ++ pairs_contents (pairs_of (drop (i + 1) xs)))
+unfolding contents
+next_pair xs i p lt e = ap (λ l. pairs_contents (pairs_of l)) (drop_item xs i p lt e)
+
+-- ---- of the whole
+
+pub stops_whole : {A : Type 0} (r : Result A TypingFault) (x : Syntax) (f : TypingFault) → IsFirstFault (contents x) f → IsErrAnd r (λ e. e ≡ f) → IfErr r (IsTypingFault x)
+stops_whole r x f h stop =
+    let p = err_from_is_err_and r stop in
+    rw p.1 (subst (IsTypingFault x) (sym p.2) (fault_inside x f h))
+
+pub whole_chosen : (r : Result TypeText TypingFault) (x : Syntax) → AreTyped (contents x) → IfOk r (λ t. choice x ≡ is (type_of_owned t)) → IfOk r (λ t. HasChoice x (is (type_of_owned t)))
+whole_chosen (Ok t) x typed h = typed_whole x (type_of_owned t) typed h
+whole_chosen (Err f) x typed h = tt
+
+pub whole_at_fault : (r : Result TypeText TypingFault) (x : Syntax) → AreTyped (contents x) → IfErr r (IsChoiceFault (choice x)) → IfErr r (IsTypingFault x)
+whole_at_fault (Ok t) x typed h = tt
+whole_at_fault (Err f) x typed h = fault_whole x f typed h

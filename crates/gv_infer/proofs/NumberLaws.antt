@@ -1,0 +1,65 @@
+-- A number is of its type, and is itself.
+use Rattle.std.proofs.Common.{ℕ, ◌≡◌, Bool, Option, Some, None, Result, Ok, Err, refl, sym, ap, ◌∙◌}
+use Rattle.gv_model.specs.Ty.{Ty, Basic}
+use Rattle.gv_model.specs.Ty.Ty.{basic, variant, array, maybe, tuple, entry}
+use Rattle.gv_model.specs.Ty.Basic.{boolean, byte, int16, uint16, int32, uint32, int64, uint64, handle, double, string, path, signature}
+use Rattle.gv_model.specs.Tree.{Tree, type_of}
+use Rattle.gv_model.specs.Tree.Tree.{number}
+use Rattle.gv_model.specs.Literals.{ValueFault, integer_at, or_out_of_range}
+use Rattle.gv_types.specs.Classes.{class_of, basic_of, basic_type}
+use Rattle.gv_types.specs.declared.class.Class.{Class}
+use Rattle.gv_types.specs.declared.class.BasicType.{BasicType}
+use Rattle.gv_types.specs.declared.class.Class.TheVariants as classes
+use Rattle.gv_infer.specs.Leaves.{leaf_value}
+
+pub record IsNumberTree (k : Basic) (r : Result Tree ValueFault) (v : Tree) : Type 0 where
+  pub leaf : leaf_value v ≡ r
+  pub typed : type_of v ≡ basic k
+
+same_tree : (u v : Tree) → ◌≡◌ {A = Result Tree ValueFault} (Ok u) (Ok v) → v ≡ u
+same_tree u v e = cc
+
+ranged : (k : Basic) (n : Option ℕ) (v : Tree) → or_out_of_range k n ≡ Ok v → IsNumberTree k (or_out_of_range k n) v
+ranged k (Some n) v e = let is = same_tree (number k n) v e in record { leaf = ap leaf_value is; typed = ap type_of is }
+ranged k None v e = absurd cc
+
+pub number_is : (k : Basic) (negative : Bool) (n : ℕ) (v : Tree) → integer_at k negative n ≡ Ok v → IsNumberTree k (integer_at k negative n) v
+number_is double negative n v e = absurd cc
+number_is boolean negative n v e = ranged boolean _ v e
+number_is byte negative n v e = ranged byte _ v e
+number_is int16 negative n v e = ranged int16 _ v e
+number_is uint16 negative n v e = ranged uint16 _ v e
+number_is int32 negative n v e = ranged int32 _ v e
+number_is uint32 negative n v e = ranged uint32 _ v e
+number_is int64 negative n v e = ranged int64 _ v e
+number_is uint64 negative n v e = ranged uint64 _ v e
+number_is handle negative n v e = ranged handle _ v e
+number_is string negative n v e = ranged string _ v e
+number_is path negative n v e = ranged path _ v e
+number_is signature negative n v e = ranged signature _ v e
+
+basic_back : (k : Basic) → basic_of (basic_type k) ≡ k
+basic_back boolean = refl
+basic_back byte = refl
+basic_back int16 = refl
+basic_back uint16 = refl
+basic_back int32 = refl
+basic_back uint32 = refl
+basic_back int64 = refl
+basic_back uint64 = refl
+basic_back handle = refl
+basic_back double = refl
+basic_back string = refl
+basic_back path = refl
+basic_back signature = refl
+
+same_basic : (a b : BasicType) → classes.Basic a ≡ classes.Basic b → a ≡ b
+same_basic a b e = cc
+
+pub basic_class : (t : Ty) (c : Class) (b : BasicType) → c ≡ class_of t → c ≡ classes.Basic b → t ≡ basic (basic_of b)
+basic_class (basic k) c b h e = ap basic (sym (basic_back k) ∙ ap basic_of (same_basic (basic_type k) b (sym h ∙ e)))
+basic_class variant c b h e = absurd cc
+basic_class (array t) c b h e = absurd cc
+basic_class (maybe t) c b h e = absurd cc
+basic_class (tuple ts) c b h e = absurd cc
+basic_class (entry k t) c b h e = absurd cc

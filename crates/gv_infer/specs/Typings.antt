@@ -1,0 +1,41 @@
+-- What the choice of a text's type comes to.
+use Rattle.std.specs.Prelude.{◌≡◌, List, ℕ, ◌+◌}
+use Rattle.gv_model.specs.Syntax.{Syntax, Syntaxes, Pairs}
+use Rattle.gv_model.specs.Syntax.Syntaxes.{none, first}
+use Rattle.gv_model.specs.Syntax.Pairs.{no_pair, pair}
+use Rattle.gv_model.specs.Grammar.{text_bytes}
+use Rattle.gv_model.specs.Chosen.{Choice}
+use Rattle.gv_model.specs.Chosen.Choice.{no_common_type, ambiguous}
+use Rattle.gv_model.specs.LeastTypes.{choice}
+use Rattle.gv_model.specs.TextValues.{first_choice, HasChoice}
+use Rattle.gv_infer.specs.declared.fault.TypingFault.{TypingFault}
+use Rattle.gv_infer.specs.declared.fault.TypingFault.TheVariants.{NoCommonType, Ambiguous, Memory}
+
+-- why a text has no type; want of memory is never the text's fault
+abbrev pub IsTypingFault : Syntax → TypingFault → Type 0
+IsTypingFault x NoCommonType = HasChoice x no_common_type
+IsTypingFault x Ambiguous = HasChoice x ambiguous
+IsTypingFault x Memory = Unit {0}
+
+-- why a choice is of no type
+abbrev pub IsChoiceFault : Choice → TypingFault → Type 0
+IsChoiceFault c NoCommonType = c ≡ no_common_type
+IsChoiceFault c Ambiguous = c ≡ ambiguous
+IsChoiceFault c Memory = Unit {0}
+
+-- each of these has a type
+abbrev pub AreTyped : List Syntax → Type 0
+AreTyped xs = (last : Choice) → first_choice choice xs last ≡ last
+
+-- why the first of these that has no type has none
+abbrev pub IsFirstFault : List Syntax → TypingFault → Type 0
+IsFirstFault xs fault = (last : Choice) → IsChoiceFault (first_choice choice xs last) fault
+
+-- the bytes that these take in a text at least
+abbrev pub syntaxes_bytes : Syntaxes → ℕ
+syntaxes_bytes none = 0
+syntaxes_bytes (first x xs) = text_bytes x + syntaxes_bytes xs
+
+abbrev pub pairs_bytes : Pairs → ℕ
+pairs_bytes no_pair = 0
+pairs_bytes (pair k v ps) = (text_bytes k + text_bytes v) + pairs_bytes ps

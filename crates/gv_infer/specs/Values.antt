@@ -1,0 +1,10 @@
+-- Why a syntax tree has no value at a type.
+use Rattle.std.specs.Prelude.{Err}
+use Rattle.gv_model.specs.Ty.{Ty}
+use Rattle.gv_model.specs.Syntax.{Syntax}
+use Rattle.gv_model.specs.TextValues.{HasValue}
+use Rattle.gv_infer.specs.ValueFaults.{FaultIs}
+use Rattle.gv_infer.specs.declared.value_fault.ValueFault.{ValueFault}
+
+abbrev pub IsValueFault : Syntax → Ty → ValueFault → Type 0
+IsValueFault x t e = FaultIs (λ f. HasValue x t (Err f)) e

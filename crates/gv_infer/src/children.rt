@@ -1,0 +1,51 @@
+//! The children of a container while they are built: none are kept where one of them is too deep.
+ghost use Rattle.std.specs.Prelude.{◌≡◌, IfOk};
+ghost use Rattle.gv_model.specs.Tree.{Tree as Value, Trees, Trees.none};
+ghost use Rattle.gv_infer.specs.declared.value_fault.ValueFault.TheVariants.{Memory};
+
+use crate::value_fault::ValueFault;
+use gv_tree::Tree;
+use std::alloc::Global;
+
+/// Trees, one after the other, or nothing where one of them would have over 128 levels.
+#[derive(Drop)]
+pub(crate) struct Children {
+    trees: Vec<Tree>,
+    shallow: bool,
+}
+
+impl Children {
+    ghost use Rattle.std.specs.Prelude.{MatchResult};
+    ghost use Rattle.gv_infer.specs.Building.{Shows};
+    ghost use Rattle.gv_infer.specs.Children.{Hold, Show, behind};
+
+    /// No children, with room for so many.
+    pub(crate) fn with_capacity(alloc: Global, count: usize) -> Result<Children, ValueFault>
+        ensures { MatchResult result (λ children. Hold children none) (λ e. e ≡ Memory) }
+    {
+        Ok(Children {
+            trees: Vec::with_capacity(alloc, count)?,
+            shallow: true,
+        })
+    }
+
+    /// One child more, or None for one that is too deep.
+    pub(crate) fn push(&mut self, child: Option<Tree>) -> Result<(), ValueFault>
+        ensures { MatchResult result
+            (λ _. (vs : Trees) (v : Value) → Hold self.old vs → Shows child v → Hold self.new (behind vs v))
+            (λ e. e ≡ Memory) }
+    {
+        match child {
+            Some(tree) => self.trees.push(tree)?,
+            None => self.shallow = false,
+        }
+        Ok(())
+    }
+
+    /// The children, or None where one of them is too deep.
+    pub(crate) fn finish(self) -> Option<Vec<Tree>>
+        ensures { (vs : Trees) → Hold self vs → Show result vs }
+    {
+        if self.shallow { Some(self.trees) } else { None }
+    }
+}

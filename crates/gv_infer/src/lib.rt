@@ -1,0 +1,27 @@
+//! What the syntax of a text means: the type that it has by itself, and its value at a type (GLib, "GVariant Text Format").
+#![tactic(auto)]
+
+mod admits;
+mod admitted;
+mod bare;
+mod build;
+mod children;
+mod containers;
+mod exact;
+mod fault;
+mod kind;
+mod least;
+mod literal;
+mod pattern;
+mod read;
+mod read_fault;
+mod typing;
+mod value;
+mod value_fault;
+
+pub use fault::TypingFault;
+pub use read::read_value;
+pub use read_fault::ReadFault;
+pub use typing::type_of;
+pub use value::value_at;
+pub use value_fault::ValueFault;
