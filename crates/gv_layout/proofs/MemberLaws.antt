@@ -1,6 +1,6 @@
 -- The members of tuples and entries, one after the other.
 use Rattle.std.proofs.Common.{◌≡◌, ◌⊎◌, inl, inr, ℕ, suc, Bool, true, false, List, [], ◌∷◌, length, Option, Some, None, refl, sym, ap, ap₂, ◌∙◌, arith}
-use Rattle.std.specs.Prelude.{option_map, is_some, not, MatchOption, IsTrue}
+use Rattle.std.specs.Prelude.{◌↔◌, option_map, IsTrue}
 use Rattle.gv_model.specs.Ty.{Ty, Types, types_from}
 use Rattle.gv_model.specs.Ty.Types.{end, member}
 use Rattle.gv_model.specs.Layout.{alignment, fixed_size, round_up}
@@ -112,29 +112,28 @@ known_next n w k used p s to b o t xs ys place e h starts ends counted is_place 
     ∙ (known_first n w k used p s to b t (types_from xs) starts ends counted
     ∙ ap (λ c. c ∷ children_at n (member_spans w b used (Some to) (types_from xs))) (sym is_place))
 
--- whether a member is the last one is seen by whether another follows
-pub end_by-member_end : {X : Type 0} (f : X → Ty) (r : Option X) (last : Bool) (xs ys : List Ty)
-    → MatchOption r ((xs ≡ []) × (ys ≡ [])) (λ x. xs ≡ f x ∷ ys) → is_some r ≡ not last
+-- a member is the last one if none is left behind it
+pub no_more : (last : Bool) (xs : List Ty) → IsTrue last ↔ (xs ≡ []) → IsTrue last → types_from xs ≡ end
+no_more last xs h l = ap types_from (h.0 l)
+
+pub end_by-member_end : (last : Bool) (xs : List Ty) → IsTrue last ↔ (xs ≡ [])
     → (w k s : ℕ) (b : List ℕ) (size : Option ℕ) → end_by w b k s size last ≡ member_end w b k s size (types_from xs)
-end_by-member_end f None true xs ys h e w k s b (Some size) = refl
-end_by-member_end f None true xs ys h e w k s b None = ap (λ zs. member_end w b k s None (types_from zs)) (sym h.0)
-end_by-member_end f None false xs ys h e w k s b size = absurd cc
-end_by-member_end f (Some x) true xs ys h e w k s b size = absurd cc
-end_by-member_end f (Some x) false xs ys h e w k s b (Some size) = refl
-end_by-member_end f (Some x) false xs ys h e w k s b None = ap (λ zs. member_end w b k s None (types_from zs)) (sym h)
+end_by-member_end last xs h w k s b (Some size) = refl
+end_by-member_end true [] h w k s b None = refl
+end_by-member_end true (x ∷ xs) h w k s b None = absurd (cons_nil (h.0 refl))
+  where
+    cons_nil : x ∷ xs ≡ [] → ⊥
+    cons_nil e = cc
+end_by-member_end false [] h w k s b None = absurd (false_true (h.1 refl))
+  where
+    false_true : false ≡ true → ⊥
+    false_true e = cc
+end_by-member_end false (x ∷ xs) h w k s b None = refl
 
-pub no_more : {X : Type 0} (f : X → Ty) (r : Option X) (last : Bool) (xs ys : List Ty)
-    → MatchOption r ((xs ≡ []) × (ys ≡ [])) (λ x. xs ≡ f x ∷ ys) → is_some r ≡ not last → IsTrue last → types_from xs ≡ end
-no_more f None true xs ys h e l = ap types_from h.0
-no_more f None false xs ys h e l = absurd cc
-no_more f (Some x) true xs ys h e l = absurd cc
-no_more f (Some x) false xs ys h e l = absurd cc
-
-pub counted : {X : Type 0} (f : X → Ty) (r : Option X) (last : Bool) (xs ys : List Ty) (k used : ℕ) (found size : Option ℕ)
-    → MatchOption r ((xs ≡ []) × (ys ≡ [])) (λ x. xs ≡ f x ∷ ys) → is_some r ≡ not last → found ≡ size
+pub counted : (last : Bool) (xs : List Ty) (k used : ℕ) (found size : Option ℕ) → IsTrue last ↔ (xs ≡ []) → found ≡ size
     → IsTrue last ⊎ (used ≡ next_offset k found) → (types_from xs ≡ end) ⊎ (used ≡ next_offset k size)
-counted f r last xs ys k used found size h e same (inl l) = inl (no_more f r last xs ys h e l)
-counted f r last xs ys k used found size h e same (inr u) = inr (u ∙ ap (next_offset k) same)
+counted last xs k used found size h same (inl l) = inl (no_more last xs h l)
+counted last xs k used found size h same (inr u) = inr (u ∙ ap (next_offset k) same)
 
 pub members-length : (n w k : ℕ) (b : List ℕ) (p : Option ℕ) (xs : List Ty) → length (children_at n (member_spans w b k p (types_from xs))) ≡ length xs
 unfolding member_spans

@@ -107,6 +107,41 @@ of_members (array t) c e (inr h) = absurd cc
 of_members (maybe t) c e (inl h) = absurd cc
 of_members (maybe t) c e (inr h) = absurd cc
 
+-- a member without a fixed size leaves its tuple or entry without one
+abbrev pub AreUnsized : Types → Type 0
+AreUnsized ts = (q : ℕ) → fixed_end ts q ≡ None
+
+-- where the members in rest alone tell that a type has no fixed size
+abbrev pub IsUnsizedBy : Ty → Types → Type 0
+IsUnsizedBy t rest = AreUnsized rest → fixed_size t ≡ None
+
+unsized_padded : (t : Ty) → IsOfMembers t → IsUnsizedBy t (members t)
+unsized_padded t of h = of.sized ∙ ap (padded (greatest_alignment (members t))) (h 0)
+
+no_members_unsized : AreUnsized end → ⊥
+unfolding fixed_end
+no_members_unsized h = none-some 0 (sym (h 0))
+
+pub unsized_by_members : (t : Ty) → IsUnsizedBy t (members t)
+unsized_by_members (tuple ts) = unsized_padded (tuple ts) (of_tuple ts)
+unsized_by_members (entry k t) = unsized_padded (entry k t) (of_entry k t)
+unsized_by_members (basic k) = λ h. absurd (no_members_unsized h)
+unsized_by_members variant = λ h. absurd (no_members_unsized h)
+unsized_by_members (array t) = λ h. absurd (no_members_unsized h)
+unsized_by_members (maybe t) = λ h. absurd (no_members_unsized h)
+
+pub unsized_first : (t u : Ty) (rest : Types) → IsUnsizedBy t (member u rest) → fixed_size u ≡ None → fixed_size t ≡ None
+unfolding fixed_end
+unsized_first t u rest h e = h (λ q. ap (option_and_then (λ s. fixed_end rest (round_up (alignment u) q + s))) e)
+
+pub unsized_behind : (t u : Ty) (rest : Types) → IsUnsizedBy t (member u rest) → IsUnsizedBy t rest
+unfolding fixed_end
+unsized_behind t u rest h g = h (λ q. go q (fixed_size u))
+  where
+    go : (q : ℕ) (o : Option ℕ) → option_and_then (λ s. fixed_end rest (round_up (alignment u) q + s)) o ≡ None
+    go q None = refl
+    go q (Some s) = g (round_up (alignment u) q + s)
+
 -- ---- how large sizes get: each byte of a type's text stands for at most 16 bytes
 
 abbrev pub IsSmall : Ty → Type 0

@@ -25,6 +25,19 @@ pub fn fixed_size(of: TypeStr<'_>) -> Option<usize>
     layout_of(of).size
 }
 
+/// The size of each value of a tuple's or an entry's type, found out without a look at the members behind the first
+/// that has no fixed size.
+pub(crate) fn size_of_members(of: TypeStr<'_>) -> Option<usize>
+    ensures { result ≡ fixed_size (ty of.entry) }
+{
+    for member in of.members() {
+        if layout_of(member).size.is_none() {
+            return None;
+        }
+    }
+    fixed_size(of)
+}
+
 /// The width in bytes of each framing offset of a container of this many bytes: 0, 1, 2, 4 or 8.
 #[tactic(auto, unfolding(gv_model::specs::Layout::offset_width))]
 pub fn offset_width(len: usize) -> u8
@@ -42,14 +55,14 @@ pub fn offset_width(len: usize) -> u8
 /// What the starts of a type's values are multiples of, and how many bytes each value has, or None where they
 /// differ in it.
 #[derive(Clone, Copy, Debug)]
-struct Layout {
-    alignment: u8,
-    size: Option<usize>,
+pub(crate) struct Layout {
+    pub(crate) alignment: u8,
+    pub(crate) size: Option<usize>,
 }
 
 /// The layout of a type: its alignment and its size together, so that each level's members are walked once.
 #[cycle(layouts)]
-fn layout_of(of: TypeStr<'_>) -> Layout
+pub(crate) fn layout_of(of: TypeStr<'_>) -> Layout
     ensures alignment { result.alignment ≡ alignment (ty of.entry) }
     ensures size { result.size ≡ fixed_size (ty of.entry) }
 {

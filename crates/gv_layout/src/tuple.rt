@@ -9,7 +9,7 @@ ghost use Rattle.gv_types.specs.Members.{members_left};
 
 use crate::offset::framing_offset;
 use crate::place::Place;
-use crate::size::{alignment, fixed_size, offset_width};
+use crate::size::{layout_of, offset_width, size_of_members};
 use crate::walk::aligned;
 use gv_types::{Members, TypeStr};
 
@@ -35,7 +35,7 @@ impl<'a, 'b> Following<'a, 'b> {
         ensures { following_left result ≡ children_at (length bytes.entry.now) (tuple_spans (ty of.entry) (members (ty of.entry)) bytes.entry.now) }
     {
         let width = usize::from(offset_width(bytes.len()));
-        let previous = match fixed_size(of) {
+        let previous = match size_of_members(of) {
             Some(size) if size != bytes.len() => None,
             _ => Some(0),
         };
@@ -62,8 +62,7 @@ impl<'a, 'b> Following<'a, 'b> {
     {
         let mut members = self.members;
         let member = members.next()?;
-        let mut others = members;
-        let is_last = others.next().is_none();
+        let is_last = members.is_empty();
         let unknown = Place {
             type_str: member,
             from: 0,
@@ -79,8 +78,9 @@ impl<'a, 'b> Following<'a, 'b> {
         let Some(previous) = self.previous else {
             return Some((unknown, lost));
         };
-        let from = aligned(previous, alignment(member), self.bytes.len());
-        let Some((to, used)) = self.end(fixed_size(member), from, is_last) else {
+        let layout = layout_of(member);
+        let from = aligned(previous, layout.alignment, self.bytes.len());
+        let Some((to, used)) = self.end(layout.size, from, is_last) else {
             return Some((unknown, lost));
         };
         let place = Place::within(member, from, to, self.bytes.len());

@@ -1,8 +1,8 @@
 -- What stands in a tuple and in braces, part by part.
-use Rattle.std.proofs.Common.{arith, length, ◌≡◌, ◌≤◌, ◌<◌, ◌+◌, ℕ, suc, max, List, [], ◌∷◌, ◌++◌, refl, sym, ap, ◌∙◌, append_assoc, Box, Global, Vec}
-use Rattle.std.specs.Prelude.{◌⊎◌, true, false}
+use Rattle.std.proofs.Common.{arith, length, ◌≡◌, ◌≤◌, ◌<◌, ◌+◌, ℕ, List, [], ◌∷◌, ◌++◌, refl, sym, ap, ◌∙◌, append_assoc, Box, Global, Vec}
+use Rattle.std.specs.Prelude.{◌⊎◌}
 use mathlib.Core.Logic.{inl, inr}
-use Rattle.gv_model.specs.Syntax.{Syntax as Value, levels, greatest_levels, pairs_levels}
+use Rattle.gv_model.specs.Syntax.{Syntax as Value, levels, pairs_levels}
 use Rattle.gv_model.specs.Tokens.{Mark as TheMark, Token as TheToken}
 use Rattle.gv_model.specs.Tokens.Mark.{open_brace, close_tuple, close_brace, comma, colon}
 use Rattle.gv_model.specs.Tokens.Token.{mark}
@@ -22,7 +22,7 @@ use Rattle.gv_text.specs.Placed.{token_of}
 use Rattle.gv_text.specs.Reading.{Want, first_fault, kinds_of, Taken, Stops, StopsWith}
 use Rattle.gv_text.specs.Reading.Want.{a_value, inside}
 use Rattle.gv_text.specs.Held.{IsValue, IsBraced, ArePairs, AreMembers, AreMore}
-use Rattle.gv_text.proofs.ReadingLaws.{Opens, Refuses, carried_in, carried_out, entered, taken, taken_tokens, tuple_opens, second_opens, brace_opens}
+use Rattle.gv_text.proofs.ReadingLaws.{Opens, Refuses, carried_in, carried_out, entered, taken, taken_tokens, second_opens}
 use Rattle.gv_text.proofs.SequenceLaws.{PairsSoFar, pairs_more, pairs_levels_more, members_of, no_longer}
 
 -- from these tokens, where the first things are wanted, to those, where the second are

@@ -1,10 +1,9 @@
 -- What each kind of value takes from the tokens, of its parts.
-use Rattle.std.proofs.Common.{arith, ◌≡◌, ◌≤◌, ◌+◌, ℕ, suc, List, [], ◌∷◌, ◌++◌, refl, sym, ap, ◌∙◌, append_assoc, add-one, Bool, Box, Global, Vec, String}
+use Rattle.std.proofs.Common.{arith, ◌≡◌, ◌≤◌, ◌+◌, ℕ, List, [], ◌∷◌, ◌++◌, refl, sym, ap, ◌∙◌, append_assoc, add-one, Bool, Box, Global, Vec, String}
 use Rattle.std.specs.Prelude.{IsSome, string_bytes, ◌⊎◌, true, false, Result, Ok, Err, IfOk, IfErr}
 use Rattle.gv_model.specs.GrammarFaults.Stage.{list_start, list_more, tuple_start, tuple_more, box_end}
-use Rattle.gv_model.specs.Syntax.{Syntax as Value, levels, greatest_levels}
-use Rattle.gv_model.specs.Syntax.Syntax.{list, tuple_of}
-use Rattle.gv_model.specs.Tokens.{Mark as TheMark, Token as TheToken}
+use Rattle.gv_model.specs.Syntax.{Syntax as Value, levels}
+use Rattle.gv_model.specs.Tokens.{Mark as TheMark}
 use Rattle.gv_model.specs.Tokens.Mark.{open_tuple, open_list, open_brace, open_box, close_tuple, close_list, close_box, comma}
 use Rattle.gv_model.specs.Tokens.Word.{truth as truth_word, just as just_word, nothing as nothing_word, type_word}
 use Rattle.gv_model.specs.Tokens.Token.{mark, word, type_token, integer_token, string_token, byte_string}
@@ -23,7 +22,7 @@ use Rattle.gv_text.specs.declared.syntax.SyntaxKind.{SyntaxKind}
 use Rattle.gv_text.specs.declared.syntax.SyntaxKind.TheVariants.{Array, Tuple, Truth, Integer, Text, ByteString, Variant, Just, Nothing, OfType, Keyword}
 use Rattle.gv_text.specs.SyntaxNodes.{nodes_of, syntax_of}
 use Rattle.gv_text.specs.Placed.{token_of, mark_of}
-use Rattle.gv_text.specs.Reading.{Want, behind, behind_first, first_fault, kinds_of, Taken, NotTaken, TakesSeparator, Stops, Passes, more_stage, ClosesValues}
+use Rattle.gv_text.specs.Reading.{Want, behind_first, first_fault, kinds_of, Taken, NotTaken, TakesSeparator, Stops, Passes, more_stage, ClosesValues}
 use Rattle.gv_text.specs.Reading.Want.{a_value, inside}
 use Rattle.gv_text.specs.Held.{IsValue, IsBehind, IsBraced, AreElements, AreMembers, AreMore}
 use Rattle.gv_text.proofs.ReadingLaws.{begins, taken, taken_tokens, not_taken, list_wants, tuple_wants, Either}

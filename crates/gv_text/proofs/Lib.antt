@@ -1,5 +1,6 @@
 pub mod Trivia
 pub mod Quotes
+pub mod PlainTexts
 pub mod Figures
 pub mod Containers
 pub mod ContainerTexts

@@ -1,13 +1,13 @@
 -- The first fault of placed tokens is that of the grammar, read at its token's number.
-use Rattle.std.proofs.Common.{arith, ◌≡◌, ◌≤◌, ◌+◌, ℕ, zero, suc, Bool, true, false, cond, List, [], ◌∷◌, ◌++◌, length, map, Option, Some, None, Result, Ok, Err, refl, sym, ap, subst, ◌∙◌, nat_le}
+use Rattle.std.proofs.Common.{arith, ◌≡◌, ◌≤◌, ◌+◌, ℕ, suc, Bool, true, false, cond, List, [], ◌∷◌, ◌++◌, length, map, Option, Some, None, Result, Ok, Err, refl, sym, ap, subst, ◌∙◌, nat_le}
 use Rattle.std.specs.Prelude.{slice_get, option_map}
 use Rattle.std.proofs.lemmas.List.{map-append}
 use Rattle.std.proofs.lemmas.Option.{slice_get-map}
-use Rattle.gv_model.specs.Tokens.{Token as TheToken, Placed}
-use Rattle.gv_model.specs.Tokens.Mark.{open_tuple, close_tuple, open_list, close_list, open_brace, close_brace, open_box, close_box, comma, colon}
+use Rattle.gv_model.specs.Tokens.{Token as TheToken}
+use Rattle.gv_model.specs.Tokens.Mark.{open_tuple, open_list, open_brace, open_box}
 use Rattle.gv_model.specs.Tokens.Word.{truth as truth_word, just as just_word, nothing as nothing_word, type_word}
 use Rattle.gv_model.specs.Tokens.Token.{mark, string_token, byte_string, integer_token, type_token, word}
-use Rattle.gv_model.specs.TextFault.{Cause, Fault}
+use Rattle.gv_model.specs.TextFault.{Cause}
 use Rattle.gv_model.specs.TextFault.Cause.{bad_token, unclosed, bad_escape, double_text, unexpected, too_deep}
 use Rattle.gv_model.specs.GrammarFaults.{Stage, Next, NumberedFault, behind_value, behind_mark, fault_from, grammar_fault}
 use Rattle.gv_model.specs.GrammarFaults.{Want as TheWant, behind_first as first_numbered, begun as begun_numbered, stage_or_value as stage_numbered, behind_next as next_numbered, step as step_numbered, at_end as end_numbered, wants_of as wants_numbered, or_fault as or_numbered}

@@ -1,11 +1,10 @@
 -- Steps of reading: what a token does to the things that are wanted.
-use Rattle.std.proofs.Common.{arith, ◌≡◌, ◌≤◌, ◌+◌, ℕ, suc, true, List, [], ◌∷◌, ◌++◌, Option, Some, None, Result, Ok, Err, refl, sym, ap, ◌∙◌, subst, nat_le, append_assoc, append-nil}
+use Rattle.std.proofs.Common.{arith, ◌≡◌, ◌≤◌, ℕ, true, List, [], ◌∷◌, ◌++◌, Option, Some, None, Ok, Err, refl, sym, ap, ◌∙◌, subst, nat_le, append_assoc, append-nil}
 use Rattle.std.specs.Prelude.{IsSome, cond, unwrap_or, ◌⊎◌, Bool, false}
 use mathlib.Core.Logic.{inl, inr}
 use Rattle.gv_model.specs.Tokens.{Mark as TheMark, Token as TheToken}
-use Rattle.gv_model.specs.Tokens.Mark.{open_tuple, open_list, open_brace, open_box, close_tuple, close_list, close_brace, close_box, comma, colon}
-use Rattle.gv_model.specs.Tokens.Word.{truth as truth_word, just as just_word, nothing as nothing_word, type_word}
-use Rattle.gv_model.specs.Tokens.Token.{mark, string_token, byte_string, integer_token, type_token, word}
+use Rattle.gv_model.specs.Tokens.Mark.{close_tuple, close_list, close_brace, close_box, comma, colon}
+use Rattle.gv_model.specs.Tokens.Token.{mark}
 use Rattle.gv_model.specs.GrammarFaults.{Stage}
 use Rattle.gv_model.specs.GrammarFaults.Stage.{list_start, list_more, tuple_start, tuple_one, tuple_two, tuple_more, brace_start, brace_first, pair_more, pair_colon, lone_end, box_end}
 use Rattle.gv_text.specs.declared.token.Span.{Span}
@@ -14,7 +13,7 @@ use Rattle.gv_text.specs.declared.fault.TextCause.TheVariants.{Unclosed, Unexpec
 use Rattle.gv_text.specs.declared.fault.TextFault.{TextFault}
 use Rattle.gv_text.specs.declared.fault.TextFault.TheVariants.{Refused, Memory}
 use Rattle.gv_text.specs.Placed.{token_of}
-use Rattle.gv_text.specs.Reading.{Want, Left, behind, behind_first, begun, step, at_end, wants_of, or_fault, first_fault, kinds_of, Passes, Stops, StopsWith, Taken, NotTaken, OneOther}
+use Rattle.gv_text.specs.Reading.{Want, Left, behind, behind_first, begun, step, at_end, wants_of, or_fault, first_fault, kinds_of, Stops, StopsWith, Taken, NotTaken}
 use Rattle.gv_text.specs.Reading.Want.{a_value, inside}
 
 -- one token, which goes on to these wants, or is the fault

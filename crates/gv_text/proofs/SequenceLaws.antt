@@ -1,6 +1,6 @@
 -- Values with `,` between: what has been read of them, and one more.
-use Rattle.std.proofs.Common.{arith, ◌≡◌, ◌≤◌, ◌<◌, ◌+◌, ℕ, suc, max, List, [], ◌∷◌, ◌++◌, length, refl, sym, ap, ◌∙◌, append_assoc, append-nil, length-append}
-use Rattle.gv_model.specs.Syntax.{Syntax as Value, Syntaxes, Pairs, levels, greatest_levels, pairs_levels}
+use Rattle.std.proofs.Common.{arith, ◌≡◌, ◌≤◌, ◌+◌, ℕ, suc, max, List, [], ◌∷◌, ◌++◌, length, refl, sym, ap, ◌∙◌, append_assoc, length-append}
+use Rattle.gv_model.specs.Syntax.{Syntax as Value, levels, greatest_levels, pairs_levels}
 use Rattle.gv_model.specs.Tokens.{Token as TheToken}
 use Rattle.gv_model.specs.Tokens.Mark.{comma, colon}
 use Rattle.gv_model.specs.Tokens.Token.{mark}

@@ -1,7 +1,6 @@
 -- The levels of a syntax tree's parts, and parts in a list.
-use Rattle.std.proofs.Common.{ℕ, zero, suc, ◌+◌, ◌<◌, ◌≡◌, max, List, [], ◌∷◌, length, drop, get_or, refl, sym, ap, ◌∙◌, arith, add-one}
-use Rattle.gv_model.specs.Syntax.{Syntax as Value, Syntaxes, Pairs, levels, greatest_levels, pairs_levels}
-use Rattle.gv_model.specs.Syntax.Syntax.{list, tuple_of, dictionary, lone, boxed, just, nothing, at_type, keyword}
+use Rattle.std.proofs.Common.{ℕ, zero, suc, ◌+◌, ◌<◌, ◌≡◌, max, List, [], ◌∷◌, length, drop, get_or, sym, ap, arith, add-one}
+use Rattle.gv_model.specs.Syntax.{Syntax as Value, levels, greatest_levels, pairs_levels}
 use Rattle.gv_text.specs.SyntaxNodes.{nodes_of, pairs_of}
 
 -- the item at an index, and those behind it

@@ -1,5 +1,5 @@
 -- What the parts of reading a value take from the tokens.
-use Rattle.std.specs.Prelude.{ℕ, ◌≡◌, ◌≤◌, ◌+◌, List, [], ◌∷◌, ◌++◌, Option, Some, None, Result, Ok, Err, IsSome}
+use Rattle.std.specs.Prelude.{ℕ, ◌≡◌, ◌≤◌, ◌+◌, List, [], ◌∷◌, ◌++◌, Result, Ok, Err, IsSome}
 use Rattle.gv_model.specs.Syntax.{Syntax as Value, levels, greatest_levels, pairs_levels}
 use Rattle.gv_model.specs.Tokens.{Token as TheToken}
 use Rattle.gv_model.specs.Tokens.Mark.{open_brace, close_list, close_tuple, close_brace, colon}
@@ -13,7 +13,7 @@ use Rattle.gv_text.specs.declared.fault.TextFault.{TextFault}
 use Rattle.gv_text.specs.declared.syntax.SyntaxKind.{SyntaxKind}
 use Rattle.gv_text.specs.SyntaxNodes.{nodes_of, pairs_of, syntax_of}
 use Rattle.gv_text.specs.Placed.{token_of, mark_of}
-use Rattle.gv_text.specs.Reading.{Want, behind, behind_first, begun, kinds_of, Passes, more_stage}
+use Rattle.gv_text.specs.Reading.{behind, behind_first, begun, kinds_of, Passes, more_stage}
 use Rattle.gv_text.specs.Reading.Want.{a_value, inside}
 
 -- a value so deep

@@ -1,5 +1,5 @@
 -- What printing answers.
-use Rattle.std.specs.Prelude.{◌≡◌, ◌<◌, ℕ, List, [], Option, Some, None, Bool, true, false}
+use Rattle.std.specs.Prelude.{◌≡◌, ◌<◌, ℕ, List, [], Option, Some, None, Bool, true, false, nat_le, ◌==◌, ◌&&◌, ◌||◌, not}
 use Rattle.gv_model.specs.Ty.{Ty}
 use Rattle.gv_model.specs.Ty.Ty.{basic, array, entry}
 use Rattle.gv_model.specs.Ty.Basic.{byte}
@@ -70,3 +70,7 @@ pub record IsWithin (v u : Tree) : Type 0 where
   pub text : text_of v false false ≡ text_of u false false
   pub double : holds_double v ≡ holds_double u
   pub deeper : depth u < depth v
+
+-- the byte is a character that stands for itself in this quote
+abbrev pub stands_alone : ℕ → ℕ → Bool
+stands_alone quote c = nat_le 32 c && nat_le c 126 && not (c == quote || c == 92)

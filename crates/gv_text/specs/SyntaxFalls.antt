@@ -1,10 +1,10 @@
 -- A syntax tree is deeper than each of its parts.
-use Rattle.std.specs.Prelude.{ℕ, ◌+◌, ◌≤◌, max, List, [], ◌∷◌}
+use Rattle.std.specs.Prelude.{◌+◌, ◌≤◌, max, List, [], ◌∷◌}
 use Rattle.std.proofs.Common.{arith, Vec, Global}
 use denote.Param.Weighed.{most}
 use Rattle.gv_model.specs.Syntax.{Syntax as Value, levels, greatest_levels, pairs_levels}
 use Rattle.gv_text.specs.declared.syntax.SyntaxKind.{SyntaxKind}
-use Rattle.gv_text.specs.declared.syntax.SyntaxKind.TheVariants.{Truth, Integer, Text, ByteString, Array, Tuple, Dictionary, Entry, Variant, Just, Nothing, OfType, Keyword}
+use Rattle.gv_text.specs.declared.syntax.SyntaxKind.TheVariants.{Array, Tuple, Dictionary}
 use Rattle.gv_text.specs.declared.syntax.SyntaxNode.{SyntaxNode}
 use Rattle.gv_text.specs.declared.syntax.SyntaxNode.TheDeep.{deep-SyntaxKind}
 use Rattle.gv_text.specs.declared.syntax.SyntaxNode.TheShapes.{weighed-SyntaxKind-Dictionary-0}

@@ -10,7 +10,7 @@ use Rattle.gv_model.specs.TypeText.{is_type, type_at, type_of_text, is_within_li
 use Rattle.gv_model.specs.Lexing.{type_in_front}
 use Rattle.gv_model.proofs.TypeTextLaws.{one_reading, type_of_text-spelling}
 use Rattle.gv_model.proofs.TypeTextSound.{spelling_of_read}
-use Rattle.gv_model.proofs.TypeTextParts.{text_of_type, spelling_is_ascii, IsTextOfType}
+use Rattle.gv_model.proofs.TypeTextParts.{text_of_type, spelling_is_ascii}
 use Rattle.gv_types.specs.declared.grammar.Halt.{Halt}
 use Rattle.gv_types.specs.Reading.{Reads, StopsAt}
 use Rattle.gv_types.proofs.Firsts.{spelling_is_long}

@@ -1,5 +1,6 @@
 -- Texts of types that stand one after the other.
 use Rattle.std.proofs.Common.{ℕ, ◌≡◌, ◌≤◌, ◌<◌, ◌+◌, ◌-◌, List, [], ◌∷◌, length, take, drop, true, false, Bool, ◌&&◌, eqb, eqb-true, refl, sym, ap, ap₂, ◌∙◌, subst, arith, length-append}
+use Rattle.std.specs.Prelude.{◌↔◌, IsTrue}
 use Rattle.std.proofs.lemmas.Bool.{eqb-false}
 use Rattle.std.specs.Str.{IsAscii}
 use Rattle.std.proofs.Math.Seq.{take-append_seam, drop-append_seam}
@@ -83,6 +84,27 @@ in_no_text w e = rw e refl
 
 pub no_types_left : (w rest : List ℕ) (halt : Halt) → are_types (seen w) ≡ true → StopsAt 128 w rest halt → types_in (seen w) ≡ []
 no_types_left w rest halt e stop = in_no_text w (stops_at_end w rest halt e stop)
+
+-- types stand in a text of types unless it is empty
+no_types_shown : (s : Seen) (w : List ℕ) → Shows s w → are_types s ≡ true → types_in s ≡ [] → w ≡ []
+no_types_shown nothing w h e none = h
+no_types_shown (type t s) w h e none = absurd (cons_nil t (types_in s) none)
+  where
+    cons_nil : (u : Ty) (us : List Ty) → u ∷ us ≡ [] → ⊥
+    cons_nil u us e = cc
+no_types_shown (tuple_end s) w h e none = absurd (false_true e)
+no_types_shown (entry_end s) w h e none = absurd (false_true e)
+no_types_shown wrong w h e none = absurd (false_true e)
+
+empty_length : (w : List ℕ) → eqb (length w) 0 ≡ true → w ≡ []
+empty_length [] h = refl
+empty_length (c ∷ w) h = absurd (omega (arith, eqb-true (length (c ∷ w)) 0 h))
+
+pub no_types_in_empty : (w : List ℕ) (empty : Bool) → are_types (seen w) ≡ true → empty ≡ eqb (length w) 0 → IsTrue empty ↔ (types_in (seen w) ≡ [])
+no_types_in_empty w empty e is = (
+  (λ h. in_no_text w (empty_length w (sym is ∙ h))),
+  (λ none. is ∙ ap (λ v. eqb (length v) 0) (no_types_shown (seen w) w (seen_shows w) e none)),
+)
 
 -- ---- what follows where a type is read at the front
 

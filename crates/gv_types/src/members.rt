@@ -1,5 +1,5 @@
 //! The members of a tuple or an entry, one after the other.
-ghost use Rattle.std.specs.Prelude.{IsTrue};
+ghost use Rattle.std.specs.Prelude.{◌≡◌, ◌↔◌, IsTrue, []};
 ghost use Rattle.gv_model.specs.Texts.{are_types};
 ghost use Rattle.gv_model.specs.TypeText.{seen};
 
@@ -11,6 +11,17 @@ use crate::type_str::{MAX_LEVELS, TypeStr};
 pub struct Members<'a> {
     pub(crate) rest: &'a str,
     ghost are_types: { IsTrue (are_types (seen rest.now)) },
+}
+
+impl Members<'_> {
+    ghost use Rattle.gv_types.specs.Members.{members_left};
+
+    /// Whether no member is left.
+    pub fn is_empty(&self) -> bool
+        ensures { IsTrue result ↔ (members_left self.now ≡ []) }
+    {
+        self.rest.is_empty()
+    }
 }
 
 impl<'a> Iterator for Members<'a> {
@@ -56,7 +67,9 @@ mod tests {
         ];
         for (text, members) in cases {
             let mut found = String::new(rt.alloc());
-            for member in TypeStr::parse(text)?.members() {
+            let left = TypeStr::parse(text)?.members();
+            assert_eq!(rt; left.is_empty(), members.is_empty(), "at {text}");
+            for member in left {
                 write!(found, "{} ", member.as_str())?;
             }
             assert_eq!(rt; found.as_str(), members, "at {text}");

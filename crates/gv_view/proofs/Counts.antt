@@ -96,6 +96,11 @@ pub end_count : (levels values : ℕ) → Some values ≡ left_after_all levels 
 unfolding nodes_of greatest_depth
 end_count levels values = let all : values - 0 ≡ values = omega arith in sym (enough levels values 0 0 (omega arith) (omega arith) ∙ ap Some all)
 
+-- a value without children counts as one
+pub leaf_count : (levels values : ℕ) (v : Tree) → none ≡ children v → 0 < levels → 0 < values → Some (values - 1) ≡ left_after levels values v
+leaf_count levels values v leaf h g =
+    end_count (levels - 1) (values - 1) ∙ (ap (left_after_all (levels - 1) (values - 1)) leaf ∙ begin_count levels values v h g)
+
 either_way : (b : Bool) → true ≡ (b || true)
 either_way true = refl
 either_way false = refl

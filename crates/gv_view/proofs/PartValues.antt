@@ -1,10 +1,11 @@
 -- The values of the parts that a walk gives one after the other.
 use Rattle.std.proofs.Common.{◌≡◌, ◌<◌, max, ℕ, List, [], ◌∷◌, ◌++◌, refl, sym, ap, ◌∙◌, subst, arith}
 use Rattle.std.specs.Prelude.{map}
-use Rattle.gv_model.specs.Ty.{Ty}
+use Rattle.gv_model.specs.Ty.{Ty, Basic}
+use Rattle.gv_model.specs.Ty.Ty.{basic}
 use Rattle.gv_model.specs.Tree.{Tree, Trees, children, depth, greatest_depth}
-use Rattle.gv_model.specs.Tree.Trees.{first}
-use Rattle.gv_model.specs.Decode.{decode}
+use Rattle.gv_model.specs.Tree.Trees.{none, first}
+use Rattle.gv_model.specs.Decode.{spans, cut, decode}
 use Rattle.gv_model.specs.Parts.{Part, parts, trees_of}
 use Rattle.gv_model.proofs.ChildLaws.{children_are_parts}
 use Rattle.gv_tree.specs.Nodes.{trees_of as tree_list}
@@ -48,3 +49,12 @@ without_more (x ∷ xs) = ap (λ ys. x ∷ ys) (without_more xs)
 
 pub no_more : (xs : List Tree) (qs : List Part) (vs : Trees) → qs ≡ [] → tree_list (xs ++ map part_value qs) ≡ vs → tree_list xs ≡ vs
 no_more xs qs vs e h = ap tree_list (sym (without_more xs)) ∙ (ap (λ rs. tree_list (xs ++ map part_value rs)) (sym e) ∙ h)
+
+no_parts : (k : Basic) (b : List ℕ) → parts (basic k) b ≡ []
+unfolding parts cut spans
+no_parts k b = refl
+
+-- a basic value has no children
+pub basic_is_leaf : (t : Ty) (b : List ℕ) → (k : Basic) × (t ≡ basic k) → none ≡ children (decode t b)
+basic_is_leaf t b is =
+    sym (ap (λ (t : Ty). children (decode t b)) is.1 ∙ (children_are_parts (basic is.0) b ∙ ap trees_of (no_parts is.0 b)))

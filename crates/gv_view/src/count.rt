@@ -33,6 +33,10 @@ fn values_left(view: View<'_>, levels: u8, values: u32) -> Option<u32>
         return None;
     }
     let mut left = values - 1;
+    // Most values are basic, and have no children to walk along.
+    if view.type_str().is_basic() {
+        return Some(left);
+    }
     for child in view.children() {
         left = values_left(child, levels - 1, left)?;
     }

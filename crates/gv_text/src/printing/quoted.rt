@@ -2,7 +2,9 @@
 //!
 //! Printable ASCII and all from U+00A0 stand for themselves; the quote in use and the backslash have a
 //! backslash before them; the others are escaped by a letter or by their number.
-ghost use Rattle.std.specs.Prelude.{◌≡◌, ◌<◌, ◌++◌, OnOk, string_bytes};
+ghost use Rattle.std.specs.Prelude.{◌≡◌, ◌<◌, ◌++◌, OnOk, string_bytes, chars, flat_map};
+ghost use Rattle.std.specs.List.{list_all};
+ghost use Rattle.gv_text.specs.Printing.{stands_alone};
 ghost use Rattle.gv_model.specs.Quoted.{digit, escape_letter, four_hex, three_octal, plain, char_text, byte_text, quote_for, quoted, byte_string};
 ghost use Rattle.std.specs.Prelude.{encode_utf8};
 
@@ -14,10 +16,27 @@ pub(crate) fn push_quoted(to: &mut String, text: &str) -> Result<(), AllocError>
 {
     let quote = quote_for(text.as_bytes());
     to.push(quote)?;
+    push_chars(to, quote, text)?;
+    to.push(quote)?;
+    Ok(())
+}
+
+/// Writes the characters of a text, all at once where each stands for itself.
+fn push_chars(to: &mut String, quote: char, text: &str) -> Result<(), AllocError>
+    ensures { OnOk result (string_bytes to.new ≡ string_bytes to.old ++ flat_map (char_text quote) (chars text.now)) }
+{
+    if is_plain(text.as_bytes(), quote) {
+        return to.push_str(text);
+    }
+    push_each_char(to, quote, text)
+}
+
+fn push_each_char(to: &mut String, quote: char, text: &str) -> Result<(), AllocError>
+    ensures { OnOk result (string_bytes to.new ≡ string_bytes to.old ++ flat_map (char_text quote) (chars text.now)) }
+{
     for c in text.chars() {
         push_char(to, quote, c)?;
     }
-    to.push(quote)?;
     Ok(())
 }
 
@@ -28,11 +47,44 @@ pub(crate) fn push_byte_string(to: &mut String, bytes: &[u8]) -> Result<(), Allo
     let quote = quote_for(bytes);
     to.push('b')?;
     to.push(quote)?;
+    push_bytes(to, quote, bytes)?;
+    to.push(quote)?;
+    Ok(())
+}
+
+/// Writes the bytes of a byte string, all at once where each stands for itself.
+fn push_bytes(to: &mut String, quote: char, bytes: &[u8]) -> Result<(), AllocError>
+    requires { quote < 128 }
+    ensures { OnOk result (string_bytes to.new ≡ string_bytes to.old ++ flat_map (byte_text quote) bytes.now) }
+{
+    match str::from_utf8(bytes) {
+        Ok(text) if is_plain(bytes, quote) => to.push_str(text),
+        _ => push_each_byte(to, quote, bytes),
+    }
+}
+
+fn push_each_byte(to: &mut String, quote: char, bytes: &[u8]) -> Result<(), AllocError>
+    requires { quote < 128 }
+    ensures { OnOk result (string_bytes to.new ≡ string_bytes to.old ++ flat_map (byte_text quote) bytes.now) }
+{
     for byte in bytes {
         push_byte(to, quote, *byte)?;
     }
-    to.push(quote)?;
     Ok(())
+}
+
+/// Whether each byte stands for itself in this quote.
+fn is_plain(text: &[u8], quote: char) -> bool
+    ensures { result ≡ list_all (stands_alone quote) text.now }
+{
+    text.iter().all(|byte| stands_alone(*byte, quote))
+}
+
+/// Whether a byte is a character that stands for itself in this quote.
+fn stands_alone(byte: u8, quote: char) -> bool
+    ensures { result ≡ stands_alone quote byte }
+{
+    byte >= b' ' && byte <= b'~' && byte != b'\\' && char::from(byte) != quote
 }
 
 /// The quote for a text: `'`, or `"` where the text has a `'`.

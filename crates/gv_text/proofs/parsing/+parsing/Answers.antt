@@ -6,11 +6,10 @@ use Rattle.gv_model.specs.Tokens.Token.{mark}
 use Rattle.gv_model.specs.Grammar.{tokens_of}
 use Rattle.gv_text.specs.Placed.{token_of, mark_of}
 use Rattle.std.specs.Prelude.{IsSome}
-use Rattle.gv_text.specs.Reading.{left, Stops, more_stage, behind_first}
+use Rattle.gv_text.specs.Reading.{left, more_stage, behind_first}
 use Rattle.gv_text.specs.Reading.Want.{inside, a_value}
-use Rattle.gv_text.specs.Held.{IsBraced, ArePairs}
-use Rattle.gv_text.proofs.ReadingLaws.{Either, other, unclosed, missing, entered, carried, carried_in, carried_out, always, does_not_begin, begins, list_opens, tuple_opens, second_opens, brace_opens, not_taken, taken, list_wants, tuple_wants, pair_wants, wants_comma, wants_colon, wants_brace, wants_box}
-use Rattle.gv_text.proofs.HeldLaws.{whole_value, is_truth, is_text, is_bytes, is_integer, is_nothing, is_just, is_keyword, is_of_type, is_array, is_tuple, is_braced, is_boxed, if_ok, if_err, no_elements, elements_of, no_members, took_comma, took_close, not_separated, separated, one_value, one_more, all_values}
+use Rattle.gv_text.proofs.ReadingLaws.{Either, other, unclosed, missing, entered, carried, carried_in, carried_out, always, does_not_begin, begins, list_opens, tuple_opens, brace_opens, not_taken, pair_wants, wants_comma, wants_colon, wants_brace, wants_box}
+use Rattle.gv_text.proofs.HeldLaws.{whole_value, is_truth, is_text, is_bytes, is_integer, is_nothing, is_just, is_keyword, is_of_type, is_array, is_tuple, is_boxed, if_ok, if_err, no_elements, elements_of, no_members, took_comma, took_close, not_separated, separated, one_value, one_more, all_values}
 use Rattle.gv_text.proofs.SequenceLaws.{no_longer}
 use Rattle.gv_text.proofs.BracketLaws.{HoldsFirst, FirstMember, holds_first, stops_behind, stops_in_value, first_member, one_member, second_reached, more_members, first_wants, neither, no_pairs, pairs_reached, some_pairs, lone_reached, lone_ended, is_entry, one_pair, key_reached, colon_reached, value_reached, shorter, pair_more_read, all_pairs}
 use Rattle.gv_text.proofs.parsing.+parsing.Goals as goal

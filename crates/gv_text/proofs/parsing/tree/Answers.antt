@@ -1,5 +1,4 @@
-use Rattle.std.proofs.Common.{ap, sym, ◌∙◌}
-use Rattle.gv_text.proofs.NumberedFaults.{fault_of_text, too_many}
+use Rattle.gv_text.proofs.NumberedFaults.{too_many}
 use Rattle.gv_text.proofs.parsing.tree.Goals as goal
 
 -- src/parsing.rt:42:1

@@ -20,7 +20,7 @@ returns-in_default c =
     (members_left c.next.new.self) (members_left self.members) c.in_ok-member.ensures.steps c.in_default.is
 
 pub aligned-from-requires-clause-some : goal.aligned-from-requires-clause-some
-aligned-from-requires-clause-some c = omega (arith, c.alignment.ensures, alignment_pos (ty c.in_ok-member.member))
+aligned-from-requires-clause-some c = omega (arith, c.layout_of-layout.ensures.alignment, alignment_pos (ty c.in_ok-member.member))
 
 pub returns-in_default-end : goal.returns-in_default-end
 returns-in_default-end c =
@@ -29,10 +29,10 @@ returns-in_default-end c =
     let xs = members_left c.next.new.self in
     unknown_next n self.width self.used c.in-Some.previous c.aligned-from.result self.bytes.now self.previous (ty c.in_ok-member.member)
     xs (members_left self.members) c.in_ok-member.ensures.steps c.in-Some.is
-    (c.aligned-from.ensures ∙ ap (λ a. clamp n (round_up a c.in-Some.previous)) c.alignment.ensures)
+    (c.aligned-from.ensures ∙ ap (λ a. clamp n (round_up a c.in-Some.previous)) c.layout_of-layout.ensures.alignment)
     (c.in_default-end.ensures.end
-    ∙ (ap (λ o. option_map (clamp n) (end_by self.width self.bytes.now self.used c.aligned-from.result o c.is_none-is_last.result)) c.fixed_size.ensures
-    ∙ ap (option_map (clamp n)) (end_by-member_end ty c.next-2.result c.is_none-is_last.result xs (members_left c.next-2.new.self) c.next-2.ensures.steps c.is_none-is_last.ensures
+    ∙ (ap (λ o. option_map (clamp n) (end_by self.width self.bytes.now self.used c.aligned-from.result o c.is_empty-is_last.result)) c.layout_of-layout.ensures.size
+    ∙ ap (option_map (clamp n)) (end_by-member_end c.is_empty-is_last.result xs c.is_empty-is_last.ensures
     self.width self.used c.aligned-from.result self.bytes.now (fixed_size (ty c.in_ok-member.member)))))
 
 pub returns : goal.returns
@@ -43,11 +43,11 @@ returns c =
     let xs = members_left c.next.new.self in
     known_next n self.width self.used c.in-Some-end.used c.in-Some.previous c.aligned-from.result c.in-Some-end.to self.bytes.now self.previous t
     xs (members_left self.members) (child_of c.within-place.result) c.in_ok-member.ensures.steps c.in-Some.is
-    (c.aligned-from.ensures ∙ ap (λ a. clamp n (round_up a c.in-Some.previous)) c.alignment.ensures)
+    (c.aligned-from.ensures ∙ ap (λ a. clamp n (round_up a c.in-Some.previous)) c.layout_of-layout.ensures.alignment)
     (c.in-Some-end.ensures.end
-    ∙ (ap (λ o. option_map (clamp n) (end_by self.width self.bytes.now self.used c.aligned-from.result o c.is_none-is_last.result)) c.fixed_size.ensures
-    ∙ ap (option_map (clamp n)) (end_by-member_end ty c.next-2.result c.is_none-is_last.result xs (members_left c.next-2.new.self) c.next-2.ensures.steps c.is_none-is_last.ensures
+    ∙ (ap (λ o. option_map (clamp n) (end_by self.width self.bytes.now self.used c.aligned-from.result o c.is_empty-is_last.result)) c.layout_of-layout.ensures.size
+    ∙ ap (option_map (clamp n)) (end_by-member_end c.is_empty-is_last.result xs c.is_empty-is_last.ensures
     self.width self.used c.aligned-from.result self.bytes.now (fixed_size t))))
-    (counted ty c.next-2.result c.is_none-is_last.result xs (members_left c.next-2.new.self) self.used c.in-Some-end.used c.fixed_size.result (fixed_size t)
-    c.next-2.ensures.steps c.is_none-is_last.ensures c.fixed_size.ensures c.in-Some-end.ensures.used)
+    (counted c.is_empty-is_last.result xs self.used c.in-Some-end.used c.layout_of-layout.result.size (fixed_size t)
+    c.is_empty-is_last.ensures c.layout_of-layout.ensures.size c.in-Some-end.ensures.used)
     c.within-place.ensures

@@ -22,16 +22,16 @@ returns c =
     let b = c.args.bytes.now in
     let w = c.from-width.result in
     let xs = members_left c.members.result in
-    elim c.match-fixed_size.branch [
+    elim c.match-size_of_members.branch [
       | in-Some a ↦
           ap (λ p. children_at (length b) (member_spans w b 0 p (types_from xs))) a.previous-is
-          ∙ tuple_lost t (members t) xs b w c.members.ensures (other_size (fixed_size t) a.in-Some.size (length b) (sym c.fixed_size.ensures ∙ a.in-Some.is) a.if-size-bytes.true)
+          ∙ tuple_lost t (members t) xs b w c.members.ensures (other_size (fixed_size t) a.in-Some.size (length b) (sym c.size_of_members.ensures ∙ a.in-Some.is) a.if-size-bytes.true)
       | in_default-2 a ↦
           ap (λ p. children_at (length b) (member_spans w b 0 p (types_from xs))) a.previous-is
           ∙ tuple_placed t (members t) xs b w (c.from-width.ensures ∙ c.offset_width.ensures) c.members.ensures
-          (same_size (fixed_size t) a.in-Some.size (length b) (sym c.fixed_size.ensures ∙ a.in-Some.is) a.if-size-bytes.false)
+          (same_size (fixed_size t) a.in-Some.size (length b) (sym c.size_of_members.ensures ∙ a.in-Some.is) a.if-size-bytes.false)
       | in_default a ↦
           ap (λ p. children_at (length b) (member_spans w b 0 p (types_from xs))) a.previous-is
           ∙ tuple_placed t (members t) xs b w (c.from-width.ensures ∙ c.offset_width.ensures) c.members.ensures
-          (no_size (fixed_size t) (length b) (sym c.fixed_size.ensures ∙ a.in_default.is))
+          (no_size (fixed_size t) (length b) (sym c.size_of_members.ensures ∙ a.in_default.is))
     ]

@@ -1,4 +1,4 @@
-use Rattle.std.proofs.Common.{rules, arith}
+use Rattle.std.proofs.Common.{rules}
 use Rattle.gv_types.proofs.FrontTypes.{stopped_in_front, too_long_in_front, front_is_read, cut_behind}
 use Rattle.gv_types.proofs.type_str.TypeStr.in_front.Goals as goal
 

@@ -2,7 +2,7 @@ use Rattle.std.proofs.Common.{◌≡◌, ◌++◌, IsUtf8, chars, string_bytes}
 use Rattle.std.specs.Prelude.{flat_map}
 use Rattle.std.specs.Str.Iter.{chars_rest}
 use Rattle.gv_model.specs.Quoted.{char_text}
-use Rattle.gv_text.proofs.printing.quoted.push_quoted.Given as goal
+use Rattle.gv_text.proofs.printing.quoted.push_each_char.Given as goal
 
 abbrev pub invariant-loop-c : goal.invariant-loop-c
 invariant-loop-c l =
