@@ -1,61 +1,32 @@
 -- The computed name is the name that the relation says.
 use Rattle.std.proofs.Common.{ℕ, suc, zero, ◌≤◌, ◌<◌, ◌≡◌, Bool, true, false, cond, ◌&&◌, ◌||◌, List, [], ◌∷◌, ◌++◌, length, Option, Some, None, option_map, refl, sym, ◌∙◌, ap, subst, arith, eqb}
-use Rattle.std.specs.List.{IsDistinct, AllByRecursion, list_any}
-use Rattle.std.proofs.lemmas.Map.Steps.{length-le_from_distinct_below}
-use Rattle.std.proofs.lemmas.Bool.{eqb-true, false_from_ne_true, lt-ltb, ltb-true}
+use Rattle.std.specs.List.{list_any}
+use Rattle.std.proofs.lemmas.Bool.{eqb-true, lt-ltb, ltb-true}
 use Rattle.std.specs.Prelude.{nat_lt, nat_le}
 use Rattle.std.proofs.lemmas.Bool.Decides.{nat_tests}
 use Rattle.dconf_model.specs.Table.{Table, item, item_count, key}
 use Rattle.dconf_model.specs.Names.{HasName, HasParents, IsItem, joined, name_within, name_by, name_of}
-use Rattle.dconf_model.proofs.NameSteps.{none_some, same_parent, parents_item}
+use Rattle.dconf_model.specs.Searchable.{LeadsUp}
+use Rattle.dconf_model.proofs.ParentLaws.{by_bool, few_above}
 
--- an item's parents are these and no others
-one_chain : (t : Table) (i : ℕ) (ps qs : List ℕ) → HasParents t i ps → HasParents t i qs → ps ≡ qs
-one_chain t i [] [] h k = refl
-one_chain t i [] (q ∷ qs) h k = absurd (none_some q (item t i).parent h.1 k.1)
-one_chain t i (p ∷ ps) [] h k = absurd (none_some p (item t i).parent k.1 h.1)
-one_chain t i (p ∷ ps) (q ∷ qs) h k =
-    let same : q ≡ p = same_parent q p (item t i).parent k.1 h.1 in
-    let rest : ps ≡ qs = one_chain t p ps qs h.3 (subst (λ (x : ℕ). HasParents t x qs) same k.3) in
-    cc
-
-pub by_bool : (b : Bool) (P : Type 0) → (b ≡ true → P) → (b ≡ false → P) → P
-by_bool true P x y = x refl
-by_bool false P x y = y refl
-
--- each of the parents has a shorter chain
-later_chain : (t : Table) (i q : ℕ) (ps : List ℕ) → HasParents t i ps → list_any (eqb q) ps ≡ true → (qs : List ℕ) × (length qs < length ps) × HasParents t q qs
-later_chain t i q [] h e = let bad : false ≡ true = e in cc
-later_chain t i q (p ∷ ps) h e =
-    by_bool (eqb q p) ((qs : List ℕ) × (length qs < length (p ∷ ps)) × HasParents t q qs)
-    (λ same. (ps, omega arith, subst (λ (x : ℕ). HasParents t x ps) (sym (eqb-true q p same)) h.3))
-    (λ other. let r = later_chain t p q ps h.3 (sym (ap (λ b. b || list_any (eqb q) ps) other) ∙ e) in (r.0, omega (arith, r.1), r.2))
-
--- no item is among its own parents
-not_own_parent : (t : Table) (i : ℕ) (ps : List ℕ) → HasParents t i ps → list_any (eqb i) ps ≡ false
-not_own_parent t i ps h = false_from_ne_true _ (λ e. let r = later_chain t i i ps h e in let same : length ps ≡ length r.0 = ap (λ (l : List ℕ). length l) (one_chain t i ps r.0 h r.2) in omega (arith, r.1, same))
-
-all_other : (i : ℕ) (ps : List ℕ) → list_any (eqb i) ps ≡ false → AllByRecursion (λ y. eqb i y ≡ false) ps
-all_other i [] e = tt
-all_other i (p ∷ ps) e =
-    by_bool (eqb i p) (AllByRecursion (λ y. eqb i y ≡ false) (p ∷ ps))
-    (λ same. let bad : true ≡ false = sym (ap (λ b. b || list_any (eqb i) ps) same) ∙ e in cc)
-    (λ other. (other, all_other i ps (sym (ap (λ b. b || list_any (eqb i) ps) other) ∙ e)))
-
-distinct : (t : Table) (i : ℕ) (ps : List ℕ) → HasParents t i ps → IsDistinct eqb (i ∷ ps)
-unfolding IsDistinct
-distinct t i [] h = (tt, tt)
-distinct t i (p ∷ ps) h = (all_other i (p ∷ ps) (not_own_parent t i (p ∷ ps) h), distinct t p ps h.3)
-
+-- each of the item and its parents is an item
 below : (t : Table) (i q : ℕ) (ps : List ℕ) → HasParents t i ps → list_any (eqb q) (i ∷ ps) ≡ true → q < item_count t
-below t i q ps h e =
+below t i q [] h e =
     by_bool (eqb q i) (q < item_count t)
-    (λ same. subst (λ (x : ℕ). x < item_count t) (sym (eqb-true q i same)) (parents_item t i ps h).counted)
-    (λ other. let r = later_chain t i q ps h (sym (ap (λ b. b || list_any (eqb q) ps) other) ∙ e) in (parents_item t q r.0 r.2).counted)
+    (λ same. subst (λ (x : ℕ). x < item_count t) (sym (eqb-true q i same)) h.0.counted)
+    (λ other. let bad : false ≡ true = sym (ap (λ b. b || false) other) ∙ e in cc)
+below t i q (p ∷ ps) h e =
+    by_bool (eqb q i) (q < item_count t)
+    (λ same. subst (λ (x : ℕ). x < item_count t) (sym (eqb-true q i same)) h.0.counted)
+    (λ other. below t p q ps h.3 (sym (ap (λ b. b || list_any (eqb q) (p ∷ ps)) other) ∙ e))
+
+pub leads_up : (t : Table) (i : ℕ) (ps : List ℕ) → HasParents t i ps → LeadsUp t i ps
+leads_up t i [] h = h.1
+leads_up t i (p ∷ ps) h = (h.1, leads_up t p ps h.3)
 
 -- so there are fewer parents than items
 few_parents : (t : Table) (i : ℕ) (ps : List ℕ) → HasParents t i ps → length ps < item_count t
-few_parents t i ps h = let le : length (i ∷ ps) ≤ item_count t = length-le_from_distinct_below (i ∷ ps) (item_count t) (distinct t i ps h) (λ q e. below t i q ps h e) in omega (arith, le)
+few_parents t i ps h = few_above t i ps (leads_up t i ps h) (λ q e. below t i q ps h e)
 
 -- one step of the computed name
 abbrev pub tested : Table → ℕ → Bool

@@ -11,7 +11,7 @@ parents_item t i (p ∷ ps) h = h.0
 pub is_item : (t : Table) (i : ℕ) (name : List ℕ) → HasName t i name → IsItem t i
 is_item t i name h = parents_item t i h.parents h.chain
 
-ends_in_key : (t : Table) (i : ℕ) (ps : List ℕ) → (front : List ℕ) × (joined t i ps ≡ front ++ key t i)
+pub ends_in_key : (t : Table) (i : ℕ) (ps : List ℕ) → (front : List ℕ) × (joined t i ps ≡ front ++ key t i)
 ends_in_key t i [] = ([], refl)
 ends_in_key t i (p ∷ ps) = (joined t p ps, refl)
 

@@ -1,28 +1,31 @@
 -- A sound table is searchable; another has one first fault.
 use Rattle.std.proofs.Common.{◌≡◌, ◌≢◌, ◌<◌, ℕ, List, [], ◌∷◌, Option, Some, None, refl, sym, ap, ◌∙◌, subst, inl, inr}
-use Rattle.std.specs.Prelude.{IfSome, ◌==◌, if◌then◌else◌}
+use Rattle.std.specs.Prelude.{◌==◌, if◌then◌else◌}
 use Rattle.std.proofs.lemmas.Bool.{cases_order}
 use Rattle.dconf_model.specs.Table.{Table, item_count}
 use Rattle.dconf_model.specs.Names.{HasParents}
-use Rattle.dconf_model.specs.Searchable.{EachItem, HasGoodKey}
-use Rattle.dconf_model.specs.Sound.{Rule, number_of, LeadsUp, HasEnd, Keeps, KeepsAll, IsLeastFault, FailsAt, SoundIsSearchable, SoundHasNoFault, HasOneFirstFault}
+use Rattle.dconf_model.specs.Searchable.{EachItem, LeadsUp, HasEnd, HasGoodKey}
+use Rattle.dconf_model.proofs.ParentLaws.{parent_counted}
+use Rattle.dconf_model.specs.Sound.{Rule, number_of, Keeps, KeepsAll, IsLeastFault, FailsAt, SoundIsSearchable, SoundHasNoFault, HasOneFirstFault}
 use Rattle.dconf_model.specs.Sound.Rule.{buckets, keys, chain, hash, span, bloom, once, content, place, lists, locks}
 
 -- ---- sound tables
 
 -- where all keys are good and none is empty, what leads up is the parents of a name
-parents_of_name : (t : Table) → EachItem t (HasGoodKey t) → EachItem t (HasEnd t) → (ps : List ℕ) (i : ℕ) → i < item_count t → LeadsUp t i ps → HasParents t i ps
+pub parents_of_name : (t : Table) → EachItem t (HasGoodKey t) → EachItem t (HasEnd t) → (ps : List ℕ) (i : ℕ) → i < item_count t → LeadsUp t i ps → HasParents t i ps
 parents_of_name t good ends [] i counted up = (record { counted = counted; key_inside = (good i counted).inside }, up)
-parents_of_name t good ends (p ∷ ps) i counted up =
-    let parent_counted : p < item_count t = subst (λ x. IfSome x (λ q. q < item_count t)) up.0 (good i counted).parent in
-    (record { counted = counted; key_inside = (good i counted).inside }, up.0, (ends i counted).key, parents_of_name t good ends ps p parent_counted up.1)
+parents_of_name t good ends (p ∷ ps) i counted up = (
+  record { counted = counted; key_inside = (good i counted).inside },
+  up.0,
+  (ends i counted).key,
+  parents_of_name t good ends ps p (parent_counted t i p good counted up.0) up.1,
+)
 
 pub sound_is_searchable : SoundIsSearchable
 sound_is_searchable t sound = record {
   buckets = sound buckets;
   good_key = sound keys;
-  chain = λ i counted. let end = sound chain i counted in
-      record { parents = (end.parents, parents_of_name t (sound keys) (sound chain) end.parents i counted end.ends); key = end.key };
+  chain = sound chain;
   hash = sound hash;
   in_span = sound span;
   in_bloom = sound bloom;
@@ -45,7 +48,7 @@ each_keeps t place other keeps = keeps
 each_keeps t lists other keeps = keeps
 each_keeps t locks other keeps = keeps
 
-failing_is_not_kept : (t : Table) (rule : Rule) (at : Option ℕ) → FailsAt t rule at → ¬ KeepsAll t rule
+pub failing_is_not_kept : (t : Table) (rule : Rule) (at : Option ℕ) → FailsAt t rule at → ¬ KeepsAll t rule
 failing_is_not_kept t rule None fails keeps = fails.1 (subst (KeepsAll t) fails.0 keeps)
 failing_is_not_kept t rule (Some i) fails keeps = fails.1.fails (each_keeps t rule fails.0 keeps i fails.1.counted)
 
@@ -73,7 +76,7 @@ rule_of_number place = refl
 rule_of_number lists = refl
 rule_of_number locks = refl
 
-same_rule : (r s : Rule) → number_of r ≡ number_of s → r ≡ s
+pub same_rule : (r s : Rule) → number_of r ≡ number_of s → r ≡ s
 same_rule r s e = sym (rule_of_number r) ∙ (ap rule_of e ∙ rule_of_number s)
 
 same_item : (t : Table) (rule : Rule) (i j : ℕ) → IsLeastFault t rule i → IsLeastFault t rule j → i ≡ j

@@ -7,8 +7,8 @@ use Rattle.dconf_model.specs.Bytes.{u32_at, u16_at, u8_at, hash_of}
 use Rattle.dconf_model.specs.Table.{Table, item, item_count, key}
 use Rattle.dconf_model.specs.Opening.{root_of}
 use Rattle.dconf_model.specs.Names.{HasName, HasParents, joined}
-use Rattle.dconf_model.specs.Searchable.{EachItem, HasBuckets, HasGoodKey, HasHash, IsInSpan, IsInBloom, IsOnlyNamed, HasContent}
-use Rattle.dconf_model.specs.Sound.{Rule, number_of, KeepsAll, IsSound, HasEnd, HasPlace, IsChild, list_length, HasListIfAny, HasLocksIfAny, IsFirstFault}
+use Rattle.dconf_model.specs.Searchable.{EachItem, HasBuckets, HasGoodKey, HasEnd, HasHash, IsInSpan, IsInBloom, IsOnlyNamed, HasContent}
+use Rattle.dconf_model.specs.Sound.{Rule, number_of, KeepsAll, IsSound, HasPlace, IsChild, list_length, HasListIfAny, HasLocksIfAny, IsFirstFault}
 use Rattle.dconf_model.specs.Sound.Rule.{buckets, keys, chain, hash, span, bloom, once, content, place, lists, locks}
 
 unfoldable computing : ℕ

@@ -8,4 +8,10 @@ pub mod Searchable
 pub mod Laws
 pub mod Paths
 pub mod Sound
+pub mod SoundLaws
 pub mod Settings
+pub mod Entries
+pub mod Standing
+pub mod Written
+pub mod Renumbered
+pub mod Plans

@@ -1,6 +1,7 @@
 -- Full names: the keys along an item's parents, the root's first. And rows: what a table says of names, kinds and
 -- bytes. There is no word of hashes, buckets and bloom words here.
 use Rattle.std.specs.Prelude.{ℕ, zero, suc, ◌≤◌, ◌<◌, ◌≡◌, List, [], ◌∷◌, ◌++◌, length, Option, Some, None, if◌then◌else◌, nat_le, nat_lt, option_map, ◌&&◌}
+use Rattle.std.specs.Option.{unwrap_or}
 use Rattle.dconf_model.specs.Table.{Table, item, item_count, key, HasBytes, bytes_of}
 
 -- an item whose key bytes lie in the file
@@ -51,3 +52,7 @@ name_within (suc n) t i =
 -- as many as there are items are enough
 abbrev pub name_of : Table → ℕ → Option (List ℕ)
 name_of t i = name_within (item_count t) t i
+
+-- the name of an item that has one
+unfoldable pub full_name : Table → ℕ → List ℕ
+full_name t i = unwrap_or (name_of t i) []

@@ -1,8 +1,8 @@
 -- The rules of a sound table by which each item can be found (this project's rules S1 to S8).
-use Rattle.std.specs.Prelude.{ℕ, ◌+◌, ◌%◌, ◌≤◌, ◌<◌, ◌≡◌, ◌⊎◌, List, length, Contains, IfSome, IsUtf8}
+use Rattle.std.specs.Prelude.{ℕ, ◌+◌, ◌%◌, ◌≤◌, ◌<◌, ◌≡◌, ◌⊎◌, List, [], ◌∷◌, length, Some, None, Contains, IfSome, IsUtf8}
 use Rattle.dconf_model.specs.Bytes.{hash_of}
 use Rattle.dconf_model.specs.Table.{Table, item, item_count, key, bucket, bucket_count, HasBytes, value_kind, list_kind, table_kind, bytes_of}
-use Rattle.dconf_model.specs.Names.{HasName, HasParents}
+use Rattle.dconf_model.specs.Names.{HasName}
 use Rattle.dconf_model.specs.Search.{InSpan, PassesBloom}
 
 -- each item has P
@@ -23,9 +23,15 @@ pub record HasGoodKey (t : Table) (i : ℕ) : Type 0 where
   pub no_nul : ¬ Contains (key t i) 0
   pub parent : IfSome (item t i).parent (λ p. p < item_count t)
 
--- the parents end, and the key is not empty
-pub record HasChain (t : Table) (i : ℕ) : Type 0 where
-  pub parents : (ps : List ℕ) × HasParents t i ps
+-- these are the item's parents, up to one without parent
+abbrev pub LeadsUp : Table → ℕ → List ℕ → Type 0
+LeadsUp t i [] = (item t i).parent ≡ None
+LeadsUp t i (p ∷ ps) = ((item t i).parent ≡ Some p) × LeadsUp t p ps
+
+-- The parents end, and the key is not empty. An empty key further up is the fault of the item that has it.
+pub record HasEnd (t : Table) (i : ℕ) : Type 0 where
+  pub parents : List ℕ
+  pub ends : LeadsUp t i parents
   pub key : 0 < length (key t i)
 
 -- the stored hash is that of the full name
@@ -56,7 +62,7 @@ pub record HasContent (t : Table) (i : ℕ) : Type 0 where
 pub record IsSearchable (t : Table) : Type 0 where
   pub buckets : HasBuckets t
   pub good_key : EachItem t (HasGoodKey t)
-  pub chain : EachItem t (HasChain t)
+  pub chain : EachItem t (HasEnd t)
   pub hash : EachItem t (HasHash t)
   pub in_span : EachItem t (IsInSpan t)
   pub in_bloom : EachItem t (IsInBloom t)

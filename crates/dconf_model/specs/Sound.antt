@@ -7,7 +7,7 @@ use Rattle.dconf_model.specs.Bytes.{u32_at}
 use Rattle.dconf_model.specs.Paths.{starts_with_slash}
 use Rattle.dconf_model.specs.Table.{Table, Opens, item, item_count, key, table_of, value_kind, list_kind, table_kind}
 use Rattle.dconf_model.specs.Names.{HasName}
-use Rattle.dconf_model.specs.Searchable.{EachItem, HasBuckets, HasGoodKey, HasHash, IsInSpan, IsInBloom, IsOnlyNamed, HasContent, IsSearchable}
+use Rattle.dconf_model.specs.Searchable.{EachItem, HasBuckets, HasGoodKey, HasEnd, HasHash, IsInSpan, IsInBloom, IsOnlyNamed, HasContent, IsSearchable}
 
 pub data Rule : Type 0 where
   buckets keys chain hash span bloom once content place lists locks : Rule
@@ -25,19 +25,6 @@ number_of content = 8
 number_of place = 9
 number_of lists = 10
 number_of locks = 11
-
--- ---- S3: the chain of parents ends, and the key is not empty
-
--- these are the item's parents, up to one without parent
-abbrev pub LeadsUp : Table → ℕ → List ℕ → Type 0
-LeadsUp t i [] = (item t i).parent ≡ None
-LeadsUp t i (p ∷ ps) = ((item t i).parent ≡ Some p) × LeadsUp t p ps
-
--- an empty key further up is the fault of the item that has it
-pub record HasEnd (t : Table) (i : ℕ) : Type 0 where
-  pub parents : List ℕ
-  pub ends : LeadsUp t i parents
-  pub key : 0 < length (key t i)
 
 -- ---- S9: the item has a place among directories, keys and locks
 
