@@ -1,5 +1,5 @@
 pub mod Filled
-pub mod Shown
+pub mod Subcommands
 pub mod Lines
 pub mod Puts
 pub mod Runs

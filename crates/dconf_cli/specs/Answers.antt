@@ -10,6 +10,12 @@ Answers (Done text) o = o ≡ record { out = string_bytes text; err = []; status
 Answers (Refused line) o = o ≡ record { out = []; err = string_bytes line; status = 1 }
 Answers NoMemory o = Unit {0}
 
+-- the answer is one of these outputs, unless memory was wanting
+abbrev pub AnswersOne : Answer → (Output → Type 0) → Type 0
+AnswersOne (Done text) Gives = Gives (record { out = string_bytes text; err = []; status = 0 })
+AnswersOne (Refused line) Gives = Gives (record { out = []; err = string_bytes line; status = 1 })
+AnswersOne NoMemory Gives = Unit {0}
+
 -- the answer is the refusal that says why, unless memory was wanting
 abbrev pub RefusesFor : Answer → List ℕ → Type 0
 RefusesFor answer why = Answers answer (refused why)

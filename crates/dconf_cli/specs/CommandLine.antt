@@ -11,6 +11,10 @@ required_word id = record (new_rule id) { required = true; action = Some Set }
 abbrev pub show_line : App
 show_line = with_rule (with_rule (new_app (codes "show")) (required_word (codes "TYPE"))) (required_word (codes "FILE"))
 
+-- `check FILE`
+abbrev pub check_line : App
+check_line = with_rule (new_app (codes "check")) (required_word (codes "FILE"))
+
 -- `dconfdb`, which wants a subcommand, has a version and no subcommand `help`
 abbrev pub dconfdb_line : App
 dconfdb_line = record (new_app (codes "dconfdb")) {
@@ -22,4 +26,4 @@ dconfdb_line = record (new_app (codes "dconfdb")) {
 }
 
 abbrev pub command_line : App
-command_line = with_subcommand dconfdb_line show_line.top
+command_line = with_subcommand (with_subcommand dconfdb_line show_line.top) check_line.top

@@ -3,7 +3,7 @@ use Rattle.std.specs.Prelude.{◌≡◌, ◌⊎◌, ℕ, List, Option, Some, Non
 use Rattle.std.specs.Io.KnownBytes.{Appends}
 use Rattle.dconf_cli.specs.declared.asked.Command.{Command}
 use Rattle.dconf_cli.specs.declared.answer.Answer.{Answer}
-use Rattle.dconf_cli.specs.Answers.{Answers}
+use Rattle.dconf_cli.specs.Answers.{AnswersOne}
 use Rattle.dconf_cli.specs.Output.{Output, Content, IsOutput, refused}
 
 -- what a writer holds, where it says that
@@ -27,18 +27,20 @@ abbrev pub Agrees : Option Content → Content → Type 0
 Agrees None content = Unit {0}
 Agrees (Some known) content = content ≡ known
 
+-- an output of the command was written or, where memory was wanting, the line that says so
+abbrev pub RanOne : (Output → Type 0) → ℕ → Held → Held → Held → Held → Type 0
+RanOne Gives status out_old out_new err_old err_new =
+    ((o : Output) × Gives o × Wrote o status out_old out_new err_old err_new)
+    ⊎ Wrote (refused (codes "Memory")) status out_old out_new err_old err_new
+
 -- the command ran on what the folder holds: on what is known of it, or else on some content
 pub record RanOn (known : Option Content) (command : Command) (status : ℕ) (out_old out_new err_old err_new : Held) : Type 0 where
   pub content : Content
   pub agrees : Agrees known content
-  pub output : Output
-  pub is_output : IsOutput command content output
-  pub ran : Ran output status out_old out_new err_old err_new
+  pub ran : RanOne (IsOutput command content) status out_old out_new err_old err_new
 
 -- the answer is what the folder's content gives: what is known of it, or else some content
 pub record AnswersOn (known : Option Content) (answer : Answer) (Gives : Content → Output → Type 0) : Type 0 where
   pub content : Content
   pub agrees : Agrees known content
-  pub output : Output
-  pub is_output : Gives content output
-  pub answers : Answers answer output
+  pub answers : AnswersOne answer (Gives content)

@@ -5,4 +5,6 @@
 pub enum Command {
     /// Prints the bytes of `file`, read as a value of the type that `type_text` spells.
     Show { type_text: String, file: String },
+    /// Says whether `file` is a sound database.
+    Check { file: String },
 }

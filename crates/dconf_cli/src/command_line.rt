@@ -1,7 +1,7 @@
 //! The command line of `dconfdb`, by clap's builder.
-ghost use Rattle.std.specs.Prelude.{◌≡◌, false, IfOk, IsSome, Some, map, string_bytes};
+ghost use Rattle.std.specs.Prelude.{◌≡◌, codes, false, IfOk, IsSome, Some, map, string_bytes};
 ghost use Rattle.clap.specs.Words.{FailsBy, app_of, fault_of, first_value, found_of, rule_of};
-ghost use Rattle.dconf_cli.specs.CommandLine.{command_line, required_word, show_line};
+ghost use Rattle.dconf_cli.specs.CommandLine.{check_line, command_line, required_word, show_line};
 ghost use Rattle.dconf_cli.specs.Asked.{IsAskedBy};
 
 use crate::asked::Command;
@@ -20,6 +20,10 @@ pub fn command(alloc: Global, words: &[String]) -> Result<Command, clap::Error>
     ensures faults { FailsBy (fault_of command_line (map string_bytes words.now)) result }
 {
     let matches = dconfdb(alloc)?.try_get_matches_from(words)?;
+    if let Some(check) = matches.subcommand_matches("check") {
+        let file = value(alloc, check, "FILE")?;
+        return Ok(Command::Check { file });
+    }
     let show = matches.subcommand_matches("show").unwrap();
     Ok(Command::Show {
         type_text: value(alloc, show, "TYPE")?,
@@ -32,11 +36,12 @@ fn dconfdb<'a>(alloc: Global) -> Result<clap::Command<'a>, AllocError>
     ensures { IfOk result (λ c. app_of c ≡ command_line) }
 {
     clap::Command::new(alloc, "dconfdb")
-        .about("Prints GVariant values from files")
+        .about("Reads GVariant values and dconf databases")
         .version("0.1.0")
         .subcommand_required(true)
         .disable_help_subcommand(true)
-        .subcommand(show(alloc)?)
+        .subcommand(show(alloc)?)?
+        .subcommand(check(alloc)?)
 }
 
 // `show TYPE FILE`.
@@ -44,13 +49,29 @@ fn show<'a>(alloc: Global) -> Result<clap::Command<'a>, AllocError>
     ensures { IfOk result (λ c. app_of c ≡ show_line) }
 {
     let type_text = required(alloc, "TYPE").help("a GVariant type text, such as au or s");
-    let file = required(alloc, "FILE").help(
-        "the file to read, by its path from the current folder",
-    );
+    let file = file_word(alloc);
     clap::Command::new(alloc, "show")
         .about("Prints the bytes of FILE, read as a value of the GVariant type TYPE")
         .arg(type_text)?
         .arg(file)
+}
+
+// `check FILE`.
+fn check<'a>(alloc: Global) -> Result<clap::Command<'a>, AllocError>
+    ensures { IfOk result (λ c. app_of c ≡ check_line) }
+{
+    let file = file_word(alloc);
+    clap::Command::new(alloc, "check")
+        .about("Says whether FILE is a sound database")
+        .arg(file)
+}
+
+// The file that a command reads.
+fn file_word<'a>(alloc: Global) -> Arg<'a>
+    ensures rule { rule_of result ≡ required_word (codes "FILE") }
+    ensures own { result.global ≡ false }
+{
+    required(alloc, "FILE").help("the file to read, by its path from the current folder")
 }
 
 // A word that must be there, in its place.
@@ -93,12 +114,38 @@ mod tests {
         ];
         for line in lines {
             let words = texts(alloc, line)?;
-            let Command::Show { type_text, file } = command(alloc, &words)?;
-            assert!(rt; type_text.as_str() == "au" && file.as_str() == "two");
+            assert!(rt; shows(&command(alloc, &words)?, "au", "two"));
         }
         let words = texts(alloc, &["dconfdb", "show", "s", "--", "-x"])?;
-        let Command::Show { type_text, file } = command(alloc, &words)?;
-        assert!(rt; type_text.as_str() == "s" && file.as_str() == "-x");
+        assert!(rt; shows(&command(alloc, &words)?, "s", "-x"));
+        Ok(())
+    }
+
+    /// Whether it is `show` of this type and this file.
+    fn shows(asked: &Command, wanted_type: &str, wanted_file: &str) -> bool {
+        match asked {
+            Command::Show { type_text, file } => {
+                type_text.as_str() == wanted_type && file.as_str() == wanted_file
+            }
+            _ => false,
+        }
+    }
+
+    /// Whether it is `check` of this file.
+    fn checks(asked: &Command, wanted_file: &str) -> bool {
+        match asked {
+            Command::Check { file } => file.as_str() == wanted_file,
+            _ => false,
+        }
+    }
+
+    #[test]
+    fn reads_check(rt: HostRuntime) -> Result<(), Fail> {
+        let alloc = rt.alloc();
+        let words = texts(alloc, &["dconfdb", "check", "site.db"])?;
+        assert!(rt; checks(&command(alloc, &words)?, "site.db"));
+        let words = texts(alloc, &["dconfdb", "check", "--", "-x"])?;
+        assert!(rt; checks(&command(alloc, &words)?, "-x"));
         Ok(())
     }
 
@@ -121,6 +168,14 @@ mod tests {
             ),
             (
                 ["dconfdb", "show", "au", "-x"].as_slice(),
+                ErrorKind::UnknownArgument,
+            ),
+            (
+                ["dconfdb", "check"].as_slice(),
+                ErrorKind::MissingRequiredArgument,
+            ),
+            (
+                ["dconfdb", "check", "one", "two"].as_slice(),
                 ErrorKind::UnknownArgument,
             ),
             (["dconfdb", "--help"].as_slice(), ErrorKind::DisplayHelp),
@@ -149,7 +204,15 @@ mod tests {
         let lines = [
             (
                 ["dconfdb", "--help"].as_slice(),
-                "show  Prints the bytes of FILE, read as a value",
+                "Prints the bytes of FILE, read as a value",
+            ),
+            (
+                ["dconfdb", "--help"].as_slice(),
+                "Says whether FILE is a sound database",
+            ),
+            (
+                ["dconfdb", "check", "--help"].as_slice(),
+                "Usage: dconfdb check <FILE>",
             ),
             (
                 ["dconfdb", "show", "--help"].as_slice(),

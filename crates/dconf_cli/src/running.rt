@@ -7,7 +7,7 @@ ghost use Rattle.dconf_cli.specs.Streams.{NoneFailed};
 
 use crate::answer::give;
 use crate::asked::Command;
-use crate::commands::show;
+use crate::commands::answered;
 use crate::counted::Counted;
 use crate::folder::Folder;
 use std::alloc::Global;
@@ -16,12 +16,14 @@ use std::io::{Read, Write};
 /// Runs the command on the folder, and gives its status: 0 is done, 1 is refused.
 ///
 /// Done, its text is on out; refused, one line on err says why, and out got nothing. A failed write to out
-/// is status 1 with nothing on err, and a failed one to err changes no status. The lines are the fault of a text
-/// that is no type, as `error: KeyNotBasic at 2`, `error: NoFile FILE`, `error: Device FILE` where the folder failed,
-/// `error: TooBig` for a file over 4,294,967,295 bytes, `error: TooLarge` for over 1,000,000 values or 128 levels,
-/// `error: DoubleText` where a double is to be printed, and `error: Memory`.
+/// is status 1 with nothing on err, and a failed one to err changes no status. Of every command the lines are
+/// `error: NoFile FILE`, `error: Device FILE` where the folder failed, `error: TooBig` for a file over 4,294,967,295
+/// bytes, and `error: Memory`. Of `show` they are also the fault of a text that is no type, as
+/// `error: KeyNotBasic at 2`, `error: TooLarge` for over 1,000,000 values or 128 levels, and `error: DoubleText` where a
+/// double is to be printed; of `check` why the file is no database, as `error: BadRoot`, and `unsound: S4 item 1` for the
+/// first rule that fails and the first item at which it does.
 ///
-/// It holds the file's bytes once and the text once, in time linear in both.
+/// It holds the file's bytes once and the text once; `show` takes time linear in both.
 pub fn run<F: Folder, I: Read, O: Write, E: Write>(
     alloc: Global,
     command: Command,
@@ -57,8 +59,6 @@ pub fn run<F: Folder, I: Read, O: Write, E: Write>(
 {
     // No command reads the input so far.
     let _ = input;
-    let answer = match command {
-        Command::Show { type_text, file } => show(alloc, type_text.as_str(), file.as_str(), folder),
-    };
+    let answer = answered(alloc, &command, folder);
     give(answer, out, err)
 }

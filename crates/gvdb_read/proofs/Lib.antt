@@ -1,2 +1,12 @@
 pub mod Numbers
 pub mod ListSteps
+pub mod RuleOrder
+pub mod ChainSteps
+pub mod LeastFaults
+pub mod Yielded
+pub mod BackwardSteps
+pub mod NameChecks
+pub mod Ascending
+pub mod Places
+pub mod ListWalks
+pub mod Below

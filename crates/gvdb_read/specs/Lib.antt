@@ -3,3 +3,7 @@ pub mod Opened
 pub mod Tables
 pub mod Left
 pub mod Found
+pub mod Unsounds
+pub mod Joined
+pub mod Backwards
+pub mod Ascending

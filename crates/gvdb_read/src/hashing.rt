@@ -1,6 +1,6 @@
 //! The hash of a name: Bernstein's, over bytes that are taken as signed numbers.
-ghost use Rattle.std.specs.Prelude.{◌≡◌};
-ghost use Rattle.dconf_model.specs.Bytes.{hash_of};
+ghost use Rattle.std.specs.Prelude.{◌≡◌, ◌+◌, ◌*◌, ◌%◌, ◌^◌, ℕ};
+ghost use Rattle.dconf_model.specs.Bytes.{hash_of, hash_step};
 
 /// The hash of a name's bytes, by which a table's items are sorted into buckets. It looks at each byte once.
 pub fn hash(name: &[u8]) -> u32
@@ -8,14 +8,20 @@ pub fn hash(name: &[u8]) -> u32
 {
     let mut hash = 5381u32;
     for byte in name {
-        let signed = if *byte < 128 {
-            u32::from(*byte)
-        } else {
-            u32::from(*byte) + 0xffff_ff00
-        };
-        hash = hash.wrapping_mul(33).wrapping_add(signed);
+        hash = hash.wrapping_mul(33).wrapping_add(signed(*byte));
     }
     hash
+}
+
+/// A byte as a signed number, modulo 2^32.
+pub(crate) fn signed(byte: u8) -> u32
+    ensures { (hash : ℕ) → hash_step hash byte ≡ (hash * 33 + result) % 2 ^ 32 }
+{
+    if byte < 128 {
+        u32::from(byte)
+    } else {
+        u32::from(byte) + 0xffff_ff00
+    }
 }
 
 #[cfg(test)]

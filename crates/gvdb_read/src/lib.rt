@@ -6,6 +6,7 @@
 //! its items say of their parents, keys and contents.
 #![tactic(auto)]
 
+mod checking;
 mod fault;
 mod find;
 mod hashing;
@@ -14,6 +15,7 @@ mod names;
 mod number;
 mod search;
 mod table;
+mod unsound;
 #[cfg(test)]
 mod vectors;
 
@@ -22,3 +24,4 @@ pub use hashing::hash;
 pub use item::Item;
 pub use names::Names;
 pub use table::Table;
+pub use unsound::{Rule, Unsound};

@@ -42,7 +42,7 @@ impl<'a> Table<'a> {
 
     /// Whether the bloom words don't rule the hash out.
     #[tactic(auto, using(std::proofs::lemmas::Nat::bit_set_by_shift))]
-    fn passes_bloom(self, hash: u32) -> bool
+    pub(crate) fn passes_bloom(self, hash: u32) -> bool
         ensures { IsTrue result ↔ PassesBloom (region self.entry) hash }
     {
         if self.bloom_words == 0 {
@@ -54,7 +54,7 @@ impl<'a> Table<'a> {
     }
 
     /// Where the items of a hash's bucket start and end.
-    fn span(self, hash: u32) -> (u32, u32)
+    pub(crate) fn span(self, hash: u32) -> (u32, u32)
         ensures first { result.0 ≡ span_start (region self.entry) hash }
         ensures end { result.1 ≡ span_end (region self.entry) hash }
     {
@@ -73,7 +73,7 @@ impl<'a> Table<'a> {
     }
 
     /// The number of a bucket's first item.
-    fn bucket(self, k: u32) -> u32
+    pub(crate) fn bucket(self, k: u32) -> u32
         requires { k < bucket_count (region self) }
         ensures { result ≡ bucket (region self.entry) k }
     {
@@ -98,7 +98,7 @@ impl<'a> Table<'a> {
 
     /// Whether item `i` has this full name. It is compared from its end, key by key up the parents; each item with a
     /// parent takes at least one byte of it, so that it ends where parents go round in a circle.
-    fn is_named(self, i: u32, name: &[u8], steps: &mut Steps) -> bool
+    pub(crate) fn is_named(self, i: u32, name: &[u8], steps: &mut Steps) -> bool
         requires { steps.old + length name.now + 1 < 2 ^ 128 }
         ensures named { IsTrue result ↔ HasName (region self.entry) i name.now }
         ensures cost { steps.new ≤ steps.old + length name.now + 1 }

@@ -1,28 +1,51 @@
-use Rattle.std.proofs.Common.{map, string_bytes}
+use Rattle.std.proofs.Common.{◌≡◌, codes, false, map, refl, string_bytes, true}
 use Rattle.clap.specs.Words.{found_of}
-use Rattle.dconf_cli.proofs.Shown.{IsParsedBy, IsShow, asks_to_show, is_show, named_show, parsed}
+use Rattle.dconf_cli.proofs.Subcommands.{IsParsedBy, IsSub, asks_to_check, asks_to_show, is_sub, named_show, parsed}
 use Rattle.dconf_cli.proofs.command_line.command.Goals as goal
-
-pub unwrap-show-requires : goal.unwrap-show-requires
-unwrap-show-requires c =
-    let words = map string_bytes c.args.words.now in
-    let m = c.in_ok-matches.matches in
-    let p : IsParsedBy words m = parsed _ words m c.in_ok-dconfdb.ensures c.in_ok-matches.ensures.kinds c.in_ok-matches.ensures.matches in
-    c.subcommand_matches.ensures.found.1 (named_show words m p)
 
 pub value-requires : goal.value-requires
 value-requires c =
     let words = map string_bytes c.args.words.now in
     let m = c.in_ok-matches.matches in
     let p : IsParsedBy words m = parsed _ words m c.in_ok-dconfdb.ensures c.in_ok-matches.ensures.kinds c.in_ok-matches.ensures.matches in
-    (is_show words m (found_of c.unwrap-show.result.now) p (rw c.unwrap-show.ensures at c.subcommand_matches.ensures.rows)).type_given
+    (is_sub words (codes "check") m (found_of c.in-Some.check.now) p (c.in-Some.ensures.found.0 refl) c.in-Some.ensures.rows).given (codes "FILE") refl
+
+pub returns-in-Some-clause-asked : goal.returns-in-Some-clause-asked
+returns-in-Some-clause-asked c =
+    let words = map string_bytes c.args.words.now in
+    let m = c.in_ok-matches.matches in
+    let found = found_of c.in-Some.check.now in
+    let p : IsParsedBy words m = parsed _ words m c.in_ok-dconfdb.ensures c.in_ok-matches.ensures.kinds c.in_ok-matches.ensures.matches in
+    asks_to_check words found _ (is_sub words (codes "check") m found p (c.in-Some.ensures.found.0 refl) c.in-Some.ensures.rows) c.in_ok-file.ensures
+
+pub returns-in-Some-clause-faults : goal.returns-in-Some-clause-faults
+returns-in-Some-clause-faults c =
+    let words = map string_bytes c.args.words.now in
+    let m = c.in_ok-matches.matches in
+    (parsed _ words m c.in_ok-dconfdb.ensures c.in_ok-matches.ensures.kinds c.in_ok-matches.ensures.matches).sound
+
+pub unwrap-show-requires : goal.unwrap-show-requires
+unwrap-show-requires c =
+    let words = map string_bytes c.args.words.now in
+    let m = c.in_ok-matches.matches in
+    let p : IsParsedBy words m = parsed _ words m c.in_ok-dconfdb.ensures c.in_ok-matches.ensures.kinds c.in_ok-matches.ensures.matches in
+    c.subcommand_matches-2.ensures.found.1 (named_show words m p (λ e. let none : false ≡ true = c.in_default.ensures.found.1 e in cc))
 
 pub value-requires-2 : goal.value-requires-2
 value-requires-2 c =
     let words = map string_bytes c.args.words.now in
     let m = c.in_ok-matches.matches in
     let p : IsParsedBy words m = parsed _ words m c.in_ok-dconfdb.ensures c.in_ok-matches.ensures.kinds c.in_ok-matches.ensures.matches in
-    (is_show words m (found_of c.unwrap-show.result.now) p (rw c.unwrap-show.ensures at c.subcommand_matches.ensures.rows)).file_given
+    let named = named_show words m p (λ e. let none : false ≡ true = c.in_default.ensures.found.1 e in cc) in
+    (is_sub words (codes "show") m (found_of c.unwrap-show.result.now) p named (rw c.unwrap-show.ensures at c.subcommand_matches-2.ensures.rows)).given (codes "TYPE") refl
+
+pub value-requires-3 : goal.value-requires-3
+value-requires-3 c =
+    let words = map string_bytes c.args.words.now in
+    let m = c.in_ok-matches.matches in
+    let p : IsParsedBy words m = parsed _ words m c.in_ok-dconfdb.ensures c.in_ok-matches.ensures.kinds c.in_ok-matches.ensures.matches in
+    let named = named_show words m p (λ e. let none : false ≡ true = c.in_default.ensures.found.1 e in cc) in
+    (is_sub words (codes "show") m (found_of c.unwrap-show.result.now) p named (rw c.unwrap-show.ensures at c.subcommand_matches-2.ensures.rows)).given (codes "FILE") refl
 
 pub returns-clause-asked : goal.returns-clause-asked
 returns-clause-asked c =
@@ -30,8 +53,9 @@ returns-clause-asked c =
     let m = c.in_ok-matches.matches in
     let found = found_of c.unwrap-show.result.now in
     let p : IsParsedBy words m = parsed _ words m c.in_ok-dconfdb.ensures c.in_ok-matches.ensures.kinds c.in_ok-matches.ensures.matches in
-    let shown : IsShow words found = is_show words m found p (rw c.unwrap-show.ensures at c.subcommand_matches.ensures.rows) in
-    asks_to_show words found _ _ shown c.in_ok-value.ensures c.in_ok-value-2.ensures
+    let named = named_show words m p (λ e. let none : false ≡ true = c.in_default.ensures.found.1 e in cc) in
+    let sub : IsSub words (codes "show") found = is_sub words (codes "show") m found p named (rw c.unwrap-show.ensures at c.subcommand_matches-2.ensures.rows) in
+    asks_to_show words found _ _ sub c.in_ok-value.ensures c.in_ok-value-2.ensures
 
 pub returns-clause-faults : goal.returns-clause-faults
 returns-clause-faults c =

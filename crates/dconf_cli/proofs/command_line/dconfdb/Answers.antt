@@ -15,5 +15,7 @@ returns c =
     let line : app_of c.disable_help_subcommand.result ≡ dconfdb_line =
     plain ∙ ap without_help_subcommand (wants ∙ ap wanting_subcommand (version ∙ ap versioned start)) in
     let shown = c.in_ok-show.ensures in
-    let own = first_not _ _ (second _ _ (second _ _ (ap (λ (a : App). a.top.is_plain) shown))) in
-    IfOk-weaker c.subcommand.result _ _ (λ r h. h.shape own ∙ ap₂ with_subcommand line (ap (λ (a : App). a.top) shown)) c.subcommand.ensures
+    let checked = c.in_ok-check.ensures in
+    let with_show = c.in_ok-subcommand.ensures.shape (first_not _ _ (second _ _ (second _ _ (ap (λ (a : App). a.top.is_plain) shown)))) ∙ ap₂ with_subcommand line (ap (λ (a : App). a.top) shown) in
+    IfOk-weaker c.subcommand-2.result _ _ (λ r h. h.shape (first_not _ _ (second _ _ (second _ _ (ap (λ (a : App). a.top.is_plain) checked)))) ∙ ap₂ with_subcommand with_show (ap (λ (a : App). a.top) checked))
+    c.subcommand-2.ensures

@@ -9,6 +9,6 @@ pub returns : goal.returns
 returns c =
     let start : app_of c.about.result ≡ new_app (codes "show") = ap app_of_fields c.about.ensures ∙ c.new.ensures.app in
     let type_is : rule_of c.help-type_text.result ≡ required_word (codes "TYPE") = ap rule_of c.help-type_text.ensures ∙ c.required.ensures.rule in
-    let file_is : rule_of c.help-file.result ≡ required_word (codes "FILE") = ap rule_of c.help-file.ensures ∙ c.required-2.ensures.rule in
+    let file_is : rule_of c.file_word-file.result ≡ required_word (codes "FILE") = c.file_word-file.ensures.rule in
     let one = c.in_ok-arg.ensures.shape (search rules) ∙ ap₂ with_rule start type_is in
     IfOk-weaker c.arg-2.result _ _ (λ r h. h.shape (search rules) ∙ ap₂ with_rule one file_is) c.arg-2.ensures

@@ -1,0 +1,253 @@
+-- The subcommand that the words name, and what clap gives its arguments where it finds no fault in the words.
+use Rattle.std.proofs.Common.{◌≡◌, ◌∙◌, ◌||◌, ◌&&◌, ◌⊎◌, inl, inr, not, ℕ, Bool, true, false, List, [], ◌∷◌, refl, sym, ap, subst, Option, Some, None, is_some, if◌then◌else◌, codes}
+use Rattle.std.specs.Prelude.{◌≢◌, ⊤, IfSome, IsSome, cond, find, option_map, unwrap_or}
+use Rattle.std.specs.List.{list_any}
+use Rattle.std.specs.Option.{option_map_or}
+use Rattle.std.specs.Str.{bytes_eq}
+use Rattle.std.proofs.lemmas.Slice.Eq.{bytes_eq-Decides}
+use Rattle.clap.specs.Kinds.{Kinds, or_else, check_kinds}
+use Rattle.clap.specs.Simple.{App, Shape, argument_words, built, entered, label_of, names_of, rows_at}
+use Rattle.clap.specs.Walk.{Names, Row, Rule, Text, answers_to, arg_by_long, arg_by_short, nothing_held, rows_after, stop_after}
+use Rattle.clap.specs.Takes.{is_given}
+use Rattle.clap.specs.Faults.{level_fault, entered_fault, check_fault, fault_of, is_simple_and_free}
+use Rattle.clap.specs.Words.{HasMatchesOf, first_of, first_value, is_simple, rows_of, subcommand_name_of, subcommand_of, subcommand_rows, subcommand_rows_of}
+use Rattle.clap.specs.declared.parser.matches.ArgMatches.TheViews.{out-ArgMatches, out-SubCommand}
+use Rattle.std.specs.Box.{box_value}
+use Rattle.clap.specs.declared.ArgMatches.{ArgMatches}
+use Rattle.clap.specs.declared.parser.matches.Found.{Found}
+use Rattle.clap.proofs.WalkLemmas.{first_value-rows}
+use Rattle.dconf_cli.specs.Asked.{AsksToCheck, AsksToShow}
+use Rattle.dconf_cli.specs.CommandLine.{command_line, show_line}
+use Rattle.dconf_cli.proofs.Filled.{OnlyAsks, walk_filled, given_first}
+
+or_else_nil : (a b : Kinds) → or_else a b ≡ [] → (a ≡ []) × (b ≡ [])
+or_else_nil [] b e = (refl, e)
+or_else_nil (k ∷ ks) b e = cc
+
+-- no fault of a level
+no_fault : (s : Shape) (names : Names) (words : List Text) (has : Bool) (below : Kinds) → level_fault s names nothing_held words has below ≡ []
+    → (below ≡ []) × (check_fault s (rows_after s.rules names words) has ≡ [])
+no_fault s names words has below e =
+    let later = or_else_nil _ _ (or_else_nil _ _ e).1 in
+    (later.0, (or_else_nil _ _ (or_else_nil _ _ later.1).1).1)
+
+-- ---- required arguments
+
+no_argument_wanted : (help subcommand wanted : Bool) → check_kinds help subcommand wanted ≡ [] → wanted ≡ false
+no_argument_wanted true subcommand wanted e = cc
+no_argument_wanted false true wanted e = cc
+no_argument_wanted false false true e = cc
+no_argument_wanted false false false e = refl
+
+not_negated : (negates wanted : Bool) → (not (negates && false) && wanted) ≡ false → wanted ≡ false
+not_negated true wanted e = e
+not_negated false wanted e = e
+
+-- the rules have a required argument of this id
+abbrev pub wants : List Rule → Text → Bool
+wants rules id = list_any (λ a. a.required && bytes_eq a.id id) rules
+
+wanted_is_given : (rows : List Row) (id : Text) (rules : List Rule) → list_any (λ a. a.required && not (is_given a.id rows)) rules ≡ false
+    → wants rules id ≡ true → is_given id rows ≡ true
+wanted_is_given rows id [] e w = cc
+wanted_is_given rows id (a ∷ rest) e w =
+    go a.required (is_given a.id rows) (bytes_eq a.id id) refl refl (λ f t. wanted_is_given rows id rest f t) e w
+  where
+    go : (required given same : Bool) → is_given a.id rows ≡ given → bytes_eq a.id id ≡ same
+        → (list_any (λ b. b.required && not (is_given b.id rows)) rest ≡ false → wants rest id ≡ true → is_given id rows ≡ true)
+        → (required && not given || list_any (λ b. b.required && not (is_given b.id rows)) rest) ≡ false
+        → (required && same || wants rest id) ≡ true → is_given id rows ≡ true
+    go true true true g s later f t = subst (λ (i : Text). is_given i rows ≡ true) ((bytes_eq-Decides a.id id).0 s) g
+    go true true false g s later f t = later f t
+    go true false same g s later f t = cc
+    go false given same g s later f t = later f t
+
+check_gives : (s : Shape) (rows : List Row) (id : Text) → check_fault s rows false ≡ [] → wants s.rules id ≡ true → is_given id rows ≡ true
+check_gives s rows id e w =
+    wanted_is_given rows id s.rules (not_negated s.subcommand_negates_reqs _ (no_argument_wanted _ _ _ e)) w
+
+-- ---- the subcommands
+
+abbrev line : App
+line = built command_line
+
+abbrev IsCommandName : Text → Type 0
+IsCommandName name = (name ≡ codes "show") ⊎ (name ≡ codes "check")
+
+-- its flags only ask for help, and it has one name
+record IsPlainSub (s : Shape) : Type 0 where
+  long : (name : Text) → OnlyAsks s.rules (arg_by_long s.rules name)
+  short : (x : ℕ) → OnlyAsks s.rules (arg_by_short s.rules x)
+  alone : s.aliases ≡ []
+  name : IsCommandName s.name
+
+abbrev Each : (Shape → Type 0) → List Shape → Type 0
+Each P [] = ⊤
+Each P (s ∷ rest) = P s × Each P rest
+
+each_found : (P : Shape → Type 0) (test : Shape → Bool) (subs : List Shape) → Each P subs → IfSome (find test subs) (λ s. P s × (test s ≡ true))
+each_found P test [] each = tt
+each_found P test (s ∷ rest) each = go (test s) refl (each_found P test rest each.1)
+  where
+    go : (t : Bool) → test s ≡ t → IfSome (find test rest) (λ x. P x × (test x ≡ true)) → IfSome (cond t (Some s) (find test rest)) (λ x. P x × (test x ≡ true))
+    go true e later = (each.0, e)
+    go false e later = later
+
+help_asks : (rules : List Rule) (t : Bool) (help : Rule) → OnlyAsks rules (Some help) → OnlyAsks rules (if t then Some help else None)
+help_asks rules true help asks = asks
+help_asks rules false help asks = tt
+
+-- `show` and `check` as they are built
+abbrev show_built : Shape
+show_built = elim line.subs [ [] ↦ show_line.top | s ∷ rest ↦ s ]
+
+abbrev check_built : Shape
+check_built = elim line.subs [ [] ↦ show_line.top | s ∷ rest ↦ elim rest [ [] ↦ show_line.top | t ∷ more ↦ t ] ]
+
+show_is_plain : IsPlainSub show_built
+show_is_plain = record {
+  long = λ name. help_asks show_built.rules _ _ (refl, λ rows. refl);
+  short = λ x. help_asks show_built.rules _ _ (refl, λ rows. refl);
+  alone = refl;
+  name = inl refl;
+}
+
+check_is_plain : IsPlainSub check_built
+check_is_plain = record {
+  long = λ name. help_asks check_built.rules _ _ (refl, λ rows. refl);
+  short = λ x. help_asks check_built.rules _ _ (refl, λ rows. refl);
+  alone = refl;
+  name = inr refl;
+}
+
+plain_subs : Each IsPlainSub line.subs
+plain_subs = (show_is_plain, (check_is_plain, tt))
+
+-- the subcommand of this name
+abbrev pub sub_named : Text → Shape
+sub_named name = unwrap_or (find (λ s. answers_to name (label_of s)) line.subs) show_line.top
+
+answers_alone : (name asked : Text) (aliases : List Text) → aliases ≡ [] → answers_to asked (name, aliases) ≡ true → name ≡ asked
+answers_alone name asked aliases none e = go (bytes_eq name asked) refl (rw none at e)
+  where
+    go : (t : Bool) → bytes_eq name asked ≡ t → (t || false) ≡ true → name ≡ asked
+    go true same f = (bytes_eq-Decides name asked).0 same
+    go false same f = cc
+
+-- what clap gives the arguments of the subcommand that it met
+pub record Enters (met : Option (Text × List Row)) : Type 0 where
+  pub name : Text
+  pub one : IsCommandName name
+  pub rows : List Row
+  pub named : met ≡ Some (name, rows)
+  pub given : (id : Text) → wants (sub_named name).rules id ≡ true → IsSome (first_of id rows)
+
+sub_entered : (asked : Text) (words : List Text) (o : Option Shape) → find (λ s. answers_to asked (label_of s)) line.subs ≡ o
+    → IfSome o (λ s. IsPlainSub s × (answers_to asked (label_of s) ≡ true))
+    → option_map_or (λ s. level_fault s [] nothing_held words false []) o [] ≡ []
+    → is_some (option_map (λ s. rows_at s words) o) ≡ true → Enters (option_map (λ s. rows_at s words) o)
+sub_entered asked words None found plain fault met = cc
+sub_entered asked words (Some s) found plain fault met =
+    let rows = rows_after s.rules [] words in
+    let named : s.name ≡ asked = answers_alone s.name asked s.aliases plain.0.alone plain.1 in
+    let same : sub_named s.name ≡ s = ap sub_named named ∙ ap (λ (o : Option Shape). unwrap_or o show_line.top) found in
+    let checked = (no_fault s [] words false [] fault).1 in
+    let filled = walk_filled s.rules plain.0.long plain.0.short [] nothing_held words (tt, tt) in
+    record {
+      name = s.name;
+      one = plain.0.name;
+      rows = rows;
+      named = refl;
+      given = λ id wanted. given_first id rows filled (check_gives s rows id checked (subst (λ (x : Shape). wants x.rules id ≡ true) same wanted));
+    }
+
+entered_gives : (stop : Option (Text × List Text)) → entered_fault line stop ≡ [] → is_some (entered line stop) ≡ true → Enters (entered line stop)
+entered_gives None fault met = cc
+entered_gives (Some p) fault met =
+    sub_entered p.0 p.1 _ refl (each_found IsPlainSub (λ s. answers_to p.0 (label_of s)) line.subs plain_subs) fault met
+
+met_below : (rows : List Row) (has : Bool) → check_fault line.top rows has ≡ [] → has ≡ true
+met_below rows true e = refl
+met_below rows false e = cc
+
+pub enters : (words : List Text) → fault_of command_line words ≡ [] → Enters (subcommand_of command_line words)
+enters words e =
+    let args = argument_words command_line words in
+    let stop = stop_after line.top.rules (names_of line) args in
+    let level = no_fault line.top (names_of line) args (is_some (entered line stop)) (entered_fault line stop) e in
+    entered_gives stop level.0 (met_below (rows_after line.top.rules (names_of line) args) (is_some (entered line stop)) level.1)
+
+-- ---- a parse by a command that is built as the command line
+
+simple_line : is_simple command_line ≡ true
+simple_line = refl
+
+free_line : is_simple_and_free command_line ≡ true
+free_line = refl
+
+some_same : {X : Type 0} {x y : X} → Some x ≡ Some y → x ≡ y
+some_same {X} {x} {y} e = ap (λ (o : Option X). unwrap_or o x) e
+
+-- clap finds no fault in the words, and met the subcommand that they name
+pub record IsParsedBy (words : List Text) (m : ArgMatches) : Type 0 where
+  pub sound : fault_of command_line words ≡ []
+  pub met : subcommand_rows_of m ≡ subcommand_of command_line words
+
+pub parsed : (a : App) (words : List Text) (m : ArgMatches) → a ≡ command_line → (is_simple_and_free a ≡ true → fault_of a words ≡ [])
+    → HasMatchesOf a words m → IsParsedBy words m
+parsed a words m e kinds matches = record {
+  sound = subst (λ (x : App). fault_of x words ≡ []) e (kinds (ap is_simple_and_free e ∙ free_line));
+  met = (matches (ap is_simple e ∙ simple_line)).1 ∙ ap (λ (x : App). subcommand_of x words) e;
+}
+
+name_by_rows : (m : ArgMatches) → subcommand_name_of m ≡ option_map (λ p. p.0) (subcommand_rows_of m)
+name_by_rows m = elim (out-ArgMatches m).subcommand as (λ o. option_map (λ b. (out-SubCommand (box_value b)).name.now) o ≡ option_map (λ p. p.0) (subcommand_rows o)) [
+  | None ↦ refl
+  | Some b ↦ refl
+]
+
+-- the name of the subcommand that was met
+met_name : (words : List Text) (m : ArgMatches) (p : IsParsedBy words m) → subcommand_name_of m ≡ Some (enters words p.sound).name
+met_name words m p = name_by_rows m ∙ ap (option_map (λ q. q.0)) (p.met ∙ (enters words p.sound).named)
+
+-- one that is not `check` is `show`
+pub named_show : (words : List Text) (m : ArgMatches) → IsParsedBy words m → subcommand_name_of m ≢ Some (codes "check")
+    → subcommand_name_of m ≡ Some (codes "show")
+named_show words m p other = go (enters words p.sound).one
+  where
+    go : IsCommandName (enters words p.sound).name → subcommand_name_of m ≡ Some (codes "show")
+    go (inl show) = met_name words m p ∙ ap Some show
+    go (inr check) = absurd (other (met_name words m p ∙ ap Some check))
+
+-- the matches are those of the subcommand of this name
+pub record IsSub (words : List Text) (name : Text) (found : Found) : Type 0 where
+  pub named : subcommand_of command_line words ≡ Some (name, rows_of found)
+  pub given : (id : Text) → wants (sub_named name).rules id ≡ true → IsSome (first_value found id)
+
+pub is_sub : (words : List Text) (name : Text) (m : ArgMatches) (found : Found) → IsParsedBy words m → subcommand_name_of m ≡ Some name
+    → option_map (λ p. p.1) (subcommand_rows_of m) ≡ Some (rows_of found) → IsSub words name found
+is_sub words name m found p names rows =
+    let met = enters words p.sound in
+    let same : rows_of found ≡ met.rows = some_same (sym rows ∙ ap (option_map (λ q. q.1)) (p.met ∙ met.named)) in
+    let is : met.name ≡ name = some_same (sym (met_name words m p) ∙ names) in
+    record {
+      named = met.named ∙ ap (λ (n : Text). Some (n, met.rows)) is ∙ ap (λ (rs : List Row). Some (name, rs)) (sym same);
+      given = λ id wanted. rw (first_value-rows found id, same) (met.given id (subst (λ (n : Text). wants (sub_named n).rules id ≡ true) (sym is) wanted));
+    }
+
+pub asks_to_show : (words : List Text) (found : Found) (type_text file : Text) → IsSub words (codes "show") found
+    → first_value found (codes "TYPE") ≡ Some type_text → first_value found (codes "FILE") ≡ Some file → AsksToShow words type_text file
+asks_to_show words found type_text file sub t f = record {
+  rows = rows_of found;
+  named = sub.named;
+  type_value = sym (first_value-rows found (codes "TYPE")) ∙ t;
+  file_value = sym (first_value-rows found (codes "FILE")) ∙ f;
+}
+
+pub asks_to_check : (words : List Text) (found : Found) (file : Text) → IsSub words (codes "check") found
+    → first_value found (codes "FILE") ≡ Some file → AsksToCheck words file
+asks_to_check words found file sub f = record {
+  rows = rows_of found;
+  named = sub.named;
+  file_value = sym (first_value-rows found (codes "FILE")) ∙ f;
+}

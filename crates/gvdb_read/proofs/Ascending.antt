@@ -1,0 +1,80 @@
+-- Lists whose numbers ascend.
+use Rattle.std.proofs.Common.{ℕ, zero, suc, ◌+◌, ◌-◌, ◌<◌, ◌≤◌, ◌≡◌, refl, sym, ap, subst, arith, inl, inr}
+use Rattle.std.proofs.lemmas.Bool.{cases_order}
+use Rattle.dconf_model.specs.Table.{Table}
+use Rattle.dconf_model.specs.Searchable.{EachItem}
+use Rattle.dconf_model.specs.Sound.{KeepsAll, list_length, listed}
+use Rattle.dconf_model.specs.Sound.Rule.{lists}
+use Rattle.gvdb_read.specs.Ascending.{Ascends, HasAscendingListIfAny, IsListedIfChild}
+
+rises_by : (t : Table) (i : ℕ) → Ascends t i → (d k m : ℕ) → m ≡ k + 1 + d → m < list_length t i → listed t i k < listed t i m
+rises_by t i up zero k m e inside =
+    let next : m ≡ k + 1 = omega arith in
+    subst (λ (x : ℕ). listed t i k < listed t i x) (sym next) (up k (omega arith))
+rises_by t i up (suc d) k m e inside =
+    let before : listed t i k < listed t i (k + 1 + d) = rises_by t i up d k (k + 1 + d) refl (omega arith) in
+    let step : listed t i (k + 1 + d) < listed t i (k + 1 + d + 1) = up (k + 1 + d) (omega arith) in
+    let next : m ≡ k + 1 + d + 1 = omega arith in
+    subst (λ (x : ℕ). listed t i k < listed t i x) (sym next) (omega (arith, before, step))
+
+pub rises : (t : Table) (i k m : ℕ) → Ascends t i → k < m → m < list_length t i → listed t i k < listed t i m
+rises t i k m up lt inside = rises_by t i up (m - (k + 1)) k m (omega arith) inside
+
+-- a number stands at one place alone
+pub stands_once : (t : Table) (i k m : ℕ) → Ascends t i → k < list_length t i → m < list_length t i → listed t i k ≡ listed t i m → k ≡ m
+stands_once t i k m up k_inside m_inside same = elim (cases_order k m) [
+  | inl e ↦ e
+  | inr rest ↦ elim rest [
+    | inl before ↦ absurd (omega (arith, same, rises t i k m up before m_inside))
+    | inr behind ↦ absurd (omega (arith, same, rises t i m k up behind k_inside))
+  ]
+]
+
+-- it stands behind lower numbers, and before higher ones
+pub stands_behind : (t : Table) (i k m number : ℕ) → Ascends t i → k < list_length t i → m < list_length t i → listed t i k ≡ number → listed t i m < number → m < k
+stands_behind t i k m number up k_inside m_inside there lower = elim (cases_order k m) [
+  | inl e ↦ absurd (let same : listed t i k ≡ listed t i m = ap (λ (x : ℕ). listed t i x) e in omega (arith, same, there, lower))
+  | inr rest ↦ elim rest [
+    | inl before ↦ absurd (omega (arith, there, lower, rises t i k m up before m_inside))
+    | inr behind ↦ behind
+  ]
+]
+
+pub stands_before : (t : Table) (i k m number : ℕ) → Ascends t i → k < list_length t i → m < list_length t i → listed t i k ≡ number → number < listed t i m → k < m
+stands_before t i k m number up k_inside m_inside there higher = elim (cases_order k m) [
+  | inl e ↦ absurd (let same : listed t i k ≡ listed t i m = ap (λ (x : ℕ). listed t i x) e in omega (arith, same, there, higher))
+  | inr rest ↦ elim rest [
+    | inl before ↦ before
+    | inr behind ↦ absurd (omega (arith, there, higher, rises t i m k up behind k_inside))
+  ]
+]
+
+-- where each list ascends and each item is in its parent's list, the rule on lists is kept
+pub lists_kept : (t : Table) → EachItem t (HasAscendingListIfAny t) → EachItem t (IsListedIfChild t) → KeepsAll t lists
+lists_kept t ascending is_listed i counted of_kind =
+    let list = ascending i counted of_kind in
+    record {
+      children_alone = list.children_alone;
+      each_child = λ j child. is_listed j child.0 i child.1;
+      once = λ k m k_inside m_inside same. stands_once t i k m list.ascends k_inside m_inside same;
+      empty_at_root = list.empty_at_root;
+    }
+
+-- ---- a walk along the numbers
+
+pub rises_further : (t : Table) (i k : ℕ) → ((m : ℕ) → m + 1 < k → listed t i m < listed t i (m + 1)) → 1 ≤ k → listed t i (k - 1) < listed t i k → (m : ℕ) → m + 1 < k + 1 → listed t i m < listed t i (m + 1)
+rises_further t i k before some here m lt = elim (cases_order (m + 1) k) [
+  | inl e ↦
+      let low : k - 1 ≡ m = omega arith in
+      subst (λ (x : ℕ). listed t i m < listed t i x) (sym e) (subst (λ (x : ℕ). listed t i x < listed t i k) low here)
+  | inr rest ↦ elim rest [
+    | inl lower ↦ before m lower
+    | inr higher ↦ absurd (omega (arith, lt, higher))
+  ]
+]
+
+pub falls_here : (t : Table) (i k : ℕ) → 1 ≤ k → k < list_length t i → listed t i k ≤ listed t i (k - 1) → Ascends t i → ⊥
+falls_here t i k some inside fall up =
+    let e : k - 1 + 1 ≡ k = omega arith in
+    let there : listed t i (k - 1) < listed t i k = subst (λ (x : ℕ). listed t i (k - 1) < listed t i x) e (up (k - 1) (omega arith)) in
+    omega (arith, there, fall)

@@ -1,0 +1,6 @@
+use Rattle.gvdb_read.specs.Tables.{region}
+use Rattle.gvdb_read.proofs.RuleOrder.{sound_if_ok}
+use Rattle.gvdb_read.proofs.table.Table.check.Goals as goal
+
+pub returns-clause-sound : goal.returns-clause-sound
+returns-clause-sound c = sound_if_ok (region c.args.self) c.kept-3.result c.kept-3.ensures.kept

@@ -1,0 +1,18 @@
+use Rattle.std.proofs.Common.{rules, ◌≡◌, ◌∙◌, true, false, ap, refl, arith}
+use Rattle.dconf_model.specs.Table.{Item}
+use Rattle.dconf_model.specs.Search.{span_start}
+use Rattle.gvdb_read.specs.Tables.{region}
+use Rattle.gvdb_read.proofs.NameChecks.{has_namesake, has_no_namesake}
+use Rattle.gvdb_read.proofs.table.Table.is_only_named.Goals as goal
+
+pub returns-then-has_name_of : goal.returns-then-has_name_of
+returns-then-has_name_of c = (
+  λ h. let bad : false ≡ true = h in cc,
+  λ only. absurd (has_namesake (region c.args.self) c.args.i c.loop-j.j c.requires.keys c.requires.chain c.requires.counted (omega arith) (c.has_name_of.ensures.0 (search rules)) only),
+)
+
+pub returns : goal.returns
+returns c =
+    let t = region c.args.self in
+    let begin = c.span-first.ensures.first ∙ ap (λ (e : Item). span_start t e.hash) c.stored.ensures in
+    (λ h. has_no_namesake t c.args.i _ c.requires.keys c.requires.chain c.requires.hash c.requires.span c.requires.counted begin (λ k lower le e. c.loop-j.invariant k (omega arith) le e), λ only. refl)

@@ -1,0 +1,37 @@
+-- What an unsound database breaks, and how it is printed.
+use Rattle.std.specs.Prelude.{ℕ, ◌<◌, List, [], ◌++◌, Option, Some, None, codes, decimal}
+use Rattle.dconf_model.specs.Table.{Table as Region}
+use Rattle.dconf_model.specs.Sound.{Rule as SoundRule}
+use Rattle.dconf_model.specs.Sound.{number_of, KeepsAll}
+use Rattle.dconf_model.specs.Sound.Rule.{buckets, keys, chain, hash, span, bloom, once, content, place, lists, locks}
+use Rattle.gvdb_read.specs.declared.unsound.Rule.{Rule}
+use Rattle.gvdb_read.specs.declared.unsound.Rule.TheVariants.{Buckets, Keys, Chain, Hash, Span, Bloom, Once, Content, Place, Lists, Locks}
+use Rattle.gvdb_read.specs.declared.unsound.Unsound.{Unsound}
+
+abbrev pub rule_of : Rule → SoundRule
+rule_of Buckets = buckets
+rule_of Keys = keys
+rule_of Chain = chain
+rule_of Hash = hash
+rule_of Span = span
+rule_of Bloom = bloom
+rule_of Once = once
+rule_of Content = content
+rule_of Place = place
+rule_of Lists = lists
+rule_of Locks = locks
+
+-- the rules whose numbers are below this one are kept
+abbrev pub KeepsBelow : Region → ℕ → Type 0
+KeepsBelow t n = (rule : SoundRule) → number_of rule < n → KeepsAll t rule
+
+-- its name
+abbrev pub rule_text : Rule → List ℕ
+rule_text rule = codes "S" ++ decimal (number_of (rule_of rule))
+
+abbrev pub item_text : Option ℕ → List ℕ
+item_text None = []
+item_text (Some i) = codes " item " ++ decimal i
+
+abbrev pub unsound_text : Unsound → List ℕ
+unsound_text unsound = rule_text unsound.rule ++ item_text unsound.item

@@ -1,0 +1,124 @@
+//! An item's full name from its last byte on: its key backwards, and then its parent's full name.
+ghost use Rattle.std.specs.Prelude.{◌≡◌, ◌<◌, [], IfNone, IfSome, length, reverse};
+ghost use Rattle.std.specs.Option.{ForSome};
+ghost use Rattle.dconf_model.specs.Table.{item_count};
+ghost use Rattle.dconf_model.specs.Names.{full_name};
+ghost use Rattle.dconf_model.specs.Sound.{KeepsAll};
+ghost use Rattle.dconf_model.specs.Sound.Rule.{keys, chain};
+ghost use Rattle.gvdb_read.specs.Joined.{HasNames};
+ghost use Rattle.gvdb_read.specs.Tables.{region};
+
+use crate::table::Table;
+use std::iter::FusedIterator;
+
+/// The bytes of an item's full name that are left, the last first: those of a key, and those of the name above it.
+#[derive(Clone, Copy, Debug)]
+pub(super) struct Backwards<'a> {
+    table: Table<'a>,
+    key: &'a [u8],
+    parent: Option<u32>,
+    ghost named: { HasNames (region table) },
+    ghost counted: { ForSome parent (λ p. p < item_count (region table)) },
+}
+
+impl<'a> Backwards<'a> {
+    ghost use Rattle.gvdb_read.specs.Backwards.{backwards_left};
+
+    /// The full name of item `i`.
+    fn of(table: Table<'a>, i: u32) -> Backwards<'a>
+        requires named { HasNames (region table) }
+        requires counted { i < item_count (region table) }
+        ensures left { backwards_left result ≡ reverse (full_name (region table.entry) i) }
+        ensures some { 0 < length result.key.now }
+    {
+        let (stored, key) = table.named_item(i).unwrap();
+        Backwards {
+            table,
+            key,
+            parent: stored.parent,
+        }
+    }
+
+    /// The same bytes, the first of them in the key at hand. None where none is left.
+    fn filled(self) -> Option<Backwards<'a>>
+        ensures same { IfSome result (λ filled. backwards_left filled ≡ backwards_left self.entry) }
+        ensures some { IfSome result (λ filled. 0 < length filled.key.now) }
+        ensures none { IfNone result (backwards_left self.entry ≡ []) }
+    {
+        if !self.key.is_empty() {
+            return Some(self);
+        }
+        let parent = self.parent?;
+        Some(Backwards::of(self.table, parent))
+    }
+}
+
+impl Iterator for Backwards<'_> {
+    type Item = u8;
+
+    ghost use Rattle.std.specs.Iterator.{YieldsFirst, item_count as count_left};
+    ghost use Rattle.gvdb_read.specs.Backwards.{backwards_left};
+
+    ghost next_gives = { YieldsFirst backwards_left };
+
+    ghost remaining = { count_left backwards_left };
+
+    fn next(&mut self) -> Option<u8> {
+        *self = self.filled()?;
+        let (last, front) = self.key.split_last()?;
+        self.key = front;
+        Some(*last)
+    }
+}
+
+impl FusedIterator for Backwards<'_> {}
+
+impl<'a> Table<'a> {
+    ghost use Rattle.gvdb_read.specs.Backwards.{backwards_left};
+
+    /// The full name of item `i`, from its end.
+    pub(super) fn name_backwards(self, i: u32) -> Backwards<'a>
+        requires keys { KeepsAll (region self) keys }
+        requires chain { KeepsAll (region self) chain }
+        requires counted { i < item_count (region self) }
+        ensures { backwards_left result ≡ reverse (full_name (region self.entry) i) }
+    {
+        Backwards::of(self, i)
+    }
+}
+
+#[cfg(test)]
+mod tests {
+    use super::*;
+    use crate::vectors::LOCKED;
+    use std::test::Fail;
+
+    /// The last three bytes of an item's full name.
+    fn last_bytes(table: Table<'_>, i: u32) -> Option<(Option<u8>, Option<u8>, Option<u8>)> {
+        let None = table.first_against_keys() else {
+            return None;
+        };
+        let None = table.first_against_chain() else {
+            return None;
+        };
+        if i >= table.n_items() {
+            return None;
+        }
+        let mut name = table.name_backwards(i);
+        let last = name.next();
+        let second = name.next();
+        Some((last, second, name.next()))
+    }
+
+    #[test]
+    fn goes_on_at_the_parent(rt: HostRuntime) -> Result<(), Fail> {
+        let table = Table::open(&LOCKED)?;
+        assert_eq!(rt;
+            last_bytes(table, 0),
+            Some((Some(b's'), Some(b'k'), Some(b'c')))
+        );
+        assert_eq!(rt; last_bytes(table, 1), Some((Some(b'/'), None, None)));
+        assert_eq!(rt; last_bytes(table, 2), Some((Some(b'k'), Some(b'/'), None)));
+        Ok(())
+    }
+}

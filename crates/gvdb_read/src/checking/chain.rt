@@ -1,0 +1,47 @@
+//! S3: the item's parents end, and its key isn't empty.
+ghost use Rattle.std.specs.Prelude.{◌<◌, ◌↔◌, List, ℕ, IfNone, IfSome, IsTrue};
+ghost use Rattle.dconf_model.specs.Table.{item_count};
+ghost use Rattle.dconf_model.specs.Searchable.{HasEnd, LeadsUp};
+ghost use Rattle.dconf_model.specs.Sound.{IsLeastFault, KeepsAll};
+ghost use Rattle.dconf_model.specs.Sound.Rule.{chain, keys};
+
+use crate::table::Table;
+
+impl Table<'_> {
+    ghost use Rattle.gvdb_read.specs.Tables.{region};
+
+    /// The least item that doesn't keep the rule. It takes a step for each parent of each item.
+    pub(super) fn first_against_chain(self) -> Option<u32>
+        requires keys { KeepsAll (region self) keys }
+        ensures found { IfSome result (IsLeastFault (region self.entry) chain) }
+        ensures none { IfNone result (KeepsAll (region self.entry) chain) }
+    {
+        (0..self.n_items()).find(|&i| !self.has_end(i))
+    }
+
+    /// Whether item `i` keeps the rule.
+    fn has_end(self, i: u32) -> bool
+        requires counted { i < item_count (region self) }
+        requires keys { KeepsAll (region self) keys }
+        ensures { IsTrue result ↔ HasEnd (region self.entry) i }
+    {
+        self.stored(i).key_len > 0 && self.has_first_parent(i)
+    }
+
+    /// Whether the parents of item `i` end. As many steps as there are items are enough: more would come to an item for
+    /// the second time, and go round in a circle.
+    fn has_first_parent(self, i: u32) -> bool
+        requires counted { i < item_count (region self) }
+        requires keys { KeepsAll (region self) keys }
+        ensures { IsTrue result ↔ ((parents : List ℕ) × LeadsUp (region self.entry) i parents) }
+    {
+        let mut at = i;
+        for _ in 0..self.n_items() {
+            let Some(parent) = self.stored(at).parent else {
+                return true;
+            };
+            at = parent;
+        }
+        false
+    }
+}

@@ -1,0 +1,391 @@
+//! S10: a list holds exactly the items whose parent it is, once each; it is empty only at `/`.
+//!
+//! A writer puts the children of a list in the order of the items. So a fast pass looks whether each list ascends and
+//! each item is found in its parent's list by halving. Where that fails a slow pass asks list by list.
+ghost use Rattle.std.specs.Prelude.{◌≡◌, ◌≢◌, ◌<◌, ◌↔◌, ℕ, IsTrue, IfNone, IfSome, codes};
+ghost use Rattle.dconf_model.specs.Table.{HasBytes, item_count};
+ghost use Rattle.dconf_model.specs.Names.{HasName};
+ghost use Rattle.dconf_model.specs.Searchable.{EachItem};
+ghost use Rattle.dconf_model.specs.Sound.{HasListIfAny, IsChild, IsLeastFault, KeepsAll, ListsChildren, list_length, listed};
+ghost use Rattle.dconf_model.specs.Sound.Rule.{keys, content, place, lists};
+ghost use Rattle.gvdb_read.specs.Ascending.{Ascends, HasAscendingListIfAny, IsAscending, IsListed, IsListedIfChild};
+
+use crate::number::read_u32;
+use crate::table::{LIST, Table};
+use gv_types::Steps;
+
+impl<'a> Table<'a> {
+    ghost use Rattle.gvdb_read.specs.Tables.{region};
+
+    /// The least item whose list doesn't hold exactly its children, once each, or is empty elsewhere than at `/`.
+    ///
+    /// Where each list ascends it looks at the lists once, and for each item at as many numbers as the longest list
+    /// has binary digits. Else it looks at each item once for each list, and compares each number of a list with its
+    /// children and with the numbers before it.
+    pub(super) fn first_against_lists(self) -> Option<u32>
+        requires keys { KeepsAll (region self) keys }
+        requires content { KeepsAll (region self) content }
+        requires place { KeepsAll (region self) place }
+        ensures found { IfSome result (IsLeastFault (region self.entry) lists) }
+        ensures none { IfNone result (KeepsAll (region self.entry) lists) }
+    {
+        if self.lists_ascend() && self.each_is_listed() {
+            return None;
+        }
+        self.first_other_list()
+    }
+
+    // ---- the fast pass
+
+    /// Whether each list holds children of its item alone, in ascending order, and is empty only at `/`.
+    fn lists_ascend(self) -> bool
+        requires content { KeepsAll (region self) content }
+        ensures { IsTrue result ↔ EachItem (region self.entry) (HasAscendingListIfAny (region self.entry)) }
+    {
+        for i in 0..self.n_items() {
+            if !self.has_ascending_list_if_any(i) {
+                return false;
+            }
+        }
+        true
+    }
+
+    /// Whether the item is no list, or one that ascends.
+    fn has_ascending_list_if_any(self, i: u32) -> bool
+        requires counted { i < item_count (region self) }
+        requires valid { HasBytes (region self) i }
+        ensures { IsTrue result ↔ HasAscendingListIfAny (region self.entry) i }
+    {
+        self.stored(i).kind != LIST || self.has_ascending_list(i)
+    }
+
+    /// Whether the list holds children of its item alone, in ascending order, and is empty only at `/`.
+    fn has_ascending_list(self, i: u32) -> bool
+        requires counted { i < item_count (region self) }
+        requires valid { HasBytes (region self) i }
+        ensures { IsTrue result ↔ IsAscending (region self.entry) i }
+    {
+        self.lists_children_alone(i) && self.ascends(i) && self.is_empty_at_root_alone(i)
+    }
+
+    /// Whether the numbers in the list rise.
+    fn ascends(self, i: u32) -> bool
+        requires counted { i < item_count (region self) }
+        requires valid { HasBytes (region self) i }
+        ensures { IsTrue result ↔ Ascends (region self.entry) i }
+    {
+        for k in 1..self.list_length(i) {
+            if self.listed(i, k - 1) >= self.listed(i, k) {
+                return false;
+            }
+        }
+        true
+    }
+
+    /// Whether each item with a parent is in its parent's list.
+    fn each_is_listed(self) -> bool
+        requires keys { KeepsAll (region self) keys }
+        requires content { KeepsAll (region self) content }
+        requires place { KeepsAll (region self) place }
+        requires ascending { EachItem (region self) (HasAscendingListIfAny (region self)) }
+        ensures { IsTrue result ↔ EachItem (region self.entry) (IsListedIfChild (region self.entry)) }
+    {
+        for j in 0..self.n_items() {
+            if !self.is_listed_if_child(j) {
+                return false;
+            }
+        }
+        true
+    }
+
+    /// Whether the item has no parent, or is in its parent's list.
+    fn is_listed_if_child(self, j: u32) -> bool
+        requires keys { KeepsAll (region self) keys }
+        requires content { KeepsAll (region self) content }
+        requires place { KeepsAll (region self) place }
+        requires ascending { EachItem (region self) (HasAscendingListIfAny (region self)) }
+        requires counted { j < item_count (region self) }
+        ensures { IsTrue result ↔ IsListedIfChild (region self.entry) j }
+    {
+        match self.stored(j).parent {
+            Some(parent) => self.is_found_by_halving(parent, j),
+            None => true,
+        }
+    }
+
+    /// Whether the number is in a list that ascends.
+    fn is_found_by_halving(self, i: u32, number: u32) -> bool
+        requires counted { i < item_count (region self) }
+        requires valid { HasBytes (region self) i }
+        requires ascends { Ascends (region self) i }
+        ensures { IsTrue result ↔ IsListed (region self.entry) i number }
+    {
+        let mut low = 0;
+        let mut high = self.list_length(i);
+        while low < high {
+            let middle = low + (high - low) / 2;
+            let found = self.listed(i, middle);
+            if found == number {
+                return true;
+            }
+            if found < number {
+                low = middle + 1;
+            } else {
+                high = middle;
+            }
+        }
+        false
+    }
+
+    // ---- the slow pass
+
+    /// The least item that doesn't keep the rule.
+    fn first_other_list(self) -> Option<u32>
+        requires content { KeepsAll (region self) content }
+        ensures found { IfSome result (IsLeastFault (region self.entry) lists) }
+        ensures none { IfNone result (KeepsAll (region self.entry) lists) }
+    {
+        for i in 0..self.n_items() {
+            if !self.has_list_if_any(i) {
+                return Some(i);
+            }
+        }
+        None
+    }
+
+    /// Whether item `i` keeps the rule.
+    fn has_list_if_any(self, i: u32) -> bool
+        requires counted { i < item_count (region self) }
+        requires valid { HasBytes (region self) i }
+        ensures { IsTrue result ↔ HasListIfAny (region self.entry) i }
+    {
+        self.stored(i).kind != LIST || self.lists_children(i)
+    }
+
+    /// Whether the list holds exactly the children of its item, once each, and is empty only at `/`.
+    fn lists_children(self, i: u32) -> bool
+        requires counted { i < item_count (region self) }
+        requires valid { HasBytes (region self) i }
+        ensures { IsTrue result ↔ ListsChildren (region self.entry) i }
+    {
+        self.lists_children_alone(i)
+            && self.lists_each_child(i)
+            && self.lists_once(i)
+            && self.is_empty_at_root_alone(i)
+    }
+
+    /// Whether each number in the list is a child of its item.
+    fn lists_children_alone(self, i: u32) -> bool
+        requires counted { i < item_count (region self) }
+        requires valid { HasBytes (region self) i }
+        ensures { IsTrue result ↔ ((k : ℕ) → k < list_length (region self.entry) i
+            → IsChild (region self.entry) i (listed (region self.entry) i k)) }
+    {
+        for k in 0..self.list_length(i) {
+            if !self.is_child(i, self.listed(i, k)) {
+                return false;
+            }
+        }
+        true
+    }
+
+    /// Whether each child of the item is in its list.
+    fn lists_each_child(self, i: u32) -> bool
+        requires counted { i < item_count (region self) }
+        requires valid { HasBytes (region self) i }
+        ensures { IsTrue result ↔ ((j : ℕ) → IsChild (region self.entry) i j → IsListed (region self.entry) i j) }
+    {
+        for j in 0..self.n_items() {
+            if self.is_child(i, j) && !self.is_listed(i, j) {
+                return false;
+            }
+        }
+        true
+    }
+
+    /// Whether the number is in the list.
+    fn is_listed(self, i: u32, number: u32) -> bool
+        requires counted { i < item_count (region self) }
+        requires valid { HasBytes (region self) i }
+        ensures { IsTrue result ↔ IsListed (region self.entry) i number }
+    {
+        for k in 0..self.list_length(i) {
+            if self.listed(i, k) == number {
+                return true;
+            }
+        }
+        false
+    }
+
+    /// Whether no number stands twice in the list.
+    fn lists_once(self, i: u32) -> bool
+        requires counted { i < item_count (region self) }
+        requires valid { HasBytes (region self) i }
+        ensures { IsTrue result ↔ ((k m : ℕ) → k < list_length (region self.entry) i
+            → m < list_length (region self.entry) i
+            → listed (region self.entry) i k ≡ listed (region self.entry) i m → k ≡ m) }
+    {
+        for k in 0..self.list_length(i) {
+            if !self.is_first_at(i, k) {
+                return false;
+            }
+        }
+        true
+    }
+
+    /// Whether the number at place `k` of the list stands at no place before.
+    fn is_first_at(self, i: u32, k: u32) -> bool
+        requires counted { i < item_count (region self) }
+        requires valid { HasBytes (region self) i }
+        requires inside { k < list_length (region self) i }
+        ensures { IsTrue result ↔ ((m : ℕ) → m < k
+            → listed (region self.entry) i m ≢ listed (region self.entry) i k) }
+    {
+        let number = self.listed(i, k);
+        for m in 0..k {
+            if self.listed(i, m) == number {
+                return false;
+            }
+        }
+        true
+    }
+
+    // ---- one list
+
+    /// Whether the list has numbers, or is that of `/`.
+    fn is_empty_at_root_alone(self, i: u32) -> bool
+        requires counted { i < item_count (region self) }
+        requires valid { HasBytes (region self) i }
+        ensures { IsTrue result ↔ (list_length (region self.entry) i ≡ 0 → HasName (region self.entry) i (codes "/")) }
+    {
+        let mut steps = Steps::new();
+        self.list_length(i) > 0 || self.is_named(i, b"/", &mut steps)
+    }
+
+    /// Whether this is the number of an item whose parent is item `i`.
+    fn is_child(self, i: u32, number: u32) -> bool
+        ensures { IsTrue result ↔ IsChild (region self.entry) i number }
+    {
+        number < self.n_items() && self.stored(number).parent == Some(i)
+    }
+
+    /// How many numbers the list has.
+    fn list_length(self, i: u32) -> u32
+        requires counted { i < item_count (region self) }
+        requires valid { HasBytes (region self) i }
+        ensures { result ≡ list_length (region self.entry) i }
+    {
+        let stored = self.stored(i);
+        (stored.end - stored.start) / 4
+    }
+
+    /// The number at place `k` of the list.
+    fn listed(self, i: u32, k: u32) -> u32
+        requires counted { i < item_count (region self) }
+        requires valid { HasBytes (region self) i }
+        requires inside { k < list_length (region self) i }
+        ensures { result ≡ listed (region self.entry) i k }
+    {
+        read_u32(self.file, self.stored(i).start as usize + 4 * k as usize)
+    }
+}
+
+#[cfg(test)]
+mod tests {
+    use crate::fault::OpenFault;
+    use crate::table::Table;
+    use crate::unsound::{Rule, Unsound};
+    use crate::vectors::LOCKED;
+    use std::test::Fail;
+
+    /// What is wrong with `LOCKED` once bytes are set, and the list of `/` is the two numbers at its end.
+    fn fault_with(
+        changes: &[(usize, u8)],
+        first: u8,
+        second: u8,
+    ) -> Result<Option<Unsound>, OpenFault> {
+        let mut file = [0; 184];
+        file[..171].copy_from_slice(&LOCKED);
+        file[76] = 172;
+        file[80] = 180;
+        file[172] = first;
+        file[176] = second;
+        file[180] = b'k';
+        file[181] = b'/';
+        for (at, byte) in changes {
+            if *at < file.len() {
+                file[*at] = *byte;
+            }
+        }
+        Ok(Table::open(&file)?.check().err())
+    }
+
+    fn lists(item: u32) -> Option<Unsound> {
+        Some(Unsound {
+            rule: Rule::Lists,
+            item: Some(item),
+        })
+    }
+
+    /// `/.` in place of the table of locks.
+    const DOT: [(usize, u8); 12] = [
+        (36, 130),
+        (37, 112),
+        (38, 89),
+        (39, 0),
+        (40, 1),
+        (41, 0),
+        (42, 0),
+        (43, 0),
+        (48, 1),
+        (50, b'v'),
+        (52, 160),
+        (56, 166),
+    ];
+
+    #[test]
+    fn a_list_may_be_in_any_order(rt: HostRuntime) -> Result<(), Fail> {
+        assert_eq!(rt; fault_with(&DOT, 0, 2)?, None);
+        assert_eq!(rt; fault_with(&DOT, 2, 0)?, None);
+        Ok(())
+    }
+
+    #[test]
+    fn a_list_holds_each_child_once(rt: HostRuntime) -> Result<(), Fail> {
+        // one lacks, at either place
+        assert_eq!(rt; fault_with(&DOT, 2, 2)?, lists(1));
+        assert_eq!(rt; fault_with(&DOT, 0, 0)?, lists(1));
+        // one that is no child: `/` itself, `.locks`, no item
+        assert_eq!(rt; fault_with(&[], 1, 2)?, lists(1));
+        assert_eq!(rt; fault_with(&[], 0, 2)?, lists(1));
+        assert_eq!(rt; fault_with(&[], 2, 3)?, lists(1));
+        // one twice
+        assert_eq!(rt; fault_with(&[], 2, 2)?, lists(1));
+        Ok(())
+    }
+
+    #[test]
+    fn a_list_is_empty_at_the_root_alone(rt: HostRuntime) -> Result<(), Fail> {
+        // the list of `/` without its child
+        assert_eq!(rt; fault_with(&[(80, 172)], 0, 0)?, lists(1));
+        // `/k/` in place of `/k`
+        let directory = [
+            (80, 176),
+            (84, 206),
+            (85, 136),
+            (86, 135),
+            (87, 11),
+            (92, 180),
+            (96, 2),
+            (98, b'L'),
+            (104, 160),
+        ];
+        assert_eq!(rt; fault_with(&directory, 2, 0)?, lists(2));
+        // `/` alone
+        let mut file = crate::vectors::PLAIN;
+        file[20] = 60;
+        file[56] = 88;
+        assert_eq!(rt; Table::open(&file)?.check().err(), None);
+        Ok(())
+    }
+}
