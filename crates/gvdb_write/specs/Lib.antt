@@ -1,3 +1,16 @@
 pub mod Faults
 pub mod Maps
 pub mod Left
+pub mod WriteFaults
+pub mod Laid
+pub mod Rows
+pub mod Groups
+pub mod Tables
+pub mod Names
+pub mod Orders
+pub mod Values
+pub mod Appended
+pub mod Layouts
+pub mod Spanned
+pub mod Laying
+pub mod Planned

@@ -132,8 +132,9 @@ impl<'a> Iterator for Keys<'a> {
     ghost remaining = { item_count keys_left };
 
     fn next(&mut self) -> Option<KeyPath<'a>> {
+        let key = self.rest.next()?;
         // Each is the path of a key, so none is refused.
-        KeyPath::parse(self.rest.next()?.as_str()).ok()
+        KeyPath::parse(key.as_str()).ok()
     }
 }
 
@@ -156,7 +157,8 @@ impl<'a> Iterator for Locks<'a> {
     ghost remaining = { item_count locks_left };
 
     fn next(&mut self) -> Option<KeyPath<'a>> {
+        let lock = self.rest.next()?;
         // Each is the path of a key, so none is refused.
-        KeyPath::parse(self.rest.next()?.as_str()).ok()
+        KeyPath::parse(lock.as_str()).ok()
     }
 }

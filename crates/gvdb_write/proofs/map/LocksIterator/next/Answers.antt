@@ -6,4 +6,4 @@ invariant_of-self c = record { are_paths = rest_are_paths c.args.self.now.rest c
 
 pub returns-clause-steps : goal.returns-clause-steps
 returns-clause-steps c =
-    taken_as_path c.args.self.now.rest c.next.new.self c.in_ok-next.field-0.now c.as_str.result.now c.parse.result c.ok.result c.ok.ensures.value c.in_ok-next.ensures.steps c.args.self.now.are_paths c.as_str.ensures.value c.parse.ensures.accepts.1 c.parse.ensures.found
+    taken_as_path c.args.self.now.rest c.next.new.self c.in_ok-lock.lock.now c.as_str.result.now c.parse.result c.ok.result c.ok.ensures.value c.in_ok-lock.ensures.steps c.args.self.now.are_paths c.as_str.ensures.value c.parse.ensures.accepts.1 c.parse.ensures.found

@@ -1,0 +1,38 @@
+-- Bits of a bloom word.
+use Rattle.std.proofs.Common.{ℕ, ◌≡◌, ◌<◌, ◌≤◌, ◌*◌, ◌^◌, ap, ◌∙◌, arith, ⊎_elim}
+use Rattle.std.specs.Int.{IsBitSet, bit_at}
+use Rattle.std.specs.Int.RustNames.{bit_or}
+use Rattle.std.proofs.lemmas.Bool.{cases_lt}
+use Rattle.std.proofs.lemmas.Nat.Bits.{bit_at_or, bit_at-lt, and_pow}
+use Rattle.std.proofs.lemmas.Nat.{pow_pos}
+
+-- a bit is set where it is 1
+pub bit_is_set : (n k : ℕ) → bit_at n k ≡ 1 → IsBitSet n k
+bit_is_set n k one zero =
+    let p = and_pow n k ∙ ap (λ (b : ℕ). b * 2 ^ k) one in
+    let some : 0 < 2 ^ k = pow_pos k in
+    absurd (omega (arith, p, some, zero))
+
+pub set_bit_is : (n k : ℕ) → IsBitSet n k → bit_at n k ≡ 1
+set_bit_is n k set =
+    ⊎_elim
+    (λ (l : bit_at n k < 1).
+    let none : bit_at n k ≡ 0 = omega (arith, l) in
+    let p = and_pow n k ∙ ap (λ (b : ℕ). b * 2 ^ k) none in
+    absurd (set (omega (arith, p))))
+    (λ (le : 1 ≤ bit_at n k). let less = bit_at-lt n k in let one : bit_at n k ≡ 1 = omega (arith, le, less) in one) (cases_lt (bit_at n k) 1)
+
+-- it stays where others are set
+pub set_in_left : (a b k : ℕ) → IsBitSet a k → IsBitSet (bit_or a b) k
+set_in_left a b k set =
+    let one = set_bit_is a k set in
+    let both = bit_at_or a b k in
+    let less = bit_at-lt b k in
+    bit_is_set (bit_or a b) k (omega (arith, one, both, less))
+
+pub set_in_right : (a b k : ℕ) → IsBitSet b k → IsBitSet (bit_or a b) k
+set_in_right a b k set =
+    let one = set_bit_is b k set in
+    let both = bit_at_or a b k in
+    let less = bit_at-lt a k in
+    bit_is_set (bit_or a b) k (omega (arith, one, both, less))

@@ -1,0 +1,64 @@
+-- The numbers of items while their keys are laid.
+use Rattle.std.proofs.Common.{ℕ, ◌≡◌, ◌<◌, ◌+◌, ◌-◌, List, [], ◌∷◌, ◌++◌, length, refl, sym, ap, ◌∙◌, subst, arith}
+use Rattle.std.proofs.lemmas.List.{length-drop, length_push}
+use Rattle.dconf_model.specs.Plans.{keys_end}
+use Rattle.dconf_model.proofs.PlanEnds.{keys_next, keys_grow}
+use Rattle.gvdb_write.specs.declared.layout.Row.{Row as Numbers}
+use Rattle.gvdb_write.specs.declared.names.Named.{Named}
+use Rattle.gvdb_write.specs.Names.{named, name_at}
+use Rattle.gvdb_write.specs.Tables.{kind_of, entries_of}
+use Rattle.gvdb_write.specs.Layouts.{row, no_numbers, IsRowOf}
+use Rattle.gvdb_write.proofs.ItemOrder.{each_more}
+
+-- of so many items, whose keys end there
+pub record AreRowsBelow (items : List Named) (from : ℕ) (rows : List Numbers) (at n : ℕ) : Type 0 where
+  pub counted : length rows ≡ n
+  pub ends : at ≡ keys_end (entries_of items) from n
+  pub each : (i : ℕ) → i < length rows → IsRowOf items from i (row rows i)
+
+pub no_rows : (items : List Named) (from : ℕ) (rows : List Numbers) → rows ≡ [] → AreRowsBelow items from rows from 0
+no_rows items from rows e = record {
+  counted = ap length e;
+  ends = refl;
+  each = λ i l. let n = ap length e in absurd (omega (arith, l, n));
+}
+
+-- the numbers of a name whose key starts there
+pub record AreNumbersOf (d : Named) (at : ℕ) (r : Numbers) : Type 0 where
+  pub hash : r.hash ≡ d.hash
+  pub parent : r.parent ≡ d.parent
+  pub key_start : r.key_start ≡ at
+  pub key_size : r.key_size ≡ length d.name.now - d.from
+  pub of_kind : r.kind ≡ kind_of d.content
+
+is_row : (items : List Named) (from at n : ℕ) (r : Numbers) → at ≡ keys_end (entries_of items) from n → AreNumbersOf (named items n) at r → IsRowOf items from n r
+is_row items from at n r ends is = record {
+  hash = is.hash;
+  parent = is.parent;
+  key_start = is.key_start ∙ ends;
+  key_size = is.key_size ∙ sym (length-drop (named items n).from (name_at items n));
+  of_kind = is.of_kind;
+}
+
+next_end : (items : List Named) (from at next n : ℕ) → at ≡ keys_end (entries_of items) from n → next ≡ at + (length (name_at items n) - (named items n).from) → next ≡ keys_end (entries_of items) from (n + 1)
+next_end items from at next n ends is =
+    is ∙ (ap (λ (k : ℕ). k + (length (name_at items n) - (named items n).from)) ends
+    ∙ (ap (λ (k : ℕ). keys_end (entries_of items) from n + k) (sym (length-drop (named items n).from (name_at items n)))
+    ∙ sym (keys_next (entries_of items) from n)))
+
+-- one item more
+pub row_more : (items : List Named) (from : ℕ) (rows new : List Numbers) (at next n : ℕ) (d : Named) (r : Numbers) → AreRowsBelow items from rows at n → d ≡ named items n → next ≡ at + (length d.name.now - d.from) → new ≡ rows ++ r ∷ [] → AreNumbersOf d at r → AreRowsBelow items from new next (n + 1)
+row_more items from rows new at next n d r so item laid pushed is =
+    subst (λ (rs : List Numbers). AreRowsBelow items from rs next (n + 1)) (sym pushed) record {
+      counted = let c = so.counted in let more = length_push rows r in omega (arith, c, more);
+      ends = next_end items from at next n so.ends (subst (λ (m : Named). next ≡ at + (length m.name.now - m.from)) item laid);
+      each = each_more no_numbers rows r n (λ q i. IsRowOf items from i q) so.counted so.each
+          (is_row items from at n r so.ends (subst (λ (m : Named). AreNumbersOf m at r) item is));
+    }
+
+-- a key that goes past what fits does so with those behind it
+pub past_all : (items : List Named) (from at n size most : ℕ) (d : Named) → n < length items → at ≡ keys_end (entries_of items) from n → d ≡ named items n → size ≡ length d.name.now - d.from → most < at + size → most < keys_end (entries_of items) from (length items)
+past_all items from at n size most d here ends item sized past =
+    let end = next_end items from at (at + size) n ends (ap (λ (k : ℕ). at + k) (subst (λ (m : Named). size ≡ length m.name.now - m.from) item sized)) in
+    let rise = keys_grow (entries_of items) from (n + 1) (length items) (omega (arith, here)) in
+    omega (arith, end, rise, past)

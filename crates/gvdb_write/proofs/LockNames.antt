@@ -1,0 +1,66 @@
+-- The names of a table of locks, path by path.
+use Rattle.std.proofs.Common.{◌≡◌, ◌<◌, ◌≤◌, ℕ, List, [], ◌∷◌, ◌++◌, length, get_or, None, refl, sym, ap, ◌∙◌, subst, arith, ⊎_elim}
+use Rattle.std.specs.Prelude.{IsUtf8}
+use Rattle.std.specs.FinMap.{keys}
+use Rattle.std.proofs.lemmas.List.{append-nil, append_assoc, get_or_append_left, get_or_push, length_push}
+use Rattle.std.proofs.lemmas.Bool.{cases_lt}
+use Rattle.dconf_model.specs.Bytes.{hash_of}
+use Rattle.dconf_model.specs.Entries.{Entry}
+use Rattle.dconf_model.specs.Plans.{nothing_bytes}
+use Rattle.dconf_model.specs.Settings.{Settings}
+use Rattle.dconf_model.specs.Table.{value_kind}
+use Rattle.gvdb_write.specs.declared.names.Content.{Content}
+use Rattle.gvdb_write.specs.declared.names.Named.{Named}
+use Rattle.gvdb_write.specs.Tables.{kind_of, value_of, entry_of}
+use Rattle.gvdb_write.specs.Names.{named, IsLockNamed, AreLockNames}
+use Rattle.gvdb_write.proofs.PushedNames.{kept, pushed}
+
+-- a name without a directory, with the value at a lock
+pub is_lock_named : (path : List ℕ) (n : Named) (content : Content) → IsUtf8 path → n.hash ≡ hash_of path → entry_of n ≡ record { name = path; key = path; parent = None; kind = kind_of content } → n.content ≡ content → kind_of content ≡ value_kind → value_of content ≡ nothing_bytes → IsLockNamed path n
+is_lock_named path n content utf8 hash entry is kind value = record {
+  utf8 = utf8;
+  hash = hash ∙ ap (λ (e : Entry). hash_of e.name) (sym entry);
+  entry = entry ∙ ap {B = Entry} (λ (k : ℕ). record { name = path; key = path; parent = None; kind = k }) kind;
+  value = ap (λ (c : Content). value_of c) is ∙ value;
+}
+
+-- with these paths left
+pub record AreLocksSoFar (s : Settings) (names : List Named) (left : List (List ℕ)) : Type 0 where
+  pub done : List (List ℕ)
+  pub listed : keys s.locks ≡ done ++ left
+  pub counted : length names ≡ length done
+  pub each : (i : ℕ) → i < length names → IsLockNamed (get_or done i []) (named names i)
+
+pub no_locks_yet : (s : Settings) → AreLocksSoFar s [] (keys s.locks)
+no_locks_yet s = record { done = []; listed = refl; counted = refl; each = λ i here. absurd (omega (arith, here)) }
+
+pub one_lock_more : (s : Settings) (names : List Named) (path : List ℕ) (rest : List (List ℕ)) (n : Named) → AreLocksSoFar s names (path ∷ rest) → IsLockNamed path n → AreLocksSoFar s (names ++ n ∷ []) rest
+one_lock_more s names path rest n so new =
+    let a = length_push names n in
+    let b = length_push so.done path in
+    let c = so.counted in
+    record {
+      done = so.done ++ path ∷ [];
+      listed = so.listed ∙ sym (append_assoc so.done (path ∷ []) rest);
+      counted = omega (arith, a, b, c);
+      each = λ i here.
+          ⊎_elim
+          (λ (l : i < length names).
+          subst (λ (x : List ℕ). IsLockNamed x (named (names ++ n ∷ []) i)) (sym (get_or_append_left so.done (path ∷ []) [] i (omega (arith, l, c))))
+          (subst (λ (x : Named). IsLockNamed (get_or so.done i []) x) (sym (kept names (n ∷ []) i l)) (so.each i l)))
+          (λ (ge : length names ≤ i).
+          let e : i ≡ length names = omega (arith, ge, here, a) in
+          let f : length so.done ≡ i = omega (arith, e, c) in
+          subst (λ (x : List ℕ). IsLockNamed x (named (names ++ n ∷ []) i)) (sym (get_or_push so.done path [] i f))
+          (subst (λ (k : ℕ). IsLockNamed path (named (names ++ n ∷ []) k)) (sym e)
+          (subst (λ (x : Named). IsLockNamed path x) (sym (pushed names n)) new)))
+          (cases_lt i (length names));
+    }
+
+pub all_locks : (s : Settings) (names : List Named) (left : List (List ℕ)) → left ≡ [] → AreLocksSoFar s names left → AreLockNames s names
+all_locks s names left none so =
+    let all : so.done ≡ keys s.locks = sym (so.listed ∙ (ap (λ (l : List (List ℕ)). so.done ++ l) none ∙ append-nil so.done)) in
+    record {
+      counted = so.counted ∙ ap (λ (l : List (List ℕ)). length l) all;
+      each = λ i here. subst (λ (l : List (List ℕ)). IsLockNamed (get_or l i []) (named names i)) all (so.each i here);
+    }

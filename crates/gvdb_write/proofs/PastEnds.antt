@@ -1,0 +1,20 @@
+-- What is too long already is so with what is laid behind it.
+use Rattle.std.proofs.Common.{ℕ, ◌<◌, Result, IfErr}
+use Rattle.std.proofs.lemmas.Result.{IfErr-weaker}
+use Rattle.gvdb_write.specs.declared.write_fault.WriteFault.{WriteFault}
+use Rattle.gvdb_write.specs.declared.write_fault.WriteFault.TheVariants.{TooBig, Memory}
+use Rattle.gvdb_write.specs.Laid.{limit, IsPast, IsOver}
+
+over_of : (n m : ℕ) (e : WriteFault) → (limit < n → limit < m) → IsPast n e → IsOver m e
+over_of n m TooBig more past = more past
+over_of n m Memory more past = absurd past
+
+over_more : (n m : ℕ) (e : WriteFault) → (limit < n → limit < m) → IsOver n e → IsOver m e
+over_more n m TooBig more over = more over
+over_more n m Memory more over = tt
+
+pub past_is_over : {T : Type 0} (r : Result T WriteFault) (n m : ℕ) → (limit < n → limit < m) → IfErr r (IsPast n) → IfErr r (IsOver m)
+past_is_over r n m more past = IfErr-weaker r (IsPast n) (IsOver m) (λ e p. over_of n m e more p) past
+
+pub still_over : {T : Type 0} (r : Result T WriteFault) (n m : ℕ) → (limit < n → limit < m) → IfErr r (IsOver n) → IfErr r (IsOver m)
+still_over r n m more over = IfErr-weaker r (IsOver n) (IsOver m) (λ e o. over_more n m e more o) over

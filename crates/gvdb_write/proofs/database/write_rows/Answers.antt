@@ -1,0 +1,20 @@
+use Rattle.std.proofs.Common.{List, ◌++◌, sym}
+use Rattle.std.proofs.lemmas.List.{append-nil}
+use Rattle.dconf_model.specs.Standing.{row_bytes, rows_bytes}
+use Rattle.gvdb_write.specs.declared.layout.Row.{Row}
+use Rattle.gvdb_write.specs.Rows.{row_of}
+use Rattle.gvdb_write.specs.Appended.{rows_of}
+use Rattle.gvdb_write.proofs.Pieces.{mapped_appended, all_taken}
+use Rattle.gvdb_write.proofs.database.write_rows.Goals as goal
+
+pub loop-row-init : goal.loop-row-init
+loop-row-init c = sym (append-nil c.args.out.now.items)
+
+pub loop-row-preserved : goal.loop-row-preserved
+loop-row-preserved c =
+    mapped_appended row_of row_bytes c.args.rows.now c.loop-row.row-index _ c.args.out.now.items c.loop-row.out.items c.push_row.new.out.items
+    c.loop-row-test.true c.loop-row.invariant c.in_ok-push_row.ensures.bytes
+
+pub returns-clause-bytes : goal.returns-clause-bytes
+returns-clause-bytes c =
+    all_taken (λ (rs : List Row). c.args.out.now.items ++ rows_bytes (rows_of rs)) c.args.rows.now c.loop-row.row-index c.loop-row.out.items c.loop-row-test.false c.loop-row.invariant

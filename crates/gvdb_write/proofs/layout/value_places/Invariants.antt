@@ -1,0 +1,9 @@
+use Rattle.gvdb_write.specs.Values.{bytes_of_each, ArePlaces}
+use Rattle.gvdb_write.proofs.FoundValues.{AreFound}
+use Rattle.gvdb_write.proofs.layout.value_places.Given as goal
+
+abbrev pub invariant-loop-named : goal.invariant-loop-named
+invariant-loop-named l = record {
+  known : ArePlaces l.values.places (bytes_of_each l.values.distinct.items);
+  so_far : AreFound l.items (bytes_of_each l.fn.values.distinct.items) (bytes_of_each l.values.distinct.items) l.places.items l.named-index;
+}

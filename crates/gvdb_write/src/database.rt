@@ -1,0 +1,292 @@
+//! The bytes of a database: header, tables, keys, lists and values, each where the layout says, with zero bytes between
+//! them.
+ghost use Rattle.std.specs.Prelude.{ℕ, ◌≡◌, ◌++◌, ◌+◌, ◌-◌, ◌*◌, ◌/◌, ◌%◌, ◌^◌, ◌≤◌, ◌<◌, length, OnOk, IfOk, IfErr, replicate, IsBitSet};
+ghost use Rattle.gv_model.specs.Encode.{number_bytes};
+ghost use Rattle.dconf_model.specs.Standing.{row_bytes, rows_bytes, words_bytes, head_bytes, header_bytes};
+ghost use Rattle.dconf_model.specs.Opening.{IsDatabase, root_of};
+ghost use Rattle.dconf_model.specs.Sound.{IsSound};
+ghost use Rattle.dconf_model.specs.Plans.{values_end, HoldsValues, HoldsLocks, HasLength};
+ghost use Rattle.dconf_model.specs.Standing.{parent_number as number_of_parent};
+ghost use Rattle.gvdb_write.specs.Laid.{limit, IsRefusal};
+ghost use Rattle.gvdb_write.specs.Rows.{row_of};
+ghost use Rattle.gvdb_write.specs.Values.{bytes_of_each};
+ghost use Rattle.gvdb_write.specs.Layouts.{IsLayoutOf};
+ghost use Rattle.gvdb_write.specs.Planned.{AreTables, AreReady, IsFileOf};
+ghost use Rattle.gvdb_write.specs.Appended.{AreNumbers, HaveNumbers, HaveKeys, HaveBits, HasTable, HasTableOfLocks, keys_bytes, numbers_of, rows_of, padded, with_values};
+ghost use Rattle.gvdb_write.specs.declared.write_fault.WriteFault.TheVariants.{Memory};
+
+use crate::layout::{Layout, Row, Span, bloom_words};
+use crate::map::Map;
+use crate::names::{Named, lock_names, root_names};
+use crate::table::Table;
+use crate::write_fault::WriteFault;
+use std::alloc::Global;
+
+/// What each database begins with.
+const SIGNATURE: &[u8] = b"GVariant";
+
+/// The second hash of a bloom word is the hash behind so many bits.
+const BLOOM_SHIFT: u32 = 5;
+
+/// The parent of an item without one.
+const NO_PARENT: u32 = 0xffff_ffff;
+
+/// The bytes of a database that holds a map's values and locks.
+///
+/// `TooBig` comes where there would be over 4,294,967,295 bytes, and `Memory` where a growth is refused. Equal values
+/// are stored once. It looks at each path and writes each byte a fixed number of times, and compares each value with as
+/// many others as a map of them is deep.
+pub fn write(alloc: Global, map: &Map) -> Result<Vec<u8>, WriteFault>
+    ensures opens { IfOk result (λ file. IsDatabase file.items) }
+    ensures sound { IfOk result (λ file. IsSound (root_of file.items)) }
+    ensures values { IfOk result (λ file. HoldsValues (root_of file.items) map.now) }
+    ensures locks { IfOk result (λ file. HoldsLocks (root_of file.items) map.now) }
+    ensures length { IfOk result (λ file. HasLength map.now (length file.items)) }
+    ensures fits { IfOk result (λ file. length file.items ≤ limit) }
+    ensures fault { IfErr result (IsRefusal map.now) }
+{
+    let (root, locks) = tables(alloc, map)?;
+    let layout = Layout::new(alloc, &root, &locks)?;
+    write_parts(alloc, &root, &locks, &layout)
+}
+
+/// The root table of a map's database, and the table of its locks.
+fn tables<'a>(alloc: Global, map: &'a Map) -> Result<(Table<'a>, Table<'a>), WriteFault>
+    ensures tables { IfOk result (λ tables. AreReady map.now tables.0 tables.1) }
+    ensures fault { IfErr result (λ e. e ≡ Memory) }
+{
+    let root = Table::new(alloc, &root_names(alloc, map)?)?;
+    let locks = Table::new(alloc, &lock_names(alloc, map)?)?;
+    Ok((root, locks))
+}
+
+/// The bytes of a database that is laid: header, root table, its lists, table of locks where there are locks, values.
+fn write_parts(
+    alloc: Global,
+    root: &Table<'_>,
+    locks: &Table<'_>,
+    layout: &Layout<'_>,
+) -> Result<Vec<u8>, WriteFault>
+    requires tables { AreTables root.now locks.now }
+    requires layout { IsLayoutOf root.now locks.now layout.now }
+    ensures file { IfOk result (λ file. IsFileOf root.now locks.now file.items) }
+    ensures fault { IfErr result (λ e. e ≡ Memory) }
+{
+    let mut out = Vec::with_capacity(alloc, layout.end)?;
+    write_header(layout.root.span, &mut out)?;
+    write_table(root, &layout.root.rows, &mut out)?;
+    write_children(&root.children, &mut out)?;
+    write_locks(locks, &layout.locks.rows, &mut out)?;
+    write_values(&layout.values, &mut out)?;
+    Ok(out)
+}
+
+/// Appends the header of a file of version 0, whose root table stands there.
+fn write_header(root: Span, out: &mut Vec<u8>) -> Result<(), WriteFault>
+    requires start { root.start ≤ limit }
+    requires end { root.end ≤ limit }
+    ensures bytes { OnOk result (out.new.items ≡ out.old.items ++ header_bytes root.start root.end) }
+    ensures fault { IfErr result (λ e. e ≡ Memory) }
+{
+    out.extend_from_slice(SIGNATURE)?;
+    push(0, out)?;
+    push(0, out)?;
+    push(root.start as u32, out)?;
+    push(root.end as u32, out)
+}
+
+/// Appends a table and its keys, at a multiple of 4.
+fn write_table(table: &Table<'_>, rows: &[Row], out: &mut Vec<u8>) -> Result<(), WriteFault>
+    requires few { 28 * length table.now.items.items ≤ limit }
+    requires out { length out.old.items ≤ limit }
+    requires buckets { AreNumbers table.now.buckets.items }
+    requires bucketed { length table.now.buckets.items ≡ length table.now.items.items }
+    requires keys { HaveKeys table.now.items.items }
+    ensures bytes { OnOk result (HasTable table.now rows.now out.old.items out.new.items) }
+    ensures fault { IfErr result (λ e. e ≡ Memory) }
+{
+    pad(out.len().next_multiple_of(4), out)?;
+    let words = bloom(*out.allocator(), &table.items)?;
+    write_head(words.len(), table.buckets.len(), out)?;
+    write_words(&words, out)?;
+    write_numbers(&table.buckets, out)?;
+    write_rows(rows, out)?;
+    write_keys(&table.items, out)
+}
+
+/// Appends the table of locks and its keys, where there are locks.
+fn write_locks(locks: &Table<'_>, rows: &[Row], out: &mut Vec<u8>) -> Result<(), WriteFault>
+    requires few { 28 * length locks.now.items.items ≤ limit }
+    requires out { length out.old.items ≤ limit }
+    requires buckets { AreNumbers locks.now.buckets.items }
+    requires bucketed { length locks.now.buckets.items ≡ length locks.now.items.items }
+    requires keys { HaveKeys locks.now.items.items }
+    ensures bytes { OnOk result (HasTableOfLocks locks.now rows.now out.old.items out.new.items) }
+    ensures fault { IfErr result (λ e. e ≡ Memory) }
+{
+    if locks.items.is_empty() {
+        return Ok(());
+    }
+    write_table(locks, rows, out)
+}
+
+/// Appends the two first numbers of a table of so many bloom words and buckets.
+fn write_head(words: usize, buckets: usize, out: &mut Vec<u8>) -> Result<(), WriteFault>
+    requires words { words < 2 ^ 27 }
+    requires buckets { buckets ≤ limit }
+    ensures bytes { OnOk result (out.new.items ≡ out.old.items ++ head_bytes words buckets) }
+    ensures fault { IfErr result (λ e. e ≡ Memory) }
+{
+    push(words as u32 + (BLOOM_SHIFT << 27), out)?;
+    push(buckets as u32, out)
+}
+
+/// The bloom words: each hash sets two bits of the word that it chooses.
+fn bloom(alloc: Global, items: &[Named<'_>]) -> Result<Vec<u32>, WriteFault>
+    ensures len { IfOk result (λ words. length words.items ≡ (length items.now + 15) / 16) }
+    ensures bits { IfOk result (λ words. HaveBits words.items items.now) }
+    ensures fault { IfErr result (λ e. e ≡ Memory) }
+{
+    let mut words = Vec::new(alloc);
+    words.resize(bloom_words(items.len()), 0u32)?;
+    for named in items {
+        let place = (named.hash / 32) as usize % words.len();
+        words[place] = with_bits(words[place], named.hash);
+    }
+    Ok(words)
+}
+
+/// A bloom word in which a hash's two bits are set.
+fn with_bits(word: u32, hash: u32) -> u32
+    ensures first { IsBitSet result (hash % 32) }
+    ensures second { IsBitSet result (hash / 32 % 32) }
+    ensures others { (k : ℕ) → IsBitSet word k → IsBitSet result k }
+{
+    word | 1 << (hash % 32) | 1 << ((hash >> BLOOM_SHIFT) % 32)
+}
+
+/// Appends bloom words.
+fn write_words(words: &[u32], out: &mut Vec<u8>) -> Result<(), WriteFault>
+    ensures bytes { OnOk result (out.new.items ≡ out.old.items ++ words_bytes words.now) }
+    ensures fault { IfErr result (λ e. e ≡ Memory) }
+{
+    for word in words {
+        push(*word, out)?;
+    }
+    Ok(())
+}
+
+/// Appends the numbers of items.
+fn write_numbers(numbers: &[usize], out: &mut Vec<u8>) -> Result<(), WriteFault>
+    requires { AreNumbers numbers.now }
+    ensures bytes { OnOk result (out.new.items ≡ out.old.items ++ words_bytes numbers.now) }
+    ensures fault { IfErr result (λ e. e ≡ Memory) }
+{
+    for number in numbers {
+        push(*number as u32, out)?;
+    }
+    Ok(())
+}
+
+/// Appends the numbers that the items of a table have.
+fn write_rows(rows: &[Row], out: &mut Vec<u8>) -> Result<(), WriteFault>
+    ensures bytes { OnOk result (out.new.items ≡ out.old.items ++ rows_bytes (rows_of rows.now)) }
+    ensures fault { IfErr result (λ e. e ≡ Memory) }
+{
+    for row in rows {
+        push_row(*row, out)?;
+    }
+    Ok(())
+}
+
+/// Appends the keys of items.
+fn write_keys(items: &[Named<'_>], out: &mut Vec<u8>) -> Result<(), WriteFault>
+    requires { HaveKeys items.now }
+    ensures bytes { OnOk result (out.new.items ≡ out.old.items ++ keys_bytes items.now) }
+    ensures fault { IfErr result (λ e. e ≡ Memory) }
+{
+    for named in items {
+        out.extend_from_slice(&named.name[named.from..])?;
+    }
+    Ok(())
+}
+
+/// Appends the numbers of an item.
+fn push_row(row: Row, out: &mut Vec<u8>) -> Result<(), WriteFault>
+    ensures bytes { OnOk result (out.new.items ≡ out.old.items ++ row_bytes (row_of row)) }
+    ensures fault { IfErr result (λ e. e ≡ Memory) }
+{
+    push(row.hash, out)?;
+    push(parent_number(row.parent), out)?;
+    push(row.key_start, out)?;
+    push_short(row.key_size, out)?;
+    out.extend_from_slice(&[row.kind, 0])?;
+    push(row.start, out)?;
+    push(row.end, out)
+}
+
+/// What stands for a parent.
+fn parent_number(parent: Option<u32>) -> u32
+    ensures { result ≡ number_of_parent parent }
+{
+    match parent {
+        Some(number) => number,
+        None => NO_PARENT,
+    }
+}
+
+/// Appends the lists of all directories, at a multiple of 4.
+fn write_children(children: &[(usize, usize)], out: &mut Vec<u8>) -> Result<(), WriteFault>
+    requires out { length out.old.items ≤ limit }
+    requires children { HaveNumbers children.now }
+    ensures bytes { OnOk result (out.new.items ≡ padded 4 out.old.items ++ words_bytes (numbers_of children.now)) }
+    ensures fault { IfErr result (λ e. e ≡ Memory) }
+{
+    pad(out.len().next_multiple_of(4), out)?;
+    for (_, child) in children {
+        push(*child as u32, out)?;
+    }
+    Ok(())
+}
+
+/// Appends values, each at a multiple of 8.
+fn write_values(values: &[&[u8]], out: &mut Vec<u8>) -> Result<(), WriteFault>
+    requires { values_end (length out.old.items) (bytes_of_each values.now) ≤ limit }
+    ensures bytes { OnOk result (out.new.items ≡ with_values out.old.items (bytes_of_each values.now)) }
+    ensures fault { IfErr result (λ e. e ≡ Memory) }
+{
+    for value in values {
+        pad(out.len().next_multiple_of(8), out)?;
+        out.extend_from_slice(value)?;
+    }
+    Ok(())
+}
+
+/// Appends zero bytes up to a place.
+fn pad(to: usize, out: &mut Vec<u8>) -> Result<(), WriteFault>
+    ensures bytes { OnOk result (out.new.items ≡ out.old.items ++ replicate (to - length out.old.items) 0) }
+    ensures fault { IfErr result (λ e. e ≡ Memory) }
+{
+    if out.len() < to {
+        out.resize(to, 0)?;
+    }
+    Ok(())
+}
+
+/// Appends a number, the lowest byte first.
+fn push(number: u32, out: &mut Vec<u8>) -> Result<(), WriteFault>
+    ensures bytes { OnOk result (out.new.items ≡ out.old.items ++ number_bytes 4 number) }
+    ensures fault { IfErr result (λ e. e ≡ Memory) }
+{
+    out.extend_from_slice(&number.to_le_bytes())?;
+    Ok(())
+}
+
+/// Appends a number of two bytes, the lowest byte first.
+fn push_short(number: u16, out: &mut Vec<u8>) -> Result<(), WriteFault>
+    ensures bytes { OnOk result (out.new.items ≡ out.old.items ++ number_bytes 2 number) }
+    ensures fault { IfErr result (λ e. e ≡ Memory) }
+{
+    out.extend_from_slice(&number.to_le_bytes())?;
+    Ok(())
+}

@@ -1,0 +1,206 @@
+//! The names of a database in the order of their bytes: each directory that a key lies in, and each key. A name's
+//! own key is its last part, a directory's with its slash.
+ghost use Rattle.std.specs.Prelude.{◌≡◌, ◌≤◌, ◌<◌, ℕ, length, take, None, IfOk, IfErr, IsTrue, IsUtf8};
+ghost use Rattle.dconf_model.specs.Bytes.{hash_of, hash_step};
+ghost use Rattle.dconf_model.specs.Table.{list_kind};
+ghost use Rattle.dconf_model.specs.Settings.{IsSettings};
+ghost use Rattle.gvdb_write.specs.Tables.{kind_of, entry_of};
+ghost use Rattle.dconf_model.specs.Paths.{is_key_path};
+ghost use Rattle.gvdb_write.specs.Names.{ArePlaced, AreGood, IsDirectoryAt, IsBeyond, IsAdded, AreNamesOf, AreLockNames, last_name, name_at, kind_at, IsSlash};
+ghost use Rattle.gvdb_write.specs.declared.write_fault.WriteFault.TheVariants.{Memory};
+
+use crate::map::Map;
+use crate::write_fault::WriteFault;
+use std::alloc::Global;
+
+/// What stands at a name.
+#[derive(Clone, Copy, Debug)]
+pub(crate) enum Content<'a> {
+    /// The bytes of a value.
+    Value(&'a [u8]),
+    /// The numbers of the items in a directory.
+    List,
+    /// The table of locks.
+    Locks,
+}
+
+/// A name, and what stands there.
+#[derive(Clone, Copy, Debug)]
+pub(crate) struct Named<'a> {
+    /// The full name.
+    pub(crate) name: &'a [u8],
+    /// Where its own part of it begins, its key.
+    pub(crate) from: usize,
+    pub(crate) hash: u32,
+    /// The number of its directory among the names.
+    pub(crate) parent: Option<usize>,
+    pub(crate) content: Content<'a>,
+}
+
+/// The hash of no bytes.
+const NO_HASH: u32 = 5381;
+
+/// The bytes of a `v` that holds the empty string: the value at each lock.
+const NOTHING: &[u8] = &[0, 0, b's'];
+
+/// The names of the root table, in the order of their bytes, each behind its directory.
+///
+/// It looks at each byte of the paths a fixed number of times.
+pub(crate) fn root_names<'a>(alloc: Global, map: &'a Map) -> Result<Vec<Named<'a>>, WriteFault>
+    ensures names { IfOk result (λ names. AreNamesOf map.now names.items) }
+    ensures settings { IfOk result (λ names. IsSettings map.now) }
+    ensures fault { IfErr result (λ e. e ≡ Memory) }
+{
+    let mut names = Vec::new(alloc);
+    if map.locks().next().is_some() {
+        names.push(top(b".locks", Content::Locks))?;
+    }
+    let mut directory = names.len();
+    names.push(top(b"/", Content::List))?;
+    let mut last: &[u8] = b"/";
+    for path in map.keys() {
+        let text = path.as_str().as_bytes();
+        directory = innermost(&names, directory, common(last, text));
+        directory = add(
+            text,
+            map.get(path).unwrap_or_default(),
+            directory,
+            &mut names,
+        )?;
+        last = text;
+    }
+    Ok(names)
+}
+
+/// The names of the table of locks, each with the value that stands at a lock.
+pub(crate) fn lock_names<'a>(alloc: Global, map: &'a Map) -> Result<Vec<Named<'a>>, WriteFault>
+    ensures names { IfOk result (λ names. AreLockNames map.now names.items) }
+    ensures fault { IfErr result (λ e. e ≡ Memory) }
+{
+    let mut names = Vec::new(alloc);
+    for path in map.locks() {
+        names.push(top(path.as_str().as_bytes(), Content::Value(NOTHING)))?;
+    }
+    Ok(names)
+}
+
+/// A name without a directory.
+fn top<'a>(name: &'a [u8], content: Content<'a>) -> Named<'a>
+    ensures hash { result.hash ≡ hash_of name.now }
+    ensures from { result.from ≡ 0 }
+    ensures entry { entry_of result ≡ record { name = name.now; key = name.now; parent = None; kind = kind_of content.entry } }
+    ensures content { result.content ≡ content.entry }
+{
+    Named {
+        name,
+        from: 0,
+        hash: hash(name),
+        parent: None,
+        content,
+    }
+}
+
+/// The innermost directory that has at most so many bytes, of a directory and those that it lies in.
+fn innermost(names: &[Named<'_>], directory: usize, len: usize) -> usize
+    requires within { directory < length names.now }
+    requires placed { ArePlaced names.now }
+    requires list { kind_at names.now directory ≡ list_kind }
+    requires some { 0 < len }
+    ensures within { result < length names.now }
+    ensures list { kind_at names.now result ≡ list_kind }
+    ensures short { length (name_at names.now result) ≤ len }
+    ensures front { take (length (name_at names.now result)) (name_at names.now directory) ≡ name_at names.now result }
+    ensures inside { length (name_at names.now result) ≤ length (name_at names.now directory) }
+    ensures most { (i : ℕ) → IsSlash (name_at names.now directory) i → i < len → i < length (name_at names.now result) }
+{
+    let mut at = directory;
+    while names[at].name.len() > len {
+        match names[at].parent {
+            Some(parent) => at = parent,
+            None => return at,
+        }
+    }
+    at
+}
+
+/// Adds a key that lies in a directory, and before it the directories between them. Gives the one that it lies in.
+fn add<'a>(
+    text: &'a [u8],
+    value: &'a [u8],
+    directory: usize,
+    names: &mut Vec<Named<'a>>,
+) -> Result<usize, WriteFault>
+    requires path { IsTrue (is_key_path text.now) }
+    requires utf8 { IsUtf8 text.now }
+    requires good { AreGood names.old.items }
+    requires lies { IsDirectoryAt names.old.items text.now directory }
+    requires beyond { IsBeyond (last_name names.old.items) text.now (length (name_at names.old.items directory)) }
+    ensures added { IfOk result (IsAdded names.old.items names.new.items text.now value.now) }
+    ensures fault { IfErr result (λ e. e ≡ Memory) }
+{
+    let mut parent = directory;
+    let mut from = names[directory].name.len();
+    let mut hash = names[directory].hash;
+    for i in from..text.len() {
+        hash = step(hash, text[i]);
+        if text[i] == b'/' {
+            let place = names.len();
+            names.push(Named {
+                name: &text[..i + 1],
+                from,
+                hash,
+                parent: Some(parent),
+                content: Content::List,
+            })?;
+            parent = place;
+            from = i + 1;
+        }
+    }
+    names.push(Named {
+        name: text,
+        from,
+        hash,
+        parent: Some(parent),
+        content: Content::Value(value),
+    })?;
+    Ok(parent)
+}
+
+/// How many bytes two names begin with in common.
+fn common(left: &[u8], right: &[u8]) -> usize
+    ensures within { result ≤ length right.now }
+    ensures same { take result left.now ≡ take result right.now }
+    ensures most { (n : ℕ) → n ≤ length left.now → n ≤ length right.now → take n left.now ≡ take n right.now → n ≤ result }
+{
+    let mut count = 0;
+    for (l, r) in left.iter().zip(right) {
+        if l != r {
+            return count;
+        }
+        count += 1;
+    }
+    count
+}
+
+/// The hash of a name.
+fn hash(name: &[u8]) -> u32
+    ensures { result ≡ hash_of name.now }
+{
+    let mut hash = NO_HASH;
+    for byte in name {
+        hash = step(hash, *byte);
+    }
+    hash
+}
+
+/// The hash of one more byte, which is taken as a signed number.
+fn step(hash: u32, byte: u8) -> u32
+    ensures { result ≡ hash_step hash byte }
+{
+    let signed = if byte < 128 {
+        u32::from(byte)
+    } else {
+        u32::from(byte) + 0xffff_ff00
+    };
+    hash.wrapping_mul(33).wrapping_add(signed)
+}
