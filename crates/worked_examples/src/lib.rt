@@ -2,7 +2,11 @@
 #![tactic(auto)]
 
 #[cfg(test)]
+mod check;
+#[cfg(test)]
 mod containers;
+#[cfg(test)]
+mod databases;
 #[cfg(test)]
 mod limits;
 #[cfg(test)]
@@ -11,6 +15,8 @@ mod owned;
 mod runs;
 #[cfg(test)]
 mod show;
+#[cfg(test)]
+mod slow_search;
 #[cfg(test)]
 mod streams;
 #[cfg(test)]

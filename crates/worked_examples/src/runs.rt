@@ -1,4 +1,4 @@
-//! Runs of `show` over a folder in memory.
+//! Runs of commands over a folder in memory.
 use dconf_cli::{Command, Counted, Folder, MemoryFolder, run};
 use std::alloc::{AllocError, Global};
 use std::test::Fail;
@@ -17,16 +17,31 @@ pub(crate) fn one_file(alloc: Global, bytes: &[u8]) -> Result<MemoryFolder, Allo
     Ok(folder)
 }
 
-/// What a run of `show` of the file `f` leaves on out and err, each behind its name, and its status.
+/// What a run of `show` of the file `f` leaves.
 pub(crate) fn shown<F: Folder>(
     alloc: Global,
     type_text: &str,
     folder: &mut F,
 ) -> Result<String, AllocError> {
+    let command = asked(alloc, type_text, "f")?;
+    left_by(alloc, command, folder)
+}
+
+/// What a run of `check` of the file `f` leaves.
+pub(crate) fn checked<F: Folder>(alloc: Global, folder: &mut F) -> Result<String, AllocError> {
+    let file = String::from_str(alloc, "f")?;
+    left_by(alloc, Command::Check { file }, folder)
+}
+
+/// What a run leaves on out and err, each behind its name, and its status.
+fn left_by<F: Folder>(
+    alloc: Global,
+    command: Command,
+    folder: &mut F,
+) -> Result<String, AllocError> {
     let mut input = Counted::new(b"".as_slice());
     let mut out = Counted::new(Vec::new(alloc));
     let mut err = Counted::new(Vec::new(alloc));
-    let command = asked(alloc, type_text, "f")?;
     let status = run(alloc, command, folder, &mut input, &mut out, &mut err);
     let out = String::from_utf8_lossy(alloc, out.get_ref().as_slice())?;
     let err = String::from_utf8_lossy(alloc, err.get_ref().as_slice())?;
