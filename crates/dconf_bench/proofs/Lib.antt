@@ -1,0 +1,2 @@
+mod TextsAtPaths
+mod Soundness
