@@ -42,12 +42,13 @@ typedef struct {
     const char *key;
     GVariant *tree; /* the value as a tree of GLib's, where the call works on one */
     uint32_t more;  /* how many times more a tree of ours is written */
+    bool trusted;   /* whether GLib is told that the bytes are normal */
 } Input;
 
 typedef struct {
     bool done;
     uint64_t number;
-    uint8_t *room; /* answers that are texts or bytes stand here */
+    uint8_t *room; /* answers that are texts or bytes are here */
     size_t room_len;
     size_t len;
 } Answer;
@@ -64,78 +65,63 @@ static void put(Answer *out, const void *at, size_t len) {
         memcpy(out->room, at, len);
 }
 
-/* Untrusted, as one reads a file. */
+/* Untrusted, as one reads a file, unless the case says so. */
 static GVariant *value_of(const Input *in) {
-    return g_variant_ref_sink(g_variant_new_from_bytes(G_VARIANT_TYPE(in->type), in->bytes, FALSE));
+    return g_variant_ref_sink(g_variant_new_from_bytes(G_VARIANT_TYPE(in->type), in->bytes, in->trusted));
 }
+
+/* The two sides of a case that finds one number: CALL puts a TYPE where it is told, and OF_GLIB gives it of a value. */
+#define NUMBER_CASE(NAME, TYPE, CALL, OF_GLIB)              \
+    static void NAME##_ours(const Input *in, Answer *out) { \
+        TYPE found = 0;                                     \
+        out->done = CALL(OF(in), AT(in), &found);           \
+        out->number = found;                                \
+    }                                                       \
+    static void NAME##_glib(const Input *in, Answer *out) { \
+        GVariant *value = value_of(in);                     \
+        out->number = OF_GLIB(value);                       \
+        g_variant_unref(value);                             \
+    }
 
 /* ---- reading ---- */
 
-static void number_ours(const Input *in, Answer *out) {
-    uint32_t found = 0;
-    out->done = dconf_bench_number(OF(in), AT(in), &found);
-    out->number = found;
-}
-
-static void number_glib(const Input *in, Answer *out) {
-    GVariant *value = value_of(in);
-    out->number = g_variant_get_uint32(value);
-    g_variant_unref(value);
-}
-
-static void text_ours(const Input *in, Answer *out) {
-    size_t len = 0;
-    out->done = dconf_bench_text(OF(in), AT(in), &len);
-    out->number = len;
-}
-
-static void text_glib(const Input *in, Answer *out) {
-    GVariant *value = value_of(in);
+static uint64_t text_length(GVariant *value) {
     gsize len = 0;
     g_variant_get_string(value, &len);
-    out->number = len;
-    g_variant_unref(value);
+    return len;
 }
+
+NUMBER_CASE(number, uint32_t, dconf_bench_number, g_variant_get_uint32)
+NUMBER_CASE(text, size_t, dconf_bench_text, text_length)
 
 /* ---- walking: the sizes of the children added up, which shows that each was come to ---- */
 
-static void walk_ours(const Input *in, Answer *out) {
-    out->done = dconf_bench_walk(OF(in), AT(in), &out->number);
-}
-
-static uint64_t sizes(GVariant *value) {
+/* What SIZE gives of each child, added up. */
+static uint64_t sum_over_children(GVariant *value, uint64_t (*size)(GVariant *)) {
     uint64_t total = 0;
     gsize count = g_variant_n_children(value);
     for (gsize i = 0; i < count; i++) {
         GVariant *child = g_variant_get_child_value(value, i);
-        total += g_variant_get_size(child);
+        total += size(child);
         g_variant_unref(child);
     }
     return total;
 }
 
-static void walk_glib(const Input *in, Answer *out) {
-    GVariant *value = value_of(in);
-    out->number = sizes(value);
-    g_variant_unref(value);
+static uint64_t size_of(GVariant *value) {
+    return g_variant_get_size(value);
 }
 
-static void members_ours(const Input *in, Answer *out) {
-    out->done = dconf_bench_walk_members(OF(in), AT(in), &out->number);
+static uint64_t sizes(GVariant *value) {
+    return sum_over_children(value, size_of);
 }
 
-static void members_glib(const Input *in, Answer *out) {
-    GVariant *value = value_of(in);
-    uint64_t total = 0;
-    gsize count = g_variant_n_children(value);
-    for (gsize i = 0; i < count; i++) {
-        GVariant *child = g_variant_get_child_value(value, i);
-        total += sizes(child);
-        g_variant_unref(child);
-    }
-    out->number = total;
-    g_variant_unref(value);
+static uint64_t member_sizes(GVariant *value) {
+    return sum_over_children(value, sizes);
 }
+
+NUMBER_CASE(walk, uint64_t, dconf_bench_walk, sizes)
+NUMBER_CASE(members, uint64_t, dconf_bench_walk_members, member_sizes)
 
 /* ---- looking up: the size of the `v` under the key ---- */
 
@@ -201,14 +187,7 @@ static GVariant *tree_of(GVariant *value) {
 }
 
 static uint64_t nodes(GVariant *value) {
-    uint64_t count = 1;
-    if (g_variant_is_container(value))
-        for (gsize i = 0, n = g_variant_n_children(value); i < n; i++) {
-            GVariant *child = g_variant_get_child_value(value, i);
-            count += nodes(child);
-            g_variant_unref(child);
-        }
-    return count;
+    return 1 + (g_variant_is_container(value) ? sum_over_children(value, nodes) : 0);
 }
 
 static void tree_ours(const Input *in, Answer *out) {
@@ -239,17 +218,7 @@ static void print_tree_glib(const Input *in, Answer *out) {
 
 /* ---- the normal test ---- */
 
-static void normal_ours(const Input *in, Answer *out) {
-    bool normal = false;
-    out->done = dconf_bench_normal(OF(in), AT(in), &normal);
-    out->number = normal;
-}
-
-static void normal_glib(const Input *in, Answer *out) {
-    GVariant *value = value_of(in);
-    out->number = g_variant_is_normal_form(value);
-    g_variant_unref(value);
-}
+NUMBER_CASE(normal, bool, dconf_bench_normal, g_variant_is_normal_form)
 
 /* ---- parsing ---- */
 
@@ -440,6 +409,12 @@ static const size_t BRACKETS[] = {16, 64, 127, 0};
 static const size_t TOWERS[] = {10, 15, 18, 0};
 static const size_t TWINS[] = {8, 0};
 
+typedef enum {
+    PLAIN,
+    DIFFER,  /* the two have other definitions of this value */
+    TRUSTED, /* GLib trusts the bytes, and holds on to what it knows of the type */
+} Manner;
+
 typedef struct {
     const char *name;
     const char *type; /* NULL: as many `a` as the tower wants */
@@ -448,44 +423,47 @@ typedef struct {
     Side *ours, *glib;
     Side *check_ours, *check_glib; /* where the check wants more than the measured call answers */
     const char *key;               /* NULL for none, "last" for the last one of so many */
-    bool differ;                   /* the two have other definitions of this value */
+    Manner manner;
 } Case;
 
 static const Case CASES[] = {
-    {"read `u`", "u", ONE, one_number, number_ours, number_glib, 0, 0, 0, 0},
-    {"read `s`", "s", GROWING, one_text, text_ours, text_glib, 0, 0, 0, 0},
-    {"walk `as`", "as", GROWING, array_data, walk_ours, walk_glib, 0, 0, 0, 0},
-    {"walk `a{sv}`", "a{sv}", GROWING, array_data, walk_ours, walk_glib, 0, 0, 0, 0},
-    {"walk `a(siu)`", "a(siu)", GROWING, array_data, walk_ours, walk_glib, 0, 0, 0, 0},
-    {"walk `a{sv}`, keys and values", "a{sv}", GROWING, array_data, members_ours, members_glib, 0, 0, 0, 0},
-    {"walk `a(siu)`, members", "a(siu)", GROWING, array_data, members_ours, members_glib, 0, 0, 0, 0},
-    {"look up the first key", "a{sv}", GROWING, array_data, lookup_ours, lookup_glib, 0, 0, "key-0", 0},
-    {"look up the last key", "a{sv}", GROWING, array_data, lookup_ours, lookup_glib, 0, 0, "last", 0},
-    {"look up a missing key", "a{sv}", GROWING, array_data, lookup_ours, lookup_glib, 0, 0, "none", 0},
-    {"print `a{sv}`", "a{sv}", GROWING, array_data, print_ours, print_glib, 0, 0, 0, 0},
-    {"print `a{sv}`, GLib's tree", "a{sv}", GROWING, array_data, print_ours, print_tree_glib, 0, 0, 0, 0},
-    {"print `aay`", "aay", GROWING, array_data, print_ours, print_glib, 0, 0, 0, 0},
-    {"print `au`", "au", GROWING, array_data, print_ours, print_glib, 0, 0, 0, 0},
-    {"print `v` in `v`", "v", DEEP, nested_variants, print_ours, print_glib, 0, 0, 0, 0},
-    {"tree of `as`", "as", GROWING, array_data, tree_ours, tree_glib, 0, 0, 0, 0},
-    {"tree of `a{sv}`", "a{sv}", GROWING, array_data, tree_ours, tree_glib, 0, 0, 0, 0},
-    {"serialise `as`", "as", GROWING, array_data, written_ours, written_glib, 0, 0, 0, 0},
-    {"serialise `a{sv}`", "a{sv}", GROWING, array_data, written_ours, written_glib, 0, 0, 0, 0},
-    {"normal test of `as`", "as", GROWING, array_data, normal_ours, normal_glib, 0, 0, 0, 0},
-    {"normal test of `a{sv}`", "a{sv}", GROWING, array_data, normal_ours, normal_glib, 0, 0, 0, 0},
-    {"normal test of `au`", "au", GROWING, array_data, normal_ours, normal_glib, 0, 0, 0, 0},
-    {"parse `a{sv}`", "a{sv}", GROWING, array_text, parse_ours, parse_glib, parsed_ours, parsed_glib, 0, 0},
-    {"parse `ai`", "ai", GROWING, array_text, parse_ours, parse_glib, parsed_ours, parsed_glib, 0, 0},
-    {"parse nested brackets", "", BRACKETS, nested_brackets, parse_ours, parse_glib, parsed_ours, parsed_glib, 0, 0},
-    {"parse a string of escapes", "", GROWING, escapes, parse_ours, parse_glib, parsed_ours, parsed_glib, 0, 0},
-    {"print a tower", NULL, TOWERS, tower, print_ours, print_glib, 0, 0, 0, true},
-    {"normal test of a tower", NULL, TOWERS, tower, normal_ours, normal_glib, 0, 0, 0, 0},
-    {"print twins `(ssvsvs)`", "v", TWINS, twins, print_ours, print_glib, 0, 0, 0, true},
-    {"normal test of twins `(ssvsvs)`", "v", TWINS, twins, normal_ours, normal_glib, 0, 0, 0, 0},
+    {"read `u`", "u", ONE, one_number, number_ours, number_glib, 0, 0, 0, PLAIN},
+    {"read `s`", "s", GROWING, one_text, text_ours, text_glib, 0, 0, 0, PLAIN},
+    {"walk `as`", "as", GROWING, array_data, walk_ours, walk_glib, 0, 0, 0, PLAIN},
+    {"walk `a{sv}`", "a{sv}", GROWING, array_data, walk_ours, walk_glib, 0, 0, 0, PLAIN},
+    {"walk `a(siu)`", "a(siu)", GROWING, array_data, walk_ours, walk_glib, 0, 0, 0, PLAIN},
+    {"walk `a{sv}`, keys and values", "a{sv}", GROWING, array_data, members_ours, members_glib, 0, 0, 0, PLAIN},
+    {"walk `a(siu)`, members", "a(siu)", GROWING, array_data, members_ours, members_glib, 0, 0, 0, PLAIN},
+    {"look up the first key", "a{sv}", GROWING, array_data, lookup_ours, lookup_glib, 0, 0, "key-0", PLAIN},
+    {"look up the last key", "a{sv}", GROWING, array_data, lookup_ours, lookup_glib, 0, 0, "last", PLAIN},
+    {"look up a missing key", "a{sv}", GROWING, array_data, lookup_ours, lookup_glib, 0, 0, "none", PLAIN},
+    {"print `a{sv}`", "a{sv}", GROWING, array_data, print_ours, print_glib, 0, 0, 0, PLAIN},
+    {"print `a{sv}`, GLib's tree", "a{sv}", GROWING, array_data, print_ours, print_tree_glib, 0, 0, 0, PLAIN},
+    {"print `aay`", "aay", GROWING, array_data, print_ours, print_glib, 0, 0, 0, PLAIN},
+    {"print `au`", "au", GROWING, array_data, print_ours, print_glib, 0, 0, 0, PLAIN},
+    {"print `v` in `v`", "v", DEEP, nested_variants, print_ours, print_glib, 0, 0, 0, PLAIN},
+    {"walk `as`, trusted", "as", GROWING, array_data, walk_ours, walk_glib, 0, 0, 0, TRUSTED},
+    {"look up the first key, trusted", "a{sv}", GROWING, array_data, lookup_ours, lookup_glib, 0, 0, "key-0", TRUSTED},
+    {"print `a{sv}`, trusted", "a{sv}", GROWING, array_data, print_ours, print_glib, 0, 0, 0, TRUSTED},
+    {"tree of `as`", "as", GROWING, array_data, tree_ours, tree_glib, 0, 0, 0, PLAIN},
+    {"tree of `a{sv}`", "a{sv}", GROWING, array_data, tree_ours, tree_glib, 0, 0, 0, PLAIN},
+    {"serialise `as`", "as", GROWING, array_data, written_ours, written_glib, 0, 0, 0, PLAIN},
+    {"serialise `a{sv}`", "a{sv}", GROWING, array_data, written_ours, written_glib, 0, 0, 0, PLAIN},
+    {"normal test of `as`", "as", GROWING, array_data, normal_ours, normal_glib, 0, 0, 0, PLAIN},
+    {"normal test of `a{sv}`", "a{sv}", GROWING, array_data, normal_ours, normal_glib, 0, 0, 0, PLAIN},
+    {"normal test of `au`", "au", GROWING, array_data, normal_ours, normal_glib, 0, 0, 0, PLAIN},
+    {"parse `a{sv}`", "a{sv}", GROWING, array_text, parse_ours, parse_glib, parsed_ours, parsed_glib, 0, PLAIN},
+    {"parse `ai`", "ai", GROWING, array_text, parse_ours, parse_glib, parsed_ours, parsed_glib, 0, PLAIN},
+    {"parse nested brackets", "", BRACKETS, nested_brackets, parse_ours, parse_glib, parsed_ours, parsed_glib, 0, PLAIN},
+    {"parse a string of escapes", "", GROWING, escapes, parse_ours, parse_glib, parsed_ours, parsed_glib, 0, PLAIN},
+    {"print a tower", NULL, TOWERS, tower, print_ours, print_glib, 0, 0, 0, DIFFER},
+    {"normal test of a tower", NULL, TOWERS, tower, normal_ours, normal_glib, 0, 0, 0, PLAIN},
+    {"print twins `(ssvsvs)`", "v", TWINS, twins, print_ours, print_glib, 0, 0, 0, DIFFER},
+    {"normal test of twins `(ssvsvs)`", "v", TWINS, twins, normal_ours, normal_glib, 0, 0, 0, PLAIN},
 };
 
 static Input input_of(const Case *c, size_t size) {
-    Input in = {.type = c->type, .key = c->key};
+    Input in = {.type = c->type, .key = c->key, .trusted = c->manner == TRUSTED};
     if (c->type == NULL) {
         char *text = g_malloc0(size + 3);
         memset(text, 'a', size + 1);
@@ -493,6 +471,8 @@ static Input input_of(const Case *c, size_t size) {
         in.type = text;
     }
     in.bytes = c->make(in.type, size);
+    if (in.trusted)
+        value_of(&in); /* kept, and what GLib knows of its type with it */
     if (c->key != NULL && strcmp(c->key, "last") == 0)
         in.key = g_strdup_printf("key-%zu", size - 1);
     return in;
@@ -533,7 +513,7 @@ static int check(const Case *c, Input *in) {
     renew(c, in);
     Answer ours = answer_to(in), glib = answer_to(in);
     (c->check_ours ? c->check_ours : c->ours)(in, &ours);
-    if (c->differ) {
+    if (c->manner == DIFFER) {
         puts(ours.done ? "differ" : "refused");
         return 0;
     }

@@ -3,7 +3,7 @@ use Rattle.std.specs.Prelude.{◌≡◌, ℕ, List, [], ◌∷◌, ◌++◌, len
 use Rattle.std.specs.List.{flat_map}
 use Rattle.gv_view.specs.declared.view.View.{View}
 use Rattle.gv_view.specs.Views.{view_bytes}
-use Rattle.gvdb_read.specs.Found.{IsViewOf}
+use Rattle.gvdb_read.specs.Lookups.{IsViewOf}
 use Rattle.dconf_model.specs.Table.{Table}
 use Rattle.dconf_model.specs.Opening.{IsDatabase, root_of}
 use Rattle.dconf_model.specs.Sound.{IsSound}

@@ -14,7 +14,7 @@ use gvdb_read::Table;
 use gvdb_write::{Map, write};
 use std::alloc::Global;
 
-/// What stands behind a text in a `v` that holds it: the zero byte that ends it, and the text of its type.
+/// What comes after a text in a `v` that holds it: the zero byte that ends it, and the text of its type.
 const TYPE: &[u8] = b"\0\0s";
 
 /// How many bytes the value of this name has. False where there is no such database, name or value.
@@ -105,45 +105,4 @@ fn add(alloc: Global, path: &str, map: &mut Map) -> Option<()>
     value.extend_from_slice(TYPE).ok()?;
     map.insert(KeyPath::parse(path).ok()?, value.as_slice())
         .ok()
-}
-
-#[cfg(test)]
-mod tests {
-    use super::*;
-    use std::test::Fail;
-
-    #[test]
-    fn writes_finds_and_checks(rt: HostRuntime) -> Result<(), Fail> {
-        let alloc = rt.alloc();
-        let mut room = [0; 512];
-        let mut len = 0;
-        assert!(rt; dconf_bench_map(alloc, b"/a/k\0/b\0"));
-        assert!(rt; dconf_bench_database(alloc, b"/a/k\0/b\0", &mut room, &mut len));
-        let file = room.get(..len).unwrap_or(&[]);
-        let mut size = 0;
-        assert!(rt; dconf_bench_find(file, b"/a/k", &mut size));
-        assert_eq!(rt; size, 5);
-        assert!(rt; dconf_bench_find(file, b"/b", &mut size));
-        assert_eq!(rt; size, 3);
-        assert!(rt; !dconf_bench_find(file, b"/a", &mut size));
-        assert!(rt; !dconf_bench_find(file, b"/a/k\xff", &mut size));
-        let mut sound = false;
-        assert!(rt; dconf_bench_check(file, &mut sound));
-        assert!(rt; sound);
-        Ok(())
-    }
-
-    #[test]
-    fn refuses_others(rt: HostRuntime) -> Result<(), Fail> {
-        let alloc = rt.alloc();
-        let mut room = [0; 8];
-        let mut len = 0;
-        assert!(rt; !dconf_bench_database(alloc, b"/a\0b\0", &mut room, &mut len));
-        assert!(rt; !dconf_bench_database(alloc, b"/a", &mut room, &mut len));
-        assert!(rt; !dconf_bench_map(alloc, b"\0"));
-        let mut sound = false;
-        assert!(rt; !dconf_bench_check(b"GVariant", &mut sound));
-        assert!(rt; !dconf_bench_find(b"", b"/a", &mut len));
-        Ok(())
-    }
 }

@@ -27,13 +27,13 @@ pub(crate) fn view_of<'a>(of: &'a [u8], bytes: &'a [u8]) -> Option<View<'a>>
     Some(View::new(type_str, bytes))
 }
 
-/// Puts the bytes at the front of the room, if there is room for them, and says how many they are.
+/// Puts the bytes at the start of the room, if there is room for them, and says how many they are.
 pub(crate) fn hand_out(bytes: &[u8], room: &mut [u8]) -> usize
     ensures { HandsOut bytes.now room.new result }
 {
     if bytes.len() <= room.len() {
-        let (front, _) = room.split_at_mut(bytes.len());
-        front.copy_from_slice(bytes);
+        let (prefix, _) = room.split_at_mut(bytes.len());
+        prefix.copy_from_slice(bytes);
     }
     bytes.len()
 }

@@ -254,16 +254,19 @@ pub extern "C" fn dconf_bench_read_written(
 #[cfg(test)]
 mod tests {
     use super::*;
+    use crate::databases::{
+        dconf_bench_check, dconf_bench_database, dconf_bench_find, dconf_bench_map,
+    };
     use std::test::Fail;
 
     const STRINGS: &[u8] = b"i\0can\0has\0strings?\0\x02\x06\x0a\x13";
 
     #[test]
-    fn reads_and_walks(rt: HostRuntime) -> Result<(), Fail> {
+    fn each_call_does_its_work(rt: HostRuntime) -> Result<(), Fail> {
+        let alloc = rt.alloc();
         let mut number = 0;
         assert!(rt; dconf_bench_number(b"u", &[1, 2, 0, 0], &mut number));
         assert_eq!(rt; number, 513);
-        assert!(rt; !dconf_bench_number(b"i", &[1, 2, 0, 0], &mut number));
         let mut len = 0;
         assert!(rt; dconf_bench_text(b"s", b"hi\0", &mut len));
         assert_eq!(rt; len, 2);
@@ -272,53 +275,32 @@ mod tests {
         assert_eq!(rt; total, 19);
         assert!(rt; dconf_bench_walk_members(b"a(ys)", b"\x05hi\0\x04", &mut total));
         assert_eq!(rt; total, 4);
-        assert!(rt;
-            dconf_bench_lookup(
-                b"a{sy}",
-                b"a\0\x01\x02bc\0\x02\x03\x04\x09",
-                b"bc",
-                &mut len
-            )
-        );
+        let entries = b"a\0\x01\x02bc\0\x02\x03\x04\x09";
+        assert!(rt; dconf_bench_lookup(b"a{sy}", entries, b"bc", &mut len));
         assert_eq!(rt; len, 1);
-        Ok(())
-    }
-
-    #[test]
-    fn hands_out_texts_and_bytes(rt: HostRuntime) -> Result<(), Fail> {
-        let alloc = rt.alloc();
-        let mut room = [0; 64];
-        let mut len = 0;
+        let mut room = [0; 512];
         assert!(rt; dconf_bench_print(alloc, b"as", STRINGS, &mut room, &mut len));
-        assert_eq!(rt; len, 31);
-        assert!(rt; room.starts_with(b"['i', 'can', 'has', 'strings?']"));
+        assert!(rt; room.starts_with(b"['i', 'can', 'has', 'strings?']\0"));
         assert!(rt; dconf_bench_written(alloc, b"as", STRINGS, 2, &mut room, &mut len));
-        assert_eq!(rt; len, STRINGS.len());
-        assert!(rt; room.starts_with(STRINGS));
+        assert!(rt; len == STRINGS.len() && room.starts_with(STRINGS));
         assert!(rt; dconf_bench_read_written(alloc, b"byte 5", &mut room, &mut len));
-        assert_eq!(rt; len, 3);
-        assert!(rt; room.starts_with(b"\x05\0y"));
-        let mut short = [0; 2];
-        assert!(rt; dconf_bench_read_written(alloc, b"byte 5", &mut short, &mut len));
-        assert_eq!(rt; len, 3);
-        assert_eq!(rt; short, [0; 2]);
-        Ok(())
-    }
-
-    #[test]
-    fn counts_and_tests(rt: HostRuntime) -> Result<(), Fail> {
-        let alloc = rt.alloc();
+        assert!(rt; len == 3 && room.starts_with(b"\x05\0y"));
         let mut count = 0;
         assert!(rt; dconf_bench_tree(alloc, b"as", STRINGS, &mut count));
         assert_eq!(rt; count, 5);
         assert!(rt; dconf_bench_read(alloc, b"[1, 2]", &mut count));
         assert_eq!(rt; count, 3);
-        assert!(rt; !dconf_bench_read(alloc, b"[", &mut count));
         let mut normal = false;
         assert!(rt; dconf_bench_normal(alloc, b"as", STRINGS, &mut normal));
         assert!(rt; normal);
-        assert!(rt; dconf_bench_normal(alloc, b"b", &[5], &mut normal));
-        assert!(rt; !normal);
+        assert!(rt; dconf_bench_map(alloc, b"/a/k\0/b\0"));
+        assert!(rt; dconf_bench_database(alloc, b"/a/k\0/b\0", &mut room, &mut len));
+        let file = room.get(..len).unwrap_or(&[]);
+        assert!(rt; dconf_bench_find(file, b"/a/k", &mut len));
+        assert_eq!(rt; len, 5);
+        let mut sound = false;
+        assert!(rt; dconf_bench_check(file, &mut sound));
+        assert!(rt; sound);
         Ok(())
     }
 }

@@ -2,5 +2,9 @@ pub mod Filled
 pub mod Subcommands
 pub mod Lines
 pub mod Puts
+pub mod Stops
+pub mod Leaving
+pub mod Decisions
 pub mod Runs
-pub mod Wholes
+pub mod Shows
+pub mod Given

@@ -2,15 +2,12 @@
 use Rattle.std.proofs.Common.{◌≡◌, ◌&&◌, Bool, true, false, not, refl}
 use Rattle.clap.specs.Words.{App}
 
--- the three settings of `dconfdb`
+-- the two settings of `dconfdb`
 abbrev pub versioned : App → App
 versioned a = record a { top = record a.top { has_version = true } }
 
 abbrev pub wanting_subcommand : App → App
 wanting_subcommand a = record a { top = record a.top { subcommand_required = true } }
-
-abbrev pub without_help_subcommand : App → App
-without_help_subcommand a = record a { top = record a.top { disable_help_subcommand = true } }
 
 pub second : (a b : Bool) → (a && b) ≡ true → b ≡ true
 second true b e = e

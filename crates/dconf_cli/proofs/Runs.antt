@@ -1,199 +1,332 @@
--- What a command answers for what a folder holds.
-use Rattle.std.proofs.Common.{◌≡◌, ◌<◌, ◌≤◌, ◌++◌, ◌∷◌, ◌⊎◌, inl, inr, [], ℕ, zero, suc, List, length, true, false, Option, Some, None, refl, sym, ap, subst, ◌∙◌, arith}
-use Rattle.std.specs.Prelude.{codes, IfSome, nat_lt, is_some, unwrap_or, string_bytes}
-use Rattle.gv_model.specs.Ty.{Ty}
-use Rattle.gv_model.specs.Ty.Ty.{tuple}
-use Rattle.gv_model.specs.Ty.Types.{end}
-use Rattle.gv_model.specs.TypeText.{type_of_text, is_type, type_at}
-use Rattle.gv_model.specs.TypeFault.{Fault, IsFault}
-use Rattle.gv_model.specs.Decode.{decode}
-use Rattle.gv_types.specs.TypeFaults.{fault_text}
-use Rattle.dconf_model.specs.Opening.{IsDatabase}
-use Rattle.dconf_cli.specs.declared.asked.Command.{Command}
+-- What a run did, by what its command decided and by how the answer came about.
+use Rattle.std.proofs.Common.{◌≡◌, ◌+◌, ◌∷◌, ◌⊎◌, ◌∙◌, inl, inr, ℕ, Bool, true, false, zero, suc, List, [], Option, Some, None, refl, sym, ap, subst, arith}
+use Rattle.std.specs.Prelude.{◌≢◌, IfSome, codes, unwrap_or}
+use Rattle.std.specs.Str.{bytes_eq}
+use Rattle.std.proofs.lemmas.Slice.Eq.{bytes_eq-Decides}
+use Rattle.dconf_model.specs.Folders.{Event, seen}
+use Rattle.dconf_model.specs.FaultTexts.{device_text}
+use Rattle.dconf_model.specs.Replacing.{MaybeReplaced, ReadsWhole, new_name}
+use Rattle.dconf_model.specs.Commands.{Command}
+use Rattle.dconf_model.specs.Reads.{FileRead, Input, Reads, read_of, steady}
+use Rattle.dconf_model.specs.Reads.FileRead.{no_file, holds, over_size, failed}
+use Rattle.dconf_model.specs.Outcomes.{IsOutcome, Outcome, Output, Refused, Replacement, refused, refused_output}
+use Rattle.dconf_model.specs.Runs.{Answered, Answers as AnswersAny, AnswersIn, Did, IsNewName, MayMake, NoMemory, Ran, RanCalmly, ReadsFrom, device_output}
+use Rattle.dconf_model.specs.Runs.{Ending}
+use Rattle.dconf_model.specs.Runs.Ending.{as_meant, device}
 use Rattle.dconf_cli.specs.declared.answer.Answer.{Answer}
-use Rattle.dconf_cli.specs.declared.answer.Answer.TheVariants.{Done, Refused, NoMemory}
-use Rattle.dconf_cli.specs.Folders.{HoldsMuch}
-use Rattle.dconf_cli.specs.Output.{Output, Content, IsChecked, IsOutput, IsShown, IsVerdict, IsVerdictOutput, Verdict, refused, value_output, verdict_output, file_output}
-use Rattle.dconf_cli.specs.Answers.{Answers, AnswersOne, RefusesFor}
-use Rattle.dconf_cli.specs.Runs.{Agrees, AnswersOn, Held, Ran, RanOn, RanOne, Wrote}
+use Rattle.dconf_cli.specs.declared.answer.Answer.TheVariants as answers
+use Rattle.dconf_cli.specs.Answers.{Answers, outcome_of}
+use Rattle.dconf_cli.specs.Endings.{Ends, EndsBy}
+use Rattle.dconf_cli.specs.Readings.{AllRead, AreOf, Decides, Gave, Reading, Tells}
+use Rattle.dconf_cli.specs.Runs.{IsFormed, IsOwn, IsToReplace, KeepsFiles, NamesFile, RanAnywhere, Took}
+use Rattle.dconf_cli.specs.Streams.{NoneFailed, Rose}
+use Rattle.dconf_cli.proofs.Leaving.{not_rose}
 
-false_true : false ≡ true → ⊥
-false_true e = cc
+-- ---- input that no command read
 
-found_type : (w : List ℕ) → is_type w ≡ true → type_of_text w ≡ Some (type_at w)
-found_type w h = go (type_of_text w) h
+pub input_of : Option (List ℕ) → Input
+input_of remaining = record { bytes = unwrap_or remaining []; fails = false }
+
+pub took : (remaining : Option (List ℕ)) (failures : ℕ) → Took remaining failures failures (input_of remaining)
+unfolding input_of
+took remaining failures = record { whole = λ _. all remaining; part = λ e. cc }
   where
-    go : (o : Option Ty) → is_some o ≡ true → o ≡ Some (unwrap_or o (tuple end))
-    go None e = absurd (false_true e)
-    go (Some t) e = refl
+    all : (o : Option (List ℕ)) → IfSome o (λ xs. unwrap_or o [] ≡ xs)
+    all None = tt
+    all (Some xs) = refl
 
--- ---- the type
+-- ---- reads of a folder of which some may fail
 
--- the type of a text that was checked
-pub checked_type : (w asked : List ℕ) → w ≡ asked → is_type w ≡ true → type_of_text asked ≡ Some (type_at w)
-checked_type w asked same checked = ap type_of_text (sym same) ∙ found_type w checked
+or_failed : FileRead → FileRead → FileRead
+or_failed no_file given = given
+or_failed (holds bytes) given = given
+or_failed over_size given = given
+or_failed failed given = failed
 
-pub no_type : (w : List ℕ) → (is_type w ≡ true → false ≡ true) → type_of_text w ≡ None
-no_type w none_found = go (type_of_text w) refl
+is_given : (gave given : FileRead) → (gave ≡ given) ⊎ (gave ≡ failed) → or_failed gave given ≡ gave
+unfolding or_failed
+is_given no_file given (inl e) = sym e
+is_given no_file given (inr e) = cc
+is_given (holds bytes) given (inl e) = sym e
+is_given (holds bytes) given (inr e) = cc
+is_given over_size given (inl e) = sym e
+is_given over_size given (inr e) = cc
+is_given failed given h = refl
+
+either : (gave given : FileRead) → (or_failed gave given ≡ given) ⊎ (or_failed gave given ≡ failed)
+unfolding or_failed
+either no_file given = inl refl
+either (holds bytes) given = inl refl
+either over_size given = inl refl
+either failed given = inr refl
+
+module _ (es : List Event) where
+  reads_in : List Reading → Reads
+  reads_in [] n name = read_of (seen es name)
+  reads_in (r ∷ more) zero name = or_failed r.gave (read_of (seen es name))
+  reads_in (r ∷ more) (suc n) name = reads_in more n name
+
+  gave_in : (log : List Reading) (k : ℕ) (reads : Reads) → ((i m : ℕ) (name : List ℕ) → m ≡ k + i → reads m name ≡ reads_in log i name)
+      → AreOf es log → Gave reads k log
+  unfolding reads_in
+  gave_in [] k reads same are = tt
+  gave_in (r ∷ more) k reads same are = (
+    same zero k r.name (omega arith) ∙ is_given r.gave (read_of (seen es r.name)) are.0,
+    gave_in more (k + 1) reads (λ i m name e. same (suc i) m name (omega arith)) are.1,
+  )
+
+  gave_all : (log : List Reading) → AreOf es log → Gave (reads_in log) 0 log
+  gave_all log are = gave_in log 0 (reads_in log) (λ i m name e. let same : m ≡ i = omega arith in ap (λ (n : ℕ). reads_in log n name) same) are
+
+  given_in : (log : List Reading) → ReadsFrom es (reads_in log)
+  unfolding reads_in
+  given_in [] n name = inl refl
+  given_in (r ∷ more) zero name = either r.gave (read_of (seen es name))
+  given_in (r ∷ more) (suc n) name = given_in more n name
+
+  gave_steadily : (log : List Reading) (k : ℕ) → AreOf es log → AllRead log → Gave (steady (seen es)) k log
+  gave_steadily [] k are all = tt
+  gave_steadily (r ∷ more) k are all = (read are.0, gave_steadily more (k + 1) are.1 all.1)
+    where
+      read : (r.gave ≡ read_of (seen es r.name)) ⊎ (r.gave ≡ failed) → read_of (seen es r.name) ≡ r.gave
+      read (inl e) = sym e
+      read (inr e) = absurd (all.0 e)
+
+-- ---- outcomes of answers
+
+changes_done : (answer : Answer) → IfSome (outcome_of answer) (λ o. (o.change ≡ None) ⊎ (o.output.status ≡ 0))
+changes_done (answers.Done text) = inl refl
+changes_done (answers.Changed file bytes text) = inr refl
+changes_done (answers.Refused line) = inl refl
+changes_done answers.NoMemory = tt
+
+outcome_formed : (answer : Answer) → IfSome (outcome_of answer) (λ o. IsFormed o.output)
+outcome_formed (answers.Done text) = inl (refl, refl)
+outcome_formed (answers.Changed file bytes text) = inl (refl, refl)
+outcome_formed (answers.Refused line) = inr (refl, refl)
+outcome_formed answers.NoMemory = tt
+
+line_status : (output : Output) (why : List ℕ) → output ≡ refused_output why → output.status ≡ 1
+line_status output why e = ap (λ (o : Output). o.status) e
+
+line_formed : (output : Output) (why : List ℕ) → output ≡ refused_output why → IsFormed output
+line_formed output why e = inr (line_status output why e, ap (λ (o : Output). o.out) e)
+
+not_both : (n : ℕ) → n ≡ 0 → n ≡ 1 → ⊥
+not_both n z o = omega arith
+
+-- ---- how an outcome came about
+
+module _ {F : Type 0} (past : F → List Event → Type 0) (failures : F → ℕ) (command : Command) (input : Input) (mid new : F) (output : Output) where
+  -- in a folder of these events, for an outcome by these reads
+  record Ended (reads : Reads) (es : List Event) : Type 0 where
+    now : List Event
+    is : past new now
+    answers_in : AnswersIn command input reads es now output
+    refused : output.status ≡ 1 → (now ≡ es) ⊎ ((name : List ℕ) × (bytes : List ℕ) × (output ≡ refused_output (device_text name)) × MaybeReplaced es now name bytes)
+
+  module _ (reads : Reads) (es : List Event) (es_is : past mid es) where
+    unchanged : NoMemory output → new ≡ mid → Ended reads es
+    unchanged none same = record { now = es; is = subst (λ f. past f es) (sym same) es_is; answers_in = inr (none, refl); refused = λ _. inl refl }
+
+    ended_by : (o : Outcome) (change : Option Replacement) → o.change ≡ change → IsOutcome command reads input o
+        → (o.change ≡ None) ⊎ (o.output.status ≡ 0) → EndsBy past failures mid new o change output → Ended reads es
+    ended_by o None same is done e = record {
+      now = es;
+      is = subst (λ f. past f es) (sym e.1) es_is;
+      answers_in = inl (record { outcome = o; ending = as_meant; is = is; output_is = e.0 }, subst (λ c. Did c as_meant es es) (sym same) refl);
+      refused = λ _. inl refl;
+    }
+    ended_by o (Some r) same is (inl none) e = let bad : None ≡ Some r = sym none ∙ same in cc
+    ended_by o (Some r) same is (inr zero_is) (inl e) =
+        let after = e.2 es es_is in
+        record {
+          now = after.0;
+          is = after.1;
+          answers_in = inl (record { outcome = o; ending = as_meant; is = is; output_is = e.0 }, subst (λ c. Did c as_meant es after.0) (sym same) after.2);
+          refused = λ one. absurd (not_both output.status (ap (λ (x : Output). x.status) e.0 ∙ zero_is) one);
+        }
+    ended_by o (Some r) same is (inr zero_is) (inr (inl e)) =
+        let after = e.2 es es_is in
+        record {
+          now = after.0;
+          is = after.1;
+          answers_in = inl (
+            record { outcome = o; ending = device; is = is; output_is = subst (λ c. output ≡ device_output o.output c) (sym same) e.0 },
+            subst (λ c. Did c device es after.0) (sym same) after.2,
+          );
+          refused = λ _. inr (r.name, r.bytes, e.0, after.2);
+        }
+    ended_by o (Some r) same is (inr zero_is) (inr (inr e)) = unchanged e.0 e.1
+
+    ended : (o : Option Outcome) → IfSome o (λ x. IsOutcome command reads input x) → IfSome o (λ x. (x.change ≡ None) ⊎ (x.output.status ≡ 0))
+        → Ends past failures mid new o output → Ended reads es
+    ended None is done e = unchanged e.0 e.1
+    ended (Some o) is done e = ended_by o o.change refl is done e
+
+    -- where nothing failed
+    calmly_by : NoneFailed (failures mid) (failures new) → reads ≡ steady (seen es) → (o : Outcome) (change : Option Replacement) → o.change ≡ change
+        → IsOutcome command (steady (seen es)) input o → EndsBy past failures mid new o change output → (now : List Event) × past new now × RanCalmly command input es now output
+    calmly_by none rs o None same is e = (
+      es,
+      subst (λ f. past f es) (sym e.1) es_is,
+      inl (record { outcome = o; is = is; did = subst (λ c. Did c as_meant es es) (sym same) refl; output_is = e.0 }),
+    )
+    calmly_by none rs o (Some r) same is (inl e) =
+        let after = e.2 es es_is in
+        (after.0, after.1, inl (record { outcome = o; is = is; did = subst (λ c. Did c as_meant es after.0) (sym same) after.2; output_is = e.0 }))
+    calmly_by none rs o (Some r) same is (inr (inl e)) = absurd (not_rose _ _ none e.1)
+    calmly_by none rs o (Some r) same is (inr (inr e)) = (es, subst (λ f. past f es) (sym e.1) es_is, inr (e.0, refl))
+
+    calmly : NoneFailed (failures mid) (failures new) → reads ≡ steady (seen es) → (o : Option Outcome)
+        → IfSome o (λ x. IsOutcome command (steady (seen es)) input x) → Ends past failures mid new o output
+        → (now : List Event) × past new now × RanCalmly command input es now output
+    calmly none rs None is e = (es, subst (λ f. past f es) (sym e.1) es_is, inr (e.0, refl))
+    calmly none rs (Some o) is e = calmly_by none rs o o.change refl is e
+
+  -- in any folder
+  anyhow_by : (reads : Reads) (o : Outcome) (change : Option Replacement) → o.change ≡ change → IsOutcome command reads input o
+      → EndsBy past failures mid new o change output → AnswersAny command input reads output
+  anyhow_by reads o None same is e = inl (record { outcome = o; ending = as_meant; is = is; output_is = e.0 })
+  anyhow_by reads o (Some r) same is (inl e) = inl (record { outcome = o; ending = as_meant; is = is; output_is = e.0 })
+  anyhow_by reads o (Some r) same is (inr (inl e)) =
+      inl (record { outcome = o; ending = device; is = is; output_is = subst (λ c. output ≡ device_output o.output c) (sym same) e.0 })
+  anyhow_by reads o (Some r) same is (inr (inr e)) = inr e.0
+
+  anyhow : (reads : Reads) (o : Option Outcome) → IfSome o (λ x. IsOutcome command reads input x) → Ends past failures mid new o output
+      → AnswersAny command input reads output
+  anyhow reads None is e = inr e.0
+  anyhow reads (Some o) is e = anyhow_by reads o o.change refl is e
+
+  -- a refusal leaves the folder as it is
+  refusal_stays : (o : Option Outcome) (why : List ℕ) → IfSome o (λ x. x ≡ refused why) → Ends past failures mid new o output → new ≡ mid
+  refusal_stays None why is e = e.1
+  refusal_stays (Some o) why is e = (subst (λ (x : Outcome). EndsBy past failures mid new x x.change output) is e).1
+
+  refusal_says : (o : Option Outcome) (why : List ℕ) → IfSome o (λ x. x ≡ refused why) → Ends past failures mid new o output
+      → (output ≡ refused_output why) ⊎ NoMemory output
+  refusal_says None why is e = inr e.0
+  refusal_says (Some o) why is e = inl (subst (λ (x : Outcome). EndsBy past failures mid new x x.change output) is e).0
+
+  formed_by : (o : Outcome) (change : Option Replacement) → IsFormed o.output → EndsBy past failures mid new o change output → IsFormed output
+  formed_by o None form e = subst (λ (x : Output). IsFormed x) (sym e.0) form
+  formed_by o (Some r) form (inl e) = subst (λ (x : Output). IsFormed x) (sym e.0) form
+  formed_by o (Some r) form (inr (inl e)) = line_formed output (device_text r.name) e.0
+  formed_by o (Some r) form (inr (inr e)) = line_formed output (codes "Memory") e.0
+
+  formed : (o : Option Outcome) → IfSome o (λ x. IsFormed x.output) → Ends past failures mid new o output → IsFormed output
+  formed None form e = line_formed output (codes "Memory") e.0
+  formed (Some o) form e = formed_by o o.change form e
+
+  -- status 0 comes only where no failure rose
+  kept_by : (o : Outcome) (change : Option Replacement) → output.status ≡ 0 → EndsBy past failures mid new o change output → failures new ≡ failures mid
+  kept_by o None zero_is e = ap failures e.1
+  kept_by o (Some r) zero_is (inl e) = e.1
+  kept_by o (Some r) zero_is (inr (inl e)) = absurd (not_both output.status zero_is (line_status output (device_text r.name) e.0))
+  kept_by o (Some r) zero_is (inr (inr e)) = ap failures e.1
+
+  kept : (o : Option Outcome) → output.status ≡ 0 → Ends past failures mid new o output → failures new ≡ failures mid
+  kept None zero_is e = ap failures e.1
+  kept (Some o) zero_is e = kept_by o o.change zero_is e
+
+  -- a failure that rose while a file was replaced
+  broke_by : (o : Outcome) (change : Option Replacement) → o.change ≡ change → failures new ≢ failures mid → (log : List Reading)
+      → ((reads : Reads) → Gave reads 0 log → IsOutcome command reads input o) → EndsBy past failures mid new o change output
+      → NamesFile command input log output ⊎ NoMemory output
+  broke_by o None same rose log is e = absurd (rose (ap failures e.1))
+  broke_by o (Some r) same rose log is (inl e) = absurd (rose e.1)
+  broke_by o (Some r) same rose log is (inr (inl e)) = inl (r.name, e.0, inr (λ reads gave. (r.bytes, (o, is reads gave, same))))
+  broke_by o (Some r) same rose log is (inr (inr e)) = absurd (rose (ap failures e.1))
+
+  broke : (o : Option Outcome) → failures new ≢ failures mid → (log : List Reading)
+      → ((reads : Reads) → Gave reads 0 log → IfSome o (λ x. IsOutcome command reads input x)) → Ends past failures mid new o output
+      → NamesFile command input log output ⊎ NoMemory output
+  broke None rose log is e = absurd (rose (ap failures e.1))
+  broke (Some o) rose log is e = broke_by o o.change refl rose log is e
+
+-- ---- a run
+
+-- no file but the command's own reads otherwise
+others_keep : (command : Command) (input : Input) (reads : Reads) (es now : List Event) (output : Output) → ReadsFrom es reads
+    → AnswersIn command input reads es now output → (name : List ℕ) → (seen now name ≡ seen es name) ⊎ IsOwn command input es name
+others_keep command input reads es now output given (inr none) name = inl (ap (λ (x : List Event). seen x name) none.1)
+others_keep command input reads es now output given (inl did) name = by_change did.0.outcome.change refl did.0.ending did.1
   where
-    go : (o : Option Ty) → type_of_text w ≡ o → o ≡ None
-    go None e = refl
-    go (Some t) e = absurd (false_true (none_found (ap is_some e)))
+    whole : (r : Replacement) → did.0.outcome.change ≡ Some r → ReadsWhole es now r.name r.bytes → (own fresh : Bool) → bytes_eq name r.name ≡ own
+        → bytes_eq name (new_name r.name) ≡ fresh → (seen now name ≡ seen es name) ⊎ IsOwn command input es name
+    whole r same reads_whole true fresh own_is fresh_is =
+        let is : name ≡ r.name = (bytes_eq-Decides name r.name).0 own_is in
+        inr (reads, given, inl (r.bytes, subst (λ n. MayMake command input reads n r.bytes) (sym is) (did.0.outcome, did.0.is, same)))
+    whole r same reads_whole false true own_is fresh_is =
+        inr (reads, given, inr (r.name, r.bytes, (did.0.outcome, did.0.is, same), (bytes_eq-Decides name (new_name r.name)).0 fresh_is))
+    whole r same reads_whole false false own_is fresh_is =
+        let not_own : name ≡ r.name → ⊥ = λ e. let bad : true ≡ false = sym ((bytes_eq-Decides name r.name).1 e) ∙ own_is in cc in
+        let not_fresh : name ≡ new_name r.name → ⊥ = λ e. let bad : true ≡ false = sym ((bytes_eq-Decides name (new_name r.name)).1 e) ∙ fresh_is in cc in
+        inl (reads_whole.others name not_own not_fresh)
 
--- ---- the content
+    by_change : (change : Option Replacement) → did.0.outcome.change ≡ change → (ending : Ending) → Did change ending es now
+        → (seen now name ≡ seen es name) ⊎ IsOwn command input es name
+    by_change None same as_meant d = inl (ap (λ (x : List Event). seen x name) d)
+    by_change None same device d = absurd d
+    by_change (Some r) same as_meant d = whole r same d.others _ _ refl refl
+    by_change (Some r) same device d = whole r same d.whole _ _ refl refl
 
--- what is known, or else what was answered
-content_with : Option Content → Option (List ℕ) → Content
-content_with None o = λ _. o
-content_with (Some known) o = known
+module _ {F : Type 0} (past : F → List Event → Type 0) (failures : F → ℕ) (command : Command) (input : Input) (old mid new : F) (answer : Answer) (output : Output)
+    (d : Decides past failures old mid 0 (λ reads. IsOutcome command reads input) answer) (e : Ends past failures mid new (outcome_of answer) output) where
+  pub ran : (es : List Event) → past old es → (now : List Event) × past new now × Ran command input es now output × KeepsFiles command input es now output
+  ran es es_is =
+      let known = d.known es es_is in
+      let reads = reads_in es d.log in
+      let end : Ended past failures command input mid new output reads es =
+      ended past failures command input mid new output reads es known.0 (outcome_of answer) (d.answers reads (gave_all es d.log known.1)) (changes_done answer) e in
+      let given = given_in es d.log in (
+        end.now,
+        end.is,
+        record { reads = reads; given = given; answers = end.answers_in },
+        record {
+          others = others_keep command input reads es end.now output given end.answers_in;
+          refused = end.refused;
+        },
+      )
 
-agrees : (known : Option Content) (o : Option (List ℕ)) → Agrees known (content_with known o)
-unfolding content_with
-agrees None o = tt
-agrees (Some known) o = refl
+  none_rose : NoneFailed (failures old) (failures new) → Tells (failures old) (failures mid) d.log answer → AllRead d.log × (failures mid ≡ failures old)
+  none_rose none (inl all) = all
+  none_rose none (inr broken) =
+      let stays : new ≡ mid = refusal_stays past failures command input mid new output (outcome_of answer) (device_text broken.0) broken.3 e in
+      absurd (not_rose _ _ (subst (λ (n : ℕ). NoneFailed (failures old) n) (ap failures stays) none) broken.2)
 
-holds : (known : Option Content) (o : Option (List ℕ)) (name : List ℕ) → IfSome known (λ content. o ≡ content name) → content_with known o name ≡ o
-unfolding content_with
-holds None o name h = refl
-holds (Some known) o name h = sym h
+  pub ran_calmly : NoneFailed (failures old) (failures new) → (es : List Event) → past old es
+      → (now : List Event) × past new now × RanCalmly command input es now output
+  ran_calmly none es es_is =
+      let known = d.known es es_is in
+      let all = none_rose none d.tells in
+      calmly past failures command input mid new output (steady (seen es)) es known.0 (subst (λ (n : ℕ). NoneFailed n (failures new)) (sym all.1) none) refl
+      (outcome_of answer) (d.answers (steady (seen es)) (gave_steadily es d.log 0 known.1 all.0)) e
 
--- a file that is too big, for a folder of which nothing is known
-long : ℕ → List ℕ
-long zero = []
-long (suc n) = 0 ∷ long n
+  named : failures new ≢ failures old → Tells (failures old) (failures mid) d.log answer → NamesFile command input d.log output ⊎ NoMemory output
+  named rose (inl all) =
+      broke past failures command input mid new output (outcome_of answer) (λ same. rose (same ∙ all.1)) d.log d.answers e
+  named rose (inr broken) = says (refusal_says past failures command input mid new output (outcome_of answer) (device_text broken.0) broken.3 e)
+    where
+      says : (output ≡ refused_output (device_text broken.0)) ⊎ NoMemory output → NamesFile command input d.log output ⊎ NoMemory output
+      says (inl is) = inl (broken.0, is, inl broken.1)
+      says (inr none) = inr none
 
-length-long : (n : ℕ) → length (long n) ≡ n
-unfolding long
-length-long zero = refl
-length-long (suc n) = ap suc (length-long n)
-
-holds_much : (known : Option Content) (n : ℕ) (name : List ℕ) → 4294967295 < n → IfSome known (λ content. HoldsMuch (content name)) → HoldsMuch (content_with known (Some (long n)) name)
-unfolding content_with
-holds_much None n name big h = omega (arith, length-long n)
-holds_much (Some known) n name big h = h
-
--- a fact that waits for another
-pub once : (known : Option Content) (P : Type 0) (name : List ℕ) → IfSome known (λ content. P → HoldsMuch (content name)) → P → IfSome known (λ content. HoldsMuch (content name))
-once None P name h p = tt
-once (Some known) P name h p = h p
-
--- ---- answers
-
-pub answers_one : (answer : Answer) (o : Output) (Gives : Output → Type 0) → Answers answer o → Gives o → AnswersOne answer Gives
-answers_one (Done text) o Gives e g = subst Gives e g
-answers_one (Refused line) o Gives e g = subst Gives e g
-answers_one NoMemory o Gives e g = tt
-
-answers_also : (answer : Answer) (Gives Also : Output → Type 0) → ((o : Output) → Gives o → Also o) → AnswersOne answer Gives → AnswersOne answer Also
-answers_also (Done text) Gives Also also g = also _ g
-answers_also (Refused line) Gives Also also g = also _ g
-answers_also NoMemory Gives Also also g = tt
-
--- What a command gives for what a file holds. Here it is known what the file holds,
-module _ (known : Option Content) (file : List ℕ) (Gives : Option (List ℕ) → Output → Type 0) (answer : Answer) where
-  abbrev OnFile : Type 0
-  OnFile = AnswersOn known answer (λ content. Gives (content file))
-
-  pub answers_held : (o : Option (List ℕ)) → IfSome known (λ content. o ≡ content file) → AnswersOne answer (Gives o) → OnFile
-  answers_held o found h = record {
-    content = content_with known o;
-    agrees = agrees known o;
-    answers = subst (λ held. AnswersOne answer (Gives held)) (sym (holds known o file found)) h;
+  pub ran_anywhere : RanAnywhere (failures old) (failures new) command input output
+  ran_anywhere = record {
+    log = d.log;
+    answers = λ reads gave. anyhow past failures command input mid new output reads (outcome_of answer) (d.answers reads gave) e;
+    device = λ rose. named rose d.tells;
+    form = formed past failures command input mid new output (outcome_of answer) (outcome_formed answer) e;
   }
 
-  -- here that it is too much,
-  pub answers_much : (n : ℕ) → 4294967295 < n → IfSome known (λ content. HoldsMuch (content file))
-      → ((o : Option (List ℕ)) → HoldsMuch o → AnswersOne answer (Gives o)) → OnFile
-  answers_much n big much each = record {
-    content = content_with known (Some (long n));
-    agrees = agrees known (Some (long n));
-    answers = each _ (holds_much known n file big much);
-  }
+  pub zero_keeps : output.status ≡ 0 → failures new ≡ failures old
+  zero_keeps zero_is = go d.tells
+    where
+      lost : (why : List ℕ) → (output ≡ refused_output why) ⊎ NoMemory output → failures new ≡ failures old
+      lost why (inl is) = absurd (not_both output.status zero_is (line_status output why is))
+      lost why (inr is) = absurd (not_both output.status zero_is (line_status output (codes "Memory") is))
 
-  -- and here nothing
-  pub answers_any : ((o : Option (List ℕ)) → AnswersOne answer (Gives o)) → OnFile
-  answers_any each = record {
-    content = content_with known None;
-    agrees = agrees known None;
-    answers = each _;
-  }
-
--- ---- the answers of `show`
-
-abbrev pub IsShownOf : List ℕ → List ℕ → Option (List ℕ) → Output → Type 0
-IsShownOf type_text file held o = IsShown type_text (type_of_text type_text) file held o
-
-pub shows_fault : (type_text file : List ℕ) (held : Option (List ℕ)) (answer : Answer) (f : Fault) → type_of_text type_text ≡ None → IsFault type_text f
-    → RefusesFor answer (fault_text f) → AnswersOne answer (IsShownOf type_text file held)
-shows_fault type_text file held answer f none fault h =
-    answers_one answer (refused (fault_text f)) (IsShownOf type_text file held) h
-    (subst (λ t. IsShown type_text t file held (refused (fault_text f))) (sym none) (f, fault, refl))
-
-pub shows_at : (type_text file : List ℕ) (held : Option (List ℕ)) (answer : Answer) (t : Ty) → type_of_text type_text ≡ Some t
-    → Answers answer (file_output t file held) → AnswersOne answer (IsShownOf type_text file held)
-shows_at type_text file held answer t typed h =
-    answers_one answer (file_output t file held) (IsShownOf type_text file held) h
-    (subst (λ u. IsShown type_text u file held (file_output t file held)) (sym typed) refl)
-
-within : (t : Ty) (file bytes : List ℕ) → length bytes ≤ 4294967295 → file_output t file (Some bytes) ≡ value_output (decode t bytes)
-within t file bytes h = let small : nat_lt 4294967295 (length bytes) ≡ false = grind arith in rw small refl
-
-pub shows_value : (type_text file bytes : List ℕ) (answer : Answer) (t : Ty) → type_of_text type_text ≡ Some t → length bytes ≤ 4294967295
-    → Answers answer (value_output (decode t bytes)) → AnswersOne answer (IsShownOf type_text file (Some bytes))
-shows_value type_text file bytes answer t typed fits h =
-    shows_at type_text file (Some bytes) answer t typed (subst (Answers answer) (sym (within t file bytes fits)) h)
-
-too_big : (t : Ty) (file : List ℕ) (o : Option (List ℕ)) → HoldsMuch o → file_output t file o ≡ refused (codes "TooBig")
-too_big t file None h = absurd h
-too_big t file (Some bytes) h = let large : nat_lt 4294967295 (length bytes) ≡ true = grind arith in rw large refl
-
-pub shows_too_big : (type_text file : List ℕ) (answer : Answer) (t : Ty) → type_of_text type_text ≡ Some t → RefusesFor answer (codes "TooBig")
-    → (held : Option (List ℕ)) → HoldsMuch held → AnswersOne answer (IsShownOf type_text file held)
-shows_too_big type_text file answer t typed h held much =
-    shows_at type_text file held answer t typed (subst (Answers answer) (sym (too_big t file held much)) h)
-
--- ---- the answers of `check`
-
-pub answers_verdict : (bytes : List ℕ) (answer : Answer) (v : Verdict) → IsVerdict bytes v → Answers answer (verdict_output v)
-    → AnswersOne answer (IsVerdictOutput bytes)
-answers_verdict bytes answer v is h = answers_one answer (verdict_output v) (IsVerdictOutput bytes) h (v, is, refl)
-
-pub checks_bytes : (file bytes : List ℕ) (answer : Answer) → length bytes ≤ 4294967295 → AnswersOne answer (IsVerdictOutput bytes)
-    → AnswersOne answer (IsChecked file (Some bytes))
-checks_bytes file bytes answer fits h = answers_also answer (IsVerdictOutput bytes) (IsChecked file (Some bytes)) (λ o is. inr (fits, is)) h
-
-pub checks_no_file : (file : List ℕ) (answer : Answer) → RefusesFor answer (codes "NoFile " ++ file) → AnswersOne answer (IsChecked file None)
-checks_no_file file answer h = answers_one answer (refused (codes "NoFile " ++ file)) (IsChecked file None) h refl
-
-pub checks_too_big : (file : List ℕ) (answer : Answer) → RefusesFor answer (codes "TooBig")
-    → (held : Option (List ℕ)) → HoldsMuch held → AnswersOne answer (IsChecked file held)
-checks_too_big file answer h None much = absurd much
-checks_too_big file answer h (Some bytes) much = answers_one answer (refused (codes "TooBig")) (IsChecked file (Some bytes)) h (inl (much, refl))
-
--- ---- what is written of an answer
-
-module _ (status : ℕ) (out_old out_new err_old err_new : Held) where
-  abbrev Writes : Output → Type 0
-  Writes o = Ran o status out_old out_new err_old err_new
-
-  with_one : (Gives : Output → Type 0) (o : Output) → Gives o → Writes o → RanOne Gives status out_old out_new err_old err_new
-  with_one Gives o g (inl wrote) = inl (o, g, wrote)
-  with_one Gives o g (inr wrote) = inr wrote
-
-  without_memory : Writes (refused (codes "Memory")) → Wrote (refused (codes "Memory")) status out_old out_new err_old err_new
-  without_memory (inl wrote) = wrote
-  without_memory (inr wrote) = wrote
-
-  ran_one : (answer : Answer) (Gives : Output → Type 0) → AnswersOne answer Gives → ((o : Output) → Answers answer o → Writes o)
-      → RanOne Gives status out_old out_new err_old err_new
-  ran_one (Done text) Gives g each = with_one Gives _ g (each _ refl)
-  ran_one (Refused line) Gives g each = with_one Gives _ g (each _ refl)
-  ran_one NoMemory Gives g each = inr (without_memory (each _ tt))
-
-  pub ran_on : (known : Option Content) (command : Command) (answer : Answer) → AnswersOn known answer (IsOutput command)
-      → ((o : Output) → Answers answer o → Writes o) → RanOn known command status out_old out_new err_old err_new
-  ran_on known command answer h each = record {
-    content = h.content;
-    agrees = h.agrees;
-    ran = ran_one answer (IsOutput command h.content) h.answers each;
-  }
+      go : Tells (failures old) (failures mid) d.log answer → failures new ≡ failures old
+      go (inl all) = kept past failures command input mid new output (outcome_of answer) zero_is e ∙ all.1
+      go (inr broken) = lost (device_text broken.0) (refusal_says past failures command input mid new output (outcome_of answer) (device_text broken.0) broken.3 e)

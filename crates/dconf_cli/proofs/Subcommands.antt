@@ -5,11 +5,11 @@ use Rattle.std.specs.List.{list_any}
 use Rattle.std.specs.Option.{option_map_or}
 use Rattle.std.specs.Str.{bytes_eq}
 use Rattle.std.proofs.lemmas.Slice.Eq.{bytes_eq-Decides}
-use Rattle.clap.specs.Kinds.{Kinds, or_else, check_kinds}
+use Rattle.clap.specs.Kinds.{Kinds, check_kinds}
 use Rattle.clap.specs.Simple.{App, Shape, argument_words, built, entered, label_of, names_of, rows_at}
-use Rattle.clap.specs.Walk.{Names, Row, Rule, Text, answers_to, arg_by_long, arg_by_short, nothing_held, rows_after, stop_after}
+use Rattle.clap.specs.Walk.{Names, Row, Rule, Text, answers_to, arg_by_long, arg_by_short, nothing_held, rows_after, stop_after, walk_from}
 use Rattle.clap.specs.Takes.{is_given}
-use Rattle.clap.specs.Faults.{level_fault, entered_fault, check_fault, fault_of, is_simple_and_free}
+use Rattle.clap.specs.Faults.{level_fault, entered_fault, check_fault, fault_of, is_simple_and_free, walk_fault}
 use Rattle.clap.specs.Words.{HasMatchesOf, first_of, first_value, is_simple, rows_of, subcommand_name_of, subcommand_of, subcommand_rows, subcommand_rows_of}
 use Rattle.clap.specs.declared.parser.matches.ArgMatches.TheViews.{out-ArgMatches, out-SubCommand}
 use Rattle.std.specs.Box.{box_value}
@@ -18,18 +18,16 @@ use Rattle.clap.specs.declared.parser.matches.Found.{Found}
 use Rattle.clap.proofs.WalkLemmas.{first_value-rows}
 use Rattle.dconf_cli.specs.Asked.{AsksToCheck, AsksToShow}
 use Rattle.dconf_cli.specs.CommandLine.{command_line, show_line}
+use Rattle.dconf_cli.proofs.Stops.{IsNotHelp, or_else_nil, walk_not_help}
 use Rattle.dconf_cli.proofs.Filled.{OnlyAsks, walk_filled, given_first}
-
-or_else_nil : (a b : Kinds) → or_else a b ≡ [] → (a ≡ []) × (b ≡ [])
-or_else_nil [] b e = (refl, e)
-or_else_nil (k ∷ ks) b e = cc
 
 -- no fault of a level
 no_fault : (s : Shape) (names : Names) (words : List Text) (has : Bool) (below : Kinds) → level_fault s names nothing_held words has below ≡ []
-    → (below ≡ []) × (check_fault s (rows_after s.rules names words) has ≡ [])
+    → (walk_fault s names (walk_from nothing_held) words ≡ []) × (below ≡ []) × (check_fault s (rows_after s.rules names words) has ≡ [])
 no_fault s names words has below e =
-    let later = or_else_nil _ _ (or_else_nil _ _ e).1 in
-    (later.0, (or_else_nil _ _ (or_else_nil _ _ later.1).1).1)
+    let walks = or_else_nil _ _ e in
+    let later = or_else_nil _ _ walks.1 in
+    (walks.0, later.0, (or_else_nil _ _ (or_else_nil _ _ later.1).1).1)
 
 -- ---- required arguments
 
@@ -78,8 +76,12 @@ IsCommandName name = (name ≡ codes "show") ⊎ (name ≡ codes "check")
 record IsPlainSub (s : Shape) : Type 0 where
   long : (name : Text) → OnlyAsks s.rules (arg_by_long s.rules name)
   short : (x : ℕ) → OnlyAsks s.rules (arg_by_short s.rules x)
-  alone : s.aliases ≡ []
   name : IsCommandName s.name
+
+-- it is one of ours or, after ours, clap's own `help`
+record IsOffered (s : Shape) : Type 0 where
+  alone : s.aliases ≡ []
+  ours : s.name ≢ codes "help" → IsPlainSub s
 
 abbrev Each : (Shape → Type 0) → List Shape → Type 0
 Each P [] = ⊤
@@ -108,7 +110,6 @@ show_is_plain : IsPlainSub show_built
 show_is_plain = record {
   long = λ name. help_asks show_built.rules _ _ (refl, λ rows. refl);
   short = λ x. help_asks show_built.rules _ _ (refl, λ rows. refl);
-  alone = refl;
   name = inl refl;
 }
 
@@ -116,12 +117,14 @@ check_is_plain : IsPlainSub check_built
 check_is_plain = record {
   long = λ name. help_asks check_built.rules _ _ (refl, λ rows. refl);
   short = λ x. help_asks check_built.rules _ _ (refl, λ rows. refl);
-  alone = refl;
   name = inr refl;
 }
 
-plain_subs : Each IsPlainSub line.subs
-plain_subs = (show_is_plain, (check_is_plain, tt))
+offered_subs : Each IsOffered line.subs
+offered_subs = (
+  record { alone = refl; ours = λ _. show_is_plain },
+  (record { alone = refl; ours = λ _. check_is_plain }, (record { alone = refl; ours = λ other. absurd (other refl) }, tt)),
+)
 
 -- the subcommand of this name
 abbrev pub sub_named : Text → Shape
@@ -142,29 +145,30 @@ pub record Enters (met : Option (Text × List Row)) : Type 0 where
   pub named : met ≡ Some (name, rows)
   pub given : (id : Text) → wants (sub_named name).rules id ≡ true → IsSome (first_of id rows)
 
-sub_entered : (asked : Text) (words : List Text) (o : Option Shape) → find (λ s. answers_to asked (label_of s)) line.subs ≡ o
-    → IfSome o (λ s. IsPlainSub s × (answers_to asked (label_of s) ≡ true))
+sub_entered : (asked : Text) (words : List Text) (o : Option Shape) → asked ≢ codes "help" → find (λ s. answers_to asked (label_of s)) line.subs ≡ o
+    → IfSome o (λ s. IsOffered s × (answers_to asked (label_of s) ≡ true))
     → option_map_or (λ s. level_fault s [] nothing_held words false []) o [] ≡ []
     → is_some (option_map (λ s. rows_at s words) o) ≡ true → Enters (option_map (λ s. rows_at s words) o)
-sub_entered asked words None found plain fault met = cc
-sub_entered asked words (Some s) found plain fault met =
+sub_entered asked words None other found offered fault met = cc
+sub_entered asked words (Some s) other found offered fault met =
     let rows = rows_after s.rules [] words in
-    let named : s.name ≡ asked = answers_alone s.name asked s.aliases plain.0.alone plain.1 in
+    let named : s.name ≡ asked = answers_alone s.name asked s.aliases offered.0.alone offered.1 in
+    let plain : IsPlainSub s = offered.0.ours (λ help. other (sym named ∙ help)) in
     let same : sub_named s.name ≡ s = ap sub_named named ∙ ap (λ (o : Option Shape). unwrap_or o show_line.top) found in
-    let checked = (no_fault s [] words false [] fault).1 in
-    let filled = walk_filled s.rules plain.0.long plain.0.short [] nothing_held words (tt, tt) in
+    let checked = (no_fault s [] words false [] fault).2 in
+    let filled = walk_filled s.rules plain.long plain.short [] nothing_held words (tt, tt) in
     record {
       name = s.name;
-      one = plain.0.name;
+      one = plain.name;
       rows = rows;
       named = refl;
       given = λ id wanted. given_first id rows filled (check_gives s rows id checked (subst (λ (x : Shape). wants x.rules id ≡ true) same wanted));
     }
 
-entered_gives : (stop : Option (Text × List Text)) → entered_fault line stop ≡ [] → is_some (entered line stop) ≡ true → Enters (entered line stop)
-entered_gives None fault met = cc
-entered_gives (Some p) fault met =
-    sub_entered p.0 p.1 _ refl (each_found IsPlainSub (λ s. answers_to p.0 (label_of s)) line.subs plain_subs) fault met
+entered_gives : (stop : Option (Text × List Text)) → IsNotHelp stop → entered_fault line stop ≡ [] → is_some (entered line stop) ≡ true → Enters (entered line stop)
+entered_gives None other fault met = cc
+entered_gives (Some p) other fault met =
+    sub_entered p.0 p.1 _ other refl (each_found IsOffered (λ s. answers_to p.0 (label_of s)) line.subs offered_subs) fault met
 
 met_below : (rows : List Row) (has : Bool) → check_fault line.top rows has ≡ [] → has ≡ true
 met_below rows true e = refl
@@ -175,7 +179,8 @@ enters words e =
     let args = argument_words command_line words in
     let stop = stop_after line.top.rules (names_of line) args in
     let level = no_fault line.top (names_of line) args (is_some (entered line stop)) (entered_fault line stop) e in
-    entered_gives stop level.0 (met_below (rows_after line.top.rules (names_of line) args) (is_some (entered line stop)) level.1)
+    let other : IsNotHelp stop = walk_not_help line.top (names_of line) refl nothing_held args level.0 in
+    entered_gives stop other level.1 (met_below (rows_after line.top.rules (names_of line) args) (is_some (entered line stop)) level.2)
 
 -- ---- a parse by a command that is built as the command line
 

@@ -1,27 +1,24 @@
 -- What an answer of a command stands for.
-use Rattle.std.specs.Prelude.{◌≡◌, ℕ, List, [], string_bytes}
+use Rattle.std.specs.Prelude.{◌≡◌, ℕ, List, [], Option, Some, None, IfSome, string_bytes, vec_items}
+use Rattle.dconf_model.specs.Outcomes.{Outcome, Gives, Refused as RefusedWith, done, changing}
 use Rattle.dconf_cli.specs.declared.answer.Answer.{Answer}
-use Rattle.dconf_cli.specs.declared.answer.Answer.TheVariants.{Done, Refused, NoMemory}
-use Rattle.dconf_cli.specs.Output.{Output, refused}
+use Rattle.dconf_cli.specs.declared.answer.Answer.TheVariants.{Done, Changed, Refused, NoMemory}
 
--- the answer is this output, unless memory was wanting
-abbrev pub Answers : Answer → Output → Type 0
-Answers (Done text) o = o ≡ record { out = string_bytes text; err = []; status = 0 }
-Answers (Refused line) o = o ≡ record { out = []; err = string_bytes line; status = 1 }
-Answers NoMemory o = Unit {0}
+-- refused with this line, its line feed with it
+abbrev pub refused_by : List ℕ → Outcome
+refused_by line = record { output = record { out = []; err = line; status = 1 }; change = None }
 
--- the answer is one of these outputs, unless memory was wanting
-abbrev pub AnswersOne : Answer → (Output → Type 0) → Type 0
-AnswersOne (Done text) Gives = Gives (record { out = string_bytes text; err = []; status = 0 })
-AnswersOne (Refused line) Gives = Gives (record { out = []; err = string_bytes line; status = 1 })
-AnswersOne NoMemory Gives = Unit {0}
+-- the outcome that is to come about; without memory there is none
+abbrev pub outcome_of : Answer → Option Outcome
+outcome_of (Done text) = Some (done (string_bytes text))
+outcome_of (Changed file bytes text) = Some (changing (string_bytes file) (vec_items bytes) (string_bytes text))
+outcome_of (Refused line) = Some (refused_by (string_bytes line))
+outcome_of NoMemory = None
 
--- the answer is the refusal that says why, unless memory was wanting
+-- the outcome is one of these, unless memory ran out
+abbrev pub Answers : Answer → (Outcome → Type 0) → Type 0
+Answers answer Makes = IfSome (outcome_of answer) Makes
+
+-- the refusal that says why, unless memory ran out
 abbrev pub RefusesFor : Answer → List ℕ → Type 0
-RefusesFor answer why = Answers answer (refused why)
-
--- the answer is no refusal
-abbrev pub IsDone : Answer → Type 0
-IsDone (Done text) = Unit {0}
-IsDone (Refused line) = ⊥
-IsDone NoMemory = ⊥
+RefusesFor answer why = Answers answer (RefusedWith why)

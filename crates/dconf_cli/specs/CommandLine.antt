@@ -15,13 +15,12 @@ show_line = with_rule (with_rule (new_app (codes "show")) (required_word (codes 
 abbrev pub check_line : App
 check_line = with_rule (new_app (codes "check")) (required_word (codes "FILE"))
 
--- `dconfdb`, which wants a subcommand, has a version and no subcommand `help`
+-- `dconfdb`, which wants a subcommand and has a version
 abbrev pub dconfdb_line : App
 dconfdb_line = record (new_app (codes "dconfdb")) {
   top = record (new_app (codes "dconfdb")).top {
     subcommand_required = true;
     has_version = true;
-    disable_help_subcommand = true;
   };
 }
 

@@ -1,10 +1,9 @@
 pub mod Streams
 pub mod Counted
-pub mod Folders
-pub mod MemoryFolders
-pub mod StdFolders
 pub mod CommandLine
 pub mod Asked
-pub mod Output
+pub mod Commands
 pub mod Answers
+pub mod Readings
+pub mod Endings
 pub mod Runs

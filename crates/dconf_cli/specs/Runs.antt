@@ -1,46 +1,48 @@
--- What a run of a command leaves on out and err, with its status.
-use Rattle.std.specs.Prelude.{◌≡◌, ◌⊎◌, ℕ, List, Option, Some, None, codes}
-use Rattle.std.specs.Io.KnownBytes.{Appends}
-use Rattle.dconf_cli.specs.declared.asked.Command.{Command}
-use Rattle.dconf_cli.specs.declared.answer.Answer.{Answer}
-use Rattle.dconf_cli.specs.Answers.{AnswersOne}
-use Rattle.dconf_cli.specs.Output.{Output, Content, IsOutput, refused}
+-- What a run of a command does, by what is known of its folder and its input.
+use Rattle.std.specs.Prelude.{◌≡◌, ◌≢◌, ◌⊎◌, ℕ, true, false, List, [], Option, IfSome, take}
+use Rattle.dconf_model.specs.Folders.{Event, seen}
+use Rattle.dconf_model.specs.FaultTexts.{device_text}
+use Rattle.dconf_model.specs.Replacing.{MaybeReplaced}
+use Rattle.dconf_model.specs.Commands.{Command}
+use Rattle.dconf_model.specs.Reads.{Input, Reads}
+use Rattle.dconf_model.specs.Outcomes.{Output, refused_output}
+use Rattle.dconf_model.specs.Runs.{Answers, IsNewName, MayMake, NoMemory, ReadsFrom}
+use Rattle.dconf_cli.specs.Readings.{BreaksAt, Gave, Reading}
+use Rattle.dconf_cli.specs.Streams.{Rose}
 
--- what a writer holds, where it says that
-abbrev pub Held : Type 0
-Held = Option (List ℕ)
+-- the input that a run was given: all that the stream had, where it says that, or the first part of it where the stream failed
+pub record Took (remaining : Option (List ℕ)) (failures_old failures_new : ℕ) (i : Input) : Type 0 where
+  pub whole : i.fails ≡ false → IfSome remaining (λ xs. i.bytes ≡ xs)
+  pub part : i.fails ≡ true → IfSome remaining (λ xs. (n : ℕ) × (i.bytes ≡ take n xs)) × Rose failures_old failures_new
 
--- out and err grew by exactly the output's bytes, and the status is its status
-pub record Wrote (o : Output) (status : ℕ) (out_old out_new err_old err_new : Held) : Type 0 where
-  pub out : Appends out_old out_new o.out
-  pub err : Appends err_old err_new o.err
-  pub status_is : status ≡ o.status
+-- the file that a command is to replace, by the reads that it made
+abbrev pub IsToReplace : Command → Input → List Reading → List ℕ → Type 0
+IsToReplace command input log name = (reads : Reads) → Gave reads 0 log → (bytes : List ℕ) × MayMake command input reads name bytes
 
--- this output was written or, where memory was wanting, the line that says so
-abbrev pub Ran : Output → ℕ → Held → Held → Held → Held → Type 0
-Ran o status out_old out_new err_old err_new =
-    Wrote o status out_old out_new err_old err_new
-    ⊎ Wrote (refused (codes "Memory")) status out_old out_new err_old err_new
+-- the line for a failed device names the file that could not be read or replaced
+abbrev pub NamesFile : Command → Input → List Reading → Output → Type 0
+NamesFile command input log output =
+    (name : List ℕ) × (output ≡ refused_output (device_text name)) × (BreaksAt log name ⊎ IsToReplace command input log name)
 
--- the content agrees with what is known of a folder
-abbrev pub Agrees : Option Content → Content → Type 0
-Agrees None content = Unit {0}
-Agrees (Some known) content = content ≡ known
+-- a text for out with status 0, or one for err with status 1
+abbrev pub IsFormed : Output → Type 0
+IsFormed output = ((output.status ≡ 0) × (output.err ≡ [])) ⊎ ((output.status ≡ 1) × (output.out ≡ []))
 
--- an output of the command was written or, where memory was wanting, the line that says so
-abbrev pub RanOne : (Output → Type 0) → ℕ → Held → Held → Held → Held → Type 0
-RanOne Gives status out_old out_new err_old err_new =
-    ((o : Output) × Gives o × Wrote o status out_old out_new err_old err_new)
-    ⊎ Wrote (refused (codes "Memory")) status out_old out_new err_old err_new
+-- In any folder: whatever reads gave what those of this run gave, its output is one that the command makes of them.
+pub record RanAnywhere (failures_old failures_new : ℕ) (command : Command) (input : Input) (output : Output) : Type 0 where
+  pub log : List Reading
+  pub answers : (reads : Reads) → Gave reads 0 log → Answers command input reads output
+  pub device : failures_new ≢ failures_old → NamesFile command input log output ⊎ NoMemory output
+  pub form : IsFormed output
 
--- the command ran on what the folder holds: on what is known of it, or else on some content
-pub record RanOn (known : Option Content) (command : Command) (status : ℕ) (out_old out_new err_old err_new : Held) : Type 0 where
-  pub content : Content
-  pub agrees : Agrees known content
-  pub ran : RanOne (IsOutput command content) status out_old out_new err_old err_new
+-- a file of the command's own: the one that it replaces, or the new one that takes its name
+abbrev pub IsOwn : Command → Input → List Event → List ℕ → Type 0
+IsOwn command input old name =
+    (reads : Reads) × ReadsFrom old reads × (((bytes : List ℕ) × MayMake command input reads name bytes) ⊎ IsNewName command input reads name)
 
--- the answer is what the folder's content gives: what is known of it, or else some content
-pub record AnswersOn (known : Option Content) (answer : Answer) (Gives : Content → Output → Type 0) : Type 0 where
-  pub content : Content
-  pub agrees : Agrees known content
-  pub answers : AnswersOne answer (Gives content)
+-- No file but the command's own reads otherwise than before. Where it is refused nothing was done, unless the device failed while
+-- its file was replaced: then that reads as before or as it was to be.
+pub record KeepsFiles (command : Command) (input : Input) (old new : List Event) (output : Output) : Type 0 where
+  pub others : (name : List ℕ) → (seen new name ≡ seen old name) ⊎ IsOwn command input old name
+  pub refused : output.status ≡ 1 → (new ≡ old)
+      ⊎ ((name : List ℕ) × (bytes : List ℕ) × (output ≡ refused_output (device_text name)) × MaybeReplaced old new name bytes)

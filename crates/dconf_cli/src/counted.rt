@@ -1,11 +1,12 @@
-//! Streams that count their failures.
-ghost use Rattle.std.specs.Prelude.{◌≡◌, ◌<◌, ℕ, OnOk, OnErr, IfOk, length, take};
+//! Streams that count their failures. Nothing outside this file reaches a stream or its count but by one call of
+//! `read_once` or of `write_once`, so no loop can hide a failure, blame a stream that had none, or try again.
+ghost use Rattle.std.specs.Prelude.{◌≡◌, ◌<◌, OnOk, OnErr, IfOk, length};
 ghost use Rattle.std.specs.Io.{ReadsAtMost, WritesAtMost};
-ghost use Rattle.std.specs.Io.KnownBytes.{Appends, ReadConsumes, WriteAppends};
+ghost use Rattle.std.specs.Io.KnownBytes.{ReadConsumes, WriteAppends};
 ghost use Rattle.dconf_cli.specs.Streams.{one_more};
 
 use std::io;
-use std::io::{Error, ErrorKind, Read, Write};
+use std::io::{Read, Write};
 
 /// A reader or a writer, and how often it failed.
 ///
@@ -35,6 +36,14 @@ impl<S> Counted<S> {
         self.failures
     }
 
+    // Counts one failure more.
+    fn count_failure(&mut self)
+        ensures count { failures_of self.new ≡ one_more (failures_of self.old) }
+        ensures inner { inner_of self.new ≡ inner_of self.old }
+    {
+        self.failures = self.failures.saturating_add(1);
+    }
+
     /// The stream, to look at what a writer in memory holds.
     pub fn get_ref(&self) -> &S
         ensures { result.now ≡ inner_of self.now }
@@ -56,7 +65,7 @@ impl<R: Read> Counted<R> {
     {
         let got = self.inner.read(buf);
         if got.is_err() {
-            self.failures = self.failures.saturating_add(1);
+            self.count_failure();
         }
         got
     }
@@ -83,95 +92,8 @@ impl<W: Write> Counted<W> {
             Err(_) => true,
         };
         if failed {
-            self.failures = self.failures.saturating_add(1);
+            self.count_failure();
         }
         took
-    }
-
-    /// Writes all of the bytes, up to the first failure. A short write goes on with the rest, and
-    /// nothing else is tried again. After an `Err` the stream holds a first part of the bytes.
-    pub fn put(&mut self, bytes: &[u8]) -> io::Result<()>
-        ensures written { OnOk result (Appends (W.contents (inner_of self.old))
-            (W.contents (inner_of self.new)) bytes.now) }
-        ensures ok { OnOk result (failures_of self.new ≡ failures_of self.old) }
-        ensures err { OnErr result (failures_of self.new ≡ one_more (failures_of self.old)) }
-        ensures part { OnErr result ((n : ℕ) × Appends (W.contents (inner_of self.old))
-            (W.contents (inner_of self.new)) (take n bytes.now)) }
-    {
-        let mut rest = bytes;
-        while !rest.is_empty() {
-            let n = self.write_once(rest)?;
-            if n == 0 {
-                return Err(Error::from(ErrorKind::WriteZero));
-            }
-            rest = &rest[n..];
-        }
-        Ok(())
-    }
-}
-
-#[cfg(test)]
-mod tests {
-    use super::*;
-    use std::test::Fail;
-
-    // A writer that takes one byte at a time, `room` bytes, and then fails or takes none.
-    #[derive(Drop)]
-    struct OneByOne {
-        room: usize,
-        then: Result<(), ErrorKind>,
-    }
-
-    impl Write for OneByOne {
-        fn write(&mut self, buf: &[u8]) -> io::Result<usize> {
-            if self.room > 0 && !buf.is_empty() {
-                self.room -= 1;
-                return Ok(1);
-            }
-            match self.then {
-                Ok(()) => Ok(0),
-                Err(kind) => Err(Error::from(kind)),
-            }
-        }
-
-        fn flush(&mut self) -> io::Result<()> {
-            Ok(())
-        }
-    }
-
-    #[test]
-    fn counts_a_writer(rt: HostRuntime) -> Result<(), Fail> {
-        for (room, then, failures) in [
-            (5, Ok(()), 0),
-            (4, Ok(()), 1),
-            (4, Err(ErrorKind::Interrupted), 1),
-            (0, Err(ErrorKind::BrokenPipe), 1),
-        ] {
-            let mut out = Counted::new(OneByOne { room, then });
-            assert!(rt; out.put(b"").is_ok() && out.failures() == 0);
-            assert_eq!(rt; out.put(b"12345").is_err(), failures == 1);
-            assert_eq!(rt; out.failures(), failures);
-        }
-        Ok(())
-    }
-
-    #[test]
-    fn writes_into_memory(rt: HostRuntime) -> Result<(), Fail> {
-        let mut out = Counted::new(Vec::new(rt.alloc()));
-        out.put(b"au ")?;
-        out.put(b"[1]\n")?;
-        assert!(rt; out.get_ref().as_slice() == b"au [1]\n".as_slice());
-        assert_eq!(rt; out.failures(), 0);
-        Ok(())
-    }
-
-    #[test]
-    fn reads_to_the_end(rt: HostRuntime) -> Result<(), Fail> {
-        let mut input = Counted::new(b"ab".as_slice());
-        let mut buf = [0; 4];
-        assert_eq!(rt; input.read_once(&mut buf)?, 2);
-        assert_eq!(rt; input.read_once(&mut buf)?, 0);
-        assert_eq!(rt; input.failures(), 0);
-        Ok(())
     }
 }

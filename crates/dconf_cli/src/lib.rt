@@ -1,11 +1,12 @@
 //! The commands of `dconfdb`: what the words of a command line ask for, and a run of it on a folder and
 //! three streams.
 //!
-//! A command reads, decides what it answers, and then writes: a text to out, or one line to err.
+//! A command reads, decides what it answers, and then writes: a file first, where it changes one, and then a text to
+//! out, or one line to err.
 //!
-//! What can never happen: a word that a command needs is made up; a failure of a stream or of a folder's
-//! device goes uncounted (up to `u64::MAX`, where the count stays); a write is given up half way and called
-//! done; a failure of a folder is taken for a missing file; a refusal writes to out.
+//! What can never happen: a word that a command needs is made up; a write is given up half way and called
+//! done; a failure of a folder is taken for a missing file; a refusal writes to out, or comes after a file was
+//! replaced.
 //!
 //! What a call costs: `command` takes memory for clap's lists and for the words of its answer; `run` for the
 //! file's bytes, once, and for the text that it writes, in time linear in both; a `Counted` takes none.
@@ -16,11 +17,12 @@ mod asked;
 mod command_line;
 mod commands;
 mod counted;
-mod folder;
+mod giving;
+mod putting;
+mod reading;
 mod running;
 
 pub use asked::Command;
 pub use command_line::command;
 pub use counted::Counted;
-pub use folder::{Folder, FolderFault, LARGEST_FILE, MemoryFolder, StdFolder};
 pub use running::run;

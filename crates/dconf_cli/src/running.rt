@@ -1,15 +1,19 @@
 //! A run of a command: it reads, decides what it answers, and then writes.
-ghost use Rattle.std.specs.Prelude.{◌≡◌, ◌≢◌, ◌≤◌, ◌++◌, ℕ, List, codes};
-ghost use Rattle.dconf_cli.specs.Counted.{failures_of, inner_of};
-ghost use Rattle.dconf_cli.specs.Output.{file_of, refused};
-ghost use Rattle.dconf_cli.specs.Runs.{Ran, RanOn};
+ghost use Rattle.std.specs.Prelude.{◌≡◌, ◌≢◌, ◌≤◌, ℕ, List};
+ghost use Rattle.dconf_model.specs.Folders.{Event};
+ghost use Rattle.dconf_model.specs.Outcomes.{Output};
+ghost use Rattle.dconf_model.specs.Reads.{Input};
+ghost use Rattle.dconf_model.specs.Runs.{Ran, RanCalmly};
+ghost use Rattle.dconf_cli.specs.Commands.{command_of};
+ghost use Rattle.dconf_cli.specs.Counted.{Leaves, failures_of, inner_of};
+ghost use Rattle.dconf_cli.specs.Runs.{KeepsFiles, RanAnywhere, Took};
 ghost use Rattle.dconf_cli.specs.Streams.{NoneFailed};
 
-use crate::answer::give;
 use crate::asked::Command;
 use crate::commands::answered;
 use crate::counted::Counted;
-use crate::folder::Folder;
+use crate::giving::give;
+use dconf_disk::Folder;
 use std::alloc::Global;
 use std::io::{Read, Write};
 
@@ -32,33 +36,33 @@ pub fn run<F: Folder, I: Read, O: Write, E: Write>(
     out: &mut Counted<O>,
     err: &mut Counted<E>,
 ) -> u8
-    // Where nothing failed, exactly the output of the command is written, and its status answered.
-    ensures answer { NoneFailed (F.failed folder.old) (F.failed folder.new)
-        → NoneFailed (failures_of out.old) (failures_of out.new)
-        → NoneFailed (failures_of err.old) (failures_of err.new)
-        → RanOn (F.known folder.old) command result
-        (O.contents (inner_of out.old)) (O.contents (inner_of out.new))
-        (E.contents (inner_of err.old)) (E.contents (inner_of err.new)) }
+    // In a folder whose events are known: exactly the command's outcome where no call of the folder failed,
+    ensures calm { NoneFailed (F.failed folder.old) (F.failed folder.new)
+        → (old : List Event) → F.past folder.old old
+        → (i : Input) × Took (I.remaining (inner_of input.old)) (failures_of input.old) (failures_of input.new) i
+        × ((new : List Event) × F.past folder.new new
+        × ((output : Output) × RanCalmly (command_of command) i old new output
+        × Leaves O.contents E.contents out.old out.new err.old err.new output result)) }
+    // and else what the reads that it made give, also where the device failed while a file was replaced.
+    ensures ran { (old : List Event) → F.past folder.old old
+        → (i : Input) × Took (I.remaining (inner_of input.old)) (failures_of input.old) (failures_of input.new) i
+        × ((new : List Event) × F.past folder.new new
+        × ((output : Output) × Ran (command_of command) i old new output
+        × KeepsFiles (command_of command) i old new output
+        × Leaves O.contents E.contents out.old out.new err.old err.new output result)) }
+
+    // In any folder: what the reads that it made give, whatever they gave, and of which file a read failed.
+    ensures anywhere { (i : Input) × Took (I.remaining (inner_of input.old)) (failures_of input.old) (failures_of input.new) i
+        × ((output : Output) × RanAnywhere (F.failed folder.old) (F.failed folder.new) (command_of command) i output
+        × Leaves O.contents E.contents out.old out.new err.old err.new output result) }
     ensures zero { result ≡ 0 → (F.failed folder.new ≡ F.failed folder.old)
-        × (failures_of out.new ≡ failures_of out.old) }
-    ensures refusal { NoneFailed (failures_of out.old) (failures_of out.new) → result ≡ 1 → out.new ≡ out.old }
+        × (failures_of input.new ≡ failures_of input.old) × (failures_of out.new ≡ failures_of out.old) }
+    ensures lost_out { failures_of out.new ≢ failures_of out.old → (result ≡ 1) × (err.new ≡ err.old) }
     ensures status { result ≤ 1 }
-
-    // What stands where something failed.
-    ensures device { F.failed folder.new ≢ F.failed folder.old
-        → NoneFailed (failures_of out.old) (failures_of out.new)
-        → NoneFailed (failures_of err.old) (failures_of err.new)
-        → Ran (refused (codes "Device " ++ file_of command)) result
-        (O.contents (inner_of out.old)) (O.contents (inner_of out.new))
-        (E.contents (inner_of err.old)) (E.contents (inner_of err.new)) }
-    ensures broken_out { failures_of out.new ≢ failures_of out.old → (result ≡ 1) × (err.new ≡ err.old) }
-
-    // What stays the same.
-    ensures files { F.known folder.new ≡ F.known folder.old }
     ensures input { input.new ≡ input.old }
 {
     // No command reads the input so far.
     let _ = input;
     let answer = answered(alloc, &command, folder);
-    give(answer, out, err)
+    give(alloc, answer, folder, out, err)
 }

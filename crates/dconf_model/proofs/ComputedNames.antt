@@ -47,31 +47,31 @@ within t i ps zero lt h = absurd (omega arith)
 within t i [] (suc n) lt h = ap (λ b. cond b (name_by (name_within n t) t i (item t i).parent) None) (is_tested t i h.0) ∙ ap (λ (o : Option ℕ). name_by (name_within n t) t i o) h.1
 within t i (p ∷ ps) (suc n) lt h =
     ap (λ b. cond b (name_by (name_within n t) t i (item t i).parent) None) (is_tested t i h.0) ∙ ap (λ (o : Option ℕ). name_by (name_within n t) t i o) h.1
-    ∙ ap (λ b. cond b (option_map (λ front. front ++ key t i) (name_within n t p)) None) (long_key t i h.2)
-    ∙ ap (option_map (λ front. front ++ key t i)) (within t p ps n (omega arith) h.3)
+    ∙ ap (λ b. cond b (option_map (λ prefix. prefix ++ key t i) (name_within n t p)) None) (long_key t i h.2)
+    ∙ ap (option_map (λ prefix. prefix ++ key t i)) (within t p ps n (omega arith) h.3)
 
 pub name_of_named : (t : Table) (i : ℕ) (name : List ℕ) → HasName t i name → name_of t i ≡ Some name
 name_of_named t i name h = within t i h.parents (item_count t) (few_parents t i h.parents h.chain) h.chain ∙ ap (λ (x : List ℕ). Some x) h.spelled
 
-above_named : (t : Table) (i p : ℕ) (name : List ℕ) (o : Option (List ℕ)) → ((front : List ℕ) → o ≡ Some front → HasName t p front) → IsItem t i → (item t i).parent ≡ Some p → 0 < length (key t i) → option_map (λ front. front ++ key t i) o ≡ Some name → HasName t i name
+above_named : (t : Table) (i p : ℕ) (name : List ℕ) (o : Option (List ℕ)) → ((prefix : List ℕ) → o ≡ Some prefix → HasName t p prefix) → IsItem t i → (item t i).parent ≡ Some p → 0 < length (key t i) → option_map (λ prefix. prefix ++ key t i) o ≡ Some name → HasName t i name
 above_named t i p name None up here is long f = let bad : None ≡ Some name = f in cc
-above_named t i p name (Some front) up here is long f =
-    let h = up front refl in
-    let same : front ++ key t i ≡ name = let s : Some (front ++ key t i) ≡ Some name = f in cc in
+above_named t i p name (Some prefix) up here is long f =
+    let h = up prefix refl in
+    let same : prefix ++ key t i ≡ name = let s : Some (prefix ++ key t i) ≡ Some name = f in cc in
     record { parents = p ∷ h.parents; chain = (here, is, long, h.chain); spelled = ap (λ (l : List ℕ). l ++ key t i) h.spelled ∙ same }
 
-named_at : (t : Table) (i : ℕ) (name : List ℕ) (above : ℕ → Option (List ℕ)) (o : Option ℕ) → ((p : ℕ) (front : List ℕ) → above p ≡ Some front → HasName t p front) → (item t i).parent ≡ o → IsItem t i → name_by above t i o ≡ Some name → HasName t i name
+named_at : (t : Table) (i : ℕ) (name : List ℕ) (above : ℕ → Option (List ℕ)) (o : Option ℕ) → ((p : ℕ) (prefix : List ℕ) → above p ≡ Some prefix → HasName t p prefix) → (item t i).parent ≡ o → IsItem t i → name_by above t i o ≡ Some name → HasName t i name
 named_at t i name above None up is here f = record { parents = []; chain = (here, is); spelled = let s : Some (key t i) ≡ Some name = f in cc }
 named_at t i name above (Some p) up is here f =
     by_bool (nat_lt 0 (length (key t i))) (HasName t i name)
-    (λ long. above_named t i p name (above p) (up p) here is (ltb-true 0 (length (key t i)) long) (sym (ap (λ b. cond b (option_map (λ front. front ++ key t i) (above p)) None) long) ∙ f))
-    (λ short. let bad : None ≡ Some name = sym (ap (λ b. cond b (option_map (λ front. front ++ key t i) (above p)) None) short) ∙ f in cc)
+    (λ long. above_named t i p name (above p) (up p) here is (ltb-true 0 (length (key t i)) long) (sym (ap (λ b. cond b (option_map (λ prefix. prefix ++ key t i) (above p)) None) long) ∙ f))
+    (λ short. let bad : None ≡ Some name = sym (ap (λ b. cond b (option_map (λ prefix. prefix ++ key t i) (above p)) None) short) ∙ f in cc)
 
 named_within : (n : ℕ) (t : Table) (i : ℕ) (name : List ℕ) → name_within n t i ≡ Some name → HasName t i name
 named_within zero t i name e = let bad : None ≡ Some name = e in cc
 named_within (suc n) t i name e =
     by_bool (tested t i) (HasName t i name)
-    (λ pass. named_at t i name (name_within n t) (item t i).parent (λ p front f. named_within n t p front f) refl (was_tested t i pass) (sym (ap (λ b. cond b (name_by (name_within n t) t i (item t i).parent) None) pass) ∙ e))
+    (λ pass. named_at t i name (name_within n t) (item t i).parent (λ p prefix f. named_within n t p prefix f) refl (was_tested t i pass) (sym (ap (λ b. cond b (name_by (name_within n t) t i (item t i).parent) None) pass) ∙ e))
     (λ fail. let bad : None ≡ Some name = sym (ap (λ b. cond b (name_by (name_within n t) t i (item t i).parent) None) fail) ∙ e in cc)
 
 pub named_of_name : (t : Table) (i : ℕ) (name : List ℕ) → name_of t i ≡ Some name → HasName t i name

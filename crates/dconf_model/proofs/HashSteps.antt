@@ -31,5 +31,5 @@ hash_small name = small_from 5381 name (omega arith)
 pub none_is_gone : (name : List ℕ) → (hash_of name * 1 + 0) % 2 ^ 32 ≡ hash_of name
 none_is_gone name = let small = hash_small name in omega arith
 
-pub hash_of_last : (front : List ℕ) (b : ℕ) → hash_of (front ++ b ∷ []) ≡ hash_step (hash_of front) b
-hash_of_last front b = fold-append hash_step 5381 front (b ∷ [])
+pub hash_of_last : (prefix : List ℕ) (b : ℕ) → hash_of (prefix ++ b ∷ []) ≡ hash_step (hash_of prefix) b
+hash_of_last prefix b = fold-append hash_step 5381 prefix (b ∷ [])

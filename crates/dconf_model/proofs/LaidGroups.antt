@@ -3,7 +3,7 @@ use Rattle.std.proofs.Common.{◌≡◌, ◌<◌, ◌≤◌, ◌+◌, ℕ, arith
 use Rattle.std.proofs.lemmas.Bool.{cases_lt}
 use Rattle.dconf_model.specs.Entries.{AreFirsts}
 
--- no member stands before the first of the first group
+-- no member comes before the first of the first group
 pub first_is_zero : (count groups : ℕ) (group first : ℕ → ℕ) → AreFirsts count groups group first → 0 < groups → first 0 ≡ 0
 first_is_zero count groups group first f some =
     ⊎_elim (λ (l : 0 < first 0). let w = f.within 0 some in let below = (f.lesser 0 0 some (omega (arith, l, w))).0 l in absurd (omega (arith, below)))
@@ -21,7 +21,7 @@ firsts_rise count groups group first f g more =
     absurd (omega (arith, still)))
     (λ (le : first g ≤ first (g + 1)). le) (cases_lt (first (g + 1)) (first g))
 
--- a member stands at the first of its group or behind it
+-- a member occurs at the first of its group or after it
 pub not_before_first : (count groups : ℕ) (group first : ℕ → ℕ) → AreFirsts count groups group first → (i : ℕ) → i < count → group i < groups → first (group i) ≤ i
 not_before_first count groups group first f i here some =
     ⊎_elim (λ (l : i < first (group i)). let below = (f.lesser (group i) i some here).0 l in absurd (omega (arith, below)))
@@ -31,7 +31,7 @@ not_before_first count groups group first f i here some =
 pub before_next : (count groups : ℕ) (group first : ℕ → ℕ) → AreFirsts count groups group first → (i : ℕ) → i < count → group i + 1 < groups → i < first (group i + 1)
 before_next count groups group first f i here some = (f.lesser (group i + 1) i some here).1 (omega arith)
 
--- what stands from the first of a group up to that of the next is in the group
+-- what occurs from the first of a group up to that of the next is in the group
 pub group_is : (count groups : ℕ) (group first : ℕ → ℕ) → AreFirsts count groups group first → (g i : ℕ) → g + 1 < groups → first g ≤ i → i < first (g + 1) → (i < count) × (group i ≡ g)
 group_is count groups group first f g i some from to =
     let w = f.within (g + 1) some in

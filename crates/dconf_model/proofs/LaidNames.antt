@@ -1,5 +1,6 @@
 -- The items of a table in which entries are laid out have the entries' names.
 use Rattle.std.proofs.Common.{◌≡◌, ◌<◌, ◌+◌, ◌↔◌, ℕ, zero, suc, List, [], ◌∷◌, ◌++◌, length, Option, Some, None, refl, sym, ap, ◌∙◌, subst, arith, length-append}
+use Rattle.std.proofs.lemmas.Option.{same_Some}
 use Rattle.dconf_model.specs.Table.{Table, item_count, key}
 use Rattle.dconf_model.specs.Names.{HasName, IsItem}
 use Rattle.dconf_model.specs.Entries.{Entries, IsSpelled, AreEntries, IsLaidOut}
@@ -17,8 +18,8 @@ some_key t e i laid are here =
     subst (λ (k : List ℕ). 0 < length k) (sym (laid.items i here).key_is) (are.each i here).some
 
 -- a directory's name is shorter
-pub shorter : (name front back : List ℕ) → name ≡ front ++ back → 0 < length back → length front < length name
-shorter name front back e some = let n : length name ≡ length front + length back = ap length e ∙ length-append front back in omega (arith, n, some)
+pub shorter : (name prefix back : List ℕ) → name ≡ prefix ++ back → 0 < length back → length prefix < length name
+shorter name prefix back e some = let n : length name ≡ length prefix + length back = ap length e ∙ length-append prefix back in omega (arith, n, some)
 
 named_by : (t : Table) (e : Entries) (i : ℕ) → IsLaidOut t e → AreEntries e → i < e.count → (o : Option ℕ) → (e.entry i).parent ≡ o → IsSpelled e i o → ((p : ℕ) → p < e.count → length (e.entry p).name < length (e.entry i).name → HasName t p (e.entry p).name) → HasName t i (e.entry i).name
 named_by t e i laid are here None is spelled above =
@@ -43,11 +44,8 @@ named_within (suc n) t e i laid are here few =
 pub has_name : (t : Table) (e : Entries) (i : ℕ) → IsLaidOut t e → AreEntries e → i < e.count → HasName t i (e.entry i).name
 has_name t e i laid are here = named_within (length (e.entry i).name + 1) t e i laid are here (omega arith)
 
-some_is_one : (a b : List ℕ) → Some a ≡ Some b → a ≡ b
-some_is_one a b e = cc
-
 pub one_name : (t : Table) (i : ℕ) (a b : List ℕ) → HasName t i a → HasName t i b → a ≡ b
-one_name t i a b h k = some_is_one a b (sym (name_of_named t i a h) ∙ name_of_named t i b k)
+one_name t i a b h k = same_Some a b (sym (name_of_named t i a h) ∙ name_of_named t i b k)
 
 pub is_entry : (t : Table) (e : Entries) (i : ℕ) (name : List ℕ) → IsLaidOut t e → HasName t i name → i < e.count
 is_entry t e i name laid h = subst (λ (n : ℕ). i < n) laid.counted (counted t i name h)

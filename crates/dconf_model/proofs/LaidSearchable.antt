@@ -2,6 +2,7 @@
 use Rattle.std.proofs.Common.{◌≡◌, ◌<◌, ◌≤◌, ◌+◌, ◌%◌, Bool, true, false, cond, ◌&&◌, ℕ, List, Option, Some, None, refl, sym, ap, ◌∙◌, subst, arith, eqb, ltb-true, ne_eqb}
 use Rattle.std.specs.Prelude.{IfSome, nat_lt, nat_le, Contains, IsUtf8}
 use Rattle.std.proofs.Math.Nat.{mod-lt}
+use Rattle.std.proofs.lemmas.Bool.{and_parts}
 use Rattle.dconf_model.specs.Bytes.{hash_of}
 use Rattle.dconf_model.specs.Table.{Table, item, item_count, bucket, bucket_count}
 use Rattle.dconf_model.specs.Names.{HasName}
@@ -56,10 +57,6 @@ before_either : (b : Bool) (i a c : ℕ) → (b ≡ true → i < a) → i < c �
 before_either true i a c x y = x refl
 before_either false i a c x y = y
 
-next_is : (a b : Bool) → (a && b) ≡ true → a ≡ true
-next_is true b e = refl
-next_is false b e = let bad : false ≡ true = e in cc
-
 -- what is said of the first of a bucket, in the table's own words
 first_of : (t : Table) (e : Entries) (i : ℕ) → IsLaidOut t e → i < e.count → bucket t (hash_of (e.entry i).name % bucket_count t) ≤ i
 first_of t e i laid here =
@@ -81,7 +78,7 @@ in_span t e i laid here =
     record {
       first = subst (λ (n : ℕ). n ≤ i) (sym (start_at t h some)) (first_of t e i laid here);
       before = subst (λ (n : ℕ). i < n) (sym (end_at t h some))
-          (before_either _ i _ _ (λ both. next_of t e i laid here (ltb-true _ _ (next_is _ _ both))) last);
+          (before_either _ i _ _ (λ both. next_of t e i laid here (ltb-true _ _ (and_parts _ _ both).0)) last);
     }
 
 pub laid_in_span : (t : Table) (e : Entries) (i : ℕ) → IsLaidOut t e → i < e.count → InSpan t (item t i).hash i

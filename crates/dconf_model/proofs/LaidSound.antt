@@ -1,13 +1,14 @@
 -- A root table that is laid out is sound, and its rows are its entries.
 use Rattle.std.proofs.Common.{◌≡◌, ◌<◌, ◌≤◌, ◌+◌, ◌-◌, ◌⊎◌, ℕ, List, length, Option, Some, None, refl, sym, ap, ◌∙◌, subst, arith, inl, inr, ⊎_elim, codes}
 use Rattle.std.specs.Prelude.{Contains, IsTrue}
+use Rattle.std.proofs.lemmas.Option.{same_Some}
 use Rattle.dconf_model.specs.Paths.{starts_with_slash}
 use Rattle.dconf_model.specs.Table.{Table, item, key, value_kind, list_kind, table_kind, table_of}
 use Rattle.dconf_model.specs.Names.{HasName}
 use Rattle.dconf_model.specs.Searchable.{IsSearchable}
-use Rattle.dconf_model.specs.Sound.{IsDirectoryPart, StandsUnder, HasPlace, list_length, listed, IsChild, ListsChildren, IsLock, IsLockTable, IsSound}
+use Rattle.dconf_model.specs.Sound.{IsDirectoryPart, HasParent, HasPlace, list_length, listed, IsChild, ListsChildren, IsLock, IsLockTable, IsSound}
 use Rattle.dconf_model.specs.Sound.Rule.{buckets, keys, chain, hash, span, bloom, once, content, place, lists, locks}
-use Rattle.dconf_model.specs.Entries.{Entry, Entries, AreEntries, IsLaidOut, IsSpelled, IsTopEntry, IsPartEntry, EntryStandsUnder, IsChildEntry, IsRootEntry, Children, AreChildren, IsLaidList, IsLockEntry, AreLaidLocks, LaidIsSound, RowsAreEntries}
+use Rattle.dconf_model.specs.Entries.{Entry, Entries, AreEntries, IsLaidOut, IsSpelled, IsTopEntry, IsPartEntry, EntryHasParent, IsChildEntry, IsRootEntry, Children, AreChildren, IsLaidList, IsLockEntry, AreLaidLocks, LaidIsSound, RowsAreEntries}
 use Rattle.dconf_model.proofs.LaidGroups.{not_before_first, before_next, group_is}
 use Rattle.dconf_model.proofs.LaidNames.{has_name, name_is, is_entry}
 use Rattle.dconf_model.proofs.LaidSearchable.{laid_is_searchable, entry_at}
@@ -22,13 +23,13 @@ part_is : (x : Entry) (kind : ℕ) (key : List ℕ) → kind ≡ x.kind → key 
 part_is x kind key k e (inl l) = inl (k ∙ l.0, subst (λ (b : List ℕ). ¬ Contains b 47) (sym e) l.1)
 part_is x kind key k e (inr r) = inr (k ∙ r.0, subst (λ (b : List ℕ). IsDirectoryPart b) (sym e) r.1)
 
-stands_under : (t : Table) (e : Entries) (i : ℕ) → IsLaidOut t e → AreEntries e → i < e.count → (o : Option ℕ) → (e.entry i).parent ≡ o → EntryStandsUnder e i o → StandsUnder t i o
-stands_under t e i laid are here None is stands =
-    let x = laid.items i here in top_is (e.entry i) (item t i).kind (key t i) x.of_kind x.key_is stands
-stands_under t e i laid are here (Some p) is stands =
+entry_parent : (t : Table) (e : Entries) (i : ℕ) → IsLaidOut t e → AreEntries e → i < e.count → (o : Option ℕ) → (e.entry i).parent ≡ o → EntryHasParent e i o → HasParent t i o
+entry_parent t e i laid are here None is has_parent =
+    let x = laid.items i here in top_is (e.entry i) (item t i).kind (key t i) x.of_kind x.key_is has_parent
+entry_parent t e i laid are here (Some p) is has_parent =
     let x = laid.items i here in
     let there : p < e.count = parent_is_entry (are.each i here).spelled in
-    ((laid.items p there).of_kind ∙ stands.0, part_is (e.entry i) (item t i).kind (key t i) x.of_kind x.key_is stands.1)
+    ((laid.items p there).of_kind ∙ has_parent.0, part_is (e.entry i) (item t i).kind (key t i) x.of_kind x.key_is has_parent.1)
   where
     parent_is_entry : IsSpelled e i (e.entry i).parent → p < e.count
     parent_is_entry s = (subst (λ (o : Option ℕ). IsSpelled e i o) is s).0
@@ -37,7 +38,7 @@ has_place : (t : Table) (e : Entries) (i : ℕ) → IsLaidOut t e → AreEntries
 has_place t e i laid are here root =
     let x = laid.items i here in
     record {
-      stands = subst (λ (o : Option ℕ). StandsUnder t i o) (sym x.parent) (stands_under t e i laid are here (e.entry i).parent refl root.stands);
+      has_parent = subst (λ (o : Option ℕ). HasParent t i o) (sym x.parent) (entry_parent t e i laid are here (e.entry i).parent refl root.has_parent);
       short = λ name h. subst (λ (n : List ℕ). length n ≤ 65535) (sym (name_is t e i name laid are h)) root.short;
     }
 
@@ -49,9 +50,6 @@ is_child t e i j laid c = (let n = laid.counted in let l = c.0 in omega (arith, 
 is_child_entry : (t : Table) (e : Entries) (i j : ℕ) → IsLaidOut t e → IsChild t i j → IsChildEntry e i j
 is_child_entry t e i j laid c =
     let here = entry_at t e j laid c.0 in (here, sym (laid.items j here).parent ∙ c.1)
-
-same_some : (p q : ℕ) (o : Option ℕ) → o ≡ Some p → o ≡ Some q → p ≡ q
-same_some p q o e f = cc
 
 -- a number of the list is that of a child
 listed_child : (t : Table) (e : Entries) (c : Children) (i k : ℕ) → IsLaidOut t e → AreChildren e c → i < e.count → IsLaidList t c i → k < list_length t i → IsChild t i (listed t i k)
@@ -66,7 +64,7 @@ child_is_listed : (t : Table) (e : Entries) (c : Children) (i j : ℕ) → IsLai
 child_is_listed t e c i j laid are here list child =
     let at = are.each j i child in
     let m = at.0 in
-    let own : c.directory m ≡ i = same_some (c.directory m) i (e.entry j).parent (subst (λ (x : ℕ). (e.entry x).parent ≡ Some (c.directory m)) at.2 (are.children m at.1).1) child.1 in
+    let own : c.directory m ≡ i = same_Some (c.directory m) i (sym (subst (λ (x : ℕ). (e.entry x).parent ≡ Some (c.directory m)) at.2 (are.children m at.1).1) ∙ child.1) in
     let from = not_before_first c.count (e.count + 1) c.directory c.first are.firsts m at.1 (omega (arith, own, here)) in
     let to = before_next c.count (e.count + 1) c.directory c.first are.firsts m at.1 (omega (arith, own, here)) in
     let first : c.first i ≤ m = subst (λ (d : ℕ). c.first d ≤ m) own from in

@@ -15,23 +15,23 @@ own_reverse Greater e = cc
 pub same_ties : (x : ℕ) → nat_cmp x x ≡ Equal
 same_ties x = own_reverse (nat_cmp x x) (nat_cmp_total.antisymm x x)
 
--- a name stands before those that go on behind it
+-- a name precedes those that go on after it
 pub before_longer : (name : List ℕ) (c : ℕ) (more : List ℕ) → slice_cmp nat_cmp name (name ++ c ∷ more) ≡ Less
 before_longer [] c more = refl
 before_longer (x ∷ name) c more =
     ap (λ (o : Ordering). ordering_then o (slice_cmp nat_cmp name (name ++ c ∷ more))) (same_ties x) ∙ before_longer name c more
 
-front_step : (o a b : Ordering) → ordering_then o a ≡ Less → (o ≡ Equal → a ≡ Less → b ≡ Less) → ordering_then o b ≡ Less
-front_step Less a b less rest = refl
-front_step Equal a b less rest = rest refl less
-front_step Greater a b less rest = less
+prefix_step : (o a b : Ordering) → ordering_then o a ≡ Less → (o ≡ Equal → a ≡ Less → b ≡ Less) → ordering_then o b ≡ Less
+prefix_step Less a b less rest = refl
+prefix_step Equal a b less rest = rest refl less
+prefix_step Greater a b less rest = less
 
--- A name before a longer one that doesn't begin with the longer one's front stands before that front: `last` is the
--- path before, and `front` a directory of the path behind it in which `last` doesn't lie.
-pub before_front : (last front more : List ℕ) → slice_cmp nat_cmp last (front ++ more) ≡ Less → ((rest : List ℕ) → last ≢ front ++ rest) → slice_cmp nat_cmp last front ≡ Less
-before_front last [] more less other = absurd (other last refl)
-before_front [] (c ∷ front) more less other = refl
-before_front (x ∷ last) (c ∷ front) more less other =
-    front_step (nat_cmp x c) (slice_cmp nat_cmp last (front ++ more)) (slice_cmp nat_cmp last front) less
-    (λ e l. before_front last front more l
+-- A name before a longer one that doesn't begin with the longer one's prefix precedes that prefix: `last` is the
+-- path before, and `prefix` a directory of the path after it in which `last` doesn't lie.
+pub before_prefix : (last prefix more : List ℕ) → slice_cmp nat_cmp last (prefix ++ more) ≡ Less → ((rest : List ℕ) → last ≢ prefix ++ rest) → slice_cmp nat_cmp last prefix ≡ Less
+before_prefix last [] more less other = absurd (other last refl)
+before_prefix [] (c ∷ prefix) more less other = refl
+before_prefix (x ∷ last) (c ∷ prefix) more less other =
+    prefix_step (nat_cmp x c) (slice_cmp nat_cmp last (prefix ++ more)) (slice_cmp nat_cmp last prefix) less
+    (λ e l. before_prefix last prefix more l
     (λ rest is. other rest (ap (λ (y : ℕ). y ∷ last) (nat_cmp-IsAntisymmetric x c e) ∙ ap (λ (m : List ℕ). c ∷ m) is)))

@@ -5,17 +5,17 @@ use Rattle.std.proofs.lemmas.Bool.{cases_eq, cases_lt}
 use Rattle.std.proofs.lemmas.List.{get_or-append-add, get_or_append_left, get_or_default, get_or_at, drop_at, take_at}
 use Rattle.dconf_model.specs.Table.{value_kind, list_kind, table_kind}
 use Rattle.dconf_model.specs.Sound.{IsDirectoryPart}
-use Rattle.dconf_model.specs.Entries.{Entry, Entries, EachEntry, IsSpelled, AreEntries, IsTopEntry, IsPartEntry, EntryStandsUnder, IsRootEntry}
+use Rattle.dconf_model.specs.Entries.{Entry, Entries, EachEntry, IsSpelled, AreEntries, IsTopEntry, IsPartEntry, EntryHasParent, IsRootEntry}
 
 abbrev last : List ℕ → ℕ
 last name = get_or name (length name - 1) 0
 
--- the key of a name begins behind a slash, and has none but at its end; this, and whether it is the whole, says the kind
+-- the key of a name begins after a slash, and has none but at its end; this, and whether it is the whole, says the kind
 pub record IsCut (name key : List ℕ) (kind from : ℕ) : Type 0 where
   pub key_is : key ≡ drop from name
   pub inside : from < length name
   pub plain : (k : ℕ) → from ≤ k → k + 1 < length name → get_or name k 0 ≢ 47
-  pub behind : (k : ℕ) → k + 1 ≡ from → get_or name k 0 ≡ 47
+  pub after : (k : ℕ) → k + 1 ≡ from → get_or name k 0 ≡ 47
   pub list : last name ≡ 47 → kind ≡ list_kind
   pub table : last name ≢ 47 → from ≡ 0 → kind ≡ table_kind
   pub value : last name ≢ 47 → from ≢ 0 → kind ≡ value_kind
@@ -25,7 +25,7 @@ pub record IsCut (name key : List ℕ) (kind from : ℕ) : Type 0 where
 no_earlier : (name key other : List ℕ) (kind of a b : ℕ) → IsCut name key kind a → IsCut name other of b → a < b → ⊥
 no_earlier name key other kind of a b c d less =
     let inside = d.inside in
-    let slash : get_or name (b - 1) 0 ≡ 47 = d.behind (b - 1) (omega (arith, less)) in
+    let slash : get_or name (b - 1) 0 ≡ 47 = d.after (b - 1) (omega (arith, less)) in
     c.plain (b - 1) (omega (arith, less)) (omega (arith, less, inside)) slash
 
 pub one_cut : (name key other : List ℕ) (kind of a b : ℕ) → IsCut name key kind a → IsCut name other of b → a ≡ b
@@ -53,22 +53,22 @@ abbrev pub cut : Entries → Option ℕ → ℕ
 cut e None = 0
 cut e (Some p) = length (e.entry p).name
 
-at_end : (front : List ℕ) (c : ℕ) → last (front ++ c ∷ []) ≡ c
-at_end front c =
-    let n = length-append front (c ∷ []) in
-    let place : length (front ++ c ∷ []) - 1 ≡ length front = omega (arith, n) in
-    ap (λ (k : ℕ). get_or (front ++ c ∷ []) k 0) place ∙ get_or_at front c [] 0 (length front) refl
+at_end : (prefix : List ℕ) (c : ℕ) → last (prefix ++ c ∷ []) ≡ c
+at_end prefix c =
+    let n = length-append prefix (c ∷ []) in
+    let place : length (prefix ++ c ∷ []) - 1 ≡ length prefix = omega (arith, n) in
+    ap (λ (k : ℕ). get_or (prefix ++ c ∷ []) k 0) place ∙ get_or_at prefix c [] 0 (length prefix) refl
 
-end_of_part : (front key : List ℕ) → 0 < length key → last (front ++ key) ≡ last key
-end_of_part front key some =
-    let n = length-append front key in
-    let place : length (front ++ key) - 1 ≡ length front + (length key - 1) = omega (arith, n, some) in
-    ap (λ (k : ℕ). get_or (front ++ key) k 0) place ∙ get_or-append-add front key (length key - 1) 0
+end_of_part : (prefix key : List ℕ) → 0 < length key → last (prefix ++ key) ≡ last key
+end_of_part prefix key some =
+    let n = length-append prefix key in
+    let place : length (prefix ++ key) - 1 ≡ length prefix + (length key - 1) = omega (arith, n, some) in
+    ap (λ (k : ℕ). get_or (prefix ++ key) k 0) place ∙ get_or-append-add prefix key (length key - 1) 0
 
-in_part : (front key : List ℕ) (k : ℕ) → length front ≤ k → get_or (front ++ key) k 0 ≡ get_or key (k - length front) 0
-in_part front key k ge =
-    let place : k ≡ length front + (k - length front) = omega (arith, ge) in
-    ap (λ (j : ℕ). get_or (front ++ key) j 0) place ∙ get_or-append-add front key (k - length front) 0
+in_part : (prefix key : List ℕ) (k : ℕ) → length prefix ≤ k → get_or (prefix ++ key) k 0 ≡ get_or key (k - length prefix) 0
+in_part prefix key k ge =
+    let place : k ≡ length prefix + (k - length prefix) = omega (arith, ge) in
+    ap (λ (j : ℕ). get_or (prefix ++ key) j 0) place ∙ get_or-append-add prefix key (k - length prefix) 0
 
 none_at : (xs : List ℕ) → ¬ Contains xs 47 → (k : ℕ) → k < length xs → get_or xs k 0 ≢ 47
 none_at xs without k here is = without (k, here, get_or_default xs k 47 0 here ∙ is)
@@ -87,7 +87,7 @@ slash_cut kind is = record {
   key_is = refl;
   inside = omega arith;
   plain = λ k from more. absurd (omega (arith, more));
-  behind = λ k none. absurd (omega (arith, none));
+  after = λ k none. absurd (omega (arith, none));
   list = λ slash. is;
   table = λ plain. absurd (plain refl);
   value = λ plain. absurd (plain refl);
@@ -107,7 +107,7 @@ locks_cut kind is = record {
   key_is = refl;
   inside = omega arith;
   plain = λ k from more. no_slash_in_locks k (omega (arith, more));
-  behind = λ k none. absurd (omega (arith, none));
+  after = λ k none. absurd (omega (arith, none));
   list = λ slash. absurd (no_slash_in_locks 5 (omega arith) slash);
   table = λ plain whole. is;
   value = λ plain part. absurd (part refl);
@@ -117,45 +117,45 @@ top_cut : (x : Entry) → IsTopEntry x → IsCut x.key x.key x.kind 0
 top_cut x (inl a) = subst (λ (k : List ℕ). IsCut k k x.kind 0) (sym a.1) (slash_cut x.kind a.0)
 top_cut x (inr b) = subst (λ (k : List ℕ). IsCut k k x.kind 0) (sym b.1) (locks_cut x.kind b.0)
 
-module _ (front key : List ℕ) (some : 0 < length key) (directory : 0 < length front) (slash : last front ≡ 47) where
-  behind_front : (k : ℕ) → k + 1 ≡ length front → get_or (front ++ key) k 0 ≡ 47
-  behind_front k is =
-      let place : k ≡ length front - 1 = omega (arith, is) in
-      get_or_append_left front key 0 k (omega (arith, is)) ∙ (ap (λ (j : ℕ). get_or front j 0) place ∙ slash)
+module _ (prefix key : List ℕ) (some : 0 < length key) (directory : 0 < length prefix) (slash : last prefix ≡ 47) where
+  after_prefix : (k : ℕ) → k + 1 ≡ length prefix → get_or (prefix ++ key) k 0 ≡ 47
+  after_prefix k is =
+      let place : k ≡ length prefix - 1 = omega (arith, is) in
+      get_or_append_left prefix key 0 k (omega (arith, is)) ∙ (ap (λ (j : ℕ). get_or prefix j 0) place ∙ slash)
 
-  within : length front < length (front ++ key)
-  within = let n = length-append front key in omega (arith, n, some)
+  within : length prefix < length (prefix ++ key)
+  within = let n = length-append prefix key in omega (arith, n, some)
 
-  key_at : key ≡ drop (length front) (front ++ key)
-  key_at = sym (drop_at front key (length front) refl)
+  key_at : key ≡ drop (length prefix) (prefix ++ key)
+  key_at = sym (drop_at prefix key (length prefix) refl)
 
-  value_cut : (kind : ℕ) → kind ≡ value_kind → ¬ Contains key 47 → IsCut (front ++ key) key kind (length front)
+  value_cut : (kind : ℕ) → kind ≡ value_kind → ¬ Contains key 47 → IsCut (prefix ++ key) key kind (length prefix)
   value_cut kind is without = record {
     key_is = key_at;
     inside = within;
     plain = λ k from more at.
-        let n = length-append front key in
-        none_at key without (k - length front) (omega (arith, from, more, n)) (sym (in_part front key k from) ∙ at);
-    behind = behind_front;
-    list = λ ends. absurd (none_at key without (length key - 1) (omega (arith, some)) (sym (end_of_part front key some) ∙ ends));
+        let n = length-append prefix key in
+        none_at key without (k - length prefix) (omega (arith, from, more, n)) (sym (in_part prefix key k from) ∙ at);
+    after = after_prefix;
+    list = λ ends. absurd (none_at key without (length key - 1) (omega (arith, some)) (sym (end_of_part prefix key some) ∙ ends));
     table = λ plain whole. absurd (omega (arith, whole, directory));
     value = λ plain part. is;
   }
 
-  directory_cut : (kind : ℕ) → kind ≡ list_kind → IsDirectoryPart key → IsCut (front ++ key) key kind (length front)
+  directory_cut : (kind : ℕ) → kind ≡ list_kind → IsDirectoryPart key → IsCut (prefix ++ key) key kind (length prefix)
   directory_cut kind is part = record {
     key_is = key_at;
     inside = within;
     plain = λ k from more at.
-        let n = length-append front key in
-        plain_but_end key part (k - length front) (omega (arith, from, more, n)) (sym (in_part front key k from) ∙ at);
-    behind = behind_front;
+        let n = length-append prefix key in
+        plain_but_end key part (k - length prefix) (omega (arith, from, more, n)) (sym (in_part prefix key k from) ∙ at);
+    after = after_prefix;
     list = λ ends. is;
-    table = λ plain. absurd (plain (end_of_part front key some ∙ directory_part_ends key part));
-    value = λ plain. absurd (plain (end_of_part front key some ∙ directory_part_ends key part));
+    table = λ plain. absurd (plain (end_of_part prefix key some ∙ directory_part_ends key part));
+    value = λ plain. absurd (plain (end_of_part prefix key some ∙ directory_part_ends key part));
   }
 
-  part_cut : (x : Entry) → x.key ≡ key → IsPartEntry x → IsCut (front ++ key) key x.kind (length front)
+  part_cut : (x : Entry) → x.key ≡ key → IsPartEntry x → IsCut (prefix ++ key) key x.kind (length prefix)
   part_cut x is (inl a) = value_cut x.kind a.0 (subst (λ (k : List ℕ). ¬ Contains k 47) is a.1)
   part_cut x is (inr b) = directory_cut x.kind b.0 (subst (λ (k : List ℕ). IsDirectoryPart k) is b.1)
 
@@ -178,12 +178,12 @@ module _ (e : Entries) (are : AreEntries e) (root : EachEntry e (IsRootEntry e))
           omega (arith, some, n)
 
   ends_in_slash : (i : ℕ) → i < e.count → (e.entry i).kind ≡ list_kind → last (e.entry i).name ≡ 47
-  ends_in_slash i here list = by_parent (e.entry i).parent (are.each i here).spelled (root i here).stands
+  ends_in_slash i here list = by_parent (e.entry i).parent (are.each i here).spelled (root i here).has_parent
     where
-      by_parent : (o : Option ℕ) → IsSpelled e i o → EntryStandsUnder e i o → last (e.entry i).name ≡ 47
+      by_parent : (o : Option ℕ) → IsSpelled e i o → EntryHasParent e i o → last (e.entry i).name ≡ 47
       by_parent None is (inl a) = ap (λ (x : List ℕ). last x) (is ∙ a.1)
       by_parent None is (inr b) = absurd (two_kinds (e.entry i).kind list_kind table_kind list b.0 (λ bad. omega (arith, bad)))
-      by_parent (Some p) is stands = by_part stands.1
+      by_parent (Some p) is has_parent = by_part has_parent.1
         where
           by_part : IsPartEntry (e.entry i) → last (e.entry i).name ≡ 47
           by_part (inl a) = absurd (two_kinds (e.entry i).kind list_kind value_kind list a.0 (λ bad. omega (arith, bad)))
@@ -192,13 +192,13 @@ module _ (e : Entries) (are : AreEntries e) (root : EachEntry e (IsRootEntry e))
               ∙ (end_of_part (e.entry p).name (e.entry i).key (are.each i here).some ∙ directory_part_ends (e.entry i).key b.1)
 
   pub is_cut : (i : ℕ) → i < e.count → IsCut (e.entry i).name (e.entry i).key (e.entry i).kind (cut e (e.entry i).parent)
-  is_cut i here = by_parent (e.entry i).parent (are.each i here).spelled (root i here).stands
+  is_cut i here = by_parent (e.entry i).parent (are.each i here).spelled (root i here).has_parent
     where
-      by_parent : (o : Option ℕ) → IsSpelled e i o → EntryStandsUnder e i o → IsCut (e.entry i).name (e.entry i).key (e.entry i).kind (cut e o)
-      by_parent None is stands = subst (λ (x : List ℕ). IsCut x (e.entry i).key (e.entry i).kind 0) (sym is) (top_cut (e.entry i) stands)
-      by_parent (Some p) is stands =
+      by_parent : (o : Option ℕ) → IsSpelled e i o → EntryHasParent e i o → IsCut (e.entry i).name (e.entry i).key (e.entry i).kind (cut e o)
+      by_parent None is has_parent = subst (λ (x : List ℕ). IsCut x (e.entry i).key (e.entry i).kind 0) (sym is) (top_cut (e.entry i) has_parent)
+      by_parent (Some p) is has_parent =
           subst (λ (x : List ℕ). IsCut x (e.entry i).key (e.entry i).kind (length (e.entry p).name)) (sym is.1)
-          (part_cut (e.entry p).name (e.entry i).key (are.each i here).some (some_name p is.0) (ends_in_slash p is.0 stands.0) (e.entry i) refl stands.1)
+          (part_cut (e.entry p).name (e.entry i).key (are.each i here).some (some_name p is.0) (ends_in_slash p is.0 has_parent.0) (e.entry i) refl has_parent.1)
 
 -- ---- two tables with the same names
 
@@ -216,8 +216,8 @@ module _ (e f : Entries) (ea : AreEntries e) (fa : AreEntries f) (er : EachEntry
   other_cut : (i : ℕ) → i < e.count → IsCut (e.entry i).name (f.entry i).key (f.entry i).kind (cut f (f.entry i).parent)
   other_cut i here = subst (λ (x : List ℕ). IsCut x (f.entry i).key (f.entry i).kind (cut f (f.entry i).parent)) (sym (names i here)) (is_cut f fa fr i (there i here))
 
-  front_is : (g : Entries) (i p : ℕ) → (g.entry i).name ≡ (g.entry p).name ++ (g.entry i).key → take (length (g.entry p).name) (g.entry i).name ≡ (g.entry p).name
-  front_is g i p is = ap (λ (x : List ℕ). take (length (g.entry p).name) x) is ∙ take_at (g.entry p).name (g.entry i).key (length (g.entry p).name) refl
+  prefix_is : (g : Entries) (i p : ℕ) → (g.entry i).name ≡ (g.entry p).name ++ (g.entry i).key → take (length (g.entry p).name) (g.entry i).name ≡ (g.entry p).name
+  prefix_is g i p is = ap (λ (x : List ℕ). take (length (g.entry p).name) x) is ∙ take_at (g.entry p).name (g.entry i).key (length (g.entry p).name) refl
 
   same_parent : (i : ℕ) → i < e.count → (o q : Option ℕ) → IsSpelled e i o → IsSpelled f i q → cut e o ≡ cut f q → o ≡ q
   same_parent i here None None is also same = refl
@@ -225,8 +225,8 @@ module _ (e f : Entries) (ea : AreEntries e) (fa : AreEntries f) (er : EachEntry
   same_parent i here (Some a) None is also same = let some = some_name e ea er a is.0 in absurd (omega (arith, some, same))
   same_parent i here (Some a) (Some b) is also same =
       let directory : (e.entry a).name ≡ (f.entry b).name =
-      sym (front_is e i a is.1)
-      ∙ (ap (λ (k : ℕ). take k (e.entry i).name) same ∙ (ap (λ (x : List ℕ). take (length (f.entry b).name) x) (names i here) ∙ front_is f i b also.1)) in
+      sym (prefix_is e i a is.1)
+      ∙ (ap (λ (k : ℕ). take k (e.entry i).name) same ∙ (ap (λ (x : List ℕ). take (length (f.entry b).name) x) (names i here) ∙ prefix_is f i b also.1)) in
       ap (λ (p : ℕ). Some p) (fa.once a b (there a is.0) also.0 (sym (names a is.0) ∙ directory))
 
   pub are_same : AreSame e f

@@ -60,10 +60,10 @@ as_many P e f en fn eo fo = let a = no_more_names P e f en fn eo in let b = no_m
 -- ---- in the same order
 
 -- among so many
-abbrev Precedes : ℕ → List ℕ → List ℕ → Type 0
-Precedes n x y = (hash_of x % n < hash_of y % n) ⊎ ((hash_of x % n ≡ hash_of y % n) × (slice_cmp nat_cmp x y ≡ Less))
+abbrev ComesBefore : ℕ → List ℕ → List ℕ → Type 0
+ComesBefore n x y = (hash_of x % n < hash_of y % n) ⊎ ((hash_of x % n ≡ hash_of y % n) × (slice_cmp nat_cmp x y ≡ Less))
 
-not_both : (n : ℕ) (x y : List ℕ) → Precedes n x y → Precedes n y x → ⊥
+not_both : (n : ℕ) (x y : List ℕ) → ComesBefore n x y → ComesBefore n y x → ⊥
 not_both n x y (inl a) (inl b) = omega (arith, a, b)
 not_both n x y (inl a) (inr b) = let e = b.0 in omega (arith, a, e)
 not_both n x y (inr a) (inl b) = let e = a.0 in omega (arith, e, b)
@@ -71,16 +71,16 @@ not_both n x y (inr a) (inr b) =
     let bad : Less ≡ Greater = sym a.1 ∙ (nat_list_cmp_total.antisymm x y ∙ ap (λ (o : Ordering). ordering_reverse o) b.1) in
     cc
 
--- where the names before it are the same, a name of e is at its place in f or stands behind what is there
-at_or_behind : (P : List ℕ → Type 0) (e f : Entries) → AreNamed P e → AreNamed P f → Once e → e.count ≡ f.count → (i : ℕ) → i < e.count → ((j : ℕ) → j < i → (e.entry j).name ≡ (f.entry j).name) → ((e.entry i).name ≡ (f.entry i).name) ⊎ Precedes e.count (f.entry i).name (e.entry i).name
-at_or_behind P e f en fn once c i here earlier =
+-- where the names before it are the same, a name of e is at its place in f or comes after what is there
+at_or_after : (P : List ℕ → Type 0) (e f : Entries) → AreNamed P e → AreNamed P f → Once e → e.count ≡ f.count → (i : ℕ) → i < e.count → ((j : ℕ) → j < i → (e.entry j).name ≡ (f.entry j).name) → ((e.entry i).name ≡ (f.entry i).name) ⊎ ComesBefore e.count (f.entry i).name (e.entry i).name
+at_or_after P e f en fn once c i here earlier =
     let at = fn.all (e.entry i).name (en.each i here) in
     let within = at.1 in
     ⊎_elim
     (λ (l : at.0 < i). let k = once at.0 i (omega (arith, l, here)) here (earlier at.0 l ∙ at.2) in absurd (omega (arith, k, l)))
     (λ (ge : i ≤ at.0).
     ⊎_elim
-    (λ (l : i < at.0). inr (subst (λ (n : ℕ). Precedes n (f.entry i).name (e.entry i).name) (sym c) (subst (λ (x : List ℕ). Precedes f.count (f.entry i).name x) at.2 (fn.ordered i at.0 l within))))
+    (λ (l : i < at.0). inr (subst (λ (n : ℕ). ComesBefore n (f.entry i).name (e.entry i).name) (sym c) (subst (λ (x : List ℕ). ComesBefore f.count (f.entry i).name x) at.2 (fn.ordered i at.0 l within))))
     (λ (le : at.0 ≤ i). let same : at.0 ≡ i = omega (arith, le, ge) in inl (sym at.2 ∙ ap (λ (k : ℕ). (f.entry k).name) same))
     (cases_lt i at.0))
     (cases_lt at.0 i)
@@ -90,9 +90,9 @@ same_names P e f en fn eo fo c zero i less here = absurd (omega (arith, less))
 same_names P e f en fn eo fo c (suc bound) i less here =
     let earlier : (j : ℕ) → j < i → (e.entry j).name ≡ (f.entry j).name = λ j l. same_names P e f en fn eo fo c bound j (omega (arith, l, less)) (omega (arith, l, here)) in
     ⊎_elim (λ (same : (e.entry i).name ≡ (f.entry i).name). same)
-    (λ (a : Precedes e.count (f.entry i).name (e.entry i).name).
+    (λ (a : ComesBefore e.count (f.entry i).name (e.entry i).name).
     ⊎_elim (λ (same : (f.entry i).name ≡ (e.entry i).name). sym same)
-    (λ (b : Precedes f.count (e.entry i).name (f.entry i).name).
-    absurd (not_both e.count (f.entry i).name (e.entry i).name a (subst (λ (n : ℕ). Precedes n (e.entry i).name (f.entry i).name) (sym c) b)))
-    (at_or_behind P f e fn en fo (sym c) i (omega (arith, here, c)) (λ j l. sym (earlier j l))))
-    (at_or_behind P e f en fn eo c i here earlier)
+    (λ (b : ComesBefore f.count (e.entry i).name (f.entry i).name).
+    absurd (not_both e.count (f.entry i).name (e.entry i).name a (subst (λ (n : ℕ). ComesBefore n (e.entry i).name (f.entry i).name) (sym c) b)))
+    (at_or_after P f e fn en fo (sym c) i (omega (arith, here, c)) (λ j l. sym (earlier j l))))
+    (at_or_after P e f en fn eo c i here earlier)

@@ -2,13 +2,13 @@
 use Rattle.std.proofs.Common.{◌≡◌, ◌<◌, ◌≤◌, ◌+◌, ◌-◌, ◌*◌, ◌++◌, ℕ, zero, suc, Bool, cond, eqb, List, [], ◌∷◌, length, Option, Some, None, refl, sym, ap, ◌∙◌, subst, arith}
 use Rattle.std.specs.FinMap.{get}
 use Rattle.std.proofs.lemmas.Bool.{eqb-true}
+use Rattle.std.proofs.lemmas.Option.{same_Some}
 use Rattle.gv_model.specs.Layout.{round_up}
 use Rattle.dconf_model.specs.Table.{value_kind, list_kind}
 use Rattle.dconf_model.specs.Settings.{Settings}
 use Rattle.dconf_model.specs.Entries.{Entries, EachEntry, IsSpelled, Children, AreChildren}
 use Rattle.dconf_model.specs.Plans.{Plan, IsPlanOf, IsRootName, IsLockName, size_of_table, keys_end, lists_end, list_size, locks_end, item_values, all_values, nothing_bytes, once_each, values_end, root_end, length_of, OneLength}
 use Rattle.dconf_model.proofs.ParentLaws.{by_bool}
-use Rattle.dconf_model.proofs.NameSteps.{same_parent}
 use Rattle.dconf_model.proofs.OneOrder.{no_more_than_places, as_many, same_names}
 use Rattle.dconf_model.proofs.NameParts.{AreSame, are_same}
 
@@ -29,7 +29,7 @@ no_more_children e f c d same ec fd g le =
     let other = child_there e f same (c.directory k) (c.child k) child.0 child.1 in
     let at = fd.each (c.child k) (c.directory k) other in
     let parent : (f.entry (c.child k)).parent ≡ Some (d.directory at.0) = subst (λ (j : ℕ). (f.entry j).parent ≡ Some (d.directory at.0)) at.2 (fd.children at.0 at.1).1 in
-    let one : d.directory at.0 ≡ c.directory k = same_parent (d.directory at.0) (c.directory k) (f.entry (c.child k)).parent parent other.1 in
+    let one : d.directory at.0 ≡ c.directory k = same_Some (d.directory at.0) (c.directory k) (sym parent ∙ other.1) in
     (at.0, (fd.firsts.lesser g at.0 (omega (arith, le, counted)) at.1).1 (omega (arith, one, below)), at.2))
     (λ k m l lk lm a b.
     let w = ec.firsts.within g (omega (arith, le)) in
@@ -71,9 +71,6 @@ same_lists_end e f c d at (suc i) le same firsts =
     ∙ ap (λ (n : ℕ). cond (eqb (f.entry i).kind list_kind) (round_up 4 (lists_end f d at i) + n) (lists_end f d at i)) size)
 
 -- ---- the values are the same
-
-some_is : {X : Type 0} (a b : X) → Some a ≡ Some b → a ≡ b
-some_is a b e = cc
 
 item_value : (e f : Entries) (v w : ℕ → List ℕ) (i : ℕ) → (e.entry i).kind ≡ (f.entry i).kind → ((e.entry i).kind ≡ value_kind → v i ≡ w i) → cond (eqb (e.entry i).kind value_kind) (v i ∷ []) [] ≡ cond (eqb (f.entry i).kind value_kind) (w i ∷ []) []
 item_value e f v w i kind same =
@@ -123,7 +120,7 @@ module _ (s : Settings) (p q : Plan) (is : IsPlanOf s p) (also : IsPlanOf s q) w
   values : (j : ℕ) → j < p.root.count → (p.root.entry j).kind ≡ value_kind → p.value j ≡ q.value j
   values j here kind =
       let there : j < q.root.count = let c = counted in omega (arith, here, c) in
-      some_is (p.value j) (q.value j)
+      same_Some (p.value j) (q.value j)
       (sym (is.values j here kind) ∙ (ap (λ (n : List ℕ). get s.values n) (names j here) ∙ also.values j there (sym (same.kind j here) ∙ kind)))
 
   same_root_end : root_end p ≡ root_end q

@@ -1,20 +1,20 @@
--- A chain of parents: it is one chain, and none of its items stands in it twice.
+-- A chain of parents: it is one chain, and none of its items occurs in it twice.
 use Rattle.std.proofs.Common.{ℕ, ◌≤◌, ◌<◌, ◌≡◌, Bool, true, false, ◌||◌, List, [], ◌∷◌, length, Some, refl, sym, ◌∙◌, ap, subst, arith, eqb}
 use Rattle.std.specs.Prelude.{IfSome}
 use Rattle.std.specs.List.{IsDistinct, AllByRecursion, list_any}
 use Rattle.std.proofs.lemmas.Map.Steps.{length-le_from_distinct_below}
 use Rattle.std.proofs.lemmas.Bool.{eqb-true, false_from_ne_true}
+use Rattle.std.proofs.lemmas.Option.{none-some, same_Some}
 use Rattle.dconf_model.specs.Table.{Table, item, item_count}
 use Rattle.dconf_model.specs.Searchable.{EachItem, LeadsUp, HasGoodKey}
-use Rattle.dconf_model.proofs.NameSteps.{none_some, same_parent}
 
 -- an item's parents are these and no others
 one_chain : (t : Table) (i : ℕ) (ps qs : List ℕ) → LeadsUp t i ps → LeadsUp t i qs → ps ≡ qs
 one_chain t i [] [] h k = refl
-one_chain t i [] (q ∷ qs) h k = absurd (none_some q (item t i).parent h k.0)
-one_chain t i (p ∷ ps) [] h k = absurd (none_some p (item t i).parent k h.0)
+one_chain t i [] (q ∷ qs) h k = absurd (none-some q (sym h ∙ k.0))
+one_chain t i (p ∷ ps) [] h k = absurd (none-some p (sym k ∙ h.0))
 one_chain t i (p ∷ ps) (q ∷ qs) h k =
-    let same : q ≡ p = same_parent q p (item t i).parent k.0 h.0 in
+    let same : q ≡ p = same_Some q p (sym k.0 ∙ h.0) in
     let rest : ps ≡ qs = one_chain t p ps qs h.1 (subst (λ (x : ℕ). LeadsUp t x qs) same k.1) in
     cc
 

@@ -1,21 +1,21 @@
--- What stands below a directory of a sound table: a value somewhere below each, and above each value that starts with
+-- What is below a directory of a sound table: a value somewhere below each, and above each value that starts with
 -- the directory's name the directory's child by the first part of the rest.
 use Rattle.std.proofs.Common.{◌≡◌, ◌≢◌, ◌<◌, ◌≤◌, ◌+◌, ℕ, zero, suc, List, [], ◌∷◌, ◌++◌, length, Option, None, refl, sym, ap, ◌∙◌, subst, arith, inl, inr, ⊎_elim, append_assoc, append-nil, length-append, codes}
 use Rattle.std.proofs.lemmas.Bool.{cases_lt}
 use Rattle.dconf_model.specs.Table.{Table, item, key, bytes_of, value_kind, list_kind, table_kind}
 use Rattle.dconf_model.specs.Names.{HasName, HasParents, IsRow, joined}
-use Rattle.dconf_model.specs.Sound.{IsSound, IsPart, StandsUnder, IsChild, list_length, listed}
+use Rattle.dconf_model.specs.Sound.{IsSound, IsPart, HasParent, IsChild, list_length, listed}
 use Rattle.dconf_model.specs.Sound.Rule.{chain, place, lists}
 use Rattle.dconf_model.specs.SoundLaws.{first_part, IsPartBelow}
 use Rattle.dconf_model.proofs.NameSteps.{parents_item}
 use Rattle.dconf_model.proofs.RowLaws.{counted, one_item}
-use Rattle.dconf_model.proofs.LaidNames.{one_name}
+use Rattle.dconf_model.proofs.LaidNames.{one_name, shorter}
 use Rattle.dconf_model.proofs.SoundLaws.{sound_is_searchable}
-use Rattle.dconf_model.proofs.FirstParts.{cuts, EndsInSlash, rest_ends, some_of_end, no_slash, last_slash, plain_first, directory_first, first_of_front}
-use Rattle.dconf_model.proofs.FirstParts.Cuts.{there, behind, before}
-use Rattle.dconf_model.proofs.DirectoryNames.{row_of, list_is_no_table, list_is_no_value, directory_ends, stands_below, child_name}
+use Rattle.dconf_model.proofs.FirstParts.{cuts, EndsInSlash, rest_ends, some_of_end, no_slash, last_slash, plain_first, directory_first, first_of_prefix}
+use Rattle.dconf_model.proofs.FirstParts.Cuts.{there, after, before}
+use Rattle.dconf_model.proofs.DirectoryNames.{row_of, list_is_no_table, list_is_no_value, directory_ends, part_below, child_name}
 
--- ---- below each directory with a longer name than `/` stands a value
+-- ---- below each directory with a longer name than `/` is a value
 
 abbrev pub HasValueBelow : Table → List ℕ → Type 0
 HasValueBelow t name = (v : ℕ) × (more : List ℕ) × HasName t v (name ++ more) × ((item t v).kind ≡ value_kind)
@@ -34,20 +34,17 @@ some_child t j name sound h list long =
     absurd (omega (arith, same, long)))
     (cases_lt 0 (list_length t j))
 
-longer : (name part : List ℕ) → 0 < length part → length name < length (name ++ part)
-longer name part some = let n = length-append name part in omega (arith, n, some)
-
 value_within : (n : ℕ) (t : Table) (j : ℕ) (name : List ℕ) → IsSound t → HasName t j name → (item t j).kind ≡ list_kind → 1 < length name → 65535 < length name + n → HasValueBelow t name
 value_within zero t j name sound h list long few =
     let short = (sound place j (counted t j name h)).short name h in absurd (omega (arith, short, few))
 value_within (suc n) t j name sound h list long few =
     let c = some_child t j name sound h list long in
     let k = child_name t j c.0 name sound h c.1 in
-    let l = longer name (key t c.0) (sound chain c.0 c.1.0).key in
+    let l = shorter (name ++ key t c.0) name (key t c.0) refl (sound chain c.0 c.1.0).key in
     ⊎_elim (λ a. (c.0, key t c.0, k, a.0))
     (λ b. further_below t name (key t c.0)
     (value_within n t c.0 (name ++ key t c.0) sound k b.0 (omega (arith, l, long)) (omega (arith, l, few))))
-    (stands_below t j c.0 sound c.1).1
+    (part_below t j c.0 sound c.1).1
 
 pub value_below : (t : Table) (j : ℕ) (name : List ℕ) → IsSound t → HasName t j name → (item t j).kind ≡ list_kind → 1 < length name → HasValueBelow t name
 value_below t j name sound h list long = value_within 65535 t j name sound h list long (omega (arith, long))
@@ -55,12 +52,12 @@ value_below t j name sound h list long = value_within 65535 t j name sound h lis
 -- so the key of each child is a first part
 pub child_is_part : (t : Table) (directory : List ℕ) (i j : ℕ) → IsSound t → HasName t i directory → IsChild t i j → IsPartBelow t directory (key t j)
 child_is_part t directory i j sound h child =
-    let below = stands_below t i j sound child in
+    let below = part_below t i j sound child in
     let name = child_name t i j directory sound h child in
     ⊎_elim (λ a. (key t j, bytes_of t j, (j, row_of t j (directory ++ key t j) value_kind sound name a.0, refl), sym (plain_first (key t j) a.1)))
     (λ b.
     let some = some_of_end directory (directory_ends t i directory sound h below.0) in
-    let l = longer directory (key t j) (sound chain j child.0).key in
+    let l = shorter (directory ++ key t j) directory (key t j) refl (sound chain j child.0).key in
     let v = value_below t j (directory ++ key t j) sound name b.0 (omega (arith, some, l)) in
     let rest = key t j ++ v.1 in
     let whole : HasName t v.0 (directory ++ rest) = subst (HasName t v.0) (append_assoc directory (key t j) v.1) v.2 in
@@ -77,16 +74,16 @@ first_of_part : (t : Table) (j : ℕ) → IsPart t j → first_part (key t j) �
 first_of_part t j (inl a) = plain_first (key t j) a.1
 first_of_part t j (inr b) = ap first_part (sym (append-nil (key t j))) ∙ directory_first (key t j) [] b.1
 
--- it doesn't go on behind a slash
-no_more : (t : Table) (j : ℕ) (front rest : List ℕ) → IsPart t j → EndsInSlash front → key t j ≡ front ++ rest → 0 < length rest → ⊥
-no_more t j front rest part ends e some =
+-- it doesn't go on after a slash
+no_more : (t : Table) (j : ℕ) (prefix rest : List ℕ) → IsPart t j → EndsInSlash prefix → key t j ≡ prefix ++ rest → 0 < length rest → ⊥
+no_more t j prefix rest part ends e some =
     let whole : key t j ≡ ends.0 ++ 47 ∷ rest =
     e ∙ (ap (λ (l : List ℕ). l ++ rest) ends.1 ∙ append_assoc ends.0 (47 ∷ []) rest) in
     ⊎_elim (λ a. no_slash (key t j) ends.0 rest a.1 whole)
     (λ b. let none = last_slash (key t j) ends.0 rest b.1 whole in omega (arith, none, some)) part
 
 -- a top item's name is no longer than a directory's
-no_top : (t : Table) (j : ℕ) (directory rest : List ℕ) → StandsUnder t j None → (item t j).kind ≢ table_kind → EndsInSlash directory → 0 < length rest → key t j ≡ directory ++ rest → ⊥
+no_top : (t : Table) (j : ℕ) (directory rest : List ℕ) → HasParent t j None → (item t j).kind ≢ table_kind → EndsInSlash directory → 0 < length rest → key t j ≡ directory ++ rest → ⊥
 no_top t j directory rest (inl a) other ends some e =
     let n : 1 ≡ length directory + length rest = ap length (sym a.1 ∙ e) ∙ length-append directory rest in
     let m = some_of_end directory ends in
@@ -101,19 +98,19 @@ record IsDirectory (t : Table) (i : ℕ) (directory : List ℕ) : Type 0 where
 
 child_above : (ps : List ℕ) (t : Table) (i : ℕ) (directory : List ℕ) → IsDirectory t i directory → (j : ℕ) (rest : List ℕ) → HasParents t j ps → joined t j ps ≡ directory ++ rest → (item t j).kind ≢ table_kind → 0 < length rest → HasChildBy t i (first_part rest)
 child_above [] t i directory d j rest h e other some =
-    absurd (no_top t j directory rest (subst (λ (o : Option ℕ). StandsUnder t j o) h.1 (d.sound place j (parents_item t j [] h).counted).stands) other d.ends some e)
+    absurd (no_top t j directory rest (subst (λ (o : Option ℕ). HasParent t j o) h.1 (d.sound place j (parents_item t j [] h).counted).has_parent) other d.ends some e)
 child_above (p ∷ ps) t i directory d j rest h e other some =
     let child : IsChild t p j = (h.0.counted, h.1) in
-    let below = stands_below t p j d.sound child in
+    let below = part_below t p j d.sound child in
     let name : HasName t p (joined t p ps) = record { parents = ps; chain = h.3; spelled = refl } in
     elim (cuts (joined t p ps) (key t j) directory rest e) [
       | there a b ↦
           let same : p ≡ i = one_item t directory p i (sound_is_searchable t d.sound) (subst (HasName t p) a name) d.named in
           (j, subst (λ (x : ℕ). IsChild t x j) same child, sym (first_of_part t j below.1) ∙ ap first_part b)
-      | behind c m a b ↦
+      | after c m a b ↦
           let ends = rest_ends (joined t p ps) directory c m (directory_ends t p (joined t p ps) d.sound name below.0) a in
           let above = child_above ps t i directory d p (c ∷ m) h.3 a (λ table. list_is_no_table (sym below.0 ∙ table)) (omega arith) in
-          (above.0, above.1, above.2 ∙ (sym (first_of_front (c ∷ m) (key t j) ends) ∙ ap first_part (sym b)))
+          (above.0, above.1, above.2 ∙ (sym (first_of_prefix (c ∷ m) (key t j) ends) ∙ ap first_part (sym b)))
       | before c m a b ↦ absurd (no_more t j (c ∷ m) rest below.1 (rest_ends directory (joined t p ps) c m d.ends a) b some)
     ]
 

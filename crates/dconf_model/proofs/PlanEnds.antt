@@ -22,7 +22,7 @@ pub keys_rise : (e : Entries) (at n : ℕ) → at ≤ keys_end e at n
 keys_rise e at zero = omega arith
 keys_rise e at (suc n) = let le = keys_rise e at n in omega (arith, le)
 
--- behind more items they end later
+-- after more items they end later
 pub keys_grow : (e : Entries) (at n m : ℕ) → n ≤ m → keys_end e at n ≤ keys_end e at m
 keys_grow e at n zero le = subst (λ (k : ℕ). keys_end e at k ≤ at) (let none : 0 ≡ n = omega (arith, le) in none) (omega arith)
 keys_grow e at n (suc m) le =
@@ -54,7 +54,7 @@ pub lists_rise : (e : Entries) (c : Children) (at n : ℕ) → at ≤ lists_end 
 lists_rise e c at zero = omega arith
 lists_rise e c at (suc n) = let le = lists_rise e c at n in let more = one_list_more e c at n in omega (arith, le, more)
 
--- behind a list, they end at the next multiple of 4 or later
+-- after a list, they end at the next multiple of 4 or later
 aligned_end : (e : Entries) (c : Children) (at j n : ℕ) → (e.entry j).kind ≡ list_kind → j < n → round_up 4 at ≤ lists_end e c at n
 aligned_end e c at j zero list l = absurd (omega (arith, l))
 aligned_end e c at j (suc n) list l =
@@ -70,7 +70,7 @@ aligned_end e c at j (suc n) list l =
 directory_within : (e : Entries) (i p : ℕ) (o : Option ℕ) → IsSpelled e i o → o ≡ Some p → p < e.count
 directory_within e i p o s is = (subst (λ (x : Option ℕ). IsSpelled e i x) is s).0
 
--- behind the last list stand all children
+-- after the last list are all children
 pub all_children : (e : Entries) (c : Children) → AreEntries e → AreChildren e c → c.first e.count ≡ c.count
 all_children e c entries are =
     first_is_all c.count (e.count + 1) c.directory c.first are.firsts e.count (omega arith)

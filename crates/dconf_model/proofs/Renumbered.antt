@@ -3,7 +3,7 @@ use Rattle.std.proofs.Common.{◌≡◌, ◌<◌, ◌≤◌, ℕ, List, ◌++◌
 use Rattle.std.specs.Prelude.{option_map, Contains, IsUtf8}
 use Rattle.dconf_model.specs.Searchable.{IsKind}
 use Rattle.dconf_model.specs.Sound.{IsDirectoryPart}
-use Rattle.dconf_model.specs.Entries.{Entry, Entries, EachEntry, IsSpelled, IsEntry, AreEntries, EntryStandsUnder, IsTopEntry, IsPartEntry, IsChildEntry, IsRootEntry}
+use Rattle.dconf_model.specs.Entries.{Entry, Entries, EachEntry, IsSpelled, IsEntry, AreEntries, EntryHasParent, IsTopEntry, IsPartEntry, IsChildEntry, IsRootEntry}
 use Rattle.dconf_model.specs.Renumbered.{renumbered, AreRenumbered}
 
 here : (e f : Entries) (order number : ℕ → ℕ) (i : ℕ) → AreRenumbered e f order number → i < f.count → i < e.count
@@ -66,14 +66,14 @@ entries_renumbered e f order number r are = record {
 
 -- ---- the entries of a root table
 
-stands_at : (e f : Entries) (order number : ℕ → ℕ) (i : ℕ) → AreRenumbered e f order number → i < e.count → (o : Option ℕ) → IsSpelled e (order i) o → EntryStandsUnder e (order i) o → EntryStandsUnder f i (option_map number o)
-stands_at e f order number i r l None spelled stands = top_at stands
+parent_at : (e f : Entries) (order number : ℕ → ℕ) (i : ℕ) → AreRenumbered e f order number → i < e.count → (o : Option ℕ) → IsSpelled e (order i) o → EntryHasParent e (order i) o → EntryHasParent f i (option_map number o)
+parent_at e f order number i r l None spelled has_parent = top_at has_parent
   where
     top_at : IsTopEntry (e.entry (order i)) → IsTopEntry (f.entry i)
     top_at (inl a) = inl (kind_is e f order number i r l ∙ a.0, key_is e f order number i r l ∙ a.1)
     top_at (inr b) = inr (kind_is e f order number i r l ∙ b.0, key_is e f order number i r l ∙ b.1)
-stands_at e f order number i r l (Some p) spelled stands =
-    (kind_at e f order number p r spelled.0 ∙ stands.0, part_at stands.1)
+parent_at e f order number i r l (Some p) spelled has_parent =
+    (kind_at e f order number p r spelled.0 ∙ has_parent.0, part_at has_parent.1)
   where
     part_at : IsPartEntry (e.entry (order i)) → IsPartEntry (f.entry i)
     part_at (inl a) = inl (kind_is e f order number i r l ∙ a.0, subst (λ (k : List ℕ). ¬ Contains k 47) (sym (key_is e f order number i r l)) a.1)
@@ -94,8 +94,8 @@ root_renumbered e f order number r are root i l =
     let m = here e f order number i r l in
     let y = root (order i) (r.ordered i m) in
     record {
-      stands = subst (λ (o : Option ℕ). EntryStandsUnder f i o) (sym (parent_is e f order number i r m))
-          (stands_at e f order number i r m (e.entry (order i)).parent (are.each (order i) (r.ordered i m)).spelled y.stands);
+      has_parent = subst (λ (o : Option ℕ). EntryHasParent f i o) (sym (parent_is e f order number i r m))
+          (parent_at e f order number i r m (e.entry (order i)).parent (are.each (order i) (r.ordered i m)).spelled y.has_parent);
       short = subst (λ (n : List ℕ). length n ≤ 65535) (sym (name_is e f order number i r m)) y.short;
       child = λ kind. ⊎_elim
           (λ (is : (e.entry (order i)).name ≡ codes "/"). inl (name_is e f order number i r m ∙ is))

@@ -6,7 +6,7 @@ use Rattle.dconf_model.specs.Table.{Table, item_count}
 use Rattle.dconf_model.specs.Names.{HasParents}
 use Rattle.dconf_model.specs.Searchable.{EachItem, LeadsUp, HasEnd, HasGoodKey}
 use Rattle.dconf_model.proofs.ParentLaws.{parent_counted}
-use Rattle.dconf_model.specs.Sound.{Rule, number_of, Keeps, KeepsAll, IsLeastFault, FailsAt, SoundIsSearchable, SoundHasNoFault, HasOneFirstFault}
+use Rattle.dconf_model.specs.Sound.{Rule, rule_number, Keeps, KeepsAll, IsLeastFault, FailsAt, SoundIsSearchable, SoundHasNoFault, HasOneFirstFault}
 use Rattle.dconf_model.specs.Sound.Rule.{buckets, keys, chain, hash, span, bloom, once, content, place, lists, locks}
 
 -- ---- sound tables
@@ -62,7 +62,7 @@ rule_of n =
     if n == 5 then span else if n == 6 then bloom else if n == 7 then once else if n == 8 then content else
     if n == 9 then place else if n == 10 then lists else locks
 
-rule_of_number : (rule : Rule) → rule_of (number_of rule) ≡ rule
+rule_of_number : (rule : Rule) → rule_of (rule_number rule) ≡ rule
 unfolding rule_of
 rule_of_number buckets = refl
 rule_of_number keys = refl
@@ -76,7 +76,7 @@ rule_of_number place = refl
 rule_of_number lists = refl
 rule_of_number locks = refl
 
-pub same_rule : (r s : Rule) → number_of r ≡ number_of s → r ≡ s
+pub same_rule : (r s : Rule) → rule_number r ≡ rule_number s → r ≡ s
 same_rule r s e = sym (rule_of_number r) ∙ (ap rule_of e ∙ rule_of_number s)
 
 same_item : (t : Table) (rule : Rule) (i j : ℕ) → IsLeastFault t rule i → IsLeastFault t rule j → i ≡ j
@@ -84,7 +84,7 @@ same_item t rule i j one other = elim (cases_order i j) [
   | inl e ↦ e
   | inr rest ↦ elim rest [
     | inl before ↦ absurd (one.fails (other.earlier i before))
-    | inr behind ↦ absurd (other.fails (one.earlier j behind))
+    | inr after ↦ absurd (other.fails (one.earlier j after))
   ]
 ]
 
@@ -95,10 +95,10 @@ same_place t rule (Some i) None one other = absurd (one.0 other.0)
 same_place t rule (Some i) (Some j) one other = ap Some (same_item t rule i j one.1 other.1)
 
 pub one_first_fault : HasOneFirstFault
-one_first_fault t r s at to one other = elim (cases_order (number_of r) (number_of s)) [
+one_first_fault t r s at to one other = elim (cases_order (rule_number r) (rule_number s)) [
   | inl e ↦ let same = same_rule r s e in (same, same_place t s at to (subst (λ x. FailsAt t x at) same one.fails) other.fails)
   | inr rest ↦ elim rest [
     | inl before ↦ absurd (failing_is_not_kept t r at one.fails (other.earlier r before))
-    | inr behind ↦ absurd (failing_is_not_kept t s to other.fails (one.earlier s behind))
+    | inr after ↦ absurd (failing_is_not_kept t s to other.fails (one.earlier s after))
   ]
 ]

@@ -1,5 +1,6 @@
 -- A search of a sound table, and of its table of locks, finds just the rows.
 use Rattle.std.proofs.Common.{◌≡◌, ◌<◌, ◌↔◌, ℕ, List, [], Some, None, refl, sym, ◌∙◌, subst, codes}
+use Rattle.std.proofs.lemmas.Option.{none-some}
 use Rattle.dconf_model.specs.Table.{Table, item_count, key, table_of, value_kind, table_kind}
 use Rattle.dconf_model.specs.Names.{HasName, IsRow}
 use Rattle.dconf_model.specs.Searchable.{IsSearchable}
@@ -14,14 +15,11 @@ use Rattle.dconf_model.proofs.DirectoryNames.{locks_are_a_table, row_of}
 
 -- ---- searches
 
-not_both : (i : ℕ) → None ≡ Some i → ⊥
-not_both i e = cc
-
 pub finds_rows : (t : Table) → IsSearchable t → FindsRows t
 finds_rows t s = record {
   found = λ name kind i. rows_are_found t name kind i s;
   missed = λ name kind. (
-    λ none i row. not_both i (one_found t name kind None (Some i) none ((rows_are_found t name kind i s).1 row)),
+    λ none i row. none-some i (one_found t name kind None (Some i) none ((rows_are_found t name kind i s).1 row)),
     λ none i least bytes. none i ((rows_are_found t name kind i s).0 (least, bytes)),
   );
 }

@@ -1,15 +1,17 @@
 -- The empty database has a plan, and so a length: 68 bytes.
-use Rattle.std.proofs.Common.{◌≡◌, ◌<◌, ℕ, zero, suc, List, [], get_or, true, false, Option, Some, None, codes, refl, sym, ap, ◌∙◌, inl, inr, arith}
-use Rattle.std.specs.Prelude.{IsTrue, is_some, slice_index}
+use Rattle.std.proofs.Common.{◌≡◌, ◌<◌, ℕ, List, [], true, false, Option, Some, None, codes, refl, sym, ap, ◌∙◌, inl, inr, arith}
+use Rattle.std.specs.Prelude.{IsTrue, is_some}
 use Rattle.std.specs.FinMap.{get, contains_key, empty, get-empty}
 use Rattle.std.specs.Cmp.Lexicographic.{slice_cmp}
 use Rattle.std.specs.Ordering.{nat_cmp}
 use Rattle.std.proofs.lemmas.Str.{IsUtf8-from_ascii}
+use Rattle.std.proofs.lemmas.Option.{none-some}
 use Rattle.gv_model.specs.Layout.{round_up}
 use Rattle.dconf_model.specs.Settings.{Lock, no_settings}
 use Rattle.dconf_model.specs.Entries.{Entry, Entries, Children, IsEntry}
 use Rattle.dconf_model.specs.Plans.{Plan, IsPlanOf, IsRootName, HasLength}
 use Rattle.dconf_model.specs.Plans.IsRootName.{top, key, directory, locks}
+use Rattle.dconf_model.proofs.PathLaws.{slash_is_ascii, slash_no_zero}
 
 abbrev slash : Entry
 slash = record { name = codes "/"; key = codes "/"; parent = None; kind = 76 }
@@ -32,14 +34,6 @@ nothing_at X path h = let bad : false ≡ true = sym (ap (λ (o : Option X). is_
 no_bytes : (path bytes : List ℕ) → get no_settings.values path ≡ Some bytes → ⊥
 no_bytes path bytes h = let bad : None ≡ Some bytes = sym (get-empty (slice_cmp nat_cmp) path) ∙ h in cc
 
-ascii : (i : ℕ) → slice_index (codes "/") i < 128
-ascii zero = omega arith
-ascii (suc i) = omega arith
-
-no_zero : (k : ℕ) → k < 1 → get_or (codes "/") k 0 ≡ 0 → ⊥
-no_zero zero inside at = omega (arith, at)
-no_zero (suc k) inside at = omega (arith, inside)
-
 root_name : (name : List ℕ) → IsRootName no_settings name → (i : ℕ) × (i < 1) × (codes "/" ≡ name)
 root_name name (top e) = (0, omega arith, sym e)
 root_name name (key k) = absurd (nothing_at (List ℕ) name k)
@@ -50,8 +44,8 @@ is_entry : IsEntry one_entry 0
 is_entry = record {
   spelled = refl;
   some = omega arith;
-  utf8 = IsUtf8-from_ascii (codes "/") ascii;
-  no_nul = λ h. no_zero h.0 h.1 h.2;
+  utf8 = IsUtf8-from_ascii (codes "/") slash_is_ascii;
+  no_nul = λ h. slash_no_zero h.0 h.1 h.2;
   of_kind = inr (inl refl);
 }
 
@@ -63,11 +57,11 @@ is_plan = record {
     ordered = λ i j l m. absurd (omega (arith, l, m));
   };
   entries = record { each = λ i l. record { spelled = refl; some = omega arith; utf8 = is_entry.utf8; no_nul = is_entry.no_nul; of_kind = is_entry.of_kind }; once = λ i j l m e. omega (arith, l, m) };
-  places = λ i l. record { stands = inl (refl, refl); short = omega arith; child = λ k. inl refl };
+  places = λ i l. record { has_parent = inl (refl, refl); short = omega arith; child = λ k. inl refl };
   children = record {
     firsts = record { within = λ g l. omega arith; lesser = λ g i l m. absurd (omega (arith, m)) };
     children = λ k l. absurd (omega (arith, l));
-    each = λ j p child. let bad : None ≡ Some p = child.1 in absurd (none_some p bad);
+    each = λ j p child. let bad : None ≡ Some p = child.1 in absurd (none-some p bad);
     once = λ k m l n e. absurd (omega (arith, l));
   };
   values = λ i l k. absurd (omega (arith, k));
@@ -80,9 +74,6 @@ is_plan = record {
   lock_entries = record { each = λ i l. absurd (omega (arith, l)); once = λ i j l m e. absurd (omega (arith, l)) };
   locks = λ i l. absurd (omega (arith, l));
 }
-  where
-    none_some : (p : ℕ) → None ≡ Some p → ⊥
-    none_some p e = cc
 
 has_length : HasLength no_settings 68
 unfolding round_up

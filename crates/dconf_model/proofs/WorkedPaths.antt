@@ -1,11 +1,11 @@
 -- Worked paths and their faults.
 use Rattle.std.proofs.Common.{◌≡◌, ℕ, [], ◌∷◌, true, refl}
 use Rattle.std.specs.Prelude.{codes, Some, ◌++◌}
-use Rattle.dconf_model.specs.Paths.{has_two_slashes, first_fault, is_key_path, is_directory_path, key_fault, directory_fault}
+use Rattle.dconf_model.specs.Paths.{has_two_slashes, first_path_fault, is_key_path, is_directory_path, key_fault, directory_fault}
 use Rattle.dconf_model.specs.Paths.PathFault.{not_absolute, has_nul, double_slash, ends_in_slash, no_end_slash}
 
 unfoldable computing : ℕ
-unfolding has_two_slashes first_fault
+unfolding has_two_slashes first_path_fault
 computing = 0
 
 a_key : is_key_path (codes "/a/k") ≡ true
@@ -44,10 +44,10 @@ directory_without_end : directory_fault (codes "/a") ≡ Some no_end_slash
 unfolding computing
 directory_without_end = refl
 
--- a zero byte is named before two slashes, wherever it stands
-zero_behind_slashes : key_fault (codes "//a" ++ 0 ∷ []) ≡ Some has_nul
+-- a zero byte is named before two slashes, wherever it is
+zero_after_slashes : key_fault (codes "//a" ++ 0 ∷ []) ≡ Some has_nul
 unfolding computing
-zero_behind_slashes = refl
+zero_after_slashes = refl
 
 two_slashes_at_the_end : key_fault (codes "/a//") ≡ Some double_slash
 unfolding computing

@@ -48,7 +48,7 @@ key_length : length_of key_plan ≡ 110
 unfolding round_up top under_top no_entries entry_of_two first_of_two five key_plan
 key_length = refl
 
--- with a lock whose value is stored behind that of the key
+-- with a lock whose value is stored after that of the key
 lock_plan : Plan
 lock_plan = record {
   root = record { count = 2; entry = entry_of_two };
@@ -57,7 +57,7 @@ lock_plan = record {
   locks = record { count = 1; entry = λ _. under_top };
 }
 
--- the lists end at 100, the table of locks at 140, its one key at 141; the values stand at 144 and 152
+-- the lists end at 100, the table of locks at 140, its one key at 141; the values occur at 144 and 152
 lock_length : length_of lock_plan ≡ 155
 unfolding round_up top under_top no_entries entry_of_two first_of_two five lock_plan
 lock_length = refl

@@ -2,18 +2,14 @@
 use Rattle.std.proofs.Common.{◌≡◌, ◌<◌, ℕ, zero, suc, List, [], ◌∷◌, length, Some, None, refl, sym, ap, ◌∙◌, inl, inr, rules, arith, codes}
 use Rattle.std.specs.Prelude.{slice_index, slice_index_or}
 use Rattle.std.proofs.lemmas.Str.{IsUtf8-from_ascii}
-use Rattle.gv_model.specs.BasicValue.{number_in}
-use Rattle.dconf_model.specs.Bytes.{u32_at, u16_at, u8_at, hash_of}
+use Rattle.dconf_model.specs.Bytes.{hash_of}
 use Rattle.dconf_model.specs.Table.{Table, item, item_count, key}
 use Rattle.dconf_model.specs.Opening.{root_of}
 use Rattle.dconf_model.specs.Names.{HasName, HasParents, joined}
 use Rattle.dconf_model.specs.Searchable.{EachItem, HasBuckets, HasGoodKey, HasEnd, HasHash, IsInSpan, IsInBloom, IsOnlyNamed, HasContent}
-use Rattle.dconf_model.specs.Sound.{Rule, number_of, KeepsAll, IsSound, HasPlace, IsChild, list_length, HasListIfAny, HasLocksIfAny, IsFirstFault}
+use Rattle.dconf_model.specs.Sound.{Rule, rule_number, KeepsAll, IsSound, HasPlace, IsChild, list_length, HasListIfAny, HasLocksIfAny, IsFirstFault}
 use Rattle.dconf_model.specs.Sound.Rule.{buckets, keys, chain, hash, span, bloom, once, content, place, lists, locks}
-
-unfoldable computing : ℕ
-unfolding u32_at u16_at u8_at number_in
-computing = 0
+use Rattle.dconf_model.proofs.WorkedTables.{computing}
 
 -- a database with the item `/` alone, whose list is empty; the lowest byte of its hash should be 212
 file_with : ℕ → List ℕ
@@ -119,7 +115,7 @@ has_content = record {
 has_place : HasPlace (table_with 212) 0
 unfolding computing file_with
 has_place = record {
-  stands = inl (refl, refl);
+  has_parent = inl (refl, refl);
   short = λ name h. let e : length name ≡ 1 = ap length (named 212 name h) in omega (arith, e);
 }
 
@@ -160,7 +156,7 @@ no_hash : ¬ HasHash (table_with 213) 0
 unfolding computing file_with
 no_hash h = let e : 177621 ≡ 177620 = h (codes "/") (has_name 213) in omega (arith, e)
 
-earlier_rules : (r : Rule) → number_of r < 4 → KeepsAll (table_with 213) r
+earlier_rules : (r : Rule) → rule_number r < 4 → KeepsAll (table_with 213) r
 earlier_rules buckets h = has_buckets 213
 earlier_rules keys h = only_item 213 (HasGoodKey (table_with 213)) (has_good_key 213)
 earlier_rules chain h = only_item 213 (HasEnd (table_with 213)) (has_end 213)
@@ -176,7 +172,7 @@ earlier_rules locks h = absurd (omega (arith, h))
 other_hash_is_at_fault : IsFirstFault (table_with 213) hash (Some 0)
 other_hash_is_at_fault = record {
   fails = (
-    λ e. let n : 4 ≡ 1 = ap number_of e in omega (arith, n),
+    λ e. let n : 4 ≡ 1 = ap rule_number e in omega (arith, n),
     record { counted = let e = one_item 213 in omega (arith, e); fails = no_hash; earlier = λ j before. absurd (omega (arith, before)) },
   );
   earlier = earlier_rules;

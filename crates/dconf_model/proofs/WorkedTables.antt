@@ -9,7 +9,7 @@ use Rattle.dconf_model.specs.Search.{span_start, span_end}
 use Rattle.dconf_model.specs.Listed.{keys_in_list}
 
 -- what these computations open
-unfoldable computing : ℕ
+unfoldable pub computing : ℕ
 unfolding u32_at u16_at u8_at number_in
 computing = 0
 

@@ -2,8 +2,10 @@
 -- GVDB, file version 0 (gvdb-format.h): numbers are little-endian.
 use Rattle.std.specs.Prelude.{ℕ, ◌+◌, ◌*◌, ◌-◌, ◌%◌, ◌^◌, List, fold, if◌then◌else◌, nat_lt, slice_range, slice_index}
 use Rattle.gv_model.specs.BasicValue.{number_in}
+-- how many bytes a file has at most: its places are numbers of four bytes
+pub use Rattle.gv_model.specs.Limits.{limit as longest_file}
 
--- the numbers of four bytes, of two and of one that stand at a place
+-- the numbers of four bytes, of two and of one that occur at a place
 unfoldable pub u32_at : List ℕ → ℕ → ℕ
 u32_at file at = number_in (slice_range file at (at + 4))
 

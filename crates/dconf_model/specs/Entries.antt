@@ -44,7 +44,7 @@ pub record AreEntries (e : Entries) : Type 0 where
 
 -- ---- a table that lays them out
 
--- Members stand in the order of their groups: before the first of a group are just the members of lesser groups. A
+-- Members are in the order of their groups: before the first of a group are just the members of lesser groups. A
 -- group without members has the number of the next member.
 pub record AreFirsts (count groups : ℕ) (group first : ℕ → ℕ) : Type 0 where
   pub within : (g : ℕ) → g < groups → first g ≤ count
@@ -54,7 +54,7 @@ pub record AreFirsts (count groups : ℕ) (group first : ℕ → ℕ) : Type 0 w
 abbrev pub bucket_of : Entries → ℕ → ℕ
 bucket_of e i = hash_of (e.entry i).name % e.count
 
--- what stands in item i is what entry i says
+-- what occurs in item i is what entry i says
 pub record IsLaidItem (t : Table) (e : Entries) (i : ℕ) : Type 0 where
   pub hash : (item t i).hash ≡ hash_of (e.entry i).name
   pub parent : (item t i).parent ≡ (e.entry i).parent
@@ -83,19 +83,19 @@ abbrev pub IsPartEntry : Entry → Type 0
 IsPartEntry x = (x.kind ≡ value_kind) × ¬ Contains x.key 47
     ⊎ (x.kind ≡ list_kind) × IsDirectoryPart x.key
 
-abbrev pub EntryStandsUnder : Entries → ℕ → Option ℕ → Type 0
-EntryStandsUnder e i None = IsTopEntry (e.entry i)
-EntryStandsUnder e i (Some p) = ((e.entry p).kind ≡ list_kind) × IsPartEntry (e.entry i)
+abbrev pub EntryHasParent : Entries → ℕ → Option ℕ → Type 0
+EntryHasParent e i None = IsTopEntry (e.entry i)
+EntryHasParent e i (Some p) = ((e.entry p).kind ≡ list_kind) × IsPartEntry (e.entry i)
 
 abbrev pub IsChildEntry : Entries → ℕ → ℕ → Type 0
 IsChildEntry e i j = (j < e.count) × ((e.entry j).parent ≡ Some i)
 
 pub record IsRootEntry (e : Entries) (i : ℕ) : Type 0 where
-  pub stands : EntryStandsUnder e i (e.entry i).parent
+  pub has_parent : EntryHasParent e i (e.entry i).parent
   pub short : length (e.entry i).name ≤ 65535
   pub child : (e.entry i).kind ≡ list_kind → ((e.entry i).name ≡ codes "/") ⊎ ((j : ℕ) × IsChildEntry e i j)
 
--- ---- the lists of a table: the children of all its directories, those of one behind those of another
+-- ---- the lists of a table: the children of all its directories, those of one after those of another
 
 -- so many children, which of the entries each is, and its directory; and the first child of each directory
 pub record Children : Type 0 where

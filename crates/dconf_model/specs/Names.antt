@@ -39,7 +39,7 @@ Rows t name kind bytes = (i : ℕ) × IsRow t name kind i × (bytes_of t i ≡ b
 abbrev pub name_by : (ℕ → Option (List ℕ)) → Table → ℕ → Option ℕ → Option (List ℕ)
 name_by above t i None = Some (key t i)
 name_by above t i (Some p) =
-    if nat_lt 0 (length (key t i)) then option_map (λ front. front ++ key t i) (above p) else None
+    if nat_lt 0 (length (key t i)) then option_map (λ prefix. prefix ++ key t i) (above p) else None
 
 -- where at most n items lead to one without parent
 abbrev pub name_within : ℕ → Table → ℕ → Option (List ℕ)

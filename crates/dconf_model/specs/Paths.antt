@@ -3,13 +3,11 @@
 -- A path starts with `/`, has no zero byte and no `//`, and has at most 65,535 bytes. A key's path doesn't end in
 -- `/`; a directory's does, and `/` is a directory.
 use Rattle.std.specs.Prelude.{◌≡◌, ℕ, Bool, false, List, [], ◌∷◌, ◌++◌, length, Option, Some, None, is_none, nat_le, ◌==◌, ◌&&◌, ◌||◌, not, eqb, if◌then◌else◌}
-use Rattle.std.specs.List.{list_any, starts_with, ends_with}
+use Rattle.std.specs.List.{starts_with, ends_with}
+pub use Rattle.gv_model.specs.Texts.{has_zero_byte}
 
 abbrev pub starts_with_slash : List ℕ → Bool
 starts_with_slash text = starts_with eqb text (47 ∷ [])
-
-abbrev pub has_zero_byte : List ℕ → Bool
-has_zero_byte text = list_any (λ c. c == 0) text
 
 unfoldable pub has_two_slashes : List ℕ → Bool
 has_two_slashes (c ∷ d ∷ more) = (c == 47 && d == 47) || has_two_slashes (d ∷ more)
@@ -41,9 +39,9 @@ pub record Question : Type 0 where
   pub fault : PathFault
 
 -- the fault of the first question that is answered yes
-unfoldable pub first_fault : List Question → Option PathFault
-first_fault [] = None
-first_fault (q ∷ more) = if q.holds then Some q.fault else first_fault more
+unfoldable pub first_path_fault : List Question → Option PathFault
+first_path_fault [] = None
+first_path_fault (q ∷ more) = if q.holds then Some q.fault else first_path_fault more
 
 -- what is asked of every path, its end and its length left aside
 abbrev pub questions_of_bytes : List ℕ → List Question
@@ -57,12 +55,12 @@ question_of_length text = record { holds = not (is_short text); fault = too_long
 
 -- the first fault of a text as a key's path
 abbrev pub key_fault : List ℕ → Option PathFault
-key_fault text = first_fault (questions_of_bytes text
+key_fault text = first_path_fault (questions_of_bytes text
     ++ record { holds = ends_with_slash text; fault = ends_in_slash } ∷ question_of_length text ∷ [])
 
 -- the first fault of a text as a directory's path
 abbrev pub directory_fault : List ℕ → Option PathFault
-directory_fault text = first_fault (questions_of_bytes text
+directory_fault text = first_path_fault (questions_of_bytes text
     ++ record { holds = not (ends_with_slash text); fault = no_end_slash } ∷ question_of_length text ∷ [])
 
 -- ---- laws

@@ -1,7 +1,7 @@
 -- What the database of a map holds, in the order of its items, and how many bytes it takes.
 --
 -- The root table names `/`, each key, each directory of a key, and `.locks` where there are locks; the table of locks
--- names the locks. Both stand in the order of buckets, of which there are as many as items, and then of names.
+-- names the locks. Both are in the order of buckets, of which there are as many as items, and then of names.
 use Rattle.std.specs.Prelude.{ℕ, zero, suc, ◌+◌, ◌*◌, ◌-◌, ◌/◌, ◌<◌, ◌≡◌, ◌⊎◌, ◌↔◌, List, [], ◌∷◌, ◌++◌, length, fold, Some, codes, if◌then◌else◌, ◌==◌, IsTrue}
 use Rattle.std.specs.List.{list_any}
 use Rattle.std.specs.Str.{bytes_eq}
@@ -16,14 +16,14 @@ use Rattle.dconf_model.specs.Sound.{IsSound}
 use Rattle.dconf_model.specs.Paths.{ends_with_slash}
 use Rattle.dconf_model.specs.Settings.{Settings, IsSettings}
 use Rattle.dconf_model.specs.Entries.{Entries, EachEntry, AreEntries, IsRootEntry, IsLockEntry, Children, AreChildren, bucket_of, IsLaidRoot}
-use Rattle.dconf_model.specs.Standing.{table_size}
+use Rattle.dconf_model.specs.TableBytes.{table_size}
 
 -- ---- the names
 
 abbrev pub HasLocks : Settings → Type 0
 HasLocks s = (path : List ℕ) × IsTrue (contains_key s.locks path)
 
--- a directory of a path is a front of it that ends in a slash
+-- a directory of a path is a prefix of it that ends in a slash
 pub record IsDirectoryOf (directory path : List ℕ) : Type 0 where
   pub more : List ℕ
   pub whole : path ≡ directory ++ more
@@ -38,17 +38,17 @@ pub data IsRootName (s : Settings) (name : List ℕ) : Type 0 where
 abbrev pub IsLockName : Settings → List ℕ → Type 0
 IsLockName s name = IsTrue (contains_key s.locks name)
 
--- entry i stands before entry j: in an earlier bucket, or in the same and with a lesser name
-abbrev pub StandsBefore : Entries → ℕ → ℕ → Type 0
-StandsBefore e i j =
+-- entry i precedes entry j: in an earlier bucket, or in the same and with a lesser name
+abbrev pub Precedes : Entries → ℕ → ℕ → Type 0
+Precedes e i j =
     (bucket_of e i < bucket_of e j)
     ⊎ ((bucket_of e i ≡ bucket_of e j) × (slice_cmp nat_cmp (e.entry i).name (e.entry j).name ≡ Less))
 
--- the entries have just these names, and stand in order
+-- the entries have just these names, and are in order
 pub record AreNamed (IsName : List ℕ → Type 0) (e : Entries) : Type 0 where
   pub each : EachEntry e (λ i. IsName (e.entry i).name)
   pub all : (name : List ℕ) → IsName name → (i : ℕ) × (i < e.count) × ((e.entry i).name ≡ name)
-  pub ordered : (i j : ℕ) → i < j → j < e.count → StandsBefore e i j
+  pub ordered : (i j : ℕ) → i < j → j < e.count → Precedes e i j
 
 -- ---- the plan of a database
 
@@ -122,7 +122,7 @@ lists_end e c at zero = at
 lists_end e c at (suc i) =
     if (e.entry i).kind == list_kind then round_up 4 (lists_end e c at i) + list_size c i else lists_end e c at i
 
--- the table of locks stands at a multiple of 4, with its keys behind it; it is there where there are locks
+-- the table of locks occurs at a multiple of 4, with its keys after it; it is there where there are locks
 abbrev pub locks_end : Entries → ℕ → ℕ
 locks_end l at = if l.count == 0 then at else keys_end l (round_up 4 at + size_of_table l.count) l.count
 

@@ -20,7 +20,7 @@ PassesBloom t hash = (bloom_words t ≡ 0) ⊎ (
 abbrev pub span_start : Table → ℕ → ℕ
 span_start t hash = if bucket_count t == 0 then 0 else bucket t (hash % bucket_count t)
 
--- It ends at the next bucket's first item; behind the last item where there is no next bucket, or where its number is
+-- It ends at the next bucket's first item; after the last item where there is no next bucket, or where its number is
 -- past the item count.
 abbrev pub span_end : Table → ℕ → ℕ
 span_end t hash =
@@ -29,7 +29,7 @@ span_end t hash =
     then bucket t (hash % bucket_count t + 1)
     else item_count t
 
--- how many items are in it; none where it starts behind its end
+-- how many items are in it; none where it starts after its end
 abbrev pub span_size : Table → ℕ → ℕ
 span_size t hash = span_end t hash - span_start t hash
 

@@ -5,13 +5,13 @@ use Rattle.std.specs.Ordering.{nat_cmp}
 use Rattle.std.specs.FinMap.{FinMap, empty, insert, contains_key, code}
 use Rattle.std.specs.FinSet as set
 use Rattle.std.specs.Coded.{Coded, code_by, coded×, coded_list, coded_ℕ}
-use Rattle.dconf_model.specs.Paths.{is_key_path}
+use Rattle.dconf_model.specs.Paths.{is_path, is_key_path}
 
 -- what is kept at paths, which are the bytes of texts, in their order
 abbrev pub AtPaths : Type 0 → Type 0
 AtPaths X = FinMap (slice_cmp nat_cmp) X
 
--- a lock says nothing beside the path that it stands at
+-- a lock says nothing beside the path that it occurs at
 abbrev pub Lock : Type 0
 Lock = Unit {0}
 
@@ -37,7 +37,7 @@ with_value s path value = record { values = insert s.values path value; locks = 
 abbrev pub with_lock : Settings → List ℕ → Settings
 with_lock s path = record { values = s.values; locks = insert s.locks path tt }
 
--- each path that has a value or a lock is the path of a key
+-- each path that has a value is the path of a key; one that is locked may be a directory's too
 pub record IsSettings (s : Settings) : Type 0 where
   pub valued : (path : List ℕ) → IsTrue (contains_key s.values path) → IsTrue (is_key_path path)
-  pub locked : (path : List ℕ) → IsTrue (contains_key s.locks path) → IsTrue (is_key_path path)
+  pub locked : (path : List ℕ) → IsTrue (contains_key s.locks path) → IsTrue (is_path path)

@@ -12,19 +12,19 @@ use Rattle.dconf_model.specs.Searchable.{EachItem, HasBuckets, HasGoodKey, HasEn
 pub data Rule : Type 0 where
   buckets keys chain hash span bloom once content place lists locks : Rule
 
--- the number behind the S
-abbrev pub number_of : Rule → ℕ
-number_of buckets = 1
-number_of keys = 2
-number_of chain = 3
-number_of hash = 4
-number_of span = 5
-number_of bloom = 6
-number_of once = 7
-number_of content = 8
-number_of place = 9
-number_of lists = 10
-number_of locks = 11
+-- the number after the S
+abbrev pub rule_number : Rule → ℕ
+rule_number buckets = 1
+rule_number keys = 2
+rule_number chain = 3
+rule_number hash = 4
+rule_number span = 5
+rule_number bloom = 6
+rule_number once = 7
+rule_number content = 8
+rule_number place = 9
+rule_number lists = 10
+rule_number locks = 11
 
 -- ---- S9: the item has a place among directories, keys and locks
 
@@ -45,12 +45,12 @@ abbrev pub IsPart : Table → ℕ → Type 0
 IsPart t i = ((item t i).kind ≡ value_kind) × ¬ Contains (key t i) 47
     ⊎ ((item t i).kind ≡ list_kind) × IsDirectoryPart (key t i)
 
-abbrev pub StandsUnder : Table → ℕ → Option ℕ → Type 0
-StandsUnder t i None = IsTop t i
-StandsUnder t i (Some p) = ((item t p).kind ≡ list_kind) × IsPart t i
+abbrev pub HasParent : Table → ℕ → Option ℕ → Type 0
+HasParent t i None = IsTop t i
+HasParent t i (Some p) = ((item t p).kind ≡ list_kind) × IsPart t i
 
 pub record HasPlace (t : Table) (i : ℕ) : Type 0 where
-  pub stands : StandsUnder t i (item t i).parent
+  pub has_parent : HasParent t i (item t i).parent
   pub short : (name : List ℕ) → HasName t i name → length name ≤ 65535
 
 -- ---- S10: a list holds exactly the items whose parent it is, once each; it is empty only at `/`
@@ -129,7 +129,7 @@ FailsAt t rule (Some i) = (rule ≢ buckets) × IsLeastFault t rule i
 -- the least rule that fails, and where
 pub record IsFirstFault (t : Table) (rule : Rule) (at : Option ℕ) : Type 0 where
   pub fails : FailsAt t rule at
-  pub earlier : (r : Rule) → number_of r < number_of rule → KeepsAll t r
+  pub earlier : (r : Rule) → rule_number r < rule_number rule → KeepsAll t r
 
 -- ---- laws
 

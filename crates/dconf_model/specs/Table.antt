@@ -1,4 +1,4 @@
--- A table of a file: the numbers that stand in its bytes, and where it opens.
+-- A table of a file: the numbers that occur in its bytes, and where it opens.
 -- GVDB, file version 0 (gvdb-format.h). A table is a head of two numbers, bloom words, buckets, and items.
 use Rattle.std.specs.Prelude.{ℕ, ◌+◌, ◌*◌, ◌-◌, ◌/◌, ◌%◌, ◌^◌, ◌≤◌, ◌≡◌, List, length, Option, Some, None, if◌then◌else◌, ◌==◌, slice_range}
 use Rattle.dconf_model.specs.Bytes.{u32_at, u16_at, u8_at}
@@ -33,7 +33,7 @@ items_start t = t.start + 8 + 4 * bloom_words t + 4 * bucket_count t
 abbrev pub item_count : Table → ℕ
 item_count t = (t.end - items_start t) / 24
 
--- what stands in an item: its key and its content lie in the file from start up to end
+-- what occurs in an item: its key and its content lie in the file from start up to end
 pub record Item : Type 0 where
   pub hash : ℕ
   pub parent : Option ℕ

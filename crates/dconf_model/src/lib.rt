@@ -1,6 +1,9 @@
-//! What a settings store means: definitions of databases in specs/, and their laws as functions with empty bodies, whose
-//! contracts are the laws. There is no program code here: nothing is computed when the functions are called, and
-//! nothing fails.
+//! What a settings store means: definitions in specs/, and their laws as functions with empty bodies, whose contracts are
+//! the laws. There is no program code here: nothing is computed when the functions are called, and nothing fails.
+//!
+//! The definitions go from the bytes of a database (Bytes to Plans) to the texts of settings (Causes to Sources), then to
+//! databases as layers and their changes (Databases to Changes), to folders, crashes and what is left after them (Folders to
+//! Histories), and to the program: its commands, what each makes of what it reads, and how it ends (Commands to Sessions).
 #![tactic(auto)]
 
 ghost use Rattle.dconf_model.specs.Paths.{KeysAreFaultless, DirectoriesAreFaultless};
@@ -9,6 +12,15 @@ ghost use Rattle.dconf_model.specs.SoundLaws.{SoundFindsRows, LocksAreSearchable
 ghost use Rattle.dconf_model.specs.Entries.{LaidIsSound, RowsAreEntries};
 ghost use Rattle.dconf_model.specs.Plans.{PlanIsSound, PlanHoldsValues, PlanHoldsLocks, OneLength};
 ghost use Rattle.dconf_model.specs.Laws.{FindsRowsAlone, FindsOneThing, HasOneItemPerName, FindsWhereRows, NameIsComputed, HasOneOpenFault};
+ghost use Rattle.dconf_model.specs.Values.{TextHasItsValue, HasOneMeaning, StoredIsHeld};
+ghost use Rattle.dconf_model.specs.Changes.{RunsInParts};
+ghost use Rattle.dconf_model.specs.Runs.{CalmRuns, RunsAreCrashSafe};
+ghost use Rattle.dconf_model.specs.Sessions.{UserFileSurvives};
+ghost use Rattle.std.specs.Prelude.{ℕ, List};
+ghost use Rattle.dconf_model.specs.Order.{OrderIsStable, ListingIsOnceEach};
+ghost use Rattle.dconf_model.specs.Keyfiles.{DumpReadsBack, DumpHasEachSetting, DumpIsInOrder};
+ghost use Rattle.dconf_model.specs.Databases.{SaysOneThing, WrittenSaysSettings};
+ghost use Rattle.dconf_model.specs.Stores.{EachValueIsGiven, EachListingIsExact};
 
 /// A search in any table finds rows alone, and one thing only.
 pub fn a_search_finds_a_row()
@@ -76,4 +88,63 @@ pub fn a_planned_table_holds_its_settings()
 /// The database of a map has one length: all plans of a map have the same entries, lists, values and locks.
 pub fn a_map_has_one_length()
     ensures { OneLength }
+{}
+
+/// The value that is computed of a text is its meaning, and a text has no other.
+pub fn a_text_has_its_value()
+    ensures is { TextHasItsValue }
+    ensures alone { HasOneMeaning }
+{}
+
+/// The bytes that are stored for a value hold it.
+pub fn stored_values_are_held()
+    ensures { StoredIsHeld }
+{}
+
+/// A list of changes followed by another is the other on what the first leaves.
+pub fn changes_run_in_parts()
+    ensures { RunsInParts }
+{}
+
+/// A run whose reads and writing calls don't fail answers what the folder's content says. A crash at any moment of a run
+/// leaves each file whole.
+pub fn runs_are_whole()
+    ensures calm { CalmRuns }
+    ensures crash { RunsAreCrashSafe }
+{}
+
+/// Nothing that was done is lost, whatever crashes come in between, and nothing is half done.
+pub fn nothing_is_lost()
+    ensures { UserFileSurvives }
+{}
+
+/// A file says one thing. A file that is written for settings says just these.
+pub fn a_file_says_its_settings()
+    ensures one { SaysOneThing }
+    ensures written { WrittenSaysSettings }
+{}
+
+/// A listing has the same texts in byte order, once each.
+pub fn a_listing_is_in_order()
+    ensures { ListingIsOnceEach }
+{}
+
+/// The value of each path in a store is the one that its keyfiles, locks, changes and the order of its databases give. Each
+/// listing names exactly the children that they give.
+pub fn a_store_gives_what_was_written()
+    ensures values { EachValueIsGiven }
+    ensures listings { EachListingIsExact }
+{}
+
+/// A list put in order by its names has the same things, rising, and those of one name in the order that they had.
+pub fn order_is_stable<T>()
+    ensures { (name : T → List ℕ) → OrderIsStable T name }
+{}
+
+/// The text of a dump, where it is within the limit, is read again as the settings in the dump's order, and these are the
+/// settings that were dumped.
+pub fn a_dump_reads_back()
+    ensures again { DumpReadsBack }
+    ensures same { DumpHasEachSetting }
+    ensures order { DumpIsInOrder }
 {}

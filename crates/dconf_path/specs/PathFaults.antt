@@ -5,19 +5,19 @@ use Rattle.dconf_model.specs.Paths.PathFault.{not_absolute, has_nul, double_slas
 use Rattle.dconf_path.specs.declared.fault.PathFault.{PathFault}
 use Rattle.dconf_path.specs.declared.fault.PathFault.TheVariants.{NotAbsolute, HasNul, DoubleSlash, EndsInSlash, NoEndSlash, TooLong}
 
-abbrev pub fault_of : PathFault → Fault
-fault_of NotAbsolute = not_absolute
-fault_of HasNul = has_nul
-fault_of DoubleSlash = double_slash
-fault_of EndsInSlash = ends_in_slash
-fault_of NoEndSlash = no_end_slash
-fault_of TooLong = too_long
+abbrev pub path_fault_of : PathFault → Fault
+path_fault_of NotAbsolute = not_absolute
+path_fault_of HasNul = has_nul
+path_fault_of DoubleSlash = double_slash
+path_fault_of EndsInSlash = ends_in_slash
+path_fault_of NoEndSlash = no_end_slash
+path_fault_of TooLong = too_long
 
 -- its name
-abbrev pub fault_text : Fault → List ℕ
-fault_text not_absolute = codes "NotAbsolute"
-fault_text has_nul = codes "HasNul"
-fault_text double_slash = codes "DoubleSlash"
-fault_text ends_in_slash = codes "EndsInSlash"
-fault_text no_end_slash = codes "NoEndSlash"
-fault_text too_long = codes "TooLong"
+abbrev pub path_fault_text : Fault → List ℕ
+path_fault_text not_absolute = codes "NotAbsolute"
+path_fault_text has_nul = codes "HasNul"
+path_fault_text double_slash = codes "DoubleSlash"
+path_fault_text ends_in_slash = codes "EndsInSlash"
+path_fault_text no_end_slash = codes "NoEndSlash"
+path_fault_text too_long = codes "TooLong"

@@ -19,44 +19,34 @@ pub enum PathFault {
     TooLong,
 }
 
+impl PathFault {
+    ghost use Rattle.std.specs.Prelude.{◌≡◌};
+    ghost use Rattle.dconf_path.specs.PathFaults.{path_fault_of, path_fault_text};
+
+    /// The name by which it is printed.
+    fn name(self) -> &'static str
+        ensures { result.now ≡ path_fault_text (path_fault_of self) }
+    {
+        match self {
+            PathFault::NotAbsolute => "NotAbsolute",
+            PathFault::HasNul => "HasNul",
+            PathFault::DoubleSlash => "DoubleSlash",
+            PathFault::EndsInSlash => "EndsInSlash",
+            PathFault::NoEndSlash => "NoEndSlash",
+            PathFault::TooLong => "TooLong",
+        }
+    }
+}
+
 impl fmt::Display for PathFault {
     ghost use Rattle.std.specs.Prelude.{Some};
-    ghost use Rattle.dconf_path.specs.PathFaults.{fault_of, fault_text};
+    ghost use Rattle.dconf_path.specs.PathFaults.{path_fault_of, path_fault_text};
 
-    ghost output = { λ fault. Some (fault_text (fault_of fault)) };
+    ghost output = { λ fault. Some (path_fault_text (path_fault_of fault)) };
 
     fn fmt<W: fmt::Write>(&self, f: &mut fmt::Formatter<W>) -> fmt::Result {
-        match self {
-            PathFault::NotAbsolute => write!(f, "NotAbsolute"),
-            PathFault::HasNul => write!(f, "HasNul"),
-            PathFault::DoubleSlash => write!(f, "DoubleSlash"),
-            PathFault::EndsInSlash => write!(f, "EndsInSlash"),
-            PathFault::NoEndSlash => write!(f, "NoEndSlash"),
-            PathFault::TooLong => write!(f, "TooLong"),
-        }
+        f.write_str(self.name())
     }
 }
 
 impl Error for PathFault {}
-
-#[cfg(test)]
-mod tests {
-    use super::*;
-    use std::test::Fail;
-
-    #[test]
-    fn prints_its_name(rt: HostRuntime) -> Result<(), Fail> {
-        let cases = [
-            (PathFault::NotAbsolute, "NotAbsolute"),
-            (PathFault::HasNul, "HasNul"),
-            (PathFault::DoubleSlash, "DoubleSlash"),
-            (PathFault::EndsInSlash, "EndsInSlash"),
-            (PathFault::NoEndSlash, "NoEndSlash"),
-            (PathFault::TooLong, "TooLong"),
-        ];
-        for (fault, name) in cases {
-            assert_eq!(rt; format!(in rt.alloc(); "{fault}")?.as_str(), name);
-        }
-        Ok(())
-    }
-}

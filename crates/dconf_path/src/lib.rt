@@ -8,4 +8,4 @@ mod fault;
 mod path;
 
 pub use fault::PathFault;
-pub use path::{DirPath, KeyPath};
+pub use path::{DirPath, KeyPath, MAX_PATH_LEN};

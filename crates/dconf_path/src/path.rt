@@ -1,13 +1,13 @@
 //! Paths of keys and of directories: they start with `/`, and have no `//` and no zero byte. A key's doesn't end in
 //! `/`; a directory's does.
 ghost use Rattle.std.specs.Prelude.{◌≡◌, ◌↔◌, Some, None, IfOk, IfErr, IsOk, OnOk, IsTrue};
-ghost use Rattle.dconf_model.specs.Paths.{is_key_path, is_directory_path, key_fault, directory_fault, first_fault, questions_of_bytes};
-ghost use Rattle.dconf_path.specs.PathFaults.{fault_of};
+ghost use Rattle.dconf_model.specs.Paths.{is_key_path, is_directory_path, key_fault, directory_fault, first_path_fault, questions_of_bytes};
+ghost use Rattle.dconf_path.specs.PathFaults.{path_fault_of};
 
 use crate::fault::PathFault;
 
 /// How many bytes a path has at most.
-const MAX_LEN: usize = 65_535;
+pub const MAX_PATH_LEN: usize = 65_535;
 
 /// The path of a key, lent from where it was found, such as `/org/gnome/desktop/cursor-size`.
 #[derive(Clone, Copy, Debug)]
@@ -25,13 +25,13 @@ impl<'a> KeyPath<'a> {
     pub fn parse(text: &'a str) -> Result<KeyPath<'a>, PathFault>
         ensures accepts { IsOk result ↔ IsTrue (is_key_path text.entry.now) }
         ensures found { IfOk result (λ path. key_text path ≡ text.entry.now) }
-        ensures fault { IfErr result (λ e. key_fault text.entry.now ≡ Some (fault_of e)) }
+        ensures fault { IfErr result (λ e. key_fault text.entry.now ≡ Some (path_fault_of e)) }
     {
         check_bytes(text)?;
         if text.ends_with("/") {
             return Err(PathFault::EndsInSlash);
         }
-        if text.len() > MAX_LEN {
+        if text.len() > MAX_PATH_LEN {
             return Err(PathFault::TooLong);
         }
         Ok(KeyPath { text })
@@ -61,13 +61,13 @@ impl<'a> DirPath<'a> {
     pub fn parse(text: &'a str) -> Result<DirPath<'a>, PathFault>
         ensures accepts { IsOk result ↔ IsTrue (is_directory_path text.entry.now) }
         ensures found { IfOk result (λ path. directory_text path ≡ text.entry.now) }
-        ensures fault { IfErr result (λ e. directory_fault text.entry.now ≡ Some (fault_of e)) }
+        ensures fault { IfErr result (λ e. directory_fault text.entry.now ≡ Some (path_fault_of e)) }
     {
         check_bytes(text)?;
         if !text.ends_with("/") {
             return Err(PathFault::NoEndSlash);
         }
-        if text.len() > MAX_LEN {
+        if text.len() > MAX_PATH_LEN {
             return Err(PathFault::TooLong);
         }
         Ok(DirPath { text })
@@ -83,8 +83,8 @@ impl<'a> DirPath<'a> {
 
 /// Refuses a text that is no path, whatever its end and its length.
 fn check_bytes(text: &str) -> Result<(), PathFault>
-    ensures passes { OnOk result (first_fault (questions_of_bytes text.now) ≡ None) }
-    ensures fault { IfErr result (λ e. first_fault (questions_of_bytes text.now) ≡ Some (fault_of e)) }
+    ensures passes { OnOk result (first_path_fault (questions_of_bytes text.now) ≡ None) }
+    ensures fault { IfErr result (λ e. first_path_fault (questions_of_bytes text.now) ≡ Some (path_fault_of e)) }
 {
     if !text.starts_with("/") {
         return Err(PathFault::NotAbsolute);
@@ -96,75 +96,4 @@ fn check_bytes(text: &str) -> Result<(), PathFault>
         return Err(PathFault::DoubleSlash);
     }
     Ok(())
-}
-
-#[cfg(test)]
-mod tests {
-    use super::*;
-    use std::test::Fail;
-
-    #[test]
-    fn tells_keys(rt: HostRuntime) -> Result<(), Fail> {
-        for text in [
-            "/k",
-            "/a/k",
-            "/org/gnome/desktop/cursor-size",
-            "/a b/ü",
-            "/./..",
-        ] {
-            assert_eq!(rt; KeyPath::parse(text)?.as_str(), text);
-        }
-        let cases = [
-            ("", PathFault::NotAbsolute),
-            ("a/k", PathFault::NotAbsolute),
-            ("a//\0/", PathFault::NotAbsolute),
-            ("/a//k\0", PathFault::HasNul),
-            ("/\0a//k", PathFault::HasNul),
-            ("/a//k", PathFault::DoubleSlash),
-            ("//", PathFault::DoubleSlash),
-            ("/a//", PathFault::DoubleSlash),
-            ("/a/", PathFault::EndsInSlash),
-            ("/", PathFault::EndsInSlash),
-        ];
-        for (text, fault) in cases {
-            assert_eq!(rt; KeyPath::parse(text).err(), Some(fault), "at {text}");
-        }
-        Ok(())
-    }
-
-    #[test]
-    fn tells_directories(rt: HostRuntime) -> Result<(), Fail> {
-        for text in ["/", "/a/", "/org/gnome/"] {
-            assert_eq!(rt; DirPath::parse(text)?.as_str(), text);
-        }
-        let cases = [
-            ("", PathFault::NotAbsolute),
-            ("a/", PathFault::NotAbsolute),
-            ("/a\0//", PathFault::HasNul),
-            ("//", PathFault::DoubleSlash),
-            ("/a//k", PathFault::DoubleSlash),
-            ("/a", PathFault::NoEndSlash),
-        ];
-        for (text, fault) in cases {
-            assert_eq!(rt; DirPath::parse(text).err(), Some(fault), "at {text}");
-        }
-        Ok(())
-    }
-
-    #[test]
-    fn tells_long_paths(rt: HostRuntime) -> Result<(), Fail> {
-        let alloc = rt.alloc();
-        let longest = format!(in alloc; "/{}", "k".repeat(alloc, 65_534)?)?;
-        assert_eq!(rt; KeyPath::parse(&longest)?.as_str(), longest.as_str());
-        assert_eq!(rt; DirPath::parse(&longest).err(), Some(PathFault::NoEndSlash));
-        let too_long = format!(in alloc; "{longest}k")?;
-        assert_eq!(rt; KeyPath::parse(&too_long).err(), Some(PathFault::TooLong));
-        let directory = format!(in alloc; "{longest}/")?;
-        assert_eq!(rt; DirPath::parse(&directory).err(), Some(PathFault::TooLong));
-        assert_eq!(rt;
-            KeyPath::parse(&directory).err(),
-            Some(PathFault::EndsInSlash)
-        );
-        Ok(())
-    }
 }

@@ -1,11 +1,13 @@
 //! The program `dconfdb`: the words, the streams and the current folder, handed to dconf_cli.
 #![tactic(auto)]
 
-use dconf_cli::{Counted, StdFolder, command, run};
+use dconf_cli::{Counted, command, run};
+use dconf_disk::StdFolder;
 use std::env;
+use std::io::ErrorKind;
 use std::process::ExitCode;
 
-/// The status of wrong arguments, and of want of memory while they are read.
+/// The status of wrong arguments, and of running out of memory while they are read.
 const USAGE: u8 = 2;
 
 /// Runs the command that the words ask for, and ends with its status.
@@ -14,9 +16,16 @@ const USAGE: u8 = 2;
 /// `--version` with status 0 and their text on out, or 1 where that can't be written.
 fn main(rt: HostRuntime) -> ExitCode {
     let alloc = rt.alloc();
-    let Ok(args) = env::args(&rt) else {
-        let _ = rt.eprintln("error: the arguments are not UTF-8");
-        return ExitCode::from(USAGE);
+    let args = match env::args(&rt) {
+        Ok(args) => args,
+        Err(error) if error.kind() == ErrorKind::OutOfMemory => {
+            let _ = rt.eprintln("error: Memory");
+            return ExitCode::from(USAGE);
+        }
+        Err(_) => {
+            let _ = rt.eprintln("error: the arguments are not UTF-8");
+            return ExitCode::from(USAGE);
+        }
     };
     let Ok(words) = args.collect::<Vec<String>>(alloc) else {
         let _ = rt.eprintln("error: Memory");

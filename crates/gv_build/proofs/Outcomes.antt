@@ -3,7 +3,8 @@ use Rattle.std.proofs.Common.{ℕ, ◌+◌, ◌<◌, ◌≤◌, ◌≡◌, List,
 use Rattle.std.proofs.lemmas.Result.{err_from_is_err_and}
 use Rattle.gv_build.specs.declared.fault.BuildFault.{BuildFault}
 use Rattle.gv_build.specs.declared.fault.BuildFault.TheVariants.{TooLarge, Memory}
-use Rattle.gv_build.specs.Faults.{limit, IsOver, IsUnbuildable}
+use Rattle.gv_build.specs.Faults.{IsOverLimit, IsUnbuildable}
+use Rattle.gv_model.specs.Limits.{limit}
 
 pub wrote_as : {A : Type 0} (r : Result A BuildFault) (out a b : List ℕ) → a ≡ b → OnOk r (out ≡ a) → OnOk r (out ≡ b)
 wrote_as r out a b same h = subst (λ (x : List ℕ). OnOk r (out ≡ x)) same h
@@ -11,8 +12,8 @@ wrote_as r out a b same h = subst (λ (x : List ℕ). OnOk r (out ≡ x)) same h
 pub wrote_same : {A : Type 0} (r : Result A BuildFault) (out before b e : List ℕ) → b ≡ e → OnOk r (out ≡ before ++ b) → OnOk r (out ≡ before ++ e)
 wrote_same r out before b e same h = wrote_as r out (before ++ b) (before ++ e) (ap (λ x. before ++ x) same) h
 
-pub over_same : {A : Type 0} (r : Result A BuildFault) (n : ℕ) (b e : List ℕ) → b ≡ e → IfErr r (IsOver (n + length b)) → IfErr r (IsOver (n + length e))
-over_same r n b e same h = subst (λ (x : List ℕ). IfErr r (IsOver (n + length x))) same h
+pub over_same : {A : Type 0} (r : Result A BuildFault) (n : ℕ) (b e : List ℕ) → b ≡ e → IfErr r (IsOverLimit (n + length b)) → IfErr r (IsOverLimit (n + length e))
+over_same r n b e same h = subst (λ (x : List ℕ). IfErr r (IsOverLimit (n + length x))) same h
 
 reason_for : (why other : Type 0) (e : BuildFault) → (why → other) → IsUnbuildable why e → IsUnbuildable other e
 reason_for why other TooLarge f h = f h
@@ -24,18 +25,18 @@ stops_for r e why other f over stop =
     let p = err_from_is_err_and r stop in
     rw p.1 (subst (IsUnbuildable other) (sym p.2) (reason_for why other e f over))
 
-over_more : (m n : ℕ) (e : BuildFault) → m ≤ n → IsOver m e → IsOver n e
+over_more : (m n : ℕ) (e : BuildFault) → m ≤ n → IsOverLimit m e → IsOverLimit n e
 over_more m n e h over = reason_for (limit < m) (limit < n) e (λ more. omega (arith, more)) over
 
 -- the fault of a part is one of the whole
-pub stops_over : {A : Type 0} (r : Result A BuildFault) (e : BuildFault) (m n : ℕ) → m ≤ n → IsOver m e → IsErrAnd r (λ y. y ≡ e) → IfErr r (IsOver n)
+pub stops_over : {A : Type 0} (r : Result A BuildFault) (e : BuildFault) (m n : ℕ) → m ≤ n → IsOverLimit m e → IsErrAnd r (λ y. y ≡ e) → IfErr r (IsOverLimit n)
 stops_over r e m n h over stop = stops_for r e (limit < m) (limit < n) (λ more. omega (arith, more)) over stop
 
-pub over_in_whole : {A : Type 0} (r : Result A BuildFault) (m n : ℕ) → m ≤ n → IfErr r (IsOver m) → IfErr r (IsOver n)
+pub over_in_whole : {A : Type 0} (r : Result A BuildFault) (m n : ℕ) → m ≤ n → IfErr r (IsOverLimit m) → IfErr r (IsOverLimit n)
 over_in_whole (Ok x) m n h over = tt
 over_in_whole (Err e) m n h over = over_more m n e h over
 
--- a part with what stands before it is no longer than the whole
+-- a part with what comes before it is no longer than the whole
 pub part_le_whole : (out x rest before all : List ℕ) → out ++ (x ++ rest) ≡ before ++ all → length out + length x ≤ length before + length all
 part_le_whole out x rest before all e = omega (arith, ap length e, length-append out (x ++ rest), length-append x rest, length-append before all)
 

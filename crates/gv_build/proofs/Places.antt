@@ -6,7 +6,7 @@ use Rattle.gv_model.specs.Layout.{fixed_size}
 use Rattle.gv_model.specs.Parts.{Part}
 use Rattle.gv_model.specs.Encode.{zeros, start_after, end_after, body_from, ends_from, open_ends_from}
 use Rattle.gv_model.proofs.PlacedParts.{length-zeros, le-start_after}
-use Rattle.gv_build.specs.Faults.{limit}
+use Rattle.gv_model.specs.Limits.{limit}
 use Rattle.gv_build.specs.Writing.{placed_bytes, open_end}
 use Rattle.gv_build.proofs.Outcomes.{part_le_whole}
 use Rattle.gv_build.proofs.Steps.{PlacedSoFar, FramedSoFar, MembersSoFar}
@@ -82,7 +82,7 @@ framed_next start before out next ends more whole left x xs here so_far e room g
       within = subst (AtMost q) (sym g) (at_most-append q ends (q ∷ []) (at_most_more p q ends later h.within) (omega arith, tt));
     }
 
--- a member more, behind which there are others
+-- a member more, after which there are others
 pub members_next : (start : ℕ) (before out next ends more : List ℕ) (whole left : List Part) (x y : Part) (xs : List Part) → left ≡ x ∷ y ∷ xs → MembersSoFar start before out ends whole left → next ≡ out ++ placed_bytes (length out - start) x → length next ≤ limit → more ≡ ends ++ open_end (fixed_size x.0) (length next - start) → MembersSoFar start before next more whole (y ∷ xs)
 members_next start before out next ends more whole left x y xs here so_far e room g =
     let h = subst (MembersSoFar start before out ends whole) here so_far in

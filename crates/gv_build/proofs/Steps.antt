@@ -2,8 +2,8 @@
 use Rattle.std.proofs.Common.{ℕ, ◌-◌, ◌≡◌, ◌≤◌, List, ◌++◌, length, flat_map}
 use Rattle.std.specs.List.{AllByRecursion}
 use Rattle.gv_model.specs.Parts.{Part}
-use Rattle.gv_model.specs.Encode.{number_bytes, joined, body_from, ends_from, open_ends_from}
-use Rattle.gv_build.specs.Faults.{limit}
+use Rattle.gv_model.specs.Encode.{number_bytes, joined_parts, body_from, ends_from, open_ends_from}
+use Rattle.gv_model.specs.Limits.{limit}
 
 pub record OffsetsSoFar (w body : ℕ) (before out ends left : List ℕ) : Type 0 where
   pub wrote : out ++ flat_map (number_bytes w) left ≡ before ++ flat_map (number_bytes w) ends
@@ -11,7 +11,7 @@ pub record OffsetsSoFar (w body : ℕ) (before out ends left : List ℕ) : Type 
   pub room : length out ≤ limit
 
 pub record JoinedSoFar (before out : List ℕ) (whole left : List Part) : Type 0 where
-  pub wrote : out ++ joined left ≡ before ++ joined whole
+  pub wrote : out ++ joined_parts left ≡ before ++ joined_parts whole
   pub room : length out ≤ limit
 
 -- in a container that starts there

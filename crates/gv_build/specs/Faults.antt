@@ -4,10 +4,7 @@ use Rattle.gv_view.specs.declared.owned.ViewFault.{ViewFault}
 use Rattle.gv_view.specs.declared.owned.ViewFault.TheVariants as views
 use Rattle.gv_build.specs.declared.fault.BuildFault.{BuildFault}
 use Rattle.gv_build.specs.declared.fault.BuildFault.TheVariants.{TooLarge, Memory}
-
--- how many bytes there may be
-abbrev pub limit : ℕ
-limit = 4294967295
+pub use Rattle.gv_model.specs.Limits.{limit}
 
 -- too large says why, and a growth may be refused whatever is written
 abbrev pub IsUnbuildable : Type 0 → BuildFault → Type 0
@@ -15,12 +12,12 @@ IsUnbuildable why TooLarge = why
 IsUnbuildable why Memory = Unit {0}
 
 -- why so many bytes aren't made
-abbrev pub IsOver : ℕ → BuildFault → Type 0
-IsOver n fault = IsUnbuildable (limit < n) fault
+abbrev pub IsOverLimit : ℕ → BuildFault → Type 0
+IsOverLimit n fault = IsUnbuildable (limit < n) fault
 
-abbrev pub fault_text : BuildFault → List ℕ
-fault_text TooLarge = codes "TooLarge"
-fault_text Memory = codes "Memory"
+abbrev pub build_fault_text : BuildFault → List ℕ
+build_fault_text TooLarge = codes "TooLarge"
+build_fault_text Memory = codes "Memory"
 
 abbrev pub fault_of_view : ViewFault → BuildFault
 fault_of_view views.TooLarge = TooLarge

@@ -15,16 +15,16 @@ own_part v = (type_of v, encode v)
 abbrev pub parts_of : List Tree → List Part
 parts_of vs = encoded_parts (trees_of vs)
 
--- a part behind one that ends at p, with the padding before it
+-- a part after one that ends at p, with the padding before it
 abbrev pub placed_bytes : ℕ → Part → List ℕ
 placed_bytes p x = zeros (start_after p x - p) ++ x.1
 
--- what stands behind a value of this size, or of none, in a maybe
+-- what comes after a value of this size, or of none, in a maybe
 abbrev pub just_end : Option ℕ → List ℕ
 just_end None = 0 ∷ []
 just_end (Some size) = []
 
--- what stands behind an array's body of n bytes
+-- what comes after an array's body of n bytes
 abbrev pub offsets_of : ℕ → List ℕ → List ℕ
 offsets_of n ends = flat_map (number_bytes (least_width n (length ends))) ends
 
@@ -33,7 +33,7 @@ abbrev pub open_end : Option ℕ → ℕ → List ℕ
 open_end None end = end ∷ []
 open_end (Some size) end = []
 
--- what stands behind the body of a tuple of this size, or of none
+-- what comes after the body of a tuple of this size, or of none
 abbrev pub tuple_end : Option ℕ → ℕ → List ℕ → List ℕ
 tuple_end (Some size) n ends = zeros (size - n)
 tuple_end None n ends = offsets_of n ends

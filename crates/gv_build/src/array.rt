@@ -1,9 +1,9 @@
-//! Arrays: elements of a fixed size one after the other; others each aligned, with the end of each behind them
+//! Arrays: elements of a fixed size one after the other; others each aligned, with the end of each after them
 //! (GVariant Specification, "Arrays").
 ghost use Rattle.std.specs.Prelude.{◌≡◌, ◌+◌, ◌≤◌, ◌++◌, length, OnOk, IfErr};
-ghost use Rattle.gv_model.specs.Encode.{array_bytes, joined, framed, body_from, ends_from};
+ghost use Rattle.gv_model.specs.Encode.{array_bytes, joined_parts, framed, body_from, ends_from};
 ghost use Rattle.gv_types.specs.TypeStr.{ty};
-ghost use Rattle.gv_build.specs.Faults.{limit, IsOver};
+ghost use Rattle.gv_build.specs.Faults.{limit, IsOverLimit};
 ghost use Rattle.gv_build.specs.Writing.{parts_of, element_size};
 
 use crate::fault::BuildFault;
@@ -26,7 +26,7 @@ pub(crate) fn write_array(
     ensures bytes { OnOk result (out.new.items
         ≡ out.old.items ++ array_bytes (parts_of elements.now) (element_size (ty of.entry))) }
     ensures fits { OnOk result (length out.new.items ≤ limit) }
-    ensures fault { IfErr result (IsOver (length out.old.items
+    ensures fault { IfErr result (IsOverLimit (length out.old.items
         + length (array_bytes (parts_of elements.now) (element_size (ty of.entry))))) }
 {
     match element_size(of) {
@@ -46,9 +46,9 @@ fn element_size(of: TypeStr<'_>) -> Option<usize>
 #[cycle(values)]
 fn write_joined(elements: &[Tree], out: &mut Vec<u8>) -> Result<(), BuildFault>
     requires { length out.old.items ≤ limit }
-    ensures bytes { OnOk result (out.new.items ≡ out.old.items ++ joined (parts_of elements.now)) }
+    ensures bytes { OnOk result (out.new.items ≡ out.old.items ++ joined_parts (parts_of elements.now)) }
     ensures fits { OnOk result (length out.new.items ≤ limit) }
-    ensures fault { IfErr result (IsOver (length out.old.items + length (joined (parts_of elements.now)))) }
+    ensures fault { IfErr result (IsOverLimit (length out.old.items + length (joined_parts (parts_of elements.now)))) }
 {
     for element in elements {
         write_tree(element, out)?;
@@ -63,7 +63,7 @@ fn write_framed(elements: &[Tree], out: &mut Vec<u8>) -> Result<(), BuildFault>
     ensures bytes { OnOk result (out.new.items
         ≡ out.old.items ++ framed (body_from 0 (parts_of elements.now)) (ends_from 0 (parts_of elements.now))) }
     ensures fits { OnOk result (length out.new.items ≤ limit) }
-    ensures fault { IfErr result (IsOver (length out.old.items
+    ensures fault { IfErr result (IsOverLimit (length out.old.items
         + length (framed (body_from 0 (parts_of elements.now)) (ends_from 0 (parts_of elements.now))))) }
 {
     let start = out.len();

@@ -1,10 +1,10 @@
-//! Basic values: numbers with the lowest byte first, texts with a zero byte behind them (GVariant Specification,
+//! Basic values: numbers with the lowest byte first, texts with a zero byte after them (GVariant Specification,
 //! "Serialisation of Base Types").
 ghost use Rattle.std.specs.Prelude.{◌≡◌, ◌+◌, ◌≤◌, ◌++◌, [], ◌∷◌, length, OnOk, IfErr};
 ghost use Rattle.gv_model.specs.Encode.{encode, number_bytes};
 ghost use Rattle.gv_model.specs.BasicValue.{number_in};
 ghost use Rattle.gv_tree.specs.Basics.{basic_tree};
-ghost use Rattle.gv_build.specs.Faults.{limit, IsOver};
+ghost use Rattle.gv_build.specs.Faults.{limit, IsOverLimit};
 
 use crate::buffer::{push_bytes, push_number};
 use crate::fault::BuildFault;
@@ -16,7 +16,7 @@ pub(crate) fn write_basic(value: &Basic, out: &mut Vec<u8>) -> Result<(), BuildF
     requires { length out.old.items ≤ limit }
     ensures bytes { OnOk result (out.new.items ≡ out.old.items ++ encode (basic_tree value.now)) }
     ensures fits { OnOk result (length out.new.items ≤ limit) }
-    ensures fault { IfErr result (IsOver (length out.old.items + length (encode (basic_tree value.now)))) }
+    ensures fault { IfErr result (IsOverLimit (length out.old.items + length (encode (basic_tree value.now)))) }
 {
     match value {
         Basic::Bool(truth) => push_number(u64::from(*truth), 1, out),
@@ -40,7 +40,7 @@ fn write_double(bytes: [u8; 8], out: &mut Vec<u8>) -> Result<(), BuildFault>
     requires { length out.old.items ≤ limit }
     ensures bytes { OnOk result (out.new.items ≡ out.old.items ++ number_bytes 8 (number_in bytes)) }
     ensures fits { OnOk result (length out.new.items ≤ limit) }
-    ensures fault { IfErr result (IsOver (length out.old.items + length (number_bytes 8 (number_in bytes)))) }
+    ensures fault { IfErr result (IsOverLimit (length out.old.items + length (number_bytes 8 (number_in bytes)))) }
 {
     push_bytes(out, &bytes)
 }
@@ -50,7 +50,7 @@ fn write_text(text: &str, out: &mut Vec<u8>) -> Result<(), BuildFault>
     requires { length out.old.items ≤ limit }
     ensures bytes { OnOk result (out.new.items ≡ out.old.items ++ (text.now ++ 0 ∷ [])) }
     ensures fits { OnOk result (length out.new.items ≤ limit) }
-    ensures fault { IfErr result (IsOver (length out.old.items + length (text.now ++ 0 ∷ []))) }
+    ensures fault { IfErr result (IsOverLimit (length out.old.items + length (text.now ++ 0 ∷ []))) }
 {
     push_bytes(out, text.as_bytes())?;
     push_bytes(out, &[0])

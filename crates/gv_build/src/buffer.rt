@@ -1,21 +1,21 @@
 //! The buffer that is written, which is never grown past the limit.
 ghost use Rattle.std.specs.Prelude.{◌≡◌, ◌+◌, ◌<◌, ◌≤◌, ◌^◌, ◌++◌, length, OnOk, IfErr};
 ghost use Rattle.gv_model.specs.Encode.{zeros, number_bytes};
-ghost use Rattle.gv_build.specs.Faults.{limit, IsOver};
+ghost use Rattle.gv_build.specs.Faults.{limit, IsOverLimit};
 
 use crate::fault::BuildFault;
 
-/// How many bytes there may be.
-pub(crate) const LIMIT: usize = 0xffff_ffff;
+/// The most bytes of a value.
+pub const MAX_LEN: usize = 0xffff_ffff;
 
 /// Appends the bytes, unless there would be too many.
 pub(crate) fn push_bytes(out: &mut Vec<u8>, bytes: &[u8]) -> Result<(), BuildFault>
     requires { length out.old.items ≤ limit }
     ensures bytes { OnOk result (out.new.items ≡ out.old.items ++ bytes.now) }
     ensures fits { OnOk result (length out.new.items ≤ limit) }
-    ensures fault { IfErr result (IsOver (length out.old.items + length bytes.now)) }
+    ensures fault { IfErr result (IsOverLimit (length out.old.items + length bytes.now)) }
 {
-    if bytes.len() > LIMIT - out.len() {
+    if bytes.len() > MAX_LEN - out.len() {
         return Err(BuildFault::TooLarge);
     }
     out.extend_from_slice(bytes)?;
@@ -27,9 +27,9 @@ pub(crate) fn pad(out: &mut Vec<u8>, count: usize) -> Result<(), BuildFault>
     requires { length out.old.items ≤ limit }
     ensures bytes { OnOk result (out.new.items ≡ out.old.items ++ zeros count) }
     ensures fits { OnOk result (length out.new.items ≤ limit) }
-    ensures fault { IfErr result (IsOver (length out.old.items + count)) }
+    ensures fault { IfErr result (IsOverLimit (length out.old.items + count)) }
 {
-    if count > LIMIT - out.len() {
+    if count > MAX_LEN - out.len() {
         return Err(BuildFault::TooLarge);
     }
     out.resize(out.len() + count, 0)?;
@@ -43,7 +43,7 @@ pub(crate) fn push_number(n: u64, width: usize, out: &mut Vec<u8>) -> Result<(),
     requires room { length out.old.items ≤ limit }
     ensures bytes { OnOk result (out.new.items ≡ out.old.items ++ number_bytes width n) }
     ensures fits { OnOk result (length out.new.items ≤ limit) }
-    ensures fault { IfErr result (IsOver (length out.old.items + length (number_bytes width n))) }
+    ensures fault { IfErr result (IsOverLimit (length out.old.items + length (number_bytes width n))) }
 {
     push_bytes(out, &n.to_le_bytes()[..width])
 }

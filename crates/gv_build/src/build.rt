@@ -5,7 +5,7 @@ ghost use Rattle.gv_model.specs.Tree.{Tree.node, Trees.first, Trees.none, depth}
 ghost use Rattle.gv_model.specs.Printed.{is_too_large};
 ghost use Rattle.gv_model.specs.Encode.{encode};
 ghost use Rattle.gv_view.specs.Views.{value};
-ghost use Rattle.gv_build.specs.Faults.{limit, IsOver, IsUnbuildable};
+ghost use Rattle.gv_build.specs.Faults.{limit, IsOverLimit, IsUnbuildable};
 
 use crate::fault::BuildFault;
 use crate::tree::write_tree;
@@ -21,7 +21,7 @@ use std::alloc::Global;
 pub fn serialise(alloc: Global, tree: &Tree) -> Result<Vec<u8>, BuildFault>
     ensures bytes { IfOk result (λ v. v.items ≡ encode tree.now) }
     ensures fits { OnOk result (length (encode tree.now) ≤ limit) }
-    ensures fault { IfErr result (IsOver (length (encode tree.now))) }
+    ensures fault { IfErr result (IsOverLimit (length (encode tree.now))) }
 {
     let mut bytes = Vec::new(alloc);
     write_tree(tree, &mut bytes)?;
@@ -41,7 +41,7 @@ pub fn variant_bytes(alloc: Global, tree: &Tree) -> Result<Vec<u8>, BuildFault>
 {
     let of = tree.type_text();
     let levels = tree.depth();
-    if levels >= 128 {
+    if levels >= Tree::MAX_LEVELS {
         return Err(BuildFault::TooLarge);
     }
     let mut out = Vec::new(alloc);

@@ -16,17 +16,28 @@ pub enum BuildFault {
     Memory,
 }
 
+impl BuildFault {
+    ghost use Rattle.gv_build.specs.Faults.{build_fault_text};
+
+    /// How the fault is printed.
+    fn name(self) -> &'static str
+        ensures { result.now ≡ build_fault_text self }
+    {
+        match self {
+            BuildFault::TooLarge => "TooLarge",
+            BuildFault::Memory => "Memory",
+        }
+    }
+}
+
 impl fmt::Display for BuildFault {
     ghost use Rattle.std.specs.Prelude.{Some};
-    ghost use Rattle.gv_build.specs.Faults.{fault_text};
+    ghost use Rattle.gv_build.specs.Faults.{build_fault_text};
 
-    ghost output = { λ fault. Some (fault_text fault) };
+    ghost output = { λ fault. Some (build_fault_text fault) };
 
     fn fmt<W: fmt::Write>(&self, f: &mut fmt::Formatter<W>) -> fmt::Result {
-        match self {
-            BuildFault::TooLarge => write!(f, "TooLarge"),
-            BuildFault::Memory => write!(f, "Memory"),
-        }
+        f.write_str(self.name())
     }
 }
 

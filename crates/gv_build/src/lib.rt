@@ -1,6 +1,6 @@
 //! The bytes of GVariant values, written as the format wants them (GVariant Specification, "Serialisation Format").
 //!
-//! Each byte is written once, from the front to the back, into one buffer, which never passes 4,294,967,295 bytes.
+//! Each byte is written once, from the start to the end, into one buffer, which never passes 4,294,967,295 bytes.
 #![tactic(auto)]
 
 mod array;
@@ -11,11 +11,10 @@ mod fault;
 mod maybe;
 mod offsets;
 mod place;
-#[cfg(test)]
-mod tests;
 mod tree;
 mod tuple;
 mod variant;
 
+pub use buffer::MAX_LEN;
 pub use build::{normal_form, serialise, variant_bytes};
 pub use fault::BuildFault;

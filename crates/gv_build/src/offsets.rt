@@ -1,24 +1,24 @@
-//! Framing offsets behind a container's body, in the least width that serves for all of them (GVariant Specification,
+//! Framing offsets after a container's body, in the least width that serves for all of them (GVariant Specification,
 //! "Framing Offsets").
 ghost use Rattle.std.specs.Prelude.{◌≡◌, ◌+◌, ◌≤◌, ◌++◌, length, OnOk, IfErr};
 ghost use Rattle.std.specs.List.{AllByRecursion};
 ghost use Rattle.gv_model.specs.Encode.{least_width};
-ghost use Rattle.gv_build.specs.Faults.{limit, IsOver};
+ghost use Rattle.gv_build.specs.Faults.{limit, IsOverLimit};
 ghost use Rattle.gv_build.specs.Writing.{offsets_of};
 
-use crate::buffer::{LIMIT, push_number};
+use crate::buffer::{MAX_LEN, push_number};
 use crate::fault::BuildFault;
 
-/// Appends the offsets behind a body of so many bytes.
+/// Appends the offsets after a body of so many bytes.
 pub(crate) fn write_offsets(ends: &[u32], body: usize, out: &mut Vec<u8>) -> Result<(), BuildFault>
     requires within { AllByRecursion (λ e. e ≤ body) ends.now }
-    requires behind { body ≤ length out.old.items }
+    requires after { body ≤ length out.old.items }
     requires room { length out.old.items ≤ limit }
     ensures bytes { OnOk result (out.new.items ≡ out.old.items ++ offsets_of body ends.now) }
     ensures fits { OnOk result (length out.new.items ≤ limit) }
-    ensures fault { IfErr result (IsOver (length out.old.items + length (offsets_of body ends.now))) }
+    ensures fault { IfErr result (IsOverLimit (length out.old.items + length (offsets_of body ends.now))) }
 {
-    if ends.len() > LIMIT - out.len() {
+    if ends.len() > MAX_LEN - out.len() {
         return Err(BuildFault::TooLarge);
     }
     let width = least_width(body, ends.len());
@@ -28,7 +28,7 @@ pub(crate) fn write_offsets(ends: &[u32], body: usize, out: &mut Vec<u8>) -> Res
     Ok(())
 }
 
-/// The least width that serves for so many offsets behind a body of so many bytes.
+/// The least width that serves for so many offsets after a body of so many bytes.
 #[tactic(auto, unfolding(gv_model::specs::Encode::least_width))]
 fn least_width(body: usize, count: usize) -> usize
     requires room { body + count ≤ limit }

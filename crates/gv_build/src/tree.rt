@@ -1,7 +1,7 @@
 //! Any value, by what it is made of.
 ghost use Rattle.std.specs.Prelude.{◌≡◌, ◌+◌, ◌≤◌, ◌++◌, length, OnOk, IfErr};
 ghost use Rattle.gv_model.specs.Encode.{encode};
-ghost use Rattle.gv_build.specs.Faults.{limit, IsOver};
+ghost use Rattle.gv_build.specs.Faults.{limit, IsOverLimit};
 
 use crate::array::write_array;
 use crate::basic::write_basic;
@@ -18,7 +18,7 @@ pub(crate) fn write_tree(tree: &Tree, out: &mut Vec<u8>) -> Result<(), BuildFaul
     requires { length out.old.items ≤ limit }
     ensures bytes { OnOk result (out.new.items ≡ out.old.items ++ encode tree.now) }
     ensures fits { OnOk result (length out.new.items ≤ limit) }
-    ensures fault { IfErr result (IsOver (length out.old.items + length (encode tree.now))) }
+    ensures fault { IfErr result (IsOverLimit (length out.old.items + length (encode tree.now))) }
 {
     match tree.shape() {
         Shape::Basic(value) => write_basic(value, out),

@@ -1,11 +1,11 @@
-//! Tuples and entries: each member aligned, and behind them the ends of those that differ in size, the last member's
+//! Tuples and entries: each member aligned, and after them the ends of those that differ in size, the last member's
 //! left out and the first one's last; at a fixed size zero bytes up to it (GVariant Specification, "Structures").
 ghost use Rattle.std.specs.Prelude.{◌≡◌, ◌+◌, ◌-◌, ◌≤◌, [], ◌∷◌, ◌++◌, length, OnOk, IfErr};
 ghost use Rattle.std.specs.List.{AllByRecursion};
 ghost use Rattle.gv_model.specs.Layout.{fixed_size};
 ghost use Rattle.gv_model.specs.Encode.{tuple_bytes};
 ghost use Rattle.gv_types.specs.TypeStr.{ty};
-ghost use Rattle.gv_build.specs.Faults.{limit, IsOver};
+ghost use Rattle.gv_build.specs.Faults.{limit, IsOverLimit};
 ghost use Rattle.gv_build.specs.Writing.{parts_of, open_end, tuple_end};
 
 use crate::buffer::pad;
@@ -29,7 +29,7 @@ pub(crate) fn write_tuple(
     ensures bytes { OnOk result (out.new.items
         ≡ out.old.items ++ tuple_bytes (parts_of members.now) (fixed_size (ty of.entry))) }
     ensures fits { OnOk result (length out.new.items ≤ limit) }
-    ensures fault { IfErr result (IsOver (length out.old.items
+    ensures fault { IfErr result (IsOverLimit (length out.old.items
         + length (tuple_bytes (parts_of members.now) (fixed_size (ty of.entry))))) }
 {
     match members.split_last() {
@@ -50,7 +50,7 @@ pub(crate) fn write_members(
     ensures bytes { OnOk result (out.new.items
         ≡ out.old.items ++ tuple_bytes (parts_of (before.now ++ last.now ∷ [])) (fixed_size (ty of.entry))) }
     ensures fits { OnOk result (length out.new.items ≤ limit) }
-    ensures fault { IfErr result (IsOver (length out.old.items
+    ensures fault { IfErr result (IsOverLimit (length out.old.items
         + length (tuple_bytes (parts_of (before.now ++ last.now ∷ [])) (fixed_size (ty of.entry))))) }
 {
     let start = out.len();
@@ -74,7 +74,7 @@ fn push_end(ends: &mut SmallVec<u32, 8>, of: TypeStr<'_>, end: u32) -> Result<()
     }
 }
 
-/// Appends what stands behind a body of so many bytes: zero bytes up to the fixed size, or the ends.
+/// Appends what comes after a body of so many bytes: zero bytes up to the fixed size, or the ends.
 fn end_tuple(
     size: Option<usize>,
     ends: &[u32],
@@ -82,11 +82,11 @@ fn end_tuple(
     out: &mut Vec<u8>,
 ) -> Result<(), BuildFault>
     requires within { AllByRecursion (λ e. e ≤ body) ends.now }
-    requires behind { body ≤ length out.old.items }
+    requires after { body ≤ length out.old.items }
     requires room { length out.old.items ≤ limit }
     ensures bytes { OnOk result (out.new.items ≡ out.old.items ++ tuple_end size body ends.now) }
     ensures fits { OnOk result (length out.new.items ≤ limit) }
-    ensures fault { IfErr result (IsOver (length out.old.items + length (tuple_end size body ends.now))) }
+    ensures fault { IfErr result (IsOverLimit (length out.old.items + length (tuple_end size body ends.now))) }
 {
     match size {
         Some(size) => pad(out, size.saturating_sub(body)),

@@ -1,17 +1,17 @@
 -- When a type is the one that is asked for.
-use Rattle.std.proofs.Common.{◌≡◌, ◌↔◌, Bool, true, List, [], ◌∷◌, refl, sym, ap, ◌∙◌}
+use Rattle.std.proofs.Common.{◌≡◌, ◌↔◌, Bool, List, [], ◌∷◌, refl, sym, ap, ◌∙◌}
 use Rattle.std.specs.Prelude.{IsTrue}
-use Rattle.gv_model.specs.Ty.{Ty, Types, Basic, spelling, listed, types_from}
+use Rattle.gv_model.specs.Ty.{Ty, Types, spelling, type_list, types_from}
 use Rattle.gv_model.specs.Ty.Ty.{basic, variant, array, maybe, tuple, entry}
-use Rattle.gv_model.specs.Ty.Types.{end, member}
 use Rattle.gv_model.specs.Ty.Basic.{boolean, byte, int16, uint16, int32, uint32, int64, uint64, handle, double, string, path, signature}
-use Rattle.gv_model.specs.Syntax.{Syntax, Syntaxes}
+use Rattle.gv_model.specs.Syntax.{Syntaxes}
 use Rattle.gv_model.specs.Admits.{AlsoMaybe, Admit}
+use Rattle.gv_model.proofs.ListLaws.{types_from-listed}
+use Rattle.gv_model.proofs.TypeTextLaws.{one_spelling}
 use Rattle.gv_types.specs.Classes.{class_of}
 use Rattle.gv_types.specs.declared.class.Class.{Class}
 use Rattle.gv_types.specs.declared.class.Class.TheVariants as classes
 use Rattle.gv_types.specs.declared.class.BasicType.TheVariants as basics
-use Rattle.gv_tree.proofs.ListLaws.{same_type}
 use Rattle.gv_infer.specs.BareTypes.{bare_type}
 use Rattle.gv_infer.proofs.TypeShapes.{also_bare}
 
@@ -51,14 +51,9 @@ is_variant (entry k t) c h = (λ e. absurd cc, λ e. absurd cc)
 
 pub is_byte_array : (t : Ty) (s : List _) → s ≡ spelling t → (s ≡ 97 ∷ 121 ∷ []) ↔ (t ≡ array (basic byte))
 unfolding spelling
-is_byte_array t s h = (λ e. same_type t (array (basic byte)) (sym h ∙ e), λ e. h ∙ ap spelling e)
+is_byte_array t s h = (λ e. one_spelling t (array (basic byte)) (sym h ∙ e), λ e. h ∙ ap spelling e)
 
-pub types_from_listed : (ts : Types) → types_from (listed ts) ≡ ts
-unfolding listed
-types_from_listed end = refl
-types_from_listed (member t ts) = ap (member t) (types_from_listed ts)
-
-pub admit_listed : (xs : Syntaxes) (ts : Types) (left : List Ty) → left ≡ listed ts → Admit xs ts ↔ Admit xs (types_from left)
+pub admit_listed : (xs : Syntaxes) (ts : Types) (left : List Ty) → left ≡ type_list ts → Admit xs ts ↔ Admit xs (types_from left)
 admit_listed xs ts left e =
-    let same : types_from left ≡ ts = ap types_from e ∙ types_from_listed ts in
+    let same : types_from left ≡ ts = ap types_from e ∙ types_from-listed ts in
     (λ h. rw same h, λ h. rw same at h)

@@ -1,5 +1,5 @@
 -- What building the parts of syntax gives for the whole.
-use Rattle.std.proofs.Common.{ℕ, ◌≡◌, Bool, true, false, List, Option, Some, None, Result, Ok, Err, refl, sym, ap, ◌∙◌, subst}
+use Rattle.std.proofs.Common.{ℕ, ◌≡◌, Bool, true, false, List, Option, Some, Result, Ok, refl, ap, subst}
 use Rattle.gv_model.specs.Ty.{Ty}
 use Rattle.gv_model.specs.Ty.Ty.{basic, variant, array, maybe, tuple, entry}
 use Rattle.gv_model.specs.Ty.Basic.{byte}
@@ -9,12 +9,12 @@ use Rattle.gv_model.specs.Admits.{AlsoMaybe, IsMaybeOf, IsArrayOf}
 use Rattle.gv_types.specs.TypeStr.{ty, element_of}
 use Rattle.gv_types.specs.declared.type_str.TypeStr.{TypeStr}
 use Rattle.std.specs.Prelude.{option_map}
-use Rattle.gv_model.specs.Literals.{ValueFault as TheFault, byte_trees}
+use Rattle.gv_model.specs.Literals.{ValueFault as TheFault, byte_string_trees}
 use Rattle.gv_model.specs.Syntax.{Syntax}
 use Rattle.gv_model.specs.Syntax.Syntax.{truth}
 use Rattle.gv_model.specs.Chosen.{Choice}
 use Rattle.gv_model.specs.TextValues.{literal_value, at_maybes, at_basic, at_array}
-use Rattle.gv_tree.specs.Basics.{truth_bits}
+use Rattle.gv_model.specs.BasicValue.{truth_bits}
 use Rattle.gv_infer.specs.BareTypes.{bare_type}
 use Rattle.gv_infer.specs.Building.{IsBuilt}
 use Rattle.gv_infer.specs.declared.value_fault.ValueFault.{ValueFault}
@@ -60,5 +60,5 @@ array_holds P (maybe t) o e h g s = absurd h
 array_holds P (tuple ts) o e h g s = absurd h
 array_holds P (entry k t) o e h g s = absurd h
 
-pub bytes_at : (t : Ty) (s : List ℕ) (r : Result (Option Tree) ValueFault) → t ≡ array (basic byte) → IsBuilt (Ok (node t (byte_trees s))) r → IsBuilt (at_array (λ u. Ok (byte_trees s)) t) r
+pub bytes_at : (t : Ty) (s : List ℕ) (r : Result (Option Tree) ValueFault) → t ≡ array (basic byte) → IsBuilt (Ok (node t (byte_string_trees s))) r → IsBuilt (at_array (λ u. Ok (byte_string_trees s)) t) r
 bytes_at t s r e b = rw e (rw e at b)

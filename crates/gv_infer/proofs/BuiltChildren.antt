@@ -1,5 +1,5 @@
 -- Children that are built one after the other: what is held of them, the first fault, and their types.
-use Rattle.std.proofs.Common.{ℕ, zero, suc, ◌≡◌, ◌≤◌, List, [], ◌∷◌, length, drop, Option, Some, None, Result, Ok, Err, refl, sym, ap, ◌∙◌, subst, arith}
+use Rattle.std.proofs.Common.{◌≡◌, Option, Some, None, Result, Ok, Err, refl, sym, ap, ◌∙◌, subst}
 use Rattle.std.specs.Global.{Vec}
 use Rattle.gv_model.specs.Ty.{Ty, Types, members}
 use Rattle.gv_model.specs.Ty.Ty.{basic, variant, array, maybe, tuple, entry}
@@ -19,22 +19,15 @@ use Rattle.gv_model.proofs.TextValueLaws.{value_type}
 use Rattle.gv_types.specs.TypeStr.{ty}
 use Rattle.gv_types.specs.declared.type_str.TypeStr.{TypeStr}
 use Rattle.gv_infer.specs.BareTypes.{AreEntryTypes}
-use Rattle.gv_infer.specs.Building.{Shows, IsBuilt, entry_node}
-use Rattle.gv_infer.specs.Children.{Hold, Show, behind, all_before, AllOfType, AreMembers, AreBuilt, HeldSoFar}
-use Rattle.gv_infer.specs.declared.children.Children.{Children}
+use Rattle.gv_infer.specs.Building.{BuildsTo, IsBuilt, entry_node}
+use Rattle.gv_infer.specs.Children.{IsBuiltFrom, AllBuildTo, with_last, all_before, AllOfType, IsTupleTypeOf, AreBuilt, IsBuiltSoFar}
+use Rattle.gv_infer.specs.declared.children.BuiltTrees.{BuiltTrees}
 use Rattle.gv_infer.specs.declared.value_fault.ValueFault.{ValueFault}
 use Rattle.gv_infer.proofs.MadeTrees.{fault_as}
 
--- nothing stands behind the end
-pub drop_end : {X : Type 0} (xs : List X) (i : ℕ) → length xs ≤ i → drop i xs ≡ []
-drop_end [] zero h = refl
-drop_end [] (suc i) h = refl
-drop_end (x ∷ xs) zero h = absurd (omega (arith, h))
-drop_end (x ∷ xs) (suc i) h = drop_end xs i (omega (arith, h))
-
-before_behind : (vs : Trees) (v : Tree) (rest : Result Trees TheFault) → all_before (behind vs v) rest ≡ all_before vs (with_first (Ok v) rest)
-before_behind none v rest = refl
-before_behind (first u vs) v rest = ap (with_first (Ok u)) (before_behind vs v rest)
+before_after : (vs : Trees) (v : Tree) (rest : Result Trees TheFault) → all_before (with_last vs v) rest ≡ all_before vs (with_first (Ok v) rest)
+before_after none v rest = refl
+before_after (first u vs) v rest = ap (with_first (Ok u)) (before_after vs v rest)
 
 before_fault : (vs : Trees) (rest : Result Trees TheFault) (f : TheFault) → rest ≡ Err f → all_before vs rest ≡ Err f
 before_fault none rest f h = h
@@ -45,24 +38,24 @@ before_end none = refl
 before_end (first u vs) = ap (with_first (Ok u)) (before_end vs)
 
 -- before the first child
-pub held_none : (whole rest : Result Trees TheFault) (c : Children) → whole ≡ rest → Hold c none → HeldSoFar whole rest c
-held_none whole rest c e h = record { front = none; held = h; more = e }
+pub held_none : (whole rest : Result Trees TheFault) (c : BuiltTrees) → whole ≡ rest → IsBuiltFrom c none → IsBuiltSoFar whole rest c
+held_none whole rest c e h = record { prefix = none; held = h; more = e }
 
 -- a child more
-pub held_next : (whole rest left : Result Trees TheFault) (child : Result Tree TheFault) (old new : Children) (o : Option Tree) → HeldSoFar whole rest old → rest ≡ with_first child left → IsBuilt child (Ok o) → ((vs : Trees) (v : Tree) → Hold old vs → Shows o v → Hold new (behind vs v)) → HeldSoFar whole left new
+pub held_next : (whole rest left : Result Trees TheFault) (child : Result Tree TheFault) (old new : BuiltTrees) (o : Option Tree) → IsBuiltSoFar whole rest old → rest ≡ with_first child left → IsBuilt child (Ok o) → ((vs : Trees) (v : Tree) → IsBuiltFrom old vs → BuildsTo o v → IsBuiltFrom new (with_last vs v)) → IsBuiltSoFar whole left new
 held_next whole rest left child old new o h e b p = record {
-  front = behind h.front b.0;
-  held = p h.front b.0 h.held b.2;
-  more = h.more ∙ (ap (all_before h.front) (e ∙ ap (λ x. with_first x left) b.1) ∙ sym (before_behind h.front b.0 left));
+  prefix = with_last h.prefix b.0;
+  held = p h.prefix b.0 h.held b.2;
+  more = h.more ∙ (ap (all_before h.prefix) (e ∙ ap (λ x. with_first x left) b.1) ∙ sym (before_after h.prefix b.0 left));
 }
 
--- a child that has a fault, behind others that have none
-pub held_fault : (whole rest left : Result Trees TheFault) (child : Result Tree TheFault) (c : Children) (e : ValueFault) → HeldSoFar whole rest c → rest ≡ with_first child left → IsBuilt child (Err e) → AreBuilt whole (Err e)
-held_fault whole rest left child c e h is b = fault_as (λ f. child ≡ Err f) (λ f. whole ≡ Err f) e (λ f g. h.more ∙ before_fault h.front rest f (is ∙ ap (λ x. with_first x left) g)) b
+-- a child that has a fault, after others that have none
+pub held_fault : (whole rest left : Result Trees TheFault) (child : Result Tree TheFault) (c : BuiltTrees) (e : ValueFault) → IsBuiltSoFar whole rest c → rest ≡ with_first child left → IsBuilt child (Err e) → AreBuilt whole (Err e)
+held_fault whole rest left child c e h is b = fault_as (λ f. child ≡ Err f) (λ f. whole ≡ Err f) e (λ f g. h.more ∙ before_fault h.prefix rest f (is ∙ ap (λ x. with_first x left) g)) b
 
 -- the last child was there
-pub held_all : (whole rest : Result Trees TheFault) (c : Children) (o : Option (Vec Tree)) → HeldSoFar whole rest c → rest ≡ Ok none → ((vs : Trees) → Hold c vs → Show o vs) → AreBuilt whole (Ok o)
-held_all whole rest c o h e p = (h.front, h.more ∙ (ap (all_before h.front) e ∙ before_end h.front), p h.front h.held)
+pub held_all : (whole rest : Result Trees TheFault) (c : BuiltTrees) (o : Option (Vec Tree)) → IsBuiltSoFar whole rest c → rest ≡ Ok none → ((vs : Trees) → IsBuiltFrom c vs → AllBuildTo o vs) → AreBuilt whole (Ok o)
+held_all whole rest c o h e p = (h.prefix, h.more ∙ (ap (all_before h.prefix) e ∙ before_end h.prefix), p h.prefix h.held)
 
 ok_trees : (us vs : Trees) → ◌≡◌ {A = Result Trees TheFault} (Ok us) (Ok vs) → us ≡ vs
 ok_trees us vs e = cc
@@ -128,7 +121,7 @@ pub all_of_type : (t : Ty) (r : Result Trees TheFault) (o : Option (Vec Tree)) �
 all_of_type t r (Some trees) typed b = subst (AllOf t) b.2 (typed b.0 b.1)
 all_of_type t r None typed b = tt
 
-pub are_members : (choose : Syntax → Choice) (xs : Syntaxes) (t : Ty) (o : Option (Vec Tree)) → IsTupleOf (Admit xs) t → AreBuilt (members_of choose xs (members t)) (Ok o) → AreMembers t o
+pub are_members : (choose : Syntax → Choice) (xs : Syntaxes) (t : Ty) (o : Option (Vec Tree)) → IsTupleOf (Admit xs) t → AreBuilt (members_of choose xs (members t)) (Ok o) → IsTupleTypeOf t o
 are_members choose xs (tuple ts) (Some trees) h b = ap tuple (sym (members_typed choose xs ts b.0 h b.1) ∙ ap types_of b.2)
 are_members choose xs t None h b = tt
 are_members choose xs (basic k) (Some trees) h b = absurd h
@@ -137,12 +130,12 @@ are_members choose xs (array t) (Some trees) h b = absurd h
 are_members choose xs (maybe t) (Some trees) h b = absurd h
 are_members choose xs (entry k t) (Some trees) h b = absurd h
 
--- a value behind `just`
-pub just_built : (f : Ty → Result Tree TheFault) (t u : Ty) (child : Option Tree) (r : Result (Option Tree) ValueFault) → t ≡ maybe u → IsBuilt (f u) (Ok child) → ((v : Tree) → Shows child v → IsBuilt (Ok (node (maybe u) (first v none))) r) → IsBuilt (at_maybe (λ x. only_one (f x)) t) r
+-- a value after `just`
+pub just_built : (f : Ty → Result Tree TheFault) (t u : Ty) (child : Option Tree) (r : Result (Option Tree) ValueFault) → t ≡ maybe u → IsBuilt (f u) (Ok child) → ((v : Tree) → BuildsTo child v → IsBuilt (Ok (node (maybe u) (first v none))) r) → IsBuilt (at_maybe (λ x. only_one (f x)) t) r
 just_built f t u child r e b j = rw e (subst (λ x. IsBuilt (in_node (maybe u) (only_one x)) r) (sym b.1) (j b.0 b.2))
 
 -- an entry of a key and a value that are built
-pub entry_built : (f g : Ty → Result Tree TheFault) (t : Ty) (o : Option (TypeStr × TypeStr)) (p : TypeStr × TypeStr) (key value : Option Tree) (r : Result (Option Tree) ValueFault) → AreEntryTypes t o → o ≡ Some p → IsBuilt (f (ty p.0)) (Ok key) → IsBuilt (g (ty p.1)) (Ok value) → ((u v : Tree) → Shows key u → Shows value v → IsBuilt (Ok (entry_node t u v)) r) → IsBuilt (at_entry f g t) r
+pub entry_built : (f g : Ty → Result Tree TheFault) (t : Ty) (o : Option (TypeStr × TypeStr)) (p : TypeStr × TypeStr) (key value : Option Tree) (r : Result (Option Tree) ValueFault) → AreEntryTypes t o → o ≡ Some p → IsBuilt (f (ty p.0)) (Ok key) → IsBuilt (g (ty p.1)) (Ok value) → ((u v : Tree) → BuildsTo key u → BuildsTo value v → IsBuilt (Ok (entry_node t u v)) r) → IsBuilt (at_entry f g t) r
 entry_built f g (entry k t) o p key value r h e b d m =
     let types = subst (AreEntryTypes (entry k t)) e h in
     let is_key = ap f (sym types.0) ∙ b.1 in

@@ -1,6 +1,7 @@
 -- What the text that is written for the least type says of the choice.
-use Rattle.std.proofs.Common.{ℕ, ◌≤◌, ◌≡◌, Bool, true, false, Result, Ok, Err, List, [], ◌++◌, length, refl, sym, ap, subst, arith}
+use Rattle.std.proofs.Common.{ℕ, ◌≤◌, ◌≡◌, Bool, true, false, Result, Ok, Err, List, [], length, refl, sym, ap, subst, arith}
 use Rattle.std.specs.Prelude.{◌↔◌, IsOk, IsTrue, is_err, nat_le, if◌then◌else◌}
+use Rattle.std.proofs.lemmas.Bool.{both_ways, true≢false, false≢true}
 use Rattle.gv_model.specs.Ty.{Ty, spelling, nesting}
 use Rattle.gv_model.specs.TypeText.{is_type, type_at, is_within_limits}
 use Rattle.gv_model.specs.Syntax.{Syntax}
@@ -10,15 +11,12 @@ use Rattle.gv_model.specs.Chosen.{Choice}
 use Rattle.gv_model.specs.Chosen.Choice.{is, no_common_type, ambiguous}
 use Rattle.gv_model.specs.LeastTypes.{Least as TheLeast, least_in, choice_from, choice}
 use Rattle.gv_model.specs.LeastTypes.Least.{nowhere, least, many}
-use Rattle.gv_model.proofs.TypeTextLaws.{one_reading}
+use Rattle.gv_model.proofs.TypeTextLaws.{one_spelling}
 use Rattle.gv_model.proofs.TypeTextParts.{spelling-type_at, text_of_type}
 use Rattle.gv_infer.specs.declared.least.Found.{Found}
 use Rattle.gv_infer.specs.declared.least.Found.TheVariants.{Nowhere, Least, Many}
-use Rattle.gv_infer.specs.Found.{Written, Spelled, found_of}
+use Rattle.gv_infer.specs.LeastTexts.{Written, Spelled, found_of}
 use Rattle.gv_infer.proofs.WeightLaws.{Short, short_choice}
-
-one_spelling : (t u : Ty) → spelling t ≡ spelling u → t ≡ u
-one_spelling t u e = (one_reading t u [] [] (ap (λ w. w ++ []) e)).0
 
 limits : (t : Ty) (w : List ℕ) → nat_le (nesting t) 128 ≡ true → length w ≤ 67108864 → is_within_limits t w ≡ true
 limits t w n h = grind arith
@@ -26,24 +24,21 @@ limits t w n h = grind arith
 shallow : (t : Ty) (w : List ℕ) → is_within_limits t w ≡ true → nat_le (nesting t) 128 ≡ true
 shallow t w h = grind arith
 
-not_both : (b : Bool) → b ≡ true → b ≡ false → ⊥
-not_both b e f = cc
-
 -- a type that is too deep has no text
 no_text : (t : Ty) → nat_le (nesting t) 128 ≡ false → is_type (spelling t) ≡ true → ⊥
 no_text t deep h =
     let p = spelling-type_at (spelling t) h in
     let same : type_at (spelling t) ≡ t = one_spelling (type_at (spelling t)) t p.0 in
-    not_both _ (shallow t (spelling t) (subst (λ u. is_within_limits u (spelling t) ≡ true) same p.1)) deep
+    both_ways _ deep (shallow t (spelling t) (subst (λ u. is_within_limits u (spelling t) ≡ true) same p.1))
 
 -- what reading the text answers
 pub refused_text : {A B : Type 0} (r : Result A B) (w text : List ℕ) → w ≡ text → (IsOk r ↔ IsTrue (is_type w)) → true ≡ is_err r → is_type text ≡ true → ⊥
-refused_text (Ok a) w text same h e p = not_both true refl e
-refused_text (Err b) w text same h e p = not_both false (h.1 (subst (λ v. is_type v ≡ true) (sym same) p)) refl
+refused_text (Ok a) w text same h e p = true≢false e
+refused_text (Err b) w text same h e p = false≢true (h.1 (subst (λ v. is_type v ≡ true) (sym same) p))
 
 pub taken_text : {A B : Type 0} (r : Result A B) (w text : List ℕ) → w ≡ text → (IsOk r ↔ IsTrue (is_type w)) → false ≡ is_err r → is_type text ≡ true
 taken_text (Ok a) w text same h e = subst (λ v. is_type v ≡ true) same (h.0 refl)
-taken_text (Err b) w text same h e = absurd (not_both true refl (sym e))
+taken_text (Err b) w text same h e = absurd (true≢false (sym e))
 
 -- how what is found, and whether its text is a type's, tells the choice
 pub record Tells (c : Choice) (text : List ℕ) (f : Found) : Type 0 where

@@ -1,13 +1,15 @@
 -- The set that holds one type alone, made of the sets of its parts.
-use Rattle.std.proofs.Common.{ℕ, ◌+◌, ◌≡◌, max, List, [], ◌∷◌, ◌++◌, Option, Some, None, refl, sym, ap, ap₂, ◌∙◌, arith}
+use Rattle.std.proofs.Common.{◌+◌, ◌≡◌, List, [], ◌∷◌, ◌++◌, Option, Some, None, refl, sym, ap, ap₂, ◌∙◌, arith}
 use Rattle.std.specs.Prelude.{option_map, MatchOption, IsSome}
-use Rattle.gv_model.specs.Ty.{Ty, Types, nesting, greatest_nesting, listed, members}
+use Rattle.std.proofs.lemmas.Option.{same_Some}
+use Rattle.gv_model.specs.Ty.{Ty, Types, nesting, greatest_nesting, type_list, members}
 use Rattle.gv_model.specs.Ty.Ty.{basic, variant, array, maybe, tuple, entry}
 use Rattle.gv_model.specs.Ty.Types.{end, member}
-use Rattle.gv_model.specs.Patterns.{Pattern, Patterns, exactly, exactly_each, kind_of}
+use Rattle.gv_model.specs.Patterns.{Pattern, Patterns, exactly, exactly_each, basics_of}
 use Rattle.gv_model.specs.Patterns.Pattern.{maybe_of, strict}
-use Rattle.gv_model.specs.Patterns.Core.{array_of, tuple_with, entry_of}
+use Rattle.gv_model.specs.Patterns.Bare.{array_of, tuple_with, entry_of}
 use Rattle.gv_model.specs.Patterns.Patterns.{stop, next}
+use Rattle.gv_model.proofs.ListLaws.{same_head, same_tail}
 use Rattle.gv_types.specs.declared.type_str.TypeStr.{TypeStr}
 use Rattle.gv_types.specs.declared.class.Class.{Class}
 use Rattle.gv_types.specs.declared.class.Class.TheVariants as classes
@@ -21,12 +23,12 @@ abbrev pub exactly_all : List Ty → Patterns
 exactly_all [] = stop
 exactly_all (t ∷ ts) = next (exactly t) (exactly_all ts)
 
-pub exactly_listed : (ts : Types) → exactly_all (listed ts) ≡ exactly_each ts
-unfolding exactly listed
+pub exactly_listed : (ts : Types) → exactly_all (type_list ts) ≡ exactly_each ts
+unfolding exactly type_list
 exactly_listed end = refl
 exactly_listed (member t ts) = ap (next (exactly t)) (exactly_listed ts)
 
--- one more behind those that there are
+-- one more after those that there are
 pub before_more : (ps : List Pattern) (p : Pattern) (qs : Patterns) → before (ps ++ p ∷ []) qs ≡ before ps (next p qs)
 before_more [] p qs = refl
 before_more (x ∷ ps) p qs = ap (next x) (before_more ps p qs)
@@ -35,25 +37,8 @@ pub before_stop : (ps : List Pattern) → before ps stop ≡ patterns_of ps
 before_stop [] = refl
 before_stop (p ∷ ps) = ap (next p) (before_stop ps)
 
-some_type : (t u : Ty) → ◌≡◌ {A = Option Ty} (Some t) (Some u) → t ≡ u
-some_type t u e = cc
-
-some_text : (x e : TypeStr) → ◌≡◌ {A = Option TypeStr} (Some x) (Some e) → x ≡ e
-some_text x e h = cc
-
 element : (u : Ty) (x e : TypeStr) → ◌≡◌ {A = Option Ty} (Some (ty x)) (Some u) → ◌≡◌ {A = Option TypeStr} (Some x) (Some e) → ty e ≡ u
-element u x e h g = ap ty (sym (some_text x e g)) ∙ some_type (ty x) u h
-
--- the type that an array or a maybe holds nests less
-pub element_nesting : (t : Ty) (o : Option TypeStr) (e : TypeStr) → option_map ty o ≡ element_of t → o ≡ Some e → nesting t ≡ nesting (ty e) + 1
-unfolding nesting
-element_nesting t None e h g = absurd cc
-element_nesting (array t) (Some x) e h g = omega (arith, ap nesting (element t x e h g))
-element_nesting (maybe t) (Some x) e h g = omega (arith, ap nesting (element t x e h g))
-element_nesting (basic k) (Some x) e h g = absurd cc
-element_nesting variant (Some x) e h g = absurd cc
-element_nesting (tuple t) (Some x) e h g = absurd cc
-element_nesting (entry k t) (Some x) e h g = absurd cc
+element u x e h g = ap ty (sym (same_Some x e g)) ∙ same_Some (ty x) u h
 
 pub exactly_array : (t : Ty) (c : Class) (o : Option TypeStr) (e : TypeStr) → c ≡ class_of t → c ≡ classes.Array → option_map ty o ≡ element_of t → o ≡ Some e → strict (array_of (exactly (ty e))) ≡ exactly t
 unfolding exactly
@@ -94,50 +79,31 @@ tuple_nesting variant c a b = absurd cc
 tuple_nesting (entry k t) c a b = absurd cc
 
 -- an entry's key and value, as its members
-pub exactly_entry : (t k v : Ty) (rest : List Ty) (c : Class) → c ≡ class_of t → c ≡ classes.Entry → listed (members t) ≡ k ∷ v ∷ rest → strict (entry_of (kind_of (exactly k)) (exactly v)) ≡ exactly t
-unfolding exactly listed
-exactly_entry (entry j u) k v rest c a b e = sym (ap₂ (λ x y. strict (entry_of (kind_of (exactly x)) (exactly y))) (first_of e) (second_of e))
-  where
-    first_of : {a b c d : Ty} {xs ys : List Ty} → a ∷ b ∷ xs ≡ c ∷ d ∷ ys → a ≡ c
-    first_of e = cc
-
-    second_of : {a b c d : Ty} {xs ys : List Ty} → a ∷ b ∷ xs ≡ c ∷ d ∷ ys → b ≡ d
-    second_of e = cc
+pub exactly_entry : (t k v : Ty) (rest : List Ty) (c : Class) → c ≡ class_of t → c ≡ classes.Entry → type_list (members t) ≡ k ∷ v ∷ rest → strict (entry_of (basics_of (exactly k)) (exactly v)) ≡ exactly t
+unfolding exactly type_list
+exactly_entry (entry j u) k v rest c a b e = sym (ap₂ (λ x y. strict (entry_of (basics_of (exactly x)) (exactly y))) (same_head e) (same_head (same_tail e)))
 exactly_entry (array t) k v rest c a b e = absurd cc
 exactly_entry (maybe t) k v rest c a b e = absurd cc
 exactly_entry (basic j) k v rest c a b e = absurd cc
 exactly_entry variant k v rest c a b e = absurd cc
 exactly_entry (tuple ts) k v rest c a b e = absurd cc
 
-pub entry_nesting : (t k v : Ty) (rest : List Ty) (c : Class) → c ≡ class_of t → c ≡ classes.Entry → listed (members t) ≡ k ∷ v ∷ rest → nesting t ≡ nesting v + 1
-unfolding nesting listed
-entry_nesting (entry j u) k v rest c a b e = omega (arith, ap nesting (second_of e))
-  where
-    second_of : {a b c d : Ty} {xs ys : List Ty} → a ∷ b ∷ xs ≡ c ∷ d ∷ ys → b ≡ d
-    second_of e = cc
+pub entry_nesting : (t k v : Ty) (rest : List Ty) (c : Class) → c ≡ class_of t → c ≡ classes.Entry → type_list (members t) ≡ k ∷ v ∷ rest → nesting t ≡ nesting v + 1
+unfolding nesting type_list
+entry_nesting (entry j u) k v rest c a b e = omega (arith, ap nesting (same_head (same_tail e)))
 entry_nesting (array t) k v rest c a b e = absurd cc
 entry_nesting (maybe t) k v rest c a b e = absurd cc
 entry_nesting (basic j) k v rest c a b e = absurd cc
 entry_nesting variant k v rest c a b e = absurd cc
 entry_nesting (tuple ts) k v rest c a b e = absurd cc
 
--- how deep the deepest of some types nests
-abbrev pub greatest_of : List Ty → ℕ
-greatest_of [] = 0
-greatest_of (t ∷ ts) = max (nesting t) (greatest_of ts)
-
-pub greatest_of-listed : (ts : Types) → greatest_of (listed ts) ≡ greatest_nesting ts
-unfolding nesting listed
-greatest_of-listed end = refl
-greatest_of-listed (member t ts) = ap (max (nesting t)) (greatest_of-listed ts)
-
 -- a tuple's members are all read
 pub exactly_members : (t : Ty) (c : Class) (ps : List Pattern) (left : List Ty) → c ≡ class_of t → c ≡ classes.Tuple → left ≡ [] → before ps (exactly_all left) ≡ exactly_each (members t) → strict (tuple_with (patterns_of ps)) ≡ exactly t
 exactly_members t c ps left a b e h = ap (λ qs. strict (tuple_with qs)) (sym (before_stop ps) ∙ ap (λ l. before ps (exactly_all l)) (sym e) ∙ h) ∙ exactly_tuple t c a b
 
 -- an entry has two members
-pub entry_members : (t : Ty) (c : Class) → c ≡ class_of t → c ≡ classes.Entry → (k : Ty) × ((v : Ty) × (listed (members t) ≡ k ∷ v ∷ []))
-unfolding listed
+pub entry_members : (t : Ty) (c : Class) → c ≡ class_of t → c ≡ classes.Entry → (k : Ty) × ((v : Ty) × (type_list (members t) ≡ k ∷ v ∷ []))
+unfolding type_list
 entry_members (entry j u) c a b = (basic j, (u, refl))
 entry_members (array t) c a b = absurd cc
 entry_members (maybe t) c a b = absurd cc
@@ -151,7 +117,4 @@ is_some_next (Some x) left rest P t ts h e = refl
 
 pub after_next : (o : Option TypeStr) (x : TypeStr) (left rest : List Ty) (P : Type 0) → MatchOption o ((left ≡ []) × P) (λ y. left ≡ ty y ∷ rest) → o ≡ Some x → left ≡ ty x ∷ rest
 after_next None x left rest P h e = absurd cc
-after_next (Some y) x left rest P h e = h ∙ ap (λ z. ty z ∷ rest) (some_text y x e)
-
-pub rest_is : (t u : Ty) (ts us : List Ty) → t ∷ ts ≡ u ∷ us → ts ≡ us
-rest_is t u ts us e = cc
+after_next (Some y) x left rest P h e = h ∙ ap (λ z. ty z ∷ rest) (same_Some y x e)

@@ -4,11 +4,11 @@ use Rattle.gv_model.specs.Ty.{Ty, Types, Basic, spelling, spellings, letter}
 use Rattle.gv_model.specs.Ty.Ty.{basic, array, maybe, tuple, entry}
 use Rattle.gv_model.specs.Ty.Types.{end, member}
 use Rattle.gv_model.specs.Ty.Basic.{boolean, int32, string}
-use Rattle.gv_model.specs.Patterns.{Kind, Pattern, Core}
+use Rattle.gv_model.specs.Patterns.{BasicSet, Pattern, Bare}
 use Rattle.gv_model.specs.Patterns.Pattern.{anything, never, maybe_of, strict, loose}
-use Rattle.gv_model.specs.Patterns.Core.{kind, a_variant, array_of, tuple_with, entry_of, no_core}
-use Rattle.gv_model.specs.Patterns.Kind.{any, numbers, texts, empty, only}
-use Rattle.gv_model.specs.LeastTypes.{Least as TheLeast, Leasts, least_with, least_kind, least_entry, least_tuple, least_member, least_in, least_core, leasts_in}
+use Rattle.gv_model.specs.Patterns.Bare.{basics, a_variant, array_of, tuple_with, entry_of, no_bare}
+use Rattle.gv_model.specs.Patterns.BasicSet.{any, numbers, texts, empty, only}
+use Rattle.gv_model.specs.LeastTypes.{Least as TheLeast, Leasts, least_with, least_basics, least_entry, least_tuple, least_member, least_in, least_bare, leasts_in}
 use Rattle.gv_model.specs.LeastTypes.Least.{nowhere, least, many}
 use Rattle.gv_model.specs.LeastTypes.Leasts.{nowhere_each, least_each, many_each}
 use Rattle.std.specs.Prelude.{Result, Ok, Err, IfOk}
@@ -16,7 +16,7 @@ use Rattle.std.specs.declared.alloc.AllocError.{AllocError}
 use Rattle.gv_infer.specs.declared.least.Found.{Found}
 use Rattle.gv_infer.specs.declared.least.Found.TheVariants.{Nowhere, Least, Many}
 use Rattle.gv_infer.specs.Forms.{patterns_of}
-use Rattle.gv_infer.specs.Found.{found_of, found_each, both_found, Spelled, SpelledEach, Written, WrittenEach}
+use Rattle.gv_infer.specs.LeastTexts.{found_of, found_each, both_found, Spelled, SpelledEach, Written, WrittenEach}
 
 -- a letter, and then the text of the type under it
 pub written_under : (f : Ty → Ty) (c : ℕ) (l : TheLeast) (before between after : List ℕ) (found : Found) → ((t : Ty) → spelling (f t) ≡ c ∷ spelling t) → between ≡ before ++ c ∷ [] → Written l between after found → Written (least_with f l) before after found
@@ -61,7 +61,7 @@ written_tuple l before opened full after found e g w = record { found = w.found 
     spelled (least_each ts) h = whole ts h
     spelled (many_each ts) h = whole ts h
 
--- one more member in front
+-- one more member first
 pub written_member : (l : TheLeast) (ls : Leasts) (before between after : List ℕ) (f g : Found) → Written l before between f → WrittenEach ls between after g → WrittenEach (least_member l ls) before after (both_found f g)
 unfolding spelling
 written_member l ls before between after f g w v = record { found = ap₂ both_found w.found v.found ∙ same l ls; text = spelled l ls w.text v.text }
@@ -125,11 +125,11 @@ entry_text k t before opened keyed valued after e g h i =
     g ∙ ap (λ (x : List ℕ). x ++ 125 ∷ []) (i ∙ ap (λ (x : List ℕ). x ++ spelling t) (h ∙ ap (λ (x : List ℕ). x ++ letter k ∷ []) e ∙ append_assoc before (123 ∷ []) (letter k ∷ [])) ∙ append_assoc before (123 ∷ letter k ∷ []) (spelling t)) ∙ append_assoc before (123 ∷ letter k ∷ spelling t) (125 ∷ [])
 
 -- a key and a value, between braces
-pub written_entry : (s : Kind) (l : TheLeast) (before opened keyed valued after : List ℕ) (f g : Found) → opened ≡ before ++ 123 ∷ [] → after ≡ valued ++ 125 ∷ [] → Written (least_kind basic s) opened keyed f → Written l keyed valued g → Written (least_entry (least_kind basic s) (λ k. least_with (entry k) l)) before after (both_found f g)
+pub written_entry : (s : BasicSet) (l : TheLeast) (before opened keyed valued after : List ℕ) (f g : Found) → opened ≡ before ++ 123 ∷ [] → after ≡ valued ++ 125 ∷ [] → Written (least_basics basic s) opened keyed f → Written l keyed valued g → Written (least_entry (least_basics basic s) (λ k. least_with (entry k) l)) before after (both_found f g)
 unfolding spelling
 written_entry s l before opened keyed valued after f g e d w v = record { found = ap₂ both_found w.found v.found ∙ same s l; text = spelled s l w.text v.text }
   where
-    same : (s : Kind) (l : TheLeast) → both_found (found_of (least_kind basic s)) (found_of l) ≡ found_of (least_entry (least_kind basic s) (λ k. least_with (entry k) l))
+    same : (s : BasicSet) (l : TheLeast) → both_found (found_of (least_basics basic s)) (found_of l) ≡ found_of (least_entry (least_basics basic s) (λ k. least_with (entry k) l))
     same any nowhere = refl
     same any (least t) = refl
     same any (many t) = refl
@@ -144,7 +144,7 @@ written_entry s l before opened keyed valued after f g e d w v = record { found 
     same (only k) (least t) = refl
     same (only k) (many t) = refl
 
-    spelled : (s : Kind) (l : TheLeast) → Spelled (least_kind basic s) opened keyed → Spelled l keyed valued → Spelled (least_entry (least_kind basic s) (λ k. least_with (entry k) l)) before after
+    spelled : (s : BasicSet) (l : TheLeast) → Spelled (least_basics basic s) opened keyed → Spelled l keyed valued → Spelled (least_entry (least_basics basic s) (λ k. least_with (entry k) l)) before after
     spelled any nowhere h i = tt
     spelled any (least t) h i = entry_text boolean t before opened keyed valued after e d h i
     spelled any (many t) h i = entry_text boolean t before opened keyed valued after e d h i
@@ -165,45 +165,45 @@ if_ok : (r : Result Found AllocError) (P Q : Found → Type 0) → ((f : Found) 
 if_ok (Ok f) P Q g h = g f h
 if_ok (Err e) P Q g h = tt
 
-pub basic_any : (s : Kind) (before after : List ℕ) → s ≡ any → after ≡ before ++ 98 ∷ [] → Written (least_kind basic s) before after Many
+pub basic_any : (s : BasicSet) (before after : List ℕ) → s ≡ any → after ≡ before ++ 98 ∷ [] → Written (least_basics basic s) before after Many
 unfolding spelling
 basic_any s before after e h = rw e (record { found = refl; text = h })
 
-pub basic_numbers : (s : Kind) (before after : List ℕ) → s ≡ numbers → after ≡ before ++ 105 ∷ [] → Written (least_kind basic s) before after Least
+pub basic_numbers : (s : BasicSet) (before after : List ℕ) → s ≡ numbers → after ≡ before ++ 105 ∷ [] → Written (least_basics basic s) before after Least
 unfolding spelling
 basic_numbers s before after e h = rw e (record { found = refl; text = h })
 
-pub basic_texts : (s : Kind) (before after : List ℕ) → s ≡ texts → after ≡ before ++ 115 ∷ [] → Written (least_kind basic s) before after Least
+pub basic_texts : (s : BasicSet) (before after : List ℕ) → s ≡ texts → after ≡ before ++ 115 ∷ [] → Written (least_basics basic s) before after Least
 unfolding spelling
 basic_texts s before after e h = rw e (record { found = refl; text = h })
 
-pub basic_only : (s : Kind) (k : Basic) (before text after : List ℕ) → s ≡ only k → text ≡ letter k ∷ [] → after ≡ before ++ text → Written (least_kind basic s) before after Least
+pub basic_only : (s : BasicSet) (k : Basic) (before text after : List ℕ) → s ≡ only k → text ≡ letter k ∷ [] → after ≡ before ++ text → Written (least_basics basic s) before after Least
 unfolding spelling
 basic_only s k before text after e g h = rw e (record { found = refl; text = h ∙ ap (λ (x : List ℕ). before ++ x) g })
 
-pub core_kind : (c : Core) (s : Kind) (r : Result Found AllocError) (before after : List ℕ) → c ≡ kind s → IfOk r (Written (least_kind basic s) before after) → IfOk r (Written (least_core c) before after)
+pub bare_basics : (c : Bare) (s : BasicSet) (r : Result Found AllocError) (before after : List ℕ) → c ≡ basics s → IfOk r (Written (least_basics basic s) before after) → IfOk r (Written (least_bare c) before after)
 unfolding least_in
-core_kind c s r before after e h = rw e h
+bare_basics c s r before after e h = rw e h
 
-pub core_variant : (c : Core) (before after : List ℕ) → c ≡ a_variant → after ≡ before ++ 118 ∷ [] → Written (least_core c) before after Least
+pub bare_variant : (c : Bare) (before after : List ℕ) → c ≡ a_variant → after ≡ before ++ 118 ∷ [] → Written (least_bare c) before after Least
 unfolding least_in spelling
-core_variant c before after e h = rw e (record { found = refl; text = h })
+bare_variant c before after e h = rw e (record { found = refl; text = h })
 
-pub core_array : (c : Core) (p q : Pattern) (r : Result Found AllocError) (before between after : List ℕ) → c ≡ array_of p → q ≡ p → between ≡ before ++ 97 ∷ [] → IfOk r (Written (least_in q) between after) → IfOk r (Written (least_core c) before after)
+pub bare_array : (c : Bare) (p q : Pattern) (r : Result Found AllocError) (before between after : List ℕ) → c ≡ array_of p → q ≡ p → between ≡ before ++ 97 ∷ [] → IfOk r (Written (least_in q) between after) → IfOk r (Written (least_bare c) before after)
 unfolding least_in
-core_array c p q r before between after e d h w = rw e (rw (sym d) (if_ok r _ _ (λ f v. written_array (least_in q) before between after f h v) w))
+bare_array c p q r before between after e d h w = rw e (rw (sym d) (if_ok r _ _ (λ f v. written_array (least_in q) before between after f h v) w))
 
-pub core_tuple : (c : Core) (ps qs : List Pattern) (before opened full after : List ℕ) (f : Found) → c ≡ tuple_with (patterns_of ps) → qs ≡ ps → opened ≡ before ++ 40 ∷ [] → after ≡ full ++ 41 ∷ [] → WrittenEach (leasts_in (patterns_of qs)) opened full f → Written (least_core c) before after f
+pub bare_tuple : (c : Bare) (ps qs : List Pattern) (before opened full after : List ℕ) (f : Found) → c ≡ tuple_with (patterns_of ps) → qs ≡ ps → opened ≡ before ++ 40 ∷ [] → after ≡ full ++ 41 ∷ [] → WrittenEach (leasts_in (patterns_of qs)) opened full f → Written (least_bare c) before after f
 unfolding least_in
-core_tuple c ps qs before opened full after f e d g h w = rw e (rw (sym d) (written_tuple (leasts_in (patterns_of qs)) before opened full after f g h w))
+bare_tuple c ps qs before opened full after f e d g h w = rw e (rw (sym d) (written_tuple (leasts_in (patterns_of qs)) before opened full after f g h w))
 
-pub core_entry : (c : Core) (s : Kind) (p q : Pattern) (before opened keyed valued after : List ℕ) (f g : Found) → c ≡ entry_of s p → q ≡ p → opened ≡ before ++ 123 ∷ [] → after ≡ valued ++ 125 ∷ [] → Written (least_kind basic s) opened keyed f → Written (least_in q) keyed valued g → Written (least_core c) before after (both_found f g)
+pub bare_entry : (c : Bare) (s : BasicSet) (p q : Pattern) (before opened keyed valued after : List ℕ) (f g : Found) → c ≡ entry_of s p → q ≡ p → opened ≡ before ++ 123 ∷ [] → after ≡ valued ++ 125 ∷ [] → Written (least_basics basic s) opened keyed f → Written (least_in q) keyed valued g → Written (least_bare c) before after (both_found f g)
 unfolding least_in
-core_entry c s p q before opened keyed valued after f g e d h i w v = rw e (rw (sym d) (written_entry s (least_in q) before opened keyed valued after f g h i w v))
+bare_entry c s p q before opened keyed valued after f g e d h i w v = rw e (rw (sym d) (written_entry s (least_in q) before opened keyed valued after f g h i w v))
 
-pub core_none : (c : Core) (before after : List ℕ) → c ≡ no_core → Written (least_core c) before after Nowhere
+pub bare_none : (c : Bare) (before after : List ℕ) → c ≡ no_bare → Written (least_bare c) before after Nowhere
 unfolding least_in
-core_none c before after e = rw e (record { found = refl; text = tt })
+bare_none c before after e = rw e (record { found = refl; text = tt })
 
 pub pattern_any : (p : Pattern) (before after : List ℕ) → p ≡ anything → after ≡ before ++ 118 ∷ [] → Written (least_in p) before after Many
 unfolding least_in spelling
@@ -217,10 +217,10 @@ pub pattern_maybe : (c p q : Pattern) (r : Result Found AllocError) (before betw
 unfolding least_in
 pattern_maybe c p q r before between after e d h w = rw e (rw (sym d) (if_ok r _ _ (λ f v. written_maybe (least_in q) before between after f h v) w))
 
-pub pattern_strict : (p : Pattern) (c : Core) (r : Result Found AllocError) (before after : List ℕ) → p ≡ strict c → IfOk r (Written (least_core c) before after) → IfOk r (Written (least_in p) before after)
+pub pattern_strict : (p : Pattern) (c : Bare) (r : Result Found AllocError) (before after : List ℕ) → p ≡ strict c → IfOk r (Written (least_bare c) before after) → IfOk r (Written (least_in p) before after)
 unfolding least_in
 pattern_strict p c r before after e h = rw e h
 
-pub pattern_loose : (p : Pattern) (c : Core) (r : Result Found AllocError) (before after : List ℕ) → p ≡ loose c → IfOk r (Written (least_core c) before after) → IfOk r (Written (least_in p) before after)
+pub pattern_loose : (p : Pattern) (c : Bare) (r : Result Found AllocError) (before after : List ℕ) → p ≡ loose c → IfOk r (Written (least_bare c) before after) → IfOk r (Written (least_in p) before after)
 unfolding least_in
 pattern_loose p c r before after e h = rw e h

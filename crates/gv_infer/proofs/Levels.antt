@@ -1,5 +1,5 @@
--- How deep the parts of syntax are, and what stands at a place of a list.
-use Rattle.std.proofs.Common.{ℕ, zero, suc, ◌+◌, ◌<◌, ◌≤◌, ◌≡◌, max, List, [], ◌∷◌, length, drop, get_or, refl, sym, ap, ◌∙◌, arith, add-one}
+-- How deep the parts of syntax are.
+use Rattle.std.proofs.Common.{ℕ, zero, suc, ◌+◌, ◌<◌, ◌≤◌, ◌≡◌, max, List, [], ◌∷◌, length, get_or, ap, arith}
 use Rattle.gv_model.specs.Ty.{Ty, Basic}
 use Rattle.gv_model.specs.Syntax.{Syntax, Syntaxes, Pairs, levels, greatest_levels, pairs_levels}
 use Rattle.gv_model.specs.Syntax.Syntax.{list, tuple_of, dictionary, lone, boxed, just, at_type, keyword}
@@ -37,20 +37,15 @@ pub keyword_levels : (k : Basic) (x : Syntax) → levels (keyword k x) ≡ level
 unfolding levels
 keyword_levels k x = omega arith
 
-pub item_le : (xs : List Syntax) (i : ℕ) (x : Syntax) → i < length xs → x ≡ get_or xs i x → levels x ≤ greatest_levels (nodes_of xs)
+-- no item is deeper than the deepest
+pub levels_at : (xs : List Syntax) (i : ℕ) (x : Syntax) → i < length xs → x ≡ get_or xs i x → levels x ≤ greatest_levels (nodes_of xs)
 unfolding levels
-item_le [] i x lt e = absurd (omega arith)
-item_le (y ∷ xs) zero x lt e = omega (arith, ap levels e)
-item_le (y ∷ xs) (suc i) x lt e = omega (arith, item_le xs i x (omega arith) e)
+levels_at [] i x lt e = absurd (omega arith)
+levels_at (y ∷ xs) zero x lt e = omega (arith, ap levels e)
+levels_at (y ∷ xs) (suc i) x lt e = omega (arith, levels_at xs i x (omega arith) e)
 
-pub pair_le : (ps : List (Syntax × Syntax)) (i : ℕ) (p : Syntax × Syntax) → i < length ps → p ≡ get_or ps i p → (levels p.0 ≤ pairs_levels (pairs_of ps)) × (levels p.1 ≤ pairs_levels (pairs_of ps))
+pub pair_levels_at : (xs : List (Syntax × Syntax)) (i : ℕ) (p : Syntax × Syntax) → i < length xs → p ≡ get_or xs i p → (levels p.0 ≤ pairs_levels (pairs_of xs)) × (levels p.1 ≤ pairs_levels (pairs_of xs))
 unfolding levels
-pair_le [] i p lt e = absurd (omega arith)
-pair_le (q ∷ ps) zero p lt e = (omega (arith, ap (λ (r : Syntax × Syntax). levels r.0) e), omega (arith, ap (λ (r : Syntax × Syntax). levels r.1) e))
-pair_le (q ∷ ps) (suc i) p lt e = let less = pair_le ps i p (omega arith) e in (omega (arith, less.0), omega (arith, less.1))
-
--- the item at a place, and what stands behind it
-pub drop_item : {X : Type 0} (xs : List X) (i : ℕ) (x : X) → i < length xs → x ≡ get_or xs i x → drop i xs ≡ x ∷ drop (i + 1) xs
-drop_item [] i x lt e = absurd (omega arith)
-drop_item (y ∷ xs) zero x lt e = ap (λ z. z ∷ xs) (sym e)
-drop_item (y ∷ xs) (suc i) x lt e = rw add-one (rw add-one at (drop_item xs i x (omega arith) e))
+pair_levels_at [] i p lt e = absurd (omega arith)
+pair_levels_at (y ∷ xs) zero p lt e = (omega (arith, ap (λ (q : Syntax × Syntax). levels q.0) e), omega (arith, ap (λ (q : Syntax × Syntax). levels q.1) e))
+pair_levels_at (y ∷ xs) (suc i) p lt e = let h = pair_levels_at xs i p (omega arith) e in (omega (arith, h.0), omega (arith, h.1))

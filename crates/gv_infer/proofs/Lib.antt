@@ -6,7 +6,7 @@ pub mod WithinLaws
 pub mod WeightLaws
 pub mod ChoiceTexts
 pub mod ContentLaws
-pub mod ListLaws
+pub mod ContentRules
 pub mod BuiltChildren
 pub mod ValueLaws
 pub mod BuildLaws

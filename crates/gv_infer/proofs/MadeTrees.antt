@@ -1,61 +1,53 @@
 -- What the constructors of trees give, and how deep it is.
-use Rattle.std.proofs.Common.{ℕ, zero, suc, ◌<◌, ◌≤◌, ◌≡◌, ◌+◌, ◌++◌, max, List, [], ◌∷◌, length, Bool, true, false, Option, Some, None, Result, Ok, Err, IfOk, IfErr, refl, sym, ap, ◌∙◌, arith, subst, inl, inr}
-use Rattle.gv_model.specs.Ty.{Ty, Types, Basic, spelling, nesting}
+use Rattle.std.proofs.Common.{ℕ, ◌<◌, ◌≤◌, ◌≡◌, ◌++◌, max, List, [], ◌∷◌, Bool, true, false, Option, Some, None, Result, Ok, Err, IfOk, IfErr, refl, sym, ap, ◌∙◌, arith, subst, inl, inr}
+use Rattle.gv_model.specs.Ty.{Ty, Basic, spelling, nesting}
 use Rattle.gv_model.specs.Ty.Ty.{basic, variant, array, maybe, tuple, entry}
-use Rattle.gv_model.specs.TypeText.{is_type, type_at, is_within_limits}
+use Rattle.gv_model.specs.TypeText.{is_type, type_at}
 use Rattle.gv_model.specs.Tree.{Tree, Trees, type_of, children, depth, greatest_depth}
-use Rattle.gv_model.specs.Tree.Tree.{number, text, node}
+use Rattle.gv_model.specs.Tree.Tree.{node}
 use Rattle.gv_model.specs.Tree.Trees.{none, first}
 use Rattle.gv_model.specs.Typed.{AllOf, types_of}
 use Rattle.gv_model.specs.Literals.{ValueFault as TheFault}
 use Rattle.gv_model.specs.TextValues.{at_maybes, in_node, only_one}
 use Rattle.gv_model.proofs.TypeTextParts.{spelling-type_at}
+use Rattle.gv_model.proofs.TypeTextLaws.{limits_of}
 use Rattle.gv_tree.specs.Nodes.{trees_of}
-use Rattle.gv_tree.specs.Faults.{IsSizeFault, IsContentFault, IsEntryFault, IsFirstOther}
-use Rattle.gv_tree.specs.Wholes.{IsWhole, entry_tree, entry_of}
+use Rattle.gv_tree.specs.Faults.{IsSizeFault, IsContentFault, IsEntryFault}
+use Rattle.gv_tree.specs.Wholes.{IsWhole, entry_tree, entry_at_key}
 use Rattle.gv_tree.specs.declared.fault.TreeFault.{TreeFault}
+use Rattle.gv_tree.proofs.ListLaws.{none_other}
 use Rattle.gv_tree.specs.declared.fault.TreeFault.TheVariants as tree_faults
 use Rattle.gv_infer.specs.BareTypes.{bare_type}
 use Rattle.gv_infer.specs.ValueFaults.{FaultIs}
-use Rattle.gv_infer.specs.Building.{Shows, IsBuilt, IsWithin, MayComeOf, IsMade, IsOfMadeType, HasTypeIf, AreEntryParts, entry_node}
-use Rattle.gv_infer.specs.Children.{HoldIf, behind, Show, AllOfType, AreMembers}
+use Rattle.gv_infer.specs.Building.{BuildsTo, IsBuilt, IsWithinLimits, IsContainerFault, IsConstructed, IsConstructedOf, IsNoneOrOfType, AreEntryParts, entry_node}
+use Rattle.gv_infer.specs.Children.{AreKeptIf, with_last, AllBuildTo, AllOfType, IsTupleTypeOf}
 use Rattle.std.specs.Global.{Vec}
+use Rattle.std.proofs.lemmas.Option.{same_Some}
 use Rattle.gv_infer.specs.declared.value_fault.ValueFault.{ValueFault}
 use Rattle.gv_infer.specs.declared.value_fault.ValueFault.TheVariants as faults
 
-low_limits : (t : Ty) (w : List ℕ) → is_within_limits t w ≡ true → nesting t ≤ 128
-low_limits t w h = grind arith
-
-short_limits : (t : Ty) (w : List ℕ) → is_within_limits t w ≡ true → length w ≤ 67108864
-short_limits t w h = grind arith
-
 -- the type of a checked text is within the limits
-pub within_type : (w : List ℕ) → is_type w ≡ true → IsWithin (type_at w)
+pub within_type : (w : List ℕ) → is_type w ≡ true → IsWithinLimits (type_at w)
 within_type w h = let p = spelling-type_at w h in rw p.0 p.1
 
 pub record IsContainer (w : Tree) (r : Result Tree TreeFault) : Type 0 where
-  pub may : IfErr r MayComeOf
-  pub made : IsMade w r
-  pub typed : IsOfMadeType (type_of w) r
+  pub may : IfErr r IsContainerFault
+  pub made : IsConstructed w r
+  pub typed : IsConstructedOf (type_of w) r
 
-pub container_of : (w : Tree) (made : Result Tree TreeFault) → IsWithin (type_of w) → IfOk made (λ t. t ≡ w) → IfOk made IsWhole → IfErr made (IsSizeFault w) → IsContainer w made
+pub container_of : (w : Tree) (made : Result Tree TreeFault) → IsWithinLimits (type_of w) → IfOk made (λ t. t ≡ w) → IfOk made IsWhole → IfErr made (IsSizeFault w) → IsContainer w made
 container_of w (Ok t) h e g f = record { may = tt; made = (sym e, g.levels); typed = ap type_of e }
 container_of w (Err tree_faults.TooDeep) h e g (inl f) = record { may = tt; made = f; typed = tt }
-container_of w (Err tree_faults.TooDeep) h e g (inr f) = absurd (omega (arith, f, low_limits _ _ h))
+container_of w (Err tree_faults.TooDeep) h e g (inr f) = absurd (omega (arith, f, (limits_of _ _ h).0))
 container_of w (Err tree_faults.Memory) h e g f = record { may = tt; made = tt; typed = tt }
-container_of w (Err tree_faults.TooLarge) h e g f = absurd (omega (arith, f.long, short_limits _ _ h))
+container_of w (Err tree_faults.TooLarge) h e g f = absurd (omega (arith, f.long, (limits_of _ _ h).1))
 container_of w (Err tree_faults.HasNul) h e g f = absurd f
 container_of w (Err tree_faults.BadObjectPath) h e g f = absurd f
 container_of w (Err tree_faults.BadSignature) h e g f = absurd f
 container_of w (Err (tree_faults.WrongType i)) h e g f = absurd f
 container_of w (Err tree_faults.KeyNotBasic) h e g f = absurd f
 
-none_other : (t : Ty) (vs : Trees) (i : ℕ) → AllOf t vs → IsFirstOther t vs i → ⊥
-none_other t none i h g = g
-none_other t (first v vs) zero h g = g h.0
-none_other t (first v vs) (suc i) h g = none_other t vs i h.1 g.1
-
-pub content_of : (t : Ty) (w : Tree) (made : Result Tree TreeFault) → AllOf t (children w) → IsWithin (type_of w) → IfOk made (λ u. u ≡ w) → IfOk made IsWhole → IfErr made (IsContentFault t w) → IsContainer w made
+pub content_of : (t : Ty) (w : Tree) (made : Result Tree TreeFault) → AllOf t (children w) → IsWithinLimits (type_of w) → IfOk made (λ u. u ≡ w) → IfOk made IsWhole → IfErr made (IsContentFault t w) → IsContainer w made
 content_of t w (Ok u) a h e g f = container_of w (Ok u) h e g tt
 content_of t w (Err tree_faults.TooDeep) a h e g f = container_of w (Err tree_faults.TooDeep) h tt tt f.1
 content_of t w (Err tree_faults.Memory) a h e g f = container_of w (Err tree_faults.Memory) h tt tt f.1
@@ -66,19 +58,16 @@ content_of t w (Err tree_faults.BadSignature) a h e g f = absurd f.1
 content_of t w (Err (tree_faults.WrongType i)) a h e g f = absurd (none_other t (children w) i a f)
 content_of t w (Err tree_faults.KeyNotBasic) a h e g f = absurd f.1
 
-pub shown_some : (o : Option Tree) (t v : Tree) → o ≡ Some t → Shows o v → v ≡ t
+pub shown_some : (o : Option Tree) (t v : Tree) → o ≡ Some t → BuildsTo o v → v ≡ t
 shown_some (Some u) t v e h = h.0 ∙ cc
 shown_some None t v e h = absurd cc
 
-pub shown_none : (o : Option Tree) (v : Tree) → o ≡ None → Shows o v → 128 < depth v
+pub shown_none : (o : Option Tree) (v : Tree) → o ≡ None → BuildsTo o v → 128 < depth v
 shown_none (Some u) v e h = absurd cc
 shown_none None v e h = h
 
-pub typed_some : (t : Ty) (o : Option Tree) (v : Tree) → o ≡ Some v → HasTypeIf t o → type_of v ≡ t
-typed_some t (Some u) v e h = ap type_of (the_same u v e) ∙ h
-  where
-    the_same : (u v : Tree) → ◌≡◌ {A = Option Tree} (Some u) (Some v) → v ≡ u
-    the_same u v e = cc
+pub typed_some : (t : Ty) (o : Option Tree) (v : Tree) → o ≡ Some v → IsNoneOrOfType t o → type_of v ≡ t
+typed_some t (Some u) v e h = ap type_of (sym (same_Some u v e)) ∙ h
 typed_some t None v e h = absurd cc
 
 pub deep_node : (t : Ty) (vs : Trees) → 128 < greatest_depth vs → 128 < depth (node t vs)
@@ -107,7 +96,7 @@ fault_as P Q faults.DoubleText h f = h _ f
 fault_as P Q faults.TooDeep h f = h _ f
 fault_as P Q faults.Memory h f = tt
 
-pub maybe_built : (f : Ty → Result Tree TheFault) (t u : Ty) (child : Option Tree) (r : Result (Option Tree) ValueFault) → t ≡ maybe u → IsBuilt (at_maybes f u) (Ok child) → ((v : Tree) → Shows child v → IsBuilt (Ok (node (maybe u) (first v none))) r) → IsBuilt (at_maybes f t) r
+pub maybe_built : (f : Ty → Result Tree TheFault) (t u : Ty) (child : Option Tree) (r : Result (Option Tree) ValueFault) → t ≡ maybe u → IsBuilt (at_maybes f u) (Ok child) → ((v : Tree) → BuildsTo child v → IsBuilt (Ok (node (maybe u) (first v none))) r) → IsBuilt (at_maybes f t) r
 maybe_built f t u child r e b j = rw e (subst (λ x. IsBuilt (in_node (maybe u) (only_one x)) r) (sym b.1) (j b.0 b.2))
 
 pub maybe_fault : (f : Ty → Result Tree TheFault) (t u : Ty) (e : ValueFault) → t ≡ maybe u → IsBuilt (at_maybes f u) (Err e) → IsBuilt (at_maybes f t) (Err e)
@@ -142,35 +131,32 @@ entry_key (array t) key value u v e g h = absurd h
 entry_key (maybe t) key value u v e g h = absurd h
 entry_key (tuple ts) key value u v e g h = absurd h
 
-some_tree : (t u : Tree) → ◌≡◌ {A = Option Tree} (Some t) (Some u) → t ≡ u
-some_tree t u e = cc
-
 -- what making an entry gives
-pub entry_made : (t : Ty) (k : Basic) (u v : Tree) (made : Result Tree TreeFault) → t ≡ entry k (type_of v) → type_of u ≡ basic k → IsWithin t → IfOk made (λ w. Some w ≡ entry_tree u v) → IfOk made IsWhole → IfErr made (IsEntryFault (entry_tree u v)) → IsContainer (entry_node t u v) made
-entry_made t k u v (Ok w) e g h m whole f = container_of (entry_node t u v) (Ok w) h (some_tree w _ (m ∙ ap (λ x. entry_of x u v) g ∙ ap (λ x. Some (entry_node x u v)) (sym e))) whole tt
-entry_made t k u v (Err x) e g h m whole f = container_of (entry_node t u v) (Err x) h tt tt (rw e (subst (λ y. IsEntryFault (entry_of y u v) x) g f))
+pub entry_made : (t : Ty) (k : Basic) (u v : Tree) (made : Result Tree TreeFault) → t ≡ entry k (type_of v) → type_of u ≡ basic k → IsWithinLimits t → IfOk made (λ w. Some w ≡ entry_tree u v) → IfOk made IsWhole → IfErr made (IsEntryFault (entry_tree u v)) → IsContainer (entry_node t u v) made
+entry_made t k u v (Ok w) e g h m whole f = container_of (entry_node t u v) (Ok w) h (same_Some w _ (m ∙ ap (λ x. entry_at_key x u v) g ∙ ap (λ x. Some (entry_node x u v)) (sym e))) whole tt
+entry_made t k u v (Err x) e g h m whole f = container_of (entry_node t u v) (Err x) h tt tt (rw e (subst (λ y. IsEntryFault (entry_at_key y u v) x) g f))
 
-behind_last : (held : List Tree) (v : Tree) → trees_of (held ++ v ∷ []) ≡ behind (trees_of held) v
-behind_last [] v = refl
-behind_last (u ∷ held) v = ap (first u) (behind_last held v)
+after_last : (held : List Tree) (v : Tree) → trees_of (held ++ v ∷ []) ≡ with_last (trees_of held) v
+after_last [] v = refl
+after_last (u ∷ held) v = ap (first u) (after_last held v)
 
-pub greatest_behind : (vs : Trees) (v : Tree) → greatest_depth (behind vs v) ≡ max (greatest_depth vs) (depth v)
+pub greatest_after : (vs : Trees) (v : Tree) → greatest_depth (with_last vs v) ≡ max (greatest_depth vs) (depth v)
 unfolding depth
-greatest_behind none v = omega arith
-greatest_behind (first u vs) v = omega (arith, greatest_behind vs v)
+greatest_after none v = omega arith
+greatest_after (first u vs) v = omega (arith, greatest_after vs v)
 
-pub held_more : (shallow : Bool) (held new : List Tree) (t v : Tree) (vs : Trees) → new ≡ held ++ t ∷ [] → HoldIf shallow held vs → v ≡ t → HoldIf shallow new (behind vs v)
-held_more true held new t v vs e h g = rw (e, g, h) (sym (behind_last held t))
-held_more false held new t v vs e h g = omega (arith, h, greatest_behind vs v)
+pub held_more : (shallow : Bool) (held new : List Tree) (t v : Tree) (vs : Trees) → new ≡ held ++ t ∷ [] → AreKeptIf shallow held vs → v ≡ t → AreKeptIf shallow new (with_last vs v)
+held_more true held new t v vs e h g = rw (e, g, h) (sym (after_last held t))
+held_more false held new t v vs e h g = omega (arith, h, greatest_after vs v)
 
-pub deep_more : (shallow : Bool) (held : List Tree) (v : Tree) (vs : Trees) → 128 < depth v → 128 < greatest_depth (behind vs v)
-deep_more shallow held v vs h = omega (arith, h, greatest_behind vs v)
+pub deep_more : (shallow : Bool) (held : List Tree) (v : Tree) (vs : Trees) → 128 < depth v → 128 < greatest_depth (with_last vs v)
+deep_more shallow held v vs h = omega (arith, h, greatest_after vs v)
 
-pub variant_within : IsWithin variant
+pub variant_within : IsWithinLimits variant
 unfolding spelling nesting
 variant_within = refl
 
-pub shown_list : (o : Option (Vec Tree)) (trees : Vec Tree) (vs : Trees) → o ≡ Some trees → Show o vs → vs ≡ trees_of trees.items
+pub shown_list : (o : Option (Vec Tree)) (trees : Vec Tree) (vs : Trees) → o ≡ Some trees → AllBuildTo o vs → vs ≡ trees_of trees.items
 shown_list (Some us) trees vs e h = h ∙ ap (λ (o : Option (Vec Tree)). trees_or_none o) e
   where
     trees_or_none : Option (Vec Tree) → Trees
@@ -178,12 +164,12 @@ shown_list (Some us) trees vs e h = h ∙ ap (λ (o : Option (Vec Tree)). trees_
     trees_or_none None = none
 shown_list None trees vs e h = absurd cc
 
-pub shown_no_list : (o : Option (Vec Tree)) (vs : Trees) → o ≡ None → Show o vs → 128 < greatest_depth vs
+pub shown_no_list : (o : Option (Vec Tree)) (vs : Trees) → o ≡ None → AllBuildTo o vs → 128 < greatest_depth vs
 shown_no_list (Some us) vs e h = absurd cc
 shown_no_list None vs e h = h
 
 pub all_of_some : (t : Ty) (o : Option (Vec Tree)) (trees : Vec Tree) → o ≡ Some trees → AllOfType t o → AllOf t (trees_of trees.items)
 all_of_some t o trees e h = subst (AllOfType t) e h
 
-pub members_of_some : (t : Ty) (o : Option (Vec Tree)) (trees : Vec Tree) → o ≡ Some trees → AreMembers t o → t ≡ tuple (types_of (trees_of trees.items))
-members_of_some t o trees e h = subst (AreMembers t) e h
+pub members_of_some : (t : Ty) (o : Option (Vec Tree)) (trees : Vec Tree) → o ≡ Some trees → IsTupleTypeOf t o → t ≡ tuple (types_of (trees_of trees.items))
+members_of_some t o trees e h = subst (IsTupleTypeOf t) e h

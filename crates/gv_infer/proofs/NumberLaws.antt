@@ -1,14 +1,15 @@
 -- A number is of its type, and is itself.
-use Rattle.std.proofs.Common.{ℕ, ◌≡◌, Bool, Option, Some, None, Result, Ok, Err, refl, sym, ap, ◌∙◌}
+use Rattle.std.proofs.Common.{ℕ, ◌≡◌, Bool, Option, Some, None, Result, Ok, sym, ap, ◌∙◌}
 use Rattle.gv_model.specs.Ty.{Ty, Basic}
-use Rattle.gv_model.specs.Ty.Ty.{basic, variant, array, maybe, tuple, entry}
+use Rattle.gv_model.specs.Ty.Ty.{basic}
 use Rattle.gv_model.specs.Ty.Basic.{boolean, byte, int16, uint16, int32, uint32, int64, uint64, handle, double, string, path, signature}
 use Rattle.gv_model.specs.Tree.{Tree, type_of}
 use Rattle.gv_model.specs.Tree.Tree.{number}
 use Rattle.gv_model.specs.Literals.{ValueFault, integer_at, or_out_of_range}
-use Rattle.gv_types.specs.Classes.{class_of, basic_of, basic_type}
+use Rattle.gv_types.specs.Classes.{class_of, basic_of}
 use Rattle.gv_types.specs.declared.class.Class.{Class}
 use Rattle.gv_types.specs.declared.class.BasicType.{BasicType}
+use Rattle.gv_types.proofs.ClassLaws.{basic_class as basic_of_class}
 use Rattle.gv_types.specs.declared.class.Class.TheVariants as classes
 use Rattle.gv_infer.specs.Leaves.{leaf_value}
 
@@ -38,28 +39,5 @@ number_is string negative n v e = ranged string _ v e
 number_is path negative n v e = ranged path _ v e
 number_is signature negative n v e = ranged signature _ v e
 
-basic_back : (k : Basic) → basic_of (basic_type k) ≡ k
-basic_back boolean = refl
-basic_back byte = refl
-basic_back int16 = refl
-basic_back uint16 = refl
-basic_back int32 = refl
-basic_back uint32 = refl
-basic_back int64 = refl
-basic_back uint64 = refl
-basic_back handle = refl
-basic_back double = refl
-basic_back string = refl
-basic_back path = refl
-basic_back signature = refl
-
-same_basic : (a b : BasicType) → classes.Basic a ≡ classes.Basic b → a ≡ b
-same_basic a b e = cc
-
 pub basic_class : (t : Ty) (c : Class) (b : BasicType) → c ≡ class_of t → c ≡ classes.Basic b → t ≡ basic (basic_of b)
-basic_class (basic k) c b h e = ap basic (sym (basic_back k) ∙ ap basic_of (same_basic (basic_type k) b (sym h ∙ e)))
-basic_class variant c b h e = absurd cc
-basic_class (array t) c b h e = absurd cc
-basic_class (maybe t) c b h e = absurd cc
-basic_class (tuple ts) c b h e = absurd cc
-basic_class (entry k t) c b h e = absurd cc
+basic_class t c b h e = basic_of_class t b (sym e ∙ h)

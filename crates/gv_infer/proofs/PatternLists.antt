@@ -13,7 +13,7 @@ abbrev pub before : List Pattern → Patterns → Patterns
 before [] qs = qs
 before (p ∷ ps) qs = next p (before ps qs)
 
--- the item at an index, and those behind it
+-- the item at an index, and those after it
 pub drop_item : (xs : List Pattern) (i : ℕ) (x : Pattern) → i < length xs → x ≡ get_or xs i x → drop i xs ≡ x ∷ drop (i + 1) xs
 drop_item [] i x lt e = absurd (omega arith)
 drop_item (y ∷ xs) zero x lt e = ap (λ (z : Pattern). z ∷ xs) (sym e)

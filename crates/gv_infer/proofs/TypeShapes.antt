@@ -1,7 +1,7 @@
 -- What a type's class and its parts say of it.
-use Rattle.std.proofs.Common.{◌≡◌, ◌≢◌, ◌<◌, ◌↔◌, List, [], ◌∷◌, Option, Some, None, refl, sym, ap, ◌∙◌, arith}
+use Rattle.std.proofs.Common.{◌≡◌, ◌≢◌, ◌<◌, ◌↔◌, List, [], ◌∷◌, Option, Some, refl, arith}
 use Rattle.std.specs.Prelude.{option_map}
-use Rattle.gv_model.specs.Ty.{Ty, Types, Basic, nesting, listed, members}
+use Rattle.gv_model.specs.Ty.{Ty, nesting, type_list, members}
 use Rattle.gv_model.specs.Ty.Ty.{basic, variant, array, maybe, tuple, entry}
 use Rattle.gv_model.specs.Admits.{AlsoMaybe}
 use Rattle.gv_types.specs.Classes.{class_of}
@@ -51,8 +51,8 @@ unfolding nesting
 less_than_maybe t u e = rw e (omega arith)
 
 -- the key and the members of an entry
-pub entry_types_of : (t : Ty) (o : Option TypeStr) (key a b : TypeStr) (left rest : List Ty) → option_map ty o ≡ key_of t → o ≡ Some key → listed (members t) ≡ ty a ∷ left → left ≡ ty b ∷ rest → AreEntryTypes t (Some (key, b))
-unfolding listed
+pub entry_types_of : (t : Ty) (o : Option TypeStr) (key a b : TypeStr) (left rest : List Ty) → option_map ty o ≡ key_of t → o ≡ Some key → type_list (members t) ≡ ty a ∷ left → left ≡ ty b ∷ rest → AreEntryTypes t (Some (key, b))
+unfolding type_list
 entry_types_of (entry k t) o key a b left rest h e g f = (cc, cc)
 entry_types_of (basic k) o key a b left rest h e g f = absurd cc
 entry_types_of variant o key a b left rest h e g f = absurd cc
@@ -60,8 +60,8 @@ entry_types_of (array t) o key a b left rest h e g f = absurd cc
 entry_types_of (maybe t) o key a b left rest h e g f = absurd cc
 entry_types_of (tuple ts) o key a b left rest h e g f = absurd cc
 
-pub entry_has_two : (t : Ty) (o : Option TypeStr) (key : TypeStr) → option_map ty o ≡ key_of t → o ≡ Some key → (listed (members t) ≡ [] → ⊥) × ((a : TypeStr) (left : List Ty) → listed (members t) ≡ ty a ∷ left → left ≡ [] → ⊥)
-unfolding listed
+pub entry_has_two : (t : Ty) (o : Option TypeStr) (key : TypeStr) → option_map ty o ≡ key_of t → o ≡ Some key → (type_list (members t) ≡ [] → ⊥) × ((a : TypeStr) (left : List Ty) → type_list (members t) ≡ ty a ∷ left → left ≡ [] → ⊥)
+unfolding type_list
 entry_has_two (entry k t) o key h e = (λ f. absurd cc, λ a left g f. absurd cc)
 entry_has_two (basic k) o key h e = absurd cc
 entry_has_two variant o key h e = absurd cc

@@ -1,19 +1,18 @@
 -- The value of syntax by what building gives.
-use Rattle.std.proofs.Common.{◌≡◌, ◌<◌, ◌≤◌, ℕ, Bool, true, false, Option, Some, None, Result, Ok, Err, refl, sym, ap, ◌∙◌, arith}
-use Rattle.std.specs.Prelude.{IfOk, IfErr, nat_le, if◌then◌else◌}
+use Rattle.std.proofs.Common.{◌≡◌, ◌<◌, ◌≤◌, true, false, Option, Some, None, Result, Ok, Err, refl, sym, ap, ◌∙◌, arith}
+use Rattle.std.specs.Prelude.{IfOk, IfErr, nat_le}
 use Rattle.std.specs.Option.{ok_or}
 use Rattle.gv_model.specs.Ty.{Ty}
 use Rattle.gv_model.specs.Tree.{Tree, depth}
 use Rattle.gv_model.specs.Syntax.{Syntax}
 use Rattle.gv_model.specs.Admits.{Admits}
-use Rattle.gv_model.specs.Chosen.{Choice}
-use Rattle.gv_model.specs.Chosen.Choice.{is, no_common_type, ambiguous}
+use Rattle.gv_model.specs.Chosen.Choice.{is}
 use Rattle.gv_model.specs.LeastTypes.{choice}
 use Rattle.gv_model.specs.Literals.{ValueFault as TheFault}
 use Rattle.gv_model.specs.Literals.ValueFault.{no_common, not_clear, too_deep}
 use Rattle.gv_model.specs.TextValues.{HasValue, literal_value, contents, first_choice, chosen_or, within_depth}
 use Rattle.gv_model.proofs.PatternLaws.{choice_right}
-use Rattle.gv_infer.specs.Typings.{AreTyped, IsFirstFault}
+use Rattle.gv_infer.specs.Typings.{AreTyped, IsFirstChoiceFault}
 use Rattle.gv_infer.specs.TypingValues.{value_fault}
 use Rattle.gv_infer.specs.Building.{IsBuilt}
 use Rattle.gv_infer.specs.Values.{IsValueFault}
@@ -30,7 +29,7 @@ not_admitted x t h = record { choose = choice; chosen = choice_right; fits = λ 
 pub admitted : (x : Syntax) (t : Ty) (r : Result Tree TheFault) → Admits x t → r ≡ chosen_or (λ u. within_depth (literal_value choice x t)) (first_choice choice (contents x) (is t)) → HasValue x t r
 admitted x t r a h = record { choose = choice; chosen = choice_right; fits = λ g. h; unfit = λ g. absurd (g a) }
 
-pub contents_fault : (x : Syntax) (t : Ty) (e : TypingFault) → Admits x t → IsFirstFault (contents x) e → IsValueFault x t (value_fault e)
+pub contents_fault : (x : Syntax) (t : Ty) (e : TypingFault) → Admits x t → IsFirstChoiceFault (contents x) e → IsValueFault x t (value_fault e)
 contents_fault x t typing_faults.NoCommonType a h = admitted x t (Err no_common) a (sym (ap (chosen_or (λ u. within_depth (literal_value choice x t))) (h (is t))))
 contents_fault x t typing_faults.Ambiguous a h = admitted x t (Err not_clear) a (sym (ap (chosen_or (λ u. within_depth (literal_value choice x t))) (h (is t))))
 contents_fault x t typing_faults.Memory a h = tt
@@ -61,6 +60,3 @@ pub record IsValueOrDeep (x : Syntax) (t : Ty) (r : Result Tree ValueFault) : Ty
 pub value_or_deep : (x : Syntax) (t : Ty) (built : Option Tree) → Admits x t → AreTyped (contents x) → IsBuilt (literal_value choice x t) (Ok built) → IsValueOrDeep x t (ok_or built faults.TooDeep)
 value_or_deep x t (Some v) a c b = record { value = built_value x t v a c b; fault = tt }
 value_or_deep x t None a c b = record { value = tt; fault = deep_fault x t a c b }
-
-pub not_both : (b : Bool) → b ≡ false → b ≡ true → ⊥
-not_both b h g = absurd cc

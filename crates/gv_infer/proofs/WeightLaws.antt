@@ -7,12 +7,12 @@ use Rattle.gv_model.specs.Syntax.{Syntax, Syntaxes, Pairs}
 use Rattle.gv_model.specs.Syntax.Syntax.{truth, integer, quoted, bytes, list, tuple_of, dictionary, lone, boxed, just, nothing, at_type, keyword}
 use Rattle.gv_model.specs.Syntax.Syntaxes.{none, first}
 use Rattle.gv_model.specs.Syntax.Pairs.{no_pair, pair}
-use Rattle.gv_model.specs.Patterns.{Kind, Pattern, Core, Patterns, under, common, common_core, common_each, exactly, exactly_each, pattern, all_common, patterns, common_value}
-use Rattle.gv_model.specs.Patterns.Kind.{any, numbers, texts, empty, only}
+use Rattle.gv_model.specs.Patterns.{BasicSet, Pattern, Bare, Patterns, under, common, common_bare, common_each, exactly, exactly_each, pattern, all_common, patterns, common_value}
+use Rattle.gv_model.specs.Patterns.BasicSet.{any, numbers, texts, empty, only}
 use Rattle.gv_model.specs.Patterns.Pattern.{anything, never, maybe_of, strict, loose}
-use Rattle.gv_model.specs.Patterns.Core.{kind, a_variant, array_of, tuple_with, entry_of, no_core}
+use Rattle.gv_model.specs.Patterns.Bare.{basics, a_variant, array_of, tuple_with, entry_of, no_bare}
 use Rattle.gv_model.specs.Patterns.Patterns.{stop, next}
-use Rattle.gv_model.specs.LeastTypes.{Least, Leasts, least_with, least_kind, least_entry, least_tuple, least_member, least_in, least_core, leasts_in}
+use Rattle.gv_model.specs.LeastTypes.{Least, Leasts, least_with, least_basics, least_entry, least_tuple, least_member, least_in, least_bare, leasts_in}
 use Rattle.gv_model.specs.LeastTypes.Least.{nowhere, least, many}
 use Rattle.gv_model.specs.LeastTypes.Leasts.{nowhere_each, least_each, many_each}
 use Rattle.gv_model.specs.Grammar.{text_bytes, tokens_bytes, tokens_of}
@@ -25,16 +25,16 @@ unfoldable mutual
   weight anything = 1
   weight never = 0
   weight (maybe_of p) = suc (weight p)
-  weight (strict c) = core_weight c
-  weight (loose c) = core_weight c
+  weight (strict c) = bare_weight c
+  weight (loose c) = bare_weight c
 
-  core_weight : Core → ℕ
-  core_weight (kind s) = 1
-  core_weight a_variant = 1
-  core_weight (array_of p) = suc (weight p)
-  core_weight (tuple_with ps) = 2 + weights ps
-  core_weight (entry_of s p) = 3 + weight p
-  core_weight no_core = 0
+  bare_weight : Bare → ℕ
+  bare_weight (basics s) = 1
+  bare_weight a_variant = 1
+  bare_weight (array_of p) = suc (weight p)
+  bare_weight (tuple_with ps) = 2 + weights ps
+  bare_weight (entry_of s p) = 3 + weight p
+  bare_weight no_bare = 0
 
   weights : Patterns → ℕ
   weights stop = 0
@@ -67,15 +67,15 @@ short_entry_at : (k : Basic) (t : Ty) (n : ℕ) → length (spelling t) ≤ n �
 unfolding spelling
 short_entry_at k t n h = omega (arith, h, length-append (spelling t) (125 ∷ []))
 
-short_kind : (s : Kind) → Short (least_kind basic s) 1
+short_basics : (s : BasicSet) → Short (least_basics basic s) 1
 unfolding spelling
-short_kind any = omega arith
-short_kind numbers = omega arith
-short_kind texts = omega arith
-short_kind empty = tt
-short_kind (only k) = omega arith
+short_basics any = omega arith
+short_basics numbers = omega arith
+short_basics texts = omega arith
+short_basics empty = tt
+short_basics (only k) = omega arith
 
-short_entry : (s : Kind) (l : Least) (n : ℕ) → Short l n → Short (least_entry (least_kind basic s) (λ k. least_with (entry k) l)) (3 + n)
+short_entry : (s : BasicSet) (l : Least) (n : ℕ) → Short l n → Short (least_entry (least_basics basic s) (λ k. least_with (entry k) l)) (3 + n)
 short_entry any nowhere n h = tt
 short_entry any (least t) n h = short_entry_at _ t n h
 short_entry any (many t) n h = short_entry_at _ t n h
@@ -119,16 +119,16 @@ mutual
   short_least anything = omega arith
   short_least never = tt
   short_least (maybe_of p) = short_maybe (least_in p) (weight p) (short_least p)
-  short_least (strict c) = short_core c
-  short_least (loose c) = short_core c
+  short_least (strict c) = short_bare c
+  short_least (loose c) = short_bare c
 
-  short_core : (c : Core) → Short (least_core c) (core_weight c)
-  short_core (kind s) = short_kind s
-  short_core a_variant = omega arith
-  short_core (array_of p) = short_array (least_in p) (weight p) (short_least p)
-  short_core (tuple_with ps) = short_tuple (leasts_in ps) (weights ps) (short_each ps)
-  short_core (entry_of s p) = short_entry s (least_in p) (weight p) (short_least p)
-  short_core no_core = tt
+  short_bare : (c : Bare) → Short (least_bare c) (bare_weight c)
+  short_bare (basics s) = short_basics s
+  short_bare a_variant = omega arith
+  short_bare (array_of p) = short_array (least_in p) (weight p) (short_least p)
+  short_bare (tuple_with ps) = short_tuple (leasts_in ps) (weights ps) (short_each ps)
+  short_bare (entry_of s p) = short_entry s (least_in p) (weight p) (short_least p)
+  short_bare no_bare = tt
 
   short_each : (ps : Patterns) → ShortEach (leasts_in ps) (weights ps)
   short_each stop = omega arith
@@ -136,7 +136,7 @@ mutual
 
 -- What two have in common weighs no more than both
 
-under_weight : (f : Core → Core) (c : Core) (q : Pattern) → ((d : Core) → core_weight (f d) ≤ core_weight c + core_weight d) → weight (under f c q) ≤ core_weight c + weight q
+under_weight : (f : Bare → Bare) (c : Bare) (q : Pattern) → ((d : Bare) → bare_weight (f d) ≤ bare_weight c + bare_weight d) → weight (under f c q) ≤ bare_weight c + weight q
 unfolding under weight
 under_weight f c anything h = omega arith
 under_weight f c never h = omega arith
@@ -158,42 +158,42 @@ mutual
   common_weight (strict c) anything = omega arith
   common_weight (strict c) never = omega arith
   common_weight (strict c) (maybe_of q) = omega arith
-  common_weight (strict c) (strict d) = core_common_weight c d
-  common_weight (strict c) (loose d) = core_common_weight c d
-  common_weight (loose c) q = under_weight (common_core c) c q (λ d. core_common_weight c d)
+  common_weight (strict c) (strict d) = bare_common_weight c d
+  common_weight (strict c) (loose d) = bare_common_weight c d
+  common_weight (loose c) q = under_weight (common_bare c) c q (λ d. bare_common_weight c d)
 
-  core_common_weight : (c d : Core) → core_weight (common_core c d) ≤ core_weight c + core_weight d
-  core_common_weight (kind s) (kind r) = omega arith
-  core_common_weight a_variant a_variant = omega arith
-  core_common_weight (array_of p) (array_of q) = omega (arith, common_weight p q)
-  core_common_weight (tuple_with ps) (tuple_with qs) = omega (arith, each_common_weight ps qs)
-  core_common_weight (entry_of s p) (entry_of r q) = omega (arith, common_weight p q)
-  core_common_weight (kind s) a_variant = omega arith
-  core_common_weight (kind s) (array_of q) = omega arith
-  core_common_weight (kind s) (tuple_with qs) = omega arith
-  core_common_weight (kind s) (entry_of r q) = omega arith
-  core_common_weight (kind s) no_core = omega arith
-  core_common_weight a_variant (kind r) = omega arith
-  core_common_weight a_variant (array_of q) = omega arith
-  core_common_weight a_variant (tuple_with qs) = omega arith
-  core_common_weight a_variant (entry_of r q) = omega arith
-  core_common_weight a_variant no_core = omega arith
-  core_common_weight (array_of p) (kind r) = omega arith
-  core_common_weight (array_of p) a_variant = omega arith
-  core_common_weight (array_of p) (tuple_with qs) = omega arith
-  core_common_weight (array_of p) (entry_of r q) = omega arith
-  core_common_weight (array_of p) no_core = omega arith
-  core_common_weight (tuple_with ps) (kind r) = omega arith
-  core_common_weight (tuple_with ps) a_variant = omega arith
-  core_common_weight (tuple_with ps) (array_of q) = omega arith
-  core_common_weight (tuple_with ps) (entry_of r q) = omega arith
-  core_common_weight (tuple_with ps) no_core = omega arith
-  core_common_weight (entry_of s p) (kind r) = omega arith
-  core_common_weight (entry_of s p) a_variant = omega arith
-  core_common_weight (entry_of s p) (array_of q) = omega arith
-  core_common_weight (entry_of s p) (tuple_with qs) = omega arith
-  core_common_weight (entry_of s p) no_core = omega arith
-  core_common_weight no_core d = omega arith
+  bare_common_weight : (c d : Bare) → bare_weight (common_bare c d) ≤ bare_weight c + bare_weight d
+  bare_common_weight (basics s) (basics r) = omega arith
+  bare_common_weight a_variant a_variant = omega arith
+  bare_common_weight (array_of p) (array_of q) = omega (arith, common_weight p q)
+  bare_common_weight (tuple_with ps) (tuple_with qs) = omega (arith, each_common_weight ps qs)
+  bare_common_weight (entry_of s p) (entry_of r q) = omega (arith, common_weight p q)
+  bare_common_weight (basics s) a_variant = omega arith
+  bare_common_weight (basics s) (array_of q) = omega arith
+  bare_common_weight (basics s) (tuple_with qs) = omega arith
+  bare_common_weight (basics s) (entry_of r q) = omega arith
+  bare_common_weight (basics s) no_bare = omega arith
+  bare_common_weight a_variant (basics r) = omega arith
+  bare_common_weight a_variant (array_of q) = omega arith
+  bare_common_weight a_variant (tuple_with qs) = omega arith
+  bare_common_weight a_variant (entry_of r q) = omega arith
+  bare_common_weight a_variant no_bare = omega arith
+  bare_common_weight (array_of p) (basics r) = omega arith
+  bare_common_weight (array_of p) a_variant = omega arith
+  bare_common_weight (array_of p) (tuple_with qs) = omega arith
+  bare_common_weight (array_of p) (entry_of r q) = omega arith
+  bare_common_weight (array_of p) no_bare = omega arith
+  bare_common_weight (tuple_with ps) (basics r) = omega arith
+  bare_common_weight (tuple_with ps) a_variant = omega arith
+  bare_common_weight (tuple_with ps) (array_of q) = omega arith
+  bare_common_weight (tuple_with ps) (entry_of r q) = omega arith
+  bare_common_weight (tuple_with ps) no_bare = omega arith
+  bare_common_weight (entry_of s p) (basics r) = omega arith
+  bare_common_weight (entry_of s p) a_variant = omega arith
+  bare_common_weight (entry_of s p) (array_of q) = omega arith
+  bare_common_weight (entry_of s p) (tuple_with qs) = omega arith
+  bare_common_weight (entry_of s p) no_bare = omega arith
+  bare_common_weight no_bare d = omega arith
 
   each_common_weight : (ps qs : Patterns) → weights (common_each ps qs) ≤ weights ps + weights qs
   each_common_weight stop stop = omega arith
@@ -234,7 +234,7 @@ mutual
   pattern_weight (just x) = omega (arith, pattern_weight x)
   pattern_weight nothing = omega arith
   pattern_weight (at_type t x) = omega (arith, common_weight (exactly t) (pattern x), exact_weight t, pattern_weight x)
-  pattern_weight (keyword k x) = omega (arith, common_weight (strict (kind (only k))) (pattern x), pattern_weight x)
+  pattern_weight (keyword k x) = omega (arith, common_weight (strict (basics (only k))) (pattern x), pattern_weight x)
 
   common_weights : (xs : Syntaxes) → weight (all_common xs) ≤ 1 + 4 * syntaxes_bytes xs
   common_weights none = omega arith

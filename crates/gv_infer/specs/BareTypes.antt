@@ -1,8 +1,7 @@
 -- A type without the maybes around it, and what an entry's type is made of.
 use Rattle.std.specs.Prelude.{◌≡◌, Option, Some, None}
-use Rattle.gv_model.specs.Ty.{Ty, Basic}
-use Rattle.gv_model.specs.Ty.Ty.{basic, variant, array, maybe, tuple, entry}
-use Rattle.gv_model.specs.Admits.{IsEntryOf}
+use Rattle.gv_model.specs.Ty.{Ty}
+use Rattle.gv_model.specs.Ty.Ty.{basic, maybe, entry}
 use Rattle.gv_types.specs.TypeStr.{ty}
 use Rattle.gv_types.specs.declared.type_str.TypeStr.{TypeStr}
 

@@ -11,23 +11,23 @@ use Rattle.gv_model.specs.TextValues.{with_first}
 use Rattle.gv_tree.specs.Nodes.{trees_of}
 use Rattle.gv_infer.specs.ValueFaults.{FaultIs}
 use Rattle.gv_infer.specs.declared.value_fault.ValueFault.{ValueFault}
-use Rattle.gv_infer.specs.declared.children.Children.{Children}
+use Rattle.gv_infer.specs.declared.children.BuiltTrees.{BuiltTrees}
 
 -- these trees, unless one of them is too deep
-abbrev pub HoldIf : Bool → List Tree → Trees → Type 0
-HoldIf true held vs = vs ≡ trees_of held
-HoldIf false held vs = 128 < greatest_depth vs
+abbrev pub AreKeptIf : Bool → List Tree → Trees → Type 0
+AreKeptIf true held vs = vs ≡ trees_of held
+AreKeptIf false held vs = 128 < greatest_depth vs
 
-abbrev pub Hold : Children → Trees → Type 0
-Hold c vs = HoldIf c.shallow c.trees.items vs
+abbrev pub IsBuiltFrom : BuiltTrees → Trees → Type 0
+IsBuiltFrom c vs = AreKeptIf c.shallow c.trees.items vs
 
-abbrev pub Show : Option (Vec Tree) → Trees → Type 0
-Show (Some trees) vs = vs ≡ trees_of trees.items
-Show None vs = 128 < greatest_depth vs
+abbrev pub AllBuildTo : Option (Vec Tree) → Trees → Type 0
+AllBuildTo (Some trees) vs = vs ≡ trees_of trees.items
+AllBuildTo None vs = 128 < greatest_depth vs
 
-abbrev pub behind : Trees → Tree → Trees
-behind none v = first v none
-behind (first u vs) v = first u (behind vs v)
+abbrev pub with_last : Trees → Tree → Trees
+with_last none v = first v none
+with_last (first u vs) v = first u (with_last vs v)
 
 -- trees before others, unless one of those has a fault
 abbrev pub all_before : Trees → Result Trees TheFault → Result Trees TheFault
@@ -39,17 +39,17 @@ AllOfType t (Some trees) = AllOf t (trees_of trees.items)
 AllOfType t None = Unit {0}
 
 -- trees of these types
-abbrev pub AreMembers : Ty → Option (Vec Tree) → Type 0
-AreMembers t (Some trees) = t ≡ tuple (types_of (trees_of trees.items))
-AreMembers t None = Unit {0}
+abbrev pub IsTupleTypeOf : Ty → Option (Vec Tree) → Type 0
+IsTupleTypeOf t (Some trees) = t ≡ tuple (types_of (trees_of trees.items))
+IsTupleTypeOf t None = Unit {0}
 
 -- what building children gives, of which none has a fault
 abbrev pub AreBuilt : Result Trees TheFault → Result (Option (Vec Tree)) ValueFault → Type 0
-AreBuilt vs (Ok built) = (us : Trees) × (vs ≡ Ok us) × Show built us
+AreBuilt vs (Ok built) = (us : Trees) × (vs ≡ Ok us) × AllBuildTo built us
 AreBuilt vs (Err e) = FaultIs (λ f. vs ≡ Err f) e
 
--- a front of the children is held, and the others are to come
-pub record HeldSoFar (whole rest : Result Trees TheFault) (c : Children) : Type 0 where
-  pub front : Trees
-  pub held : Hold c front
-  pub more : whole ≡ all_before front rest
+-- a prefix of the children is held, and the others are to come
+pub record IsBuiltSoFar (whole rest : Result Trees TheFault) (c : BuiltTrees) : Type 0 where
+  pub prefix : Trees
+  pub held : IsBuiltFrom c prefix
+  pub more : whole ≡ all_before prefix rest

@@ -1,10 +1,10 @@
-pub mod Kinds
+pub mod BasicSets
 pub mod Forms
 pub mod Parts
 pub mod Codes
 pub mod Falls
 pub mod Orders
-pub mod Found
+pub mod LeastTexts
 pub mod Typings
 pub mod FaultTexts
 pub mod Building

@@ -2,7 +2,7 @@
 use Rattle.std.specs.Prelude.{Bool, true, false}
 use Rattle.gv_model.specs.Patterns.{Pattern, Patterns, common, common_each}
 
--- whether the first one stands first
+-- whether the first one comes first
 abbrev pub common_by : Bool → Pattern → Pattern → Pattern
 common_by true p q = common p q
 common_by false p q = common q p

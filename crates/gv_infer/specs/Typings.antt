@@ -11,7 +11,7 @@ use Rattle.gv_model.specs.TextValues.{first_choice, HasChoice}
 use Rattle.gv_infer.specs.declared.fault.TypingFault.{TypingFault}
 use Rattle.gv_infer.specs.declared.fault.TypingFault.TheVariants.{NoCommonType, Ambiguous, Memory}
 
--- why a text has no type; want of memory is never the text's fault
+-- why a text has no type; running out of memory is never the text's fault
 abbrev pub IsTypingFault : Syntax → TypingFault → Type 0
 IsTypingFault x NoCommonType = HasChoice x no_common_type
 IsTypingFault x Ambiguous = HasChoice x ambiguous
@@ -28,8 +28,8 @@ abbrev pub AreTyped : List Syntax → Type 0
 AreTyped xs = (last : Choice) → first_choice choice xs last ≡ last
 
 -- why the first of these that has no type has none
-abbrev pub IsFirstFault : List Syntax → TypingFault → Type 0
-IsFirstFault xs fault = (last : Choice) → IsChoiceFault (first_choice choice xs last) fault
+abbrev pub IsFirstChoiceFault : List Syntax → TypingFault → Type 0
+IsFirstChoiceFault xs fault = (last : Choice) → IsChoiceFault (first_choice choice xs last) fault
 
 -- the bytes that these take in a text at least
 abbrev pub syntaxes_bytes : Syntaxes → ℕ

@@ -6,17 +6,17 @@ use Rattle.gv_model.specs.Literals.ValueFault.{no_common, not_clear, out_of_rang
 use Rattle.gv_infer.specs.declared.value_fault.ValueFault.{ValueFault}
 use Rattle.gv_infer.specs.declared.value_fault.ValueFault.TheVariants.{NoCommonType, Ambiguous, OutOfRange, BadObjectPath, BadSignature, DoubleText, TooDeep, Memory}
 
-abbrev pub fault_text : ValueFault → List ℕ
-fault_text NoCommonType = codes "NoCommonType"
-fault_text Ambiguous = codes "Ambiguous"
-fault_text OutOfRange = codes "OutOfRange"
-fault_text BadObjectPath = codes "BadObjectPath"
-fault_text BadSignature = codes "BadSignature"
-fault_text DoubleText = codes "DoubleText"
-fault_text TooDeep = codes "TooDeep"
-fault_text Memory = codes "Memory"
+abbrev pub value_fault_text : ValueFault → List ℕ
+value_fault_text NoCommonType = codes "NoCommonType"
+value_fault_text Ambiguous = codes "Ambiguous"
+value_fault_text OutOfRange = codes "OutOfRange"
+value_fault_text BadObjectPath = codes "BadObjectPath"
+value_fault_text BadSignature = codes "BadSignature"
+value_fault_text DoubleText = codes "DoubleText"
+value_fault_text TooDeep = codes "TooDeep"
+value_fault_text Memory = codes "Memory"
 
--- what a fault is; want of memory is never the syntax's fault
+-- what a fault is; running out of memory is never the syntax's fault
 abbrev pub FaultIs : (TheFault → Type 0) → ValueFault → Type 0
 FaultIs P NoCommonType = P no_common
 FaultIs P Ambiguous = P not_clear

@@ -39,10 +39,7 @@ fn is_number_type(of: TypeStr<'_>) -> bool
     ensures { IsTrue result ↔ IsNumberType (ty of.entry) }
 {
     match of.class() {
-        Class::Basic(basic) => !matches!(
-            basic,
-            BasicType::Boolean | BasicType::Text | BasicType::ObjectPath | BasicType::Signature
-        ),
+        Class::Basic(basic) => basic.is_number(),
         _ => false,
     }
 }
@@ -51,10 +48,10 @@ fn is_number_type(of: TypeStr<'_>) -> bool
 fn is_text_type(of: TypeStr<'_>) -> bool
     ensures { IsTrue result ↔ IsTextType (ty of.entry) }
 {
-    matches!(
-        of.class(),
-        Class::Basic(BasicType::Text | BasicType::ObjectPath | BasicType::Signature)
-    )
+    match of.class() {
+        Class::Basic(basic) => basic.is_text(),
+        _ => false,
+    }
 }
 
 /// Whether it is an array's type, whose element each of these admits.

@@ -1,45 +1,46 @@
 //! The set of types that syntax admits.
-ghost use Rattle.std.specs.Prelude.{◌≡◌, IfOk};
-ghost use Rattle.gv_model.specs.Patterns.{pattern, all_common, patterns, common_key, common_value, kind_of, kind_of_core, Pattern.maybe_of, Pattern.loose, Pattern.strict, Core.entry_of};
-ghost use Rattle.gv_text.specs.SyntaxNodes.{nodes_of, pairs_of};
-ghost use Rattle.gv_infer.specs.Kinds.{kind_of as set_of};
-ghost use Rattle.gv_infer.specs.Forms.{core_of, patterns_of};
+#![tactic(auto, unfolding(gv_model::specs::Patterns::pattern, gv_model::specs::Syntax::levels))]
 
-use crate::kind::Kind;
-use crate::pattern::{Core, Form, Pattern};
+ghost use Rattle.std.specs.Prelude.{◌≡◌, IfOk};
+ghost use Rattle.gv_model.specs.Patterns.{pattern, all_common, patterns, common_key, common_value, basics_of, basics_of_bare, Pattern.maybe_of, Pattern.loose, Pattern.strict, Bare.entry_of};
+ghost use Rattle.gv_text.specs.SyntaxNodes.{nodes_of, pairs_of};
+ghost use Rattle.gv_infer.specs.BasicSets.{basic_set_of as set_of};
+ghost use Rattle.gv_infer.specs.Forms.{bare_of, patterns_of};
+
+use crate::basic_set::BasicSet;
+use crate::pattern::{Bare, Pattern, PatternForm};
 use gv_text::{SyntaxKind, SyntaxNode};
 use gv_types::BasicType;
 use std::alloc::{AllocError, Global};
 
-/// The set of types that the syntax admits. What stands in `<..>` is not looked at.
+/// The set of types that the syntax admits. What is in `<..>` is not looked at.
 #[cycle(admitted)]
-#[tactic(auto, unfolding(gv_model::specs::Patterns::pattern, gv_model::specs::Syntax::levels))]
 pub(crate) fn pattern_of(alloc: Global, node: &SyntaxNode) -> Result<Pattern, AllocError>
     ensures { IfOk result (λ p. p ≡ pattern node.now) }
 {
     match &node.kind {
-        SyntaxKind::Truth(_) => Ok(loose(Core::Kind(Kind::Only(BasicType::Boolean)))),
-        SyntaxKind::Integer { .. } => Ok(loose(Core::Kind(Kind::Numbers))),
-        SyntaxKind::Text(_) => Ok(loose(Core::Kind(Kind::Texts))),
+        SyntaxKind::Truth(_) => Ok(loose(Bare::Basic(BasicSet::Only(BasicType::Boolean)))),
+        SyntaxKind::Integer { .. } => Ok(loose(Bare::Basic(BasicSet::Numbers))),
+        SyntaxKind::Text(_) => Ok(loose(Bare::Basic(BasicSet::Texts))),
         SyntaxKind::ByteString(_) => {
-            let byte = strict(Core::Kind(Kind::Only(BasicType::Byte)));
-            Ok(loose(Core::Array(Box::new(alloc, byte)?)))
+            let byte = strict(Bare::Basic(BasicSet::Only(BasicType::Byte)));
+            Ok(loose(Bare::Array(Box::new(alloc, byte)?)))
         }
         SyntaxKind::Array(nodes) => {
             let all = all_common(alloc, nodes.as_slice())?;
-            Ok(loose(Core::Array(Box::new(alloc, all)?)))
+            Ok(loose(Bare::Array(Box::new(alloc, all)?)))
         }
-        SyntaxKind::Tuple(nodes) => Ok(loose(Core::Tuple(patterns(alloc, nodes.as_slice())?))),
+        SyntaxKind::Tuple(nodes) => Ok(loose(Bare::Tuple(patterns(alloc, nodes.as_slice())?))),
         SyntaxKind::Dictionary(pairs) => {
             let entry = common_entry(alloc, pairs.as_slice())?;
-            Ok(loose(Core::Array(Box::new(alloc, strict(entry))?)))
+            Ok(loose(Bare::Array(Box::new(alloc, strict(entry))?)))
         }
         SyntaxKind::Entry(key, value) => {
-            let key = pattern_of(alloc, key)?.kind();
+            let key = pattern_of(alloc, key)?.basics();
             let value = pattern_of(alloc, value)?;
-            Ok(loose(Core::Entry(key, Box::new(alloc, value)?)))
+            Ok(loose(Bare::Entry(key, Box::new(alloc, value)?)))
         }
-        SyntaxKind::Variant(_) => Ok(loose(Core::Variant)),
+        SyntaxKind::Variant(_) => Ok(loose(Bare::Variant)),
         SyntaxKind::Just(inner) => {
             let inner = pattern_of(alloc, inner)?;
             maybe_of(alloc, inner)
@@ -50,7 +51,7 @@ pub(crate) fn pattern_of(alloc: Global, node: &SyntaxNode) -> Result<Pattern, Al
             Ok(exact.common(pattern_of(alloc, inner)?))
         }
         SyntaxKind::Keyword(basic, inner) => {
-            let exact = strict(Core::Kind(Kind::Only(*basic)));
+            let exact = strict(Bare::Basic(BasicSet::Only(*basic)));
             Ok(exact.common(pattern_of(alloc, inner)?))
         }
     }
@@ -58,7 +59,6 @@ pub(crate) fn pattern_of(alloc: Global, node: &SyntaxNode) -> Result<Pattern, Al
 
 /// The types that all of these admit, joined from the last one on.
 #[cycle(admitted)]
-#[tactic(auto, unfolding(gv_model::specs::Patterns::pattern, gv_model::specs::Syntax::levels))]
 fn all_common(alloc: Global, nodes: &[SyntaxNode]) -> Result<Pattern, AllocError>
     ensures { IfOk result (λ p. p ≡ all_common (nodes_of nodes.now)) }
 {
@@ -72,7 +72,6 @@ fn all_common(alloc: Global, nodes: &[SyntaxNode]) -> Result<Pattern, AllocError
 
 /// The types that each of these admits.
 #[cycle(admitted)]
-#[tactic(auto, unfolding(gv_model::specs::Patterns::pattern, gv_model::specs::Syntax::levels))]
 fn patterns(alloc: Global, nodes: &[SyntaxNode]) -> Result<Vec<Pattern>, AllocError>
     ensures { IfOk result (λ ps. patterns_of ps.items ≡ patterns (nodes_of nodes.now)) }
 {
@@ -85,9 +84,8 @@ fn patterns(alloc: Global, nodes: &[SyntaxNode]) -> Result<Vec<Pattern>, AllocEr
 
 /// The entries whose key and value all of these pairs admit.
 #[cycle(admitted)]
-#[tactic(auto, unfolding(gv_model::specs::Patterns::pattern, gv_model::specs::Syntax::levels))]
-fn common_entry(alloc: Global, pairs: &[(SyntaxNode, SyntaxNode)]) -> Result<Core, AllocError>
-    ensures { IfOk result (λ c. core_of c ≡ entry_of (kind_of (common_key (pairs_of pairs.now))) (common_value (pairs_of pairs.now))) }
+fn common_entry(alloc: Global, pairs: &[(SyntaxNode, SyntaxNode)]) -> Result<Bare, AllocError>
+    ensures { IfOk result (λ c. bare_of c ≡ entry_of (basics_of (common_key (pairs_of pairs.now))) (common_value (pairs_of pairs.now))) }
 {
     let mut keys = Pattern::anything();
     let mut values = Pattern::anything();
@@ -96,24 +94,24 @@ fn common_entry(alloc: Global, pairs: &[(SyntaxNode, SyntaxNode)]) -> Result<Cor
         keys = pattern_of(alloc, key)?.common(keys);
         values = pattern_of(alloc, value)?.common(values);
     }
-    Ok(Core::Entry(keys.kind(), Box::new(alloc, values)?))
+    Ok(Bare::Entry(keys.basics(), Box::new(alloc, values)?))
 }
 
 /// The types with any number of maybes around them.
-fn loose(core: Core) -> Pattern
-    ensures { result ≡ loose (core_of core) }
+fn loose(bare: Bare) -> Pattern
+    ensures { result ≡ loose (bare_of bare) }
 {
     Pattern {
-        form: Form::Loose(core),
+        form: PatternForm::Loose(bare),
     }
 }
 
 /// The types alone.
-pub(crate) fn strict(core: Core) -> Pattern
-    ensures { result ≡ strict (core_of core) }
+pub(crate) fn strict(bare: Bare) -> Pattern
+    ensures { result ≡ strict (bare_of bare) }
 {
     Pattern {
-        form: Form::Strict(core),
+        form: PatternForm::Strict(bare),
     }
 }
 
@@ -122,34 +120,34 @@ pub(crate) fn maybe_of(alloc: Global, of: Pattern) -> Result<Pattern, AllocError
     ensures { IfOk result (λ p. p ≡ maybe_of of) }
 {
     Ok(Pattern {
-        form: Form::MaybeOf(Box::new(alloc, of)?),
+        form: PatternForm::MaybeOf(Box::new(alloc, of)?),
     })
 }
 
 impl Pattern {
     /// The basic types in the set.
-    pub(crate) fn kind(&self) -> Kind
-        ensures { set_of result ≡ kind_of self.now }
+    pub(crate) fn basics(&self) -> BasicSet
+        ensures { set_of result ≡ basics_of self.now }
     {
         match &self.form {
-            Form::Anything => Kind::Any,
-            Form::Strict(core) => core.kind(),
-            Form::Loose(core) => core.kind(),
-            Form::Never => Kind::Empty,
-            Form::MaybeOf(_) => Kind::Empty,
+            PatternForm::Anything => BasicSet::Any,
+            PatternForm::Strict(bare) => bare.basics(),
+            PatternForm::Loose(bare) => bare.basics(),
+            PatternForm::Never => BasicSet::Empty,
+            PatternForm::MaybeOf(_) => BasicSet::Empty,
         }
     }
 }
 
-impl Core {
+impl Bare {
     /// The basic types in the set.
-    fn kind(&self) -> Kind
-        ensures { set_of result ≡ kind_of_core (core_of self.now) }
+    fn basics(&self) -> BasicSet
+        ensures { set_of result ≡ basics_of_bare (bare_of self.now) }
     {
         match self {
-            Core::Kind(kind) => *kind,
-            Core::Variant | Core::Array(_) | Core::Tuple(_) | Core::Entry(_, _) | Core::Empty =>
-                Kind::Empty,
+            Bare::Basic(basics) => *basics,
+            Bare::Variant | Bare::Array(_) | Bare::Tuple(_) | Bare::Entry(_, _) | Bare::Empty =>
+                BasicSet::Empty,
         }
     }
 }

@@ -1,4 +1,4 @@
-//! Types without the maybes around them: a literal may stand at any number of maybes of its type.
+//! Types without the maybes around them: a literal may occur at any number of maybes of its type.
 ghost use Rattle.std.specs.Prelude.{◌≡◌};
 ghost use Rattle.gv_types.specs.TypeStr.{ty};
 ghost use Rattle.gv_infer.specs.BareTypes.{bare_type, AreEntryTypes};

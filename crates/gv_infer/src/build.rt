@@ -12,7 +12,7 @@ ghost use Rattle.gv_infer.specs.Children.{AreBuilt};
 ghost use Rattle.gv_infer.specs.Within.{AreWithin, PairsWithin};
 
 use crate::bare::{bare, entry_types};
-use crate::children::Children;
+use crate::children::BuiltTrees;
 use crate::containers::{array, entry, in_maybes, just, nothing, tuple, variant};
 use crate::literal::{byte_string_at, number_tree, text_tree, truth_tree};
 use crate::typing::type_of_node;
@@ -67,7 +67,7 @@ pub(crate) fn build(
     }
 }
 
-/// A value behind `just`, at a maybe.
+/// A value after `just`, at a maybe.
 #[cycle(build)]
 fn build_just(alloc: Global, node: &SyntaxNode, of: TypeStr<'_>) -> Result<Option<Tree>, ValueFault>
     requires fits { IsMaybeOf (Admits node.now) (ty of) }
@@ -80,7 +80,7 @@ fn build_just(alloc: Global, node: &SyntaxNode, of: TypeStr<'_>) -> Result<Optio
     just(alloc, inner, child)
 }
 
-/// What stands in `<..>`, at the type that is chosen for it.
+/// What is in `<..>`, at the type that is chosen for it.
 #[cycle(build)]
 fn build_variant(alloc: Global, node: &SyntaxNode) -> Result<Option<Tree>, ValueFault>
     requires { IsWithin node.now }
@@ -122,7 +122,7 @@ fn build_elements(
     requires within { AreWithin (nodes_of nodes.now) }
     ensures { AreBuilt (elements choice (nodes_of nodes.now) (ty of.entry)) result }
 {
-    let mut children = Children::with_capacity(alloc, nodes.len())?;
+    let mut children = BuiltTrees::with_capacity(alloc, nodes.len())?;
     for node in nodes {
         children.push(build(alloc, node, of)?)?;
     }
@@ -156,7 +156,7 @@ fn build_members(
     requires within { AreWithin (nodes_of nodes.now) }
     ensures { AreBuilt (members_of choice (nodes_of nodes.now) (members (ty of.entry))) result }
 {
-    let mut children = Children::with_capacity(alloc, nodes.len())?;
+    let mut children = BuiltTrees::with_capacity(alloc, nodes.len())?;
     let mut types = of.members();
     for node in nodes {
         let of = types.next().unwrap();
@@ -193,7 +193,7 @@ fn build_entries(
     requires within { PairsWithin (pairs_of pairs.now) }
     ensures { AreBuilt (entries choice (pairs_of pairs.now) (ty of.entry)) result }
 {
-    let mut children = Children::with_capacity(alloc, pairs.len())?;
+    let mut children = BuiltTrees::with_capacity(alloc, pairs.len())?;
     for (key, value) in pairs {
         children.push(build_entry(alloc, key, value, of)?)?;
     }

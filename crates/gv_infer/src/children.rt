@@ -9,21 +9,21 @@ use std::alloc::Global;
 
 /// Trees, one after the other, or nothing where one of them would have over 128 levels.
 #[derive(Drop)]
-pub(crate) struct Children {
+pub(crate) struct BuiltTrees {
     trees: Vec<Tree>,
     shallow: bool,
 }
 
-impl Children {
+impl BuiltTrees {
     ghost use Rattle.std.specs.Prelude.{MatchResult};
-    ghost use Rattle.gv_infer.specs.Building.{Shows};
-    ghost use Rattle.gv_infer.specs.Children.{Hold, Show, behind};
+    ghost use Rattle.gv_infer.specs.Building.{BuildsTo};
+    ghost use Rattle.gv_infer.specs.Children.{IsBuiltFrom, AllBuildTo, with_last};
 
     /// No children, with room for so many.
-    pub(crate) fn with_capacity(alloc: Global, count: usize) -> Result<Children, ValueFault>
-        ensures { MatchResult result (λ children. Hold children none) (λ e. e ≡ Memory) }
+    pub(crate) fn with_capacity(alloc: Global, count: usize) -> Result<BuiltTrees, ValueFault>
+        ensures { MatchResult result (λ children. IsBuiltFrom children none) (λ e. e ≡ Memory) }
     {
-        Ok(Children {
+        Ok(BuiltTrees {
             trees: Vec::with_capacity(alloc, count)?,
             shallow: true,
         })
@@ -32,7 +32,7 @@ impl Children {
     /// One child more, or None for one that is too deep.
     pub(crate) fn push(&mut self, child: Option<Tree>) -> Result<(), ValueFault>
         ensures { MatchResult result
-            (λ _. (vs : Trees) (v : Value) → Hold self.old vs → Shows child v → Hold self.new (behind vs v))
+            (λ _. (vs : Trees) (v : Value) → IsBuiltFrom self.old vs → BuildsTo child v → IsBuiltFrom self.new (with_last vs v))
             (λ e. e ≡ Memory) }
     {
         match child {
@@ -44,7 +44,7 @@ impl Children {
 
     /// The children, or None where one of them is too deep.
     pub(crate) fn finish(self) -> Option<Vec<Tree>>
-        ensures { (vs : Trees) → Hold self vs → Show result vs }
+        ensures { (vs : Trees) → IsBuiltFrom self vs → AllBuildTo result vs }
     {
         if self.shallow { Some(self.trees) } else { None }
     }

@@ -7,8 +7,8 @@ ghost use Rattle.gv_model.specs.Literals.{ValueFault as TheFault};
 ghost use Rattle.gv_model.specs.TextValues.{at_maybes};
 ghost use Rattle.gv_types.specs.TypeStr.{ty};
 ghost use Rattle.gv_infer.specs.BareTypes.{bare_type};
-ghost use Rattle.gv_infer.specs.Building.{Shows, IsBuilt, IsWithin, MayComeOf, IsMade, IsOfMadeType, HasTypeIf, IsOfType, AreEntryParts, entry_node};
-ghost use Rattle.gv_infer.specs.Children.{Show, AllOfType, AreMembers};
+ghost use Rattle.gv_infer.specs.Building.{BuildsTo, IsBuilt, IsWithinLimits, IsContainerFault, IsConstructed, IsConstructedOf, IsNoneOrOfType, IsOfType, AreEntryParts, entry_node};
+ghost use Rattle.gv_infer.specs.Children.{AllBuildTo, AllOfType, IsTupleTypeOf};
 
 use crate::value_fault::ValueFault;
 use gv_tree::{Tree, TreeFault};
@@ -17,9 +17,9 @@ use std::alloc::Global;
 
 /// The tree, or None where it was refused for its levels.
 pub(crate) fn shallow(made: Result<Tree, TreeFault>) -> Result<Option<Tree>, ValueFault>
-    requires { IfErr made MayComeOf }
-    ensures built { (v : Value) → IsMade v made → IsBuilt (Ok v) result }
-    ensures typed { (t : Ty) → IsOfMadeType t made → IsOfType t result }
+    requires { IfErr made IsContainerFault }
+    ensures built { (v : Value) → IsConstructed v made → IsBuilt (Ok v) result }
+    ensures typed { (t : Ty) → IsConstructedOf t made → IsOfType t result }
 {
     match made {
         Ok(tree) => Ok(Some(tree)),
@@ -36,8 +36,8 @@ pub(crate) fn array(
     elements: Option<Vec<Tree>>,
 ) -> Result<Option<Tree>, ValueFault>
     requires typed { AllOfType (ty of) elements }
-    requires within { IsWithin (array (ty of)) }
-    ensures built { (vs : Trees) → Show elements vs → IsBuilt (Ok (node (array (ty of.entry)) vs)) result }
+    requires within { IsWithinLimits (array (ty of)) }
+    ensures built { (vs : Trees) → AllBuildTo elements vs → IsBuilt (Ok (node (array (ty of.entry)) vs)) result }
     ensures typed { IsOfType (array (ty of.entry)) result }
 {
     match elements {
@@ -52,8 +52,8 @@ pub(crate) fn tuple(
     of: TypeStr<'_>,
     members: Option<Vec<Tree>>,
 ) -> Result<Option<Tree>, ValueFault>
-    requires { AreMembers (ty of) members }
-    ensures built { (vs : Trees) → Show members vs → IsBuilt (Ok (node (ty of.entry) vs)) result }
+    requires { IsTupleTypeOf (ty of) members }
+    ensures built { (vs : Trees) → AllBuildTo members vs → IsBuilt (Ok (node (ty of.entry) vs)) result }
     ensures typed { IsOfType (ty of.entry) result }
 {
     match members {
@@ -70,7 +70,7 @@ pub(crate) fn entry(
     value: Option<Tree>,
 ) -> Result<Option<Tree>, ValueFault>
     requires { AreEntryParts (ty of) key value }
-    ensures built { (u v : Value) → Shows key u → Shows value v → IsBuilt (Ok (entry_node (ty of.entry) u v)) result }
+    ensures built { (u v : Value) → BuildsTo key u → BuildsTo value v → IsBuilt (Ok (entry_node (ty of.entry) u v)) result }
     ensures typed { IsOfType (ty of.entry) result }
 {
     match key {
@@ -84,7 +84,7 @@ pub(crate) fn entry(
 
 /// A variant that holds the value.
 pub(crate) fn variant(alloc: Global, child: Option<Tree>) -> Result<Option<Tree>, ValueFault>
-    ensures built { (v : Value) → Shows child v → IsBuilt (Ok (node variant (first v none))) result }
+    ensures built { (v : Value) → BuildsTo child v → IsBuilt (Ok (node variant (first v none))) result }
     ensures typed { IsOfType variant result }
 {
     match child {
@@ -99,9 +99,9 @@ pub(crate) fn just(
     of: TypeStr<'_>,
     child: Option<Tree>,
 ) -> Result<Option<Tree>, ValueFault>
-    requires typed { HasTypeIf (ty of) child }
-    requires within { IsWithin (maybe (ty of)) }
-    ensures built { (v : Value) → Shows child v → IsBuilt (Ok (node (maybe (ty of.entry)) (first v none))) result }
+    requires typed { IsNoneOrOfType (ty of) child }
+    requires within { IsWithinLimits (maybe (ty of)) }
+    ensures built { (v : Value) → BuildsTo child v → IsBuilt (Ok (node (maybe (ty of.entry)) (first v none))) result }
     ensures typed { IsOfType (maybe (ty of.entry)) result }
 {
     match child {
@@ -112,7 +112,7 @@ pub(crate) fn just(
 
 /// Nothing, at a maybe of the type.
 pub(crate) fn nothing(alloc: Global, of: TypeStr<'_>) -> Result<Option<Tree>, ValueFault>
-    requires within { IsWithin (maybe (ty of)) }
+    requires within { IsWithinLimits (maybe (ty of)) }
     ensures built { IsBuilt (Ok (node (maybe (ty of.entry)) none)) result }
 {
     shallow(Tree::maybe(alloc, of, None))

@@ -17,18 +17,29 @@ pub enum TypingFault {
     Memory,
 }
 
+impl TypingFault {
+    ghost use Rattle.gv_infer.specs.FaultTexts.{typing_fault_text};
+
+    /// How the fault is printed.
+    fn name(self) -> &'static str
+        ensures { result.now ≡ typing_fault_text self }
+    {
+        match self {
+            TypingFault::NoCommonType => "NoCommonType",
+            TypingFault::Ambiguous => "Ambiguous",
+            TypingFault::Memory => "Memory",
+        }
+    }
+}
+
 impl fmt::Display for TypingFault {
     ghost use Rattle.std.specs.Prelude.{Some};
-    ghost use Rattle.gv_infer.specs.FaultTexts.{fault_text};
+    ghost use Rattle.gv_infer.specs.FaultTexts.{typing_fault_text};
 
-    ghost output = { λ fault. Some (fault_text fault) };
+    ghost output = { λ fault. Some (typing_fault_text fault) };
 
     fn fmt<W: fmt::Write>(&self, f: &mut fmt::Formatter<W>) -> fmt::Result {
-        match self {
-            TypingFault::NoCommonType => write!(f, "NoCommonType"),
-            TypingFault::Ambiguous => write!(f, "Ambiguous"),
-            TypingFault::Memory => write!(f, "Memory"),
-        }
+        f.write_str(self.name())
     }
 }
 

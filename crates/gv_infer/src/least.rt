@@ -1,15 +1,15 @@
 //! The text of the least type in a set.
-ghost use Rattle.std.specs.Prelude.{◌≡◌, ◌∷◌, [], IfOk, string_bytes};
-ghost use Rattle.gv_model.specs.Ty.{Ty.basic, letter};
-ghost use Rattle.gv_model.specs.LeastTypes.{least_in, least_core, leasts_in, least_kind};
-ghost use Rattle.gv_types.specs.Classes.{basic_of};
-ghost use Rattle.gv_infer.specs.Kinds.{kind_of};
-ghost use Rattle.gv_infer.specs.Forms.{core_of, patterns_of};
-ghost use Rattle.gv_infer.specs.Found.{Written, WrittenEach, both_found};
+#![tactic(auto, unfolding(crate::specs::Parts::parts))]
 
-use crate::kind::Kind;
-use crate::pattern::{Core, Form, Pattern};
-use gv_types::BasicType;
+ghost use Rattle.std.specs.Prelude.{◌≡◌, IfOk, string_bytes};
+ghost use Rattle.gv_model.specs.Ty.{Ty.basic};
+ghost use Rattle.gv_model.specs.LeastTypes.{least_in, least_bare, leasts_in, least_basics};
+ghost use Rattle.gv_infer.specs.BasicSets.{basic_set_of};
+ghost use Rattle.gv_infer.specs.Forms.{bare_of, patterns_of};
+ghost use Rattle.gv_infer.specs.LeastTexts.{Written, WrittenEach, both_found};
+
+use crate::basic_set::BasicSet;
+use crate::pattern::{Bare, Pattern, PatternForm};
 use std::alloc::AllocError;
 
 /// What is found in a set of types.
@@ -40,64 +40,61 @@ impl Found {
 }
 
 impl Pattern {
-    /// Writes the text of the least type behind a text, if there is one. It takes time linear in the pattern.
+    /// Writes the text of the least type after a text, if there is one. It takes time linear in the pattern.
     #[cycle(least)]
-    #[tactic(auto, unfolding(crate::specs::Parts::parts))]
     pub(crate) fn write_least(&self, text: &mut String) -> Result<Found, AllocError>
         ensures { IfOk result (λ f. Written (least_in self.now) (string_bytes text.old) (string_bytes text.new) f) }
     {
         match &self.form {
-            Form::Anything => {
+            PatternForm::Anything => {
                 text.push_str("v")?;
                 Ok(Found::Many)
             }
-            Form::Never => Ok(Found::Nowhere),
-            Form::MaybeOf(p) => {
+            PatternForm::Never => Ok(Found::Nowhere),
+            PatternForm::MaybeOf(p) => {
                 text.push_str("m")?;
                 p.write_least(text)
             }
-            Form::Strict(c) => write_least_core(c, text),
-            Form::Loose(c) => write_least_core(c, text),
+            PatternForm::Strict(c) => write_least_bare(c, text),
+            PatternForm::Loose(c) => write_least_bare(c, text),
         }
     }
 }
 
-/// The same of types that are no maybes.
+/// Writes the text of the least type in a set of types that are no maybes.
 #[cycle(least)]
-#[tactic(auto, unfolding(crate::specs::Parts::parts))]
-fn write_least_core(core: &Core, text: &mut String) -> Result<Found, AllocError>
-    ensures { IfOk result (λ f. Written (least_core (core_of core.now)) (string_bytes text.old) (string_bytes text.new) f) }
+fn write_least_bare(bare: &Bare, text: &mut String) -> Result<Found, AllocError>
+    ensures { IfOk result (λ f. Written (least_bare (bare_of bare.now)) (string_bytes text.old) (string_bytes text.new) f) }
 {
-    match core {
-        Core::Kind(kind) => write_least_basic(*kind, text),
-        Core::Variant => {
+    match bare {
+        Bare::Basic(basics) => write_least_basic(*basics, text),
+        Bare::Variant => {
             text.push_str("v")?;
             Ok(Found::Least)
         }
-        Core::Array(p) => {
+        Bare::Array(p) => {
             text.push_str("a")?;
             p.write_least(text)
         }
-        Core::Tuple(ps) => {
+        Bare::Tuple(ps) => {
             text.push_str("(")?;
             let found = write_leasts(ps.as_slice(), text)?;
             text.push_str(")")?;
             Ok(found)
         }
-        Core::Entry(kind, p) => {
+        Bare::Entry(basics, p) => {
             text.push_str("{")?;
-            let key = write_least_basic(*kind, text)?;
+            let key = write_least_basic(*basics, text)?;
             let value = p.write_least(text)?;
             text.push_str("}")?;
             Ok(key.and(value))
         }
-        Core::Empty => Ok(Found::Nowhere),
+        Bare::Empty => Ok(Found::Nowhere),
     }
 }
 
-/// The same of a tuple's members, one after the other.
+/// Writes the texts of the least types in each of these sets, one after the other.
 #[cycle(least)]
-#[tactic(auto, unfolding(crate::specs::Parts::parts))]
 fn write_leasts(ps: &[Pattern], text: &mut String) -> Result<Found, AllocError>
     ensures { IfOk result (λ f. WrittenEach (leasts_in (patterns_of ps.now)) (string_bytes text.old) (string_bytes text.new) f) }
 {
@@ -108,48 +105,27 @@ fn write_leasts(ps: &[Pattern], text: &mut String) -> Result<Found, AllocError>
     Ok(found)
 }
 
-/// The same of basic types.
-fn write_least_basic(kind: Kind, text: &mut String) -> Result<Found, AllocError>
-    ensures { IfOk result (λ f. Written (least_kind basic (kind_of kind)) (string_bytes text.old) (string_bytes text.new) f) }
+/// Writes the letter of the least type in a set of basic types.
+fn write_least_basic(basics: BasicSet, text: &mut String) -> Result<Found, AllocError>
+    ensures { IfOk result (λ f. Written (least_basics basic (basic_set_of basics)) (string_bytes text.old) (string_bytes text.new) f) }
 {
-    match kind {
-        Kind::Any => {
+    match basics {
+        BasicSet::Any => {
             text.push_str("b")?;
             Ok(Found::Many)
         }
-        Kind::Numbers => {
+        BasicSet::Numbers => {
             text.push_str("i")?;
             Ok(Found::Least)
         }
-        Kind::Texts => {
+        BasicSet::Texts => {
             text.push_str("s")?;
             Ok(Found::Least)
         }
-        Kind::Empty => Ok(Found::Nowhere),
-        Kind::Only(basic) => {
-            text.push_str(letter(basic))?;
+        BasicSet::Empty => Ok(Found::Nowhere),
+        BasicSet::Only(basic) => {
+            text.push_str(basic.letter())?;
             Ok(Found::Least)
         }
-    }
-}
-
-/// The letter of a basic type.
-fn letter(basic: BasicType) -> &'static str
-    ensures { result.now ≡ letter (basic_of basic) ∷ [] }
-{
-    match basic {
-        BasicType::Boolean => "b",
-        BasicType::Byte => "y",
-        BasicType::Int16 => "n",
-        BasicType::Uint16 => "q",
-        BasicType::Int32 => "i",
-        BasicType::Uint32 => "u",
-        BasicType::Int64 => "x",
-        BasicType::Uint64 => "t",
-        BasicType::Handle => "h",
-        BasicType::Double => "d",
-        BasicType::Text => "s",
-        BasicType::ObjectPath => "o",
-        BasicType::Signature => "g",
     }
 }

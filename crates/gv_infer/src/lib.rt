@@ -4,12 +4,13 @@
 mod admits;
 mod admitted;
 mod bare;
+mod basic_set;
 mod build;
 mod children;
 mod containers;
+mod contents;
 mod exact;
 mod fault;
-mod kind;
 mod least;
 mod literal;
 mod pattern;

@@ -7,7 +7,7 @@ ghost use Rattle.gv_types.specs.TypeStr.{ty};
 ghost use Rattle.gv_infer.specs.Building.{IsBuilt, IsOfType};
 ghost use Rattle.gv_infer.specs.Leaves.{leaf_value, HasNoZero};
 ghost use Rattle.gv_model.specs.Admits.{IsNumberType, IsTextType};
-ghost use Rattle.gv_model.specs.Literals.{number_bits, integer_at, text_at, byte_trees};
+ghost use Rattle.gv_model.specs.Literals.{number_bits, integer_at, text_at, byte_string_trees};
 ghost use Rattle.gv_types.specs.Classes.{basic_of};
 ghost use Rattle.gv_tree.specs.Basics.{basic_tree, truth_bits};
 ghost use Rattle.gv_tree.specs.Faults.{has_zero};
@@ -124,7 +124,7 @@ pub(crate) fn byte_string_at(
     bytes: &[u8],
 ) -> Result<Option<Tree>, ValueFault>
     requires { ty of ≡ array (basic byte_type) }
-    ensures built { IsBuilt (Ok (node (ty of.entry) (byte_trees bytes.now))) result }
+    ensures built { IsBuilt (Ok (node (ty of.entry) (byte_string_trees bytes.now))) result }
     ensures typed { IsOfType (ty of.entry) result }
 {
     let mut trees = Vec::with_capacity(alloc, bytes.len().saturating_add(1))?;

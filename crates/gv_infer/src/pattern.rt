@@ -1,10 +1,12 @@
 //! Sets of types, as they come from syntax, and what two of them have in common.
+#![tactic(auto, unfolding(gv_model::specs::Patterns::common, gv_model::specs::Patterns::under, crate::specs::Parts::parts))]
+
 ghost use Rattle.std.specs.Prelude.{◌≡◌, ◌≤◌, length};
-ghost use Rattle.gv_model.specs.Patterns.{common, common_core, common_each, Pattern.anything, Pattern.never, Pattern.maybe_of, Pattern.strict, Pattern.loose};
-ghost use Rattle.gv_infer.specs.Forms.{core_of, patterns_of};
+ghost use Rattle.gv_model.specs.Patterns.{common, common_bare, common_each, Pattern.anything, Pattern.never, Pattern.maybe_of, Pattern.strict, Pattern.loose};
+ghost use Rattle.gv_infer.specs.Forms.{bare_of, patterns_of};
 ghost use Rattle.gv_infer.specs.Orders.{common_by, each_by};
 
-use crate::kind::Kind;
+use crate::basic_set::BasicSet;
 use std::marker::Model;
 use std::mem;
 
@@ -12,32 +14,32 @@ use std::mem;
 #[cycle(pattern)]
 #[derive(Drop)]
 pub(crate) struct Pattern {
-    pub(crate) form: Form,
+    pub(crate) form: PatternForm,
 }
 
 /// What a set of types is.
 #[cycle(pattern)]
 #[derive(Drop)]
-pub(crate) enum Form {
+pub(crate) enum PatternForm {
     Anything,
     Never,
     /// Maybes of these.
     MaybeOf(Box<Pattern>),
     /// These alone.
-    Strict(Core),
+    Strict(Bare),
     /// These with any number of maybes around them.
-    Loose(Core),
+    Loose(Bare),
 }
 
 /// A set of types that are no maybes.
 #[cycle(pattern)]
 #[derive(Drop)]
-pub(crate) enum Core {
-    Kind(Kind),
+pub(crate) enum Bare {
+    Basic(BasicSet),
     Variant,
     Array(Box<Pattern>),
     Tuple(Vec<Pattern>),
-    Entry(Kind, Box<Pattern>),
+    Entry(BasicSet, Box<Pattern>),
     Empty,
 }
 
@@ -68,7 +70,7 @@ impl Pattern {
         ensures { result ≡ anything }
     {
         Pattern {
-            form: Form::Anything,
+            form: PatternForm::Anything,
         }
     }
 
@@ -76,45 +78,45 @@ impl Pattern {
     pub(crate) fn never() -> Pattern
         ensures { result ≡ never }
     {
-        Pattern { form: Form::Never }
+        Pattern {
+            form: PatternForm::Never,
+        }
     }
 
     /// The types that are in both. It takes no memory, and time linear in the two.
     #[cycle(common)]
-    #[tactic(auto, unfolding(gv_model::specs::Patterns::common, gv_model::specs::Patterns::under, crate::specs::Parts::parts))]
     pub(crate) fn common(self, other: Pattern) -> Pattern
         ensures { result ≡ common self other }
     {
         match self.form {
-            Form::Anything => other,
-            Form::Never => Pattern::never(),
-            Form::MaybeOf(p) => maybe_common(p, other),
-            Form::Strict(c) => strict_common(c, other),
-            Form::Loose(c) => loose_common(c, other),
+            PatternForm::Anything => other,
+            PatternForm::Never => Pattern::never(),
+            PatternForm::MaybeOf(p) => maybe_common(p, other),
+            PatternForm::Strict(c) => strict_common(c, other),
+            PatternForm::Loose(c) => loose_common(c, other),
         }
     }
 }
 
 /// What maybes of a pattern have in common with another.
 #[cycle(common)]
-#[tactic(auto, unfolding(gv_model::specs::Patterns::common, gv_model::specs::Patterns::under, crate::specs::Parts::parts))]
 fn maybe_common(p: Box<Pattern>, other: Pattern) -> Pattern
     ensures { result ≡ common (maybe_of p.value) other }
 {
     match other.form {
-        Form::Anything => Pattern {
-            form: Form::MaybeOf(p),
+        PatternForm::Anything => Pattern {
+            form: PatternForm::MaybeOf(p),
         },
-        Form::Never | Form::Strict(_) => Pattern::never(),
-        Form::MaybeOf(q) => Pattern {
-            form: Form::MaybeOf(common_boxed(p, Box::into_inner(q), true)),
+        PatternForm::Never | PatternForm::Strict(_) => Pattern::never(),
+        PatternForm::MaybeOf(q) => Pattern {
+            form: PatternForm::MaybeOf(common_boxed(p, Box::into_inner(q), true)),
         },
-        Form::Loose(d) => {
+        PatternForm::Loose(d) => {
             let loose = Pattern {
-                form: Form::Loose(d),
+                form: PatternForm::Loose(d),
             };
             Pattern {
-                form: Form::MaybeOf(common_boxed(p, loose, true)),
+                form: PatternForm::MaybeOf(common_boxed(p, loose, true)),
             }
         }
     }
@@ -122,52 +124,49 @@ fn maybe_common(p: Box<Pattern>, other: Pattern) -> Pattern
 
 /// What types that are no maybes have in common with a pattern.
 #[cycle(common)]
-#[tactic(auto, unfolding(gv_model::specs::Patterns::common, gv_model::specs::Patterns::under, crate::specs::Parts::parts))]
-fn strict_common(c: Core, other: Pattern) -> Pattern
-    ensures { result ≡ common (strict (core_of c)) other }
+fn strict_common(c: Bare, other: Pattern) -> Pattern
+    ensures { result ≡ common (strict (bare_of c)) other }
 {
     match other.form {
-        Form::Anything => Pattern {
-            form: Form::Strict(c),
+        PatternForm::Anything => Pattern {
+            form: PatternForm::Strict(c),
         },
-        Form::Never | Form::MaybeOf(_) => Pattern::never(),
-        Form::Strict(d) | Form::Loose(d) => Pattern {
-            form: Form::Strict(common_core(c, d)),
+        PatternForm::Never | PatternForm::MaybeOf(_) => Pattern::never(),
+        PatternForm::Strict(d) | PatternForm::Loose(d) => Pattern {
+            form: PatternForm::Strict(common_bare(c, d)),
         },
     }
 }
 
-/// The same of types with any number of maybes around them.
+/// What types with any number of maybes around them have in common with a pattern.
 #[cycle(common)]
-#[tactic(auto, unfolding(gv_model::specs::Patterns::common, gv_model::specs::Patterns::under, crate::specs::Parts::parts))]
-fn loose_common(c: Core, other: Pattern) -> Pattern
-    ensures { result ≡ common (loose (core_of c)) other }
+fn loose_common(c: Bare, other: Pattern) -> Pattern
+    ensures { result ≡ common (loose (bare_of c)) other }
 {
     match other.form {
-        Form::Anything => Pattern {
-            form: Form::Loose(c),
+        PatternForm::Anything => Pattern {
+            form: PatternForm::Loose(c),
         },
-        Form::Never => Pattern::never(),
-        Form::MaybeOf(q) => {
+        PatternForm::Never => Pattern::never(),
+        PatternForm::MaybeOf(q) => {
             let loose = Pattern {
-                form: Form::Loose(c),
+                form: PatternForm::Loose(c),
             };
             Pattern {
-                form: Form::MaybeOf(common_boxed(q, loose, false)),
+                form: PatternForm::MaybeOf(common_boxed(q, loose, false)),
             }
         }
-        Form::Strict(d) => Pattern {
-            form: Form::Strict(common_core(c, d)),
+        PatternForm::Strict(d) => Pattern {
+            form: PatternForm::Strict(common_bare(c, d)),
         },
-        Form::Loose(d) => Pattern {
-            form: Form::Loose(common_core(c, d)),
+        PatternForm::Loose(d) => Pattern {
+            form: PatternForm::Loose(common_bare(c, d)),
         },
     }
 }
 
 /// What two patterns have in common, in the box of one of them; it is the first one where `in_order`.
 #[cycle(common)]
-#[tactic(auto, unfolding(gv_model::specs::Patterns::common, gv_model::specs::Patterns::under, crate::specs::Parts::parts))]
 fn common_boxed(mut kept: Box<Pattern>, other: Pattern, in_order: bool) -> Box<Pattern>
     ensures { result.value ≡ common_by in_order kept.value other }
 {
@@ -182,26 +181,24 @@ fn common_boxed(mut kept: Box<Pattern>, other: Pattern, in_order: bool) -> Box<P
 
 /// What two sets of types that are no maybes have in common.
 #[cycle(common)]
-#[tactic(auto, unfolding(gv_model::specs::Patterns::common, gv_model::specs::Patterns::under, crate::specs::Parts::parts))]
-fn common_core(c: Core, d: Core) -> Core
-    ensures { core_of result ≡ common_core (core_of c) (core_of d) }
+fn common_bare(c: Bare, d: Bare) -> Bare
+    ensures { bare_of result ≡ common_bare (bare_of c) (bare_of d) }
 {
     match (c, d) {
-        (Core::Kind(one), Core::Kind(other)) => Core::Kind(one.common(other)),
-        (Core::Variant, Core::Variant) => Core::Variant,
-        (Core::Array(p), Core::Array(q)) => Core::Array(common_boxed(p, Box::into_inner(q), true)),
-        (Core::Tuple(ps), Core::Tuple(qs)) => Core::Tuple(common_each(ps, qs)),
-        (Core::Entry(one, p), Core::Entry(other, q)) => Core::Entry(
+        (Bare::Basic(one), Bare::Basic(other)) => Bare::Basic(one.common(other)),
+        (Bare::Variant, Bare::Variant) => Bare::Variant,
+        (Bare::Array(p), Bare::Array(q)) => Bare::Array(common_boxed(p, Box::into_inner(q), true)),
+        (Bare::Tuple(ps), Bare::Tuple(qs)) => Bare::Tuple(common_each(ps, qs)),
+        (Bare::Entry(one, p), Bare::Entry(other, q)) => Bare::Entry(
             one.common(other),
             common_boxed(p, Box::into_inner(q), true),
         ),
-        _ => Core::Empty,
+        _ => Bare::Empty,
     }
 }
 
 /// What two lists have in common, one by one. Lists of two lengths have nothing in common where the shorter one ends.
 #[cycle(common)]
-#[tactic(auto, unfolding(gv_model::specs::Patterns::common, gv_model::specs::Patterns::under, crate::specs::Parts::parts))]
 fn common_each(ps: Vec<Pattern>, qs: Vec<Pattern>) -> Vec<Pattern>
     ensures { patterns_of result.items ≡ common_each (patterns_of ps.items) (patterns_of qs.items) }
 {
@@ -212,9 +209,8 @@ fn common_each(ps: Vec<Pattern>, qs: Vec<Pattern>) -> Vec<Pattern>
     }
 }
 
-/// The same in the list that is no shorter; it is the first one where `in_order`.
+/// What two lists have in common, in the one that is no shorter; it is the first one where `in_order`.
 #[cycle(common)]
-#[tactic(auto, unfolding(gv_model::specs::Patterns::common, gv_model::specs::Patterns::under, crate::specs::Parts::parts))]
 fn common_listed(mut kept: Vec<Pattern>, others: Vec<Pattern>, in_order: bool) -> Vec<Pattern>
     requires { length others.items ≤ length kept.items }
     ensures { patterns_of result.items ≡ each_by in_order (patterns_of kept.items) (patterns_of others.items) }

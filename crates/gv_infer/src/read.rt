@@ -12,8 +12,8 @@ use std::alloc::Global;
 /// The value of a text of at most 16 MiB, by its own type.
 ///
 /// It gives the text's first fault: `Text` where it has no syntax; `Typing` where that has no type of its own, or what
-/// stands in one of its `<..>` has none; and `Value` where a literal is no value of the type that it gets, or the value
-/// would have over 128 levels. Each of them may also be want of memory. It takes the time that [`parse`], [`type_of`]
+/// is in one of its `<..>` has none; and `Value` where a literal is no value of the type that it gets, or the value
+/// would have over 128 levels. Each of them may also be running out of memory. It takes the time that [`parse`], [`type_of`]
 /// and [`value_at`] take, and memory for the syntax, the type and the value.
 pub fn read_value(alloc: Global, text: &str) -> Result<Tree, ReadFault>
     requires { length text.now ≤ 16777216 }

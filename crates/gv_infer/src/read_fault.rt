@@ -21,9 +21,9 @@ pub enum ReadFault {
 
 impl fmt::Display for ReadFault {
     ghost use Rattle.std.specs.Prelude.{Some};
-    ghost use Rattle.gv_infer.specs.Reads.{fault_text};
+    ghost use Rattle.gv_infer.specs.Reads.{read_fault_text};
 
-    ghost output = { λ fault. Some (fault_text fault) };
+    ghost output = { λ fault. Some (read_fault_text fault) };
 
     fn fmt<W: fmt::Write>(&self, f: &mut fmt::Formatter<W>) -> fmt::Result {
         match self {

@@ -6,7 +6,7 @@ ghost use Rattle.gv_infer.specs.Values.{IsValueFault};
 
 use crate::admits::admits;
 use crate::build::build;
-use crate::typing::check_contents;
+use crate::contents::check_contents;
 use crate::value_fault::ValueFault;
 use gv_text::Syntax;
 use gv_tree::Tree;
@@ -18,7 +18,7 @@ use std::alloc::Global;
 /// Refused are, in this order: a type that the syntax doesn't admit (`NoCommonType`); the first `<..>` whose content
 /// has no type of its own, in the order of the closing `>` (`NoCommonType`, `Ambiguous`); the first literal from the
 /// left that is no value of its type (`OutOfRange`, `BadObjectPath`, `BadSignature`, `DoubleText`); a value of over 128
-/// levels (`TooDeep`); want of memory. It looks at each part of the syntax a few times, and copies each string once.
+/// levels (`TooDeep`); running out of memory. It looks at each part of the syntax a few times, and copies each string once.
 pub fn value_at(alloc: Global, syntax: &Syntax, of: TypeStr<'_>) -> Result<Tree, ValueFault>
     ensures value { IfOk result (λ v. HasValue syntax.now (ty of.entry) (Ok v)) }
     ensures fault { IfErr result (IsValueFault syntax.now (ty of.entry)) }

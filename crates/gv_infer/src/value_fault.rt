@@ -10,9 +10,9 @@ use std::fmt;
 /// Why syntax has no value at a type.
 #[derive(Clone, Copy, Debug, PartialEq, Eq)]
 pub enum ValueFault {
-    /// The syntax doesn't admit the type, or what stands in a `<..>` admits none.
+    /// The syntax doesn't admit the type, or what is in a `<..>` admits none.
     NoCommonType,
-    /// No one type is the least that is admitted by what stands in a `<..>`.
+    /// No one type is the least that is admitted by what is in a `<..>`.
     Ambiguous,
     /// A number lies outside its type.
     OutOfRange,
@@ -28,23 +28,34 @@ pub enum ValueFault {
     Memory,
 }
 
+impl ValueFault {
+    ghost use Rattle.gv_infer.specs.ValueFaults.{value_fault_text};
+
+    /// How the fault is printed.
+    fn name(self) -> &'static str
+        ensures { result.now ≡ value_fault_text self }
+    {
+        match self {
+            ValueFault::NoCommonType => "NoCommonType",
+            ValueFault::Ambiguous => "Ambiguous",
+            ValueFault::OutOfRange => "OutOfRange",
+            ValueFault::BadObjectPath => "BadObjectPath",
+            ValueFault::BadSignature => "BadSignature",
+            ValueFault::DoubleText => "DoubleText",
+            ValueFault::TooDeep => "TooDeep",
+            ValueFault::Memory => "Memory",
+        }
+    }
+}
+
 impl fmt::Display for ValueFault {
     ghost use Rattle.std.specs.Prelude.{Some};
-    ghost use Rattle.gv_infer.specs.ValueFaults.{fault_text};
+    ghost use Rattle.gv_infer.specs.ValueFaults.{value_fault_text};
 
-    ghost output = { λ fault. Some (fault_text fault) };
+    ghost output = { λ fault. Some (value_fault_text fault) };
 
     fn fmt<W: fmt::Write>(&self, f: &mut fmt::Formatter<W>) -> fmt::Result {
-        match self {
-            ValueFault::NoCommonType => write!(f, "NoCommonType"),
-            ValueFault::Ambiguous => write!(f, "Ambiguous"),
-            ValueFault::OutOfRange => write!(f, "OutOfRange"),
-            ValueFault::BadObjectPath => write!(f, "BadObjectPath"),
-            ValueFault::BadSignature => write!(f, "BadSignature"),
-            ValueFault::DoubleText => write!(f, "DoubleText"),
-            ValueFault::TooDeep => write!(f, "TooDeep"),
-            ValueFault::Memory => write!(f, "Memory"),
-        }
+        f.write_str(self.name())
     }
 }
 

@@ -16,12 +16,6 @@ alike n p q e = go (nat_le p n) refl
     go true h = let within : p ≤ n = grind arith in inl (omega arith)
     go false h = let past : n < p = grind arith in inr (omega arith, omega arith)
 
-pub within_bounds : (n s e : ℕ) → s ≤ e → e ≤ n → bounds n (Some (s, e)) ≡ (s, e)
-within_bounds n s e h g =
-    let first : nat_le s e ≡ true = grind arith in
-    let second : nat_le e n ≡ true = grind arith in
-    rw (first, second) refl
-
 end_past : (n s e : ℕ) → n < e → bounds n (Some (s, e)) ≡ (0, 0)
 end_past n s e h = let second : nat_le e n ≡ false = grind arith in go (nat_le s e) second
   where

@@ -8,4 +8,4 @@ pub mod Elements
 pub mod MemberLaws
 pub mod Cuts
 pub mod Counts
-pub mod Found
+pub mod WalkSteps

@@ -1,14 +1,15 @@
 -- A walk along a type's members, from the first on.
 use Rattle.std.proofs.Common.{◌≡◌, ℕ, ◌+◌, ◌*◌, ◌<◌, ◌≤◌, ◌^◌, max, List, [], ◌∷◌, length, Option, Some, None, refl, sym, ap, ap₂, subst, ◌∙◌, arith, length-append}
 use Rattle.std.specs.Prelude.{IfSome, option_map, option_and_then}
-use Rattle.gv_model.specs.Ty.{Ty, Types, nesting, greatest_nesting, spelling, spellings, members, types_from, listed}
+use Rattle.gv_model.specs.Ty.{Ty, Types, nesting, greatest_nesting, spelling, spellings, members, types_from, type_list}
 use Rattle.gv_model.specs.Ty.Ty.{basic, variant, array, maybe, tuple, entry}
 use Rattle.gv_model.specs.Ty.Types.{member}
 use Rattle.gv_model.specs.Layout.{alignment, greatest_alignment, fixed_size, fixed_end, round_up}
-use Rattle.gv_layout.proofs.Lists.{types_from-listed}
+use Rattle.gv_model.proofs.ListLaws.{types_from-listed}
+use Rattle.gv_model.proofs.Prefixes.{nesting-positive}
 use Rattle.gv_layout.proofs.Sizes.{IsAlignment, size_most, member_near, alignment_is, max_alignment, greatest_alignment_is, alignment_most}
 
--- where a member ends behind one that ends there
+-- where a member ends after one that ends there
 abbrev pub end_of_next : Ty → Option ℕ → Option ℕ
 end_of_next u place = option_and_then (λ p. option_map (λ s. round_up (alignment u) p + s) (fixed_size u)) place
 
@@ -20,15 +21,6 @@ pub record IsWalk (t : Ty) (rest : List Ty) (a : ℕ) (place : Option ℕ) : Typ
   pub alignment_is : IsAlignment a
   pub near : IfSome place (λ p. p + 16 * length (spellings (types_from rest)) ≤ 16 * length (spelling t))
 
-nesting_pos : (t : Ty) → 0 < nesting t
-unfolding nesting
-nesting_pos (basic k) = omega arith
-nesting_pos variant = omega arith
-nesting_pos (array t) = omega arith
-nesting_pos (maybe t) = omega arith
-nesting_pos (tuple ts) = omega arith
-nesting_pos (entry k t) = omega arith
-
 members_nest : (t : Ty) → greatest_nesting (members t) < nesting t
 unfolding nesting greatest_nesting
 members_nest (basic k) = omega arith
@@ -36,7 +28,7 @@ members_nest variant = omega arith
 members_nest (array t) = omega arith
 members_nest (maybe t) = omega arith
 members_nest (tuple ts) = omega arith
-members_nest (entry k t) = omega (arith, nesting_pos t)
+members_nest (entry k t) = omega (arith, nesting-positive t)
 
 members_text : (t : Ty) → length (spellings (members t)) ≤ length (spelling t)
 unfolding spelling spellings
@@ -47,7 +39,7 @@ members_text (maybe t) = omega arith
 members_text (tuple ts) = omega (arith, length-append (spellings ts) (41 ∷ []))
 members_text (entry k t) = omega (arith, length-append (spelling t) (125 ∷ []), length-append (spelling t) [])
 
-start_of_members : (t : Ty) → IsWalk t (listed (members t)) 1 (Some 0)
+start_of_members : (t : Ty) → IsWalk t (type_list (members t)) 1 (Some 0)
 start_of_members t =
     let same = types_from-listed (members t) in
     record {
@@ -58,7 +50,7 @@ start_of_members t =
       near = rw same (omega (arith, members_text t));
     }
 
-pub start : (t : Ty) (rest : List Ty) → rest ≡ listed (members t) → IsWalk t rest 1 (Some 0)
+pub start : (t : Ty) (rest : List Ty) → rest ≡ type_list (members t) → IsWalk t rest 1 (Some 0)
 start t rest e = subst (λ (ts : List Ty). IsWalk t ts 1 (Some 0)) (sym e) (start_of_members t)
 
 placed_next : (u : Ty) (ts : Types) (place : Option ℕ) → option_and_then (fixed_end ts) (end_of_next u place) ≡ option_and_then (fixed_end (member u ts)) place

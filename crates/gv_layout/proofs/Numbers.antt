@@ -21,7 +21,7 @@ number_small (suc n) (x ∷ b) h bytes =
 the_rest : (x : ℕ) (b : List ℕ) → length (x ∷ b) - 1 ≡ length b
 the_rest x b = omega arith
 
--- the first byte, and the number in those behind it
+-- the first byte, and the number in those after it
 pub record IsSplit (b : List ℕ) (low high : ℕ) : Type 0 where
   pub value : low + 256 * high ≡ number_in b
   pub small : high < 2 ^ 56

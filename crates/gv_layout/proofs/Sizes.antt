@@ -1,7 +1,7 @@
 -- Sizes and alignments of types: by a type's class, and how large they get.
 use Rattle.std.proofs.Common.{◌≡◌, ◌⊎◌, inl, inr, ℕ, ◌+◌, ◌-◌, ◌*◌, ◌/◌, ◌^◌, ◌<◌, ◌≤◌, max, List, [], ◌∷◌, ◌++◌, length, Option, Some, None, true, refl, sym, ap, ap₂, ◌∙◌, arith, length-append}
 use Rattle.std.specs.Prelude.{option_map, option_and_then, max}
-use Rattle.std.proofs.Math.Nat.{div-mul-le_self, lt-div-mul-add, div-eq_of_lt}
+use Rattle.std.proofs.Math.Nat.{div-mul-le_self, lt-div-mul-add}
 use Rattle.std.proofs.lemmas.Option.{same_Some, none-some}
 use Rattle.gv_model.specs.Ty.{Ty, Types, Basic, nesting, spelling, spellings, members}
 use Rattle.gv_model.specs.Ty.Ty.{basic, variant, array, maybe, tuple, entry}
@@ -9,6 +9,7 @@ use Rattle.gv_model.specs.Ty.Types.{end, member}
 use Rattle.gv_model.specs.Layout.{basic_size, alignment, greatest_alignment, fixed_size, fixed_end, padded, round_up, or_one}
 use Rattle.gv_model.specs.TypeText.{is_type, type_at, is_within_limits}
 use Rattle.gv_model.proofs.TypeTextParts.{spelling-type_at}
+use Rattle.gv_model.proofs.LayoutLaws.{alignment_pos, round_up-zero}
 use Rattle.gv_types.specs.declared.class.BasicType.{BasicType}
 use Rattle.gv_types.specs.declared.class.Class.{Class}
 use Rattle.gv_types.specs.declared.class.Class.TheVariants as classes
@@ -45,9 +46,6 @@ mutual
   greatest_alignment_is end = record { least = omega arith; most = omega arith }
   greatest_alignment_is (member t ts) = max_alignment (alignment t) (greatest_alignment ts) (alignment_is t) (greatest_alignment_is ts)
 
-pub alignment_pos : (t : Ty) → 0 < alignment t
-alignment_pos t = (alignment_is t).least
-
 pub alignment_most : (t : Ty) → alignment t ≤ 8
 alignment_most t = (alignment_is t).most
 
@@ -58,13 +56,6 @@ unfolding round_up
 round_up_near a p h =
     let past : p + (a - 1) < (p + (a - 1)) / a * a + a = lt-div-mul-add h in
     (omega (arith, past), omega (arith, div-mul-le_self (p + (a - 1)) a))
-
-pub round_up_zero : (a : ℕ) → 0 < a → round_up a 0 ≡ 0
-unfolding round_up
-round_up_zero a h =
-    let low : 0 + (a - 1) < a = omega arith in
-    let quotient : (0 + (a - 1)) / a ≡ 0 = div-eq_of_lt low in
-    rw quotient (omega arith)
 
 -- ---- tuples and entries by their members
 
@@ -92,7 +83,7 @@ of_entry k t =
     let same : max (or_one (basic_size k)) (alignment t) ≡ max (or_one (basic_size k)) (max (alignment t) 1) = omega (arith, alignment_pos t) in
     record {
       aligned = same;
-      sized = ap₂ padded same (sym (entry_end t (or_one (basic_size k)) (basic_size k) (fixed_size t) (round_up_zero (or_one (basic_size k)) (basic_alignment k).least)));
+      sized = ap₂ padded same (sym (entry_end t (or_one (basic_size k)) (basic_size k) (fixed_size t) (round_up-zero (or_one (basic_size k)) (basic_alignment k).least)));
     }
 
 pub of_members : (t : Ty) (c : Class) → c ≡ class_of t → (c ≡ classes.Tuple) ⊎ (c ≡ classes.Entry) → IsOfMembers t
@@ -134,9 +125,9 @@ pub unsized_first : (t u : Ty) (rest : Types) → IsUnsizedBy t (member u rest) 
 unfolding fixed_end
 unsized_first t u rest h e = h (λ q. ap (option_and_then (λ s. fixed_end rest (round_up (alignment u) q + s))) e)
 
-pub unsized_behind : (t u : Ty) (rest : Types) → IsUnsizedBy t (member u rest) → IsUnsizedBy t rest
+pub unsized_after : (t u : Ty) (rest : Types) → IsUnsizedBy t (member u rest) → IsUnsizedBy t rest
 unfolding fixed_end
-unsized_behind t u rest h g = h (λ q. go q (fixed_size u))
+unsized_after t u rest h g = h (λ q. go q (fixed_size u))
   where
     go : (q : ℕ) (o : Option ℕ) → option_and_then (λ s. fixed_end rest (round_up (alignment u) q + s)) o ≡ None
     go q None = refl
@@ -150,7 +141,7 @@ IsSmall t = (n : ℕ) → fixed_size t ≡ Some n → n + 8 ≤ 16 * length (spe
 abbrev EndsNear : Types → Type 0
 EndsNear ts = (p e : ℕ) → fixed_end ts p ≡ Some e → e ≤ p + 16 * length (spellings ts)
 
--- where a member ends that begins behind p
+-- where a member ends that begins after p
 pub member_near : (t : Ty) (p s : ℕ) → IsSmall t → fixed_size t ≡ Some s → round_up (alignment t) p + s ≤ p + 16 * length (spelling t)
 member_near t p s small e = omega (arith, small s e, (round_up_near (alignment t) p (alignment_pos t)).1, alignment_most t)
 

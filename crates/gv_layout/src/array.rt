@@ -15,7 +15,7 @@ use gv_types::TypeStr;
 
 /// Children of one type and size, one after the other, from `at` on.
 #[derive(Clone, Copy, Debug)]
-pub(crate) struct Even<'a> {
+pub(crate) struct FixedSize<'a> {
     element: TypeStr<'a>,
     size: usize,
     at: usize,
@@ -24,14 +24,14 @@ pub(crate) struct Even<'a> {
     ghost inside: { at + size * left ≤ len },
 }
 
-impl<'a> Even<'a> {
-    ghost use Rattle.gv_layout.specs.Places.{child_of, even_left};
+impl<'a> FixedSize<'a> {
+    ghost use Rattle.gv_layout.specs.Places.{child_of, fixed_left};
 
     /// No children.
-    pub(crate) fn none(element: TypeStr<'a>) -> Even<'a>
-        ensures { even_left result ≡ [] }
+    pub(crate) fn none(element: TypeStr<'a>) -> FixedSize<'a>
+        ensures { fixed_left result ≡ [] }
     {
-        Even {
+        FixedSize {
             element,
             size: 0,
             at: 0,
@@ -41,13 +41,13 @@ impl<'a> Even<'a> {
     }
 
     /// The elements of an array of `len` bytes, whose elements have this size.
-    pub(crate) fn of_array(element: TypeStr<'a>, size: usize, bytes: &[u8]) -> Even<'a>
+    pub(crate) fn of_array(element: TypeStr<'a>, size: usize, bytes: &[u8]) -> FixedSize<'a>
         requires { fixed_size (ty element) ≡ Some size }
-        ensures { even_left result ≡ children_at (length bytes.now) (element_spans (ty element.entry) bytes.now (Some size)) }
+        ensures { fixed_left result ≡ children_at (length bytes.now) (element_spans (ty element.entry) bytes.now (Some size)) }
     {
         let len = bytes.len();
         let left = if len % size == 0 { len / size } else { 0 };
-        Even {
+        FixedSize {
             element,
             size,
             at: 0,
@@ -57,22 +57,22 @@ impl<'a> Even<'a> {
     }
 
     /// The child of a maybe of `len` bytes.
-    pub(crate) fn of_maybe(child: TypeStr<'a>, len: usize) -> Even<'a>
-        ensures { even_left result ≡ children_at len (just_span (ty child.entry) len (fixed_size (ty child.entry))) }
+    pub(crate) fn of_maybe(child: TypeStr<'a>, len: usize) -> FixedSize<'a>
+        ensures { fixed_left result ≡ children_at len (just_span (ty child.entry) len (fixed_size (ty child.entry))) }
     {
         match fixed_size(child) {
-            Some(size) if size == len => Even::one(child, len, len),
-            None if len > 0 => Even::one(child, len - 1, len),
-            _ => Even::none(child),
+            Some(size) if size == len => FixedSize::one(child, len, len),
+            None if len > 0 => FixedSize::one(child, len - 1, len),
+            _ => FixedSize::none(child),
         }
     }
 
     /// One child, in the first `to` bytes of `len`.
-    fn one(element: TypeStr<'a>, to: usize, len: usize) -> Even<'a>
+    fn one(element: TypeStr<'a>, to: usize, len: usize) -> FixedSize<'a>
         requires { to ≤ len }
-        ensures { even_left result ≡ children_at len ((ty element.entry, Some (0, to)) ∷ []) }
+        ensures { fixed_left result ≡ children_at len ((ty element.entry, Some (0, to)) ∷ []) }
     {
-        Even {
+        FixedSize {
             element,
             size: to,
             at: 0,
@@ -83,15 +83,15 @@ impl<'a> Even<'a> {
 
     /// How many children are left.
     pub(crate) fn len(self) -> usize
-        ensures { result ≡ length (even_left self.entry) }
+        ensures { result ≡ length (fixed_left self.entry) }
     {
         self.left
     }
 
-    /// The first child, and those behind it.
-    pub(crate) fn first(self) -> Option<(Place<'a>, Even<'a>)>
-        ensures { MatchOption result (even_left self.entry ≡ [])
-            (λ r. even_left self.entry ≡ child_of r.0 ∷ even_left r.1) }
+    /// The first child, and those after it.
+    pub(crate) fn split_first(self) -> Option<(Place<'a>, FixedSize<'a>)>
+        ensures { MatchOption result (fixed_left self.entry ≡ [])
+            (λ r. fixed_left self.entry ≡ child_of r.0 ∷ fixed_left r.1) }
     {
         let left = self.left.checked_sub(1)?;
         let to = self.at + self.size;
@@ -100,23 +100,23 @@ impl<'a> Even<'a> {
             from: self.at,
             to,
         };
-        let behind = Even {
+        let after = FixedSize {
             element: self.element,
             size: self.size,
             at: to,
             left,
             len: self.len,
         };
-        Some((place, behind))
+        Some((place, after))
     }
 
-    /// The children behind the first `i`.
-    pub(crate) fn behind(self, i: usize) -> Even<'a>
-        ensures { even_left result ≡ drop i (even_left self.entry) }
+    /// The children after the first `i`.
+    pub(crate) fn skip(self, i: usize) -> FixedSize<'a>
+        ensures { fixed_left result ≡ drop i (fixed_left self.entry) }
     {
         let passed = i.min(self.left);
         let at = self.at + self.size * passed;
-        Even {
+        FixedSize {
             element: self.element,
             size: self.size,
             at,
@@ -128,7 +128,7 @@ impl<'a> Even<'a> {
 
 /// Elements whose ends are given by framing offsets.
 #[derive(Clone, Copy, Debug)]
-pub(crate) struct Framed<'a, 'b> {
+pub(crate) struct ByOffsets<'a, 'b> {
     element: TypeStr<'a>,
     aligned_to: u8,
     end: usize,
@@ -142,12 +142,12 @@ pub(crate) struct Framed<'a, 'b> {
     ghost small: { len + 256 < 2 ^ 64 },
 }
 
-impl<'a, 'b> Framed<'a, 'b> {
-    ghost use Rattle.gv_layout.specs.Places.{child_of, framed_left};
+impl<'a, 'b> ByOffsets<'a, 'b> {
+    ghost use Rattle.gv_layout.specs.Places.{child_of, by_offsets_left};
 
     /// The elements of an array whose elements have no fixed size.
-    pub(crate) fn of_array(element: TypeStr<'a>, bytes: &'b [u8]) -> Framed<'a, 'b>
-        ensures { framed_left result ≡ children_at (length bytes.entry.now) (element_spans (ty element.entry) bytes.entry.now None) }
+    pub(crate) fn of_array(element: TypeStr<'a>, bytes: &'b [u8]) -> ByOffsets<'a, 'b>
+        ensures { by_offsets_left result ≡ children_at (length bytes.entry.now) (element_spans (ty element.entry) bytes.entry.now None) }
     {
         let len = bytes.len();
         let aligned_to = alignment(element);
@@ -155,7 +155,7 @@ impl<'a, 'b> Framed<'a, 'b> {
         let begin = number(&bytes[len - width..]);
         if width > 0 && begin <= len && (len - begin) % width == 0 {
             let left = (len - begin) / width;
-            return Framed {
+            return ByOffsets {
                 element,
                 aligned_to,
                 end: 0,
@@ -165,7 +165,7 @@ impl<'a, 'b> Framed<'a, 'b> {
                 len,
             };
         }
-        Framed {
+        ByOffsets {
             element,
             aligned_to,
             end: 0,
@@ -178,22 +178,22 @@ impl<'a, 'b> Framed<'a, 'b> {
 
     /// How many children are left.
     pub(crate) fn len(self) -> usize
-        ensures { result ≡ length (framed_left self.entry) }
+        ensures { result ≡ length (by_offsets_left self.entry) }
     {
         self.left
     }
 
-    /// The first child, and those behind it.
-    pub(crate) fn first(self) -> Option<(Place<'a>, Framed<'a, 'b>)>
-        ensures { MatchOption result (framed_left self.entry ≡ [])
-            (λ r. framed_left self.entry ≡ child_of r.0 ∷ framed_left r.1) }
+    /// The first child, and those after it.
+    pub(crate) fn split_first(self) -> Option<(Place<'a>, ByOffsets<'a, 'b>)>
+        ensures { MatchOption result (by_offsets_left self.entry ≡ [])
+            (λ r. by_offsets_left self.entry ≡ child_of r.0 ∷ by_offsets_left r.1) }
     {
         let left = self.left.checked_sub(1)?;
         let (offset, offsets) = self.offsets.split_at(self.width);
         let end = number(offset);
         let from = aligned(self.end, self.aligned_to, self.len);
         let place = Place::within(self.element, from, end, self.len);
-        let behind = Framed {
+        let after = ByOffsets {
             element: self.element,
             aligned_to: self.aligned_to,
             end,
@@ -202,19 +202,19 @@ impl<'a, 'b> Framed<'a, 'b> {
             left,
             len: self.len,
         };
-        Some((place, behind))
+        Some((place, after))
     }
 
-    /// The children behind the first `i`.
-    pub(crate) fn behind(self, i: usize) -> Framed<'a, 'b>
-        ensures { framed_left result ≡ drop i (framed_left self.entry) }
+    /// The children after the first `i`.
+    pub(crate) fn skip(self, i: usize) -> ByOffsets<'a, 'b>
+        ensures { by_offsets_left result ≡ drop i (by_offsets_left self.entry) }
     {
         let passed = i.min(self.left);
         if passed == 0 {
             return self;
         }
         let start = self.width * passed;
-        Framed {
+        ByOffsets {
             element: self.element,
             aligned_to: self.aligned_to,
             end: number(&self.offsets[start - self.width..start]),

@@ -14,4 +14,4 @@ mod walk;
 
 pub use bounds::{member_bounds, n_children, place_of, places};
 pub use place::{Place, Places};
-pub use size::{alignment, fixed_size, offset_width};
+pub use size::{alignment, fixed_size, offset_width, round_up};

@@ -15,10 +15,10 @@ pub(crate) fn number(bytes: &[u8]) -> usize
     }
 }
 
-/// Offset `k` from the end, where it stands whole within the bytes; those behind it do.
+/// Offset `k` from the end, where it lies whole within the bytes; those after it do.
 pub(crate) fn framing_offset(width: usize, bytes: &[u8], k: usize) -> Option<usize>
     requires narrow { width ≤ 8 }
-    requires behind { width * k ≤ length bytes.now }
+    requires after { width * k ≤ length bytes.now }
     ensures { result ≡ framing_offset width bytes.now k }
 {
     let end = bytes.len() - width * k;

@@ -50,8 +50,8 @@ impl<'a> Iterator for Places<'a> {
     ghost remaining = { item_count places_left };
 
     fn next(&mut self) -> Option<Place<'a>> {
-        let (place, behind) = self.walk.first()?;
-        self.walk = behind;
+        let (place, after) = self.walk.split_first()?;
+        self.walk = after;
         Some(place)
     }
 }

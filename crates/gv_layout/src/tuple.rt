@@ -1,5 +1,5 @@
 //! Where the members of a tuple or an entry lie (GVariant Specification, "Structures" and "Dictionary Entries").
-//! Each begins where the one before ends, aligned; the framing offsets stand at the end, the first one last.
+//! Each begins where the one before ends, aligned; the framing offsets occur at the end, the first one last.
 ghost use Rattle.std.specs.Prelude.{◌≡◌, ◌<◌, ◌≤◌, ◌^◌, ◌+◌, ◌*◌, ◌⊎◌, MatchOption, IfSome, IsTrue, option_map, length, drop, [], ◌∷◌};
 ghost use Rattle.gv_model.specs.Ty.{members};
 ghost use Rattle.gv_model.specs.Tuples.{tuple_spans, next_offset};
@@ -9,37 +9,37 @@ ghost use Rattle.gv_types.specs.Members.{members_left};
 
 use crate::offset::framing_offset;
 use crate::place::Place;
-use crate::size::{layout_of, offset_width, size_of_members};
+use crate::size::{offset_width, size_of_members, type_info};
 use crate::walk::aligned;
 use gv_types::{Members, TypeStr};
 
 /// Members, of which the one before ends at `previous`, if its end is known. The last `used` framing offsets
 /// belong to members before.
 #[derive(Clone, Copy, Debug)]
-pub(crate) struct Following<'a, 'b> {
+pub(crate) struct ByMembers<'a, 'b> {
     members: Members<'a>,
     bytes: &'b [u8],
     width: usize,
     used: usize,
     previous: Option<usize>,
     ghost narrow: { width ≤ 8 },
-    ghost behind: { width * used ≤ length bytes.now },
+    ghost after: { width * used ≤ length bytes.now },
     ghost few: { length (members_left members) < 2 ^ 64 },
 }
 
-impl<'a, 'b> Following<'a, 'b> {
-    ghost use Rattle.gv_layout.specs.Places.{child_of, clamp, end_by, following_left};
+impl<'a, 'b> ByMembers<'a, 'b> {
+    ghost use Rattle.gv_layout.specs.Places.{child_of, clamp, end_by, by_members_left};
 
     /// The members of a tuple or an entry.
-    pub(crate) fn of_tuple(of: TypeStr<'a>, bytes: &'b [u8]) -> Following<'a, 'b>
-        ensures { following_left result ≡ children_at (length bytes.entry.now) (tuple_spans (ty of.entry) (members (ty of.entry)) bytes.entry.now) }
+    pub(crate) fn of_tuple(of: TypeStr<'a>, bytes: &'b [u8]) -> ByMembers<'a, 'b>
+        ensures { by_members_left result ≡ children_at (length bytes.entry.now) (tuple_spans (ty of.entry) (members (ty of.entry)) bytes.entry.now) }
     {
         let width = usize::from(offset_width(bytes.len()));
         let previous = match size_of_members(of) {
             Some(size) if size != bytes.len() => None,
             _ => Some(0),
         };
-        Following {
+        ByMembers {
             members: of.members(),
             bytes,
             width,
@@ -50,15 +50,15 @@ impl<'a, 'b> Following<'a, 'b> {
 
     /// How many children are left.
     pub(crate) fn len(self) -> usize
-        ensures { result ≡ length (following_left self.entry) }
+        ensures { result ≡ length (by_members_left self.entry) }
     {
         self.members.count()
     }
 
-    /// The first child, and those behind it.
-    pub(crate) fn first(self) -> Option<(Place<'a>, Following<'a, 'b>)>
-        ensures { MatchOption result (following_left self.entry ≡ [])
-            (λ r. following_left self.entry ≡ child_of r.0 ∷ following_left r.1) }
+    /// The first child, and those after it.
+    pub(crate) fn split_first(self) -> Option<(Place<'a>, ByMembers<'a, 'b>)>
+        ensures { MatchOption result (by_members_left self.entry ≡ [])
+            (λ r. by_members_left self.entry ≡ child_of r.0 ∷ by_members_left r.1) }
     {
         let mut members = self.members;
         let member = members.next()?;
@@ -68,7 +68,7 @@ impl<'a, 'b> Following<'a, 'b> {
             from: 0,
             to: 0,
         };
-        let lost = Following {
+        let lost = ByMembers {
             members,
             bytes: self.bytes,
             width: self.width,
@@ -78,30 +78,30 @@ impl<'a, 'b> Following<'a, 'b> {
         let Some(previous) = self.previous else {
             return Some((unknown, lost));
         };
-        let layout = layout_of(member);
-        let from = aligned(previous, layout.alignment, self.bytes.len());
-        let Some((to, used)) = self.end(layout.size, from, is_last) else {
+        let info = type_info(member);
+        let from = aligned(previous, info.alignment, self.bytes.len());
+        let Some((to, used)) = self.end(info.size, from, is_last) else {
             return Some((unknown, lost));
         };
         let place = Place::within(member, from, to, self.bytes.len());
-        let behind = Following {
+        let after = ByMembers {
             members,
             bytes: self.bytes,
             width: self.width,
             used,
             previous: Some(to),
         };
-        Some((place, behind))
+        Some((place, after))
     }
 
-    /// The children behind the first `i`.
-    pub(crate) fn behind(self, i: usize) -> Following<'a, 'b>
-        ensures { following_left result ≡ drop i (following_left self.entry) }
+    /// The children after the first `i`.
+    pub(crate) fn skip(self, i: usize) -> ByMembers<'a, 'b>
+        ensures { by_members_left result ≡ drop i (by_members_left self.entry) }
     {
         let mut left = self;
         for _ in 0..i {
-            match left.first() {
-                Some((_, behind)) => left = behind,
+            match left.split_first() {
+                Some((_, after)) => left = after,
                 None => return left,
             }
         }
@@ -114,7 +114,7 @@ impl<'a, 'b> Following<'a, 'b> {
         ensures end { option_map (λ r. clamp (length self.entry.bytes.now) r.0) result
             ≡ option_map (clamp (length self.entry.bytes.now)) (end_by self.entry.width self.entry.bytes.now self.entry.used from size is_last) }
         ensures used { IfSome result (λ r. IsTrue is_last ⊎ (r.1 ≡ next_offset self.entry.used size)) }
-        ensures behind { IfSome result (λ r. self.entry.width * r.1 ≤ length self.entry.bytes.now) }
+        ensures after { IfSome result (λ r. self.entry.width * r.1 ≤ length self.entry.bytes.now) }
     {
         if let Some(size) = size {
             return Some((from.saturating_add(size), self.used));

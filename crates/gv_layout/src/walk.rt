@@ -6,10 +6,10 @@ ghost use Rattle.gv_model.specs.Decode.{cut};
 ghost use Rattle.gv_types.specs.TypeStr.{ty};
 ghost use Rattle.gv_layout.specs.Places.{clamp};
 
-use crate::array::{Even, Framed};
+use crate::array::{ByOffsets, FixedSize};
 use crate::place::Place;
 use crate::size::{fixed_size, round_up};
-use crate::tuple::Following;
+use crate::tuple::ByMembers;
 use gv_types::{Class, TypeStr};
 
 /// The first place from `from` on that is aligned, where all places past the end of `len` bytes are alike.
@@ -25,11 +25,11 @@ pub(crate) fn aligned(from: usize, alignment: u8, len: usize) -> usize
 #[derive(Clone, Copy, Debug)]
 pub(crate) enum Walk<'a, 'b> {
     /// Elements of a fixed size, the child of a maybe, or none.
-    Even(Even<'a>),
+    FixedSize(FixedSize<'a>),
     /// Elements of no fixed size.
-    Framed(Framed<'a, 'b>),
+    ByOffsets(ByOffsets<'a, 'b>),
     /// Members of a tuple or an entry.
-    Following(Following<'a, 'b>),
+    ByMembers(ByMembers<'a, 'b>),
 }
 
 impl<'a, 'b> Walk<'a, 'b> {
@@ -41,16 +41,19 @@ impl<'a, 'b> Walk<'a, 'b> {
         ensures { walk_left result ≡ cut (ty of.entry) bytes.entry.now }
     {
         match of.class() {
-            Class::Basic(_) | Class::Variant => Walk::Even(Even::none(of)),
+            Class::Basic(_) | Class::Variant => Walk::FixedSize(FixedSize::none(of)),
             Class::Array => {
                 let element = of.element().unwrap();
                 match fixed_size(element) {
-                    Some(size) => Walk::Even(Even::of_array(element, size, bytes)),
-                    None => Walk::Framed(Framed::of_array(element, bytes)),
+                    Some(size) => Walk::FixedSize(FixedSize::of_array(element, size, bytes)),
+                    None => Walk::ByOffsets(ByOffsets::of_array(element, bytes)),
                 }
             }
-            Class::Maybe => Walk::Even(Even::of_maybe(of.element().unwrap(), bytes.len())),
-            Class::Tuple | Class::Entry => Walk::Following(Following::of_tuple(of, bytes)),
+            Class::Maybe => Walk::FixedSize(FixedSize::of_maybe(
+                of.element().unwrap(),
+                bytes.len(),
+            )),
+            Class::Tuple | Class::Entry => Walk::ByMembers(ByMembers::of_tuple(of, bytes)),
         }
     }
 
@@ -59,41 +62,41 @@ impl<'a, 'b> Walk<'a, 'b> {
         ensures { result ≡ length (walk_left self.entry) }
     {
         match self {
-            Walk::Even(even) => even.len(),
-            Walk::Framed(framed) => framed.len(),
-            Walk::Following(following) => following.len(),
+            Walk::FixedSize(fixed) => fixed.len(),
+            Walk::ByOffsets(by_offsets) => by_offsets.len(),
+            Walk::ByMembers(by_members) => by_members.len(),
         }
     }
 
-    /// The first child, and those behind it.
-    pub(crate) fn first(self) -> Option<(Place<'a>, Walk<'a, 'b>)>
+    /// The first child, and those after it.
+    pub(crate) fn split_first(self) -> Option<(Place<'a>, Walk<'a, 'b>)>
         ensures { MatchOption result (walk_left self.entry ≡ [])
             (λ r. walk_left self.entry ≡ child_of r.0 ∷ walk_left r.1) }
     {
         match self {
-            Walk::Even(even) => {
-                let (place, behind) = even.first()?;
-                Some((place, Walk::Even(behind)))
+            Walk::FixedSize(fixed) => {
+                let (place, after) = fixed.split_first()?;
+                Some((place, Walk::FixedSize(after)))
             }
-            Walk::Framed(framed) => {
-                let (place, behind) = framed.first()?;
-                Some((place, Walk::Framed(behind)))
+            Walk::ByOffsets(by_offsets) => {
+                let (place, after) = by_offsets.split_first()?;
+                Some((place, Walk::ByOffsets(after)))
             }
-            Walk::Following(following) => {
-                let (place, behind) = following.first()?;
-                Some((place, Walk::Following(behind)))
+            Walk::ByMembers(by_members) => {
+                let (place, after) = by_members.split_first()?;
+                Some((place, Walk::ByMembers(after)))
             }
         }
     }
 
-    /// The children behind the first `i`. It passes members one by one, and elements at once.
-    pub(crate) fn behind(self, i: usize) -> Walk<'a, 'b>
+    /// The children after the first `i`. It passes members one by one, and elements at once.
+    pub(crate) fn skip(self, i: usize) -> Walk<'a, 'b>
         ensures { walk_left result ≡ drop i (walk_left self.entry) }
     {
         match self {
-            Walk::Even(even) => Walk::Even(even.behind(i)),
-            Walk::Framed(framed) => Walk::Framed(framed.behind(i)),
-            Walk::Following(following) => Walk::Following(following.behind(i)),
+            Walk::FixedSize(fixed) => Walk::FixedSize(fixed.skip(i)),
+            Walk::ByOffsets(by_offsets) => Walk::ByOffsets(by_offsets.skip(i)),
+            Walk::ByMembers(by_members) => Walk::ByMembers(by_members.skip(i)),
         }
     }
 }

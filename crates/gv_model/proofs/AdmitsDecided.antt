@@ -1,5 +1,6 @@
 -- Whether a syntax tree admits a type is decided.
-use Rattle.std.proofs.Common.{◌≡◌, ◌⊎◌, ℕ, Bool, true, false, List, [], ◌∷◌, refl, sym, ap, ap₂, ◌∙◌, eqb-true, eq-eqb, ◌++◌, ◌==◌, ◌&&◌}
+use Rattle.std.proofs.Common.{◌≡◌, ◌⊎◌, ℕ, Bool, true, false, List, [], ◌∷◌, refl, sym, ap, ap₂, ◌∙◌, eqb-true, eq-eqb, ◌==◌, ◌&&◌}
+use Rattle.std.proofs.lemmas.Bool.{both_ways}
 use mathlib.Core.Logic.{inl, inr}
 use Rattle.gv_model.specs.Ty.{Ty, Types, spelling}
 use Rattle.gv_model.specs.Ty.Ty.{basic, variant, array, maybe, tuple, entry}
@@ -11,7 +12,7 @@ use Rattle.gv_model.specs.Syntax.Syntax.{truth, integer, quoted, bytes, list, tu
 use Rattle.gv_model.specs.Syntax.Syntaxes.{none, first}
 use Rattle.gv_model.specs.Syntax.Pairs.{no_pair, pair}
 use Rattle.gv_model.specs.Admits.{Admits, AllAdmit, Admit, KeysAdmit, ValuesAdmit, AlsoMaybe, IsNumberType, IsTextType, IsArrayOf, IsMaybeOf, IsTupleOf, IsEntryOf}
-use Rattle.gv_model.proofs.TypeTextLaws.{one_reading}
+use Rattle.gv_model.proofs.TypeTextLaws.{one_spelling}
 
 abbrev Decided : Type 0 → Type 0
 Decided P = P ⊎ (P → ⊥)
@@ -39,18 +40,12 @@ unfolding same_text
 same_as_itself [] = refl
 same_as_itself (c ∷ cs) = rw (eq-eqb c c refl) (same_as_itself cs)
 
-one_spelling : (t u : Ty) → spelling t ≡ spelling u → t ≡ u
-one_spelling t u e = (one_reading t u [] [] (ap (λ w. w ++ []) e)).0
-
-not_both : (b : Bool) → b ≡ true → b ≡ false → ⊥
-not_both b e f = cc
-
 type_equal : (t u : Ty) → Decided (t ≡ u)
 type_equal t u = go (same_text (spelling t) (spelling u)) refl
   where
     go : (b : Bool) → same_text (spelling t) (spelling u) ≡ b → Decided (t ≡ u)
     go true e = inl (one_spelling t u (equal_where_same (spelling t) (spelling u) e))
-    go false e = inr (λ q. not_both _ (ap (λ v. same_text (spelling t) (spelling v)) (sym q) ∙ same_as_itself (spelling t)) e)
+    go false e = inr (λ q. both_ways _ e (ap (λ v. same_text (spelling t) (spelling v)) (sym q) ∙ same_as_itself (spelling t)))
 
 -- The kinds of types
 

@@ -7,9 +7,9 @@ use Rattle.gv_model.specs.Ty.Basic.{string, path, signature}
 use Rattle.gv_model.specs.Layout.{basic_size}
 use Rattle.gv_model.specs.Tree.{Tree, Trees, children, tree_at, trees_len, basic_default}
 use Rattle.gv_model.specs.Tree.Trees.{none}
-use Rattle.gv_model.specs.Children.{Child, bytes_of}
+use Rattle.gv_model.specs.Children.{Child, child_bytes}
 use Rattle.gv_model.specs.Decode.{decode, tree_with, each, cut, spans}
-use Rattle.gv_model.specs.Parts.{part_of, parts, trees_of}
+use Rattle.gv_model.specs.Parts.{part_of, parts, part_trees}
 use Rattle.gv_model.specs.BasicValue.{basic_value, basic_of_size, text_or_default, text_in, bits_of, number_in}
 use Rattle.gv_model.specs.Texts.{is_text}
 use Rattle.gv_model.proofs.DecodeLaws.{decode_children}
@@ -57,22 +57,22 @@ len_each f [] = refl
 len_each f (c ∷ cs) = ap suc (len_each f cs)
 
 -- child i of a value is the value of child i
-pub child_of_value : (t : Ty) (b : List ℕ) (i : ℕ) → tree_at (children (decode t b)) i ≡ option_map (λ c. decode c.type (bytes_of b c)) (slice_get (cut t b) i)
+pub child_of_value : (t : Ty) (b : List ℕ) (i : ℕ) → tree_at (children (decode t b)) i ≡ option_map (λ c. decode c.type (child_bytes b c)) (slice_get (cut t b) i)
 child_of_value t b i =
     ap (λ v. tree_at (children v) i) (decode_children t b)
-    ∙ (ap (λ vs. tree_at vs i) (tree_children (λ c. decode c.type (bytes_of b c)) t b) ∙ at_each (λ c. decode c.type (bytes_of b c)) (cut t b) i)
+    ∙ (ap (λ vs. tree_at vs i) (tree_children (λ c. decode c.type (child_bytes b c)) t b) ∙ at_each (λ c. decode c.type (child_bytes b c)) (cut t b) i)
 
 pub children_count : (t : Ty) (b : List ℕ) → trees_len (children (decode t b)) ≡ length (cut t b)
 children_count t b =
     ap (λ v. trees_len (children v)) (decode_children t b)
-    ∙ (ap trees_len (tree_children (λ c. decode c.type (bytes_of b c)) t b) ∙ len_each (λ c. decode c.type (bytes_of b c)) (cut t b))
+    ∙ (ap trees_len (tree_children (λ c. decode c.type (child_bytes b c)) t b) ∙ len_each (λ c. decode c.type (child_bytes b c)) (cut t b))
 
-pub each_part : (b : List ℕ) (cs : List Child) → each (λ c. decode c.type (bytes_of b c)) cs ≡ trees_of (map (part_of b) cs)
+pub each_part : (b : List ℕ) (cs : List Child) → each (λ c. decode c.type (child_bytes b c)) cs ≡ part_trees (map (part_of b) cs)
 each_part b [] = refl
-each_part b (c ∷ cs) = ap (Trees.first (decode c.type (bytes_of b c))) (each_part b cs)
+each_part b (c ∷ cs) = ap (Trees.first (decode c.type (child_bytes b c))) (each_part b cs)
 
 -- the children of a value are the values of its parts
-pub children_are_parts : (t : Ty) (b : List ℕ) → children (decode t b) ≡ trees_of (parts t b)
+pub children_are_parts : (t : Ty) (b : List ℕ) → children (decode t b) ≡ part_trees (parts t b)
 unfolding parts
 children_are_parts t b =
-    ap children (decode_children t b) ∙ (tree_children (λ c. decode c.type (bytes_of b c)) t b ∙ each_part b (cut t b))
+    ap children (decode_children t b) ∙ (tree_children (λ c. decode c.type (child_bytes b c)) t b ∙ each_part b (cut t b))

@@ -9,14 +9,18 @@ use Rattle.gv_model.specs.Layout.{fixed_size, offset_width}
 use Rattle.gv_model.specs.Tree.{Tree, default, defaults}
 use Rattle.gv_model.specs.Tree.Tree.{node}
 use Rattle.gv_model.specs.Tree.Trees.{first}
-use Rattle.gv_model.specs.Children.{Child, Span, bytes_of, children_at, child_at}
+use Rattle.gv_model.specs.Children.{Child, Span, child_bytes, children_at, child_at}
 use Rattle.gv_model.specs.Decode.{decode, decode_within, tree_with, each, cut, spans}
 use Rattle.gv_model.specs.Tuples.{tuple_spans, is_other_size, empty_spans, member_spans}
-use Rattle.gv_model.specs.Arrays.{element_spans, framed_spans, even_spans, numbers_in}
+use Rattle.gv_model.specs.Arrays.{element_spans, offset_spans, fixed_spans, numbers_in}
 use Rattle.gv_model.specs.BasicValue.{number_in}
 use Rattle.gv_model.specs.Maybes.{just_span}
-use Rattle.gv_model.specs.Variants.{variant_span, typed_span, unit_span, at_last_zero, add_front}
+use Rattle.gv_model.specs.Variants.{variant_span, typed_span, unit_span, at_last_zero, add_first}
 use Rattle.gv_model.proofs.TypeTextSound.{spelling_of_read}
+
+-- what a child's bytes are read as
+abbrev pub child_value : List ℕ → Child → Tree
+child_value b c = decode c.type (child_bytes b c)
 
 -- P of each item
 abbrev pub Each : {X : Type 0} → (X → Type 0) → List X → Type 0
@@ -41,13 +45,13 @@ weight_le _ = omega arith
 abbrev pub OfTypes : (Ty → Type 0) → List (Ty × Span) → Type 0
 OfTypes P xs = Each (λ (x : Ty × Span). P x.0) xs
 
-of_even : (P : Ty → Type 0) (t : Ty) (size p count : ℕ) → P t → OfTypes P (even_spans t size p count)
-unfolding even_spans
+of_even : (P : Ty → Type 0) (t : Ty) (size p count : ℕ) → P t → OfTypes P (fixed_spans t size p count)
+unfolding fixed_spans
 of_even P t size p zero h = tt
 of_even P t size p (suc count) h = (h, of_even P t size (p + size) count h)
 
-of_framed : (P : Ty → Type 0) (t : Ty) (p : ℕ) (ends : List ℕ) → P t → OfTypes P (framed_spans t p ends)
-unfolding framed_spans
+of_framed : (P : Ty → Type 0) (t : Ty) (p : ℕ) (ends : List ℕ) → P t → OfTypes P (offset_spans t p ends)
+unfolding offset_spans
 of_framed P t p [] h = tt
 of_framed P t p (e ∷ ends) h = (h, of_framed P t e ends h)
 
@@ -101,12 +105,12 @@ members_lighter (member t ts) n h =
     (omega (arith, weight_le t), members_lighter ts n (omega arith))
 
 -- the bytes of a child are no more than those of its container
-length-bytes_of-le : (b : List ℕ) (c : Child) → length (bytes_of b c) ≤ length b
+length-bytes_of-le : (b : List ℕ) (c : Child) → length (child_bytes b c) ≤ length b
 length-bytes_of-le b c = omega (arith, length-take (c.to - c.from) (drop c.from b), length-drop c.from b)
 
 -- what is asked for a child is less
 abbrev IsLess : Ty → List ℕ → Child → Type 0
-IsLess t b c = weight c.type + length (bytes_of b c) < weight t + length b
+IsLess t b c = weight c.type + length (child_bytes b c) < weight t + length b
 
 less_from_below : (t : Ty) (b : List ℕ) (xs : List (Ty × Span)) → Below (weight t) xs → Each (IsLess t b) (children_at (length b) xs)
 less_from_below t b [] h = tt
@@ -116,20 +120,20 @@ less_from_below t b (x ∷ xs) h =
     (omega arith, less_from_below t b xs h.1)
 
 -- a text up to its last zero byte, and from there on
-add_front_parts : (c : ℕ) (cs : List ℕ) (o : Option (List ℕ × List ℕ)) (p : List ℕ × List ℕ) → ((q : List ℕ × List ℕ) → o ≡ Some q → cs ≡ q.0 ++ 0 ∷ q.1) → add_front c cs o ≡ Some p → c ∷ cs ≡ p.0 ++ 0 ∷ p.1
-add_front_parts c cs (Some q) p f e =
+add_first_parts : (c : ℕ) (cs : List ℕ) (o : Option (List ℕ × List ℕ)) (p : List ℕ × List ℕ) → ((q : List ℕ × List ℕ) → o ≡ Some q → cs ≡ q.0 ++ 0 ∷ q.1) → add_first c cs o ≡ Some p → c ∷ cs ≡ p.0 ++ 0 ∷ p.1
+add_first_parts c cs (Some q) p f e =
     let same : (c ∷ q.0, q.1) ≡ p = same_Some _ _ e in
     ap (λ x. c ∷ x) (f q refl) ∙ ap (λ (r : List ℕ × List ℕ). r.0 ++ 0 ∷ r.1) same
-add_front_parts c cs None p f e =
+add_first_parts c cs None p f e =
     let parts = cond_some (c == 0) ([], cs) p e in
     ap (λ (d : ℕ). d ∷ cs) (eqb-true c 0 parts.0) ∙ ap (λ (r : List ℕ × List ℕ). r.0 ++ 0 ∷ r.1) parts.1
 
 pub at_last_zero_parts : (b : List ℕ) (p : List ℕ × List ℕ) → at_last_zero b ≡ Some p → b ≡ p.0 ++ 0 ∷ p.1
 unfolding at_last_zero
 at_last_zero_parts [] p e = absurd (none-some p e)
-at_last_zero_parts (c ∷ cs) p e = add_front_parts c cs (at_last_zero cs) p (λ q. at_last_zero_parts cs q) e
+at_last_zero_parts (c ∷ cs) p e = add_first_parts c cs (at_last_zero cs) p (λ q. at_last_zero_parts cs q) e
 
-length-bytes_of-to : (b : List ℕ) (c : Child) → length (bytes_of b c) ≤ c.to
+length-bytes_of-to : (b : List ℕ) (c : Child) → length (child_bytes b c) ≤ c.to
 length-bytes_of-to b c = omega (arith, length-take (c.to - c.from) (drop c.from b))
 
 settled_to : (n : ℕ) (test : Bool) (s : ℕ × ℕ) → (cond test s (0, 0)).1 ≤ s.1
@@ -152,7 +156,7 @@ child_less b p t e f =
     let c = child_at (length b) (t, Some (0, length p.0)) in
     let whole : length b ≡ length p.0 + suc (length p.1) = ap length e ∙ length-append p.0 (0 ∷ p.1) in
     let text : length (spelling t) ≡ length p.1 = ap length f in
-    let short : length (bytes_of b c) ≤ c.to = length-bytes_of-to b c in
+    let short : length (child_bytes b c) ≤ c.to = length-bytes_of-to b c in
     let inside : c.to ≤ length p.0 = settled_to (length b) (nat_le 0 (length p.0) && nat_le (length p.0) (length b)) (0, length p.0) in
     omega (arith, weight_variant, weight_le t)
 
@@ -231,11 +235,11 @@ least_depth (basic k) b h = absurd (omega (arith, heavy_basic k))
 least_depth variant b h = absurd (omega (arith, weight_variant))
 least_depth (array t) b h = absurd (omega (arith, lighter_array t))
 least_depth (maybe t) b h = absurd (omega (arith, lighter_maybe t))
-least_depth (tuple end) b h = ap (λ cs. node (tuple end) (each (λ c. decode_within 0 c.type (bytes_of b c)) cs)) (cut-unit b)
+least_depth (tuple end) b h = ap (λ cs. node (tuple end) (each (λ c. decode_within 0 c.type (child_bytes b c)) cs)) (cut-unit b)
 least_depth (tuple (member t ts)) b h = absurd (omega (arith, heavy_tuple t ts))
 least_depth (entry k t) b h = absurd (omega (arith, heavy_entry k t))
 
-decode_step : (n : ℕ) (t : Ty) (b : List ℕ) → decode_within (suc n) t b ≡ tree_with (λ c. decode_within n c.type (bytes_of b c)) t b
+decode_step : (n : ℕ) (t : Ty) (b : List ℕ) → decode_within (suc n) t b ≡ tree_with (λ c. decode_within n c.type (child_bytes b c)) t b
 unfolding decode_within
 decode_step n t b = refl
 
@@ -244,8 +248,8 @@ enough : (n : ℕ) (t : Ty) (b : List ℕ) → weight t + length b ≤ n → dec
 enough zero t b h = least_depth t b h
 enough (suc n) t b h =
     decode_step (suc n) t b
-    ∙ (tree_same (λ c. decode_within (suc n) c.type (bytes_of b c)) (λ c. decode_within n c.type (bytes_of b c)) t b
-    (each_weaker (IsLess t b) (λ c. decode_within (suc n) c.type (bytes_of b c) ≡ decode_within n c.type (bytes_of b c)) (λ c less. enough n c.type (bytes_of b c) (omega arith)) (cut t b) (container_less t b))
+    ∙ (tree_same (λ c. decode_within (suc n) c.type (child_bytes b c)) (λ c. decode_within n c.type (child_bytes b c)) t b
+    (each_weaker (IsLess t b) (λ c. decode_within (suc n) c.type (child_bytes b c) ≡ decode_within n c.type (child_bytes b c)) (λ c less. enough n c.type (child_bytes b c) (omega arith)) (cut t b) (container_less t b))
     ∙ sym (decode_step n t b))
 
 -- nor do more
@@ -263,21 +267,21 @@ decode_at n t b h =
     any_depth m n t b (omega arith) h ∙ sym (any_depth m (length (spelling t) + length b) t b (omega arith) (omega (arith, weight_le t)))
 
 -- The value of bytes is the tree over the values of its children.
-pub decode_children : (t : Ty) (b : List ℕ) → decode t b ≡ tree_with (λ c. decode c.type (bytes_of b c)) t b
+pub decode_children : (t : Ty) (b : List ℕ) → decode t b ≡ tree_with (λ c. decode c.type (child_bytes b c)) t b
 decode_children t b =
     let n = weight t + length b in
     sym (decode_at (suc n) t b (omega arith))
     ∙ (decode_step n t b
-    ∙ tree_same (λ c. decode_within n c.type (bytes_of b c)) (λ c. decode c.type (bytes_of b c)) t b
-    (each_weaker (IsLess t b) (λ c. decode_within n c.type (bytes_of b c) ≡ decode c.type (bytes_of b c)) (λ c less. decode_at n c.type (bytes_of b c) (omega arith)) (cut t b) (container_less t b)))
+    ∙ tree_same (λ c. decode_within n c.type (child_bytes b c)) (λ c. decode c.type (child_bytes b c)) t b
+    (each_weaker (IsLess t b) (λ c. decode_within n c.type (child_bytes b c) ≡ decode c.type (child_bytes b c)) (λ c less. decode_at n c.type (child_bytes b c) (omega arith)) (cut t b) (container_less t b)))
 
 -- any reading that gives of each container the tree over what it gives of the children is `decode`
-reading_within : (f : Ty → List ℕ → Tree) → ((t : Ty) (b : List ℕ) → f t b ≡ tree_with (λ c. f c.type (bytes_of b c)) t b) → (n : ℕ) (t : Ty) (b : List ℕ) → weight t + length b ≤ n → f t b ≡ decode_within (suc n) t b
+reading_within : (f : Ty → List ℕ → Tree) → ((t : Ty) (b : List ℕ) → f t b ≡ tree_with (λ c. f c.type (child_bytes b c)) t b) → (n : ℕ) (t : Ty) (b : List ℕ) → weight t + length b ≤ n → f t b ≡ decode_within (suc n) t b
 unfolding decode_within
 reading_within f e zero t b h =
-    e t b ∙ tree_same (λ c. f c.type (bytes_of b c)) (λ c. decode_within 0 c.type (bytes_of b c)) t b (each_weaker (IsLess t b) (λ c. f c.type (bytes_of b c) ≡ decode_within 0 c.type (bytes_of b c)) (λ c less. absurd (omega arith)) (cut t b) (container_less t b))
+    e t b ∙ tree_same (λ c. f c.type (child_bytes b c)) (λ c. decode_within 0 c.type (child_bytes b c)) t b (each_weaker (IsLess t b) (λ c. f c.type (child_bytes b c) ≡ decode_within 0 c.type (child_bytes b c)) (λ c less. absurd (omega arith)) (cut t b) (container_less t b))
 reading_within f e (suc n) t b h =
-    e t b ∙ tree_same (λ c. f c.type (bytes_of b c)) (λ c. decode_within (suc n) c.type (bytes_of b c)) t b (each_weaker (IsLess t b) (λ c. f c.type (bytes_of b c) ≡ decode_within (suc n) c.type (bytes_of b c)) (λ c less. reading_within f e n c.type (bytes_of b c) (omega arith)) (cut t b) (container_less t b))
+    e t b ∙ tree_same (λ c. f c.type (child_bytes b c)) (λ c. decode_within (suc n) c.type (child_bytes b c)) t b (each_weaker (IsLess t b) (λ c. f c.type (child_bytes b c) ≡ decode_within (suc n) c.type (child_bytes b c)) (λ c less. reading_within f e n c.type (child_bytes b c) (omega arith)) (cut t b) (container_less t b))
 
-pub only_reading : (f : Ty → List ℕ → Tree) → ((t : Ty) (b : List ℕ) → f t b ≡ tree_with (λ c. f c.type (bytes_of b c)) t b) → (t : Ty) (b : List ℕ) → f t b ≡ decode t b
+pub only_reading : (f : Ty → List ℕ → Tree) → ((t : Ty) (b : List ℕ) → f t b ≡ tree_with (λ c. f c.type (child_bytes b c)) t b) → (t : Ty) (b : List ℕ) → f t b ≡ decode t b
 only_reading f e t b = reading_within f e (weight t + length b) t b (omega arith) ∙ decode_at (suc (weight t + length b)) t b (omega arith)

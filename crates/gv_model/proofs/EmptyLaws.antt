@@ -11,19 +11,19 @@ use Rattle.gv_model.specs.Layout.{fixed_size, basic_size, padded, round_up, offs
 use Rattle.gv_model.specs.Tree.{Trees, default, defaults, basic_default}
 use Rattle.gv_model.specs.Tree.Tree.{node}
 use Rattle.gv_model.specs.Tree.Trees.{none, first}
-use Rattle.gv_model.specs.Children.{Child, Span, bytes_of, children_at, child_at}
+use Rattle.gv_model.specs.Children.{Child, Span, child_bytes, children_at, child_at}
 use Rattle.gv_model.specs.Decode.{decode, each, cut, spans}
 use Rattle.gv_model.specs.Tuples.{tuple_spans, is_other_size, empty_spans, member_spans, next_offset, span, start_of, end_of}
-use Rattle.gv_model.specs.Arrays.{element_spans, even_spans}
+use Rattle.gv_model.specs.Arrays.{element_spans, fixed_spans}
 use Rattle.gv_model.specs.Maybes.{just_span}
 use Rattle.gv_model.specs.Variants.{at_last_zero}
 use Rattle.gv_model.specs.BasicValue.{basic_value, text_in}
 use Rattle.gv_model.proofs.DecodeLaws.{decode_children, cut-unit}
 
 pub decode-unit : (b : List ℕ) → decode (tuple end) b ≡ node (tuple end) none
-decode-unit b = decode_children (tuple end) b ∙ ap (λ cs. node (tuple end) (each (λ c. decode c.type (bytes_of b c)) cs)) (cut-unit b)
+decode-unit b = decode_children (tuple end) b ∙ ap (λ cs. node (tuple end) (each (λ c. decode c.type (child_bytes b c)) cs)) (cut-unit b)
 
-nothing_of_nothing : (c : Child) → bytes_of [] c ≡ []
+nothing_of_nothing : (c : Child) → child_bytes [] c ≡ []
 nothing_of_nothing c = ap (take (c.to - c.from)) (drop-nil c.from) ∙ take-nil (c.to - c.from)
 
 basic-nil : (k : Basic) → basic_value k [] ≡ basic_default k
@@ -73,9 +73,9 @@ fixed_size_pos (tuple ts) n e = padded_pos _ _ n e
 fixed_size_pos (entry k t) n e = padded_pos _ _ n e
 
 pub elements-nil : (t : Ty) (size : Option ℕ) → element_spans t [] size ≡ []
-unfolding even_spans
+unfolding fixed_spans
 elements-nil t None = refl
-elements-nil t (Some n) = none_either (0 % n == 0) (even_spans t n 0 (0 / n)) (ap (even_spans t n 0) (zero-div n))
+elements-nil t (Some n) = none_either (0 % n == 0) (fixed_spans t n 0 (0 / n)) (ap (fixed_spans t n 0) (zero-div n))
   where
     none_either : (b : Bool) (xs : List (Ty × Span)) → xs ≡ [] → cond b xs [] ≡ []
     none_either true xs h = h
@@ -94,9 +94,9 @@ AllDefault end = Unit {0}
 AllDefault (member t ts) = (decode t [] ≡ default t) × AllDefault ts
 
 abbrev read_empty : List (Ty × Span) → Trees
-read_empty xs = each (λ c. decode c.type (bytes_of [] c)) (children_at 0 xs)
+read_empty xs = each (λ c. decode c.type (child_bytes [] c)) (children_at 0 xs)
 
-child-nil : (c : Child) → decode c.type [] ≡ default c.type → decode c.type (bytes_of [] c) ≡ default c.type
+child-nil : (c : Child) → decode c.type [] ≡ default c.type → decode c.type (child_bytes [] c) ≡ default c.type
 child-nil c h = ap (decode c.type) (nothing_of_nothing c) ∙ h
 
 members-nil : (w : ℕ) (b : List ℕ) (ts : Types) (k : ℕ) (p : Option ℕ) → AllDefault ts → read_empty (member_spans w b k p ts) ≡ defaults ts

@@ -1,5 +1,6 @@
 -- Tokens without a fault are those of a tree within the depth.
-use Rattle.std.proofs.Common.{◌≡◌, ◌≤◌, ◌⊎◌, ℕ, suc, ◌-◌, Bool, true, false, cond, List, [], ◌∷◌, ◌++◌, Option, Some, None, Result, Ok, Err, refl, sym, ap, ◌∙◌, arith, append_assoc, append-nil, nat_le}
+use Rattle.std.proofs.Common.{◌≡◌, ◌≤◌, ◌⊎◌, ℕ, suc, ◌-◌, Bool, true, false, cond, List, [], ◌∷◌, ◌++◌, Option, None, Result, Ok, Err, refl, sym, ap, ◌∙◌, arith, append_assoc, append-nil, nat_le}
+use Rattle.std.proofs.lemmas.Option.{none-some}
 use mathlib.Core.Logic.{inl, inr}
 use Rattle.gv_model.specs.Syntax.{Syntax, Syntaxes, Pairs, levels, greatest_levels, pairs_levels}
 use Rattle.gv_model.specs.Syntax.Syntax.{truth, integer, quoted, bytes, list, tuple_of, dictionary, lone, boxed, just, nothing, at_type, keyword}
@@ -10,12 +11,12 @@ use Rattle.gv_model.specs.Tokens.Mark.{open_tuple, close_tuple, open_list, close
 use Rattle.gv_model.specs.Tokens.Word.{truth as truth_word, just as just_word, nothing as nothing_word, type_word}
 use Rattle.gv_model.specs.Tokens.Token.{mark, string_token, byte_string, integer_token, type_token, word}
 use Rattle.gv_model.specs.Grammar.{tokens_of, commas, members_tokens, pairs_tokens}
-use Rattle.gv_model.specs.GrammarFaults.{Stage, Want, NumberedFault, behind_first, wants_of, or_fault, grammar_fault}
+use Rattle.gv_model.specs.GrammarFaults.{Stage, Want, NumberedFault, begun_wants, wants_of, or_fault, grammar_fault}
 use Rattle.gv_model.specs.GrammarFaults.Stage.{list_start, list_more, tuple_start, tuple_one, tuple_two, tuple_more, brace_start, brace_first, pair_more, pair_colon, lone_end, box_end}
 use Rattle.gv_model.specs.GrammarFaults.Want.{a_value, inside}
 use Rattle.gv_model.proofs.LevelLimits.{begun_to, step_to, fault_to, fault_128}
 
--- elements, each behind a `,`
+-- elements, each after a `,`
 abbrev commas_after : Syntaxes → List Token
 commas_after none = []
 commas_after (first x xs) = mark comma ∷ (tokens_of x ++ commas_after xs)
@@ -40,23 +41,23 @@ members_first x none = refl
 members_first x (first y xs) = refl
 
 -- What tokens stand for a want, up to the rest
-abbrev Stands : ℕ → Stage → ℕ → List Token → List Token → Type 0
-Stands l list_start d ts us = (xs : Syntaxes) × (ts ≡ commas xs ++ mark close_list ∷ us) × (greatest_levels xs ≤ suc l - d)
-Stands l list_more d ts us = (xs : Syntaxes) × (ts ≡ commas_after xs ++ mark close_list ∷ us) × (greatest_levels xs ≤ suc l - d)
-Stands l tuple_start d ts us = (xs : Syntaxes) × (ts ≡ members_tokens xs ++ mark close_tuple ∷ us) × (greatest_levels xs ≤ suc l - d)
-Stands l tuple_one d ts us = (xs : Syntaxes) × (ts ≡ mark comma ∷ (commas xs ++ mark close_tuple ∷ us)) × (greatest_levels xs ≤ suc l - d)
-Stands l tuple_two d ts us = (xs : Syntaxes) × (ts ≡ commas xs ++ mark close_tuple ∷ us) × (greatest_levels xs ≤ suc l - d)
-Stands l tuple_more d ts us = (xs : Syntaxes) × (ts ≡ commas_after xs ++ mark close_tuple ∷ us) × (greatest_levels xs ≤ suc l - d)
-Stands l brace_start d ts us = ((ps : Pairs) × (ts ≡ pairs_tokens ps ++ mark close_brace ∷ us) × (pairs_levels ps ≤ suc l - d)) ⊎ ((k : Syntax) × (v : Syntax) × (ts ≡ tokens_of k ++ mark comma ∷ (tokens_of v ++ mark close_brace ∷ us)) × (levels k ≤ suc l - d) × (levels v ≤ suc l - d))
-Stands l brace_first d ts us = ((v : Syntax) × (ps : Pairs) × (ts ≡ mark colon ∷ (tokens_of v ++ (pairs_after ps ++ mark close_brace ∷ us))) × (levels v ≤ suc l - d) × (pairs_levels ps ≤ suc l - d)) ⊎ ((v : Syntax) × (ts ≡ mark comma ∷ (tokens_of v ++ mark close_brace ∷ us)) × (levels v ≤ suc l - d))
-Stands l pair_more d ts us = (ps : Pairs) × (ts ≡ pairs_after ps ++ mark close_brace ∷ us) × (pairs_levels ps ≤ suc l - d)
-Stands l pair_colon d ts us = (v : Syntax) × (ps : Pairs) × (ts ≡ mark colon ∷ (tokens_of v ++ (pairs_after ps ++ mark close_brace ∷ us))) × (levels v ≤ suc l - d) × (pairs_levels ps ≤ suc l - d)
-Stands l lone_end d ts us = ts ≡ mark close_brace ∷ us
-Stands l box_end d ts us = ts ≡ mark close_box ∷ us
+abbrev Fills : ℕ → Stage → ℕ → List Token → List Token → Type 0
+Fills l list_start d ts us = (xs : Syntaxes) × (ts ≡ commas xs ++ mark close_list ∷ us) × (greatest_levels xs ≤ suc l - d)
+Fills l list_more d ts us = (xs : Syntaxes) × (ts ≡ commas_after xs ++ mark close_list ∷ us) × (greatest_levels xs ≤ suc l - d)
+Fills l tuple_start d ts us = (xs : Syntaxes) × (ts ≡ members_tokens xs ++ mark close_tuple ∷ us) × (greatest_levels xs ≤ suc l - d)
+Fills l tuple_one d ts us = (xs : Syntaxes) × (ts ≡ mark comma ∷ (commas xs ++ mark close_tuple ∷ us)) × (greatest_levels xs ≤ suc l - d)
+Fills l tuple_two d ts us = (xs : Syntaxes) × (ts ≡ commas xs ++ mark close_tuple ∷ us) × (greatest_levels xs ≤ suc l - d)
+Fills l tuple_more d ts us = (xs : Syntaxes) × (ts ≡ commas_after xs ++ mark close_tuple ∷ us) × (greatest_levels xs ≤ suc l - d)
+Fills l brace_start d ts us = ((ps : Pairs) × (ts ≡ pairs_tokens ps ++ mark close_brace ∷ us) × (pairs_levels ps ≤ suc l - d)) ⊎ ((k : Syntax) × (v : Syntax) × (ts ≡ tokens_of k ++ mark comma ∷ (tokens_of v ++ mark close_brace ∷ us)) × (levels k ≤ suc l - d) × (levels v ≤ suc l - d))
+Fills l brace_first d ts us = ((v : Syntax) × (ps : Pairs) × (ts ≡ mark colon ∷ (tokens_of v ++ (pairs_after ps ++ mark close_brace ∷ us))) × (levels v ≤ suc l - d) × (pairs_levels ps ≤ suc l - d)) ⊎ ((v : Syntax) × (ts ≡ mark comma ∷ (tokens_of v ++ mark close_brace ∷ us)) × (levels v ≤ suc l - d))
+Fills l pair_more d ts us = (ps : Pairs) × (ts ≡ pairs_after ps ++ mark close_brace ∷ us) × (pairs_levels ps ≤ suc l - d)
+Fills l pair_colon d ts us = (v : Syntax) × (ps : Pairs) × (ts ≡ mark colon ∷ (tokens_of v ++ (pairs_after ps ++ mark close_brace ∷ us))) × (levels v ≤ suc l - d) × (pairs_levels ps ≤ suc l - d)
+Fills l lone_end d ts us = ts ≡ mark close_brace ∷ us
+Fills l box_end d ts us = ts ≡ mark close_box ∷ us
 
 abbrev Means : ℕ → Want → List Token → List Token → Type 0
 Means l (a_value d) ts us = (x : Syntax) × (ts ≡ tokens_of x ++ us) × (levels x ≤ suc l - d)
-Means l (inside s d at) ts us = Stands l s d ts us
+Means l (inside s d at) ts us = Fills l s d ts us
 
 abbrev Complete : ℕ → List Want → List Token → Type 0
 Complete l [] ts = ts ≡ []
@@ -66,12 +67,9 @@ abbrev Good : ℕ → Result (List Want) NumberedFault → List Want → List To
 Good l (Ok wants) ws ts = Complete l (wants ++ ws) ts
 Good l (Err e) ws ts = ⊥
 
-no_fault_here : (e : NumberedFault) → Some e ≡ None → ⊥
-no_fault_here e h = cc
-
 good : (l : ℕ) (r : Result (List Want) NumberedFault) (later : Option NumberedFault) (ws : List Want) (ts : List Token) → or_fault r later ≡ None → (later ≡ None → Complete l (wants_of r ++ ws) ts) → Good l r ws ts
 good l (Ok wants) later ws ts e h = h e
-good l (Err f) later ws ts e h = no_fault_here f e
+good l (Err f) later ws ts e h = none-some f (sym e)
 
 chosen_good : (l : ℕ) (d : ℕ) (wants : List Want) (e : NumberedFault) (ws : List Want) (ts : List Token) → Good l (cond (nat_le d l) (Ok wants) (Err e)) ws ts → (d ≤ l) × Complete l (wants ++ ws) ts
 chosen_good l d wants e ws ts = go (nat_le d l) refl
@@ -84,7 +82,7 @@ chosen_good l d wants e ws ts = go (nat_le d l) refl
     go false q h = absurd h
 
 -- a token that begins a value, and the rest of the value
-back_begun : (l : ℕ) (t : Token) (d n : ℕ) (rest ws : List Want) (ts : List Token) → Good l (begun_to l d n rest (behind_first d n t)) ws ts → Complete l (a_value d ∷ (rest ++ ws)) (t ∷ ts)
+back_begun : (l : ℕ) (t : Token) (d n : ℕ) (rest ws : List Want) (ts : List Token) → Good l (begun_to l d n rest (begun_wants d n t)) ws ts → Complete l (a_value d ∷ (rest ++ ws)) (t ∷ ts)
 unfolding tokens_of levels
 back_begun l (string_token s) d n rest ws ts h = let g = chosen_good l d _ _ ws ts h in (ts, (quoted s, refl, omega (arith, g.0)), g.1)
 back_begun l (byte_string s) d n rest ws ts h = let g = chosen_good l d _ _ ws ts h in (ts, (bytes s, refl, omega (arith, g.0)), g.1)
@@ -102,7 +100,7 @@ back_begun l (mark open_tuple) d n rest ws ts h =
     (g.1.0, (tuple_of x.0, ap (λ r. mark open_tuple ∷ r) (x.1 ∙ sym (append_assoc (members_tokens x.0) (mark close_tuple ∷ []) g.1.0)), omega (arith, g.0, x.2)), g.1.2)
 back_begun l (mark open_brace) d n rest ws ts h = let g = chosen_good l d _ _ ws ts h in (g.1.0, braces g.0 g.1.0 g.1.1, g.1.2)
   where
-    braces : d ≤ l → (us : List Token) → Stands l brace_start (suc d) ts us → Means l (a_value d) (mark open_brace ∷ ts) us
+    braces : d ≤ l → (us : List Token) → Fills l brace_start (suc d) ts us → Means l (a_value d) (mark open_brace ∷ ts) us
     braces b us (inl p) = (dictionary p.0, ap (λ r. mark open_brace ∷ r) (p.1 ∙ sym (append_assoc (pairs_tokens p.0) (mark close_brace ∷ []) us)), omega (arith, b, p.2))
     braces b us (inr p) = (lone p.0 p.1, ap (λ r. mark open_brace ∷ r) (p.2 ∙ (ap (λ r. tokens_of p.0 ++ mark comma ∷ r) (sym (append_assoc (tokens_of p.1) (mark close_brace ∷ []) us)) ∙ sym (append_assoc (tokens_of p.0) (mark comma ∷ (tokens_of p.1 ++ mark close_brace ∷ [])) us))), omega (arith, b, p.3, p.4))
 back_begun l (mark open_box) d n rest ws ts h =
@@ -111,64 +109,64 @@ back_begun l (mark open_box) d n rest ws ts h =
     (close.0, (boxed x.0, ap (λ r. mark open_box ∷ r) (x.1 ∙ (ap (λ r. tokens_of x.0 ++ r) close.1 ∙ sym (append_assoc (tokens_of x.0) (mark close_box ∷ []) close.0))), omega (arith, g.0, x.2)), close.2)
 back_begun l (mark _) d n rest ws ts h = absurd h
 
--- Behind a value that begins a bracket
+-- After a value that begins a bracket
 
-behind_list : (l : ℕ) (d at : ℕ) (ws : List Want) (ts : List Token) → Complete l (a_value d ∷ inside list_more d at ∷ ws) ts → Complete l (inside list_start d at ∷ ws) ts
+after_list : (l : ℕ) (d at : ℕ) (ws : List Want) (ts : List Token) → Complete l (a_value d ∷ inside list_more d at ∷ ws) ts → Complete l (inside list_start d at ∷ ws) ts
 unfolding levels
-behind_list l d at ws ts h =
+after_list l d at ws ts h =
     let x = h.1 in let m = h.2.1 in
     (h.2.0, (first x.0 m.0, x.1 ∙ (ap (λ r. tokens_of x.0 ++ r) m.1 ∙ (sym (append_assoc (tokens_of x.0) (commas_after m.0) (mark close_list ∷ h.2.0)) ∙ ap (λ r. r ++ mark close_list ∷ h.2.0) (sym (commas_first x.0 m.0)))), omega (arith, x.2, m.2)), h.2.2)
 
-behind_second : (l : ℕ) (d at : ℕ) (ws : List Want) (ts : List Token) → Complete l (a_value d ∷ inside tuple_more d at ∷ ws) ts → Complete l (inside tuple_two d at ∷ ws) ts
+after_second : (l : ℕ) (d at : ℕ) (ws : List Want) (ts : List Token) → Complete l (a_value d ∷ inside tuple_more d at ∷ ws) ts → Complete l (inside tuple_two d at ∷ ws) ts
 unfolding levels
-behind_second l d at ws ts h =
+after_second l d at ws ts h =
     let x = h.1 in let m = h.2.1 in
     (h.2.0, (first x.0 m.0, x.1 ∙ (ap (λ r. tokens_of x.0 ++ r) m.1 ∙ (sym (append_assoc (tokens_of x.0) (commas_after m.0) (mark close_tuple ∷ h.2.0)) ∙ ap (λ r. r ++ mark close_tuple ∷ h.2.0) (sym (commas_first x.0 m.0)))), omega (arith, x.2, m.2)), h.2.2)
 
-behind_tuple : (l : ℕ) (d at : ℕ) (ws : List Want) (ts : List Token) → Complete l (a_value d ∷ inside tuple_one d at ∷ ws) ts → Complete l (inside tuple_start d at ∷ ws) ts
+after_tuple : (l : ℕ) (d at : ℕ) (ws : List Want) (ts : List Token) → Complete l (a_value d ∷ inside tuple_one d at ∷ ws) ts → Complete l (inside tuple_start d at ∷ ws) ts
 unfolding levels
-behind_tuple l d at ws ts h =
+after_tuple l d at ws ts h =
     let x = h.1 in let m = h.2.1 in
     (h.2.0, (first x.0 m.0, x.1 ∙ (ap (λ r. tokens_of x.0 ++ r) m.1 ∙ (sym (append_assoc (tokens_of x.0) (mark comma ∷ commas m.0) (mark close_tuple ∷ h.2.0)) ∙ ap (λ r. r ++ mark close_tuple ∷ h.2.0) (sym (members_first x.0 m.0)))), omega (arith, x.2, m.2)), h.2.2)
 
-behind_brace : (l : ℕ) (d at : ℕ) (ws : List Want) (ts : List Token) → Complete l (a_value d ∷ inside brace_first d at ∷ ws) ts → Complete l (inside brace_start d at ∷ ws) ts
+after_brace : (l : ℕ) (d at : ℕ) (ws : List Want) (ts : List Token) → Complete l (a_value d ∷ inside brace_first d at ∷ ws) ts → Complete l (inside brace_start d at ∷ ws) ts
 unfolding levels
-behind_brace l d at ws ts h = (h.2.0, go h.2.1, h.2.2)
+after_brace l d at ws ts h = (h.2.0, go h.2.1, h.2.2)
   where
-    go : Stands l brace_first d h.0 h.2.0 → Stands l brace_start d ts h.2.0
+    go : Fills l brace_first d h.0 h.2.0 → Fills l brace_start d ts h.2.0
     go (inl p) = let x = h.1 in inl (pair x.0 p.0 p.1, x.1 ∙ (ap (λ r. tokens_of x.0 ++ r) p.2 ∙ (ap (λ r. tokens_of x.0 ++ mark colon ∷ r) (sym (append_assoc (tokens_of p.0) (pairs_after p.1) (mark close_brace ∷ h.2.0))) ∙ (sym (append_assoc (tokens_of x.0) (mark colon ∷ (tokens_of p.0 ++ pairs_after p.1)) (mark close_brace ∷ h.2.0)) ∙ ap (λ r. r ++ mark close_brace ∷ h.2.0) (sym (pairs_first x.0 p.0 p.1))))), omega (arith, x.2, p.3, p.4))
     go (inr p) = let x = h.1 in inr (x.0, p.0, x.1 ∙ ap (λ r. tokens_of x.0 ++ r) p.1, x.2, p.2)
 
--- the pair in front of the others
-pair_in_front : (l : ℕ) (d at : ℕ) (ws : List Want) (ts : List Token) → Complete l (a_value d ∷ inside pair_colon d at ∷ ws) ts → Complete l (inside pair_more d at ∷ ws) (mark comma ∷ ts)
+-- the pair before the others
+pair_first : (l : ℕ) (d at : ℕ) (ws : List Want) (ts : List Token) → Complete l (a_value d ∷ inside pair_colon d at ∷ ws) ts → Complete l (inside pair_more d at ∷ ws) (mark comma ∷ ts)
 unfolding levels
-pair_in_front l d at ws ts h =
+pair_first l d at ws ts h =
     let x = h.1 in let p = h.2.1 in
     (h.2.0, (pair x.0 p.0 p.1, ap (λ r. mark comma ∷ r) (x.1 ∙ (ap (λ r. tokens_of x.0 ++ r) p.2 ∙ (ap (λ r. tokens_of x.0 ++ mark colon ∷ r) (sym (append_assoc (tokens_of p.0) (pairs_after p.1) (mark close_brace ∷ h.2.0))) ∙ (sym (append_assoc (tokens_of x.0) (mark colon ∷ (tokens_of p.0 ++ pairs_after p.1)) (mark close_brace ∷ h.2.0)) ∙ ap (λ r. r ++ mark close_brace ∷ h.2.0) (sym (pairs_first x.0 p.0 p.1)))))), omega (arith, x.2, p.3, p.4)), h.2.2)
 
-next_in_front : (x : Syntax) (xs : Syntaxes) (close : Token) (ts us vs : List Token) → ts ≡ tokens_of x ++ us → us ≡ commas_after xs ++ close ∷ vs → mark comma ∷ ts ≡ commas_after (first x xs) ++ close ∷ vs
-next_in_front x xs close ts us vs e f = ap (λ r. mark comma ∷ r) (e ∙ (ap (λ r. tokens_of x ++ r) f ∙ sym (append_assoc (tokens_of x) (commas_after xs) (close ∷ vs))))
+next_first : (x : Syntax) (xs : Syntaxes) (close : Token) (ts us vs : List Token) → ts ≡ tokens_of x ++ us → us ≡ commas_after xs ++ close ∷ vs → mark comma ∷ ts ≡ commas_after (first x xs) ++ close ∷ vs
+next_first x xs close ts us vs e f = ap (λ r. mark comma ∷ r) (e ∙ (ap (λ r. tokens_of x ++ r) f ∙ sym (append_assoc (tokens_of x) (commas_after xs) (close ∷ vs))))
 
 -- Each step back
 back_stage : (l : ℕ) (s : Stage) (t : Token) (d at n : ℕ) (ws : List Want) (ts : List Token) → Good l (step_to l (inside s d at) n t) ws ts → Complete l (inside s d at ∷ ws) (t ∷ ts)
 unfolding tokens_of levels
 back_stage l list_start (mark close_list) d at n ws ts h = (ts, (none, refl, omega arith), h)
-back_stage l list_start t d at n ws ts h = behind_list l d at ws (t ∷ ts) (back_begun l t d n (inside list_more d at ∷ []) ws ts h)
+back_stage l list_start t d at n ws ts h = after_list l d at ws (t ∷ ts) (back_begun l t d n (inside list_more d at ∷ []) ws ts h)
 back_stage l list_more (mark close_list) d at n ws ts h = (ts, (none, refl, omega arith), h)
-back_stage l list_more (mark comma) d at n ws ts h = let x = h.1 in let m = h.2.1 in (h.2.0, (first x.0 m.0, next_in_front x.0 m.0 (mark close_list) ts h.0 h.2.0 x.1 m.1, omega (arith, x.2, m.2)), h.2.2)
+back_stage l list_more (mark comma) d at n ws ts h = let x = h.1 in let m = h.2.1 in (h.2.0, (first x.0 m.0, next_first x.0 m.0 (mark close_list) ts h.0 h.2.0 x.1 m.1, omega (arith, x.2, m.2)), h.2.2)
 back_stage l tuple_start (mark close_tuple) d at n ws ts h = (ts, (none, refl, omega arith), h)
-back_stage l tuple_start t d at n ws ts h = behind_tuple l d at ws (t ∷ ts) (back_begun l t d n (inside tuple_one d at ∷ []) ws ts h)
+back_stage l tuple_start t d at n ws ts h = after_tuple l d at ws (t ∷ ts) (back_begun l t d n (inside tuple_one d at ∷ []) ws ts h)
 back_stage l tuple_one (mark comma) d at n ws ts h = let m = h.1 in (h.0, (m.0, ap (λ r. mark comma ∷ r) m.1, m.2), h.2)
 back_stage l tuple_two (mark close_tuple) d at n ws ts h = (ts, (none, refl, omega arith), h)
-back_stage l tuple_two t d at n ws ts h = behind_second l d at ws (t ∷ ts) (back_begun l t d n (inside tuple_more d at ∷ []) ws ts h)
+back_stage l tuple_two t d at n ws ts h = after_second l d at ws (t ∷ ts) (back_begun l t d n (inside tuple_more d at ∷ []) ws ts h)
 back_stage l tuple_more (mark close_tuple) d at n ws ts h = (ts, (none, refl, omega arith), h)
-back_stage l tuple_more (mark comma) d at n ws ts h = let x = h.1 in let m = h.2.1 in (h.2.0, (first x.0 m.0, next_in_front x.0 m.0 (mark close_tuple) ts h.0 h.2.0 x.1 m.1, omega (arith, x.2, m.2)), h.2.2)
+back_stage l tuple_more (mark comma) d at n ws ts h = let x = h.1 in let m = h.2.1 in (h.2.0, (first x.0 m.0, next_first x.0 m.0 (mark close_tuple) ts h.0 h.2.0 x.1 m.1, omega (arith, x.2, m.2)), h.2.2)
 back_stage l brace_start (mark close_brace) d at n ws ts h = (ts, inl (no_pair, refl, omega arith), h)
-back_stage l brace_start t d at n ws ts h = behind_brace l d at ws (t ∷ ts) (back_begun l t d n (inside brace_first d at ∷ []) ws ts h)
+back_stage l brace_start t d at n ws ts h = after_brace l d at ws (t ∷ ts) (back_begun l t d n (inside brace_first d at ∷ []) ws ts h)
 back_stage l brace_first (mark colon) d at n ws ts h = let x = h.1 in let m = h.2.1 in (h.2.0, inl (x.0, m.0, ap (λ r. mark colon ∷ r) (x.1 ∙ ap (λ r. tokens_of x.0 ++ r) m.1), x.2, m.2), h.2.2)
 back_stage l brace_first (mark comma) d at n ws ts h = let x = h.1 in (h.2.0, inr (x.0, ap (λ r. mark comma ∷ r) (x.1 ∙ ap (λ r. tokens_of x.0 ++ r) h.2.1), x.2), h.2.2)
 back_stage l pair_more (mark close_brace) d at n ws ts h = (ts, (no_pair, refl, omega arith), h)
-back_stage l pair_more (mark comma) d at n ws ts h = pair_in_front l d at ws ts h
+back_stage l pair_more (mark comma) d at n ws ts h = pair_first l d at ws ts h
 back_stage l pair_colon (mark colon) d at n ws ts h = let x = h.1 in let m = h.2.1 in (h.2.0, (x.0, m.0, ap (λ r. mark colon ∷ r) (x.1 ∙ ap (λ r. tokens_of x.0 ++ r) m.1), x.2, m.2), h.2.2)
 back_stage l lone_end (mark close_brace) d at n ws ts h = (ts, refl, h)
 back_stage l box_end (mark close_box) d at n ws ts h = (ts, refl, h)
@@ -181,8 +179,8 @@ back l (inside s d at) t n ws ts h = back_stage l s t d at n ws ts h
 complete : (l : ℕ) (ts : List Token) (n : ℕ) (ws : List Want) → fault_to l n ws ts ≡ None → Complete l ws ts
 unfolding fault_to
 complete l [] n [] e = refl
-complete l [] n (w ∷ ws) e = absurd (no_fault_here _ e)
-complete l (t ∷ ts) n [] e = absurd (no_fault_here _ e)
+complete l [] n (w ∷ ws) e = absurd (none-some _ (sym e))
+complete l (t ∷ ts) n [] e = absurd (none-some _ (sym e))
 complete l (t ∷ ts) n (w ∷ ws) e =
     back l w t n ws ts (good l (step_to l w n t) (fault_to l (suc n) (wants_of (step_to l w n t) ++ ws) ts) ws ts e (complete l ts (suc n) (wants_of (step_to l w n t) ++ ws)))
 

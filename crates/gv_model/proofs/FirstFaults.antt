@@ -1,5 +1,6 @@
--- The first fault of tokens stands where the longest front ends that begins some tree's tokens.
+-- The first fault of tokens is where the longest prefix ends that begins some tree's tokens.
 use Rattle.std.proofs.Common.{◌≡◌, ◌≤◌, ℕ, suc, ◌+◌, Bool, true, false, cond, List, [], ◌∷◌, ◌++◌, Option, Some, None, Result, Ok, Err, refl, sym, ap, ◌∙◌, subst, arith, nat_le, append_assoc, append-nil}
+use Rattle.std.proofs.lemmas.Option.{none-some, same_Some}
 use Rattle.gv_model.specs.TextFault.Cause.{bad_token, unclosed, bad_escape, double_text, unexpected, too_deep}
 use Rattle.gv_model.specs.Syntax.{Syntax, levels}
 use Rattle.gv_model.specs.Tokens.{Token}
@@ -7,7 +8,7 @@ use Rattle.gv_model.specs.Tokens.Mark.{open_tuple, open_list, open_brace, open_b
 use Rattle.gv_model.specs.Tokens.Word.{truth, just, nothing, type_word}
 use Rattle.gv_model.specs.Tokens.Token.{mark, string_token, byte_string, integer_token, type_token, word}
 use Rattle.gv_model.specs.Grammar.{tokens_of}
-use Rattle.gv_model.specs.GrammarFaults.{Stage, Want, Next, NumberedFault, behind_value, behind_mark, behind_first, at_end, wants_of, or_fault}
+use Rattle.gv_model.specs.GrammarFaults.{Stage, Want, Next, NumberedFault, after_value, after_mark, begun_wants, at_end, wants_of, or_fault}
 use Rattle.gv_model.specs.GrammarFaults.Stage.{list_start, list_more, tuple_start, tuple_one, tuple_two, tuple_more, brace_start, brace_first, pair_more, pair_colon, lone_end, box_end}
 use Rattle.gv_model.specs.GrammarFaults.Want.{a_value, inside}
 use Rattle.gv_model.specs.GrammarFaults.Next.{closed, goes_on, value_then, wrong}
@@ -15,34 +16,34 @@ use Rattle.gv_model.proofs.LevelLimits.{begun_to, stage_to, next_to, step_to, fa
 use Rattle.gv_model.proofs.GrammarLaws.{no_fault_to}
 use Rattle.gv_model.proofs.FaultlessTokens.{whole_to}
 
--- What a front of tokens leaves: a fault that stays, whatever follows, or the wants behind it
-pub data Behind : Type 0 where
-  stays : NumberedFault → Behind
-  left : ℕ → List Want → Behind
+-- What a prefix of tokens leaves: a fault that stays, whatever follows, or the wants after it
+pub data AfterTokens : Type 0 where
+  stays : NumberedFault → AfterTokens
+  left : ℕ → List Want → AfterTokens
 
-abbrev pub behind_step : Result (List Want) NumberedFault → Behind → Behind
-behind_step (Ok wants) later = later
-behind_step (Err e) later = stays e
+abbrev pub after_step : Result (List Want) NumberedFault → AfterTokens → AfterTokens
+after_step (Ok wants) later = later
+after_step (Err e) later = stays e
 
-unfoldable pub behind : ℕ → ℕ → List Want → List Token → Behind
-behind l n ws [] = left n ws
-behind l n [] (t ∷ ts) = stays (unexpected, n)
-behind l n (w ∷ ws) (t ∷ ts) = behind_step (step_to l w n t) (behind l (suc n) (wants_of (step_to l w n t) ++ ws) ts)
+unfoldable pub after_tokens : ℕ → ℕ → List Want → List Token → AfterTokens
+after_tokens l n ws [] = left n ws
+after_tokens l n [] (t ∷ ts) = stays (unexpected, n)
+after_tokens l n (w ∷ ws) (t ∷ ts) = after_step (step_to l w n t) (after_tokens l (suc n) (wants_of (step_to l w n t) ++ ws) ts)
 
-abbrev Decides : ℕ → Behind → List Token → Option NumberedFault
+abbrev Decides : ℕ → AfterTokens → List Token → Option NumberedFault
 Decides l (stays e) us = Some e
 Decides l (left n ws) us = fault_to l n ws us
 
-one_step : (l : ℕ) (r : Result (List Want) NumberedFault) (b : Behind) (later : Option NumberedFault) (us : List Token) → later ≡ Decides l b us → or_fault r later ≡ Decides l (behind_step r b) us
+one_step : (l : ℕ) (r : Result (List Want) NumberedFault) (b : AfterTokens) (later : Option NumberedFault) (us : List Token) → later ≡ Decides l b us → or_fault r later ≡ Decides l (after_step r b) us
 one_step l (Ok wants) b later us h = h
 one_step l (Err e) b later us h = refl
 
-decided : (l : ℕ) (ts us : List Token) (n : ℕ) (ws : List Want) → fault_to l n ws (ts ++ us) ≡ Decides l (behind l n ws ts) us
-unfolding behind fault_to
+decided : (l : ℕ) (ts us : List Token) (n : ℕ) (ws : List Want) → fault_to l n ws (ts ++ us) ≡ Decides l (after_tokens l n ws ts) us
+unfolding after_tokens fault_to
 decided l [] us n ws = refl
 decided l (t ∷ ts) us n [] = refl
 decided l (t ∷ ts) us n (w ∷ ws) =
-    one_step l (step_to l w n t) (behind l (suc n) (wants_of (step_to l w n t) ++ ws) ts) (fault_to l (suc n) (wants_of (step_to l w n t) ++ ws) (ts ++ us)) us
+    one_step l (step_to l w n t) (after_tokens l (suc n) (wants_of (step_to l w n t) ++ ws) ts) (fault_to l (suc n) (wants_of (step_to l w n t) ++ ws) (ts ++ us)) us
     (decided l ts us (suc n) (wants_of (step_to l w n t) ++ ws))
 
 -- Under a higher limit all stays, but for what was too deep
@@ -52,10 +53,10 @@ SameStep (Ok wants) r = r ≡ Ok wants
 SameStep (Err (unexpected, n)) r = r ≡ Err (unexpected, n)
 SameStep (Err e) r = Unit {0}
 
-abbrev pub SameBehind : Behind → Behind → Type 0
-SameBehind (left n ws) b = b ≡ left n ws
-SameBehind (stays (unexpected, n)) b = b ≡ stays (unexpected, n)
-SameBehind (stays e) b = Unit {0}
+abbrev pub SameAfter : AfterTokens → AfterTokens → Type 0
+SameAfter (left n ws) b = b ≡ left n ws
+SameAfter (stays (unexpected, n)) b = b ≡ stays (unexpected, n)
+SameAfter (stays e) b = Unit {0}
 
 higher_limit : (l m d : ℕ) → l ≤ m → nat_le d l ≡ true → nat_le d m ≡ true
 higher_limit l m d h e = grind arith
@@ -70,31 +71,31 @@ begun_higher l m d n rest (Some wants) h = chosen_higher l m d n (wants ++ rest)
 
 stage_higher : (l m d at n : ℕ) (t : Token) (o : Option Stage) → l ≤ m → SameStep (stage_to l d at n t o) (stage_to m d at n t o)
 stage_higher l m d at n t None h = refl
-stage_higher l m d at n t (Some s) h = begun_higher l m d n (inside s d at ∷ []) (behind_first d n t) h
+stage_higher l m d at n t (Some s) h = begun_higher l m d n (inside s d at ∷ []) (begun_wants d n t) h
 
 next_higher : (l m : ℕ) (s : Stage) (d at n : ℕ) (t : Token) (x : Next) → l ≤ m → SameStep (next_to l s d at n t x) (next_to m s d at n t x)
 next_higher l m s d at n t closed h = refl
 next_higher l m s d at n t (goes_on r) h = refl
 next_higher l m s d at n t (value_then r) h = refl
-next_higher l m s d at n t wrong h = stage_higher l m d at n t (behind_value s) h
+next_higher l m s d at n t wrong h = stage_higher l m d at n t (after_value s) h
 
 step_higher : (l m : ℕ) (w : Want) (n : ℕ) (t : Token) → l ≤ m → SameStep (step_to l w n t) (step_to m w n t)
-step_higher l m (a_value d) n t h = begun_higher l m d n [] (behind_first d n t) h
-step_higher l m (inside s d at) n (mark x) h = next_higher l m s d at n (mark x) (behind_mark s x) h
-step_higher l m (inside s d at) n (string_token x) h = stage_higher l m d at n (string_token x) (behind_value s) h
-step_higher l m (inside s d at) n (byte_string x) h = stage_higher l m d at n (byte_string x) (behind_value s) h
-step_higher l m (inside s d at) n (integer_token b i) h = stage_higher l m d at n (integer_token b i) (behind_value s) h
-step_higher l m (inside s d at) n (type_token x) h = stage_higher l m d at n (type_token x) (behind_value s) h
-step_higher l m (inside s d at) n (word x) h = stage_higher l m d at n (word x) (behind_value s) h
+step_higher l m (a_value d) n t h = begun_higher l m d n [] (begun_wants d n t) h
+step_higher l m (inside s d at) n (mark x) h = next_higher l m s d at n (mark x) (after_mark s x) h
+step_higher l m (inside s d at) n (string_token x) h = stage_higher l m d at n (string_token x) (after_value s) h
+step_higher l m (inside s d at) n (byte_string x) h = stage_higher l m d at n (byte_string x) (after_value s) h
+step_higher l m (inside s d at) n (integer_token b i) h = stage_higher l m d at n (integer_token b i) (after_value s) h
+step_higher l m (inside s d at) n (type_token x) h = stage_higher l m d at n (type_token x) (after_value s) h
+step_higher l m (inside s d at) n (word x) h = stage_higher l m d at n (word x) (after_value s) h
 
-pub behind_higher : (l m : ℕ) (ts : List Token) (n : ℕ) (ws : List Want) → l ≤ m → SameBehind (behind l n ws ts) (behind m n ws ts)
-unfolding behind
-behind_higher l m [] n ws h = refl
-behind_higher l m (t ∷ ts) n [] h = refl
-behind_higher l m (t ∷ ts) n (w ∷ ws) h = go (step_to l w n t) (step_to m w n t) (step_higher l m w n t h) (λ vs. behind_higher l m ts (suc n) (vs ++ ws) h)
+pub after_higher : (l m : ℕ) (ts : List Token) (n : ℕ) (ws : List Want) → l ≤ m → SameAfter (after_tokens l n ws ts) (after_tokens m n ws ts)
+unfolding after_tokens
+after_higher l m [] n ws h = refl
+after_higher l m (t ∷ ts) n [] h = refl
+after_higher l m (t ∷ ts) n (w ∷ ws) h = go (step_to l w n t) (step_to m w n t) (step_higher l m w n t h) (λ vs. after_higher l m ts (suc n) (vs ++ ws) h)
   where
-    go : (r s : Result (List Want) NumberedFault) → SameStep r s → ((vs : List Want) → SameBehind (behind l (suc n) (vs ++ ws) ts) (behind m (suc n) (vs ++ ws) ts))
-        → SameBehind (behind_step r (behind l (suc n) (wants_of r ++ ws) ts)) (behind_step s (behind m (suc n) (wants_of s ++ ws) ts))
+    go : (r s : Result (List Want) NumberedFault) → SameStep r s → ((vs : List Want) → SameAfter (after_tokens l (suc n) (vs ++ ws) ts) (after_tokens m (suc n) (vs ++ ws) ts))
+        → SameAfter (after_step r (after_tokens l (suc n) (wants_of r ++ ws) ts)) (after_step s (after_tokens m (suc n) (wants_of s ++ ws) ts))
     go (Ok vs) s e later = rw e (later vs)
     go (Err (unexpected, k)) s e later = rw e refl
     go (Err (bad_token, k)) s e later = tt
@@ -118,19 +119,16 @@ le_of : (d l : ℕ) → nat_le d l ≡ true → d ≤ l
 le_of d l e = grind arith
 
 -- what follows a value's first token is a level deeper at most
-first_shallow : (m d n : ℕ) (t : Token) (ws : List Want) → suc d ≤ m → Shallow m ws → (o : Option (List Want)) → behind_first d n t ≡ o → (wants : List Want) → o ≡ Some wants → Shallow m (wants ++ ws)
+first_shallow : (m d n : ℕ) (t : Token) (ws : List Want) → suc d ≤ m → Shallow m ws → (o : Option (List Want)) → begun_wants d n t ≡ o → (wants : List Want) → o ≡ Some wants → Shallow m (wants ++ ws)
 first_shallow m d n t ws h g o e wants q = go t (e ∙ q)
   where
-    same : (x y : List Want) → Some x ≡ Some y → x ≡ y
-    same x y e = cc
-
     at_once : (x : List Want) → Shallow m (x ++ ws) → Some x ≡ Some wants → Shallow m (wants ++ ws)
-    at_once x s e = subst (λ (v : List Want). Shallow m (v ++ ws)) (same x wants e) s
+    at_once x s e = subst (λ (v : List Want). Shallow m (v ++ ws)) (same_Some x wants e) s
 
     no_value : None ≡ Some wants → Shallow m (wants ++ ws)
     no_value e = absurd (let z : ⊥ = cc in z)
 
-    go : (t : Token) → behind_first d n t ≡ Some wants → Shallow m (wants ++ ws)
+    go : (t : Token) → begun_wants d n t ≡ Some wants → Shallow m (wants ++ ws)
     go (string_token s) e = at_once [] g e
     go (byte_string s) e = at_once [] g e
     go (integer_token b i) e = at_once [] g e
@@ -145,15 +143,15 @@ first_shallow m d n t ws h g o e wants q = go t (e ∙ q)
     go (mark open_box) e = at_once (a_value (suc d) ∷ inside box_end (suc d) n ∷ []) (h, (h, g)) e
     go (mark _) e = no_value e
 
-begun_shallow : (l d n : ℕ) (t : Token) (rest ws : List Want) → Shallow (suc l) (rest ++ ws) → ShallowStep (suc l) ws (begun_to l d n rest (behind_first d n t))
-begun_shallow l d n t rest ws g = go (behind_first d n t) refl
+begun_shallow : (l d n : ℕ) (t : Token) (rest ws : List Want) → Shallow (suc l) (rest ++ ws) → ShallowStep (suc l) ws (begun_to l d n rest (begun_wants d n t))
+begun_shallow l d n t rest ws g = go (begun_wants d n t) refl
   where
-    chosen : (wants : List Want) → behind_first d n t ≡ Some wants → (b : Bool) → nat_le d l ≡ b → ShallowStep (suc l) ws (cond b (Ok (wants ++ rest)) (Err (too_deep, n)))
+    chosen : (wants : List Want) → begun_wants d n t ≡ Some wants → (b : Bool) → nat_le d l ≡ b → ShallowStep (suc l) ws (cond b (Ok (wants ++ rest)) (Err (too_deep, n)))
     chosen wants e true q =
-        subst (λ (v : List Want). Shallow (suc l) v) (sym (append_assoc wants rest ws)) (first_shallow (suc l) d n t (rest ++ ws) (omega (arith, le_of d l q)) g (behind_first d n t) refl wants e)
+        subst (λ (v : List Want). Shallow (suc l) v) (sym (append_assoc wants rest ws)) (first_shallow (suc l) d n t (rest ++ ws) (omega (arith, le_of d l q)) g (begun_wants d n t) refl wants e)
     chosen wants e false q = tt
 
-    go : (o : Option (List Want)) → behind_first d n t ≡ o → ShallowStep (suc l) ws (begun_to l d n rest o)
+    go : (o : Option (List Want)) → begun_wants d n t ≡ o → ShallowStep (suc l) ws (begun_to l d n rest o)
     go None e = tt
     go (Some wants) e = chosen wants e (nat_le d l) refl
 
@@ -165,29 +163,29 @@ next_shallow : (l : ℕ) (s : Stage) (d at n : ℕ) (t : Token) (ws : List Want)
 next_shallow l s d at n t ws closed h g = g
 next_shallow l s d at n t ws (goes_on r) h g = (h, g)
 next_shallow l s d at n t ws (value_then r) h g = (h, (h, g))
-next_shallow l s d at n t ws wrong h g = stage_shallow l d at n t ws (behind_value s) h g
+next_shallow l s d at n t ws wrong h g = stage_shallow l d at n t ws (after_value s) h g
 
 step_shallow : (l : ℕ) (w : Want) (n : ℕ) (t : Token) (ws : List Want) → Shallow (suc l) (w ∷ ws) → ShallowStep (suc l) ws (step_to l w n t)
 step_shallow l (a_value d) n t ws h = begun_shallow l d n t [] ws h.1
-step_shallow l (inside s d at) n (mark x) ws h = next_shallow l s d at n (mark x) ws (behind_mark s x) h.0 h.1
-step_shallow l (inside s d at) n (string_token x) ws h = stage_shallow l d at n (string_token x) ws (behind_value s) h.0 h.1
-step_shallow l (inside s d at) n (byte_string x) ws h = stage_shallow l d at n (byte_string x) ws (behind_value s) h.0 h.1
-step_shallow l (inside s d at) n (integer_token b i) ws h = stage_shallow l d at n (integer_token b i) ws (behind_value s) h.0 h.1
-step_shallow l (inside s d at) n (type_token x) ws h = stage_shallow l d at n (type_token x) ws (behind_value s) h.0 h.1
-step_shallow l (inside s d at) n (word x) ws h = stage_shallow l d at n (word x) ws (behind_value s) h.0 h.1
+step_shallow l (inside s d at) n (mark x) ws h = next_shallow l s d at n (mark x) ws (after_mark s x) h.0 h.1
+step_shallow l (inside s d at) n (string_token x) ws h = stage_shallow l d at n (string_token x) ws (after_value s) h.0 h.1
+step_shallow l (inside s d at) n (byte_string x) ws h = stage_shallow l d at n (byte_string x) ws (after_value s) h.0 h.1
+step_shallow l (inside s d at) n (integer_token b i) ws h = stage_shallow l d at n (integer_token b i) ws (after_value s) h.0 h.1
+step_shallow l (inside s d at) n (type_token x) ws h = stage_shallow l d at n (type_token x) ws (after_value s) h.0 h.1
+step_shallow l (inside s d at) n (word x) ws h = stage_shallow l d at n (word x) ws (after_value s) h.0 h.1
 
-abbrev pub ShallowBehind : ℕ → Behind → Type 0
-ShallowBehind m (left n ws) = Shallow m ws
-ShallowBehind m (stays e) = Unit {0}
+abbrev pub ShallowAfter : ℕ → AfterTokens → Type 0
+ShallowAfter m (left n ws) = Shallow m ws
+ShallowAfter m (stays e) = Unit {0}
 
-pub behind_shallow : (l : ℕ) (ts : List Token) (n : ℕ) (ws : List Want) → Shallow (suc l) ws → ShallowBehind (suc l) (behind l n ws ts)
-unfolding behind
-behind_shallow l [] n ws h = h
-behind_shallow l (t ∷ ts) n [] h = tt
-behind_shallow l (t ∷ ts) n (w ∷ ws) h = go (step_to l w n t) (step_shallow l w n t ws h) (λ vs g. behind_shallow l ts (suc n) (vs ++ ws) g)
+pub after_shallow : (l : ℕ) (ts : List Token) (n : ℕ) (ws : List Want) → Shallow (suc l) ws → ShallowAfter (suc l) (after_tokens l n ws ts)
+unfolding after_tokens
+after_shallow l [] n ws h = h
+after_shallow l (t ∷ ts) n [] h = tt
+after_shallow l (t ∷ ts) n (w ∷ ws) h = go (step_to l w n t) (step_shallow l w n t ws h) (λ vs g. after_shallow l ts (suc n) (vs ++ ws) g)
   where
-    go : (r : Result (List Want) NumberedFault) → ShallowStep (suc l) ws r → ((vs : List Want) → Shallow (suc l) (vs ++ ws) → ShallowBehind (suc l) (behind l (suc n) (vs ++ ws) ts))
-        → ShallowBehind (suc l) (behind_step r (behind l (suc n) (wants_of r ++ ws) ts))
+    go : (r : Result (List Want) NumberedFault) → ShallowStep (suc l) ws r → ((vs : List Want) → Shallow (suc l) (vs ++ ws) → ShallowAfter (suc l) (after_tokens l (suc n) (vs ++ ws) ts))
+        → ShallowAfter (suc l) (after_step r (after_tokens l (suc n) (wants_of r ++ ws) ts))
     go (Ok vs) g later = later vs g
     go (Err e) g later = tt
 
@@ -235,34 +233,31 @@ ended m (inside pair_colon d at ∷ ws) n h = rw (within d m h.0) (ended m ws (s
 ended m (inside lone_end d at ∷ ws) n h = ended m ws (suc n) h.1
 ended m (inside box_end d at ∷ ws) n h = ended m ws (suc n) h.1
 
--- a front that leaves wants begins the tokens of a tree, at most a level deeper than the limit
-pub front_begins : (l : ℕ) (ts : List Token) (n : ℕ) (ws : List Want) → 1 ≤ l → behind l 0 (a_value 1 ∷ []) ts ≡ left n ws → (x : Syntax) × (us : List Token) × (tokens_of x ≡ ts ++ us) × (levels x ≤ suc l)
-front_begins l ts n ws pos e =
-    let shallow : Shallow (suc l) ws = subst (λ b. ShallowBehind (suc l) b) e (behind_shallow l ts 0 (a_value 1 ∷ []) (omega (arith, pos), tt)) in
-    let same : behind (suc l) 0 (a_value 1 ∷ []) ts ≡ left n ws = subst (λ b. SameBehind b (behind (suc l) 0 (a_value 1 ∷ []) ts)) e (behind_higher l (suc l) ts 0 (a_value 1 ∷ []) (omega arith)) in
+-- a prefix that leaves wants begins the tokens of a tree, at most a level deeper than the limit
+pub prefix_begins : (l : ℕ) (ts : List Token) (n : ℕ) (ws : List Want) → 1 ≤ l → after_tokens l 0 (a_value 1 ∷ []) ts ≡ left n ws → (x : Syntax) × (us : List Token) × (tokens_of x ≡ ts ++ us) × (levels x ≤ suc l)
+prefix_begins l ts n ws pos e =
+    let shallow : Shallow (suc l) ws = subst (λ b. ShallowAfter (suc l) b) e (after_shallow l ts 0 (a_value 1 ∷ []) (omega (arith, pos), tt)) in
+    let same : after_tokens (suc l) 0 (a_value 1 ∷ []) ts ≡ left n ws = subst (λ b. SameAfter b (after_tokens (suc l) 0 (a_value 1 ∷ []) ts)) e (after_higher l (suc l) ts 0 (a_value 1 ∷ []) (omega arith)) in
     let fine = decided (suc l) ts (endings ws) 0 (a_value 1 ∷ []) ∙ (ap (λ b. Decides (suc l) b (endings ws)) same ∙ ended (suc l) ws n shallow) in
     let x = whole_to (suc l) (ts ++ endings ws) fine in
     (x.0, endings ws, x.1, x.2)
 
-none_some : (e : NumberedFault) → None ≡ Some e → ⊥
-none_some e h = cc
-
--- a front with a fault begins no tree's tokens within the limit
-pub no_tree_begins : (l : ℕ) (ts : List Token) (e : NumberedFault) → behind l 0 (a_value 1 ∷ []) ts ≡ stays e → (x : Syntax) (us : List Token) → levels x ≤ l → tokens_of x ≡ ts ++ us → ⊥
+-- a prefix with a fault begins no tree's tokens within the limit
+pub no_tree_begins : (l : ℕ) (ts : List Token) (e : NumberedFault) → after_tokens l 0 (a_value 1 ∷ []) ts ≡ stays e → (x : Syntax) (us : List Token) → levels x ≤ l → tokens_of x ≡ ts ++ us → ⊥
 no_tree_begins l ts e h x us le same =
-    none_some e (sym (no_fault_to l x le) ∙ (ap (fault_to l 0 (a_value 1 ∷ [])) same ∙ (decided l ts us 0 (a_value 1 ∷ []) ∙ ap (λ b. Decides l b us) h)))
+    none-some e (sym (no_fault_to l x le) ∙ (ap (fault_to l 0 (a_value 1 ∷ [])) same ∙ (decided l ts us 0 (a_value 1 ∷ []) ∙ ap (λ b. Decides l b us) h)))
 
 -- where the fault isn't one of depth, it begins no tree's at all
-pub no_tree_at_all : (l : ℕ) (ts : List Token) (k : ℕ) → behind l 0 (a_value 1 ∷ []) ts ≡ stays (unexpected, k) → (x : Syntax) (us : List Token) → tokens_of x ≡ ts ++ us → ⊥
+pub no_tree_at_all : (l : ℕ) (ts : List Token) (k : ℕ) → after_tokens l 0 (a_value 1 ∷ []) ts ≡ stays (unexpected, k) → (x : Syntax) (us : List Token) → tokens_of x ≡ ts ++ us → ⊥
 no_tree_at_all l ts k h x us same =
-    let higher : behind (l + levels x) 0 (a_value 1 ∷ []) ts ≡ stays (unexpected, k) = subst (λ b. SameBehind b (behind (l + levels x) 0 (a_value 1 ∷ []) ts)) h (behind_higher l (l + levels x) ts 0 (a_value 1 ∷ []) (omega arith)) in
+    let higher : after_tokens (l + levels x) 0 (a_value 1 ∷ []) ts ≡ stays (unexpected, k) = subst (λ b. SameAfter b (after_tokens (l + levels x) 0 (a_value 1 ∷ []) ts)) h (after_higher l (l + levels x) ts 0 (a_value 1 ∷ []) (omega arith)) in
     no_tree_begins (l + levels x) ts (unexpected, k) higher x us (omega arith) same
 
 -- tokens that leave wants are no tree's
-pub no_tree_whole : (l : ℕ) (ts : List Token) (n : ℕ) (w : Want) (ws : List Want) → behind l 0 (a_value 1 ∷ []) ts ≡ left n (w ∷ ws) → (x : Syntax) → tokens_of x ≡ ts → ⊥
+pub no_tree_whole : (l : ℕ) (ts : List Token) (n : ℕ) (w : Want) (ws : List Want) → after_tokens l 0 (a_value 1 ∷ []) ts ≡ left n (w ∷ ws) → (x : Syntax) → tokens_of x ≡ ts → ⊥
 unfolding fault_to
 no_tree_whole l ts n w ws h x same =
     let m = l + levels x in
-    let higher : behind m 0 (a_value 1 ∷ []) ts ≡ left n (w ∷ ws) = subst (λ b. SameBehind b (behind m 0 (a_value 1 ∷ []) ts)) h (behind_higher l m ts 0 (a_value 1 ∷ []) (omega arith)) in
-    none_some (at_end n (w ∷ ws))
+    let higher : after_tokens m 0 (a_value 1 ∷ []) ts ≡ left n (w ∷ ws) = subst (λ b. SameAfter b (after_tokens m 0 (a_value 1 ∷ []) ts)) h (after_higher l m ts 0 (a_value 1 ∷ []) (omega arith)) in
+    none-some (at_end n (w ∷ ws))
     (sym (no_fault_to m x (omega arith)) ∙ (ap (fault_to m 0 (a_value 1 ∷ [])) (same ∙ sym (append-nil ts)) ∙ (decided m ts [] 0 (a_value 1 ∷ []) ∙ ap (λ b. Decides m b []) higher)))

@@ -6,7 +6,7 @@ use Rattle.std.proofs.lemmas.List.{take_at, drop_at}
 use Rattle.gv_model.specs.Ty.{Ty}
 use Rattle.gv_model.specs.Layout.{offset_width}
 use Rattle.gv_model.specs.BasicValue.{number_in}
-use Rattle.gv_model.specs.Arrays.{numbers_in, element_spans, framed_from, framed_spans}
+use Rattle.gv_model.specs.Arrays.{numbers_in, element_spans, framed_from, offset_spans}
 use Rattle.gv_model.specs.Parts.{Part}
 use Rattle.gv_model.specs.Encode.{number_bytes, least_width, framed, ends_from, end_after}
 use Rattle.gv_model.proofs.NumberBytes.{length-number_bytes, number_in-number_bytes, offset_width-least}
@@ -50,7 +50,7 @@ pub least_width_pos : (n k : ℕ) → 0 < least_width n k
 unfolding least_width
 least_width_pos n k = grind arith
 
-chosen : (t : Ty) (w e n count : ℕ) (b : List ℕ) → 0 < w → length b ≡ n → n ≡ e + count * w → framed_from t w e b ≡ framed_spans t 0 (numbers_in w count (drop e b))
+chosen : (t : Ty) (w e n count : ℕ) (b : List ℕ) → 0 < w → length b ≡ n → n ≡ e + count * w → framed_from t w e b ≡ offset_spans t 0 (numbers_in w count (drop e b))
 chosen t w e n count b h g k =
     let rest : length b - e ≡ count * w = omega arith in
     let low : nat_le e (length b) ≡ true = le-leb e (length b) (omega arith) in
@@ -59,7 +59,7 @@ chosen t w e n count b h g k =
     rw (low, whole, number) refl
 
 -- an array with offsets is cut at its ends
-pub framed_read : (t : Ty) (body : List ℕ) (e : ℕ) (es : List ℕ) → length body ≡ last_of e es → element_spans t (framed body (e ∷ es)) None ≡ framed_spans t 0 (e ∷ es)
+pub framed_read : (t : Ty) (body : List ℕ) (e : ℕ) (es : List ℕ) → length body ≡ last_of e es → element_spans t (framed body (e ∷ es)) None ≡ offset_spans t 0 (e ∷ es)
 unfolding framed
 framed_read t body e es h =
     let w = least_width (length body) (suc (length es)) in
@@ -71,4 +71,4 @@ framed_read t body e es h =
     let some : (length b == 0) ≡ false = ne_eqb (length b) 0 (omega arith) in
     let last : number_in (drop (length b - w) b) ≡ length body =
     ap number_in (drop_two body tail (length body) (length es * w) (length b - w) refl (omega arith)) ∙ (last_offset w e es pos ∙ sym h) in
-    rw (some, width, last) (chosen t w (length body) (length b) (suc (length es)) b pos refl size ∙ ap (framed_spans t 0) (ap (numbers_in w (suc (length es))) (drop-append_seam body tail) ∙ numbers_in-offsets w (e ∷ es) pos))
+    rw (some, width, last) (chosen t w (length body) (length b) (suc (length es)) b pos refl size ∙ ap (offset_spans t 0) (ap (numbers_in w (suc (length es))) (drop-append_seam body tail) ∙ numbers_in-offsets w (e ∷ es) pos))

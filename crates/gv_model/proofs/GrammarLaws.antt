@@ -9,7 +9,7 @@ use Rattle.gv_model.specs.Tokens.{Token}
 use Rattle.gv_model.specs.Tokens.Mark.{close_tuple, close_list, close_brace, close_box, comma, colon}
 use Rattle.gv_model.specs.Tokens.Token.{mark}
 use Rattle.gv_model.specs.Grammar.{tokens_of, commas, members_tokens, pairs_tokens}
-use Rattle.gv_model.specs.TreeReading.{Read, read, around, list_before, list_items, list_front, tuple_before, tuple_items, tuple_front, brace_before, pair_items, pair_front, box_before}
+use Rattle.gv_model.specs.TreeReading.{Read, read, around, list_before, list_items, list_with_first, tuple_before, tuple_items, tuple_with_first, brace_before, pair_items, pair_with_first, box_before}
 use Rattle.gv_model.specs.GrammarFaults.{Want, fault_from, grammar_fault}
 use Rattle.gv_model.specs.TreeReading.Read.{value, mark_then}
 use Rattle.gv_model.specs.GrammarFaults.Stage.{list_start, list_more, tuple_start, tuple_one, tuple_two, tuple_more, brace_start, brace_first, pair_more, pair_colon, lone_end, box_end}
@@ -69,7 +69,7 @@ mutual
       let later = listed (first y xs) ts in (
         mark_then comma (read (commas (first y xs) ++ mark close_list ∷ ts)),
         ap read (append_assoc (tokens_of x) (mark comma ∷ commas (first y xs)) (mark close_list ∷ ts)) ∙ read_of x (mark comma ∷ (commas (first y xs) ++ mark close_list ∷ ts)),
-        ap (list_front x) (ap list_items later.1 ∙ later.2),
+        ap (list_with_first x) (ap list_items later.1 ∙ later.2),
       )
 
   tupled : (xs : Syntaxes) (ts : List Token) → Tupled xs ts
@@ -79,7 +79,7 @@ mutual
       let later = tupled (first y xs) ts in (
         mark_then comma (read (commas (first y xs) ++ mark close_tuple ∷ ts)),
         ap read (append_assoc (tokens_of x) (mark comma ∷ commas (first y xs)) (mark close_tuple ∷ ts)) ∙ read_of x (mark comma ∷ (commas (first y xs) ++ mark close_tuple ∷ ts)),
-        ap (tuple_front x) (ap tuple_items later.1 ∙ later.2),
+        ap (tuple_with_first x) (ap tuple_items later.1 ∙ later.2),
       )
 
   tuple_read : (xs : Syntaxes) (ts : List Token) → read (tokens_of (tuple_of xs) ++ ts) ≡ value (tuple_of xs) (read ts)
@@ -91,7 +91,7 @@ mutual
       let later = tupled (first y xs) ts in
       ap (λ z. tuple_before (read z)) (append_assoc (members_tokens (first x (first y xs))) (mark close_tuple ∷ []) ts ∙ append_assoc (tokens_of x) (mark comma ∷ commas (first y xs)) (mark close_tuple ∷ ts))
       ∙ (ap tuple_before (read_of x (mark comma ∷ (commas (first y xs) ++ mark close_tuple ∷ ts)))
-      ∙ (ap (λ r. tuple_before (value x (mark_then comma r))) later.1 ∙ ap (tuple_front x) later.2))
+      ∙ (ap (λ r. tuple_before (value x (mark_then comma r))) later.1 ∙ ap (tuple_with_first x) later.2))
 
   paired : (ps : Pairs) (ts : List Token) → Paired ps ts
   paired no_pair ts = tt
@@ -109,7 +109,7 @@ mutual
             ∙ (read_of k (mark colon ∷ ((tokens_of v ++ tail) ++ mark close_brace ∷ ts))
             ∙ (ap (λ y. value k (mark_then colon (read y))) (append_assoc (tokens_of v) tail (mark close_brace ∷ ts))
             ∙ ap (λ r. value k (mark_then colon r)) (read_of v (tail ++ mark close_brace ∷ ts)))),
-        ap (pair_front k v) (ap pair_items later.1 ∙ later.2),
+        ap (pair_with_first k v) (ap pair_items later.1 ∙ later.2),
       )
 
 value_parts : (x y : Syntax) (r s : Read) → value x r ≡ value y s → x ≡ y

@@ -7,12 +7,12 @@ use Rattle.gv_model.specs.Ty.Types.{end, member}
 use Rattle.gv_model.specs.Ty.Basic.{boolean, byte, int32, string}
 use Rattle.gv_model.specs.Admits.{AlsoMaybe, IsMaybeOf}
 use Rattle.gv_model.specs.Order.{Below, AreBelow, BasicBelow}
-use Rattle.gv_model.proofs.PatternMeets.{core_also}
-use Rattle.gv_model.specs.Patterns.{Kind, Pattern, Core, Patterns, Within, In, InCore, AreIn}
-use Rattle.gv_model.specs.LeastTypes.{Least, Leasts, least_in, least_core, leasts_in, least_with, least_kind, least_entry, least_tuple, least_member}
-use Rattle.gv_model.specs.Patterns.Kind.{any, numbers, texts, empty, only}
+use Rattle.gv_model.proofs.PatternMeets.{bare_also}
+use Rattle.gv_model.specs.Patterns.{BasicSet, Pattern, Bare, Patterns, Within, In, InBare, AreIn}
+use Rattle.gv_model.specs.LeastTypes.{Least, Leasts, least_in, least_bare, leasts_in, least_with, least_basics, least_entry, least_tuple, least_member}
+use Rattle.gv_model.specs.Patterns.BasicSet.{any, numbers, texts, empty, only}
 use Rattle.gv_model.specs.Patterns.Pattern.{anything, never, maybe_of, strict, loose}
-use Rattle.gv_model.specs.Patterns.Core.{kind, a_variant, array_of, tuple_with, entry_of, no_core}
+use Rattle.gv_model.specs.Patterns.Bare.{basics, a_variant, array_of, tuple_with, entry_of, no_bare}
 use Rattle.gv_model.specs.Patterns.Patterns.{stop, next}
 use Rattle.gv_model.specs.LeastTypes.Least.{nowhere, least, many}
 use Rattle.gv_model.specs.LeastTypes.Leasts.{nowhere_each, least_each, many_each}
@@ -104,35 +104,35 @@ each_maybe : (P : Ty → Type 0) (M : Ty → Type 0) → ((u : Ty) → P u → M
 each_maybe P M f (maybe u) i = f u i
 each_maybe P M f _ i = absurd i
 
-each_array : (p : Pattern) (M : Ty → Type 0) → ((u : Ty) → In p u → M (array u)) → (u : Ty) → InCore (array_of p) u → M u
+each_array : (p : Pattern) (M : Ty → Type 0) → ((u : Ty) → In p u → M (array u)) → (u : Ty) → InBare (array_of p) u → M u
 each_array p M f (array u) i = f u i
 each_array p M f _ i = absurd i
 
-maybe_back : (t u : Ty) → Below (maybe t) (maybe u) → Below t u
+pub maybe_back : (t u : Ty) → Below (maybe t) (maybe u) → Below t u
 maybe_back t u (inl h) = below_inside t u h
 maybe_back t u (inr h) = h
 
 least_maybe : (l : Least) (P : Ty → Type 0) → IsLeast l P → IsLeast (least_with maybe l) (IsMaybeOf P)
 least_maybe l P h = lifted maybe P (IsMaybeOf P) (λ t i. i) (each_maybe P) (λ t u b. inr b) maybe_back size_maybe l h
 
-least_array : (l : Least) (p : Pattern) → IsLeast l (In p) → IsLeast (least_with array l) (InCore (array_of p))
-least_array l p h = lifted array (In p) (InCore (array_of p)) (λ t i. i) (each_array p) (λ t u b. b) (λ t u b. b) size_array l h
+least_array : (l : Least) (p : Pattern) → IsLeast l (In p) → IsLeast (least_with array l) (InBare (array_of p))
+least_array l p h = lifted array (In p) (InBare (array_of p)) (λ t i. i) (each_array p) (λ t u b. b) (λ t u b. b) size_array l h
 
 -- Entries
 
-one_key : (s : Kind) (j : Basic) → Within s j → ((k : Basic) → Within s k → BasicBelow j k) → (p : Pattern) (l : Least) → IsLeast l (In p) → IsLeast (least_with (entry j) l) (InCore (entry_of s p))
+one_key : (s : BasicSet) (j : Basic) → Within s j → ((k : Basic) → Within s k → BasicBelow j k) → (p : Pattern) (l : Least) → IsLeast l (In p) → IsLeast (least_with (entry j) l) (InBare (entry_of s p))
 one_key s j w low p nowhere h = none
   where
-    none : (t : Ty) → InCore (entry_of s p) t → ⊥
+    none : (t : Ty) → InBare (entry_of s p) t → ⊥
     none (entry k t) i = h t i.1
     none _ i = absurd i
 one_key s j w low p (least t) h = record { inside = (w, h.inside); below = below; shallow = shallow }
   where
-    below : (u : Ty) → InCore (entry_of s p) u → Below (entry j t) u
+    below : (u : Ty) → InBare (entry_of s p) u → Below (entry j t) u
     below (entry k u) i = (low k i.0, h.below u i.1)
     below _ i = absurd i
 
-    shallow : (u : Ty) → InCore (entry_of s p) u → nesting (entry j t) ≤ nesting u
+    shallow : (u : Ty) → InBare (entry_of s p) u → nesting (entry j t) ≤ nesting u
     shallow (entry k u) i = (let e = h.shallow u i.1 in let a = size_entry j t in let b = size_entry k u in omega arith)
     shallow _ i = absurd i
 one_key s j w low p (many t) h = record {
@@ -144,11 +144,11 @@ one_key s j w low p (many t) h = record {
   apart = apart;
 }
   where
-    shallow : (u : Ty) → InCore (entry_of s p) u → nesting (entry j t) ≤ nesting u
+    shallow : (u : Ty) → InBare (entry_of s p) u → nesting (entry j t) ≤ nesting u
     shallow (entry k u) i = (let e = h.shallow u i.1 in let a = size_entry j t in let b = size_entry k u in omega arith)
     shallow _ i = absurd i
 
-    apart : (u : Ty) → InCore (entry_of s p) u → Below u (entry j t) → Below u (entry j h.other) → ⊥
+    apart : (u : Ty) → InBare (entry_of s p) u → Below u (entry j t) → Below u (entry j h.other) → ⊥
     apart (entry k u) i x y = h.apart u i.1 x.1 y.1
     apart _ i x y = absurd i
 
@@ -158,10 +158,10 @@ no_such_key string h g = h
 no_such_key boolean h g = absurd (grind arith)
 no_such_key _ h g = absurd (grind arith)
 
-any_key : (p : Pattern) (l : Least) → IsLeast l (In p) → IsLeast (least_entry (many (basic boolean)) (λ k. least_with (entry k) l)) (InCore (entry_of any p))
+any_key : (p : Pattern) (l : Least) → IsLeast l (In p) → IsLeast (least_entry (many (basic boolean)) (λ k. least_with (entry k) l)) (InBare (entry_of any p))
 any_key p nowhere h = none
   where
-    none : (t : Ty) → InCore (entry_of any p) t → ⊥
+    none : (t : Ty) → InBare (entry_of any p) t → ⊥
     none (entry k t) i = h t i.1
     none _ i = absurd i
 any_key p (least t) h = record {
@@ -173,11 +173,11 @@ any_key p (least t) h = record {
   apart = apart;
 }
   where
-    shallow : (u : Ty) → InCore (entry_of any p) u → nesting (entry boolean t) ≤ nesting u
+    shallow : (u : Ty) → InBare (entry_of any p) u → nesting (entry boolean t) ≤ nesting u
     shallow (entry k u) i = (let e = h.shallow u i.1 in let a = size_entry boolean t in let b = size_entry k u in omega arith)
     shallow _ i = absurd i
 
-    apart : (u : Ty) → InCore (entry_of any p) u → Below u (entry boolean t) → Below u (entry byte t) → ⊥
+    apart : (u : Ty) → InBare (entry_of any p) u → Below u (entry boolean t) → Below u (entry byte t) → ⊥
     apart (entry k u) i x y = no_such_key k x.0 y.0
     apart _ i x y = absurd i
 any_key p (many t) h = record {
@@ -189,11 +189,11 @@ any_key p (many t) h = record {
   apart = apart;
 }
   where
-    shallow : (u : Ty) → InCore (entry_of any p) u → nesting (entry boolean t) ≤ nesting u
+    shallow : (u : Ty) → InBare (entry_of any p) u → nesting (entry boolean t) ≤ nesting u
     shallow (entry k u) i = (let e = h.shallow u i.1 in let a = size_entry boolean t in let b = size_entry k u in omega arith)
     shallow _ i = absurd i
 
-    apart : (u : Ty) → InCore (entry_of any p) u → Below u (entry boolean t) → Below u (entry boolean h.other) → ⊥
+    apart : (u : Ty) → InBare (entry_of any p) u → Below u (entry boolean t) → Below u (entry boolean h.other) → ⊥
     apart (entry k u) i x y = h.apart u i.1 x.1 y.1
     apart _ i x y = absurd i
 
@@ -205,7 +205,7 @@ basic_below_refl _ = refl
 low_only : (j k : Basic) → k ≡ j → BasicBelow j k
 low_only j k e = subst (λ (i : Basic). BasicBelow i k) e (basic_below_refl k)
 
-least_entries : (s : Kind) (p : Pattern) (l : Least) → IsLeast l (In p) → IsLeast (least_entry (least_kind basic s) (λ k. least_with (entry k) l)) (InCore (entry_of s p))
+least_entries : (s : BasicSet) (p : Pattern) (l : Least) → IsLeast l (In p) → IsLeast (least_entry (least_basics basic s) (λ k. least_with (entry k) l)) (InBare (entry_of s p))
 least_entries any p l h = any_key p l h
 least_entries numbers p l h = one_key numbers int32 tt (λ k w. w) p l h
 least_entries texts p l h = one_key texts string tt low p l h
@@ -214,7 +214,7 @@ least_entries texts p l h = one_key texts string tt low p l h
     low k w = w
 least_entries empty p l h = none
   where
-    none : (t : Ty) → InCore (entry_of empty p) t → ⊥
+    none : (t : Ty) → InBare (entry_of empty p) t → ⊥
     none (entry k t) i = i.0
     none _ i = absurd i
 least_entries (only j) p l h = one_key (only j) j refl (low_only j) p l h
@@ -225,33 +225,33 @@ nesting_basic : (k : Basic) → nesting (basic k) ≡ 1
 unfolding nesting
 nesting_basic k = refl
 
-one_kind : (s : Kind) (j : Basic) → Within s j → ((k : Basic) → Within s k → BasicBelow j k) → LeastIn (InCore (kind s)) (basic j)
-one_kind s j w low = record { inside = w; below = below; shallow = λ u i. let a = nesting_pos u in let b = nesting_basic j in omega arith }
+one_basics : (s : BasicSet) (j : Basic) → Within s j → ((k : Basic) → Within s k → BasicBelow j k) → LeastIn (InBare (basics s)) (basic j)
+one_basics s j w low = record { inside = w; below = below; shallow = λ u i. let a = nesting_pos u in let b = nesting_basic j in omega arith }
   where
-    below : (u : Ty) → InCore (kind s) u → Below (basic j) u
+    below : (u : Ty) → InBare (basics s) u → Below (basic j) u
     below (basic k) i = low k i
     below _ i = absurd i
 
-least_kinds : (s : Kind) → IsLeast (least_kind basic s) (InCore (kind s))
-least_kinds any = record { inside = tt; shallow = λ u i. (let a = nesting_pos u in let b = nesting_basic boolean in omega arith); other = basic byte; also = tt; alike = (let a = nesting_basic boolean in let b = nesting_basic byte in omega arith); apart = apart }
+least_of_basics : (s : BasicSet) → IsLeast (least_basics basic s) (InBare (basics s))
+least_of_basics any = record { inside = tt; shallow = λ u i. (let a = nesting_pos u in let b = nesting_basic boolean in omega arith); other = basic byte; also = tt; alike = (let a = nesting_basic boolean in let b = nesting_basic byte in omega arith); apart = apart }
   where
-    apart : (u : Ty) → InCore (kind any) u → Below u (basic boolean) → Below u (basic byte) → ⊥
+    apart : (u : Ty) → InBare (basics any) u → Below u (basic boolean) → Below u (basic byte) → ⊥
     apart (basic k) i x y = no_such_key k x y
     apart _ i x y = absurd i
-least_kinds numbers = one_kind numbers int32 tt (λ k w. w)
-least_kinds texts = one_kind texts string tt (λ k w. w)
-least_kinds empty = none
+least_of_basics numbers = one_basics numbers int32 tt (λ k w. w)
+least_of_basics texts = one_basics texts string tt (λ k w. w)
+least_of_basics empty = none
   where
-    none : (t : Ty) → InCore (kind empty) t → ⊥
+    none : (t : Ty) → InBare (basics empty) t → ⊥
     none (basic k) i = i
     none _ i = absurd i
-least_kinds (only j) = one_kind (only j) j refl (low_only j)
+least_of_basics (only j) = one_basics (only j) j refl (low_only j)
 
-least_variant : LeastIn (InCore a_variant) variant
+least_variant : LeastIn (InBare a_variant) variant
 unfolding nesting
 least_variant = record { inside = tt; below = below; shallow = λ u i. nesting_pos u }
   where
-    below : (u : Ty) → InCore a_variant u → Below variant u
+    below : (u : Ty) → InBare a_variant u → Below variant u
     below variant i = tt
     below _ i = absurd i
 
@@ -328,7 +328,7 @@ least_members p ps (many t) (many_each ts) h g = record {
   apart = each_member p ps (λ us. AreBelow us (member t ts) → AreBelow us (member h.other ts) → ⊥) (λ u us i j x y. h.apart u i x.0 y.0);
 }
 
-each_tuple : (ps : Patterns) (M : Ty → Type 0) → ((us : Types) → AreIn ps us → M (tuple us)) → (u : Ty) → InCore (tuple_with ps) u → M u
+each_tuple : (ps : Patterns) (M : Ty → Type 0) → ((us : Types) → AreIn ps us → M (tuple us)) → (u : Ty) → InBare (tuple_with ps) u → M u
 each_tuple ps M f (tuple us) i = f us i
 each_tuple ps M f _ i = absurd i
 
@@ -336,7 +336,7 @@ tuple_bigger : (ts us : Types) → greatest_nesting ts ≤ greatest_nesting us �
 unfolding nesting
 tuple_bigger ts us h = omega arith
 
-least_tuples : (ps : Patterns) (ls : Leasts) → AreLeast ls (AreIn ps) → IsLeast (least_tuple ls) (InCore (tuple_with ps))
+least_tuples : (ps : Patterns) (ls : Leasts) → AreLeast ls (AreIn ps) → IsLeast (least_tuple ls) (InBare (tuple_with ps))
 least_tuples ps nowhere_each h = each_tuple ps (λ u. ⊥) h
 least_tuples ps (least_each ts) h = record { inside = h.inside; below = each_tuple ps (Below (tuple ts)) h.below; shallow = each_tuple ps (λ u. nesting (tuple ts) ≤ nesting u) (λ us i. tuple_bigger ts us (h.shallow us i)) }
 least_tuples ps (many_each ts) h = record {
@@ -351,7 +351,7 @@ least_tuples ps (many_each ts) h = record {
 -- Under any number of maybes
 
 -- what holds of a core's types and, with a type, of its maybe, holds under any number of maybes
-each_loose : (c : Core) (M : Ty → Type 0) → ((u : Ty) → InCore c u → M u) → ((u : Ty) → M u → M (maybe u)) → (u : Ty) → AlsoMaybe (InCore c) u → M u
+each_loose : (c : Bare) (M : Ty → Type 0) → ((u : Ty) → InBare c u → M u) → ((u : Ty) → M u → M (maybe u)) → (u : Ty) → AlsoMaybe (InBare c) u → M u
 each_loose c M f g (maybe u) i = g u (each_loose c M f g u i)
 each_loose c M f g (basic k) i = f _ i
 each_loose c M f g variant i = f _ i
@@ -362,18 +362,18 @@ each_loose c M f g (entry k t) i = f _ i
 deeper : (t u : Ty) → nesting t ≤ nesting u → nesting t ≤ nesting (maybe u)
 deeper t u h = let a = size_maybe u in omega arith
 
-least_loose : (c : Core) (l : Least) → IsLeast l (InCore c) → IsLeast l (AlsoMaybe (InCore c))
+least_loose : (c : Bare) (l : Least) → IsLeast l (InBare c) → IsLeast l (AlsoMaybe (InBare c))
 least_loose c nowhere h = each_loose c (λ u. ⊥) h (λ u i. i)
 least_loose c (least t) h = record {
-  inside = core_also c t h.inside;
+  inside = bare_also c t h.inside;
   below = each_loose c (Below t) h.below (λ u b. inl b);
   shallow = each_loose c (λ u. nesting t ≤ nesting u) h.shallow (deeper t);
 }
 least_loose c (many t) h = record {
-  inside = core_also c t h.inside;
+  inside = bare_also c t h.inside;
   shallow = each_loose c (λ u. nesting t ≤ nesting u) h.shallow (deeper t);
   other = h.other;
-  also = core_also c h.other h.also;
+  also = bare_also c h.other h.also;
   alike = h.alike;
   apart = each_loose c (λ u. Below u t → Below u h.other → ⊥) h.apart (λ u none x y. none (below_inside u t x) (below_inside u h.other y));
 }
@@ -385,16 +385,16 @@ mutual
   least_right anything = anything_many
   least_right never = λ t i. i
   least_right (maybe_of p) = least_maybe (least_in p) (In p) (least_right p)
-  least_right (strict c) = core_right c
-  least_right (loose c) = least_loose c (least_core c) (core_right c)
+  least_right (strict c) = bare_right c
+  least_right (loose c) = least_loose c (least_bare c) (bare_right c)
 
-  core_right : (c : Core) → IsLeast (least_core c) (InCore c)
-  core_right (kind s) = least_kinds s
-  core_right a_variant = least_variant
-  core_right (array_of p) = least_array (least_in p) p (least_right p)
-  core_right (tuple_with ps) = least_tuples ps (leasts_in ps) (each_right ps)
-  core_right (entry_of s p) = least_entries s p (least_in p) (least_right p)
-  core_right no_core = λ t i. i
+  bare_right : (c : Bare) → IsLeast (least_bare c) (InBare c)
+  bare_right (basics s) = least_of_basics s
+  bare_right a_variant = least_variant
+  bare_right (array_of p) = least_array (least_in p) p (least_right p)
+  bare_right (tuple_with ps) = least_tuples ps (leasts_in ps) (each_right ps)
+  bare_right (entry_of s p) = least_entries s p (least_in p) (least_right p)
+  bare_right no_bare = λ t i. i
 
   each_right : (ps : Patterns) → AreLeast (leasts_in ps) (AreIn ps)
   each_right stop = least_end

@@ -1,8 +1,10 @@
+pub mod ListLaws
 pub mod TypeTextLaws
+pub mod CodeLaws
 pub mod TypeTextSound
 pub mod TypeTextParts
-pub mod Fronts
-pub mod TwoFronts
+pub mod Prefixes
+pub mod TwoPrefixes
 pub mod TypeFaultLaws
 pub mod OneFault
 pub mod DecodeLaws
@@ -13,6 +15,7 @@ pub mod WellTyped
 pub mod WorkedValues
 pub mod WorkedFaults
 pub mod NumberBytes
+pub mod LayoutLaws
 pub mod PlacedParts
 pub mod FramedArrays
 pub mod MemberLaws
@@ -26,10 +29,10 @@ pub mod PlainTextLaws
 pub mod TokenLoops
 pub mod LevelLimits
 pub mod GrammarLaws
-pub mod TextFronts
+pub mod TextPrefixes
 pub mod FaultlessTokens
 pub mod FirstFaults
-pub mod FaultFronts
+pub mod FaultPrefixes
 pub mod TextOutcomes
 pub mod PatternMeets
 pub mod LeastTypeLaws

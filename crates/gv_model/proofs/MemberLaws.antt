@@ -58,9 +58,6 @@ fixed_read w b (x ∷ xs) k p q h e = go (fixed_size x.0) h.0 e (fixed_read w b 
         let more = rest k (end_after p x) q h.1 (ap (fixed_end (part_types xs)) (sym same) ∙ g) in
         (more.0, (ap Some same, more.1))
 
-reverse-cons : (x : ℕ) (xs : List ℕ) → reverse (x ∷ xs) ≡ reverse xs ++ x ∷ []
-reverse-cons x xs = reverse-append (x ∷ []) xs
-
 three_parts : (body late o early : List ℕ) → body ++ ((late ++ (o ++ [])) ++ early) ≡ (body ++ late) ++ (o ++ early)
 three_parts body late o early = simp (append_assoc, append-nil)
 
@@ -69,7 +66,7 @@ offset_read : (w : ℕ) (body b pre : List ℕ) (o : ℕ) (post : List ℕ) (k :
 offset_read w body b pre o post k h g whole =
     let late = offsets w (reverse post) in
     let early = offsets w (reverse pre) in
-    let turned : reverse (pre ++ o ∷ post) ≡ (reverse post ++ o ∷ []) ++ reverse pre = reverse-append pre (o ∷ post) ∙ ap (λ ys. ys ++ reverse pre) (reverse-cons o post) in
+    let turned : reverse (pre ++ o ∷ post) ≡ (reverse post ++ o ∷ []) ++ reverse pre = reverse-append pre (o ∷ post) ∙ ap (λ ys. ys ++ reverse pre) (reverse-append (o ∷ []) post) in
     let parts : offsets w (reverse (pre ++ o ∷ post)) ≡ (late ++ (number_bytes w o ++ [])) ++ early =
     ap (offsets w) turned ∙ (flat_map-append (number_bytes w) (reverse post ++ o ∷ []) (reverse pre) ∙ ap (λ ys. ys ++ early) (flat_map-append (number_bytes w) (reverse post) (o ∷ []))) in
     let split : b ≡ (body ++ late) ++ (number_bytes w o ++ early) = whole ∙ (ap (λ ys. body ++ ys) parts ∙ three_parts body late (number_bytes w o) early) in

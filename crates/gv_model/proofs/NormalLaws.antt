@@ -2,23 +2,20 @@
 use Rattle.std.proofs.Common.{ℕ, ◌≡◌, map, List, [], ◌∷◌, sym, ap, ap₂, ◌∙◌, subst}
 use Rattle.gv_model.specs.Ty.{Ty}
 use Rattle.gv_model.specs.Ty.Ty.{basic, variant, array, maybe, tuple, entry}
-use Rattle.gv_model.specs.Tree.{Tree, type_of}
+use Rattle.gv_model.specs.Tree.{type_of}
 use Rattle.gv_model.specs.Tree.Tree.{node}
 use Rattle.gv_model.specs.Typed.{IsValue}
-use Rattle.gv_model.specs.Children.{Child, bytes_of}
+use Rattle.gv_model.specs.Children.{Child, child_bytes}
 use Rattle.gv_model.specs.Decode.{decode, each, cut}
-use Rattle.gv_model.specs.Parts.{Part, part_of}
+use Rattle.gv_model.specs.Parts.{Part, part_of, parts}
 use Rattle.gv_model.specs.Encode.{encode, encoded_parts, packed}
-use Rattle.gv_model.specs.Normal.{IsWritten, IsContainer}
-use Rattle.gv_model.proofs.DecodeLaws.{decode_children, Each}
-use Rattle.gv_model.proofs.RoundTrip.{node_read, read_parts, node_encode, parts_none, parts_first}
+use Rattle.gv_model.specs.Normal.{IsEncoded, IsContainer}
+use Rattle.gv_model.proofs.DecodeLaws.{decode_children, Each, child_value}
+use Rattle.gv_model.proofs.RoundTrip.{node_read, node_encode, parts_none, parts_first}
 use Rattle.gv_model.proofs.WellTyped.{IsBytes, type_of-decode, decode_is_value}
+use Rattle.gv_model.proofs.ListLaws.{same_head, same_tail}
 
--- what is read of a child
-abbrev read : List ℕ → Child → Tree
-read b c = decode c.type (bytes_of b c)
-
-pub decode_node : (t : Ty) (b : List ℕ) → IsContainer t → decode t b ≡ node t (each (read b) (cut t b))
+pub decode_node : (t : Ty) (b : List ℕ) → IsContainer t → decode t b ≡ node t (each (child_value b) (cut t b))
 decode_node (basic k) b h = absurd h
 decode_node variant b h = decode_children variant b
 decode_node (array t) b h = decode_children (array t) b
@@ -28,35 +25,31 @@ decode_node (entry k t) b h = decode_children (entry k t) b
 
 -- a child's bytes are written so
 abbrev pub ChildWritten : List ℕ → Child → Type 0
-ChildWritten b c = IsWritten c.type (bytes_of b c)
+ChildWritten b c = IsEncoded c.type (child_bytes b c)
 
-same_parts : (b : List ℕ) (cs : List Child) → Each (ChildWritten b) cs → map (part_of b) cs ≡ encoded_parts (each (read b) cs)
+same_parts : (b : List ℕ) (cs : List Child) → Each (ChildWritten b) cs → map (part_of b) cs ≡ encoded_parts (each (child_value b) cs)
 same_parts b [] h = sym parts_none
 same_parts b (c ∷ cs) h =
-    ap₂ ◌∷◌ (ap₂ (λ (t : Ty) (x : List ℕ). let p : Part = (t, x) in p) (sym (type_of-decode c.type (bytes_of b c))) h.0) (same_parts b cs h.1)
-    ∙ sym (parts_first (read b c) (each (read b) cs))
+    ap₂ ◌∷◌ (ap₂ (λ (t : Ty) (x : List ℕ). let p : Part = (t, x) in p) (sym (type_of-decode c.type (child_bytes b c))) h.0) (same_parts b cs h.1)
+    ∙ sym (parts_first (child_value b c) (each (child_value b) cs))
 
-heads : (x y : Part) (xs ys : List Part) → x ∷ xs ≡ y ∷ ys → x ≡ y
-heads x y xs ys e = cc
-
-tails : (x y : Part) (xs ys : List Part) → x ∷ xs ≡ y ∷ ys → xs ≡ ys
-tails x y xs ys e = cc
-
-each_written : (b : List ℕ) (cs : List Child) → map (part_of b) cs ≡ encoded_parts (each (read b) cs) → Each (ChildWritten b) cs
+each_written : (b : List ℕ) (cs : List Child) → map (part_of b) cs ≡ encoded_parts (each (child_value b) cs) → Each (ChildWritten b) cs
 each_written b [] e = tt
 each_written b (c ∷ cs) e =
-    let same : part_of b c ∷ map (part_of b) cs ≡ (type_of (read b c), encode (read b c)) ∷ encoded_parts (each (read b) cs) = e ∙ parts_first (read b c) (each (read b) cs) in
-    (ap (λ (p : Part). p.1) (heads _ _ _ _ same), each_written b cs (tails _ _ _ _ same))
+    let same : part_of b c ∷ map (part_of b) cs ≡ (type_of (child_value b c), encode (child_value b c)) ∷ encoded_parts (each (child_value b) cs) = e ∙ parts_first (child_value b c) (each (child_value b) cs) in
+    (ap (λ (p : Part). p.1) (same_head same), each_written b cs (same_tail same))
 
 -- A container's bytes are written so exactly where they are its children's, packed, and each child's are.
-pub written_from_children : (t : Ty) (b : List ℕ) → IsContainer t → Each (ChildWritten b) (cut t b) → b ≡ packed t (read_parts t b) → IsWritten t b
+pub written_from_children : (t : Ty) (b : List ℕ) → IsContainer t → Each (ChildWritten b) (cut t b) → b ≡ packed t (parts t b) → IsEncoded t b
+unfolding parts
 written_from_children t b k h e =
-    e ∙ (ap (packed t) (same_parts b (cut t b) h) ∙ sym (ap encode (decode_node t b k) ∙ node_encode t (each (read b) (cut t b))))
+    e ∙ (ap (packed t) (same_parts b (cut t b) h) ∙ sym (ap encode (decode_node t b k) ∙ node_encode t (each (child_value b) (cut t b))))
 
-pub children_written : (t : Ty) (b : List ℕ) → IsBytes b → IsContainer t → IsWritten t b → Each (ChildWritten b) (cut t b) × (b ≡ packed t (read_parts t b))
+pub children_written : (t : Ty) (b : List ℕ) → IsBytes b → IsContainer t → IsEncoded t b → Each (ChildWritten b) (cut t b) × (b ≡ packed t (parts t b))
+unfolding parts
 children_written t b bytes k w =
-    let vs = each (read b) (cut t b) in
+    let vs = each (child_value b) (cut t b) in
     let value : IsValue (node t vs) = subst IsValue (decode_node t b k) (decode_is_value t b bytes) in
     let whole : b ≡ packed t (encoded_parts vs) = w ∙ (ap encode (decode_node t b k) ∙ node_encode t vs) in
-    let same : read_parts t b ≡ encoded_parts vs = ap (read_parts t) whole ∙ node_read t vs value.0 value.1 in
+    let same : parts t b ≡ encoded_parts vs = ap (parts t) whole ∙ node_read t vs value.0 value.1 in
     (each_written b (cut t b) same, whole ∙ ap (packed t) (sym same))

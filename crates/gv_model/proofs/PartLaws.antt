@@ -5,11 +5,12 @@ use Rattle.std.specs.List.{AllByRecursion}
 use Rattle.std.proofs.lemmas.Option.{same_Some, none-some, slice_get-map}
 use Rattle.gv_model.specs.Ty.{Ty}
 use Rattle.gv_model.specs.Tree.{Tree}
-use Rattle.gv_model.specs.Children.{Child, Span, child_at, children_at, bytes_of}
+use Rattle.gv_model.specs.Children.{Child, Span, child_at, children_at}
 use Rattle.gv_model.specs.Decode.{decode, cut, spans}
 use Rattle.gv_model.specs.Parts.{Part, part_of, part_at, parts, subtree_at}
 use Rattle.gv_model.specs.Laws.{LiesWithin}
 use Rattle.gv_model.proofs.ChildLaws.{child_of_value}
+use Rattle.gv_model.proofs.DecodeLaws.{child_value}
 
 -- ---- where children lie
 
@@ -43,16 +44,13 @@ child_within t b i c e = at_of_all (LiesWithin (length b)) (cut t b) i c (childr
 value_of : Part → Tree
 value_of p = decode p.0 p.1
 
-child_value : List ℕ → Child → Tree
-child_value b c = decode c.type (bytes_of b c)
-
 along : (b is : List ℕ) (o : Option Child) → ((p : Part) → subtree_at (value_of p) is ≡ option_map value_of (part_at p is)) → option_and_then (λ v. subtree_at v is) (option_map (child_value b) o) ≡ option_map value_of (option_and_then (λ p. part_at p is) (option_map (part_of b) o))
-unfolding value_of child_value
+unfolding value_of
 along b is None f = refl
 along b is (Some c) f = f (part_of b c)
 
 part_is_read : (is : List ℕ) (p : Part) → subtree_at (value_of p) is ≡ option_map value_of (part_at p is)
-unfolding subtree_at part_at parts value_of child_value
+unfolding subtree_at part_at parts value_of
 part_is_read [] p = refl
 part_is_read (i ∷ is) p =
     ap (option_and_then (λ v. subtree_at v is)) (child_of_value p.0 p.1 i)

@@ -11,11 +11,11 @@ use Rattle.gv_model.specs.Syntax.Pairs.{no_pair, pair}
 use Rattle.gv_model.specs.Admits.{Admits, AllAdmit, Admit, KeysAdmit, ValuesAdmit, AlsoMaybe, IsNumberType, IsTextType, IsMaybeOf, IsArrayOf, IsTupleOf, IsEntryOf}
 use Rattle.gv_model.specs.Chosen.{MayHave, Chooses}
 use Rattle.gv_model.specs.Chosen.Choice.{is, no_common_type, ambiguous}
-use Rattle.gv_model.specs.Patterns.{Pattern, Patterns, Within, In, InCore, AreIn, common, exactly, exactly_each, kind_of, pattern, all_common, patterns, common_key, common_value}
+use Rattle.gv_model.specs.Patterns.{Pattern, Patterns, Within, In, InBare, AreIn, common, exactly, exactly_each, basics_of, pattern, all_common, patterns, common_key, common_value}
 use Rattle.gv_model.specs.LeastTypes.{Least, least_in, choice, choice_from}
-use Rattle.gv_model.specs.Patterns.Kind.{numbers, texts, only}
+use Rattle.gv_model.specs.Patterns.BasicSet.{numbers, texts, only}
 use Rattle.gv_model.specs.Patterns.Pattern.{anything, never, maybe_of, strict, loose}
-use Rattle.gv_model.specs.Patterns.Core.{kind, a_variant, array_of, tuple_with, entry_of}
+use Rattle.gv_model.specs.Patterns.Bare.{basics, a_variant, array_of, tuple_with, entry_of}
 use Rattle.gv_model.specs.LeastTypes.Least.{nowhere, least, many}
 use Rattle.gv_model.proofs.PatternMeets.{both, join}
 use Rattle.gv_model.proofs.LeastTypeLaws.{IsLeast, least_right}
@@ -48,90 +48,90 @@ maybe_same p P s = (to, from)
     from (maybe t) h = s.1 t h
     from _ h = absurd h
 
-array_same : (p : Pattern) (P : Ty → Type 0) → Same (In p) P → Same (InCore (array_of p)) (IsArrayOf P)
+array_same : (p : Pattern) (P : Ty → Type 0) → Same (In p) P → Same (InBare (array_of p)) (IsArrayOf P)
 array_same p P s = (to, from)
   where
-    to : (t : Ty) → InCore (array_of p) t → IsArrayOf P t
+    to : (t : Ty) → InBare (array_of p) t → IsArrayOf P t
     to (array t) h = s.0 t h
     to _ h = absurd h
 
-    from : (t : Ty) → IsArrayOf P t → InCore (array_of p) t
+    from : (t : Ty) → IsArrayOf P t → InBare (array_of p) t
     from (array t) h = s.1 t h
     from _ h = absurd h
 
-tuple_same : (ps : Patterns) (P : Types → Type 0) → ((ts : Types) → AreIn ps ts → P ts) → ((ts : Types) → P ts → AreIn ps ts) → Same (InCore (tuple_with ps)) (IsTupleOf P)
+tuple_same : (ps : Patterns) (P : Types → Type 0) → ((ts : Types) → AreIn ps ts → P ts) → ((ts : Types) → P ts → AreIn ps ts) → Same (InBare (tuple_with ps)) (IsTupleOf P)
 tuple_same ps P f g = (to, from)
   where
-    to : (t : Ty) → InCore (tuple_with ps) t → IsTupleOf P t
+    to : (t : Ty) → InBare (tuple_with ps) t → IsTupleOf P t
     to (tuple t) h = f t h
     to _ h = absurd h
 
-    from : (t : Ty) → IsTupleOf P t → InCore (tuple_with ps) t
+    from : (t : Ty) → IsTupleOf P t → InBare (tuple_with ps) t
     from (tuple t) h = g t h
     from _ h = absurd h
 
-kind_to : (p : Pattern) (k : Basic) → Within (kind_of p) k → In p (basic k)
-kind_to anything k h = tt
-kind_to never k h = h
-kind_to (maybe_of p) k h = h
-kind_to (strict (kind s)) k h = h
-kind_to (strict _) k h = h
-kind_to (loose (kind s)) k h = h
-kind_to (loose _) k h = h
+basics_to : (p : Pattern) (k : Basic) → Within (basics_of p) k → In p (basic k)
+basics_to anything k h = tt
+basics_to never k h = h
+basics_to (maybe_of p) k h = h
+basics_to (strict (basics s)) k h = h
+basics_to (strict _) k h = h
+basics_to (loose (basics s)) k h = h
+basics_to (loose _) k h = h
 
-kind_from : (p : Pattern) (k : Basic) → In p (basic k) → Within (kind_of p) k
-kind_from anything k h = tt
-kind_from never k h = h
-kind_from (maybe_of p) k h = h
-kind_from (strict (kind s)) k h = h
-kind_from (strict _) k h = h
-kind_from (loose (kind s)) k h = h
-kind_from (loose _) k h = h
+basics_from : (p : Pattern) (k : Basic) → In p (basic k) → Within (basics_of p) k
+basics_from anything k h = tt
+basics_from never k h = h
+basics_from (maybe_of p) k h = h
+basics_from (strict (basics s)) k h = h
+basics_from (strict _) k h = h
+basics_from (loose (basics s)) k h = h
+basics_from (loose _) k h = h
 
-entry_same : (q p : Pattern) (Q P : Ty → Type 0) → Same (In q) Q → Same (In p) P → Same (InCore (entry_of (kind_of q) p)) (IsEntryOf Q P)
+entry_same : (q p : Pattern) (Q P : Ty → Type 0) → Same (In q) Q → Same (In p) P → Same (InBare (entry_of (basics_of q) p)) (IsEntryOf Q P)
 entry_same q p Q P r s = (to, from)
   where
-    to : (t : Ty) → InCore (entry_of (kind_of q) p) t → IsEntryOf Q P t
-    to (entry k t) h = (r.0 (basic k) (kind_to q k h.0), s.0 t h.1)
+    to : (t : Ty) → InBare (entry_of (basics_of q) p) t → IsEntryOf Q P t
+    to (entry k t) h = (r.0 (basic k) (basics_to q k h.0), s.0 t h.1)
     to _ h = absurd h
 
-    from : (t : Ty) → IsEntryOf Q P t → InCore (entry_of (kind_of q) p) t
-    from (entry k t) h = (kind_from q k (r.1 (basic k) h.0), s.1 t h.1)
+    from : (t : Ty) → IsEntryOf Q P t → InBare (entry_of (basics_of q) p) t
+    from (entry k t) h = (basics_from q k (r.1 (basic k) h.0), s.1 t h.1)
     from _ h = absurd h
 
-number_same : Same (InCore (kind numbers)) IsNumberType
+number_same : Same (InBare (basics numbers)) IsNumberType
 number_same = (to, from)
   where
-    to : (t : Ty) → InCore (kind numbers) t → IsNumberType t
+    to : (t : Ty) → InBare (basics numbers) t → IsNumberType t
     to (basic k) h = h
     to _ h = absurd h
 
-    from : (t : Ty) → IsNumberType t → InCore (kind numbers) t
+    from : (t : Ty) → IsNumberType t → InBare (basics numbers) t
     from (basic k) h = h
     from _ h = absurd h
 
-text_same : Same (InCore (kind texts)) IsTextType
+text_same : Same (InBare (basics texts)) IsTextType
 text_same = (to, from)
   where
-    to : (t : Ty) → InCore (kind texts) t → IsTextType t
+    to : (t : Ty) → InBare (basics texts) t → IsTextType t
     to (basic k) h = h
     to _ h = absurd h
 
-    from : (t : Ty) → IsTextType t → InCore (kind texts) t
+    from : (t : Ty) → IsTextType t → InBare (basics texts) t
     from (basic k) h = h
     from _ h = absurd h
 
-only_same : (j : Basic) → Same (InCore (kind (only j))) (λ u. u ≡ basic j)
-only_same j = (to, λ t e. subst (λ (u : Ty). InCore (kind (only j)) u) (sym e) refl)
+only_same : (j : Basic) → Same (InBare (basics (only j))) (λ u. u ≡ basic j)
+only_same j = (to, λ t e. subst (λ (u : Ty). InBare (basics (only j)) u) (sym e) refl)
   where
-    to : (t : Ty) → InCore (kind (only j)) t → t ≡ basic j
+    to : (t : Ty) → InBare (basics (only j)) t → t ≡ basic j
     to (basic k) h = ap basic h
     to _ h = absurd h
 
-variant_same : Same (InCore a_variant) (λ u. u ≡ variant)
-variant_same = (to, λ t e. subst (λ (u : Ty). InCore a_variant u) (sym e) tt)
+variant_same : Same (InBare a_variant) (λ u. u ≡ variant)
+variant_same = (to, λ t e. subst (λ (u : Ty). InBare a_variant u) (sym e) tt)
   where
-    to : (t : Ty) → InCore a_variant t → t ≡ variant
+    to : (t : Ty) → InBare a_variant t → t ≡ variant
     to variant h = refl
     to _ h = absurd h
 
@@ -145,8 +145,8 @@ array_is u = (to, λ t e. subst (λ (s : Ty). IsArrayOf (λ r. r ≡ u) s) (sym 
 then_same : (P Q R : Ty → Type 0) → Same P Q → Same Q R → Same P R
 then_same P Q R s r = (λ t h. r.0 t (s.0 t h), λ t h. s.1 t (r.1 t h))
 
-byte_arrays : Same (InCore (array_of (strict (kind (only byte))))) (λ u. u ≡ array (basic byte))
-byte_arrays = then_same (InCore (array_of (strict (kind (only byte))))) (IsArrayOf (λ u. u ≡ basic byte)) (λ u. u ≡ array (basic byte)) (array_same (strict (kind (only byte))) (λ u. u ≡ basic byte) (only_same byte)) (array_is (basic byte))
+byte_arrays : Same (InBare (array_of (strict (basics (only byte))))) (λ u. u ≡ array (basic byte))
+byte_arrays = then_same (InBare (array_of (strict (basics (only byte))))) (IsArrayOf (λ u. u ≡ basic byte)) (λ u. u ≡ array (basic byte)) (array_same (strict (basics (only byte))) (λ u. u ≡ basic byte) (only_same byte)) (array_is (basic byte))
 
 mutual
   unfolding exactly
@@ -193,13 +193,13 @@ mutual
   same (bytes s) = also_same _ _ byte_arrays
   same (list xs) = also_same _ _ (array_same (all_common xs) (AllAdmit xs) (all_same xs))
   same (tuple_of xs) = also_same _ _ (tuple_same (patterns xs) (Admit xs) (each_to xs) (each_from xs))
-  same (dictionary ps) = also_same _ _ (array_same (strict (entry_of (kind_of (common_key ps)) (common_value ps))) (IsEntryOf (KeysAdmit ps) (ValuesAdmit ps)) (entry_same (common_key ps) (common_value ps) (KeysAdmit ps) (ValuesAdmit ps) (keys_same ps) (values_same ps)))
+  same (dictionary ps) = also_same _ _ (array_same (strict (entry_of (basics_of (common_key ps)) (common_value ps))) (IsEntryOf (KeysAdmit ps) (ValuesAdmit ps)) (entry_same (common_key ps) (common_value ps) (KeysAdmit ps) (ValuesAdmit ps) (keys_same ps) (values_same ps)))
   same (lone k v) = also_same _ _ (entry_same (pattern k) (pattern v) (Admits k) (Admits v) (same k) (same v))
   same (boxed x) = also_same _ _ variant_same
   same (just x) = maybe_same (pattern x) (Admits x) (same x)
   same nothing = maybe_same anything (λ u. Unit {0}) (λ t h. h, λ t h. h)
   same (at_type u x) = common_same (exactly u) (pattern x) (λ t. t ≡ u) (Admits x) (exactly_same u) (same x)
-  same (keyword k x) = common_same (strict (kind (only k))) (pattern x) (λ t. t ≡ basic k) (Admits x) (only_same k) (same x)
+  same (keyword k x) = common_same (strict (basics (only k))) (pattern x) (λ t. t ≡ basic k) (Admits x) (only_same k) (same x)
 
   all_same : (xs : Syntaxes) → Same (In (all_common xs)) (AllAdmit xs)
   all_same none = (λ t h. h, λ t h. h)

@@ -1,43 +1,14 @@
 -- Parts that were written one after the other are read where they lie.
-use Rattle.std.proofs.Common.{ℕ, ◌+◌, ◌-◌, ◌<◌, ◌≤◌, ◌≡◌, map, List, [], ◌∷◌, ◌++◌, length, slice_range, Some, refl, sym, ap, ap₂, ◌∙◌, arith, le-leb, append_assoc, length-append}
+use Rattle.std.proofs.Common.{ℕ, ◌+◌, ◌-◌, ◌≤◌, ◌≡◌, map, List, [], ◌∷◌, ◌++◌, length, slice_range, Some, refl, sym, ap, ap₂, ◌∙◌, arith, append_assoc, length-append}
 use Rattle.std.proofs.lemmas.List.{length-replicate}
-use Rattle.gv_model.specs.Ty.{Ty, Basic, Types}
-use Rattle.gv_model.specs.Ty.Ty.{basic, variant, array, maybe, tuple, entry}
-use Rattle.gv_model.specs.Ty.Types.{end, member}
-use Rattle.gv_model.specs.Ty.Basic.{boolean, byte, int16, uint16, int32, uint32, int64, uint64, handle, double}
-use Rattle.gv_model.specs.Layout.{alignment, greatest_alignment, basic_size, or_one, round_up}
-use Rattle.gv_model.specs.Children.{Child, Span, bytes_of, children_at, child_at, bounds}
-use Rattle.gv_model.specs.Arrays.{framed_spans}
+use Rattle.gv_model.specs.Ty.{Ty}
+use Rattle.gv_model.specs.Layout.{alignment, round_up}
+use Rattle.gv_model.specs.Children.{Span, children_at, child_at}
+use Rattle.gv_model.specs.Arrays.{offset_spans}
 use Rattle.gv_model.specs.Parts.{Part, part_of}
 use Rattle.gv_model.specs.Encode.{zeros, start_after, end_after, body_from, ends_from}
 use Rattle.gv_model.proofs.NumberBytes.{le-round_up, slice_mid}
-
-pub basic_alignment_pos : (k : Basic) → 0 < or_one (basic_size k)
-basic_alignment_pos boolean = omega arith
-basic_alignment_pos byte = omega arith
-basic_alignment_pos int16 = omega arith
-basic_alignment_pos uint16 = omega arith
-basic_alignment_pos int32 = omega arith
-basic_alignment_pos uint32 = omega arith
-basic_alignment_pos int64 = omega arith
-basic_alignment_pos uint64 = omega arith
-basic_alignment_pos handle = omega arith
-basic_alignment_pos double = omega arith
-basic_alignment_pos _ = omega arith
-
-pub members_alignment_pos : (ts : Types) → 0 < greatest_alignment ts
-unfolding alignment
-members_alignment_pos end = omega arith
-members_alignment_pos (member t ts) = omega (arith, members_alignment_pos ts)
-
-pub alignment_pos : (t : Ty) → 0 < alignment t
-unfolding alignment
-alignment_pos (basic k) = basic_alignment_pos k
-alignment_pos variant = omega arith
-alignment_pos (array t) = alignment_pos t
-alignment_pos (maybe t) = alignment_pos t
-alignment_pos (tuple ts) = members_alignment_pos ts
-alignment_pos (entry k t) = omega (arith, basic_alignment_pos k)
+use Rattle.gv_model.proofs.LayoutLaws.{alignment_pos, bounds_within}
 
 pub le-start_after : (p : ℕ) (x : Part) → p ≤ start_after p x
 le-start_after p x = le-round_up (alignment x.0) p (alignment_pos x.0)
@@ -63,13 +34,10 @@ abbrev pub placed : ℕ → List Part → List (Ty × Span)
 placed p [] = []
 placed p (x ∷ xs) = (x.0, Some (start_after p x, end_after p x)) ∷ placed (end_after p x) xs
 
-pub settled_within : (n s e : ℕ) → s ≤ e → e ≤ n → bounds n (Some (s, e)) ≡ (s, e)
-settled_within n s e h g = let low = le-leb s e h in let high = le-leb e n g in rw (low, high) refl
-
 pub part_within : (b xs ys zs : List ℕ) (t : Ty) (s e : ℕ) → b ≡ xs ++ (ys ++ zs) → length xs ≡ s → s + length ys ≡ e → part_of b (child_at (length b) (t, Some (s, e))) ≡ (t, ys)
 part_within b xs ys zs t s e whole h g =
     let size : length b ≡ length xs + (length ys + length zs) = ap length whole ∙ (length-append xs (ys ++ zs) ∙ ap (λ n. length xs + n) (length-append ys zs)) in
-    ap (λ (q : ℕ × ℕ). (t, slice_range b q.0 q.1)) (settled_within (length b) s e (omega arith) (omega arith))
+    ap (λ (q : ℕ × ℕ). (t, slice_range b q.0 q.1)) (bounds_within (length b) s e (omega arith) (omega arith))
     ∙ (ap (λ (c : List ℕ). (t, slice_range c s e)) whole ∙ ap (λ (c : List ℕ). (t, c)) (slice_mid xs ys zs s e h g))
 
 regroup : (f z x r t : List ℕ) → f ++ ((z ++ (x ++ r)) ++ t) ≡ (f ++ z) ++ (x ++ (r ++ t))
@@ -79,15 +47,15 @@ regroup_next : (f x r : List ℕ) → f ++ (x ++ r) ≡ (f ++ x) ++ r
 regroup_next f x r = sym (append_assoc f x r)
 
 -- each part is read where it was written
-pub recovered : (b rest : List ℕ) (xs : List Part) (p : ℕ) (front : List ℕ) → length front ≡ p → b ≡ front ++ (body_from p xs ++ rest) → map (part_of b) (children_at (length b) (placed p xs)) ≡ xs
+pub recovered : (b rest : List ℕ) (xs : List Part) (p : ℕ) (prefix : List ℕ) → length prefix ≡ p → b ≡ prefix ++ (body_from p xs ++ rest) → map (part_of b) (children_at (length b) (placed p xs)) ≡ xs
 unfolding body_from
-recovered b rest [] p front h whole = refl
-recovered b rest (x ∷ xs) p front h whole =
+recovered b rest [] p prefix h whole = refl
+recovered b rest (x ∷ xs) p prefix h whole =
     let padding = zeros (start_after p x - p) in
-    let whole' : b ≡ (front ++ padding) ++ (x.1 ++ (body_from (end_after p x) xs ++ rest)) = whole ∙ regroup front padding x.1 (body_from (end_after p x) xs) rest in
-    let start : length (front ++ padding) ≡ start_after p x = omega (arith, length-append front padding, length-zeros (start_after p x - p), le-start_after p x) in
-    ap₂ ◌∷◌ (part_within b (front ++ padding) x.1 _ x.0 (start_after p x) (end_after p x) whole' start refl)
-    (recovered b rest xs (end_after p x) ((front ++ padding) ++ x.1) (length-append (front ++ padding) x.1 ∙ ap (λ n. n + length x.1) start) (whole' ∙ regroup_next (front ++ padding) x.1 _))
+    let whole' : b ≡ (prefix ++ padding) ++ (x.1 ++ (body_from (end_after p x) xs ++ rest)) = whole ∙ regroup prefix padding x.1 (body_from (end_after p x) xs) rest in
+    let start : length (prefix ++ padding) ≡ start_after p x = omega (arith, length-append prefix padding, length-zeros (start_after p x - p), le-start_after p x) in
+    ap₂ ◌∷◌ (part_within b (prefix ++ padding) x.1 _ x.0 (start_after p x) (end_after p x) whole' start refl)
+    (recovered b rest xs (end_after p x) ((prefix ++ padding) ++ x.1) (length-append (prefix ++ padding) x.1 ∙ ap (λ n. n + length x.1) start) (whole' ∙ regroup_next (prefix ++ padding) x.1 _))
 
 -- parts of one type
 abbrev pub OneType : Ty → List Part → Type 0
@@ -95,8 +63,8 @@ OneType t [] = Unit {0}
 OneType t (x ∷ xs) = (x.0 ≡ t) × OneType t xs
 
 -- the elements of an array of no fixed size lie where their ends say
-pub framed-placed : (t : Ty) (p : ℕ) (xs : List Part) → OneType t xs → framed_spans t p (ends_from p xs) ≡ placed p xs
-unfolding framed_spans ends_from
+pub framed-placed : (t : Ty) (p : ℕ) (xs : List Part) → OneType t xs → offset_spans t p (ends_from p xs) ≡ placed p xs
+unfolding offset_spans ends_from
 framed-placed t p [] h = refl
 framed-placed t p (x ∷ xs) h =
     ap₂ ◌∷◌ (ap (λ (u : Ty). (u, Some (round_up (alignment u) p, end_after p x))) (sym h.0)) (framed-placed t (end_after p x) xs h.1)

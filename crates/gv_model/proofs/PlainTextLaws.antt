@@ -1,19 +1,20 @@
 -- The strings in a text's syntax tree have no zero byte.
 use Rattle.std.proofs.Common.{◌≡◌, ℕ, suc, ◌+◌, Bool, true, false, cond, List, [], ◌∷◌, ◌++◌, length, Option, Some, None, refl, sym, ap, ◌∙◌, subst, arith, ne_eqb, nat_lt, ◌/◌, ◌%◌, ◌==◌, ◌&&◌, ◌||◌, not}
 use Rattle.std.specs.Prelude.{encode_utf8}
-use Rattle.std.specs.List.{list_any, AllByRecursion}
+use Rattle.std.specs.List.{AllByRecursion}
 use Rattle.std.proofs.lemmas.List.Folds.{list_any-append}
+use Rattle.std.proofs.lemmas.Bool.{not-true, and_parts}
 use lib.Utf8.{encode as encode_char, next}
 use Rattle.gv_model.specs.TextFault.{Fault}
 use Rattle.gv_model.specs.TextFault.Cause.{bad_token, bad_escape}
 use Rattle.gv_model.specs.Tokens.{Token, Placed}
 use Rattle.gv_model.specs.Tokens.Token.{mark, string_token, byte_string, integer_token, type_token, word}
 use Rattle.gv_model.specs.Tokens.Mark.{close_tuple, close_list, close_brace, close_box, comma, colon}
-use Rattle.gv_model.specs.Characters.{is_digit_of, front_of}
-use Rattle.gv_model.specs.Numerals.{number_behind}
-use Rattle.gv_model.specs.Strings.{Part, part, escape_in, escape, number_escape, letter_or_self, escape_letter, at_most, is_scalar}
-use Rattle.gv_model.specs.Strings.Part.{stands, closes, faulty}
-use Rattle.gv_model.specs.Lexing.{Begins, Lexes, blanks}
+use Rattle.gv_model.specs.Characters.{is_digit_of, prefix_of}
+use Rattle.gv_model.specs.Numerals.{number_after}
+use Rattle.gv_model.specs.Strings.{StringStep, part, escape_in, escape, number_escape, letter_or_self, letter_meaning, at_most, is_scalar}
+use Rattle.gv_model.specs.Strings.StringStep.{denotes, closes, faulty}
+use Rattle.gv_model.specs.Lexing.{Begins, Lexes}
 use Rattle.gv_model.specs.Grammar.{tokens_of, commas, members_tokens, pairs_tokens}
 use Rattle.gv_model.specs.Parsing.{kinds, IsTree}
 use Rattle.gv_model.specs.PlainTexts.{IsPlain, ArePlain, PairsPlain}
@@ -22,16 +23,17 @@ use Rattle.gv_model.specs.Syntax.Syntax.{truth, integer, quoted, bytes, list, tu
 use Rattle.gv_model.specs.Syntax.Syntaxes.{none, first}
 use Rattle.gv_model.specs.Syntax.Pairs.{no_pair, pair}
 use Rattle.gv_model.specs.TextLaws.{StringPart, meant, written, AreParts}
-use Rattle.gv_model.proofs.StringParts.{choose, both_true, string_parts}
+use Rattle.gv_model.proofs.StringParts.{choose, string_parts}
+use Rattle.gv_model.specs.Texts.{has_zero_byte}
 
 abbrev NoZero : List ℕ → Type 0
-NoZero s = list_any (λ c. c == 0) s ≡ false
+NoZero s = has_zero_byte s ≡ false
 
 no_zero_more : (c : ℕ) (s : List ℕ) → (c == 0) ≡ false → NoZero s → NoZero (c ∷ s)
-no_zero_more c s e h = ap (λ b. b || list_any (λ d. d == 0) s) e ∙ h
+no_zero_more c s e h = ap (λ b. b || has_zero_byte s) e ∙ h
 
 no_zero_append : (s t : List ℕ) → NoZero s → NoZero t → NoZero (s ++ t)
-no_zero_append s t h g = list_any-append (λ c. c == 0) s t ∙ (ap (λ b. b || list_any (λ d. d == 0) t) h ∙ g)
+no_zero_append s t h g = list_any-append (λ c. c == 0) s t ∙ (ap (λ b. b || has_zero_byte t) h ∙ g)
 
 -- A character but zero, in UTF-8
 
@@ -39,7 +41,7 @@ either : (P : List ℕ → Type 0) (b : Bool) (x y : List ℕ) → P x → P y �
 either P true x y h g = h
 either P false x y h g = g
 
--- a byte with its high bits in front
+-- a byte with its high bits first
 byte_more : (k n : ℕ) (s : List ℕ) → NoZero s → NoZero ((suc k + n) ∷ s)
 byte_more k n s h = no_zero_more (suc k + n) s (ne_eqb (suc k + n) 0 (omega arith)) h
 
@@ -59,10 +61,10 @@ encoded_plain c e =
 
 -- A part of a string
 
-abbrev StandsPlain : Part → Type 0
-StandsPlain (stands s n) = NoZero s
-StandsPlain closes = Unit {0}
-StandsPlain (faulty cause i j) = Unit {0}
+abbrev IsPlainPart : StringStep → Type 0
+IsPlainPart (denotes s n) = NoZero s
+IsPlainPart closes = Unit {0}
+IsPlainPart (faulty cause i j) = Unit {0}
 
 abbrev LetterPlain : Option ℕ → Type 0
 LetterPlain (Some l) = (l == 0) ≡ false
@@ -72,7 +74,7 @@ either_letter : (b : Bool) (x y : Option ℕ) → LetterPlain x → LetterPlain 
 either_letter true x y h g = h
 either_letter false x y h g = g
 
-letters_plain : (c : ℕ) → LetterPlain (escape_letter c)
+letters_plain : (c : ℕ) → LetterPlain (letter_meaning c)
 letters_plain c =
     either_letter (c == 97) (Some 7) _ refl
     (either_letter (c == 98) (Some 8) _ refl
@@ -82,46 +84,42 @@ letters_plain c =
     (either_letter (c == 116) (Some 9) _ refl
     (either_letter (c == 118) (Some 11) None refl tt))))))
 
-letter_plain : (o : Option ℕ) (c : ℕ) → LetterPlain o → StandsPlain (letter_or_self o c)
+letter_plain : (o : Option ℕ) (c : ℕ) → LetterPlain o → IsPlainPart (letter_or_self o c)
 letter_plain (Some l) c h = no_zero_more l [] h refl
 letter_plain None c h =
-    choose StandsPlain (c == 10) (stands [] 2) (cond (c == 0) (faulty bad_token 1 2) (stands (c ∷ []) 2)) (λ e. refl)
-    (λ e. choose StandsPlain (c == 0) (faulty bad_token 1 2) (stands (c ∷ []) 2) (λ f. tt) (λ f. no_zero_more c [] f refl))
+    choose IsPlainPart (c == 10) (denotes [] 2) (cond (c == 0) (faulty bad_token 1 2) (denotes (c ∷ []) 2)) (λ e. refl)
+    (λ e. choose IsPlainPart (c == 0) (faulty bad_token 1 2) (denotes (c ∷ []) 2) (λ f. tt) (λ f. no_zero_more c [] f refl))
 
-is_false : (b : Bool) → not b ≡ true → b ≡ false
-is_false true e = sym e
-is_false false e = refl
-
-number_plain : (n : ℕ) (digits : List ℕ) → StandsPlain (number_escape n digits)
+number_plain : (n : ℕ) (digits : List ℕ) → IsPlainPart (number_escape n digits)
 number_plain n digits =
-    let v = number_behind 16 0 digits in
-    choose StandsPlain (length digits == n && is_scalar v) (stands (encode_utf8 v) (2 + n)) (faulty bad_escape 0 (2 + length digits))
-    (λ e. encoded_plain v (is_false (v == 0) (both_true (not (v == 0)) _ (both_true (length digits == n) (is_scalar v) e).1).0)) (λ e. tt)
+    let v = number_after 16 0 digits in
+    choose IsPlainPart (length digits == n && is_scalar v) (denotes (encode_utf8 v) (2 + n)) (faulty bad_escape 0 (2 + length digits))
+    (λ e. encoded_plain v (not-true (v == 0) (and_parts (not (v == 0)) _ (and_parts (length digits == n) (is_scalar v) e).1).0)) (λ e. tt)
 
-escape_plain : (c : ℕ) (cs : List ℕ) → StandsPlain (escape c cs)
+escape_plain : (c : ℕ) (cs : List ℕ) → IsPlainPart (escape c cs)
 escape_plain c cs =
-    let four = front_of (is_digit_of 16) (at_most 4 cs) in
-    let eight = front_of (is_digit_of 16) (at_most 8 cs) in
-    let self = letter_or_self (escape_letter c) c in
-    choose StandsPlain (c == 117) (number_escape 4 four) (cond (c == 85) (number_escape 8 eight) self) (λ e. number_plain 4 four)
-    (λ e. choose StandsPlain (c == 85) (number_escape 8 eight) self (λ f. number_plain 8 eight) (λ f. letter_plain (escape_letter c) c (letters_plain c)))
+    let four = prefix_of (is_digit_of 16) (at_most 4 cs) in
+    let eight = prefix_of (is_digit_of 16) (at_most 8 cs) in
+    let self = letter_or_self (letter_meaning c) c in
+    choose IsPlainPart (c == 117) (number_escape 4 four) (cond (c == 85) (number_escape 8 eight) self) (λ e. number_plain 4 four)
+    (λ e. choose IsPlainPart (c == 85) (number_escape 8 eight) self (λ f. number_plain 8 eight) (λ f. letter_plain (letter_meaning c) c (letters_plain c)))
 
-escape_in_plain : (cs : List ℕ) → StandsPlain (escape_in false cs)
+escape_in_plain : (cs : List ℕ) → IsPlainPart (escape_in false cs)
 escape_in_plain [] = refl
 escape_in_plain (c ∷ cs) = escape_plain c cs
 
-part_plain : (quote c : ℕ) (cs : List ℕ) → StandsPlain (part false quote c cs)
+part_plain : (quote c : ℕ) (cs : List ℕ) → IsPlainPart (part false quote c cs)
 part_plain quote c cs =
-    let other = cond (c == 92) (escape_in false cs) (stands (c ∷ []) 1) in
-    choose StandsPlain (c == quote) closes (cond (c == 0) (faulty bad_token 0 1) other) (λ e. tt)
-    (λ e. choose StandsPlain (c == 0) (faulty bad_token 0 1) other (λ f. tt)
-    (λ f. choose StandsPlain (c == 92) (escape_in false cs) (stands (c ∷ []) 1) (λ g. escape_in_plain cs) (λ g. no_zero_more c [] f refl)))
+    let other = cond (c == 92) (escape_in false cs) (denotes (c ∷ []) 1) in
+    choose IsPlainPart (c == quote) closes (cond (c == 0) (faulty bad_token 0 1) other) (λ e. tt)
+    (λ e. choose IsPlainPart (c == 0) (faulty bad_token 0 1) other (λ f. tt)
+    (λ f. choose IsPlainPart (c == 92) (escape_in false cs) (denotes (c ∷ []) 1) (λ g. escape_in_plain cs) (λ g. no_zero_more c [] f refl)))
 
 parts_plain : (quote : ℕ) (ps : List StringPart) (rest : List ℕ) → AreParts false quote ps rest → NoZero (meant ps)
 unfolding meant written
 parts_plain quote [] rest h = refl
 parts_plain quote (p ∷ ps) rest h =
-    let first = subst StandsPlain h.0.3 (part_plain quote h.0.0 (h.0.1 ++ (written ps ++ rest))) in
+    let first = subst IsPlainPart h.0.3 (part_plain quote h.0.0 (h.0.1 ++ (written ps ++ rest))) in
     no_zero_append p.1 (meant ps) first (parts_plain quote ps rest h.1)
 
 -- The tokens of a text
@@ -134,7 +132,7 @@ token_plain : (at : ℕ) (s : List ℕ) (t : Placed) → Begins at s t → (k : 
 token_plain at s t h (mark m) e = tt
 token_plain at s t h (string_token x) e =
     let is = string_parts at s t x h e in
-    subst NoZero (sym is.stands_for) (parts_plain is.quote is.parts (is.quote ∷ is.behind) is.each)
+    subst NoZero (sym is.meaning) (parts_plain is.quote is.parts (is.quote ∷ is.after) is.each)
 token_plain at s t h (byte_string x) e = tt
 token_plain at s t h (integer_token negative n) e = tt
 token_plain at s t h (type_token u) e = tt

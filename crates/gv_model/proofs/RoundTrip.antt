@@ -2,7 +2,7 @@
 use Rattle.std.proofs.Common.{ℕ, ◌+◌, ◌-◌, ◌*◌, ◌/◌, ◌%◌, ◌<◌, ◌≤◌, ◌≡◌, max, map, List, [], ◌∷◌, ◌++◌, reverse, length, Option, Some, None, refl, sym, ap, ap₂, ◌∙◌, subst, arith, true, false, cond, ◌==◌, eq-eqb, ne_eqb, append_assoc, append-nil, length-append, zero-add}
 use Rattle.std.specs.Prelude.{option_map, option_and_then}
 use Rattle.std.specs.List.{AllByRecursion}
-use Rattle.std.proofs.Math.Nat.{mul-mod_left, mul-div_cancel, div-eq_of_lt}
+use Rattle.std.proofs.Math.Nat.{mul-mod_left, mul-div_cancel}
 use Rattle.std.proofs.lemmas.Option.{same_Some, none-some}
 use Rattle.gv_model.specs.Ty.{Ty, Basic, Types, spelling, spellings, letter}
 use Rattle.gv_model.specs.Ty.Ty.{basic, variant, array, maybe, tuple, entry}
@@ -15,49 +15,43 @@ use Rattle.gv_model.specs.Tree.Tree.{number, text, node}
 use Rattle.gv_model.specs.Tree.Trees.{none, first}
 use Rattle.gv_model.specs.Typed.{IsValue, AreValues, MayHold, AllOf, types_of, IsNumber, IsTextOf, HasType}
 use Rattle.gv_model.specs.BasicValue.{basic_value, basic_of_size, text_or_default, number_in, text_in, bits_of, truth}
-use Rattle.gv_model.specs.Children.{Child, Span, bytes_of, children_at, child_at}
-use Rattle.gv_model.specs.Arrays.{element_spans, even_spans}
+use Rattle.gv_model.specs.Children.{Child, Span, child_bytes, children_at, child_at}
+use Rattle.gv_model.specs.Arrays.{element_spans, fixed_spans}
 use Rattle.gv_model.specs.Maybes.{just_span}
 use Rattle.gv_model.specs.Tuples.{tuple_spans}
-use Rattle.gv_model.specs.Variants.{variant_span, typed_span, at_last_zero, add_front}
+use Rattle.gv_model.specs.Variants.{variant_span, typed_span, at_last_zero, add_first}
 use Rattle.gv_model.specs.Decode.{decode, tree_with, each, cut, spans}
-use Rattle.gv_model.specs.Parts.{Part}
-use Rattle.gv_model.specs.Encode.{encode, encoded_parts, packed, array_bytes, tuple_bytes, joined, just_bytes, number_bytes, zeros, framed, body_from, ends_from, open_ends_from, end_after, least_width}
+use Rattle.gv_model.specs.Parts.{Part, parts, part_trees}
+use Rattle.gv_model.specs.Encode.{encode, encoded_parts, packed, array_bytes, tuple_bytes, joined_parts, just_bytes, number_bytes, zeros, framed, body_from, ends_from, open_ends_from, end_after, least_width}
 use Rattle.gv_model.proofs.TypeTextLaws.{type_of_text-spelling}
 use Rattle.gv_model.proofs.DecodeLaws.{decode_children}
 use Rattle.gv_model.proofs.EmptyLaws.{fixed_size_pos, just-nil, elements-nil}
 use Rattle.gv_model.proofs.NumberBytes.{length-number_bytes, number_in-number_bytes, le-round_up}
 use Rattle.gv_model.specs.Parts.{part_of}
-use Rattle.gv_model.proofs.PlacedParts.{part_within, recovered, OneType, framed-placed, members_alignment_pos, basic_alignment_pos, length-body_from}
+use Rattle.gv_model.proofs.PlacedParts.{part_within, recovered, OneType, framed-placed, length-body_from}
 use Rattle.gv_model.proofs.FramedArrays.{framed_read, last_end, last_of, offsets}
 use Rattle.gv_model.proofs.MemberLaws.{part_types, HasSize, HaveSizes, HoldsMembers, open_tuple, fixed_tuple, padded_size}
-
--- the trees that encoded_parts are read as
-abbrev each_of : List Part → Trees
-each_of [] = none
-each_of (p ∷ ps) = first (decode p.0 p.1) (each_of ps)
-
-each-parts : (b : List ℕ) (cs : List Child) → each (λ c. decode c.type (bytes_of b c)) cs ≡ each_of (map (part_of b) cs)
-each-parts b [] = refl
-each-parts b (c ∷ cs) = ap (first (decode c.type (bytes_of b c))) (each-parts b cs)
+use Rattle.gv_model.proofs.LayoutLaws.{basic_alignment_pos, members_alignment_pos, round_up-zero}
+use Rattle.gv_model.proofs.ChildLaws.{each_part}
+use Rattle.gv_model.proofs.ListLaws.{all_append}
 
 -- Elements of one size
 
-one_size : (n : ℕ) (t : Ty) (xs : List Part) → fixed_size t ≡ Some n → OneType t xs → HaveSizes xs → length (joined xs) ≡ length xs * n
+one_size : (n : ℕ) (t : Ty) (xs : List Part) → fixed_size t ≡ Some n → OneType t xs → HaveSizes xs → length (joined_parts xs) ≡ length xs * n
 one_size n t [] e h g = omega arith
 one_size n t (x ∷ xs) e h g =
     let size : length x.1 ≡ n = (let f : fixed_size x.0 ≡ Some n = ap fixed_size h.0 ∙ e in let k : HasSize (Some n) x = subst (λ (o : Option ℕ). HasSize o x) f g.0 in k) in
-    omega (arith, length-append x.1 (joined xs), one_size n t xs e h.1 g.1)
+    omega (arith, length-append x.1 (joined_parts xs), one_size n t xs e h.1 g.1)
 
-even_read : (n : ℕ) (t : Ty) (b rest : List ℕ) (xs : List Part) (p : ℕ) (front : List ℕ) → fixed_size t ≡ Some n → OneType t xs → HaveSizes xs → length front ≡ p → b ≡ front ++ (joined xs ++ rest) → map (part_of b) (children_at (length b) (even_spans t n p (length xs))) ≡ xs
-unfolding even_spans
-even_read n t b rest [] p front e h g l whole = refl
-even_read n t b rest (x ∷ xs) p front e h g l whole =
+even_read : (n : ℕ) (t : Ty) (b rest : List ℕ) (xs : List Part) (p : ℕ) (prefix : List ℕ) → fixed_size t ≡ Some n → OneType t xs → HaveSizes xs → length prefix ≡ p → b ≡ prefix ++ (joined_parts xs ++ rest) → map (part_of b) (children_at (length b) (fixed_spans t n p (length xs))) ≡ xs
+unfolding fixed_spans
+even_read n t b rest [] p prefix e h g l whole = refl
+even_read n t b rest (x ∷ xs) p prefix e h g l whole =
     let size : length x.1 ≡ n = (let f : fixed_size x.0 ≡ Some n = ap fixed_size h.0 ∙ e in let k : HasSize (Some n) x = subst (λ (o : Option ℕ). HasSize o x) f g.0 in k) in
-    let next : b ≡ front ++ (x.1 ++ (joined xs ++ rest)) = whole ∙ ap (λ ys. front ++ ys) (append_assoc x.1 (joined xs) rest) in
+    let next : b ≡ prefix ++ (x.1 ++ (joined_parts xs ++ rest)) = whole ∙ ap (λ ys. prefix ++ ys) (append_assoc x.1 (joined_parts xs) rest) in
     let to : p + length x.1 ≡ p + n = ap (λ m. p + m) size in
-    ap₂ ◌∷◌ (part_within b front x.1 (joined xs ++ rest) t p (p + n) next l to ∙ ap (λ (u : Ty). (u, x.1)) (sym h.0))
-    (even_read n t b rest xs (p + n) (front ++ x.1) e h.1 g.1 (length-append front x.1 ∙ (ap (λ m. m + length x.1) l ∙ to)) (next ∙ sym (append_assoc front x.1 (joined xs ++ rest))))
+    ap₂ ◌∷◌ (part_within b prefix x.1 (joined_parts xs ++ rest) t p (p + n) next l to ∙ ap (λ (u : Ty). (u, x.1)) (sym h.0))
+    (even_read n t b rest xs (p + n) (prefix ++ x.1) e h.1 g.1 (length-append prefix x.1 ∙ (ap (λ m. m + length x.1) l ∙ to)) (next ∙ sym (append_assoc prefix x.1 (joined_parts xs ++ rest))))
 
 framed_rest : List ℕ → List ℕ → List ℕ
 framed_rest body ends = offsets (least_width (length body) (length ends)) ends
@@ -90,13 +84,13 @@ array_read : (t : Ty) (xs : List Part) → OneType t xs → HaveSizes xs → map
 unfolding packed cut spans
 array_read t xs h g = go (fixed_size t) refl
   where
-    fixed : (n : ℕ) → fixed_size t ≡ Some n → map (part_of (joined xs)) (children_at (length (joined xs)) (element_spans t (joined xs) (Some n))) ≡ xs
+    fixed : (n : ℕ) → fixed_size t ≡ Some n → map (part_of (joined_parts xs)) (children_at (length (joined_parts xs)) (element_spans t (joined_parts xs) (Some n))) ≡ xs
     fixed n e =
         let size = one_size n t xs e h g in
         let pos : 0 < n = fixed_size_pos t n e in
-        let whole : (length (joined xs) % n) ≡ 0 = ap (λ m. m % n) size ∙ mul-mod_left (length xs) n in
-        let count : length (joined xs) / n ≡ length xs = ap (λ m. m / n) size ∙ mul-div_cancel (length xs) pos in
-        rw (whole, count) (even_read n t (joined xs) [] xs 0 [] e h g refl (sym (append-nil (joined xs))))
+        let whole : (length (joined_parts xs) % n) ≡ 0 = ap (λ m. m % n) size ∙ mul-mod_left (length xs) n in
+        let count : length (joined_parts xs) / n ≡ length xs = ap (λ m. m / n) size ∙ mul-div_cancel (length xs) pos in
+        rw (whole, count) (even_read n t (joined_parts xs) [] xs 0 [] e h g refl (sym (append-nil (joined_parts xs))))
 
     go : (f : Option ℕ) → fixed_size t ≡ f → map (part_of (array_bytes xs f)) (children_at (length (array_bytes xs f)) (element_spans t (array_bytes xs f) f)) ≡ xs
     go None e = framed_array t xs h
@@ -135,10 +129,6 @@ tuple_read t xs h g = go (fixed_size t) refl
         let b = tuple_bytes xs (Some n) in
         ap (λ (ss : List (Ty × Span)). map (part_of b) (children_at (length b) ss)) (fixed_tuple t xs n h e (g n e))
         ∙ recovered b (zeros (n - length (body_from 0 xs))) xs 0 [] refl refl
-
-round_up-zero : (a : ℕ) → 0 < a → round_up a 0 ≡ 0
-unfolding round_up
-round_up-zero a h = let less : (0 + (a - 1)) / a ≡ 0 = div-eq_of_lt (let k : 0 + (a - 1) < a = omega arith in k) in rw less (omega arith)
 
 entry_end : (k : Basic) (t : Ty) → option_and_then (λ p. option_map (λ s. round_up (alignment t) p + s) (fixed_size t)) (basic_size k) ≡ fixed_end (member (basic k) (member t end)) 0
 unfolding fixed_end alignment
@@ -190,10 +180,6 @@ nothing_read t = ap (λ (ss : List (Ty × Span)). map (part_of []) (children_at 
 abbrev NoZero : List ℕ → Type 0
 NoZero s = AllByRecursion (λ c. 0 < c) s
 
-no_zero-append : (xs ys : List ℕ) → NoZero xs → NoZero ys → NoZero (xs ++ ys)
-no_zero-append [] ys h g = g
-no_zero-append (x ∷ xs) ys h g = (h.0, no_zero-append xs ys h.1 g)
-
 letter_pos : (k : Basic) → 0 < letter k
 letter_pos boolean = omega arith
 letter_pos byte = omega arith
@@ -217,22 +203,22 @@ mutual
   no_zero-spelling variant = (omega arith, tt)
   no_zero-spelling (array t) = (omega arith, no_zero-spelling t)
   no_zero-spelling (maybe t) = (omega arith, no_zero-spelling t)
-  no_zero-spelling (tuple ts) = (omega arith, no_zero-append (spellings ts) (41 ∷ []) (no_zero-spellings ts) (omega arith, tt))
-  no_zero-spelling (entry k t) = (omega arith, (letter_pos k, no_zero-append (spelling t) (125 ∷ []) (no_zero-spelling t) (omega arith, tt)))
+  no_zero-spelling (tuple ts) = (omega arith, all_append (λ c. 0 < c) (spellings ts) (41 ∷ []) (no_zero-spellings ts) (omega arith, tt))
+  no_zero-spelling (entry k t) = (omega arith, (letter_pos k, all_append (λ c. 0 < c) (spelling t) (125 ∷ []) (no_zero-spelling t) (omega arith, tt)))
 
   no_zero-spellings : (ts : Types) → NoZero (spellings ts)
   no_zero-spellings end = tt
-  no_zero-spellings (member t ts) = no_zero-append (spelling t) (spellings ts) (no_zero-spelling t) (no_zero-spellings ts)
+  no_zero-spellings (member t ts) = all_append (λ c. 0 < c) (spelling t) (spellings ts) (no_zero-spelling t) (no_zero-spellings ts)
 
 without_zero : (s : List ℕ) → NoZero s → at_last_zero s ≡ None
 unfolding at_last_zero
 without_zero [] h = refl
-without_zero (c ∷ cs) h = let no : (c == 0) ≡ false = ne_eqb c 0 (omega (arith, h.0)) in ap (add_front c cs) (without_zero cs h.1) ∙ rw no refl
+without_zero (c ∷ cs) h = let no : (c == 0) ≡ false = ne_eqb c 0 (omega (arith, h.0)) in ap (add_first c cs) (without_zero cs h.1) ∙ rw no refl
 
 at_zero : (bs s : List ℕ) → NoZero s → at_last_zero (bs ++ 0 ∷ s) ≡ Some (bs, s)
 unfolding at_last_zero
-at_zero [] s h = ap (add_front 0 s) (without_zero s h)
-at_zero (c ∷ cs) s h = ap (add_front c (cs ++ 0 ∷ s)) (at_zero cs s h)
+at_zero [] s h = ap (add_first 0 s) (without_zero s h)
+at_zero (c ∷ cs) s h = ap (add_first c (cs ++ 0 ∷ s)) (at_zero cs s h)
 
 variant_read : (t : Ty) (bs : List ℕ) → is_within_limits t (spelling t) ≡ true → map (part_of (packed variant ((t, bs) ∷ []))) (cut variant (packed variant ((t, bs) ∷ []))) ≡ (t, bs) ∷ []
 unfolding packed cut spans
@@ -357,12 +343,8 @@ packed_entry : (k : Basic) (t : Ty) (xs : List Part) → packed (entry k t) xs �
 unfolding packed
 packed_entry k t xs = refl
 
--- the children that are read
-abbrev pub read_parts : Ty → List ℕ → List Part
-read_parts t b = map (part_of b) (cut t b)
-
-pub node_read : (t : Ty) (vs : Trees) → MayHold t vs → AreValues vs → read_parts t (packed t (encoded_parts vs)) ≡ encoded_parts vs
-unfolding encoded_parts
+pub node_read : (t : Ty) (vs : Trees) → MayHold t vs → AreValues vs → parts t (packed t (encoded_parts vs)) ≡ encoded_parts vs
+unfolding encoded_parts parts
 node_read (basic k) vs h g = absurd h
 node_read variant none h g = absurd h
 node_read variant (first v none) h g = variant_read (type_of v) (encode v) h
@@ -374,14 +356,14 @@ node_read (maybe t) (first v (first u vs)) h g = absurd h
 node_read (tuple ts) vs h g =
     let xs = encoded_parts vs in
     let types : part_types xs ≡ ts = types-parts vs ∙ h in
-    ap (read_parts (tuple ts)) (packed_tuple ts xs)
+    ap (parts (tuple ts)) (packed_tuple ts xs)
     ∙ (ap (map (part_of (tuple_bytes xs (fixed_size (tuple ts))))) (cut_tuple ts (tuple_bytes xs (fixed_size (tuple ts))))
     ∙ (ap (λ (us : Types). map (part_of (tuple_bytes xs (fixed_size (tuple ts)))) (children_at (length (tuple_bytes xs (fixed_size (tuple ts)))) (tuple_spans (tuple ts) us (tuple_bytes xs (fixed_size (tuple ts)))))) (sym types)
     ∙ tuple_read (tuple ts) xs (sizes_of_values vs g) (tuple_holds ts xs types)))
 node_read (entry k t) vs h g =
     let xs = encoded_parts vs in
     let types : part_types xs ≡ member (basic k) (member t end) = types-parts vs ∙ h in
-    ap (read_parts (entry k t)) (packed_entry k t xs)
+    ap (parts (entry k t)) (packed_entry k t xs)
     ∙ (ap (map (part_of (tuple_bytes xs (fixed_size (entry k t))))) (cut_entry k t (tuple_bytes xs (fixed_size (entry k t))))
     ∙ (ap (λ (us : Types). map (part_of (tuple_bytes xs (fixed_size (entry k t)))) (children_at (length (tuple_bytes xs (fixed_size (entry k t)))) (tuple_spans (entry k t) us (tuple_bytes xs (fixed_size (entry k t)))))) (sym types)
     ∙ tuple_read (entry k t) xs (sizes_of_values vs g) (entry_holds k t xs types)))
@@ -394,14 +376,15 @@ tree_node f (maybe t) b vs h = refl
 tree_node f (tuple ts) b vs h = refl
 tree_node f (entry k t) b vs h = refl
 
-node_case : (t : Ty) (vs : Trees) → MayHold t vs → AreValues vs → each_of (encoded_parts vs) ≡ vs → decode t (encode (node t vs)) ≡ node t vs
+node_case : (t : Ty) (vs : Trees) → MayHold t vs → AreValues vs → part_trees (encoded_parts vs) ≡ vs → decode t (encode (node t vs)) ≡ node t vs
+unfolding parts
 node_case t vs h g same =
     let b = packed t (encoded_parts vs) in
-    let f = λ (c : Child). decode c.type (bytes_of b c) in
+    let f = λ (c : Child). decode c.type (child_bytes b c) in
     ap (decode t) (node_encode t vs)
     ∙ (decode_children t b
     ∙ (tree_node f t b vs h
-    ∙ ap (node t) (each-parts b (cut t b) ∙ (ap each_of (node_read t vs h g) ∙ same))))
+    ∙ ap (node t) (each_part b (cut t b) ∙ (ap part_trees (node_read t vs h g) ∙ same))))
 
 number_case : (k : Basic) (n : ℕ) → IsNumber k n → decode (basic k) (encode (number k n)) ≡ number k n
 unfolding encode
@@ -416,11 +399,11 @@ mutual
   decode-encode : (v : Tree) → IsValue v → decode (type_of v) (encode v) ≡ v
   decode-encode (number k n) h = number_case k n h
   decode-encode (text k s) h = text_case k s h
-  decode-encode (node t vs) h = node_case t vs h.0 h.1 (each_of-parts vs h.1)
+  decode-encode (node t vs) h = node_case t vs h.0 h.1 (trees_of-parts vs h.1)
 
-  each_of-parts : (vs : Trees) → AreValues vs → each_of (encoded_parts vs) ≡ vs
-  each_of-parts none h = ap each_of parts_none
-  each_of-parts (first v vs) h = ap each_of (parts_first v vs) ∙ ap₂ first (decode-encode v h.0) (each_of-parts vs h.1)
+  trees_of-parts : (vs : Trees) → AreValues vs → part_trees (encoded_parts vs) ≡ vs
+  trees_of-parts none h = ap part_trees parts_none
+  trees_of-parts (first v vs) h = ap part_trees (parts_first v vs) ∙ ap₂ first (decode-encode v h.0) (trees_of-parts vs h.1)
 
 -- at the type of a value
 pub round_trip : (t : Ty) (v : Tree) → HasType v t → decode t (encode v) ≡ v

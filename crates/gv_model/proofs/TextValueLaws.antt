@@ -6,12 +6,12 @@ use Rattle.gv_model.specs.Tree.{Tree, Trees, type_of}
 use Rattle.gv_model.specs.Ty.Basic.{boolean, byte, int16, uint16, int32, uint32, int64, uint64, handle, double, string, path, signature}
 use Rattle.gv_model.specs.Tree.Tree.{text}
 use Rattle.gv_model.specs.Tree.Trees.{none as no_tree}
-use Rattle.gv_model.specs.Texts.{is_path, is_signature}
+use Rattle.gv_model.specs.Texts.{is_object_path, is_signature}
 use Rattle.gv_model.specs.Literals.ValueFault.{bad_object_path, bad_signature}
 use Rattle.gv_model.specs.Syntax.{Syntax}
 use Rattle.gv_model.specs.Syntax.Syntax.{truth, integer, quoted, bytes, list, tuple_of, dictionary, lone, boxed, just, nothing, at_type, keyword}
 use Rattle.gv_model.specs.Chosen.{Choice}
-use Rattle.gv_model.specs.Literals.{ValueFault, integer_at, or_out_of_range, text_at, byte_trees}
+use Rattle.gv_model.specs.Literals.{ValueFault, integer_at, or_out_of_range, text_at, byte_string_trees}
 use Rattle.gv_model.specs.TextValues.{literal_value, at_maybes, at_basic, at_array, at_tuple, at_entry, at_maybe, in_node, only_one, at_variant, with_first, elements, members_of, entries}
 
 -- Ok gives a tree of that type
@@ -79,7 +79,7 @@ chosen_type true v e t h = h
 chosen_type false v e t h = tt
 
 text_type : (s : List ℕ) (k : Basic) → OfType (text_at k s) (basic k)
-text_type s path = chosen_type (is_path s) (text path s) bad_object_path (basic path) refl
+text_type s path = chosen_type (is_object_path s) (text path s) bad_object_path (basic path) refl
 text_type s signature = chosen_type (is_signature s) (text signature s) bad_signature (basic signature) refl
 text_type s _ = refl
 
@@ -90,7 +90,7 @@ value_type choose (truth true) t = maybes_type _ (basic_type _ (λ k. refl)) t
 value_type choose (truth false) t = maybes_type _ (basic_type _ (λ k. refl)) t
 value_type choose (integer b n) t = maybes_type (at_basic (λ k. integer_at k b n)) (basic_type (λ k. integer_at k b n) (integer_type b n)) t
 value_type choose (quoted s) t = maybes_type (at_basic (λ k. text_at k s)) (basic_type (λ k. text_at k s) (text_type s)) t
-value_type choose (bytes s) t = maybes_type (at_array (λ u. Ok (byte_trees s))) (array_type (λ u. Ok (byte_trees s))) t
+value_type choose (bytes s) t = maybes_type (at_array (λ u. Ok (byte_string_trees s))) (array_type (λ u. Ok (byte_string_trees s))) t
 value_type choose (list xs) t = maybes_type (at_array (elements choose xs)) (array_type (elements choose xs)) t
 value_type choose (tuple_of xs) t = maybes_type (at_tuple (members_of choose xs)) (tuple_type (members_of choose xs)) t
 value_type choose (dictionary ps) t = maybes_type (at_array (entries choose ps)) (array_type (entries choose ps)) t

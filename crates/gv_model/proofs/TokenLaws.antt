@@ -3,16 +3,16 @@ use Rattle.std.proofs.Common.{◌≡◌, ◌≤◌, ◌<◌, ℕ, zero, suc, ◌
 use Rattle.gv_model.specs.Ty.{Ty}
 use Rattle.gv_model.specs.Tokens.{Placed, Token, Mark, Word}
 use Rattle.gv_model.specs.TextFault.{Fault}
-use Rattle.gv_model.specs.Strings.{Part, string_from, with_part, in_front, quoted_token, part, bytes_behind}
-use Rattle.gv_model.specs.Lexing.{token_at, type_placed, mark_or_fault, Begins, EndsWith, Lexes, blanks, Start, start, token_by, type_in_front, mark_of}
+use Rattle.gv_model.specs.Strings.{StringStep, string_from, with_part, with_prefix, quoted_token, part, bytes_after}
+use Rattle.gv_model.specs.Lexing.{token_at, type_placed, mark_or_fault, Begins, EndsWith, Lexes, blanks, Start, start, token_by, type_prefix, mark_of_byte}
 use Rattle.gv_model.specs.Words.{word_token, word_among, words}
-use Rattle.gv_model.specs.Numerals.{number_token, run_of, run_behind, begins_hex, without_sign, number_of}
-use Rattle.gv_model.specs.Characters.{front_of, is_blank, is_word_byte}
-use Rattle.gv_model.specs.Lexed.{lexed, Lexed, item_at, bytes_taken, with_item}
+use Rattle.gv_model.specs.Numerals.{number_token, run_of, run_after, begins_hex, without_sign, number_of}
+use Rattle.gv_model.specs.Characters.{prefix_of, is_blank, is_word_byte}
+use Rattle.gv_model.specs.Lexed.{lexed, Lexed, lexeme_at, bytes_taken, with_item}
 use Rattle.gv_model.specs.Lexing.Start.{of_string, of_byte_string, of_word, of_number, of_type, of_mark}
 use Rattle.gv_model.specs.Tokens.Token.{string_token, byte_string}
-use Rattle.gv_model.specs.Strings.Part.{stands, closes, faulty}
-use Rattle.gv_model.specs.Lexed.Item.{blank, item}
+use Rattle.gv_model.specs.Strings.StringStep.{denotes, closes, faulty}
+use Rattle.gv_model.specs.Lexed.Lexeme.{blank, item}
 
 -- A token takes a byte at least
 
@@ -24,12 +24,12 @@ abbrev pub Past : ℕ → Result (List ℕ × ℕ) Fault → Type 0
 Past at (Ok s) = at < s.1
 Past at (Err e) = Unit {0}
 
-past_front : (at : ℕ) (s : List ℕ) (r : Result (List ℕ × ℕ) Fault) → Past (suc at) r → Past at (in_front s r)
-past_front at s (Ok x) h = omega arith
-past_front at s (Err e) h = tt
+past_prefix : (at : ℕ) (s : List ℕ) (r : Result (List ℕ × ℕ) Fault) → Past (suc at) r → Past at (with_prefix s r)
+past_prefix at s (Ok x) h = omega arith
+past_prefix at s (Err e) h = tt
 
-past_part : (at : ℕ) (p : Part) (r : Result (List ℕ × ℕ) Fault) → Past (suc at) r → Past at (with_part at p r)
-past_part at (stands s n) r h = past_front at s r h
+past_part : (at : ℕ) (p : StringStep) (r : Result (List ℕ × ℕ) Fault) → Past (suc at) r → Past at (with_part at p r)
+past_part at (denotes s n) r h = past_prefix at s r h
 past_part at closes r h = omega arith
 past_part at (faulty c a b) r h = tt
 
@@ -42,7 +42,7 @@ unfolding string_from
 string_past of_bytes quote from at zero [] = tt
 string_past of_bytes quote from at (suc k) [] = tt
 string_past of_bytes quote from at (suc k) (c ∷ cs) = past_less at _ (string_past of_bytes quote from (suc at) k cs)
-string_past of_bytes quote from at zero (c ∷ cs) = past_part at (part of_bytes quote c cs) (string_from of_bytes quote from (suc at) (bytes_behind (part of_bytes quote c cs)) cs) (string_past of_bytes quote from (suc at) (bytes_behind (part of_bytes quote c cs)) cs)
+string_past of_bytes quote from at zero (c ∷ cs) = past_part at (part of_bytes quote c cs) (string_from of_bytes quote from (suc at) (bytes_after (part of_bytes quote c cs)) cs) (string_past of_bytes quote from (suc at) (bytes_after (part of_bytes quote c cs)) cs)
 
 quoted_ahead : (f : List ℕ → Token) (at from : ℕ) (r : Result (List ℕ × ℕ) Fault) → at ≤ from → Past from r → Ahead at (quoted_token f at r)
 quoted_ahead f at from (Ok s) h g = omega arith
@@ -68,10 +68,10 @@ start_ahead : (k : Start) (at c : ℕ) (cs : List ℕ) → Ahead at (token_by k 
 start_ahead of_string at c cs = quoted_ahead string_token at (suc at) (string_from false c at (suc at) 0 cs) (omega arith) (string_past false c at (suc at) 0 cs)
 start_ahead of_byte_string at c [] = tt
 start_ahead of_byte_string at c (q ∷ cs) = quoted_ahead byte_string at (suc (suc at)) (string_from true q (suc at) (suc (suc at)) 0 cs) (omega arith) (string_past true q (suc at) (suc (suc at)) 0 cs)
-start_ahead of_word at c cs = word_ahead at c (front_of is_word_byte cs) (word_among words (c ∷ front_of is_word_byte cs))
-start_ahead of_number at c cs = number_ahead at c (run_behind (begins_hex (without_sign (c ∷ cs))) c cs) (number_of (without_sign (run_of c cs)))
-start_ahead of_type at c cs = type_ahead at (type_in_front [] cs)
-start_ahead of_mark at c cs = mark_ahead at c (mark_of c)
+start_ahead of_word at c cs = word_ahead at c (prefix_of is_word_byte cs) (word_among words (c ∷ prefix_of is_word_byte cs))
+start_ahead of_number at c cs = number_ahead at c (run_after (begins_hex (without_sign (c ∷ cs))) c cs) (number_of (without_sign (run_of c cs)))
+start_ahead of_type at c cs = type_ahead at (type_prefix [] cs)
+start_ahead of_mark at c cs = mark_ahead at c (mark_of_byte c)
 
 token_ahead : (at c : ℕ) (cs : List ℕ) → Ahead at (token_at at c cs)
 unfolding token_at
@@ -122,22 +122,22 @@ one_lexing at s (t ∷ ts) (u ∷ us) f g h k =
 -- And one at least
 
 blanks_of_blank : (c : ℕ) (cs : List ℕ) → is_blank c ≡ true → blanks (c ∷ cs) ≡ suc (blanks cs)
-unfolding front_of
+unfolding prefix_of
 blanks_of_blank c cs e = rw e refl
 
 blanks_of_none : (c : ℕ) (cs : List ℕ) → is_blank c ≡ false → blanks (c ∷ cs) ≡ 0
-unfolding front_of
+unfolding prefix_of
 blanks_of_none c cs e = rw e refl
 
 drop_later : (c m n : ℕ) (cs : List ℕ) → m ≡ suc n → drop m (c ∷ cs) ≡ drop n cs
 drop_later c m n cs e = rw e refl
 
-behind_blank : (at c : ℕ) (cs : List ℕ) (ts : List Placed) (f : Option Fault) → is_blank c ≡ true → Lexes (suc at) cs ts f → Lexes at (c ∷ cs) ts f
-behind_blank at c cs [] f e h =
+after_blank : (at c : ℕ) (cs : List ℕ) (ts : List Placed) (f : Option Fault) → is_blank c ≡ true → Lexes (suc at) cs ts f → Lexes at (c ∷ cs) ts f
+after_blank at c cs [] f e h =
     let place : at + blanks (c ∷ cs) ≡ suc at + blanks cs = (let b = blanks_of_blank c cs e in omega arith) in
     let rest : drop (blanks (c ∷ cs)) (c ∷ cs) ≡ drop (blanks cs) cs = drop_later c _ _ cs (blanks_of_blank c cs e) in
     subst (λ (n : ℕ). EndsWith n (drop (blanks (c ∷ cs)) (c ∷ cs)) f) (sym place) (subst (λ (s : List ℕ). EndsWith (suc at + blanks cs) s f) (sym rest) h)
-behind_blank at c cs (t ∷ ts) f e h =
+after_blank at c cs (t ∷ ts) f e h =
     let place : at + blanks (c ∷ cs) ≡ suc at + blanks cs = (let b = blanks_of_blank c cs e in omega arith) in
     let rest : drop (blanks (c ∷ cs)) (c ∷ cs) ≡ drop (blanks cs) cs = drop_later c _ _ cs (blanks_of_blank c cs e) in
     let ahead : suc at + blanks cs < t.stop = begins_ahead _ _ t h.0 in (
@@ -145,33 +145,33 @@ behind_blank at c cs (t ∷ ts) f e h =
       subst (λ (s : List ℕ). Lexes t.stop s ts f) (sym (drop_later c (t.stop - at) (t.stop - suc at) cs (omega arith))) h.1,
     )
 
--- a token in front, or a fault
+-- a token first, or a fault
 at_token : (at c : ℕ) (cs : List ℕ) → is_blank c ≡ false → (r : Result Placed Fault) → token_at at c cs ≡ r → (later : Lexed)
     → ((t : Placed) → r ≡ Ok t → Lexes t.stop (drop (t.stop - suc at) cs) later.0 later.1)
     → Lexes at (c ∷ cs) (with_item (item r) later).0 (with_item (item r) later).1
 at_token at c cs e (Ok t) is later h =
     let none = blanks_of_none c cs e in
-    let front : Begins (at + 0) (c ∷ cs) t = subst (λ (n : ℕ). Begins n (c ∷ cs) t) (let z : at ≡ at + 0 = omega arith in z) is in
+    let prefix : Begins (at + 0) (c ∷ cs) t = subst (λ (n : ℕ). Begins n (c ∷ cs) t) (let z : at ≡ at + 0 = omega arith in z) is in
     let ahead : at < t.stop = begins_ahead at (c ∷ cs) t is in (
-      subst (λ (n : ℕ). Begins (at + n) (drop n (c ∷ cs)) t) (sym none) front,
+      subst (λ (n : ℕ). Begins (at + n) (drop n (c ∷ cs)) t) (sym none) prefix,
       subst (λ (s : List ℕ). Lexes t.stop s later.0 later.1) (sym (drop_later c (t.stop - at) (t.stop - suc at) cs (omega arith))) (h t refl),
     )
 at_token at c cs e (Err x) is later h =
     let none = blanks_of_none c cs e in
-    let front : EndsWith (at + 0) (c ∷ cs) (Some x) = subst (λ (n : ℕ). EndsWith n (c ∷ cs) (Some x)) (let z : at ≡ at + 0 = omega arith in z) (x, is, refl) in
-    subst (λ (n : ℕ). EndsWith (at + n) (drop n (c ∷ cs)) (Some x)) (sym none) front
+    let prefix : EndsWith (at + 0) (c ∷ cs) (Some x) = subst (λ (n : ℕ). EndsWith n (c ∷ cs) (Some x)) (let z : at ≡ at + 0 = omega arith in z) (x, is, refl) in
+    subst (λ (n : ℕ). EndsWith (at + n) (drop n (c ∷ cs)) (Some x)) (sym none) prefix
 
 abbrev Right : ℕ → List ℕ → Lexed → Type 0
 Right at s l = Lexes at s l.0 l.1
 
-lexed_item : (at c : ℕ) (cs : List ℕ) → lexed at 0 (c ∷ cs) ≡ with_item (item_at at c cs) (lexed (suc at) (bytes_taken at (item_at at c cs)) cs)
+lexed_item : (at c : ℕ) (cs : List ℕ) → lexed at 0 (c ∷ cs) ≡ with_item (lexeme_at at c cs) (lexed (suc at) (bytes_taken at (lexeme_at at c cs)) cs)
 unfolding lexed
 lexed_item at c cs = refl
 
 first_item : (at c : ℕ) (cs : List ℕ) → ((k : ℕ) → Right (suc at + k) (drop k cs) (lexed (suc at) k cs)) → (b : Bool) → is_blank c ≡ b → (r : Result Placed Fault) → token_at at c cs ≡ r
     → Right at (c ∷ cs) (with_item (cond b blank (item r)) (lexed (suc at) (bytes_taken at (cond b blank (item r))) cs))
 first_item at c cs ih true e r is =
-    behind_blank at c cs _ _ e (subst (λ (n : ℕ). Right n cs (lexed (suc at) 0 cs)) (let z : suc at + 0 ≡ suc at = omega arith in z) (ih 0))
+    after_blank at c cs _ _ e (subst (λ (n : ℕ). Right n cs (lexed (suc at) 0 cs)) (let z : suc at + 0 ≡ suc at = omega arith in z) (ih 0))
 first_item at c cs ih false e (Ok t) is =
     let ahead : at < t.stop = begins_ahead at (c ∷ cs) t is in
     at_token at c cs e (Ok t) is (lexed (suc at) (t.stop - suc at) cs)
@@ -180,7 +180,7 @@ first_item at c cs ih false e (Ok t) is =
 first_item at c cs ih false e (Err x) is = at_token at c cs e (Err x) is (lexed (suc at) 0 cs) (λ u same. absurd (no_ok_err u x (sym same)))
 
 pub lexed_right : (at k : ℕ) (s : List ℕ) → Lexes (at + k) (drop k s) (lexed at k s).0 (lexed at k s).1
-unfolding lexed front_of
+unfolding lexed prefix_of
 lexed_right at zero [] = refl
 lexed_right at (suc k) [] = refl
 lexed_right at (suc k) (c ∷ cs) = subst (λ (n : ℕ). Right n (drop k cs) (lexed (suc at) k cs)) (let z : suc at + k ≡ at + suc k = omega arith in z) (lexed_right (suc at) k cs)

@@ -10,7 +10,7 @@ use Rattle.gv_model.specs.Admits.{IsNumberType, IsTextType, IsMaybeOf}
 use Rattle.gv_model.specs.Order.{Below, AreBelow, BasicBelow}
 use Rattle.gv_model.specs.Chosen.{Choice, Chooses, Chosen}
 use Rattle.gv_model.specs.Chosen.Choice.{is, no_common_type, ambiguous}
-use Rattle.gv_model.proofs.LeastTypeLaws.{below_inside, basic_below_refl}
+use Rattle.gv_model.proofs.LeastTypeLaws.{basic_below_refl, maybe_back}
 
 int32_same : (k : Basic) → BasicBelow int32 k → BasicBelow k int32 → int32 ≡ k
 int32_same int32 h g = refl
@@ -27,16 +27,12 @@ basic_same int32 k h g = int32_same k h g
 basic_same string k h g = string_same k h g
 basic_same _ k h g = h
 
-back_inside : (t u : Ty) → Below (maybe t) (maybe u) → Below t u
-back_inside t u (inl h) = below_inside t u h
-back_inside t u (inr h) = h
-
 mutual
   pub below_same : (t u : Ty) → Below t u → Below u t → t ≡ u
   below_same (basic j) (basic k) h g = ap basic (basic_same j k h g)
   below_same variant variant h g = refl
   below_same (array t) (array u) h g = ap array (below_same t u h g)
-  below_same (maybe t) (maybe u) h g = ap maybe (below_same t u (back_inside t u h) (back_inside u t g))
+  below_same (maybe t) (maybe u) h g = ap maybe (below_same t u (maybe_back t u h) (maybe_back u t g))
   below_same (tuple ts) (tuple us) h g = ap tuple (each_same ts us h g)
   below_same (entry j t) (entry k u) h g = ap (λ i. entry i t) (basic_same j k h.0 g.0) ∙ ap (entry k) (below_same t u h.1 g.1)
   below_same _ (maybe u) h g = absurd g

@@ -1,12 +1,12 @@
 -- A text of a type is read as that type, and no other text is.
-use Rattle.std.proofs.Common.{ℕ, ◌≡◌, List, [], ◌∷◌, ◌++◌, Some, refl, sym, ap, ◌∙◌, subst, append_assoc, append-nil, true}
+use Rattle.std.proofs.Common.{ℕ, ◌≡◌, List, [], ◌∷◌, ◌++◌, Some, refl, sym, ap, ◌∙◌, subst, append_assoc, append-nil, true, ◌≤◌, length, arith}
 use Rattle.std.proofs.lemmas.List.{append_cancel_left}
-use Rattle.gv_model.specs.Ty.{Ty, Basic, Types, spelling, spellings, letter as letter_of}
+use Rattle.gv_model.specs.Ty.{Ty, Basic, Types, spelling, spellings, letter as letter_of, nesting}
 use Rattle.gv_model.specs.Ty.Ty.{basic, variant, array, maybe, tuple, entry}
 use Rattle.gv_model.specs.Ty.Types.{end, member}
 use Rattle.gv_model.specs.Ty.Basic.{boolean, byte, int16, uint16, int32, uint32, int64, uint64, handle, double, string, path, signature}
-use Rattle.gv_model.specs.TypeText.{Seen, type_of_text, seen, mark, tuple_before, is_within_limits, before, array_before, maybe_before, entry_before, member_before}
-use Rattle.gv_model.specs.TypeText.Mark.{letter}
+use Rattle.gv_model.specs.TypeText.{Seen, type_of_text, seen, mark, tuple_type_before, is_within_limits, mark_before, array_before, maybe_before, entry_before, member_before}
+use Rattle.gv_model.specs.TypeText.TypeMark.{letter}
 use Rattle.gv_model.specs.TypeText.Seen.{nothing, type, tuple_end, entry_end}
 
 pub mark_letter : (k : Basic) → mark (letter_of k) ≡ letter k
@@ -28,15 +28,15 @@ mark_letter signature = refl
 -- a letter is read as its type
 seen_letter : (k : Basic) (x : List ℕ) → seen (letter_of k ∷ x) ≡ type (basic k) (seen x)
 unfolding seen
-seen_letter k x = ap (λ m. before m (seen x)) (mark_letter k)
+seen_letter k x = ap (λ m. mark_before m (seen x)) (mark_letter k)
 
 -- types one after the other
 types_before : Types → Seen → Seen
 types_before end s = s
 types_before (member t ts) s = type t (types_before ts s)
 
-tuple_of_types : (ts : Types) (s : Seen) → tuple_before (types_before ts (tuple_end s)) ≡ type (tuple ts) s
-unfolding tuple_before types_before
+tuple_of_types : (ts : Types) (s : Seen) → tuple_type_before (types_before ts (tuple_end s)) ≡ type (tuple ts) s
+unfolding tuple_type_before types_before
 tuple_of_types end s = refl
 tuple_of_types (member t ts) s = ap (member_before t) (tuple_of_types ts s)
 
@@ -70,7 +70,7 @@ seen_entry_end x = refl
 
 tuple_case : (ts : Types) (x : List ℕ) → seen (spellings ts ++ 41 ∷ x) ≡ types_before ts (seen (41 ∷ x)) → seen (spelling (tuple ts) ++ x) ≡ type (tuple ts) (seen x)
 unfolding spelling seen mark
-tuple_case ts x h = ap (λ y. tuple_before (seen y)) (append_assoc (spellings ts) (41 ∷ []) x) ∙ (ap tuple_before h ∙ tuple_of_types ts (seen x))
+tuple_case ts x h = ap (λ y. tuple_type_before (seen y)) (append_assoc (spellings ts) (41 ∷ []) x) ∙ (ap tuple_type_before h ∙ tuple_of_types ts (seen x))
 
 entry_case : (k : Basic) (t : Ty) (x : List ℕ) → seen (spelling t ++ 125 ∷ x) ≡ type t (seen (125 ∷ x)) → seen (spelling (entry k t) ++ x) ≡ type (entry k t) (seen x)
 unfolding spelling
@@ -118,3 +118,13 @@ seen_type t = ap seen (sym (append-nil (spelling t))) ∙ seen-spelling t []
 pub type_of_text-spelling : (t : Ty) → is_within_limits t (spelling t) ≡ true → type_of_text (spelling t) ≡ Some t
 unfolding type_of_text
 type_of_text-spelling t h = rw (seen_type t, h) refl
+
+-- a type's text tells the type
+pub one_spelling : (t u : Ty) → spelling t ≡ spelling u → t ≡ u
+one_spelling t u e = (one_reading t u [] [] (ap (λ w. w ++ []) e)).0
+
+pub limits_of : (t : Ty) (w : List ℕ) → is_within_limits t w ≡ true → (nesting t ≤ 128) × (length w ≤ 67108864)
+limits_of t w h = (grind arith, grind arith)
+
+pub within_limits : (t : Ty) (w : List ℕ) → nesting t ≤ 128 → length w ≤ 67108864 → is_within_limits t w ≡ true
+within_limits t w h g = grind arith

@@ -1,8 +1,9 @@
 -- The type that a checked text spells, and what lies within its limits.
-use Rattle.std.proofs.Common.{ℕ, zero, suc, ◌≤◌, ◌<◌, ◌≡◌, List, [], ◌∷◌, ◌++◌, length, Option, Some, None, true, false, refl, ap, subst, arith}
+use Rattle.std.proofs.Common.{ℕ, zero, suc, ◌≤◌, ◌<◌, ◌≡◌, List, [], ◌∷◌, ◌++◌, length, Option, Some, None, true, refl, ap, subst, arith}
 use Rattle.std.specs.Prelude.{is_some, unwrap_or}
 use Rattle.std.specs.Str.{IsAscii}
 use Rattle.std.proofs.lemmas.Str.{IsAscii-append}
+use Rattle.std.proofs.lemmas.Bool.{false≢true}
 use Rattle.gv_model.specs.Ty.{Ty, Types, Basic, letter, spelling, spellings, nesting}
 use Rattle.gv_model.specs.Ty.Ty.{basic, variant, array, maybe, tuple, entry}
 use Rattle.gv_model.specs.Ty.Types.{end, member}
@@ -14,10 +15,7 @@ pub spelling-type_at : (w : List ℕ) → is_type w ≡ true → (spelling (type
 spelling-type_at w h = go (type_of_text w) refl h
   where
     go : (o : Option Ty) → type_of_text w ≡ o → is_some o ≡ true → (spelling (unwrap_or o (tuple end)) ≡ w) × (is_within_limits (unwrap_or o (tuple end)) w ≡ true)
-    go None e k = absurd (false_true k)
-      where
-        false_true : false ≡ true → ⊥
-        false_true p = cc
+    go None e k = absurd (false≢true k)
     go (Some t) e k = spelling_of_read w t e
 
 -- a text of a type within the limits

@@ -1,16 +1,17 @@
 -- What is read as a type is that type's text.
 use Rattle.std.proofs.Common.{ℕ, ◌≡◌, List, [], ◌∷◌, ◌++◌, Some, None, refl, sym, ap, ◌∙◌, subst, append_assoc, append-nil, Bool, true, false, cond, ◌==◌, if◌then◌else◌, eqb-true}
 use Rattle.std.specs.Prelude.{◌↔◌}
-use Rattle.std.proofs.lemmas.Option.{option_and_then_some, cond_some}
+use Rattle.std.proofs.lemmas.Option.{option_and_then_some, cond_some, same_Some, none-some}
 use Rattle.gv_model.specs.Ty.{Ty, spelling, spellings, letter as letter_of}
 use Rattle.gv_model.specs.Ty.Ty.{basic, tuple}
-use Rattle.gv_model.specs.TypeText.{Mark, Seen, type_of_text, seen, mark, tuple_before, is_within_limits, one_type, before, array_before, maybe_before, entry_before, member_before}
-use Rattle.gv_model.specs.TypeText.Mark.{letter, of_variant, of_array, of_maybe, open_tuple, close_tuple, open_entry, close_entry, other}
+use Rattle.gv_model.specs.TypeText.{TypeMark, Seen, type_of_text, seen, mark, tuple_type_before, is_within_limits, one_type, mark_before, array_before, maybe_before, entry_before, member_before}
+use Rattle.gv_model.specs.TypeText.TypeMark.{letter, of_variant, of_array, of_maybe, open_tuple, close_tuple, open_entry, close_entry, other}
 use Rattle.gv_model.specs.TypeText.Seen.{nothing, type, tuple_end, entry_end, wrong}
 use Rattle.gv_model.proofs.TypeTextLaws.{type_of_text-spelling}
+use Rattle.gv_model.proofs.ListLaws.{same_tail}
 
 -- the byte of a mark
-abbrev pub IsByteOf : Mark → ℕ → Type 0
+abbrev pub IsByteOf : TypeMark → ℕ → Type 0
 IsByteOf (letter k) c = c ≡ letter_of k
 IsByteOf of_variant c = c ≡ 118
 IsByteOf of_array c = c ≡ 97
@@ -21,7 +22,7 @@ IsByteOf open_entry c = c ≡ 123
 IsByteOf close_entry c = c ≡ 125
 IsByteOf other c = Unit {0}
 
-either : (c n : ℕ) (m rest : Mark) → (c ≡ n → IsByteOf m c) → IsByteOf rest c → IsByteOf (if c == n then m else rest) c
+either : (c n : ℕ) (m rest : TypeMark) → (c ≡ n → IsByteOf m c) → IsByteOf rest c → IsByteOf (if c == n then m else rest) c
 either c n m rest f h = go (c == n) refl
   where
     go : (b : Bool) → (c == n) ≡ b → IsByteOf (cond b m rest) c
@@ -62,19 +63,16 @@ entry_shows (type (basic k) (type t (entry_end s))) w h =
     (tail.0, ap (λ x. 123 ∷ x) (h.1 ∙ ap (λ x. letter_of k ∷ x) (h.2.1 ∙ (ap (λ x. spelling t ++ x) tail.1 ∙ sym (append_assoc (spelling t) (125 ∷ []) tail.0)))), tail.2)
 entry_shows _ w h = tt
 
-inner_text : (x y : List ℕ) → 40 ∷ x ≡ 40 ∷ y → x ≡ y
-inner_text x y e = cc
-
 member_shows : (t : Ty) (s : Seen) (w r : List ℕ) → w ≡ spelling t ++ r → Shows s (40 ∷ r) → Shows (member_before t s) (40 ∷ w)
 unfolding spelling
 member_shows t (type (tuple ts) s) w r e h =
-    (h.0, ap (λ x. 40 ∷ x) (e ∙ (ap (λ x. spelling t ++ x) (inner_text _ _ h.1) ∙ (sym (append_assoc (spelling t) (spellings ts ++ 41 ∷ []) h.0) ∙ ap (λ x. x ++ h.0) (sym (append_assoc (spelling t) (spellings ts) (41 ∷ [])))))), h.2)
+    (h.0, ap (λ x. 40 ∷ x) (e ∙ (ap (λ x. spelling t ++ x) (same_tail h.1) ∙ (sym (append_assoc (spelling t) (spellings ts ++ 41 ∷ []) h.0) ∙ ap (λ x. x ++ h.0) (sym (append_assoc (spelling t) (spellings ts) (41 ∷ [])))))), h.2)
 member_shows t _ w r e h = tt
 
-tuple_shows : (s : Seen) (w : List ℕ) → Shows s w → Shows (tuple_before s) (40 ∷ w)
-unfolding spelling tuple_before
+tuple_shows : (s : Seen) (w : List ℕ) → Shows s w → Shows (tuple_type_before s) (40 ∷ w)
+unfolding spelling tuple_type_before
 tuple_shows (tuple_end s) w h = (h.0, ap (λ x. 40 ∷ x) h.1, h.2)
-tuple_shows (type t s) w h = member_shows t (tuple_before s) w h.0 h.1 (tuple_shows s h.0 h.2)
+tuple_shows (type t s) w h = member_shows t (tuple_type_before s) w h.0 h.1 (tuple_shows s h.0 h.2)
 tuple_shows nothing w h = tt
 tuple_shows (entry_end s) w h = tt
 tuple_shows wrong w h = tt
@@ -82,13 +80,13 @@ tuple_shows wrong w h = tt
 at_byte : (s : Seen) (c d : ℕ) (w : List ℕ) → c ≡ d → Shows s (d ∷ w) → Shows s (c ∷ w)
 at_byte s c d w e h = subst (λ (x : ℕ). Shows s (x ∷ w)) (sym e) h
 
-before_shows : (m : Mark) (s : Seen) (c : ℕ) (w : List ℕ) → IsByteOf m c → Shows s w → Shows (before m s) (c ∷ w)
+before_shows : (m : TypeMark) (s : Seen) (c : ℕ) (w : List ℕ) → IsByteOf m c → Shows s w → Shows (mark_before m s) (c ∷ w)
 unfolding spelling
 before_shows (letter k) s c w e h = (w, ap (λ x. x ∷ w) e, h)
 before_shows of_variant s c w e h = (w, ap (λ x. x ∷ w) e, h)
 before_shows of_array s c w e h = at_byte (array_before s) c 97 w e (array_shows s w h)
 before_shows of_maybe s c w e h = at_byte (maybe_before s) c 109 w e (maybe_shows s w h)
-before_shows open_tuple s c w e h = at_byte (tuple_before s) c 40 w e (tuple_shows s w h)
+before_shows open_tuple s c w e h = at_byte (tuple_type_before s) c 40 w e (tuple_shows s w h)
 before_shows close_tuple s c w e h = (w, ap (λ x. x ∷ w) e, h)
 before_shows open_entry s c w e h = at_byte (entry_before s) c 123 w e (entry_shows s w h)
 before_shows close_entry s c w e h = (w, ap (λ x. x ∷ w) e, h)
@@ -100,14 +98,8 @@ seen_shows [] = refl
 seen_shows (c ∷ w) = before_shows (mark c) (seen w) c w (byte_of_mark c) (seen_shows w)
 
 one_shows : (s : Seen) (w : List ℕ) (t : Ty) → Shows s w → one_type s ≡ Some t → spelling t ≡ w
-one_shows (type u nothing) w t h e = let same : u ≡ t = some_parts e in ap spelling (sym same) ∙ (sym (append-nil (spelling u)) ∙ (ap (λ x. spelling u ++ x) (sym h.2) ∙ sym h.1))
-  where
-    some_parts : {x y : Ty} → Some x ≡ Some y → x ≡ y
-    some_parts p = cc
-one_shows _ w t h e = absurd (none_some e)
-  where
-    none_some : {x : Ty} → None ≡ Some x → ⊥
-    none_some p = cc
+one_shows (type u nothing) w t h e = let same : u ≡ t = same_Some u t e in ap spelling (sym same) ∙ (sym (append-nil (spelling u)) ∙ (ap (λ x. spelling u ++ x) (sym h.2) ∙ sym h.1))
+one_shows _ w t h e = absurd (none-some t e)
 
 -- a text that is read as a type within the limits is its spelling
 pub spelling_of_read : (w : List ℕ) (t : Ty) → type_of_text w ≡ Some t → (spelling t ≡ w) × (is_within_limits t w ≡ true)

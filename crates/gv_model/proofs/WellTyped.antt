@@ -16,7 +16,7 @@ use Rattle.gv_model.specs.Tree.Tree.{number, text}
 use Rattle.gv_model.specs.Typed.{IsValue, AreValues, MayHold, AllOf, types_of, IsNumber, HasType}
 use Rattle.gv_model.specs.Texts.{is_text}
 use Rattle.gv_model.specs.BasicValue.{basic_value, basic_of_size, text_or_default, text_in, number_in, bits_of, truth}
-use Rattle.gv_model.specs.Children.{Child, Span, bytes_of, children_at}
+use Rattle.gv_model.specs.Children.{Child, Span, child_bytes, children_at}
 use Rattle.gv_model.specs.Arrays.{element_spans}
 use Rattle.gv_model.specs.Maybes.{just_span}
 use Rattle.gv_model.specs.Tuples.{tuple_spans, is_other_size, empty_spans, member_spans}
@@ -39,7 +39,7 @@ bytes_drop zero b h = h
 bytes_drop (suc n) [] h = tt
 bytes_drop (suc n) (x ∷ b) h = bytes_drop n b h.1
 
-pub bytes_of_bytes : (b : List ℕ) (c : Child) → IsBytes b → IsBytes (bytes_of b c)
+pub bytes_of_bytes : (b : List ℕ) (c : Child) → IsBytes b → IsBytes (child_bytes b c)
 bytes_of_bytes b c h = bytes_take (c.to - c.from) (drop c.from b) (bytes_drop c.from b h)
 
 -- ---- types
@@ -76,7 +76,7 @@ type_of_tree f (tuple ts) b = refl
 type_of_tree f (entry k t) b = refl
 
 pub type_of-decode : (t : Ty) (b : List ℕ) → type_of (decode t b) ≡ t
-type_of-decode t b = ap type_of (decode_children t b) ∙ type_of_tree (λ c. decode c.type (bytes_of b c)) t b
+type_of-decode t b = ap type_of (decode_children t b) ∙ type_of_tree (λ c. decode c.type (child_bytes b c)) t b
 
 type_of_default_tree : (t : Ty) → type_of (default t) ≡ t
 unfolding default
@@ -90,7 +90,7 @@ type_of_default_tree (entry k t) = refl
 type_within : (n : ℕ) (t : Ty) (b : List ℕ) → type_of (decode_within n t b) ≡ t
 unfolding decode_within
 type_within zero t b = type_of_default_tree t
-type_within (suc n) t b = type_of_tree (λ c. decode_within n c.type (bytes_of b c)) t b
+type_within (suc n) t b = type_of_tree (λ c. decode_within n c.type (child_bytes b c)) t b
 
 -- ---- basic values
 
@@ -245,8 +245,8 @@ held_of_each f (maybe t) b h g = just_held f t (length b) (fixed_size t) g
 held_of_each f (tuple ts) b h g = types_of_each f (length b) (tuple_spans (tuple ts) ts b) g ∙ types-tuple (tuple ts) ts b
 held_of_each f (entry k t) b h g = types_of_each f (length b) (tuple_spans (entry k t) (member (basic k) (member t end)) b) g ∙ types-tuple (entry k t) (member (basic k) (member t end)) b
 
-pub children_held : (t : Ty) (b : List ℕ) → IsContainer t → MayHold t (each (λ c. decode c.type (bytes_of b c)) (cut t b))
-children_held t b h = held_of_each (λ c. decode c.type (bytes_of b c)) t b h (λ c. type_of-decode c.type (bytes_of b c))
+pub children_held : (t : Ty) (b : List ℕ) → IsContainer t → MayHold t (each (λ c. decode c.type (child_bytes b c)) (cut t b))
+children_held t b h = held_of_each (λ c. decode c.type (child_bytes b c)) t b h (λ c. type_of-decode c.type (child_bytes b c))
 
 tree_is_value : (f : Child → Tree) (t : Ty) (b : List ℕ) → IsBytes b → AtTypes f → Each (Fine f) (cut t b) → IsValue (tree_with f t b)
 tree_is_value f (basic k) b h g fine = basic_is_value k b h
@@ -283,8 +283,8 @@ within_is_value : (n : ℕ) (t : Ty) (b : List ℕ) → IsBytes b → IsValue (d
 unfolding decode_within
 within_is_value zero t b h = default_is_value t
 within_is_value (suc n) t b h =
-    let f = λ (c : Child). decode_within n c.type (bytes_of b c) in
-    tree_is_value f t b h (λ c. type_within n c.type (bytes_of b c)) (each_all f (λ c. (type_within n c.type (bytes_of b c), within_is_value n c.type (bytes_of b c) (bytes_of_bytes b c h))) (cut t b))
+    let f = λ (c : Child). decode_within n c.type (child_bytes b c) in
+    tree_is_value f t b h (λ c. type_within n c.type (child_bytes b c)) (each_all f (λ c. (type_within n c.type (child_bytes b c), within_is_value n c.type (child_bytes b c) (bytes_of_bytes b c h))) (cut t b))
 
 pub decode_is_value : (t : Ty) (b : List ℕ) → IsBytes b → IsValue (decode t b)
 unfolding decode

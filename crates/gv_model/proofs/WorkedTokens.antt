@@ -4,19 +4,19 @@ use lib.Utf8.{encode as encode_char}
 use Rattle.gv_model.specs.Ty.{spelling, nesting}
 use Rattle.gv_model.specs.Ty.Ty.{basic}
 use Rattle.gv_model.specs.Ty.Basic.{int64}
-use Rattle.gv_model.specs.TypeText.{type_of_text, seen, mark, tuple_before}
+use Rattle.gv_model.specs.TypeText.{type_of_text, seen, mark, tuple_type_before}
 use Rattle.gv_model.specs.Lexed.{lexed}
-use Rattle.gv_model.specs.Characters.{front_of, same_text}
-use Rattle.gv_model.specs.Numerals.{run_behind, number_behind}
+use Rattle.gv_model.specs.Characters.{prefix_of, same_text}
+use Rattle.gv_model.specs.Numerals.{run_after, number_after}
 use Rattle.gv_model.specs.Words.{word_among}
 use Rattle.gv_model.specs.Strings.{at_most, string_from}
-use Rattle.gv_model.specs.Lexing.{type_in_front, token_at}
+use Rattle.gv_model.specs.Lexing.{type_prefix, token_at}
 use Rattle.gv_model.specs.TextFault.Cause.{bad_token, unclosed, double_text}
 use Rattle.gv_model.specs.Tokens.Token.{mark as mark_token, integer_token, type_token, byte_string}
 use Rattle.gv_model.specs.Tokens.Mark.{open_list, close_list, comma}
 
 unfoldable pub lexing : ℕ
-unfolding encode_char spelling nesting type_of_text seen mark tuple_before lexed front_of same_text run_behind number_behind word_among at_most string_from type_in_front token_at
+unfolding encode_char spelling nesting type_of_text seen mark tuple_type_before lexed prefix_of same_text run_after number_after word_among at_most string_from type_prefix token_at
 lexing = 0
 
 nine_in_octal : lexed 0 0 (codes "09") ≡ ([], Some (record { cause = bad_token; start = 0; stop = 2 }))

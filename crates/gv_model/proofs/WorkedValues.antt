@@ -7,14 +7,14 @@ use Rattle.gv_model.specs.Ty.{Ty, spelling, nesting}
 use Rattle.gv_model.specs.Ty.Ty.{basic, variant, array, maybe, tuple, entry}
 use Rattle.gv_model.specs.Ty.Types.{end, member}
 use Rattle.gv_model.specs.Ty.Basic.{boolean, byte, uint16, int32, uint32, int64, double, string, path, signature}
-use Rattle.gv_model.specs.TypeText.{type_of_text, seen, mark, tuple_before}
+use Rattle.gv_model.specs.TypeText.{type_of_text, seen, mark, tuple_type_before}
 use Rattle.gv_model.specs.Layout.{alignment, fixed_size, round_up, offset_width}
 use Rattle.gv_model.specs.Tree.{default}
 use Rattle.gv_model.specs.Tree.Tree.{number, text, node}
 use Rattle.gv_model.specs.Tree.Trees.{none, first}
 use Rattle.gv_model.specs.Texts.{are_parts}
 use Rattle.gv_model.specs.BasicValue.{basic_value, text_in, number_in}
-use Rattle.gv_model.specs.Arrays.{numbers_in, framed_spans, even_spans}
+use Rattle.gv_model.specs.Arrays.{numbers_in, offset_spans, fixed_spans}
 use Rattle.gv_model.specs.Tuples.{empty_spans, member_spans}
 use Rattle.gv_model.specs.Variants.{at_last_zero}
 use Rattle.gv_model.specs.Decode.{decode, decode_within, cut, spans}
@@ -22,7 +22,7 @@ use Rattle.gv_model.specs.Printed.{printed, text_of, holds_double}
 
 -- what these computations open
 unfoldable pub computing : ℕ
-unfolding digits chars encode_char is_utf8 spelling nesting type_of_text seen mark tuple_before alignment fixed_size round_up offset_width default are_parts basic_value text_in number_in numbers_in framed_spans even_spans empty_spans member_spans at_last_zero decode decode_within cut spans text_of
+unfolding digits chars encode_char is_utf8 spelling nesting type_of_text seen mark tuple_type_before alignment fixed_size round_up offset_width default are_parts basic_value text_in number_in numbers_in offset_spans fixed_spans empty_spans member_spans at_last_zero decode decode_within cut spans text_of
 computing = 0
 
 -- the text of bytes at a type
@@ -158,7 +158,7 @@ array_of_tuples : shown (array (tuple (member (basic string) (member (basic int3
 unfolding computing
 array_of_tuples = refl
 
--- the last member ends where the offset stands, the first reaches past it
+-- the last member ends where the offset is, the first reaches past it
 member_over_the_offset : shown (tuple (member (array (basic byte)) (member (basic string) end))) (97 ∷ 98 ∷ 0 ∷ 4 ∷ []) ≡ codes "([byte 0x61, 0x62, 0x00, 0x04], '')"
 unfolding computing
 member_over_the_offset = refl

@@ -9,9 +9,9 @@ use Rattle.gv_model.specs.BasicValue.{number_in}
 use Rattle.gv_model.specs.Children.{Span}
 
 -- count elements of one size from p on
-unfoldable pub even_spans : Ty → ℕ → ℕ → ℕ → List (Ty × Span)
-even_spans t size p zero = []
-even_spans t size p (suc count) = (t, Some (p, p + size)) ∷ even_spans t size (p + size) count
+unfoldable pub fixed_spans : Ty → ℕ → ℕ → ℕ → List (Ty × Span)
+fixed_spans t size p zero = []
+fixed_spans t size p (suc count) = (t, Some (p, p + size)) ∷ fixed_spans t size (p + size) count
 
 -- count numbers of w bytes each
 unfoldable pub numbers_in : ℕ → ℕ → List ℕ → List ℕ
@@ -19,20 +19,20 @@ numbers_in w zero b = []
 numbers_in w (suc count) b = number_in (take w b) ∷ numbers_in w count (drop w b)
 
 -- elements with these ends, each from the end of the one before, aligned
-unfoldable pub framed_spans : Ty → ℕ → List ℕ → List (Ty × Span)
-framed_spans t p [] = []
-framed_spans t p (e ∷ ends) = (t, Some (round_up (alignment t) p, e)) ∷ framed_spans t e ends
+unfoldable pub offset_spans : Ty → ℕ → List ℕ → List (Ty × Span)
+offset_spans t p [] = []
+offset_spans t p (e ∷ ends) = (t, Some (round_up (alignment t) p, e)) ∷ offset_spans t e ends
 
 -- the elements of an array whose offsets, of w bytes each, begin at e
 abbrev pub framed_from : Ty → ℕ → ℕ → List ℕ → List (Ty × Span)
 framed_from t w e b =
     if nat_le e (length b) && ((length b - e) % w == 0)
-    then framed_spans t 0 (numbers_in w ((length b - e) / w) (drop e b))
+    then offset_spans t 0 (numbers_in w ((length b - e) / w) (drop e b))
     else []
 
 -- the elements by their size, if it is fixed
 abbrev pub element_spans : Ty → List ℕ → Option ℕ → List (Ty × Span)
-element_spans t b (Some size) = if length b % size == 0 then even_spans t size 0 (length b / size) else []
+element_spans t b (Some size) = if length b % size == 0 then fixed_spans t size 0 (length b / size) else []
 element_spans t b None =
     let w = offset_width (length b) in
     if length b == 0 then [] else framed_from t w (number_in (drop (length b - w) b)) b

@@ -3,7 +3,7 @@
 -- "Wrong Size for Fixed Size Value", "Boolean Out of Range", "Non-Null-Terminated Strings". A string with a
 -- zero byte inside reads as the default, where the specification takes the part before it (this
 -- project's rule).
-use Rattle.std.specs.Prelude.{ℕ, ◌+◌, ◌*◌, List, [], ◌∷◌, length, Option, Some, None, ◌==◌, if◌then◌else◌, option_map}
+use Rattle.std.specs.Prelude.{ℕ, ◌+◌, ◌*◌, List, [], ◌∷◌, length, Option, Some, None, ◌==◌, if◌then◌else◌, option_map, Bool, true, false}
 use Rattle.gv_model.specs.Ty.{Basic}
 use Rattle.gv_model.specs.Ty.Basic.{boolean}
 use Rattle.gv_model.specs.Layout.{basic_size}
@@ -19,6 +19,10 @@ number_in (b ∷ bs) = b + 256 * number_in bs
 -- a boolean byte other than 0 is true
 abbrev pub truth : ℕ → ℕ
 truth n = if n == 0 then 0 else 1
+
+abbrev pub truth_bits : Bool → ℕ
+truth_bits true = 1
+truth_bits false = 0
 
 abbrev pub bits_of : Basic → ℕ → ℕ
 bits_of boolean n = truth n

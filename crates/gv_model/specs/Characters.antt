@@ -1,4 +1,4 @@
--- The characters that tokens are made of, and the longest fronts of such characters.
+-- The characters that tokens are made of, and the longest prefixes of such characters.
 use Rattle.std.specs.Prelude.{ℕ, ◌-◌, Bool, true, false, List, [], ◌∷◌, length, drop, nat_lt, ◌==◌, ◌&&◌, ◌||◌, if◌then◌else◌}
 use Rattle.std.specs.Int.{is_in_range}
 
@@ -34,13 +34,13 @@ is_digit_of base c = nat_lt (digit_value c) base
 abbrev pub char_len : ℕ → ℕ
 char_len c = if nat_lt c 128 then 1 else if nat_lt c 224 then 2 else if nat_lt c 240 then 3 else 4
 
--- the longest front of a text whose bytes are all so
-unfoldable pub front_of : (ℕ → Bool) → List ℕ → List ℕ
-front_of f [] = []
-front_of f (c ∷ cs) = if f c then c ∷ front_of f cs else []
+-- the longest prefix of a text whose bytes are all so
+unfoldable pub prefix_of : (ℕ → Bool) → List ℕ → List ℕ
+prefix_of f [] = []
+prefix_of f (c ∷ cs) = if f c then c ∷ prefix_of f cs else []
 
-abbrev pub behind : (ℕ → Bool) → List ℕ → List ℕ
-behind f s = drop (length (front_of f s)) s
+abbrev pub after_prefix : (ℕ → Bool) → List ℕ → List ℕ
+after_prefix f s = drop (length (prefix_of f s)) s
 
 abbrev pub begins : (ℕ → Bool) → List ℕ → Bool
 begins f [] = false
@@ -50,9 +50,9 @@ abbrev pub tail : List ℕ → List ℕ
 tail [] = []
 tail (c ∷ cs) = cs
 
-abbrev pub is_empty : List ℕ → Bool
-is_empty [] = true
-is_empty (c ∷ cs) = false
+abbrev pub has_no_bytes : List ℕ → Bool
+has_no_bytes [] = true
+has_no_bytes (c ∷ cs) = false
 
 unfoldable pub same_text : List ℕ → List ℕ → Bool
 same_text [] [] = true

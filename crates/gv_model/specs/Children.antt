@@ -26,7 +26,7 @@ child_at n c = let s = bounds n c.1 in record { type = c.0; from = s.0; to = s.1
 abbrev pub children_at : ℕ → List (Ty × Span) → List Child
 children_at n cs = map (child_at n) cs
 
--- framing offset k from the end, each of w bytes, where it stands whole within the bytes
+-- framing offset k from the end, each of w bytes, where it lies whole within the bytes
 abbrev pub framing_offset : ℕ → List ℕ → ℕ → Option ℕ
 framing_offset w b k =
     if nat_lt 0 w && nat_le (w * (k + 1)) (length b)
@@ -34,5 +34,5 @@ framing_offset w b k =
     else None
 
 -- the bytes of a child of b
-abbrev pub bytes_of : List ℕ → Child → List ℕ
-bytes_of b c = slice_range b c.from c.to
+abbrev pub child_bytes : List ℕ → Child → List ℕ
+child_bytes b c = slice_range b c.from c.to

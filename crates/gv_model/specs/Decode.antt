@@ -8,7 +8,7 @@ use Rattle.gv_model.specs.Tree.{Tree, Trees, default}
 use Rattle.gv_model.specs.Tree.Tree.{node}
 use Rattle.gv_model.specs.Tree.Trees.{none, first}
 use Rattle.gv_model.specs.BasicValue.{basic_value}
-use Rattle.gv_model.specs.Children.{Child, Span, children_at, bytes_of}
+use Rattle.gv_model.specs.Children.{Child, Span, children_at, child_bytes}
 use Rattle.gv_model.specs.Arrays.{element_spans}
 use Rattle.gv_model.specs.Maybes.{just_span}
 use Rattle.gv_model.specs.Tuples.{tuple_spans}
@@ -39,7 +39,7 @@ tree_with f t b = node t (each f (cut t b))
 -- the same, down to a depth
 unfoldable pub decode_within : ℕ → Ty → List ℕ → Tree
 decode_within zero t b = default t
-decode_within (suc n) t b = tree_with (λ c. decode_within n c.type (bytes_of b c)) t b
+decode_within (suc n) t b = tree_with (λ c. decode_within n c.type (child_bytes b c)) t b
 
 -- The value of bytes at a type. No tree is deeper than the type's text and the bytes are long; the laws
 -- that it is the tree over the values of its children, and the only such function, don't speak of a depth.

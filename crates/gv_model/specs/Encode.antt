@@ -42,7 +42,7 @@ open_ends_from p (x ∷ y ∷ xs) =
     let ends = open_ends_from (end_after p x) (y ∷ xs) in
     if is_some (fixed_size x.0) then ends else end_after p x ∷ ends
 
--- the least width that serves for this many offsets behind a body of n bytes
+-- the least width that serves for this many offsets after a body of n bytes
 unfoldable pub least_width : ℕ → ℕ → ℕ
 least_width n count =
     if nat_le (n + count) 255 then 1 else if nat_le (n + 2 * count) 65535 then 2
@@ -52,11 +52,11 @@ least_width n count =
 unfoldable pub framed : List ℕ → List ℕ → List ℕ
 framed body offsets = body ++ flat_map (number_bytes (least_width (length body) (length offsets))) offsets
 
-abbrev pub joined : List Part → List ℕ
-joined parts = flat_map (λ x. x.1) parts
+abbrev pub joined_parts : List Part → List ℕ
+joined_parts parts = flat_map (λ x. x.1) parts
 
 abbrev pub array_bytes : List Part → Option ℕ → List ℕ
-array_bytes parts (Some size) = joined parts
+array_bytes parts (Some size) = joined_parts parts
 array_bytes parts None = framed (body_from 0 parts) (ends_from 0 parts)
 
 abbrev pub tuple_bytes : List Part → Option ℕ → List ℕ

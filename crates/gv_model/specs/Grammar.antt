@@ -33,7 +33,7 @@ unfoldable mutual
   commas (first x none) = tokens_of x
   commas (first x (first y xs)) = tokens_of x ++ mark comma ∷ commas (first y xs)
 
-  -- a single member has a `,` behind it
+  -- a single member has a `,` after it
   pub members_tokens : Syntaxes → List Token
   members_tokens none = []
   members_tokens (first x none) = tokens_of x ++ mark comma ∷ []

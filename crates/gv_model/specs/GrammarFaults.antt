@@ -1,4 +1,4 @@
--- Where tokens that are no syntax tree's go wrong first: at the end of the longest front that begins some tree's tokens.
+-- Where tokens that are no syntax tree's go wrong first: at the end of the longest prefix that begins some tree's tokens.
 use Rattle.std.specs.Prelude.{ℕ, suc, List, [], ◌∷◌, ◌++◌, Option, Some, None, Result, Ok, Err, nat_le, if◌then◌else◌}
 use Rattle.gv_model.specs.Tokens.{Mark, Token}
 use Rattle.gv_model.specs.TextFault.{Cause}
@@ -20,13 +20,13 @@ pub data Want : Type 0 where
   a_value : ℕ → Want
   inside : Stage → ℕ → ℕ → Want
 
--- where a value may stand at a stage, the stage behind it
-abbrev pub behind_value : Stage → Option Stage
-behind_value list_start = Some list_more
-behind_value tuple_start = Some tuple_one
-behind_value tuple_two = Some tuple_more
-behind_value brace_start = Some brace_first
-behind_value _ = None
+-- where a value may occur at a stage, the stage after it
+abbrev pub after_value : Stage → Option Stage
+after_value list_start = Some list_more
+after_value tuple_start = Some tuple_one
+after_value tuple_two = Some tuple_more
+after_value brace_start = Some brace_first
+after_value _ = None
 
 pub data Next : Type 0 where
   -- the bracket is closed
@@ -36,41 +36,41 @@ pub data Next : Type 0 where
   value_then : Stage → Next
   wrong : Next
 
--- what comes behind a mark that doesn't begin a value
-abbrev pub behind_mark : Stage → Mark → Next
-behind_mark list_start close_list = closed
-behind_mark list_more close_list = closed
-behind_mark list_more comma = value_then list_more
-behind_mark tuple_start close_tuple = closed
-behind_mark tuple_one comma = goes_on tuple_two
-behind_mark tuple_two close_tuple = closed
-behind_mark tuple_more comma = value_then tuple_more
-behind_mark tuple_more close_tuple = closed
-behind_mark brace_start close_brace = closed
-behind_mark brace_first colon = value_then pair_more
-behind_mark brace_first comma = value_then lone_end
-behind_mark pair_more comma = value_then pair_colon
-behind_mark pair_more close_brace = closed
-behind_mark pair_colon colon = value_then pair_more
-behind_mark lone_end close_brace = closed
-behind_mark box_end close_box = closed
-behind_mark _ _ = wrong
+-- what comes after a mark that doesn't begin a value
+abbrev pub after_mark : Stage → Mark → Next
+after_mark list_start close_list = closed
+after_mark list_more close_list = closed
+after_mark list_more comma = value_then list_more
+after_mark tuple_start close_tuple = closed
+after_mark tuple_one comma = goes_on tuple_two
+after_mark tuple_two close_tuple = closed
+after_mark tuple_more comma = value_then tuple_more
+after_mark tuple_more close_tuple = closed
+after_mark brace_start close_brace = closed
+after_mark brace_first colon = value_then pair_more
+after_mark brace_first comma = value_then lone_end
+after_mark pair_more comma = value_then pair_colon
+after_mark pair_more close_brace = closed
+after_mark pair_colon colon = value_then pair_more
+after_mark lone_end close_brace = closed
+after_mark box_end close_box = closed
+after_mark _ _ = wrong
 
--- what is wanted behind a token that begins a value so deep, n being the token's number
-abbrev pub behind_first : ℕ → ℕ → Token → Option (List Want)
-behind_first d n (mark open_list) = Some (inside list_start (suc d) n ∷ [])
-behind_first d n (mark open_tuple) = Some (inside tuple_start (suc d) n ∷ [])
-behind_first d n (mark open_brace) = Some (inside brace_start (suc d) n ∷ [])
-behind_first d n (mark open_box) = Some (a_value (suc d) ∷ inside box_end (suc d) n ∷ [])
-behind_first d n (mark _) = None
-behind_first d n (string_token s) = Some []
-behind_first d n (byte_string s) = Some []
-behind_first d n (integer_token negative m) = Some []
-behind_first d n (type_token t) = Some (a_value (suc d) ∷ [])
-behind_first d n (word (truth_word b)) = Some []
-behind_first d n (word nothing_word) = Some []
-behind_first d n (word just_word) = Some (a_value (suc d) ∷ [])
-behind_first d n (word (type_word k)) = Some (a_value (suc d) ∷ [])
+-- what is wanted after a token that begins a value so deep, n being the token's number
+abbrev pub begun_wants : ℕ → ℕ → Token → Option (List Want)
+begun_wants d n (mark open_list) = Some (inside list_start (suc d) n ∷ [])
+begun_wants d n (mark open_tuple) = Some (inside tuple_start (suc d) n ∷ [])
+begun_wants d n (mark open_brace) = Some (inside brace_start (suc d) n ∷ [])
+begun_wants d n (mark open_box) = Some (a_value (suc d) ∷ inside box_end (suc d) n ∷ [])
+begun_wants d n (mark _) = None
+begun_wants d n (string_token s) = Some []
+begun_wants d n (byte_string s) = Some []
+begun_wants d n (integer_token negative m) = Some []
+begun_wants d n (type_token t) = Some (a_value (suc d) ∷ [])
+begun_wants d n (word (truth_word b)) = Some []
+begun_wants d n (word nothing_word) = Some []
+begun_wants d n (word just_word) = Some (a_value (suc d) ∷ [])
+begun_wants d n (word (type_word k)) = Some (a_value (suc d) ∷ [])
 
 -- a fault and the number of its token; the number past the last is the end of the text
 abbrev pub NumberedFault : Type 0
@@ -82,18 +82,18 @@ begun d n rest (Some wants) = if nat_le d 128 then Ok (wants ++ rest) else Err (
 
 abbrev pub stage_or_value : ℕ → ℕ → ℕ → Token → Option Stage → Result (List Want) NumberedFault
 stage_or_value d at n t None = Err (unexpected, n)
-stage_or_value d at n t (Some s) = begun d n (inside s d at ∷ []) (behind_first d n t)
+stage_or_value d at n t (Some s) = begun d n (inside s d at ∷ []) (begun_wants d n t)
 
-abbrev pub behind_next : Stage → ℕ → ℕ → ℕ → Token → Next → Result (List Want) NumberedFault
-behind_next s d at n t closed = Ok []
-behind_next s d at n t (goes_on r) = Ok (inside r d at ∷ [])
-behind_next s d at n t (value_then r) = Ok (a_value d ∷ inside r d at ∷ [])
-behind_next s d at n t wrong = stage_or_value d at n t (behind_value s)
+abbrev pub after_next : Stage → ℕ → ℕ → ℕ → Token → Next → Result (List Want) NumberedFault
+after_next s d at n t closed = Ok []
+after_next s d at n t (goes_on r) = Ok (inside r d at ∷ [])
+after_next s d at n t (value_then r) = Ok (a_value d ∷ inside r d at ∷ [])
+after_next s d at n t wrong = stage_or_value d at n t (after_value s)
 
 abbrev pub step : Want → ℕ → Token → Result (List Want) NumberedFault
-step (a_value d) n t = begun d n [] (behind_first d n t)
-step (inside s d at) n (mark m) = behind_next s d at n (mark m) (behind_mark s m)
-step (inside s d at) n t = stage_or_value d at n t (behind_value s)
+step (a_value d) n t = begun d n [] (begun_wants d n t)
+step (inside s d at) n (mark m) = after_next s d at n (mark m) (after_mark s m)
+step (inside s d at) n t = stage_or_value d at n t (after_value s)
 
 -- at the end: the innermost open bracket, or else a value that is missing at the end
 abbrev pub at_end : ℕ → List Want → NumberedFault

@@ -6,11 +6,11 @@ use Rattle.gv_model.specs.TypeText.{type_of_text, is_within_limits}
 use Rattle.gv_model.specs.TypeFault.{Fault, IsFault}
 use Rattle.gv_model.specs.Tree.{Tree, default, children, tree_at, trees_len}
 use Rattle.gv_model.specs.Typed.{HasType}
-use Rattle.gv_model.specs.Children.{Child, bytes_of}
+use Rattle.gv_model.specs.Children.{Child, child_bytes}
 use Rattle.gv_model.specs.Decode.{decode, cut, tree_with}
 use Rattle.gv_model.specs.Parts.{Part, parts, part_at, subtree_at}
 use Rattle.gv_model.specs.Encode.{encode, packed}
-use Rattle.gv_model.specs.Normal.{IsContainer, IsPartWritten, IsWritten}
+use Rattle.gv_model.specs.Normal.{IsContainer, IsPartEncoded, IsEncoded}
 
 -- no type's text begins another's
 abbrev pub NoTypeBeginsAnother : Type 0
@@ -38,7 +38,7 @@ ReadsAtType = (t : Ty) (b : List ℕ) → AllByRecursion (λ x. x < 256) b → H
 
 -- f gives of each value the tree over what it gives of its children
 abbrev pub IsReading : (Ty → List ℕ → Tree) → Type 0
-IsReading f = (t : Ty) (b : List ℕ) → f t b ≡ tree_with (λ c. f c.type (bytes_of b c)) t b
+IsReading f = (t : Ty) (b : List ℕ) → f t b ≡ tree_with (λ c. f c.type (child_bytes b c)) t b
 
 -- `decode` is the one reading
 abbrev pub IsOnlyReading : Type 0
@@ -51,7 +51,7 @@ HasChildrenOfCut = (t : Ty) (b : List ℕ) → trees_len (children (decode t b))
 -- child i of a value is the value of child i
 abbrev pub ChildIsRead : Type 0
 ChildIsRead = (t : Ty) (b : List ℕ) (i : ℕ)
-    → tree_at (children (decode t b)) i ≡ option_map (λ c. decode c.type (bytes_of b c)) (slice_get (cut t b) i)
+    → tree_at (children (decode t b)) i ≡ option_map (λ c. decode c.type (child_bytes b c)) (slice_get (cut t b) i)
 
 -- a child lies within n bytes
 pub record LiesWithin (n : ℕ) (c : Child) : Type 0 where
@@ -73,4 +73,4 @@ WrittenReadsBack = (t : Ty) (v : Tree) → HasType v t → decode t (encode v) �
 -- a container's bytes are written so exactly where its parts' are, and they are packed of these
 abbrev pub ContainerIsPacked : Type 0
 ContainerIsPacked = (t : Ty) (b : List ℕ) → AllByRecursion (λ x. x < 256) b → IsContainer t
-    → IsWritten t b ↔ (AllByRecursion IsPartWritten (parts t b) × (b ≡ packed t (parts t b)))
+    → IsEncoded t b ↔ (AllByRecursion IsPartEncoded (parts t b) × (b ≡ packed t (parts t b)))

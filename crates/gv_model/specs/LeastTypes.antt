@@ -5,12 +5,12 @@ use Rattle.gv_model.specs.Ty.Ty.{basic, variant, array, maybe, tuple, entry}
 use Rattle.gv_model.specs.Ty.Types.{end, member}
 use Rattle.gv_model.specs.Ty.Basic.{boolean, int32, string}
 use Rattle.gv_model.specs.Syntax.{Syntax}
-use Rattle.gv_model.specs.Chosen.{Choice, Choice}
+use Rattle.gv_model.specs.Chosen.{Choice}
 use Rattle.gv_model.specs.Chosen.Choice.{is, no_common_type, ambiguous}
-use Rattle.gv_model.specs.Patterns.{Kind, Pattern, Core, Patterns, pattern}
-use Rattle.gv_model.specs.Patterns.Kind.{any, numbers, texts, empty, only}
+use Rattle.gv_model.specs.Patterns.{BasicSet, Pattern, Bare, Patterns, pattern}
+use Rattle.gv_model.specs.Patterns.BasicSet.{any, numbers, texts, empty, only}
 use Rattle.gv_model.specs.Patterns.Pattern.{anything, never, maybe_of, strict, loose}
-use Rattle.gv_model.specs.Patterns.Core.{kind, a_variant, array_of, tuple_with, entry_of, no_core}
+use Rattle.gv_model.specs.Patterns.Bare.{basics, a_variant, array_of, tuple_with, entry_of, no_bare}
 use Rattle.gv_model.specs.Patterns.Patterns.{stop, next}
 
 pub data Least : Type 0 where
@@ -31,12 +31,12 @@ least_with f nowhere = nowhere
 least_with f (least t) = least (f t)
 least_with f (many t) = many (f t)
 
-abbrev pub least_kind : (Basic → Ty) → Kind → Least
-least_kind f any = many (f boolean)
-least_kind f numbers = least (f int32)
-least_kind f texts = least (f string)
-least_kind f empty = nowhere
-least_kind f (only k) = least (f k)
+abbrev pub least_basics : (Basic → Ty) → BasicSet → Least
+least_basics f any = many (f boolean)
+least_basics f numbers = least (f int32)
+least_basics f texts = least (f string)
+least_basics f empty = nowhere
+least_basics f (only k) = least (f k)
 
 abbrev pub least_entry : Least → (Basic → Least) → Least
 least_entry nowhere f = nowhere
@@ -68,16 +68,16 @@ unfoldable mutual
   least_in anything = many variant
   least_in never = nowhere
   least_in (maybe_of p) = least_with maybe (least_in p)
-  least_in (strict c) = least_core c
-  least_in (loose c) = least_core c
+  least_in (strict c) = least_bare c
+  least_in (loose c) = least_bare c
 
-  pub least_core : Core → Least
-  least_core (kind s) = least_kind basic s
-  least_core a_variant = least variant
-  least_core (array_of p) = least_with array (least_in p)
-  least_core (tuple_with ps) = least_tuple (leasts_in ps)
-  least_core (entry_of s p) = least_entry (least_kind basic s) (λ k. least_with (entry k) (least_in p))
-  least_core no_core = nowhere
+  pub least_bare : Bare → Least
+  least_bare (basics s) = least_basics basic s
+  least_bare a_variant = least variant
+  least_bare (array_of p) = least_with array (least_in p)
+  least_bare (tuple_with ps) = least_tuple (leasts_in ps)
+  least_bare (entry_of s p) = least_entry (least_basics basic s) (λ k. least_with (entry k) (least_in p))
+  least_bare no_bare = nowhere
 
   pub leasts_in : Patterns → Leasts
   leasts_in stop = least_each end

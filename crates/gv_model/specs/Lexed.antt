@@ -8,19 +8,19 @@ use Rattle.gv_model.specs.Lexing.{token_at}
 abbrev pub Lexed : Type 0
 Lexed = List Placed × Option Fault
 
--- what stands at a place: a blank, or a token or a fault
-pub data Item : Type 0 where
-  blank : Item
-  item : Result Placed Fault → Item
+-- what occurs at a place: a blank, or a token or a fault
+pub data Lexeme : Type 0 where
+  blank : Lexeme
+  item : Result Placed Fault → Lexeme
 
-abbrev pub item_at : ℕ → ℕ → List ℕ → Item
-item_at at c cs = if is_blank c then blank else item (token_at at c cs)
+abbrev pub lexeme_at : ℕ → ℕ → List ℕ → Lexeme
+lexeme_at at c cs = if is_blank c then blank else item (token_at at c cs)
 
-abbrev pub bytes_taken : ℕ → Item → ℕ
+abbrev pub bytes_taken : ℕ → Lexeme → ℕ
 bytes_taken at (item (Ok t)) = t.stop - suc at
 bytes_taken at _ = 0
 
-abbrev pub with_item : Item → Lexed → Lexed
+abbrev pub with_item : Lexeme → Lexed → Lexed
 with_item blank rest = rest
 with_item (item (Ok t)) rest = (t ∷ rest.0, rest.1)
 with_item (item (Err e)) rest = ([], Some e)
@@ -29,4 +29,4 @@ with_item (item (Err e)) rest = ([], Some e)
 unfoldable pub lexed : ℕ → ℕ → List ℕ → Lexed
 lexed at skip [] = ([], None)
 lexed at (suc k) (c ∷ cs) = lexed (suc at) k cs
-lexed at zero (c ∷ cs) = with_item (item_at at c cs) (lexed (suc at) (bytes_taken at (item_at at c cs)) cs)
+lexed at zero (c ∷ cs) = with_item (lexeme_at at c cs) (lexed (suc at) (bytes_taken at (lexeme_at at c cs)) cs)

@@ -5,7 +5,7 @@ use Rattle.gv_model.specs.Ty.{Ty, spelling}
 use Rattle.gv_model.specs.TypeText.{type_of_text}
 use Rattle.gv_model.specs.TextFault.{Fault, fault}
 use Rattle.gv_model.specs.Tokens.{Mark, Placed}
-use Rattle.gv_model.specs.Characters.{is_blank, is_digit, is_letter, is_word_byte, is_sign, is_quote, char_len, front_of, begins}
+use Rattle.gv_model.specs.Characters.{is_blank, is_digit, is_letter, is_word_byte, is_sign, is_quote, char_len, prefix_of, begins}
 use Rattle.gv_model.specs.Numerals.{run_of, placed, number_at}
 use Rattle.gv_model.specs.Words.{word_at}
 use Rattle.gv_model.specs.Strings.{string_from, quoted_token}
@@ -17,10 +17,10 @@ abbrev pub or_else : Option Ty → Option Ty → Option Ty
 or_else (Some t) other = Some t
 or_else None other = other
 
--- the type that some front of a text spells: no type's text begins another's
-unfoldable pub type_in_front : List ℕ → List ℕ → Option Ty
-type_in_front front [] = type_of_text front
-type_in_front front (c ∷ cs) = or_else (type_of_text front) (type_in_front (front ++ c ∷ []) cs)
+-- the type that some prefix of a text spells: no type's text begins another's
+unfoldable pub type_prefix : List ℕ → List ℕ → Option Ty
+type_prefix prefix [] = type_of_text prefix
+type_prefix prefix (c ∷ cs) = or_else (type_of_text prefix) (type_prefix (prefix ++ c ∷ []) cs)
 
 abbrev pub type_placed : ℕ → Option Ty → Result Placed Fault
 type_placed at (Some t) = placed (type_token t) at (suc (length (spelling t)))
@@ -28,8 +28,8 @@ type_placed at None = fault bad_token at (suc at)
 
 -- Tokens
 
-abbrev pub mark_of : ℕ → Option Mark
-mark_of c =
+abbrev pub mark_of_byte : ℕ → Option Mark
+mark_of_byte c =
     if c == 40 then Some open_tuple else if c == 41 then Some close_tuple else if c == 91 then Some open_list else if c == 93 then Some close_list
     else if c == 123 then Some open_brace else if c == 125 then Some close_brace else if c == 60 then Some open_box else if c == 62 then Some close_box
     else if c == 44 then Some comma else if c == 58 then Some colon else None
@@ -51,16 +51,16 @@ abbrev pub token_by : Start → ℕ → ℕ → List ℕ → Result Placed Fault
 token_by of_string at c cs = quoted_token string_token at (string_from false c at (suc at) 0 cs)
 token_by of_byte_string at c [] = fault bad_token at (suc at)
 token_by of_byte_string at c (q ∷ cs) = quoted_token byte_string at (string_from true q (suc at) (suc (suc at)) 0 cs)
-token_by of_word at c cs = word_at at (c ∷ front_of is_word_byte cs)
+token_by of_word at c cs = word_at at (c ∷ prefix_of is_word_byte cs)
 token_by of_number at c cs = number_at at (run_of c cs)
-token_by of_type at c cs = type_placed at (type_in_front [] cs)
-token_by of_mark at c cs = mark_or_fault at c (mark_of c)
+token_by of_type at c cs = type_placed at (type_prefix [] cs)
+token_by of_mark at c cs = mark_or_fault at c (mark_of_byte c)
 
 -- the token that begins with c at a place, cs being what follows c
 unfoldable pub token_at : ℕ → ℕ → List ℕ → Result Placed Fault
 token_at at c cs = token_by (start c cs) at c cs
 
--- Behind its blanks a text is at its end, or a fault stands there
+-- After its blanks a text is at its end, or a fault is there
 abbrev pub EndsWith : ℕ → List ℕ → Option Fault → Type 0
 EndsWith at [] f = f ≡ None
 EndsWith at (c ∷ cs) f = (e : Fault) × (token_at at c cs ≡ Err e) × (f ≡ Some e)
@@ -70,7 +70,7 @@ Begins at [] t = ⊥
 Begins at (c ∷ cs) t = token_at at c cs ≡ Ok t
 
 abbrev pub blanks : List ℕ → ℕ
-blanks s = length (front_of is_blank s)
+blanks s = length (prefix_of is_blank s)
 
 -- A text from a place on is these tokens with blanks between, and then its end or a fault.
 abbrev pub Lexes : ℕ → List ℕ → List Placed → Option Fault → Type 0

@@ -1,7 +1,9 @@
 pub mod Ty
 pub mod TypeText
+pub mod Codes
 pub mod TypeFault
 pub mod Layout
+pub mod Limits
 pub mod Tree
 pub mod Texts
 pub mod Typed
@@ -41,3 +43,4 @@ pub mod Literals
 pub mod TextValues
 pub mod Laws
 pub mod TextLaws
+pub mod FaultTexts

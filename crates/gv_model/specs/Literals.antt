@@ -5,7 +5,7 @@ use Rattle.gv_model.specs.Ty.Basic.{byte, int16, uint16, int32, uint32, int64, h
 use Rattle.gv_model.specs.Tree.{Tree, Trees}
 use Rattle.gv_model.specs.Tree.Tree.{number, text}
 use Rattle.gv_model.specs.Tree.Trees.{none as no_tree, first as first_tree}
-use Rattle.gv_model.specs.Texts.{is_path, is_signature}
+use Rattle.gv_model.specs.Texts.{is_object_path, is_signature}
 
 pub data ValueFault : Type 0 where
   no_common : ValueFault
@@ -48,13 +48,13 @@ integer_at double negative n = Err double_text
 integer_at k negative n = or_out_of_range k (number_bits (signed_bits k) (unsigned_bits k) negative n)
 
 abbrev pub text_at : Basic → List ℕ → Result Tree ValueFault
-text_at path s = if is_path s then Ok (text path s) else Err bad_object_path
+text_at path s = if is_object_path s then Ok (text path s) else Err bad_object_path
 text_at signature s = if is_signature s then Ok (text signature s) else Err bad_signature
 text_at k s = Ok (text k s)
 
-abbrev pub byte_trees : List ℕ → Trees
-byte_trees [] = first_tree (number byte 0) no_tree
-byte_trees (c ∷ cs) = first_tree (number byte c) (byte_trees cs)
+abbrev pub byte_string_trees : List ℕ → Trees
+byte_string_trees [] = first_tree (number byte 0) no_tree
+byte_string_trees (c ∷ cs) = first_tree (number byte c) (byte_string_trees cs)
 
 abbrev pub one : Tree → Trees
 one v = first_tree v no_tree

@@ -9,11 +9,11 @@ use Rattle.gv_model.specs.Parts.{Part}
 use Rattle.gv_model.specs.Encode.{encode}
 
 -- bytes are written so
-abbrev pub IsWritten : Ty → List ℕ → Type 0
-IsWritten t b = b ≡ encode (decode t b)
+abbrev pub IsEncoded : Ty → List ℕ → Type 0
+IsEncoded t b = b ≡ encode (decode t b)
 
 pub record IsNormal (t : Ty) (b : List ℕ) : Type 0 where
-  pub written : IsWritten t b
+  pub written : IsEncoded t b
   pub shallow : depth (decode t b) ≤ 128
 
 -- the types whose values are written by their children
@@ -22,5 +22,5 @@ IsContainer (basic k) = ⊥
 IsContainer _ = Unit {0}
 
 -- the bytes of a part are written so
-abbrev pub IsPartWritten : Part → Type 0
-IsPartWritten p = IsWritten p.0 p.1
+abbrev pub IsPartEncoded : Part → Type 0
+IsPartEncoded p = IsEncoded p.0 p.1

@@ -3,7 +3,7 @@
 use Rattle.std.specs.Prelude.{ℕ, ◌+◌, ◌*◌, Bool, List, [], ◌∷◌, length, Option, Some, None, Result, Ok, min, ◌^◌, ◌==◌, ◌&&◌, ◌||◌, not, if◌then◌else◌, codes}
 use Rattle.gv_model.specs.TextFault.{Cause, Fault, fault}
 use Rattle.gv_model.specs.Tokens.{Token, Placed}
-use Rattle.gv_model.specs.Characters.{is_digit, is_word_byte, is_sign, is_e, digit_value, is_digit_of, behind, begins, tail, is_empty, same_text}
+use Rattle.gv_model.specs.Characters.{is_digit, is_word_byte, is_sign, is_e, digit_value, is_digit_of, after_prefix, begins, tail, has_no_bytes, same_text}
 use Rattle.gv_model.specs.TextFault.Cause.{bad_token, double_text}
 use Rattle.gv_model.specs.Tokens.Token.{integer_token}
 
@@ -14,23 +14,23 @@ without_sign s = if begins is_sign s then tail s else s
 abbrev pub begins_hex : List ℕ → Bool
 begins_hex s = begins (λ c. c == 48) s && begins (λ c. c == 120 || c == 88) (tail s)
 
--- letters, digits and points, and a sign directly behind an `e` where it isn't hexadecimal; c is the byte before
-unfoldable pub run_behind : Bool → ℕ → List ℕ → List ℕ
-run_behind hex c [] = []
-run_behind hex c (d ∷ ds) =
-    if is_word_byte d || d == 46 || (is_sign d && is_e c && not hex) then d ∷ run_behind hex d ds else []
+-- letters, digits and points, and a sign directly after an `e` where it isn't hexadecimal; c is the byte before
+unfoldable pub run_after : Bool → ℕ → List ℕ → List ℕ
+run_after hex c [] = []
+run_after hex c (d ∷ ds) =
+    if is_word_byte d || d == 46 || (is_sign d && is_e c && not hex) then d ∷ run_after hex d ds else []
 
 abbrev pub run_of : ℕ → List ℕ → List ℕ
-run_of c cs = c ∷ run_behind (begins_hex (without_sign (c ∷ cs))) c cs
+run_of c cs = c ∷ run_after (begins_hex (without_sign (c ∷ cs))) c cs
 
--- the number that digits stand for behind one that stands before them
-unfoldable pub number_behind : ℕ → ℕ → List ℕ → ℕ
-number_behind base n [] = n
-number_behind base n (c ∷ cs) = number_behind base (n * base + digit_value c) cs
+-- the number that digits stand for after one that comes before them
+unfoldable pub number_after : ℕ → ℕ → List ℕ → ℕ
+number_after base n [] = n
+number_after base n (c ∷ cs) = number_after base (n * base + digit_value c) cs
 
 -- the number that these digits stand for; 2^64 stands for every number from there on: no type has any of them
 abbrev pub number_of_base : ℕ → List ℕ → Option ℕ
-number_of_base base s = if not (is_empty s) && is_empty (behind (is_digit_of base) s) then Some (min (number_behind base 0 s) (2 ^ 64)) else None
+number_of_base base s = if not (has_no_bytes s) && has_no_bytes (after_prefix (is_digit_of base) s) then Some (min (number_after base 0 s) (2 ^ 64)) else None
 
 -- the number that digits without a sign stand for
 abbrev pub number_of : List ℕ → Option ℕ
@@ -41,20 +41,20 @@ number_of s =
 
 -- `e`, a sign or none, and digits
 abbrev pub is_exponent : List ℕ → Bool
-is_exponent s = begins is_e s && begins is_digit (without_sign (tail s)) && is_empty (behind is_digit (without_sign (tail s)))
+is_exponent s = begins is_e s && begins is_digit (without_sign (tail s)) && has_no_bytes (after_prefix is_digit (without_sign (tail s)))
 
--- behind the digits in front: a point and digits, an exponent, or both
+-- after the first digits: a point and digits, an exponent, or both
 abbrev pub is_fraction : Bool → List ℕ → Bool
 is_fraction digits s =
     if begins (λ c. c == 46) s
-    then (digits || begins is_digit (tail s)) && (is_empty (behind is_digit (tail s)) || is_exponent (behind is_digit (tail s)))
+    then (digits || begins is_digit (tail s)) && (has_no_bytes (after_prefix is_digit (tail s)) || is_exponent (after_prefix is_digit (tail s)))
     else digits && is_exponent s
 
 abbrev pub is_double_word : List ℕ → Bool
 is_double_word s = same_text s (codes "inf") || same_text s (codes "nan") || same_text s (codes "infinity")
 
 abbrev pub is_double : List ℕ → Bool
-is_double s = is_fraction (begins is_digit s) (behind is_digit s) || is_double_word s
+is_double s = is_fraction (begins is_digit s) (after_prefix is_digit s) || is_double_word s
 
 -- a token from a place on
 abbrev pub placed : Token → ℕ → ℕ → Result Placed Fault

@@ -22,15 +22,15 @@ pub record IsTree (text : List ℕ) (x : Syntax) : Type 0 where
   pub shallow : levels x ≤ 128
 
 -- the fault of a text whose tokens go so far: that of the tokens, or else that of the grammar
-abbrev pub IsFault : List ℕ → List Placed → Option Fault → Fault → Type 0
-IsFault text placed (Some f) e = e ≡ f
-IsFault text placed None e = (f : NumberedFault) × (grammar_fault (kinds placed) ≡ Some f) × (e ≡ fault_at (length text) f.0 (slice_get placed f.1))
+abbrev pub IsParseFault : List ℕ → List Placed → Option Fault → Fault → Type 0
+IsParseFault text placed (Some f) e = e ≡ f
+IsParseFault text placed None e = (f : NumberedFault) × (grammar_fault (kinds placed) ≡ Some f) × (e ≡ fault_at (length text) f.0 (slice_get placed f.1))
 
 pub record HasFault (text : List ℕ) (e : Fault) : Type 0 where
   pub placed : List Placed
   pub stopped : Option Fault
   pub lexes : Lexes 0 text placed stopped
-  pub fault : IsFault text placed stopped e
+  pub fault : IsParseFault text placed stopped e
 
 abbrev pub Parses : List ℕ → Result Syntax Fault → Type 0
 Parses text (Ok x) = IsTree text x

@@ -3,7 +3,7 @@ use Rattle.std.specs.Prelude.{ℕ, List, [], ◌∷◌, map, Option, Some, optio
 use Rattle.gv_model.specs.Ty.{Ty}
 use Rattle.gv_model.specs.Tree.{Tree, Trees, children, tree_at}
 use Rattle.gv_model.specs.Tree.Trees.{none, first}
-use Rattle.gv_model.specs.Children.{Child, bytes_of}
+use Rattle.gv_model.specs.Children.{Child, child_bytes}
 use Rattle.gv_model.specs.Decode.{cut, decode}
 
 -- a type and the bytes that are read at it
@@ -12,7 +12,7 @@ Part = Ty × List ℕ
 
 -- a child of these bytes, as a type and its own bytes
 abbrev pub part_of : List ℕ → Child → Part
-part_of b c = (c.type, bytes_of b c)
+part_of b c = (c.type, child_bytes b c)
 
 -- the children of a value, in order, each as its type and its bytes
 unfoldable pub parts : Ty → List ℕ → List Part
@@ -29,6 +29,6 @@ subtree_at v [] = Some v
 subtree_at v (i ∷ is) = option_and_then (λ u. subtree_at u is) (tree_at (children v) i)
 
 -- the values of parts
-abbrev pub trees_of : List Part → Trees
-trees_of [] = none
-trees_of (p ∷ ps) = first (decode p.0 p.1) (trees_of ps)
+abbrev pub part_trees : List Part → Trees
+part_trees [] = none
+part_trees (p ∷ ps) = first (decode p.0 p.1) (part_trees ps)

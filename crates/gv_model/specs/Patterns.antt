@@ -11,9 +11,9 @@ use Rattle.gv_model.specs.Syntax.Pairs.{no_pair, pair}
 use Rattle.gv_model.specs.Admits.{AlsoMaybe, IsNumberType, IsTextType, IsMaybeOf}
 
 -- a set of basic types
-pub data Kind : Type 0 where
-  any numbers texts empty : Kind
-  only : Basic → Kind
+pub data BasicSet : Type 0 where
+  any numbers texts empty : BasicSet
+  only : Basic → BasicSet
 
 mutual
   pub data Pattern : Type 0 where
@@ -22,17 +22,17 @@ mutual
     -- maybes of these
     maybe_of : Pattern → Pattern
     -- these alone, and these with any number of maybes around them
-    strict : Core → Pattern
-    loose : Core → Pattern
+    strict : Bare → Pattern
+    loose : Bare → Pattern
 
   -- types that are no maybes
-  pub data Core : Type 0 where
-    kind : Kind → Core
-    a_variant : Core
-    array_of : Pattern → Core
-    tuple_with : Patterns → Core
-    entry_of : Kind → Pattern → Core
-    no_core : Core
+  pub data Bare : Type 0 where
+    basics : BasicSet → Bare
+    a_variant : Bare
+    array_of : Pattern → Bare
+    tuple_with : Patterns → Bare
+    entry_of : BasicSet → Pattern → Bare
+    no_bare : Bare
 
   pub data Patterns : Type 0 where
     stop : Patterns
@@ -40,7 +40,7 @@ mutual
 
 -- Which types are in a pattern
 
-abbrev pub Within : Kind → Basic → Type 0
+abbrev pub Within : BasicSet → Basic → Type 0
 Within any k = Unit {0}
 Within numbers k = IsNumberType (basic k)
 Within texts k = IsTextType (basic k)
@@ -52,16 +52,16 @@ abbrev mutual
   In anything t = Unit {0}
   In never t = ⊥
   In (maybe_of p) t = IsMaybeOf (In p) t
-  In (strict c) t = InCore c t
-  In (loose c) t = AlsoMaybe (InCore c) t
+  In (strict c) t = InBare c t
+  In (loose c) t = AlsoMaybe (InBare c) t
 
-  pub InCore : Core → Ty → Type 0
-  InCore (kind s) (basic k) = Within s k
-  InCore a_variant variant = Unit {0}
-  InCore (array_of p) (array t) = In p t
-  InCore (tuple_with ps) (tuple ts) = AreIn ps ts
-  InCore (entry_of s p) (entry k t) = Within s k × In p t
-  InCore c t = ⊥
+  pub InBare : Bare → Ty → Type 0
+  InBare (basics s) (basic k) = Within s k
+  InBare a_variant variant = Unit {0}
+  InBare (array_of p) (array t) = In p t
+  InBare (tuple_with ps) (tuple ts) = AreIn ps ts
+  InBare (entry_of s p) (entry k t) = Within s k × In p t
+  InBare c t = ⊥
 
   pub AreIn : Patterns → Types → Type 0
   AreIn stop end = Unit {0}
@@ -99,28 +99,28 @@ code string = 10
 code path = 11
 code signature = 12
 
-abbrev pub only_if : Bool → Basic → Kind
+abbrev pub only_if : Bool → Basic → BasicSet
 only_if true k = only k
 only_if false k = empty
 
-abbrev pub holds : Kind → Basic → Bool
+abbrev pub holds : BasicSet → Basic → Bool
 holds any k = true
 holds numbers k = is_number k
 holds texts k = is_textual k
 holds empty k = false
 holds (only j) k = code j == code k
 
-abbrev pub common_kind : Kind → Kind → Kind
-common_kind any s = s
-common_kind s any = s
-common_kind (only j) s = only_if (holds s j) j
-common_kind s (only k) = only_if (holds s k) k
-common_kind numbers numbers = numbers
-common_kind texts texts = texts
-common_kind _ _ = empty
+abbrev pub common_set : BasicSet → BasicSet → BasicSet
+common_set any s = s
+common_set s any = s
+common_set (only j) s = only_if (holds s j) j
+common_set s (only k) = only_if (holds s k) k
+common_set numbers numbers = numbers
+common_set texts texts = texts
+common_set _ _ = empty
 
 -- f of what is under a pattern's maybes
-unfoldable pub under : (Core → Core) → Core → Pattern → Pattern
+unfoldable pub under : (Bare → Bare) → Bare → Pattern → Pattern
 under f c anything = loose c
 under f c never = never
 under f c (maybe_of p) = maybe_of (under f c p)
@@ -139,17 +139,17 @@ unfoldable mutual
   common (strict c) anything = strict c
   common (strict c) never = never
   common (strict c) (maybe_of q) = never
-  common (strict c) (strict d) = strict (common_core c d)
-  common (strict c) (loose d) = strict (common_core c d)
-  common (loose c) q = under (common_core c) c q
+  common (strict c) (strict d) = strict (common_bare c d)
+  common (strict c) (loose d) = strict (common_bare c d)
+  common (loose c) q = under (common_bare c) c q
 
-  pub common_core : Core → Core → Core
-  common_core (kind s) (kind r) = kind (common_kind s r)
-  common_core a_variant a_variant = a_variant
-  common_core (array_of p) (array_of q) = array_of (common p q)
-  common_core (tuple_with ps) (tuple_with qs) = tuple_with (common_each ps qs)
-  common_core (entry_of s p) (entry_of r q) = entry_of (common_kind s r) (common p q)
-  common_core _ _ = no_core
+  pub common_bare : Bare → Bare → Bare
+  common_bare (basics s) (basics r) = basics (common_set s r)
+  common_bare a_variant a_variant = a_variant
+  common_bare (array_of p) (array_of q) = array_of (common p q)
+  common_bare (tuple_with ps) (tuple_with qs) = tuple_with (common_each ps qs)
+  common_bare (entry_of s p) (entry_of r q) = entry_of (common_set s r) (common p q)
+  common_bare _ _ = no_bare
 
   -- lists of two lengths have nothing in common
   pub common_each : Patterns → Patterns → Patterns
@@ -162,7 +162,7 @@ unfoldable mutual
 
 unfoldable mutual
   pub exactly : Ty → Pattern
-  exactly (basic k) = strict (kind (only k))
+  exactly (basic k) = strict (basics (only k))
   exactly variant = strict a_variant
   exactly (array t) = strict (array_of (exactly t))
   exactly (maybe t) = maybe_of (exactly t)
@@ -174,31 +174,31 @@ unfoldable mutual
   exactly_each (member t ts) = next (exactly t) (exactly_each ts)
 
 -- the basic types in a pattern
-abbrev pub kind_of_core : Core → Kind
-kind_of_core (kind s) = s
-kind_of_core _ = empty
+abbrev pub basics_of_bare : Bare → BasicSet
+basics_of_bare (basics s) = s
+basics_of_bare _ = empty
 
-abbrev pub kind_of : Pattern → Kind
-kind_of anything = any
-kind_of (strict c) = kind_of_core c
-kind_of (loose c) = kind_of_core c
-kind_of _ = empty
+abbrev pub basics_of : Pattern → BasicSet
+basics_of anything = any
+basics_of (strict c) = basics_of_bare c
+basics_of (loose c) = basics_of_bare c
+basics_of _ = empty
 
 unfoldable mutual
   pub pattern : Syntax → Pattern
-  pattern (truth b) = loose (kind (only boolean))
-  pattern (integer negative n) = loose (kind numbers)
-  pattern (quoted s) = loose (kind texts)
-  pattern (bytes s) = loose (array_of (strict (kind (only byte))))
+  pattern (truth b) = loose (basics (only boolean))
+  pattern (integer negative n) = loose (basics numbers)
+  pattern (quoted s) = loose (basics texts)
+  pattern (bytes s) = loose (array_of (strict (basics (only byte))))
   pattern (list xs) = loose (array_of (all_common xs))
   pattern (tuple_of xs) = loose (tuple_with (patterns xs))
-  pattern (dictionary ps) = loose (array_of (strict (entry_of (kind_of (common_key ps)) (common_value ps))))
-  pattern (lone k v) = loose (entry_of (kind_of (pattern k)) (pattern v))
+  pattern (dictionary ps) = loose (array_of (strict (entry_of (basics_of (common_key ps)) (common_value ps))))
+  pattern (lone k v) = loose (entry_of (basics_of (pattern k)) (pattern v))
   pattern (boxed x) = loose a_variant
   pattern (just x) = maybe_of (pattern x)
   pattern nothing = maybe_of anything
   pattern (at_type t x) = common (exactly t) (pattern x)
-  pattern (keyword k x) = common (strict (kind (only k))) (pattern x)
+  pattern (keyword k x) = common (strict (basics (only k))) (pattern x)
 
   pub all_common : Syntaxes → Pattern
   all_common none = anything

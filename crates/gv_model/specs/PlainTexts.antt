@@ -1,16 +1,16 @@
 -- Syntax whose strings have no zero byte, as those of a text never do.
-use Rattle.std.specs.Prelude.{ℕ, ◌≡◌, List, Bool, false, ◌==◌}
-use Rattle.std.specs.List.{list_any}
+use Rattle.std.specs.Prelude.{◌≡◌, false}
 use Rattle.gv_model.specs.Syntax.{Syntax, Syntaxes, Pairs}
 use Rattle.gv_model.specs.Syntax.Syntax.{truth, integer, quoted, bytes, list, tuple_of, dictionary, lone, boxed, just, nothing, at_type, keyword}
 use Rattle.gv_model.specs.Syntax.Syntaxes.{none, first}
 use Rattle.gv_model.specs.Syntax.Pairs.{no_pair, pair}
+use Rattle.gv_model.specs.Texts.{has_zero_byte}
 
 abbrev mutual
   pub IsPlain : Syntax → Type 0
   IsPlain (truth b) = Unit {0}
   IsPlain (integer negative n) = Unit {0}
-  IsPlain (quoted s) = list_any (λ c. c == 0) s ≡ false
+  IsPlain (quoted s) = has_zero_byte s ≡ false
   IsPlain (bytes s) = Unit {0}
   IsPlain (list xs) = ArePlain xs
   IsPlain (tuple_of xs) = ArePlain xs

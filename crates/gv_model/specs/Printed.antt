@@ -6,11 +6,12 @@ use Rattle.std.specs.Int.{cast_signed, w16, w32, w64}
 use Rattle.std.specs.Fmt.{signed_decimal}
 use Rattle.gv_model.specs.Ty.{Ty, Basic, spelling}
 use Rattle.gv_model.specs.Ty.Ty.{basic, variant, array, maybe, tuple, entry}
-use Rattle.gv_model.specs.Ty.Basic.{boolean, byte, int16, uint16, int32, uint32, int64, uint64, handle, double, path, signature}
+use Rattle.gv_model.specs.Ty.Basic.{boolean, byte, int16, int32, int64, handle, double, string}
 use Rattle.gv_model.specs.Tree.{Tree, Trees, nodes, depth}
 use Rattle.gv_model.specs.Tree.Tree.{number, text, node}
 use Rattle.gv_model.specs.Tree.Trees.{none, first}
 use Rattle.gv_model.specs.BasicValue.{text_in}
+use Rattle.gv_model.specs.Words.{keyword}
 use Rattle.gv_model.specs.Quoted.{digit, between, quoted, byte_string}
 
 abbrev pub Text : Type 0
@@ -18,16 +19,11 @@ Text = List ℕ
 
 -- the word before a basic value that is annotated; int32, strings and booleans have none
 abbrev pub word : Basic → Text
-word byte = codes "byte "
-word int16 = codes "int16 "
-word uint16 = codes "uint16 "
-word uint32 = codes "uint32 "
-word handle = codes "handle "
-word int64 = codes "int64 "
-word uint64 = codes "uint64 "
-word path = codes "objectpath "
-word signature = codes "signature "
-word _ = []
+word boolean = []
+word int32 = []
+word double = []
+word string = []
+word k = keyword k ++ codes " "
 
 abbrev pub when : Bool → Text → Text
 when true s = s
@@ -47,17 +43,17 @@ figures int64 n = signed_decimal (cast_signed w64 n)
 figures double n = []
 figures k n = decimal n
 
-abbrev pub joined : Text → List Text → Text
-joined mark [] = []
-joined mark (s ∷ []) = s
-joined mark (s ∷ r ∷ ss) = s ++ (mark ++ joined mark (r ∷ ss))
+abbrev pub joined_by : Text → List Text → Text
+joined_by mark [] = []
+joined_by mark (s ∷ []) = s
+joined_by mark (s ∷ r ∷ ss) = s ++ (mark ++ joined_by mark (r ∷ ss))
 
 abbrev pub comma : Text
 comma = codes ", "
 
 abbrev pub tuple_text : List Text → Text
 tuple_text (s ∷ []) = 40 ∷ (s ++ codes ",)")
-tuple_text ss = between 40 (joined comma ss) 41
+tuple_text ss = between 40 (joined_by comma ss) 41
 
 -- the numbers of an array of bytes
 abbrev pub numbers : Trees → List ℕ
@@ -91,7 +87,7 @@ ends_in_nothing _ = false
 
 abbrev pub just_text : Trees → List Text → Text
 just_text none ss = codes "nothing"
-just_text (first v vs) ss = when (ends_in_nothing v) (codes "just ") ++ joined [] ss
+just_text (first v vs) ss = when (ends_in_nothing v) (codes "just ") ++ joined_by [] ss
 
 unfoldable mutual
   -- a value's text, annotated or not; in_array: as an element of an array, where an entry has no braces
@@ -99,12 +95,12 @@ unfoldable mutual
   text_of (number k n) annotated in_array = when annotated (word k) ++ figures k n
   text_of (text k s) annotated in_array = when annotated (word k) ++ quoted s
   text_of (node (basic k) vs) annotated in_array = []
-  text_of (node variant vs) annotated in_array = between 60 (joined comma (texts vs true true false)) 62
-  text_of (node (array t) vs) annotated in_array = when (annotated && is_empty vs) (type_mark (array t)) ++ bracketed t vs (joined comma (texts vs annotated false true))
+  text_of (node variant vs) annotated in_array = between 60 (joined_by comma (texts vs true true false)) 62
+  text_of (node (array t) vs) annotated in_array = when (annotated && is_empty vs) (type_mark (array t)) ++ bracketed t vs (joined_by comma (texts vs annotated false true))
   text_of (node (maybe t) vs) annotated in_array = when annotated (type_mark (maybe t)) ++ just_text vs (texts vs false false false)
   text_of (node (tuple ts) vs) annotated in_array = tuple_text (texts vs annotated annotated false)
-  text_of (node (entry k t) vs) annotated true = joined (codes ": ") (texts vs annotated annotated false)
-  text_of (node (entry k t) vs) annotated false = between 123 (joined comma (texts vs annotated annotated false)) 125
+  text_of (node (entry k t) vs) annotated true = joined_by (codes ": ") (texts vs annotated annotated false)
+  text_of (node (entry k t) vs) annotated false = between 123 (joined_by comma (texts vs annotated annotated false)) 125
 
   -- the texts of values, the first of them annotated or not, and the rest
   pub texts : Trees → Bool → Bool → Bool → List Text
@@ -121,14 +117,14 @@ printed v annotated = text_of v annotated false
 abbrev pub is_too_large : Tree → Bool
 is_too_large v = nat_lt 1000000 (nodes v) || nat_lt 128 (depth v)
 
-abbrev pub is_double : Basic → Bool
-is_double double = true
-is_double _ = false
+abbrev pub is_double_type : Basic → Bool
+is_double_type double = true
+is_double_type _ = false
 
 -- a double is to be printed
 unfoldable mutual
   pub holds_double : Tree → Bool
-  holds_double (number k n) = is_double k
+  holds_double (number k n) = is_double_type k
   holds_double (text k s) = false
   holds_double (node t vs) = hold_double vs
 

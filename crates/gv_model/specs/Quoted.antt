@@ -8,7 +8,7 @@ use Rattle.std.specs.List.{list_any}
 abbrev pub digit : ℕ → ℕ
 digit d = if nat_lt d 10 then 48 + d else 87 + d
 
--- the letter behind the backslash, for seven characters: a b t n v f r
+-- the letter after the backslash, for seven characters: a b t n v f r
 abbrev pub escape_letter : ℕ → Option ℕ
 escape_letter c =
     if c == 7 then Some 97 else if c == 8 then Some 98 else if c == 9 then Some 116 else if c == 10 then Some 110

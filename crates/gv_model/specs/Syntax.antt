@@ -8,7 +8,7 @@ mutual
     truth : Bool → Syntax
     -- whether it has a minus sign, and its digits' number
     integer : Bool → ℕ → Syntax
-    -- the text that stands between the quotes, in UTF-8
+    -- the text that occurs between the quotes, in UTF-8
     quoted : List ℕ → Syntax
     -- the bytes of a byte string, without the zero byte at the end
     bytes : List ℕ → Syntax
@@ -20,9 +20,9 @@ mutual
     boxed : Syntax → Syntax
     just : Syntax → Syntax
     nothing : Syntax
-    -- behind `@` and a type
+    -- after `@` and a type
     at_type : Ty → Syntax → Syntax
-    -- behind the word of a basic type
+    -- after the word of a basic type
     keyword : Basic → Syntax → Syntax
 
   pub data Syntaxes : Type 0 where

@@ -7,7 +7,7 @@ use Rattle.gv_model.specs.Tokens.Mark.{open_tuple, close_tuple, open_list, close
 use Rattle.gv_model.specs.Tokens.Token.{mark, string_token, byte_string}
 use Rattle.gv_model.specs.Characters.{is_quote}
 use Rattle.gv_model.specs.Strings.{part}
-use Rattle.gv_model.specs.Strings.Part.{stands}
+use Rattle.gv_model.specs.Strings.StringStep.{denotes}
 use Rattle.gv_model.specs.Lexing.{Begins, Lexes}
 use Rattle.gv_model.specs.Syntax.{Syntax, levels}
 use Rattle.gv_model.specs.Grammar.{tokens_of}
@@ -39,30 +39,30 @@ unfoldable pub meant : List StringPart → List ℕ
 meant [] = []
 meant (p ∷ ps) = p.1 ++ meant ps
 
--- a character or an escape, with that text behind it
-abbrev pub IsPart : Bool → ℕ → StringPart → List ℕ → Type 0
-IsPart of_bytes quote p rest = (c : ℕ) × (cs : List ℕ) × (p.0 ≡ c ∷ cs) × (part of_bytes quote c (cs ++ rest) ≡ stands p.1 (length p.0))
+-- a character or an escape, with that text after it
+abbrev pub IsStringPart : Bool → ℕ → StringPart → List ℕ → Type 0
+IsStringPart of_bytes quote p rest = (c : ℕ) × (cs : List ℕ) × (p.0 ≡ c ∷ cs) × (part of_bytes quote c (cs ++ rest) ≡ denotes p.1 (length p.0))
 
 abbrev pub AreParts : Bool → ℕ → List StringPart → List ℕ → Type 0
 AreParts of_bytes quote [] rest = Unit {0}
-AreParts of_bytes quote (p ∷ ps) rest = IsPart of_bytes quote p (written ps ++ rest) × AreParts of_bytes quote ps rest
+AreParts of_bytes quote (p ∷ ps) rest = IsStringPart of_bytes quote p (written ps ++ rest) × AreParts of_bytes quote ps rest
 
 -- A text from a place on is a quote, parts and the same quote, which ends there, and the parts stand for that string.
 pub record IsQuoted (of_bytes : Bool) (at : ℕ) (s : List ℕ) (stop : ℕ) (string : List ℕ) : Type 0 where
   pub quote : ℕ
   pub parts : List StringPart
-  pub behind : List ℕ
+  pub after : List ℕ
   pub is_one : is_quote quote ≡ true
-  pub spells : s ≡ quote ∷ (written parts ++ quote ∷ behind)
-  pub each : AreParts of_bytes quote parts (quote ∷ behind)
-  pub stands_for : string ≡ meant parts
+  pub spells : s ≡ quote ∷ (written parts ++ quote ∷ after)
+  pub each : AreParts of_bytes quote parts (quote ∷ after)
+  pub meaning : string ≡ meant parts
   pub ends : stop ≡ at + (2 + length (written parts))
 
 -- a string is so
 abbrev pub StringIsParts : Type 0
 StringIsParts = (at : ℕ) (s : List ℕ) (t : Placed) (string : List ℕ) → Begins at s t → t.token ≡ string_token string → IsQuoted false at s t.stop string
 
--- so is a byte string, behind its `b`
+-- so is a byte string, after its `b`
 abbrev pub ByteStringIsParts : Type 0
 ByteStringIsParts = (at : ℕ) (s : List ℕ) (t : Placed) (string : List ℕ) → Begins at s t → t.token ≡ byte_string string
     → (rest : List ℕ) × (s ≡ 98 ∷ rest) × IsQuoted true (suc at) rest t.stop string
@@ -83,22 +83,22 @@ TreesHaveNoFault = (x : Syntax) → levels x ≤ 128 → grammar_fault (tokens_o
 abbrev pub FaultlessIsTree : Type 0
 FaultlessIsTree = (ts : List Token) → grammar_fault ts ≡ None → (x : Syntax) × (tokens_of x ≡ ts) × (levels x ≤ 128)
 
--- the brackets that are open behind a token, by their tokens' numbers, the innermost first
-abbrev pub behind_bracket : ℕ → List ℕ → Token → List ℕ
-behind_bracket n opens (mark open_tuple) = n ∷ opens
-behind_bracket n opens (mark open_list) = n ∷ opens
-behind_bracket n opens (mark open_brace) = n ∷ opens
-behind_bracket n opens (mark open_box) = n ∷ opens
-behind_bracket n opens (mark close_tuple) = drop 1 opens
-behind_bracket n opens (mark close_list) = drop 1 opens
-behind_bracket n opens (mark close_brace) = drop 1 opens
-behind_bracket n opens (mark close_box) = drop 1 opens
-behind_bracket n opens t = opens
+-- the brackets that are open after a token, by their tokens' numbers, the innermost first
+abbrev pub after_bracket : ℕ → List ℕ → Token → List ℕ
+after_bracket n opens (mark open_tuple) = n ∷ opens
+after_bracket n opens (mark open_list) = n ∷ opens
+after_bracket n opens (mark open_brace) = n ∷ opens
+after_bracket n opens (mark open_box) = n ∷ opens
+after_bracket n opens (mark close_tuple) = drop 1 opens
+after_bracket n opens (mark close_list) = drop 1 opens
+after_bracket n opens (mark close_brace) = drop 1 opens
+after_bracket n opens (mark close_box) = drop 1 opens
+after_bracket n opens t = opens
 
--- the same behind tokens, of which the first has the number n
+-- the same after tokens, of which the first has the number n
 unfoldable pub open_brackets : ℕ → List ℕ → List Token → List ℕ
 open_brackets n opens [] = opens
-open_brackets n opens (t ∷ ts) = open_brackets (suc n) (behind_bracket n opens t) ts
+open_brackets n opens (t ∷ ts) = open_brackets (suc n) (after_bracket n opens t) ts
 
 -- tokens begin those of a syntax tree that has so many levels at most
 abbrev pub BeginsWithin : ℕ → List Token → Type 0
@@ -112,19 +112,19 @@ BeginsTree ts = (x : Syntax) × (us : List Token) × (tokens_of x ≡ ts ++ us)
 abbrev pub IsUnfinished : List Token → Type 0
 IsUnfinished ts = BeginsTree ts × ((x : Syntax) → tokens_of x ≡ ts → ⊥)
 
--- What a fault at a token says. Unexpected: the tokens in front of it begin a tree's, but none's with it; or the tokens
+-- What a fault at a token says. Unexpected: the tokens before it begin a tree's, but none's with it; or the tokens
 -- end where no bracket is open, and are unfinished. Too deep: with it they begin trees' tokens, but only of trees that
--- are too deep, while those in front begin a tree's that is at most a level too deep. Unclosed: the tokens are
+-- are too deep, while those before it begin a tree's that is at most a level too deep. Unclosed: the tokens are
 -- unfinished, and it is the innermost bracket that is open.
-abbrev pub EndsFront : List Token → NumberedFault → Type 0
-EndsFront ts (unexpected, n) = ((n < length ts) × BeginsTree (take n ts) × (BeginsTree (take (suc n) ts) → ⊥)) ⊎ ((n ≡ length ts) × IsUnfinished ts × (open_brackets 0 [] ts ≡ []))
-EndsFront ts (too_deep, n) = (n < length ts) × BeginsWithin 129 (take n ts) × BeginsTree (take (suc n) ts) × (BeginsWithin 128 (take (suc n) ts) → ⊥)
-EndsFront ts (unclosed, n) = IsUnfinished ts × ((outer : List ℕ) × (open_brackets 0 [] ts ≡ n ∷ outer))
-EndsFront ts f = ⊥
+abbrev pub EndsPrefix : List Token → NumberedFault → Type 0
+EndsPrefix ts (unexpected, n) = ((n < length ts) × BeginsTree (take n ts) × (BeginsTree (take (suc n) ts) → ⊥)) ⊎ ((n ≡ length ts) × IsUnfinished ts × (open_brackets 0 [] ts ≡ []))
+EndsPrefix ts (too_deep, n) = (n < length ts) × BeginsWithin 129 (take n ts) × BeginsTree (take (suc n) ts) × (BeginsWithin 128 (take (suc n) ts) → ⊥)
+EndsPrefix ts (unclosed, n) = IsUnfinished ts × ((outer : List ℕ) × (open_brackets 0 [] ts ≡ n ∷ outer))
+EndsPrefix ts f = ⊥
 
 -- the fault of tokens says so of them
-abbrev pub FaultEndsFront : Type 0
-FaultEndsFront = (ts : List Token) (f : NumberedFault) → grammar_fault ts ≡ Some f → EndsFront ts f
+abbrev pub FaultEndsPrefix : Type 0
+FaultEndsPrefix = (ts : List Token) (f : NumberedFault) → grammar_fault ts ≡ Some f → EndsPrefix ts f
 
 -- each text has a syntax tree or a fault
 abbrev pub EachTextParses : Type 0

@@ -14,7 +14,7 @@ use Rattle.gv_model.specs.Chosen.{Choice, Chooses}
 use Rattle.gv_model.specs.Admits.{Admits}
 use Rattle.gv_model.specs.Chosen.Choice.{is, no_common_type, ambiguous}
 use Rattle.gv_model.specs.LeastTypes.{choice}
-use Rattle.gv_model.specs.Literals.{ValueFault, integer_at, text_at, byte_trees}
+use Rattle.gv_model.specs.Literals.{ValueFault, integer_at, text_at, byte_string_trees}
 use Rattle.gv_model.specs.Literals.ValueFault.{no_common, not_clear, too_deep}
 
 abbrev pub with_first : Result Tree ValueFault → Result Trees ValueFault → Result Trees ValueFault
@@ -64,14 +64,14 @@ chosen_or f no_common_type = Err no_common
 chosen_or f ambiguous = Err not_clear
 
 unfoldable mutual
-  -- the value of syntax at a type that it admits; what stands in `<..>` has the type that
+  -- the value of syntax at a type that it admits; what is in `<..>` has the type that
   -- is chosen for it
   pub literal_value : (Syntax → Choice) → Syntax → Ty → Result Tree ValueFault
   literal_value choose (truth true) t = at_maybes (at_basic (λ k. Ok (number k 1))) t
   literal_value choose (truth false) t = at_maybes (at_basic (λ k. Ok (number k 0))) t
   literal_value choose (integer negative n) t = at_maybes (at_basic (λ k. integer_at k negative n)) t
   literal_value choose (quoted s) t = at_maybes (at_basic (λ k. text_at k s)) t
-  literal_value choose (bytes s) t = at_maybes (at_array (λ u. Ok (byte_trees s))) t
+  literal_value choose (bytes s) t = at_maybes (at_array (λ u. Ok (byte_string_trees s))) t
   literal_value choose (list xs) t = at_maybes (at_array (elements choose xs)) t
   literal_value choose (tuple_of xs) t = at_maybes (at_tuple (members_of choose xs)) t
   literal_value choose (dictionary ps) t = at_maybes (at_array (entries choose ps)) t
@@ -95,7 +95,7 @@ unfoldable mutual
   entries choose no_pair t = Ok no_tree
   entries choose (pair k v ps) t = with_first (at_entry (literal_value choose k) (literal_value choose v) t) (entries choose ps t)
 
--- What stands in `<..>`, in the order of the closing `>`
+-- What is in `<..>`, in the order of the closing `>`
 unfoldable mutual
   pub contents : Syntax → List Syntax
   contents (list xs) = all_contents xs

@@ -19,41 +19,41 @@ abbrev pub around : (Syntax → Syntax) → Read → Read
 around f (value x r) = value (f x) r
 around f _ = broken
 
-abbrev pub list_front : Syntax → Read → Read
-list_front x (value (list xs) r) = value (list (first x xs)) r
-list_front x _ = broken
+abbrev pub list_with_first : Syntax → Read → Read
+list_with_first x (value (list xs) r) = value (list (first x xs)) r
+list_with_first x _ = broken
 
 unfoldable pub list_items : Read → Read
 list_items (value x (mark_then close_list r)) = value (list (first x none)) r
-list_items (value x (mark_then comma r)) = list_front x (list_items r)
+list_items (value x (mark_then comma r)) = list_with_first x (list_items r)
 list_items _ = broken
 
 abbrev pub list_before : Read → Read
 list_before (mark_then close_list r) = value (list none) r
 list_before r = list_items r
 
-abbrev pub tuple_front : Syntax → Read → Read
-tuple_front x (value (tuple_of xs) r) = value (tuple_of (first x xs)) r
-tuple_front x _ = broken
+abbrev pub tuple_with_first : Syntax → Read → Read
+tuple_with_first x (value (tuple_of xs) r) = value (tuple_of (first x xs)) r
+tuple_with_first x _ = broken
 
 unfoldable pub tuple_items : Read → Read
 tuple_items (value x (mark_then close_tuple r)) = value (tuple_of (first x none)) r
-tuple_items (value x (mark_then comma r)) = tuple_front x (tuple_items r)
+tuple_items (value x (mark_then comma r)) = tuple_with_first x (tuple_items r)
 tuple_items _ = broken
 
 abbrev pub tuple_before : Read → Read
 tuple_before (mark_then close_tuple r) = value (tuple_of none) r
 tuple_before (value x (mark_then comma (mark_then close_tuple r))) = value (tuple_of (first x none)) r
-tuple_before (value x (mark_then comma r)) = tuple_front x (tuple_items r)
+tuple_before (value x (mark_then comma r)) = tuple_with_first x (tuple_items r)
 tuple_before _ = broken
 
-abbrev pub pair_front : Syntax → Syntax → Read → Read
-pair_front k v (value (dictionary ps) r) = value (dictionary (pair k v ps)) r
-pair_front k v _ = broken
+abbrev pub pair_with_first : Syntax → Syntax → Read → Read
+pair_with_first k v (value (dictionary ps) r) = value (dictionary (pair k v ps)) r
+pair_with_first k v _ = broken
 
 unfoldable pub pair_items : Read → Read
 pair_items (value k (mark_then colon (value v (mark_then close_brace r)))) = value (dictionary (pair k v no_pair)) r
-pair_items (value k (mark_then colon (value v (mark_then comma r)))) = pair_front k v (pair_items r)
+pair_items (value k (mark_then colon (value v (mark_then comma r)))) = pair_with_first k v (pair_items r)
 pair_items _ = broken
 
 abbrev pub brace_before : Read → Read

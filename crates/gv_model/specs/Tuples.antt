@@ -1,7 +1,7 @@
 -- Where the members of a tuple or an entry lie.
 -- GVariant Specification, "Structures" and "Dictionary Entries". Each member begins where the one before
 -- ends, aligned. A member of fixed size ends by that size, a last one of no fixed size where the framing
--- offsets begin, any other at its framing offset; the offsets stand at the end, the first one last.
+-- offsets begin, any other at its framing offset; the offsets occur at the end, the first one last.
 use Rattle.std.specs.Prelude.{ℕ, suc, ◌+◌, ◌-◌, ◌*◌, Bool, true, false, List, [], ◌∷◌, length, Option, Some, None, nat_le, ◌==◌, if◌then◌else◌, option_and_then, option_map}
 use Rattle.gv_model.specs.Ty.{Ty, Types}
 use Rattle.gv_model.specs.Ty.Types.{end, member}
@@ -12,7 +12,7 @@ use Rattle.gv_model.specs.Children.{Span, framing_offset}
 abbrev pub body_end : ℕ → List ℕ → ℕ → Option ℕ
 body_end w b k = if nat_le (w * k) (length b) then Some (length b - w * k) else None
 
--- the end of a member that begins at p, if k offsets were used before it and ts are the members behind it
+-- the end of a member that begins at p, if k offsets were used before it and ts are the members after it
 abbrev pub member_end : ℕ → List ℕ → ℕ → ℕ → Option ℕ → Types → Option ℕ
 member_end w b k p (Some size) ts = Some (p + size)
 member_end w b k p None end = body_end w b k

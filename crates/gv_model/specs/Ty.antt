@@ -72,9 +72,9 @@ members (entry k t) = member (basic k) (member t end)
 members _ = end
 
 -- the types in a list
-unfoldable pub listed : Types → List Ty
-listed end = []
-listed (member t ts) = t ∷ listed ts
+unfoldable pub type_list : Types → List Ty
+type_list end = []
+type_list (member t ts) = t ∷ type_list ts
 
 -- types in a list, as members
 abbrev pub types_from : List Ty → Types

@@ -4,39 +4,39 @@
 use Rattle.std.specs.Prelude.{◌≡◌, ◌≢◌, ◌≤◌, ◌<◌, ◌⊎◌, ℕ, suc, max, List, [], ◌∷◌, ◌++◌, length}
 use Rattle.gv_model.specs.Ty.{Ty, Types, Basic, letter, spelling, spellings, nesting, greatest_nesting}
 
--- A front is what has been read of a type that goes on.
-pub data Front : Type 0 where
-  nothing : Front
-  array_of : Front → Front
-  maybe_of : Front → Front
-  -- whole members, and a front of the next
-  tuple_with : Types → Front → Front
-  entry_start : Front
-  entry_with : Basic → Front → Front
+-- A prefix is what has been read of a type that goes on.
+pub data Prefix : Type 0 where
+  nothing : Prefix
+  array_of : Prefix → Prefix
+  maybe_of : Prefix → Prefix
+  -- whole members, and a prefix of the next
+  tuple_with : Types → Prefix → Prefix
+  entry_start : Prefix
+  entry_with : Basic → Prefix → Prefix
   -- all but the closing bracket
-  entry_end : Basic → Ty → Front
+  entry_end : Basic → Ty → Prefix
 
-unfoldable pub front_text : Front → List ℕ
-front_text nothing = []
-front_text (array_of f) = 97 ∷ front_text f
-front_text (maybe_of f) = 109 ∷ front_text f
-front_text (tuple_with ts f) = 40 ∷ (spellings ts ++ front_text f)
-front_text entry_start = 123 ∷ []
-front_text (entry_with k f) = 123 ∷ letter k ∷ front_text f
-front_text (entry_end k t) = 123 ∷ letter k ∷ spelling t
+unfoldable pub prefix_text : Prefix → List ℕ
+prefix_text nothing = []
+prefix_text (array_of f) = 97 ∷ prefix_text f
+prefix_text (maybe_of f) = 109 ∷ prefix_text f
+prefix_text (tuple_with ts f) = 40 ∷ (spellings ts ++ prefix_text f)
+prefix_text entry_start = 123 ∷ []
+prefix_text (entry_with k f) = 123 ∷ letter k ∷ prefix_text f
+prefix_text (entry_end k t) = 123 ∷ letter k ∷ spelling t
 
 -- how deep the types nest that have begun
-unfoldable pub front_nesting : Front → ℕ
-front_nesting nothing = 0
-front_nesting (array_of f) = suc (front_nesting f)
-front_nesting (maybe_of f) = suc (front_nesting f)
-front_nesting (tuple_with ts f) = suc (max (greatest_nesting ts) (front_nesting f))
-front_nesting entry_start = 1
-front_nesting (entry_with k f) = suc (max 1 (front_nesting f))
-front_nesting (entry_end k t) = suc (nesting t)
+unfoldable pub prefix_nesting : Prefix → ℕ
+prefix_nesting nothing = 0
+prefix_nesting (array_of f) = suc (prefix_nesting f)
+prefix_nesting (maybe_of f) = suc (prefix_nesting f)
+prefix_nesting (tuple_with ts f) = suc (max (greatest_nesting ts) (prefix_nesting f))
+prefix_nesting entry_start = 1
+prefix_nesting (entry_with k f) = suc (max 1 (prefix_nesting f))
+prefix_nesting (entry_end k t) = suc (nesting t)
 
--- how many types are open where a front ends
-unfoldable pub open_types : Front → ℕ
+-- how many types are open where a prefix ends
+unfoldable pub open_types : Prefix → ℕ
 open_types nothing = 0
 open_types (array_of f) = suc (open_types f)
 open_types (maybe_of f) = suc (open_types f)
@@ -45,20 +45,20 @@ open_types entry_start = 1
 open_types (entry_with k f) = suc (open_types f)
 open_types (entry_end k t) = 1
 
--- what stands next where a front ends
-pub data Want : Type 0 where
-  a_type : Want
+-- what comes next where a prefix ends
+pub data Expected : Type 0 where
+  a_type : Expected
   -- a member, or the bracket that closes the tuple
-  member_or_close : Want
-  key : Want
+  member_or_close : Expected
+  key : Expected
   -- the bracket that closes an entry
-  entry_close : Want
+  entry_close : Expected
 
-abbrev pub in_tuple : Front → Want → Want
+abbrev pub in_tuple : Prefix → Expected → Expected
 in_tuple nothing w = member_or_close
 in_tuple _ w = w
 
-unfoldable pub next : Front → Want
+unfoldable pub next : Prefix → Expected
 next nothing = a_type
 next (array_of f) = next f
 next (maybe_of f) = next f
@@ -74,42 +74,42 @@ BeginsType b = (t : Ty) × ((more : List ℕ) × (spelling t ≡ b ∷ more))
 abbrev pub IsKey : ℕ → Type 0
 IsKey b = (k : Basic) × (b ≡ letter k)
 
--- the byte can stand there, the kind of a key and the nesting left aside
-abbrev pub MayStand : Want → ℕ → Type 0
-MayStand a_type b = BeginsType b
-MayStand member_or_close b = BeginsType b ⊎ (b ≡ 41)
-MayStand key b = BeginsType b
-MayStand entry_close b = b ≡ 125
+-- the byte can occur there, the kind of a key and the nesting left aside
+abbrev pub IsAllowed : Expected → ℕ → Type 0
+IsAllowed a_type b = BeginsType b
+IsAllowed member_or_close b = BeginsType b ⊎ (b ≡ 41)
+IsAllowed key b = BeginsType b
+IsAllowed entry_close b = b ≡ 125
 
--- ---- a byte at fault behind a front
+-- ---- a byte at fault after a prefix
 
-abbrev pub IsBadChar : Front → ℕ → Type 0
-IsBadChar f b = ¬ MayStand (next f) b
+abbrev pub IsBadChar : Prefix → ℕ → Type 0
+IsBadChar f b = ¬ IsAllowed (next f) b
 
-abbrev pub IsKeyNotBasic : Front → ℕ → Type 0
+abbrev pub IsKeyNotBasic : Prefix → ℕ → Type 0
 IsKeyNotBasic f b = (next f ≡ key) × BeginsType b × (¬ IsKey b)
 
 -- a type begins at nesting 129
-abbrev pub IsTooDeep : Front → ℕ → Type 0
+abbrev pub IsTooDeep : Prefix → ℕ → Type 0
 IsTooDeep f b = (open_types f ≡ 128) × BeginsType b × (next f ≡ key → IsKey b)
 
--- at place i, behind a front, stands a byte of which P says that it is at fault
-pub record FaultAt (P : Front → ℕ → Type 0) (text : List ℕ) (i : ℕ) : Type 0 where
-  pub front : Front
+-- at place i, after a prefix, is a byte of which P says that it is at fault
+pub record FaultAt (P : Prefix → ℕ → Type 0) (text : List ℕ) (i : ℕ) : Type 0 where
+  pub prefix : Prefix
   pub byte : ℕ
   pub rest : List ℕ
-  pub whole : text ≡ front_text front ++ byte ∷ rest
-  pub place : i ≡ length (front_text front)
-  pub within : front_nesting front ≤ 128
-  pub fault : P front byte
+  pub whole : text ≡ prefix_text prefix ++ byte ∷ rest
+  pub place : i ≡ length (prefix_text prefix)
+  pub within : prefix_nesting prefix ≤ 128
+  pub fault : P prefix byte
 
 -- the text ends inside a type
 pub record EndsInside (text : List ℕ) (i : ℕ) : Type 0 where
-  pub front : Front
-  pub whole : text ≡ front_text front
+  pub prefix : Prefix
+  pub whole : text ≡ prefix_text prefix
   pub begun : text ≢ []
   pub place : i ≡ length text
-  pub within : front_nesting front ≤ 128
+  pub within : prefix_nesting prefix ≤ 128
 
 -- a whole type is followed by a byte
 pub record GoesOn (text : List ℕ) (i : ℕ) : Type 0 where

@@ -1,8 +1,8 @@
 -- The type that a text spells, if it spells one within the limits.
 -- GVariant Specification, "Type Strings"; the limits are this project's.
 --
--- A text is read from its end: each byte turns the types and closing brackets that stand behind it into
--- those that stand from it on.
+-- A text is read from its end: each byte turns the types and closing brackets that come after it into
+-- those that come from it on.
 use Rattle.std.specs.Prelude.{ℕ, List, [], ◌∷◌, length, Option, Some, None, nat_le, ◌==◌, ◌&&◌, Bool, if◌then◌else◌, option_and_then, is_some, unwrap_or}
 use Rattle.gv_model.specs.Ty.{Ty, Basic, nesting}
 use Rattle.gv_model.specs.Ty.Ty.{basic, variant, array, maybe, tuple, entry}
@@ -10,13 +10,13 @@ use Rattle.gv_model.specs.Ty.Types.{end, member}
 use Rattle.gv_model.specs.Ty.Basic.{boolean, byte, int16, uint16, int32, uint32, int64, uint64, handle, double, string, path, signature}
 
 -- what a byte of a text stands for
-pub data Mark : Type 0 where
-  letter : Basic → Mark
-  of_variant of_array of_maybe : Mark
-  open_tuple close_tuple open_entry close_entry : Mark
-  other : Mark
+pub data TypeMark : Type 0 where
+  letter : Basic → TypeMark
+  of_variant of_array of_maybe : TypeMark
+  open_tuple close_tuple open_entry close_entry : TypeMark
+  other : TypeMark
 
-unfoldable pub mark : ℕ → Mark
+unfoldable pub mark : ℕ → TypeMark
 mark c =
     if c == 98 then letter boolean else if c == 121 then letter byte
     else if c == 110 then letter int16 else if c == 113 then letter uint16
@@ -29,7 +29,7 @@ mark c =
     else if c == 40 then open_tuple else if c == 41 then close_tuple
     else if c == 123 then open_entry else if c == 125 then close_entry else other
 
--- the types that stand in a text, the leftmost first, and among them closing brackets that wait for
+-- the types that occur in a text, the leftmost first, and among them closing brackets that wait for
 -- their opening ones
 pub data Seen : Type 0 where
   nothing : Seen
@@ -56,27 +56,27 @@ member_before t (type (tuple ts) seen) = type (tuple (member t ts)) seen
 member_before t _ = wrong
 
 -- the types up to the closing bracket are a tuple's
-unfoldable pub tuple_before : Seen → Seen
-tuple_before (tuple_end seen) = type (tuple end) seen
-tuple_before (type t seen) = member_before t (tuple_before seen)
-tuple_before nothing = wrong
-tuple_before (entry_end seen) = wrong
-tuple_before wrong = wrong
+unfoldable pub tuple_type_before : Seen → Seen
+tuple_type_before (tuple_end seen) = type (tuple end) seen
+tuple_type_before (type t seen) = member_before t (tuple_type_before seen)
+tuple_type_before nothing = wrong
+tuple_type_before (entry_end seen) = wrong
+tuple_type_before wrong = wrong
 
-abbrev pub before : Mark → Seen → Seen
-before (letter k) seen = type (basic k) seen
-before of_variant seen = type variant seen
-before of_array seen = array_before seen
-before of_maybe seen = maybe_before seen
-before open_tuple seen = tuple_before seen
-before close_tuple seen = tuple_end seen
-before open_entry seen = entry_before seen
-before close_entry seen = entry_end seen
-before other seen = wrong
+abbrev pub mark_before : TypeMark → Seen → Seen
+mark_before (letter k) seen = type (basic k) seen
+mark_before of_variant seen = type variant seen
+mark_before of_array seen = array_before seen
+mark_before of_maybe seen = maybe_before seen
+mark_before open_tuple seen = tuple_type_before seen
+mark_before close_tuple seen = tuple_end seen
+mark_before open_entry seen = entry_before seen
+mark_before close_entry seen = entry_end seen
+mark_before other seen = wrong
 
 unfoldable pub seen : List ℕ → Seen
 seen [] = nothing
-seen (c ∷ cs) = before (mark c) (seen cs)
+seen (c ∷ cs) = mark_before (mark c) (seen cs)
 
 abbrev pub one_type : Seen → Option Ty
 one_type (type t nothing) = Some t

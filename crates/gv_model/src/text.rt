@@ -1,6 +1,6 @@
 //! Laws of text: its tokens, its syntax tree or first fault, and the type that is chosen for a tree.
 
-ghost use Rattle.gv_model.specs.TextLaws.{EachTextLexes, HasOneLexing, StringIsParts, ByteStringIsParts, StringsArePlain, NoTreeBeginsAnother, TreesHaveNoFault, FaultlessIsTree, FaultEndsFront, EachTextParses, HasOneOutcome, AdmitsOrNot, IsBelowItself, IsBelowThird, IsBelowOneWay, HasOneChosen};
+ghost use Rattle.gv_model.specs.TextLaws.{EachTextLexes, HasOneLexing, StringIsParts, ByteStringIsParts, StringsArePlain, NoTreeBeginsAnother, TreesHaveNoFault, FaultlessIsTree, FaultEndsPrefix, EachTextParses, HasOneOutcome, AdmitsOrNot, IsBelowItself, IsBelowThird, IsBelowOneWay, HasOneChosen};
 ghost use Rattle.gv_model.specs.LeastTypes.{choice};
 ghost use Rattle.gv_model.specs.TextValues.{IsChoice};
 
@@ -11,7 +11,7 @@ pub fn one_list_of_tokens()
 {}
 
 /// A string's token is a quote, its parts and that quote again: each part is a character or an escape, and the
-/// string is what they stand for, one after another. So is a byte string's, behind its `b`.
+/// string is what they stand for, one after another. So is a byte string's, after its `b`.
 pub fn string_is_parts()
     ensures string { StringIsParts }
     ensures bytes { ByteStringIsParts }
@@ -33,10 +33,10 @@ pub fn faultless_where_tree()
     ensures whole { FaultlessIsTree }
 {}
 
-/// Tokens that are no tree's have their fault where the longest front of them ends that begins some tree's tokens,
+/// Tokens that are no tree's have their fault where the longest prefix of them ends that begins some tree's tokens,
 /// or where trees that begin so are too deep; at the end of the tokens it names the innermost open bracket.
-pub fn fault_ends_front()
-    ensures { FaultEndsFront }
+pub fn fault_ends_prefix()
+    ensures { FaultEndsPrefix }
 {}
 
 /// Each text has a syntax tree or a first fault, and one of them alone.

@@ -9,9 +9,6 @@ use crate::fault::NormalFault;
 use gv_view::View;
 use std::alloc::Global;
 
-/// The most values, a container and each value in it.
-const MOST_VALUES: usize = 1_000_000;
-
 /// Whether the value and the values in it are more than 1,000,000.
 ///
 /// Values may lie deeper than calls should: those that are still to be looked at are kept in a list. It never holds
@@ -20,7 +17,7 @@ pub(crate) fn has_too_many(alloc: Global, view: View<'_>) -> Result<bool, Normal
     ensures many { IfOk result (λ b. IsTrue b ↔ (1000000 < nodes (value view.entry))) }
     ensures fault { IfErr result (λ f. f ≡ Memory) }
 {
-    let mut room = MOST_VALUES - 1;
+    let mut room = View::MAX_VALUES - 1;
     let mut waiting = Vec::new(alloc);
     waiting.push(view)?;
     while let Some(next) = waiting.pop() {
@@ -34,7 +31,7 @@ pub(crate) fn has_too_many(alloc: Global, view: View<'_>) -> Result<bool, Normal
     Ok(false)
 }
 
-/// Puts the children behind the others.
+/// Puts the children after the others.
 fn push_children<'a>(view: View<'a>, waiting: &mut Vec<View<'a>>) -> Result<(), NormalFault>
     ensures values { OnOk result (nodes_in waiting.new.items ≡ nodes_in waiting.old.items + nodes_of (children (value view.entry))) }
     ensures count { OnOk result (vec_len waiting.new ≡ vec_len waiting.old + trees_len (children (value view.entry))) }

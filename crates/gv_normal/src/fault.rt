@@ -15,17 +15,28 @@ pub enum NormalFault {
     Memory,
 }
 
+impl NormalFault {
+    ghost use Rattle.gv_normal.specs.FaultTexts.{normal_fault_text};
+
+    /// How the fault is printed.
+    fn name(self) -> &'static str
+        ensures { result.now ≡ normal_fault_text self }
+    {
+        match self {
+            NormalFault::TooLarge => "TooLarge",
+            NormalFault::Memory => "Memory",
+        }
+    }
+}
+
 impl fmt::Display for NormalFault {
     ghost use Rattle.std.specs.Prelude.{Some};
-    ghost use Rattle.gv_normal.specs.FaultTexts.{fault_text};
+    ghost use Rattle.gv_normal.specs.FaultTexts.{normal_fault_text};
 
-    ghost output = { λ fault. Some (fault_text fault) };
+    ghost output = { λ fault. Some (normal_fault_text fault) };
 
     fn fmt<W: fmt::Write>(&self, f: &mut fmt::Formatter<W>) -> fmt::Result {
-        match self {
-            NormalFault::TooLarge => write!(f, "TooLarge"),
-            NormalFault::Memory => write!(f, "Memory"),
-        }
+        f.write_str(self.name())
     }
 }
 

@@ -11,7 +11,7 @@ use Rattle.gv_model.specs.Tree.Trees.{none, first}
 use Rattle.gv_model.specs.BasicValue.{text_in}
 use Rattle.gv_model.specs.Decode.{decode}
 use Rattle.gv_model.specs.Quoted.{between, byte_string}
-use Rattle.gv_model.specs.Printed.{Text, comma, holds_double, hold_double, is_empty, joined, numbers, text_of, type_mark, when}
+use Rattle.gv_model.specs.Printed.{Text, comma, holds_double, hold_double, is_empty, joined_by, numbers, text_of, type_mark, when}
 use Rattle.gv_types.specs.Classes.{class_of}
 use Rattle.gv_types.specs.TypeStr.{element_of}
 use Rattle.gv_types.specs.declared.class.Class.TheVariants as classes
@@ -83,7 +83,7 @@ value_bytes_plain v b e = ap holds_double e ∙ bytes_plain b
 
 -- elements in the brackets of an array of this type
 abbrev list_text : Ty → Trees → Bool → Text
-list_text t vs annotated = between (brackets_of (element_of t)).0 (joined comma (child_texts vs annotated true)) (brackets_of (element_of t)).1
+list_text t vs annotated = between (brackets_of (element_of t)).0 (joined_by comma (child_texts vs annotated true)) (brackets_of (element_of t)).1
 
 abbrev marked : Ty → Trees → Bool → Text
 marked t vs annotated = when (annotated && is_empty vs) (type_mark t) ++ list_text t vs annotated
@@ -102,7 +102,7 @@ array_text (array t) vs annotated in_array e = refl
 array_text (maybe t) vs annotated in_array e = refl
 array_text (tuple ts) vs annotated in_array e = refl
 
--- another array is printed as its elements in their brackets, behind its type if it has none
+-- another array is printed as its elements in their brackets, after its type if it has none
 value_array_text : (t : Ty) (b : List ℕ) (annotated in_array : Bool) → class_of t ≡ classes.Array → byte_string_of (decode t b) ≡ None
     → text_of (decode t b) annotated in_array ≡ when (annotated && is_empty (children (decode t b))) (type_mark t) ++ list_text t (children (decode t b)) annotated
 value_array_text (array t) b annotated in_array h e =
@@ -121,12 +121,12 @@ empty_by_count (first v vs) n e = ne_eqb n 0 (omega arith)
 
 pub array_written : {X : Type 0} (result : Result X PrintFault) (t : Ty) (b : List ℕ) (annotated : Bool) (brackets : ℕ × ℕ) (old mid new : Text) → class_of t ≡ classes.Array → byte_string_of (decode t b) ≡ None → brackets ≡ brackets_of (element_of t)
     → mid ≡ old ++ when (annotated && is_empty (children (decode t b))) (type_mark t)
-    → MatchResult result (λ _. (hold_double (children (decode t b)) ≡ false) × (new ≡ mid ++ between brackets.0 (joined comma (child_texts (children (decode t b)) annotated true)) brackets.1)) (AreFaultOf (children (decode t b)))
+    → MatchResult result (λ _. (hold_double (children (decode t b)) ≡ false) × (new ≡ mid ++ between brackets.0 (joined_by comma (child_texts (children (decode t b)) annotated true)) brackets.1)) (AreFaultOf (children (decode t b)))
     → IsWritten result (decode t b) (text_of (decode t b) annotated false) old new
 array_written result t b annotated brackets old mid new h e is marks wrote =
     let vs = children (decode t b) in
     MatchResult-weaker result wrote (λ x p. (
       array_doubles t b h ∙ p.0,
       marked_text (list_text t vs annotated) (text_of (decode t b) annotated false) (when (annotated && is_empty vs) (type_mark t)) old mid new (value_array_text t b annotated false h e) marks
-          (p.1 ∙ ap (λ (q : ℕ × ℕ). mid ++ between q.0 (joined comma (child_texts vs annotated true)) q.1) is),
+          (p.1 ∙ ap (λ (q : ℕ × ℕ). mid ++ between q.0 (joined_by comma (child_texts vs annotated true)) q.1) is),
     )) (λ f q. fault_of_children (decode t b) f (array_doubles t b h) q)

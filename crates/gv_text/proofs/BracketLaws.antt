@@ -1,4 +1,4 @@
--- What stands in a tuple and in braces, part by part.
+-- What occurs in a tuple and in braces, part by part.
 use Rattle.std.proofs.Common.{arith, length, ◌≡◌, ◌≤◌, ◌<◌, ◌+◌, ℕ, List, [], ◌∷◌, ◌++◌, refl, sym, ap, ◌∙◌, append_assoc, Box, Global, Vec}
 use Rattle.std.specs.Prelude.{◌⊎◌}
 use mathlib.Core.Logic.{inl, inr}
@@ -18,21 +18,21 @@ use Rattle.gv_text.specs.declared.fault.TextFault.TheVariants.{Refused}
 use Rattle.gv_text.specs.declared.syntax.SyntaxNode.{SyntaxNode}
 use Rattle.gv_text.specs.declared.syntax.SyntaxKind.TheVariants.{Dictionary, Entry}
 use Rattle.gv_text.specs.SyntaxNodes.{nodes_of, pairs_of}
-use Rattle.gv_text.specs.Placed.{token_of}
-use Rattle.gv_text.specs.Reading.{Want, first_fault, kinds_of, Taken, Stops, StopsWith}
-use Rattle.gv_text.specs.Reading.Want.{a_value, inside}
-use Rattle.gv_text.specs.Held.{IsValue, IsBraced, ArePairs, AreMembers, AreMore}
-use Rattle.gv_text.proofs.ReadingLaws.{Opens, Refuses, carried_in, carried_out, entered, taken, taken_tokens, second_opens}
+use Rattle.gv_text.specs.ModelTokens.{token_of}
+use Rattle.gv_text.specs.Expectations.{Want, first_fault, kinds_of, Taken, Stops, StopsWith}
+use Rattle.gv_text.specs.Expectations.Want.{a_value, inside}
+use Rattle.gv_text.specs.ParseSteps.{IsValue, IsBraced, ArePairs, AreMembers, AreMore}
+use Rattle.gv_text.proofs.ExpectationLaws.{Opens, Refuses, carried_in, carried_out, entered, taken, taken_tokens, second_opens}
 use Rattle.gv_text.proofs.SequenceLaws.{PairsSoFar, pairs_more, pairs_levels_more, members_of, no_longer}
 
 -- from these tokens, where the first things are wanted, to those, where the second are
 abbrev pub Reaches : List Want → List Token → List Want → List Token → Type 0
 Reaches ws old vs mid = (e : TextFault) (more : List Want) → first_fault e (ws ++ more) old ≡ first_fault e (vs ++ more) mid
 
-pub stops_behind : (ws vs : List Want) (old mid : List Token) (f : TextFault) → Reaches ws old vs mid → Stops vs mid f → Stops ws old f
-stops_behind ws vs old mid f g h = carried_out f ws vs old mid h (λ e more. (more, g e more))
+pub stops_after : (ws vs : List Want) (old mid : List Token) (f : TextFault) → Reaches ws old vs mid → Stops vs mid f → Stops ws old f
+stops_after ws vs old mid f g h = carried_out f ws vs old mid h (λ e more. (more, g e more))
 
--- a fault in a value that stands in a bracket
+-- a fault in a value that occurs in a bracket
 pub stops_in_value : (ws : List Want) (q : Stage) (d : ℕ) (at : Span) (old mid : List Token) (f ended : TextFault) → ended ≡ Refused Unclosed at → Reaches ws old (a_value d ∷ inside q d at ∷ []) mid → StopsWith ended (a_value d ∷ []) mid f → Stops ws old f
 stops_in_value ws q d at old mid f ended i g h = carried_in f ended ws (a_value d ∷ []) old mid h (λ e more. (inside q d at ∷ more, g e more, sym i))
 
@@ -51,7 +51,7 @@ holds_first r q m d at t ts old mid x o h k v = record {
 
 -- Tuples
 
--- a tuple's first member and the `,` behind it
+-- a tuple's first member and the `,` after it
 pub record FirstMember (d : ℕ) (at : Span) (old mid : List Token) (x : Value) : Type 0 where
   pub tokens : kinds_of old ≡ tokens_of x ++ mark comma ∷ kinds_of mid
   pub reaches : Reaches (inside tuple_start d at ∷ []) old (inside tuple_two d at ∷ []) mid

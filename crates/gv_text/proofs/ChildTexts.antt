@@ -1,25 +1,25 @@
 -- The texts of a container's children, one after the other.
 use Rattle.std.proofs.Common.{◌≡◌, ◌<◌, ◌≤◌, ℕ, suc, List, [], ◌∷◌, ◌++◌, Bool, true, false, ◌||◌, length, refl, sym, ap, ◌∙◌, arith, append_assoc, append-nil}
+use Rattle.std.proofs.lemmas.Bool.{or_left}
 use Rattle.gv_model.specs.Tree.{Tree, Trees, children, trees_len, depth, greatest_depth}
 use Rattle.gv_model.specs.Tree.Trees.{none, first}
 use Rattle.gv_model.specs.Quoted.{between}
-use Rattle.gv_model.specs.Printed.{Text, comma, holds_double, hold_double, joined, text_of, texts, tuple_text}
+use Rattle.gv_model.specs.Printed.{Text, comma, holds_double, hold_double, joined_by, text_of, texts, tuple_text}
 use Rattle.gv_text.specs.declared.printing.PrintFault.{PrintFault}
 use Rattle.gv_text.specs.declared.printing.PrintFault.TheVariants.{TooLarge, DoubleText, Memory}
 use Rattle.gv_text.specs.Printing.{AreFaultOf, IsElementFault, child_texts, rest_annotated}
 use Rattle.gv_text.proofs.Containers.{deeper}
-use Rattle.gv_text.proofs.Trivia.{or_left}
 
--- the texts behind the first, each behind the mark
+-- the texts after the first, each after the mark
 abbrev pub following : Text → List Text → Text
 following mark [] = []
 following mark (s ∷ ss) = mark ++ (s ++ following mark ss)
 
-joined_first : (mark s : Text) (ss : List Text) → joined mark (s ∷ ss) ≡ s ++ following mark ss
+joined_first : (mark s : Text) (ss : List Text) → joined_by mark (s ∷ ss) ≡ s ++ following mark ss
 joined_first mark s [] = sym (append-nil s)
 joined_first mark s (r ∷ ss) = ap (λ (l : Text). s ++ (mark ++ l)) (joined_first mark r ss)
 
--- the texts of the children behind the first
+-- the texts of the children after the first
 abbrev pub rest_texts : Trees → Bool → Bool → List Text
 rest_texts vs annotated in_array = texts vs (rest_annotated annotated in_array) (rest_annotated annotated in_array) in_array
 
@@ -27,9 +27,9 @@ pub rest_of_plain : (annotated in_array : Bool) → annotated ≡ false → anno
 rest_of_plain annotated true h = h
 rest_of_plain annotated false h = refl
 
--- Of the children vs, whose text goes behind `start`, these are left. So far `now` is written.
+-- Of the children vs, whose text goes after `start`, these are left. So far `now` is written.
 pub record IsLeft (mark : Text) (vs left : Trees) (annotated in_array : Bool) (start now : Text) : Type 0 where
-  pub texts : now ++ following mark (rest_texts left annotated in_array) ≡ start ++ joined mark (child_texts vs annotated in_array)
+  pub texts : now ++ following mark (rest_texts left annotated in_array) ≡ start ++ joined_by mark (child_texts vs annotated in_array)
   pub doubles : hold_double vs ≡ hold_double left
   pub depth : greatest_depth left ≤ greatest_depth vs
 
@@ -79,12 +79,12 @@ unfolding holds_double
 no_doubles = refl
 
 -- none is left
-pub left_none : (mark : Text) (vs : Trees) (annotated in_array : Bool) (start now : Text) → IsLeft mark vs none annotated in_array start now → (hold_double vs ≡ false) × (now ≡ start ++ joined mark (child_texts vs annotated in_array))
+pub left_none : (mark : Text) (vs : Trees) (annotated in_array : Bool) (start now : Text) → IsLeft mark vs none annotated in_array start now → (hold_double vs ≡ false) × (now ≡ start ++ joined_by mark (child_texts vs annotated in_array))
 left_none mark vs annotated in_array start now was =
     (was.doubles ∙ no_doubles, sym (append-nil now) ∙ (ap (λ (l : Text). now ++ l) (sym (no_texts mark annotated in_array)) ∙ was.texts))
 
 -- there are none at all
-pub childless_text : (mark : Text) (annotated in_array : Bool) (start : Text) → (hold_double none ≡ false) × (start ≡ start ++ joined mark (child_texts none annotated in_array))
+pub childless_text : (mark : Text) (annotated in_array : Bool) (start : Text) → (hold_double none ≡ false) × (start ≡ start ++ joined_by mark (child_texts none annotated in_array))
 unfolding text_of holds_double
 childless_text mark annotated in_array start = (refl, sym (append-nil start))
 
@@ -102,10 +102,10 @@ same_faults vs left DoubleText same h = same ∙ h
 same_faults vs left Memory same h = tt
 
 -- the next one is less deep than the container
-pub left_deeper : {mark start now : Text} {annotated in_array : Bool} {left : Trees} (v u : Tree) (behind : Trees) → left ≡ first u behind → IsLeft mark (children v) left annotated in_array start now → depth u < depth v
-left_deeper v u behind e was =
-    let bound : greatest_depth (first u behind) ≤ greatest_depth (children v) = rw (sym e) was.depth in
-    omega (arith, (less_deep u behind (greatest_depth (children v)) bound).0, deeper v)
+pub left_deeper : {mark start now : Text} {annotated in_array : Bool} {left : Trees} (v u : Tree) (after : Trees) → left ≡ first u after → IsLeft mark (children v) left annotated in_array start now → depth u < depth v
+left_deeper v u after e was =
+    let bound : greatest_depth (first u after) ≤ greatest_depth (children v) = rw (sym e) was.depth in
+    omega (arith, (less_deep u after (greatest_depth (children v)) bound).0, deeper v)
 
 -- ---- brackets
 
@@ -121,27 +121,27 @@ unfolding trees_len text_of
 length-texts none annotated rest in_array = refl
 length-texts (first v vs) annotated rest in_array = ap suc (length-texts vs rest rest in_array)
 
-one_text : (ss : List Text) → length ss ≡ 1 → tuple_text ss ≡ 40 ∷ (joined comma ss ++ 44 ∷ 41 ∷ [])
+one_text : (ss : List Text) → length ss ≡ 1 → tuple_text ss ≡ 40 ∷ (joined_by comma ss ++ 44 ∷ 41 ∷ [])
 one_text [] e = absurd (omega arith)
 one_text (s ∷ []) e = refl
 one_text (s ∷ r ∷ ss) e = absurd (omega arith)
 
-other_texts : (ss : List Text) → (length ss ≡ 1 → ⊥) → tuple_text ss ≡ 40 ∷ (joined comma ss ++ 41 ∷ [])
+other_texts : (ss : List Text) → (length ss ≡ 1 → ⊥) → tuple_text ss ≡ 40 ∷ (joined_by comma ss ++ 41 ∷ [])
 other_texts [] h = refl
 other_texts (s ∷ []) h = absurd (h refl)
 other_texts (s ∷ r ∷ ss) h = refl
 
-written_behind : (close s old opened written closed : Text) → opened ≡ old ++ 40 ∷ [] → written ≡ opened ++ s → closed ≡ written ++ close → closed ≡ old ++ 40 ∷ (s ++ close)
-written_behind close s old opened written closed opens writes closes =
+written_after : (close s old opened written closed : Text) → opened ≡ old ++ 40 ∷ [] → written ≡ opened ++ s → closed ≡ written ++ close → closed ≡ old ++ 40 ∷ (s ++ close)
+written_after close s old opened written closed opens writes closes =
     closes ∙ (ap (λ (l : Text). l ++ close) (writes ∙ ap (λ (l : Text). l ++ s) opens)
     ∙ (append_assoc (old ++ 40 ∷ []) s close ∙ append_assoc old (40 ∷ []) (s ++ close)))
 
-pub one_member : (vs : Trees) (annotated : Bool) (old opened written closed : Text) → trees_len vs ≡ 1 → opened ≡ old ++ 40 ∷ [] → written ≡ opened ++ joined comma (child_texts vs annotated false) → closed ≡ written ++ 44 ∷ 41 ∷ [] → closed ≡ old ++ tuple_text (child_texts vs annotated false)
+pub one_member : (vs : Trees) (annotated : Bool) (old opened written closed : Text) → trees_len vs ≡ 1 → opened ≡ old ++ 40 ∷ [] → written ≡ opened ++ joined_by comma (child_texts vs annotated false) → closed ≡ written ++ 44 ∷ 41 ∷ [] → closed ≡ old ++ tuple_text (child_texts vs annotated false)
 one_member vs annotated old opened written closed one opens writes closes =
-    written_behind (44 ∷ 41 ∷ []) (joined comma (child_texts vs annotated false)) old opened written closed opens writes closes
+    written_after (44 ∷ 41 ∷ []) (joined_by comma (child_texts vs annotated false)) old opened written closed opens writes closes
     ∙ ap (λ (l : Text). old ++ l) (sym (one_text (child_texts vs annotated false) (length-texts vs annotated annotated false ∙ one)))
 
-pub other_members : (vs : Trees) (annotated : Bool) (old opened written closed : Text) → (trees_len vs ≡ 1 → ⊥) → opened ≡ old ++ 40 ∷ [] → written ≡ opened ++ joined comma (child_texts vs annotated false) → closed ≡ written ++ 41 ∷ [] → closed ≡ old ++ tuple_text (child_texts vs annotated false)
+pub other_members : (vs : Trees) (annotated : Bool) (old opened written closed : Text) → (trees_len vs ≡ 1 → ⊥) → opened ≡ old ++ 40 ∷ [] → written ≡ opened ++ joined_by comma (child_texts vs annotated false) → closed ≡ written ++ 41 ∷ [] → closed ≡ old ++ tuple_text (child_texts vs annotated false)
 other_members vs annotated old opened written closed others opens writes closes =
-    written_behind (41 ∷ []) (joined comma (child_texts vs annotated false)) old opened written closed opens writes closes
+    written_after (41 ∷ []) (joined_by comma (child_texts vs annotated false)) old opened written closed opens writes closes
     ∙ ap (λ (l : Text). old ++ l) (sym (other_texts (child_texts vs annotated false) (λ e. others (sym (length-texts vs annotated annotated false) ∙ e))))

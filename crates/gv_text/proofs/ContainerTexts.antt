@@ -8,13 +8,14 @@ use Rattle.gv_model.specs.Tree.{Tree, Trees, children}
 use Rattle.gv_model.specs.Tree.Tree.{node}
 use Rattle.gv_model.specs.Decode.{decode}
 use Rattle.gv_model.specs.Quoted.{between}
-use Rattle.gv_model.specs.Printed.{Text, comma, holds_double, hold_double, joined, text_of, tuple_text, when}
+use Rattle.gv_model.specs.Printed.{Text, comma, holds_double, hold_double, joined_by, text_of, tuple_text, when}
+use Rattle.gv_model.specs.Normal.{IsContainer}
 use Rattle.gv_types.specs.Classes.{class_of, basic_type}
 use Rattle.gv_types.specs.declared.class.BasicType.{BasicType}
 use Rattle.gv_types.specs.declared.class.Class.TheVariants as classes
 use Rattle.gv_text.specs.declared.printing.PrintFault.{PrintFault}
 use Rattle.gv_text.specs.Printing.{AreFaultOf, IsElementFault, child_texts}
-use Rattle.gv_text.proofs.Containers.{IsContainer, doubles_in, fault_of_children, value_node}
+use Rattle.gv_text.proofs.Containers.{doubles_in, fault_of_children, value_node}
 use Rattle.gv_text.proofs.Figures.{of_basic}
 
 -- ---- classes differ
@@ -57,11 +58,11 @@ entry_doubles t b h = doubles_by_class t b (λ k e. absurd cc)
 
 -- ---- variants
 
-variant_node : (vs : Trees) (annotated in_array : Bool) → text_of (node variant vs) annotated in_array ≡ between 60 (joined comma (child_texts vs true false)) 62
+variant_node : (vs : Trees) (annotated in_array : Bool) → text_of (node variant vs) annotated in_array ≡ between 60 (joined_by comma (child_texts vs true false)) 62
 unfolding text_of
 variant_node vs annotated in_array = refl
 
-pub variant_text : (t : Ty) (b : List ℕ) (annotated in_array : Bool) → class_of t ≡ classes.Variant → text_of (decode t b) annotated in_array ≡ between 60 (joined comma (child_texts (children (decode t b)) true false)) 62
+pub variant_text : (t : Ty) (b : List ℕ) (annotated in_array : Bool) → class_of t ≡ classes.Variant → text_of (decode t b) annotated in_array ≡ between 60 (joined_by comma (child_texts (children (decode t b)) true false)) 62
 variant_text variant b annotated in_array h = ap (λ v. text_of v annotated in_array) (value_node variant b tt) ∙ variant_node (children (decode variant b)) annotated in_array
 variant_text (basic k) b annotated in_array h = absurd cc
 variant_text (array t) b annotated in_array h = absurd cc
@@ -90,7 +91,7 @@ tuple_text_of t b annotated h =
 
 -- ---- entries
 
-alone_node : (t : Ty) (vs : Trees) (annotated : Bool) → class_of t ≡ classes.Entry → text_of (node t vs) annotated false ≡ between 123 (joined comma (child_texts vs annotated false)) 125
+alone_node : (t : Ty) (vs : Trees) (annotated : Bool) → class_of t ≡ classes.Entry → text_of (node t vs) annotated false ≡ between 123 (joined_by comma (child_texts vs annotated false)) 125
 unfolding text_of
 alone_node (entry k t) vs annotated h = refl
 alone_node (basic k) vs annotated h = absurd cc
@@ -99,7 +100,7 @@ alone_node (array t) vs annotated h = absurd cc
 alone_node (maybe t) vs annotated h = absurd cc
 alone_node (tuple ts) vs annotated h = absurd cc
 
-element_node : (t : Ty) (vs : Trees) (annotated : Bool) → class_of t ≡ classes.Entry → text_of (node t vs) annotated true ≡ joined (codes ": ") (child_texts vs annotated false)
+element_node : (t : Ty) (vs : Trees) (annotated : Bool) → class_of t ≡ classes.Entry → text_of (node t vs) annotated true ≡ joined_by (codes ": ") (child_texts vs annotated false)
 unfolding text_of
 element_node (entry k t) vs annotated h = refl
 element_node (basic k) vs annotated h = absurd cc
@@ -108,11 +109,11 @@ element_node (array t) vs annotated h = absurd cc
 element_node (maybe t) vs annotated h = absurd cc
 element_node (tuple ts) vs annotated h = absurd cc
 
-pub entry_alone : (t : Ty) (b : List ℕ) (annotated : Bool) → class_of t ≡ classes.Entry → text_of (decode t b) annotated false ≡ between 123 (joined comma (child_texts (children (decode t b)) annotated false)) 125
+pub entry_alone : (t : Ty) (b : List ℕ) (annotated : Bool) → class_of t ≡ classes.Entry → text_of (decode t b) annotated false ≡ between 123 (joined_by comma (child_texts (children (decode t b)) annotated false)) 125
 entry_alone t b annotated h =
     ap (λ v. text_of v annotated false) (value_node t b (contained t (λ k e. absurd cc))) ∙ alone_node t (children (decode t b)) annotated h
 
-pub entry_in_array : (t : Ty) (b : List ℕ) (annotated : Bool) → class_of t ≡ classes.Entry → text_of (decode t b) annotated true ≡ joined (codes ": ") (child_texts (children (decode t b)) annotated false)
+pub entry_in_array : (t : Ty) (b : List ℕ) (annotated : Bool) → class_of t ≡ classes.Entry → text_of (decode t b) annotated true ≡ joined_by (codes ": ") (child_texts (children (decode t b)) annotated false)
 entry_in_array t b annotated h =
     ap (λ v. text_of v annotated true) (value_node t b (contained t (λ k e. absurd cc))) ∙ element_node t (children (decode t b)) annotated h
 
@@ -161,6 +162,6 @@ wanted_mark wanted mark old new h wrote = wrote ∙ ap (λ b. old ++ when b mark
 pub unwanted_mark : (wanted : Bool) (mark old : Text) → wanted ≡ false → old ≡ old ++ when wanted mark
 unwanted_mark wanted mark old h = sym (append-nil old) ∙ ap (λ b. old ++ when b mark) (sym h)
 
--- a text behind its mark
+-- a text after its mark
 pub marked_text : (s r mark old mid new : Text) → r ≡ mark ++ s → mid ≡ old ++ mark → new ≡ mid ++ s → new ≡ old ++ r
 marked_text s r mark old mid new text marks wrote = wrote ∙ (ap (λ (l : Text). l ++ s) marks ∙ (append_assoc old mark s ∙ ap (λ (l : Text). old ++ l) (sym text)))

@@ -11,7 +11,7 @@ use Rattle.gv_model.specs.Tree.Trees.{none}
 use Rattle.gv_model.specs.Texts.{is_text}
 use Rattle.gv_model.specs.BasicValue.{basic_value, basic_of_size, text_or_default, text_in, bits_of, number_in}
 use Rattle.gv_model.specs.Decode.{decode}
-use Rattle.gv_model.specs.Printed.{text_of, word, when, ends_in_nothing, figures, holds_double, is_double}
+use Rattle.gv_model.specs.Printed.{text_of, word, when, ends_in_nothing, figures, holds_double, is_double_type}
 use Rattle.gv_model.proofs.DecodeLaws.{decode_children}
 use Rattle.gv_text.specs.Printing.{byte_string_of, figures_of}
 
@@ -20,7 +20,7 @@ use Rattle.gv_text.specs.Printing.{byte_string_of, figures_of}
 -- a basic value of this type, as a number or a text
 pub record IsOf (k : Basic) (v : Tree) : Type 0 where
   pub text : (annotated in_array : Bool) → text_of v annotated in_array ≡ when annotated (word k) ++ figures_of v
-  pub double : holds_double v ≡ is_double k
+  pub double : holds_double v ≡ is_double_type k
   pub one : nodes v ≡ 1
   pub flat : depth v ≡ 1
   pub childless : children v ≡ none
@@ -31,7 +31,7 @@ of_number : (k : Basic) (n : ℕ) → IsOf k (number k n)
 unfolding text_of holds_double nodes depth
 of_number k n = record { text = λ a i. refl; double = refl; one = refl; flat = refl; childless = refl; just = refl; bytes = refl }
 
-of_text : (k : Basic) (s : List ℕ) → is_double k ≡ false → IsOf k (text k s)
+of_text : (k : Basic) (s : List ℕ) → is_double_type k ≡ false → IsOf k (text k s)
 unfolding text_of holds_double nodes depth
 of_text k s h = record { text = λ a i. refl; double = sym h; one = refl; flat = refl; childless = refl; just = refl; bytes = refl }
 
@@ -43,7 +43,7 @@ of_default boolean = of_number boolean 0
 of_default Basic.byte = of_number Basic.byte 0
 of_default _ = of_number _ 0
 
-no_double : (k : Basic) → basic_size k ≡ None → is_double k ≡ false
+no_double : (k : Basic) → basic_size k ≡ None → is_double_type k ≡ false
 no_double double e = absurd (none-some 8 (sym e))
 no_double _ e = refl
 
@@ -75,7 +75,7 @@ of_basic t k b e = subst (λ (u : Ty). IsOf k (decode u b)) (sym e) (of_decoded 
 
 -- ---- what the code wrote
 
-pub wrote_number : (k : Basic) (n : ℕ) (v : Tree) (old new s : List ℕ) → v ≡ number k n → is_double k ≡ false → new ≡ old ++ s → s ≡ figures k n → (holds_double v ≡ false) × (new ≡ old ++ figures_of v)
+pub wrote_number : (k : Basic) (n : ℕ) (v : Tree) (old new s : List ℕ) → v ≡ number k n → is_double_type k ≡ false → new ≡ old ++ s → s ≡ figures k n → (holds_double v ≡ false) × (new ≡ old ++ figures_of v)
 unfolding holds_double
 wrote_number k n v old new s e plain wrote is = (ap holds_double e ∙ plain, wrote ∙ ap (λ (r : List ℕ). old ++ r) (is ∙ sym (ap figures_of e)))
 

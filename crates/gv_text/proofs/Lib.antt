@@ -1,4 +1,3 @@
-pub mod Trivia
 pub mod Quotes
 pub mod PlainTexts
 pub mod Figures
@@ -13,11 +12,11 @@ pub mod NumeralLaws
 pub mod EscapeLaws
 pub mod TokenSteps
 pub mod WordLaws
-pub mod TypeFronts
+pub mod TypePrefixes
 pub mod TokenKinds
 pub mod SyntaxLaws
-pub mod ReadingLaws
+pub mod ExpectationLaws
 pub mod SequenceLaws
-pub mod HeldLaws
+pub mod ParseStepLaws
 pub mod BracketLaws
 pub mod NumberedFaults

@@ -1,8 +1,9 @@
 -- The texts of maybes.
-use Rattle.std.proofs.Common.{◌≡◌, ◌≤◌, ◌<◌, ℕ, List, ◌++◌, Bool, true, false, Some, None, Result, refl, sym, ap, ◌∙◌, arith, append_assoc}
+use Rattle.std.proofs.Common.{◌≡◌, ◌≤◌, ◌<◌, ℕ, List, ◌++◌, Bool, true, false, Some, None, Result, refl, sym, ap, ◌∙◌, arith, append_assoc, ◌||◌}
 use Rattle.std.specs.Prelude.{codes}
 use Rattle.std.proofs.lemmas.Result.{MatchResult-weaker}
 use Rattle.std.proofs.lemmas.Option.{none-some, same_Some}
+use Rattle.std.proofs.lemmas.Bool.{false≢true}
 use Rattle.gv_model.specs.Ty.{Ty}
 use Rattle.gv_model.specs.Ty.Ty.{basic, variant, array, maybe, tuple, entry}
 use Rattle.gv_model.specs.Tree.{Tree, Trees, children, tree_at, trees_len, depth}
@@ -14,11 +15,14 @@ use Rattle.gv_types.specs.Classes.{class_of}
 use Rattle.gv_types.specs.declared.class.Class.TheVariants as classes
 use Rattle.gv_text.specs.declared.printing.PrintFault.{PrintFault}
 use Rattle.gv_text.specs.declared.printing.PrintFault.TheVariants.{TooLarge, DoubleText, Memory}
-use Rattle.gv_text.specs.Printing.{IsElementFault, IsNothing, IsWithin}
+use Rattle.gv_text.specs.Printing.{IsElementFault, IsNothing, IsPrintedAs}
 use Rattle.gv_text.proofs.Containers.{one_or_none, value_node}
 use Rattle.gv_text.proofs.ContainerTexts.{IsWritten, marked_text}
 use Rattle.gv_text.proofs.Figures.{of_basic}
-use Rattle.gv_text.proofs.Trivia.{false_true, or_none}
+
+or_none : (a : Bool) → (a || false) ≡ a
+or_none true = refl
+or_none false = refl
 
 no_tree : (vs : Trees) → tree_at vs 0 ≡ None → vs ≡ none
 unfolding tree_at
@@ -95,11 +99,11 @@ other_ends (entry k t) b h = ap ends_in_nothing (value_node (entry k t) b tt)
 
 pub ends_class : (t : Ty) (b : List ℕ) → ends_in_nothing (decode t b) ≡ true → class_of t ≡ classes.Maybe
 ends_class (maybe t) b h = refl
-ends_class (basic k) b h = absurd (false_true (sym (other_ends (basic k) b (λ e. absurd cc)) ∙ h))
-ends_class variant b h = absurd (false_true (sym (other_ends variant b (λ e. absurd cc)) ∙ h))
-ends_class (array t) b h = absurd (false_true (sym (other_ends (array t) b (λ e. absurd cc)) ∙ h))
-ends_class (tuple ts) b h = absurd (false_true (sym (other_ends (tuple ts) b (λ e. absurd cc)) ∙ h))
-ends_class (entry k t) b h = absurd (false_true (sym (other_ends (entry k t) b (λ e. absurd cc)) ∙ h))
+ends_class (basic k) b h = absurd (false≢true (sym (other_ends (basic k) b (λ e. absurd cc)) ∙ h))
+ends_class variant b h = absurd (false≢true (sym (other_ends variant b (λ e. absurd cc)) ∙ h))
+ends_class (array t) b h = absurd (false≢true (sym (other_ends (array t) b (λ e. absurd cc)) ∙ h))
+ends_class (tuple ts) b h = absurd (false≢true (sym (other_ends (tuple ts) b (λ e. absurd cc)) ∙ h))
+ends_class (entry k t) b h = absurd (false≢true (sym (other_ends (entry k t) b (λ e. absurd cc)) ∙ h))
 
 nothing_node : (t : Ty) → text_of (node (maybe t) none) false false ≡ codes "nothing"
 unfolding text_of
@@ -107,11 +111,11 @@ nothing_node t = refl
 
 pub nothing_text : (t : Ty) (b : List ℕ) → ends_in_nothing (decode t b) ≡ true → tree_at (children (decode t b)) 0 ≡ None → text_of (decode t b) false false ≡ codes "nothing"
 nothing_text (maybe t) b h e = rw (value_node (maybe t) b tt, no_tree (children (decode (maybe t) b)) e) (nothing_node t)
-nothing_text (basic k) b h e = absurd (false_true (sym (other_ends (basic k) b (λ e. absurd cc)) ∙ h))
-nothing_text variant b h e = absurd (false_true (sym (other_ends variant b (λ e. absurd cc)) ∙ h))
-nothing_text (array t) b h e = absurd (false_true (sym (other_ends (array t) b (λ e. absurd cc)) ∙ h))
-nothing_text (tuple ts) b h e = absurd (false_true (sym (other_ends (tuple ts) b (λ e. absurd cc)) ∙ h))
-nothing_text (entry k t) b h e = absurd (false_true (sym (other_ends (entry k t) b (λ e. absurd cc)) ∙ h))
+nothing_text (basic k) b h e = absurd (false≢true (sym (other_ends (basic k) b (λ e. absurd cc)) ∙ h))
+nothing_text variant b h e = absurd (false≢true (sym (other_ends variant b (λ e. absurd cc)) ∙ h))
+nothing_text (array t) b h e = absurd (false≢true (sym (other_ends (array t) b (λ e. absurd cc)) ∙ h))
+nothing_text (tuple ts) b h e = absurd (false≢true (sym (other_ends (tuple ts) b (λ e. absurd cc)) ∙ h))
+nothing_text (entry k t) b h e = absurd (false≢true (sym (other_ends (entry k t) b (λ e. absurd cc)) ∙ h))
 
 -- ---- the walk inwards
 
@@ -134,7 +138,7 @@ inside_just v w u i j = record {
 pub nothing_inside : (v u : Tree) → IsInside v u → IsNothing u → IsNothing v
 nothing_inside v u i n = record { ends = i.ends ∙ n.ends; plain = i.double ∙ n.plain }
 
-pub within : (v u : Tree) → IsInside v u → ends_in_nothing u ≡ false → depth u < depth v → IsWithin v u
+pub within : (v u : Tree) → IsInside v u → ends_in_nothing u ≡ false → depth u < depth v → IsPrintedAs v u
 within v u i e deep = record { text = i.text e; double = i.double; deeper = deep }
 
 -- a level around Nothing is written
@@ -166,8 +170,8 @@ same_fault v u TooLarge same h = h
 same_fault v u DoubleText same h = same ∙ h
 same_fault v u Memory same h = tt
 
--- the value inside is written behind the type
-pub within_written : {X : Type 0} (result : Result X PrintFault) (v u : Tree) (r mark old mid new : Text) → IsWithin v u → r ≡ mark ++ text_of v false false → mid ≡ old ++ mark
+-- the value inside is written after the type
+pub within_written : {X : Type 0} (result : Result X PrintFault) (v u : Tree) (r mark old mid new : Text) → IsPrintedAs v u → r ≡ mark ++ text_of v false false → mid ≡ old ++ mark
     → IsWritten result u (text_of u false false) mid new → IsWritten result v r old new
 within_written result v u r mark old mid new w same marks h =
     MatchResult-weaker result h (λ x p. (w.double ∙ p.0, marked_text (text_of u false false) r mark old mid new (same ∙ ap (λ (l : Text). mark ++ l) w.text) marks p.1)) (λ e q. same_fault v u e w.double q)

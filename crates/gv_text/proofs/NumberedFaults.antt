@@ -9,8 +9,8 @@ use Rattle.gv_model.specs.Tokens.Word.{truth as truth_word, just as just_word, n
 use Rattle.gv_model.specs.Tokens.Token.{mark, string_token, byte_string, integer_token, type_token, word}
 use Rattle.gv_model.specs.TextFault.{Cause}
 use Rattle.gv_model.specs.TextFault.Cause.{bad_token, unclosed, bad_escape, double_text, unexpected, too_deep}
-use Rattle.gv_model.specs.GrammarFaults.{Stage, Next, NumberedFault, behind_value, behind_mark, fault_from, grammar_fault}
-use Rattle.gv_model.specs.GrammarFaults.{Want as TheWant, behind_first as first_numbered, begun as begun_numbered, stage_or_value as stage_numbered, behind_next as next_numbered, step as step_numbered, at_end as end_numbered, wants_of as wants_numbered, or_fault as or_numbered}
+use Rattle.gv_model.specs.GrammarFaults.{Stage, Next, NumberedFault, after_value, after_mark, fault_from, grammar_fault}
+use Rattle.gv_model.specs.GrammarFaults.{Want as TheWant, begun_wants as first_numbered, begun as begun_numbered, stage_or_value as stage_numbered, after_next as next_numbered, step as step_numbered, at_end as end_numbered, wants_of as wants_numbered, or_fault as or_numbered}
 use Rattle.gv_model.specs.GrammarFaults.Next.{closed, goes_on, value_then, wrong}
 use Rattle.gv_model.specs.GrammarFaults.Want.{a_value as value_numbered, inside as inside_numbered}
 use Rattle.gv_model.specs.Lexing.{Lexes}
@@ -25,13 +25,13 @@ use Rattle.gv_text.specs.declared.fault.TextCause.TheVariants.{BadToken, Unclose
 use Rattle.gv_text.specs.declared.fault.TextFault.{TextFault}
 use Rattle.gv_text.specs.declared.fault.TextFault.TheVariants.{Refused, Memory}
 use Rattle.gv_model.specs.Syntax.{Syntax as Value}
-use Rattle.gv_text.specs.Placed.{token_of, placed_of, cause_of, fault_at, AreTokens, IsTokenFault}
-use Rattle.gv_text.specs.Parsed.{IsFaultOf, IsTextFault, IsTreeOf, IsWithin}
-use Rattle.gv_text.specs.Held.{IsValue}
-use Rattle.gv_text.specs.Reading.{Want, Left, behind_first, begun, stage_or_value, behind_next, step, at_end, wants_of, or_fault, first_fault, kinds_of}
-use Rattle.gv_text.specs.Reading.Want.{a_value, inside}
+use Rattle.gv_text.specs.ModelTokens.{token_of, placed_of, cause_of, fault_at_span, AreTokens, IsTokenFault}
+use Rattle.gv_text.specs.Parsed.{IsGrammarFault, IsTextFault, IsTreeOf, IsWithin}
+use Rattle.gv_text.specs.ParseSteps.{IsValue}
+use Rattle.gv_text.specs.Expectations.{Want, Left, begun_wants, begun, stage_or_value, after_next, step, at_end, wants_of, or_fault, first_fault, kinds_of}
+use Rattle.gv_text.specs.Expectations.Want.{a_value, inside}
 
--- Where a numbered token stands; the number past the last is the end of the text
+-- Where a numbered token is; the number past the last is the end of the text
 
 abbrev pub span_of : Span → Option Token → Span
 span_of end None = end
@@ -64,7 +64,7 @@ placed_left end ts (Err f) = Err (placed_fault end ts f)
 
 -- One token
 
-same_first : (end : Span) (all : List Token) (d n : ℕ) (t : TheToken) → behind_first d (span_at end all n) t ≡ option_map (placed_wants end all) (first_numbered d n t)
+same_first : (end : Span) (all : List Token) (d n : ℕ) (t : TheToken) → begun_wants d (span_at end all n) t ≡ option_map (placed_wants end all) (first_numbered d n t)
 same_first end all d n (mark open_list) = refl
 same_first end all d n (mark open_tuple) = refl
 same_first end all d n (mark open_brace) = refl
@@ -90,20 +90,20 @@ same_stage end all d at n t (Some r) =
     ap (begun d (span_at end all n) (inside r d (span_at end all at) ∷ [])) (same_first end all d n t)
     ∙ same_begun end all d n (inside_numbered r d at ∷ []) (first_numbered d n t)
 
-same_next : (end : Span) (all : List Token) (s : Stage) (d at n : ℕ) (t : TheToken) (x : Next) → behind_next s d (span_at end all at) (span_at end all n) t x ≡ placed_left end all (next_numbered s d at n t x)
+same_next : (end : Span) (all : List Token) (s : Stage) (d at n : ℕ) (t : TheToken) (x : Next) → after_next s d (span_at end all at) (span_at end all n) t x ≡ placed_left end all (next_numbered s d at n t x)
 same_next end all s d at n t closed = refl
 same_next end all s d at n t (goes_on r) = refl
 same_next end all s d at n t (value_then r) = refl
-same_next end all s d at n t wrong = same_stage end all d at n t (behind_value s)
+same_next end all s d at n t wrong = same_stage end all d at n t (after_value s)
 
 same_step : (end : Span) (all : List Token) (w : TheWant) (n : ℕ) (t : TheToken) → step (placed_want end all w) (span_at end all n) t ≡ placed_left end all (step_numbered w n t)
 same_step end all (value_numbered d) n t = ap (begun d (span_at end all n) []) (same_first end all d n t) ∙ same_begun end all d n [] (first_numbered d n t)
-same_step end all (inside_numbered s d at) n (mark m) = same_next end all s d at n (mark m) (behind_mark s m)
-same_step end all (inside_numbered s d at) n (string_token x) = same_stage end all d at n (string_token x) (behind_value s)
-same_step end all (inside_numbered s d at) n (byte_string x) = same_stage end all d at n (byte_string x) (behind_value s)
-same_step end all (inside_numbered s d at) n (integer_token b i) = same_stage end all d at n (integer_token b i) (behind_value s)
-same_step end all (inside_numbered s d at) n (type_token x) = same_stage end all d at n (type_token x) (behind_value s)
-same_step end all (inside_numbered s d at) n (word x) = same_stage end all d at n (word x) (behind_value s)
+same_step end all (inside_numbered s d at) n (mark m) = same_next end all s d at n (mark m) (after_mark s m)
+same_step end all (inside_numbered s d at) n (string_token x) = same_stage end all d at n (string_token x) (after_value s)
+same_step end all (inside_numbered s d at) n (byte_string x) = same_stage end all d at n (byte_string x) (after_value s)
+same_step end all (inside_numbered s d at) n (integer_token b i) = same_stage end all d at n (integer_token b i) (after_value s)
+same_step end all (inside_numbered s d at) n (type_token x) = same_stage end all d at n (type_token x) (after_value s)
+same_step end all (inside_numbered s d at) n (word x) = same_stage end all d at n (word x) (after_value s)
 
 -- All tokens
 
@@ -151,35 +151,35 @@ cause_back too_deep = refl
 abbrev pub end_of : ℕ → Span
 end_of size = record { start = size; end = size }
 
-fault_in_text : (size : ℕ) (c : Cause) (o : Option Token) → fault_at (cause_as c) (span_of (end_of size) o) ≡ fault_at_token size c (option_map placed_of o)
+fault_in_text : (size : ℕ) (c : Cause) (o : Option Token) → fault_at_span (cause_as c) (span_of (end_of size) o) ≡ fault_at_token size c (option_map placed_of o)
 fault_in_text size c None = ap (λ k. fault_at_token size k None) (cause_back c)
 fault_in_text size c (Some t) = ap (λ k. fault_at_token size k (Some (placed_of t))) (cause_back c)
 
 -- the first fault of a text's tokens is the text's
-pub fault_of_text : (text : List ℕ) (ts : List Token) (c : TextCause) (s : Span) → Lexes 0 text (map placed_of ts) None → first_fault (Refused Unexpected (end_of (length text))) (a_value 1 ∷ []) ts ≡ Some (Refused c s) → HasFault text (fault_at c s)
+pub fault_of_text : (text : List ℕ) (ts : List Token) (c : TextCause) (s : Span) → Lexes 0 text (map placed_of ts) None → first_fault (Refused Unexpected (end_of (length text))) (a_value 1 ∷ []) ts ≡ Some (Refused c s) → HasFault text (fault_at_span c s)
 fault_of_text text ts c s l h = record { placed = map placed_of ts; stopped = None; lexes = l; fault = go (grammar_fault (kinds_of ts)) refl (sym read ∙ h) }
   where
     read : first_fault (Refused Unexpected (end_of (length text))) (a_value 1 ∷ []) ts ≡ option_map (placed_fault (end_of (length text)) ts) (grammar_fault (kinds_of ts))
     read = same_fault (end_of (length text)) ts ts 0 (value_numbered 1 ∷ []) (λ i. ap (slice_get ts) (omega arith))
 
-    go : (o : Option NumberedFault) → grammar_fault (kinds_of ts) ≡ o → option_map (placed_fault (end_of (length text)) ts) o ≡ Some (Refused c s) → (f : NumberedFault) × (grammar_fault (kinds (map placed_of ts)) ≡ Some f) × (fault_at c s ≡ fault_at_token (length text) f.0 (slice_get (map placed_of ts) f.1))
+    go : (o : Option NumberedFault) → grammar_fault (kinds_of ts) ≡ o → option_map (placed_fault (end_of (length text)) ts) o ≡ Some (Refused c s) → (f : NumberedFault) × (grammar_fault (kinds (map placed_of ts)) ≡ Some f) × (fault_at_span c s ≡ fault_at_token (length text) f.0 (slice_get (map placed_of ts) f.1))
     go None e g = absurd cc
     go (Some f) e g = (f, ap grammar_fault (kinds_placed ts) ∙ e, refused f g ∙ (fault_in_text (length text) f.0 (slice_get ts f.1) ∙ ap (fault_at_token (length text) f.0) (sym (slice_get-map placed_of ts f.1))))
       where
-        refused : (f : NumberedFault) → Some (placed_fault (end_of (length text)) ts f) ≡ Some (Refused c s) → fault_at c s ≡ fault_at (cause_as f.0) (span_at (end_of (length text)) ts f.1)
+        refused : (f : NumberedFault) → Some (placed_fault (end_of (length text)) ts f) ≡ Some (Refused c s) → fault_at_span c s ≡ fault_at_span (cause_as f.0) (span_at (end_of (length text)) ts f.1)
         refused f g = cc
 
--- a token behind the value
-pub too_many : (size : ℕ) (all old mid : List Token) (t : Token) (new : List Token) (f : TextFault) → old ≡ all → f ≡ Refused Unexpected t.span → (x : Value) → IsValue 1 old mid x → mid ≡ t ∷ new → IsFaultOf size all f
+-- a token after the value
+pub too_many : (size : ℕ) (all old mid : List Token) (t : Token) (new : List Token) (f : TextFault) → old ≡ all → f ≡ Refused Unexpected t.span → (x : Value) → IsValue 1 old mid x → mid ≡ t ∷ new → IsGrammarFault size all f
 unfolding first_fault
-too_many size all old mid t new f o h x v m = subst (λ ts. IsFaultOf size ts f) o (subst (IsFaultOf size old) (sym h) (v.passes (Refused Unexpected (end_of size)) [] ∙ ap (first_fault (Refused Unexpected (end_of size)) []) m))
+too_many size all old mid t new f o h x v m = subst (λ ts. IsGrammarFault size ts f) o (subst (IsGrammarFault size old) (sym h) (v.passes (Refused Unexpected (end_of size)) [] ∙ ap (first_fault (Refused Unexpected (end_of size)) []) m))
 
 -- a fault of a text's tokens, and one of its grammar
 pub token_fault : (text : List ℕ) (f : TextFault) → IsTokenFault text f → IsTextFault text f
 token_fault text Memory h = tt
-token_fault text (Refused c s) h = record { placed = h.0; stopped = Some (fault_at c s); lexes = h.1; fault = refl }
+token_fault text (Refused c s) h = record { placed = h.0; stopped = Some (fault_at_span c s); lexes = h.1; fault = refl }
 
-pub grammar_fault_of : (text : List ℕ) (ts : List Token) (f : TextFault) → AreTokens text ts → IsFaultOf (length text) ts f → IsTextFault text f
+pub grammar_fault_of : (text : List ℕ) (ts : List Token) (f : TextFault) → AreTokens text ts → IsGrammarFault (length text) ts f → IsTextFault text f
 grammar_fault_of text ts Memory l h = tt
 grammar_fault_of text ts (Refused c s) l h = fault_of_text text ts c s l h
 

@@ -6,13 +6,13 @@ use Rattle.std.specs.Str.{IsAscii}
 use Rattle.std.specs.Result.{is_ok, OnOk}
 use Rattle.std.specs.declared.result.Result.{Result}
 use Rattle.std.specs.declared.result.Result.TheVariants.{Ok, Err}
-use Rattle.std.proofs.lemmas.Bool.{leb-true}
+use Rattle.std.proofs.lemmas.Bool.{leb-true, and_parts}
 use Rattle.std.proofs.lemmas.Str.{chars-IsAscii, encode_ascii}
 use Rattle.std.proofs.lemmas.Str.Ascii.{IsAscii-nil, IsAscii-cons}
 use Rattle.gv_model.specs.Quoted.{char_text, byte_text}
-use Rattle.gv_text.specs.Printing.{stands_alone}
+use Rattle.gv_text.specs.Printing.{is_printable}
 
--- what standing alone says of a byte
+-- what printable says of a byte
 record IsAlone (q c : ℕ) : Type 0 where
   low : nat_le 32 c ≡ true
   high : nat_le c 126 ≡ true
@@ -24,7 +24,7 @@ alone_by true true true e = absurd (let no : false ≡ true = e in cc)
 alone_by true false o e = absurd (let no : false ≡ true = e in cc)
 alone_by false h o e = absurd (let no : false ≡ true = e in cc)
 
-is_alone : (q c : ℕ) → stands_alone q c ≡ true → IsAlone q c
+is_alone : (q c : ℕ) → is_printable q c ≡ true → IsAlone q c
 is_alone q c e =
     let parts = alone_by (nat_le 32 c) (nat_le c 126) (c == q || c == 92) e in
     record { low = parts.0; high = parts.1; other = parts.2 }
@@ -32,36 +32,32 @@ is_alone q c e =
 below : (c : ℕ) → nat_le c 126 ≡ true → c < 128
 below c e = let small = leb-true c 126 e in omega (arith, small)
 
-byte_alone : (q c : ℕ) → stands_alone q c ≡ true → byte_text q c ≡ c ∷ []
+byte_alone : (q c : ℕ) → is_printable q c ≡ true → byte_text q c ≡ c ∷ []
 byte_alone q c e =
     let alone = is_alone q c e in
     rw alone.low (rw alone.high (rw alone.other refl))
 
-char_alone : (q c : ℕ) → stands_alone q c ≡ true → char_text q c ≡ c ∷ []
+char_alone : (q c : ℕ) → is_printable q c ≡ true → char_text q c ≡ c ∷ []
 char_alone q c e =
     let alone = is_alone q c e in
     rw alone.low (rw alone.high (rw alone.other (encode_ascii c (below c alone.high))))
 
-both : (a b : Bool) → (a && b) ≡ true → (a ≡ true) × (b ≡ true)
-both true b e = (refl, e)
-both false b e = absurd (let no : false ≡ true = e in cc)
-
-each_alone : (f : ℕ → List ℕ) (q : ℕ) → ((c : ℕ) → stands_alone q c ≡ true → f c ≡ c ∷ []) → (bytes : List ℕ) → list_all (stands_alone q) bytes ≡ true → flat_map f bytes ≡ bytes
+each_alone : (f : ℕ → List ℕ) (q : ℕ) → ((c : ℕ) → is_printable q c ≡ true → f c ≡ c ∷ []) → (bytes : List ℕ) → list_all (is_printable q) bytes ≡ true → flat_map f bytes ≡ bytes
 each_alone f q one [] e = refl
 each_alone f q one (c ∷ bytes) e =
-    let parts = both (stands_alone q c) (list_all (stands_alone q) bytes) e in
+    let parts = and_parts (is_printable q c) (list_all (is_printable q) bytes) e in
     ap (λ (l : List ℕ). l ++ flat_map f bytes) (one c parts.0) ∙ ap (λ (l : List ℕ). c ∷ l) (each_alone f q one bytes parts.1)
 
-alone_is_ascii : (q : ℕ) (bytes : List ℕ) → list_all (stands_alone q) bytes ≡ true → IsAscii bytes
+alone_is_ascii : (q : ℕ) (bytes : List ℕ) → list_all (is_printable q) bytes ≡ true → IsAscii bytes
 alone_is_ascii q [] e = IsAscii-nil
 alone_is_ascii q (c ∷ bytes) e =
-    let parts = both (stands_alone q c) (list_all (stands_alone q) bytes) e in
+    let parts = and_parts (is_printable q c) (list_all (is_printable q) bytes) e in
     IsAscii-cons c bytes (below c (is_alone q c parts.0).high) (alone_is_ascii q bytes parts.1)
 
-pub bytes_alone : (q : ℕ) (bytes : List ℕ) → list_all (stands_alone q) bytes ≡ true → flat_map (byte_text q) bytes ≡ bytes
+pub bytes_alone : (q : ℕ) (bytes : List ℕ) → list_all (is_printable q) bytes ≡ true → flat_map (byte_text q) bytes ≡ bytes
 bytes_alone q bytes e = each_alone (byte_text q) q (byte_alone q) bytes e
 
-pub chars_alone : (q : ℕ) (text : List ℕ) → list_all (stands_alone q) text ≡ true → flat_map (char_text q) (chars text) ≡ text
+pub chars_alone : (q : ℕ) (text : List ℕ) → list_all (is_printable q) text ≡ true → flat_map (char_text q) (chars text) ≡ text
 chars_alone q text e =
     ap (flat_map (char_text q)) (chars-IsAscii text (alone_is_ascii q text e)) ∙ each_alone (char_text q) q (char_alone q) text e
 

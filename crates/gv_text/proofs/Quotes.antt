@@ -4,6 +4,7 @@ use Rattle.std.specs.Prelude.{flat_map, option_map, encode_utf8, IsUtf8}
 use Rattle.std.specs.List.{list_any}
 use Rattle.std.proofs.lemmas.Str.{chars_past_char, chars-nil}
 use Rattle.std.proofs.lemmas.List.{nil_from_length}
+use Rattle.std.proofs.lemmas.Bool.{true≢false, or_parts}
 use Rattle.gv_model.specs.BasicValue.{text_in}
 use Rattle.gv_model.specs.Quoted.{quote_for, between}
 
@@ -12,19 +13,12 @@ use Rattle.gv_model.specs.Quoted.{quote_for, between}
 abbrev pub is_zero : ℕ → Bool
 is_zero c = c == 0
 
-no_true : true ≡ false → ⊥
-no_true e = cc
-
-orb_parts : (a b : Bool) → (a || b) ≡ false → (a ≡ false) × (b ≡ false)
-orb_parts true b e = absurd (no_true e)
-orb_parts false b e = (refl, e)
-
 pub body_of_text : (body : List ℕ) → list_any is_zero body ≡ false → text_in (body ++ 0 ∷ []) ≡ Some body
 unfolding text_in
 body_of_text [] h = refl
-body_of_text (c ∷ []) h = rw (orb_parts (c == 0) false h).0 refl
+body_of_text (c ∷ []) h = rw (or_parts (c == 0) false h).0 refl
 body_of_text (c ∷ d ∷ body) h =
-    let parts = orb_parts (c == 0) (list_any is_zero (d ∷ body)) h in
+    let parts = or_parts (c == 0) (list_any is_zero (d ∷ body)) h in
     rw parts.0 (ap (option_map (λ s. c ∷ s)) (body_of_text (d ∷ body) parts.1))
 
 if_none : (z : Bool) (o : Option (List ℕ)) → o ≡ None → cond z None o ≡ None
@@ -45,8 +39,8 @@ zero_here_or_later false later o e h = h e
 -- nor has one a zero byte inside
 pub zero_inside : (body : List ℕ) (last : ℕ) → list_any is_zero body ≡ true → text_in (body ++ last ∷ []) ≡ None
 unfolding text_in
-zero_inside [] last h = absurd (no_true (sym h))
-zero_inside (c ∷ []) last h = zero_here_or_later (c == 0) false (option_map (λ s. c ∷ s) (text_in (last ∷ []))) h (λ e. absurd (no_true (sym e)))
+zero_inside [] last h = absurd (true≢false (sym h))
+zero_inside (c ∷ []) last h = zero_here_or_later (c == 0) false (option_map (λ s. c ∷ s) (text_in (last ∷ []))) h (λ e. absurd (true≢false (sym e)))
 zero_inside (c ∷ d ∷ body) last h = zero_here_or_later (c == 0) (list_any is_zero (d ∷ body)) (option_map (λ s. c ∷ s) (text_in (d ∷ (body ++ last ∷ [])))) h (λ e. ap (option_map (λ s. c ∷ s)) (zero_inside (d ∷ body) last e))
 
 pub text_in-nil : (b : List ℕ) → length b ≡ 0 → text_in b ≡ None

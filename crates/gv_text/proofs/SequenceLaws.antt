@@ -11,10 +11,10 @@ use Rattle.gv_text.specs.declared.token.Span.{Span}
 use Rattle.gv_text.specs.declared.token.Token.{Token}
 use Rattle.gv_text.specs.declared.fault.TextFault.{TextFault}
 use Rattle.gv_text.specs.SyntaxNodes.{nodes_of, pairs_of}
-use Rattle.gv_text.specs.Reading.{Want, first_fault, kinds_of, more_stage}
-use Rattle.gv_text.specs.Reading.Want.{a_value, inside}
+use Rattle.gv_text.specs.Expectations.{Want, first_fault, kinds_of, more_stage}
+use Rattle.gv_text.specs.Expectations.Want.{a_value, inside}
 
--- values read from start on, behind others, and the tokens that are left
+-- values read from start on, after others, and the tokens that are left
 pub record MoreSoFar (close : Mark) (d : ℕ) (opened : Span) (start rest : List Token) (before all : List Value) : Type 0 where
   pub first : Value
   pub others : List Value
@@ -75,5 +75,5 @@ length_kinds [] = refl
 length_kinds (t ∷ ts) = ap suc (length_kinds ts)
 
 -- no more tokens are left than there were
-pub no_longer : (front : List TheToken) (old new : List Token) → kinds_of old ≡ front ++ kinds_of new → length new ≤ length old
-no_longer front old new e = omega (arith, ap length e, length-append front (kinds_of new), length_kinds old, length_kinds new)
+pub no_longer : (prefix : List TheToken) (old new : List Token) → kinds_of old ≡ prefix ++ kinds_of new → length new ≤ length old
+no_longer prefix old new e = omega (arith, ap length e, length-append prefix (kinds_of new), length_kinds old, length_kinds new)

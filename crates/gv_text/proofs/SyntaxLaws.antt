@@ -1,13 +1,7 @@
 -- The levels of a syntax tree's parts, and parts in a list.
-use Rattle.std.proofs.Common.{ℕ, zero, suc, ◌+◌, ◌<◌, ◌≡◌, max, List, [], ◌∷◌, length, drop, get_or, sym, ap, arith, add-one}
+use Rattle.std.proofs.Common.{◌≡◌, max, List, [], ◌∷◌, ap}
 use Rattle.gv_model.specs.Syntax.{Syntax as Value, levels, greatest_levels, pairs_levels}
 use Rattle.gv_text.specs.SyntaxNodes.{nodes_of, pairs_of}
-
--- the item at an index, and those behind it
-pub drop_item : {X : Type 0} (xs : List X) (i : ℕ) (x : X) → i < length xs → x ≡ get_or xs i x → drop i xs ≡ x ∷ drop (i + 1) xs
-drop_item [] i x lt e = absurd (omega arith)
-drop_item (y ∷ xs) zero x lt e = ap (λ z. z ∷ xs) (sym e)
-drop_item (y ∷ xs) (suc i) x lt e = rw add-one (rw add-one at (drop_item xs i x (omega arith) e))
 
 pub greatest_of_items : (xs ys : List Value) (x : Value) → xs ≡ x ∷ ys → greatest_levels (nodes_of xs) ≡ max (levels x) (greatest_levels (nodes_of ys))
 unfolding levels

@@ -14,7 +14,7 @@ cause_text DoubleText = codes "DoubleText"
 cause_text Unexpected = codes "Unexpected"
 cause_text TooDeep = codes "TooDeep"
 
--- the cause and its span, or want of memory
-abbrev pub fault_text : TextFault → List ℕ
-fault_text (Refused cause span) = cause_text cause ++ (codes " at " ++ (decimal span.start ++ (codes ".." ++ decimal span.end)))
-fault_text Memory = codes "Memory"
+-- the cause and its span, or running out of memory
+abbrev pub text_fault_text : TextFault → List ℕ
+text_fault_text (Refused cause span) = cause_text cause ++ (codes " at " ++ (decimal span.start ++ (codes ".." ++ decimal span.end)))
+text_fault_text Memory = codes "Memory"

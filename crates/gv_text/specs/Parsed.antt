@@ -8,9 +8,9 @@ use Rattle.gv_text.specs.declared.token.Token.{Token}
 use Rattle.gv_text.specs.declared.fault.TextCause.TheVariants.{Unexpected}
 use Rattle.gv_text.specs.declared.fault.TextFault.{TextFault}
 use Rattle.gv_text.specs.declared.fault.TextFault.TheVariants.{Refused, Memory}
-use Rattle.gv_text.specs.Placed.{fault_at}
-use Rattle.gv_text.specs.Reading.{kinds_of, first_fault}
-use Rattle.gv_text.specs.Reading.Want.{a_value}
+use Rattle.gv_text.specs.ModelTokens.{fault_at_span}
+use Rattle.gv_text.specs.Expectations.{kinds_of, first_fault}
+use Rattle.gv_text.specs.Expectations.Want.{a_value}
 
 -- within the limits of depth and of a text's length, and without a zero byte in a string
 pub record IsWithin (x : Syntax) : Type 0 where
@@ -18,9 +18,9 @@ pub record IsWithin (x : Syntax) : Type 0 where
   pub bytes : text_bytes x ≤ 16777216
   pub plain : IsPlain x
 
--- the first fault of a text; want of memory is never the text's fault
+-- the first fault of a text; running out of memory is never the text's fault
 abbrev pub IsTextFault : List ℕ → TextFault → Type 0
-IsTextFault text (Refused cause span) = HasFault text (fault_at cause span)
+IsTextFault text (Refused cause span) = HasFault text (fault_at_span cause span)
 IsTextFault text Memory = Unit {0}
 
 -- the tree of these tokens
@@ -29,6 +29,6 @@ pub record IsTreeOf (ts : List Token) (x : Syntax) : Type 0 where
   pub shallow : levels x ≤ 128
 
 -- the first fault of these tokens, the text being so long
-abbrev pub IsFaultOf : ℕ → List Token → TextFault → Type 0
-IsFaultOf length ts Memory = Unit {0}
-IsFaultOf length ts (Refused cause span) = first_fault (Refused Unexpected (record { start = length; end = length })) (a_value 1 ∷ []) ts ≡ Some (Refused cause span)
+abbrev pub IsGrammarFault : ℕ → List Token → TextFault → Type 0
+IsGrammarFault length ts Memory = Unit {0}
+IsGrammarFault length ts (Refused cause span) = first_fault (Refused Unexpected (record { start = length; end = length })) (a_value 1 ∷ []) ts ≡ Some (Refused cause span)

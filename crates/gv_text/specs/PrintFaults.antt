@@ -3,7 +3,7 @@ use Rattle.std.specs.Prelude.{ℕ, List, codes}
 use Rattle.gv_text.specs.declared.printing.PrintFault.{PrintFault}
 use Rattle.gv_text.specs.declared.printing.PrintFault.TheVariants.{TooLarge, DoubleText, Memory}
 
-abbrev pub fault_name : PrintFault → List ℕ
-fault_name TooLarge = codes "TooLarge"
-fault_name DoubleText = codes "DoubleText"
-fault_name Memory = codes "Memory"
+abbrev pub print_fault_name : PrintFault → List ℕ
+print_fault_name TooLarge = codes "TooLarge"
+print_fault_name DoubleText = codes "DoubleText"
+print_fault_name Memory = codes "Memory"

@@ -37,7 +37,7 @@ figures_of (node t vs) = []
 
 -- ---- children
 
--- whether the children behind the first are annotated where it is: not in an array
+-- whether the children after the first are annotated where it is: not in an array
 abbrev pub rest_annotated : Bool → Bool → Bool
 rest_annotated annotated true = false
 rest_annotated annotated false = annotated
@@ -65,12 +65,12 @@ pub record IsNothing (v : Tree) : Type 0 where
   pub ends : ends_in_nothing v ≡ true
   pub plain : holds_double v ≡ false
 
--- u stands in v within levels of Just, and is no maybe: it is printed for v
-pub record IsWithin (v u : Tree) : Type 0 where
+-- u occurs in v within levels of Just, and is no maybe: it is printed for v
+pub record IsPrintedAs (v u : Tree) : Type 0 where
   pub text : text_of v false false ≡ text_of u false false
   pub double : holds_double v ≡ holds_double u
   pub deeper : depth u < depth v
 
 -- the byte is a character that stands for itself in this quote
-abbrev pub stands_alone : ℕ → ℕ → Bool
-stands_alone quote c = nat_le 32 c && nat_le c 126 && not (c == quote || c == 92)
+abbrev pub is_printable : ℕ → ℕ → Bool
+is_printable quote c = nat_le 32 c && nat_le c 126 && not (c == quote || c == 92)

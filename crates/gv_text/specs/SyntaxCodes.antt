@@ -1,31 +1,15 @@
--- Syntax trees as trees of numbers, by which a proof tells them apart.
-use Rattle.std.specs.Prelude.{◌≡◌, ℕ, zero, suc, Bool, true, false, List, [], ◌∷◌, unwrap_or, refl}
+-- Syntax trees as trees of numbers, by which a proof tells them apart. Nothing here is to be believed: that they are told apart is proved.
+use Rattle.std.specs.Prelude.{◌≡◌, ℕ, zero, suc, Bool, true, false, refl}
 use Rattle.std.specs.Coded.{Coded, code_by}
 use Rattle.std.proofs.Common.{ap, ap₂, ◌∙◌}
 use base.Stored.{Gv, gnil, gnum, gcons, num}
-use Rattle.gv_model.specs.Ty.{Ty, Basic, spelling, letter as letter_of}
-use Rattle.gv_model.specs.Ty.Ty.{tuple}
-use Rattle.gv_model.specs.Ty.Types.{end}
-use Rattle.gv_model.specs.Ty.Basic.{boolean}
-use Rattle.gv_model.specs.TypeText.{Mark, mark, seen, one_type}
-use Rattle.gv_model.specs.TypeText.Mark.{letter}
+use Rattle.gv_model.specs.Ty.{spelling, letter as letter_of}
 use Rattle.gv_model.specs.Syntax.{Syntax, Syntaxes, Pairs}
 use Rattle.gv_model.specs.Syntax.Syntax.{truth, integer, quoted, bytes, list, tuple_of, dictionary, lone, boxed, just, nothing, at_type, keyword}
 use Rattle.gv_model.specs.Syntax.Syntaxes.{none, first}
 use Rattle.gv_model.specs.Syntax.Pairs.{no_pair, pair}
-use Rattle.gv_model.proofs.TypeTextLaws.{mark_letter, seen_type}
-
-abbrev numbers_code : List ℕ → Gv
-numbers_code [] = gnil
-numbers_code (x ∷ xs) = gcons (gnum x) (numbers_code xs)
-
-abbrev numbers_of : Gv → List ℕ
-numbers_of (gcons x xs) = num x ∷ numbers_of xs
-numbers_of _ = []
-
-numbers_back : (xs : List ℕ) → numbers_of (numbers_code xs) ≡ xs
-numbers_back [] = refl
-numbers_back (x ∷ xs) = ap (λ ys. x ∷ ys) (numbers_back xs)
+use Rattle.gv_model.specs.Codes.{numbers_code, numbers_of_code, type_of_numbers, basic_of_code, coded_gv}
+use Rattle.gv_model.proofs.CodeLaws.{numbers_back, basic_back, type_back}
 
 abbrev bit : Bool → ℕ
 bit false = 0
@@ -38,22 +22,6 @@ truth_of (suc n) = true
 bit_back : (b : Bool) → truth_of (bit b) ≡ b
 bit_back false = refl
 bit_back true = refl
-
-abbrev type_of_numbers : List ℕ → Ty
-type_of_numbers xs = unwrap_or (one_type (seen xs)) (tuple end)
-
-abbrev marked : Mark → Basic
-marked (letter k) = k
-marked _ = boolean
-
-abbrev basic_of : Gv → Basic
-basic_of g = marked (mark (num g))
-
-basic_back : (k : Basic) → basic_of (gnum (letter_of k)) ≡ k
-basic_back k = ap marked (mark_letter k)
-
-type_back : (t : Ty) → type_of_numbers (numbers_of (numbers_code (spelling t))) ≡ t
-type_back t = ap type_of_numbers (numbers_back (spelling t)) ∙ ap (λ s. unwrap_or (one_type s) (tuple end)) (seen_type t)
 
 abbrev mutual
   syntax_gv : Syntax → Gv
@@ -79,20 +47,20 @@ abbrev mutual
   pairs_gv no_pair = gnil
   pairs_gv (pair k v ps) = gcons (gcons (syntax_gv k) (syntax_gv v)) (pairs_gv ps)
 
--- what stands behind a tag: its first part, and the trees that are read from it
+-- what comes after a tag: its first part, and the trees that are read from it
 abbrev tagged : ℕ → Gv → Gv → Syntaxes → Pairs → Syntax → Syntax → Syntax
 tagged zero c k xs ps x y = truth (truth_of (num c))
 tagged (suc zero) c k xs ps x y = truth false
-tagged (suc (suc zero)) c k xs ps x y = quoted (numbers_of c)
-tagged (suc (suc (suc zero))) c k xs ps x y = bytes (numbers_of c)
+tagged (suc (suc zero)) c k xs ps x y = quoted (numbers_of_code c)
+tagged (suc (suc (suc zero))) c k xs ps x y = bytes (numbers_of_code c)
 tagged (suc (suc (suc (suc zero)))) c k xs ps x y = list xs
 tagged (suc (suc (suc (suc (suc zero))))) c k xs ps x y = tuple_of xs
 tagged (suc (suc (suc (suc (suc (suc zero)))))) c k xs ps x y = dictionary ps
 tagged (suc (suc (suc (suc (suc (suc (suc zero))))))) c k xs ps x y = lone x y
 tagged (suc (suc (suc (suc (suc (suc (suc (suc zero)))))))) c k xs ps x y = boxed y
 tagged (suc (suc (suc (suc (suc (suc (suc (suc (suc zero))))))))) c k xs ps x y = just y
-tagged (suc (suc (suc (suc (suc (suc (suc (suc (suc (suc zero)))))))))) c k xs ps x y = at_type (type_of_numbers (numbers_of k)) y
-tagged _ c k xs ps x y = keyword (basic_of k) y
+tagged (suc (suc (suc (suc (suc (suc (suc (suc (suc (suc zero)))))))))) c k xs ps x y = at_type (type_of_numbers (numbers_of_code k)) y
+tagged _ c k xs ps x y = keyword (basic_of_code k) y
 
 abbrev head : Gv → Gv
 head (gcons k c) = k
@@ -151,9 +119,6 @@ mutual
   pairs_back : (ps : Pairs) → gv_pairs (pairs_gv ps) ≡ ps
   pairs_back no_pair = refl
   pairs_back (pair k v ps) = ap₂ (λ (x : Syntax) (qs : Pairs). pair x (gv_syntax (syntax_gv v)) qs) (syntax_back k) (pairs_back ps) ∙ ap (λ y. pair k y ps) (syntax_back v)
-
-abbrev pub coded_gv : Coded Gv
-coded_gv = record { code = λ g. g; inj = λ x y e. e }
 
 abbrev pub coded_syntax : Coded Syntax
 coded_syntax = code_by Gv coded_gv syntax_gv gv_syntax syntax_back

@@ -18,7 +18,7 @@ pub enum TextCause {
     BadEscape,
     /// A double, of which there is no text here.
     DoubleText,
-    /// A token that can't stand there, or the end of the text.
+    /// A token that can't occur there, or the end of the text.
     Unexpected,
     /// A value begins 129 deep.
     TooDeep,
@@ -27,7 +27,7 @@ pub enum TextCause {
 /// Why a text has no tokens or no syntax.
 #[derive(Clone, Copy, Debug, PartialEq, Eq)]
 pub enum TextFault {
-    /// The text's first fault and where it stands.
+    /// The text's first fault and where it is.
     Refused { cause: TextCause, span: Span },
     /// A growth was refused.
     Memory,
@@ -45,29 +45,40 @@ impl TextFault {
     }
 }
 
+impl TextCause {
+    ghost use Rattle.gv_text.specs.FaultTexts.{cause_text};
+
+    /// How the fault is printed.
+    fn name(self) -> &'static str
+        ensures { result.now ≡ cause_text self }
+    {
+        match self {
+            TextCause::BadToken => "BadToken",
+            TextCause::Unclosed => "Unclosed",
+            TextCause::BadEscape => "BadEscape",
+            TextCause::DoubleText => "DoubleText",
+            TextCause::Unexpected => "Unexpected",
+            TextCause::TooDeep => "TooDeep",
+        }
+    }
+}
+
 impl fmt::Display for TextCause {
     ghost use Rattle.std.specs.Prelude.{Some};
     ghost use Rattle.gv_text.specs.FaultTexts.{cause_text};
 
-    ghost output = { λ cause. Some (cause_text cause) };
+    ghost output = { λ fault. Some (cause_text fault) };
 
     fn fmt<W: fmt::Write>(&self, f: &mut fmt::Formatter<W>) -> fmt::Result {
-        match self {
-            TextCause::BadToken => write!(f, "BadToken"),
-            TextCause::Unclosed => write!(f, "Unclosed"),
-            TextCause::BadEscape => write!(f, "BadEscape"),
-            TextCause::DoubleText => write!(f, "DoubleText"),
-            TextCause::Unexpected => write!(f, "Unexpected"),
-            TextCause::TooDeep => write!(f, "TooDeep"),
-        }
+        f.write_str(self.name())
     }
 }
 
 impl fmt::Display for TextFault {
     ghost use Rattle.std.specs.Prelude.{Some};
-    ghost use Rattle.gv_text.specs.FaultTexts.{fault_text};
+    ghost use Rattle.gv_text.specs.FaultTexts.{text_fault_text};
 
-    ghost output = { λ fault. Some (fault_text fault) };
+    ghost output = { λ fault. Some (text_fault_text fault) };
 
     fn fmt<W: fmt::Write>(&self, f: &mut fmt::Formatter<W>) -> fmt::Result {
         match self {

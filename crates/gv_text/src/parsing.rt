@@ -2,13 +2,11 @@
 //! recursive descent. Each token is looked at once and moved into the tree.
 ghost use Rattle.std.specs.Prelude.{◌≡◌, ◌≤◌, ◌∷◌, length, IfOk, IfErr, MatchResult};
 ghost use Rattle.gv_model.specs.Parsing.{IsTree};
-ghost use Rattle.gv_text.specs.Parsed.{IsTextFault, IsTreeOf, IsFaultOf};
+ghost use Rattle.gv_text.specs.Parsed.{IsTextFault, IsTreeOf, IsGrammarFault};
 
 mod braces;
 mod marks;
 mod sequence;
-#[cfg(test)]
-mod tests;
 mod value;
 
 use crate::fault::{TextCause, TextFault};
@@ -22,7 +20,7 @@ use value::value;
 /// The syntax tree of a text of at most 16 MiB.
 ///
 /// It gives the text's first fault: those of its tokens come before those of its grammar. `Unexpected` is a token that
-/// can't stand where it does, and the end of a text in which a value is missing; `Unclosed` is the innermost bracket that
+/// can't occur where it does, and the end of a text in which a value is missing; `Unclosed` is the innermost bracket that
 /// is open at the end; `TooDeep` is the first token of a value that is 129 deep. It takes time linear in the text, and
 /// calls itself at most 128 deep.
 pub fn parse(alloc: Global, text: &str) -> Result<Syntax, TextFault>
@@ -38,7 +36,7 @@ pub fn parse(alloc: Global, text: &str) -> Result<Syntax, TextFault>
 /// The tree of a text's tokens, the text being so long.
 fn tree(alloc: Global, tokens: Vec<Token>, length: usize) -> Result<SyntaxNode, TextFault>
     ensures tree { IfOk result (IsTreeOf tokens.items) }
-    ensures fault { IfErr result (IsFaultOf length tokens.items) }
+    ensures fault { IfErr result (IsGrammarFault length tokens.items) }
 {
     let end = Span {
         start: length,

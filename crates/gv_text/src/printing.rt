@@ -37,18 +37,29 @@ pub enum PrintFault {
     Memory,
 }
 
+impl PrintFault {
+    ghost use Rattle.gv_text.specs.PrintFaults.{print_fault_name};
+
+    /// How the fault is printed.
+    fn name(self) -> &'static str
+        ensures { result.now ≡ print_fault_name self }
+    {
+        match self {
+            PrintFault::TooLarge => "TooLarge",
+            PrintFault::DoubleText => "DoubleText",
+            PrintFault::Memory => "Memory",
+        }
+    }
+}
+
 impl fmt::Display for PrintFault {
     ghost use Rattle.std.specs.Prelude.{Some};
-    ghost use Rattle.gv_text.specs.PrintFaults.{fault_name};
+    ghost use Rattle.gv_text.specs.PrintFaults.{print_fault_name};
 
-    ghost output = { λ fault. Some (fault_name fault) };
+    ghost output = { λ fault. Some (print_fault_name fault) };
 
     fn fmt<W: fmt::Write>(&self, f: &mut fmt::Formatter<W>) -> fmt::Result {
-        match self {
-            PrintFault::TooLarge => write!(f, "TooLarge"),
-            PrintFault::DoubleText => write!(f, "DoubleText"),
-            PrintFault::Memory => write!(f, "Memory"),
-        }
+        f.write_str(self.name())
     }
 }
 
@@ -99,36 +110,5 @@ fn push_value(
         Class::Maybe => push_maybe(to, view, annotated),
         Class::Tuple => push_tuple(to, view, annotated),
         Class::Entry => push_entry(to, view, annotated, in_array),
-    }
-}
-
-#[cfg(test)]
-mod tests {
-    use super::*;
-    use gv_types::TypeStr;
-    use std::test::Fail;
-
-    fn text_at(alloc: Global, of: &str, bytes: &[u8]) -> Result<String, Fail> {
-        Ok(print(alloc, View::new(TypeStr::parse(of)?, bytes))?)
-    }
-
-    #[test]
-    fn prints_values(rt: HostRuntime) -> Result<(), Fail> {
-        let alloc = rt.alloc();
-        assert!(rt; text_at(alloc, "s", b"it's\t\0")?.as_str() == "\"it's\\t\"");
-        assert!(rt; text_at(alloc, "ay", b"a\0")?.as_str() == "b'a'");
-        assert!(rt; text_at(alloc, "as", b"a\0\x05")?.as_str() == "@as []");
-        assert!(rt; text_at(alloc, "v", b"\x05\0\0\0\0i")?.as_str() == "<5>");
-        assert!(rt; text_at(alloc, "mms", b"\0")?.as_str() == "@mms just nothing");
-        assert!(rt; text_at(alloc, "(y)", b"\x05")?.as_str() == "(byte 0x05,)");
-        assert!(rt; text_at(alloc, "ad", b"")?.as_str() == "@ad []");
-        Ok(())
-    }
-
-    #[test]
-    fn refuses_doubles(rt: HostRuntime) -> Result<(), Fail> {
-        let double = View::new(TypeStr::parse("d")?, &[0; 8]);
-        assert!(rt; print(rt.alloc(), double).err() == Some(PrintFault::DoubleText));
-        Ok(())
     }
 }

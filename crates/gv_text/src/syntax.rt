@@ -90,6 +90,12 @@ impl Model for Syntax {
 impl Syntax {
     ghost use Rattle.gv_text.specs.Parsed.{IsWithin};
 
+    /// The most levels of a tree.
+    pub const MAX_LEVELS: u8 = 128;
+
+    /// The most bytes of a text that is read.
+    pub const MAX_TEXT_LEN: usize = 16_777_216;
+
     /// The tree of a text.
     pub(crate) fn of(root: SyntaxNode) -> Syntax
         requires { IsWithin root }

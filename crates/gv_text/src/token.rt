@@ -4,7 +4,7 @@ ghost use Rattle.std.specs.Prelude.{◌≡◌};
 use crate::type_text::TypeText;
 use gv_types::BasicType;
 
-/// Where something stands in a text: its first byte and the first byte behind it, counted from 0.
+/// Where something occurs in a text: its first byte and the first byte after it, counted from 0.
 #[derive(Clone, Copy, Debug, PartialEq, Eq)]
 pub struct Span {
     pub start: usize,
@@ -64,7 +64,7 @@ pub enum TokenKind {
     Word(Word),
 }
 
-/// A token and where it stands.
+/// A token and where it is.
 #[derive(Drop)]
 pub struct Token {
     pub kind: TokenKind,

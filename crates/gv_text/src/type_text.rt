@@ -40,16 +40,3 @@ impl TypeText {
         TypeStr::of_checked(self.text.as_str())
     }
 }
-
-#[cfg(test)]
-mod tests {
-    use super::*;
-    use std::test::Fail;
-
-    #[test]
-    fn keeps_the_text(rt: HostRuntime) -> Result<(), Fail> {
-        let copy = TypeText::copy(rt.alloc(), TypeStr::parse("a{sv}")?)?;
-        assert_eq!(rt; copy.as_type().as_str(), "a{sv}");
-        Ok(())
-    }
-}

@@ -10,28 +10,30 @@ use Rattle.gv_model.specs.TypeText.{is_within_limits}
 use Rattle.gv_model.specs.Tree.{Tree as Value, type_of, depth, nodes}
 use Rattle.gv_model.specs.Tree.Tree.{number, text, node}
 use Rattle.gv_model.specs.Layout.{basic_size}
-use Rattle.gv_model.specs.Texts.{is_text}
+use Rattle.gv_model.specs.Texts.{is_text, has_zero_byte}
 use Rattle.gv_model.specs.Typed.{IsValue, IsTextOf}
 use Rattle.gv_tree.specs.declared.basic.Basic.{Basic as Held}
 use Rattle.gv_tree.specs.declared.basic.Basic.TheVariants as basics
 use Rattle.gv_tree.specs.declared.tree.Node.TheVariants as node_of
 use Rattle.gv_model.specs.BasicValue.{number_in}
-use Rattle.gv_tree.proofs.ListLaws.{same_type}
+use Rattle.gv_model.proofs.TypeTextLaws.{one_spelling}
+use Rattle.gv_model.proofs.Prefixes.{basic_parts}
 use Rattle.std.specs.Int.{from_le_bytes}
+use Rattle.std.proofs.lemmas.Option.{same_Some}
 use Rattle.gv_tree.specs.Basics.{basic_tree, BitsAre, TextIs}
 use Rattle.gv_tree.specs.Kept.{IsKept}
 use Rattle.gv_tree.specs.Wholes.{IsWhole}
-use Rattle.gv_tree.specs.Faults.{has_zero, IsTextFault}
+use Rattle.gv_tree.specs.Faults.{IsBasicTextFault}
 use Rattle.gv_tree.specs.declared.fault.TreeFault.{TreeFault}
 use Rattle.gv_tree.specs.declared.fault.TreeFault.TheVariants.{HasNul}
 
-no_zero : (s : List ℕ) → has_zero s ≡ false → AllByRecursion (λ c. 0 < c) s
+no_zero : (s : List ℕ) → has_zero_byte s ≡ false → AllByRecursion (λ c. 0 < c) s
 no_zero [] h = tt
 no_zero (zero ∷ s) h = absurd cc
 no_zero (suc c ∷ s) h = (omega arith, no_zero s (rw (ne_eqb (suc c) 0 (omega arith)) at h))
 
 -- a text without a zero byte that its type allows
-pub text_value : (k : Basic) (s : List ℕ) → basic_size k ≡ None → has_zero s ≡ false → is_text k s ≡ true → IsTextOf k s
+pub text_value : (k : Basic) (s : List ℕ) → basic_size k ≡ None → has_zero_byte s ≡ false → is_text k s ≡ true → IsTextOf k s
 text_value k s size h g = record { no_number = size; no_zero = no_zero s h; allowed = g }
 
 basic_limits : (k : Basic) → is_within_limits (Ty.basic k) (spelling (Ty.basic k)) ≡ true
@@ -66,9 +68,9 @@ whole_leaf (text k s) l h = record { value = h; levels = omega arith; limits = b
 whole_leaf (node t vs) l h = absurd l
 
 -- a text of which only a zero byte can be wrong
-pub checked_text : (k : Basic) (s x : List ℕ) (r : Result (Unit {0}) TreeFault) → basic_size k ≡ None → is_text k s ≡ true → x ≡ s → MatchResult r (λ _. has_zero x ≡ false) (λ fault. (fault ≡ HasNul) × (has_zero x ≡ true)) → MatchResult r (λ _. IsTextOf k s) (IsTextFault k s)
-checked_text k s x (Ok u) size g e h = text_value k s size (ap has_zero (sym e) ∙ h) g
-checked_text k s x (Err fault) size g e h = subst (IsTextFault k s) (sym h.0) (ap has_zero (sym e) ∙ h.1)
+pub checked_text : (k : Basic) (s x : List ℕ) (r : Result (Unit {0}) TreeFault) → basic_size k ≡ None → is_text k s ≡ true → x ≡ s → MatchResult r (λ _. has_zero_byte x ≡ false) (λ fault. (fault ≡ HasNul) × (has_zero_byte x ≡ true)) → MatchResult r (λ _. IsTextOf k s) (IsBasicTextFault k s)
+checked_text k s x (Ok u) size g e h = text_value k s size (ap has_zero_byte (sym e) ∙ h) g
+checked_text k s x (Err fault) size g e h = subst (IsBasicTextFault k s) (sym h.0) (ap has_zero_byte (sym e) ∙ h.1)
 
 pub whole_basic : (b : Held) → IsValue (basic_tree b) → IsWhole (basic_tree b)
 whole_basic b h = whole_leaf (basic_tree b) (leaf b) h
@@ -118,16 +120,10 @@ eight_bytes (a ∷ b ∷ c ∷ d ∷ e ∷ f ∷ g ∷ h ∷ i ∷ x) n low = ab
 
 -- ---- equal basic values
 
-same_kinds : (k j : Basic) → Ty.basic k ≡ Ty.basic j → k ≡ j
-same_kinds k j e = cc
-
-same_bits : (a b : ℕ) → ◌≡◌ {A = Option ℕ} (Some a) (Some b) → a ≡ b
-same_bits a b e = cc
-
 -- basic values of the same type, the same bits and the same text are the same
 pub same_parts : (v u : Value) (a b : Option ℕ) (x y : List ℕ) → BitsAre a v → BitsAre b u → TextIs x v → TextIs y u → spelling (type_of v) ≡ spelling (type_of u) → a ≡ b → x ≡ y → v ≡ u
 same_parts (number k n) (number j m) (Some a) (Some b) x y h g i o e f q =
-    ap₂ number (same_kinds k j (same_type (Ty.basic k) (Ty.basic j) e)) (sym h.0 ∙ same_bits a b f ∙ g.0)
+    ap₂ number (basic_parts k j (one_spelling (Ty.basic k) (Ty.basic j) e)) (sym h.0 ∙ same_Some a b f ∙ g.0)
 same_parts (number k n) (number j m) None b x y h g i o e f q = absurd h
 same_parts (number k n) (number j m) (Some a) None x y h g i o e f q = absurd g
 same_parts (number k n) (text j t) (Some a) (Some b) x y h g i o e f q = absurd g
@@ -137,7 +133,7 @@ same_parts (text k s) (number j m) (Some a) b x y h g i o e f q = absurd h
 same_parts (text k s) (number j m) None (Some b) x y h g i o e f q = absurd cc
 same_parts (text k s) (number j m) None None x y h g i o e f q = absurd g
 same_parts (text k s) (text j t) a b x y h g i o e f q =
-    ap₂ text (same_kinds k j (same_type (Ty.basic k) (Ty.basic j) e)) (sym i ∙ q ∙ o)
+    ap₂ text (basic_parts k j (one_spelling (Ty.basic k) (Ty.basic j) e)) (sym i ∙ q ∙ o)
 same_parts (node t vs) u a b x y h g i o e f q = absurd i
 same_parts v (node t vs) a b x y h g i o e f q = absurd o
 

@@ -1,13 +1,13 @@
 -- A container of sizes within the limits is kept as it is.
-use Rattle.std.proofs.Common.{ℕ, ◌≤◌, ◌≡◌, min, List, length, true, refl, sym, ap, ap₂, ◌∙◌, subst, arith, String, Vec, Global}
+use Rattle.std.proofs.Common.{ℕ, ◌≡◌, min, List, refl, sym, ap, ap₂, ◌∙◌, subst, String, Vec, Global}
 use Rattle.std.specs.Prelude.{string_bytes}
 use Rattle.gv_model.specs.Ty.{Ty, spelling, nesting}
-use Rattle.gv_model.specs.TypeText.{is_within_limits}
 use Rattle.gv_model.specs.Tree.{Tree as Value, Trees, type_of, depth, nodes}
 use Rattle.gv_model.specs.Tree.Tree.{node}
 use Rattle.gv_model.specs.Tree.Trees.{none, first}
 use Rattle.gv_model.specs.Typed.{AreValues, MayHold}
 use Rattle.gv_model.proofs.TypeTextParts.{IsTextOfType, text_of_type}
+use Rattle.gv_model.proofs.TypeTextLaws.{within_limits}
 use Rattle.gv_tree.specs.declared.sums.Sums.{Sums}
 use Rattle.gv_tree.specs.declared.tree.Tree.{Tree}
 use Rattle.gv_tree.specs.declared.tree.Node.TheVariants.{Container}
@@ -15,9 +15,6 @@ use Rattle.gv_tree.specs.Nodes.{trees_of, tree_of}
 use Rattle.gv_tree.specs.Kept.{IsKept}
 use Rattle.gv_tree.specs.Wholes.{IsWhole}
 use Rattle.gv_tree.specs.Sums.{top, AreWhole, IsSized}
-
-within : (t : Ty) (w : List ℕ) → nesting t ≤ 128 → length w ≤ 67108864 → is_within_limits t w ≡ true
-within t w h g = grind arith
 
 values_of_whole : (vs : Trees) → AreWhole vs → AreValues vs
 values_of_whole none h = tt
@@ -28,18 +25,19 @@ pub whole_container : (t : Ty) (vs : Trees) (s : Sums) → MayHold t vs → AreW
 whole_container t vs s h w z = record {
   value = (h, values_of_whole vs w);
   levels = z.low;
-  limits = within t (spelling t) z.type_low z.short;
+  limits = within_limits t (spelling t) z.type_low z.short;
 }
 
 -- the text of its type
 pub container_text : (t : Ty) (vs : Trees) (s : Sums) (text : List ℕ) → text ≡ spelling t → IsSized s (node t vs) → IsTextOfType t text
-container_text t vs s text e z = subst (IsTextOfType t) (sym e) (text_of_type t (spelling t) refl (within t (spelling t) z.type_low z.short))
+container_text t vs s text e z = subst (IsTextOfType t) (sym e) (text_of_type t (spelling t) refl (within_limits t (spelling t) z.type_low z.short))
 
 -- the tree that a container with this text and these children stands for
 pub container_tree : (t : Ty) (vs : Trees) (s : Sums) (text : String Global) (children : Vec Tree Global) → string_bytes text ≡ spelling t → trees_of children.items ≡ vs → IsSized s (node t vs) → tree_of (Container text children) ≡ node t vs
 container_tree t vs s text children e f z = ap₂ node (container_text t vs s (string_bytes text) e z).type f
 
-pub kept_container : (t : Ty) (vs : Trees) (s : Sums) (text : String Global) (children : Vec Tree Global) → string_bytes text ≡ spelling t → trees_of children.items ≡ vs → MayHold t vs → AreWhole vs → IsSized s (node t vs) → IsKept (record { node = Container text children; levels = s.levels; type_levels = s.type_levels; values = s.values })
+pub kept_container : (t : Ty) (vs : Trees) (s : Sums) (text : String Global) (children : Vec Tree Global) → string_bytes text ≡ spelling t → trees_of children.items ≡ vs → MayHold t vs → AreWhole vs → IsSized s (node t vs)
+    → IsKept (record { node = Container text children; levels = s.levels; type_levels = s.type_levels; values = s.values })
 kept_container t vs s text children e f h w z =
     let same : tree_of (Container text children) ≡ node t vs = container_tree t vs s text children e f z in
     record {

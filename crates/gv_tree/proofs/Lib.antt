@@ -2,7 +2,6 @@ pub mod WholeLaws
 pub mod BasicLaws
 pub mod ShapeLaws
 pub mod SumLaws
-pub mod NestingLaws
 pub mod ListLaws
 pub mod TextLaws
 pub mod KeptLaws

@@ -2,19 +2,13 @@
 use Rattle.std.specs.Prelude.{not}
 use Rattle.std.specs.Str.{bytes_eq}
 use Rattle.std.proofs.lemmas.Slice.Eq.{bytes_eq-Decides}
-use Rattle.std.proofs.Common.{true, ℕ, zero, suc, ◌+◌, ◌<◌, ◌≡◌, ◌≢◌, List, [], ◌∷◌, ◌++◌, length, take, drop, get_or, sym, ap, ◌∙◌, arith, add-one}
-use Rattle.gv_model.specs.Ty.{Ty, spelling}
-use Rattle.gv_model.specs.Tree.{Tree as Value, type_of}
+use Rattle.std.proofs.Common.{true, ℕ, zero, suc, ◌+◌, ◌<◌, ◌≡◌, ◌≢◌, List, [], ◌∷◌, length, take, get_or, sym, ap, ◌∙◌, arith, add-one}
+use Rattle.gv_model.specs.Ty.{Ty}
+use Rattle.gv_model.specs.Tree.{Tree as Value, type_of, Trees}
 use Rattle.gv_model.specs.Typed.{AllOf}
-use Rattle.gv_model.proofs.TypeTextLaws.{one_reading}
+use Rattle.gv_model.specs.Tree.Trees.{none, first}
 use Rattle.gv_tree.specs.Nodes.{trees_of}
 use Rattle.gv_tree.specs.Faults.{IsFirstOther}
-
--- the item at an index, and those behind it
-pub drop_item : (xs : List Value) (i : ℕ) (x : Value) → i < length xs → x ≡ get_or xs i x → drop i xs ≡ x ∷ drop (i + 1) xs
-drop_item [] i x lt e = absurd (omega arith)
-drop_item (y ∷ xs) zero x lt e = ap (λ (z : Value). z ∷ xs) (sym e)
-drop_item (y ∷ xs) (suc i) x lt e = rw add-one (rw add-one at (drop_item xs i x (omega arith) e))
 
 -- one more of the type
 pub all_of_more : (t : Ty) (xs : List Value) (i : ℕ) (x : Value) → i < length xs → x ≡ get_or xs i x → type_of x ≡ t → AllOf t (trees_of (take i xs)) → AllOf t (trees_of (take (i + 1) xs))
@@ -28,10 +22,12 @@ first_other_here t [] i x lt e other h = absurd (omega arith)
 first_other_here t (y ∷ xs) zero x lt e other h = λ p. other (ap type_of e ∙ p)
 first_other_here t (y ∷ xs) (suc i) x lt e other h = (h.0, first_other_here t xs i x (omega arith) e other h.1)
 
--- a type's text tells the type
-pub same_type : (t u : Ty) → spelling t ≡ spelling u → t ≡ u
-same_type t u e = (one_reading t u [] [] (ap (λ (s : List ℕ). s ++ []) e)).0
-
 -- texts that compare as different
 pub texts_differ : (a b : List ℕ) → true ≡ not (bytes_eq a b) → a ≢ b
 texts_differ a b h e = let same : bytes_eq a b ≡ true = (bytes_eq-Decides a b).1 e in absurd (cc (h, same))
+
+-- where all are of the type, none is the first of another
+pub none_other : (t : Ty) (vs : Trees) (i : ℕ) → AllOf t vs → IsFirstOther t vs i → ⊥
+none_other t none i a h = h
+none_other t (first v vs) zero a h = h a.0
+none_other t (first v vs) (suc i) a h = none_other t vs i a.1 h.1

@@ -9,13 +9,13 @@ use Rattle.gv_model.specs.Tree.{Tree as Value, Trees, type_of}
 use Rattle.gv_model.specs.Tree.Tree.{node}
 use Rattle.gv_model.specs.Tree.Trees.{none, first}
 use Rattle.gv_model.specs.Typed.{MayHold, AllOf, types_of}
+use Rattle.gv_model.proofs.Prefixes.{nesting-positive}
 use Rattle.gv_tree.specs.declared.sums.Sums.{Sums}
 use Rattle.gv_tree.specs.declared.fault.TreeFault.{TreeFault}
 use Rattle.gv_tree.specs.declared.fault.TreeFault.TheVariants.{HasNul, BadObjectPath, BadSignature, WrongType, KeyNotBasic, TooDeep, TooLarge, Memory}
 use Rattle.gv_tree.specs.Nodes.{trees_of, trees_of_option}
 use Rattle.gv_tree.specs.Faults.{IsSizeFault}
 use Rattle.gv_tree.specs.Sums.{top, AreWhole, SumsAre, IsWith, IsSized, ContentIs}
-use Rattle.gv_tree.proofs.NestingLaws.{positive}
 use Rattle.gv_tree.proofs.SumLaws.{sums_start, sums_step, sums_end}
 
 -- ---- one tree, and two
@@ -42,7 +42,7 @@ tuple_bytes s vs n h e = omega (arith, h.type_bytes, e, length-append (spellings
 
 pub entry_levels : (s : Sums) (k : Basic) (key value : Value) → SumsAre s (first key (first value none)) → type_of key ≡ basic k → s.type_levels + 1 ≡ nesting (entry k (type_of value))
 unfolding nesting
-entry_levels s k key value h e = omega (arith, h.type_levels, ap nesting e, positive (type_of value))
+entry_levels s k key value h e = omega (arith, h.type_levels, ap nesting e, nesting-positive (type_of value))
 
 pub entry_bytes : (s : Sums) (k : Basic) (key value : Value) (n : ℕ) → SumsAre s (first key (first value none)) → type_of key ≡ basic k → n ≡ min (s.type_bytes + 2) top → n ≡ min (length (spelling (entry k (type_of value)))) top
 unfolding spelling

@@ -1,10 +1,10 @@
 -- Sums of the sizes of trees, one tree after the other.
-use Rattle.std.proofs.Common.{ℕ, ◌+◌, ◌≤◌, ◌≡◌, min, max, List, length, true, arith, length-append}
-use Rattle.gv_model.specs.Ty.{Ty, spelling, spellings, nesting, greatest_nesting}
+use Rattle.std.proofs.Common.{ℕ, ◌+◌, ◌≤◌, ◌≡◌, min, max, length, arith, length-append}
+use Rattle.gv_model.specs.Ty.{spelling, spellings, nesting, greatest_nesting}
 use Rattle.gv_model.specs.Tree.{Tree as Value, Trees, type_of, depth, greatest_depth, nodes, nodes_of}
 use Rattle.gv_model.specs.Tree.Trees.{none, first}
-use Rattle.gv_model.specs.TypeText.{is_within_limits}
 use Rattle.gv_model.specs.Typed.{types_of}
+use Rattle.gv_model.proofs.TypeTextLaws.{limits_of}
 use Rattle.gv_tree.specs.declared.sums.Sums.{Sums}
 use Rattle.gv_tree.specs.Sums.{top, AreWhole, SumsAre, IsWith}
 
@@ -59,13 +59,10 @@ unfolding depth
 low_depths none w = omega arith
 low_depths (first v vs) w = omega (arith, w.0.levels, low_depths vs w.1)
 
-low_nesting : (t : Ty) (text : List ℕ) → is_within_limits t text ≡ true → nesting t ≤ 128
-low_nesting t text e = grind arith
-
 low_nestings : (vs : Trees) → AreWhole vs → greatest_nesting (types_of vs) ≤ 128
 unfolding nesting
 low_nestings none w = omega arith
-low_nestings (first v vs) w = omega (arith, low_nesting (type_of v) (spelling (type_of v)) w.0.limits, low_nestings vs w.1)
+low_nestings (first v vs) w = omega (arith, (limits_of (type_of v) (spelling (type_of v)) w.0.limits).0, low_nestings vs w.1)
 
 pub low_levels : (s : Sums) (vs : Trees) → SumsAre s vs → s.levels ≤ 128
 low_levels s vs h = omega (arith, h.levels, low_depths vs h.whole)

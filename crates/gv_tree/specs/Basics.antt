@@ -1,5 +1,5 @@
 -- The tree that a basic value stands for.
-use Rattle.std.specs.Prelude.{◌≡◌, ℕ, List, [], Bool, true, false, Option, Some, None, string_bytes}
+use Rattle.std.specs.Prelude.{◌≡◌, ℕ, List, [], Option, Some, None, string_bytes}
 use Rattle.std.specs.Int.{cast_unsigned, w16, w32, w64}
 use Rattle.gv_model.specs.Ty.Basic.{boolean, byte, int16, uint16, int32, uint32, int64, uint64, handle, double, string, path, signature}
 use Rattle.gv_model.specs.Tree.{Tree}
@@ -8,10 +8,7 @@ use Rattle.gv_model.specs.BasicValue.{number_in}
 use Rattle.gv_model.specs.Typed.{IsNumber}
 use Rattle.gv_tree.specs.declared.basic.Basic.{Basic}
 use Rattle.gv_tree.specs.declared.basic.Basic.TheVariants as basics
-
-abbrev pub truth_bits : Bool → ℕ
-truth_bits true = 1
-truth_bits false = 0
+pub use Rattle.gv_model.specs.BasicValue.{truth_bits}
 
 abbrev pub basic_tree : Basic → Tree
 basic_tree (basics.Bool b) = number boolean (truth_bits b)

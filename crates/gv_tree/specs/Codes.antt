@@ -1,46 +1,15 @@
--- Types and trees as trees of numbers, by which a proof tells them apart.
-use Rattle.std.specs.Prelude.{◌≡◌, ℕ, zero, suc, List, [], ◌∷◌, unwrap_or, refl}
+-- Types and trees as trees of numbers, by which a proof tells them apart. Nothing here is to be believed: that they are told apart is proved.
+use Rattle.std.specs.Prelude.{◌≡◌, ℕ, zero, suc, refl}
 use Rattle.std.specs.Coded.{Coded, code_by}
-use Rattle.std.proofs.Common.{ap, ap₂, ◌∙◌}
+use Rattle.std.proofs.Common.{ap, ap₂}
 use base.Stored.{Gv, gnil, gnum, gcons, num}
-use Rattle.gv_model.specs.Ty.{Ty, Basic, spelling, letter as letter_of}
-use Rattle.gv_model.specs.Ty.Ty.{tuple}
-use Rattle.gv_model.specs.Ty.Types.{end}
+use Rattle.gv_model.specs.Ty.{Ty, spelling, letter as letter_of}
 use Rattle.gv_model.specs.Ty.Basic.{boolean}
-use Rattle.gv_model.specs.TypeText.{Mark, mark, seen, one_type}
-use Rattle.gv_model.specs.TypeText.Mark.{letter}
 use Rattle.gv_model.specs.Tree.{Tree, Trees}
 use Rattle.gv_model.specs.Tree.Tree.{number, text, node}
 use Rattle.gv_model.specs.Tree.Trees.{none, first}
-use Rattle.gv_model.proofs.TypeTextLaws.{mark_letter, seen_type}
-
-abbrev numbers_code : List ℕ → Gv
-numbers_code [] = gnil
-numbers_code (x ∷ xs) = gcons (gnum x) (numbers_code xs)
-
-abbrev numbers_of : Gv → List ℕ
-numbers_of (gcons x xs) = num x ∷ numbers_of xs
-numbers_of _ = []
-
-numbers_back : (xs : List ℕ) → numbers_of (numbers_code xs) ≡ xs
-numbers_back [] = refl
-numbers_back (x ∷ xs) = ap (λ ys. x ∷ ys) (numbers_back xs)
-
-abbrev type_of_numbers : List ℕ → Ty
-type_of_numbers xs = unwrap_or (one_type (seen xs)) (tuple end)
-
-abbrev marked : Mark → Basic
-marked (letter k) = k
-marked _ = boolean
-
-abbrev basic_of : Gv → Basic
-basic_of g = marked (mark (num g))
-
-basic_back : (k : Basic) → basic_of (gnum (letter_of k)) ≡ k
-basic_back k = ap marked (mark_letter k)
-
-pub type_back : (t : Ty) → type_of_numbers (numbers_of (numbers_code (spelling t))) ≡ t
-type_back t = ap type_of_numbers (numbers_back (spelling t)) ∙ ap (λ s. unwrap_or (one_type s) (tuple end)) (seen_type t)
+use Rattle.gv_model.specs.Codes.{numbers_code, numbers_of_code, type_of_numbers, basic_of_code, coded_gv}
+use Rattle.gv_model.proofs.CodeLaws.{numbers_back, basic_back, type_back}
 
 abbrev mutual
   tree_gv : Tree → Gv
@@ -53,9 +22,9 @@ abbrev mutual
   trees_gv (first v vs) = gcons (tree_gv v) (trees_gv vs)
 
 abbrev tagged : ℕ → Gv → Gv → Trees → Tree
-tagged zero k c vs = number (basic_of k) (num c)
-tagged (suc zero) k c vs = text (basic_of k) (numbers_of c)
-tagged (suc (suc i)) k c vs = node (type_of_numbers (numbers_of k)) vs
+tagged zero k c vs = number (basic_of_code k) (num c)
+tagged (suc zero) k c vs = text (basic_of_code k) (numbers_of_code c)
+tagged (suc (suc i)) k c vs = node (type_of_numbers (numbers_of_code k)) vs
 
 abbrev mutual
   gv_tree : Gv → Tree
@@ -76,11 +45,8 @@ mutual
   trees_back none = refl
   trees_back (first v vs) = ap₂ first (tree_back v) (trees_back vs)
 
-abbrev pub coded_gv : Coded Gv
-coded_gv = record { code = λ g. g; inj = λ x y e. e }
-
 abbrev pub coded_type : Coded Ty
-coded_type = code_by Gv coded_gv (λ t. numbers_code (spelling t)) (λ g. type_of_numbers (numbers_of g)) type_back
+coded_type = code_by Gv coded_gv (λ t. numbers_code (spelling t)) (λ g. type_of_numbers (numbers_of_code g)) type_back
 
 abbrev pub coded_tree : Coded Tree
 coded_tree = code_by Gv coded_gv tree_gv gv_tree tree_back

@@ -1,38 +1,35 @@
 -- Why a tree is not made.
-use Rattle.std.specs.Prelude.{◌≡◌, ◌≢◌, ◌≤◌, ◌<◌, ◌⊎◌, ℕ, zero, suc, List, length, Bool, true, false, Option, Some, None, ◌==◌}
-use Rattle.std.specs.List.{list_any}
+use Rattle.std.specs.Prelude.{◌≡◌, ◌≢◌, ◌≤◌, ◌<◌, ◌⊎◌, ℕ, zero, suc, List, length, Bool, true, false, Option, Some, None}
 use Rattle.gv_model.specs.Ty.{Ty, Basic, spelling, nesting}
 use Rattle.gv_model.specs.Ty.Basic.{path, signature}
-use Rattle.gv_model.specs.Texts.{is_path, is_signature}
+use Rattle.gv_model.specs.Texts.{is_object_path, is_signature, has_zero_byte}
 use Rattle.gv_model.specs.Tree.{Tree, Trees, type_of, children, depth}
 use Rattle.gv_model.specs.Tree.Tree.{text}
 use Rattle.gv_model.specs.Tree.Trees.{none, first}
 use Rattle.gv_model.specs.Typed.{AllOf}
 use Rattle.gv_tree.specs.declared.fault.TreeFault.{TreeFault}
 use Rattle.gv_tree.specs.declared.fault.TreeFault.TheVariants.{HasNul, BadObjectPath, BadSignature, WrongType, KeyNotBasic, TooDeep, TooLarge, Memory}
-
-abbrev pub has_zero : List ℕ → Bool
-has_zero s = list_any (λ c. c == 0) s
+pub use Rattle.gv_model.specs.Texts.{has_zero_byte as has_zero}
 
 -- a text without a zero byte that isn't allowed at its type
 pub record IsBadText (is : Basic) (good : Bool) (k : Basic) (s : List ℕ) : Type 0 where
   pub type : k ≡ is
-  pub no_zero : has_zero s ≡ false
+  pub no_zero : has_zero_byte s ≡ false
   pub bad : good ≡ false
 
-abbrev pub IsTextFault : Basic → List ℕ → TreeFault → Type 0
-IsTextFault k s HasNul = has_zero s ≡ true
-IsTextFault k s BadObjectPath = IsBadText path (is_path s) k s
-IsTextFault k s BadSignature = IsBadText signature (is_signature s) k s
-IsTextFault k s _ = ⊥
+abbrev pub IsBasicTextFault : Basic → List ℕ → TreeFault → Type 0
+IsBasicTextFault k s HasNul = has_zero_byte s ≡ true
+IsBasicTextFault k s BadObjectPath = IsBadText path (is_object_path s) k s
+IsBasicTextFault k s BadSignature = IsBadText signature (is_signature s) k s
+IsBasicTextFault k s _ = ⊥
 
 -- a number is never refused
 abbrev pub IsBasicFault : Tree → TreeFault → Type 0
-IsBasicFault (text k s) fault = IsTextFault k s fault
+IsBasicFault (text k s) fault = IsBasicTextFault k s fault
 IsBasicFault _ fault = ⊥
 
-abbrev pub IsTooDeep : Tree → Type 0
-IsTooDeep v = (128 < depth v) ⊎ (128 < nesting (type_of v))
+abbrev pub IsTooDeepTree : Tree → Type 0
+IsTooDeepTree v = (128 < depth v) ⊎ (128 < nesting (type_of v))
 
 pub record IsTooLarge (v : Tree) : Type 0 where
   pub levels : depth v ≤ 128
@@ -41,7 +38,7 @@ pub record IsTooLarge (v : Tree) : Type 0 where
 
 -- why a container that is a value of its type isn't made
 abbrev pub IsSizeFault : Tree → TreeFault → Type 0
-IsSizeFault v TooDeep = IsTooDeep v
+IsSizeFault v TooDeep = IsTooDeepTree v
 IsSizeFault v TooLarge = IsTooLarge v
 IsSizeFault v Memory = Unit {0}
 IsSizeFault v _ = ⊥

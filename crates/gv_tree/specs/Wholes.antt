@@ -15,9 +15,9 @@ pub record IsWhole (v : Tree) : Type 0 where
   pub limits : is_within_limits (type_of v) (spelling (type_of v)) ≡ true
 
 -- the entry of a key of this type, which may be basic
-abbrev pub entry_of : Ty → Tree → Tree → Option Tree
-entry_of (basic k) key value = Some (node (entry k (type_of value)) (first key (first value none)))
-entry_of _ key value = None
+abbrev pub entry_at_key : Ty → Tree → Tree → Option Tree
+entry_at_key (basic k) key value = Some (node (entry k (type_of value)) (first key (first value none)))
+entry_at_key _ key value = None
 
 abbrev pub entry_tree : Tree → Tree → Option Tree
-entry_tree key value = entry_of (type_of key) key value
+entry_tree key value = entry_at_key (type_of key) key value

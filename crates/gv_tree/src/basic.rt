@@ -1,14 +1,15 @@
 //! Values of the types that hold no other (GVariant Specification, "The GVariant Type System").
 ghost use Rattle.std.specs.Prelude.{◌≡◌, ◌↔◌, ◌<◌, ◌^◌, true, false, IfOk, IsTrue, MatchResult};
-ghost use Rattle.gv_model.specs.Ty.{spelling};
+ghost use Rattle.gv_model.specs.Ty.{Ty.basic, spelling};
 ghost use Rattle.gv_model.specs.Tree.{type_of};
 ghost use Rattle.gv_model.specs.BasicValue.{number_in};
 ghost use Rattle.gv_model.specs.Typed.{IsValue};
+ghost use Rattle.gv_types.specs.Classes.{basic_of};
 ghost use Rattle.gv_tree.specs.Faults.{IsBasicFault, has_zero};
 ghost use Rattle.gv_tree.specs.declared.fault.TreeFault.TheVariants.{HasNul};
 
 use crate::fault::TreeFault;
-use gv_types::{is_object_path, is_signature};
+use gv_types::{BasicType, is_object_path, is_signature};
 use std::alloc::{AllocError, Global};
 
 /// A value of a type that holds no other.
@@ -47,26 +48,33 @@ pub enum Basic {
 impl Basic {
     ghost use Rattle.gv_tree.specs.Basics.{basic_tree, BitsAre, TextIs};
 
+    /// Its type.
+    pub(crate) fn basic_type(&self) -> BasicType
+        ensures { type_of (basic_tree self.now) ≡ basic (basic_of result) }
+    {
+        match self {
+            Basic::Bool(_) => BasicType::Boolean,
+            Basic::Byte(_) => BasicType::Byte,
+            Basic::Int16(_) => BasicType::Int16,
+            Basic::Uint16(_) => BasicType::Uint16,
+            Basic::Int32(_) => BasicType::Int32,
+            Basic::Uint32(_) => BasicType::Uint32,
+            Basic::Int64(_) => BasicType::Int64,
+            Basic::Uint64(_) => BasicType::Uint64,
+            Basic::HandleNo(_) => BasicType::Handle,
+            Basic::DoubleBits(_) => BasicType::Double,
+            Basic::Text(_) => BasicType::Text,
+            Basic::ObjectPath(_) => BasicType::ObjectPath,
+            Basic::Signature(_) => BasicType::Signature,
+        }
+    }
+
     /// The text of its type.
     #[tactic(auto, unfolding(gv_model::specs::Ty::spelling))]
     pub(crate) fn type_text(&self) -> &'static str
         ensures { result.now ≡ spelling (type_of (basic_tree self.now)) }
     {
-        match self {
-            Basic::Bool(_) => "b",
-            Basic::Byte(_) => "y",
-            Basic::Int16(_) => "n",
-            Basic::Uint16(_) => "q",
-            Basic::Int32(_) => "i",
-            Basic::Uint32(_) => "u",
-            Basic::Int64(_) => "x",
-            Basic::Uint64(_) => "t",
-            Basic::HandleNo(_) => "h",
-            Basic::DoubleBits(_) => "d",
-            Basic::Text(_) => "s",
-            Basic::ObjectPath(_) => "o",
-            Basic::Signature(_) => "g",
-        }
+        self.basic_type().letter()
     }
 
     /// The bits of a number, or None for a text.

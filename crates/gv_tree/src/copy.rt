@@ -7,7 +7,7 @@ use crate::tree::{Node, Tree};
 use std::alloc::Global;
 
 impl Tree {
-    /// A copy of the whole tree. It fails for want of memory alone.
+    /// A copy of the whole tree. It fails only by running out of memory.
     ///
     /// It takes time linear in the tree.
     pub fn try_copy(&self, alloc: Global) -> Result<Tree, TreeFault>

@@ -27,22 +27,36 @@ pub enum TreeFault {
     Memory,
 }
 
+impl TreeFault {
+    ghost use Rattle.gv_tree.specs.FaultTexts.{tree_fault_name};
+
+    /// Its name.
+    fn name(self) -> &'static str
+        ensures { result.now ≡ tree_fault_name self }
+    {
+        match self {
+            TreeFault::HasNul => "HasNul",
+            TreeFault::BadObjectPath => "BadObjectPath",
+            TreeFault::BadSignature => "BadSignature",
+            TreeFault::WrongType(_) => "WrongType",
+            TreeFault::KeyNotBasic => "KeyNotBasic",
+            TreeFault::TooDeep => "TooDeep",
+            TreeFault::TooLarge => "TooLarge",
+            TreeFault::Memory => "Memory",
+        }
+    }
+}
+
 impl fmt::Display for TreeFault {
     ghost use Rattle.std.specs.Prelude.{Some};
-    ghost use Rattle.gv_tree.specs.FaultTexts.{fault_text};
+    ghost use Rattle.gv_tree.specs.FaultTexts.{tree_fault_text};
 
-    ghost output = { λ fault. Some (fault_text fault) };
+    ghost output = { λ fault. Some (tree_fault_text fault) };
 
     fn fmt<W: fmt::Write>(&self, f: &mut fmt::Formatter<W>) -> fmt::Result {
         match self {
-            TreeFault::HasNul => write!(f, "HasNul"),
-            TreeFault::BadObjectPath => write!(f, "BadObjectPath"),
-            TreeFault::BadSignature => write!(f, "BadSignature"),
-            TreeFault::WrongType(at) => write!(f, "WrongType at {at}"),
-            TreeFault::KeyNotBasic => write!(f, "KeyNotBasic"),
-            TreeFault::TooDeep => write!(f, "TooDeep"),
-            TreeFault::TooLarge => write!(f, "TooLarge"),
-            TreeFault::Memory => write!(f, "Memory"),
+            TreeFault::WrongType(at) => write!(f, "{} at {at}", self.name()),
+            _ => f.write_str(self.name()),
         }
     }
 }

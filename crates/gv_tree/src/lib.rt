@@ -11,8 +11,6 @@ mod fault;
 mod make;
 mod shape;
 mod sums;
-#[cfg(test)]
-mod tests;
 mod tree;
 mod type_texts;
 

@@ -41,7 +41,7 @@ impl Tree {
     /// A value of the type, or Nothing.
     ///
     /// Refused are, in this order, a value of another type (`WrongType(0)`), more than 128 levels of the value or its
-    /// type, a type text that is too long, and want of memory.
+    /// type, a type text that is too long, and running out of memory.
     pub fn maybe(alloc: Global, of: TypeStr<'_>, child: Option<Tree>) -> Result<Tree, TreeFault>
         ensures made { IfOk result (λ t. t ≡ node (maybe (ty of.entry)) (trees_of_option child)) }
         ensures whole { IfOk result IsWhole }
@@ -56,7 +56,7 @@ impl Tree {
     /// An array of elements of the type.
     ///
     /// Refused are, in this order, the first element of another type, more than 128 levels of the value or its type, a
-    /// type text that is too long, and want of memory.
+    /// type text that is too long, and running out of memory.
     pub fn array(alloc: Global, of: TypeStr<'_>, elements: Vec<Tree>) -> Result<Tree, TreeFault>
         ensures made { IfOk result (λ t. t ≡ node (array (ty of.entry)) (trees_of elements.items)) }
         ensures whole { IfOk result IsWhole }
@@ -85,7 +85,7 @@ impl Tree {
     /// A dictionary's entry.
     ///
     /// Refused are, in this order, a key of no basic type, more than 128 levels of the value or its type, a type text that
-    /// is too long, and want of memory.
+    /// is too long, and running out of memory.
     pub fn entry(alloc: Global, key: Tree, value: Tree) -> Result<Tree, TreeFault>
         ensures made { IfOk result (λ t. Some t ≡ entry_tree key value) }
         ensures whole { IfOk result IsWhole }
@@ -103,7 +103,7 @@ impl Tree {
 
     /// A variant that holds the value.
     ///
-    /// Refused are, in this order, more than 128 levels and want of memory.
+    /// Refused are, in this order, more than 128 levels and running out of memory.
     pub fn variant(alloc: Global, child: Tree) -> Result<Tree, TreeFault>
         ensures made { IfOk result (λ t. t ≡ node variant (first child none)) }
         ensures whole { IfOk result IsWhole }

@@ -9,12 +9,7 @@ ghost use Rattle.gv_tree.specs.declared.tree.Node.TheVariants.{Container};
 
 use crate::fault::TreeFault;
 use crate::tree::{Node, Tree};
-
-/// The most levels that a tree or its type may have.
-const MAX_LEVELS: u8 = 128;
-
-/// The most bytes that the text of a type may have.
-const MAX_TYPE_BYTES: usize = 67_108_864;
+use gv_types::TypeStr;
 
 /// The sizes of a tree, or the greatest and the sums of the sizes of some.
 #[derive(Clone, Copy)]
@@ -79,10 +74,10 @@ impl Sums {
             → MatchResult result (λ sums. IsSized sums (node t vs)) (IsSizeFault (node t vs)) }
     {
         let levels = self.levels + 1;
-        if levels > MAX_LEVELS || type_levels > MAX_LEVELS {
+        if levels > Tree::MAX_LEVELS || type_levels > TypeStr::MAX_LEVELS {
             return Err(TreeFault::TooDeep);
         }
-        if type_bytes > MAX_TYPE_BYTES {
+        if type_bytes > TypeStr::MAX_LEN {
             return Err(TreeFault::TooLarge);
         }
         Ok(Sums {

@@ -53,6 +53,9 @@ impl Model for Tree {
 }
 
 impl Tree {
+    /// The most levels of a value.
+    pub const MAX_LEVELS: u8 = 128;
+
     /// The text of its type. It looks at no part of the tree.
     pub fn type_text(&self) -> TypeStr<'_>
         ensures text { ty result ≡ type_of self.now }

@@ -22,7 +22,7 @@ basic_of-basic_type string = refl
 basic_of-basic_type path = refl
 basic_of-basic_type signature = refl
 
-basic_parts : (a b : BasicType) → classes.Basic a ≡ classes.Basic b → a ≡ b
+pub basic_parts : (a b : BasicType) → classes.Basic a ≡ classes.Basic b → a ≡ b
 basic_parts a b e = cc
 
 -- a type of a basic class is that basic type

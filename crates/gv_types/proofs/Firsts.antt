@@ -1,11 +1,12 @@
 -- What the first byte of a type says of the type.
-use Rattle.std.proofs.Common.{ℕ, ◌≡◌, ◌<◌, [], ◌∷◌, length, get_or, Option, Some, None, sym, ap, ◌∙◌, subst}
-use Rattle.gv_model.specs.Ty.{Ty, Basic, spelling, letter as letter_of}
+use Rattle.std.proofs.Common.{ℕ, ◌≡◌, [], ◌∷◌, get_or, Option, Some, None, sym, ap, ◌∙◌, subst}
+use Rattle.std.proofs.lemmas.Option.{same_Some, none-some}
+use Rattle.gv_model.specs.Ty.{Basic, spelling, letter as letter_of}
 use Rattle.gv_model.specs.Ty.Ty.{basic, variant, array, maybe, tuple, entry}
 use Rattle.gv_model.specs.Ty.Types.{end}
 use Rattle.gv_model.specs.Ty.Basic.{boolean}
-use Rattle.gv_model.specs.TypeText.{Mark, mark}
-use Rattle.gv_model.specs.TypeText.Mark.{letter, of_variant, of_array, of_maybe, open_tuple, close_tuple, open_entry, close_entry, other}
+use Rattle.gv_model.specs.TypeText.{TypeMark, mark}
+use Rattle.gv_model.specs.TypeText.TypeMark.{letter, of_variant, of_array, of_maybe, open_tuple, close_tuple, open_entry, close_entry, other}
 use Rattle.gv_model.specs.TypeFault.{BeginsType, IsKey}
 use Rattle.gv_model.proofs.TypeTextLaws.{mark_letter}
 use Rattle.gv_model.proofs.TypeTextSound.{byte_of_mark, IsByteOf}
@@ -26,7 +27,7 @@ IsFirst (Some classes.Maybe) b = b ≡ 109
 IsFirst (Some classes.Tuple) b = b ≡ 40
 IsFirst (Some classes.Entry) b = b ≡ 123
 
-first_of_mark : (m : Mark) (b : ℕ) → IsByteOf m b → IsFirst (class_of_mark m) b
+first_of_mark : (m : TypeMark) (b : ℕ) → IsByteOf m b → IsFirst (class_of_mark m) b
 first_of_mark (letter k) b e = e ∙ ap letter_of (sym (basic_of-basic_type k))
 first_of_mark of_variant b e = e
 first_of_mark of_array b e = e
@@ -40,14 +41,11 @@ first_of_mark other b e = tt
 pub first_of_class : (b : ℕ) (c : Option Class) → class_of_mark (mark b) ≡ c → IsFirst c b
 first_of_class b c e = subst (λ (d : Option Class). IsFirst d b) e (first_of_mark (mark b) b (byte_of_mark b))
 
-some_none : {c : Class} → Some c ≡ None → ⊥
-some_none e = cc
-
 -- a byte of no class begins no type
 pub begins_none : (b : ℕ) → class_of_mark (mark b) ≡ None → BeginsType b → ⊥
 begins_none b e h =
     let first = starts_with_class h.0 in
-    some_none (sym first.class ∙ (ap (λ w. class_of_mark (mark (get_or w 0 0))) h.1.1 ∙ e))
+    none-some _ (sym (sym first.class ∙ (ap (λ w. class_of_mark (mark (get_or w 0 0))) h.1.1 ∙ e)))
 
 begins_class : (b : ℕ) (c : Class) → IsFirst (Some c) b → BeginsType b
 unfolding spelling
@@ -66,10 +64,6 @@ begins_some b c e = begins_class b c (first_of_class b (Some c) e)
 class_of_key : (b : ℕ) (k : Basic) → b ≡ letter_of k → class_of_mark (mark b) ≡ Some (classes.Basic (basic_type k))
 class_of_key b k e = ap (λ x. class_of_mark (mark x)) e ∙ ap class_of_mark (mark_letter k)
 
--- a type's text has a byte
-pub spelling_is_long : (t : Ty) → 0 < length (spelling t)
-spelling_is_long t = (starts_with_class t).some
-
 pub first_is : (b : ℕ) (c d : Class) → class_of_mark (mark b) ≡ Some c → c ≡ d → IsFirst (Some d) b
 first_is b c d e is = first_of_class b (Some d) (e ∙ ap Some is)
 
@@ -77,8 +71,5 @@ first_is b c d e is = first_of_class b (Some d) (e ∙ ap Some is)
 pub is_key : (b : ℕ) (c : Class) (k : BasicType) → class_of_mark (mark b) ≡ Some c → c ≡ classes.Basic k → IsKey b
 is_key b c k e is = (basic_of k, first_is b c (classes.Basic k) e is)
 
-some_parts : (c d : Class) → Some c ≡ Some d → c ≡ d
-some_parts c d e = cc
-
 pub is_no_key : (b : ℕ) (c : Class) → class_of_mark (mark b) ≡ Some c → ((k : BasicType) → c ≡ classes.Basic k → ⊥) → IsKey b → ⊥
-is_no_key b c e not_basic k = not_basic (basic_type k.0) (some_parts c (classes.Basic (basic_type k.0)) (sym e ∙ class_of_key b k.0 k.1))
+is_no_key b c e not_basic k = not_basic (basic_type k.0) (same_Some c (classes.Basic (basic_type k.0)) (sym e ∙ class_of_key b k.0 k.1))

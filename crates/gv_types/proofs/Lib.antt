@@ -1,4 +1,3 @@
-pub mod Trivia
 pub mod Letters
 pub mod ClassLaws
 pub mod Firsts
@@ -9,4 +8,5 @@ pub mod Whole
 pub mod TypeLists
 pub mod Parts
 pub mod PathLaws
-pub mod FrontTypes
+pub mod PrefixTypes
+pub mod NestingLaws

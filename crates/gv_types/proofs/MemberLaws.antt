@@ -3,7 +3,7 @@ use Rattle.std.proofs.Common.{ℕ, ◌≤◌, ◌≡◌, List, ◌++◌, refl, s
 use Rattle.gv_model.specs.Ty.{Ty, Types, spelling, spellings, nesting, greatest_nesting}
 use Rattle.gv_model.specs.Ty.Types.{end, member}
 
--- the members that stand in front of the rest
+-- the members that occur before the rest
 pub record MembersSoFar (room : ℕ) (text rest : List ℕ) : Type 0 where
   pub types : Types
   pub whole : text ≡ spellings types ++ rest

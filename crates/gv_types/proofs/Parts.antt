@@ -3,30 +3,31 @@ use Rattle.std.proofs.Common.{ℕ, ◌≡◌, ◌≤◌, ◌-◌, List, [], ◌�
 use Rattle.std.specs.Prelude.{slice_range}
 use Rattle.std.proofs.Math.Seq.{take-append_seam}
 use Rattle.std.proofs.lemmas.List.{length-take}
-use Rattle.gv_model.specs.Ty.{Ty, Types, Basic, letter, spelling, spellings, nesting, greatest_nesting, members, listed}
+use Rattle.std.proofs.lemmas.Option.{same_Some, none-some}
+use Rattle.gv_model.specs.Ty.{Ty, Types, Basic, letter, spelling, spellings, nesting, greatest_nesting, members, type_list}
 use Rattle.gv_model.specs.Ty.Ty.{basic, variant, array, maybe, tuple, entry}
-use Rattle.gv_model.specs.TypeText.{seen, is_type, type_at, is_within_limits}
+use Rattle.gv_model.specs.TypeText.{seen, is_type, type_at}
 use Rattle.gv_model.specs.Texts.{are_types}
 use Rattle.gv_model.proofs.TypeTextParts.{spelling-type_at, limits_down, text_of_type, IsTextOfType}
+use Rattle.gv_model.proofs.TypeTextLaws.{limits_of}
 use Rattle.gv_types.specs.declared.class.Class.{Class}
 use Rattle.gv_types.specs.declared.class.Class.TheVariants as classes
 use Rattle.gv_types.specs.Classes.{class_of}
 use Rattle.gv_types.specs.TypeStr.{element_of, key_of}
 use Rattle.gv_types.specs.Members.{types_in}
-use Rattle.gv_types.proofs.Trivia.{some_is, none_is}
 use Rattle.gv_types.proofs.TypeLists.{types_in_spellings, members_are_types}
 
 -- ---- the element of an array or a maybe
 
--- behind the first letter stands the element's text
+-- after the first letter comes the element's text
 element_text : (t u : Ty) → element_of t ≡ Some u → (spelling u ≡ drop 1 (spelling t)) × (nesting u ≤ nesting t)
 unfolding spelling nesting
-element_text (array v) u e = let same : v ≡ u = some_is v u e in (ap spelling (sym same), omega (arith, ap nesting same))
-element_text (maybe v) u e = let same : v ≡ u = some_is v u e in (ap spelling (sym same), omega (arith, ap nesting same))
-element_text (basic k) u e = absurd (none_is u e)
-element_text variant u e = absurd (none_is u e)
-element_text (tuple ts) u e = absurd (none_is u e)
-element_text (entry k t) u e = absurd (none_is u e)
+element_text (array v) u e = let same : v ≡ u = same_Some v u e in (ap spelling (sym same), omega (arith, ap nesting same))
+element_text (maybe v) u e = let same : v ≡ u = same_Some v u e in (ap spelling (sym same), omega (arith, ap nesting same))
+element_text (basic k) u e = absurd (none-some u e)
+element_text variant u e = absurd (none-some u e)
+element_text (tuple ts) u e = absurd (none-some u e)
+element_text (entry k t) u e = absurd (none-some u e)
 
 pub text_of_element : (w : List ℕ) (u : Ty) → is_type w ≡ true → element_of (type_at w) ≡ Some u → IsTextOfType u (drop 1 w)
 text_of_element w u h e =
@@ -88,7 +89,7 @@ text_of_key w h k =
 
 -- ---- the members of a tuple or an entry
 
--- between the brackets stand the members' texts
+-- between the brackets are the members' texts
 pub record HasMembers (w : List ℕ) (t : Ty) : Type 0 where
   pub some : 2 ≤ length w
   pub spelled : slice_range w 1 (length w - 1) ≡ spellings (members t)
@@ -143,24 +144,21 @@ has_members w c h e b = subst (λ (v : List ℕ). HasMembers v (type_at w)) (spe
 -- the text between the brackets is read as the members
 pub record IsTextOfMembers (t : Ty) (w : List ℕ) : Type 0 where
   pub are : are_types (seen w) ≡ true
-  pub listed : types_in (seen w) ≡ listed (members t)
+  pub listed : types_in (seen w) ≡ type_list (members t)
 
-within_128 : (t : Ty) (w : List ℕ) → is_within_limits t w ≡ true → (nesting t ≤ 128) × (length w ≤ 67108864)
-within_128 t w h = (grind arith, grind arith)
-
-spelled_members : (ts : Types) (w : List ℕ) → spellings ts ≡ w → greatest_nesting ts ≤ 128 → length (spellings ts) ≤ 67108864 → (are_types (seen w) ≡ true) × (types_in (seen w) ≡ listed ts)
+spelled_members : (ts : Types) (w : List ℕ) → spellings ts ≡ w → greatest_nesting ts ≤ 128 → length (spellings ts) ≤ 67108864 → (are_types (seen w) ≡ true) × (types_in (seen w) ≡ type_list ts)
 spelled_members ts w e h g =
-    (subst (λ (v : List ℕ). are_types (seen v) ≡ true) e (members_are_types ts h g), subst (λ (v : List ℕ). types_in (seen v) ≡ listed ts) e (types_in_spellings ts))
+    (subst (λ (v : List ℕ). are_types (seen v) ≡ true) e (members_are_types ts h g), subst (λ (v : List ℕ). types_in (seen v) ≡ type_list ts) e (types_in_spellings ts))
 
 pub text_of_members : (w : List ℕ) → is_type w ≡ true → HasMembers w (type_at w) → IsTextOfMembers (type_at w) (slice_range w 1 (length w - 1))
 text_of_members w h m =
-    let within = within_128 (type_at w) w (spelling-type_at w h).1 in
+    let within = limits_of (type_at w) w (spelling-type_at w h).1 in
     let is = spelled_members (members (type_at w)) (slice_range w 1 (length w - 1)) (sym m.spelled) (omega (arith, m.nested, within.0)) (omega (arith, m.shorter, within.1)) in
     record { are = is.0; listed = is.1 }
 
 -- a type of another class has no members
-no_members : (t : Ty) → (class_of t ≡ classes.Tuple → ⊥) → (class_of t ≡ classes.Entry → ⊥) → listed (members t) ≡ []
-unfolding listed
+no_members : (t : Ty) → (class_of t ≡ classes.Tuple → ⊥) → (class_of t ≡ classes.Entry → ⊥) → type_list (members t) ≡ []
+unfolding type_list
 no_members (tuple ts) h g = absurd (h refl)
 no_members (entry k t) h g = absurd (g refl)
 no_members (basic k) h g = refl
@@ -168,10 +166,10 @@ no_members variant h g = refl
 no_members (array t) h g = refl
 no_members (maybe t) h g = refl
 
-pub has_no_members : (c : Class) (t : Ty) → c ≡ class_of t → (c ≡ classes.Tuple → ⊥) → (c ≡ classes.Entry → ⊥) → listed (members t) ≡ []
+pub has_no_members : (c : Class) (t : Ty) → c ≡ class_of t → (c ≡ classes.Tuple → ⊥) → (c ≡ classes.Entry → ⊥) → type_list (members t) ≡ []
 has_no_members c t e h g = no_members t (λ b. h (e ∙ b)) (λ b. g (e ∙ b))
 
--- no types stand in no text
+-- no types occur in no text
 pub no_types : (are_types (seen []) ≡ true) × (types_in (seen []) ≡ [])
 unfolding seen
 no_types = (refl, refl)

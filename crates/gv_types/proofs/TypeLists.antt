@@ -1,24 +1,25 @@
--- Texts of types that stand one after the other.
+-- Texts of types that are one after the other.
 use Rattle.std.proofs.Common.{ℕ, ◌≡◌, ◌≤◌, ◌<◌, ◌+◌, ◌-◌, List, [], ◌∷◌, length, take, drop, true, false, Bool, ◌&&◌, eqb, eqb-true, refl, sym, ap, ap₂, ◌∙◌, subst, arith, length-append}
 use Rattle.std.specs.Prelude.{◌↔◌, IsTrue}
-use Rattle.std.proofs.lemmas.Bool.{eqb-false}
+use Rattle.std.proofs.lemmas.Bool.{eqb-false, and_parts, and_from, false≢true}
 use Rattle.std.specs.Str.{IsAscii}
 use Rattle.std.proofs.Math.Seq.{take-append_seam, drop-append_seam}
 use Rattle.std.proofs.lemmas.Str.{IsAscii-append}
 use Rattle.std.proofs.lemmas.Str.Ascii.{IsAscii-nil}
-use Rattle.gv_model.specs.Ty.{Ty, Types, spelling, spellings, nesting, greatest_nesting, listed}
-use Rattle.gv_model.specs.Ty.Ty.{basic}
+use Rattle.std.proofs.lemmas.List.{nil_from_length}
+use Rattle.gv_model.specs.Ty.{Ty, Types, spelling, spellings, nesting, greatest_nesting, type_list}
 use Rattle.gv_model.specs.Ty.Types.{end, member}
 use Rattle.gv_model.specs.TypeText.{Seen, seen, is_within_limits, is_type, type_at}
 use Rattle.gv_model.specs.TypeText.Seen.{nothing, type, tuple_end, entry_end, wrong}
 use Rattle.gv_model.specs.Texts.{are_types}
-use Rattle.gv_model.proofs.TypeTextLaws.{seen-spelling}
+use Rattle.gv_model.proofs.TypeTextLaws.{seen-spelling, within_limits, limits_of}
 use Rattle.gv_model.proofs.TypeTextSound.{Shows, seen_shows}
 use Rattle.gv_model.proofs.TypeTextParts.{spelling_is_ascii, text_of_type}
+use Rattle.gv_model.proofs.ListLaws.{nil_no_cons}
+use Rattle.gv_model.proofs.Prefixes.{spelling-positive}
 use Rattle.gv_types.specs.declared.grammar.Halt.{Halt}
-use Rattle.gv_types.specs.Reading.{Reads, StopsAt}
+use Rattle.gv_types.specs.TypePrefix.{BeginsWithType, HaltsAt}
 use Rattle.gv_types.specs.Members.{types_in}
-use Rattle.gv_types.proofs.Trivia.{false_true, both, first_of_both, second_of_both}
 use Rattle.gv_types.proofs.Stops.{no_type_where_stopped}
 
 -- ---- the texts of a list of types are read as these types
@@ -31,8 +32,8 @@ seen_member : (t : Ty) (ts : Types) → seen (spellings (member t ts)) ≡ type 
 unfolding spelling
 seen_member t ts = seen-spelling t (spellings ts)
 
-pub types_in_spellings : (ts : Types) → types_in (seen (spellings ts)) ≡ listed ts
-unfolding listed
+pub types_in_spellings : (ts : Types) → types_in (seen (spellings ts)) ≡ type_list ts
+unfolding type_list
 types_in_spellings end = ap types_in seen_end
 types_in_spellings (member t ts) = ap types_in (seen_member t ts) ∙ ap (λ us. t ∷ us) (types_in_spellings ts)
 
@@ -48,99 +49,81 @@ pub members_are_types : (ts : Types) → greatest_nesting ts ≤ 128 → length 
 members_are_types end h g = ap are_types seen_end
 members_are_types (member t ts) h g =
     let parts = within_parts t ts h g in
-    ap are_types (seen_member t ts) ∙ both (is_within_limits t (spelling t)) (are_types (seen (spellings ts))) parts.0 (members_are_types ts parts.1 parts.2)
+    ap are_types (seen_member t ts) ∙ and_from (is_within_limits t (spelling t)) (are_types (seen (spellings ts))) parts.0 (members_are_types ts parts.1 parts.2)
 
--- ---- what stands in a text of types
+-- ---- what occurs in a text of types
 
 shown_is_ascii : (s : Seen) (w : List ℕ) → Shows s w → are_types s ≡ true → IsAscii w
 shown_is_ascii nothing w h e = subst IsAscii (sym h) IsAscii-nil
 shown_is_ascii (type t s) w h e =
-    subst IsAscii (sym h.1) (IsAscii-append (spelling t) h.0 (spelling_is_ascii t) (shown_is_ascii s h.0 h.2 (second_of_both (is_within_limits t (spelling t)) (are_types s) e)))
-shown_is_ascii (tuple_end s) w h e = absurd (false_true e)
-shown_is_ascii (entry_end s) w h e = absurd (false_true e)
-shown_is_ascii wrong w h e = absurd (false_true e)
+    subst IsAscii (sym h.1) (IsAscii-append (spelling t) h.0 (spelling_is_ascii t) (shown_is_ascii s h.0 h.2 (and_parts (is_within_limits t (spelling t)) (are_types s) e).1))
+shown_is_ascii (tuple_end s) w h e = absurd (false≢true e)
+shown_is_ascii (entry_end s) w h e = absurd (false≢true e)
+shown_is_ascii wrong w h e = absurd (false≢true e)
 
 pub types_are_ascii : (w : List ℕ) → are_types (seen w) ≡ true → IsAscii w
 types_are_ascii w e = shown_is_ascii (seen w) w (seen_shows w) e
 
-within_nesting : (t : Ty) (w : List ℕ) → is_within_limits t w ≡ true → nesting t ≤ 128
-within_nesting t w h = grind arith
-
 -- reading a type stops in such a text only where nothing is left
-stop_is_end : (s : Seen) (w rest : List ℕ) (halt : Halt) → Shows s w → are_types s ≡ true → StopsAt 128 w rest halt → w ≡ []
+stop_is_end : (s : Seen) (w rest : List ℕ) (halt : Halt) → Shows s w → are_types s ≡ true → HaltsAt 128 w rest halt → w ≡ []
 stop_is_end nothing w rest halt h e stop = h
 stop_is_end (type t s) w rest halt h e stop =
-    absurd (no_type_where_stopped 128 w rest halt t h.0 stop h.1 (within_nesting t (spelling t) (first_of_both (is_within_limits t (spelling t)) (are_types s) e)))
-stop_is_end (tuple_end s) w rest halt h e stop = absurd (false_true e)
-stop_is_end (entry_end s) w rest halt h e stop = absurd (false_true e)
-stop_is_end wrong w rest halt h e stop = absurd (false_true e)
+    absurd (no_type_where_stopped 128 w rest halt t h.0 stop h.1 (limits_of t (spelling t) (and_parts (is_within_limits t (spelling t)) (are_types s) e).0).0)
+stop_is_end (tuple_end s) w rest halt h e stop = absurd (false≢true e)
+stop_is_end (entry_end s) w rest halt h e stop = absurd (false≢true e)
+stop_is_end wrong w rest halt h e stop = absurd (false≢true e)
 
-stops_at_end : (w rest : List ℕ) (halt : Halt) → are_types (seen w) ≡ true → StopsAt 128 w rest halt → w ≡ []
+stops_at_end : (w rest : List ℕ) (halt : Halt) → are_types (seen w) ≡ true → HaltsAt 128 w rest halt → w ≡ []
 stops_at_end w rest halt e stop = stop_is_end (seen w) w rest halt (seen_shows w) e stop
 
 in_no_text : (w : List ℕ) → w ≡ [] → types_in (seen w) ≡ []
 unfolding seen
 in_no_text w e = rw e refl
 
-pub no_types_left : (w rest : List ℕ) (halt : Halt) → are_types (seen w) ≡ true → StopsAt 128 w rest halt → types_in (seen w) ≡ []
+pub no_types_left : (w rest : List ℕ) (halt : Halt) → are_types (seen w) ≡ true → HaltsAt 128 w rest halt → types_in (seen w) ≡ []
 no_types_left w rest halt e stop = in_no_text w (stops_at_end w rest halt e stop)
 
--- types stand in a text of types unless it is empty
+-- types occur in a text of types unless it is empty
 no_types_shown : (s : Seen) (w : List ℕ) → Shows s w → are_types s ≡ true → types_in s ≡ [] → w ≡ []
 no_types_shown nothing w h e none = h
-no_types_shown (type t s) w h e none = absurd (cons_nil t (types_in s) none)
-  where
-    cons_nil : (u : Ty) (us : List Ty) → u ∷ us ≡ [] → ⊥
-    cons_nil u us e = cc
-no_types_shown (tuple_end s) w h e none = absurd (false_true e)
-no_types_shown (entry_end s) w h e none = absurd (false_true e)
-no_types_shown wrong w h e none = absurd (false_true e)
-
-empty_length : (w : List ℕ) → eqb (length w) 0 ≡ true → w ≡ []
-empty_length [] h = refl
-empty_length (c ∷ w) h = absurd (omega (arith, eqb-true (length (c ∷ w)) 0 h))
+no_types_shown (type t s) w h e none = absurd (nil_no_cons (sym none))
+no_types_shown (tuple_end s) w h e none = absurd (false≢true e)
+no_types_shown (entry_end s) w h e none = absurd (false≢true e)
+no_types_shown wrong w h e none = absurd (false≢true e)
 
 pub no_types_in_empty : (w : List ℕ) (empty : Bool) → are_types (seen w) ≡ true → empty ≡ eqb (length w) 0 → IsTrue empty ↔ (types_in (seen w) ≡ [])
 no_types_in_empty w empty e is = (
-  (λ h. in_no_text w (empty_length w (sym is ∙ h))),
+  (λ h. in_no_text w (nil_from_length w (eqb-true (length w) 0 (sym is ∙ h)))),
   (λ none. is ∙ ap (λ v. eqb (length v) 0) (no_types_shown (seen w) w (seen_shows w) e none)),
 )
 
--- ---- what follows where a type is read at the front
+-- ---- what follows where a type is read at the start
 
-seen_read : (w rest : List ℕ) (r : Reads 128 w rest) → seen w ≡ type r.type (seen rest)
+seen_read : (w rest : List ℕ) (r : BeginsWithType 128 w rest) → seen w ≡ type r.type (seen rest)
 seen_read w rest r = ap seen r.whole ∙ seen-spelling r.type rest
 
-spelling_some : (t : Ty) → 0 < length (spelling t)
-unfolding spelling
-spelling_some (basic k) = omega arith
-spelling_some _ = omega arith
-
-length_read : (w rest : List ℕ) (r : Reads 128 w rest) → length w ≡ length (spelling r.type) + length rest
+length_read : (w rest : List ℕ) (r : BeginsWithType 128 w rest) → length w ≡ length (spelling r.type) + length rest
 length_read w rest r = ap length r.whole ∙ length-append (spelling r.type) rest
 
-pub read_is_shorter : (w rest : List ℕ) → Reads 128 w rest → length rest < length w
-read_is_shorter w rest r = omega (arith, length_read w rest r, spelling_some r.type)
+pub read_is_shorter : (w rest : List ℕ) → BeginsWithType 128 w rest → length rest < length w
+read_is_shorter w rest r = omega (arith, length_read w rest r, spelling-positive r.type)
 
-read_types : (w rest : List ℕ) (r : Reads 128 w rest) → are_types (seen w) ≡ is_within_limits r.type (spelling r.type) && are_types (seen rest)
+read_types : (w rest : List ℕ) (r : BeginsWithType 128 w rest) → are_types (seen w) ≡ is_within_limits r.type (spelling r.type) && are_types (seen rest)
 read_types w rest r = ap are_types (seen_read w rest r)
-
-within : (t : Ty) → nesting t ≤ 128 → length (spelling t) ≤ 67108864 → is_within_limits t (spelling t) ≡ true
-within t h g = grind arith
 
 not_within : (t : Ty) → 67108864 < length (spelling t) → is_within_limits t (spelling t) ≡ false
 not_within t h = grind arith
 
-pub types_go_on : (w rest : List ℕ) → Reads 128 w rest → length w - length rest ≤ 67108864 → are_types (seen w) ≡ are_types (seen rest)
+pub types_go_on : (w rest : List ℕ) → BeginsWithType 128 w rest → length w - length rest ≤ 67108864 → are_types (seen w) ≡ are_types (seen rest)
 types_go_on w rest r h =
-    read_types w rest r ∙ ap (λ b. b && are_types (seen rest)) (within r.type r.within (omega (arith, length_read w rest r)))
+    read_types w rest r ∙ ap (λ b. b && are_types (seen rest)) (within_limits r.type (spelling r.type) r.within (omega (arith, length_read w rest r)))
 
-pub type_is_too_long : (w rest : List ℕ) → Reads 128 w rest → 67108864 < length w - length rest → are_types (seen w) ≡ false
+pub type_is_too_long : (w rest : List ℕ) → BeginsWithType 128 w rest → 67108864 < length w - length rest → are_types (seen w) ≡ false
 type_is_too_long w rest r h =
     read_types w rest r ∙ ap (λ b. b && are_types (seen rest)) (not_within r.type (omega (arith, length_read w rest r)))
 
--- where reading stops before the end stand no types
-pub stop_is_no_types : (w rest : List ℕ) (halt : Halt) → eqb (length w) 0 ≡ false → StopsAt 128 w rest halt → are_types (seen w) ≡ false
+-- where reading stops before the end there are no types
+pub stop_is_no_types : (w rest : List ℕ) (halt : Halt) → eqb (length w) 0 ≡ false → HaltsAt 128 w rest halt → are_types (seen w) ≡ false
 stop_is_no_types w rest halt h stop = go (are_types (seen w)) refl
   where
     go : (b : Bool) → are_types (seen w) ≡ b → b ≡ false
@@ -152,31 +135,31 @@ unfolding seen
 end_is_types [] h = refl
 end_is_types (c ∷ w) h = absurd (omega (arith, eqb-true (length (c ∷ w)) 0 h))
 
--- a text of types, cut behind the type at its front
-pub record IsCutBehindFirst (w front back : List ℕ) : Type 0 where
-  pub checked : is_type front ≡ true
+-- a text of types, cut after the type at its start
+pub record IsCutAfterFirst (w prefix back : List ℕ) : Type 0 where
+  pub checked : is_type prefix ≡ true
   pub are : are_types (seen back) ≡ true
-  pub listed : types_in (seen w) ≡ type_at front ∷ types_in (seen back)
+  pub listed : types_in (seen w) ≡ type_at prefix ∷ types_in (seen back)
 
-read_front : (w rest : List ℕ) (r : Reads 128 w rest) → take (length w - length rest) w ≡ spelling r.type
-read_front w rest r =
+read_prefix : (w rest : List ℕ) (r : BeginsWithType 128 w rest) → take (length w - length rest) w ≡ spelling r.type
+read_prefix w rest r =
     let n : length w - length rest ≡ length (spelling r.type) = omega (arith, length_read w rest r) in
     ap (λ i. take i w) n ∙ (ap (take (length (spelling r.type))) r.whole ∙ take-append_seam (spelling r.type) rest)
 
-read_back : (w rest : List ℕ) (r : Reads 128 w rest) → drop (length w - length rest) w ≡ rest
+read_back : (w rest : List ℕ) (r : BeginsWithType 128 w rest) → drop (length w - length rest) w ≡ rest
 read_back w rest r =
     let n : length w - length rest ≡ length (spelling r.type) = omega (arith, length_read w rest r) in
     ap (λ i. drop i w) n ∙ (ap (drop (length (spelling r.type))) r.whole ∙ drop-append_seam (spelling r.type) rest)
 
-cut : (w rest front back : List ℕ) (r : Reads 128 w rest) → are_types (seen w) ≡ true → front ≡ spelling r.type → back ≡ rest → IsCutBehindFirst w front back
-cut w rest front back r e f b =
+cut : (w rest prefix back : List ℕ) (r : BeginsWithType 128 w rest) → are_types (seen w) ≡ true → prefix ≡ spelling r.type → back ≡ rest → IsCutAfterFirst w prefix back
+cut w rest prefix back r e f b =
     let both_are : is_within_limits r.type (spelling r.type) && are_types (seen rest) ≡ true = sym (read_types w rest r) ∙ e in
-    let is = text_of_type r.type front (sym f) (subst (λ (v : List ℕ). is_within_limits r.type v ≡ true) (sym f) (first_of_both (is_within_limits r.type (spelling r.type)) (are_types (seen rest)) both_are)) in
+    let is = text_of_type r.type prefix (sym f) (subst (λ (v : List ℕ). is_within_limits r.type v ≡ true) (sym f) (and_parts (is_within_limits r.type (spelling r.type)) (are_types (seen rest)) both_are).0) in
     record {
       checked = is.checked;
-      are = ap (λ v. are_types (seen v)) b ∙ second_of_both (is_within_limits r.type (spelling r.type)) (are_types (seen rest)) both_are;
+      are = ap (λ v. are_types (seen v)) b ∙ (and_parts (is_within_limits r.type (spelling r.type)) (are_types (seen rest)) both_are).1;
       listed = ap types_in (seen_read w rest r) ∙ ap₂ (λ t v. t ∷ types_in (seen v)) (sym is.type) (sym b);
     }
 
-pub cut_behind_first : (w rest front back : List ℕ) → are_types (seen w) ≡ true → Reads 128 w rest → front ≡ take (length w - length rest) w → back ≡ drop (length w - length rest) w → IsCutBehindFirst w front back
-cut_behind_first w rest front back e r f b = cut w rest front back r e (f ∙ read_front w rest r) (b ∙ read_back w rest r)
+pub cut_after_first : (w rest prefix back : List ℕ) → are_types (seen w) ≡ true → BeginsWithType 128 w rest → prefix ≡ take (length w - length rest) w → back ≡ drop (length w - length rest) w → IsCutAfterFirst w prefix back
+cut_after_first w rest prefix back e r f b = cut w rest prefix back r e (f ∙ read_prefix w rest r) (b ∙ read_back w rest r)

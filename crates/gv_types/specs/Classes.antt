@@ -3,8 +3,8 @@ use Rattle.std.specs.Prelude.{Option, Some, None}
 use Rattle.gv_model.specs.Ty.{Ty, Basic}
 use Rattle.gv_model.specs.Ty.Ty.{basic, variant, array, maybe, tuple, entry}
 use Rattle.gv_model.specs.Ty.Basic.{boolean, byte, int16, uint16, int32, uint32, int64, uint64, handle, double, string, path, signature}
-use Rattle.gv_model.specs.TypeText.{Mark}
-use Rattle.gv_model.specs.TypeText.Mark.{letter, of_variant, of_array, of_maybe, open_tuple, open_entry}
+use Rattle.gv_model.specs.TypeText.{TypeMark}
+use Rattle.gv_model.specs.TypeText.TypeMark.{letter, of_variant, of_array, of_maybe, open_tuple, open_entry}
 use Rattle.gv_types.specs.declared.class.BasicType.{BasicType}
 use Rattle.gv_types.specs.declared.class.BasicType.TheVariants as basics
 use Rattle.gv_types.specs.declared.class.Class.{Class}
@@ -51,7 +51,7 @@ class_of (tuple ts) = classes.Tuple
 class_of (entry k t) = classes.Entry
 
 -- the class of the types that begin with a byte
-abbrev pub class_of_mark : Mark → Option Class
+abbrev pub class_of_mark : TypeMark → Option Class
 class_of_mark (letter k) = Some (classes.Basic (basic_type k))
 class_of_mark of_variant = Some classes.Variant
 class_of_mark of_array = Some classes.Array

@@ -1,6 +1,6 @@
 pub mod Classes
 pub mod TypeStr
-pub mod Reading
+pub mod TypePrefix
 pub mod Members
 pub mod TypeFaults
 pub mod Paths

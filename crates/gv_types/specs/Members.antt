@@ -5,7 +5,7 @@ use Rattle.gv_model.specs.TypeText.{Seen, seen}
 use Rattle.gv_model.specs.TypeText.Seen.{type}
 use Rattle.gv_types.specs.declared.members.Members.{Members}
 
--- the types that stand in a text, one after the other
+-- the types that occur in a text, one after the other
 abbrev pub types_in : Seen → List Ty
 types_in (type t s) = t ∷ types_in s
 types_in _ = []

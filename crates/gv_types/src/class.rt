@@ -1,7 +1,11 @@
 //! What the first letter of a type says (GVariant Specification, "Type Strings").
-ghost use Rattle.std.specs.Prelude.{◌≡◌};
+ghost use Rattle.std.specs.Prelude.{◌≡◌, ◌∷◌, []};
+ghost use Rattle.gv_model.specs.Ty.{letter};
 ghost use Rattle.gv_model.specs.TypeText.{mark};
-ghost use Rattle.gv_types.specs.Classes.{class_of_mark};
+ghost use Rattle.gv_model.specs.Layout.{basic_size};
+ghost use Rattle.gv_model.specs.Words.{keyword};
+ghost use Rattle.gv_model.specs.Patterns.{is_number, is_textual};
+ghost use Rattle.gv_types.specs.Classes.{basic_of, class_of_mark};
 
 /// A type that holds no other.
 #[derive(Clone, Copy, Debug, PartialEq, Eq)]
@@ -32,6 +36,77 @@ pub enum BasicType {
     ObjectPath,
     /// `g`, the texts of some types.
     Signature,
+}
+
+impl BasicType {
+    /// The text of the type, which is its letter.
+    pub fn letter(self) -> &'static str
+        ensures { result.now ≡ letter (basic_of self) ∷ [] }
+    {
+        match self {
+            BasicType::Boolean => "b",
+            BasicType::Byte => "y",
+            BasicType::Int16 => "n",
+            BasicType::Uint16 => "q",
+            BasicType::Int32 => "i",
+            BasicType::Uint32 => "u",
+            BasicType::Int64 => "x",
+            BasicType::Uint64 => "t",
+            BasicType::Handle => "h",
+            BasicType::Double => "d",
+            BasicType::Text => "s",
+            BasicType::ObjectPath => "o",
+            BasicType::Signature => "g",
+        }
+    }
+
+    /// The word that names the type before a value in a text.
+    pub fn keyword(self) -> &'static str
+        ensures { result.now ≡ keyword (basic_of self) }
+    {
+        match self {
+            BasicType::Boolean => "boolean",
+            BasicType::Byte => "byte",
+            BasicType::Int16 => "int16",
+            BasicType::Uint16 => "uint16",
+            BasicType::Int32 => "int32",
+            BasicType::Uint32 => "uint32",
+            BasicType::Int64 => "int64",
+            BasicType::Uint64 => "uint64",
+            BasicType::Handle => "handle",
+            BasicType::Double => "double",
+            BasicType::Text => "string",
+            BasicType::ObjectPath => "objectpath",
+            BasicType::Signature => "signature",
+        }
+    }
+
+    /// The number of bytes of each value, or None for a text.
+    pub fn size(self) -> Option<u8>
+        ensures { result ≡ basic_size (basic_of self) }
+    {
+        match self {
+            BasicType::Boolean | BasicType::Byte => Some(1),
+            BasicType::Int16 | BasicType::Uint16 => Some(2),
+            BasicType::Int32 | BasicType::Uint32 | BasicType::Handle => Some(4),
+            BasicType::Int64 | BasicType::Uint64 | BasicType::Double => Some(8),
+            BasicType::Text | BasicType::ObjectPath | BasicType::Signature => None,
+        }
+    }
+
+    /// Whether an integer in a text may have the type.
+    pub fn is_number(self) -> bool
+        ensures { result ≡ is_number (basic_of self) }
+    {
+        self != BasicType::Boolean && !self.is_text()
+    }
+
+    /// Whether a string in a text may have the type.
+    pub fn is_text(self) -> bool
+        ensures { result ≡ is_textual (basic_of self) }
+    {
+        self.size().is_none()
+    }
 }
 
 /// What kind of type a type is.

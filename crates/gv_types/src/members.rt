@@ -4,7 +4,7 @@ ghost use Rattle.gv_model.specs.Texts.{are_types};
 ghost use Rattle.gv_model.specs.TypeText.{seen};
 
 use crate::grammar::after_type;
-use crate::type_str::{MAX_LEVELS, TypeStr};
+use crate::type_str::TypeStr;
 
 /// The types of the members of a tuple or an entry that are left, in order.
 #[derive(Clone, Copy, Debug)]
@@ -36,44 +36,13 @@ impl<'a> Iterator for Members<'a> {
     ghost remaining = { item_count members_left };
 
     fn next(&mut self) -> Option<TypeStr<'a>> {
-        let behind = match after_type(self.rest.as_bytes(), MAX_LEVELS) {
-            Ok(behind) => behind,
-            // Types alone stand in the text, so reading stops only at its end.
+        let after = match after_type(self.rest.as_bytes(), TypeStr::MAX_LEVELS) {
+            Ok(after) => after,
+            // Types alone occur in the text, so reading stops only at its end.
             Err(_) => return None,
         };
-        let (text, rest) = self.rest.split_at(self.rest.len() - behind.len());
+        let (text, rest) = self.rest.split_at(self.rest.len() - after.len());
         self.rest = rest;
         Some(TypeStr { text })
-    }
-}
-
-#[cfg(test)]
-mod tests {
-    use super::*;
-    use std::fmt::Write;
-    use std::test::Fail;
-
-    #[test]
-    fn gives_each_member_once_in_order(rt: HostRuntime) -> Result<(), Fail> {
-        let cases = [
-            ("(ia{sv}s)", "i a{sv} s "),
-            ("((i)(sv))", "(i) (sv) "),
-            ("()", ""),
-            ("(())", "() "),
-            ("{s(ii)}", "s (ii) "),
-            ("ai", ""),
-            ("m(ii)", ""),
-            ("s", ""),
-        ];
-        for (text, members) in cases {
-            let mut found = String::new(rt.alloc());
-            let left = TypeStr::parse(text)?.members();
-            assert_eq!(rt; left.is_empty(), members.is_empty(), "at {text}");
-            for member in left {
-                write!(found, "{} ", member.as_str())?;
-            }
-            assert_eq!(rt; found.as_str(), members, "at {text}");
-        }
-        Ok(())
     }
 }

@@ -38,21 +38,3 @@ impl Steps {
         self.count
     }
 }
-
-#[cfg(test)]
-mod tests {
-    use super::*;
-    use std::test::Fail;
-
-    #[test]
-    fn counts_each_step(rt: HostRuntime) -> Result<(), Fail> {
-        let mut steps = Steps::new();
-        assert_eq!(rt; steps.count(), 0);
-        steps.tick();
-        assert_eq!(rt; steps.count(), 1);
-        steps.tick();
-        steps.tick();
-        assert_eq!(rt; steps.count(), 3);
-        Ok(())
-    }
-}

@@ -1,28 +1,30 @@
 //! The text of one type.
 ghost use Rattle.std.specs.Prelude.{◌≡◌, ◌↔◌, ℕ, [], IfOk, IfErr, IsOk, IsTrue, option_map};
-ghost use Rattle.gv_model.specs.Ty.{Basic, Ty.basic, spelling, members, listed};
+ghost use Rattle.gv_model.specs.Ty.{Basic, Ty.basic, spelling, members, type_list};
 ghost use Rattle.gv_model.specs.TypeText.{is_type};
 ghost use Rattle.gv_model.specs.TypeFault.{IsFault};
-ghost use Rattle.gv_model.specs.Lexing.{type_in_front};
+ghost use Rattle.gv_model.specs.Lexing.{type_prefix};
 ghost use Rattle.gv_types.specs.Classes.{class_of};
-ghost use Rattle.gv_types.specs.TypeFaults.{fault_of};
+ghost use Rattle.gv_types.specs.TypeFaults.{type_fault_of};
 
 use crate::class::{BasicType, Class, class_of_letter};
 use crate::fault::TypeFault;
 use crate::grammar::after_type;
 use crate::members::Members;
 
-/// How many bytes a type's text has at most.
-pub(crate) const MAX_LEN: usize = 67_108_864;
-
-/// How deep a type nests at most.
-pub(crate) const MAX_LEVELS: u8 = 128;
-
 /// The text of one type, lent from where it was found.
 #[derive(Clone, Copy, Debug)]
 pub struct TypeStr<'a> {
     pub(crate) text: &'a str,
     ghost spells_type: { IsTrue (is_type text.now) },
+}
+
+impl TypeStr<'_> {
+    /// The most bytes of a type's text.
+    pub const MAX_LEN: usize = 67_108_864;
+
+    /// The most levels that a type nests.
+    pub const MAX_LEVELS: u8 = 128;
 }
 
 impl<'a> TypeStr<'a> {
@@ -36,32 +38,32 @@ impl<'a> TypeStr<'a> {
     pub fn parse(text: &'a str) -> Result<TypeStr<'a>, TypeFault>
         ensures accepts { IsOk result ↔ IsTrue (is_type text.entry.now) }
         ensures found { IfOk result (λ t. text_of t ≡ text.entry.now) }
-        ensures fault { IfErr result (λ e. IsFault text.entry.now (fault_of e)) }
+        ensures fault { IfErr result (λ e. IsFault text.entry.now (type_fault_of e)) }
     {
-        if text.len() > MAX_LEN {
+        if text.len() > TypeStr::MAX_LEN {
             return Err(TypeFault::TooLong);
         }
         if text.is_empty() {
             return Err(TypeFault::Empty);
         }
-        match after_type(text.as_bytes(), MAX_LEVELS) {
+        match after_type(text.as_bytes(), TypeStr::MAX_LEVELS) {
             Ok([]) => Ok(TypeStr { text }),
             Ok(rest) => Err(TypeFault::Trailing(text.len() - rest.len())),
             Err(stop) => Err(stop.halt.at(text.len() - stop.rest.len())),
         }
     }
 
-    /// The type that the front of a text spells, of at most 128 levels and 67,108,864 bytes, or None.
+    /// The type that a prefix of a text spells, of at most 128 levels and 67,108,864 bytes, or None.
     ///
     /// There is one at most, since no type's text begins another's. It looks at each byte of the type once.
-    pub fn in_front(text: &'a str) -> Option<TypeStr<'a>>
-        ensures { option_map ty result ≡ type_in_front [] text.entry.now }
+    pub fn prefix_of(text: &'a str) -> Option<TypeStr<'a>>
+        ensures { option_map ty result ≡ type_prefix [] text.entry.now }
     {
-        let Ok(rest) = after_type(text.as_bytes(), MAX_LEVELS) else {
+        let Ok(rest) = after_type(text.as_bytes(), TypeStr::MAX_LEVELS) else {
             return None;
         };
         let len = text.len() - rest.len();
-        if len > MAX_LEN {
+        if len > TypeStr::MAX_LEN {
             return None;
         }
         Some(TypeStr { text: &text[..len] })
@@ -125,7 +127,7 @@ impl<'a> TypeStr<'a> {
     ///
     /// A walk along them looks at each byte once.
     pub fn members(self) -> Members<'a>
-        ensures { members_left result ≡ listed (members (ty self.entry)) }
+        ensures { members_left result ≡ type_list (members (ty self.entry)) }
     {
         match self.class() {
             Class::Tuple | Class::Entry => Members {
@@ -133,97 +135,5 @@ impl<'a> TypeStr<'a> {
             },
             _ => Members { rest: "" },
         }
-    }
-}
-
-#[cfg(test)]
-mod tests {
-    use super::*;
-    use std::test::Fail;
-
-    #[test]
-    fn tells_the_class(rt: HostRuntime) -> Result<(), Fail> {
-        let cases = [
-            ("b", Class::Basic(BasicType::Boolean)),
-            ("y", Class::Basic(BasicType::Byte)),
-            ("n", Class::Basic(BasicType::Int16)),
-            ("q", Class::Basic(BasicType::Uint16)),
-            ("i", Class::Basic(BasicType::Int32)),
-            ("u", Class::Basic(BasicType::Uint32)),
-            ("x", Class::Basic(BasicType::Int64)),
-            ("t", Class::Basic(BasicType::Uint64)),
-            ("h", Class::Basic(BasicType::Handle)),
-            ("d", Class::Basic(BasicType::Double)),
-            ("s", Class::Basic(BasicType::Text)),
-            ("o", Class::Basic(BasicType::ObjectPath)),
-            ("g", Class::Basic(BasicType::Signature)),
-            ("v", Class::Variant),
-            ("ai", Class::Array),
-            ("m(ii)", Class::Maybe),
-            ("()", Class::Tuple),
-            ("{sv}", Class::Entry),
-        ];
-        for (text, class) in cases {
-            let found = TypeStr::parse(text)?;
-            assert_eq!(rt; found.class(), class, "at {text}");
-            assert_eq!(rt;
-                found.is_basic(),
-                matches!(class, Class::Basic(_)),
-                "at {text}"
-            );
-        }
-        Ok(())
-    }
-
-    #[test]
-    fn keeps_the_text(rt: HostRuntime) -> Result<(), Fail> {
-        for text in ["s", "a{sv}", "((i)(sv))", "()"] {
-            assert_eq!(rt; TypeStr::parse(text)?.as_str(), text);
-        }
-        Ok(())
-    }
-
-    #[test]
-    fn takes_an_element_or_a_key(rt: HostRuntime) -> Result<(), Fail> {
-        let cases = [
-            ("ai", Some("i"), None),
-            ("m(ii)", Some("(ii)"), None),
-            ("aa{sv}", Some("a{sv}"), None),
-            ("{s(ii)}", None, Some("s")),
-            ("{yv}", None, Some("y")),
-            ("(ia{sv}s)", None, None),
-            ("((i)(sv))", None, None),
-            ("()", None, None),
-            ("s", None, None),
-            ("v", None, None),
-        ];
-        for (text, element, key) in cases {
-            let found = TypeStr::parse(text)?;
-            assert_eq!(rt; found.element().map(|it| it.as_str()), element, "at {text}");
-            assert_eq!(rt; found.key().map(|it| it.as_str()), key, "at {text}");
-        }
-        Ok(())
-    }
-
-    #[test]
-    fn takes_the_type_in_front(rt: HostRuntime) -> Result<(), Fail> {
-        let cases = [
-            ("i", Some("i")),
-            ("ayb'x'", Some("ay")),
-            ("a{sv}{}", Some("a{sv}")),
-            ("()()", Some("()")),
-            ("", None),
-            ("a", None),
-            (" i", None),
-            ("{vs}", None),
-        ];
-        for (text, front) in cases {
-            assert_eq!(rt;
-                TypeStr::in_front(text).map(|it| it.as_str()),
-                front,
-                "at {text}"
-            );
-        }
-        Ok(())
     }
 }

@@ -7,10 +7,10 @@ use Rattle.std.proofs.lemmas.Str.{IsUtf8-from_ascii, is_utf8-from_IsUtf8}
 use Rattle.std.proofs.lemmas.Str.Ascii.{IsAscii-nil, IsAscii-cons}
 use Rattle.gv_model.specs.Ty.{Ty, Basic, spelling, letter as letter_of}
 use Rattle.gv_model.specs.Ty.Ty.{basic, tuple}
-use Rattle.gv_model.specs.TypeText.{Mark, mark, Seen, seen, before, array_before, maybe_before, entry_before, member_before, tuple_before, is_within_limits}
-use Rattle.gv_model.specs.TypeText.Mark.{letter, of_variant, of_array, of_maybe, open_tuple, close_tuple, open_entry, close_entry, other}
+use Rattle.gv_model.specs.TypeText.{TypeMark, mark, Seen, seen, mark_before, array_before, maybe_before, entry_before, member_before, tuple_type_before, is_within_limits}
+use Rattle.gv_model.specs.TypeText.TypeMark.{letter, of_variant, of_array, of_maybe, open_tuple, close_tuple, open_entry, close_entry, other}
 use Rattle.gv_model.specs.TypeText.Seen.{nothing, type, tuple_end, entry_end, wrong}
-use Rattle.gv_model.specs.Texts.{is_part_byte, are_parts, is_path, are_types, is_signature}
+use Rattle.gv_model.specs.Texts.{is_part_byte, are_parts, is_object_path, are_types, is_signature}
 use Rattle.gv_model.proofs.TypeTextParts.{spelling_is_ascii}
 use Rattle.gv_model.proofs.TypeTextSound.{byte_of_mark, IsByteOf}
 
@@ -39,7 +39,7 @@ unfolding are_parts
 are_parts-ascii at_slash [] h = IsAscii-nil
 are_parts-ascii at_slash (c ∷ cs) h = part_ascii at_slash c cs (λ b. are_parts-ascii b cs) h
 
-path_is_ascii : (s : List ℕ) → is_path s ≡ true → IsAscii s
+path_is_ascii : (s : List ℕ) → is_object_path s ≡ true → IsAscii s
 path_is_ascii [] h = absurd (false≢true h)
 path_is_ascii (c ∷ []) h = let slash = eqb-true c 47 h in IsAscii-cons c [] (omega arith) IsAscii-nil
 path_is_ascii (c ∷ d ∷ cs) h =
@@ -47,7 +47,7 @@ path_is_ascii (c ∷ d ∷ cs) h =
     let slash = eqb-true c 47 parts.0 in
     IsAscii-cons c (d ∷ cs) (omega arith) (are_parts-ascii true (d ∷ cs) parts.1)
 
-pub path_is_utf8 : (s : List ℕ) → is_path s ≡ true → is_utf8 s ≡ true
+pub path_is_utf8 : (s : List ℕ) → is_object_path s ≡ true → is_utf8 s ≡ true
 path_is_utf8 s h = ascii_is_utf8 s (path_is_ascii s h)
 
 -- ---- signatures
@@ -76,10 +76,10 @@ member_right : (t : Ty) (s : Seen) → is_right (member_before t s) ≡ true →
 member_right t (type (tuple ts) s) h = h
 member_right t _ h = absurd (false≢true h)
 
-tuple_right : (s : Seen) → is_right (tuple_before s) ≡ true → is_right s ≡ true
-unfolding tuple_before
+tuple_right : (s : Seen) → is_right (tuple_type_before s) ≡ true → is_right s ≡ true
+unfolding tuple_type_before
 tuple_right (tuple_end s) h = h
-tuple_right (type t s) h = tuple_right s (member_right t (tuple_before s) h)
+tuple_right (type t s) h = tuple_right s (member_right t (tuple_type_before s) h)
 tuple_right nothing h = absurd (false≢true h)
 tuple_right (entry_end s) h = absurd (false≢true h)
 tuple_right wrong h = h
@@ -88,8 +88,8 @@ letter_low : (k : Basic) → letter_of k < 128
 unfolding spelling
 letter_low k = spelling_is_ascii (basic k) 0
 
--- a byte that reads as it should is ASCII, and what stands behind it reads as it should
-before_right : (m : Mark) (s : Seen) (c : ℕ) → IsByteOf m c → is_right (before m s) ≡ true → (c < 128) × (is_right s ≡ true)
+-- a byte that reads as it should is ASCII, and what comes after it reads as it should
+before_right : (m : TypeMark) (s : Seen) (c : ℕ) → IsByteOf m c → is_right (mark_before m s) ≡ true → (c < 128) × (is_right s ≡ true)
 before_right (letter k) s c e h = let low = letter_low k in (omega arith, h)
 before_right of_variant s c e h = (omega arith, h)
 before_right of_array s c e h = (omega arith, array_right s h)

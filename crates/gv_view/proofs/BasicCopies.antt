@@ -7,7 +7,7 @@ use Rattle.gv_model.specs.Ty.Ty.{basic}
 use Rattle.gv_model.specs.Layout.{basic_size}
 use Rattle.gv_model.specs.Tree.{Tree, basic_default}
 use Rattle.gv_model.specs.Tree.Tree.{number, text, node}
-use Rattle.gv_model.specs.Texts.{is_path, is_signature, is_text}
+use Rattle.gv_model.specs.Texts.{is_object_path, is_signature, is_text, has_zero_byte}
 use Rattle.gv_model.specs.Typed.{IsValue, IsTextOf}
 use Rattle.gv_model.specs.BasicValue.{basic_value, basic_of_size, bits_of, number_in}
 use Rattle.gv_model.specs.Decode.{decode}
@@ -15,7 +15,7 @@ use Rattle.gv_model.proofs.DecodeLaws.{decode_children}
 use Rattle.gv_model.proofs.WellTyped.{text_value, default_value}
 use Rattle.gv_tree.specs.declared.fault.TreeFault.{TreeFault}
 use Rattle.gv_tree.specs.declared.fault.TreeFault.TheVariants.{HasNul, BadObjectPath, BadSignature, WrongType, KeyNotBasic, TooDeep, TooLarge, Memory}
-use Rattle.gv_tree.specs.Faults.{has_zero, IsBasicFault}
+use Rattle.gv_tree.specs.Faults.{IsBasicFault}
 
 -- a text is one that its type allows
 abbrev HasFineText : Tree → Type 0
@@ -39,17 +39,17 @@ fine_basic : (k : Basic) (b : List ℕ) → HasFineText (basic_value k b)
 unfolding basic_value
 fine_basic k b = fine_of_size k b (basic_size k) refl
 
-never_zero : (s : List ℕ) → AllByRecursion (λ c. 0 < c) s → has_zero s ≡ true → ⊥
+never_zero : (s : List ℕ) → AllByRecursion (λ c. 0 < c) s → has_zero_byte s ≡ true → ⊥
 never_zero [] h e = absurd cc
 never_zero (c ∷ cs) h e = go (c == 0) refl e (never_zero cs h.1)
   where
-    go : (b : Bool) → (c == 0) ≡ b → (b || has_zero cs) ≡ true → (has_zero cs ≡ true → ⊥) → ⊥
+    go : (b : Bool) → (c == 0) ≡ b → (b || has_zero_byte cs) ≡ true → (has_zero_byte cs ≡ true → ⊥) → ⊥
     go true p q f = absurd (grind (arith, h.0))
     go false p q f = f q
 
 fine_text : (k : Basic) (s : List ℕ) → IsTextOf k s → (f : TreeFault) → IsBasicFault (text k s) f → ⊥
 fine_text k s h HasNul r = never_zero s h.no_zero r
-fine_text k s h BadObjectPath r = let good : is_path s ≡ true = subst (λ (j : Basic). is_text j s ≡ true) r.type h.allowed in let bad = r.bad in absurd cc
+fine_text k s h BadObjectPath r = let good : is_object_path s ≡ true = subst (λ (j : Basic). is_text j s ≡ true) r.type h.allowed in let bad = r.bad in absurd cc
 fine_text k s h BadSignature r = let good : is_signature s ≡ true = subst (λ (j : Basic). is_text j s ≡ true) r.type h.allowed in let bad = r.bad in absurd cc
 fine_text k s h (WrongType i) r = r
 fine_text k s h KeyNotBasic r = r

@@ -8,14 +8,14 @@ use Rattle.gv_model.specs.Ty.{Ty}
 use Rattle.gv_model.specs.Ty.Ty.{basic, variant, array, maybe, tuple, entry}
 use Rattle.gv_model.specs.Ty.Basic.{byte}
 use Rattle.gv_model.specs.Layout.{fixed_size}
-use Rattle.gv_model.specs.Tree.{Tree, byte_trees}
+use Rattle.gv_model.specs.Tree.{byte_trees}
 use Rattle.gv_model.specs.Tree.Tree.{number, node}
 use Rattle.gv_model.specs.Tree.Trees.{first}
 use Rattle.gv_model.specs.BasicValue.{number_in}
-use Rattle.gv_model.specs.Children.{Child, child_at, children_at, bounds, bytes_of}
-use Rattle.gv_model.specs.Arrays.{even_spans, element_spans}
+use Rattle.gv_model.specs.Children.{child_at, children_at, bounds}
+use Rattle.gv_model.specs.Arrays.{fixed_spans, element_spans}
 use Rattle.gv_model.specs.Decode.{decode, cut, spans, each}
-use Rattle.gv_model.proofs.DecodeLaws.{decode_children}
+use Rattle.gv_model.proofs.DecodeLaws.{decode_children, child_value}
 use Rattle.gv_types.specs.declared.class.BasicType.{BasicType}
 use Rattle.gv_types.specs.declared.class.BasicType.TheVariants as basics
 use Rattle.gv_types.specs.declared.class.Class.TheVariants as classes
@@ -33,13 +33,10 @@ bytes_type (maybe v) u k at e class is = absurd cc
 bytes_type (tuple ts) u k at e class is = absurd cc
 bytes_type (entry k v) u j at e class is = absurd cc
 
-abbrev tree_of : List ℕ → Child → Tree
-tree_of b c = decode c.type (bytes_of b c)
-
 one_byte : (b : List ℕ) (p : ℕ) → p < length b → slice_range b p (p + 1) ≡ get_or b p 0 ∷ []
 one_byte b p lt = let e : (p + 1) - p ≡ 1 = omega arith in rw (e, drop-cons b p 0) refl
 
-byte_tree : (b : List ℕ) (p : ℕ) → p < length b → tree_of b (child_at (length b) (basic byte, Some (p, p + 1))) ≡ number byte (get_or b p 0)
+byte_tree : (b : List ℕ) (p : ℕ) → p < length b → child_value b (child_at (length b) (basic byte, Some (p, p + 1))) ≡ number byte (get_or b p 0)
 unfolding number_in
 byte_tree b p lt =
     let low : nat_le p (p + 1) ≡ true = grind arith in
@@ -48,20 +45,20 @@ byte_tree b p lt =
     ap (λ (s : ℕ × ℕ). decode (basic byte) (slice_range b s.0 s.1)) inside
     ∙ (ap (decode (basic byte)) (one_byte b p lt) ∙ (whole_number byte (get_or b p 0 ∷ []) 1 refl refl ∙ ap (number byte) (omega arith)))
 
-trees_from : (b : List ℕ) (p count : ℕ) → p + count ≡ length b → each (tree_of b) (children_at (length b) (even_spans (basic byte) 1 p count)) ≡ byte_trees (drop p b)
-unfolding even_spans byte_trees
+trees_from : (b : List ℕ) (p count : ℕ) → p + count ≡ length b → each (child_value b) (children_at (length b) (fixed_spans (basic byte) 1 p count)) ≡ byte_trees (drop p b)
+unfolding fixed_spans byte_trees
 trees_from b p zero e = let none : drop p b ≡ [] = drop_all p b (omega arith) in rw none refl
 trees_from b p (suc count) e =
     let next : p + 1 ≡ suc p = omega arith in
     let rest = trees_from b (p + 1) count (omega arith) ∙ ap (λ (n : ℕ). byte_trees (drop n b)) next in
     ap₂ first (byte_tree b p (omega arith)) rest ∙ sym (ap byte_trees (drop-cons b p 0 (omega arith)))
 
-byte_elements : (b : List ℕ) → element_spans (basic byte) b (Some 1) ≡ even_spans (basic byte) 1 0 (length b)
+byte_elements : (b : List ℕ) → element_spans (basic byte) b (Some 1) ≡ fixed_spans (basic byte) 1 0 (length b)
 byte_elements b =
     let even : (length b % 1 == 0) ≡ true = eq-eqb (length b % 1) 0 (omega arith) in
-    rw even (ap (even_spans (basic byte) 1 0) (div-one (length b)))
+    rw even (ap (fixed_spans (basic byte) 1 0) (div-one (length b)))
 
-array_tree : (b : List ℕ) → decode (array (basic byte)) b ≡ node (array (basic byte)) (each (tree_of b) (children_at (length b) (element_spans (basic byte) b (Some 1))))
+array_tree : (b : List ℕ) → decode (array (basic byte)) b ≡ node (array (basic byte)) (each (child_value b) (children_at (length b) (element_spans (basic byte) b (Some 1))))
 unfolding cut spans fixed_size
 array_tree b = decode_children (array (basic byte)) b
 
@@ -69,4 +66,4 @@ pub bytes_value : (t : Ty) (b : List ℕ) → t ≡ array (basic byte) → decod
 bytes_value t b same =
     ap (λ (u : Ty). decode u b) same
     ∙ (array_tree b
-    ∙ ap (node (array (basic byte))) (ap (λ xs. each (tree_of b) (children_at (length b) xs)) (byte_elements b) ∙ trees_from b 0 (length b) (omega arith)))
+    ∙ ap (node (array (basic byte))) (ap (λ xs. each (child_value b) (children_at (length b) xs)) (byte_elements b) ∙ trees_from b 0 (length b) (omega arith)))

@@ -5,12 +5,12 @@ use Rattle.std.proofs.lemmas.Option.{slice_get_within, slice_get-get_or}
 use Rattle.gv_model.specs.Ty.{Ty}
 use Rattle.gv_model.specs.Ty.Ty.{variant}
 use Rattle.gv_model.specs.Tree.{children, trees_len, tree_at}
-use Rattle.gv_model.specs.Children.{Child, bytes_of}
+use Rattle.gv_model.specs.Children.{Child, child_bytes}
 use Rattle.gv_model.specs.Decode.{decode, cut, spans}
 use Rattle.gv_model.specs.Parts.{Part, part_of, parts}
 use Rattle.gv_model.proofs.ChildLaws.{child_of_value, children_count}
 use Rattle.gv_view.specs.declared.view.View.{View}
-use Rattle.gv_view.specs.Views.{Lends, Shows, value, shown}
+use Rattle.gv_view.specs.Views.{Lends, ShowsChild, value, shown}
 use Rattle.gv_model.specs.Laws.{LiesWithin}
 use Rattle.gv_model.proofs.PartLaws.{child_within}
 
@@ -36,11 +36,11 @@ lent_child t b i o h = go (slice_get (cut t b) i) refl o h
     go : (c : Option Child) → slice_get (cut t b) i ≡ c → (o : Option View) → Lends b c o → IsChild t b i o
     go None at None h = record {
       some = ((λ e. absurd cc), (λ lt. absurd (not_inside (cut t b) i at (omega (arith, lt, children_count t b)))));
-      value = sym (child_of_value t b i ∙ ap (option_map (λ c. decode c.type (bytes_of b c))) at);
+      value = sym (child_of_value t b i ∙ ap (option_map (λ c. decode c.type (child_bytes b c))) at);
     }
     go (Some c) at (Some v) h = record {
       some = ((λ e. omega (arith, slice_get_within (cut t b) i c at, children_count t b)), (λ lt. refl));
-      value = ap₂ (λ u d. Some (decode u d)) h.type h.bytes ∙ sym (child_of_value t b i ∙ ap (option_map (λ c. decode c.type (bytes_of b c))) at);
+      value = ap₂ (λ u d. Some (decode u d)) h.type h.bytes ∙ sym (child_of_value t b i ∙ ap (option_map (λ c. decode c.type (child_bytes b c))) at);
     }
     go None at (Some v) h = absurd h
     go (Some c) at None h = absurd h
@@ -56,7 +56,7 @@ variant_alone t b i e ne = ap (λ u. slice_get (cut u b) i) e ∙ past_first b i
 
 -- ---- a child from its place
 
-shown_part : (b : List ℕ) (c : Child) (v : View) → shown v ≡ part_of b c → Shows b c v
+shown_part : (b : List ℕ) (c : Child) (v : View) → shown v ≡ part_of b c → ShowsChild b c v
 shown_part b c v e = record { type = ap (λ (p : Part). p.0) e; bytes = ap (λ (p : Part). p.1) e }
 
 pub lent_place : (t : Ty) (b : List ℕ) (i : ℕ) (c : Child) (v : View) → Some c ≡ slice_get (cut t b) i → shown v ≡ part_of b c → Lends b (slice_get (cut t b) i) (Some v)

@@ -1,5 +1,5 @@
 -- Trees made of the children of a value.
-use Rattle.std.proofs.Common.{◌≡◌, ◌≤◌, ◌<◌, ◌-◌, ℕ, zero, suc, true, List, [], ◌∷◌, length, Option, Some, None, refl, sym, ap, ap₂, ◌∙◌, subst, arith, inl, inr}
+use Rattle.std.proofs.Common.{◌≡◌, ◌≤◌, ◌<◌, ◌-◌, ℕ, true, List, [], ◌∷◌, length, Option, Some, None, refl, sym, ap, ap₂, ◌∙◌, subst, arith, inl, inr}
 use Rattle.std.specs.Prelude.{IsSome, slice_index_or, unwrap_or, option_map, take}
 use Rattle.std.proofs.lemmas.Option.{same_Some}
 use Rattle.gv_model.specs.Ty.{Ty, Basic, Types, spelling, nesting}
@@ -23,12 +23,13 @@ use Rattle.gv_types.specs.declared.class.Class.TheVariants as classes
 use Rattle.gv_types.proofs.ClassLaws.{variant_class}
 use Rattle.gv_tree.specs.declared.fault.TreeFault.{TreeFault}
 use Rattle.gv_tree.specs.declared.fault.TreeFault.TheVariants.{HasNul, BadObjectPath, BadSignature, WrongType, KeyNotBasic, TooDeep, TooLarge, Memory}
-use Rattle.gv_tree.specs.Faults.{IsSizeFault, IsContentFault, IsFirstOther, IsEntryFault}
+use Rattle.gv_tree.specs.Faults.{IsSizeFault, IsContentFault, IsEntryFault}
 use Rattle.gv_tree.specs.Nodes.{trees_of, trees_of_option}
-use Rattle.gv_tree.specs.Wholes.{entry_tree, entry_of}
+use Rattle.gv_tree.specs.Wholes.{entry_tree, entry_at_key}
+use Rattle.gv_tree.proofs.ListLaws.{none_other}
 use Rattle.gv_view.specs.declared.view.View.{View}
 use Rattle.gv_view.specs.Views.{type_str_of, view_ty, view_bytes, value}
-use Rattle.gv_view.specs.Copying.{AreChildren}
+use Rattle.gv_view.specs.Copying.{AreChildTrees}
 
 -- ---- classes of containers
 
@@ -84,11 +85,6 @@ memory_alone v d l BadSignature h = absurd h
 memory_alone v d l (WrongType i) h = absurd h
 memory_alone v d l KeyNotBasic h = absurd h
 
-none_other : (t : Ty) (vs : Trees) (i : ℕ) → AllOf t vs → IsFirstOther t vs i → ⊥
-none_other t none i a h = h
-none_other t (first v vs) zero a h = h a.0
-none_other t (first v vs) (suc i) a h = none_other t vs i a.1 h.1
-
 content_memory : (t : Ty) (v : Tree) → AllOf t (children v) → ((f : TreeFault) → IsSizeFault v f → f ≡ Memory) → (f : TreeFault) → IsContentFault t v f → f ≡ Memory
 content_memory t v a m (WrongType i) h = absurd (none_other t (children v) i a h)
 content_memory t v a m HasNul h = m HasNul h.1
@@ -117,7 +113,7 @@ whole t b vs c l d e =
       memory = memory_alone (node t vs) (subst (λ v. depth v ≤ 128) is d) l;
     }
 
-whole_at : (v : View) (class : Class) (xs : List Tree) (t : Ty) → AreChildren v class xs → view_ty v ≡ t → IsContainer t → IsWhole t (value v) (trees_of xs)
+whole_at : (v : View) (class : Class) (xs : List Tree) (t : Ty) → AreChildTrees v class xs → view_ty v ≡ t → IsContainer t → IsWhole t (value v) (trees_of xs)
 whole_at v class xs t h e c =
     subst (λ u. IsWhole u (value v) (trees_of xs)) e (whole (view_ty v) (view_bytes v) (trees_of xs) (subst IsContainer (sym e) c) (limits v.type_str.text.now) h.levels h.all)
 
@@ -127,19 +123,19 @@ whole_at v class xs t h e c =
 pub element_type : (v : View) (s u : TypeStr) (o : Option TypeStr) → s ≡ type_str_of v → option_map ty o ≡ element_of (ty s) → o ≡ Some u → Some (ty u) ≡ element_of (view_ty v)
 element_type v s u o h e g = sym (ap (option_map ty) g) ∙ (e ∙ ap (λ r. element_of (ty r)) h)
 
--- the tree that is made is the value, and only for want of memory it isn't made
+-- the tree that is made is the value, and it isn't made only where memory runs out
 pub record IsMade (v made : Tree) (Refused : TreeFault → Type 0) : Type 0 where
   pub is : made ≡ v
   pub memory : (f : TreeFault) → Refused f → f ≡ Memory
 
-pub array_made : (v : View) (xs : List Tree) (u : Ty) → AreChildren v classes.Array xs → Some u ≡ element_of (view_ty v) → IsMade (value v) (node (array u) (trees_of xs)) (IsContentFault u (node (array u) (trees_of xs)))
+pub array_made : (v : View) (xs : List Tree) (u : Ty) → AreChildTrees v classes.Array xs → Some u ≡ element_of (view_ty v) → IsMade (value v) (node (array u) (trees_of xs)) (IsContentFault u (node (array u) (trees_of xs)))
 array_made v xs u h e =
     let t = array_class (view_ty v) h.kind in
     let same : t.0 ≡ u = sym (same_Some u t.0 (e ∙ ap element_of t.1)) in
     let w = whole_at v classes.Array xs (array u) h (t.1 ∙ ap array same) tt in
     record { is = sym w.is; memory = content_memory u (node (array u) (trees_of xs)) w.held w.memory }
 
-pub tuple_made : (v : View) (xs : List Tree) → AreChildren v classes.Tuple xs → IsMade (value v) (node (tuple (types_of (trees_of xs))) (trees_of xs)) (IsSizeFault (node (tuple (types_of (trees_of xs))) (trees_of xs)))
+pub tuple_made : (v : View) (xs : List Tree) → AreChildTrees v classes.Tuple xs → IsMade (value v) (node (tuple (types_of (trees_of xs))) (trees_of xs)) (IsSizeFault (node (tuple (types_of (trees_of xs))) (trees_of xs)))
 tuple_made v xs h =
     let t = tuple_class (view_ty v) h.kind in
     let w = whole_at v classes.Tuple xs (tuple t.0) h t.1 tt in
@@ -165,7 +161,7 @@ just_all u none h = tt
 just_all u (first v none) h = (h, tt)
 just_all u (first v (first w vs)) h = absurd h
 
-pub maybe_made : (v : View) (xs : List Tree) (u : Ty) (o : Option Tree) → AreChildren v classes.Maybe xs → Some u ≡ element_of (view_ty v) → IsPopped xs o → (IsSome o → 0 < length xs)
+pub maybe_made : (v : View) (xs : List Tree) (u : Ty) (o : Option Tree) → AreChildTrees v classes.Maybe xs → Some u ≡ element_of (view_ty v) → IsPopped xs o → (IsSome o → 0 < length xs)
     → IsMade (value v) (node (maybe u) (trees_of_option o)) (IsContentFault u (node (maybe u) (trees_of_option o)))
 maybe_made v xs u o h e p s =
     let t = maybe_class (view_ty v) h.kind in
@@ -185,10 +181,10 @@ one_held (x ∷ []) h = record { child = x; are = refl }
 one_held (x ∷ y ∷ xs) h = absurd h
 
 -- a variant has one child
-pub variant_child : (v : View) (xs : List Tree) → AreChildren v classes.Variant xs → IsOnly xs
+pub variant_child : (v : View) (xs : List Tree) → AreChildTrees v classes.Variant xs → IsOnly xs
 variant_child v xs h = one_held xs (whole_at v classes.Variant xs variant h (variant_class (view_ty v) (sym h.kind)) tt).held
 
-pub variant_made : (v : View) (xs : List Tree) (x : Tree) → AreChildren v classes.Variant xs → IsPopped xs (Some x) → IsMade (value v) (node variant (first x none)) (IsSizeFault (node variant (first x none)))
+pub variant_made : (v : View) (xs : List Tree) (x : Tree) → AreChildTrees v classes.Variant xs → IsPopped xs (Some x) → IsMade (value v) (node variant (first x none)) (IsSizeFault (node variant (first x none)))
 variant_made v xs x h p =
     let w = whole_at v classes.Variant xs variant h (variant_class (view_ty v) (sym h.kind)) tt in
     let only = one_held xs w.held in
@@ -222,14 +218,14 @@ pub record IsEntry (v : View) (xs : List Tree) : Type 0 where
   pub pair : IsPair key_is value_is xs
   pub whole : IsWhole (entry key_is value_is) (value v) (trees_of xs)
 
-pub entry_children : (v : View) (xs : List Tree) → AreChildren v classes.Entry xs → IsEntry v xs
+pub entry_children : (v : View) (xs : List Tree) → AreChildTrees v classes.Entry xs → IsEntry v xs
 entry_children v xs h =
     let t = entry_class (view_ty v) h.kind in
     let w = whole_at v classes.Entry xs (entry t.0 t.1.0) h t.1.1 tt in
     record { key_is = t.0; value_is = t.1.0; pair = two_held t.0 t.1.0 xs w.held; whole = w }
 
 -- the key and the value, popped off the end
-pub entry_made : (v : View) (xs ys : List Tree) (key val : Tree) → AreChildren v classes.Entry xs → IsPopped xs (Some val) → ys ≡ take (length xs - 1) xs → IsPopped ys (Some key)
+pub entry_made : (v : View) (xs ys : List Tree) (key val : Tree) → AreChildTrees v classes.Entry xs → IsPopped xs (Some val) → ys ≡ take (length xs - 1) xs → IsPopped ys (Some key)
     → (entry_tree key val ≡ Some (value v)) × ((f : TreeFault) → IsEntryFault (entry_tree key val) f → f ≡ Memory)
 entry_made v xs ys key val h p e q =
     let en = entry_children v xs h in
@@ -237,9 +233,9 @@ entry_made v xs ys key val h p e q =
     let w = en.whole in
     let second : val ≡ pair.value = same_Some val pair.value (subst (λ (zs : List Tree). IsPopped zs (Some val)) pair.are p val (omega arith)) in
     let left : ys ≡ pair.key ∷ [] = e ∙ ap (λ (zs : List Tree). take (length zs - 1) zs) pair.are in
-    let front : key ≡ pair.key = same_Some key pair.key (subst (λ (zs : List Tree). IsPopped zs (Some key)) left q key (omega arith)) in
+    let prefix : key ≡ pair.key = same_Some key pair.key (subst (λ (zs : List Tree). IsPopped zs (Some key)) left q key (omega arith)) in
     let types : entry_tree key val ≡ Some (node (entry en.key_is en.value_is) (first key (first val none))) =
-    ap (λ t. entry_of t key val) (ap type_of front ∙ pair.key_type) ∙ ap (λ t. Some (node (entry en.key_is t) (first key (first val none)))) (ap type_of second ∙ pair.value_type) in
-    let all : first key (first val none) ≡ trees_of xs = ap₂ (λ a b. first a (first b none)) front second ∙ sym (ap trees_of pair.are) in
+    ap (λ t. entry_at_key t key val) (ap type_of prefix ∙ pair.key_type) ∙ ap (λ t. Some (node (entry en.key_is t) (first key (first val none)))) (ap type_of second ∙ pair.value_type) in
+    let all : first key (first val none) ≡ trees_of xs = ap₂ (λ a b. first a (first b none)) prefix second ∙ sym (ap trees_of pair.are) in
     let is : entry_tree key val ≡ Some (node (entry en.key_is en.value_is) (trees_of xs)) = types ∙ ap (λ vs. Some (node (entry en.key_is en.value_is) vs)) all in
     (is ∙ ap Some (sym w.is), (λ f r. w.memory f (subst (λ (o : Option Tree). IsEntryFault o f) is r)))

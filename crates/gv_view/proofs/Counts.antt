@@ -1,12 +1,13 @@
 -- Counting the values of a value down.
 use Rattle.std.proofs.Common.{◌≡◌, ◌≢◌, ◌<◌, ◌≤◌, ◌+◌, ◌-◌, max, ℕ, suc, Bool, true, false, cond, nat_le, ◌&&◌, Some, None, refl, sym, ap, ◌∙◌, arith, ◌⊎◌, inl, inr}
-use Rattle.std.specs.Prelude.{nat_lt, ◌||◌, is_some, not}
+use Rattle.std.specs.Prelude.{nat_lt, is_some, not}
 use Rattle.std.proofs.lemmas.Option.{none-some, same_Some}
+use Rattle.std.proofs.lemmas.Bool.{or_right}
 use Rattle.gv_model.specs.Tree.{Tree, Trees, children, nodes, nodes_of, depth, greatest_depth}
 use Rattle.gv_model.specs.Tree.Tree.{number, text, node}
 use Rattle.gv_model.specs.Tree.Trees.{none, first}
 use Rattle.gv_model.specs.Printed.{is_too_large}
-use Rattle.gv_view.specs.Counting.{left_behind, left_after, left_after_all}
+use Rattle.gv_view.specs.Counting.{left_past, left_after, left_after_all}
 
 pub nodes_children : (v : Tree) → nodes v ≡ suc (nodes_of (children v))
 unfolding nodes nodes_of
@@ -22,13 +23,13 @@ depth_children (node t vs) = refl
 
 -- ---- so many are enough, or they aren't
 
-enough : (levels values deep count : ℕ) → deep ≤ levels → count ≤ values → left_behind levels values deep count ≡ Some (values - count)
+enough : (levels values deep count : ℕ) → deep ≤ levels → count ≤ values → left_past levels values deep count ≡ Some (values - count)
 enough levels values deep count h g =
     let first : nat_le deep levels ≡ true = grind arith in
     let second : nat_le count values ≡ true = grind arith in
     rw (first, second) refl
 
-wanting : (levels values deep count : ℕ) → (levels < deep) ⊎ (values < count) → left_behind levels values deep count ≡ None
+wanting : (levels values deep count : ℕ) → (levels < deep) ⊎ (values < count) → left_past levels values deep count ≡ None
 wanting levels values deep count (inl h) = let test : nat_le deep levels ≡ false = grind arith in rw test refl
 wanting levels values deep count (inr h) = let test : nat_le count values ≡ false = grind arith in go (nat_le deep levels) test
   where
@@ -50,10 +51,10 @@ counted levels values deep count = go (nat_le deep levels) refl (nat_le count va
     go false e c f = passes (inl (grind arith))
 
 -- the same count on both sides
-same_left : (l n d c l2 n2 d2 c2 : ℕ) → (d ≤ l → c ≤ n → (d2 ≤ l2) × (c2 ≤ n2) × (n - c ≡ n2 - c2)) → ((l < d) ⊎ (n < c) → (l2 < d2) ⊎ (n2 < c2)) → left_behind l n d c ≡ left_behind l2 n2 d2 c2
+same_left : (l n d c l2 n2 d2 c2 : ℕ) → (d ≤ l → c ≤ n → (d2 ≤ l2) × (c2 ≤ n2) × (n - c ≡ n2 - c2)) → ((l < d) ⊎ (n < c) → (l2 < d2) ⊎ (n2 < c2)) → left_past l n d c ≡ left_past l2 n2 d2 c2
 same_left l n d c l2 n2 d2 c2 fit over = go (counted l n d c)
   where
-    go : Counted l n d c → left_behind l n d c ≡ left_behind l2 n2 d2 c2
+    go : Counted l n d c → left_past l n d c ≡ left_past l2 n2 d2 c2
     go (fits h g) = let k = fit h g in enough l n d c h g ∙ (ap Some k.2 ∙ sym (enough l2 n2 d2 c2 k.0 k.1))
     go (passes h) = wanting l n d c h ∙ sym (wanting l2 n2 d2 c2 (over h))
 
@@ -101,10 +102,6 @@ pub leaf_count : (levels values : ℕ) (v : Tree) → none ≡ children v → 0 
 leaf_count levels values v leaf h g =
     end_count (levels - 1) (values - 1) ∙ (ap (left_after_all (levels - 1) (values - 1)) leaf ∙ begin_count levels values v h g)
 
-either_way : (b : Bool) → true ≡ (b || true)
-either_way true = refl
-either_way false = refl
-
 -- none is left exactly where the value is too large
 pub too_large : (v : Tree) → not (is_some (left_after 128 1000000 v)) ≡ is_too_large v
 too_large v = go (counted 128 1000000 (depth v) (nodes v))
@@ -116,7 +113,7 @@ too_large v = go (counted 128 1000000 (depth v) (nodes v))
         rw (few, flat, enough 128 1000000 (depth v) (nodes v) h g) refl
     go (passes (inl h)) =
         let deep : nat_lt 128 (depth v) ≡ true = grind arith in
-        rw (deep, wanting 128 1000000 (depth v) (nodes v) (inl h)) (either_way (nat_lt 1000000 (nodes v)))
+        rw (deep, wanting 128 1000000 (depth v) (nodes v) (inl h)) (sym (or_right (nat_lt 1000000 (nodes v)) true refl))
     go (passes (inr h)) =
         let many : nat_lt 1000000 (nodes v) ≡ true = grind arith in
         rw (many, wanting 128 1000000 (depth v) (nodes v) (inr h)) refl

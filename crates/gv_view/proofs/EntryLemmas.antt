@@ -9,15 +9,17 @@ use Rattle.gv_model.specs.Tree.Tree.{number, text, node}
 use Rattle.gv_model.specs.Layout.{basic_size}
 use Rattle.gv_model.specs.BasicValue.{basic_value, basic_of_size, text_or_default, text_in, bits_of, number_in}
 use Rattle.gv_model.specs.Texts.{is_text}
-use Rattle.gv_model.specs.Children.{bytes_of}
+use Rattle.gv_model.specs.Children.{child_bytes}
 use Rattle.gv_model.specs.Decode.{decode, cut, each, tree_with}
-use Rattle.gv_model.specs.Parts.{Part, parts, trees_of}
+use Rattle.gv_model.specs.Parts.{Part, parts, part_trees}
 use Rattle.gv_model.specs.Entries.{HasKey, IsFirst, IsLookedUp}
 use Rattle.gv_model.proofs.DecodeLaws.{decode_children}
+use Rattle.gv_model.proofs.Prefixes.{basic_parts}
+use Rattle.gv_model.proofs.ListLaws.{same_head, same_tail, nil_no_cons}
 use Rattle.gv_view.specs.declared.view.View.{View}
 use Rattle.gv_view.specs.Views.{shown, value, view_ty, view_bytes}
 use Rattle.gv_view.specs.Dictionaries.{IsDictionary, IsTextEntry, IsValueUnder}
-use Rattle.gv_view.proofs.Lists.{first_same, rest_same, some_first, All-rest}
+use Rattle.gv_view.proofs.Lists.{All-rest}
 use Rattle.gv_view.proofs.TreeParts.{array_value, array_parts, entry_value, entry_parts}
 
 -- ---- no entries at other types
@@ -53,9 +55,9 @@ none_in_array (array t) vs key h = refl
 none_in_array (maybe t) vs key h = refl
 none_in_array (tuple ts) vs key h = refl
 
-none_in_tree : (d : Ty) (b : List ℕ) (key : List ℕ) → (IsDictionary d → ⊥) → IsLookedUp (tree_with (λ c. decode c.type (bytes_of b c)) d b) key None
+none_in_tree : (d : Ty) (b : List ℕ) (key : List ℕ) → (IsDictionary d → ⊥) → IsLookedUp (tree_with (λ c. decode c.type (child_bytes b c)) d b) key None
 unfolding basic_value
-none_in_tree (array t) b key h = none_in_array t (each (λ c. decode c.type (bytes_of b c)) (cut (array t) b)) key h
+none_in_tree (array t) b key h = none_in_array t (each (λ c. decode c.type (child_bytes b c)) (cut (array t) b)) key h
 none_in_tree (basic k) b key h = none_in_basic k b (basic_size k) key
 none_in_tree variant b key h = refl
 none_in_tree (maybe t) b key h = refl
@@ -88,8 +90,8 @@ text_entry t b =
       key = pair.key;
       value = pair.value;
       members = pair.are;
-      key_at = ap (λ v. tree_at (children v) 0) tree ∙ ap (λ ps. tree_at (trees_of ps) 0) pair.are;
-      value_at = ap (λ v. tree_at (children v) 1) tree ∙ ap (λ ps. tree_at (trees_of ps) 1) pair.are;
+      key_at = ap (λ v. tree_at (children v) 0) tree ∙ ap (λ ps. tree_at (part_trees ps) 0) pair.are;
+      value_at = ap (λ v. tree_at (children v) 1) tree ∙ ap (λ ps. tree_at (part_trees ps) 1) pair.are;
     }
 
 pub entry_of : (d : Ty) (b : List ℕ) → IsTextEntry d → IsEntryOf d b
@@ -97,9 +99,9 @@ entry_of d b h = subst (λ e. IsEntryOf e b) (sym h.1) (text_entry h.0 b)
 
 -- an entry has a first member
 pub has_first : (d : Ty) (b : List ℕ) (ps : List Part) → IsTextEntry d → ps ≡ parts d b → ps ≡ [] → ⊥
-has_first d b ps h e is = let m = entry_of d b h in some_first _ _ (sym is ∙ (e ∙ m.members))
+has_first d b ps h e is = let m = entry_of d b h in nil_no_cons (sym is ∙ (e ∙ m.members))
 
--- the view of an entry's first member, and what is left behind it
+-- the view of an entry's first member, and what is left after it
 pub record IsKeyOf (d : Ty) (b : List ℕ) (v : View) (rest : List Part) : Type 0 where
   pub entry_is : IsEntryOf d b
   pub type : view_ty v ≡ basic string
@@ -110,25 +112,22 @@ pub key_first : (d : Ty) (b : List ℕ) (ps rest : List Part) (v : View) → IsT
 key_first d b ps rest v h e is =
     let m = entry_of d b h in
     let all : shown v ∷ rest ≡ (basic string, m.key) ∷ (m.type, m.value) ∷ [] = sym is ∙ (e ∙ m.members) in
-    let same = first_same _ _ _ _ all in
+    let same = same_head all in
     record {
       entry_is = m;
       type = ap (λ (p : Part). p.0) same;
       at = m.key_at ∙ ap (λ (p : Part). Some (decode p.0 p.1)) (sym same);
-      left = rest_same _ _ _ _ all;
+      left = same_tail all;
     }
 
 same_text : (k l : Basic) (s r : List ℕ) → Some (text k s) ≡ Some (text l r) → s ≡ r
 same_text k l s r e = cc
 
-same_basic : (k l : Basic) → basic k ≡ basic l → k ≡ l
-same_basic k l e = cc
-
 -- the key is the text of the first member's view
 pub has_key : (d : Ty) (b : List ℕ) (v : View) (rest : List Part) (s key : List ℕ) → IsKeyOf d b v rest
     → ((k : Basic) × (view_ty v ≡ basic k) × (value v ≡ text k s)) → s ≡ key → HasKey (decode d b) key
 has_key d b v rest s key m h e =
-    let k = same_basic _ _ (sym h.1 ∙ m.type) in
+    let k = basic_parts _ _ (sym h.1 ∙ m.type) in
     m.at ∙ (ap Some h.2 ∙ ap₂ (λ l r. Some (text l r)) k e)
 
 pub key_is : (d : Ty) (b : List ℕ) (v : View) (rest : List Part) (s key : List ℕ) → IsKeyOf d b v rest
@@ -138,9 +137,9 @@ key_is d b v rest s key m h has = same_text _ _ s key (ap Some (sym h.2) ∙ (sy
 -- the second member is the value
 pub found_value : (e v : View) (rest : List Part) (key : List ℕ) (o : Option View) (after : List Part) → IsKeyOf (view_ty e) (view_bytes e) v rest → HasKey (value e) key
     → MatchOption o ((rest ≡ []) × (after ≡ [])) (λ u. rest ≡ shown u ∷ after) → MatchOption o (¬ HasKey (value e) key) (IsValueUnder e key)
-found_value e v rest key None after m has h = absurd (some_first _ _ (sym h.0 ∙ m.left))
+found_value e v rest key None after m has h = absurd (nil_no_cons (sym h.0 ∙ m.left))
 found_value e v rest key (Some u) after m has h =
-    let same = first_same _ _ _ _ (sym h ∙ m.left) in
+    let same = same_head (sym h ∙ m.left) in
     record {
       has_key = has;
       value = m.entry_is.value_at ∙ ap (λ (p : Part). Some (decode p.0 p.1)) (sym same);
@@ -152,7 +151,7 @@ found_value e v rest key (Some u) after m has h =
 -- the value at these parts of a dictionary is that of all of it, whose entries all are of one type
 pub record IsRest (d : Ty) (b : List ℕ) (key : List ℕ) (ps : List Part) : Type 0 where
   pub typed : All (λ (p : Part). d ≡ array p.0) ps
-  pub found : (f : Option Tree) → IsFirst (trees_of ps) key f → IsLookedUp (decode d b) key f
+  pub found : (f : Option Tree) → IsFirst (part_trees ps) key f → IsLookedUp (decode d b) key f
 
 dictionary_rest : (t : Ty) (b : List ℕ) (key : List ℕ) → IsRest (array (entry string t)) b key (parts (array (entry string t)) b)
 dictionary_rest t b key =
@@ -165,10 +164,10 @@ dictionary_rest t b key =
 pub all_of : (d : Ty) (b : List ℕ) (key : List ℕ) (ps : List Part) → IsDictionary d → ps ≡ parts d b → IsRest d b key ps
 all_of d b key ps h e = subst (IsRest d b key) (sym e) (subst (λ c. IsRest c b key (parts c b)) (sym h.1) (dictionary_rest h.0 b key))
 
--- behind an entry with another key
+-- after an entry with another key
 pub rest_of : (d : Ty) (b : List ℕ) (key : List ℕ) (ps rest : List Part) (e : View) → IsRest d b key ps → ps ≡ shown e ∷ rest → (HasKey (value e) key → ⊥) → IsRest d b key rest
 rest_of d b key ps rest e h is other =
     record {
       typed = All-rest (λ (p : Part). d ≡ array p.0) ps rest (shown e) is h.typed;
-      found = λ f first. h.found f (subst (λ qs. IsFirst (trees_of qs) key f) (sym is) (inr (other, first)));
+      found = λ f first. h.found f (subst (λ qs. IsFirst (part_trees qs) key f) (sym is) (inr (other, first)));
     }

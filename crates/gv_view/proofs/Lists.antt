@@ -1,15 +1,6 @@
--- Lists that are taken apart from the front.
+-- Lists that are taken apart from the start.
 use Rattle.std.proofs.Common.{◌≡◌, suc, List, [], ◌∷◌, Some, None, Option, sym, subst, ◌∙◌, arith}
 use Rattle.std.specs.Prelude.{All, MatchOption}
-
-pub first_same : {A : Type 0} (x y : A) (xs ys : List A) → x ∷ xs ≡ y ∷ ys → x ≡ y
-first_same x y xs ys e = cc
-
-pub rest_same : {A : Type 0} (x y : A) (xs ys : List A) → x ∷ xs ≡ y ∷ ys → xs ≡ ys
-rest_same x y xs ys e = cc
-
-pub some_first : {A : Type 0} (x : A) (xs : List A) → [] ≡ x ∷ xs → ⊥
-some_first x xs e = cc
 
 pub All-first : {A : Type 0} (P : A → Type 0) (xs ys : List A) (x : A) → xs ≡ x ∷ ys → All P xs → P x
 All-first P xs ys x e h = subst (All P) e h 0 x (omega arith)

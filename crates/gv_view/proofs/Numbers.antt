@@ -1,11 +1,12 @@
 -- Numbers in the bytes of basic types.
-use Rattle.std.proofs.Common.{◌≡◌, ◌≢◌, ◌<◌, ◌+◌, ◌*◌, ◌^◌, ℕ, ℤ, zero, suc, List, [], ◌∷◌, length, get_or, take, drop, Some, None, Bool, true, false, refl, sym, ap, ◌∙◌, arith, eq-eqb, ne_eqb, ◌==◌, not, cond}
+use Rattle.std.proofs.Common.{◌≡◌, ◌≢◌, ◌<◌, ◌+◌, ◌*◌, ◌^◌, ℕ, ℤ, zero, suc, List, [], ◌∷◌, length, get_or, take, drop, Some, Bool, true, false, refl, sym, ap, ◌∙◌, arith, eq-eqb, ne_eqb, ◌==◌, not, cond}
 use Rattle.std.specs.Prelude.{replicate}
 use Rattle.std.specs.Int.{Width, cast_signed, cast_unsigned}
 use mir.Val.{bits}
 use Rattle.std.proofs.lemmas.Int.{of_z-to_z}
 use Rattle.std.proofs.Math.Seq.{drop-cons}
 use Rattle.std.proofs.lemmas.List.{drop_all}
+use Rattle.std.proofs.lemmas.Option.{none-some}
 use Rattle.byteorder.specs.Endian.{little_number, little_from}
 use Rattle.gv_model.specs.Ty.{Basic}
 use Rattle.gv_model.specs.Ty.Ty.{basic}
@@ -13,9 +14,8 @@ use Rattle.gv_model.specs.Ty.Basic.{boolean, string, path, signature}
 use Rattle.gv_model.specs.Layout.{basic_size}
 use Rattle.gv_model.specs.Tree.{basic_default}
 use Rattle.gv_model.specs.Tree.Tree.{number}
-use Rattle.gv_model.specs.BasicValue.{basic_value, basic_of_size, bits_of, number_in, truth}
+use Rattle.gv_model.specs.BasicValue.{basic_value, basic_of_size, bits_of, number_in, truth, truth_bits}
 use Rattle.gv_model.specs.Decode.{decode}
-use Rattle.gv_view.specs.Views.{truth_bits}
 use Rattle.gv_model.proofs.DecodeLaws.{decode_children}
 
 decode_basic : (k : Basic) (b : List ℕ) (size : ℕ) → basic_size k ≡ Some size → decode (basic k) b ≡ basic_of_size k b (Some size)
@@ -26,13 +26,10 @@ decode_basic k b size e = decode_children (basic k) b ∙ ap (basic_of_size k b)
 pub whole_number : (k : Basic) (b : List ℕ) (size : ℕ) → basic_size k ≡ Some size → length b ≡ size → decode (basic k) b ≡ number k (bits_of k (number_in b))
 whole_number k b size e h = decode_basic k b size e ∙ (let same : (length b == size) ≡ true = eq-eqb (length b) size h in rw same refl)
 
-no_size : (n : ℕ) → None ≡ Some n → ⊥
-no_size n e = cc
-
 default_number : (k : Basic) (size : ℕ) → basic_size k ≡ Some size → basic_default k ≡ number k 0
-default_number string size e = absurd (no_size size e)
-default_number path size e = absurd (no_size size e)
-default_number signature size e = absurd (no_size size e)
+default_number string size e = absurd (none-some size e)
+default_number path size e = absurd (none-some size e)
+default_number signature size e = absurd (none-some size e)
 default_number _ size e = refl
 
 bits_of_zero : (k : Basic) → bits_of k 0 ≡ 0
@@ -70,17 +67,14 @@ bits_of_signed w n z e h =
     ap (λ m. cast_unsigned w (cast_signed w m)) there ∙ of_z-to_z w n h
 
 -- the one byte of a boolean, and of a byte
-one_byte : (b : List ℕ) → length b ≡ 1 → number_in b ≡ get_or b 0 0
-unfolding number_in
-one_byte [] h = absurd (omega arith)
-one_byte (c ∷ []) h = omega arith
-one_byte (c ∷ d ∷ b) h = absurd (omega arith)
-
 pub byte_number : (b : List ℕ) → length b ≡ 1 → number_in b ≡ get_or b 0 0
-byte_number b h = one_byte b h
+unfolding number_in
+byte_number [] h = absurd (omega arith)
+byte_number (c ∷ []) h = omega arith
+byte_number (c ∷ d ∷ b) h = absurd (omega arith)
 
 pub truth_number : (b : List ℕ) → length b ≡ 1 → truth_bits (not (get_or b 0 0 == 0)) ≡ truth (number_in b)
-truth_number b h = go (get_or b 0 0 == 0) ∙ ap truth (sym (one_byte b h))
+truth_number b h = go (get_or b 0 0 == 0) ∙ ap truth (sym (byte_number b h))
   where
     go : (c : Bool) → truth_bits (not c) ≡ cond c 0 1
     go true = refl

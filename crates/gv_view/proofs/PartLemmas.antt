@@ -4,29 +4,29 @@ use Rattle.std.specs.Prelude.{slice_get, option_map}
 use Rattle.std.proofs.lemmas.Option.{slice_get-map}
 use Rattle.gv_model.specs.Ty.{Ty}
 use Rattle.gv_model.specs.Tree.{Tree, children, tree_at}
-use Rattle.gv_model.specs.Children.{Child, bytes_of}
+use Rattle.gv_model.specs.Children.{Child, child_bytes}
 use Rattle.gv_model.specs.Decode.{decode, cut}
 use Rattle.gv_model.specs.Parts.{Part, part_of, parts, part_at, subtree_at}
 use Rattle.gv_model.proofs.ChildLaws.{child_of_value}
 use Rattle.gv_view.specs.declared.view.View.{View}
-use Rattle.gv_view.specs.Views.{Shows, Lends, value, shown, view_ty, view_bytes}
+use Rattle.gv_view.specs.Views.{ShowsChild, Lends, value, shown, view_ty, view_bytes}
 use Rattle.gv_view.specs.Laws.{PartsAreLent}
 
 -- a view that shows a child has the child's value and part
-shows_value : (b : List ℕ) (c : Child) (u : View) → Shows b c u → decode c.type (bytes_of b c) ≡ value u
+shows_value : (b : List ℕ) (c : Child) (u : View) → ShowsChild b c u → decode c.type (child_bytes b c) ≡ value u
 shows_value b c u h = sym (ap₂ decode h.type h.bytes)
 
-shows_part : (b : List ℕ) (c : Child) (u : View) → Shows b c u → part_of b c ≡ shown u
+shows_part : (b : List ℕ) (c : Child) (u : View) → ShowsChild b c u → part_of b c ≡ shown u
 shows_part b c u h = sym (ap₂ (λ (t : Ty) (x : List ℕ). (t, x)) h.type h.bytes)
 
-lent_mapped : {X : Type 0} (b : List ℕ) (u : View) (f : Child → X) (x : X) → ((c : Child) → Shows b c u → f c ≡ x) → (o : Option Child) → Lends b o (Some u) → option_map f o ≡ Some x
+lent_mapped : {X : Type 0} (b : List ℕ) (u : View) (f : Child → X) (x : X) → ((c : Child) → ShowsChild b c u → f c ≡ x) → (o : Option Child) → Lends b o (Some u) → option_map f o ≡ Some x
 lent_mapped b u f x h None l = absurd l
 lent_mapped b u f x h (Some c) l = ap Some (h c l)
 
 -- the view that is lent has the value and the part of the child
 pub lent_tree : (t : Ty) (b : List ℕ) (i : ℕ) (u : View) → Lends b (slice_get (cut t b) i) (Some u) → tree_at (children (decode t b)) i ≡ Some (value u)
 lent_tree t b i u l =
-    child_of_value t b i ∙ lent_mapped b u (λ c. decode c.type (bytes_of b c)) (value u) (λ c. shows_value b c u) (slice_get (cut t b) i) l
+    child_of_value t b i ∙ lent_mapped b u (λ c. decode c.type (child_bytes b c)) (value u) (λ c. shows_value b c u) (slice_get (cut t b) i) l
 
 lent_part : (t : Ty) (b : List ℕ) (i : ℕ) (u : View) → Lends b (slice_get (cut t b) i) (Some u) → slice_get (parts t b) i ≡ Some (shown u)
 unfolding parts

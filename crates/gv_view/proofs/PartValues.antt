@@ -6,7 +6,7 @@ use Rattle.gv_model.specs.Ty.Ty.{basic}
 use Rattle.gv_model.specs.Tree.{Tree, Trees, children, depth, greatest_depth}
 use Rattle.gv_model.specs.Tree.Trees.{none, first}
 use Rattle.gv_model.specs.Decode.{spans, cut, decode}
-use Rattle.gv_model.specs.Parts.{Part, parts, trees_of}
+use Rattle.gv_model.specs.Parts.{Part, parts, part_trees}
 use Rattle.gv_model.proofs.ChildLaws.{children_are_parts}
 use Rattle.gv_tree.specs.Nodes.{trees_of as tree_list}
 use Rattle.gv_view.proofs.Counts.{depth_children}
@@ -14,23 +14,23 @@ use Rattle.gv_view.proofs.Counts.{depth_children}
 abbrev pub part_value : Part → Tree
 part_value p = decode p.0 p.1
 
-listed : (ps : List Part) → tree_list (map part_value ps) ≡ trees_of ps
+listed : (ps : List Part) → tree_list (map part_value ps) ≡ part_trees ps
 listed [] = refl
 listed (p ∷ ps) = ap (first (part_value p)) (listed ps)
 
 pub all_listed : (t : Ty) (b : List ℕ) (ps : List Part) → ps ≡ parts t b → tree_list (map part_value ps) ≡ children (decode t b)
-all_listed t b ps e = listed ps ∙ (ap trees_of e ∙ sym (children_are_parts t b))
+all_listed t b ps e = listed ps ∙ (ap part_trees e ∙ sym (children_are_parts t b))
 
-pub all_lower : (t : Ty) (b : List ℕ) (ps : List Part) → ps ≡ parts t b → greatest_depth (trees_of ps) < depth (decode t b)
+pub all_lower : (t : Ty) (b : List ℕ) (ps : List Part) → ps ≡ parts t b → greatest_depth (part_trees ps) < depth (decode t b)
 all_lower t b ps e =
-    let same : greatest_depth (trees_of ps) ≡ greatest_depth (children (decode t b)) = ap greatest_depth (ap trees_of e ∙ sym (children_are_parts t b)) in
+    let same : greatest_depth (part_trees ps) ≡ greatest_depth (children (decode t b)) = ap greatest_depth (ap part_trees e ∙ sym (children_are_parts t b)) in
     omega (arith, same, depth_children (decode t b))
 
 -- the first part and the others are lower than all of them
-pub first_lower : (p : Part) (ps qs : List Part) (n : ℕ) → qs ≡ p ∷ ps → greatest_depth (trees_of qs) < n → (depth (part_value p) < n) × (greatest_depth (trees_of ps) < n)
+pub first_lower : (p : Part) (ps qs : List Part) (n : ℕ) → qs ≡ p ∷ ps → greatest_depth (part_trees qs) < n → (depth (part_value p) < n) × (greatest_depth (part_trees ps) < n)
 unfolding greatest_depth
 first_lower p ps qs n e h =
-    let whole : max (depth (part_value p)) (greatest_depth (trees_of ps)) < n = subst (λ (rs : List Part). greatest_depth (trees_of rs) < n) e h in
+    let whole : max (depth (part_value p)) (greatest_depth (part_trees ps)) < n = subst (λ (rs : List Part). greatest_depth (part_trees rs) < n) e h in
     (omega arith, omega arith)
 
 after_one : (xs ys : List Tree) (v : Tree) → (xs ++ v ∷ []) ++ ys ≡ xs ++ v ∷ ys
@@ -57,4 +57,4 @@ no_parts k b = refl
 -- a basic value has no children
 pub basic_is_leaf : (t : Ty) (b : List ℕ) → (k : Basic) × (t ≡ basic k) → none ≡ children (decode t b)
 basic_is_leaf t b is =
-    sym (ap (λ (t : Ty). children (decode t b)) is.1 ∙ (children_are_parts (basic is.0) b ∙ ap trees_of (no_parts is.0 b)))
+    sym (ap (λ (t : Ty). children (decode t b)) is.1 ∙ (children_are_parts (basic is.0) b ∙ ap part_trees (no_parts is.0 b)))

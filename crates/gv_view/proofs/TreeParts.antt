@@ -5,18 +5,18 @@ use Rattle.gv_model.specs.Ty.{Ty, Basic}
 use Rattle.gv_model.specs.Ty.Ty.{basic, array, entry}
 use Rattle.gv_model.specs.Layout.{fixed_size}
 use Rattle.gv_model.specs.Tree.Tree.{node}
-use Rattle.gv_model.specs.Children.{Span, child_at, children_at, bytes_of}
+use Rattle.gv_model.specs.Children.{Span, child_at, children_at, child_bytes}
 use Rattle.gv_model.specs.Tuples.{empty_spans, member_spans, is_other_size}
 use Rattle.gv_model.specs.Decode.{decode, cut, spans}
-use Rattle.gv_model.specs.Parts.{Part, part_of, parts, trees_of}
+use Rattle.gv_model.specs.Parts.{Part, part_of, parts, part_trees}
 use Rattle.gv_model.proofs.ChildLaws.{each_part}
 use Rattle.gv_model.proofs.DecodeLaws.{OfTypes, of_elements, decode_children}
 
-pub array_value : (u : Ty) (b : List ℕ) → decode (array u) b ≡ node (array u) (trees_of (parts (array u) b))
+pub array_value : (u : Ty) (b : List ℕ) → decode (array u) b ≡ node (array u) (part_trees (parts (array u) b))
 unfolding parts
 array_value u b = decode_children (array u) b ∙ ap (node (array u)) (each_part b (cut (array u) b))
 
-pub entry_value : (k : Basic) (t : Ty) (b : List ℕ) → decode (entry k t) b ≡ node (entry k t) (trees_of (parts (entry k t) b))
+pub entry_value : (k : Basic) (t : Ty) (b : List ℕ) → decode (entry k t) b ≡ node (entry k t) (part_trees (parts (entry k t) b))
 unfolding parts
 entry_value k t b = decode_children (entry k t) b ∙ ap (node (entry k t)) (each_part b (cut (entry k t) b))
 
@@ -40,8 +40,8 @@ pub record IsPair (k : Basic) (t : Ty) (ps : List Part) : Type 0 where
 
 pair_if : (k : Basic) (t : Ty) (n : ℕ) (b : List ℕ) (test : Bool) (x y v w : Span)
     → IsPair k t (map (part_of b) (children_at n (cond test ((basic k, x) ∷ (t, y) ∷ []) ((basic k, v) ∷ (t, w) ∷ []))))
-pair_if k t n b true x y v w = record { key = bytes_of b (child_at n (basic k, x)); value = bytes_of b (child_at n (t, y)); are = refl }
-pair_if k t n b false x y v w = record { key = bytes_of b (child_at n (basic k, v)); value = bytes_of b (child_at n (t, w)); are = refl }
+pair_if k t n b true x y v w = record { key = child_bytes b (child_at n (basic k, x)); value = child_bytes b (child_at n (t, y)); are = refl }
+pair_if k t n b false x y v w = record { key = child_bytes b (child_at n (basic k, v)); value = child_bytes b (child_at n (t, w)); are = refl }
 
 pub entry_parts : (k : Basic) (t : Ty) (b : List ℕ) → IsPair k t (parts (entry k t) b)
 unfolding parts cut spans empty_spans member_spans

@@ -8,8 +8,8 @@ use Rattle.memchr.specs.Find.{Nowhere, NoneAfter, Passes, is_byte}
 use Rattle.gv_model.specs.Ty.{Ty, nesting, greatest_nesting}
 use Rattle.gv_model.specs.Ty.Ty.{variant, tuple}
 use Rattle.gv_model.specs.Ty.Types.{end}
-use Rattle.gv_model.specs.TypeText.{is_type, type_at, type_of_text, seen, mark, tuple_before}
-use Rattle.gv_model.specs.Children.{bounds, child_at, bytes_of}
+use Rattle.gv_model.specs.TypeText.{is_type, type_at, type_of_text, seen, mark, tuple_type_before}
+use Rattle.gv_model.specs.Children.{bounds, child_at, child_bytes}
 use Rattle.gv_model.specs.Variants.{at_last_zero, variant_span, typed_span}
 use Rattle.gv_model.specs.Decode.{cut, spans}
 use Rattle.gv_model.specs.Parts.{Part}
@@ -17,7 +17,7 @@ use Rattle.gv_model.proofs.DecodeLaws.{at_last_zero_parts}
 use Rattle.gv_model.proofs.TypeTextParts.{type_text_is_ascii}
 use Rattle.gv_types.specs.TypeStr.{ty}
 use Rattle.gv_view.specs.declared.view.View.{View}
-use Rattle.gv_view.specs.Views.{Shows, Lends, shown}
+use Rattle.gv_view.specs.Views.{ShowsChild, Lends, shown}
 use Rattle.gv_view.specs.Texts.{utf8_of}
 use Rattle.gv_view.specs.Variants.{held, at_type_text}
 use Rattle.gv_view.proofs.AsciiTexts.{ascii_is_utf8}
@@ -74,8 +74,8 @@ no_text_no_type b x w at e =
 -- ---- the child
 
 -- bytes up to the last zero byte are bytes of the variant
-front_bytes : (b x w : List ℕ) (t : Ty) → b ≡ x ++ 0 ∷ w → x ≡ bytes_of b (child_at (length b) (t, Some (0, length x)))
-front_bytes b x w t e =
+prefix_bytes : (b x w : List ℕ) (t : Ty) → b ≡ x ++ 0 ∷ w → x ≡ child_bytes b (child_at (length b) (t, Some (0, length x)))
+prefix_bytes b x w t e =
     let size : length b ≡ length x + suc (length w) = ap length e ∙ length-append x (0 ∷ w) in
     let low : nat_le 0 (length x) ≡ true = grind arith in
     let high : nat_le (length x) (length b) ≡ true = grind arith in
@@ -83,27 +83,27 @@ front_bytes b x w t e =
     let whole : length x - 0 ≡ length x = omega arith in
     sym (ap (λ (s : ℕ × ℕ). slice_range b s.0 s.1) inside ∙ (ap (λ (n : ℕ). take n b) whole ∙ (ap (take (length x)) e ∙ take-append_seam x (0 ∷ w))))
 
-shows_typed : (b x w : List ℕ) (o : Option Ty) (v : View) → b ≡ x ++ 0 ∷ w → Some (shown v) ≡ option_map (λ (t : Ty). (t, x)) o → Shows b (child_at (length b) (typed_span (length x) o)) v
+shows_typed : (b x w : List ℕ) (o : Option Ty) (v : View) → b ≡ x ++ 0 ∷ w → Some (shown v) ≡ option_map (λ (t : Ty). (t, x)) o → ShowsChild b (child_at (length b) (typed_span (length x) o)) v
 shows_typed b x w None v e h = absurd (none-some (shown v) (sym h))
 shows_typed b x w (Some t) v e h =
     let same : shown v ≡ (t, x) = same_Some (shown v) (t, x) h in
-    record { type = ap (λ (p : Part). p.0) same; bytes = ap (λ (p : Part). p.1) same ∙ front_bytes b x w t e }
+    record { type = ap (λ (p : Part). p.0) same; bytes = ap (λ (p : Part). p.1) same ∙ prefix_bytes b x w t e }
 
 shows_held : (b : List ℕ) (o : Option (List ℕ × List ℕ)) (v : View) → ((p : List ℕ × List ℕ) → o ≡ Some p → b ≡ p.0 ++ 0 ∷ p.1)
-    → Some (shown v) ≡ option_and_then at_type_text o → Shows b (child_at (length b) (variant_span o)) v
+    → Some (shown v) ≡ option_and_then at_type_text o → ShowsChild b (child_at (length b) (variant_span o)) v
 shows_held b None v parts h = absurd (none-some (shown v) (sym h))
 shows_held b (Some p) v parts h = shows_typed b p.0 p.1 (type_of_text p.1) v (parts p refl) h
 
-shows_unit : (b : List ℕ) (n : ℕ) (o : Option Ty) (x : List ℕ) (v : View) → ty v.type_str ≡ tuple end → v.bytes.now ≡ [] → ◌≡◌ {A = Option Part} None (option_map (λ (t : Ty). (t, x)) o) → Shows b (child_at (length b) (typed_span n o)) v
+shows_unit : (b : List ℕ) (n : ℕ) (o : Option Ty) (x : List ℕ) (v : View) → ty v.type_str ≡ tuple end → v.bytes.now ≡ [] → ◌≡◌ {A = Option Part} None (option_map (λ (t : Ty). (t, x)) o) → ShowsChild b (child_at (length b) (typed_span n o)) v
 shows_unit b n None x v t e h = record { type = t; bytes = e }
 shows_unit b n (Some u) x v t e h = absurd (none-some (u, x) h)
 
 shows_none : (b : List ℕ) (o : Option (List ℕ × List ℕ)) (v : View) → ty v.type_str ≡ tuple end → v.bytes.now ≡ []
-    → None ≡ option_and_then at_type_text o → Shows b (child_at (length b) (variant_span o)) v
+    → None ≡ option_and_then at_type_text o → ShowsChild b (child_at (length b) (variant_span o)) v
 shows_none b None v t e h = record { type = t; bytes = e }
 shows_none b (Some p) v t e h = shows_unit b (length p.0) (type_of_text p.1) p.0 v t e h
 
-lends_child : (b : List ℕ) (v : View) → Shows b (child_at (length b) (variant_span (at_last_zero b))) v → Lends b (slice_get (cut variant b) 0) (Some v)
+lends_child : (b : List ℕ) (v : View) → ShowsChild b (child_at (length b) (variant_span (at_last_zero b))) v → Lends b (slice_get (cut variant b) 0) (Some v)
 unfolding cut spans
 lends_child b v h = h
 
@@ -116,9 +116,9 @@ unit_is_lent b v h t e = lends_child b v (shows_none b (at_last_zero b) v t e h)
 -- ---- the type `()`
 
 pub unit_is_type : is_type (40 ∷ 41 ∷ []) ≡ true
-unfolding type_of_text seen mark tuple_before nesting greatest_nesting
+unfolding type_of_text seen mark tuple_type_before nesting greatest_nesting
 unit_is_type = refl
 
 pub unit_is_found : type_at (40 ∷ 41 ∷ []) ≡ tuple end
-unfolding type_of_text seen mark tuple_before nesting greatest_nesting
+unfolding type_of_text seen mark tuple_type_before nesting greatest_nesting
 unit_is_found = refl

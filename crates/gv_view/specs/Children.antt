@@ -18,10 +18,10 @@ abbrev pub alone_left : Option View → List Part
 alone_left None = []
 alone_left (Some v) = shown v ∷ []
 
-abbrev pub walk_left : Walk → List Part
-walk_left (walks.Alone v) = alone_left v
-walk_left (walks.Placed p) = placed_left p
+abbrev pub parts_left : Walk → List Part
+parts_left (walks.Alone v) = alone_left v
+parts_left (walks.Placed p) = placed_left p
 
 -- each as its type and its bytes
 abbrev pub children_left : Children → List Part
-children_left c = walk_left c.walk
+children_left c = parts_left c.walk

@@ -6,13 +6,13 @@ use Rattle.gv_view.specs.declared.view.View.{View}
 use Rattle.gv_view.specs.Views.{view_ty, view_bytes, value, shown, Lends}
 
 -- u is the view of child i of v
-abbrev pub IsChild : View → ℕ → View → Type 0
-IsChild v i u = Lends (view_bytes v) (slice_get (cut (view_ty v) (view_bytes v)) i) (Some u)
+abbrev pub IsChildView : View → ℕ → View → Type 0
+IsChildView v i u = Lends (view_bytes v) (slice_get (cut (view_ty v) (view_bytes v)) i) (Some u)
 
 -- these indices lead from v to w: the first to a child of v, the second to a child of that, and so on
 abbrev pub Follows : List ℕ → View → View → Type 0
 Follows [] v w = w ≡ v
-Follows (i ∷ is) v w = (u : View) × (IsChild v i u × Follows is u w)
+Follows (i ∷ is) v w = (u : View) × (IsChildView v i u × Follows is u w)
 
 -- wherever indices lead, there is that part of the value, and it is read from its own bytes
 abbrev pub PartsAreLent : Type 0

@@ -8,6 +8,6 @@ use Rattle.gv_model.specs.Parts.{Part}
 abbrev pub at_type_text : List ℕ × List ℕ → Option Part
 at_type_text p = option_map (λ t. (t, p.0)) (type_of_text p.1)
 
--- the bytes before the last zero byte, at the type whose text stands behind it
+-- the bytes before the last zero byte, at the type whose text comes after it
 abbrev pub held : List ℕ → Option Part
 held b = option_and_then at_type_text (at_last_zero b)

@@ -1,15 +1,16 @@
 -- What a view shows: a type, bytes, and the value that they are at that type.
-use Rattle.std.specs.Prelude.{◌≡◌, ◌⊎◌, ℕ, Bool, true, false, List, Option, Some, None}
+use Rattle.std.specs.Prelude.{◌≡◌, ◌⊎◌, ℕ, List, Option, Some, None}
 use Rattle.gv_model.specs.Ty.{Ty}
 use Rattle.gv_model.specs.Ty.Ty.{basic}
 use Rattle.gv_model.specs.Ty.Basic.{string, path, signature}
 use Rattle.gv_model.specs.Tree.{Tree}
-use Rattle.gv_model.specs.Children.{Child, bytes_of}
+use Rattle.gv_model.specs.Children.{Child, child_bytes}
 use Rattle.gv_model.specs.Decode.{decode}
 use Rattle.gv_model.specs.Parts.{Part}
 use Rattle.gv_types.specs.declared.type_str.TypeStr.{TypeStr}
 use Rattle.gv_types.specs.TypeStr.{ty}
 use Rattle.gv_view.specs.declared.view.View.{View}
+pub use Rattle.gv_model.specs.BasicValue.{truth_bits}
 
 -- its type's text, and that type
 abbrev pub type_str_of : View → TypeStr
@@ -27,14 +28,14 @@ abbrev pub value : View → Tree
 value v = decode (ty v.type_str) v.bytes.now
 
 -- the view of a child has the child's type and exactly the child's bytes
-pub record Shows (b : List ℕ) (child : Child) (v : View) : Type 0 where
+pub record ShowsChild (b : List ℕ) (child : Child) (v : View) : Type 0 where
   pub type : ty v.type_str ≡ child.type
-  pub bytes : v.bytes.now ≡ bytes_of b child
+  pub bytes : v.bytes.now ≡ child_bytes b child
 
 -- the view of this child of b, where there is one
 abbrev pub Lends : List ℕ → Option Child → Option View → Type 0
 Lends b None None = Unit {0}
-Lends b (Some child) (Some v) = Shows b child v
+Lends b (Some child) (Some v) = ShowsChild b child v
 Lends b None (Some v) = ⊥
 Lends b (Some child) None = ⊥
 
@@ -45,8 +46,3 @@ IsTextType t = (t ≡ basic string) ⊎ ((t ≡ basic path) ⊎ (t ≡ basic sig
 -- what it shows, as a type and the bytes that are read at it
 abbrev pub shown : View → Part
 shown v = (ty v.type_str, v.bytes.now)
-
--- the bits of a boolean
-abbrev pub truth_bits : Bool → ℕ
-truth_bits true = 1
-truth_bits false = 0

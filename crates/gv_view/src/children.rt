@@ -1,5 +1,5 @@
 //! The children of a value: how many there are, the one at an index, and all of them in order. A variant has one
-//! child, whose type stands in its bytes; any other container's children lie at places in its bytes.
+//! child, whose type occurs in its bytes; any other container's children lie at places in its bytes.
 ghost use Rattle.std.specs.Prelude.{◌≡◌, ◌↔◌, ◌<◌, All, IsSome, length, option_map, slice_get};
 ghost use Rattle.gv_model.specs.Tree.{children, trees_len, tree_at};
 ghost use Rattle.gv_model.specs.Decode.{cut};
@@ -127,64 +127,4 @@ fn view_at<'a>(bytes: &'a [u8], place: Place<'a>) -> View<'a>
     ensures { shown result ≡ part_of bytes.entry.now (child_of place.entry) }
 {
     View::new(place.type_str, &bytes[place.from..place.to])
-}
-
-#[cfg(test)]
-mod tests {
-    use super::*;
-    use gv_types::{TypeFault, TypeStr};
-    use std::test::Fail;
-
-    /// A type's text and bytes that are read at it.
-    type Shown<'a> = (&'a str, &'a [u8]);
-
-    fn shown<'a>(child: Option<View<'a>>) -> Option<Shown<'a>> {
-        child.map(|view| (view.type_str().as_str(), view.bytes()))
-    }
-
-    /// Whether the bytes have exactly these children at the type, each by its index and all in a walk.
-    fn has_children(text: &str, bytes: &[u8], children: &[Shown<'_>]) -> Result<bool, TypeFault> {
-        let value = View::new(TypeStr::parse(text)?, bytes);
-        let mut walk = value.children();
-        for (i, child) in children.iter().enumerate() {
-            if shown(value.child(i)) != Some(*child) || shown(walk.next()) != Some(*child) {
-                return Ok(false);
-            }
-        }
-        let count = children.len();
-        Ok(value.n_children() == count && value.child(count).is_none() && walk.next().is_none())
-    }
-
-    #[test]
-    fn arrays_have_elements(rt: HostRuntime) -> Result<(), Fail> {
-        assert!(rt; has_children("as", &[], &[])?);
-        assert!(rt; has_children("as", b"a\0bc\0\x02\x05", &[("s", b"a\0"), ("s", b"bc\0")])?);
-        assert!(rt; has_children("as", b"a\0bc\0\x02\x09", &[])?);
-        let pairs = [
-            b'a', 0, 0, 0, 1, 0, 0, 0, 2, 0, 0, 0, b'b', 0, 0, 0, 2, 0, 0, 0, 2, 9, 21,
-        ];
-        let first = [b'a', 0, 0, 0, 1, 0, 0, 0, 2];
-        let second = [b'b', 0, 0, 0, 2, 0, 0, 0, 2];
-        assert!(rt; has_children("a(si)", &pairs, &[("(si)", &first), ("(si)", &second)])?);
-        assert!(rt; has_children("a{si}", &pairs, &[("{si}", &first), ("{si}", &second)])?);
-        Ok(())
-    }
-
-    #[test]
-    fn other_values_have_members(rt: HostRuntime) -> Result<(), Fail> {
-        assert!(rt; has_children("s", b"hi\0", &[])?);
-        assert!(rt;
-            has_children(
-                "(ays)",
-                b"\x01\x02\x03hi\0\x03",
-                &[("ay", &[1, 2, 3]), ("s", b"hi\0")]
-            )?
-        );
-        assert!(rt; has_children("(ays)", b"\x01\x02\x03hi\0\x08", &[("ay", &[]), ("s", &[])])?);
-        assert!(rt; has_children("mi", &[], &[])?);
-        assert!(rt; has_children("mi", &[5, 0, 0, 0], &[("i", &[5, 0, 0, 0])])?);
-        assert!(rt; has_children("v", &[5, 0, 0, 0, 0, b'i'], &[("i", &[5, 0, 0, 0])])?);
-        assert!(rt; has_children("v", &[5, 0, 0, 0], &[("()", &[])])?);
-        Ok(())
-    }
 }

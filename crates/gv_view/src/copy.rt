@@ -8,14 +8,14 @@ ghost use Rattle.gv_tree.specs.Basics.{basic_tree};
 ghost use Rattle.gv_tree.specs.Nodes.{trees_of};
 ghost use Rattle.gv_tree.specs.declared.fault.TreeFault.TheVariants.{Memory};
 ghost use Rattle.gv_view.specs.Views.{view_ty, value};
-ghost use Rattle.gv_view.specs.Copying.{AreChildren};
+ghost use Rattle.gv_view.specs.Copying.{AreChildTrees};
 
 use crate::view::View;
 use gv_tree::{Basic, Tree, TreeFault};
 use gv_types::{BasicType, Class};
 use std::alloc::Global;
 
-/// The tree of a value of no more than 128 levels. It fails for want of memory alone.
+/// The tree of a value of no more than 128 levels. It fails only by running out of memory.
 pub(crate) fn copied(alloc: Global, view: View<'_>) -> Result<Tree, TreeFault>
     requires { depth (value view) ≤ 128 }
     ensures tree { IfOk result (λ t. t ≡ value view.entry) }
@@ -73,7 +73,7 @@ fn basic(alloc: Global, view: View<'_>, of: BasicType) -> Result<Basic, TreeFaul
 
 /// The array of these elements.
 fn array(alloc: Global, view: View<'_>, elements: Vec<Tree>) -> Result<Tree, TreeFault>
-    requires { AreChildren view classes.Array elements.items }
+    requires { AreChildTrees view classes.Array elements.items }
     ensures tree { IfOk result (λ t. t ≡ value view.entry) }
     ensures fault { IfErr result (λ f. f ≡ Memory) }
 {
@@ -82,7 +82,7 @@ fn array(alloc: Global, view: View<'_>, elements: Vec<Tree>) -> Result<Tree, Tre
 
 /// The maybe of this child, if there is one.
 fn maybe(alloc: Global, view: View<'_>, mut child: Vec<Tree>) -> Result<Tree, TreeFault>
-    requires { AreChildren view classes.Maybe child.items }
+    requires { AreChildTrees view classes.Maybe child.items }
     ensures tree { IfOk result (λ t. t ≡ value view.entry) }
     ensures fault { IfErr result (λ f. f ≡ Memory) }
 {
@@ -91,7 +91,7 @@ fn maybe(alloc: Global, view: View<'_>, mut child: Vec<Tree>) -> Result<Tree, Tr
 
 /// The tuple of these members.
 fn tuple(alloc: Global, view: View<'_>, members: Vec<Tree>) -> Result<Tree, TreeFault>
-    requires { AreChildren view classes.Tuple members.items }
+    requires { AreChildTrees view classes.Tuple members.items }
     ensures tree { IfOk result (λ t. t ≡ value view.entry) }
     ensures fault { IfErr result (λ f. f ≡ Memory) }
 {
@@ -101,7 +101,7 @@ fn tuple(alloc: Global, view: View<'_>, members: Vec<Tree>) -> Result<Tree, Tree
 
 /// The entry of this key and this value.
 fn entry(alloc: Global, view: View<'_>, mut pair: Vec<Tree>) -> Result<Tree, TreeFault>
-    requires { AreChildren view classes.Entry pair.items }
+    requires { AreChildTrees view classes.Entry pair.items }
     ensures tree { IfOk result (λ t. t ≡ value view.entry) }
     ensures fault { IfErr result (λ f. f ≡ Memory) }
 {
@@ -113,7 +113,7 @@ fn entry(alloc: Global, view: View<'_>, mut pair: Vec<Tree>) -> Result<Tree, Tre
 
 /// The variant of this child.
 fn variant(alloc: Global, view: View<'_>, mut child: Vec<Tree>) -> Result<Tree, TreeFault>
-    requires { AreChildren view classes.Variant child.items }
+    requires { AreChildTrees view classes.Variant child.items }
     ensures tree { IfOk result (λ t. t ≡ value view.entry) }
     ensures fault { IfErr result (λ f. f ≡ Memory) }
 {

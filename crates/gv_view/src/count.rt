@@ -6,12 +6,12 @@ ghost use Rattle.gv_view.specs.Views.{value};
 ghost use Rattle.gv_view.specs.Counting.{left_after};
 
 use crate::view::View;
+use gv_tree::Tree;
 
-/// The most values, a container and each value in it.
-const MOST_VALUES: u32 = 1_000_000;
-
-/// The most levels of values.
-const MOST_LEVELS: u8 = 128;
+impl View<'_> {
+    /// The most values that are copied or printed: a container is one, and each value in it.
+    pub const MAX_VALUES: usize = 1_000_000;
+}
 
 impl<'a> View<'a> {
     /// Whether the value and the values in it are more than 1,000,000, or more than 128 levels deep.
@@ -20,13 +20,13 @@ impl<'a> View<'a> {
     pub fn is_too_large(self) -> bool
         ensures { result ≡ is_too_large (value self.entry) }
     {
-        values_left(self, MOST_LEVELS, MOST_VALUES).is_none()
+        values_left(self, Tree::MAX_LEVELS, View::MAX_VALUES).is_none()
     }
 }
 
-/// How many of these values are left behind the value and all in it, which has no more than these levels. None
+/// How many of these values are left after the value and all in it, which has no more than these levels. None
 /// where there are too few of either.
-fn values_left(view: View<'_>, levels: u8, values: u32) -> Option<u32>
+fn values_left(view: View<'_>, levels: u8, values: usize) -> Option<usize>
     ensures { result ≡ left_after levels values (value view.entry) }
 {
     if levels == 0 || values == 0 {
@@ -41,25 +41,4 @@ fn values_left(view: View<'_>, levels: u8, values: u32) -> Option<u32>
         left = values_left(child, levels - 1, left)?;
     }
     Some(left)
-}
-
-#[cfg(test)]
-mod tests {
-    use super::*;
-    use gv_types::TypeStr;
-    use std::test::Fail;
-
-    #[test]
-    fn counts_levels(rt: HostRuntime) -> Result<(), Fail> {
-        let mut nested = Vec::from_slice(rt.alloc(), &[5, 0, 0, 0, 0, b'i'])?;
-        for _ in 1..127 {
-            nested.extend_from_slice(&[0, b'v'])?;
-        }
-        assert_eq!(rt; nested.len(), 258);
-        let variant = TypeStr::parse("v")?;
-        assert!(rt; !View::new(variant, &nested).is_too_large());
-        nested.extend_from_slice(&[0, b'v'])?;
-        assert!(rt; View::new(variant, &nested).is_too_large());
-        Ok(())
-    }
 }

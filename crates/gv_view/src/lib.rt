@@ -19,4 +19,5 @@ mod view;
 pub use children::Children;
 pub use owned::ViewFault;
 pub use parts::parts_are_lent;
+pub use text::utf8_of;
 pub use view::View;

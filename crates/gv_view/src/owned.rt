@@ -19,17 +19,28 @@ pub enum ViewFault {
     Memory,
 }
 
+impl ViewFault {
+    ghost use Rattle.gv_view.specs.FaultTexts.{view_fault_text};
+
+    /// Its name.
+    fn name(self) -> &'static str
+        ensures { result.now ≡ view_fault_text self }
+    {
+        match self {
+            ViewFault::TooLarge => "TooLarge",
+            ViewFault::Memory => "Memory",
+        }
+    }
+}
+
 impl fmt::Display for ViewFault {
     ghost use Rattle.std.specs.Prelude.{Some};
-    ghost use Rattle.gv_view.specs.FaultTexts.{fault_text};
+    ghost use Rattle.gv_view.specs.FaultTexts.{view_fault_text};
 
-    ghost output = { λ fault. Some (fault_text fault) };
+    ghost output = { λ fault. Some (view_fault_text fault) };
 
     fn fmt<W: fmt::Write>(&self, f: &mut fmt::Formatter<W>) -> fmt::Result {
-        match self {
-            ViewFault::TooLarge => write!(f, "TooLarge"),
-            ViewFault::Memory => write!(f, "Memory"),
-        }
+        f.write_str(self.name())
     }
 }
 
@@ -48,7 +59,7 @@ impl<'a> View<'a> {
 
     /// The value as a tree that owns its parts.
     ///
-    /// A value that is too large is refused before anything is copied, and then want of memory. It looks at no more
+    /// A value that is too large is refused before anything is copied, and then running out of memory. It looks at no more
     /// than 1,000,000 values.
     pub fn to_tree(self, alloc: Global) -> Result<Tree, ViewFault>
         ensures tree { IfOk result (λ t. t ≡ value self.entry) }
@@ -59,149 +70,5 @@ impl<'a> View<'a> {
             return Err(ViewFault::TooLarge);
         }
         copied(alloc, self).map_err(|_| ViewFault::Memory)
-    }
-}
-
-#[cfg(test)]
-mod tests {
-    use super::*;
-    use gv_tree::Basic;
-    use gv_types::TypeStr;
-    use std::test::Fail;
-
-    /// Whether the tree of the bytes at the type is this one.
-    fn makes(alloc: Global, text: &str, bytes: &[u8], tree: Tree) -> Result<bool, Fail> {
-        let copy = View::new(TypeStr::parse(text)?, bytes).to_tree(alloc)?;
-        Ok(copy.equal(&tree))
-    }
-
-    fn text(alloc: Global, of: &str) -> Result<Tree, Fail> {
-        Ok(Tree::basic(alloc, Basic::Text(String::from_str(alloc, of)?))?)
-    }
-
-    fn int(alloc: Global, n: i32) -> Result<Tree, Fail> {
-        Ok(Tree::basic(alloc, Basic::Int32(n))?)
-    }
-
-    #[test]
-    fn copies_basic_values(rt: HostRuntime) -> Result<(), Fail> {
-        let alloc = rt.alloc();
-        let minus: [u8; 8] = [0xfe, 0xff, 0xff, 0xff, 0xff, 0xff, 0xff, 0xff];
-        assert!(rt; makes(alloc, "b", &[5], Tree::basic(alloc, Basic::Bool(true))?)?);
-        assert!(rt; makes(alloc, "y", &[200], Tree::basic(alloc, Basic::Byte(200))?)?);
-        assert!(rt;
-            makes(
-                alloc,
-                "n",
-                &minus[..2],
-                Tree::basic(alloc, Basic::Int16(-2))?
-            )?
-        );
-        assert!(rt;
-            makes(
-                alloc,
-                "q",
-                &minus[..2],
-                Tree::basic(alloc, Basic::Uint16(65534))?
-            )?
-        );
-        assert!(rt; makes(alloc, "i", &minus[..4], int(alloc, -2)?)?);
-        assert!(rt;
-            makes(
-                alloc,
-                "u",
-                &minus[..4],
-                Tree::basic(alloc, Basic::Uint32(4294967294))?
-            )?
-        );
-        assert!(rt; makes(alloc, "x", &minus, Tree::basic(alloc, Basic::Int64(-2))?)?);
-        assert!(rt;
-            makes(
-                alloc,
-                "t",
-                &minus,
-                Tree::basic(alloc, Basic::Uint64(18446744073709551614))?
-            )?
-        );
-        assert!(rt;
-            makes(
-                alloc,
-                "h",
-                &minus[..4],
-                Tree::basic(alloc, Basic::HandleNo(-2))?
-            )?
-        );
-        assert!(rt;
-            makes(
-                alloc,
-                "d",
-                &[0, 0, 0, 0, 0, 0, 0xf0, 0x3f],
-                Tree::basic(alloc, Basic::DoubleBits([0, 0, 0, 0, 0, 0, 0xf0, 0x3f]))?
-            )?
-        );
-        assert!(rt; makes(alloc, "s", b"hi\0", text(alloc, "hi")?)?);
-        let path = Basic::ObjectPath(String::from_str(alloc, "/a")?);
-        assert!(rt; makes(alloc, "o", b"/a\0", Tree::basic(alloc, path)?)?);
-        let signature = Basic::Signature(String::from_str(alloc, "ai")?);
-        assert!(rt; makes(alloc, "g", b"ai\0", Tree::basic(alloc, signature)?)?);
-        Ok(())
-    }
-
-    #[test]
-    fn copies_containers(rt: HostRuntime) -> Result<(), Fail> {
-        let alloc = rt.alloc();
-        let of = TypeStr::parse("s")?;
-        let mut elements = Vec::new(alloc);
-        elements.push(text(alloc, "a")?)?;
-        elements.push(text(alloc, "bc")?)?;
-        assert!(rt;
-            makes(
-                alloc,
-                "as",
-                b"a\0bc\0\x02\x05",
-                Tree::array(alloc, of, elements)?
-            )?
-        );
-        assert!(rt;
-            makes(
-                alloc,
-                "as",
-                b"a\0\x05",
-                Tree::array(alloc, of, Vec::new(alloc))?
-            )?
-        );
-        let just = Tree::maybe(alloc, of, Some(text(alloc, "hi")?))?;
-        assert!(rt; makes(alloc, "ms", b"hi\0\0", just)?);
-        assert!(rt; makes(alloc, "ms", b"", Tree::maybe(alloc, of, None)?)?);
-        let mut members = Vec::new(alloc);
-        members.push(text(alloc, "hi")?)?;
-        members.push(int(alloc, 5)?)?;
-        let tuple = Tree::tuple(alloc, members)?;
-        assert!(rt; makes(alloc, "(si)", b"hi\0\0\x05\0\0\0\x03", tuple)?);
-        let entry = Tree::entry(alloc, text(alloc, "hi")?, int(alloc, 5)?)?;
-        assert!(rt; makes(alloc, "{si}", b"hi\0\0\x05\0\0\0\x03", entry)?);
-        let variant = Tree::variant(alloc, int(alloc, 5)?)?;
-        assert!(rt; makes(alloc, "v", b"\x05\0\0\0\0i", variant)?);
-        let unit = Tree::variant(alloc, Tree::tuple(alloc, Vec::new(alloc))?)?;
-        assert!(rt; makes(alloc, "v", b"", unit)?);
-        Ok(())
-    }
-
-    #[test]
-    fn refuses_what_is_too_large(rt: HostRuntime) -> Result<(), Fail> {
-        let alloc = rt.alloc();
-        let zeros: Vec<u8> = vec![in alloc; 0; 1_000_000]?;
-        let many = View::new(TypeStr::parse("ay")?, &zeros).to_tree(alloc);
-        assert!(rt; matches!(many, Err(ViewFault::TooLarge)));
-        let mut nested = Vec::from_slice(alloc, &[5, 0, 0, 0, 0, b'i'])?;
-        for _ in 1..127 {
-            nested.extend_from_slice(&[0, b'v'])?;
-        }
-        let variant = TypeStr::parse("v")?;
-        assert_eq!(rt; View::new(variant, &nested).to_tree(alloc)?.depth(), 128);
-        nested.extend_from_slice(&[0, b'v'])?;
-        let deep = View::new(variant, &nested).to_tree(alloc);
-        assert!(rt; matches!(deep, Err(ViewFault::TooLarge)));
-        Ok(())
     }
 }

@@ -50,7 +50,7 @@ fn text_in(bytes: &[u8]) -> Option<&str>
     utf8_of(&bytes[..end])
 }
 
-/// The bytes before the last zero byte, and those behind it.
+/// The bytes before the last zero byte, and those after it.
 pub(crate) fn around_last_zero(bytes: &[u8]) -> Option<(&[u8], &[u8])>
     ensures { option_map (λ p. (p.0.now, p.1.now)) result ≡ at_last_zero bytes.now }
 {
@@ -59,7 +59,7 @@ pub(crate) fn around_last_zero(bytes: &[u8]) -> Option<(&[u8], &[u8])>
 }
 
 /// The bytes as a text, if they are UTF-8. This is the one place where bytes become a text.
-pub(crate) fn utf8_of(bytes: &[u8]) -> Option<&str>
+pub fn utf8_of(bytes: &[u8]) -> Option<&str>
     ensures { option_map (λ s. s.now) result ≡ utf8_of bytes.now }
 {
     simdutf8::compat::from_utf8(bytes).ok()

@@ -14,8 +14,8 @@ use gv_types::TypeStr;
 impl<'a> View<'a> {
     ghost use Rattle.gv_view.specs.Views.{value, Lends};
 
-    /// The value that a variant of these bytes holds: its type's text stands behind the last zero byte. Where there
-    /// is none, or no type behind it, it is `()`.
+    /// The value that a variant of these bytes holds: its type's text comes after the last zero byte. Where there
+    /// is none, or no type after it, it is `()`.
     ///
     /// It looks for the zero byte from the end, and at each byte of the type's text once.
     pub fn of_variant(bytes: &'a [u8]) -> View<'a>
@@ -29,7 +29,7 @@ impl<'a> View<'a> {
     }
 }
 
-/// The bytes before the last zero byte, at the type whose text stands behind it.
+/// The bytes before the last zero byte, at the type whose text comes after it.
 fn typed(bytes: &[u8]) -> Option<View<'_>>
     ensures { option_map shown result ≡ held bytes.now }
 {
@@ -43,36 +43,4 @@ fn unit_type<'a>() -> TypeStr<'a>
     ensures { ty result ≡ tuple end }
 {
     TypeStr::parse("()").unwrap()
-}
-
-#[cfg(test)]
-mod tests {
-    use super::*;
-    use std::test::Fail;
-
-    #[test]
-    fn reads_the_type_behind_the_last_zero(rt: HostRuntime) -> Result<(), Fail> {
-        let variants: [(&[u8], &str, &[u8]); 10] = [
-            (&[5, 0, 0, 0, 0, b'i'], "i", &[5, 0, 0, 0]),
-            (&[5, 0, b'i'], "i", &[5]),
-            (&[0, b'i'], "i", &[]),
-            (&[0, b'a', b'{', b's', b'v', b'}'], "a{sv}", &[]),
-            (&[b'i'], "()", &[]),
-            (&[], "()", &[]),
-            (&[5, 0, b'i', 0], "()", &[]),
-            (&[5, 0, b'i', b'i'], "()", &[]),
-            (&[5, 0, b'a'], "()", &[]),
-            (&[5, 0, 0xff], "()", &[]),
-        ];
-        for (bytes, type_text, held) in variants {
-            let view = View::of_variant(bytes);
-            assert_eq!(rt; view.type_str().as_str(), type_text, "at {bytes:?}");
-            assert_eq!(rt; view.bytes(), held, "at {bytes:?}");
-        }
-        let five = View::of_variant(&[5, 0, 0, 0, 0, b'i']);
-        assert_eq!(rt; five.as_i32(), Some(5));
-        let short = View::of_variant(&[5, 0, b'i']);
-        assert_eq!(rt; short.as_i32(), Some(0));
-        Ok(())
-    }
 }

@@ -20,32 +20,32 @@ rises_by t i up (suc d) k m e inside =
 pub rises : (t : Table) (i k m : ℕ) → Ascends t i → k < m → m < list_length t i → listed t i k < listed t i m
 rises t i k m up lt inside = rises_by t i up (m - (k + 1)) k m (omega arith) inside
 
--- a number stands at one place alone
-pub stands_once : (t : Table) (i k m : ℕ) → Ascends t i → k < list_length t i → m < list_length t i → listed t i k ≡ listed t i m → k ≡ m
-stands_once t i k m up k_inside m_inside same = elim (cases_order k m) [
+-- a number occurs at one place alone
+pub occurs_once : (t : Table) (i k m : ℕ) → Ascends t i → k < list_length t i → m < list_length t i → listed t i k ≡ listed t i m → k ≡ m
+occurs_once t i k m up k_inside m_inside same = elim (cases_order k m) [
   | inl e ↦ e
   | inr rest ↦ elim rest [
     | inl before ↦ absurd (omega (arith, same, rises t i k m up before m_inside))
-    | inr behind ↦ absurd (omega (arith, same, rises t i m k up behind k_inside))
+    | inr after ↦ absurd (omega (arith, same, rises t i m k up after k_inside))
   ]
 ]
 
--- it stands behind lower numbers, and before higher ones
-pub stands_behind : (t : Table) (i k m number : ℕ) → Ascends t i → k < list_length t i → m < list_length t i → listed t i k ≡ number → listed t i m < number → m < k
-stands_behind t i k m number up k_inside m_inside there lower = elim (cases_order k m) [
+-- it comes after lower numbers, and before higher ones
+pub occurs_after : (t : Table) (i k m number : ℕ) → Ascends t i → k < list_length t i → m < list_length t i → listed t i k ≡ number → listed t i m < number → m < k
+occurs_after t i k m number up k_inside m_inside there lower = elim (cases_order k m) [
   | inl e ↦ absurd (let same : listed t i k ≡ listed t i m = ap (λ (x : ℕ). listed t i x) e in omega (arith, same, there, lower))
   | inr rest ↦ elim rest [
     | inl before ↦ absurd (omega (arith, there, lower, rises t i k m up before m_inside))
-    | inr behind ↦ behind
+    | inr after ↦ after
   ]
 ]
 
-pub stands_before : (t : Table) (i k m number : ℕ) → Ascends t i → k < list_length t i → m < list_length t i → listed t i k ≡ number → number < listed t i m → k < m
-stands_before t i k m number up k_inside m_inside there higher = elim (cases_order k m) [
+pub occurs_before : (t : Table) (i k m number : ℕ) → Ascends t i → k < list_length t i → m < list_length t i → listed t i k ≡ number → number < listed t i m → k < m
+occurs_before t i k m number up k_inside m_inside there higher = elim (cases_order k m) [
   | inl e ↦ absurd (let same : listed t i k ≡ listed t i m = ap (λ (x : ℕ). listed t i x) e in omega (arith, same, there, higher))
   | inr rest ↦ elim rest [
     | inl before ↦ before
-    | inr behind ↦ absurd (omega (arith, there, higher, rises t i m k up behind k_inside))
+    | inr after ↦ absurd (omega (arith, there, higher, rises t i m k up after k_inside))
   ]
 ]
 
@@ -56,7 +56,7 @@ lists_kept t ascending is_listed i counted of_kind =
     record {
       children_alone = list.children_alone;
       each_child = λ j child. is_listed j child.0 i child.1;
-      once = λ k m k_inside m_inside same. stands_once t i k m list.ascends k_inside m_inside same;
+      once = λ k m k_inside m_inside same. occurs_once t i k m list.ascends k_inside m_inside same;
       empty_at_root = list.empty_at_root;
     }
 

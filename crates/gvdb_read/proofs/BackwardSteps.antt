@@ -1,7 +1,7 @@
 -- A walk along a full name from its end, and the hash on the way.
 use Rattle.std.proofs.Common.{ℕ, List, [], ◌∷◌, ◌++◌, Option, Some, None, ◌≡◌, ◌<◌, ◌+◌, ◌*◌, ◌%◌, ◌^◌, length, refl, sym, ◌∙◌, ap, arith, append_assoc}
 use Rattle.std.specs.Prelude.{reverse}
-use Rattle.std.proofs.lemmas.List.{reverse-append, reverse-reverse, append-nil}
+use Rattle.std.proofs.lemmas.List.{reverse-append, reverse-reverse, append-nil, nil_from_length}
 use Rattle.std.proofs.Math.Nat.{mod-add-mod}
 use Rattle.dconf_model.specs.Bytes.{hash_of, hash_step}
 use Rattle.dconf_model.specs.Table.{Table, item, item_count, key}
@@ -30,23 +30,19 @@ pub begins : (t : Table) (i : ℕ) (parent : Option ℕ) (own : List ℕ) → Ha
 begins t i parent own named counted up is =
     ap (λ (l : List ℕ). reverse l) (ap (λ (o : Option ℕ). above t o ++ own) up ∙ (ap (λ (k : List ℕ). above t (item t i).parent ++ k) is ∙ sym (named i counted).name))
 
-empty : (key : List ℕ) → length key ≡ 0 → key ≡ []
-empty [] e = refl
-empty (b ∷ bs) e = absurd (omega arith)
-
 -- where a key is used up, the name above is left
 pub above_is_left : (t : Table) (parent : Option ℕ) (p : ℕ) (own : List ℕ) → parent ≡ Some p → length own ≡ 0 → reverse (full_name t p) ≡ reverse (above t parent ++ own)
 above_is_left t parent p own up none =
-    ap (λ (l : List ℕ). reverse l) (sym (append-nil (full_name t p)) ∙ (ap (λ (k : List ℕ). full_name t p ++ k) (sym (empty own none)) ∙ ap (λ (o : Option ℕ). above t o ++ own) (sym up)))
+    ap (λ (l : List ℕ). reverse l) (sym (append-nil (full_name t p)) ∙ (ap (λ (k : List ℕ). full_name t p ++ k) (sym (nil_from_length own none)) ∙ ap (λ (o : Option ℕ). above t o ++ own) (sym up)))
 
 pub none_is_left : (t : Table) (parent : Option ℕ) (own : List ℕ) → parent ≡ None → length own ≡ 0 → reverse (above t parent ++ own) ≡ []
 none_is_left t parent own up none =
-    ap (λ (l : List ℕ). reverse l) (ap (λ (o : Option ℕ). above t o ++ own) up ∙ empty own none)
+    ap (λ (l : List ℕ). reverse l) (ap (λ (o : Option ℕ). above t o ++ own) up ∙ nil_from_length own none)
 
 -- a key's last byte is the first that is left
-pub last_is_first : (name front key : List ℕ) (last : ℕ) → key ≡ front ++ last ∷ [] → reverse (name ++ key) ≡ last ∷ reverse (name ++ front)
-last_is_first name front key last e =
-    ap (λ (k : List ℕ). reverse (name ++ k)) e ∙ (ap (λ (l : List ℕ). reverse l) (sym (append_assoc name front (last ∷ []))) ∙ reverse-append (name ++ front) (last ∷ []))
+pub last_is_first : (name prefix key : List ℕ) (last : ℕ) → key ≡ prefix ++ last ∷ [] → reverse (name ++ key) ≡ last ∷ reverse (name ++ prefix)
+last_is_first name prefix key last e =
+    ap (λ (k : List ℕ). reverse (name ++ k)) e ∙ (ap (λ (l : List ℕ). reverse l) (sym (append_assoc name prefix (last ∷ []))) ∙ reverse-append (name ++ prefix) (last ∷ []))
 
 -- ---- the hash
 

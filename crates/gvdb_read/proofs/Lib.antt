@@ -2,7 +2,6 @@ pub mod Numbers
 pub mod ListSteps
 pub mod RuleOrder
 pub mod ChainSteps
-pub mod LeastFaults
 pub mod Yielded
 pub mod BackwardSteps
 pub mod NameChecks

@@ -1,14 +1,14 @@
--- A walk along the numbers of a list: where one stands, and whether one stands twice.
+-- A walk along the numbers of a list: where one is, and whether one occurs twice.
 use Rattle.std.proofs.Common.{ℕ, ◌<◌, ◌≤◌, ◌≡◌, ◌≢◌, sym, arith, inl, inr}
 use Rattle.std.proofs.lemmas.Bool.{cases_order}
 use Rattle.dconf_model.specs.Table.{Table}
 use Rattle.dconf_model.specs.Sound.{list_length, listed}
 use Rattle.gvdb_read.specs.Ascending.{IsListed}
 
-pub stands_nowhere : (t : Table) (i number n : ℕ) → list_length t i ≤ n → ((m : ℕ) → m < n → listed t i m ≢ number) → IsListed t i number → ⊥
-stands_nowhere t i number n all none found = none found.0 (omega (arith, all, found.1)) found.2
+pub occurs_nowhere : (t : Table) (i number n : ℕ) → list_length t i ≤ n → ((m : ℕ) → m < n → listed t i m ≢ number) → IsListed t i number → ⊥
+occurs_nowhere t i number n all none found = none found.0 (omega (arith, all, found.1)) found.2
 
--- no number stands twice
+-- no number occurs twice
 abbrev pub IsOnce : Table → ℕ → Type 0
 IsOnce t i = (k m : ℕ) → k < list_length t i → m < list_length t i → listed t i k ≡ listed t i m → k ≡ m
 
@@ -17,7 +17,7 @@ all_once t i n all firsts k m k_inside m_inside same = elim (cases_order k m) [
   | inl e ↦ e
   | inr rest ↦ elim rest [
     | inl before ↦ absurd (firsts m k (omega (arith, all, m_inside)) before same)
-    | inr behind ↦ absurd (firsts k m (omega (arith, all, k_inside)) behind (sym same))
+    | inr after ↦ absurd (firsts k m (omega (arith, all, k_inside)) after (sym same))
   ]
 ]
 

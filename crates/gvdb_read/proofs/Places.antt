@@ -1,22 +1,19 @@
 -- Items that have a place: their parents, and the table of locks.
-use Rattle.std.proofs.Common.{ℕ, ◌<◌, ◌≡◌, List, [], ◌∷◌, ◌++◌, Option, Some, None, sym, ◌∙◌, ap, subst, arith, inl, inr}
-use Rattle.std.specs.Prelude.{IfSome, codes}
+use Rattle.std.proofs.Common.{ℕ, ◌<◌, ◌≡◌, List, [], ◌∷◌, ◌++◌, Some, None, sym, ◌∙◌, ap, subst, arith, inl, inr}
+use Rattle.std.specs.Prelude.{codes}
 use Rattle.dconf_model.specs.Table.{Table, item, item_count, key, list_kind, table_kind, table_of}
 use Rattle.dconf_model.specs.Names.{HasName, HasParents, joined}
-use Rattle.dconf_model.specs.Sound.{IsLockTable, IsTop, KeepsAll, StandsUnder}
-use Rattle.dconf_model.specs.Sound.Rule.{keys, place}
+use Rattle.dconf_model.specs.Sound.{IsLockTable, IsTop, KeepsAll, HasParent}
+use Rattle.dconf_model.specs.Sound.Rule.{place}
 use Rattle.dconf_model.proofs.NameSteps.{is_item}
 use Rattle.gvdb_read.specs.Tables.{PointsToTable}
 
-pub parent_counted : (t : Table) (i p : ℕ) → KeepsAll t keys → i < item_count t → (item t i).parent ≡ Some p → p < item_count t
-parent_counted t i p good counted up = subst (λ (o : Option ℕ). IfSome o (λ q. q < item_count t)) up (good i counted).parent
-
 pub parent_is_list : (t : Table) (i p : ℕ) → KeepsAll t place → i < item_count t → (item t i).parent ≡ Some p → (item t p).kind ≡ list_kind
 parent_is_list t i p places counted up =
-    let stands : StandsUnder t i (Some p) = subst (StandsUnder t i) up (places i counted).stands in stands.0
+    let has_parent : HasParent t i (Some p) = subst (HasParent t i) up (places i counted).has_parent in has_parent.0
 
 is_top : (t : Table) (i : ℕ) → KeepsAll t place → i < item_count t → (item t i).parent ≡ None → IsTop t i
-is_top t i places counted none = subst (StandsUnder t i) none (places i counted).stands
+is_top t i places counted none = subst (HasParent t i) none (places i counted).has_parent
 
 list_is_no_table : (kind : ℕ) → kind ≡ list_kind → kind ≡ table_kind → ⊥
 list_is_no_table kind one other = omega (arith, one, other)
@@ -29,7 +26,7 @@ begins_with_slash t places [] i chain of_kind = elim (is_top t i places chain.0.
 ]
 begins_with_slash t places (p ∷ ps) i chain of_kind =
     let up = begins_with_slash t places ps p chain.3 (parent_is_list t i p places chain.0.counted chain.1) in
-    (up.0 ++ key t i, ap (λ (front : List ℕ). front ++ key t i) up.1)
+    (up.0 ++ key t i, ap (λ (prefix : List ℕ). prefix ++ key t i) up.1)
 
 abbrev first : List ℕ → ℕ
 first [] = 0
@@ -46,7 +43,7 @@ locks_by_parents t places i [] chain spelled = elim (is_top t i places chain.0.c
 ]
 locks_by_parents t places i (p ∷ ps) chain spelled =
     let up = begins_with_slash t places ps p chain.3 (parent_is_list t i p places chain.0.counted chain.1) in
-    absurd (no_slash_first (up.0 ++ key t i) (sym (ap (λ (front : List ℕ). front ++ key t i) up.1) ∙ spelled))
+    absurd (no_slash_first (up.0 ++ key t i) (sym (ap (λ (prefix : List ℕ). prefix ++ key t i) up.1) ∙ spelled))
 
 pub locks_is_table : (t : Table) (i : ℕ) → KeepsAll t place → HasName t i (codes ".locks") → (item t i).kind ≡ table_kind
 locks_is_table t i places named = locks_by_parents t places i named.parents named.chain named.spelled

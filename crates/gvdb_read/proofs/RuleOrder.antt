@@ -2,14 +2,14 @@
 use Rattle.std.proofs.Common.{◌≡◌, ◌≢◌, ◌<◌, ◌↔◌, ℕ, Some, refl, arith, true, false}
 use Rattle.std.specs.Prelude.{IfOk, IfErr, IsOk, Result, Ok, Err}
 use Rattle.dconf_model.specs.Table.{Table}
-use Rattle.dconf_model.specs.Searchable.{IsSearchable}
-use Rattle.dconf_model.specs.Sound.{Rule, number_of, KeepsAll, IsSound, IsLeastFault}
+use Rattle.dconf_model.specs.Searchable.{EachItem, IsSearchable}
+use Rattle.dconf_model.specs.Sound.{Rule, rule_number, Keeps, KeepsAll, IsSound, IsLeastFault}
 use Rattle.dconf_model.specs.Sound.Rule.{buckets, keys, chain, hash, span, bloom, once, content, place, lists, locks}
 use Rattle.dconf_model.proofs.SoundLaws.{failing_is_not_kept}
 use Rattle.gvdb_read.specs.Unsounds.{KeepsBelow}
 use Rattle.gvdb_read.specs.declared.unsound.Unsound.{Unsound}
 
-below_twelve : (rule : Rule) → number_of rule < 12
+below_twelve : (rule : Rule) → rule_number rule < 12
 below_twelve buckets = omega arith
 below_twelve keys = omega arith
 below_twelve chain = omega arith
@@ -30,6 +30,20 @@ sound_if_ok t (Err e) kept = tt
 pub least_is_not_kept : (t : Table) (rule : Rule) (i : ℕ) → rule ≢ buckets → IsLeastFault t rule i → ¬ KeepsAll t rule
 least_is_not_kept t rule i other least keeps = failing_is_not_kept t rule (Some i) (other, least) keeps
 
+-- a rule of items is kept where each item keeps it
+pub all_keep : (t : Table) (rule : Rule) → rule ≢ buckets → EachItem t (Keeps t rule) → KeepsAll t rule
+all_keep t buckets of_items each = absurd (of_items refl)
+all_keep t keys of_items each = each
+all_keep t chain of_items each = each
+all_keep t hash of_items each = each
+all_keep t span of_items each = each
+all_keep t bloom of_items each = each
+all_keep t once of_items each = each
+all_keep t content of_items each = each
+all_keep t place of_items each = each
+all_keep t lists of_items each = each
+all_keep t locks of_items each = each
+
 -- ---- the first eight rules
 
 searchable : (t : Table) → KeepsBelow t 9 → IsSearchable t
@@ -48,3 +62,17 @@ searchable t kept = record {
 pub searchable_where_ok : {T : Type 0} (t : Table) (r : Result T Unsound) → IfOk r (λ _. KeepsBelow t 9) → IfErr r (λ _. ¬ IsSearchable t) → IsOk r ↔ IsSearchable t
 searchable_where_ok t (Ok x) kept fault = (λ _. searchable t kept, λ _. refl)
 searchable_where_ok t (Err e) kept fault = (λ h. let bad : false ≡ true = h in cc, λ s. absurd (fault s))
+
+-- where the rules before that on lists are kept, and that one too
+pub lists_too : (t : Table) → KeepsBelow t 10 → KeepsAll t lists → KeepsBelow t 11
+lists_too t before here buckets lt = before buckets (omega arith)
+lists_too t before here keys lt = before keys (omega arith)
+lists_too t before here chain lt = before chain (omega arith)
+lists_too t before here hash lt = before hash (omega arith)
+lists_too t before here span lt = before span (omega arith)
+lists_too t before here bloom lt = before bloom (omega arith)
+lists_too t before here once lt = before once (omega arith)
+lists_too t before here content lt = before content (omega arith)
+lists_too t before here place lt = before place (omega arith)
+lists_too t before here lists lt = here
+lists_too t before here locks lt = absurd (omega arith)

@@ -55,10 +55,10 @@ compares_lists rest becomes eq s other others b tells same is run =
     let ours = gone rest run.1 s run.8.0 run.8.1 in
     let theirs = gone rest run.2 run.0 run.9.0 run.9.1 in
     let they = is run.0 run.7 in
-    let fronts = same_numbers eq tells run.1 run.2 run.10 in
+    let prefixes = same_numbers eq tells run.1 run.2 run.10 in
     let end = decided eq same run.3 run.4 b (rest run.8.0) (rest run.9.0) (rest run.5) (rest run.6) run.8.2 run.9.2 run.11 in
     let whole : run.2 ++ rest run.9.0 ≡ others = sym theirs ∙ they in
-    let left : rest s ≡ run.2 ++ rest run.8.0 = ours ∙ ap (λ (l : List ℕ). l ++ rest run.8.0) fronts in (
+    let left : rest s ≡ run.2 ++ rest run.8.0 = ours ∙ ap (λ (l : List ℕ). l ++ rest run.8.0) prefixes in (
       λ h. left ∙ (ap (λ (l : List ℕ). run.2 ++ l) (end.0 h) ∙ whole),
       λ e. end.1 (append_cancel_left run.2 (rest run.8.0) (rest run.9.0) (sym left ∙ (e ∙ sym whole))),
     )

@@ -8,7 +8,7 @@ use Rattle.dconf_model.specs.Sound.{IsChild, list_length, listed}
 abbrev pub Ascends : Table → ℕ → Type 0
 Ascends t i = (k : ℕ) → k + 1 < list_length t i → listed t i k < listed t i (k + 1)
 
--- the number stands in the list
+-- the number occurs in the list
 abbrev pub IsListed : Table → ℕ → ℕ → Type 0
 IsListed t i j = (k : ℕ) × (k < list_length t i) × (listed t i k ≡ j)
 

@@ -5,17 +5,17 @@ use Rattle.dconf_model.specs.Opening.OpenFault.{short, bad_signature, bad_versio
 use Rattle.gvdb_read.specs.declared.fault.OpenFault.{OpenFault}
 use Rattle.gvdb_read.specs.declared.fault.OpenFault.TheVariants.{Short, BadSignature, BadVersion, BadRoot, BadTable}
 
-abbrev pub fault_of : OpenFault → Fault
-fault_of Short = short
-fault_of BadSignature = bad_signature
-fault_of BadVersion = bad_version
-fault_of BadRoot = bad_root
-fault_of BadTable = bad_table
+abbrev pub open_fault_of : OpenFault → Fault
+open_fault_of Short = short
+open_fault_of BadSignature = bad_signature
+open_fault_of BadVersion = bad_version
+open_fault_of BadRoot = bad_root
+open_fault_of BadTable = bad_table
 
 -- its name
-abbrev pub fault_text : Fault → List ℕ
-fault_text short = codes "Short"
-fault_text bad_signature = codes "BadSignature"
-fault_text bad_version = codes "BadVersion"
-fault_text bad_root = codes "BadRoot"
-fault_text bad_table = codes "BadTable"
+abbrev pub open_fault_text : Fault → List ℕ
+open_fault_text short = codes "Short"
+open_fault_text bad_signature = codes "BadSignature"
+open_fault_text bad_version = codes "BadVersion"
+open_fault_text bad_root = codes "BadRoot"
+open_fault_text bad_table = codes "BadTable"

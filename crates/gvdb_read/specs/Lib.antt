@@ -1,8 +1,8 @@
 pub mod Faults
 pub mod Opened
 pub mod Tables
-pub mod Left
-pub mod Found
+pub mod NamesLeft
+pub mod Lookups
 pub mod Unsounds
 pub mod Joined
 pub mod Backwards

@@ -43,7 +43,7 @@ LendsWhere P bytes None = ¬ P
 LendsWhere P bytes (Some lent) = P × (lent.now ≡ bytes)
 
 -- item i of the table is shown
-pub record Shows (t : Region) (i : ℕ) (shown : Shown) : Type 0 where
+pub record IsShownAs (t : Region) (i : ℕ) (shown : Shown) : Type 0 where
   pub counted : i < item_count t
   pub parent : shown.parent ≡ (item t i).parent
   pub key : LendsWhere ((item t i).key_end ≤ length t.file) (key t i) shown.key

@@ -2,7 +2,7 @@
 use Rattle.std.specs.Prelude.{ℕ, ◌<◌, List, [], ◌++◌, Option, Some, None, codes, decimal}
 use Rattle.dconf_model.specs.Table.{Table as Region}
 use Rattle.dconf_model.specs.Sound.{Rule as SoundRule}
-use Rattle.dconf_model.specs.Sound.{number_of, KeepsAll}
+use Rattle.dconf_model.specs.Sound.{rule_number, KeepsAll}
 use Rattle.dconf_model.specs.Sound.Rule.{buckets, keys, chain, hash, span, bloom, once, content, place, lists, locks}
 use Rattle.gvdb_read.specs.declared.unsound.Rule.{Rule}
 use Rattle.gvdb_read.specs.declared.unsound.Rule.TheVariants.{Buckets, Keys, Chain, Hash, Span, Bloom, Once, Content, Place, Lists, Locks}
@@ -23,11 +23,11 @@ rule_of Locks = locks
 
 -- the rules whose numbers are below this one are kept
 abbrev pub KeepsBelow : Region → ℕ → Type 0
-KeepsBelow t n = (rule : SoundRule) → number_of rule < n → KeepsAll t rule
+KeepsBelow t n = (rule : SoundRule) → rule_number rule < n → KeepsAll t rule
 
 -- its name
 abbrev pub rule_text : Rule → List ℕ
-rule_text rule = codes "S" ++ decimal (number_of (rule_of rule))
+rule_text rule = codes "S" ++ decimal (rule_number (rule_of rule))
 
 abbrev pub item_text : Option ℕ → List ℕ
 item_text None = []

@@ -1,7 +1,8 @@
 //! Whether a database is sound: the rules are asked one by one, in their order.
-ghost use Rattle.std.specs.Prelude.{◌≢◌, ◌+◌, ◌↔◌, IfErr, IfNone, IfOk, IfSome, IsTrue};
+ghost use Rattle.std.specs.Prelude.{◌≢◌, ◌+◌, ◌<◌, ◌↔◌, ℕ, Bool, IfErr, IfOk, IsTrue};
+ghost use Rattle.dconf_model.specs.Table.{item_count};
 ghost use Rattle.dconf_model.specs.Searchable.{IsSearchable};
-ghost use Rattle.dconf_model.specs.Sound.{IsFirstFault, IsLeastFault, IsSound, KeepsAll, number_of};
+ghost use Rattle.dconf_model.specs.Sound.{IsFirstFault, IsSound, Keeps, KeepsAll, rule_number};
 ghost use Rattle.dconf_model.specs.Sound.Rule.{buckets};
 ghost use Rattle.gvdb_read.specs.Unsounds.{KeepsBelow, rule_of};
 
@@ -38,9 +39,9 @@ impl Table<'_> {
         ensures fault { IfErr result (λ e. IsFirstFault (region self.entry) (rule_of e.rule) e.item) }
     {
         self.check_names()?;
-        self.kept(Rule::Place, self.first_against_place())?;
-        self.kept(Rule::Lists, self.first_against_lists())?;
-        self.kept(Rule::Locks, self.first_against_locks())
+        self.each_keeps(Rule::Place, |i| self.has_place(i))?;
+        self.check_lists()?;
+        self.each_keeps(Rule::Locks, |i| self.has_locks_if_any(i))
     }
 
     /// Whether each item of the table can be found by its name: it keeps S1 to S8.
@@ -62,163 +63,48 @@ impl Table<'_> {
                 item: None,
             });
         }
-        self.kept(Rule::Keys, self.first_against_keys())?;
-        self.kept(Rule::Chain, self.first_against_chain())?;
-        self.kept(Rule::Hash, self.first_against_hash())?;
-        self.kept(Rule::Span, self.first_against_span())?;
-        self.kept(Rule::Bloom, self.first_against_bloom())?;
-        self.kept(Rule::Once, self.first_against_once())?;
-        self.kept(Rule::Content, self.first_against_content())
+        self.each_keeps(Rule::Keys, |i| self.has_good_key(i))?;
+        self.each_keeps(Rule::Chain, |i| self.has_end(i))?;
+        self.each_keeps(Rule::Hash, |i| self.has_hash_of_name(i))?;
+        self.each_keeps(Rule::Span, |i| self.is_in_span(i))?;
+        self.each_keeps(Rule::Bloom, |i| self.is_in_bloom(i))?;
+        self.each_keeps(Rule::Once, |i| self.is_only_named(i))?;
+        self.each_keeps(Rule::Content, |i| self.has_content(i))
     }
 
-    /// Refuses a table in which this item is the least that doesn't keep the rule.
-    #[tactic(auto, using(crate::proofs::RuleOrder::least_is_not_kept))]
-    fn kept(self, rule: Rule, fault: Option<u32>) -> Result<(), Unsound>
+    /// Asks S10. Where each list ascends it looks at the lists once, and for each item at as many numbers as the longest
+    /// list has binary digits. Else it looks at each item once for each list, and compares each number of a list with
+    /// its children and with the numbers before it.
+    fn check_lists(self) -> Result<(), Unsound>
+        requires earlier { KeepsBelow (region self) 10 }
+        ensures kept { IfOk result (λ _. KeepsBelow (region self.entry) 11) }
+        ensures fault { IfErr result (λ e. IsFirstFault (region self.entry) (rule_of e.rule) e.item) }
+    {
+        if self.lists_ascend() && self.each_is_listed() {
+            return Ok(());
+        }
+        self.each_keeps(Rule::Lists, |i| self.has_list_if_any(i))
+    }
+
+    /// Refuses a table in which an item doesn't keep the rule, at the least such item.
+    #[tactic(auto, using(crate::proofs::RuleOrder::least_is_not_kept, crate::proofs::RuleOrder::all_keep))]
+    fn each_keeps<F: Fn(u32) -> bool>(self, rule: Rule, keeps: F) -> Result<(), Unsound>
         requires of_items { rule_of rule ≢ buckets }
-        requires earlier { KeepsBelow (region self) (number_of (rule_of rule)) }
-        requires found { IfSome fault (IsLeastFault (region self) (rule_of rule)) }
-        requires none { IfNone fault (KeepsAll (region self) (rule_of rule)) }
-        ensures kept { IfOk result (λ _. KeepsBelow (region self.entry) (number_of (rule_of rule) + 1)) }
+        requires earlier { KeepsBelow (region self) (rule_number (rule_of rule)) }
+        requires callable { (i : ℕ) → i < item_count (region self) → F.pre keeps i }
+        requires tells { (i : ℕ) (b : Bool) → F.post keeps i b → IsTrue b ↔ Keeps (region self) (rule_of rule) i }
+        ensures kept { IfOk result (λ _. KeepsBelow (region self.entry) (rule_number (rule_of rule) + 1)) }
         ensures fault { IfErr result (λ e. IsFirstFault (region self.entry) (rule_of e.rule) e.item) }
         ensures not_kept { IfErr result (λ _. ¬ KeepsAll (region self.entry) (rule_of rule)) }
     {
-        match fault {
-            None => Ok(()),
-            item => Err(Unsound { rule, item }),
+        for i in 0..self.n_items() {
+            if !keeps(i) {
+                return Err(Unsound {
+                    rule,
+                    item: Some(i),
+                });
+            }
         }
-    }
-}
-
-#[cfg(test)]
-mod tests {
-    use super::*;
-    use crate::fault::OpenFault;
-    use crate::vectors::{BUCKETS, LOCKED, PLAIN};
-    use std::test::Fail;
-
-    /// The first fault of a file, of a rule and at an item.
-    fn fault_of(file: &[u8]) -> Result<Option<(Rule, Option<u32>)>, OpenFault> {
-        match Table::open(file)?.check() {
-            Ok(()) => Ok(None),
-            Err(unsound) => Ok(Some((unsound.rule, unsound.item))),
-        }
-    }
-
-    #[test]
-    fn finds_sound_files_sound(rt: HostRuntime) -> Result<(), Fail> {
-        for file in [PLAIN.as_slice(), &BUCKETS, &LOCKED] {
-            assert_eq!(rt; fault_of(file)?, None);
-            assert!(rt; Table::open(file)?.is_searchable());
-        }
-        Ok(())
-    }
-
-    /// PLAIN with one byte set.
-    fn plain_with(at: usize, byte: u8) -> [u8; 102] {
-        let mut file = PLAIN;
-        if at < file.len() {
-            file[at] = byte;
-        }
-        file
-    }
-
-    #[test]
-    fn names_the_rule_that_one_byte_breaks(rt: HostRuntime) -> Result<(), Fail> {
-        let rows = [
-            (32, 0x01, Rule::Buckets, None),
-            (32, 0x03, Rule::Buckets, None),
-            (46, 0x01, Rule::Keys, Some(0)),
-            (64, 0x02, Rule::Keys, Some(1)),
-            (84, 0x00, Rule::Keys, Some(0)),
-            (85, 0xff, Rule::Keys, Some(1)),
-            (48, 0x00, Rule::Chain, Some(0)),
-            (64, 0x01, Rule::Chain, Some(1)),
-            (72, 0x00, Rule::Chain, Some(1)),
-            (60, 0xbe, Rule::Hash, Some(1)),
-            (56, 0x5b, Rule::Content, Some(0)),
-            (74, 0x78, Rule::Content, Some(1)),
-            (50, 0x48, Rule::Place, Some(0)),
-            (88, 0x00, Rule::Lists, Some(0)),
-        ];
-        for (at, byte, rule, item) in rows {
-            assert_eq!(rt;
-                fault_of(&plain_with(at, byte))?,
-                Some((rule, item)),
-                "byte {at} as {byte}"
-            );
-        }
-        Ok(())
-    }
-
-    #[test]
-    fn names_the_rule_that_several_bytes_break(rt: HostRuntime) -> Result<(), Fail> {
-        let mut no_buckets = PLAIN;
-        no_buckets[20] = 0x50;
-        no_buckets[28] = 0;
-        assert_eq!(rt; fault_of(&no_buckets)?, Some((Rule::Buckets, None)));
-        let mut circle = PLAIN;
-        circle[40] = 1;
-        circle[41] = 0;
-        circle[42] = 0;
-        circle[43] = 0;
-        assert_eq!(rt; fault_of(&circle)?, Some((Rule::Chain, Some(0))));
-        let mut twice = PLAIN;
-        for k in 36..60 {
-            twice[k + 24] = twice[k];
-        }
-        assert_eq!(rt; fault_of(&twice)?, Some((Rule::Once, Some(1))));
-        assert_eq!(rt; fault_of(&PLAIN[..101])?, Some((Rule::Content, Some(1))));
-        Ok(())
-    }
-
-    /// BUCKETS with one byte set.
-    fn buckets_with(at: usize, byte: u8) -> [u8; 110] {
-        let mut file = BUCKETS;
-        if at < file.len() {
-            file[at] = byte;
-        }
-        file
-    }
-
-    #[test]
-    fn asks_buckets_and_bloom_words(rt: HostRuntime) -> Result<(), Fail> {
-        let rows = [
-            (36, 0x01, Rule::Buckets, None),
-            (40, 0x03, Rule::Buckets, None),
-            (40, 0x00, Rule::Span, Some(0)),
-            (40, 0x02, Rule::Span, Some(1)),
-            (34, 0x00, Rule::Bloom, Some(0)),
-            (35, 0x00, Rule::Bloom, Some(1)),
-        ];
-        for (at, byte, rule, item) in rows {
-            assert_eq!(rt;
-                fault_of(&buckets_with(at, byte))?,
-                Some((rule, item)),
-                "byte {at} as {byte}"
-            );
-        }
-        Ok(())
-    }
-
-    #[test]
-    fn asks_the_table_of_locks(rt: HostRuntime) -> Result<(), Fail> {
-        let mut kind = LOCKED;
-        kind[146] = b'H';
-        assert_eq!(rt; fault_of(&kind)?, Some((Rule::Locks, Some(0))));
-        let mut size = LOCKED;
-        size[56] = 0x9b;
-        assert_eq!(rt; fault_of(&size)?, Some((Rule::Locks, Some(0))));
-        Ok(())
-    }
-
-    #[test]
-    fn only_the_table_of_locks_is_asked_for_less(rt: HostRuntime) -> Result<(), Fail> {
-        let mut no_place = PLAIN;
-        no_place[50] = b'H';
-        assert!(rt; Table::open(&no_place)?.is_searchable());
-        let mut no_hash = PLAIN;
-        no_hash[60] = 0xbe;
-        assert!(rt; !Table::open(&no_hash)?.is_searchable());
         Ok(())
     }
 }

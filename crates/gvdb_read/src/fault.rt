@@ -17,45 +17,33 @@ pub enum OpenFault {
     BadTable,
 }
 
+impl OpenFault {
+    ghost use Rattle.std.specs.Prelude.{◌≡◌};
+    ghost use Rattle.gvdb_read.specs.Faults.{open_fault_of, open_fault_text};
+
+    /// The name by which it is printed.
+    fn name(self) -> &'static str
+        ensures { result.now ≡ open_fault_text (open_fault_of self) }
+    {
+        match self {
+            OpenFault::Short => "Short",
+            OpenFault::BadSignature => "BadSignature",
+            OpenFault::BadVersion => "BadVersion",
+            OpenFault::BadRoot => "BadRoot",
+            OpenFault::BadTable => "BadTable",
+        }
+    }
+}
+
 impl fmt::Display for OpenFault {
     ghost use Rattle.std.specs.Prelude.{Some};
-    ghost use Rattle.gvdb_read.specs.Faults.{fault_of, fault_text};
+    ghost use Rattle.gvdb_read.specs.Faults.{open_fault_of, open_fault_text};
 
-    ghost output = { λ fault. Some (fault_text (fault_of fault)) };
+    ghost output = { λ fault. Some (open_fault_text (open_fault_of fault)) };
 
     fn fmt<W: fmt::Write>(&self, f: &mut fmt::Formatter<W>) -> fmt::Result {
-        match self {
-            OpenFault::Short => write!(f, "Short"),
-            OpenFault::BadSignature => write!(f, "BadSignature"),
-            OpenFault::BadVersion => write!(f, "BadVersion"),
-            OpenFault::BadRoot => write!(f, "BadRoot"),
-            OpenFault::BadTable => write!(f, "BadTable"),
-        }
+        f.write_str(self.name())
     }
 }
 
 impl Error for OpenFault {}
-
-#[cfg(test)]
-mod tests {
-    use super::*;
-    use std::fmt::Write;
-    use std::test::Fail;
-
-    #[test]
-    fn is_printed_as_its_name(rt: HostRuntime) -> Result<(), Fail> {
-        let rows = [
-            (OpenFault::Short, "Short"),
-            (OpenFault::BadSignature, "BadSignature"),
-            (OpenFault::BadVersion, "BadVersion"),
-            (OpenFault::BadRoot, "BadRoot"),
-            (OpenFault::BadTable, "BadTable"),
-        ];
-        for (fault, name) in rows {
-            let mut text = String::new(rt.alloc());
-            write!(text, "{fault}")?;
-            assert_eq!(rt; text.as_str(), name);
-        }
-        Ok(())
-    }
-}

@@ -23,23 +23,3 @@ pub(crate) fn signed(byte: u8) -> u32
         u32::from(byte) + 0xffff_ff00
     }
 }
-
-#[cfg(test)]
-mod tests {
-    use super::*;
-    use std::test::Fail;
-
-    #[test]
-    fn takes_bytes_as_signed_numbers(rt: HostRuntime) -> Result<(), Fail> {
-        let rows: [(&[u8], u32); 4] = [
-            (b"", 5381),
-            (b"/", 177620),
-            (b"/k", 5861567),
-            (b"\xc3\xa9", 5857809),
-        ];
-        for (name, expected) in rows {
-            assert_eq!(rt; hash(name), expected, "at {name:?}");
-        }
-        Ok(())
-    }
-}

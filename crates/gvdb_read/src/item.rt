@@ -1,4 +1,4 @@
-//! Items: what stands in the 24 bytes of each.
+//! Items: what occurs in the 24 bytes of each.
 ghost use Rattle.std.specs.Prelude.{◌≡◌, ◌+◌, ◌≤◌, length};
 ghost use Rattle.dconf_model.specs.Table.{item_at};
 

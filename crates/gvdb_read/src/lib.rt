@@ -16,8 +16,6 @@ mod number;
 mod search;
 mod table;
 mod unsound;
-#[cfg(test)]
-mod vectors;
 
 pub use fault::OpenFault;
 pub use hashing::hash;

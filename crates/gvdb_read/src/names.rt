@@ -23,7 +23,7 @@ impl<'a> Iterator for Names<'a> {
     type Item = &'a [u8];
 
     ghost use Rattle.std.specs.Iterator.{YieldsFirstRef, item_count};
-    ghost use Rattle.gvdb_read.specs.Left.{names_left};
+    ghost use Rattle.gvdb_read.specs.NamesLeft.{names_left};
 
     ghost next_gives = { YieldsFirstRef names_left };
 
@@ -42,7 +42,7 @@ impl FusedIterator for Names<'_> {}
 impl<'a> Table<'a> {
     ghost use Rattle.gvdb_read.specs.Tables.{region};
 
-    /// The first key of the items whose numbers stand from there on, so many of them, and what is left of the numbers.
+    /// The first key of the items whose numbers occur from there on, so many of them, and what is left of the numbers.
     fn first_key(self, at: usize, left: usize) -> (Option<&'a [u8]>, usize, usize)
         requires { at + 4 * left ≤ length self.file.now }
         ensures key { MatchOption result.0

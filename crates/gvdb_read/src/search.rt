@@ -110,17 +110,17 @@ impl<'a> Table<'a> {
             let Some((stored, key)) = self.named_item(at) else {
                 return false;
             };
-            let Some(front) = rest.strip_suffix(key) else {
+            let Some(prefix) = rest.strip_suffix(key) else {
                 return false;
             };
             let Some(parent) = stored.parent else {
-                return front.is_empty();
+                return prefix.is_empty();
             };
             if key.is_empty() {
                 return false;
             }
             at = parent;
-            rest = front;
+            rest = prefix;
         }
     }
 

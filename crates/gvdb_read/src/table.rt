@@ -3,7 +3,7 @@ ghost use Rattle.std.specs.Prelude.{◌≡◌, ◌+◌, ◌<◌, ◌≤◌, ◌^
 ghost use Rattle.std.specs.Prelude.{IsOk, IsSome, IsTrue, IfErr, IfNone, IfOk, IfSome};
 ghost use Rattle.dconf_model.specs.Table.{HasHead, HasItems, item, item_count, table_of};
 ghost use Rattle.dconf_model.specs.Opening.{IsDatabase, IsOpenFault, root_of};
-ghost use Rattle.gvdb_read.specs.Faults.{fault_of};
+ghost use Rattle.gvdb_read.specs.Faults.{open_fault_of};
 ghost use Rattle.gvdb_read.specs.Opened.{IsOpened};
 
 use crate::fault::OpenFault;
@@ -44,7 +44,7 @@ pub struct Table<'a> {
 
 impl<'a> Table<'a> {
     ghost use Rattle.gvdb_read.specs.Tables.{region, item_of, key_at, content_at};
-    ghost use Rattle.gvdb_read.specs.Tables.{IsKeyInside, IsPointer, Shows, PointsToTable};
+    ghost use Rattle.gvdb_read.specs.Tables.{IsKeyInside, IsPointer, IsShownAs, PointsToTable};
 
     /// Opens a database: gives its root table.
     ///
@@ -53,7 +53,7 @@ impl<'a> Table<'a> {
     pub fn open(file: &'a [u8]) -> Result<Table<'a>, OpenFault>
         ensures opens { IsOk result ↔ IsDatabase file.entry.now }
         ensures root { IfOk result (λ t. region t ≡ root_of file.entry.now) }
-        ensures fault { IfErr result (λ e. IsOpenFault file.entry.now (fault_of e)) }
+        ensures fault { IfErr result (λ e. IsOpenFault file.entry.now (open_fault_of e)) }
     {
         if file.len() < HEADER_LEN {
             return Err(OpenFault::Short);
@@ -82,7 +82,7 @@ impl<'a> Table<'a> {
     /// Item `i`, which counts from 0. None exactly where there are not so many.
     pub fn item(self, i: u32) -> Option<Item<'a>>
         ensures some { IsSome result ↔ (i < item_count (region self.entry)) }
-        ensures shows { IfSome result (Shows (region self.entry) i) }
+        ensures shows { IfSome result (IsShownAs (region self.entry) i) }
     {
         if i >= self.n_items() {
             return None;
@@ -178,102 +178,4 @@ fn has_head(file: &[u8], start: usize, end: usize) -> bool
     ensures { IsTrue result ↔ HasHead (record { file = file.now; start = start; end = end }) }
 {
     end <= file.len() && start % 4 == 0 && start + HEAD_LEN <= end
-}
-
-#[cfg(test)]
-mod tests {
-    use super::*;
-    use crate::vectors::{BUCKETS, LOCKED, PLAIN};
-    use std::test::Fail;
-
-    /// The fault of the file with one byte set.
-    fn fault_with(at: usize, byte: u8) -> Option<OpenFault> {
-        let mut file = PLAIN;
-        if at < file.len() {
-            file[at] = byte;
-        }
-        Table::open(&file).err()
-    }
-
-    #[test]
-    fn opens_exactly_databases(rt: HostRuntime) -> Result<(), Fail> {
-        assert_eq!(rt; Table::open(&[]).err(), Some(OpenFault::Short));
-        assert_eq!(rt; Table::open(&PLAIN[..23]).err(), Some(OpenFault::Short));
-        assert_eq!(rt; Table::open(&PLAIN[..24]).err(), Some(OpenFault::BadRoot));
-        assert_eq!(rt; Table::open(&PLAIN[..101]).err(), None);
-        let rows = [
-            (0, 0x67, Some(OpenFault::BadSignature)),
-            (7, 0x54, Some(OpenFault::BadSignature)),
-            (8, 0x01, Some(OpenFault::BadVersion)),
-            (12, 0x01, None),
-            (16, 0x19, Some(OpenFault::BadRoot)),
-            (20, 0x1f, Some(OpenFault::BadRoot)),
-            (20, 0x67, Some(OpenFault::BadRoot)),
-            (20, 0x20, Some(OpenFault::BadTable)),
-            (20, 0x53, Some(OpenFault::BadTable)),
-            (24, 0x40, Some(OpenFault::BadTable)),
-            (27, 0x28, None),
-            (28, 0x07, None),
-            (28, 0x40, Some(OpenFault::BadTable)),
-        ];
-        for (at, byte, fault) in rows {
-            assert_eq!(rt; fault_with(at, byte), fault, "byte {at} as {byte}");
-        }
-        assert_eq!(rt; Table::open(&BUCKETS).err(), None);
-        Ok(())
-    }
-
-    /// An item's parent, key, kind and the length of its content.
-    fn shown(table: Table<'_>, i: u32) -> Option<(Option<u32>, Option<&[u8]>, u8, Option<usize>)> {
-        let item = table.item(i)?;
-        let len = match item.bytes {
-            Some(bytes) => Some(bytes.len()),
-            None => None,
-        };
-        Some((item.parent, item.key, item.kind, len))
-    }
-
-    #[test]
-    fn shows_its_items(rt: HostRuntime) -> Result<(), Fail> {
-        let table = Table::open(&LOCKED)?;
-        assert_eq!(rt; table.n_items(), 3);
-        let locks: &[u8] = b".locks";
-        let root: &[u8] = b"/";
-        let key: &[u8] = b"k";
-        assert_eq!(rt; shown(table, 0), Some((None, Some(locks), b'H', Some(36))));
-        assert_eq!(rt; shown(table, 1), Some((None, Some(root), b'L', Some(4))));
-        assert_eq!(rt; shown(table, 2), Some((Some(1), Some(key), b'v', Some(6))));
-        assert_eq!(rt; shown(table, 3), None);
-        assert_eq!(rt; shown(table, u32::MAX), None);
-        Ok(())
-    }
-
-    #[test]
-    fn an_item_hides_what_does_not_lie_in_the_file(rt: HostRuntime) -> Result<(), Fail> {
-        let mut file = PLAIN;
-        file[68] = 0x66;
-        file[76] = 0x61;
-        let table = Table::open(&file)?;
-        assert_eq!(rt; shown(table, 1), Some((Some(0), None, b'v', None)));
-        Ok(())
-    }
-
-    /// The key of the first item of the table that an item points to.
-    fn first_key_at(table: Table<'_>, i: u32) -> Option<&[u8]> {
-        table.table_at(i)?.item(0)?.key
-    }
-
-    #[test]
-    fn opens_the_table_of_an_item(rt: HostRuntime) -> Result<(), Fail> {
-        let table = Table::open(&LOCKED)?;
-        let lock: &[u8] = b"/k";
-        assert_eq!(rt; first_key_at(table, 0), Some(lock));
-        for i in 1..5 {
-            assert!(rt; table.table_at(i).is_none(), "item {i}");
-        }
-        let mut file = LOCKED;
-        file[56] = 0x9b;
-        assert!(rt; Table::open(&file)?.table_at(0).is_none());
-        Ok(())
-    }
 }

@@ -1,6 +1,6 @@
 //! Why a database is not sound.
 ghost use Rattle.std.specs.Prelude.{◌≡◌};
-ghost use Rattle.dconf_model.specs.Sound.{number_of};
+ghost use Rattle.dconf_model.specs.Sound.{rule_number};
 ghost use Rattle.gvdb_read.specs.Unsounds.{rule_of};
 
 use std::error::Error;
@@ -39,9 +39,9 @@ pub enum Rule {
 }
 
 impl Rule {
-    /// The number behind the S.
+    /// The number after the S.
     fn number(self) -> u8
-        ensures { result ≡ number_of (rule_of self) }
+        ensures { result ≡ rule_number (rule_of self) }
     {
         match self {
             Rule::Buckets => 1,
@@ -93,34 +93,3 @@ impl fmt::Display for Unsound {
 }
 
 impl Error for Unsound {}
-
-#[cfg(test)]
-mod tests {
-    use super::*;
-    use std::fmt::Write;
-    use std::test::Fail;
-
-    #[test]
-    fn is_printed_as_rule_and_item(rt: HostRuntime) -> Result<(), Fail> {
-        let rows = [
-            (Rule::Buckets, None, "S1"),
-            (Rule::Keys, Some(0), "S2 item 0"),
-            (Rule::Chain, Some(10), "S3 item 10"),
-            (Rule::Hash, Some(1), "S4 item 1"),
-            (Rule::Span, Some(7), "S5 item 7"),
-            (Rule::Bloom, Some(8), "S6 item 8"),
-            (Rule::Once, Some(9), "S7 item 9"),
-            (Rule::Content, Some(4294967295), "S8 item 4294967295"),
-            (Rule::Place, Some(2), "S9 item 2"),
-            (Rule::Lists, Some(3), "S10 item 3"),
-            (Rule::Locks, Some(4), "S11 item 4"),
-        ];
-        for (rule, item, expected) in rows {
-            let unsound = Unsound { rule, item };
-            let mut text = String::new(rt.alloc());
-            write!(text, "{unsound}")?;
-            assert_eq!(rt; text.as_str(), expected);
-        }
-        Ok(())
-    }
-}

@@ -1,4 +1,4 @@
--- A path that is added to names: its directories, one at each slash behind the one that is there, and then the path.
+-- A path that is added to names: its directories, one at each slash after the one that is there, and then the path.
 use Rattle.std.proofs.Common.{◌≡◌, ◌≢◌, ◌<◌, ◌≤◌, ◌+◌, ◌-◌, ℕ, List, [], ◌∷◌, ◌++◌, length, get_or, take, drop, Option, Some, None, sym, ap, ◌∙◌, subst, arith, inl, inr, ⊎_elim, codes}
 use Rattle.std.specs.Prelude.{Contains, IsUtf8}
 use Rattle.std.proofs.lemmas.Bool.{cases_lt}
@@ -11,12 +11,12 @@ use Rattle.dconf_model.specs.Entries.{IsTopEntry}
 use Rattle.dconf_model.proofs.HashSteps.{hash_of_last}
 use Rattle.dconf_model.proofs.NameOrder.{before_longer}
 use Rattle.gvdb_write.specs.declared.names.Named.{Named}
-use Rattle.gvdb_write.specs.Tables.{kind_of, value_of, entry_of}
-use Rattle.gvdb_write.specs.Names.{named, name_at, kind_at, IsBefore, HasNoSlash, EndsAs, IsFit, LiesIn, StandsBehind, ArePlaced, AreAscending, AreGood, IsDirectoryAt, IsBeyond, last_name, IsNewDirectory, IsNewPath, IsAdded}
+use Rattle.gvdb_write.specs.PlanWords.{kind_of, content_bytes, entry_of}
+use Rattle.gvdb_write.specs.Names.{named, name_at, kind_at, IsBefore, HasNoSlash, EndsAs, IsFit, LiesIn, NameHasParent, ArePlaced, AreAscending, AreGood, IsDirectoryAt, IsBeyond, last_name, IsNewDirectory, IsNewPath, IsAdded}
 use Rattle.gvdb_write.proofs.PathTexts.{IsText}
 use Rattle.gvdb_write.proofs.PushedNames.{kept, pushed, old_or_last, placed_push, placed_last, ascending_push, last_pushed, HaveChildrenBut, children_but_last, children_all, directory_kept}
 
--- so far at a place of the path: behind the directories up to there
+-- so far at a place of the path: after the directories up to there
 pub record IsAdding (old names : List Named) (text : List ℕ) (parent from hash at : ℕ) : Type 0 where
   pub placed : ArePlaced names
   pub ascending : AreAscending names
@@ -27,7 +27,7 @@ pub record IsAdding (old names : List Named) (text : List ℕ) (parent from hash
   pub lies : IsDirectoryAt names text parent
   pub from_is : from ≡ length (name_at names parent)
   pub some : 0 < from
-  pub behind_slash : get_or text (from - 1) 0 ≡ 47
+  pub after_slash : get_or text (from - 1) 0 ≡ 47
   pub from_le : from ≤ at
   pub inside : at ≤ length text
   pub plain : HasNoSlash text from at
@@ -72,9 +72,9 @@ part_fit text n from to path utf8 is from_is hash less inside a b =
     }
 
 -- it begins with its directory's name
-part_front : (text directory name : List ℕ) (from to k : ℕ) → k ≡ from → from ≤ to → name ≡ take to text → take (length directory) text ≡ directory → from ≡ length directory → take k name ≡ directory
-part_front text directory name from to k e le is front from_is =
-    ap (λ (m : ℕ). take m name) e ∙ (ap (λ (x : List ℕ). take from x) is ∙ (take-take from to text le ∙ (ap (λ (m : ℕ). take m text) from_is ∙ front)))
+part_prefix : (text directory name : List ℕ) (from to k : ℕ) → k ≡ from → from ≤ to → name ≡ take to text → take (length directory) text ≡ directory → from ≡ length directory → take k name ≡ directory
+part_prefix text directory name from to k e le is prefix from_is =
+    ap (λ (m : ℕ). take m name) e ∙ (ap (λ (x : List ℕ). take from x) is ∙ (take-take from to text le ∙ (ap (λ (m : ℕ). take m text) from_is ∙ prefix)))
 
 part_plain : (text name : List ℕ) (from to end : ℕ) → name ≡ take to text → end ≤ to → HasNoSlash text from end → HasNoSlash name from end
 part_plain text name from to end is le plain i a b slash =
@@ -100,7 +100,7 @@ plain_step old names text parent from hash at a here other =
       lies = a.lies;
       from_is = a.from_is;
       some = a.some;
-      behind_slash = a.behind_slash;
+      after_slash = a.after_slash;
       from_le = omega (arith, le);
       inside = omega (arith, here);
       plain = λ i l m slash. ⊎_elim (λ (before : i < at). a.plain i l before slash)
@@ -114,7 +114,7 @@ plain_step old names text parent from hash at a here other =
 
 -- ---- a slash
 
--- no slash stands right behind another
+-- no slash comes right after another
 pub from_less : (text : List ℕ) (from at : ℕ) → IsText text → 0 < from → from ≤ at → at < length text → get_or text (from - 1) 0 ≡ 47 → get_or text at 0 ≡ 47 → from < at
 from_less text from at path some le here before slash =
     ⊎_elim (λ (l : from < at). l)
@@ -129,7 +129,7 @@ list_lies names text parent from at n lies from_is less here slash plain is n_fr
     let end : length n.name.now - 1 ≡ at = omega (arith, len) in
     record {
       directory = lies.list;
-      front = part_front text (name_at names parent) n.name.now from (at + 1) n.from n_from (omega (arith, less)) is lies.front from_is;
+      prefix = part_prefix text (name_at names parent) n.name.now from (at + 1) n.from n_from (omega (arith, less)) is lies.prefix from_is;
       from = n_from ∙ from_is;
       ends = inr (
         kind,
@@ -140,16 +140,16 @@ list_lies names text parent from at n lies from_is less here slash plain is n_fr
       );
     }
 
--- a front of a text stands before each longer one
-pub front_before : (text : List ℕ) (m k : ℕ) → m < k → k ≤ length text → IsBefore (take m text) (take k text)
-front_before text m k less inside =
+-- a prefix of a text precedes each longer one
+pub prefix_before : (text : List ℕ) (m k : ℕ) → m < k → k ≤ length text → IsBefore (take m text) (take k text)
+prefix_before text m k less inside =
     let j : m + (k - m) ≡ k = omega (arith, less) in
     let len : length (take k text) ≡ k = length-take-le k text inside in
     let split : take m (take k text) ++ drop m (take k text) ≡ take k text = take-append-drop m (take k text) in
-    let front : take m (take k text) ≡ take m text = take-take m k text (omega (arith, less)) in
+    let prefix : take m (take k text) ≡ take m text = take-take m k text (omega (arith, less)) in
     let rest : drop m (take k text) ≡ get_or (take k text) m 0 ∷ drop (m + 1) (take k text) = drop_more (take k text) m 0 (omega (arith, len, less)) in
     subst (λ (x : List ℕ). IsBefore (take m text) x)
-    (ap (λ (x : List ℕ). x ++ (get_or (take k text) m 0 ∷ drop (m + 1) (take k text))) (sym front) ∙ (ap (λ (x : List ℕ). take m (take k text) ++ x) (sym rest) ∙ split))
+    (ap (λ (x : List ℕ). x ++ (get_or (take k text) m 0 ∷ drop (m + 1) (take k text))) (sym prefix) ∙ (ap (λ (x : List ℕ). take m (take k text) ++ x) (sym rest) ∙ split))
     (before_longer (take m text) (get_or (take k text) m 0) (drop (m + 1) (take k text)))
 
 not_last : (text : List ℕ) (at : ℕ) → IsText text → at < length text → get_or text at 0 ≡ 47 → at + 1 < length text
@@ -157,11 +157,11 @@ not_last text at path here slash =
     ⊎_elim (λ (l : at + 1 < length text). l)
     (λ (ge : length text ≤ at + 1). absurd (path.unended at (omega (arith, ge, here)) slash)) (cases_lt (at + 1) (length text))
 
-beyond_front : (text : List ℕ) (at : ℕ) → IsText text → at < length text → get_or text at 0 ≡ 47 → IsBeyond (take (at + 1) text) text (at + 1)
-beyond_front text at path here slash = record {
+beyond_prefix : (text : List ℕ) (at : ℕ) → IsText text → at < length text → get_or text at 0 ≡ 47 → IsBeyond (take (at + 1) text) text (at + 1)
+beyond_prefix text at path here slash = record {
   path = subst (λ (x : List ℕ). IsBefore (take (at + 1) text) x) (take_all (length text) text (omega arith))
-      (front_before text (at + 1) (length text) (not_last text at path here slash) (omega arith));
-  directories = λ i s le. let there = s.here in front_before text (at + 1) (i + 1) (omega (arith, le)) (omega (arith, there));
+      (prefix_before text (at + 1) (length text) (not_last text at path here slash) (omega arith));
+  directories = λ i s le. let there = s.here in prefix_before text (at + 1) (i + 1) (omega (arith, le)) (omega (arith, there));
 }
 
 new_directory : (text : List ℕ) (more : List Named) (n : Named) → ((k : ℕ) → k < length more → IsNewDirectory text (named more k)) → IsNewDirectory text n → (k : ℕ) → k < length (more ++ n ∷ []) → IsNewDirectory text (named (more ++ n ∷ []) k)
@@ -180,17 +180,17 @@ directory_pushed names text n at is kind here =
     record {
       within = omega (arith, len);
       list = ap (λ (x : Named). kind_of x.content) (pushed names n) ∙ kind;
-      front = subst (λ (x : List ℕ). take (length x) text ≡ x) (sym name) (ap (λ (k : ℕ). take k text) size);
+      prefix = subst (λ (x : List ℕ). take (length x) text ≡ x) (sym name) (ap (λ (k : ℕ). take k text) size);
       inside = subst (λ (x : List ℕ). length x ≤ length text) (sym name) (omega (arith, size, here));
     }
 
 pub slash_step : (old names : List Named) (text : List ℕ) (parent from hash at : ℕ) (n : Named) → IsText text → IsUtf8 text → IsAdding old names text parent from hash at → at < length text → get_or text at 0 ≡ 47 → n.name.now ≡ take (at + 1) text → n.from ≡ from → n.hash ≡ hash_step hash (get_or text at 0) → n.parent ≡ Some parent → kind_of n.content ≡ list_kind → IsAdding old (names ++ n ∷ []) text (length names) (at + 1) (hash_step hash (get_or text at 0)) (at + 1)
 slash_step old names text parent from hash at n path utf8 a here slash is n_from n_hash up kind =
-    let less : from < at = from_less text from at path a.some a.from_le here a.behind_slash slash in
+    let less : from < at = from_less text from at path a.some a.from_le here a.after_slash slash in
     let hash_now = step_hash text at hash here a.hash_is in
     let le = a.from_le in
     let fit : IsFit n = part_fit text n from (at + 1) path utf8 is n_from (n_hash ∙ hash_now) (omega (arith, le)) (omega (arith, here))
-    (boundary text from utf8 a.some (omega (arith, le, here)) a.behind_slash)
+    (boundary text from utf8 a.some (omega (arith, le, here)) a.after_slash)
     (IsCharBoundary-after_ascii text at utf8 here (omega (arith, slash))) in
     let lies : LiesIn (named names parent) n = list_lies names text parent from at n a.lies a.from_is less here slash a.plain is n_from kind in
     let size : length (take (at + 1) text) ≡ at + 1 = length-take-le (at + 1) text (omega (arith, here)) in
@@ -208,12 +208,12 @@ slash_step old names text parent from hash at n path utf8 a here slash is n_from
       lies = directory_pushed names text n at is kind here;
       from_is = sym (ap (λ (x : List ℕ). length x) name ∙ size);
       some = omega arith;
-      behind_slash = ap (λ (k : ℕ). get_or text k 0) index ∙ slash;
+      after_slash = ap (λ (k : ℕ). get_or text k 0) index ∙ slash;
       from_le = omega arith;
       inside = omega (arith, here);
       plain = λ i l m. absurd (omega (arith, l, m));
       hash_is = hash_now;
-      beyond = subst (λ (x : List ℕ). IsBeyond x text (at + 1)) (sym last) (beyond_front text at path here slash);
+      beyond = subst (λ (x : List ℕ). IsBeyond x text (at + 1)) (sym last) (beyond_prefix text at path here slash);
     }
 
 -- ---- the path itself
@@ -221,7 +221,7 @@ slash_step old names text parent from hash at n path utf8 a here slash is n_from
 path_lies : (names : List Named) (text : List ℕ) (parent from : ℕ) (n : Named) → IsDirectoryAt names text parent → from ≡ length (name_at names parent) → HasNoSlash text from (length text) → n.name.now ≡ text → n.from ≡ from → kind_of n.content ≡ value_kind → LiesIn (named names parent) n
 path_lies names text parent from n lies from_is plain is n_from kind = record {
   directory = lies.list;
-  front = ap (λ (k : ℕ). take k n.name.now) (n_from ∙ from_is) ∙ (ap (λ (x : List ℕ). take (length (name_at names parent)) x) is ∙ lies.front);
+  prefix = ap (λ (k : ℕ). take k n.name.now) (n_from ∙ from_is) ∙ (ap (λ (x : List ℕ). take (length (name_at names parent)) x) is ∙ lies.prefix);
   from = n_from ∙ from_is;
   ends = inl (
     kind,
@@ -239,10 +239,10 @@ path_step old names text value parent from hash n path utf8 a new n_from n_hash 
     let first = path.first.here in
     let less : from < length text =
     ⊎_elim (λ (l : from < length text). l)
-    (λ (ge : length text ≤ from). absurd (path.unended (from - 1) (omega (arith, ge, le, some)) a.behind_slash))
+    (λ (ge : length text ≤ from). absurd (path.unended (from - 1) (omega (arith, ge, le, some)) a.after_slash))
     (cases_lt from (length text)) in
     let fit : IsFit n = part_fit text n from (length text) path utf8 (is ∙ sym all) n_from (n_hash ∙ a.hash_is) less (omega arith)
-    (boundary text from utf8 some le a.behind_slash) (IsCharBoundary-end text) in
+    (boundary text from utf8 some le a.after_slash) (IsCharBoundary-end text) in
     let lies : LiesIn (named names parent) n = path_lies names text parent from n a.lies a.from_is a.plain is n_from new.1 in
     let from_is = a.from_is in
     let name : name_at (names ++ n ∷ []) parent ≡ name_at names parent = ap (λ (x : Named). x.name.now) (kept names (n ∷ []) parent a.lies.within) in
@@ -281,9 +281,9 @@ top_ends n from (inr locks) list = let bad : 76 ≡ 72 = sym list ∙ locks.0 in
 
 -- the name of a list ends in a slash
 pub directory_ends : (names : List Named) (at : ℕ) → ArePlaced names → at < length names → kind_at names at ≡ list_kind → get_or (name_at names at) (length (name_at names at) - 1) 0 ≡ 47
-directory_ends names at placed here list = by (named names at).parent (placed at here).stands
+directory_ends names at placed here list = by (named names at).parent (placed at here).has_parent
   where
-    by : (o : Option ℕ) → StandsBehind names at o → get_or (name_at names at) (length (name_at names at) - 1) 0 ≡ 47
+    by : (o : Option ℕ) → NameHasParent names at o → get_or (name_at names at) (length (name_at names at) - 1) 0 ≡ 47
     by None s = top_ends (named names at) s.0 s.1 list
     by (Some p) s = list_ends (named names at) (named names p) s.1 (placed at here).fit list
 
@@ -292,7 +292,7 @@ start names text parent from hash good lies beyond from_is hash_is =
     let fit = (good.placed parent lies.within).fit in
     let some = fit.some in
     let inside = lies.inside in
-    let front : take from text ≡ name_at names parent = ap (λ (k : ℕ). take k text) from_is ∙ lies.front in
+    let prefix : take from text ≡ name_at names parent = ap (λ (k : ℕ). take k text) from_is ∙ lies.prefix in
     let last : from - 1 < from = omega (arith, from_is, some) in
     record {
       placed = good.placed;
@@ -304,14 +304,14 @@ start names text parent from hash good lies beyond from_is hash_is =
       lies = lies;
       from_is = from_is;
       some = omega (arith, from_is, some);
-      behind_slash =
+      after_slash =
           sym (get_or-take from text (from - 1) 0 last)
-          ∙ (ap (λ (x : List ℕ). get_or x (from - 1) 0) front
+          ∙ (ap (λ (x : List ℕ). get_or x (from - 1) 0) prefix
           ∙ (ap (λ (k : ℕ). get_or (name_at names parent) (k - 1) 0) from_is ∙ directory_ends names parent good.placed lies.within lies.list));
       from_le = omega arith;
       inside = omega (arith, from_is, inside);
       plain = λ i l m. absurd (omega (arith, l, m));
-      hash_is = hash_is ∙ (fit.hash ∙ ap (λ (x : List ℕ). hash_of x) (sym front));
+      hash_is = hash_is ∙ (fit.hash ∙ ap (λ (x : List ℕ). hash_of x) (sym prefix));
       beyond = beyond;
     }
 
@@ -338,7 +338,7 @@ slash_now old names new text parent parent_now from from_now hash hash_now at n 
     (subst (λ (x : ℕ). IsAdding old (names ++ n ∷ []) text (length names) (at + 1) x (at + 1)) (sym h)
     (slash_step old names text parent from hash at n path utf8 a here slash is n_from n_hash up kind))))
 
-pub path_now : (old names new : List Named) (text value : List ℕ) (parent from hash at : ℕ) (n : Named) → IsText text → IsUtf8 text → IsAdding old names text parent from hash at → length text ≤ at → n.name.now ≡ text → kind_of n.content ≡ value_kind → value_of n.content ≡ value → n.from ≡ from → n.hash ≡ hash → n.parent ≡ Some parent → new ≡ names ++ n ∷ [] → IsAdded old new text value parent
+pub path_now : (old names new : List Named) (text value : List ℕ) (parent from hash at : ℕ) (n : Named) → IsText text → IsUtf8 text → IsAdding old names text parent from hash at → length text ≤ at → n.name.now ≡ text → kind_of n.content ≡ value_kind → content_bytes n.content ≡ value → n.from ≡ from → n.hash ≡ hash → n.parent ≡ Some parent → new ≡ names ++ n ∷ [] → IsAdded old new text value parent
 path_now old names new text value parent from hash at n path utf8 a end is kind held n_from n_hash up e =
     let inside = a.inside in
     let last : at ≡ length text = omega (arith, end, inside) in

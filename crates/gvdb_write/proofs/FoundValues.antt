@@ -9,15 +9,15 @@ use Rattle.gvdb_write.specs.declared.names.Content.{Content}
 use Rattle.gvdb_write.specs.declared.names.Content.TheVariants.{Value, List as Listed, Locks}
 use Rattle.gvdb_write.specs.declared.names.Named.{Named}
 use Rattle.gvdb_write.specs.Names.{named, kind_at}
-use Rattle.gvdb_write.specs.Tables.{kind_of, value_of, no_name}
-use Rattle.gvdb_write.specs.Spanned.{own_value, values_of, HavePlaces}
+use Rattle.gvdb_write.specs.PlanWords.{kind_of, content_bytes, no_name}
+use Rattle.gvdb_write.specs.Contents.{own_value, own_values, HavePlaces}
 use Rattle.gvdb_write.proofs.OnceEach.{kept, all_kept}
 
-pub values_more : (items : List Named) (n : ℕ) → n < length items → values_of (take (n + 1) items) ≡ values_of (take n items) ++ own_value (named items n).content
+pub values_more : (items : List Named) (n : ℕ) → n < length items → own_values (take (n + 1) items) ≡ own_values (take n items) ++ own_value (named items n).content
 values_more items n l =
-    ap values_of (take_more items n no_name l)
+    ap own_values (take_more items n no_name l)
     ∙ (flat_map-append (λ (m : Named). own_value m.content) (take n items) (named items n ∷ [])
-    ∙ ap (λ (vs : List (List ℕ)). values_of (take n items) ++ vs) (append-nil (own_value (named items n).content)))
+    ∙ ap (λ (vs : List (List ℕ)). own_values (take n items) ++ vs) (append-nil (own_value (named items n).content)))
 
 -- an item read at another default is the same
 same_content : (items : List Named) (n : ℕ) (d : Named) → n < length items → (named items n).content ≡ (get_or items n d).content
@@ -35,17 +35,17 @@ has_none Locks other = record { own = refl; other = λ e. omega (arith, e) }
 
 -- the places of so many items are found
 pub record AreFound (items : List Named) (first values : List (List ℕ)) (places : List ℕ) (n : ℕ) : Type 0 where
-  pub distinct : values ≡ fold with_new first (values_of (take n items))
+  pub distinct : values ≡ fold with_new first (own_values (take n items))
   pub counted : length places ≡ n
   pub within : (i : ℕ) → i < n → kind_at items i ≡ value_kind → get_or places i 0 < length values
-  pub stands : (i : ℕ) → i < n → kind_at items i ≡ value_kind → get_or values (get_or places i 0) [] ≡ value_of (named items i).content
+  pub holds : (i : ℕ) → i < n → kind_at items i ≡ value_kind → get_or values (get_or places i 0) [] ≡ content_bytes (named items i).content
 
 pub none_found : (items : List Named) (first : List (List ℕ)) (places : List ℕ) → places ≡ [] → AreFound items first first places 0
 none_found items first places none = record {
   distinct = refl;
   counted = ap length none;
   within = λ i l k. absurd (omega (arith, l));
-  stands = λ i l k. absurd (omega (arith, l));
+  holds = λ i l k. absurd (omega (arith, l));
 }
 
 one_place_more : (places after : List ℕ) (place n : ℕ) → length places ≡ n → after ≡ places ++ place ∷ [] → length after ≡ n + 1
@@ -60,20 +60,20 @@ value_found items first values more places after bytes place n d so l has new w 
     let value = bytes.now in
     let content : (named items n).content ≡ Value bytes = same_content items n d l ∙ has in
     let own : own_value (named items n).content ≡ value ∷ [] = ap own_value content in
-    let of_value : value_of (named items n).content ≡ value = ap value_of content in
+    let of_value : content_bytes (named items n).content ≡ value = ap content_bytes content in
     let last : get_or after n 0 ≡ place = ap (λ (ps : List ℕ). get_or ps n 0) is ∙ get_or_push places place 0 n so.counted in
     let before = place_before places after place n so.counted is in
     record {
       distinct = new ∙ (ap (λ (vs : List (List ℕ)). with_new vs value) so.distinct
-          ∙ sym (ap (fold with_new first) (values_more items n l ∙ ap (λ (vs : List (List ℕ)). values_of (take n items) ++ vs) own)
-          ∙ fold-append with_new first (values_of (take n items)) (value ∷ [])));
+          ∙ sym (ap (fold with_new first) (values_more items n l ∙ ap (λ (vs : List (List ℕ)). own_values (take n items) ++ vs) own)
+          ∙ fold-append with_new first (own_values (take n items)) (value ∷ [])));
       counted = one_place_more places after place n so.counted is;
       within = below_more _ n
           (λ i h k. let e = before i h in let u = (kept values value (get_or places i 0) (so.within i h k)).within in let m = ap length new in omega (arith, e, u, m))
           (λ k. omega (arith, last, w));
-      stands = below_more _ n
+      holds = below_more _ n
           (λ i h k. ap (λ (p : ℕ). get_or more p []) (before i h) ∙ (ap (λ (vs : List (List ℕ)). get_or vs (get_or places i 0) []) new
-          ∙ ((kept values value (get_or places i 0) (so.within i h k)).same ∙ so.stands i h k)))
+          ∙ ((kept values value (get_or places i 0) (so.within i h k)).same ∙ so.holds i h k)))
           (λ k. ap (λ (p : ℕ). get_or more p []) last ∙ (at ∙ sym of_value));
     }
 
@@ -84,27 +84,27 @@ other_found items first values places after place n d so l none is =
     let has = has_none (named items n).content (λ x e. none x (sym content ∙ e)) in
     let before = place_before places after place n so.counted is in
     record {
-      distinct = so.distinct ∙ sym (ap (fold with_new first) (values_more items n l ∙ (ap (λ (vs : List (List ℕ)). values_of (take n items) ++ vs) has.own ∙ append-nil (values_of (take n items)))));
+      distinct = so.distinct ∙ sym (ap (fold with_new first) (values_more items n l ∙ (ap (λ (vs : List (List ℕ)). own_values (take n items) ++ vs) has.own ∙ append-nil (own_values (take n items)))));
       counted = one_place_more places after place n so.counted is;
       within = below_more _ n (λ i h k. let e = before i h in let u = so.within i h k in omega (arith, e, u)) (λ k. absurd (has.other k));
-      stands = below_more _ n (λ i h k. ap (λ (p : ℕ). get_or values p []) (before i h) ∙ so.stands i h k) (λ k. absurd (has.other k));
+      holds = below_more _ n (λ i h k. ap (λ (p : ℕ). get_or values p []) (before i h) ∙ so.holds i h k) (λ k. absurd (has.other k));
     }
 
--- behind the last item
+-- after the last item
 pub all_found : (items : List Named) (first values : List (List ℕ)) (places : List ℕ) (n : ℕ) → AreFound items first values places n → n ≡ length items → HavePlaces items values places
 all_found items first values places n so is = record {
   counted = so.counted ∙ is;
   within = λ i l k. so.within i (omega (arith, l, is)) k;
-  stands = λ i l k. so.stands i (omega (arith, l, is)) k;
+  holds = λ i l k. so.holds i (omega (arith, l, is)) k;
 }
 
-pub all_distinct : (items : List Named) (first values : List (List ℕ)) (places : List ℕ) (n : ℕ) → AreFound items first values places n → length items ≤ n → values ≡ fold with_new first (values_of items)
-all_distinct items first values places n so le = so.distinct ∙ ap (λ (ns : List Named). fold with_new first (values_of ns)) (take_all n items le)
+pub all_distinct : (items : List Named) (first values : List (List ℕ)) (places : List ℕ) (n : ℕ) → AreFound items first values places n → length items ≤ n → values ≡ fold with_new first (own_values items)
+all_distinct items first values places n so le = so.distinct ∙ ap (λ (ns : List Named). fold with_new first (own_values ns)) (take_all n items le)
 
 -- places are kept when more values are added
 pub places_stay : (items : List Named) (values : List (List ℕ)) (places : List ℕ) → HavePlaces items values places → (more : List (List ℕ)) → HavePlaces items (fold with_new values more) places
 places_stay items values places have more = record {
   counted = have.counted;
   within = λ i l k. (all_kept more values (get_or places i 0) (have.within i l k)).within;
-  stands = λ i l k. (all_kept more values (get_or places i 0) (have.within i l k)).same ∙ have.stands i l k;
+  holds = λ i l k. (all_kept more values (get_or places i 0) (have.within i l k)).same ∙ have.holds i l k;
 }

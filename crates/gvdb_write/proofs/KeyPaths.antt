@@ -21,9 +21,9 @@ use Rattle.std.specs.BTreeSet.{BTreeSet}
 use Rattle.std.specs.declared.string.String.{String}
 use Rattle.std.specs.declared.alloc.Global.{Global}
 use Rattle.std.specs.FinMap.{from_entries, empty}
-use Rattle.gvdb_write.specs.Maps.{AreKeyPaths, settings_of, values_of, locks_of, value_entries, lock_entries, texts}
+use Rattle.gvdb_write.specs.Maps.{AreKeyPaths, AreAtKeys, settings_of, values_of, locks_of, value_entries, lock_entries, texts}
 use Rattle.dconf_model.specs.Paths.{is_key_path}
-use Rattle.dconf_model.specs.Settings.{AtPaths, Lock, Settings, IsSettings, no_settings, with_value, with_lock}
+use Rattle.dconf_model.specs.Settings.{AtPaths, Lock, Settings, no_settings, with_value, with_lock}
 
 abbrev IsKeyPath : List ℕ → Type 0
 IsKeyPath path = IsTrue (is_key_path path)
@@ -32,7 +32,7 @@ IsKeyPath path = IsTrue (is_key_path path)
 abbrev KeptAtKeys : {X : Type 0} → AtPaths X → Type 0
 KeptAtKeys m = (path : List ℕ) → IsTrue (contains_key m path) → IsKeyPath path
 
-no_paths : IsSettings no_settings
+no_paths : AreAtKeys no_settings
 no_paths = record {
   valued = λ q h. absurd (true≢false (sym h ∙ ap is_some (get-empty (slice_cmp nat_cmp) q)));
   locked = λ q h. absurd (true≢false (sym h ∙ ap is_some (get-empty (slice_cmp nat_cmp) q)));
@@ -50,10 +50,10 @@ kept_with : {X : Type 0} (m : AtPaths X) (path : List ℕ) (v : X) → KeptAtKey
 kept_with m path v kept is q h =
     of_either path q (contains_key m q) is (kept q) _ refl (sym (ap is_some (get-insert nat_list_cmp_total m path v q) ∙ some_of _ v _) ∙ h)
 
-pub valued_at_path : (s : Settings) (path value : List ℕ) → IsSettings s → IsKeyPath path → IsSettings (with_value s path value)
+pub valued_at_path : (s : Settings) (path value : List ℕ) → AreAtKeys s → IsKeyPath path → AreAtKeys (with_value s path value)
 valued_at_path s path value kept is = record { valued = kept_with s.values path value kept.valued is; locked = kept.locked }
 
-pub locked_at_path : (s : Settings) (path : List ℕ) → IsSettings s → IsKeyPath path → IsSettings (with_lock s path)
+pub locked_at_path : (s : Settings) (path : List ℕ) → AreAtKeys s → IsKeyPath path → AreAtKeys (with_lock s path)
 locked_at_path s path kept is = record { valued = kept.valued; locked = kept_with s.locks path tt kept.locked is }
 
 -- what holds of each path that is found holds of each that is listed
@@ -62,20 +62,20 @@ keys_are_paths m kept k d inside =
     let found = list_any-from_Contains (eq_by_cmp_equiv nat_list_cmp_total) _ (keys m) (All-contains_itself (keys m) k d inside) in
     kept _ (contains_key-keys m _ ∙ found)
 
-pub none_kept : (m : BTreeMap (String Global) (Vec ℕ Global)) (s : BTreeSet (String Global)) → m.entries ≡ [] → s.keys ≡ [] → IsSettings (settings_of m s)
+pub none_kept : (m : BTreeMap (String Global) (Vec ℕ Global)) (s : BTreeSet (String Global)) → m.entries ≡ [] → s.keys ≡ [] → AreAtKeys (settings_of m s)
 none_kept m s no_values no_locks =
-    subst (λ (es : List (String Global × Vec ℕ Global)). IsSettings (record { values = from_entries (value_entries es); locks = locks_of s })) (sym no_values)
-    (subst (λ (ks : List (String Global)). IsSettings (record { values = empty; locks = from_entries (lock_entries ks) })) (sym no_locks) no_paths)
+    subst (λ (es : List (String Global × Vec ℕ Global)). AreAtKeys (record { values = from_entries (value_entries es); locks = locks_of s })) (sym no_values)
+    (subst (λ (ks : List (String Global)). AreAtKeys (record { values = empty; locks = from_entries (lock_entries ks) })) (sym no_locks) no_paths)
 
-pub kept_where_inserted : (m n : BTreeMap (String Global) (Vec ℕ Global)) (locks : BTreeSet (String Global)) (path value : List ℕ) → IsSettings (settings_of m locks) → IsKeyPath path → values_of n ≡ insert (values_of m) path value → IsSettings (settings_of n locks)
+pub kept_where_inserted : (m n : BTreeMap (String Global) (Vec ℕ Global)) (locks : BTreeSet (String Global)) (path value : List ℕ) → AreAtKeys (settings_of m locks) → IsKeyPath path → values_of n ≡ insert (values_of m) path value → AreAtKeys (settings_of n locks)
 kept_where_inserted m n locks path value kept is e =
-    subst (λ (v : AtPaths (List ℕ)). IsSettings (record { values = v; locks = locks_of locks })) (sym e) (valued_at_path (settings_of m locks) path value kept is)
+    subst (λ (v : AtPaths (List ℕ)). AreAtKeys (record { values = v; locks = locks_of locks })) (sym e) (valued_at_path (settings_of m locks) path value kept is)
 
-pub kept_where_locked : (m : BTreeMap (String Global) (Vec ℕ Global)) (s n : BTreeSet (String Global)) (path : List ℕ) → IsSettings (settings_of m s) → IsKeyPath path → locks_of n ≡ insert (locks_of s) path tt → IsSettings (settings_of m n)
+pub kept_where_locked : (m : BTreeMap (String Global) (Vec ℕ Global)) (s n : BTreeSet (String Global)) (path : List ℕ) → AreAtKeys (settings_of m s) → IsKeyPath path → locks_of n ≡ insert (locks_of s) path tt → AreAtKeys (settings_of m n)
 kept_where_locked m s n path kept is e =
-    subst (λ (l : AtPaths Lock). IsSettings (record { values = values_of m; locks = l })) (sym e) (locked_at_path (settings_of m s) path kept is)
+    subst (λ (l : AtPaths Lock). AreAtKeys (record { values = values_of m; locks = l })) (sym e) (locked_at_path (settings_of m s) path kept is)
 
--- what is left behind the first of texts that are paths of keys
+-- what is left after the first of texts that are paths of keys
 pub rest_are_paths : (before after : List (String Global)) (first : Option (Bor (String Global))) → MatchOption first ((before ≡ []) × (after ≡ [])) (λ x. before ≡ x.now ∷ after) → AreKeyPaths (texts before) → AreKeyPaths (texts after)
 rest_are_paths before after None none kept = subst (λ (ks : List (String Global)). AreKeyPaths (texts ks)) (sym none.1) (All-nil IsKeyPath)
 rest_are_paths before after (Some x) is kept = All-rest IsKeyPath (string_bytes x.now) (texts after) (texts before) (ap texts is) kept

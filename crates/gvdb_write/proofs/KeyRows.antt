@@ -3,18 +3,18 @@ use Rattle.std.proofs.Common.{ℕ, ◌≡◌, ◌<◌, ◌+◌, ◌-◌, List, [
 use Rattle.std.proofs.lemmas.List.{length-drop, length_push}
 use Rattle.dconf_model.specs.Plans.{keys_end}
 use Rattle.dconf_model.proofs.PlanEnds.{keys_next, keys_grow}
-use Rattle.gvdb_write.specs.declared.layout.Row.{Row as Numbers}
+use Rattle.gvdb_write.specs.declared.layout.ItemRecord.{ItemRecord as Numbers}
 use Rattle.gvdb_write.specs.declared.names.Named.{Named}
 use Rattle.gvdb_write.specs.Names.{named, name_at}
-use Rattle.gvdb_write.specs.Tables.{kind_of, entries_of}
-use Rattle.gvdb_write.specs.Layouts.{row, no_numbers, IsRowOf}
-use Rattle.gvdb_write.proofs.ItemOrder.{each_more}
+use Rattle.gvdb_write.specs.PlanWords.{kind_of, entries_of}
+use Rattle.gvdb_write.specs.LayoutParts.{row, no_numbers, IsRecordOf}
+use Rattle.gvdb_write.proofs.ItemOrders.{each_more}
 
 -- of so many items, whose keys end there
 pub record AreRowsBelow (items : List Named) (from : ℕ) (rows : List Numbers) (at n : ℕ) : Type 0 where
   pub counted : length rows ≡ n
   pub ends : at ≡ keys_end (entries_of items) from n
-  pub each : (i : ℕ) → i < length rows → IsRowOf items from i (row rows i)
+  pub each : (i : ℕ) → i < length rows → IsRecordOf items from i (row rows i)
 
 pub no_rows : (items : List Named) (from : ℕ) (rows : List Numbers) → rows ≡ [] → AreRowsBelow items from rows from 0
 no_rows items from rows e = record {
@@ -31,7 +31,7 @@ pub record AreNumbersOf (d : Named) (at : ℕ) (r : Numbers) : Type 0 where
   pub key_size : r.key_size ≡ length d.name.now - d.from
   pub of_kind : r.kind ≡ kind_of d.content
 
-is_row : (items : List Named) (from at n : ℕ) (r : Numbers) → at ≡ keys_end (entries_of items) from n → AreNumbersOf (named items n) at r → IsRowOf items from n r
+is_row : (items : List Named) (from at n : ℕ) (r : Numbers) → at ≡ keys_end (entries_of items) from n → AreNumbersOf (named items n) at r → IsRecordOf items from n r
 is_row items from at n r ends is = record {
   hash = is.hash;
   parent = is.parent;
@@ -52,11 +52,11 @@ row_more items from rows new at next n d r so item laid pushed is =
     subst (λ (rs : List Numbers). AreRowsBelow items from rs next (n + 1)) (sym pushed) record {
       counted = let c = so.counted in let more = length_push rows r in omega (arith, c, more);
       ends = next_end items from at next n so.ends (subst (λ (m : Named). next ≡ at + (length m.name.now - m.from)) item laid);
-      each = each_more no_numbers rows r n (λ q i. IsRowOf items from i q) so.counted so.each
+      each = each_more no_numbers rows r n (λ q i. IsRecordOf items from i q) so.counted so.each
           (is_row items from at n r so.ends (subst (λ (m : Named). AreNumbersOf m at r) item is));
     }
 
--- a key that goes past what fits does so with those behind it
+-- a key that goes past what fits does so with those after it
 pub past_all : (items : List Named) (from at n size most : ℕ) (d : Named) → n < length items → at ≡ keys_end (entries_of items) from n → d ≡ named items n → size ≡ length d.name.now - d.from → most < at + size → most < keys_end (entries_of items) from (length items)
 past_all items from at n size most d here ends item sized past =
     let end = next_end items from at (at + size) n ends (ap (λ (k : ℕ). at + k) (subst (λ (m : Named). size ≡ length m.name.now - m.from) item sized)) in

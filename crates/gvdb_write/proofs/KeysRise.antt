@@ -1,5 +1,5 @@
--- The paths at which something is kept stand in the order of their bytes.
-use Rattle.std.proofs.Common.{◌≡◌, ◌<◌, ◌+◌, ℕ, zero, suc, Bool, true, false, T, List, [], ◌∷◌, ◌++◌, length, get_or, map, refl, sym, ap, ◌∙◌, subst, arith, length-append}
+-- The paths at which something is kept are in the order of their bytes.
+use Rattle.std.proofs.Common.{◌≡◌, ◌<◌, ◌+◌, ℕ, zero, suc, Bool, true, false, T, List, [], ◌∷◌, ◌++◌, length, get_or, map, refl, sym, ap, ◌∙◌, subst, arith, length-append, not}
 use Rattle.std.specs.Prelude.{IsTrue}
 use Rattle.std.specs.declared.cmp.Ordering.{Ordering}
 use Rattle.std.specs.declared.cmp.Ordering.TheVariants.{Less, Equal, Greater}
@@ -14,11 +14,11 @@ use Rattle.std.proofs.lemmas.List.{get_or_at, get_or_default}
 use Rattle.std.proofs.lemmas.Map.Views.{tells_apart, Contains-from_any, list_any-from_Contains}
 use Rattle.std.specs.Prelude.{Contains}
 use Rattle.dconf_model.specs.Settings.{AtPaths, Settings, IsSettings}
-use Rattle.dconf_model.specs.Paths.{is_key_path}
+use Rattle.dconf_model.specs.Paths.{is_path, is_key_path, ends_with_slash}
 use Rattle.gvdb_write.specs.Maps.{AreKeyPaths}
 use Rattle.gvdb_write.specs.Names.{IsBefore}
 
--- each path of these stands before the next ones
+-- each path of these precedes the next ones
 pub record Rise (paths : List (List ℕ)) : Type 0 where
   pub rising : (i j : ℕ) → i < j → j < length paths → IsBefore (get_or paths i []) (get_or paths j [])
 
@@ -45,7 +45,7 @@ rise (e ∷ es) h (suc i) (suc j) less here = rise es (and_parts (below_all (sli
 pub keys_rise : {X : Type 0} (m : AtPaths X) → Rise (keys m)
 keys_rise m = record { rising = rise (entries m) (from_true (is_sorted (slice_cmp nat_cmp) (entries m)) (entries_sorted m)) }
 
--- of those that are left, the first stands before the others
+-- of those that are left, the first precedes the others
 pub rise_rest : (path : List ℕ) (rest : List (List ℕ)) → Rise (path ∷ rest) → Rise rest
 rise_rest path rest r = record { rising = λ i j less here. r.rising (suc i) (suc j) (omega (arith, less)) (omega (arith, here)) }
 
@@ -53,12 +53,12 @@ pub first_before : (path : List ℕ) (rest : List (List ℕ)) → Rise (path ∷
 first_before path rest r k here = r.rising zero (suc k) (omega arith) (omega (arith, here))
 
 -- what is listed is kept
-pub listed_is_kept : {X : Type 0} (m : AtPaths X) (front rest : List (List ℕ)) (path : List ℕ) → keys m ≡ front ++ path ∷ rest → IsTrue (contains_key m path)
-listed_is_kept m front rest path is =
+pub listed_is_kept : {X : Type 0} (m : AtPaths X) (prefix rest : List (List ℕ)) (path : List ℕ) → keys m ≡ prefix ++ path ∷ rest → IsTrue (contains_key m path)
+listed_is_kept m prefix rest path is =
     let there : Contains (keys m) path = (
-      length front,
-      (let n : length (keys m) ≡ length front + suc (length rest) = ap (λ (l : List (List ℕ)). length l) is ∙ length-append front (path ∷ rest) in omega (arith, n)),
-      ap (λ (l : List (List ℕ)). get_or l (length front) path) is ∙ get_or_at front path rest path (length front) refl,
+      length prefix,
+      (let n : length (keys m) ≡ length prefix + suc (length rest) = ap (λ (l : List (List ℕ)). length l) is ∙ length-append prefix (path ∷ rest) in omega (arith, n)),
+      ap (λ (l : List (List ℕ)). get_or l (length prefix) path) is ∙ get_or_at prefix path rest path (length prefix) refl,
     ) in
     contains_key-keys m path ∙ list_any-from_Contains (eq_by_cmp_equiv nat_list_cmp_total) path (keys m) there
 
@@ -73,9 +73,12 @@ kept_at m path kept =
     let found = Contains-from_any (tells_apart (slice_cmp-IsAntisymmetric nat_cmp-IsAntisymmetric)) path (keys m) (sym (contains_key-keys m path) ∙ kept) in
     (found.0, found.1, get_or_default (keys m) found.0 [] path found.1 ∙ found.2)
 
+path_of_key : (path : List ℕ) → IsTrue (is_key_path path) → IsTrue (is_path path)
+path_of_key path is = (and_parts (is_path path) (not (ends_with_slash path)) is).0
+
 -- settings whose listed paths are those of keys
 pub are_settings : (s : Settings) → AreKeyPaths (keys s.values) → AreKeyPaths (keys s.locks) → IsSettings s
 are_settings s values locks = record {
   valued = λ path kept. let at = kept_at s.values path kept in subst (λ (x : List ℕ). IsTrue (is_key_path x)) at.2 (values at.0 [] at.1);
-  locked = λ path kept. let at = kept_at s.locks path kept in subst (λ (x : List ℕ). IsTrue (is_key_path x)) at.2 (locks at.0 [] at.1);
+  locked = λ path kept. let at = kept_at s.locks path kept in path_of_key path (subst (λ (x : List ℕ). IsTrue (is_key_path x)) at.2 (locks at.0 [] at.1));
 }

@@ -2,19 +2,19 @@
 use Rattle.std.proofs.Common.{ℕ, ◌≡◌, ◌<◌, List, [], length, get_or, fold, sym, subst}
 use Rattle.dconf_model.specs.Table.{value_kind}
 use Rattle.dconf_model.specs.Plans.{nothing_bytes, all_values, with_new, once_each}
-use Rattle.gvdb_write.specs.declared.layout.Row.{Row as Numbers}
-use Rattle.gvdb_write.specs.declared.layout.Span.{Span}
-use Rattle.gvdb_write.specs.declared.table.Table.{Table}
-use Rattle.gvdb_write.specs.Layouts.{row, values_at, AreRows, AreLocks, HasPlacedValue}
+use Rattle.gvdb_write.specs.declared.layout.ItemRecord.{ItemRecord as Numbers}
+use Rattle.gvdb_write.specs.declared.layout.Pointer.{Pointer}
+use Rattle.gvdb_write.specs.declared.table.TablePlan.{TablePlan}
+use Rattle.gvdb_write.specs.LayoutParts.{row, values_at, AreRecords, AreLocks, HasPlacedValue}
 use Rattle.gvdb_write.specs.Names.{kind_at}
-use Rattle.gvdb_write.specs.Tables.{plan_of}
-use Rattle.gvdb_write.specs.Spanned.{span_at, values_of, AreSet, HavePlaces, AreSpans}
+use Rattle.gvdb_write.specs.PlanWords.{plan_of}
+use Rattle.gvdb_write.specs.Contents.{pointer_at, own_values, AreSet, HavePlaces, ArePointers}
 use Rattle.gvdb_write.proofs.FoundValues.{places_stay}
 use Rattle.gvdb_write.proofs.PlacedRows.{value_placed, lock_placed}
 use Rattle.gvdb_write.proofs.PlanValues.{all_once}
 
--- the values that are laid are those of the plan, and each row of an item with a value says where it stands
-pub record AreValued (root locks : Table) (values : List (List ℕ)) (root_rows lock_rows : List Numbers) : Type 0 where
+-- the values that are laid are those of the plan, and each row of an item with a value says where it is
+pub record AreValued (root locks : TablePlan) (values : List (List ℕ)) (root_rows lock_rows : List Numbers) : Type 0 where
   pub once : values ≡ once_each (all_values (plan_of root locks))
   pub root_values : (i : ℕ) → i < length root.items.items → kind_at root.items.items i ≡ value_kind →
       HasPlacedValue (values_at (plan_of root locks)) (once_each (all_values (plan_of root locks))) ((plan_of root locks).value i) (row root_rows i)
@@ -27,16 +27,16 @@ moved at at' values values' value r e f has =
     subst (λ (n : ℕ). HasPlacedValue n values' value r) e (subst (λ (vs : List (List ℕ)). HasPlacedValue at vs value r) f has)
 
 -- those of the root table are added first, then those of the locks, and then all are laid
-pub are_valued : (root locks : Table) (at keys lock_keys : ℕ) (root_old root_new lock_old lock_new : List Numbers) (first all : List (List ℕ)) (root_places lock_places : List ℕ) (spans : List Span) → AreLocks locks.items.items → AreRows root.items.items keys root_old → AreRows locks.items.items lock_keys lock_old → first ≡ fold with_new [] (values_of root.items.items) → all ≡ fold with_new first (values_of locks.items.items) → HavePlaces root.items.items first root_places → HavePlaces locks.items.items all lock_places → AreSpans at all spans → AreSet root_old root_new value_kind (λ i. span_at spans (get_or root_places i 0)) → AreSet lock_old lock_new value_kind (λ i. span_at spans (get_or lock_places i 0)) → at ≡ values_at (plan_of root locks) → AreValued root locks all root_new lock_new
-are_valued root locks at keys lock_keys root_old root_new lock_old lock_new first all root_places lock_places spans are rows lock_rows of_root of_locks have lock_have laid set lock_set is =
+pub are_valued : (root locks : TablePlan) (at keys lock_keys : ℕ) (root_old root_new lock_old lock_new : List Numbers) (first all : List (List ℕ)) (root_places lock_places : List ℕ) (pointers : List Pointer) → AreLocks locks.items.items → AreRecords root.items.items keys root_old → AreRecords locks.items.items lock_keys lock_old → first ≡ fold with_new [] (own_values root.items.items) → all ≡ fold with_new first (own_values locks.items.items) → HavePlaces root.items.items first root_places → HavePlaces locks.items.items all lock_places → ArePointers at all pointers → AreSet root_old root_new value_kind (λ i. pointer_at pointers (get_or root_places i 0)) → AreSet lock_old lock_new value_kind (λ i. pointer_at pointers (get_or lock_places i 0)) → at ≡ values_at (plan_of root locks) → AreValued root locks all root_new lock_new
+are_valued root locks at keys lock_keys root_old root_new lock_old lock_new first all root_places lock_places pointers are rows lock_rows of_root of_locks have lock_have laid set lock_set is =
     let items = root.items.items in
     let whole : all ≡ once_each (all_values (plan_of root locks)) = all_once root locks first all are of_root of_locks in
     let still : HavePlaces items all root_places =
-    subst (λ (vs : List (List ℕ)). HavePlaces items vs root_places) (sym of_locks) (places_stay items first root_places have (values_of locks.items.items)) in
+    subst (λ (vs : List (List ℕ)). HavePlaces items vs root_places) (sym of_locks) (places_stay items first root_places have (own_values locks.items.items)) in
     record {
       once = whole;
       root_values = λ i l k. moved at _ all _ ((plan_of root locks).value i) (row root_new i) is whole
-          (value_placed items keys at root_old root_new all root_places spans rows still laid set i l k);
+          (value_placed items keys at root_old root_new all root_places pointers rows still laid set i l k);
       lock_values = λ i l. moved at _ all _ nothing_bytes (row lock_new i) is whole
-          (lock_placed locks.items.items lock_keys at lock_old lock_new all lock_places spans are lock_rows lock_have laid lock_set i l);
+          (lock_placed locks.items.items lock_keys at lock_old lock_new all lock_places pointers are lock_rows lock_have laid lock_set i l);
     }

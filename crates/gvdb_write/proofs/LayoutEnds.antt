@@ -5,11 +5,11 @@ use Rattle.dconf_model.specs.Table.{list_kind}
 use Rattle.dconf_model.specs.Entries.{EachEntry, IsRootEntry, AreChildren}
 use Rattle.dconf_model.specs.Plans.{size_of_table, keys_end, root_end, locks_end, values_end, length_of, once_each, all_values}
 use Rattle.dconf_model.proofs.PlanEnds.{lists_end_is, locks_rise}
-use Rattle.gvdb_write.specs.declared.table.Table.{Table}
+use Rattle.gvdb_write.specs.declared.table.TablePlan.{TablePlan}
 use Rattle.gvdb_write.specs.Names.{kind_at}
-use Rattle.gvdb_write.specs.Tables.{entries_of, children_of, plan_of}
-use Rattle.gvdb_write.specs.Layouts.{CanBeLaid, root_keys_at}
-use Rattle.gvdb_write.specs.Laying.{table_end, laid_end, all_lists_end}
+use Rattle.gvdb_write.specs.PlanWords.{entries_of, children_of, plan_of}
+use Rattle.gvdb_write.specs.LayoutParts.{CanBeLaid, root_keys_at}
+use Rattle.gvdb_write.specs.CursorPlaces.{table_end, laid_end, all_lists_end}
 use Rattle.gvdb_write.proofs.WithValues.{values_rise}
 
 -- a header ends at a multiple of 4
@@ -17,12 +17,12 @@ pub header_end : round_up 4 24 ≡ 24
 unfolding round_up
 header_end = refl
 
--- keys of the root table stand behind it
-pub root_keys : (root locks : Table) → table_end 24 (length root.items.items) ≡ root_keys_at (plan_of root locks)
+-- keys of the root table come after it
+pub root_keys : (root locks : TablePlan) → table_end 24 (length root.items.items) ≡ root_keys_at (plan_of root locks)
 root_keys root locks = ap (λ (n : ℕ). n + size_of_table (length root.items.items)) header_end
 
 -- the root table ends with its lists
-pub root_ends : (root locks : Table) → CanBeLaid root.items.items → EachEntry (entries_of root.items.items) (IsRootEntry (entries_of root.items.items)) → AreChildren (entries_of root.items.items) (children_of root) → (i : ℕ) × (i < length root.items.items) × (kind_at root.items.items i ≡ list_kind) → all_lists_end (laid_end 24 root.items.items) (children_of root) ≡ root_end (plan_of root locks)
+pub root_ends : (root locks : TablePlan) → CanBeLaid root.items.items → EachEntry (entries_of root.items.items) (IsRootEntry (entries_of root.items.items)) → AreChildren (entries_of root.items.items) (children_of root) → (i : ℕ) × (i < length root.items.items) × (kind_at root.items.items i ≡ list_kind) → all_lists_end (laid_end 24 root.items.items) (children_of root) ≡ root_end (plan_of root locks)
 root_ends root locks items entries children top =
     ap (λ (n : ℕ). all_lists_end (keys_end (entries_of root.items.items) n (length root.items.items)) (children_of root)) (root_keys root locks)
     ∙ sym (lists_end_is (entries_of root.items.items) (children_of root)
@@ -30,17 +30,17 @@ root_ends root locks items entries children top =
     entries children (λ j p here is. items.parents j p here is) top.1 top.2)
 
 -- what is laid before the values ends before all does
-pub locks_within : (root locks : Table) → locks_end (entries_of locks.items.items) (root_end (plan_of root locks)) ≤ length_of (plan_of root locks)
+pub locks_within : (root locks : TablePlan) → locks_end (entries_of locks.items.items) (root_end (plan_of root locks)) ≤ length_of (plan_of root locks)
 locks_within root locks = values_rise (once_each (all_values (plan_of root locks))) (locks_end (entries_of locks.items.items) (root_end (plan_of root locks)))
 
-pub root_within : (root locks : Table) → root_end (plan_of root locks) ≤ length_of (plan_of root locks)
+pub root_within : (root locks : TablePlan) → root_end (plan_of root locks) ≤ length_of (plan_of root locks)
 root_within root locks =
     let up = locks_rise (entries_of locks.items.items) (root_end (plan_of root locks)) in
     let rest = locks_within root locks in
     omega (arith, up, rest)
 
 -- all of it
-pub whole_is : (root locks : Table) (root_at lock_at end : ℕ) (values : List (List ℕ)) → root_at ≡ root_end (plan_of root locks) → lock_at ≡ locks_end (entries_of locks.items.items) root_at → values ≡ once_each (all_values (plan_of root locks)) → end ≡ values_end lock_at values → end ≡ length_of (plan_of root locks)
+pub whole_is : (root locks : TablePlan) (root_at lock_at end : ℕ) (values : List (List ℕ)) → root_at ≡ root_end (plan_of root locks) → lock_at ≡ locks_end (entries_of locks.items.items) root_at → values ≡ once_each (all_values (plan_of root locks)) → end ≡ values_end lock_at values → end ≡ length_of (plan_of root locks)
 whole_is root locks root_at lock_at end values from to once is =
     is ∙ (ap (λ (n : ℕ). values_end n values) (to ∙ ap (locks_end (entries_of locks.items.items)) from)
     ∙ ap (values_end (locks_end (entries_of locks.items.items) (root_end (plan_of root locks)))) once)

@@ -9,14 +9,14 @@ use Rattle.std.proofs.lemmas.List.{take_all, take_more, take_at, take-take, take
 use Rattle.dconf_model.specs.Table.{list_kind}
 use Rattle.dconf_model.specs.Settings.{Settings}
 use Rattle.dconf_model.specs.Searchable.{IsKind}
-use Rattle.dconf_model.specs.Entries.{IsSpelled, IsEntry, AreEntries, IsTopEntry, IsPartEntry, EntryStandsUnder, IsRootEntry, EachEntry}
+use Rattle.dconf_model.specs.Entries.{IsSpelled, IsEntry, AreEntries, IsTopEntry, IsPartEntry, EntryHasParent, IsRootEntry, EachEntry}
 use Rattle.dconf_model.specs.Plans.{IsDirectoryOf, IsRootName}
 use Rattle.dconf_model.specs.Plans.IsRootName.{top, key, directory, locks}
 use Rattle.gvdb_write.specs.declared.names.Content.{Content}
 use Rattle.gvdb_write.specs.declared.names.Content.TheVariants.{Value, List as Listed, Locks}
 use Rattle.gvdb_write.specs.declared.names.Named.{Named}
-use Rattle.gvdb_write.specs.Tables.{kind_of, entry_of, entries_of}
-use Rattle.gvdb_write.specs.Names.{named, name_at, kind_at, IsSlash, HasNoSlash, EndsAs, IsFit, StandsBehind, IsPlaced, ArePlaced, AreAscending, HasChild, AreGood, IsThere, AreNamesOf}
+use Rattle.gvdb_write.specs.PlanWords.{kind_of, entry_of, entries_of}
+use Rattle.gvdb_write.specs.Names.{named, name_at, kind_at, IsSlash, HasNoSlash, EndsAs, IsFit, NameHasParent, IsPlaced, ArePlaced, AreAscending, HasChild, AreGood, IsThere, AreNamesOf}
 use Rattle.gvdb_write.proofs.PathTexts.{end_is}
 
 -- ---- entries
@@ -26,12 +26,12 @@ is_kind (Value bytes) = inl refl
 is_kind Listed = inr (inl refl)
 is_kind Locks = inr (inr refl)
 
-spelled : (names : List Named) (i : ℕ) → i < length names → (o : Option ℕ) → StandsBehind names i o → IsSpelled (entries_of names) i o
+spelled : (names : List Named) (i : ℕ) → i < length names → (o : Option ℕ) → NameHasParent names i o → IsSpelled (entries_of names) i o
 spelled names i here None s = sym (ap (λ (k : ℕ). drop k (name_at names i)) s.0)
 spelled names i here (Some p) s =
     let before = s.0 in (
       omega (arith, before, here),
-      sym (take-append-drop (named names i).from (name_at names i)) ∙ ap (λ (x : List ℕ). x ++ drop (named names i).from (name_at names i)) s.1.front,
+      sym (take-append-drop (named names i).from (name_at names i)) ∙ ap (λ (x : List ℕ). x ++ drop (named names i).from (name_at names i)) s.1.prefix,
     )
 
 is_entry : (names : List Named) (i : ℕ) → i < length names → IsPlaced names i → IsEntry (entries_of names) i
@@ -39,7 +39,7 @@ is_entry names i here p =
     let some = p.fit.some in
     let len = length-drop (named names i).from (name_at names i) in
     record {
-      spelled = spelled names i here (named names i).parent p.stands;
+      spelled = spelled names i here (named names i).parent p.has_parent;
       some = omega (arith, some, len);
       utf8 = p.fit.utf8;
       no_nul = p.fit.no_nul;
@@ -105,15 +105,15 @@ part_entry n fit (inr list) =
       },
     )
 
-stands : (names : List Named) (i : ℕ) → IsFit (named names i) → (o : Option ℕ) → StandsBehind names i o → EntryStandsUnder (entries_of names) i o
-stands names i fit None s = s.1
-stands names i fit (Some p) s = (s.1.directory, part_entry (named names i) fit s.1.ends)
+has_parent : (names : List Named) (i : ℕ) → IsFit (named names i) → (o : Option ℕ) → NameHasParent names i o → EntryHasParent (entries_of names) i o
+has_parent names i fit None s = s.1
+has_parent names i fit (Some p) s = (s.1.directory, part_entry (named names i) fit s.1.ends)
 
 pub are_root_entries : (names : List Named) → AreGood names → EachEntry (entries_of names) (IsRootEntry (entries_of names))
 are_root_entries names good i here =
     let p = good.placed i here in
     record {
-      stands = stands names i p.fit (named names i).parent p.stands;
+      has_parent = has_parent names i p.fit (named names i).parent p.has_parent;
       short = p.fit.short;
       child = λ list. ⊎_elim (λ (slash : name_at names i ≡ codes "/"). inl slash) (λ (c : HasChild names i). inr (c.0, (c.1, c.2))) (good.children i here list);
     }
@@ -158,46 +158,46 @@ end_of n k (inr list) le s =
           (λ (ge : length n.name.now - 1 ≤ k). let e : k + 1 ≡ length n.name.now = omega (arith, ge, here) in e) (cases_lt k (length n.name.now - 1)),
     )
 
-closed_by : (names : List Named) (i k : ℕ) → i < length names → (o : Option ℕ) → StandsBehind names i o → IsSlash (name_at names i) k → ((p : ℕ) → p < i → IsSlash (name_at names p) k → IsThere names (take (k + 1) (name_at names p)) list_kind) → IsThere names (take (k + 1) (name_at names i)) list_kind
-closed_by names i k here None stands s above = top_directory names i k here stands.0 stands.1 s
-closed_by names i k here (Some p) stands s above =
-    let lies = stands.1 in
+closed_by : (names : List Named) (i k : ℕ) → i < length names → (o : Option ℕ) → NameHasParent names i o → IsSlash (name_at names i) k → ((p : ℕ) → p < i → IsSlash (name_at names p) k → IsThere names (take (k + 1) (name_at names p)) list_kind) → IsThere names (take (k + 1) (name_at names i)) list_kind
+closed_by names i k here None has_parent s above = top_directory names i k here has_parent.0 has_parent.1 s
+closed_by names i k here (Some p) has_parent s above =
+    let lies = has_parent.1 in
     let from = lies.from in
     ⊎_elim
     (λ (l : k < (named names i).from).
-    let front : take (named names i).from (name_at names i) ≡ name_at names p = lies.front in
+    let prefix : take (named names i).from (name_at names i) ≡ name_at names p = lies.prefix in
     let up : IsSlash (name_at names p) k = record {
       here = omega (arith, l, from);
-      slash = sym (ap (λ (x : List ℕ). get_or x k 0) front) ∙ (get_or-take (named names i).from (name_at names i) k 0 l ∙ s.slash);
+      slash = sym (ap (λ (x : List ℕ). get_or x k 0) prefix) ∙ (get_or-take (named names i).from (name_at names i) k 0 l ∙ s.slash);
     } in
     let same : take (k + 1) (name_at names p) ≡ take (k + 1) (name_at names i) =
-    ap (λ (x : List ℕ). take (k + 1) x) (sym front) ∙ take-take (k + 1) (named names i).from (name_at names i) (omega (arith, l)) in
-    subst (λ (x : List ℕ). IsThere names x list_kind) same (above p stands.0 up))
+    ap (λ (x : List ℕ). take (k + 1) x) (sym prefix) ∙ take-take (k + 1) (named names i).from (name_at names i) (omega (arith, l)) in
+    subst (λ (x : List ℕ). IsThere names x list_kind) same (above p has_parent.0 up))
     (λ (ge : (named names i).from ≤ k). let e = end_of (named names i) k lies.ends ge s in itself names i k here e.0 e.1)
     (cases_lt k (named names i).from)
 
 closed_within : (n : ℕ) (names : List Named) → ArePlaced names → (i k : ℕ) → i < n → i < length names → IsSlash (name_at names i) k → IsThere names (take (k + 1) (name_at names i)) list_kind
 closed_within zero names placed i k few here s = absurd (omega (arith, few))
 closed_within (suc n) names placed i k few here s =
-    closed_by names i k here (named names i).parent (placed i here).stands s
+    closed_by names i k here (named names i).parent (placed i here).has_parent s
     (λ p before up. closed_within n names placed p k (omega (arith, few, before)) (omega (arith, before, here)) up)
 
 pub closed : (names : List Named) → ArePlaced names → (i k : ℕ) → i < length names → IsSlash (name_at names i) k → IsThere names (take (k + 1) (name_at names i)) list_kind
 closed names placed i k here s = closed_within (i + 1) names placed i k (omega arith) here s
 
--- a directory of a path is a front of it up to a slash
-front_slash : (d path : List ℕ) → IsDirectoryOf d path → (k : ℕ) × IsSlash path k × (d ≡ take (k + 1) path)
-front_slash d path is =
+-- a directory of a path is a prefix of it up to a slash
+prefix_slash : (d path : List ℕ) → IsDirectoryOf d path → (k : ℕ) × IsSlash path k × (d ≡ take (k + 1) path)
+prefix_slash d path is =
     let ends : d ≡ take (length d - 1) d ++ 47 ∷ [] = end_is d is.slash in
     let some : length d ≡ length (take (length d - 1) d) + 1 = ap (λ (x : List ℕ). length x) ends ∙ length-append (take (length d - 1) d) (47 ∷ []) in
     let long : length path ≡ length d + length is.more = ap (λ (x : List ℕ). length x) is.whole ∙ length-append d is.more in
     let n : length d ≡ length d - 1 + 1 = omega (arith, some) in
     let size : length (take (length d - 1) d) ≡ length d - 1 = omega (arith, some) in
     let at_d : get_or d (length d - 1) 0 ≡ 47 = ap (λ (x : List ℕ). get_or x (length d - 1) 0) ends ∙ get_or_at (take (length d - 1) d) 47 [] 0 (length d - 1) size in
-    let front : take (length d - 1 + 1) path ≡ d = ap (λ (x : List ℕ). take (length d - 1 + 1) x) is.whole ∙ take_at d is.more (length d - 1 + 1) n in
+    let prefix : take (length d - 1 + 1) path ≡ d = ap (λ (x : List ℕ). take (length d - 1 + 1) x) is.whole ∙ take_at d is.more (length d - 1 + 1) n in
     let at_path : get_or path (length d - 1) 0 ≡ 47 =
-    sym (get_or-take (length d - 1 + 1) path (length d - 1) 0 (omega arith)) ∙ (ap (λ (x : List ℕ). get_or x (length d - 1) 0) front ∙ at_d) in
-    (length d - 1, record { here = omega (arith, long, some); slash = at_path }, sym front)
+    sym (get_or-take (length d - 1 + 1) path (length d - 1) 0 (omega arith)) ∙ (ap (λ (x : List ℕ). get_or x (length d - 1) 0) prefix ∙ at_d) in
+    (length d - 1, record { here = omega (arith, long, some); slash = at_path }, sym prefix)
 
 -- each name that a root table has to have is there
 pub all_there : (s : Settings) (names : List Named) → AreNamesOf s names → (name : List ℕ) → IsRootName s name → (i : ℕ) × (i < length names) × (name_at names i ≡ name)
@@ -205,7 +205,7 @@ all_there s names are name (top is) = (are.top.at, are.top.counted, are.top.name
 all_there s names are name (key kept) = let t = are.keys name kept in (t.at, t.counted, t.named)
 all_there s names are name (directory path kept is) =
     let t = are.keys path kept in
-    let f = front_slash name path is in
+    let f = prefix_slash name path is in
     let d = closed names are.good.placed t.at f.0 t.counted (subst (λ (x : List ℕ). IsSlash x f.0) (sym t.named) f.1) in
     (d.at, d.counted, d.named ∙ (ap (λ (x : List ℕ). take (f.0 + 1) x) t.named ∙ sym f.2))
 all_there s names are name (locks is some) = let t = are.locks some in (t.at, t.counted, t.named ∙ sym is)

@@ -1,25 +1,25 @@
--- The content of each item of a file stands where the item's numbers say.
+-- The content of each item of a file is where the item's numbers say.
 use Rattle.std.proofs.Common.{◌≡◌, ◌<◌, ◌≤◌, ◌+◌, ◌-◌, ◌*◌, ◌%◌, ℕ, List, length, sym, ap, ◌∙◌, subst, arith, inl, inr}
 use Rattle.std.proofs.lemmas.List.{length-map}
 use Rattle.gv_model.specs.Layout.{round_up}
 use Rattle.dconf_model.specs.Table.{value_kind, list_kind, table_kind}
 use Rattle.dconf_model.specs.Searchable.{IsKind}
 use Rattle.dconf_model.specs.Plans.{Plan, all_values, once_each, nothing_bytes}
-use Rattle.dconf_model.specs.Standing.{Stands, words_bytes}
-use Rattle.dconf_model.proofs.Standing.{stands_at, stands_inside}
+use Rattle.dconf_model.specs.TableBytes.{OccursAt, words_bytes}
+use Rattle.dconf_model.proofs.Occurrences.{occurs_at, occurs_inside}
 use Rattle.dconf_model.proofs.LaidGroups.{firsts_rise}
 use Rattle.dconf_model.proofs.PlanLocks.{table_has_locks}
-use Rattle.gvdb_write.specs.declared.layout.Row.{Row as Numbers}
+use Rattle.gvdb_write.specs.declared.layout.ItemRecord.{ItemRecord as Numbers}
 use Rattle.gvdb_write.specs.declared.layout.Layout.{Layout}
-use Rattle.gvdb_write.specs.declared.table.Table.{Table}
-use Rattle.gvdb_write.specs.Tables.{children_of, plan_of}
+use Rattle.gvdb_write.specs.declared.table.TablePlan.{TablePlan}
+use Rattle.gvdb_write.specs.PlanWords.{children_of, plan_of}
 use Rattle.gvdb_write.specs.Names.{kind_at}
-use Rattle.gvdb_write.specs.Layouts.{IsLayoutOf, HasSpan, HasPlacedValue, row, lists_at, locks_at, lock_keys_at, values_at, value_start}
-use Rattle.gvdb_write.specs.Appended.{numbers_of}
-use Rattle.gvdb_write.specs.Planned.{AreTables}
+use Rattle.gvdb_write.specs.LayoutParts.{IsLayoutOf, HasPointer, HasPlacedValue, row, lists_at, locks_at, lock_keys_at, values_at, value_start}
+use Rattle.gvdb_write.specs.WrittenParts.{numbers_of}
+use Rattle.gvdb_write.specs.PlannedTables.{AreTables}
 use Rattle.gvdb_write.proofs.TableWritten.{HasContentAt, length-words}
 use Rattle.gvdb_write.proofs.PartEnds.{locks_fit}
-use Rattle.gvdb_write.proofs.PartsStanding.{AreParts, file_length, lists_stand, value_in}
+use Rattle.gvdb_write.proofs.PartPlaces.{AreParts, file_length, lists_occur, value_in}
 
 whole_8 : (n : ℕ) → round_up 8 n % 8 ≡ 0
 unfolding round_up
@@ -35,7 +35,7 @@ run_is_whole base a b start end e f = omega (arith, e, f)
 starts_whole : (base a start : ℕ) → base % 4 ≡ 0 → start ≡ base + 4 * a → start % 4 ≡ 0
 starts_whole base a start e f = omega (arith, e, f)
 
-module _ (root locks : Table) (layout : Layout) (file : List ℕ) (tables : AreTables root locks) (laid : IsLayoutOf root locks layout) (parts : AreParts root locks layout file) where
+module _ (root locks : TablePlan) (layout : Layout) (file : List ℕ) (tables : AreTables root locks) (laid : IsLayoutOf root locks layout) (parts : AreParts root locks layout file) where
   abbrev P : Plan
   P = plan_of root locks
 
@@ -44,24 +44,24 @@ module _ (root locks : Table) (layout : Layout) (file : List ℕ) (tables : AreT
 
   -- ---- a value
 
-  pub placed_stands : (value : List ℕ) (r : Numbers) → HasPlacedValue (values_at (plan_of root locks)) (once_each (all_values (plan_of root locks))) value r → Stands file r.start value
-  placed_stands value r is =
+  pub placed_occurs : (value : List ℕ) (r : Numbers) → HasPlacedValue (values_at (plan_of root locks)) (once_each (all_values (plan_of root locks))) value r → OccursAt file r.start value
+  placed_occurs value r is =
       let at = value_start (values_at P) Stored is.place in
-      stands_at file at r.start value (sym is.spanned.start_is)
-      (subst (λ (b : List ℕ). Stands file at b) is.is (value_in root locks layout file tables laid parts is.place is.within))
+      occurs_at file at r.start value (sym is.pointed.start_is)
+      (subst (λ (b : List ℕ). OccursAt file at b) is.is (value_in root locks layout file tables laid parts is.place is.within))
 
   pub placed_ends : (value : List ℕ) (r : Numbers) → HasPlacedValue (values_at (plan_of root locks)) (once_each (all_values (plan_of root locks))) value r → r.end ≡ r.start + length value
-  placed_ends value r is = is.spanned.end_is ∙ ap (λ (n : ℕ). n + length value) (sym is.spanned.start_is)
+  placed_ends value r is = is.pointed.end_is ∙ ap (λ (n : ℕ). n + length value) (sym is.pointed.start_is)
 
   value_content : (value : List ℕ) (r : Numbers) → HasPlacedValue (values_at P) Stored value r → HasContentAt file value_kind r
   value_content value r is =
       let end = placed_ends value r is in
-      let inside = stands_inside file r.start value (placed_stands value r is) in
+      let inside = occurs_inside file r.start value (placed_occurs value r is) in
       record {
         valid = record {
           ordered = omega (arith, end);
           inside = omega (arith, end, inside);
-          aligned = ap (λ (n : ℕ). n % 8) is.spanned.start_is ∙ whole_8 _;
+          aligned = ap (λ (n : ℕ). n % 8) is.pointed.start_is ∙ whole_8 _;
         };
         whole = λ list. absurd (omega (arith, list));
       }
@@ -75,15 +75,15 @@ module _ (root locks : Table) (layout : Layout) (file : List ℕ) (tables : AreT
   pub list_within : (i : ℕ) → i < length root.items.items → (children_of root).first (i + 1) ≤ length root.children.items
   list_within i here = tables.plan.children.firsts.within (i + 1) (omega (arith, here))
 
-  list_content : (i : ℕ) (r : Numbers) → i < length root.items.items → HasSpan r (lists_at P + 4 * P.children.first i) (lists_at P + 4 * P.children.first (i + 1)) → HasContentAt file list_kind r
-  list_content i r here span =
-      let from = span.start_is in
-      let to = span.end_is in
+  list_content : (i : ℕ) (r : Numbers) → i < length root.items.items → HasPointer r (lists_at P + 4 * P.children.first i) (lists_at P + 4 * P.children.first (i + 1)) → HasContentAt file list_kind r
+  list_content i r here pointer =
+      let from = pointer.start_is in
+      let to = pointer.end_is in
       let rise = list_rises i here in
       let within = list_within i here in
       let n = length-words (numbers_of root.children.items) in
       let m = length-map root.children.items (λ (c : ℕ × ℕ). c.1) in
-      let inside = stands_inside file (lists_at P) (words_bytes (numbers_of root.children.items)) (lists_stand root locks layout file tables laid parts) in
+      let inside = occurs_inside file (lists_at P) (words_bytes (numbers_of root.children.items)) (lists_occur root locks layout file tables laid parts) in
       record {
         valid = record {
           ordered = omega (arith, from, to, rise);
@@ -95,10 +95,10 @@ module _ (root locks : Table) (layout : Layout) (file : List ℕ) (tables : AreT
 
   -- ---- the table of locks
 
-  table_content : (r : Numbers) → 0 < length locks.items.items → HasSpan r (locks_at P) (lock_keys_at P) → HasContentAt file table_kind r
-  table_content r some span =
-      let from = span.start_is in
-      let to = span.end_is in
+  table_content : (r : Numbers) → 0 < length locks.items.items → HasPointer r (locks_at P) (lock_keys_at P) → HasContentAt file table_kind r
+  table_content r some pointer =
+      let from = pointer.start_is in
+      let to = pointer.end_is in
       let fit = locks_fit root locks layout tables laid some in
       let n = file_length root locks layout file tables laid parts in
       record {

@@ -1,26 +1,26 @@
--- Where the parts of a file end that are written one behind another: where the plan says.
+-- Where the parts of a file end that are written one after another: where the plan says.
 use Rattle.std.proofs.Common.{◌≡◌, ◌<◌, ◌≤◌, ◌+◌, ◌*◌, ℕ, List, [], ◌++◌, length, sym, ap, ◌∙◌, arith, inl, inr, ⊎_elim, Bor, length-append}
 use Rattle.std.proofs.lemmas.Bool.{cases_lt}
 use Rattle.std.proofs.lemmas.List.{length-map}
 use Rattle.gv_model.specs.Layout.{round_up}
+use Rattle.gv_model.specs.Limits.{limit}
 use Rattle.dconf_model.specs.Plans.{Plan, size_of_table, keys_end, values_end, root_end, length_of, all_values, once_each}
-use Rattle.dconf_model.specs.Standing.{words_bytes, header_bytes}
-use Rattle.dconf_model.proofs.HeaderStanding.{length-header}
+use Rattle.dconf_model.specs.TableBytes.{words_bytes, header_bytes}
+use Rattle.dconf_model.proofs.HeaderBytes.{length-header}
 use Rattle.dconf_model.proofs.PlanEnds.{keys_rise, lists_rise, all_lists_end, locks_rise, some_locks_end, no_locks_end}
 use Rattle.gvdb_write.specs.declared.layout.Layout.{Layout}
-use Rattle.gvdb_write.specs.declared.table.Table.{Table}
-use Rattle.gvdb_write.specs.Laid.{limit}
-use Rattle.gvdb_write.specs.Tables.{entries_of, plan_of}
+use Rattle.gvdb_write.specs.declared.table.TablePlan.{TablePlan}
+use Rattle.gvdb_write.specs.PlanWords.{entries_of, plan_of}
 use Rattle.gvdb_write.specs.Values.{bytes_of_each}
-use Rattle.gvdb_write.specs.Layouts.{IsLayoutOf, root_keys_at, lists_at, locks_at, lock_keys_at, values_at}
-use Rattle.gvdb_write.specs.Appended.{HaveNumbers, HasTable, HasTableOfLocks, numbers_of, padded}
-use Rattle.gvdb_write.specs.Planned.{AreTables}
+use Rattle.gvdb_write.specs.LayoutParts.{IsLayoutOf, root_keys_at, lists_at, locks_at, lock_keys_at, values_at}
+use Rattle.gvdb_write.specs.WrittenParts.{HaveNumbers, HasTable, HasTableOfLocks, numbers_of, with_padding}
+use Rattle.gvdb_write.specs.PlannedTables.{AreTables}
 use Rattle.gvdb_write.proofs.WithValues.{values_rise}
 use Rattle.gvdb_write.proofs.TableWritten.{length-padded_4, length-words, table_length, few_items}
 
--- the lists stand behind the root table
-abbrev pub with_lists : Table → List ℕ → List ℕ
-with_lists root with_root = padded 4 with_root ++ words_bytes (numbers_of root.children.items)
+-- the lists come after the root table
+abbrev pub with_lists : TablePlan → List ℕ → List ℕ
+with_lists root with_root = with_padding 4 with_root ++ words_bytes (numbers_of root.children.items)
 
 pub header_ends : (start end : ℕ) → round_up 4 (length (header_bytes start end)) ≡ 24
 unfolding round_up
@@ -32,7 +32,7 @@ header_long start end first header none is =
     let m : length header ≡ length (header_bytes start end) = ap length (is ∙ ap (λ (f : List ℕ). f ++ header_bytes start end) none) in
     omega (arith, n, m)
 
-module _ (root locks : Table) (layout : Layout) (tables : AreTables root locks) (laid : IsLayoutOf root locks layout) where
+module _ (root locks : TablePlan) (layout : Layout) (tables : AreTables root locks) (laid : IsLayoutOf root locks layout) where
   abbrev P : Plan
   P = plan_of root locks
 
@@ -84,14 +84,14 @@ module _ (root locks : Table) (layout : Layout) (tables : AreTables root locks) 
 
   -- ---- as they are written
 
-  pub root_long : (with_root : List ℕ) → HasTable root layout.root.rows.items (header_bytes layout.root.span.start layout.root.span.end) with_root → length with_root ≡ keys_end (entries_of root.items.items) (root_keys_at (plan_of root locks)) (length root.items.items)
+  pub root_long : (with_root : List ℕ) → HasTable root layout.root.rows.items (header_bytes layout.root.pointer.start layout.root.pointer.end) with_root → length with_root ≡ keys_end (entries_of root.items.items) (root_keys_at (plan_of root locks)) (length root.items.items)
   root_long with_root has =
-      table_length root layout.root.rows.items (root_keys_at P) tables.root_items laid.root_rows (header_bytes layout.root.span.start layout.root.span.end) with_root has
-      ∙ ap (λ (n : ℕ). keys_end (entries_of root.items.items) (n + size_of_table (length root.items.items)) (length root.items.items)) (header_ends layout.root.span.start layout.root.span.end)
+      table_length root layout.root.rows.items (root_keys_at P) tables.root_items laid.root_rows (header_bytes layout.root.pointer.start layout.root.pointer.end) with_root has
+      ∙ ap (λ (n : ℕ). keys_end (entries_of root.items.items) (n + size_of_table (length root.items.items)) (length root.items.items)) (header_ends layout.root.pointer.start layout.root.pointer.end)
 
   pub lists_long : (with_root : List ℕ) → length with_root ≡ keys_end (entries_of root.items.items) (root_keys_at (plan_of root locks)) (length root.items.items) → length (with_lists root with_root) ≡ root_end (plan_of root locks)
   lists_long with_root long =
-      let a = length-append (padded 4 with_root) (words_bytes (numbers_of root.children.items)) in
+      let a = length-append (with_padding 4 with_root) (words_bytes (numbers_of root.children.items)) in
       let b = length-padded_4 with_root ∙ ap (round_up 4) long in
       let c = length-words (numbers_of root.children.items) in
       let d = length-map root.children.items (λ (m : ℕ × ℕ). m.1) in
@@ -111,7 +111,7 @@ module _ (root locks : Table) (layout : Layout) (tables : AreTables root locks) 
 
   -- ---- no end is past the limit
 
-  pub root_within : (with_root : List ℕ) → HasTable root layout.root.rows.items (header_bytes layout.root.span.start layout.root.span.end) with_root → length with_root ≤ limit
+  pub root_within : (with_root : List ℕ) → HasTable root layout.root.rows.items (header_bytes layout.root.pointer.start layout.root.pointer.end) with_root → length with_root ≤ limit
   root_within with_root has =
       let long = root_long with_root has in
       let a = root_below in
@@ -120,10 +120,10 @@ module _ (root locks : Table) (layout : Layout) (tables : AreTables root locks) 
       let d = laid.within in
       omega (arith, long, a, b, c, d)
 
-  lists_ends : (with_root lists : List ℕ) → HasTable root layout.root.rows.items (header_bytes layout.root.span.start layout.root.span.end) with_root → lists ≡ with_lists root with_root → length lists ≡ root_end P
+  lists_ends : (with_root lists : List ℕ) → HasTable root layout.root.rows.items (header_bytes layout.root.pointer.start layout.root.pointer.end) with_root → lists ≡ with_lists root with_root → length lists ≡ root_end P
   lists_ends with_root lists has is = ap length is ∙ lists_long with_root (root_long with_root has)
 
-  pub lists_within : (with_root lists : List ℕ) → HasTable root layout.root.rows.items (header_bytes layout.root.span.start layout.root.span.end) with_root → lists ≡ with_lists root with_root → length lists ≤ limit
+  pub lists_within : (with_root lists : List ℕ) → HasTable root layout.root.rows.items (header_bytes layout.root.pointer.start layout.root.pointer.end) with_root → lists ≡ with_lists root with_root → length lists ≤ limit
   lists_within with_root lists has is =
       let long = lists_ends with_root lists has is in
       let b = lists_below in
@@ -131,7 +131,7 @@ module _ (root locks : Table) (layout : Layout) (tables : AreTables root locks) 
       let d = laid.within in
       omega (arith, long, b, c, d)
 
-  pub values_within : (with_root lists with_locks : List ℕ) (values : List (Bor (List ℕ))) → HasTable root layout.root.rows.items (header_bytes layout.root.span.start layout.root.span.end) with_root → lists ≡ with_lists root with_root → HasTableOfLocks locks layout.locks.rows.items lists with_locks → values ≡ layout.values.items → values_end (length with_locks) (bytes_of_each values) ≤ limit
+  pub values_within : (with_root lists with_locks : List ℕ) (values : List (Bor (List ℕ))) → HasTable root layout.root.rows.items (header_bytes layout.root.pointer.start layout.root.pointer.end) with_root → lists ≡ with_lists root with_root → HasTableOfLocks locks layout.locks.rows.items lists with_locks → values ≡ layout.values.items → values_end (length with_locks) (bytes_of_each values) ≤ limit
   values_within with_root lists with_locks values has is locked same =
       let long = locks_long lists with_locks (lists_ends with_root lists has is) locked in
       let end : values_end (length with_locks) (bytes_of_each values) ≡ length_of P = ap (λ (vs : List (Bor (List ℕ))). values_end (length with_locks) (bytes_of_each vs)) same ∙ values_long (length with_locks) long in

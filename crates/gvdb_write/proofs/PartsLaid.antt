@@ -1,31 +1,31 @@
--- A file whose parts are written one behind another is a database that is laid by its plan.
+-- A file whose parts are written one after another is a database that is laid by its plan.
 use Rattle.std.proofs.Common.{◌≡◌, ◌<◌, ◌+◌, ◌/◌, ℕ, List, length, refl, sym, ap, ◌∙◌, subst, arith, codes}
 use Rattle.std.proofs.Math.ListN.{get_or-map}
 use Rattle.std.proofs.lemmas.List.{length-map}
 use Rattle.dconf_model.specs.Table.{Table as Place, Item, item, value_kind, list_kind, bytes_of, table_of}
 use Rattle.dconf_model.specs.Entries.{IsLaidOut, IsLaidList, AreLaidLocks}
 use Rattle.dconf_model.specs.Plans.{Plan, IsLaidBy}
-use Rattle.dconf_model.specs.Standing.{Stands, Row}
-use Rattle.dconf_model.specs.Written.{IsWritten}
-use Rattle.dconf_model.proofs.HeaderStanding.{same_table, root_is, is_database}
-use Rattle.dconf_model.proofs.TableStanding.{item_of_row, has_items}
-use Rattle.dconf_model.proofs.LaidStanding.{row_at, written_is_laid, bytes_are, list_is_laid}
+use Rattle.dconf_model.specs.TableBytes.{OccursAt, ItemRecord}
+use Rattle.dconf_model.specs.TableEncoding.{IsWritten}
+use Rattle.dconf_model.proofs.HeaderBytes.{same_table, root_is, is_database}
+use Rattle.dconf_model.proofs.TableNumbers.{item_of_row, has_items}
+use Rattle.dconf_model.proofs.EncodedTable.{row_at, written_is_laid, bytes_are, list_is_laid}
 use Rattle.dconf_model.proofs.PlanLocks.{locks_kind, table_has_locks}
 use Rattle.gvdb_write.specs.declared.layout.Layout.{Layout}
-use Rattle.gvdb_write.specs.declared.table.Table.{Table}
-use Rattle.gvdb_write.specs.Tables.{plan_of}
-use Rattle.gvdb_write.specs.Layouts.{IsLayoutOf, row, root_keys_at, lists_at, locks_at, lock_keys_at}
-use Rattle.gvdb_write.specs.Appended.{rows_of, numbers_of}
-use Rattle.gvdb_write.specs.Planned.{AreTables, IsFileOf}
+use Rattle.gvdb_write.specs.declared.table.TablePlan.{TablePlan}
+use Rattle.gvdb_write.specs.PlanWords.{plan_of}
+use Rattle.gvdb_write.specs.LayoutParts.{IsLayoutOf, row, root_keys_at, lists_at, locks_at, lock_keys_at}
+use Rattle.gvdb_write.specs.WrittenParts.{records_of, numbers_of}
+use Rattle.gvdb_write.specs.PlannedTables.{AreTables, IsFileOf}
 use Rattle.gvdb_write.proofs.TableWritten.{is_written, row_is}
 use Rattle.gvdb_write.proofs.PartEnds.{root_fits, locks_fit, few_root, few_locks}
-use Rattle.gvdb_write.proofs.PartsStanding.{AreParts, file_length, header_stands, root_stands, lists_stand, locks_table, locks_stand}
-use Rattle.gvdb_write.proofs.PartContents.{whole_4, placed_stands, placed_ends, list_rises, list_within, root_contents, lock_contents}
+use Rattle.gvdb_write.proofs.PartPlaces.{AreParts, file_length, header_occurs, root_occurs, lists_occur, locks_table, locks_occur}
+use Rattle.gvdb_write.proofs.PartContents.{whole_4, placed_occurs, placed_ends, list_rises, list_within, root_contents, lock_contents}
 
 some_words : (n words : ℕ) → 0 < n → words ≡ (n + 15) / 16 → 0 < words
 some_words n words l e = omega (arith, l, e)
 
-module _ (root locks : Table) (layout : Layout) (file : List ℕ) (tables : AreTables root locks) (laid : IsLayoutOf root locks layout) (parts : AreParts root locks layout file) where
+module _ (root locks : TablePlan) (layout : Layout) (file : List ℕ) (tables : AreTables root locks) (laid : IsLayoutOf root locks layout) (parts : AreParts root locks layout file) where
   abbrev P : Plan
   P = plan_of root locks
 
@@ -35,15 +35,15 @@ module _ (root locks : Table) (layout : Layout) (file : List ℕ) (tables : AreT
   abbrev Locked : Place
   Locked = record { file = file; start = locks_at P; end = lock_keys_at P }
 
-  abbrev Rows : List Row
-  Rows = rows_of layout.root.rows.items
+  abbrev Rows : List ItemRecord
+  Rows = records_of layout.root.rows.items
 
   -- ---- the root table
 
   root_written : IsWritten Root P.root parts.root_table.words root.buckets.items Rows
   root_written =
       is_written root layout.root.rows.items file 24 tables.root_items laid.root_rows (few_root root locks layout tables laid) parts.root_table.words parts.root_table.counted parts.root_table.bits
-      (root_stands root locks layout file tables laid parts) (root_contents root locks layout file tables laid parts)
+      (root_occurs root locks layout file tables laid parts) (root_contents root locks layout file tables laid parts)
 
   root_laid : IsLaidOut Root P.root
   root_laid =
@@ -55,13 +55,13 @@ module _ (root locks : Table) (layout : Layout) (file : List ℕ) (tables : AreT
 
   root_list : (i : ℕ) → i < length root.items.items → (P.root.entry i).kind ≡ list_kind → IsLaidList Root P.children i
   root_list i here kind =
-      let span = laid.lists i here kind in
+      let pointer = laid.lists i here kind in
       let is = row_is layout.root.rows.items i in
       list_is_laid Root P.root P.children parts.root_table.words root.buckets.items Rows (lists_at P) i (numbers_of root.children.items) root_written tables.plan.entries here
-      (lists_stand root locks layout file tables laid parts) (length-map root.children.items (λ (m : ℕ × ℕ). m.1))
+      (lists_occur root locks layout file tables laid parts) (length-map root.children.items (λ (m : ℕ × ℕ). m.1))
       (λ k l. get_or-map (λ (m : ℕ × ℕ). m.1) root.children.items k (0, 0))
       (list_rises root locks layout file tables laid parts i here) (list_within root locks layout file tables laid parts i here)
-      (ap (λ (r : Row). r.start) is ∙ span.start_is) (ap (λ (r : Row). r.end) is ∙ span.end_is)
+      (ap (λ (r : ItemRecord). r.start) is ∙ pointer.start_is) (ap (λ (r : ItemRecord). r.end) is ∙ pointer.end_is)
 
   -- the values
 
@@ -71,16 +71,16 @@ module _ (root locks : Table) (layout : Layout) (file : List ℕ) (tables : AreT
       let r = row layout.root.rows.items i in
       let is = row_is layout.root.rows.items i in
       bytes_are Root P.root parts.root_table.words root.buckets.items Rows i (P.value i) root_written tables.plan.entries here
-      (subst (λ (x : Row). Stands file x.start (P.value i)) (sym is) (placed_stands root locks layout file tables laid parts (P.value i) r placed))
-      (subst (λ (x : Row). x.end ≡ x.start + length (P.value i)) (sym is) (placed_ends root locks layout file tables laid parts (P.value i) r placed))
+      (subst (λ (x : ItemRecord). OccursAt file x.start (P.value i)) (sym is) (placed_occurs root locks layout file tables laid parts (P.value i) r placed))
+      (subst (λ (x : ItemRecord). x.end ≡ x.start + length (P.value i)) (sym is) (placed_ends root locks layout file tables laid parts (P.value i) r placed))
 
   -- ---- the table of locks
 
-  locks_written : (some : 0 < length locks.items.items) → IsWritten Locked P.locks (locks_table root locks layout file tables laid parts some).words locks.buckets.items (rows_of layout.locks.rows.items)
+  locks_written : (some : 0 < length locks.items.items) → IsWritten Locked P.locks (locks_table root locks layout file tables laid parts some).words locks.buckets.items (records_of layout.locks.rows.items)
   locks_written some =
       let table = locks_table root locks layout file tables laid parts some in
       is_written locks layout.locks.rows.items file (locks_at P) tables.lock_items (laid.lock_rows some) (few_locks root locks layout tables laid) table.words table.counted table.bits
-      (locks_stand root locks layout file tables laid parts some) (lock_contents root locks layout file tables laid parts)
+      (locks_occur root locks layout file tables laid parts some) (lock_contents root locks layout file tables laid parts)
 
   locks_laid : 0 < length locks.items.items → AreLaidLocks Locked P.locks
   locks_laid some =
@@ -91,9 +91,9 @@ module _ (root locks : Table) (layout : Layout) (file : List ℕ) (tables : AreT
       record {
         opens = record {
           head = record { inside = omega (arith, fit, n); aligned = whole_4 _; head = omega arith };
-          items = has_items Locked table.words locks.buckets.items (rows_of layout.locks.rows.items) written.table;
+          items = has_items Locked table.words locks.buckets.items (records_of layout.locks.rows.items) written.table;
         };
-        laid = written_is_laid Locked P.locks table.words locks.buckets.items (rows_of layout.locks.rows.items) written tables.plan.lock_entries
+        laid = written_is_laid Locked P.locks table.words locks.buckets.items (records_of layout.locks.rows.items) written tables.plan.lock_entries
             (some_words (length locks.items.items) (length table.words) some table.counted);
         entries = tables.plan.lock_entries;
         locks = tables.plan.locks;
@@ -104,12 +104,12 @@ module _ (root locks : Table) (layout : Layout) (file : List ℕ) (tables : AreT
   root_locks i here name =
       let kind = locks_kind tables.settings P i tables.are_settings tables.plan here name in
       let some = table_has_locks tables.settings P i tables.are_settings tables.plan here kind in
-      let span = laid.tables i here kind some in
+      let pointer = laid.tables i here kind some in
       let is = row_at Root P.root parts.root_table.words root.buckets.items Rows i root_written tables.plan.entries here ∙ ap item_of_row (row_is layout.root.rows.items i) in
       subst (λ (t : Place). AreLaidLocks t P.locks)
       (sym
       (same_table file (item Root i).start (locks_at P) (item Root i).end (lock_keys_at P)
-      (ap (λ (x : Item). x.start) is ∙ span.start_is) (ap (λ (x : Item). x.end) is ∙ span.end_is)))
+      (ap (λ (x : Item). x.start) is ∙ pointer.start_is) (ap (λ (x : Item). x.end) is ∙ pointer.end_is)))
       (locks_laid some)
 
   -- ---- all of it
@@ -131,7 +131,7 @@ module _ (root locks : Table) (layout : Layout) (file : List ℕ) (tables : AreT
   is_file =
       let fit = root_fits root locks layout tables laid in
       let n = file_length root locks layout file tables laid parts in
-      let header = header_stands root locks layout file tables laid parts in
+      let header = header_occurs root locks layout file tables laid parts in
       record {
         opens = is_database file 24 (root_keys_at P) parts.root_table.words root.buckets.items Rows header refl (omega (arith, fit, n)) root_written.table;
         laid = subst (λ (t : Place). IsLaidBy t P) (sym (root_is file 24 (root_keys_at P) header)) root_by;

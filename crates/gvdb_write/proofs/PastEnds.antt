@@ -1,9 +1,10 @@
--- What is too long already is so with what is laid behind it.
+-- What is too long already is so with what is laid after it.
 use Rattle.std.proofs.Common.{ℕ, ◌<◌, Result, IfErr}
 use Rattle.std.proofs.lemmas.Result.{IfErr-weaker}
 use Rattle.gvdb_write.specs.declared.write_fault.WriteFault.{WriteFault}
 use Rattle.gvdb_write.specs.declared.write_fault.WriteFault.TheVariants.{TooBig, Memory}
-use Rattle.gvdb_write.specs.Laid.{limit, IsPast, IsOver}
+use Rattle.gvdb_write.specs.Limits.{IsPast, IsOver}
+use Rattle.gv_model.specs.Limits.{limit}
 
 over_of : (n m : ℕ) (e : WriteFault) → (limit < n → limit < m) → IsPast n e → IsOver m e
 over_of n m TooBig more past = more past

@@ -1,35 +1,28 @@
--- The path of a key, place by place.
-use Rattle.std.proofs.Common.{◌≡◌, ◌≢◌, ◌<◌, ◌≤◌, ◌+◌, ◌-◌, ◌&&◌, ◌||◌, ◌==◌, ℕ, zero, suc, Bool, true, false, not, List, [], ◌∷◌, ◌++◌, length, get_or, take, drop, refl, sym, ap, ◌∙◌, arith}
+-- Paths, and those of keys, place by place.
+use Rattle.std.proofs.Common.{◌≡◌, ◌≢◌, ◌<◌, ◌≤◌, ◌+◌, ◌-◌, ◌&&◌, ◌||◌, ◌==◌, ℕ, zero, suc, true, false, not, List, [], ◌∷◌, ◌++◌, length, get_or, take, drop, refl, sym, ap, ◌∙◌, arith}
 use Rattle.std.specs.Prelude.{IsTrue}
 use Rattle.std.specs.List.{list_any}
-use Rattle.std.proofs.lemmas.Bool.{and_parts, leb-true}
+use Rattle.std.proofs.lemmas.Bool.{and_parts, leb-true, not-true, both_ways, or_parts}
 use Rattle.std.proofs.lemmas.Bool.Decides.{Decides-eqb}
 use Rattle.std.proofs.lemmas.List.{get_or_past, take_all, take_more}
 use Rattle.std.proofs.lemmas.Slice.Eq.{starts_is, ends_is}
-use Rattle.dconf_model.specs.Paths.{is_key_path, is_path, starts_with_slash, has_zero_byte, has_two_slashes, ends_with_slash, is_short}
+use Rattle.dconf_model.specs.Paths.{is_key_path, is_path, starts_with_slash, has_two_slashes, ends_with_slash, is_short, has_zero_byte}
+use Rattle.dconf_model.proofs.PathLaws.{ends_in}
 use Rattle.gvdb_write.specs.Names.{IsSlash}
 
+pub record IsPathText (text : List ℕ) : Type 0 where
+  pub first : IsSlash text 0
+  pub no_nul : (i : ℕ) → i < length text → get_or text i 0 ≢ 0
+  pub single : (i : ℕ) → IsSlash text i → get_or text (i + 1) 0 ≢ 47
+  pub short : length text ≤ 65535
+
+-- of a key
 pub record IsText (text : List ℕ) : Type 0 where
   pub first : IsSlash text 0
   pub no_nul : (i : ℕ) → i < length text → get_or text i 0 ≢ 0
   pub single : (i : ℕ) → IsSlash text i → get_or text (i + 1) 0 ≢ 47
   pub unended : (i : ℕ) → i + 1 ≡ length text → get_or text i 0 ≢ 47
   pub short : length text ≤ 65535
-
-not_true : (b : Bool) → not b ≡ true → b ≡ false
-not_true true e = let bad : false ≡ true = e in cc
-not_true false e = refl
-
-true_false : (b : Bool) → b ≡ true → b ≡ false → ⊥
-true_false b e f = let bad : true ≡ false = sym e ∙ f in cc
-
-or_right : (a b : Bool) → (a || b) ≡ false → b ≡ false
-or_right true b e = let bad : true ≡ false = e in cc
-or_right false b e = e
-
-or_left : (a b : Bool) → (a || b) ≡ false → a ≡ false
-or_left true b e = e
-or_left false b e = refl
 
 -- ---- a slash at the first or the last place
 
@@ -38,9 +31,6 @@ slash_first text e =
     let is : text ≡ 47 ∷ [] ++ drop 1 text = (starts_is Decides-eqb text (47 ∷ []) (starts_with_slash text) refl).0 e in
     let n : length text ≡ suc (length (drop 1 text)) = ap length is in
     record { here = omega (arith, n); slash = ap (λ (t : List ℕ). get_or t 0 0) is }
-
-pub ends_in : (text front : List ℕ) → text ≡ front ++ 47 ∷ [] → ends_with_slash text ≡ true
-ends_in text front is = (ends_is Decides-eqb text (47 ∷ []) (ends_with_slash text) refl).1 front is
 
 pub end_is : (text : List ℕ) → ends_with_slash text ≡ true → text ≡ take (length text - 1) text ++ 47 ∷ []
 end_is text e = (ends_is Decides-eqb text (47 ∷ []) (ends_with_slash text) refl).0 e
@@ -51,14 +41,14 @@ take_last text i n slash =
     sym (take_all (i + 1) text (omega (arith, n))) ∙ (take_more text i 0 (omega (arith, n)) ∙ ap (λ (c : ℕ). take i text ++ c ∷ []) slash)
 
 open_end : (text : List ℕ) → ends_with_slash text ≡ false → (i : ℕ) → i + 1 ≡ length text → get_or text i 0 ≢ 47
-open_end text e i n slash = true_false (ends_with_slash text) (ends_in text (take i text) (take_last text i n slash)) e
+open_end text e i n slash = both_ways (ends_with_slash text) e (ends_in text (take i text) (take_last text i n slash))
 
 -- ---- no zero byte, no two slashes
 
 no_zero : (text : List ℕ) → has_zero_byte text ≡ false → (i : ℕ) → i < length text → get_or text i 0 ≢ 0
 no_zero [] e i here is = absurd (omega (arith, here))
 no_zero (c ∷ text) e zero here is = let bad : true ≡ false = sym (ap (λ (x : ℕ). (x == 0) || list_any (λ (y : ℕ). y == 0) text) is) ∙ e in cc
-no_zero (c ∷ text) e (suc i) here is = no_zero text (or_right (c == 0) _ e) i (omega (arith, here)) is
+no_zero (c ∷ text) e (suc i) here is = no_zero text (or_parts (c == 0) _ e).1 i (omega (arith, here)) is
 
 single_slash : (text : List ℕ) → has_two_slashes text ≡ false → (i : ℕ) → get_or text i 0 ≡ 47 → get_or text (i + 1) 0 ≢ 47
 unfolding has_two_slashes
@@ -68,24 +58,34 @@ single_slash (c ∷ []) e i a b =
     let bad : 0 ≡ 47 = sym past ∙ b in absurd (omega (arith, bad))
 single_slash (c ∷ d ∷ text) e zero a b =
     let both : (c == 47 && d == 47) ≡ true = ap (λ (x : ℕ). x == 47 && d == 47) a ∙ ap (λ (y : ℕ). true && y == 47) b in
-    true_false (c == 47 && d == 47) both (or_left _ _ e)
-single_slash (c ∷ d ∷ text) e (suc i) a b = single_slash (d ∷ text) (or_right _ _ e) i a (sym (ap (λ (k : ℕ). get_or (c ∷ d ∷ text) k 0) next) ∙ b)
+    both_ways (c == 47 && d == 47) (or_parts _ _ e).0 both
+single_slash (c ∷ d ∷ text) e (suc i) a b = single_slash (d ∷ text) (or_parts _ _ e).1 i a (sym (ap (λ (k : ℕ). get_or (c ∷ d ∷ text) k 0) next) ∙ b)
   where
     next : suc i + 1 ≡ suc (i + 1)
     next = omega arith
 
 -- ---- all of it
 
-pub text_of_key : (text : List ℕ) → IsTrue (is_key_path text) → IsText text
-text_of_key text is =
-    let p = and_parts (is_path text) (not (ends_with_slash text)) is in
-    let q = and_parts (starts_with_slash text && not (has_zero_byte text) && not (has_two_slashes text)) (is_short text) p.0 in
+pub path_text : (text : List ℕ) → IsTrue (is_path text) → IsPathText text
+path_text text is =
+    let q = and_parts (starts_with_slash text && not (has_zero_byte text) && not (has_two_slashes text)) (is_short text) is in
     let r = and_parts (starts_with_slash text && not (has_zero_byte text)) (not (has_two_slashes text)) q.0 in
     let s = and_parts (starts_with_slash text) (not (has_zero_byte text)) r.0 in
     record {
       first = slash_first text s.0;
-      no_nul = no_zero text (not_true (has_zero_byte text) s.1);
-      single = λ i slash. single_slash text (not_true (has_two_slashes text) r.1) i slash.slash;
-      unended = open_end text (not_true (ends_with_slash text) p.1);
+      no_nul = no_zero text (not-true (has_zero_byte text) s.1);
+      single = λ i slash. single_slash text (not-true (has_two_slashes text) r.1) i slash.slash;
       short = leb-true (length text) 65535 q.1;
+    }
+
+pub text_of_key : (text : List ℕ) → IsTrue (is_key_path text) → IsText text
+text_of_key text is =
+    let p = and_parts (is_path text) (not (ends_with_slash text)) is in
+    let path = path_text text p.0 in
+    record {
+      first = path.first;
+      no_nul = path.no_nul;
+      single = path.single;
+      unended = open_end text (not-true (ends_with_slash text) p.1);
+      short = path.short;
     }

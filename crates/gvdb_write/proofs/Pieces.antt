@@ -1,5 +1,5 @@
 -- Pieces of bytes that are appended one after another.
-use Rattle.std.proofs.Common.{ℕ, ◌≡◌, ◌<◌, ◌≤◌, ◌+◌, ◌-◌, List, [], ◌∷◌, ◌++◌, length, map, get_or, take, drop, sym, ap, ◌∙◌, append_assoc, arith}
+use Rattle.std.proofs.Common.{ℕ, ◌≡◌, ◌<◌, ◌≤◌, ◌+◌, ◌-◌, List, [], ◌∷◌, ◌++◌, length, map, get_or, take, drop, sym, ap, ◌∙◌, append_assoc, arith, Bor}
 use Rattle.std.specs.List.{flat_map}
 use Rattle.std.proofs.lemmas.List.{take_more, take_all, length-drop, append-nil, map-append}
 use Rattle.std.proofs.lemmas.List.Concat.{flat_map-append}
@@ -37,10 +37,14 @@ key_appended items i d out before after l b a =
     piece_appended (λ (m : Named). drop m.from m.name.now) items i d out before after l b
     (a ∙ ap (λ (p : List ℕ). before ++ p) (take_all (length n.name.now - n.from) (drop n.from n.name.now) (omega (arith, size))))
 
--- behind the last one
+-- after the last one
 pub all_taken : {X : Type 0} (bytes : List X → List ℕ) (xs : List X) (i : ℕ) (last : List ℕ) → length xs ≤ i → last ≡ bytes (take i xs) → last ≡ bytes xs
 all_taken bytes xs i last le e = e ∙ ap bytes (take_all i xs le)
 
--- what is appended of a slice is that of the list behind it
+-- what is appended of a slice is that of the list after it
 pub appended_of : {X : Type 0} (bytes : X → List ℕ) (slice xs : X) (before after : List ℕ) → slice ≡ xs → after ≡ before ++ bytes slice → after ≡ before ++ bytes xs
 appended_of {X} bytes slice xs before after is a = a ∙ ap (λ (x : X). before ++ bytes x) is
+
+-- no value, which stands for what is past the end
+abbrev pub no_bytes : Bor (List ℕ)
+no_bytes = record { ref_ptr = (0, 0); now = [] }

@@ -7,34 +7,34 @@ use Rattle.dconf_model.specs.Plans.{item_values, all_values, with_new, once_each
 use Rattle.gvdb_write.specs.declared.names.Content.{Content}
 use Rattle.gvdb_write.specs.declared.names.Content.TheVariants.{Value, List as Listed, Locks}
 use Rattle.gvdb_write.specs.declared.names.Named.{Named}
-use Rattle.gvdb_write.specs.declared.table.Table.{Table}
-use Rattle.gvdb_write.specs.Layouts.{AreLocks}
+use Rattle.gvdb_write.specs.declared.table.TablePlan.{TablePlan}
+use Rattle.gvdb_write.specs.LayoutParts.{AreLocks}
 use Rattle.gvdb_write.specs.Names.{named, kind_at}
-use Rattle.gvdb_write.specs.Tables.{kind_of, value_of, plan_of}
-use Rattle.gvdb_write.specs.Spanned.{own_value, values_of}
+use Rattle.gvdb_write.specs.PlanWords.{kind_of, content_bytes, plan_of}
+use Rattle.gvdb_write.specs.Contents.{own_value, own_values}
 use Rattle.gvdb_write.proofs.OnceEach.{twice_is_once}
 use Rattle.gvdb_write.proofs.FoundValues.{values_more}
 
 -- ---- the values of the root table
 
-own_of_kind : (content : Content) → (if kind_of content == value_kind then value_of content ∷ [] else []) ≡ own_value content
+own_of_kind : (content : Content) → (if kind_of content == value_kind then content_bytes content ∷ [] else []) ≡ own_value content
 own_of_kind (Value bytes) = refl
 own_of_kind Listed = refl
 own_of_kind Locks = refl
 
-pub values_so_far : (root locks : Table) (i : ℕ) → i ≤ length root.items.items → item_values (plan_of root locks) i ≡ values_of (take i root.items.items)
+pub values_so_far : (root locks : TablePlan) (i : ℕ) → i ≤ length root.items.items → item_values (plan_of root locks) i ≡ own_values (take i root.items.items)
 values_so_far root locks zero l = refl
 values_so_far root locks (suc i) l =
     let items = root.items.items in
     let next : i + 1 ≡ suc i = omega arith in
-    ap (λ (vs : List (List ℕ)). vs ++ (if kind_at items i == value_kind then value_of (named items i).content ∷ [] else [])) (values_so_far root locks i (omega (arith, l)))
-    ∙ (ap (λ (vs : List (List ℕ)). values_of (take i items) ++ vs) (own_of_kind (named items i).content)
-    ∙ (sym (values_more items i (omega (arith, l))) ∙ ap (λ (n : ℕ). values_of (take n items)) next))
+    ap (λ (vs : List (List ℕ)). vs ++ (if kind_at items i == value_kind then content_bytes (named items i).content ∷ [] else [])) (values_so_far root locks i (omega (arith, l)))
+    ∙ (ap (λ (vs : List (List ℕ)). own_values (take i items) ++ vs) (own_of_kind (named items i).content)
+    ∙ (sym (values_more items i (omega (arith, l))) ∙ ap (λ (n : ℕ). own_values (take n items)) next))
 
-pub root_values : (root locks : Table) → item_values (plan_of root locks) (length root.items.items) ≡ values_of root.items.items
+pub root_values : (root locks : TablePlan) → item_values (plan_of root locks) (length root.items.items) ≡ own_values root.items.items
 root_values root locks =
     let items = root.items.items in
-    values_so_far root locks (length items) (omega arith) ∙ ap values_of (take_all (length items) items (omega arith))
+    values_so_far root locks (length items) (omega arith) ∙ ap own_values (take_all (length items) items (omega arith))
 
 -- ---- the values of locks, of which one is laid
 
@@ -44,27 +44,27 @@ lock_values n = if n == 0 then [] else nothing_bytes ∷ []
 some_locks : (n : ℕ) → nothing_bytes ∷ [] ≡ lock_values (suc n)
 some_locks n = ap (λ (b : Bool). cond b [] (nothing_bytes ∷ [])) (sym (ne_eqb (suc n) 0 (omega arith)))
 
-own_of_lock : (content : Content) → kind_of content ≡ value_kind → value_of content ≡ nothing_bytes → own_value content ≡ nothing_bytes ∷ []
+own_of_lock : (content : Content) → kind_of content ≡ value_kind → content_bytes content ≡ nothing_bytes → own_value content ≡ nothing_bytes ∷ []
 own_of_lock (Value bytes) k e = ap (λ (v : List ℕ). v ∷ []) e
 own_of_lock Listed k e = absurd (omega (arith, k))
 own_of_lock Locks k e = absurd (omega (arith, k))
 
-first_of_locks : (item : Named) (items : List Named) → AreLocks (item ∷ items) → values_of (item ∷ items) ≡ nothing_bytes ∷ values_of items
+first_of_locks : (item : Named) (items : List Named) → AreLocks (item ∷ items) → own_values (item ∷ items) ≡ nothing_bytes ∷ own_values items
 first_of_locks item items locks =
     let lock = locks 0 (omega arith) in
-    ap (λ (vs : List (List ℕ)). vs ++ values_of items) (own_of_lock item.content lock.0 lock.1)
+    ap (λ (vs : List (List ℕ)). vs ++ own_values items) (own_of_lock item.content lock.0 lock.1)
 
 other_locks : (item : Named) (items : List Named) → AreLocks (item ∷ items) → AreLocks items
 other_locks item items locks i l = locks (suc i) (omega (arith, l))
 
-no_more_of_locks : (items : List Named) (seen : List (List ℕ)) → AreLocks items → fold with_new (with_new seen nothing_bytes) (values_of items) ≡ with_new seen nothing_bytes
+no_more_of_locks : (items : List Named) (seen : List (List ℕ)) → AreLocks items → fold with_new (with_new seen nothing_bytes) (own_values items) ≡ with_new seen nothing_bytes
 no_more_of_locks [] seen locks = refl
 no_more_of_locks (item ∷ items) seen locks =
     ap (fold with_new (with_new seen nothing_bytes)) (first_of_locks item items locks)
-    ∙ (ap (λ (vs : List (List ℕ)). fold with_new vs (values_of items)) (twice_is_once seen nothing_bytes)
+    ∙ (ap (λ (vs : List (List ℕ)). fold with_new vs (own_values items)) (twice_is_once seen nothing_bytes)
     ∙ no_more_of_locks items seen (other_locks item items locks))
 
-pub locks_add_one : (items : List Named) (seen : List (List ℕ)) → AreLocks items → fold with_new seen (values_of items) ≡ fold with_new seen (lock_values (length items))
+pub locks_add_one : (items : List Named) (seen : List (List ℕ)) → AreLocks items → fold with_new seen (own_values items) ≡ fold with_new seen (lock_values (length items))
 locks_add_one [] seen locks = refl
 locks_add_one (item ∷ items) seen locks =
     ap (fold with_new seen) (first_of_locks item items locks)
@@ -73,8 +73,8 @@ locks_add_one (item ∷ items) seen locks =
 
 -- ---- both
 
--- those of the root table, and behind them those of the locks, are all values once each
-pub all_once : (root locks : Table) (first all : List (List ℕ)) → AreLocks locks.items.items → first ≡ fold with_new [] (values_of root.items.items) → all ≡ fold with_new first (values_of locks.items.items) → all ≡ once_each (all_values (plan_of root locks))
+-- those of the root table, and after them those of the locks, are all values once each
+pub all_once : (root locks : TablePlan) (first all : List (List ℕ)) → AreLocks locks.items.items → first ≡ fold with_new [] (own_values root.items.items) → all ≡ fold with_new first (own_values locks.items.items) → all ≡ once_each (all_values (plan_of root locks))
 all_once root locks first all are of_root of_locks =
     let items = locks.items.items in
     let own = item_values (plan_of root locks) (length root.items.items) in

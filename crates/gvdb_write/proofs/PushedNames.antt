@@ -1,4 +1,4 @@
--- One name more behind names that are placed, in order, and have children.
+-- One name more after names that are placed, in order, and have children.
 use Rattle.std.proofs.Common.{◌≡◌, ◌<◌, ◌≤◌, ◌-◌, ◌⊎◌, ℕ, List, [], ◌∷◌, ◌++◌, length, length-append, take, Option, Some, None, refl, sym, ap, ◌∙◌, subst, arith, inl, inr, ⊎_elim, codes}
 use Rattle.std.proofs.lemmas.List.{get_or_append_left, get_or_push, length_push}
 use Rattle.std.proofs.lemmas.Bool.{cases_lt}
@@ -6,8 +6,8 @@ use Rattle.std.proofs.lemmas.Cmp.{nat_list_cmp_total}
 use Rattle.dconf_model.specs.Table.{list_kind}
 use Rattle.dconf_model.specs.Entries.{IsTopEntry}
 use Rattle.gvdb_write.specs.declared.names.Named.{Named}
-use Rattle.gvdb_write.specs.Tables.{kind_of, entry_of, no_name}
-use Rattle.gvdb_write.specs.Names.{named, name_at, kind_at, IsBefore, IsFit, LiesIn, StandsBehind, IsPlaced, ArePlaced, AreAscending, HasChild, HaveChildren, IsDirectoryAt, last_name}
+use Rattle.gvdb_write.specs.PlanWords.{kind_of, entry_of, no_name}
+use Rattle.gvdb_write.specs.Names.{named, name_at, kind_at, IsBefore, IsFit, LiesIn, NameHasParent, IsPlaced, ArePlaced, AreAscending, HasChild, HaveChildren, IsDirectoryAt, last_name}
 
 pub kept : (names more : List Named) (i : ℕ) → i < length names → named (names ++ more) i ≡ named names i
 kept names more i here = get_or_append_left names more no_name i here
@@ -22,9 +22,9 @@ old_or_last names n i here =
 
 -- ---- placed
 
-stands_kept : (names more : List Named) (i : ℕ) → i < length names → (o : Option ℕ) → StandsBehind names i o → StandsBehind (names ++ more) i o
-stands_kept names more i here None s = subst (λ (x : Named). (x.from ≡ 0) × IsTopEntry (entry_of x)) (sym (kept names more i here)) s
-stands_kept names more i here (Some p) s =
+parent_kept : (names more : List Named) (i : ℕ) → i < length names → (o : Option ℕ) → NameHasParent names i o → NameHasParent (names ++ more) i o
+parent_kept names more i here None s = subst (λ (x : Named). (x.from ≡ 0) × IsTopEntry (entry_of x)) (sym (kept names more i here)) s
+parent_kept names more i here (Some p) s =
     let before = s.0 in (
       before,
       subst (λ (d : Named). LiesIn d (named (names ++ more) i)) (sym (kept names more p (omega (arith, before, here))))
@@ -34,7 +34,7 @@ stands_kept names more i here (Some p) s =
 placed_kept : (names more : List Named) (i : ℕ) → i < length names → IsPlaced names i → IsPlaced (names ++ more) i
 placed_kept names more i here p = record {
   fit = subst (λ (x : Named). IsFit x) (sym (kept names more i here)) p.fit;
-  stands = subst (λ (x : Named). StandsBehind (names ++ more) i x.parent) (sym (kept names more i here)) (stands_kept names more i here _ p.stands);
+  has_parent = subst (λ (x : Named). NameHasParent (names ++ more) i x.parent) (sym (kept names more i here)) (parent_kept names more i here _ p.has_parent);
 }
 
 pub placed_push : (names : List Named) (n : Named) → ArePlaced names → IsPlaced (names ++ n ∷ []) (length names) → ArePlaced (names ++ n ∷ [])
@@ -47,8 +47,8 @@ placed_push names n placed last i here =
 pub placed_last : (names : List Named) (n : Named) (p : ℕ) → p < length names → n.parent ≡ Some p → IsFit n → LiesIn (named names p) n → IsPlaced (names ++ n ∷ []) (length names)
 placed_last names n p here is fit lies = record {
   fit = subst (λ (x : Named). IsFit x) (sym (pushed names n)) fit;
-  stands = subst (λ (x : Named). StandsBehind (names ++ n ∷ []) (length names) x.parent) (sym (pushed names n))
-      (subst (λ (o : Option ℕ). StandsBehind (names ++ n ∷ []) (length names) o) (sym is) (
+  has_parent = subst (λ (x : Named). NameHasParent (names ++ n ∷ []) (length names) x.parent) (sym (pushed names n))
+      (subst (λ (o : Option ℕ). NameHasParent (names ++ n ∷ []) (length names) o) (sym is) (
         here,
         subst (λ (d : Named). LiesIn d (named (names ++ n ∷ []) (length names))) (sym (kept names (n ∷ []) p here))
             (subst (λ (x : Named). LiesIn (named names p) x) (sym (pushed names n)) lies),
@@ -57,7 +57,7 @@ placed_last names n p here is fit lies = record {
 
 -- ---- in order
 
--- each stands before what the last one stands before
+-- each precedes what the last one precedes
 before_last : (names : List Named) (text : List ℕ) → AreAscending names → IsBefore (last_name names) text → (i : ℕ) → i < length names → IsBefore (name_at names i) text
 before_last names text ascending before i here =
     ⊎_elim
@@ -149,6 +149,6 @@ directory_kept names more text at d =
     record {
       within = omega (arith, here, len);
       list = ap (λ (x : Named). kind_of x.content) (kept names more at here) ∙ d.list;
-      front = subst (λ (x : List ℕ). take (length x) text ≡ x) (sym name) d.front;
+      prefix = subst (λ (x : List ℕ). take (length x) text ≡ x) (sym name) d.prefix;
       inside = subst (λ (x : List ℕ). length x ≤ length text) (sym name) d.inside;
     }

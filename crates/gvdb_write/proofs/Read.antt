@@ -20,7 +20,7 @@ use Rattle.dconf_model.specs.Settings.{Lock}
 use Rattle.gvdb_write.specs.Maps.{values_of, locks_of, value_entries, lock_entries}
 
 -- equal texts are the same path
-same_path : (path q : List ℕ) → bytes_eq path q ≡ eq_by_cmp (slice_cmp nat_cmp) q path
+pub same_path : (path q : List ℕ) → bytes_eq path q ≡ eq_by_cmp (slice_cmp nat_cmp) q path
 same_path path q = sym (is_eq-slice_cmp path q) ∙ (eq_by_cmp_equiv nat_list_cmp_total).symm path q
 
 items_if : (b : Bool) (v : Vec ℕ Global) (o : Option (Vec ℕ Global)) → cond b (Some v.items) (option_map (λ w. w.items) o) ≡ option_map (λ w. w.items) (cond b (Some v) o)

@@ -12,11 +12,12 @@ use Rattle.dconf_path.specs.declared.path.KeyPath.{KeyPath}
 use Rattle.dconf_path.specs.Paths.{key_text}
 use Rattle.dconf_model.specs.Plans.{HasLocks, IsDirectoryOf, IsRootName}
 use Rattle.dconf_model.specs.Plans.IsRootName.{key, directory}
-use Rattle.dconf_model.proofs.NameOrder.{before_front}
+use Rattle.dconf_model.proofs.NameOrder.{before_prefix}
+use Rattle.dconf_model.proofs.PathLaws.{ends_in}
 use Rattle.gvdb_write.specs.declared.names.Named.{Named}
-use Rattle.gvdb_write.specs.Tables.{kind_of, value_of, no_name}
+use Rattle.gvdb_write.specs.PlanWords.{kind_of, content_bytes, no_name}
 use Rattle.gvdb_write.specs.Names.{named, name_at, kind_at, IsBefore, IsSlash, AreGood, AreRootNames, HoldValues, IsThere, IsDirectoryAt, IsBeyond, last_name, IsNewDirectory, IsAdded}
-use Rattle.gvdb_write.proofs.PathTexts.{IsText, text_of_key, ends_in}
+use Rattle.gvdb_write.proofs.PathTexts.{IsText, text_of_key}
 use Rattle.gvdb_write.proofs.PushedNames.{kept, pushed, old_or_last, last_pushed}
 use Rattle.gvdb_write.proofs.KeysRise.{Rise, rise_rest, first_before, listed_is_kept}
 
@@ -44,7 +45,7 @@ pub record IsCommonDirectory (names : List Named) (at len result : ℕ) : Type 0
   pub within : result < length names
   pub list : kind_at names result ≡ list_kind
   pub short : length (name_at names result) ≤ len
-  pub front : take (length (name_at names result)) (name_at names at) ≡ name_at names result
+  pub prefix : take (length (name_at names result)) (name_at names at) ≡ name_at names result
   pub inside : length (name_at names result) ≤ length (name_at names at)
   pub most : (i : ℕ) → IsSlash (name_at names at) i → i < len → i < length (name_at names result)
 
@@ -70,24 +71,24 @@ lies_next names last text at len result lies common d =
     record {
       within = d.within;
       list = d.list;
-      front =
+      prefix =
           sym (take-take (length (name_at names result)) len text short)
           ∙ (ap (λ (x : List ℕ). take (length (name_at names result)) x) (sym common.same)
           ∙ (take-take (length (name_at names result)) len last short
           ∙ (sym (take-take (length (name_at names result)) (length (name_at names at)) last d.inside)
-          ∙ (ap (λ (x : List ℕ). take (length (name_at names result)) x) lies.front ∙ d.front))));
+          ∙ (ap (λ (x : List ℕ). take (length (name_at names result)) x) lies.prefix ∙ d.prefix))));
       inside = omega (arith, short, within);
     }
 
 -- a slash of a text is one of the other's, as far as they are in common
-slash_in_front : (text front : List ℕ) (i : ℕ) → take (length front) text ≡ front → i < length front → IsSlash text i → IsSlash front i
-slash_in_front text front i is less s = record {
+slash_in_prefix : (text prefix : List ℕ) (i : ℕ) → take (length prefix) text ≡ prefix → i < length prefix → IsSlash text i → IsSlash prefix i
+slash_in_prefix text prefix i is less s = record {
   here = less;
-  slash = sym (ap (λ (x : List ℕ). get_or x i 0) is) ∙ (get_or-take (length front) text i 0 less ∙ s.slash);
+  slash = sym (ap (λ (x : List ℕ). get_or x i 0) is) ∙ (get_or-take (length prefix) text i 0 less ∙ s.slash);
 }
 
-not_in_front : (names : List Named) (last text : List ℕ) (at len result i : ℕ) → IsDirectoryAt names last at → ((j : ℕ) → IsSlash last j → j < length (name_at names at)) → IsCommon last text len → IsCommonDirectory names at len result → IsSlash text i → length (name_at names result) ≤ i → (rest : List ℕ) → last ≢ take (i + 1) text ++ rest
-not_in_front names last text at len result i lies innermost common d s behind rest is =
+not_in_prefix : (names : List Named) (last text : List ℕ) (at len result i : ℕ) → IsDirectoryAt names last at → ((j : ℕ) → IsSlash last j → j < length (name_at names at)) → IsCommon last text len → IsCommonDirectory names at len result → IsSlash text i → length (name_at names result) ≤ i → (rest : List ℕ) → last ≢ take (i + 1) text ++ rest
+not_in_prefix names last text at len result i lies innermost common d s after rest is =
     let here = s.here in
     let size : length (take (i + 1) text) ≡ i + 1 = length-take-le (i + 1) text (omega (arith, here)) in
     let whole : length last ≡ length (take (i + 1) text) + length rest = ap (λ (x : List ℕ). length x) is ∙ length-append (take (i + 1) text) rest in
@@ -97,16 +98,16 @@ not_in_front names last text at len result i lies innermost common d s behind re
       here = omega (arith, whole, size);
       slash = sym (get_or-take (i + 1) last i 0 (omega arith)) ∙ (ap (λ (x : List ℕ). get_or x i 0) same ∙ (get_or-take (i + 1) text i 0 (omega arith) ∙ s.slash));
     } in
-    let inner = d.most i (slash_in_front last (name_at names at) i lies.front (innermost i slash) slash) (omega (arith, few)) in
-    omega (arith, inner, behind)
+    let inner = d.most i (slash_in_prefix last (name_at names at) i lies.prefix (innermost i slash) slash) (omega (arith, few)) in
+    omega (arith, inner, after)
 
 beyond_next : (names : List Named) (last text : List ℕ) (at len result : ℕ) → IsDirectoryAt names last at → ((j : ℕ) → IsSlash last j → j < length (name_at names at)) → IsCommon last text len → IsCommonDirectory names at len result → IsBefore last text → IsBeyond last text (length (name_at names result))
 beyond_next names last text at len result lies innermost common d before = record {
   path = before;
-  directories = λ i s behind.
-      before_front last (take (i + 1) text) (drop (i + 1) text)
+  directories = λ i s after.
+      before_prefix last (take (i + 1) text) (drop (i + 1) text)
       (subst (λ (x : List ℕ). IsBefore last x) (sym (take-append-drop (i + 1) text)) before)
-      (not_in_front names last text at len result i lies innermost common d s behind);
+      (not_in_prefix names last text at len result i lies innermost common d s after);
 }
 
 -- the path's text, and what is left when it comes first
@@ -168,19 +169,19 @@ each_new P more path a b k here =
     (λ (e : k ≡ length more). subst (λ (j : ℕ). P (named (more ++ path ∷ []) j)) (sym e) (subst P (sym (pushed more path)) b))
     (old_or_last more path k here)
 
--- a front that ends at a slash is a directory
-pub front_is_directory : (text : List ℕ) (i : ℕ) → IsSlash text i → IsDirectoryOf (take (i + 1) text) text
-front_is_directory text i s = record {
+-- a prefix that ends at a slash is a directory
+pub prefix_is_directory : (text : List ℕ) (i : ℕ) → IsSlash text i → IsDirectoryOf (take (i + 1) text) text
+prefix_is_directory text i s = record {
   more = drop (i + 1) text;
   whole = sym (take-append-drop (i + 1) text);
   slash = ends_in (take (i + 1) text) (take i text) (take_more text i 0 s.here ∙ ap (λ (c : ℕ). take i text ++ c ∷ []) s.slash);
 }
 
 new_name : (s : Settings) (text : List ℕ) → IsTrue (contains_key s.values text) → (n : Named) → IsNewDirectory text n → IsRootName s n.name.now
-new_name s text kept n new = directory text kept (subst (λ (x : List ℕ). IsDirectoryOf x text) (sym new.1.2) (front_is_directory text new.1.0 new.1.1))
+new_name s text kept n new = directory text kept (subst (λ (x : List ℕ). IsDirectoryOf x text) (sym new.1.2) (prefix_is_directory text new.1.0 new.1.1))
 
 abbrev HoldsValue : Settings → Named → Type 0
-HoldsValue s n = kind_of n.content ≡ value_kind → get s.values n.name.now ≡ Some (value_of n.content)
+HoldsValue s n = kind_of n.content ≡ value_kind → get s.values n.name.now ≡ Some (content_bytes n.content)
 
 module _ (s : Settings) (old names : List Named) (last text value : List ℕ) (rest : List (List ℕ)) (at next : ℕ) (so : AreNamesSoFar s old at last (text ∷ rest)) (added : IsAdded old names text value next) (value_is : IsTrue (contains_key s.values text) → get s.values text ≡ Some value) where
   kept_here : IsTrue (contains_key s.values text)

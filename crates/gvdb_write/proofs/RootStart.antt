@@ -1,4 +1,4 @@
--- The names of a root table before its first path, and behind its last.
+-- The names of a root table before its first path, and after its last.
 use Rattle.std.proofs.Common.{◌≡◌, true, false, is_some, ◌<◌, ◌≤◌, ◌+◌, ◌⊎◌, ℕ, zero, suc, List, [], ◌∷◌, ◌++◌, length, get_or, take, drop, Option, Some, None, refl, sym, ap, ◌∙◌, subst, arith, inl, inr, ⊎_elim, codes, Vec}
 use Rattle.std.specs.Prelude.{IsUtf8, Contains, slice_index}
 use Rattle.std.specs.Option.{MatchOption}
@@ -13,20 +13,21 @@ use Rattle.dconf_model.specs.Settings.{Settings}
 use Rattle.dconf_model.specs.Entries.{Entry, IsTopEntry}
 use Rattle.dconf_model.specs.Plans.{HasLocks, IsRootName}
 use Rattle.dconf_model.specs.Plans.IsRootName.{top, locks}
+use Rattle.dconf_model.proofs.PathLaws.{slash_is_ascii, slash_no_zero}
 use Rattle.gvdb_write.specs.declared.names.Named.{Named}
-use Rattle.gvdb_write.specs.Tables.{kind_of, value_of, entry_of}
+use Rattle.gvdb_write.specs.PlanWords.{kind_of, content_bytes, entry_of}
 use Rattle.std.specs.Vec.{vec_len}
 use Rattle.std.specs.declared.alloc.Global.{Global}
 use Rattle.dconf_path.specs.declared.path.KeyPath.{KeyPath}
 use Rattle.dconf_path.specs.Paths.{key_text}
 use Rattle.gvdb_write.specs.Maps.{AreKeyPaths}
-use Rattle.gvdb_write.specs.Names.{named, name_at, kind_at, IsBefore, IsSlash, IsFit, StandsBehind, IsPlaced, AreAscending, HasChild, IsThere, IsDirectoryAt, AreNamesOf}
+use Rattle.gvdb_write.specs.Names.{named, name_at, kind_at, IsBefore, IsSlash, IsFit, NameHasParent, IsPlaced, AreAscending, HasChild, IsThere, IsDirectoryAt, AreNamesOf}
 use Rattle.gvdb_write.proofs.PathTexts.{IsText, text_of_key}
-use Rattle.gvdb_write.proofs.Adding.{front_before}
+use Rattle.gvdb_write.proofs.Adding.{prefix_before}
 use Rattle.gvdb_write.proofs.KeysRise.{keys_rise, listed_is_kept, kept_at}
 use Rattle.gvdb_write.proofs.RootNames.{AreNamesSoFar}
 
--- what stands at the top
+-- what is at the top
 pub record IsTopName (n : Named) (name : List ℕ) (kind : ℕ) : Type 0 where
   pub name_is : n.name.now ≡ name
   pub from : n.from ≡ 0
@@ -42,14 +43,6 @@ is_top n name kind hash from is = record {
   parent = ap (λ (e : Entry). e.parent) is;
   of_kind = ap (λ (e : Entry). e.kind) is;
 }
-
-slash_is_ascii : (i : ℕ) → slice_index (codes "/") i < 128
-slash_is_ascii zero = omega arith
-slash_is_ascii (suc i) = omega arith
-
-slash_no_zero : (k : ℕ) → k < 1 → get_or (codes "/") k 0 ≡ 0 → ⊥
-slash_no_zero zero here at = omega (arith, at)
-slash_no_zero (suc k) here at = omega (arith, here)
 
 fit_top : (n : Named) (name : List ℕ) (kind : ℕ) → IsTopName n name kind → 0 < length name → length name ≤ 65535 → IsUtf8 name → ¬ Contains name 0 → IsFit n
 fit_top n name kind t some short utf8 no_nul =
@@ -68,7 +61,7 @@ fit_top n name kind t some short utf8 no_nul =
 fit_slash : (n : Named) → IsTopName n (codes "/") list_kind → IsFit n
 fit_slash n t = fit_top n (codes "/") list_kind t (omega arith) (omega arith) (IsUtf8-from_ascii (codes "/") slash_is_ascii) (λ h. slash_no_zero h.0 h.1 h.2)
 
--- `/` stands before each path
+-- `/` comes before each path
 root_before : (text : List ℕ) → IsText text → IsBefore (codes "/") text
 root_before text path =
     let first = path.first.here in
@@ -77,12 +70,12 @@ root_before text path =
     let one : take (0 + 1) text ≡ codes "/" = take_more text 0 0 first ∙ ap (λ (c : ℕ). take 0 text ++ c ∷ []) path.first.slash in
     subst (λ (x : List ℕ). IsBefore x text) one
     (subst (λ (x : List ℕ). IsBefore (take (0 + 1) text) x) (take_all (length text) text (omega arith))
-    (front_before text (0 + 1) (length text) (omega (arith, more)) (omega arith)))
+    (prefix_before text (0 + 1) (length text) (omega (arith, more)) (omega arith)))
 
 root_before_keys : (s : Settings) → AreKeyPaths (keys s.values) → (k : ℕ) → k < length (keys s.values) → IsBefore (codes "/") (get_or (keys s.values) k [])
 root_before_keys s paths k here = root_before (get_or (keys s.values) k []) (text_of_key (get_or (keys s.values) k []) (paths k [] here))
 
--- ---- the names at the top: `/`, behind `.locks` where there are locks
+-- ---- the names at the top: `/`, after `.locks` where there are locks
 
 locks_are_ascii : (i : ℕ) → slice_index (codes ".locks") i < 128
 locks_are_ascii zero = omega arith
@@ -108,9 +101,9 @@ fit_locks n t = fit_top n (codes ".locks") table_kind t (omega arith) (omega ari
 top_key : (n : Named) (name : List ℕ) (kind : ℕ) → IsTopName n name kind → (entry_of n).key ≡ name
 top_key n name kind t = ap (λ (k : ℕ). drop k n.name.now) t.from ∙ t.name_is
 
--- a name without a directory is placed where it stands at the top
+-- a name without a directory is placed where it is at the top
 top_placed : (names : List Named) (i : ℕ) → IsFit (named names i) → (named names i).from ≡ 0 → IsTopEntry (entry_of (named names i)) → (named names i).parent ≡ None → IsPlaced names i
-top_placed names i fit from is parent = record { fit = fit; stands = subst (λ (o : Option ℕ). StandsBehind names i o) (sym parent) (from, is) }
+top_placed names i fit from is parent = record { fit = fit; has_parent = subst (λ (o : Option ℕ). NameHasParent names i o) (sym parent) (from, is) }
 
 slash_placed : (names : List Named) (i : ℕ) → IsTopName (named names i) (codes "/") list_kind → IsPlaced names i
 slash_placed names i t = top_placed names i (fit_slash (named names i) t) t.from (inl (t.of_kind, top_key (named names i) (codes "/") list_kind t)) t.parent
@@ -124,7 +117,7 @@ in_slash names at here t =
     record {
       within = here;
       list = t.of_kind;
-      front = ap (λ (k : ℕ). take k (codes "/")) len ∙ sym t.name_is;
+      prefix = ap (λ (k : ℕ). take k (codes "/")) len ∙ sym t.name_is;
       inside = omega (arith, len);
     }
 
@@ -153,7 +146,7 @@ abbrev ChildAt : List Named → ℕ → Type 0
 ChildAt names i = kind_at names i ≡ list_kind → (name_at names i ≡ codes "/") ⊎ HasChild names i
 
 abbrev ValueAt : Settings → List Named → ℕ → Type 0
-ValueAt s names i = kind_at names i ≡ value_kind → get s.values (name_at names i) ≡ Some (value_of (named names i).content)
+ValueAt s names i = kind_at names i ≡ value_kind → get s.values (name_at names i) ≡ Some (content_bytes (named names i).content)
 
 module _ (s : Settings) (paths : AreKeyPaths (keys s.values)) (n : Named) (t : IsTopName n (codes "/") list_kind) where
   slash_inside : (at i : ℕ) (names : List Named) → named names at ≡ n → IsSlash (codes "/") i → i < length (name_at names at)
@@ -162,7 +155,7 @@ module _ (s : Settings) (paths : AreKeyPaths (keys s.values)) (n : Named) (t : I
       let len : length (name_at names at) ≡ 1 = ap (λ (x : Named). length x.name.now) is ∙ ap (λ (x : List ℕ). length x) t.name_is in
       omega (arith, here, len)
 
-  slash_value : kind_of n.content ≡ value_kind → get s.values n.name.now ≡ Some (value_of n.content)
+  slash_value : kind_of n.content ≡ value_kind → get s.values n.name.now ≡ Some (content_bytes n.content)
   slash_value kind = let is = t.of_kind in let bad : 76 ≡ 118 = sym is ∙ kind in absurd (omega (arith, bad))
 
   pub start_without : (HasLocks s → ⊥) → AreNamesSoFar s (n ∷ []) 0 (codes "/") (keys s.values)
@@ -234,7 +227,7 @@ no_lock s left after None is steps none locked =
     omega (arith, here, len)
 no_lock s left after (Some path) is steps none locked = let bad : true ≡ false = none in cc
 
--- ---- behind the last path
+-- ---- after the last path
 
 pub all_names : (s : Settings) (names : List Named) (at : ℕ) (last : List ℕ) (left : List (List ℕ)) → left ≡ [] → AreNamesSoFar s names at last left → AreNamesOf s names
 all_names s names at last left none so =

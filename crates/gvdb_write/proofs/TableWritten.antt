@@ -1,34 +1,34 @@
--- A table that stands in a file with its keys, and whose contents stand where its rows say, is written.
+-- A table that occurs in a file with its keys, and whose contents are where its rows say, is written.
 use Rattle.std.proofs.Common.{◌≡◌, ◌<◌, ◌≤◌, ◌+◌, ◌-◌, ◌*◌, ◌/◌, ◌%◌, ◌^◌, ℕ, List, ◌++◌, length, get_or, replicate, sym, ap, ◌∙◌, subst, arith, length-append}
 use Rattle.std.proofs.Math.ListN.{get_or-map}
 use Rattle.std.proofs.lemmas.List.{length-map, length-drop, length-replicate}
 use Rattle.gv_model.specs.Encode.{number_bytes}
 use Rattle.gv_model.specs.Layout.{round_up}
 use Rattle.gv_model.proofs.NumberBytes.{length-number_bytes}
+use Rattle.gv_model.specs.Limits.{limit}
 use Rattle.dconf_model.specs.Bytes.{hash_of}
 use Rattle.dconf_model.specs.Table.{Table as Place, IsValidPointer, alignment_of, list_kind}
 use Rattle.dconf_model.specs.Entries.{AreEntries}
 use Rattle.dconf_model.specs.Plans.{size_of_table, keys_end}
-use Rattle.dconf_model.specs.Standing.{Stands, Row, row_bytes, rows_bytes, words_bytes, head_bytes, table_bytes, table_size}
-use Rattle.dconf_model.specs.Written.{StandsItem, HasBits, IsWritten, no_row}
-use Rattle.dconf_model.proofs.Standing.{stands_at, stands_last, stands_front, stands_next, length-pieces}
-use Rattle.dconf_model.proofs.TableStanding.{length-row}
+use Rattle.dconf_model.specs.TableBytes.{OccursAt, ItemRecord, record_bytes, records_bytes, words_bytes, head_bytes, table_bytes, table_size}
+use Rattle.dconf_model.specs.TableEncoding.{EncodesItem, HasBits, IsWritten, no_row}
+use Rattle.dconf_model.proofs.Occurrences.{occurs_at, occurs_last, occurs_prefix, occurs_next, length-pieces}
+use Rattle.dconf_model.proofs.TableNumbers.{length-row}
 use Rattle.dconf_model.proofs.PlanEnds.{not_below}
-use Rattle.gvdb_write.specs.declared.layout.Row.{Row as Numbers}
+use Rattle.gvdb_write.specs.declared.layout.ItemRecord.{ItemRecord as Numbers}
 use Rattle.gvdb_write.specs.declared.names.Named.{Named}
-use Rattle.gvdb_write.specs.declared.table.Table.{Table}
-use Rattle.gvdb_write.specs.Laid.{limit}
-use Rattle.gvdb_write.specs.Rows.{row_of}
-use Rattle.gvdb_write.specs.Tables.{entries_of}
+use Rattle.gvdb_write.specs.declared.table.TablePlan.{TablePlan}
+use Rattle.gvdb_write.specs.ItemRecords.{record_of}
+use Rattle.gvdb_write.specs.PlanWords.{entries_of}
 use Rattle.gvdb_write.specs.Names.{named, name_at, kind_at}
-use Rattle.gvdb_write.specs.Layouts.{AreRows, IsRowOf, row, no_numbers}
-use Rattle.gvdb_write.specs.Appended.{AreNumbers, HaveBits, HasTable, keys_bytes, rows_of, padded}
-use Rattle.gvdb_write.specs.Planned.{AreItems}
-use Rattle.gvdb_write.proofs.KeysStanding.{key_stands, keys_length}
+use Rattle.gvdb_write.specs.LayoutParts.{AreRecords, IsRecordOf, row, no_numbers}
+use Rattle.gvdb_write.specs.WrittenParts.{HaveFourBytes, HaveBits, HasTable, keys_bytes, records_of, with_padding}
+use Rattle.gvdb_write.specs.PlannedTables.{AreItems}
+use Rattle.gvdb_write.proofs.KeyPlaces.{key_occurs, keys_length}
 
 -- ---- how long it is
 
-pub length-padded_4 : (file : List ℕ) → length (padded 4 file) ≡ round_up 4 (length file)
+pub length-padded_4 : (file : List ℕ) → length (with_padding 4 file) ≡ round_up 4 (length file)
 length-padded_4 file =
     let n = length-append file (replicate (round_up 4 (length file) - length file) 0) in
     let m = length-replicate {A = ℕ} (round_up 4 (length file) - length file) 0 in
@@ -38,54 +38,54 @@ length-padded_4 file =
 pub length-words : (words : List ℕ) → length (words_bytes words) ≡ 4 * length words
 length-words words = length-pieces (number_bytes 4) 4 (length-number_bytes 4) words
 
-length-table : (words buckets : List ℕ) (rows : List Row) → length (table_bytes words buckets rows) ≡ table_size (length words) (length buckets) (length rows)
+length-table : (words buckets : List ℕ) (rows : List ItemRecord) → length (table_bytes words buckets rows) ≡ table_size (length words) (length buckets) (length rows)
 length-table words buckets rows =
     let a = length-number_bytes 4 (length words + 5 * 2 ^ 27) in
     let b = length-number_bytes 4 (length buckets) in
     let h = length-append (number_bytes 4 (length words + 5 * 2 ^ 27)) (number_bytes 4 (length buckets)) in
     let w = length-words words in
     let n = length-words buckets in
-    let r = length-pieces row_bytes 24 length-row rows in
-    let x = length-append (head_bytes (length words) (length buckets)) (words_bytes words ++ (words_bytes buckets ++ rows_bytes rows)) in
-    let y = length-append (words_bytes words) (words_bytes buckets ++ rows_bytes rows) in
-    let z = length-append (words_bytes buckets) (rows_bytes rows) in
+    let r = length-pieces record_bytes 24 length-row rows in
+    let x = length-append (head_bytes (length words) (length buckets)) (words_bytes words ++ (words_bytes buckets ++ records_bytes rows)) in
+    let y = length-append (words_bytes words) (words_bytes buckets ++ records_bytes rows) in
+    let z = length-append (words_bytes buckets) (records_bytes rows) in
     omega (arith, a, b, h, w, n, r, x, y, z)
 
 -- as many words, buckets and rows as its items need
 sized : (a b c n : ℕ) → a ≡ (n + 15) / 16 → b ≡ n → c ≡ n → table_size a b c ≡ size_of_table n
 sized a b c n e f g = omega (arith, e, f, g)
 
-module _ (t : Table) (rows : List Numbers) (keys_at : ℕ) (are : AreItems t) (numbers : AreRows t.items.items keys_at rows) where
-  as_many_rows : length (rows_of rows) ≡ length t.items.items
-  as_many_rows = length-map rows row_of ∙ numbers.counted
+module _ (t : TablePlan) (rows : List Numbers) (keys_at : ℕ) (are : AreItems t) (numbers : AreRecords t.items.items keys_at rows) where
+  as_many_rows : length (records_of rows) ≡ length t.items.items
+  as_many_rows = length-map rows record_of ∙ numbers.counted
 
-  size_is : (words : List ℕ) → length words ≡ (length t.items.items + 15) / 16 → table_size (length words) (length t.buckets.items) (length (rows_of rows)) ≡ size_of_table (length t.items.items)
-  size_is words e = sized (length words) (length t.buckets.items) (length (rows_of rows)) (length t.items.items) e are.bucketed as_many_rows
+  size_is : (words : List ℕ) → length words ≡ (length t.items.items + 15) / 16 → table_size (length words) (length t.buckets.items) (length (records_of rows)) ≡ size_of_table (length t.items.items)
+  size_is words e = sized (length words) (length t.buckets.items) (length (records_of rows)) (length t.items.items) e are.bucketed as_many_rows
 
   -- its keys end where the file does
   pub table_length : (before after : List ℕ) → HasTable t rows before after → length after ≡ keys_end (entries_of t.items.items) (round_up 4 (length before) + size_of_table (length t.items.items)) (length t.items.items)
   table_length before after has =
-      let table = table_bytes has.words t.buckets.items (rows_of rows) in
+      let table = table_bytes has.words t.buckets.items (records_of rows) in
       let n = length-padded_4 before in
-      let m = length-table has.words t.buckets.items (rows_of rows) ∙ size_is has.words has.counted in
-      let x = length-append (padded 4 before) (table ++ keys_bytes t.items.items) in
+      let m = length-table has.words t.buckets.items (records_of rows) ∙ size_is has.words has.counted in
+      let x = length-append (with_padding 4 before) (table ++ keys_bytes t.items.items) in
       let y = length-append table (keys_bytes t.items.items) in
       ap length has.bytes
-      ∙ (let e : length (padded 4 before ++ (table ++ keys_bytes t.items.items)) ≡ round_up 4 (length before) + size_of_table (length t.items.items) + length (keys_bytes t.items.items) = omega (arith, n, m, x, y) in e)
+      ∙ (let e : length (with_padding 4 before ++ (table ++ keys_bytes t.items.items)) ≡ round_up 4 (length before) + size_of_table (length t.items.items) + length (keys_bytes t.items.items) = omega (arith, n, m, x, y) in e)
       ∙ keys_length t.items.items (round_up 4 (length before) + size_of_table (length t.items.items))
 
-  pub table_stands : (before after : List ℕ) (has : HasTable t rows before after) → Stands after (round_up 4 (length before)) (table_bytes has.words t.buckets.items (rows_of rows) ++ keys_bytes t.items.items)
-  table_stands before after has =
-      let bytes = table_bytes has.words t.buckets.items (rows_of rows) ++ keys_bytes t.items.items in
-      subst (λ (f : List ℕ). Stands f (round_up 4 (length before)) bytes) (sym has.bytes)
-      (stands_at (padded 4 before ++ bytes) (length (padded 4 before)) (round_up 4 (length before)) bytes (length-padded_4 before) (stands_last (padded 4 before) bytes))
+  pub table_occurs : (before after : List ℕ) (has : HasTable t rows before after) → OccursAt after (round_up 4 (length before)) (table_bytes has.words t.buckets.items (records_of rows) ++ keys_bytes t.items.items)
+  table_occurs before after has =
+      let bytes = table_bytes has.words t.buckets.items (records_of rows) ++ keys_bytes t.items.items in
+      subst (λ (f : List ℕ). OccursAt f (round_up 4 (length before)) bytes) (sym has.bytes)
+      (occurs_at (with_padding 4 before ++ bytes) (length (with_padding 4 before)) (round_up 4 (length before)) bytes (length-padded_4 before) (occurs_last (with_padding 4 before) bytes))
 
 -- ---- what the writing functions require of it
 
 pub few_items : (at n m : ℕ) → at + size_of_table n ≤ m → m ≤ limit → 28 * n ≤ limit
 few_items at n m le within = omega (arith, le, within)
 
-pub have_buckets : (t : Table) → AreItems t → 28 * length t.items.items ≤ limit → AreNumbers t.buckets.items
+pub have_buckets : (t : TablePlan) → AreItems t → 28 * length t.items.items ≤ limit → HaveFourBytes t.buckets.items
 have_buckets t are few i here =
     let n = are.bucketed in
     let le = are.firsts.within i (omega (arith, here, n)) in
@@ -99,19 +99,19 @@ key_begins items are i here =
 
 -- ---- it is written
 
--- the content of an item of the kind stands where the numbers say
+-- the content of an item of the kind is where the numbers say
 pub record HasContentAt (file : List ℕ) (kind : ℕ) (r : Numbers) : Type 0 where
   pub valid : IsValidPointer file (alignment_of kind) r.start r.end
   pub whole : kind ≡ list_kind → (r.end - r.start) % 4 ≡ 0
 
-pub row_is : (rows : List Numbers) (i : ℕ) → get_or (rows_of rows) i no_row ≡ row_of (row rows i)
-row_is rows i = get_or-map row_of rows i no_numbers
+pub row_is : (rows : List Numbers) (i : ℕ) → get_or (records_of rows) i no_row ≡ record_of (row rows i)
+row_is rows i = get_or-map record_of rows i no_numbers
 
-stands_item : (items : List Named) (file : List ℕ) (keys_at i : ℕ) (r : Numbers) → (named items i).hash ≡ hash_of (name_at items i) → IsRowOf items keys_at i r → i < length items → Stands file keys_at (keys_bytes items) → HasContentAt file (kind_at items i) r → StandsItem file ((entries_of items).entry i) (row_of r)
-stands_item items file keys_at i r hash is here keys content = record {
+encodes_item : (items : List Named) (file : List ℕ) (keys_at i : ℕ) (r : Numbers) → (named items i).hash ≡ hash_of (name_at items i) → IsRecordOf items keys_at i r → i < length items → OccursAt file keys_at (keys_bytes items) → HasContentAt file (kind_at items i) r → EncodesItem file ((entries_of items).entry i) (record_of r)
+encodes_item items file keys_at i r hash is here keys content = record {
   hash = is.hash ∙ hash;
   parent = is.parent;
-  key = stands_at file (keys_end (entries_of items) keys_at i) r.key_start ((entries_of items).entry i).key (sym is.key_start) (key_stands items i file keys_at here keys);
+  key = occurs_at file (keys_end (entries_of items) keys_at i) r.key_start ((entries_of items).entry i).key (sym is.key_start) (key_occurs items i file keys_at here keys);
   size = is.key_size;
   of_kind = is.of_kind;
   valid = content.valid;
@@ -121,19 +121,19 @@ stands_item items file keys_at i r hash is here keys content = record {
 few_words : (n words : ℕ) → 28 * n ≤ limit → words ≡ (n + 15) / 16 → words < 2 ^ 27
 few_words n words few e = omega (arith, few, e)
 
-module _ (t : Table) (rows : List Numbers) (file : List ℕ) (at : ℕ) (are : AreItems t) (numbers : AreRows t.items.items (at + size_of_table (length t.items.items)) rows) (few : 28 * length t.items.items ≤ limit) where
+module _ (t : TablePlan) (rows : List Numbers) (file : List ℕ) (at : ℕ) (are : AreItems t) (numbers : AreRecords t.items.items (at + size_of_table (length t.items.items)) rows) (few : 28 * length t.items.items ≤ limit) where
   abbrev pub place : Place
   place = record { file = file; start = at; end = at + size_of_table (length t.items.items) }
 
-  pub is_written : (words : List ℕ) → length words ≡ (length t.items.items + 15) / 16 → HaveBits words t.items.items → Stands file at (table_bytes words t.buckets.items (rows_of rows) ++ keys_bytes t.items.items) → ((i : ℕ) → i < length t.items.items → HasContentAt file (kind_at t.items.items i) (row rows i)) → IsWritten place (entries_of t.items.items) words t.buckets.items (rows_of rows)
-  is_written words counted bits stands contents =
-      let table = table_bytes words t.buckets.items (rows_of rows) in
+  pub is_written : (words : List ℕ) → length words ≡ (length t.items.items + 15) / 16 → HaveBits words t.items.items → OccursAt file at (table_bytes words t.buckets.items (records_of rows) ++ keys_bytes t.items.items) → ((i : ℕ) → i < length t.items.items → HasContentAt file (kind_at t.items.items i) (row rows i)) → IsWritten place (entries_of t.items.items) words t.buckets.items (records_of rows)
+  is_written words counted bits occurs contents =
+      let table = table_bytes words t.buckets.items (records_of rows) in
       let keys_at = at + size_of_table (length t.items.items) in
       let size = size_is t rows keys_at are numbers words counted in
-      let keys = stands_next file at (size_of_table (length t.items.items)) table (keys_bytes t.items.items) (length-table words t.buckets.items (rows_of rows) ∙ size) stands in
+      let keys = occurs_next file at (size_of_table (length t.items.items)) table (keys_bytes t.items.items) (length-table words t.buckets.items (records_of rows) ∙ size) occurs in
       record {
         table = record {
-          bytes = stands_front file at table (keys_bytes t.items.items) stands;
+          bytes = occurs_prefix file at table (keys_bytes t.items.items) occurs;
           end_is = ap (λ (n : ℕ). at + n) (sym size);
           few = few_words (length t.items.items) (length words) few counted;
         };
@@ -142,7 +142,7 @@ module _ (t : Table) (rows : List Numbers) (file : List ℕ) (at : ℕ) (are : A
         few = omega (arith, few);
         firsts = are.firsts;
         items = λ i here.
-            subst (λ (r : Row). StandsItem file ((entries_of t.items.items).entry i) r) (sym (row_is rows i))
-            (stands_item t.items.items file keys_at i (row rows i) (are.hashes i here) (numbers.each i here) here keys (contents i here));
+            subst (λ (r : ItemRecord). EncodesItem file ((entries_of t.items.items).entry i) r) (sym (row_is rows i))
+            (encodes_item t.items.items file keys_at i (row rows i) (are.hashes i here) (numbers.each i here) here keys (contents i here));
         bits = λ i here. subst (λ (h : ℕ). HasBits words h) (are.hashes i here) (bits i here);
       }

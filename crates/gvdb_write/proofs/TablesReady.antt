@@ -4,7 +4,7 @@ use Rattle.std.specs.Prelude.{IsTrue}
 use Rattle.dconf_model.specs.Bytes.{hash_of}
 use Rattle.dconf_model.specs.Table.{list_kind}
 use Rattle.dconf_model.specs.Settings.{Settings, IsSettings}
-use Rattle.dconf_model.specs.Paths.{is_key_path}
+use Rattle.dconf_model.specs.Paths.{is_path}
 use Rattle.dconf_model.specs.Entries.{IsSpelled, AreEntries}
 use Rattle.dconf_model.specs.Opening.{root_of}
 use Rattle.dconf_model.specs.Sound.{IsSound}
@@ -13,22 +13,23 @@ use Rattle.dconf_model.proofs.PlanRows.{plan_is_sound, plan_holds_values, plan_h
 use Rattle.dconf_model.proofs.Renumbered.{name_is, kind_at as kind_by_number}
 use Rattle.gvdb_write.specs.declared.names.Content.{Content}
 use Rattle.gvdb_write.specs.declared.names.Named.{Named}
-use Rattle.gvdb_write.specs.declared.table.Table.{Table}
+use Rattle.gvdb_write.specs.declared.table.TablePlan.{TablePlan}
 use Rattle.gvdb_write.specs.declared.write_fault.WriteFault.{WriteFault}
 use Rattle.gvdb_write.specs.declared.write_fault.WriteFault.TheVariants.{TooBig, Memory}
-use Rattle.gvdb_write.specs.Laid.{limit, IsOver, IsRefusal}
-use Rattle.gvdb_write.specs.Tables.{value_of, entries_of, plan_of}
+use Rattle.gvdb_write.specs.Limits.{IsOver, IsRefusal}
+use Rattle.gvdb_write.specs.PlanWords.{content_bytes, entries_of, plan_of}
 use Rattle.gvdb_write.specs.Names.{named, name_at, kind_at, IsThere, AreNamesOf, AreLockNames}
-use Rattle.gvdb_write.specs.Orders.{IsTableOf}
-use Rattle.gvdb_write.specs.Layouts.{CanBeLaid, AreLocks}
-use Rattle.gvdb_write.specs.Planned.{AreItems, AreReady, IsFileOf}
-use Rattle.gvdb_write.proofs.PathTexts.{text_of_key}
-use Rattle.gvdb_write.proofs.TablePlan.{here_in_names, tables_are_plan}
+use Rattle.gvdb_write.specs.ItemOrder.{IsTableOf}
+use Rattle.gvdb_write.specs.LayoutParts.{CanBeLaid, AreLocks}
+use Rattle.gvdb_write.specs.PlannedTables.{AreItems, AreReady, IsFileOf}
+use Rattle.gvdb_write.proofs.PathTexts.{path_text}
+use Rattle.gvdb_write.proofs.TablePlans.{here_in_names, tables_are_plan}
 use Rattle.gvdb_write.proofs.TableWritten.{key_begins}
+use Rattle.gv_model.specs.Limits.{limit}
 
 -- ---- a table
 
-module _ (names : List Named) (t : Table) (is : IsTableOf names t) where
+module _ (names : List Named) (t : TablePlan) (is : IsTableOf names t) where
   are_items : ((k : ℕ) → k < length names → (named names k).hash ≡ hash_of (name_at names k)) → AreItems t
   are_items hashes = record {
     bucketed = is.bucketed;
@@ -57,19 +58,19 @@ can_be_laid items are short = record {
   parents = λ i p here parent. parent_within items i p (named items i).parent (are.each i here).spelled parent;
 }
 
-short_path : (path : List ℕ) → IsTrue (is_key_path path) → length path ≤ 65535
-short_path path is = (text_of_key path is).short
+short_path : (path : List ℕ) → IsTrue (is_path path) → length path ≤ 65535
+short_path path is = (path_text path is).short
 
 -- ---- both tables
 
-locks_are : (lock_names : List Named) (s : Settings) (root locks : Table) → AreLockNames s lock_names → IsTableOf lock_names locks → IsPlanOf s (plan_of root locks) → AreLocks locks.items.items
+locks_are : (lock_names : List Named) (s : Settings) (root locks : TablePlan) → AreLockNames s lock_names → IsTableOf lock_names locks → IsPlanOf s (plan_of root locks) → AreLocks locks.items.items
 locks_are lock_names s root locks are is plan i here =
     let l = here_in_names lock_names locks is i here in (
       (plan.locks i here).value,
-      ap (λ (c : Content). value_of c) (is.contents i here) ∙ (are.each (is.order i) (is.renumbered.ordered i l)).value,
+      ap (λ (c : Content). content_bytes c) (is.contents i here) ∙ (are.each (is.order i) (is.renumbered.ordered i l)).value,
     )
 
-ready_of : (s : Settings) (names lock_names : List Named) (root locks : Table) → IsSettings s → AreNamesOf s names → IsTableOf names root → AreLockNames s lock_names → IsTableOf lock_names locks → AreReady s root locks
+ready_of : (s : Settings) (names lock_names : List Named) (root locks : TablePlan) → IsSettings s → AreNamesOf s names → IsTableOf names root → AreLockNames s lock_names → IsTableOf lock_names locks → AreReady s root locks
 ready_of s names lock_names root locks settings are is are_locks is_locks =
     let plan = tables_are_plan s names lock_names root locks settings are is are_locks is_locks in
     record {
@@ -91,7 +92,7 @@ ready_of s names lock_names root locks settings are is are_locks is_locks =
     }
 
 -- where the tables are made of slices of the names
-pub ready : (s : Settings) (named slice lock_named lock_slice : List Named) (root locks : Table) → IsSettings s → AreNamesOf s named → slice ≡ named → IsTableOf slice root → AreLockNames s lock_named → lock_slice ≡ lock_named → IsTableOf lock_slice locks → AreReady s root locks
+pub ready : (s : Settings) (named slice lock_named lock_slice : List Named) (root locks : TablePlan) → IsSettings s → AreNamesOf s named → slice ≡ named → IsTableOf slice root → AreLockNames s lock_named → lock_slice ≡ lock_named → IsTableOf lock_slice locks → AreReady s root locks
 ready s named slice lock_named lock_slice root locks settings are same is are_locks lock_same is_locks =
     ready_of s slice lock_slice root locks settings (subst (λ (ns : List Named). AreNamesOf s ns) (sym same) are) is
     (subst (λ (ns : List Named). AreLockNames s ns) (sym lock_same) are_locks) is_locks
@@ -99,22 +100,22 @@ ready s named slice lock_named lock_slice root locks settings are same is are_lo
 -- ---- what it leads to
 
 -- a database by a plan of the settings would be too long
-pub refused : (s : Settings) (root locks : Table) (e : WriteFault) → IsPlanOf s (plan_of root locks) → IsOver (length_of (plan_of root locks)) e → IsRefusal s e
+pub refused : (s : Settings) (root locks : TablePlan) (e : WriteFault) → IsPlanOf s (plan_of root locks) → IsOver (length_of (plan_of root locks)) e → IsRefusal s e
 refused s root locks TooBig is over = (length_of (plan_of root locks), (plan_of root locks, is, refl), over)
 refused s root locks Memory is over = tt
 
 -- a file that is laid by their plan holds the settings
-pub file_is_sound : (root locks : Table) (file : List ℕ) → IsFileOf root locks file → IsSound (root_of file)
+pub file_is_sound : (root locks : TablePlan) (file : List ℕ) → IsFileOf root locks file → IsSound (root_of file)
 file_is_sound root locks file is = plan_is_sound (root_of file) (plan_of root locks) is.laid
 
-pub file_holds_values : (s : Settings) (root locks : Table) (file : List ℕ) → AreReady s root locks → IsFileOf root locks file → HoldsValues (root_of file) s
+pub file_holds_values : (s : Settings) (root locks : TablePlan) (file : List ℕ) → AreReady s root locks → IsFileOf root locks file → HoldsValues (root_of file) s
 file_holds_values s root locks file ready is = plan_holds_values (root_of file) s (plan_of root locks) ready.plan is.laid
 
-pub file_holds_locks : (s : Settings) (root locks : Table) (file : List ℕ) → AreReady s root locks → IsFileOf root locks file → HoldsLocks (root_of file) s
+pub file_holds_locks : (s : Settings) (root locks : TablePlan) (file : List ℕ) → AreReady s root locks → IsFileOf root locks file → HoldsLocks (root_of file) s
 file_holds_locks s root locks file ready is = plan_holds_locks (root_of file) s (plan_of root locks) ready.are_settings ready.plan is.laid
 
-pub file_has_length : (s : Settings) (root locks : Table) (file : List ℕ) → AreReady s root locks → IsFileOf root locks file → HasLength s (length file)
+pub file_has_length : (s : Settings) (root locks : TablePlan) (file : List ℕ) → AreReady s root locks → IsFileOf root locks file → HasLength s (length file)
 file_has_length s root locks file ready is = (plan_of root locks, ready.plan, sym is.whole)
 
-pub file_fits : (root locks : Table) (file : List ℕ) → IsFileOf root locks file → length_of (plan_of root locks) ≤ limit → length file ≤ limit
+pub file_fits : (root locks : TablePlan) (file : List ℕ) → IsFileOf root locks file → length_of (plan_of root locks) ≤ limit → length file ≤ limit
 file_fits root locks file is within = subst (λ (n : ℕ). n ≤ limit) (sym is.whole) within

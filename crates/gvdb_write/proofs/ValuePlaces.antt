@@ -9,14 +9,14 @@ use Rattle.std.specs.Ordering.{nat_cmp, eq_by_cmp}
 use Rattle.std.specs.FinMap.{slice_cmp-IsAntisymmetric, nat_cmp-IsAntisymmetric}
 use Rattle.std.specs.Cmp.{eq_by_cmp_equiv}
 use Rattle.std.proofs.lemmas.Cmp.{nat_list_cmp_total}
-use Rattle.std.proofs.lemmas.Map.Text.{is_eq-slice_cmp}
 use Rattle.std.proofs.lemmas.Map.Views.{tells_apart}
 use Rattle.std.proofs.lemmas.List.{get_or_append_left, get_or_push}
 use Rattle.std.proofs.lemmas.List.Folds.{list_any_at, list_any-append}
 use Rattle.dconf_model.specs.Plans.{with_new}
 use Rattle.gvdb_write.specs.Values.{ArePlaces}
+use Rattle.gvdb_write.proofs.Read.{same_path}
 
--- a value that has no place is not there, and one that has a place stands there
+-- a value that has no place is not there, and one that has a place is there
 abbrev pub IsPlaceOf : List (List ℕ) → List ℕ → Option ℕ → Type 0
 IsPlaceOf values value None = list_any (bytes_eq value) values ≡ false
 IsPlaceOf values value (Some k) = (k < length values) × (get_or values k [] ≡ value)
@@ -26,24 +26,20 @@ place_of places value = get (λ x y. slice_cmp nat_cmp x.now y.now) places value
 
 place_is : (places : BTreeMap (Bor (List ℕ)) ℕ) (values : List (List ℕ)) (value : Bor (List ℕ)) → ArePlaces places values → (o : Option ℕ) → place_of places value ≡ o → IsPlaceOf values value.now o
 place_is places values value are None e = are.absent value e
-place_is places values value are (Some k) e = (are.within value k e, are.stands value k e)
+place_is places values value are (Some k) e = (are.within value k e, are.holds value k e)
 
 are_places : (places : BTreeMap (Bor (List ℕ)) ℕ) (values : List (List ℕ)) → ((value : Bor (List ℕ)) → IsPlaceOf values value.now (place_of places value)) → ArePlaces places values
 are_places places values each = record {
   within = λ value k e. (subst (λ (o : Option ℕ). IsPlaceOf values value.now o) e (each value)).0;
-  stands = λ value k e. (subst (λ (o : Option ℕ). IsPlaceOf values value.now o) e (each value)).1;
+  holds = λ value k e. (subst (λ (o : Option ℕ). IsPlaceOf values value.now o) e (each value)).1;
   absent = λ value e. subst (λ (o : Option ℕ). IsPlaceOf values value.now o) e (each value);
 }
-
--- equal bytes are the same
-same_bytes : (path q : List ℕ) → bytes_eq path q ≡ eq_by_cmp (slice_cmp nat_cmp) q path
-same_bytes path q = sym (is_eq-slice_cmp path q) ∙ (eq_by_cmp_equiv nat_list_cmp_total).symm path q
 
 are_same : (a b : List ℕ) → eq_by_cmp (slice_cmp nat_cmp) a b ≡ true → a ≡ b
 are_same a b e = tells_apart (slice_cmp-IsAntisymmetric nat_cmp-IsAntisymmetric) a b e
 
 itself : (a : List ℕ) → bytes_eq a a ≡ true
-itself a = same_bytes a a ∙ (eq_by_cmp_equiv nat_list_cmp_total).refl a
+itself a = same_path a a ∙ (eq_by_cmp_equiv nat_list_cmp_total).refl a
 
 -- what has a place is there already
 pub there : (values : List (List ℕ)) (value : List ℕ) (k : ℕ) → IsPlaceOf values value (Some k) → with_new values value ≡ values
@@ -65,7 +61,7 @@ other_place values value q other (Some k) is =
 
 place_after : (values : List (List ℕ)) (value q : List ℕ) (n : ℕ) (o : Option ℕ) → length values ≡ n → IsPlaceOf values q o → (b : Bool) → eq_by_cmp (slice_cmp nat_cmp) value q ≡ b → IsPlaceOf (values ++ value ∷ []) q (cond b (Some n) o)
 place_after values value q n o e is true same = subst (λ (v : List ℕ). IsPlaceOf (values ++ value ∷ []) v (Some n)) (are_same value q same) (last_place values value n e)
-place_after values value q n o e is false other = other_place values value q (same_bytes q value ∙ other) o is
+place_after values value q n o e is false other = other_place values value q (same_path q value ∙ other) o is
 
 abbrev Updates : BTreeMap (Bor (List ℕ)) ℕ → BTreeMap (Bor (List ℕ)) ℕ → Bor (List ℕ) → ℕ → Type 0
 Updates m n value count = (q : Bor (List ℕ)) → place_of n q ≡ update (λ x y. eq_by_cmp (slice_cmp nat_cmp) x.now y.now) (place_of m) value (Some count) q

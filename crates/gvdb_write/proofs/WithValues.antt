@@ -1,49 +1,49 @@
--- Values that are appended, each at a multiple of 8, stand in the file.
+-- Values that are appended, each at a multiple of 8, occur in the file.
 use Rattle.std.proofs.Common.{ℕ, zero, suc, ◌≡◌, ◌<◌, ◌≤◌, ◌+◌, ◌-◌, ◌%◌, List, [], ◌∷◌, ◌++◌, length, get_or, take, replicate, refl, sym, ap, ◌∙◌, subst, arith, length-append}
 use Rattle.std.proofs.lemmas.List.{length-replicate}
 use Rattle.std.proofs.lemmas.List.Sums.{fold_more}
 use Rattle.gv_model.specs.Layout.{round_up}
-use Rattle.dconf_model.specs.Standing.{Stands}
+use Rattle.dconf_model.specs.TableBytes.{OccursAt}
 use Rattle.dconf_model.specs.Plans.{values_end}
-use Rattle.dconf_model.proofs.Standing.{stands_at, stands_last, stands_still}
-use Rattle.gvdb_write.specs.Appended.{padded, with_values}
+use Rattle.dconf_model.proofs.Occurrences.{occurs_at, occurs_last, occurs_still}
+use Rattle.gvdb_write.specs.WrittenParts.{with_padding, with_values}
 
 not_below : (n : ℕ) → n ≤ round_up 8 n
 unfolding round_up
 not_below n = omega arith
 
-pub length-padded : (file : List ℕ) → length (padded 8 file) ≡ round_up 8 (length file)
+pub length-padded : (file : List ℕ) → length (with_padding 8 file) ≡ round_up 8 (length file)
 length-padded file =
     let n = length-append file (replicate (round_up 8 (length file) - length file) 0) in
     let m = length-replicate {A = ℕ} (round_up 8 (length file) - length file) 0 in
     let le = not_below (length file) in
     omega (arith, n, m, le)
 
-length-next : (file value : List ℕ) → length (padded 8 file ++ value) ≡ round_up 8 (length file) + length value
-length-next file value = length-append (padded 8 file) value ∙ ap (λ (n : ℕ). n + length value) (length-padded file)
+length-next : (file value : List ℕ) → length (with_padding 8 file ++ value) ≡ round_up 8 (length file) + length value
+length-next file value = length-append (with_padding 8 file) value ∙ ap (λ (n : ℕ). n + length value) (length-padded file)
 
 -- as long as the ends of the values say
 pub length-with_values : (values : List (List ℕ)) (file : List ℕ) → length (with_values file values) ≡ values_end (length file) values
 length-with_values [] file = refl
 length-with_values (value ∷ values) file =
-    length-with_values values (padded 8 file ++ value) ∙ ap (λ (n : ℕ). values_end n values) (length-next file value)
+    length-with_values values (with_padding 8 file ++ value) ∙ ap (λ (n : ℕ). values_end n values) (length-next file value)
 
--- what stood there still does
-pub stands_before : (values : List (List ℕ)) (file : List ℕ) (at : ℕ) (bytes : List ℕ) → Stands file at bytes → Stands (with_values file values) at bytes
-stands_before [] file at bytes s = s
-stands_before (value ∷ values) file at bytes s =
-    stands_before values (padded 8 file ++ value) at bytes
-    (stands_still (padded 8 file) at bytes value (stands_still file at bytes (replicate (round_up 8 (length file) - length file) 0) s))
+-- what was there is still there
+pub occurs_before : (values : List (List ℕ)) (file : List ℕ) (at : ℕ) (bytes : List ℕ) → OccursAt file at bytes → OccursAt (with_values file values) at bytes
+occurs_before [] file at bytes s = s
+occurs_before (value ∷ values) file at bytes s =
+    occurs_before values (with_padding 8 file ++ value) at bytes
+    (occurs_still (with_padding 8 file) at bytes value (occurs_still file at bytes (replicate (round_up 8 (length file) - length file) 0) s))
 
--- each value stands where the one before it ends, at the next multiple of 8
-pub value_stands : (values : List (List ℕ)) (i : ℕ) (file : List ℕ) → i < length values → Stands (with_values file values) (round_up 8 (values_end (length file) (take i values))) (get_or values i [])
-value_stands [] i file l = absurd (omega (arith, l))
-value_stands (value ∷ values) zero file l =
-    stands_at (with_values (padded 8 file ++ value) values) (length (padded 8 file)) (round_up 8 (length file)) value (length-padded file)
-    (stands_before values (padded 8 file ++ value) (length (padded 8 file)) value (stands_last (padded 8 file) value))
-value_stands (value ∷ values) (suc i) file l =
-    subst (λ (n : ℕ). Stands (with_values (padded 8 file ++ value) values) (round_up 8 (values_end n (take i values))) (get_or values i [])) (length-next file value)
-    (value_stands values i (padded 8 file ++ value) (omega (arith, l)))
+-- each value is where the one before it ends, at the next multiple of 8
+pub value_occurs : (values : List (List ℕ)) (i : ℕ) (file : List ℕ) → i < length values → OccursAt (with_values file values) (round_up 8 (values_end (length file) (take i values))) (get_or values i [])
+value_occurs [] i file l = absurd (omega (arith, l))
+value_occurs (value ∷ values) zero file l =
+    occurs_at (with_values (with_padding 8 file ++ value) values) (length (with_padding 8 file)) (round_up 8 (length file)) value (length-padded file)
+    (occurs_before values (with_padding 8 file ++ value) (length (with_padding 8 file)) value (occurs_last (with_padding 8 file) value))
+value_occurs (value ∷ values) (suc i) file l =
+    subst (λ (n : ℕ). OccursAt (with_values (with_padding 8 file ++ value) values) (round_up 8 (values_end n (take i values))) (get_or values i [])) (length-next file value)
+    (value_occurs values i (with_padding 8 file ++ value) (omega (arith, l)))
 
 -- ends never fall
 pub values_rise : (values : List (List ℕ)) (at : ℕ) → at ≤ values_end at values
@@ -53,11 +53,11 @@ values_rise (value ∷ values) at =
     let more = values_rise values (round_up 8 at + length value) in
     omega (arith, le, more)
 
-pub front_ends_below : (values : List (List ℕ)) (i : ℕ) (at : ℕ) → values_end at (take i values) ≤ values_end at values
-front_ends_below [] zero at = omega arith
-front_ends_below [] (suc i) at = omega arith
-front_ends_below (value ∷ values) zero at = values_rise (value ∷ values) at
-front_ends_below (value ∷ values) (suc i) at = front_ends_below values i (round_up 8 at + length value)
+pub prefix_ends_below : (values : List (List ℕ)) (i : ℕ) (at : ℕ) → values_end at (take i values) ≤ values_end at values
+prefix_ends_below [] zero at = omega arith
+prefix_ends_below [] (suc i) at = omega arith
+prefix_ends_below (value ∷ values) zero at = values_rise (value ∷ values) at
+prefix_ends_below (value ∷ values) (suc i) at = prefix_ends_below values i (round_up 8 at + length value)
 
 -- ---- as the code appends them
 
@@ -69,11 +69,11 @@ pub next_4 : (k n : ℕ) → k ≤ n → n < k + 4 → n % 4 ≡ 0 → n ≡ rou
 unfolding round_up
 next_4 k n le less whole = omega (arith, le, less, whole)
 
-pub padded_is : (to : ℕ) (file after : List ℕ) (len n : ℕ) → len ≡ length file → n ≡ round_up to len → after ≡ file ++ replicate (n - length file) 0 → after ≡ padded to file
+pub padded_is : (to : ℕ) (file after : List ℕ) (len n : ℕ) → len ≡ length file → n ≡ round_up to len → after ≡ file ++ replicate (n - length file) 0 → after ≡ with_padding to file
 padded_is to file after len n is e a = a ∙ ap (λ (m : ℕ). file ++ replicate (m - length file) 0) (e ∙ ap (round_up to) is)
 
-pub value_appended : (values : List (List ℕ)) (i : ℕ) (out before pad after : List ℕ) → i < length values → before ≡ with_values out (take i values) → pad ≡ padded 8 before → after ≡ pad ++ get_or values i [] → after ≡ with_values out (take (i + 1) values)
+pub value_appended : (values : List (List ℕ)) (i : ℕ) (out before pad after : List ℕ) → i < length values → before ≡ with_values out (take i values) → pad ≡ with_padding 8 before → after ≡ pad ++ get_or values i [] → after ≡ with_values out (take (i + 1) values)
 value_appended values i out before pad after l b p a =
     a ∙ (ap (λ (f : List ℕ). f ++ get_or values i []) p
-    ∙ (ap (λ (f : List ℕ). padded 8 f ++ get_or values i []) b
-    ∙ sym (fold_more (λ (f : List ℕ) (value : List ℕ). padded 8 f ++ value) out values i [] l)))
+    ∙ (ap (λ (f : List ℕ). with_padding 8 f ++ get_or values i []) b
+    ∙ sym (fold_more (λ (f : List ℕ) (value : List ℕ). with_padding 8 f ++ value) out values i [] l)))

@@ -6,7 +6,7 @@ use Rattle.std.specs.BTreeSet.{BTreeSet}
 use Rattle.std.specs.declared.string.String.{String}
 use Rattle.std.specs.declared.alloc.Global.{Global}
 use Rattle.std.specs.String.{string_bytes}
-use Rattle.std.specs.FinMap.{from_entries}
+use Rattle.std.specs.FinMap.{from_entries, contains_key}
 use Rattle.dconf_model.specs.Paths.{is_key_path}
 use Rattle.dconf_model.specs.Settings.{AtPaths, Lock, Settings}
 
@@ -28,6 +28,11 @@ settings_of m s = record { values = values_of m; locks = locks_of s }
 -- the bytes of texts
 abbrev pub texts : List (String Global) → List (List ℕ)
 texts ts = map string_bytes ts
+
+-- each path that has a value or a lock is the path of a key: a map locks no directories
+pub record AreAtKeys (s : Settings) : Type 0 where
+  pub valued : (path : List ℕ) → IsTrue (contains_key s.values path) → IsTrue (is_key_path path)
+  pub locked : (path : List ℕ) → IsTrue (contains_key s.locks path) → IsTrue (is_key_path path)
 
 -- each of these is the path of a key
 abbrev pub AreKeyPaths : List (List ℕ) → Type 0

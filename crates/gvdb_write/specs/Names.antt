@@ -1,4 +1,4 @@
--- Names in the order of their bytes, each behind its directory: what holds of the names that a table is made of.
+-- Names in the order of their bytes, each after its directory: what holds of the names that a table is made of.
 use Rattle.std.specs.Prelude.{ℕ, ◌+◌, ◌-◌, ◌<◌, ◌≤◌, ◌≡◌, ◌≢◌, ◌⊎◌, List, [], ◌∷◌, ◌++◌, length, take, drop, slice_index, slice_index_or, Option, Some, None, Contains, IsUtf8, IsTrue, codes}
 use Rattle.std.specs.Cmp.Lexicographic.{slice_cmp}
 use Rattle.std.specs.Ordering.{nat_cmp}
@@ -10,7 +10,7 @@ use Rattle.dconf_model.specs.Settings.{Settings}
 use Rattle.dconf_model.specs.Entries.{IsTopEntry}
 use Rattle.dconf_model.specs.Plans.{IsRootName, HasLocks, nothing_bytes}
 use Rattle.gvdb_write.specs.declared.names.Named.{Named}
-use Rattle.gvdb_write.specs.Tables.{kind_of, value_of, entry_of, no_name}
+use Rattle.gvdb_write.specs.PlanWords.{kind_of, content_bytes, entry_of, no_name}
 
 abbrev pub named : List Named → ℕ → Named
 named names i = slice_index_or names i no_name
@@ -21,7 +21,7 @@ name_at names i = (named names i).name.now
 abbrev pub kind_at : List Named → ℕ → ℕ
 kind_at names i = kind_of (named names i).content
 
--- the first name stands before the second
+-- the first name precedes the second
 abbrev pub IsBefore : List ℕ → List ℕ → Type 0
 IsBefore a b = slice_cmp nat_cmp a b ≡ Less
 
@@ -44,7 +44,7 @@ pub record IsFit (n : Named) : Type 0 where
   pub no_nul : ¬ Contains (drop n.from n.name.now) 0
   pub short : length n.name.now ≤ 65535
 
--- a value's name has no slash behind its directory, that of a list one at its end and not alone
+-- a value's name has no slash after its directory, that of a list one at its end and not alone
 abbrev pub EndsAs : Named → Type 0
 EndsAs n =
     (kind_of n.content ≡ value_kind) × HasNoSlash n.name.now n.from (length n.name.now)
@@ -53,18 +53,18 @@ EndsAs n =
 
 pub record LiesIn (d n : Named) : Type 0 where
   pub directory : kind_of d.content ≡ list_kind
-  pub front : take n.from n.name.now ≡ d.name.now
+  pub prefix : take n.from n.name.now ≡ d.name.now
   pub from : n.from ≡ length d.name.now
   pub ends : EndsAs n
 
--- without a directory it is `/` or `.locks`; else it stands behind its directory
-abbrev pub StandsBehind : List Named → ℕ → Option ℕ → Type 0
-StandsBehind names i None = ((named names i).from ≡ 0) × IsTopEntry (entry_of (named names i))
-StandsBehind names i (Some p) = (p < i) × LiesIn (named names p) (named names i)
+-- without a directory it is `/` or `.locks`; else it comes after its directory
+abbrev pub NameHasParent : List Named → ℕ → Option ℕ → Type 0
+NameHasParent names i None = ((named names i).from ≡ 0) × IsTopEntry (entry_of (named names i))
+NameHasParent names i (Some p) = (p < i) × LiesIn (named names p) (named names i)
 
 pub record IsPlaced (names : List Named) (i : ℕ) : Type 0 where
   pub fit : IsFit (named names i)
-  pub stands : StandsBehind names i (named names i).parent
+  pub has_parent : NameHasParent names i (named names i).parent
 
 -- ---- all of them
 
@@ -87,7 +87,7 @@ AreRootNames s names = (i : ℕ) → i < length names → IsRootName s (name_at 
 
 abbrev pub HoldValues : Settings → List Named → Type 0
 HoldValues s names =
-    (i : ℕ) → i < length names → kind_at names i ≡ value_kind → get s.values (name_at names i) ≡ Some (value_of (named names i).content)
+    (i : ℕ) → i < length names → kind_at names i ≡ value_kind → get s.values (name_at names i) ≡ Some (content_bytes (named names i).content)
 
 -- the name is there, and stands for something of the kind
 pub record IsThere (names : List Named) (name : List ℕ) (kind : ℕ) : Type 0 where
@@ -117,10 +117,10 @@ pub record AreGood (names : List Named) : Type 0 where
 pub record IsDirectoryAt (names : List Named) (text : List ℕ) (at : ℕ) : Type 0 where
   pub within : at < length names
   pub list : kind_at names at ≡ list_kind
-  pub front : take (length (name_at names at)) text ≡ name_at names at
+  pub prefix : take (length (name_at names at)) text ≡ name_at names at
   pub inside : length (name_at names at) ≤ length text
 
--- the last name stands before the path, and before its directories that go on behind that place
+-- the last name precedes the path, and those of its directories that go on after that place
 pub record IsBeyond (last text : List ℕ) (from : ℕ) : Type 0 where
   pub path : IsBefore last text
   pub directories : (i : ℕ) → IsSlash text i → from ≤ i → IsBefore last (take (i + 1) text)
@@ -133,7 +133,7 @@ abbrev pub IsNewDirectory : List ℕ → Named → Type 0
 IsNewDirectory text n = (kind_of n.content ≡ list_kind) × ((i : ℕ) × IsSlash text i × (n.name.now ≡ take (i + 1) text))
 
 abbrev pub IsNewPath : List ℕ → List ℕ → Named → Type 0
-IsNewPath text value n = (n.name.now ≡ text) × (kind_of n.content ≡ value_kind) × (value_of n.content ≡ value)
+IsNewPath text value n = (n.name.now ≡ text) × (kind_of n.content ≡ value_kind) × (content_bytes n.content ≡ value)
 
 -- the path is the last name now, and lies in that directory
 pub record IsAdded (old new : List Named) (text value : List ℕ) (directory : ℕ) : Type 0 where
@@ -161,7 +161,7 @@ pub record IsLockNamed (path : List ℕ) (n : Named) : Type 0 where
   pub utf8 : IsUtf8 path
   pub hash : n.hash ≡ hash_of n.name.now
   pub entry : entry_of n ≡ record { name = path; key = path; parent = None; kind = value_kind }
-  pub value : value_of n.content ≡ nothing_bytes
+  pub value : content_bytes n.content ≡ nothing_bytes
 
 -- the locked paths, in their order
 pub record AreLockNames (s : Settings) (names : List Named) : Type 0 where

@@ -11,8 +11,8 @@ use Rattle.std.specs.Ordering.{nat_cmp}
 abbrev pub bytes_of_each : List (Bor (List ℕ)) → List (List ℕ)
 bytes_of_each values = map (λ v. v.now) values
 
--- a value that has a place stands there, and another is not among the values
+-- a value that has a place is there, and another is not among the values
 pub record ArePlaces (places : BTreeMap (Bor (List ℕ)) ℕ) (values : List (List ℕ)) : Type 0 where
   pub within : (value : Bor (List ℕ)) (k : ℕ) → get (λ x y. slice_cmp nat_cmp x.now y.now) places value ≡ Some k → k < length values
-  pub stands : (value : Bor (List ℕ)) (k : ℕ) → get (λ x y. slice_cmp nat_cmp x.now y.now) places value ≡ Some k → slice_index_or values k [] ≡ value.now
+  pub holds : (value : Bor (List ℕ)) (k : ℕ) → get (λ x y. slice_cmp nat_cmp x.now y.now) places value ≡ Some k → slice_index_or values k [] ≡ value.now
   pub absent : (value : Bor (List ℕ)) → get (λ x y. slice_cmp nat_cmp x.now y.now) places value ≡ None → list_any (bytes_eq value.now) values ≡ false

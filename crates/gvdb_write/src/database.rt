@@ -2,30 +2,30 @@
 //! them.
 ghost use Rattle.std.specs.Prelude.{ℕ, ◌≡◌, ◌++◌, ◌+◌, ◌-◌, ◌*◌, ◌/◌, ◌%◌, ◌^◌, ◌≤◌, ◌<◌, length, OnOk, IfOk, IfErr, replicate, IsBitSet};
 ghost use Rattle.gv_model.specs.Encode.{number_bytes};
-ghost use Rattle.dconf_model.specs.Standing.{row_bytes, rows_bytes, words_bytes, head_bytes, header_bytes};
+ghost use Rattle.dconf_model.specs.TableBytes.{record_bytes, records_bytes, words_bytes, head_bytes, header_bytes};
 ghost use Rattle.dconf_model.specs.Opening.{IsDatabase, root_of};
 ghost use Rattle.dconf_model.specs.Sound.{IsSound};
 ghost use Rattle.dconf_model.specs.Plans.{values_end, HoldsValues, HoldsLocks, HasLength};
-ghost use Rattle.dconf_model.specs.Standing.{parent_number as number_of_parent};
-ghost use Rattle.gvdb_write.specs.Laid.{limit, IsRefusal};
-ghost use Rattle.gvdb_write.specs.Rows.{row_of};
+ghost use Rattle.dconf_model.specs.TableBytes.{parent_number as number_of_parent};
+ghost use Rattle.gvdb_write.specs.Limits.{limit, IsRefusal};
+ghost use Rattle.gvdb_write.specs.ItemRecords.{record_of};
 ghost use Rattle.gvdb_write.specs.Values.{bytes_of_each};
-ghost use Rattle.gvdb_write.specs.Layouts.{IsLayoutOf};
-ghost use Rattle.gvdb_write.specs.Planned.{AreTables, AreReady, IsFileOf};
-ghost use Rattle.gvdb_write.specs.Appended.{AreNumbers, HaveNumbers, HaveKeys, HaveBits, HasTable, HasTableOfLocks, keys_bytes, numbers_of, rows_of, padded, with_values};
+ghost use Rattle.gvdb_write.specs.LayoutParts.{IsLayoutOf};
+ghost use Rattle.gvdb_write.specs.PlannedTables.{AreTables, AreReady, IsFileOf};
+ghost use Rattle.gvdb_write.specs.WrittenParts.{HaveFourBytes, HaveNumbers, HaveKeys, HaveBits, HasTable, HasTableOfLocks, keys_bytes, numbers_of, records_of, with_padding, with_values};
 ghost use Rattle.gvdb_write.specs.declared.write_fault.WriteFault.TheVariants.{Memory};
 
-use crate::layout::{Layout, Row, Span, bloom_words};
+use crate::layout::{ItemRecord, Layout, Pointer, bloom_words};
 use crate::map::Map;
 use crate::names::{Named, lock_names, root_names};
-use crate::table::Table;
+use crate::table::TablePlan;
 use crate::write_fault::WriteFault;
 use std::alloc::Global;
 
 /// What each database begins with.
 const SIGNATURE: &[u8] = b"GVariant";
 
-/// The second hash of a bloom word is the hash behind so many bits.
+/// The second hash of a bloom word is the hash after so many bits.
 const BLOOM_SHIFT: u32 = 5;
 
 /// The parent of an item without one.
@@ -51,20 +51,20 @@ pub fn write(alloc: Global, map: &Map) -> Result<Vec<u8>, WriteFault>
 }
 
 /// The root table of a map's database, and the table of its locks.
-fn tables<'a>(alloc: Global, map: &'a Map) -> Result<(Table<'a>, Table<'a>), WriteFault>
+fn tables<'a>(alloc: Global, map: &'a Map) -> Result<(TablePlan<'a>, TablePlan<'a>), WriteFault>
     ensures tables { IfOk result (λ tables. AreReady map.now tables.0 tables.1) }
     ensures fault { IfErr result (λ e. e ≡ Memory) }
 {
-    let root = Table::new(alloc, &root_names(alloc, map)?)?;
-    let locks = Table::new(alloc, &lock_names(alloc, map)?)?;
+    let root = TablePlan::new(alloc, &root_names(alloc, map)?)?;
+    let locks = TablePlan::new(alloc, &lock_names(alloc, map)?)?;
     Ok((root, locks))
 }
 
 /// The bytes of a database that is laid: header, root table, its lists, table of locks where there are locks, values.
 fn write_parts(
     alloc: Global,
-    root: &Table<'_>,
-    locks: &Table<'_>,
+    root: &TablePlan<'_>,
+    locks: &TablePlan<'_>,
     layout: &Layout<'_>,
 ) -> Result<Vec<u8>, WriteFault>
     requires tables { AreTables root.now locks.now }
@@ -73,7 +73,7 @@ fn write_parts(
     ensures fault { IfErr result (λ e. e ≡ Memory) }
 {
     let mut out = Vec::with_capacity(alloc, layout.end)?;
-    write_header(layout.root.span, &mut out)?;
+    write_header(layout.root.pointer, &mut out)?;
     write_table(root, &layout.root.rows, &mut out)?;
     write_children(&root.children, &mut out)?;
     write_locks(locks, &layout.locks.rows, &mut out)?;
@@ -81,8 +81,8 @@ fn write_parts(
     Ok(out)
 }
 
-/// Appends the header of a file of version 0, whose root table stands there.
-fn write_header(root: Span, out: &mut Vec<u8>) -> Result<(), WriteFault>
+/// Appends the header of a file of version 0, whose root table is there.
+fn write_header(root: Pointer, out: &mut Vec<u8>) -> Result<(), WriteFault>
     requires start { root.start ≤ limit }
     requires end { root.end ≤ limit }
     ensures bytes { OnOk result (out.new.items ≡ out.old.items ++ header_bytes root.start root.end) }
@@ -96,10 +96,14 @@ fn write_header(root: Span, out: &mut Vec<u8>) -> Result<(), WriteFault>
 }
 
 /// Appends a table and its keys, at a multiple of 4.
-fn write_table(table: &Table<'_>, rows: &[Row], out: &mut Vec<u8>) -> Result<(), WriteFault>
+fn write_table(
+    table: &TablePlan<'_>,
+    rows: &[ItemRecord],
+    out: &mut Vec<u8>,
+) -> Result<(), WriteFault>
     requires few { 28 * length table.now.items.items ≤ limit }
     requires out { length out.old.items ≤ limit }
-    requires buckets { AreNumbers table.now.buckets.items }
+    requires buckets { HaveFourBytes table.now.buckets.items }
     requires bucketed { length table.now.buckets.items ≡ length table.now.items.items }
     requires keys { HaveKeys table.now.items.items }
     ensures bytes { OnOk result (HasTable table.now rows.now out.old.items out.new.items) }
@@ -115,10 +119,14 @@ fn write_table(table: &Table<'_>, rows: &[Row], out: &mut Vec<u8>) -> Result<(),
 }
 
 /// Appends the table of locks and its keys, where there are locks.
-fn write_locks(locks: &Table<'_>, rows: &[Row], out: &mut Vec<u8>) -> Result<(), WriteFault>
+fn write_locks(
+    locks: &TablePlan<'_>,
+    rows: &[ItemRecord],
+    out: &mut Vec<u8>,
+) -> Result<(), WriteFault>
     requires few { 28 * length locks.now.items.items ≤ limit }
     requires out { length out.old.items ≤ limit }
-    requires buckets { AreNumbers locks.now.buckets.items }
+    requires buckets { HaveFourBytes locks.now.buckets.items }
     requires bucketed { length locks.now.buckets.items ≡ length locks.now.items.items }
     requires keys { HaveKeys locks.now.items.items }
     ensures bytes { OnOk result (HasTableOfLocks locks.now rows.now out.old.items out.new.items) }
@@ -178,7 +186,7 @@ fn write_words(words: &[u32], out: &mut Vec<u8>) -> Result<(), WriteFault>
 
 /// Appends the numbers of items.
 fn write_numbers(numbers: &[usize], out: &mut Vec<u8>) -> Result<(), WriteFault>
-    requires { AreNumbers numbers.now }
+    requires { HaveFourBytes numbers.now }
     ensures bytes { OnOk result (out.new.items ≡ out.old.items ++ words_bytes numbers.now) }
     ensures fault { IfErr result (λ e. e ≡ Memory) }
 {
@@ -189,8 +197,8 @@ fn write_numbers(numbers: &[usize], out: &mut Vec<u8>) -> Result<(), WriteFault>
 }
 
 /// Appends the numbers that the items of a table have.
-fn write_rows(rows: &[Row], out: &mut Vec<u8>) -> Result<(), WriteFault>
-    ensures bytes { OnOk result (out.new.items ≡ out.old.items ++ rows_bytes (rows_of rows.now)) }
+fn write_rows(rows: &[ItemRecord], out: &mut Vec<u8>) -> Result<(), WriteFault>
+    ensures bytes { OnOk result (out.new.items ≡ out.old.items ++ records_bytes (records_of rows.now)) }
     ensures fault { IfErr result (λ e. e ≡ Memory) }
 {
     for row in rows {
@@ -212,8 +220,8 @@ fn write_keys(items: &[Named<'_>], out: &mut Vec<u8>) -> Result<(), WriteFault>
 }
 
 /// Appends the numbers of an item.
-fn push_row(row: Row, out: &mut Vec<u8>) -> Result<(), WriteFault>
-    ensures bytes { OnOk result (out.new.items ≡ out.old.items ++ row_bytes (row_of row)) }
+fn push_row(row: ItemRecord, out: &mut Vec<u8>) -> Result<(), WriteFault>
+    ensures bytes { OnOk result (out.new.items ≡ out.old.items ++ record_bytes (record_of row)) }
     ensures fault { IfErr result (λ e. e ≡ Memory) }
 {
     push(row.hash, out)?;
@@ -239,7 +247,7 @@ fn parent_number(parent: Option<u32>) -> u32
 fn write_children(children: &[(usize, usize)], out: &mut Vec<u8>) -> Result<(), WriteFault>
     requires out { length out.old.items ≤ limit }
     requires children { HaveNumbers children.now }
-    ensures bytes { OnOk result (out.new.items ≡ padded 4 out.old.items ++ words_bytes (numbers_of children.now)) }
+    ensures bytes { OnOk result (out.new.items ≡ with_padding 4 out.old.items ++ words_bytes (numbers_of children.now)) }
     ensures fault { IfErr result (λ e. e ≡ Memory) }
 {
     pad(out.len().next_multiple_of(4), out)?;

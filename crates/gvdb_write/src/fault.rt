@@ -15,13 +15,13 @@ pub enum MapFault {
 
 impl fmt::Display for MapFault {
     ghost use Rattle.std.specs.Prelude.{Some};
-    ghost use Rattle.gvdb_write.specs.Faults.{fault_text};
+    ghost use Rattle.gvdb_write.specs.Faults.{map_fault_text};
 
-    ghost output = { λ fault. Some (fault_text fault) };
+    ghost output = { λ fault. Some (map_fault_text fault) };
 
     fn fmt<W: fmt::Write>(&self, f: &mut fmt::Formatter<W>) -> fmt::Result {
         match self {
-            MapFault::Memory => write!(f, "Memory"),
+            MapFault::Memory => f.write_str("Memory"),
         }
     }
 }

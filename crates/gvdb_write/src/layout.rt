@@ -1,41 +1,41 @@
-//! Where everything stands in a database's bytes: header; root table; its keys; its lists; the table of locks and its
+//! Where everything occurs in a database's bytes: header; root table; its keys; its lists; the table of locks and its
 //! keys; values, the root table's and then the locks', equal bytes once.
 ghost use Rattle.std.specs.Prelude.{ℕ, ◌≡◌, ◌+◌, ◌*◌, ◌/◌, ◌<◌, ◌≤◌, [], length, fold, slice_index, Some, OnOk, IfOk, IfErr};
 ghost use Rattle.gv_model.specs.Layout.{round_up};
 ghost use Rattle.dconf_model.specs.Table.{value_kind, list_kind, table_kind};
 ghost use Rattle.dconf_model.specs.Entries.{EachEntry, IsRootEntry, AreChildren};
 ghost use Rattle.dconf_model.specs.Plans.{length_of, locks_end, values_end, with_new};
-ghost use Rattle.gvdb_write.specs.Laid.{limit, IsPast, IsOver};
+ghost use Rattle.gvdb_write.specs.Limits.{limit, IsPast, IsOver};
 ghost use Rattle.gvdb_write.specs.Names.{kind_at};
-ghost use Rattle.gvdb_write.specs.Tables.{kind_of, entries_of, children_of, plan_of};
-ghost use Rattle.gvdb_write.specs.Layouts.{CanBeLaid, AreLocks, AreRows, IsLayoutOf, row as row_at};
-ghost use Rattle.gvdb_write.specs.Laying.{table_end, all_keys_end, laid_end, all_lists_end, list_span, AreListed};
-ghost use Rattle.gvdb_write.specs.Spanned.{span_at, IsShort, AreSet, values_of, HavePlaces, AreSpans};
+ghost use Rattle.gvdb_write.specs.PlanWords.{kind_of, entries_of, children_of, plan_of};
+ghost use Rattle.gvdb_write.specs.LayoutParts.{CanBeLaid, AreLocks, AreRecords, IsLayoutOf, row as row_at};
+ghost use Rattle.gvdb_write.specs.CursorPlaces.{table_end, all_keys_end, laid_end, all_lists_end, list_pointer, AreListed};
+ghost use Rattle.gvdb_write.specs.Contents.{pointer_at, IsShort, AreSet, own_values, HavePlaces, ArePointers};
 ghost use Rattle.gvdb_write.specs.Values.{bytes_of_each, ArePlaces};
 ghost use Rattle.gvdb_write.specs.declared.write_fault.WriteFault.TheVariants.{Memory};
 
 use crate::names::{Content, Named};
-use crate::table::Table;
+use crate::table::TablePlan;
 use crate::values::Values;
 use crate::write_fault::WriteFault;
 use std::alloc::Global;
 
 /// How many bytes a database has at most.
-const LIMIT: usize = 0xffff_ffff;
+pub const MAX_DATABASE_LEN: usize = 4_294_967_295;
 
 /// How many bytes a header has.
 pub(crate) const HEADER: usize = 24;
 
-/// From where to where something stands.
+/// From where to where something is.
 #[derive(Clone, Copy, Debug)]
-pub(crate) struct Span {
+pub(crate) struct Pointer {
     pub(crate) start: usize,
     pub(crate) end: usize,
 }
 
-/// The numbers of an item. Its key and its content stand from start up to end.
+/// The numbers of an item. Its key and its content occur from start up to end.
 #[derive(Clone, Copy, Debug)]
-pub(crate) struct Row {
+pub(crate) struct ItemRecord {
     pub(crate) hash: u32,
     pub(crate) parent: Option<u32>,
     pub(crate) key_start: u32,
@@ -45,11 +45,11 @@ pub(crate) struct Row {
     pub(crate) end: u32,
 }
 
-/// Where a table stands, and the numbers of its items.
+/// Where a table is, and the numbers of its items.
 #[derive(Drop)]
-pub(crate) struct Rows {
-    pub(crate) span: Span,
-    pub(crate) rows: Vec<Row>,
+pub(crate) struct TableRecords {
+    pub(crate) pointer: Pointer,
+    pub(crate) rows: Vec<ItemRecord>,
 }
 
 /// Where the bytes go that are laid next.
@@ -61,18 +61,18 @@ pub(crate) struct Cursor {
 
 impl Cursor {
     /// Lays so many bytes, unless there would be too many.
-    fn lay(&mut self, len: usize) -> Result<Span, WriteFault>
-        ensures start { IfOk result (λ span. span.start ≡ self.old.at) }
-        ensures end { IfOk result (λ span. span.end ≡ self.old.at + len) }
+    fn lay(&mut self, len: usize) -> Result<Pointer, WriteFault>
+        ensures start { IfOk result (λ pointer. pointer.start ≡ self.old.at) }
+        ensures end { IfOk result (λ pointer. pointer.end ≡ self.old.at + len) }
         ensures at { OnOk result (self.new.at ≡ self.old.at + len) }
         ensures fault { IfErr result (IsPast (self.old.at + len)) }
     {
-        if len > LIMIT - self.at {
+        if len > MAX_DATABASE_LEN - self.at {
             return Err(WriteFault::TooBig);
         }
         let start = self.at;
         self.at += len;
-        Ok(Span {
+        Ok(Pointer {
             start,
             end: self.at,
         })
@@ -100,24 +100,28 @@ pub(crate) fn bloom_words(items: usize) -> usize
 }
 
 /// Lays a table of so many items.
-fn lay_table(cursor: &mut Cursor, items: usize) -> Result<Span, WriteFault>
-    ensures start { IfOk result (λ span. span.start ≡ round_up 4 cursor.old.at) }
-    ensures end { IfOk result (λ span. span.end ≡ table_end cursor.old.at items) }
+fn lay_table(cursor: &mut Cursor, items: usize) -> Result<Pointer, WriteFault>
+    ensures start { IfOk result (λ pointer. pointer.start ≡ round_up 4 cursor.old.at) }
+    ensures end { IfOk result (λ pointer. pointer.end ≡ table_end cursor.old.at items) }
     ensures at { OnOk result (cursor.new.at ≡ table_end cursor.old.at items) }
     ensures fault { IfErr result (IsPast (table_end cursor.old.at items)) }
 {
-    if items > LIMIT / 28 {
+    if items > MAX_DATABASE_LEN / 28 {
         return Err(WriteFault::TooBig);
     }
     cursor.align(4)?;
     cursor.lay(8 + 4 * bloom_words(items) + 28 * items)
 }
 
-/// Lays the keys of items, one behind another. The contents aren't laid yet.
-fn lay_keys(alloc: Global, cursor: &mut Cursor, items: &[Named<'_>]) -> Result<Vec<Row>, WriteFault>
+/// Lays the keys of items, one after another. The contents aren't laid yet.
+fn lay_keys(
+    alloc: Global,
+    cursor: &mut Cursor,
+    items: &[Named<'_>],
+) -> Result<Vec<ItemRecord>, WriteFault>
     requires items { CanBeLaid items.now }
     requires few { length items.now ≤ limit }
-    ensures rows { IfOk result (λ rows. AreRows items.now cursor.old.at rows.items) }
+    ensures rows { IfOk result (λ rows. AreRecords items.now cursor.old.at rows.items) }
     ensures at { OnOk result (cursor.new.at ≡ all_keys_end cursor.old.at items.now) }
     ensures fault { IfErr result (IsOver (all_keys_end cursor.old.at items.now)) }
 {
@@ -125,7 +129,7 @@ fn lay_keys(alloc: Global, cursor: &mut Cursor, items: &[Named<'_>]) -> Result<V
     for named in items {
         let size = named.name.len() - named.from;
         let key = cursor.lay(size)?;
-        rows.push(Row {
+        rows.push(ItemRecord {
             hash: named.hash,
             parent: short_parent(named.parent),
             key_start: key.start as u32,
@@ -160,17 +164,21 @@ fn kind(content: Content<'_>) -> u8
     }
 }
 
-/// Lays the lists, which stand one behind another, since each has whole numbers.
-fn lay_lists(cursor: &mut Cursor, table: &Table<'_>, rows: &mut [Row]) -> Result<(), WriteFault>
+/// Lays the lists, which come one after another, since each has whole numbers.
+fn lay_lists(
+    cursor: &mut Cursor,
+    table: &TablePlan<'_>,
+    rows: &mut [ItemRecord],
+) -> Result<(), WriteFault>
     requires children { AreChildren (entries_of table.now.items.items) (children_of table.now) }
     requires lists { length table.now.firsts.items ≡ length table.now.items.items + 1 }
     requires rows { length rows.old ≡ length table.now.items.items }
-    ensures lists { OnOk result (AreSet rows.old rows.new list_kind (list_span cursor.old.at (children_of table.now))) }
+    ensures lists { OnOk result (AreSet rows.old rows.new list_kind (list_pointer cursor.old.at (children_of table.now))) }
     ensures at { OnOk result (cursor.new.at ≡ all_lists_end cursor.old.at (children_of table.now)) }
     ensures fault { IfErr result (IsPast (all_lists_end cursor.old.at (children_of table.now))) }
 {
     cursor.align(4)?;
-    if table.children.len() > LIMIT / 4 {
+    if table.children.len() > MAX_DATABASE_LEN / 4 {
         return Err(WriteFault::TooBig);
     }
     let all = cursor.lay(4 * table.children.len())?;
@@ -184,47 +192,55 @@ fn lay_lists(cursor: &mut Cursor, table: &Table<'_>, rows: &mut [Row]) -> Result
 }
 
 /// Lays the root table, its keys and its lists.
-fn lay_root(alloc: Global, cursor: &mut Cursor, root: &Table<'_>) -> Result<Rows, WriteFault>
+fn lay_root(
+    alloc: Global,
+    cursor: &mut Cursor,
+    root: &TablePlan<'_>,
+) -> Result<TableRecords, WriteFault>
     requires items { CanBeLaid root.now.items.items }
     requires children { AreChildren (entries_of root.now.items.items) (children_of root.now) }
     requires lists { length root.now.firsts.items ≡ length root.now.items.items + 1 }
-    ensures start { IfOk result (λ rows. rows.span.start ≡ round_up 4 cursor.old.at) }
-    ensures end { IfOk result (λ rows. rows.span.end ≡ table_end cursor.old.at (length root.now.items.items)) }
-    ensures rows { IfOk result (λ rows. AreRows root.now.items.items (table_end cursor.old.at (length root.now.items.items)) rows.rows.items) }
+    ensures start { IfOk result (λ rows. rows.pointer.start ≡ round_up 4 cursor.old.at) }
+    ensures end { IfOk result (λ rows. rows.pointer.end ≡ table_end cursor.old.at (length root.now.items.items)) }
+    ensures rows { IfOk result (λ rows. AreRecords root.now.items.items (table_end cursor.old.at (length root.now.items.items)) rows.rows.items) }
     ensures lists { IfOk result (λ rows. AreListed root.now (laid_end cursor.old.at root.now.items.items) rows.rows.items) }
     ensures at { OnOk result (cursor.new.at ≡ all_lists_end (laid_end cursor.old.at root.now.items.items) (children_of root.now)) }
     ensures fault { IfErr result (IsOver (all_lists_end (laid_end cursor.old.at root.now.items.items) (children_of root.now))) }
 {
-    let mut rows = Rows::new(alloc, cursor, root)?;
+    let mut rows = TableRecords::new(alloc, cursor, root)?;
     lay_lists(cursor, root, &mut rows.rows)?;
     Ok(rows)
 }
 
 /// Lays the table of locks and its keys, unless there are none.
-fn lay_locks(alloc: Global, cursor: &mut Cursor, locks: &Table<'_>) -> Result<Rows, WriteFault>
+fn lay_locks(
+    alloc: Global,
+    cursor: &mut Cursor,
+    locks: &TablePlan<'_>,
+) -> Result<TableRecords, WriteFault>
     requires { CanBeLaid locks.now.items.items }
-    ensures short { IfOk result (λ rows. IsShort rows.span) }
-    ensures start { IfOk result (λ rows. 0 < length locks.now.items.items → rows.span.start ≡ round_up 4 cursor.old.at) }
-    ensures end { IfOk result (λ rows. 0 < length locks.now.items.items → rows.span.end ≡ table_end cursor.old.at (length locks.now.items.items)) }
-    ensures rows { IfOk result (λ rows. AreRows locks.now.items.items (table_end cursor.old.at (length locks.now.items.items)) rows.rows.items) }
+    ensures short { IfOk result (λ rows. IsShort rows.pointer) }
+    ensures start { IfOk result (λ rows. 0 < length locks.now.items.items → rows.pointer.start ≡ round_up 4 cursor.old.at) }
+    ensures end { IfOk result (λ rows. 0 < length locks.now.items.items → rows.pointer.end ≡ table_end cursor.old.at (length locks.now.items.items)) }
+    ensures rows { IfOk result (λ rows. AreRecords locks.now.items.items (table_end cursor.old.at (length locks.now.items.items)) rows.rows.items) }
     ensures at { OnOk result (cursor.new.at ≡ locks_end (entries_of locks.now.items.items) cursor.old.at) }
     ensures fault { IfErr result (IsOver (locks_end (entries_of locks.now.items.items) cursor.old.at)) }
 {
     if locks.items.is_empty() {
-        return Ok(Rows::none(alloc));
+        return Ok(TableRecords::none(alloc));
     }
-    Rows::new(alloc, cursor, locks)
+    TableRecords::new(alloc, cursor, locks)
 }
 
-/// Sets where the table of locks stands.
-fn set_locks(span: Span, rows: &mut [Row])
-    requires { IsShort span }
-    ensures { AreSet rows.old rows.new table_kind (λ i. span) }
+/// Sets where the table of locks is.
+fn set_locks(pointer: Pointer, rows: &mut [ItemRecord])
+    requires { IsShort pointer }
+    ensures { AreSet rows.old rows.new table_kind (λ i. pointer) }
 {
     for row in rows.iter_mut() {
         if row.kind == b'H' {
-            row.start = span.start as u32;
-            row.end = span.end as u32;
+            row.start = pointer.start as u32;
+            row.end = pointer.end as u32;
         }
     }
 }
@@ -238,7 +254,7 @@ fn value_places<'a>(
     requires { ArePlaces values.old.places (bytes_of_each values.old.distinct.items) }
     ensures known { OnOk result (ArePlaces values.new.places (bytes_of_each values.new.distinct.items)) }
     ensures distinct { OnOk result (bytes_of_each values.new.distinct.items
-        ≡ fold with_new (bytes_of_each values.old.distinct.items) (values_of items.now)) }
+        ≡ fold with_new (bytes_of_each values.old.distinct.items) (own_values items.now)) }
     ensures places { IfOk result (λ places. HavePlaces items.now (bytes_of_each values.new.distinct.items) places.items) }
     ensures fault { IfErr result (λ e. e ≡ Memory) }
 {
@@ -254,41 +270,45 @@ fn value_places<'a>(
 }
 
 /// Lays values, each at a multiple of 8.
-fn lay_values(alloc: Global, cursor: &mut Cursor, values: &[&[u8]]) -> Result<Vec<Span>, WriteFault>
-    ensures spans { IfOk result (λ spans. AreSpans cursor.old.at (bytes_of_each values.now) spans.items) }
+fn lay_values(
+    alloc: Global,
+    cursor: &mut Cursor,
+    values: &[&[u8]],
+) -> Result<Vec<Pointer>, WriteFault>
+    ensures pointers { IfOk result (λ pointers. ArePointers cursor.old.at (bytes_of_each values.now) pointers.items) }
     ensures at { OnOk result (cursor.new.at ≡ values_end cursor.old.at (bytes_of_each values.now)) }
     ensures fault { IfErr result (IsOver (values_end cursor.old.at (bytes_of_each values.now))) }
 {
-    let mut spans = Vec::new(alloc);
+    let mut pointers = Vec::new(alloc);
     for value in values {
         cursor.align(8)?;
-        spans.push(cursor.lay(value.len())?)?;
+        pointers.push(cursor.lay(value.len())?)?;
     }
-    Ok(spans)
+    Ok(pointers)
 }
 
-/// Sets where the values of items stand.
-fn set_values(places: &[usize], spans: &[Span], rows: &mut [Row])
+/// Sets where the values of items are.
+fn set_values(places: &[usize], pointers: &[Pointer], rows: &mut [ItemRecord])
     requires counted { length places.now ≡ length rows.old }
-    requires within { (i : ℕ) → i < length rows.old → (row_at rows.old i).kind ≡ value_kind → slice_index places.now i < length spans.now }
-    requires spans { (k : ℕ) → k < length spans.now → IsShort (span_at spans.now k) }
-    ensures { AreSet rows.old rows.new value_kind (λ i. span_at spans.now (slice_index places.now i)) }
+    requires within { (i : ℕ) → i < length rows.old → (row_at rows.old i).kind ≡ value_kind → slice_index places.now i < length pointers.now }
+    requires pointers { (k : ℕ) → k < length pointers.now → IsShort (pointer_at pointers.now k) }
+    ensures { AreSet rows.old rows.new value_kind (λ i. pointer_at pointers.now (slice_index places.now i)) }
 {
     for (number, row) in rows.iter_mut().enumerate() {
         if row.kind == b'v' {
-            let span = spans[places[number]];
-            row.start = span.start as u32;
-            row.end = span.end as u32;
+            let pointer = pointers[places[number]];
+            row.start = pointer.start as u32;
+            row.end = pointer.end as u32;
         }
     }
 }
 
-/// Where everything stands.
+/// Where everything is.
 #[derive(Drop)]
 pub(crate) struct Layout<'a> {
-    pub(crate) root: Rows,
+    pub(crate) root: TableRecords,
     /// Of no item where there are no locks.
-    pub(crate) locks: Rows,
+    pub(crate) locks: TableRecords,
     /// The values that are stored.
     pub(crate) values: Vec<&'a [u8]>,
     /// How many bytes there are.
@@ -299,8 +319,8 @@ impl<'a> Layout<'a> {
     /// Lays a database of a root table and a table of locks, which is left out where it has no item.
     pub(crate) fn new(
         alloc: Global,
-        root: &Table<'a>,
-        locks: &Table<'a>,
+        root: &TablePlan<'a>,
+        locks: &TablePlan<'a>,
     ) -> Result<Layout<'a>, WriteFault>
         requires root { CanBeLaid root.now.items.items }
         requires locks { CanBeLaid locks.now.items.items }
@@ -316,14 +336,14 @@ impl<'a> Layout<'a> {
         let mut root_rows = lay_root(alloc, &mut cursor, root)?;
         let mut lock_rows = lay_locks(alloc, &mut cursor, locks)?;
         // Without locks no item has their table.
-        set_locks(lock_rows.span, &mut root_rows.rows);
+        set_locks(lock_rows.pointer, &mut root_rows.rows);
         let mut values = Values::new(alloc);
         let root_places = value_places(alloc, &root.items, &mut values)?;
         let lock_places = value_places(alloc, &locks.items, &mut values)?;
         let values = values.distinct;
-        let spans = lay_values(alloc, &mut cursor, &values)?;
-        set_values(&root_places, &spans, &mut root_rows.rows);
-        set_values(&lock_places, &spans, &mut lock_rows.rows);
+        let pointers = lay_values(alloc, &mut cursor, &values)?;
+        set_values(&root_places, &pointers, &mut root_rows.rows);
+        set_values(&lock_places, &pointers, &mut lock_rows.rows);
         Ok(Layout {
             root: root_rows,
             locks: lock_rows,
@@ -333,31 +353,35 @@ impl<'a> Layout<'a> {
     }
 }
 
-impl Rows {
+impl TableRecords {
     /// Of a table without items that is not laid.
-    fn none(alloc: Global) -> Rows
+    fn none(alloc: Global) -> TableRecords
         ensures rows { result.rows.items ≡ [] }
-        ensures start { result.span.start ≡ 0 }
-        ensures end { result.span.end ≡ 0 }
+        ensures start { result.pointer.start ≡ 0 }
+        ensures end { result.pointer.end ≡ 0 }
     {
-        Rows {
-            span: Span { start: 0, end: 0 },
+        TableRecords {
+            pointer: Pointer { start: 0, end: 0 },
             rows: Vec::new(alloc),
         }
     }
 
     /// Lays a table and its keys. Its contents are laid later.
-    fn new(alloc: Global, cursor: &mut Cursor, table: &Table<'_>) -> Result<Rows, WriteFault>
+    fn new(
+        alloc: Global,
+        cursor: &mut Cursor,
+        table: &TablePlan<'_>,
+    ) -> Result<TableRecords, WriteFault>
         requires { CanBeLaid table.now.items.items }
-        ensures short { IfOk result (λ rows. IsShort rows.span) }
-        ensures start { IfOk result (λ rows. rows.span.start ≡ round_up 4 cursor.old.at) }
-        ensures end { IfOk result (λ rows. rows.span.end ≡ table_end cursor.old.at (length table.now.items.items)) }
-        ensures rows { IfOk result (λ rows. AreRows table.now.items.items (table_end cursor.old.at (length table.now.items.items)) rows.rows.items) }
+        ensures short { IfOk result (λ rows. IsShort rows.pointer) }
+        ensures start { IfOk result (λ rows. rows.pointer.start ≡ round_up 4 cursor.old.at) }
+        ensures end { IfOk result (λ rows. rows.pointer.end ≡ table_end cursor.old.at (length table.now.items.items)) }
+        ensures rows { IfOk result (λ rows. AreRecords table.now.items.items (table_end cursor.old.at (length table.now.items.items)) rows.rows.items) }
         ensures at { OnOk result (cursor.new.at ≡ laid_end cursor.old.at table.now.items.items) }
         ensures fault { IfErr result (IsOver (laid_end cursor.old.at table.now.items.items)) }
     {
-        let span = lay_table(cursor, table.items.len())?;
+        let pointer = lay_table(cursor, table.items.len())?;
         let rows = lay_keys(alloc, cursor, &table.items)?;
-        Ok(Rows { span, rows })
+        Ok(TableRecords { pointer, rows })
     }
 }

@@ -28,16 +28,15 @@ impl Model for Map {
 
     ghost coded = { settings_code };
 
-    ghost use Rattle.dconf_model.specs.Settings.{IsSettings};
-    ghost use Rattle.gvdb_write.specs.Maps.{settings_of};
+    ghost use Rattle.gvdb_write.specs.Maps.{AreAtKeys, settings_of};
 
     ghost view = { λ m. settings_of m.values m.locks };
 
-    ghost invariant = { λ m. IsSettings (settings_of m.values m.locks) };
+    ghost invariant = { λ m. AreAtKeys (settings_of m.values m.locks) };
 }
 
 impl Map {
-    ghost use Rattle.gvdb_write.specs.Left.{keys_left, locks_left};
+    ghost use Rattle.gvdb_write.specs.PathsLeft.{keys_left, locks_left};
 
     /// A map with no value and no lock. It takes no memory.
     pub fn new(alloc: Global) -> Map
@@ -123,7 +122,7 @@ pub struct Keys<'a> {
 impl<'a> Iterator for Keys<'a> {
     ghost use Rattle.std.specs.Iterator.{YieldsFirstBy, item_count};
     ghost use Rattle.dconf_path.specs.Paths.{key_text};
-    ghost use Rattle.gvdb_write.specs.Left.{keys_left};
+    ghost use Rattle.gvdb_write.specs.PathsLeft.{keys_left};
 
     type Item = KeyPath<'a>;
 
@@ -148,7 +147,7 @@ pub struct Locks<'a> {
 impl<'a> Iterator for Locks<'a> {
     ghost use Rattle.std.specs.Iterator.{YieldsFirstBy, item_count};
     ghost use Rattle.dconf_path.specs.Paths.{key_text};
-    ghost use Rattle.gvdb_write.specs.Left.{locks_left};
+    ghost use Rattle.gvdb_write.specs.PathsLeft.{locks_left};
 
     type Item = KeyPath<'a>;
 

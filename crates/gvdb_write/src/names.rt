@@ -4,7 +4,7 @@ ghost use Rattle.std.specs.Prelude.{◌≡◌, ◌≤◌, ◌<◌, ℕ, length, 
 ghost use Rattle.dconf_model.specs.Bytes.{hash_of, hash_step};
 ghost use Rattle.dconf_model.specs.Table.{list_kind};
 ghost use Rattle.dconf_model.specs.Settings.{IsSettings};
-ghost use Rattle.gvdb_write.specs.Tables.{kind_of, entry_of};
+ghost use Rattle.gvdb_write.specs.PlanWords.{kind_of, entry_of};
 ghost use Rattle.dconf_model.specs.Paths.{is_key_path};
 ghost use Rattle.gvdb_write.specs.Names.{ArePlaced, AreGood, IsDirectoryAt, IsBeyond, IsAdded, AreNamesOf, AreLockNames, last_name, name_at, kind_at, IsSlash};
 ghost use Rattle.gvdb_write.specs.declared.write_fault.WriteFault.TheVariants.{Memory};
@@ -13,7 +13,7 @@ use crate::map::Map;
 use crate::write_fault::WriteFault;
 use std::alloc::Global;
 
-/// What stands at a name.
+/// What occurs at a name.
 #[derive(Clone, Copy, Debug)]
 pub(crate) enum Content<'a> {
     /// The bytes of a value.
@@ -24,7 +24,7 @@ pub(crate) enum Content<'a> {
     Locks,
 }
 
-/// A name, and what stands there.
+/// A name, and what is there.
 #[derive(Clone, Copy, Debug)]
 pub(crate) struct Named<'a> {
     /// The full name.
@@ -43,7 +43,7 @@ const NO_HASH: u32 = 5381;
 /// The bytes of a `v` that holds the empty string: the value at each lock.
 const NOTHING: &[u8] = &[0, 0, b's'];
 
-/// The names of the root table, in the order of their bytes, each behind its directory.
+/// The names of the root table, in the order of their bytes, each after its directory.
 ///
 /// It looks at each byte of the paths a fixed number of times.
 pub(crate) fn root_names<'a>(alloc: Global, map: &'a Map) -> Result<Vec<Named<'a>>, WriteFault>
@@ -72,7 +72,7 @@ pub(crate) fn root_names<'a>(alloc: Global, map: &'a Map) -> Result<Vec<Named<'a
     Ok(names)
 }
 
-/// The names of the table of locks, each with the value that stands at a lock.
+/// The names of the table of locks, each with the value that occurs at a lock.
 pub(crate) fn lock_names<'a>(alloc: Global, map: &'a Map) -> Result<Vec<Named<'a>>, WriteFault>
     ensures names { IfOk result (λ names. AreLockNames map.now names.items) }
     ensures fault { IfErr result (λ e. e ≡ Memory) }
@@ -109,7 +109,7 @@ fn innermost(names: &[Named<'_>], directory: usize, len: usize) -> usize
     ensures within { result < length names.now }
     ensures list { kind_at names.now result ≡ list_kind }
     ensures short { length (name_at names.now result) ≤ len }
-    ensures front { take (length (name_at names.now result)) (name_at names.now directory) ≡ name_at names.now result }
+    ensures prefix { take (length (name_at names.now result)) (name_at names.now directory) ≡ name_at names.now result }
     ensures inside { length (name_at names.now result) ≤ length (name_at names.now directory) }
     ensures most { (i : ℕ) → IsSlash (name_at names.now directory) i → i < len → i < length (name_at names.now result) }
 {

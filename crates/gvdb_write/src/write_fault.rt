@@ -15,17 +15,28 @@ pub enum WriteFault {
     Memory,
 }
 
+impl WriteFault {
+    ghost use Rattle.gvdb_write.specs.WriteFaults.{write_fault_text};
+
+    /// The name by which it is printed.
+    fn name(self) -> &'static str
+        ensures { result.now ≡ write_fault_text self }
+    {
+        match self {
+            WriteFault::TooBig => "TooBig",
+            WriteFault::Memory => "Memory",
+        }
+    }
+}
+
 impl fmt::Display for WriteFault {
     ghost use Rattle.std.specs.Prelude.{Some};
-    ghost use Rattle.gvdb_write.specs.WriteFaults.{fault_text};
+    ghost use Rattle.gvdb_write.specs.WriteFaults.{write_fault_text};
 
-    ghost output = { λ fault. Some (fault_text fault) };
+    ghost output = { λ fault. Some (write_fault_text fault) };
 
     fn fmt<W: fmt::Write>(&self, f: &mut fmt::Formatter<W>) -> fmt::Result {
-        match self {
-            WriteFault::TooBig => write!(f, "TooBig"),
-            WriteFault::Memory => write!(f, "Memory"),
-        }
+        f.write_str(self.name())
     }
 }
 

@@ -3,7 +3,7 @@ use Rattle.gv_model.specs.Ty.{spelling}
 use Rattle.gv_model.specs.Layout.{fixed_size}
 use Rattle.gv_model.specs.Tree.{nodes, nodes_of, type_of}
 use Rattle.gv_model.specs.Encode.{encode, body_from, ends_from}
-use Rattle.gv_model.proofs.PlacedParts.{alignment_pos}
+use Rattle.gv_model.proofs.LayoutLaws.{alignment_pos}
 use Rattle.gv_types.specs.TypeStr.{ty}
 use Rattle.gv_tree.specs.Nodes.{trees_of}
 use Rattle.gv_build.specs.Writing.{parts_of, own_part, open_end, just_end, tuple_end, placed_bytes}

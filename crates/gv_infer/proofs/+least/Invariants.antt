@@ -1,16 +1,16 @@
 use Rattle.std.proofs.Common.{◌+◌, ◌*◌, ◌≤◌, drop}
 use Rattle.std.specs.Prelude.{string_bytes}
 use Rattle.gv_model.specs.LeastTypes.{leasts_in}
-use Rattle.gv_infer.specs.Forms.{core_of, patterns_of}
-use Rattle.gv_infer.specs.Parts.{parts, core_parts, all_parts}
+use Rattle.gv_infer.specs.Forms.{bare_of, patterns_of}
+use Rattle.gv_infer.specs.Parts.{parts, bare_parts, all_parts}
 use Rattle.gv_infer.proofs.FoundLaws.{GoesOn}
 use Rattle.gv_infer.proofs.+least.Given as goal
 
 abbrev pub decreases-pattern::Pattern::write_least : goal.decreases-pattern::Pattern::write_least
 decreases-pattern::Pattern::write_least l = 2 * parts l.self.now
 
-abbrev pub decreases-least::write_least_core : goal.decreases-least::write_least_core
-decreases-least::write_least_core l = 2 * core_parts (core_of l.core.now) + 1
+abbrev pub decreases-least::write_least_bare : goal.decreases-least::write_least_bare
+decreases-least::write_least_bare l = 2 * bare_parts (bare_of l.bare.now) + 1
 
 abbrev pub decreases-least::write_leasts : goal.decreases-least::write_leasts
 decreases-least::write_leasts l = 2 * all_parts (patterns_of l.ps.now) + 1

@@ -1,6 +1,6 @@
-//! The classes of bytes that tokens are made of, and the longest front of one class.
+//! The classes of bytes that tokens are made of, and the longest prefix of one class.
 ghost use Rattle.std.specs.Prelude.{◌≡◌, ◌≤◌, length};
-ghost use Rattle.gv_model.specs.Characters.{digit_value, front_of, is_quote, is_sign};
+ghost use Rattle.gv_model.specs.Characters.{digit_value, prefix_of, is_quote, is_sign};
 ghost use Rattle.gv_text.specs.ByteClasses.{is_of};
 
 /// A class of bytes.
@@ -32,16 +32,14 @@ impl ByteClass {
         }
     }
 
-    /// How many bytes at the front of the text are of the class.
-    pub(crate) fn front_len(self, text: &[u8]) -> usize
-        ensures len { result ≡ length (front_of (is_of self) text.now) }
+    /// How many bytes at the start of the text are of the class.
+    pub(crate) fn prefix_len(self, text: &[u8]) -> usize
+        ensures len { result ≡ length (prefix_of (is_of self) text.now) }
         ensures within { result ≤ length text.now }
     {
-        let mut end = 0;
-        while end < text.len() && self.has(text[end]) {
-            end += 1;
-        }
-        end
+        text.iter()
+            .position(|c| !self.has(*c))
+            .unwrap_or(text.len())
     }
 }
 

@@ -1,8 +1,8 @@
 //! Marks, and characters that begin no token.
 ghost use Rattle.std.specs.Prelude.{◌≡◌, option_map};
 ghost use Rattle.gv_model.specs.Characters.{char_len};
-ghost use Rattle.gv_model.specs.Lexing.{mark_of as the_mark};
-ghost use Rattle.gv_text.specs.Placed.{mark_of};
+ghost use Rattle.gv_model.specs.Lexing.{mark_of_byte as the_mark};
+ghost use Rattle.gv_text.specs.ModelTokens.{mark_of};
 
 use crate::token::Mark;
 

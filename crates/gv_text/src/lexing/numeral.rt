@@ -1,11 +1,11 @@
 //! Integers, and the runs of characters that are no integer (GLib, "GVariant Text Format", Numbers).
 ghost use Rattle.std.specs.Prelude.{◌≡◌, ◌≤◌, ◌<◌, ◌+◌, ◌^◌, ℕ, ◌∷◌, length, List, min, option_map, Some, None};
 ghost use Rattle.std.specs.Prelude.{if◌then◌else◌};
-ghost use Rattle.gv_model.specs.Characters.{begins, behind, is_digit, is_e, tail};
-ghost use Rattle.gv_model.specs.Numerals.{without_sign, begins_hex, run_of, number_behind, number_of_base, number_of};
+ghost use Rattle.gv_model.specs.Characters.{begins, after_prefix, is_digit, is_e, tail};
+ghost use Rattle.gv_model.specs.Numerals.{without_sign, begins_hex, run_of, number_after, number_of_base, number_of};
 ghost use Rattle.gv_model.specs.Numerals.{is_exponent, is_fraction, is_double_word, is_double, number_at};
-ghost use Rattle.gv_text.specs.Runs.{goes_on};
-ghost use Rattle.gv_text.specs.Found.{placed_as};
+ghost use Rattle.gv_text.specs.NumberChars.{goes_on};
+ghost use Rattle.gv_text.specs.LexSteps.{placed_as};
 
 use crate::fault::TextCause;
 use crate::lexing::bytes::{ByteClass, digit_value, is_sign};
@@ -15,7 +15,7 @@ use crate::token::TokenKind;
 /// It stands for every number from there on.
 const TOO_LARGE: u128 = 1 << 64;
 
-/// The text without the sign at its front, if one is there.
+/// The text without the sign at its start, if one is there.
 fn without_sign(text: &[u8]) -> &[u8]
     ensures { result.now ≡ without_sign text.now }
 {
@@ -25,7 +25,7 @@ fn without_sign(text: &[u8]) -> &[u8]
     }
 }
 
-/// The digits behind the `0x` or `0X` at the front of the text.
+/// The digits after the `0x` or `0X` at the start of the text.
 fn hex_digits(text: &[u8]) -> Option<&[u8]>
     ensures { option_map (λ digits. digits.now) result
         ≡ (if begins_hex text.now then Some (tail (tail text.now)) else None) }
@@ -36,7 +36,7 @@ fn hex_digits(text: &[u8]) -> Option<&[u8]>
     }
 }
 
-/// Where the letters, digits and points behind the first byte end. An `e` takes a sign with it, unless the run is
+/// Where the letters, digits and points after the first byte end. An `e` takes a sign with it, unless the run is
 /// hexadecimal.
 pub(crate) fn run_len(text: &[u8]) -> usize
     requires { 0 < length text.now }
@@ -79,7 +79,7 @@ pub(crate) fn number(run: &[u8]) -> Result<TokenKind, TextCause>
     }
 }
 
-/// The number that digits without a sign stand for: hexadecimal behind `0x`, octal behind `0`, else decimal.
+/// The number that digits without a sign stand for: hexadecimal after `0x`, octal after `0`, else decimal.
 fn magnitude(text: &[u8]) -> Option<u128>
     ensures { result ≡ number_of text.now }
 {
@@ -97,7 +97,7 @@ fn magnitude_of(base: u8, digits: &[u8]) -> Option<u128>
     requires { 0 < base }
     ensures { result ≡ number_of_base base digits.now }
 {
-    if digits.is_empty() || ByteClass::DigitOf(base).front_len(digits) < digits.len() {
+    if digits.is_empty() || ByteClass::DigitOf(base).prefix_len(digits) < digits.len() {
         return None;
     }
     Some(capped_number(base, digits))
@@ -106,7 +106,7 @@ fn magnitude_of(base: u8, digits: &[u8]) -> Option<u128>
 /// The number that digits stand for, or 2^64 where it is greater.
 pub(crate) fn capped_number(base: u8, digits: &[u8]) -> u128
     requires { 0 < base }
-    ensures { result ≡ min (number_behind base 0 digits.now) (2 ^ 64) }
+    ensures { result ≡ min (number_after base 0 digits.now) (2 ^ 64) }
 {
     let mut number: u128 = 0;
     for digit in digits {
@@ -119,7 +119,7 @@ pub(crate) fn capped_number(base: u8, digits: &[u8]) -> u128
 fn is_double(text: &[u8]) -> bool
     ensures { result ≡ is_double text.now }
 {
-    is_fraction(begins_with_digit(text), behind_digits(text)) || is_double_word(text)
+    is_fraction(begins_with_digit(text), after_digits(text)) || is_double_word(text)
 }
 
 /// Whether the text goes on from digits, if there are any, as a double does: with a point, an exponent, or both.
@@ -128,8 +128,9 @@ fn is_fraction(has_digits: bool, text: &[u8]) -> bool
 {
     match text.split_first() {
         Some((c, rest)) if *c == b'.' => {
-            let behind = behind_digits(rest);
-            (has_digits || begins_with_digit(rest)) && (behind.is_empty() || is_exponent(behind))
+            let after_prefix = after_digits(rest);
+            (has_digits || begins_with_digit(rest))
+                && (after_prefix.is_empty() || is_exponent(after_prefix))
         }
         _ => has_digits && is_exponent(text),
     }
@@ -142,7 +143,7 @@ fn is_exponent(text: &[u8]) -> bool
     match text.split_first() {
         Some((c, rest)) if is_e(*c) => {
             let digits = without_sign(rest);
-            begins_with_digit(digits) && behind_digits(digits).is_empty()
+            begins_with_digit(digits) && after_digits(digits).is_empty()
         }
         _ => false,
     }
@@ -157,11 +158,11 @@ fn begins_with_digit(text: &[u8]) -> bool
     }
 }
 
-/// What follows the digits at the front of the text.
-fn behind_digits(text: &[u8]) -> &[u8]
-    ensures { result.now ≡ behind is_digit text.now }
+/// What follows the digits at the start of the text.
+fn after_digits(text: &[u8]) -> &[u8]
+    ensures { result.now ≡ after_prefix is_digit text.now }
 {
-    &text[ByteClass::Digit.front_len(text)..]
+    &text[ByteClass::Digit.prefix_len(text)..]
 }
 
 /// Whether the text is one of the doubles that have a name.

@@ -2,10 +2,10 @@
 //! Bytestrings).
 ghost use Rattle.std.specs.Prelude.{◌≡◌, ◌≤◌, ◌<◌, ◌++◌, ◌+◌, length, drop, get_or, true, false, Ok, IsTrue, IfOk};
 ghost use Rattle.std.specs.Prelude.{OnOk, MatchResult, string_bytes};
-ghost use Rattle.gv_model.specs.Characters.{front_of, is_quote};
+ghost use Rattle.gv_model.specs.Characters.{prefix_of, is_quote};
 ghost use Rattle.gv_text.specs.ByteClasses.{is_of};
 ghost use Rattle.gv_text.specs.declared.lexing.bytes.ByteClass.TheVariants.{Plain};
-ghost use Rattle.gv_text.specs.Found.{quoted_at, IsFaultOf, char_bytes, byte_alone};
+ghost use Rattle.gv_text.specs.LexSteps.{quoted_at, IsFaultOf, char_bytes, byte_alone};
 ghost use Rattle.gv_text.specs.declared.fault.TextFault.TheVariants.{Memory};
 ghost use Rattle.std.specs.Str.{IsCharBoundary};
 
@@ -36,8 +36,8 @@ pub(crate) fn text_between(
             return Err(TextFault::at(TextCause::Unclosed, from, from + 1));
         }
         match text_part(&bytes[at..], quote) {
-            Part::Stands(stands_for, len) => {
-                push_char(&mut string, stands_for)?;
+            Part::Char(meaning, len) => {
+                push_char(&mut string, meaning)?;
                 at += len;
             }
             Part::Closes => return Ok((string, at + 1)),
@@ -48,16 +48,16 @@ pub(crate) fn text_between(
     }
 }
 
-/// Writes what stands for itself from a place in the text on, and gives the place behind it.
+/// Writes what stands for itself from a place in the text on, and gives the place after it.
 fn push_plain(string: &mut String, text: &str, at: usize, quote: u8) -> Result<usize, AllocError>
     requires quote { IsTrue (is_quote quote) }
     requires place { IsCharBoundary text.now at }
     ensures within { IfOk result (λ end. end ≤ length text.now) }
     ensures end { IfOk result (λ end.
-        (end ≡ at + length (front_of (is_of (Plain quote)) (drop at text.now)))
-        × (string_bytes string.new ≡ string_bytes string.old ++ front_of (is_of (Plain quote)) (drop at text.now))) }
+        (end ≡ at + length (prefix_of (is_of (Plain quote)) (drop at text.now)))
+        × (string_bytes string.new ≡ string_bytes string.old ++ prefix_of (is_of (Plain quote)) (drop at text.now))) }
 {
-    let end = at + ByteClass::Plain(quote).front_len(&text.as_bytes()[at..]);
+    let end = at + ByteClass::Plain(quote).prefix_len(&text.as_bytes()[at..]);
     string.push_str(&text[at..end])?;
     Ok(end)
 }
@@ -99,8 +99,8 @@ pub(crate) fn bytes_between(
     let mut at = from + 1;
     while at < text.len() {
         match byte_part(&text[at..], quote) {
-            Part::Stands(stands_for, len) => {
-                push_byte(&mut bytes, stands_for)?;
+            Part::Char(meaning, len) => {
+                push_byte(&mut bytes, meaning)?;
                 at += len;
             }
             Part::Closes => return Ok((bytes, at + 1)),

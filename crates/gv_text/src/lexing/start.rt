@@ -1,7 +1,7 @@
 //! What kind of token begins with a character.
 ghost use Rattle.std.specs.Prelude.{◌≡◌, ◌<◌, ℕ, List, ◌∷◌, length};
 ghost use Rattle.gv_model.specs.Lexing.{start};
-ghost use Rattle.gv_text.specs.Found.{start_of, BeginsSo};
+ghost use Rattle.gv_text.specs.LexSteps.{start_kind, BeginsSo};
 
 use crate::lexing::bytes::{is_quote, is_sign};
 
@@ -17,10 +17,10 @@ pub(crate) enum Start {
 }
 
 impl Start {
-    /// What begins at the front of a text, which is not empty.
+    /// What begins at the start of a text, which is not empty.
     pub(crate) fn of(text: &[u8]) -> Start
         requires { 0 < length text.now }
-        ensures start { (c : ℕ) (cs : List ℕ) → text.now ≡ c ∷ cs → start_of result ≡ start c cs }
+        ensures start { (c : ℕ) (cs : List ℕ) → text.now ≡ c ∷ cs → start_kind result ≡ start c cs }
         ensures first { BeginsSo result text.now }
     {
         let c = text[0];

@@ -2,9 +2,9 @@
 ghost use Rattle.std.specs.Prelude.{◌≡◌, ◌+◌, ℕ, drop, length, option_map};
 ghost use Rattle.gv_model.specs.Characters.{same_text};
 ghost use Rattle.gv_model.specs.Words.{words, word_among, word_at};
-ghost use Rattle.gv_text.specs.Placed.{word_of};
-ghost use Rattle.gv_text.specs.Runs.{named_type};
-ghost use Rattle.gv_text.specs.Found.{placed_as};
+ghost use Rattle.gv_text.specs.ModelTokens.{word_of};
+ghost use Rattle.gv_text.specs.NumberChars.{named_type};
+ghost use Rattle.gv_text.specs.LexSteps.{placed_as};
 
 use crate::fault::TextCause;
 use crate::lexing::numeral::is_double_word;
@@ -40,38 +40,27 @@ fn known_word(text: &[u8]) -> Option<Word>
     }
 }
 
+/// The types that words name. `double` is none of the words.
+const NAMED: [BasicType; 12] = [
+    BasicType::Boolean,
+    BasicType::Byte,
+    BasicType::Int16,
+    BasicType::Uint16,
+    BasicType::Int32,
+    BasicType::Uint32,
+    BasicType::Handle,
+    BasicType::Int64,
+    BasicType::Uint64,
+    BasicType::Text,
+    BasicType::ObjectPath,
+    BasicType::Signature,
+];
+
 /// The type that a word names.
-#[tactic(auto, unfolding(gv_model::specs::Words::word_among))]
 fn type_word(text: &[u8]) -> Option<BasicType>
     ensures { option_map named_type result ≡ word_among (drop 4 words) text.now }
 {
-    if is_word(text, "boolean") {
-        Some(BasicType::Boolean)
-    } else if is_word(text, "byte") {
-        Some(BasicType::Byte)
-    } else if is_word(text, "int16") {
-        Some(BasicType::Int16)
-    } else if is_word(text, "uint16") {
-        Some(BasicType::Uint16)
-    } else if is_word(text, "int32") {
-        Some(BasicType::Int32)
-    } else if is_word(text, "uint32") {
-        Some(BasicType::Uint32)
-    } else if is_word(text, "handle") {
-        Some(BasicType::Handle)
-    } else if is_word(text, "int64") {
-        Some(BasicType::Int64)
-    } else if is_word(text, "uint64") {
-        Some(BasicType::Uint64)
-    } else if is_word(text, "string") {
-        Some(BasicType::Text)
-    } else if is_word(text, "objectpath") {
-        Some(BasicType::ObjectPath)
-    } else if is_word(text, "signature") {
-        Some(BasicType::Signature)
-    } else {
-        None
-    }
+    NAMED.iter().copied().find(|of| is_word(text, of.keyword()))
 }
 
 /// Whether the text is this word.

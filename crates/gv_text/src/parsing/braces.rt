@@ -1,8 +1,8 @@
-//! Reading what stands in braces: a dictionary's pairs, or an entry by itself.
+//! Reading what occurs in braces: a dictionary's pairs, or an entry by itself.
 ghost use Rattle.std.specs.Prelude.{◌≡◌, ◌≤◌, ◌∷◌, [], IfOk, IfErr};
 ghost use Rattle.gv_model.specs.GrammarFaults.{Stage.brace_start, Stage.pair_more};
-ghost use Rattle.gv_text.specs.Reading.{left, Stops, Want.inside, Want.a_value};
-ghost use Rattle.gv_text.specs.Held.{IsBraced, ArePairs};
+ghost use Rattle.gv_text.specs.Expectations.{left, Stops, Want.inside, Want.a_value};
+ghost use Rattle.gv_text.specs.ParseSteps.{IsBraced, ArePairs};
 
 use crate::fault::{TextCause, TextFault};
 use crate::parsing::marks::{expect, is_mark, more_follow, next, refused};

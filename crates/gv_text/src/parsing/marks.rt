@@ -1,8 +1,8 @@
-//! Taking tokens from the front of those that are left.
+//! Taking tokens from the start of those that are left.
 ghost use Rattle.std.specs.Prelude.{◌≡◌, ◌∷◌, [], ◌↔◌, IsTrue, MatchResult};
 ghost use Rattle.gv_model.specs.Tokens.Token.{mark as mark_token};
-ghost use Rattle.gv_text.specs.Placed.{token_of, mark_of};
-ghost use Rattle.gv_text.specs.Reading.{left, TakesMark, TakesSeparator};
+ghost use Rattle.gv_text.specs.ModelTokens.{token_of, mark_of};
+ghost use Rattle.gv_text.specs.Expectations.{left, TakesMark, TakesSeparator};
 ghost use Rattle.gv_text.specs.declared.fault.TextFault.TheVariants.{Refused};
 
 use crate::fault::{TextCause, TextFault};

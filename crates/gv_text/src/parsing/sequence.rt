@@ -1,9 +1,9 @@
 //! Reading arrays and tuples: values with `,` between.
 ghost use Rattle.std.specs.Prelude.{◌≡◌, ◌≤◌, ◌∷◌, [], IfOk, IfErr};
 ghost use Rattle.gv_model.specs.GrammarFaults.{Stage.list_start, Stage.tuple_start};
-ghost use Rattle.gv_text.specs.Placed.{mark_of};
-ghost use Rattle.gv_text.specs.Reading.{left, Stops, Want.inside, Want.a_value, more_stage, ClosesValues};
-ghost use Rattle.gv_text.specs.Held.{AreElements, AreMembers, AreMore};
+ghost use Rattle.gv_text.specs.ModelTokens.{mark_of};
+ghost use Rattle.gv_text.specs.Expectations.{left, Stops, Want.inside, Want.a_value, more_stage, ClosesValues};
+ghost use Rattle.gv_text.specs.ParseSteps.{AreElements, AreMembers, AreMore};
 
 use crate::fault::{TextCause, TextFault};
 use crate::parsing::marks::{expect, is_mark, more_follow, next, refused};
@@ -33,7 +33,7 @@ pub(crate) fn elements(
     values_until(alloc, first, rest, depth, opened, Mark::CloseArray, none)
 }
 
-/// The members of the tuple that was opened there, which are so deep. A single one has a `,` behind it.
+/// The members of the tuple that was opened there, which are so deep. A single one has a `,` after it.
 #[cycle(parsing)]
 pub(crate) fn members(
     alloc: Global,
@@ -68,7 +68,7 @@ pub(crate) fn members(
     )
 }
 
-/// The values, and behind them those up to the mark that closes the bracket, the first of which begins with that token.
+/// The values, and after them those up to the mark that closes the bracket, the first of which begins with that token.
 #[cycle(parsing)]
 fn values_until(
     alloc: Global,

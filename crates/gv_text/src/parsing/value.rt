@@ -1,21 +1,21 @@
 //! Reading a value: its first token, and what follows in it.
 ghost use Rattle.std.specs.Prelude.{◌≡◌, ◌≤◌, ◌∷◌, ◌↔◌, [], ℕ, IfOk, IfErr, IsSome, IsTrue};
 ghost use Rattle.gv_model.specs.Tokens.Token.{mark as mark_token, word as word_token};
-ghost use Rattle.gv_text.specs.Placed.{token_of, mark_of, word_of};
-ghost use Rattle.gv_text.specs.Reading.{left, StopsWith, Stops, Want.a_value, behind, behind_first};
-ghost use Rattle.gv_text.specs.Held.{IsValue, IsBehind, Begins};
+ghost use Rattle.gv_text.specs.ModelTokens.{token_of, mark_of, word_of};
+ghost use Rattle.gv_text.specs.Expectations.{left, StopsWith, Stops, Want.a_value, wants_after, begun_wants};
+ghost use Rattle.gv_text.specs.ParseSteps.{IsValue, IsAfter, BeginsValue};
 ghost use Rattle.gv_text.specs.declared.token.Span.{Span};
 
 use crate::fault::{TextCause, TextFault};
 use crate::parsing::braces::braces;
 use crate::parsing::marks::{expect, next, refused};
 use crate::parsing::sequence::{elements, members};
-use crate::syntax::{SyntaxKind, SyntaxNode};
+use crate::syntax::{Syntax, SyntaxKind, SyntaxNode};
 use crate::token::{Mark, Span, Token, TokenKind, Word};
 use std::alloc::Global;
 use std::vec::IntoIter;
 
-/// The value at the front of the tokens, which is so deep; and the fault where the text ends in it outside a bracket.
+/// The value at the start of the tokens, which is so deep; and the fault where the text ends in it outside a bracket.
 #[cycle(parsing)]
 pub(crate) fn value(
     alloc: Global,
@@ -51,12 +51,12 @@ pub(crate) fn value_from(
 
 /// That a value so deep may begin with the token.
 fn check_begin(first: &Token, depth: u8) -> Result<(), TextFault>
-    ensures { Begins depth first.now result }
+    ensures { BeginsValue depth first.now result }
 {
     if !begins_value(&first.kind) {
         return Err(refused(TextCause::Unexpected, first.span));
     }
-    if depth > 128 {
+    if depth > Syntax::MAX_LEVELS {
         return Err(refused(TextCause::TooDeep, first.span));
     }
     Ok(())
@@ -64,7 +64,7 @@ fn check_begin(first: &Token, depth: u8) -> Result<(), TextFault>
 
 /// Whether values begin with the token.
 fn begins_value(kind: &TokenKind) -> bool
-    ensures { (d : ℕ) → (s : Span) → IsTrue result ↔ IsSome (behind_first d s (token_of kind.now)) }
+    ensures { (d : ℕ) → (s : Span) → IsTrue result ↔ IsSome (begun_wants d s (token_of kind.now)) }
 {
     match kind {
         TokenKind::Mark(mark) => match mark {
@@ -85,9 +85,9 @@ fn after_first(
     ended: TextFault,
 ) -> Result<SyntaxKind, TextFault>
     requires depth { depth ≤ 128 }
-    requires begins { IsSome (behind_first depth first.span (token_of first.kind)) }
-    ensures value { IfOk result (IsBehind depth first.span (token_of first.kind) (left rest.old) (left rest.new)) }
-    ensures fault { IfErr result (StopsWith ended (behind depth first.span (token_of first.kind)) (left rest.old)) }
+    requires begins { IsSome (begun_wants depth first.span (token_of first.kind)) }
+    ensures value { IfOk result (IsAfter depth first.span (token_of first.kind) (left rest.old) (left rest.new)) }
+    ensures fault { IfErr result (StopsWith ended (wants_after depth first.span (token_of first.kind)) (left rest.old)) }
 {
     match first.kind {
         TokenKind::Text(text) => Ok(SyntaxKind::Text(text)),
@@ -118,8 +118,8 @@ fn after_word(
     ended: TextFault,
 ) -> Result<SyntaxKind, TextFault>
     requires { depth ≤ 128 }
-    ensures value { (s : Span) → IfOk result (IsBehind depth s (word_token (word_of word)) (left rest.old) (left rest.new)) }
-    ensures fault { (s : Span) → IfErr result (StopsWith ended (behind depth s (word_token (word_of word))) (left rest.old)) }
+    ensures value { (s : Span) → IfOk result (IsAfter depth s (word_token (word_of word)) (left rest.old) (left rest.new)) }
+    ensures fault { (s : Span) → IfErr result (StopsWith ended (wants_after depth s (word_token (word_of word))) (left rest.old)) }
 {
     match word {
         Word::Truth(truth) => Ok(SyntaxKind::Truth(truth)),
@@ -145,9 +145,9 @@ fn after_mark(
     depth: u8,
 ) -> Result<SyntaxKind, TextFault>
     requires depth { depth ≤ 128 }
-    requires begins { IsSome (behind_first depth opened (mark_token (mark_of mark))) }
-    ensures value { IfOk result (IsBehind depth opened (mark_token (mark_of mark)) (left rest.old) (left rest.new)) }
-    ensures fault { IfErr result (Stops (behind depth opened (mark_token (mark_of mark))) (left rest.old)) }
+    requires begins { IsSome (begun_wants depth opened (mark_token (mark_of mark))) }
+    ensures value { IfOk result (IsAfter depth opened (mark_token (mark_of mark)) (left rest.old) (left rest.new)) }
+    ensures fault { IfErr result (Stops (wants_after depth opened (mark_token (mark_of mark))) (left rest.old)) }
 {
     match mark {
         Mark::OpenArray => Ok(SyntaxKind::Array(elements(alloc, rest, depth + 1, opened)?)),

@@ -1,6 +1,6 @@
 //! Arrays as text (GLib, "GVariant Text Format": "Arrays", "Dictionaries" and "Bytestrings").
 //!
-//! Bytes whose only zero byte is the last are a byte string. Entries stand in braces, other elements in square
+//! Bytes whose only zero byte is the last are a byte string. Entries occur in braces, other elements in square
 //! brackets. Only the first element is annotated, and an array that has none is itself.
 ghost use Rattle.std.specs.Prelude.{◌≡◌, ◌≤◌, ◌++◌, false, IfSome, MatchResult, option_map, string_bytes};
 ghost use Rattle.gv_model.specs.Tree.{children, depth};

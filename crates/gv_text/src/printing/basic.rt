@@ -12,21 +12,16 @@ use gv_types::{BasicType, Class};
 use gv_view::View;
 use std::alloc::AllocError;
 
-/// The word before a value of this type that is annotated.
-fn word(of: BasicType) -> &'static str
-    ensures { result.now ≡ word (basic_of of) }
+/// Writes the word before a value of this type that is annotated, if it has one.
+fn push_word(to: &mut String, of: BasicType) -> Result<(), AllocError>
+    ensures { OnOk result (string_bytes to.new ≡ string_bytes to.old ++ word (basic_of of)) }
 {
     match of {
-        BasicType::Byte => "byte ",
-        BasicType::Int16 => "int16 ",
-        BasicType::Uint16 => "uint16 ",
-        BasicType::Uint32 => "uint32 ",
-        BasicType::Int64 => "int64 ",
-        BasicType::Uint64 => "uint64 ",
-        BasicType::Handle => "handle ",
-        BasicType::ObjectPath => "objectpath ",
-        BasicType::Signature => "signature ",
-        BasicType::Boolean | BasicType::Int32 | BasicType::Double | BasicType::Text => "",
+        BasicType::Boolean | BasicType::Int32 | BasicType::Double | BasicType::Text => Ok(()),
+        _ => {
+            to.push_str(of.keyword())?;
+            to.push(' ')
+        }
     }
 }
 
@@ -52,7 +47,7 @@ pub(crate) fn push_basic(
         (IsElementFault (value view.entry)) }
 {
     if annotated {
-        to.push_str(word(of))?;
+        push_word(to, of)?;
     }
     push_figures(to, view, of)
 }

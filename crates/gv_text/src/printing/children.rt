@@ -1,7 +1,7 @@
 //! The children of a container as text, one after the other.
 ghost use Rattle.std.specs.Prelude.{◌≡◌, ◌<◌, ◌≤◌, ◌++◌, false, MatchResult, string_bytes};
 ghost use Rattle.gv_model.specs.Tree.{children, depth};
-ghost use Rattle.gv_model.specs.Printed.{comma, joined, hold_double};
+ghost use Rattle.gv_model.specs.Printed.{comma, joined_by, hold_double};
 ghost use Rattle.gv_model.specs.Quoted.{between};
 ghost use Rattle.gv_view.specs.Views.{value};
 ghost use Rattle.gv_text.specs.Printing.{AreFaultOf, child_texts};
@@ -24,7 +24,7 @@ pub(super) fn push_between(
     ensures { MatchResult result
         (λ _. (hold_double (children (value view.entry)) ≡ false)
         × (string_bytes to.new ≡ string_bytes to.old
-        ++ between brackets.0 (joined comma (child_texts (children (value view.entry)) annotated in_array)) brackets.1))
+        ++ between brackets.0 (joined_by comma (child_texts (children (value view.entry)) annotated in_array)) brackets.1))
         (AreFaultOf (children (value view.entry))) }
 {
     to.push(brackets.0)?;
@@ -46,7 +46,7 @@ pub(super) fn push_children(
     ensures { MatchResult result
         (λ _. (hold_double (children (value view.entry)) ≡ false)
         × (string_bytes to.new ≡ string_bytes to.old
-        ++ joined mark.now (child_texts (children (value view.entry)) annotated in_array)))
+        ++ joined_by mark.now (child_texts (children (value view.entry)) annotated in_array)))
         (AreFaultOf (children (value view.entry))) }
 {
     let mut children = view.children();

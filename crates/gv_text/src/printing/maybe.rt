@@ -1,14 +1,14 @@
 //! Maybes as text (GLib, "GVariant Text Format": "Maybe Types").
 //!
 //! Levels of Just around a value are not written, and those around Nothing are, each as `just `. The type that
-//! stands before an annotated maybe says the rest, so that nothing inside is annotated.
+//! comes before an annotated maybe says the rest, so that nothing inside is annotated.
 ghost use Rattle.std.specs.Prelude.{◌≡◌, ◌<◌, ◌≤◌, ◌++◌, true, false, MatchOption, MatchResult, OnOk, string_bytes};
 ghost use Rattle.gv_model.specs.Tree.{depth};
 ghost use Rattle.gv_model.specs.Printed.{text_of, holds_double, ends_in_nothing};
 ghost use Rattle.gv_types.specs.Classes.{class_of};
 ghost use Rattle.gv_types.specs.declared.class.Class.TheVariants.{Maybe};
 ghost use Rattle.gv_view.specs.Views.{value, view_ty};
-ghost use Rattle.gv_text.specs.Printing.{IsElementFault, IsNothing, IsWithin};
+ghost use Rattle.gv_text.specs.Printing.{IsElementFault, IsNothing, IsPrintedAs};
 
 use super::type_mark::push_type_mark;
 use super::{PrintFault, push_value};
@@ -39,7 +39,7 @@ pub(super) fn push_maybe(to: &mut String, view: View<'_>, annotated: bool) -> Re
 fn innermost<'a>(view: View<'a>) -> Option<View<'a>>
     requires { class_of (view_ty view) ≡ Maybe }
     ensures { MatchOption result (IsNothing (value view.entry))
-        (λ inner. IsWithin (value view.entry) (value inner)) }
+        (λ inner. IsPrintedAs (value view.entry) (value inner)) }
 {
     let mut inner = view;
     while let Class::Maybe = inner.type_str().class() {

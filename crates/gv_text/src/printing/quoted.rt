@@ -4,10 +4,11 @@
 //! backslash before them; the others are escaped by a letter or by their number.
 ghost use Rattle.std.specs.Prelude.{◌≡◌, ◌<◌, ◌++◌, OnOk, string_bytes, chars, flat_map};
 ghost use Rattle.std.specs.List.{list_all};
-ghost use Rattle.gv_text.specs.Printing.{stands_alone};
+ghost use Rattle.gv_text.specs.Printing.{is_printable};
 ghost use Rattle.gv_model.specs.Quoted.{digit, escape_letter, four_hex, three_octal, plain, char_text, byte_text, quote_for, quoted, byte_string};
 ghost use Rattle.std.specs.Prelude.{encode_utf8};
 
+use gv_view::utf8_of;
 use std::alloc::AllocError;
 
 /// Writes the text in quotes.
@@ -57,8 +58,8 @@ fn push_bytes(to: &mut String, quote: char, bytes: &[u8]) -> Result<(), AllocErr
     requires { quote < 128 }
     ensures { OnOk result (string_bytes to.new ≡ string_bytes to.old ++ flat_map (byte_text quote) bytes.now) }
 {
-    match str::from_utf8(bytes) {
-        Ok(text) if is_plain(bytes, quote) => to.push_str(text),
+    match utf8_of(bytes) {
+        Some(text) if is_plain(bytes, quote) => to.push_str(text),
         _ => push_each_byte(to, quote, bytes),
     }
 }
@@ -75,14 +76,14 @@ fn push_each_byte(to: &mut String, quote: char, bytes: &[u8]) -> Result<(), Allo
 
 /// Whether each byte stands for itself in this quote.
 fn is_plain(text: &[u8], quote: char) -> bool
-    ensures { result ≡ list_all (stands_alone quote) text.now }
+    ensures { result ≡ list_all (is_printable quote) text.now }
 {
-    text.iter().all(|byte| stands_alone(*byte, quote))
+    text.iter().all(|byte| is_printable(*byte, quote))
 }
 
 /// Whether a byte is a character that stands for itself in this quote.
-fn stands_alone(byte: u8, quote: char) -> bool
-    ensures { result ≡ stands_alone quote byte }
+fn is_printable(byte: u8, quote: char) -> bool
+    ensures { result ≡ is_printable quote byte }
 {
     byte >= b' ' && byte <= b'~' && byte != b'\\' && char::from(byte) != quote
 }

@@ -1,6 +1,6 @@
 //! Tuples and entries as text (GLib, "GVariant Text Format": "Tuples" and "Dictionaries").
 //!
-//! A tuple of one has a comma behind its member. An entry that is an element of an array stands without braces.
+//! A tuple of one has a comma after its member. An entry that is an element of an array is written without braces.
 ghost use Rattle.std.specs.Prelude.{◌≡◌, ◌≤◌, ◌++◌, false, MatchResult, string_bytes};
 ghost use Rattle.gv_model.specs.Tree.{depth};
 ghost use Rattle.gv_model.specs.Printed.{text_of, holds_double};

@@ -1,4 +1,4 @@
-//! The types that stand before values (GLib, "GVariant Text Format": "Type Annotations").
+//! The types that come before values (GLib, "GVariant Text Format": "Type Annotations").
 ghost use Rattle.std.specs.Prelude.{◌≡◌, ◌++◌, OnOk, string_bytes};
 ghost use Rattle.gv_model.specs.Printed.{type_mark};
 ghost use Rattle.gv_types.specs.TypeStr.{ty};
@@ -6,7 +6,7 @@ ghost use Rattle.gv_types.specs.TypeStr.{ty};
 use gv_types::TypeStr;
 use std::alloc::AllocError;
 
-/// Writes the type behind an `@`, and a space.
+/// Writes the type after an `@`, and a space.
 pub(super) fn push_type_mark(to: &mut String, of: TypeStr<'_>) -> Result<(), AllocError>
     ensures { OnOk result (string_bytes to.new ≡ string_bytes to.old ++ type_mark (ty of.entry)) }
 {

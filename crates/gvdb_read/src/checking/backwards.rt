@@ -65,8 +65,8 @@ impl Iterator for Backwards<'_> {
 
     fn next(&mut self) -> Option<u8> {
         *self = self.filled()?;
-        let (last, front) = self.key.split_last()?;
-        self.key = front;
+        let (last, prefix) = self.key.split_last()?;
+        self.key = prefix;
         Some(*last)
     }
 }
@@ -84,41 +84,5 @@ impl<'a> Table<'a> {
         ensures { backwards_left result ≡ reverse (full_name (region self.entry) i) }
     {
         Backwards::of(self, i)
-    }
-}
-
-#[cfg(test)]
-mod tests {
-    use super::*;
-    use crate::vectors::LOCKED;
-    use std::test::Fail;
-
-    /// The last three bytes of an item's full name.
-    fn last_bytes(table: Table<'_>, i: u32) -> Option<(Option<u8>, Option<u8>, Option<u8>)> {
-        let None = table.first_against_keys() else {
-            return None;
-        };
-        let None = table.first_against_chain() else {
-            return None;
-        };
-        if i >= table.n_items() {
-            return None;
-        }
-        let mut name = table.name_backwards(i);
-        let last = name.next();
-        let second = name.next();
-        Some((last, second, name.next()))
-    }
-
-    #[test]
-    fn goes_on_at_the_parent(rt: HostRuntime) -> Result<(), Fail> {
-        let table = Table::open(&LOCKED)?;
-        assert_eq!(rt;
-            last_bytes(table, 0),
-            Some((Some(b's'), Some(b'k'), Some(b'c')))
-        );
-        assert_eq!(rt; last_bytes(table, 1), Some((Some(b'/'), None, None)));
-        assert_eq!(rt; last_bytes(table, 2), Some((Some(b'k'), Some(b'/'), None)));
-        Ok(())
     }
 }

@@ -1,26 +1,17 @@
 //! S3: the item's parents end, and its key isn't empty.
-ghost use Rattle.std.specs.Prelude.{◌<◌, ◌↔◌, List, ℕ, IfNone, IfSome, IsTrue};
+ghost use Rattle.std.specs.Prelude.{◌<◌, ◌↔◌, List, ℕ, IsTrue};
 ghost use Rattle.dconf_model.specs.Table.{item_count};
 ghost use Rattle.dconf_model.specs.Searchable.{HasEnd, LeadsUp};
-ghost use Rattle.dconf_model.specs.Sound.{IsLeastFault, KeepsAll};
-ghost use Rattle.dconf_model.specs.Sound.Rule.{chain, keys};
+ghost use Rattle.dconf_model.specs.Sound.{KeepsAll};
+ghost use Rattle.dconf_model.specs.Sound.Rule.{keys};
 
 use crate::table::Table;
 
 impl Table<'_> {
     ghost use Rattle.gvdb_read.specs.Tables.{region};
 
-    /// The least item that doesn't keep the rule. It takes a step for each parent of each item.
-    pub(super) fn first_against_chain(self) -> Option<u32>
-        requires keys { KeepsAll (region self) keys }
-        ensures found { IfSome result (IsLeastFault (region self.entry) chain) }
-        ensures none { IfNone result (KeepsAll (region self.entry) chain) }
-    {
-        (0..self.n_items()).find(|&i| !self.has_end(i))
-    }
-
-    /// Whether item `i` keeps the rule.
-    fn has_end(self, i: u32) -> bool
+    /// Whether item `i` keeps the rule. It takes a step for each parent.
+    pub(super) fn has_end(self, i: u32) -> bool
         requires counted { i < item_count (region self) }
         requires keys { KeepsAll (region self) keys }
         ensures { IsTrue result ↔ HasEnd (region self.entry) i }

@@ -1,25 +1,15 @@
 //! S2: the key lies in the file, and is UTF-8 without a zero byte; the parent is none or the number of an item.
-ghost use Rattle.std.specs.Prelude.{◌<◌, ◌↔◌, Contains, IfNone, IfSome, IsTrue, IsUtf8};
+ghost use Rattle.std.specs.Prelude.{◌<◌, ◌↔◌, Contains, IsTrue, IsUtf8};
 ghost use Rattle.dconf_model.specs.Table.{item_count};
 ghost use Rattle.dconf_model.specs.Searchable.{HasGoodKey};
-ghost use Rattle.dconf_model.specs.Sound.{IsLeastFault, KeepsAll};
-ghost use Rattle.dconf_model.specs.Sound.Rule.{keys};
 
 use crate::table::Table;
 
 impl Table<'_> {
     ghost use Rattle.gvdb_read.specs.Tables.{region};
 
-    /// The least item that doesn't keep the rule. It looks at each byte of the keys.
-    pub(super) fn first_against_keys(self) -> Option<u32>
-        ensures found { IfSome result (IsLeastFault (region self.entry) keys) }
-        ensures none { IfNone result (KeepsAll (region self.entry) keys) }
-    {
-        (0..self.n_items()).find(|&i| !self.has_good_key(i))
-    }
-
-    /// Whether item `i` keeps the rule.
-    fn has_good_key(self, i: u32) -> bool
+    /// Whether item `i` keeps the rule. It looks at each byte of the key.
+    pub(super) fn has_good_key(self, i: u32) -> bool
         requires { i < item_count (region self) }
         ensures { IsTrue result ↔ HasGoodKey (region self.entry) i }
     {

@@ -2,12 +2,12 @@
 //!
 //! A writer puts the children of a list in the order of the items. So a fast pass looks whether each list ascends and
 //! each item is found in its parent's list by halving. Where that fails a slow pass asks list by list.
-ghost use Rattle.std.specs.Prelude.{◌≡◌, ◌≢◌, ◌<◌, ◌↔◌, ℕ, IsTrue, IfNone, IfSome, codes};
+ghost use Rattle.std.specs.Prelude.{◌≡◌, ◌≢◌, ◌<◌, ◌↔◌, ℕ, IsTrue, codes};
 ghost use Rattle.dconf_model.specs.Table.{HasBytes, item_count};
 ghost use Rattle.dconf_model.specs.Names.{HasName};
 ghost use Rattle.dconf_model.specs.Searchable.{EachItem};
-ghost use Rattle.dconf_model.specs.Sound.{HasListIfAny, IsChild, IsLeastFault, KeepsAll, ListsChildren, list_length, listed};
-ghost use Rattle.dconf_model.specs.Sound.Rule.{keys, content, place, lists};
+ghost use Rattle.dconf_model.specs.Sound.{HasListIfAny, IsChild, KeepsAll, ListsChildren, list_length, listed};
+ghost use Rattle.dconf_model.specs.Sound.Rule.{keys, content, place};
 ghost use Rattle.gvdb_read.specs.Ascending.{Ascends, HasAscendingListIfAny, IsAscending, IsListed, IsListedIfChild};
 
 use crate::number::read_u32;
@@ -17,28 +17,10 @@ use gv_types::Steps;
 impl<'a> Table<'a> {
     ghost use Rattle.gvdb_read.specs.Tables.{region};
 
-    /// The least item whose list doesn't hold exactly its children, once each, or is empty elsewhere than at `/`.
-    ///
-    /// Where each list ascends it looks at the lists once, and for each item at as many numbers as the longest list
-    /// has binary digits. Else it looks at each item once for each list, and compares each number of a list with its
-    /// children and with the numbers before it.
-    pub(super) fn first_against_lists(self) -> Option<u32>
-        requires keys { KeepsAll (region self) keys }
-        requires content { KeepsAll (region self) content }
-        requires place { KeepsAll (region self) place }
-        ensures found { IfSome result (IsLeastFault (region self.entry) lists) }
-        ensures none { IfNone result (KeepsAll (region self.entry) lists) }
-    {
-        if self.lists_ascend() && self.each_is_listed() {
-            return None;
-        }
-        self.first_other_list()
-    }
-
     // ---- the fast pass
 
     /// Whether each list holds children of its item alone, in ascending order, and is empty only at `/`.
-    fn lists_ascend(self) -> bool
+    pub(super) fn lists_ascend(self) -> bool
         requires content { KeepsAll (region self) content }
         ensures { IsTrue result ↔ EachItem (region self.entry) (HasAscendingListIfAny (region self.entry)) }
     {
@@ -83,7 +65,7 @@ impl<'a> Table<'a> {
     }
 
     /// Whether each item with a parent is in its parent's list.
-    fn each_is_listed(self) -> bool
+    pub(super) fn each_is_listed(self) -> bool
         requires keys { KeepsAll (region self) keys }
         requires content { KeepsAll (region self) content }
         requires place { KeepsAll (region self) place }
@@ -139,22 +121,8 @@ impl<'a> Table<'a> {
 
     // ---- the slow pass
 
-    /// The least item that doesn't keep the rule.
-    fn first_other_list(self) -> Option<u32>
-        requires content { KeepsAll (region self) content }
-        ensures found { IfSome result (IsLeastFault (region self.entry) lists) }
-        ensures none { IfNone result (KeepsAll (region self.entry) lists) }
-    {
-        for i in 0..self.n_items() {
-            if !self.has_list_if_any(i) {
-                return Some(i);
-            }
-        }
-        None
-    }
-
     /// Whether item `i` keeps the rule.
-    fn has_list_if_any(self, i: u32) -> bool
+    pub(super) fn has_list_if_any(self, i: u32) -> bool
         requires counted { i < item_count (region self) }
         requires valid { HasBytes (region self) i }
         ensures { IsTrue result ↔ HasListIfAny (region self.entry) i }
@@ -217,7 +185,7 @@ impl<'a> Table<'a> {
         false
     }
 
-    /// Whether no number stands twice in the list.
+    /// Whether no number occurs twice in the list.
     fn lists_once(self, i: u32) -> bool
         requires counted { i < item_count (region self) }
         requires valid { HasBytes (region self) i }
@@ -233,7 +201,7 @@ impl<'a> Table<'a> {
         true
     }
 
-    /// Whether the number at place `k` of the list stands at no place before.
+    /// Whether the number at place `k` of the list occurs at no place before.
     fn is_first_at(self, i: u32, k: u32) -> bool
         requires counted { i < item_count (region self) }
         requires valid { HasBytes (region self) i }
@@ -287,105 +255,5 @@ impl<'a> Table<'a> {
         ensures { result ≡ listed (region self.entry) i k }
     {
         read_u32(self.file, self.stored(i).start as usize + 4 * k as usize)
-    }
-}
-
-#[cfg(test)]
-mod tests {
-    use crate::fault::OpenFault;
-    use crate::table::Table;
-    use crate::unsound::{Rule, Unsound};
-    use crate::vectors::LOCKED;
-    use std::test::Fail;
-
-    /// What is wrong with `LOCKED` once bytes are set, and the list of `/` is the two numbers at its end.
-    fn fault_with(
-        changes: &[(usize, u8)],
-        first: u8,
-        second: u8,
-    ) -> Result<Option<Unsound>, OpenFault> {
-        let mut file = [0; 184];
-        file[..171].copy_from_slice(&LOCKED);
-        file[76] = 172;
-        file[80] = 180;
-        file[172] = first;
-        file[176] = second;
-        file[180] = b'k';
-        file[181] = b'/';
-        for (at, byte) in changes {
-            if *at < file.len() {
-                file[*at] = *byte;
-            }
-        }
-        Ok(Table::open(&file)?.check().err())
-    }
-
-    fn lists(item: u32) -> Option<Unsound> {
-        Some(Unsound {
-            rule: Rule::Lists,
-            item: Some(item),
-        })
-    }
-
-    /// `/.` in place of the table of locks.
-    const DOT: [(usize, u8); 12] = [
-        (36, 130),
-        (37, 112),
-        (38, 89),
-        (39, 0),
-        (40, 1),
-        (41, 0),
-        (42, 0),
-        (43, 0),
-        (48, 1),
-        (50, b'v'),
-        (52, 160),
-        (56, 166),
-    ];
-
-    #[test]
-    fn a_list_may_be_in_any_order(rt: HostRuntime) -> Result<(), Fail> {
-        assert_eq!(rt; fault_with(&DOT, 0, 2)?, None);
-        assert_eq!(rt; fault_with(&DOT, 2, 0)?, None);
-        Ok(())
-    }
-
-    #[test]
-    fn a_list_holds_each_child_once(rt: HostRuntime) -> Result<(), Fail> {
-        // one lacks, at either place
-        assert_eq!(rt; fault_with(&DOT, 2, 2)?, lists(1));
-        assert_eq!(rt; fault_with(&DOT, 0, 0)?, lists(1));
-        // one that is no child: `/` itself, `.locks`, no item
-        assert_eq!(rt; fault_with(&[], 1, 2)?, lists(1));
-        assert_eq!(rt; fault_with(&[], 0, 2)?, lists(1));
-        assert_eq!(rt; fault_with(&[], 2, 3)?, lists(1));
-        // one twice
-        assert_eq!(rt; fault_with(&[], 2, 2)?, lists(1));
-        Ok(())
-    }
-
-    #[test]
-    fn a_list_is_empty_at_the_root_alone(rt: HostRuntime) -> Result<(), Fail> {
-        // the list of `/` without its child
-        assert_eq!(rt; fault_with(&[(80, 172)], 0, 0)?, lists(1));
-        // `/k/` in place of `/k`
-        let directory = [
-            (80, 176),
-            (84, 206),
-            (85, 136),
-            (86, 135),
-            (87, 11),
-            (92, 180),
-            (96, 2),
-            (98, b'L'),
-            (104, 160),
-        ];
-        assert_eq!(rt; fault_with(&directory, 2, 0)?, lists(2));
-        // `/` alone
-        let mut file = crate::vectors::PLAIN;
-        file[20] = 60;
-        file[56] = 88;
-        assert_eq!(rt; Table::open(&file)?.check().err(), None);
-        Ok(())
     }
 }

@@ -1,5 +1,5 @@
 use Rattle.std.proofs.Common.{subst, refl, ap, length}
-use Rattle.gvdb_read.specs.Found.{IsViewOf}
+use Rattle.gvdb_read.specs.Lookups.{IsViewOf}
 use Rattle.gvdb_read.specs.Tables.{region}
 use Rattle.dconf_bench.proofs.databases.dconf_bench_find.Goals as goal
 

@@ -3,7 +3,7 @@ use Rattle.std.proofs.lemmas.Result.{IfOk-weaker}
 use Rattle.clap.specs.Simple.{app_of_fields}
 use Rattle.clap.specs.Words.{App, app_of, new_app, with_subcommand}
 use Rattle.dconf_cli.specs.CommandLine.{dconfdb_line}
-use Rattle.dconf_cli.proofs.Lines.{versioned, wanting_subcommand, without_help_subcommand, second, first_not}
+use Rattle.dconf_cli.proofs.Lines.{versioned, wanting_subcommand, second, first_not}
 use Rattle.dconf_cli.proofs.command_line.dconfdb.Goals as goal
 
 pub returns : goal.returns
@@ -11,9 +11,7 @@ returns c =
     let start : app_of c.about.result ≡ new_app (codes "dconfdb") = ap app_of_fields c.about.ensures ∙ c.new.ensures.app in
     let version : app_of c.version.result ≡ versioned (app_of c.about.result) = ap app_of_fields c.version.ensures in
     let wants : app_of c.subcommand_required.result ≡ wanting_subcommand (app_of c.version.result) = ap app_of_fields c.subcommand_required.ensures in
-    let plain : app_of c.disable_help_subcommand.result ≡ without_help_subcommand (app_of c.subcommand_required.result) = ap app_of_fields c.disable_help_subcommand.ensures in
-    let line : app_of c.disable_help_subcommand.result ≡ dconfdb_line =
-    plain ∙ ap without_help_subcommand (wants ∙ ap wanting_subcommand (version ∙ ap versioned start)) in
+    let line : app_of c.subcommand_required.result ≡ dconfdb_line = wants ∙ ap wanting_subcommand (version ∙ ap versioned start) in
     let shown = c.in_ok-show.ensures in
     let checked = c.in_ok-check.ensures in
     let with_show = c.in_ok-subcommand.ensures.shape (first_not _ _ (second _ _ (second _ _ (ap (λ (a : App). a.top.is_plain) shown)))) ∙ ap₂ with_subcommand line (ap (λ (a : App). a.top) shown) in

@@ -1,9 +1,51 @@
-use Rattle.dconf_cli.proofs.Runs.{ran_on}
+use Rattle.std.proofs.Common.{refl}
+use Rattle.dconf_cli.specs.Counted.{failures_of, inner_of}
+use Rattle.dconf_cli.proofs.Runs.{input_of, ran, ran_anywhere, ran_calmly, took, zero_keeps}
 use Rattle.dconf_cli.proofs.running.run.Goals as goal
 
-pub returns-clause-answer : goal.returns-clause-answer
-returns-clause-answer g c = λ folder_told out_told err_told.
-    ran_on _ _ _ _ _ _ _ c.answered-answer.result (c.answered-answer.ensures.answer folder_told) (λ o is. c.give.ensures.ran o is out_told err_told)
+pub returns-clause-calm : goal.returns-clause-calm
+returns-clause-calm g c = λ none es es_is.
+    let given = g.I.Read.remaining (inner_of c.args.input.now) in
+    let end = c.give.ensures in
+    let r = ran_calmly g.F.Folder.past g.F.Folder.failed _ (input_of given) c.args.folder.now c.answered-answer.new.folder c.give.new.folder c.answered-answer.result end.0
+    (c.answered-answer.ensures (input_of given)) end.1 none es es_is in
+    (input_of given, took given (failures_of c.args.input.now), (r.0, r.1, (end.0, r.2, end.2)))
 
-pub returns-clause-device : goal.returns-clause-device
-returns-clause-device g c = λ rose out_told err_told. c.give.ensures.ran _ (c.answered-answer.ensures.device rose) out_told err_told
+pub returns-clause-ran : goal.returns-clause-ran
+returns-clause-ran g c = λ es es_is.
+    let given = g.I.Read.remaining (inner_of c.args.input.now) in
+    let end = c.give.ensures in
+    let r = ran g.F.Folder.past g.F.Folder.failed _ (input_of given) c.args.folder.now c.answered-answer.new.folder c.give.new.folder c.answered-answer.result end.0
+    (c.answered-answer.ensures (input_of given)) end.1 es es_is in
+    (input_of given, took given (failures_of c.args.input.now), (r.0, r.1, (end.0, r.2, r.3, end.2)))
+
+pub returns-clause-anywhere : goal.returns-clause-anywhere
+returns-clause-anywhere g c =
+    let given = g.I.Read.remaining (inner_of c.args.input.now) in
+    let end = c.give.ensures in (
+      input_of given,
+      took given (failures_of c.args.input.now),
+      (
+        end.0,
+        ran_anywhere g.F.Folder.past g.F.Folder.failed _ (input_of given) c.args.folder.now
+            c.answered-answer.new.folder c.give.new.folder c.answered-answer.result end.0 (c.answered-answer.ensures (input_of given)) end.1,
+        end.2,
+      ),
+    )
+
+pub returns-clause-zero : goal.returns-clause-zero
+returns-clause-zero g c = λ zero_is.
+    let given = g.I.Read.remaining (inner_of c.args.input.now) in
+    let end = c.give.ensures in
+    let done = end.2.done zero_is in (
+      zero_keeps g.F.Folder.past g.F.Folder.failed _ (input_of given) c.args.folder.now
+          c.answered-answer.new.folder c.give.new.folder c.answered-answer.result end.0 (c.answered-answer.ensures (input_of given)) end.1 done.0,
+      refl,
+      done.1,
+    )
+
+pub returns-clause-lost_out : goal.returns-clause-lost_out
+returns-clause-lost_out g c = λ rose. c.give.ensures.2.lost rose
+
+pub returns-clause-status : goal.returns-clause-status
+returns-clause-status g c = c.give.ensures.2.within

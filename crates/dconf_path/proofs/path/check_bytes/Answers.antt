@@ -1,9 +1,9 @@
 use Rattle.std.proofs.Common.{true, false, [], ◌∷◌, sym, ◌∙◌, ap}
 use Rattle.std.proofs.lemmas.Str.Pattern.{starts_text, contains_text}
-use Rattle.dconf_model.specs.Paths.{has_zero_byte}
 use Rattle.dconf_path.proofs.Faults.{is_not_absolute, is_with_nul, bytes_decided}
 use Rattle.dconf_path.proofs.Slashes.{has_two_slashes_where}
 use Rattle.dconf_path.proofs.path.check_bytes.Goals as goal
+use Rattle.dconf_model.specs.Paths.{has_zero_byte}
 
 pub returns-then-not-starts_with-clause-fault : goal.returns-then-not-starts_with-clause-fault
 returns-then-not-starts_with-clause-fault c =

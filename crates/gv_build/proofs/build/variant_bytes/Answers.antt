@@ -8,8 +8,8 @@ use Rattle.gv_build.proofs.Encodings.{encode_variant}
 use Rattle.gv_build.proofs.Wholes.{two_parts_alone}
 use Rattle.gv_build.proofs.build.variant_bytes.Goals as goal
 
-pub returns-then-levels-ge128-clause-fault : goal.returns-then-levels-ge128-clause-fault
-returns-then-levels-ge128-clause-fault c = inr (omega (arith, c.type_text-of.ensures.whole.levels))
+pub returns-then-levels-ge-MAX_LEVELS-clause-fault : goal.returns-then-levels-ge-MAX_LEVELS-clause-fault
+returns-then-levels-ge-MAX_LEVELS-clause-fault c = inr (omega (arith, c.type_text-of.ensures.whole.levels))
 
 pub returns-in_err-write_tree-clause-fault : goal.returns-in_err-write_tree-clause-fault
 returns-in_err-write_tree-clause-fault c =
@@ -34,3 +34,6 @@ returns-clause-bytes c =
 
 pub returns-clause-fits : goal.returns-clause-fits
 returns-clause-fits c = let same = ap length (returns-clause-bytes c) in omega (arith, same, c.in_ok-end_variant.ensures.fits)
+
+pub returns-clause-levels : goal.returns-clause-levels
+returns-clause-levels c = omega arith

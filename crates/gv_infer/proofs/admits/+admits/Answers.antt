@@ -8,7 +8,7 @@ use Rattle.gv_types.specs.TypeStr.{ty}
 use Rattle.gv_types.specs.declared.class.Class.TheVariants as classes
 use Rattle.gv_types.specs.declared.class.BasicType.TheVariants as basics
 use Rattle.gv_text.specs.SyntaxNodes.{nodes_of, pairs_of, syntax_of}
-use Rattle.gv_infer.proofs.Levels.{list_levels, tuple_levels, dictionary_levels, item_le, pair_le}
+use Rattle.gv_infer.proofs.Levels.{list_levels, tuple_levels, dictionary_levels, levels_at, pair_levels_at}
 use Rattle.gv_infer.proofs.AdmitLaws.{also_where_bare, is_boolean, is_variant, is_byte_array, admit_listed}
 use Rattle.gv_infer.proofs.admits.+admits.Goals as goal
 
@@ -88,17 +88,17 @@ admits-returns-in-Variant t c =
 
 pub all_admit_one-admits-requires : goal.all_admit_one-admits-requires
 all_admit_one-admits-requires t c =
-    let less = item_le c.args.elements.now c.loop-element.element-index c.element-item.result c.loop-element-test.true c.element-item.is in
+    let less = levels_at c.args.elements.now c.loop-element.element-index c.element-item.result c.loop-element-test.true c.element-item.is in
     (omega (arith, less, c.decreases), tt)
 
 pub all_pairs_admit-admits-requires : goal.all_pairs_admit-admits-requires
 all_pairs_admit-admits-requires t c =
-    let less = pair_le c.args.pairs.now c.loop-key.key-index c.loop-key-item.result c.loop-key-test.true c.loop-key-item.is in
+    let less = pair_levels_at c.args.pairs.now c.loop-key.key-index c.loop-key-item.result c.loop-key-test.true c.loop-key-item.is in
     (omega (arith, less.0, c.decreases), tt)
 
 pub all_pairs_admit-admits-requires-else-not-admits : goal.all_pairs_admit-admits-requires-else-not-admits
 all_pairs_admit-admits-requires-else-not-admits t c =
-    let less = pair_le c.args.pairs.now c.loop-key.key-index c.loop-key-item.result c.loop-key-test.true c.loop-key-item.is in
+    let less = pair_levels_at c.args.pairs.now c.loop-key.key-index c.loop-key-item.result c.loop-key-test.true c.loop-key-item.is in
     (omega (arith, less.1, c.decreases), tt)
 
 pub each_admits-loop-member-init : goal.each_admits-loop-member-init
@@ -106,5 +106,5 @@ each_admits-loop-member-init t c = admit_listed (nodes_of c.args.members.now) _ 
 
 pub each_admits-admits-requires : goal.each_admits-admits-requires
 each_admits-admits-requires t c =
-    let less = item_le c.args.members.now c.loop-member.member-index c.member-item.result c.loop-member-test.true c.member-item.is in
+    let less = levels_at c.args.members.now c.loop-member.member-index c.member-item.result c.loop-member-test.true c.member-item.is in
     (omega (arith, less, c.decreases), tt)

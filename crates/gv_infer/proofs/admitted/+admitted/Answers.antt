@@ -1,10 +1,11 @@
 use Rattle.std.proofs.Common.{arith, ◌∙◌, ap, sym}
 use Rattle.std.proofs.lemmas.List.{drop_all}
 use Rattle.gv_model.specs.Patterns.{patterns, pattern}
+use Rattle.gv_model.proofs.ListLaws.{drop_item}
 use Rattle.gv_text.specs.SyntaxNodes.{nodes_of}
 use Rattle.gv_infer.proofs.PatternLists.{before}
 use Rattle.gv_infer.proofs.ExactLaws.{before_more, before_stop}
-use Rattle.gv_infer.proofs.ListLaws.{drop_item, levels_at, pair_levels_at}
+use Rattle.gv_infer.proofs.Levels.{levels_at, pair_levels_at}
 use Rattle.gv_infer.proofs.admitted.+admitted.Goals as goal
 
 pub all_common-pattern_of-requires : goal.all_common-pattern_of-requires

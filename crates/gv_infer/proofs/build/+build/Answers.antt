@@ -1,8 +1,9 @@
 use Rattle.std.proofs.Common.{rules, arith, ◌≡◌, ◌+◌, drop, Ok, ◌∷◌, refl, sym, ap, ◌∙◌, subst}
 use Rattle.std.proofs.lemmas.Result.{err_from_is_err_and}
 use Rattle.std.specs.Prelude.{string_bytes}
+use Rattle.std.proofs.lemmas.List.{drop_all}
 use Rattle.gv_model.specs.Ty.{members, types_from}
-use Rattle.gv_model.specs.Ty.Ty.{basic, variant, array, maybe}
+use Rattle.gv_model.specs.Ty.Ty.{basic, variant, array}
 use Rattle.gv_model.specs.Ty.Basic.{boolean, byte}
 use Rattle.gv_model.specs.Tree.Tree.{number, node}
 use Rattle.gv_model.specs.Tree.Trees.{none}
@@ -10,22 +11,22 @@ use Rattle.gv_model.specs.Syntax.{levels, greatest_levels, pairs_levels}
 use Rattle.gv_model.specs.Chosen.{Chooses}
 use Rattle.gv_model.specs.Admits.{Admits, IsNumberType, IsTextType, AllAdmit, Admit, KeysAdmit, ValuesAdmit, IsArrayOf, IsTupleOf, IsEntryOf}
 use Rattle.gv_model.specs.LeastTypes.{choice}
-use Rattle.gv_model.specs.Literals.{integer_at, text_at, byte_trees}
+use Rattle.gv_model.specs.Literals.{integer_at, text_at, byte_string_trees}
 use Rattle.gv_model.specs.TextValues.{literal_value, elements, members_of, entries, at_basic, at_array, at_tuple, at_entry, at_variant, at_maybe, only_one, chosen_or}
 use Rattle.gv_model.proofs.PatternLaws.{choice_right}
+use Rattle.gv_model.specs.BasicValue.{truth_bits}
+use Rattle.gv_model.proofs.ListLaws.{types_from-listed, drop_item}
 use Rattle.gv_types.specs.TypeStr.{ty}
 use Rattle.gv_types.specs.Members.{members_left}
 use Rattle.gv_text.specs.SyntaxNodes.{nodes_of, pairs_of, syntax_of}
 use Rattle.gv_text.specs.Parsed.{IsWithin as IsInLimits}
-use Rattle.gv_tree.specs.Basics.{truth_bits}
 use Rattle.gv_infer.specs.BareTypes.{bare_type}
-use Rattle.gv_infer.specs.Building.{IsBuilt, IsOfType, IsWithin}
+use Rattle.gv_infer.specs.Building.{IsBuilt, IsOfType, IsWithinLimits}
 use Rattle.gv_infer.specs.Within.{AreWithin, PairsWithin}
-use Rattle.gv_infer.proofs.Levels.{list_levels, tuple_levels, dictionary_levels, lone_levels, boxed_levels, just_levels, of_type_levels, keyword_levels, item_le, pair_le, drop_item}
-use Rattle.gv_infer.proofs.AdmitLaws.{types_from_listed}
+use Rattle.gv_infer.proofs.Levels.{list_levels, tuple_levels, dictionary_levels, lone_levels, boxed_levels, just_levels, of_type_levels, keyword_levels, levels_at, pair_levels_at}
 use Rattle.gv_infer.proofs.BuildLaws.{fits_bare, truth_value, maybe_holds, array_holds, bytes_at}
 use Rattle.gv_infer.proofs.MadeTrees.{within_type}
-use Rattle.gv_infer.proofs.BuiltChildren.{drop_end, held_none, held_next, held_fault, held_all, elements_typed, entries_typed, all_of_type, are_members, just_built, entry_built, pair_fits}
+use Rattle.gv_infer.proofs.BuiltChildren.{held_none, held_next, held_fault, held_all, elements_typed, entries_typed, all_of_type, are_members, just_built, entry_built, pair_fits}
 use Rattle.gv_infer.proofs.WithinLaws.{list_within, tuple_within, dictionary_within, entry_within, box_within, just_within, of_type_within, keyword_within}
 use Rattle.gv_infer.proofs.build.+build.Goals as goal
 
@@ -159,7 +160,7 @@ pub build-nothing-requires : goal.build-nothing-requires
 build-nothing-requires t c =
     let fits = subst (λ x. Admits x (ty c.args.of)) (sym c.node.view_is ∙ ap syntax_of c.in-Nothing.is) c.requires.fits in
     let is = maybe_holds (λ u. Unit {0}) _ _ _ fits c.element.ensures c.unwrap.ensures in
-    record { within = subst IsWithin is.is (within_type _ c.args.of.spells_type) }
+    record { within = subst IsWithinLimits is.is (within_type _ c.args.of.spells_type) }
 
 pub build-returns-in-Text-clause-built : goal.build-returns-in-Text-clause-built
 unfolding literal_value
@@ -175,10 +176,10 @@ build-returns-in-ByteString-clause-built t c =
     let is = sym c.node.view_is ∙ ap syntax_of c.in-ByteString.is in
     let fits = subst (λ x. Admits x (ty c.args.of)) is c.requires.fits in
     let kind = fits_bare (λ u. u ≡ array (basic byte)) (ty c.args.of) _ fits c.bare-inside.ensures in
-    let built = subst (λ s. IsBuilt (Ok (node (ty c.bare-inside.result) (byte_trees s))) c.byte_string_at.result) c.as_slice.ensures.value c.byte_string_at.ensures.built in
+    let built = subst (λ s. IsBuilt (Ok (node (ty c.bare-inside.result) (byte_string_trees s))) c.byte_string_at.result) c.as_slice.ensures.value c.byte_string_at.ensures.built in
     let at_type = bytes_at (ty c.bare-inside.result) c.in-ByteString.bytes.items c.byte_string_at.result kind built in
     subst (λ x. IsBuilt (literal_value choice x (ty c.args.of)) c.in_maybes-in-ByteString.result) (sym is)
-    (c.in_maybes-in-ByteString.ensures.built (at_array (λ u. Ok (byte_trees c.in-ByteString.bytes.items))) (subst (λ u. IsBuilt (at_array (λ u. Ok (byte_trees c.in-ByteString.bytes.items)) u) c.byte_string_at.result) c.bare-inside.ensures at_type))
+    (c.in_maybes-in-ByteString.ensures.built (at_array (λ u. Ok (byte_string_trees c.in-ByteString.bytes.items))) (subst (λ u. IsBuilt (at_array (λ u. Ok (byte_string_trees c.in-ByteString.bytes.items)) u) c.byte_string_at.result) c.bare-inside.ensures at_type))
 
 pub build-returns-in-Dictionary-clause-built : goal.build-returns-in-Dictionary-clause-built
 unfolding literal_value
@@ -256,7 +257,7 @@ build_array-array-requires-clause-typed t c = all_of_type (ty c.unwrap-element.r
 pub build_array-array-requires-clause-within : goal.build_array-array-requires-clause-within
 build_array-array-requires-clause-within t c =
     let is = array_holds (AllAdmit (nodes_of c.args.nodes.now)) _ _ _ c.requires.fits c.element.ensures c.unwrap-element.ensures in
-    subst IsWithin is.is (within_type _ c.args.of.spells_type)
+    subst IsWithinLimits is.is (within_type _ c.args.of.spells_type)
 
 pub build_dictionary-array-requires-clause-typed : goal.build_dictionary-array-requires-clause-typed
 build_dictionary-array-requires-clause-typed t c = all_of_type (ty c.unwrap-of.result) (entries choice (pairs_of c.args.pairs.now) (ty c.unwrap-of.result)) c.in_ok-children.children (entries_typed choice (pairs_of c.args.pairs.now) (ty c.unwrap-of.result)) c.in_ok-children.ensures
@@ -264,11 +265,11 @@ build_dictionary-array-requires-clause-typed t c = all_of_type (ty c.unwrap-of.r
 pub build_dictionary-array-requires-clause-within : goal.build_dictionary-array-requires-clause-within
 build_dictionary-array-requires-clause-within t c =
     let is = array_holds (IsEntryOf (KeysAdmit (pairs_of c.args.pairs.now)) (ValuesAdmit (pairs_of c.args.pairs.now))) _ _ _ c.requires.fits c.element.ensures c.unwrap-of.ensures in
-    subst IsWithin is.is (within_type _ c.args.of.spells_type)
+    subst IsWithinLimits is.is (within_type _ c.args.of.spells_type)
 
 pub build_elements-build-requires : goal.build_elements-build-requires
 build_elements-build-requires t c =
-    let less = item_le c.args.nodes.now c.loop-node.node-index c.node-item.result c.loop-node-test.true c.node-item.is in
+    let less = levels_at c.args.nodes.now c.loop-node.node-index c.node-item.result c.loop-node-test.true c.node-item.is in
     let item = drop_item c.args.nodes.now c.loop-node.node-index c.node-item.result c.loop-node-test.true c.node-item.is in
     let fits = subst (λ xs. AllAdmit (nodes_of xs) (ty c.args.of)) item c.loop-node.invariant.fits in
     let within = subst (λ xs. AreWithin (nodes_of xs)) item c.loop-node.invariant.within in
@@ -296,12 +297,12 @@ build_elements-loop-node-preserved t c =
 pub build_elements-returns : goal.build_elements-returns
 unfolding literal_value
 build_elements-returns t c =
-    let past = drop_end c.args.nodes.now c.loop-node.node-index (omega (arith, c.loop-node-test.false)) in
+    let past = drop_all c.loop-node.node-index c.args.nodes.now (omega (arith, c.loop-node-test.false)) in
     held_all _ _ c.loop-node.children c.finish.result c.loop-node.invariant.held (ap (λ xs. elements choice (nodes_of xs) (ty c.args.of)) past) c.finish.ensures
 
 pub build_entries-build_entry-requires : goal.build_entries-build_entry-requires
 build_entries-build_entry-requires t c =
-    let less = pair_le c.args.pairs.now c.loop-key.key-index c.loop-key-item.result c.loop-key-test.true c.loop-key-item.is in
+    let less = pair_levels_at c.args.pairs.now c.loop-key.key-index c.loop-key-item.result c.loop-key-test.true c.loop-key-item.is in
     let item = drop_item c.args.pairs.now c.loop-key.key-index c.loop-key-item.result c.loop-key-test.true c.loop-key-item.is in
     let fits = pair_fits _ _ _ _ (subst (λ ps. IsEntryOf (KeysAdmit (pairs_of ps)) (ValuesAdmit (pairs_of ps)) (ty c.args.of)) item c.loop-key.invariant.fits) in
     let within = subst (λ ps. PairsWithin (pairs_of ps)) item c.loop-key.invariant.within in
@@ -329,7 +330,7 @@ build_entries-loop-key-preserved t c =
 pub build_entries-returns : goal.build_entries-returns
 unfolding literal_value
 build_entries-returns t c =
-    let past = drop_end c.args.pairs.now c.loop-key.key-index (omega (arith, c.loop-key-test.false)) in
+    let past = drop_all c.loop-key.key-index c.args.pairs.now (omega (arith, c.loop-key-test.false)) in
     held_all _ _ c.loop-key.children c.finish.result c.loop-key.invariant.held (ap (λ ps. entries choice (pairs_of ps) (ty c.args.of)) past) c.finish.ensures
 
 pub build_entry-returns-clause-built : goal.build_entry-returns-clause-built
@@ -339,7 +340,7 @@ build_entry-returns-clause-built t c =
 pub build_just-just-requires-clause-within : goal.build_just-just-requires-clause-within
 build_just-just-requires-clause-within t c =
     let is = maybe_holds (Admits c.args.node.now) _ _ _ c.requires.fits c.element.ensures c.unwrap-inner.ensures in
-    subst IsWithin is.is (within_type _ c.args.of.spells_type)
+    subst IsWithinLimits is.is (within_type _ c.args.of.spells_type)
 
 pub build_just-returns-clause-built : goal.build_just-returns-clause-built
 build_just-returns-clause-built t c =
@@ -348,7 +349,7 @@ build_just-returns-clause-built t c =
 
 pub build_members-loop-node-init : goal.build_members-loop-node-init
 build_members-loop-node-init t c =
-    let same : types_from (members_left c.members-types.result) ≡ members (ty c.args.of) = ap types_from (search rules) ∙ types_from_listed (members (ty c.args.of)) in
+    let same : types_from (members_left c.members-types.result) ≡ members (ty c.args.of) = ap types_from (search rules) ∙ types_from-listed (members (ty c.args.of)) in
     record {
       held = held_none _ _ c.in_ok-children.children (ap (members_of choice (nodes_of c.args.nodes.now)) (sym same)) c.in_ok-children.ensures;
       fits = rw same c.requires.fits;
@@ -357,7 +358,7 @@ build_members-loop-node-init t c =
 
 pub build_members-build-requires : goal.build_members-build-requires
 build_members-build-requires t c =
-    let less = item_le c.args.nodes.now c.loop-node.node-index c.node-item.result c.loop-node-test.true c.node-item.is in
+    let less = levels_at c.args.nodes.now c.loop-node.node-index c.node-item.result c.loop-node-test.true c.node-item.is in
     let item = drop_item c.args.nodes.now c.loop-node.node-index c.node-item.result c.loop-node-test.true c.node-item.is in
     let step : members_left c.loop-node.types ≡ ty c.unwrap-of.result ∷ members_left c.next.new.self = search rules in
     let fits = subst (λ ts. Admit (nodes_of (c.node-item.result ∷ drop (c.loop-node.node-index + 1) c.args.nodes.now)) (types_from ts)) step (subst (λ xs. Admit (nodes_of xs) (types_from (members_left c.loop-node.types))) item c.loop-node.invariant.fits) in
@@ -390,7 +391,7 @@ build_members-loop-node-preserved t c =
 pub build_members-returns : goal.build_members-returns
 unfolding literal_value
 build_members-returns t c =
-    let past = drop_end c.args.nodes.now c.loop-node.node-index (omega (arith, c.loop-node-test.false)) in
+    let past = drop_all c.loop-node.node-index c.args.nodes.now (omega (arith, c.loop-node-test.false)) in
     held_all _ _ c.loop-node.children c.finish.result c.loop-node.invariant.held (ap (λ xs. members_of choice (nodes_of xs) (types_from (members_left c.loop-node.types))) past) c.finish.ensures
 
 pub build_tuple-tuple-requires : goal.build_tuple-tuple-requires

@@ -7,7 +7,7 @@ use Rattle.gv_model.specs.TextValues.{elements, members_of, entries}
 use Rattle.gv_types.specs.TypeStr.{ty}
 use Rattle.gv_types.specs.Members.{members_left}
 use Rattle.gv_text.specs.SyntaxNodes.{nodes_of, pairs_of}
-use Rattle.gv_infer.specs.Children.{HeldSoFar}
+use Rattle.gv_infer.specs.Children.{IsBuiltSoFar}
 use Rattle.gv_infer.specs.Within.{AreWithin, PairsWithin}
 use Rattle.gv_infer.proofs.build.+build.Given as goal
 
@@ -43,21 +43,21 @@ decreases-build_entry l = 4 * max (levels l.key.now) (levels l.value.now) + 1
 
 abbrev pub invariant-build_elements-loop-node : goal.invariant-build_elements-loop-node
 invariant-build_elements-loop-node l = record {
-  held : HeldSoFar (elements choice (nodes_of l.nodes) (ty l.of)) (elements choice (nodes_of (drop l.node-index l.nodes)) (ty l.of)) l.children;
+  held : IsBuiltSoFar (elements choice (nodes_of l.nodes) (ty l.of)) (elements choice (nodes_of (drop l.node-index l.nodes)) (ty l.of)) l.children;
   fits : AllAdmit (nodes_of (drop l.node-index l.nodes)) (ty l.of);
   within : AreWithin (nodes_of (drop l.node-index l.nodes));
 }
 
 abbrev pub invariant-build_members-loop-node : goal.invariant-build_members-loop-node
 invariant-build_members-loop-node l = record {
-  held : HeldSoFar (members_of choice (nodes_of l.nodes) (members (ty l.fn.of))) (members_of choice (nodes_of (drop l.node-index l.nodes)) (types_from (members_left l.types))) l.children;
+  held : IsBuiltSoFar (members_of choice (nodes_of l.nodes) (members (ty l.fn.of))) (members_of choice (nodes_of (drop l.node-index l.nodes)) (types_from (members_left l.types))) l.children;
   fits : Admit (nodes_of (drop l.node-index l.nodes)) (types_from (members_left l.types));
   within : AreWithin (nodes_of (drop l.node-index l.nodes));
 }
 
 abbrev pub invariant-build_entries-loop-key : goal.invariant-build_entries-loop-key
 invariant-build_entries-loop-key l = record {
-  held : HeldSoFar (entries choice (pairs_of l.pairs) (ty l.of)) (entries choice (pairs_of (drop l.key-index l.pairs)) (ty l.of)) l.children;
+  held : IsBuiltSoFar (entries choice (pairs_of l.pairs) (ty l.of)) (entries choice (pairs_of (drop l.key-index l.pairs)) (ty l.of)) l.children;
   fits : IsEntryOf (KeysAdmit (pairs_of (drop l.key-index l.pairs))) (ValuesAdmit (pairs_of (drop l.key-index l.pairs))) (ty l.of);
   within : PairsWithin (pairs_of (drop l.key-index l.pairs));
 }

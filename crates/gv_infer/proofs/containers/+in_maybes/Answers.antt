@@ -2,7 +2,7 @@ use Rattle.std.proofs.Common.{arith, subst}
 use Rattle.std.proofs.lemmas.Result.{err_from_is_err_and}
 use Rattle.gv_types.specs.TypeStr.{ty}
 use Rattle.gv_infer.specs.BareTypes.{bare_type}
-use Rattle.gv_infer.specs.Building.{IsWithin, IsOfType, IsBuilt}
+use Rattle.gv_infer.specs.Building.{IsWithinLimits, IsOfType, IsBuilt}
 use Rattle.gv_infer.proofs.TypeShapes.{maybe_of, less_than_maybe}
 use Rattle.gv_infer.proofs.MadeTrees.{within_type, maybe_built, maybe_fault}
 use Rattle.gv_infer.proofs.containers.+in_maybes.Goals as goal
@@ -22,7 +22,7 @@ returns-in_err-child-in-Maybe-clause-built t c =
 pub just-requires-clause-within : goal.just-requires-clause-within
 just-requires-clause-within t c =
     let is = maybe_of _ _ _ _ c.class.ensures c.in-Maybe.is c.element.ensures c.unwrap-inner.ensures in
-    subst IsWithin is (within_type _ c.args.of.spells_type)
+    subst IsWithinLimits is (within_type _ c.args.of.spells_type)
 
 pub returns-in_ok-child-in-Maybe-clause-built : goal.returns-in_ok-child-in-Maybe-clause-built
 returns-in_ok-child-in-Maybe-clause-built t c =

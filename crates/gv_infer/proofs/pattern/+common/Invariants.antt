@@ -1,6 +1,6 @@
 use Rattle.std.proofs.Common.{◌≡◌, ◌+◌, ◌*◌, ◌≤◌, length, take, drop}
-use Rattle.gv_infer.specs.Forms.{core_of, patterns_of}
-use Rattle.gv_infer.specs.Parts.{parts, core_parts, all_parts}
+use Rattle.gv_infer.specs.Forms.{bare_of, patterns_of}
+use Rattle.gv_infer.specs.Parts.{parts, bare_parts, all_parts}
 use Rattle.gv_infer.specs.Orders.{each_by}
 use Rattle.gv_infer.proofs.PatternLists.{before}
 use Rattle.gv_infer.proofs.pattern.+common.Given as goal
@@ -12,16 +12,16 @@ abbrev pub decreases-maybe_common : goal.decreases-maybe_common
 decreases-maybe_common l = 3 * (parts l.p.value + parts l.other) + 2
 
 abbrev pub decreases-strict_common : goal.decreases-strict_common
-decreases-strict_common l = 3 * (core_parts (core_of l.c) + parts l.other) + 2
+decreases-strict_common l = 3 * (bare_parts (bare_of l.c) + parts l.other) + 2
 
 abbrev pub decreases-loose_common : goal.decreases-loose_common
-decreases-loose_common l = 3 * (core_parts (core_of l.c) + parts l.other) + 2
+decreases-loose_common l = 3 * (bare_parts (bare_of l.c) + parts l.other) + 2
 
 abbrev pub decreases-common_boxed : goal.decreases-common_boxed
 decreases-common_boxed l = 3 * (parts l.kept.value + parts l.other) + 1
 
-abbrev pub decreases-common_core : goal.decreases-common_core
-decreases-common_core l = 3 * (core_parts (core_of l.c) + core_parts (core_of l.d)) + 1
+abbrev pub decreases-common_bare : goal.decreases-common_bare
+decreases-common_bare l = 3 * (bare_parts (bare_of l.c) + bare_parts (bare_of l.d)) + 1
 
 abbrev pub decreases-common_each : goal.decreases-common_each
 decreases-common_each l = 3 * (all_parts (patterns_of l.ps.items) + all_parts (patterns_of l.qs.items)) + 2

@@ -1,24 +1,25 @@
 use Rattle.std.proofs.Common.{Ok, Err, IfOk, IfErr, sym, subst}
 use Rattle.std.proofs.lemmas.Result.{err_from_is_err_and}
+use Rattle.std.proofs.lemmas.Bool.{both_ways}
 use Rattle.gv_model.specs.Admits.{Admits}
 use Rattle.gv_model.specs.LeastTypes.{choice}
 use Rattle.gv_model.specs.TextValues.{HasValue, literal_value, contents}
 use Rattle.gv_types.specs.TypeStr.{ty}
-use Rattle.gv_infer.specs.Typings.{AreTyped, IsFirstFault}
+use Rattle.gv_infer.specs.Typings.{AreTyped, IsFirstChoiceFault}
 use Rattle.gv_infer.specs.Building.{IsBuilt}
 use Rattle.gv_infer.specs.Values.{IsValueFault}
-use Rattle.gv_infer.proofs.ValueLaws.{not_admitted, contents_fault, literal_fault, value_or_deep, not_both}
+use Rattle.gv_infer.proofs.ValueLaws.{not_admitted, contents_fault, literal_fault, value_or_deep}
 use Rattle.gv_infer.proofs.value.value_at.Goals as goal
 
 pub returns-then-not-admits-clause-fault : goal.returns-then-not-admits-clause-fault
 returns-then-not-admits-clause-fault c =
-    not_admitted c.args.syntax.now (ty c.args.of) (λ a. not_both c.admits.result c.if-not-admits.true (c.admits.ensures.1 (subst (λ x. Admits x (ty c.args.of)) (sym c.root-root.ensures.root) a)))
+    not_admitted c.args.syntax.now (ty c.args.of) (λ a. both_ways c.admits.result c.if-not-admits.true (c.admits.ensures.1 (subst (λ x. Admits x (ty c.args.of)) (sym c.root-root.ensures.root) a)))
 
 pub returns-in_err-check_contents-clause-fault : goal.returns-in_err-check_contents-clause-fault
 returns-in_err-check_contents-clause-fault c =
     let root = c.root-root.ensures.root in
     let fits = subst (λ x. Admits x (ty c.args.of)) root (c.admits.ensures.0 c.if-not-admits.false) in
-    let fault = subst (λ x. IsFirstFault (contents x) c.in_err-check_contents.field-0.0) root c.in_err-check_contents.ensures.fault in
+    let fault = subst (λ x. IsFirstChoiceFault (contents x) c.in_err-check_contents.field-0.0) root c.in_err-check_contents.ensures.fault in
     let p = err_from_is_err_and c.from_residual.result c.from_residual.ensures.1 in
     rw (p.1, p.2) (contents_fault c.args.syntax.now (ty c.args.of) c.in_err-check_contents.field-0.0 fits fault)
 

@@ -1,9 +1,10 @@
 use Rattle.std.proofs.Common.{List, not, ap, sym, subst, ◌∙◌}
 use Rattle.gv_model.specs.Ty.{Ty, members, types_from}
+use Rattle.gv_model.proofs.ListLaws.{types_from-listed}
 use Rattle.gv_types.specs.TypeStr.{ty}
 use Rattle.gv_types.specs.Members.{members_left}
-use Rattle.gv_layout.proofs.Lists.{types_from-listed, none_if}
-use Rattle.gv_layout.proofs.Sizes.{IsUnsizedBy, unsized_by_members, unsized_first, unsized_behind}
+use Rattle.gv_layout.proofs.Lists.{none_if}
+use Rattle.gv_layout.proofs.Sizes.{IsUnsizedBy, unsized_by_members, unsized_first, unsized_after}
 use Rattle.gv_layout.proofs.size.size_of_members.Goals as goal
 
 pub loop-member-init : goal.loop-member-init
@@ -16,11 +17,11 @@ pub returns-then-is_none : goal.returns-then-is_none
 returns-then-is_none c =
     let t = ty c.args.of in
     let left = subst (λ (ts : List Ty). IsUnsizedBy t (types_from ts)) c.in-Some.ensures.steps c.loop-member.invariant in
-    let none = none_if c.layout_of.result.size (c.is_none.ensures ∙ ap not c.if-is_none.true) in
-    sym (unsized_first t (ty c.in-Some.member) (types_from (members_left c.next.new.self)) left (sym c.layout_of.ensures.size ∙ none))
+    let none = none_if c.type_info.result.size (c.is_none.ensures ∙ ap not c.if-is_none.true) in
+    sym (unsized_first t (ty c.in-Some.member) (types_from (members_left c.next.new.self)) left (sym c.type_info.ensures.size ∙ none))
 
 pub loop-member-preserved : goal.loop-member-preserved
 loop-member-preserved c =
     let t = ty c.args.of in
     let left = subst (λ (ts : List Ty). IsUnsizedBy t (types_from ts)) c.in-Some.ensures.steps c.loop-member.invariant in
-    unsized_behind t (ty c.in-Some.member) (types_from (members_left c.next.new.self)) left
+    unsized_after t (ty c.in-Some.member) (types_from (members_left c.next.new.self)) left

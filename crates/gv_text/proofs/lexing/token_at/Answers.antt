@@ -1,8 +1,8 @@
 use Rattle.std.proofs.Common.{ap, subst, get_or}
+use Rattle.std.proofs.lemmas.List.{take_rest}
 use Rattle.gv_model.specs.Lexing.{token_by}
 use Rattle.gv_model.specs.Lexing.Start.{of_string, of_byte_string, of_word, of_number, of_type, of_mark}
-use Rattle.gv_text.specs.Found.{IsFound}
-use Rattle.gv_text.proofs.Lists.{part_is_drop}
+use Rattle.gv_text.specs.LexSteps.{IsLexed}
 use Rattle.gv_text.proofs.TokenKinds.{found_by, text_found, byte_string_found, word_found, type_found}
 use Rattle.gv_text.proofs.lexing.token_at.Goals as goal
 
@@ -11,7 +11,7 @@ returns-in-OfText-clause-found c = λ b bs e.
     let text = c.args.text.now in
     let at = c.args.at in
     let r = c.text_token.result in
-    let begins = rw (c.as_bytes-bytes.ensures.value, part_is_drop at text) at c.in-OfText.ensures.start in
+    let begins = rw (c.as_bytes-bytes.ensures.value, take_rest text at) at c.in-OfText.ensures.start in
     found_by of_string at b bs r (begins b bs e) (text_found text at b bs r e c.text_token.ensures.found)
 
 pub returns-in-OfByteString-clause-found : goal.returns-in-OfByteString-clause-found
@@ -19,8 +19,8 @@ returns-in-OfByteString-clause-found c = λ b bs e.
     let text = c.args.text.now in
     let at = c.args.at in
     let r = c.byte_string_token.result in
-    let begins = rw (c.as_bytes-bytes.ensures.value, part_is_drop at text) at c.in-OfByteString.ensures.start in
-    let first = rw (c.as_bytes-bytes.ensures.value, part_is_drop at text) at c.in-OfByteString.ensures.first in
+    let begins = rw (c.as_bytes-bytes.ensures.value, take_rest text at) at c.in-OfByteString.ensures.start in
+    let first = rw (c.as_bytes-bytes.ensures.value, take_rest text at) at c.in-OfByteString.ensures.first in
     let found = rw c.as_bytes-bytes.ensures.value at c.byte_string_token.ensures.found in
     found_by of_byte_string at b bs r (begins b bs e) (byte_string_found text at b bs r e first.0 found)
 
@@ -29,9 +29,9 @@ returns-in-OfWord-clause-found c = λ b bs e.
     let text = c.args.text.now in
     let at = c.args.at in
     let r = c.word_token.result in
-    let begins = rw (c.as_bytes-bytes.ensures.value, part_is_drop at text) at c.in-OfWord.ensures.start in
-    let first = rw (c.as_bytes-bytes.ensures.value, part_is_drop at text) at c.in-OfWord.ensures.first in
-    let found = rw (c.as_bytes-bytes.ensures.value, part_is_drop at text) at c.word_token.ensures.found in
+    let begins = rw (c.as_bytes-bytes.ensures.value, take_rest text at) at c.in-OfWord.ensures.start in
+    let first = rw (c.as_bytes-bytes.ensures.value, take_rest text at) at c.in-OfWord.ensures.first in
+    let found = rw (c.as_bytes-bytes.ensures.value, take_rest text at) at c.word_token.ensures.found in
     found_by of_word at b bs r (begins b bs e) (word_found _ at b bs r e first found)
 
 pub returns-in-OfNumber-clause-found : goal.returns-in-OfNumber-clause-found
@@ -39,8 +39,8 @@ returns-in-OfNumber-clause-found c = λ b bs e.
     let text = c.args.text.now in
     let at = c.args.at in
     let r = c.number_token.result in
-    let begins = rw (c.as_bytes-bytes.ensures.value, part_is_drop at text) at c.in-OfNumber.ensures.start in
-    let found = rw (c.as_bytes-bytes.ensures.value, part_is_drop at text) at c.number_token.ensures.found in
+    let begins = rw (c.as_bytes-bytes.ensures.value, take_rest text at) at c.in-OfNumber.ensures.start in
+    let found = rw (c.as_bytes-bytes.ensures.value, take_rest text at) at c.number_token.ensures.found in
     found_by of_number at b bs r (begins b bs e) (found b bs e)
 
 pub returns-in-OfType-clause-found : goal.returns-in-OfType-clause-found
@@ -48,7 +48,7 @@ returns-in-OfType-clause-found c = λ b bs e.
     let text = c.args.text.now in
     let at = c.args.at in
     let r = c.type_token.result in
-    let begins = rw (c.as_bytes-bytes.ensures.value, part_is_drop at text) at c.in-OfType.ensures.start in
+    let begins = rw (c.as_bytes-bytes.ensures.value, take_rest text at) at c.in-OfType.ensures.start in
     found_by of_type at b bs r (begins b bs e) (type_found text at b bs r e c.type_token.ensures.found)
 
 pub returns-in-OfMark-clause-found : goal.returns-in-OfMark-clause-found
@@ -56,6 +56,6 @@ returns-in-OfMark-clause-found c = λ b bs e.
     let text = c.args.text.now in
     let at = c.args.at in
     let r = c.mark_token.result in
-    let begins = rw (c.as_bytes-bytes.ensures.value, part_is_drop at text) at c.in-OfMark.ensures.start in
-    let found = rw (c.as_bytes-bytes.ensures.value, part_is_drop at text) at c.mark_token.ensures.found in
-    found_by of_mark at b bs r (begins b bs e) (subst (λ x. IsFound (token_by of_mark at x bs) r) (ap (λ l. get_or l 0 0) e) (found bs))
+    let begins = rw (c.as_bytes-bytes.ensures.value, take_rest text at) at c.in-OfMark.ensures.start in
+    let found = rw (c.as_bytes-bytes.ensures.value, take_rest text at) at c.mark_token.ensures.found in
+    found_by of_mark at b bs r (begins b bs e) (subst (λ x. IsLexed (token_by of_mark at x bs) r) (ap (λ l. get_or l 0 0) e) (found bs))

@@ -1,6 +1,6 @@
 use Rattle.std.proofs.Common.{◌≤◌, ◌-◌, length, map}
 use Rattle.gv_model.proofs.TokenLoops.{TokensSoFar}
-use Rattle.gv_text.specs.Placed.{placed_of}
+use Rattle.gv_text.specs.ModelTokens.{placed_of}
 use Rattle.gv_text.proofs.lexing.tokens.Given as goal
 
 abbrev pub invariant-loop-at : goal.invariant-loop-at

@@ -4,14 +4,14 @@ use Rattle.gv_model.specs.GrammarFaults.Stage.{list_start, list_more, tuple_star
 use Rattle.gv_model.specs.Tokens.Mark.{close_list, close_tuple, close_brace, close_box, colon, comma}
 use Rattle.gv_model.specs.Tokens.Token.{mark}
 use Rattle.gv_model.specs.Grammar.{tokens_of}
-use Rattle.gv_text.specs.Placed.{token_of, mark_of}
+use Rattle.gv_text.specs.ModelTokens.{token_of, mark_of}
 use Rattle.std.specs.Prelude.{IsSome}
-use Rattle.gv_text.specs.Reading.{left, more_stage, behind_first}
-use Rattle.gv_text.specs.Reading.Want.{inside, a_value}
-use Rattle.gv_text.proofs.ReadingLaws.{Either, other, unclosed, missing, entered, carried, carried_in, carried_out, always, does_not_begin, begins, list_opens, tuple_opens, brace_opens, not_taken, pair_wants, wants_comma, wants_colon, wants_brace, wants_box}
-use Rattle.gv_text.proofs.HeldLaws.{whole_value, is_truth, is_text, is_bytes, is_integer, is_nothing, is_just, is_keyword, is_of_type, is_array, is_tuple, is_boxed, if_ok, if_err, no_elements, elements_of, no_members, took_comma, took_close, not_separated, separated, one_value, one_more, all_values}
+use Rattle.gv_text.specs.Expectations.{left, more_stage, begun_wants}
+use Rattle.gv_text.specs.Expectations.Want.{inside, a_value}
+use Rattle.gv_text.proofs.ExpectationLaws.{Either, other, unclosed, missing, entered, carried, carried_in, carried_out, always, does_not_begin, begins, list_opens, tuple_opens, brace_opens, not_taken, pair_wants, wants_comma, wants_colon, wants_brace, wants_box}
+use Rattle.gv_text.proofs.ParseStepLaws.{whole_value, is_truth, is_text, is_bytes, is_integer, is_nothing, is_just, is_keyword, is_of_type, is_array, is_tuple, is_boxed, if_ok, if_err, no_elements, elements_of, no_members, took_comma, took_close, not_separated, separated, one_value, one_more, all_values}
 use Rattle.gv_text.proofs.SequenceLaws.{no_longer}
-use Rattle.gv_text.proofs.BracketLaws.{HoldsFirst, FirstMember, holds_first, stops_behind, stops_in_value, first_member, one_member, second_reached, more_members, first_wants, neither, no_pairs, pairs_reached, some_pairs, lone_reached, lone_ended, is_entry, one_pair, key_reached, colon_reached, value_reached, shorter, pair_more_read, all_pairs}
+use Rattle.gv_text.proofs.BracketLaws.{HoldsFirst, FirstMember, holds_first, stops_after, stops_in_value, first_member, one_member, second_reached, more_members, first_wants, neither, no_pairs, pairs_reached, some_pairs, lone_reached, lone_ended, is_entry, one_pair, key_reached, colon_reached, value_reached, shorter, pair_more_read, all_pairs}
 use Rattle.gv_text.proofs.parsing.+parsing.Goals as goal
 
 -- src/parsing/braces.rt:23:17
@@ -42,7 +42,7 @@ pub braces::braces-returns-in_err-mark-clause-fault :
     goal.braces::braces-returns-in_err-mark-clause-fault
 braces::braces-returns-in_err-mark-clause-fault t c =
     let p = err_from_is_err_and c.from_residual-in_err-mark.result c.from_residual-in_err-mark.ensures.1 in
-    rw (p.1, p.2) (stops_behind (inside brace_start c.args.depth c.args.opened ∷ []) (inside brace_first c.args.depth c.args.opened ∷ []) (left c.args.rest.now) (left c.value_from.new.rest) _ (HoldsFirst.reaches (holds_first brace_start brace_first close_brace c.args.depth c.args.opened _ _ _ _ _ brace_opens c.in_ok-first.ensures (λ h. cc (c.if-is_mark.false, c.is_mark.ensures.1 h)) c.in_ok-key.ensures.value)) (unclosed brace_first _ _ [] _ _ c.in_err-mark.ensures.0 (c.in_err-mark.ensures.1 ∙ c.refused-ended.ensures)))
+    rw (p.1, p.2) (stops_after (inside brace_start c.args.depth c.args.opened ∷ []) (inside brace_first c.args.depth c.args.opened ∷ []) (left c.args.rest.now) (left c.value_from.new.rest) _ (HoldsFirst.reaches (holds_first brace_start brace_first close_brace c.args.depth c.args.opened _ _ _ _ _ brace_opens c.in_ok-first.ensures (λ h. cc (c.if-is_mark.false, c.is_mark.ensures.1 h)) c.in_ok-key.ensures.value)) (unclosed brace_first _ _ [] _ _ c.in_err-mark.ensures.0 (c.in_err-mark.ensures.1 ∙ c.refused-ended.ensures)))
 
 -- src/parsing/braces.rt:30:42
 pub braces::braces-pairs-requires : goal.braces::braces-pairs-requires
@@ -53,7 +53,7 @@ pub braces::braces-returns-in_err-pairs-clause-fault :
     goal.braces::braces-returns-in_err-pairs-clause-fault
 braces::braces-returns-in_err-pairs-clause-fault t c =
     let p = err_from_is_err_and c.from_residual-in_err-pairs.result c.from_residual-in_err-pairs.ensures.1 in
-    rw (p.1, p.2) (stops_behind (inside brace_start c.args.depth c.args.opened ∷ []) (a_value c.args.depth ∷ inside pair_more c.args.depth c.args.opened ∷ []) (left c.args.rest.now) (left c.next-2.new.rest) _ (pairs_reached c.args.depth c.args.opened _ _ _ _ (holds_first brace_start brace_first close_brace c.args.depth c.args.opened _ _ _ _ _ brace_opens c.in_ok-first.ensures (λ h. cc (c.if-is_mark.false, c.is_mark.ensures.1 h)) c.in_ok-key.ensures.value) (record { first = c.in_ok-mark.mark; tokens = c.in_ok-mark.ensures; kind = c.is_mark-2.ensures.0 c.if-is_mark-2.true })) c.in_err-pairs.ensures.fault)
+    rw (p.1, p.2) (stops_after (inside brace_start c.args.depth c.args.opened ∷ []) (a_value c.args.depth ∷ inside pair_more c.args.depth c.args.opened ∷ []) (left c.args.rest.now) (left c.next-2.new.rest) _ (pairs_reached c.args.depth c.args.opened _ _ _ _ (holds_first brace_start brace_first close_brace c.args.depth c.args.opened _ _ _ _ _ brace_opens c.in_ok-first.ensures (λ h. cc (c.if-is_mark.false, c.is_mark.ensures.1 h)) c.in_ok-key.ensures.value) (record { first = c.in_ok-mark.mark; tokens = c.in_ok-mark.ensures; kind = c.is_mark-2.ensures.0 c.if-is_mark-2.true })) c.in_err-pairs.ensures.fault)
 
 -- src/parsing/braces.rt:30:9
 pub braces::braces-returns-then-is_mark-2-clause-braced :
@@ -63,7 +63,7 @@ braces::braces-returns-then-is_mark-2-clause-braced t c = some_pairs _ _ _ _ _ _
 -- src/parsing/braces.rt:33:9
 pub braces::braces-returns-then-not-is_mark-clause-fault :
     goal.braces::braces-returns-then-not-is_mark-clause-fault
-braces::braces-returns-then-not-is_mark-clause-fault t c = stops_behind (inside brace_start c.args.depth c.args.opened ∷ []) (inside brace_first c.args.depth c.args.opened ∷ []) (left c.args.rest.now) (left c.value_from.new.rest) _ (HoldsFirst.reaches (holds_first brace_start brace_first close_brace c.args.depth c.args.opened _ _ _ _ _ brace_opens c.in_ok-first.ensures (λ h. cc (c.if-is_mark.false, c.is_mark.ensures.1 h)) c.in_ok-key.ensures.value)) (other (inside brace_first c.args.depth c.args.opened) [] _ c.in_ok-mark.mark _ _ c.in_ok-mark.ensures c.refused.ensures (first_wants c.args.depth c.args.opened _ _ (neither _ _ (λ h. cc (c.if-not-is_mark.true, c.is_mark-3.ensures.1 h)) (λ h. cc (c.if-is_mark-2.false, c.is_mark-2.ensures.1 h)))))
+braces::braces-returns-then-not-is_mark-clause-fault t c = stops_after (inside brace_start c.args.depth c.args.opened ∷ []) (inside brace_first c.args.depth c.args.opened ∷ []) (left c.args.rest.now) (left c.value_from.new.rest) _ (HoldsFirst.reaches (holds_first brace_start brace_first close_brace c.args.depth c.args.opened _ _ _ _ _ brace_opens c.in_ok-first.ensures (λ h. cc (c.if-is_mark.false, c.is_mark.ensures.1 h)) c.in_ok-key.ensures.value)) (other (inside brace_first c.args.depth c.args.opened) [] _ c.in_ok-mark.mark _ _ c.in_ok-mark.ensures c.refused.ensures (first_wants c.args.depth c.args.opened _ _ (neither _ _ (λ h. cc (c.if-not-is_mark.true, c.is_mark-3.ensures.1 h)) (λ h. cc (c.if-is_mark-2.false, c.is_mark-2.ensures.1 h)))))
 
 -- src/parsing/braces.rt:35:17
 pub braces::braces-value-requires : goal.braces::braces-value-requires
@@ -81,7 +81,7 @@ pub braces::braces-returns-in_err-expect-clause-fault :
     goal.braces::braces-returns-in_err-expect-clause-fault
 braces::braces-returns-in_err-expect-clause-fault t c =
     let p = err_from_is_err_and c.from_residual-in_err-expect.result c.from_residual-in_err-expect.ensures.1 in
-    rw (p.1, p.2) (stops_behind (inside brace_start c.args.depth c.args.opened ∷ []) (inside lone_end c.args.depth c.args.opened ∷ []) (left c.args.rest.now) (left c.value.new.rest) _ (lone_ended c.args.depth c.args.opened _ _ _ _ _ _ (holds_first brace_start brace_first close_brace c.args.depth c.args.opened _ _ _ _ _ brace_opens c.in_ok-first.ensures (λ h. cc (c.if-is_mark.false, c.is_mark.ensures.1 h)) c.in_ok-key.ensures.value) (record { first = c.in_ok-mark.mark; tokens = c.in_ok-mark.ensures; kind = c.is_mark-3.ensures.0 c.if-not-is_mark.false }) c.in_ok-value.ensures.value) (not_taken lone_end (λ t. t ≡ mark close_brace) c.args.depth c.args.opened [] _ _ wants_brace c.in_err-expect.ensures))
+    rw (p.1, p.2) (stops_after (inside brace_start c.args.depth c.args.opened ∷ []) (inside lone_end c.args.depth c.args.opened ∷ []) (left c.args.rest.now) (left c.value.new.rest) _ (lone_ended c.args.depth c.args.opened _ _ _ _ _ _ (holds_first brace_start brace_first close_brace c.args.depth c.args.opened _ _ _ _ _ brace_opens c.in_ok-first.ensures (λ h. cc (c.if-is_mark.false, c.is_mark.ensures.1 h)) c.in_ok-key.ensures.value) (record { first = c.in_ok-mark.mark; tokens = c.in_ok-mark.ensures; kind = c.is_mark-3.ensures.0 c.if-not-is_mark.false }) c.in_ok-value.ensures.value) (not_taken lone_end (λ t. t ≡ mark close_brace) c.args.depth c.args.opened [] _ _ wants_brace c.in_err-expect.ensures))
 
 -- src/parsing/braces.rt:16:1
 pub braces::braces-returns-clause-braced : goal.braces::braces-returns-clause-braced
@@ -100,7 +100,7 @@ pub braces::pairs-returns-in_err-more_follow-clause-fault :
     goal.braces::pairs-returns-in_err-more_follow-clause-fault
 braces::pairs-returns-in_err-more_follow-clause-fault t c =
     let p = err_from_is_err_and c.from_residual-in_err-more_follow.result c.from_residual-in_err-more_follow.ensures.1 in
-    rw (p.1, p.2) (stops_behind (a_value c.args.depth ∷ inside pair_more c.args.depth c.args.opened ∷ []) (inside pair_more c.args.depth c.args.opened ∷ []) (left c.args.rest.now) (left c.loop-pairs.rest) _ c.loop-pairs.invariant.passes (not_taken pair_more (Either close_brace) c.args.depth c.args.opened [] _ _ pair_wants c.in_err-more_follow.ensures))
+    rw (p.1, p.2) (stops_after (a_value c.args.depth ∷ inside pair_more c.args.depth c.args.opened ∷ []) (inside pair_more c.args.depth c.args.opened ∷ []) (left c.args.rest.now) (left c.loop-pairs.rest) _ c.loop-pairs.invariant.passes (not_taken pair_more (Either close_brace) c.args.depth c.args.opened [] _ _ pair_wants c.in_err-more_follow.ensures))
 
 -- src/parsing/braces.rt:51:19
 pub braces::pairs-value-requires-in-loop-pairs : goal.braces::pairs-value-requires-in-loop-pairs
@@ -118,7 +118,7 @@ pub braces::pairs-returns-in_err-expect-clause-fault :
     goal.braces::pairs-returns-in_err-expect-clause-fault
 braces::pairs-returns-in_err-expect-clause-fault t c =
     let p = err_from_is_err_and c.from_residual-in_err-expect.result c.from_residual-in_err-expect.ensures.1 in
-    rw (p.1, p.2) (stops_behind (a_value c.args.depth ∷ inside pair_more c.args.depth c.args.opened ∷ []) (inside pair_colon c.args.depth c.args.opened ∷ []) (left c.args.rest.now) (left c.value-in-loop-pairs.new.rest) _ (colon_reached c.args.first _ c.args.depth c.args.opened _ _ _ _ _ c.loop-pairs.invariant (took_comma close_brace c.args.opened (left c.loop-pairs.rest) (left c.more_follow.new.rest) _ c.if-branch.true c.in_ok-more_follow.ensures) c.in_ok-key.ensures.value) (not_taken pair_colon (λ t. t ≡ mark colon) c.args.depth c.args.opened [] _ _ wants_colon c.in_err-expect.ensures))
+    rw (p.1, p.2) (stops_after (a_value c.args.depth ∷ inside pair_more c.args.depth c.args.opened ∷ []) (inside pair_colon c.args.depth c.args.opened ∷ []) (left c.args.rest.now) (left c.value-in-loop-pairs.new.rest) _ (colon_reached c.args.first _ c.args.depth c.args.opened _ _ _ _ _ c.loop-pairs.invariant (took_comma close_brace c.args.opened (left c.loop-pairs.rest) (left c.more_follow.new.rest) _ c.if-branch.true c.in_ok-more_follow.ensures) c.in_ok-key.ensures.value) (not_taken pair_colon (λ t. t ≡ mark colon) c.args.depth c.args.opened [] _ _ wants_colon c.in_err-expect.ensures))
 
 -- src/parsing/braces.rt:53:26
 pub braces::pairs-value-requires-in-loop-pairs-2 :
@@ -196,14 +196,14 @@ pub sequence::members-returns-in_err-expect-clause-fault :
     goal.sequence::members-returns-in_err-expect-clause-fault
 sequence::members-returns-in_err-expect-clause-fault t c =
     let p = err_from_is_err_and c.from_residual-in_err-expect.result c.from_residual-in_err-expect.ensures.1 in
-    rw (p.1, p.2) (stops_behind (inside tuple_start c.args.depth c.args.opened ∷ []) (inside tuple_one c.args.depth c.args.opened ∷ []) (left c.args.rest.now) (left c.value_from.new.rest) _ (HoldsFirst.reaches (holds_first tuple_start tuple_one close_tuple c.args.depth c.args.opened _ _ _ _ _ tuple_opens c.in_ok-first.ensures (λ h. cc (c.if-is_mark.false, c.is_mark.ensures.1 h)) c.in_ok-value_from.ensures.value)) (not_taken tuple_one (λ t. t ≡ mark comma) c.args.depth c.args.opened [] _ _ wants_comma c.in_err-expect.ensures))
+    rw (p.1, p.2) (stops_after (inside tuple_start c.args.depth c.args.opened ∷ []) (inside tuple_one c.args.depth c.args.opened ∷ []) (left c.args.rest.now) (left c.value_from.new.rest) _ (HoldsFirst.reaches (holds_first tuple_start tuple_one close_tuple c.args.depth c.args.opened _ _ _ _ _ tuple_opens c.in_ok-first.ensures (λ h. cc (c.if-is_mark.false, c.is_mark.ensures.1 h)) c.in_ok-value_from.ensures.value)) (not_taken tuple_one (λ t. t ≡ mark comma) c.args.depth c.args.opened [] _ _ wants_comma c.in_err-expect.ensures))
 
 -- src/parsing/sequence.rt:46:18
 pub sequence::members-returns-in_err-second-clause-fault :
     goal.sequence::members-returns-in_err-second-clause-fault
 sequence::members-returns-in_err-second-clause-fault t c =
     let p = err_from_is_err_and c.from_residual-in_err-second.result c.from_residual-in_err-second.ensures.1 in
-    rw (p.1, p.2) (stops_behind (inside tuple_start c.args.depth c.args.opened ∷ []) (inside tuple_two c.args.depth c.args.opened ∷ []) (left c.args.rest.now) (left c.expect.new.rest) _ (FirstMember.reaches (first_member c.args.depth c.args.opened _ _ _ _ (holds_first tuple_start tuple_one close_tuple c.args.depth c.args.opened _ _ _ _ _ tuple_opens c.in_ok-first.ensures (λ h. cc (c.if-is_mark.false, c.is_mark.ensures.1 h)) c.in_ok-value_from.ensures.value) c.in_ok-expect.ensures)) (unclosed tuple_two _ _ [] _ _ c.in_err-second.ensures.0 (c.in_err-second.ensures.1 ∙ c.refused-ended.ensures)))
+    rw (p.1, p.2) (stops_after (inside tuple_start c.args.depth c.args.opened ∷ []) (inside tuple_two c.args.depth c.args.opened ∷ []) (left c.args.rest.now) (left c.expect.new.rest) _ (FirstMember.reaches (first_member c.args.depth c.args.opened _ _ _ _ (holds_first tuple_start tuple_one close_tuple c.args.depth c.args.opened _ _ _ _ _ tuple_opens c.in_ok-first.ensures (λ h. cc (c.if-is_mark.false, c.is_mark.ensures.1 h)) c.in_ok-value_from.ensures.value) c.in_ok-expect.ensures)) (unclosed tuple_two _ _ [] _ _ c.in_err-second.ensures.0 (c.in_err-second.ensures.1 ∙ c.refused-ended.ensures)))
 
 -- src/parsing/sequence.rt:48:9
 pub sequence::members-returns-then-is_mark-2-clause-members :
@@ -220,7 +220,7 @@ sequence::members-returns-clause-members t c = if_ok c.values_until.result (λ x
 
 -- src/parsing/sequence.rt:32:1
 pub sequence::members-returns-clause-fault : goal.sequence::members-returns-clause-fault
-sequence::members-returns-clause-fault t c = if_err c.values_until.result (λ f h. stops_behind (inside tuple_start c.args.depth c.args.opened ∷ []) (a_value c.args.depth ∷ inside tuple_more c.args.depth c.args.opened ∷ []) (left c.args.rest.now) (c.in_ok-second.second ∷ left c.next-2.new.rest) f (second_reached c.args.depth c.args.opened _ _ _ _ _ (first_member c.args.depth c.args.opened _ _ _ _ (holds_first tuple_start tuple_one close_tuple c.args.depth c.args.opened _ _ _ _ _ tuple_opens c.in_ok-first.ensures (λ h. cc (c.if-is_mark.false, c.is_mark.ensures.1 h)) c.in_ok-value_from.ensures.value) c.in_ok-expect.ensures) c.in_ok-second.ensures (λ h. cc (c.if-is_mark-2.false, c.is_mark-2.ensures.1 h))) h) c.values_until.ensures.fault
+sequence::members-returns-clause-fault t c = if_err c.values_until.result (λ f h. stops_after (inside tuple_start c.args.depth c.args.opened ∷ []) (a_value c.args.depth ∷ inside tuple_more c.args.depth c.args.opened ∷ []) (left c.args.rest.now) (c.in_ok-second.second ∷ left c.next-2.new.rest) f (second_reached c.args.depth c.args.opened _ _ _ _ _ (first_member c.args.depth c.args.opened _ _ _ _ (holds_first tuple_start tuple_one close_tuple c.args.depth c.args.opened _ _ _ _ _ tuple_opens c.in_ok-first.ensures (λ h. cc (c.if-is_mark.false, c.is_mark.ensures.1 h)) c.in_ok-value_from.ensures.value) c.in_ok-expect.ensures) c.in_ok-second.ensures (λ h. cc (c.if-is_mark-2.false, c.is_mark-2.ensures.1 h))) h) c.values_until.ensures.fault
 
 -- src/parsing/sequence.rt:63:17
 pub sequence::values_until-value_from-requires : goal.sequence::values_until-value_from-requires
@@ -274,7 +274,7 @@ value::after_first-after_word-requires t c = (omega (arith, c.requires.depth), o
 
 -- src/parsing/value.rt:84:34
 pub value::after_first-after_mark-requires : goal.value::after_first-after_mark-requires
-value::after_first-after_mark-requires t c = (omega (arith, c.requires.depth), (c.requires.depth, subst (λ k. IsSome (behind_first c.args.depth c.args.first.span (token_of k))) c.in-Mark.is c.requires.begins))
+value::after_first-after_mark-requires t c = (omega (arith, c.requires.depth), (c.requires.depth, subst (λ k. IsSome (begun_wants c.args.depth c.args.first.span (token_of k))) c.in-Mark.is c.requires.begins))
 
 -- src/parsing/value.rt:68:1
 pub value::after_first-returns-in-Text-clause-value :
@@ -343,7 +343,7 @@ pub value::after_mark-returns-in_err-expect-in-OpenVariant-clause-fault :
     goal.value::after_mark-returns-in_err-expect-in-OpenVariant-clause-fault
 value::after_mark-returns-in_err-expect-in-OpenVariant-clause-fault t c =
     let p = err_from_is_err_and c.from_residual-in_err-expect-in-OpenVariant.result c.from_residual-in_err-expect-in-OpenVariant.ensures.1 in
-    rw (p.1, p.2) (rw (c.in-OpenVariant.is, ← add-one) (stops_behind (a_value (c.args.depth + 1) ∷ inside box_end (c.args.depth + 1) c.args.opened ∷ []) (inside box_end (c.args.depth + 1) c.args.opened ∷ []) (left c.args.rest.now) (left c.value.new.rest) _ (λ e more. c.in_ok-inner-in-OpenVariant.ensures.value.passes e (inside box_end (c.args.depth + 1) c.args.opened ∷ more)) (not_taken box_end (λ t. t ≡ mark close_box) (c.args.depth + 1) c.args.opened [] _ _ wants_box c.in_err-expect-in-OpenVariant.ensures)))
+    rw (p.1, p.2) (rw (c.in-OpenVariant.is, ← add-one) (stops_after (a_value (c.args.depth + 1) ∷ inside box_end (c.args.depth + 1) c.args.opened ∷ []) (inside box_end (c.args.depth + 1) c.args.opened ∷ []) (left c.args.rest.now) (left c.value.new.rest) _ (λ e more. c.in_ok-inner-in-OpenVariant.ensures.value.passes e (inside box_end (c.args.depth + 1) c.args.opened ∷ more)) (not_taken box_end (λ t. t ≡ mark close_box) (c.args.depth + 1) c.args.opened [] _ _ wants_box c.in_err-expect-in-OpenVariant.ensures)))
 
 -- src/parsing/value.rt:110:1
 pub value::after_mark-returns-in_ok-elements-in-OpenArray-clause-value :

@@ -1,5 +1,5 @@
 use Rattle.std.proofs.Common.{◌∷◌, ◌+◌, ◌-◌, ◌*◌, length}
-use Rattle.gv_text.specs.Reading.{left}
+use Rattle.gv_text.specs.Expectations.{left}
 use Rattle.gv_text.proofs.SequenceLaws.{MoreSoFar, PairsSoFar}
 use Rattle.gv_text.proofs.parsing.+parsing.Given as goal
 

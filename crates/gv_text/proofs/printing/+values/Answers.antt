@@ -1,18 +1,20 @@
 use Rattle.std.proofs.Common.{◌≡◌, ◌++◌, ◌∷◌, [], true, false, ◌&&◌, sym, ap, ◌∙◌, arith, string_bytes}
 use Rattle.std.proofs.lemmas.Result.{err_from_is_err_and}
+use Rattle.std.proofs.lemmas.Bool.{and_from, and_left, and_right}
 use Rattle.gv_model.specs.Tree.{children}
 use Rattle.gv_model.specs.Printed.{hold_double, is_empty, text_of, tuple_text, type_mark, when}
+use Rattle.gv_model.specs.Parts.{part_trees}
+use Rattle.gv_model.proofs.ChildLaws.{children_are_parts}
 use Rattle.gv_types.specs.Classes.{class_of}
 use Rattle.gv_types.specs.TypeStr.{element_of, ty}
 use Rattle.gv_view.specs.Views.{value, view_ty, view_bytes}
 use Rattle.gv_view.specs.Children.{children_left}
 use Rattle.gv_text.specs.Printing.{brackets_of, child_texts, rest_annotated}
 use Rattle.gv_text.proofs.ContainerTexts.{array_no_entry, basic_no_entry, entry_alone, entry_doubles, entry_in_array, maybe_no_entry, marked_text, same_in_array, tuple_doubles, tuple_no_entry, tuple_text_of, unwanted_mark, variant_alike, variant_doubles, variant_text, wanted_mark, written_as, written_by_children}
-use Rattle.gv_text.proofs.Containers.{child_deeper, children_of_parts, fault_of_children, trees}
+use Rattle.gv_text.proofs.Containers.{child_deeper, fault_of_children}
 use Rattle.gv_text.proofs.ChildTexts.{childless_text, first_fault, left_deeper, left_first, left_next, left_none, one_member, other_members, rest_of_plain, same_faults}
 use Rattle.gv_text.proofs.ArrayTexts.{array_written, byte_string_text}
 use Rattle.gv_text.proofs.Maybes.{maybe_text, within_written}
-use Rattle.gv_text.proofs.Trivia.{and_left, and_right, and_true}
 use Rattle.gv_text.proofs.printing.+values.Goals as goal
 use Rattle.gv_text.proofs.printing.+values.Goals.{tuple::push_tuple-then-n_children-eq1, tuple::push_tuple-else-n_children-eq1, children::push_children-then-annotated, children::push_children-else-annotated, maybe::push_maybe-then-annotated+in_ok-push_type_mark, maybe::push_maybe-else-annotated, array::push_array-then-annotated+then-is_empty+in_ok-push_type_mark, array::push_array-else-annotated, array::push_array-else-annotated-via-then-annotated+else-is_empty, array::push_array-else-annotated-via-else-annotated}
 
@@ -88,49 +90,49 @@ tuple::push_tuple-returns-in_err-push_children t c =
 
 pub children::push_children-returns-in_default : goal.children::push_children-returns-in_default
 children::push_children-returns-in_default t c =
-    let none = children_of_parts (view_ty c.args.view) (view_bytes c.args.view) ∙ (ap trees (sym c.children-children.ensures) ∙ ap trees c.in_default.ensures.steps.0) in
+    let none = children_are_parts (view_ty c.args.view) (view_bytes c.args.view) ∙ (ap part_trees (sym c.children-children.ensures) ∙ ap part_trees c.in_default.ensures.steps.0) in
     rw none (childless_text c.args.mark.now c.args.annotated c.args.in_array (string_bytes c.args.to.now))
 
 pub children::push_children-push_value-requires : goal.children::push_children-push_value-requires
 children::push_children-push_value-requires t c =
-    let some = children_of_parts (view_ty c.args.view) (view_bytes c.args.view) ∙ (ap trees (sym c.children-children.ensures) ∙ ap trees c.in-Some.ensures.steps) in
+    let some = children_are_parts (view_ty c.args.view) (view_bytes c.args.view) ∙ (ap part_trees (sym c.children-children.ensures) ∙ ap part_trees c.in-Some.ensures.steps) in
     let less = child_deeper (value c.args.view) (value c.in-Some.first) _ some in
     (omega (arith, less, c.requires.1.0), omega (arith, less, c.requires.1.1))
 
 pub children::push_children-returns-in_err-push_value : goal.children::push_children-returns-in_err-push_value
 children::push_children-returns-in_err-push_value t c =
-    let some = children_of_parts (view_ty c.args.view) (view_bytes c.args.view) ∙ (ap trees (sym c.children-children.ensures) ∙ ap trees c.in-Some.ensures.steps) in
+    let some = children_are_parts (view_ty c.args.view) (view_bytes c.args.view) ∙ (ap part_trees (sym c.children-children.ensures) ∙ ap part_trees c.in-Some.ensures.steps) in
     let p = err_from_is_err_and c.from_residual.result c.from_residual.ensures.1 in
     rw (p.1, p.2, some) (first_fault (value c.in-Some.first) _ c.in_err-push_value.field-0.0 c.in_err-push_value.ensures)
 
 pub children::push_children-loop-child-init : goal.children::push_children-loop-child-init
 children::push_children-loop-child-init t c =
-    let some = children_of_parts (view_ty c.args.view) (view_bytes c.args.view) ∙ (ap trees (sym c.children-children.ensures) ∙ ap trees c.in-Some.ensures.steps) in
-    rw (some, c.into_iter-child-iterator.ensures.into_iter_gives) (left_first c.args.mark.now (value c.in-Some.first) (trees (children_left c.next.new.self)) c.args.annotated c.args.in_array (string_bytes c.args.to.now) (string_bytes c.push_value.new.to) c.in_ok-push_value.ensures.0 c.in_ok-push_value.ensures.1)
+    let some = children_are_parts (view_ty c.args.view) (view_bytes c.args.view) ∙ (ap part_trees (sym c.children-children.ensures) ∙ ap part_trees c.in-Some.ensures.steps) in
+    rw (some, c.into_iter-child-iterator.ensures.into_iter_gives) (left_first c.args.mark.now (value c.in-Some.first) (part_trees (children_left c.next.new.self)) c.args.annotated c.args.in_array (string_bytes c.args.to.now) (string_bytes c.push_value.new.to) c.in_ok-push_value.ensures.0 c.in_ok-push_value.ensures.1)
 
 pub children::push_children-push_value-requires-in-loop-child : goal.children::push_children-push_value-requires-in-loop-child
 children::push_children-push_value-requires-in-loop-child t c =
-    let less = left_deeper (value c.args.view) (value c.in-Some-child.child) _ (ap trees c.in-Some-child.ensures.steps) c.loop-child.invariant in
+    let less = left_deeper (value c.args.view) (value c.in-Some-child.child) _ (ap part_trees c.in-Some-child.ensures.steps) c.loop-child.invariant in
     (omega (arith, less, c.requires.1.0), omega (arith, less, c.requires.1.1))
 
 pub children::push_children-loop-child-preserved : goal.children::push_children-loop-child-preserved
 children::push_children-loop-child-preserved t c =
-    let so_far = rw (ap trees c.in-Some-child.ensures.steps) at c.loop-child.invariant in
+    let so_far = rw (ap part_trees c.in-Some-child.ensures.steps) at c.loop-child.invariant in
     let annotate : c.if-annotated.push_value ≡ rest_annotated c.args.annotated c.args.in_array = elim c.if-annotated.branch [
       | children::push_children-then-annotated w ↦ w.push_value-is ∙ ap (λ a. rest_annotated a c.args.in_array) (sym w.if-annotated.true)
       | children::push_children-else-annotated w ↦ w.push_value-is ∙ rest_of_plain c.args.annotated c.args.in_array w.if-annotated.false
     ] in
-    left_next c.args.mark.now (children (value c.args.view)) (value c.in-Some-child.child) (trees (children_left c.next-in-loop-child.new.self)) c.args.annotated c.args.in_array (string_bytes c.args.to.now) (string_bytes c.loop-child.to) (string_bytes c.push_str.new.self) (string_bytes c.push_value-in-loop-child.new.to) so_far c.in_ok-push_str.ensures.bytes c.in_ok-push_value-2.ensures.0 (c.in_ok-push_value-2.ensures.1 ∙ ap (λ a. string_bytes c.push_str.new.self ++ text_of (value c.in-Some-child.child) a c.args.in_array) annotate)
+    left_next c.args.mark.now (children (value c.args.view)) (value c.in-Some-child.child) (part_trees (children_left c.next-in-loop-child.new.self)) c.args.annotated c.args.in_array (string_bytes c.args.to.now) (string_bytes c.loop-child.to) (string_bytes c.push_str.new.self) (string_bytes c.push_value-in-loop-child.new.to) so_far c.in_ok-push_str.ensures.bytes c.in_ok-push_value-2.ensures.0 (c.in_ok-push_value-2.ensures.1 ∙ ap (λ a. string_bytes c.push_str.new.self ++ text_of (value c.in-Some-child.child) a c.args.in_array) annotate)
 
 pub children::push_children-returns-in_err-push_value-2 : goal.children::push_children-returns-in_err-push_value-2
 children::push_children-returns-in_err-push_value-2 t c =
     let p = err_from_is_err_and c.from_residual-in_err-push_value-2.result c.from_residual-in_err-push_value-2.ensures.1 in
-    let fault = first_fault (value c.in-Some-child.child) (trees (children_left c.next-in-loop-child.new.self)) c.in_err-push_value-2.field-0.0 c.in_err-push_value-2.ensures in
-    rw (p.1, p.2) (same_faults (children (value c.args.view)) _ c.in_err-push_value-2.field-0.0 (c.loop-child.invariant.doubles ∙ ap hold_double (ap trees c.in-Some-child.ensures.steps)) fault)
+    let fault = first_fault (value c.in-Some-child.child) (part_trees (children_left c.next-in-loop-child.new.self)) c.in_err-push_value-2.field-0.0 c.in_err-push_value-2.ensures in
+    rw (p.1, p.2) (same_faults (children (value c.args.view)) _ c.in_err-push_value-2.field-0.0 (c.loop-child.invariant.doubles ∙ ap hold_double (ap part_trees c.in-Some-child.ensures.steps)) fault)
 
 pub children::push_children-returns : goal.children::push_children-returns
 children::push_children-returns t c =
-    let so_far = rw (ap trees c.in-None.ensures.steps.0) at c.loop-child.invariant in
+    let so_far = rw (ap part_trees c.in-None.ensures.steps.0) at c.loop-child.invariant in
     left_none c.args.mark.now (children (value c.args.view)) c.args.annotated c.args.in_array (string_bytes c.args.to.now) (string_bytes c.loop-child.to) so_far
 
 -- ---- maybes
@@ -169,7 +171,7 @@ array::push_array-returns t c =
     let old = string_bytes c.args.to.now in
     let wanted = c.args.annotated && is_empty vs in
     let mid : string_bytes c.if-annotated.to ≡ old ++ when wanted (type_mark of) = elim c.if-annotated.branch [
-      | array::push_array-then-annotated+then-is_empty+in_ok-push_type_mark w ↦ ap string_bytes w.to-is ∙ wanted_mark wanted (type_mark of) old _ (and_true c.args.annotated (is_empty vs) w.if-annotated.true (sym w.if-is_empty.ensures)) (w.in_ok-push_type_mark.ensures ∙ ap (λ s. old ++ type_mark (ty s)) w.type_str.ensures)
+      | array::push_array-then-annotated+then-is_empty+in_ok-push_type_mark w ↦ ap string_bytes w.to-is ∙ wanted_mark wanted (type_mark of) old _ (and_from c.args.annotated (is_empty vs) w.if-annotated.true (sym w.if-is_empty.ensures)) (w.in_ok-push_type_mark.ensures ∙ ap (λ s. old ++ type_mark (ty s)) w.type_str.ensures)
       | array::push_array-else-annotated w ↦ ap string_bytes w.to-is ∙ unwanted_mark wanted (type_mark of) old (elim w.else-annotated.branch [
         | array::push_array-else-annotated-via-then-annotated+else-is_empty u ↦ and_right c.args.annotated (is_empty vs) (sym u.if-is_empty.ensures)
         | array::push_array-else-annotated-via-else-annotated u ↦ and_left c.args.annotated (is_empty vs) u.if-annotated.false

@@ -1,9 +1,9 @@
 use Rattle.std.proofs.Common.{◌+◌, ◌*◌, string_bytes}
 use Rattle.gv_model.specs.Tree.{children, depth}
+use Rattle.gv_model.specs.Parts.{part_trees}
 use Rattle.gv_view.specs.Views.{value}
 use Rattle.gv_view.specs.Children.{children_left}
 use Rattle.gv_text.proofs.ChildTexts.{IsLeft}
-use Rattle.gv_text.proofs.Containers.{trees}
 use Rattle.gv_text.proofs.printing.+values.Given as goal
 
 -- A child is less deep than its container. At one depth a value comes before its kind, then the brackets,
@@ -36,4 +36,4 @@ decreases-children::push_children l = 4 * depth (value l.view)
 -- what is written so far, and the children that are left
 abbrev pub invariant-children::push_children-loop-child : goal.invariant-children::push_children-loop-child
 invariant-children::push_children-loop-child l =
-    IsLeft l.mark (children (value l.fn.view)) (trees (children_left l.child-iterator)) l.annotated l.in_array (string_bytes l.fn.to) (string_bytes l.to)
+    IsLeft l.mark (children (value l.fn.view)) (part_trees (children_left l.child-iterator)) l.annotated l.in_array (string_bytes l.fn.to) (string_bytes l.to)

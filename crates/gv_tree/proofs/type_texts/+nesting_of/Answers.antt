@@ -1,6 +1,6 @@
 use Rattle.std.proofs.Common.{arith, ap, ◌∙◌}
 use Rattle.gv_types.specs.Members.{members_left}
-use Rattle.gv_tree.proofs.NestingLaws.{greatest_of, greatest_of-listed, low_type, element_nesting, members_nesting, one_level}
+use Rattle.gv_types.proofs.NestingLaws.{greatest_of, greatest_of-listed, low_type, element_nesting, members_nesting, one_level}
 use Rattle.gv_tree.proofs.type_texts.+nesting_of.Goals as goal
 
 pub nesting_of-requires : goal.nesting_of-requires

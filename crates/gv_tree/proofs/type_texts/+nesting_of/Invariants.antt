@@ -2,7 +2,7 @@ use Rattle.std.proofs.Common.{◌≡◌, max}
 use Rattle.gv_model.specs.Ty.{nesting, greatest_nesting, members}
 use Rattle.gv_types.specs.TypeStr.{ty}
 use Rattle.gv_types.specs.Members.{members_left}
-use Rattle.gv_tree.proofs.NestingLaws.{greatest_of}
+use Rattle.gv_types.proofs.NestingLaws.{greatest_of}
 use Rattle.gv_tree.proofs.type_texts.+nesting_of.Given as goal
 
 abbrev pub decreases-nesting_of : goal.decreases-nesting_of

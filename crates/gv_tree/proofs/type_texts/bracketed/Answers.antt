@@ -3,8 +3,8 @@ use Rattle.std.proofs.lemmas.List.{drop_all}
 use Rattle.std.specs.Prelude.{string_bytes}
 use Rattle.gv_model.specs.Ty.{spelling, spellings}
 use Rattle.gv_model.specs.Typed.{types_of}
+use Rattle.gv_model.proofs.ListLaws.{drop_item}
 use Rattle.gv_tree.specs.Nodes.{trees_of}
-use Rattle.gv_tree.proofs.ListLaws.{drop_item}
 use Rattle.gv_tree.proofs.TextLaws.{text_step, text_end}
 use Rattle.gv_tree.proofs.type_texts.bracketed.Goals as goal
 

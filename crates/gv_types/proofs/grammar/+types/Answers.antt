@@ -5,7 +5,8 @@ use Rattle.gv_types.specs.Classes.{class_of_mark}
 use Rattle.gv_types.specs.declared.grammar.Halt.TheVariants.{Unclosed, BadChar, KeyNotBasic, TooDeep}
 use Rattle.gv_types.proofs.Firsts.{begins_none, begins_some, is_key, is_no_key}
 use Rattle.gv_types.proofs.MemberLaws.{no_members, one_more}
-use Rattle.gv_types.proofs.TypeSteps.{stopped_there, stops_at_end, stops_at_bad, stops_at_deep, reads_single, reading_element, reading_tuple, reading_entry, reads_tuple, stops_in_tuple, stops_at_member, reads_shorter, no_key, key_bad, key_not_basic, key_too_deep, stops_at_value, stopped_as, reading_close}
+use Rattle.gv_types.proofs.TypeSteps.{stopped_there, stops_at_end, stops_at_bad, stops_at_deep, reads_single, reading_element, reading_tuple, reading_entry, reads_tuple, stops_in_tuple, stops_at_member, reads_shorter, no_key, key_bad, key_not_basic, key_too_deep, stops_at_value}
+use Rattle.gv_types.proofs.TypeSteps.{stopped_as, reading_close}
 use Rattle.gv_types.proofs.grammar.+types.Goals as goal
 
 pub after_type-returns-in_default : goal.after_type-returns-in_default

@@ -3,15 +3,15 @@ use Rattle.gv_types.proofs.TypeLists.{read_is_shorter, types_go_on, type_is_too_
 use Rattle.gv_types.proofs.signature.are_types.Goals as goal
 
 pub loop-rest-smaller : goal.loop-rest-smaller
-loop-rest-smaller c = read_is_shorter c.loop-rest.rest.now c.in-Ok.behind.now c.in-Ok.ensures
+loop-rest-smaller c = read_is_shorter c.loop-rest.rest.now c.in-Ok.after.now c.in-Ok.ensures
 
 pub loop-rest-preserved : goal.loop-rest-preserved
 loop-rest-preserved c =
-    c.loop-rest.invariant ∙ types_go_on c.loop-rest.rest.now c.in-Ok.behind.now c.in-Ok.ensures c.if-rest-behind-le-MAX_LEN.true
+    c.loop-rest.invariant ∙ types_go_on c.loop-rest.rest.now c.in-Ok.after.now c.in-Ok.ensures c.if-rest-after-le-MAX_LEN.true
 
 pub returns-in_default : goal.returns-in_default
 returns-in_default c =
-    sym (c.loop-rest.invariant ∙ type_is_too_long c.loop-rest.rest.now c.in-Ok.behind.now c.in-Ok.ensures c.if-rest-behind-le-MAX_LEN.false)
+    sym (c.loop-rest.invariant ∙ type_is_too_long c.loop-rest.rest.now c.in-Ok.after.now c.in-Ok.ensures c.if-rest-after-le-MAX_LEN.false)
 
 pub returns-in_default-2 : goal.returns-in_default-2
 returns-in_default-2 c =

@@ -1,7 +1,7 @@
 use Rattle.std.proofs.Common.{◌≡◌, ◌<◌, ◌++◌}
 use Rattle.std.specs.Prelude.{map}
 use Rattle.gv_model.specs.Tree.{depth, greatest_depth, children}
-use Rattle.gv_model.specs.Parts.{trees_of}
+use Rattle.gv_model.specs.Parts.{part_trees}
 use Rattle.gv_tree.specs.Nodes.{trees_of as tree_list}
 use Rattle.gv_view.specs.Views.{value}
 use Rattle.gv_view.specs.Children.{children_left}
@@ -15,5 +15,5 @@ abbrev pub invariant-loop-child : goal.invariant-loop-child
 invariant-loop-child l =
     (goal.iterator-loop-child).can_next l.child-iterator ×
     (goal.iterator-loop-child).is_finite l.child-iterator ×
-    (greatest_depth (trees_of (children_left l.child-iterator)) < depth (value l.fn.view)) ×
+    (greatest_depth (part_trees (children_left l.child-iterator)) < depth (value l.fn.view)) ×
     (tree_list (l.parts.items ++ map part_value (children_left l.child-iterator)) ≡ children (value l.fn.view))

@@ -6,7 +6,13 @@ use Rattle.gv_view.proofs.Copies.{array_made, element_type}
 use Rattle.gv_view.proofs.copy.array.Goals as goal
 
 pub returns-clause-tree : goal.returns-clause-tree
-returns-clause-tree c = subst (λ v. IfOk c.array.result (λ t. t ≡ v)) (array_made c.args.view c.args.elements.items (ty c.unwrap.result) c.requires (element_type c.args.view c.type_str.result c.unwrap.result c.element.result c.type_str.ensures c.element.ensures c.unwrap.ensures)).is c.array.ensures.made
+returns-clause-tree c =
+    let element = element_type c.args.view c.type_str.result c.unwrap.result c.element.result c.type_str.ensures c.element.ensures c.unwrap.ensures in
+    let made = array_made c.args.view c.args.elements.items (ty c.unwrap.result) c.requires element in
+    subst (λ v. IfOk c.array.result (λ t. t ≡ v)) made.is c.array.ensures.made
 
 pub returns-clause-fault : goal.returns-clause-fault
-returns-clause-fault c = MatchResult-weaker c.array.result c.array.ensures.fault (λ t h. tt) (array_made c.args.view c.args.elements.items (ty c.unwrap.result) c.requires (element_type c.args.view c.type_str.result c.unwrap.result c.element.result c.type_str.ensures c.element.ensures c.unwrap.ensures)).memory
+returns-clause-fault c =
+    let element = element_type c.args.view c.type_str.result c.unwrap.result c.element.result c.type_str.ensures c.element.ensures c.unwrap.ensures in
+    let made = array_made c.args.view c.args.elements.items (ty c.unwrap.result) c.requires element in
+    MatchResult-weaker c.array.result c.array.ensures.fault (λ t h. tt) made.memory

@@ -17,11 +17,17 @@ unwrap-key-requires c =
 
 pub returns-clause-tree : goal.returns-clause-tree
 returns-clause-tree c =
-    let made = entry_made c.args.view c.args.pair.items c.pop.new.self.items c.unwrap-key.result c.unwrap-value.result c.requires (subst (IsPopped c.args.pair.items) c.unwrap-value.ensures (popped c.args.pair.len c.args.pair.items c.pop.result c.args.pair.ok.0 c.pop.ensures.value)) (c.pop.ensures.rest ∙ ap (λ n. take (n - 1) c.args.pair.items) c.args.pair.ok.0) (subst (IsPopped c.pop.new.self.items) c.unwrap-key.ensures (popped c.pop.new.self.len c.pop.new.self.items c.pop-2.result c.pop.new.self.ok.0 c.pop-2.ensures.value)) in
+    let last = subst (IsPopped c.args.pair.items) c.unwrap-value.ensures (popped c.args.pair.len c.args.pair.items c.pop.result c.args.pair.ok.0 c.pop.ensures.value) in
+    let left = c.pop.ensures.rest ∙ ap (λ n. take (n - 1) c.args.pair.items) c.args.pair.ok.0 in
+    let key = subst (IsPopped c.pop.new.self.items) c.unwrap-key.ensures (popped c.pop.new.self.len c.pop.new.self.items c.pop-2.result c.pop.new.self.ok.0 c.pop-2.ensures.value) in
+    let made = entry_made c.args.view c.args.pair.items c.pop.new.self.items c.unwrap-key.result c.unwrap-value.result c.requires last left key in
     IfOk-weaker c.entry.result (λ t. Some t ≡ entry_tree c.unwrap-key.result c.unwrap-value.result) (λ t. t ≡ value c.args.view)
     (λ t h. same_Some t (value c.args.view) (h ∙ made.0)) c.entry.ensures.made
 
 pub returns-clause-fault : goal.returns-clause-fault
 returns-clause-fault c =
-    let made = entry_made c.args.view c.args.pair.items c.pop.new.self.items c.unwrap-key.result c.unwrap-value.result c.requires (subst (IsPopped c.args.pair.items) c.unwrap-value.ensures (popped c.args.pair.len c.args.pair.items c.pop.result c.args.pair.ok.0 c.pop.ensures.value)) (c.pop.ensures.rest ∙ ap (λ n. take (n - 1) c.args.pair.items) c.args.pair.ok.0) (subst (IsPopped c.pop.new.self.items) c.unwrap-key.ensures (popped c.pop.new.self.len c.pop.new.self.items c.pop-2.result c.pop.new.self.ok.0 c.pop-2.ensures.value)) in
+    let last = subst (IsPopped c.args.pair.items) c.unwrap-value.ensures (popped c.args.pair.len c.args.pair.items c.pop.result c.args.pair.ok.0 c.pop.ensures.value) in
+    let left = c.pop.ensures.rest ∙ ap (λ n. take (n - 1) c.args.pair.items) c.args.pair.ok.0 in
+    let key = subst (IsPopped c.pop.new.self.items) c.unwrap-key.ensures (popped c.pop.new.self.len c.pop.new.self.items c.pop-2.result c.pop.new.self.ok.0 c.pop-2.ensures.value) in
+    let made = entry_made c.args.view c.args.pair.items c.pop.new.self.items c.unwrap-key.result c.unwrap-value.result c.requires last left key in
     MatchResult-weaker c.entry.result c.entry.ensures.fault (λ t h. tt) made.1

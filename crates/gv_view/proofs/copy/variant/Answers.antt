@@ -8,7 +8,13 @@ pub unwrap-requires : goal.unwrap-requires
 unwrap-requires c = c.pop.ensures.variant.1 (omega (arith, c.args.child.ok.0, ap length (variant_child c.args.view c.args.child.items c.requires).are))
 
 pub returns-clause-tree : goal.returns-clause-tree
-returns-clause-tree c = subst (λ v. IfOk c.variant.result (λ t. t ≡ v)) (variant_made c.args.view c.args.child.items c.unwrap.result c.requires (subst (IsPopped c.args.child.items) c.unwrap.ensures (popped c.args.child.len c.args.child.items c.pop.result c.args.child.ok.0 c.pop.ensures.value))).is c.variant.ensures.made
+returns-clause-tree c =
+    let child = subst (IsPopped c.args.child.items) c.unwrap.ensures (popped c.args.child.len c.args.child.items c.pop.result c.args.child.ok.0 c.pop.ensures.value) in
+    let made = variant_made c.args.view c.args.child.items c.unwrap.result c.requires child in
+    subst (λ v. IfOk c.variant.result (λ t. t ≡ v)) made.is c.variant.ensures.made
 
 pub returns-clause-fault : goal.returns-clause-fault
-returns-clause-fault c = MatchResult-weaker c.variant.result c.variant.ensures.fault (λ t h. tt) (variant_made c.args.view c.args.child.items c.unwrap.result c.requires (subst (IsPopped c.args.child.items) c.unwrap.ensures (popped c.args.child.len c.args.child.items c.pop.result c.args.child.ok.0 c.pop.ensures.value))).memory
+returns-clause-fault c =
+    let child = subst (IsPopped c.args.child.items) c.unwrap.ensures (popped c.args.child.len c.args.child.items c.pop.result c.args.child.ok.0 c.pop.ensures.value) in
+    let made = variant_made c.args.view c.args.child.items c.unwrap.result c.requires child in
+    MatchResult-weaker c.variant.result c.variant.ensures.fault (λ t h. tt) made.memory

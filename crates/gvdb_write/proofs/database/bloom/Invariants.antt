@@ -1,6 +1,6 @@
 use Rattle.std.proofs.Common.{◌≡◌, ◌<◌, ◌+◌, ◌/◌, ℕ, length, get_or}
-use Rattle.dconf_model.specs.Written.{HasBits}
-use Rattle.gvdb_write.specs.Tables.{no_name}
+use Rattle.dconf_model.specs.TableEncoding.{HasBits}
+use Rattle.gvdb_write.specs.PlanWords.{no_name}
 use Rattle.gvdb_write.proofs.database.bloom.Given as goal
 
 abbrev pub invariant-loop-named : goal.invariant-loop-named

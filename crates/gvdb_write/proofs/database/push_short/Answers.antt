@@ -1,6 +1,6 @@
 use Rattle.std.proofs.Common.{List, ◌++◌, ap, sym, ◌∙◌, ℕ}
-use Rattle.gvdb_write.proofs.PushedBytes.{low_bytes}
 use Rattle.gvdb_write.proofs.database.push_short.Goals as goal
+use Rattle.gv_model.proofs.NumberBytes.{low_bytes}
 
 pub returns-clause-bytes : goal.returns-clause-bytes
 returns-clause-bytes c =

@@ -1,7 +1,7 @@
 use Rattle.std.proofs.Common.{List, ◌++◌, sym}
 use Rattle.std.proofs.lemmas.List.{append-nil}
 use Rattle.gvdb_write.specs.declared.names.Named.{Named}
-use Rattle.gvdb_write.specs.Appended.{keys_bytes}
+use Rattle.gvdb_write.specs.WrittenParts.{keys_bytes}
 use Rattle.gvdb_write.proofs.Pieces.{key_appended, all_taken}
 use Rattle.gvdb_write.proofs.database.write_keys.Goals as goal
 

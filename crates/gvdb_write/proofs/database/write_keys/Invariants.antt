@@ -1,5 +1,5 @@
 use Rattle.std.proofs.Common.{◌≡◌, ◌++◌, take}
-use Rattle.gvdb_write.specs.Appended.{keys_bytes}
+use Rattle.gvdb_write.specs.WrittenParts.{keys_bytes}
 use Rattle.gvdb_write.proofs.database.write_keys.Given as goal
 
 abbrev pub invariant-loop-named : goal.invariant-loop-named

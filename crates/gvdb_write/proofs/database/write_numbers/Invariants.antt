@@ -1,5 +1,5 @@
 use Rattle.std.proofs.Common.{◌≡◌, ◌++◌, take}
-use Rattle.dconf_model.specs.Standing.{words_bytes}
+use Rattle.dconf_model.specs.TableBytes.{words_bytes}
 use Rattle.gvdb_write.proofs.database.write_numbers.Given as goal
 
 abbrev pub invariant-loop-number : goal.invariant-loop-number

@@ -1,9 +1,9 @@
 use Rattle.std.proofs.Common.{List, ℕ, sym, ap, ◌∙◌, subst, arith, Bor}
 use Rattle.gvdb_write.specs.Values.{bytes_of_each}
-use Rattle.gvdb_write.specs.Appended.{HaveNumbers, with_values}
+use Rattle.gvdb_write.specs.WrittenParts.{HaveNumbers, with_values}
 use Rattle.gvdb_write.proofs.TableWritten.{have_buckets, key_begins}
 use Rattle.gvdb_write.proofs.PartEnds.{header_long, root_fits, few_root, few_locks, have_children, root_within, lists_within, values_within}
-use Rattle.gvdb_write.proofs.PartsStanding.{root_there, lists_there, locks_there}
+use Rattle.gvdb_write.proofs.PartPlaces.{root_there, lists_there, locks_there}
 use Rattle.gvdb_write.proofs.PartsLaid.{is_file}
 use Rattle.gvdb_write.proofs.database.write_parts.Goals as goal
 

@@ -1,9 +1,9 @@
 use Rattle.std.proofs.Common.{List, ◌++◌, sym}
 use Rattle.std.proofs.lemmas.List.{append-nil}
-use Rattle.dconf_model.specs.Standing.{row_bytes, rows_bytes}
-use Rattle.gvdb_write.specs.declared.layout.Row.{Row}
-use Rattle.gvdb_write.specs.Rows.{row_of}
-use Rattle.gvdb_write.specs.Appended.{rows_of}
+use Rattle.dconf_model.specs.TableBytes.{record_bytes, records_bytes}
+use Rattle.gvdb_write.specs.declared.layout.ItemRecord.{ItemRecord}
+use Rattle.gvdb_write.specs.ItemRecords.{record_of}
+use Rattle.gvdb_write.specs.WrittenParts.{records_of}
 use Rattle.gvdb_write.proofs.Pieces.{mapped_appended, all_taken}
 use Rattle.gvdb_write.proofs.database.write_rows.Goals as goal
 
@@ -12,9 +12,9 @@ loop-row-init c = sym (append-nil c.args.out.now.items)
 
 pub loop-row-preserved : goal.loop-row-preserved
 loop-row-preserved c =
-    mapped_appended row_of row_bytes c.args.rows.now c.loop-row.row-index _ c.args.out.now.items c.loop-row.out.items c.push_row.new.out.items
+    mapped_appended record_of record_bytes c.args.rows.now c.loop-row.row-index _ c.args.out.now.items c.loop-row.out.items c.push_row.new.out.items
     c.loop-row-test.true c.loop-row.invariant c.in_ok-push_row.ensures.bytes
 
 pub returns-clause-bytes : goal.returns-clause-bytes
 returns-clause-bytes c =
-    all_taken (λ (rs : List Row). c.args.out.now.items ++ rows_bytes (rows_of rs)) c.args.rows.now c.loop-row.row-index c.loop-row.out.items c.loop-row-test.false c.loop-row.invariant
+    all_taken (λ (rs : List ItemRecord). c.args.out.now.items ++ records_bytes (records_of rs)) c.args.rows.now c.loop-row.row-index c.loop-row.out.items c.loop-row-test.false c.loop-row.invariant

@@ -1,14 +1,11 @@
 use Rattle.std.proofs.Common.{◌≡◌, ◌<◌, List, ℕ, ◌++◌, [], length, get_or, sym, refl, ap, ◌∙◌, arith, Bor}
 use Rattle.std.proofs.Math.ListN.{get_or-map}
 use Rattle.std.proofs.lemmas.List.{length-map}
-use Rattle.gvdb_write.specs.Appended.{with_values}
+use Rattle.gvdb_write.specs.WrittenParts.{with_values}
 use Rattle.gvdb_write.specs.Values.{bytes_of_each}
-use Rattle.gvdb_write.proofs.Pieces.{all_taken}
+use Rattle.gvdb_write.proofs.Pieces.{all_taken, no_bytes}
 use Rattle.gvdb_write.proofs.WithValues.{next_8, padded_is, value_appended}
 use Rattle.gvdb_write.proofs.database.write_values.Goals as goal
-
-abbrev no_bytes : Bor (List ℕ)
-no_bytes = record { ref_ptr = (0, 0); now = [] }
 
 pub loop-value-init : goal.loop-value-init
 loop-value-init c = refl

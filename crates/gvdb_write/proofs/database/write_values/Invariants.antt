@@ -1,5 +1,5 @@
 use Rattle.std.proofs.Common.{◌≡◌, take}
-use Rattle.gvdb_write.specs.Appended.{with_values}
+use Rattle.gvdb_write.specs.WrittenParts.{with_values}
 use Rattle.gvdb_write.specs.Values.{bytes_of_each}
 use Rattle.gvdb_write.proofs.database.write_values.Given as goal
 

@@ -1,7 +1,7 @@
 use Rattle.std.proofs.Common.{List, ℕ, ◌++◌, sym}
 use Rattle.std.proofs.lemmas.List.{append-nil}
 use Rattle.gv_model.specs.Encode.{number_bytes}
-use Rattle.dconf_model.specs.Standing.{words_bytes}
+use Rattle.dconf_model.specs.TableBytes.{words_bytes}
 use Rattle.gvdb_write.proofs.Pieces.{piece_appended, all_taken}
 use Rattle.gvdb_write.proofs.database.write_words.Goals as goal
 

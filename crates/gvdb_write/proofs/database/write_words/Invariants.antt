@@ -1,5 +1,5 @@
 use Rattle.std.proofs.Common.{◌≡◌, ◌++◌, take}
-use Rattle.dconf_model.specs.Standing.{words_bytes}
+use Rattle.dconf_model.specs.TableBytes.{words_bytes}
 use Rattle.gvdb_write.proofs.database.write_words.Given as goal
 
 abbrev pub invariant-loop-word : goal.invariant-loop-word

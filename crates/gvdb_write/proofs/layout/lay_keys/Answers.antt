@@ -2,12 +2,12 @@ use Rattle.std.proofs.Common.{rules, ℕ, ◌+◌, ◌-◌, [], length, get_or, 
 use Rattle.std.proofs.lemmas.List.{get_or_default}
 use Rattle.gvdb_write.specs.declared.names.Named.{Named}
 use Rattle.gvdb_write.specs.declared.names.Content.TheVariants.{Value}
-use Rattle.gvdb_write.specs.Laying.{all_keys_end}
-use Rattle.gvdb_write.specs.Tables.{no_name}
-use Rattle.gvdb_write.specs.Laid.{limit}
+use Rattle.gvdb_write.specs.CursorPlaces.{all_keys_end}
+use Rattle.gvdb_write.specs.PlanWords.{no_name}
 use Rattle.gvdb_write.proofs.PastEnds.{past_is_over}
 use Rattle.gvdb_write.proofs.KeyRows.{no_rows, row_more, past_all}
 use Rattle.gvdb_write.proofs.layout.lay_keys.Goals as goal
+use Rattle.gv_model.specs.Limits.{limit}
 
 -- what goals read where there is no item
 abbrev no_item : Named

@@ -2,25 +2,25 @@ use Rattle.std.proofs.Common.{ℕ, ◌≡◌, ◌+◌, ◌*◌, ◌<◌, List, l
 use Rattle.std.proofs.lemmas.List.{get_or_default}
 use Rattle.gv_model.specs.Layout.{round_up}
 use Rattle.dconf_model.specs.Table.{list_kind}
-use Rattle.gvdb_write.specs.declared.layout.Row.{Row as Numbers}
-use Rattle.gvdb_write.specs.declared.layout.Span.{Span}
-use Rattle.gvdb_write.specs.Layouts.{row}
-use Rattle.gvdb_write.specs.Laying.{list_span}
-use Rattle.gvdb_write.specs.Spanned.{with_span}
-use Rattle.gvdb_write.specs.Tables.{children_of}
-use Rattle.gvdb_write.proofs.SpannedRows.{none_set, row_set, row_kept}
+use Rattle.gvdb_write.specs.declared.layout.ItemRecord.{ItemRecord as Numbers}
+use Rattle.gvdb_write.specs.declared.layout.Pointer.{Pointer}
+use Rattle.gvdb_write.specs.LayoutParts.{row}
+use Rattle.gvdb_write.specs.CursorPlaces.{list_pointer}
+use Rattle.gvdb_write.specs.Contents.{with_pointer}
+use Rattle.gvdb_write.specs.PlanWords.{children_of}
+use Rattle.gvdb_write.proofs.PointedRows.{none_set, row_set, row_kept}
 use Rattle.gvdb_write.proofs.layout.lay_lists.Goals as goal
 use Rattle.gvdb_write.proofs.layout.lay_lists.Goals.{then-row-eq76, else-row-eq76}
 
 pub loop-number-init : goal.loop-number-init
-loop-number-init c = record { so_far = none_set c.args.rows.now list_kind (list_span c.args.cursor.now.at (children_of c.args.table.now)) }
+loop-number-init c = record { so_far = none_set c.args.rows.now list_kind (list_pointer c.args.cursor.now.at (children_of c.args.table.now)) }
 
 pub loop-number-preserved : goal.loop-number-preserved
 loop-number-preserved c =
     let n : ℕ = c.loop-number.number in
     let before : List Numbers = c.loop-number.rows in
     let first : ℕ → ℕ = λ g. get_or c.args.table.now.firsts.items g 0 in
-    let span : ℕ → Span = list_span c.args.cursor.now.at (children_of c.args.table.now) in
+    let pointer : ℕ → Pointer = list_pointer c.args.cursor.now.at (children_of c.args.table.now) in
     let start : c.in_ok-all.all.start ≡ round_up 4 c.args.cursor.now.at = c.in_ok-all.ensures.start ∙ c.in_ok-align.ensures.at in
     let firsts : List ℕ = c.args.table.now.firsts.items in
     let at : (g f : ℕ) → f ≡ get_or firsts g f → g < length firsts → f ≡ first g = λ g f is l. is ∙ get_or_default firsts g f 0 l in
@@ -29,12 +29,12 @@ loop-number-preserved c =
     let lists = c.requires.lists in
     elim c.if-row-eq76.branch [
       | then-row-eq76 w ↦ record {
-        so_far = row_set c.args.rows.now before c.if-row-eq76.rows list_kind span n c.loop-number.invariant.so_far c.loop-number-test.true w.if-row-eq76.true
-            (w.rows-is ∙ ap₂ (λ (s e : ℕ). set before n (with_span record { start = s; end = e } (row before n)))
+        so_far = row_set c.args.rows.now before c.if-row-eq76.rows list_kind pointer n c.loop-number.invariant.so_far c.loop-number-test.true w.if-row-eq76.true
+            (w.rows-is ∙ ap₂ (λ (s e : ℕ). set before n (with_pointer record { start = s; end = e } (row before n)))
             (ap₂ (λ (s f : ℕ). s + 4 * f) start (at n w.index.result.now w.index.ensures (omega (arith, here, rows, lists))))
             (ap₂ (λ (s f : ℕ). s + 4 * f) start (at (n + 1) w.index-then-row-eq76.result.now w.index-then-row-eq76.ensures (omega (arith, here, rows, lists)))));
       }
       | else-row-eq76 w ↦ record {
-        so_far = row_kept c.args.rows.now before c.if-row-eq76.rows list_kind span n c.loop-number.invariant.so_far w.if-row-eq76.false w.rows-is;
+        so_far = row_kept c.args.rows.now before c.if-row-eq76.rows list_kind pointer n c.loop-number.invariant.so_far w.if-row-eq76.false w.rows-is;
       }
     ]

@@ -1,7 +1,7 @@
 use Rattle.std.proofs.Common.{rules, ◌≡◌, List, get_or, refl, ap, ◌∙◌}
 use Rattle.std.proofs.lemmas.List.{get_or_default}
 use Rattle.gvdb_write.specs.declared.names.Named.{Named}
-use Rattle.gvdb_write.specs.Tables.{no_name}
+use Rattle.gvdb_write.specs.PlanWords.{no_name}
 use Rattle.gvdb_write.specs.Names.{named}
 use Rattle.gvdb_write.proofs.PathTexts.{text_of_key}
 use Rattle.gvdb_write.proofs.Adding.{start_now, plain_now, slash_now, path_now}

@@ -1,5 +1,5 @@
 use Rattle.gvdb_write.specs.Names.{name_at}
-use Rattle.gvdb_write.proofs.Placed.{IsUpFrom}
+use Rattle.gvdb_write.proofs.DirectorySteps.{IsUpFrom}
 use Rattle.gvdb_write.proofs.names.innermost.Given as goal
 
 abbrev pub invariant-loop-at : goal.invariant-loop-at

@@ -1,7 +1,7 @@
 use Rattle.std.proofs.Common.{◌≡◌, ℕ, List, ◌∷◌, refl, sym, ◌∙◌, subst}
 use Rattle.gvdb_write.specs.declared.names.Named.{Named}
 use Rattle.gvdb_write.specs.Names.{IsLockNamed}
-use Rattle.gvdb_write.specs.Left.{locks_left}
+use Rattle.gvdb_write.specs.PathsLeft.{locks_left}
 use Rattle.gvdb_write.proofs.LockNames.{AreLocksSoFar, is_lock_named, one_lock_more, all_locks}
 use Rattle.gvdb_write.proofs.names.lock_names.Goals as goal
 

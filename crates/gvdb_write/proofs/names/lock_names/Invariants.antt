@@ -1,4 +1,4 @@
-use Rattle.gvdb_write.specs.Left.{locks_left}
+use Rattle.gvdb_write.specs.PathsLeft.{locks_left}
 use Rattle.gvdb_write.proofs.LockNames.{AreLocksSoFar}
 use Rattle.gvdb_write.proofs.names.lock_names.Given as goal
 

@@ -4,7 +4,7 @@ use Rattle.dconf_model.specs.Settings.{Settings}
 use Rattle.dconf_model.specs.Table.{list_kind, table_kind}
 use Rattle.gvdb_write.specs.declared.names.Named.{Named}
 use Rattle.gvdb_write.specs.Names.{ArePlaced}
-use Rattle.gvdb_write.specs.Left.{keys_left}
+use Rattle.gvdb_write.specs.PathsLeft.{keys_left}
 use Rattle.gvdb_write.specs.Maps.{AreKeyPaths}
 use Rattle.gvdb_write.proofs.KeysRise.{are_settings}
 use Rattle.gvdb_write.proofs.RootNames.{AreNamesSoFar, IsCommon, IsCommonDirectory, IsNextDirectory, some_common, text_of_path, text_is_first, next_directory, value_here, names_more}
@@ -56,7 +56,7 @@ next c =
     let common : IsCommon c.loop-path.last.now c.as_bytes-text.result.now c.common.result =
     record { within = c.common.ensures.within; same = c.common.ensures.same; most = c.common.ensures.most } in
     let inner : IsCommonDirectory c.deref.result.now c.loop-path.directory c.common.result c.innermost-directory.result =
-    record { within = d.within; list = d.list; short = d.short; front = d.front; inside = d.inside; most = d.most } in
+    record { within = d.within; list = d.list; short = d.short; prefix = d.prefix; inside = d.inside; most = d.most } in
     next_directory c.args.map.now c.loop-path.names.items c.deref.result.now c.loop-path.directory c.loop-path.last.now c.as_bytes-text.result.now _ _
     c.common.result c.innermost-directory.result c.loop-path.invariant.so_far
     (text_is_first c.in-Some.path _ _ _ _ c.as_bytes-text.ensures.value c.as_str.ensures c.in-Some.ensures.steps) common c.deref.ensures.value inner

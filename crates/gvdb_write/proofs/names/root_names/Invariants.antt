@@ -1,4 +1,4 @@
-use Rattle.gvdb_write.specs.Left.{keys_left}
+use Rattle.gvdb_write.specs.PathsLeft.{keys_left}
 use Rattle.gvdb_write.proofs.RootNames.{AreNamesSoFar}
 use Rattle.gvdb_write.proofs.names.root_names.Given as goal
 

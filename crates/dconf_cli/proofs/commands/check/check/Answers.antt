@@ -1,27 +1,14 @@
-use Rattle.std.proofs.Common.{subst, arith, None}
-use Rattle.dconf_cli.specs.Answers.{AnswersOne}
-use Rattle.dconf_cli.specs.Output.{IsChecked, IsVerdictOutput}
-use Rattle.dconf_cli.proofs.Runs.{answers_any, answers_held, answers_much, once, checks_bytes, checks_no_file, checks_too_big}
+use Rattle.std.proofs.Common.{subst}
+use Rattle.dconf_model.specs.Outcomes.{Checks}
+use Rattle.dconf_cli.specs.Answers.{Answers}
+use Rattle.dconf_cli.proofs.Decisions.{decides_by_file, decides_without_file}
 use Rattle.dconf_cli.proofs.commands.check.check.Goals as goal
 
-pub returns-in-Ok-Some-clause-answer : goal.returns-in-Ok-Some-clause-answer
-returns-in-Ok-Some-clause-answer g c = λ _.
-    answers_held (g.F.Folder.known c.args.folder.now) c.args.file.now (IsChecked c.args.file.now) c.checked.result _
-    (rw c.in-Ok-Some.field-0-is at c.in-Ok-Some.ensures.found)
-    (checks_bytes c.args.file.now c.in-Ok-Some.bytes.items c.checked.result (rw c.in-Ok-Some.field-0-is at c.in-Ok-Some.ensures.fits)
-    (subst (λ b. AnswersOne c.checked.result (IsVerdictOutput b)) c.deref.ensures.value c.checked.ensures))
+pub returns-in-Ok : goal.returns-in-Ok
+returns-in-Ok g c = λ input.
+    decides_by_file g.F.Folder.past g.F.Folder.failed c.args.folder.now c.file.new.folder 0 c.args.name.now c.in-Ok.bytes.items c.checked.result Checks c.in-Ok.ensures.ok
+    (subst (λ b. Answers c.checked.result (Checks b)) c.deref.ensures.value c.checked.ensures)
 
-pub returns-in-Ok-None-clause-answer : goal.returns-in-Ok-None-clause-answer
-returns-in-Ok-None-clause-answer g c = λ _.
-    answers_held (g.F.Folder.known c.args.folder.now) c.args.file.now (IsChecked c.args.file.now) c.refused.result None
-    (rw c.in-Ok-None.field-0-is at c.in-Ok-None.ensures.found) (checks_no_file c.args.file.now c.refused.result c.refused.ensures)
-
-pub returns-in-Err-TooBig-clause-answer : goal.returns-in-Err-TooBig-clause-answer
-returns-in-Err-TooBig-clause-answer g c = λ _.
-    answers_much (g.F.Folder.known c.args.folder.now) c.args.file.now (IsChecked c.args.file.now) c.refused-in-Err-TooBig.result
-    4294967296 (omega arith) (once (g.F.Folder.known c.args.folder.now) _ c.args.file.now c.in-Err-TooBig.ensures.big c.in-Err-TooBig.field-0-is)
-    (checks_too_big c.args.file.now c.refused-in-Err-TooBig.result c.refused-in-Err-TooBig.ensures)
-
-pub returns-in-Err-Memory-clause-answer : goal.returns-in-Err-Memory-clause-answer
-returns-in-Err-Memory-clause-answer g c = λ _.
-    answers_any (g.F.Folder.known c.args.folder.now) c.args.file.now (IsChecked c.args.file.now) _ (λ held. tt)
+pub returns-in-Err : goal.returns-in-Err
+returns-in-Err g c = λ input.
+    decides_without_file g.F.Folder.past g.F.Folder.failed c.args.folder.now c.file.new.folder 0 c.args.name.now c.in-Err.answer Checks (c.in-Err.ensures.err 0)

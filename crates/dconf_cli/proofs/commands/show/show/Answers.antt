@@ -1,41 +1,26 @@
-use Rattle.std.proofs.Common.{subst, arith, None}
-use Rattle.gv_types.specs.TypeFaults.{fault_of}
-use Rattle.gv_types.specs.TypeStr.{ty}
-use Rattle.dconf_cli.specs.Answers.{Answers}
-use Rattle.dconf_cli.specs.Output.{value_output}
+use Rattle.std.proofs.Common.{◌≡◌, subst}
 use Rattle.gv_model.specs.Decode.{decode}
-use Rattle.dconf_cli.proofs.Runs.{IsShownOf, no_type, checked_type, answers_any, answers_held, answers_much, once, shows_at, shows_fault, shows_too_big, shows_value}
+use Rattle.gv_types.specs.TypeFaults.{type_fault_of}
+use Rattle.gv_types.specs.TypeStr.{ty}
+use Rattle.dconf_model.specs.Outcomes.{shown}
+use Rattle.dconf_cli.specs.Answers.{Answers}
+use Rattle.dconf_cli.proofs.Shows.{checked_type, no_type, shows_file, shows_no_file, shows_no_type}
 use Rattle.dconf_cli.proofs.commands.show.show.Goals as goal
 
-pub returns-in-Err-clause-answer : goal.returns-in-Err-clause-answer
-returns-in-Err-clause-answer g c = λ _.
-    answers_any (g.F.Folder.known c.args.folder.now) c.args.file.now (IsShownOf c.args.type_text.now c.args.file.now) c.refused.result
-    (λ held. shows_fault c.args.type_text.now c.args.file.now held c.refused.result (fault_of c.in-Err.fault)
-    (no_type c.args.type_text.now c.in-Err.ensures.accepts.1) c.in-Err.ensures.fault c.refused.ensures)
+pub returns-in-Err : goal.returns-in-Err
+returns-in-Err g c = λ input.
+    shows_no_type g.F.Folder.past g.F.Folder.failed c.args.type_text.now c.args.name.now c.refused.result input c.args.folder.now (type_fault_of c.in-Err.fault)
+    (no_type c.args.type_text.now c.in-Err.ensures.accepts.1) c.in-Err.ensures.fault c.refused.ensures
 
-pub returns-in-Ok-Some-clause-answer : goal.returns-in-Ok-Some-clause-answer
-returns-in-Ok-Some-clause-answer g c = λ _.
+pub returns-in-Ok-file : goal.returns-in-Ok-file
+returns-in-Ok-file g c = λ input.
     let typed = checked_type c.in-Ok.type_str.text.now c.args.type_text.now c.in-Ok.ensures.found c.in-Ok.type_str.spells_type in
-    answers_held (g.F.Folder.known c.args.folder.now) c.args.file.now (IsShownOf c.args.type_text.now c.args.file.now) c.shown.result _
-    (rw c.in-Ok-Some.field-0-is at c.in-Ok-Some.ensures.found)
-    (shows_value c.args.type_text.now c.args.file.now c.in-Ok-Some.bytes.items c.shown.result (ty c.in-Ok.type_str) typed
-    (rw c.in-Ok-Some.field-0-is at c.in-Ok-Some.ensures.fits)
-    (subst (λ b. Answers c.shown.result (value_output (decode (ty c.in-Ok.type_str) b))) c.deref.ensures.value c.shown.ensures))
+    shows_file g.F.Folder.past g.F.Folder.failed c.args.type_text.now c.args.name.now c.shown.result input c.args.folder.now c.file.new.folder (ty c.in-Ok.type_str)
+    c.in-Ok-file.bytes.items typed c.in-Ok-file.ensures.ok
+    (subst (λ b. Answers c.shown.result (λ o. o ≡ shown (decode (ty c.in-Ok.type_str) b))) c.deref.ensures.value c.shown.ensures)
 
-pub returns-in-Ok-None-clause-answer : goal.returns-in-Ok-None-clause-answer
-returns-in-Ok-None-clause-answer g c = λ _.
+pub returns-in-Err-file : goal.returns-in-Err-file
+returns-in-Err-file g c = λ input.
     let typed = checked_type c.in-Ok.type_str.text.now c.args.type_text.now c.in-Ok.ensures.found c.in-Ok.type_str.spells_type in
-    answers_held (g.F.Folder.known c.args.folder.now) c.args.file.now (IsShownOf c.args.type_text.now c.args.file.now) c.refused-in-Ok-None.result None
-    (rw c.in-Ok-None.field-0-is at c.in-Ok-None.ensures.found)
-    (shows_at c.args.type_text.now c.args.file.now None c.refused-in-Ok-None.result (ty c.in-Ok.type_str) typed c.refused-in-Ok-None.ensures)
-
-pub returns-in-Err-TooBig-clause-answer : goal.returns-in-Err-TooBig-clause-answer
-returns-in-Err-TooBig-clause-answer g c = λ _.
-    let typed = checked_type c.in-Ok.type_str.text.now c.args.type_text.now c.in-Ok.ensures.found c.in-Ok.type_str.spells_type in
-    answers_much (g.F.Folder.known c.args.folder.now) c.args.file.now (IsShownOf c.args.type_text.now c.args.file.now) c.refused-in-Err-TooBig.result
-    4294967296 (omega arith) (once (g.F.Folder.known c.args.folder.now) _ c.args.file.now c.in-Err-TooBig.ensures.big c.in-Err-TooBig.field-0-is)
-    (shows_too_big c.args.type_text.now c.args.file.now c.refused-in-Err-TooBig.result (ty c.in-Ok.type_str) typed c.refused-in-Err-TooBig.ensures)
-
-pub returns-in-Err-Memory-clause-answer : goal.returns-in-Err-Memory-clause-answer
-returns-in-Err-Memory-clause-answer g c = λ _.
-    answers_any (g.F.Folder.known c.args.folder.now) c.args.file.now (IsShownOf c.args.type_text.now c.args.file.now) _ (λ held. tt)
+    shows_no_file g.F.Folder.past g.F.Folder.failed c.args.type_text.now c.args.name.now c.in-Err-file.answer input c.args.folder.now c.file.new.folder
+    (ty c.in-Ok.type_str) typed (c.in-Err-file.ensures.err 0)

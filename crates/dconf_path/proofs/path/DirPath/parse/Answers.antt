@@ -27,8 +27,8 @@ pub returns-then-not-ends_with-clause-fault : goal.returns-then-not-ends_with-cl
 returns-then-not-ends_with-clause-fault c =
     ends_as_no_directory c.args.text.now c.in_ok-check_bytes.ensures.passes (sym (ends_text c.ends_with.result (47 ∷ []) c.args.text.now c.ends_with.ensures.cases) ∙ c.if-not-ends_with.true)
 
-pub returns-then-text-gt-MAX_LEN-clause-fault : goal.returns-then-text-gt-MAX_LEN-clause-fault
-returns-then-text-gt-MAX_LEN-clause-fault c =
+pub returns-then-text-gt-MAX_PATH_LEN-clause-fault : goal.returns-then-text-gt-MAX_PATH_LEN-clause-fault
+returns-then-text-gt-MAX_PATH_LEN-clause-fault c =
     let ends = sym (ends_text c.ends_with.result (47 ∷ []) c.args.text.now c.ends_with.ensures.cases) ∙ c.if-not-ends_with.false in
     is_too_long_for_directory c.args.text.now c.in_ok-check_bytes.ensures.passes ends (search rules)
 

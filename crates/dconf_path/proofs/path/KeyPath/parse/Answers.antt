@@ -21,8 +21,8 @@ pub returns-then-ends_with-clause-fault : goal.returns-then-ends_with-clause-fau
 returns-then-ends_with-clause-fault c =
     ends_as_no_key c.args.text.now c.in_ok-check_bytes.ensures.passes (sym (ends_text c.ends_with.result (47 ∷ []) c.args.text.now c.ends_with.ensures.cases) ∙ c.if-ends_with.true)
 
-pub returns-then-text-gt-MAX_LEN-clause-fault : goal.returns-then-text-gt-MAX_LEN-clause-fault
-returns-then-text-gt-MAX_LEN-clause-fault c =
+pub returns-then-text-gt-MAX_PATH_LEN-clause-fault : goal.returns-then-text-gt-MAX_PATH_LEN-clause-fault
+returns-then-text-gt-MAX_PATH_LEN-clause-fault c =
     let ends = sym (ends_text c.ends_with.result (47 ∷ []) c.args.text.now c.ends_with.ensures.cases) ∙ c.if-ends_with.false in
     is_too_long_for_key c.args.text.now c.in_ok-check_bytes.ensures.passes ends (search rules)
 

@@ -1,10 +1,12 @@
 use Rattle.std.proofs.Common.{arith, ap₂, ◌∷◌, ◌∙◌, ap, sym}
 use Rattle.gv_types.specs.Members.{members_left}
 use Rattle.gv_infer.proofs.PatternLists.{before}
-use Rattle.gv_infer.proofs.ExactLaws.{entry_members, is_some_next, after_next, rest_is, entry_nesting, exactly_entry, exactly_all, greatest_of, greatest_of-listed, exactly_listed, element_nesting, tuple_nesting, exactly_members, before_more}
+use Rattle.gv_infer.proofs.ExactLaws.{entry_members, is_some_next, after_next, entry_nesting, exactly_entry, exactly_all, exactly_listed, tuple_nesting, exactly_members, before_more}
 use Rattle.gv_model.specs.Patterns.Pattern.{strict}
-use Rattle.gv_model.specs.Patterns.Core.{entry_of}
+use Rattle.gv_model.specs.Patterns.Bare.{entry_of}
+use Rattle.gv_model.proofs.ListLaws.{same_tail}
 use Rattle.gv_types.specs.TypeStr.{ty}
+use Rattle.gv_types.proofs.NestingLaws.{element_nesting, greatest_of, greatest_of-listed}
 use Rattle.gv_infer.proofs.pattern.Pattern.+exactly.Goals as goal
 
 pub exactly-requires : goal.exactly-requires
@@ -46,7 +48,7 @@ pub unwrap-requires-in-Entry-2 : goal.unwrap-requires-in-Entry-2
 unwrap-requires-in-Entry-2 t c =
     let m = entry_members _ _ c.class.ensures c.in-Entry.is in
     let one = after_next c.next-in-Entry.result _ _ _ _ c.next-in-Entry.ensures.steps c.unwrap-in-Entry.ensures in
-    is_some_next c.next-in-Entry-2.result _ _ _ m.1.0 _ c.next-in-Entry-2.ensures.steps (rest_is _ _ _ _ (sym one ∙ c.members-members.ensures ∙ m.1.1))
+    is_some_next c.next-in-Entry-2.result _ _ _ m.1.0 _ c.next-in-Entry-2.ensures.steps (same_tail (sym one ∙ c.members-members.ensures ∙ m.1.1))
 
 pub exactly-requires-in-Entry : goal.exactly-requires-in-Entry
 exactly-requires-in-Entry t c =
@@ -60,4 +62,4 @@ returns-in_ok-new-in-Entry t c =
     let one = after_next c.next-in-Entry.result _ _ _ _ c.next-in-Entry.ensures.steps c.unwrap-in-Entry.ensures in
     let two = after_next c.next-in-Entry-2.result _ _ _ _ c.next-in-Entry-2.ensures.steps c.unwrap-in-Entry-2.ensures in
     let both = sym c.members-members.ensures ∙ one ∙ ap (λ l. ty c.unwrap-in-Entry.result ∷ l) two in
-    c.strict-in-Entry.ensures ∙ ap₂ (λ s p. strict (entry_of s p)) c.key_kind-key.ensures (c.in_ok-new-in-Entry.ensures.ok ∙ c.in_ok-value-in-Entry.ensures) ∙ exactly_entry _ _ _ _ _ c.class.ensures c.in-Entry.is both
+    c.strict-in-Entry.ensures ∙ ap₂ (λ s p. strict (entry_of s p)) c.key_basics-key.ensures (c.in_ok-new-in-Entry.ensures.ok ∙ c.in_ok-value-in-Entry.ensures) ∙ exactly_entry _ _ _ _ _ c.class.ensures c.in-Entry.is both

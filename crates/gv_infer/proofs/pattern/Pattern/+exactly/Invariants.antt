@@ -3,8 +3,9 @@ use Rattle.gv_model.specs.Ty.{nesting, greatest_nesting, members}
 use Rattle.gv_model.specs.Patterns.{exactly_each}
 use Rattle.gv_types.specs.TypeStr.{ty}
 use Rattle.gv_types.specs.Members.{members_left}
+use Rattle.gv_types.proofs.NestingLaws.{greatest_of}
 use Rattle.gv_infer.proofs.PatternLists.{before}
-use Rattle.gv_infer.proofs.ExactLaws.{exactly_all, greatest_of}
+use Rattle.gv_infer.proofs.ExactLaws.{exactly_all}
 use Rattle.gv_infer.proofs.pattern.Pattern.+exactly.Given as goal
 
 abbrev pub decreases-exactly : goal.decreases-exactly

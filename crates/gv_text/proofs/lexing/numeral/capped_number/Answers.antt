@@ -1,5 +1,5 @@
 use Rattle.std.proofs.Common.{sym, ap₂, ◌∙◌, arith, ◌+◌, ◌*◌, ◌^◌, min, drop, add-one}
-use Rattle.gv_model.specs.Numerals.{number_behind}
+use Rattle.gv_model.specs.Numerals.{number_after}
 use Rattle.gv_text.proofs.NumeralLaws.{number_goes_on, number_ends}
 use Rattle.gv_text.proofs.lexing.numeral.capped_number.Goals as goal
 
@@ -11,7 +11,7 @@ loop-digit-preserved c =
     let less = c.min-number.ensures ∙ ap₂ (λ b d. min (n * b + d) (2 ^ 64)) c.from.ensures (c.from-in-loop-digit.ensures ∙ c.digit_value.ensures) in
     record {
       small = omega (arith, less);
-      same = c.loop-digit.invariant.same ∙ (next ∙ ap₂ (λ m k. min (number_behind c.args.base m (drop k c.args.digits.now)) (2 ^ 64)) (sym less) (sym (add-one i)));
+      same = c.loop-digit.invariant.same ∙ (next ∙ ap₂ (λ m k. min (number_after c.args.base m (drop k c.args.digits.now)) (2 ^ 64)) (sym less) (sym (add-one i)));
     }
 
 pub returns : goal.returns

@@ -1,6 +1,6 @@
 use Rattle.std.proofs.Common.{true, drop}
-use Rattle.gv_text.specs.Found.{byte_part_of}
-use Rattle.gv_text.proofs.EscapeLaws.{part_at, escape_stands}
+use Rattle.gv_text.specs.LexSteps.{byte_part_of}
+use Rattle.gv_text.proofs.EscapeLaws.{part_at, begins_with_escape}
 use Rattle.gv_text.proofs.lexing.part.byte_part.Goals as goal
 
 pub returns-then-text-ne92-clause-part : goal.returns-then-text-ne92-clause-part
@@ -13,4 +13,4 @@ returns-then-text-ne92-clause-within c = c.plain_part.ensures.within c.args.text
 
 pub returns-clause-part : goal.returns-clause-part
 returns-clause-part c =
-    escape_stands true c.args.quote c.args.text.now (byte_part_of c.byte_escape.result) c.requires.quote c.requires.some c.if-text-ne92.false c.byte_escape.ensures.part c.byte_escape.ensures.within
+    begins_with_escape true c.args.quote c.args.text.now (byte_part_of c.byte_escape.result) c.requires.quote c.requires.some c.if-text-ne92.false c.byte_escape.ensures.part c.byte_escape.ensures.within

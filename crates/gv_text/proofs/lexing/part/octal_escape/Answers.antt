@@ -6,9 +6,9 @@ use Rattle.gv_text.proofs.lexing.part.octal_escape.Goals as goal
 pub returns-in-Ok-clause-within : goal.returns-in-Ok-clause-within
 returns-in-Ok-clause-within c =
     let fits = digits_fit (is_digit_of 8) 3 c.args.text.now in
-    (omega arith, omega (arith, ap length c.front_digits-digits.ensures, fits.1))
+    (omega arith, omega (arith, ap length c.leading_digits-digits.ensures, fits.1))
 
 pub returns-in-Err-clause-within : goal.returns-in-Err-clause-within
 returns-in-Err-clause-within c =
     let fits = digits_fit (is_digit_of 8) 3 c.args.text.now in
-    (omega arith, omega (arith, ap length c.front_digits-digits.ensures, fits.1))
+    (omega arith, omega (arith, ap length c.leading_digits-digits.ensures, fits.1))

@@ -1,10 +1,10 @@
 use Rattle.std.proofs.Common.{rules, false, ap, sym, subst, arith, length, string_bytes, ◌+◌}
 use Rattle.std.proofs.lemmas.Str.{IsCharBoundary-after_ascii}
-use Rattle.gv_model.specs.Strings.Part.{faulty}
-use Rattle.gv_text.specs.Found.{char_bytes}
-use Rattle.gv_text.specs.Placed.{cause_of}
-use Rattle.gv_text.proofs.Lists.{part_is_drop}
-use Rattle.gv_text.proofs.QuotedLaws.{SoFar, at_quote, quote_is_low, plain_more, at_special, rest_is_special, behind_part, part_end_cuts, at_close, at_part, at_end}
+use Rattle.std.proofs.lemmas.List.{take_rest}
+use Rattle.gv_model.specs.Strings.StringStep.{faulty}
+use Rattle.gv_text.specs.LexSteps.{char_bytes}
+use Rattle.gv_text.specs.ModelTokens.{cause_of}
+use Rattle.gv_text.proofs.QuotedLaws.{SoFar, at_quote, quote_is_low, plain_more, at_special, rest_is_special, after_part, part_end_cuts, at_close, at_part, at_end}
 use Rattle.gv_text.proofs.lexing.quoted.text_between.Goals as goal
 
 pub loop-string-init : goal.loop-string-init
@@ -26,12 +26,12 @@ loop-string-preserved c =
     let end = c.in_ok-at.at in
     let plain = rw c.as_bytes-bytes.ensures.value at c.in_ok-at.ensures.end in
     let so_far = plain_more text c.args.from c.loop-string.at end _ (string_bytes c.push_plain.new.string) c.loop-string.invariant.so_far plain.0 plain.1 in
-    let stands_there = rw (c.as_bytes-bytes.ensures.value, part_is_drop end text) at c.in-Stands.ensures.part in
-    let lies = rw (c.as_bytes-bytes.ensures.value, part_is_drop end text) at c.in-Stands.ensures.within in
-    let low = rw (c.as_bytes-bytes.ensures.value, part_is_drop end text) at c.in-Stands.ensures.ascii in
+    let is_there = rw (c.as_bytes-bytes.ensures.value, take_rest text end) at c.in-Char.ensures.part in
+    let lies = rw (c.as_bytes-bytes.ensures.value, take_rest text end) at c.in-Char.ensures.within in
+    let low = rw (c.as_bytes-bytes.ensures.value, take_rest text end) at c.in-Char.ensures.ascii in
     record {
-      cuts = part_end_cuts text end c.in-Stands.len (char_bytes c.in-Stands.stands_for) c.utf8.text lies c.in_ok-at.ensures.within low;
-      so_far = subst (λ l. SoFar false text c.args.from (end + c.in-Stands.len) l) (sym c.in_ok-push_char-in-Stands.ensures) (behind_part false text c.args.from end _ (char_bytes c.in-Stands.stands_for) c.in-Stands.len so_far stands_there);
+      cuts = part_end_cuts text end c.in-Char.len (char_bytes c.in-Char.meaning) c.utf8.text lies c.in_ok-at.ensures.within low;
+      so_far = subst (λ l. SoFar false text c.args.from (end + c.in-Char.len) l) (sym c.in_ok-push_char-in-Char.ensures) (after_part false text c.args.from end _ (char_bytes c.in-Char.meaning) c.in-Char.len so_far is_there);
     }
 
 pub returns-in-Closes-clause-found : goal.returns-in-Closes-clause-found
@@ -40,7 +40,7 @@ returns-in-Closes-clause-found c =
     let end = c.in_ok-at.at in
     let plain = rw c.as_bytes-bytes.ensures.value at c.in_ok-at.ensures.end in
     let so_far = plain_more text c.args.from c.loop-string.at end _ (string_bytes c.push_plain.new.string) c.loop-string.invariant.so_far plain.0 plain.1 in
-    at_close false text c.args.from end _ so_far (rw (c.as_bytes-bytes.ensures.value, part_is_drop end text) at c.in-Closes.ensures.part)
+    at_close false text c.args.from end _ so_far (rw (c.as_bytes-bytes.ensures.value, take_rest text end) at c.in-Closes.ensures.part)
 
 pub returns-in-Faulty-clause-found : goal.returns-in-Faulty-clause-found
 returns-in-Faulty-clause-found c =
@@ -48,7 +48,7 @@ returns-in-Faulty-clause-found c =
     let end = c.in_ok-at.at in
     let plain = rw c.as_bytes-bytes.ensures.value at c.in_ok-at.ensures.end in
     let so_far = plain_more text c.args.from c.loop-string.at end _ (string_bytes c.push_plain.new.string) c.loop-string.invariant.so_far plain.0 plain.1 in
-    let there = rw (c.as_bytes-bytes.ensures.value, part_is_drop end text) at c.in-Faulty.ensures.part in
+    let there = rw (c.as_bytes-bytes.ensures.value, take_rest text end) at c.in-Faulty.ensures.part in
     search (rules, sym (at_part false text c.args.from end (string_bytes c.push_plain.new.string) (faulty (cause_of c.in-Faulty.cause) c.in-Faulty.start c.in-Faulty.end) so_far there))
 
 pub returns-then-at-bytes-clause-found : goal.returns-then-at-bytes-clause-found

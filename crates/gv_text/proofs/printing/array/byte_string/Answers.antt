@@ -1,15 +1,19 @@
-use Rattle.std.proofs.Common.{sym, ap, ◌∙◌}
+use Rattle.std.proofs.Common.{sym, ap, ◌∙◌, Option, None, Some, IfSome}
 use Rattle.std.specs.Prelude.{option_map}
+use Rattle.std.proofs.lemmas.Bool.{false≢true}
 use Rattle.gv_model.specs.BasicValue.{text_in}
 use Rattle.gv_view.specs.Views.{value, view_ty, view_bytes}
 use Rattle.gv_text.specs.Printing.{byte_string_of}
 use Rattle.gv_text.proofs.ArrayTexts.{no_byte_string, numbers-byte_trees, value_bytes_plain}
-use Rattle.gv_text.proofs.Trivia.{false_true, if_some}
 use Rattle.gv_text.proofs.printing.array.byte_string.Goals as goal
+
+if_some : {X P : Type 0} (o : Option X) → P → IfSome o (λ _. P)
+if_some None p = tt
+if_some (Some x) p = p
 
 pub returns-in_err-as_bytes-clause-text : goal.returns-in_err-as_bytes-clause-text
 returns-in_err-as_bytes-clause-text c =
-    ap (option_map (λ b. b.now)) c.from_residual.ensures ∙ sym (no_byte_string (view_ty c.args.view) (view_bytes c.args.view) (λ e. false_true (c.in_err-as_bytes.ensures.some.1 e)))
+    ap (option_map (λ b. b.now)) c.from_residual.ensures ∙ sym (no_byte_string (view_ty c.args.view) (view_bytes c.args.view) (λ e. false≢true (c.in_err-as_bytes.ensures.some.1 e)))
 
 pub returns-clause-text : goal.returns-clause-text
 returns-clause-text c =

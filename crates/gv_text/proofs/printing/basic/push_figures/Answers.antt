@@ -1,15 +1,16 @@
 use Rattle.std.proofs.Common.{◌≡◌, refl, sym, ap, ◌∙◌, string_bytes, w16, w32, w64}
 use Rattle.std.specs.Int.{cast_unsigned}
 use Rattle.gv_model.specs.Ty.Basic.{boolean, byte, int16, uint16, int32, uint32, int64, uint64, handle}
-use Rattle.gv_model.specs.Printed.{figures, is_double}
+use Rattle.gv_model.specs.Printed.{figures, is_double_type}
+use Rattle.gv_model.specs.BasicValue.{truth_bits}
 use Rattle.gv_types.specs.Classes.{basic_of}
-use Rattle.gv_view.specs.Views.{value, view_ty, view_bytes, truth_bits}
+use Rattle.gv_view.specs.Views.{value, view_ty, view_bytes}
 use Rattle.gv_text.proofs.Figures.{of_basic, wrote_number, wrote_text}
 use Rattle.gv_text.proofs.printing.basic.push_figures.Goals as goal
 use Rattle.gv_text.proofs.printing.basic.push_figures.Goals.{then-unwrap, else-unwrap}
 
 pub returns-in-Double : goal.returns-in-Double
-returns-in-Double c = (of_basic (view_ty c.args.view) (basic_of c.args.of) (view_bytes c.args.view) c.requires).double ∙ ap (λ k. is_double (basic_of k)) c.in-Double.is
+returns-in-Double c = (of_basic (view_ty c.args.view) (basic_of c.args.of) (view_bytes c.args.view) c.requires).double ∙ ap (λ k. is_double_type (basic_of k)) c.in-Double.is
 
 pub returns-in_ok-push_str-in-Boolean : goal.returns-in_ok-push_str-in-Boolean
 returns-in_ok-push_str-in-Boolean c =

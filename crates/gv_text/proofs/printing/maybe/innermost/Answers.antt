@@ -1,12 +1,15 @@
-use Rattle.std.proofs.Common.{◌≡◌, ◌<◌, inr, sym, ap, ◌∙◌, arith}
+use Rattle.std.proofs.Common.{◌≡◌, ◌<◌, inr, sym, ap, ◌∙◌, arith, ◌⊎◌, inl}
 use Rattle.gv_model.specs.Tree.{depth}
 use Rattle.gv_types.specs.Classes.{class_of}
 use Rattle.gv_types.specs.declared.class.Class.TheVariants.{Maybe}
 use Rattle.gv_types.specs.TypeStr.{ty}
 use Rattle.gv_view.specs.Views.{value, view_ty, view_bytes}
 use Rattle.gv_text.proofs.Maybes.{is_just, is_nothing, just_deeper, inside_just, nothing_inside, other_ends, within}
-use Rattle.gv_text.proofs.Trivia.{right_of}
 use Rattle.gv_text.proofs.printing.maybe.innermost.Goals as goal
+
+right_of : {A B : Type 0} → (A → ⊥) → A ⊎ B → B
+right_of h (inl a) = absurd (h a)
+right_of h (inr b) = b
 
 pub returns-in_err-inner : goal.returns-in_err-inner
 returns-in_err-inner c =

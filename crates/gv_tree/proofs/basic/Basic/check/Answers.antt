@@ -1,9 +1,8 @@
-use Rattle.std.proofs.Common.{refl, sym, ap, ◌∙◌}
+use Rattle.std.proofs.Common.{refl, sym, ap, ◌∙◌, rules}
 use Rattle.std.specs.Prelude.{string_bytes}
 use Rattle.std.proofs.lemmas.Str.{is_utf8-from_IsUtf8, IsUtf8-string_bytes}
 use Rattle.gv_model.specs.Ty.Basic.{string, path, signature}
-use Rattle.gv_model.specs.Texts.{is_path, is_signature}
-use Rattle.gv_tree.specs.Faults.{has_zero}
+use Rattle.gv_model.specs.Texts.{is_object_path, is_signature, has_zero_byte}
 use Rattle.gv_tree.proofs.BasicLaws.{checked_text, text_value}
 use Rattle.gv_tree.proofs.basic.Basic.check.Goals as goal
 
@@ -16,12 +15,15 @@ pub returns-then-is_object_path : goal.returns-then-is_object_path
 returns-then-is_object_path c =
     let s = string_bytes c.in-ObjectPath.text in
     rw c.in-ObjectPath.is (text_value path s refl
-    (ap has_zero (sym c.as_str-in-ObjectPath.ensures.value) ∙ c.in_ok-check_nul-in-ObjectPath.ensures)
-    (ap is_path (sym c.as_str-in-ObjectPath-2.ensures.value) ∙ sym c.is_object_path.ensures ∙ c.if-is_object_path.true))
+    (ap has_zero_byte (sym c.as_str-in-ObjectPath.ensures.value) ∙ c.in_ok-check_nul-in-ObjectPath.ensures)
+    (ap is_object_path (sym c.as_str-in-ObjectPath-2.ensures.value) ∙ sym c.is_object_path.ensures ∙ c.if-is_object_path.true))
 
 pub returns-then-is_signature : goal.returns-then-is_signature
 returns-then-is_signature c =
     let s = string_bytes c.in-Signature.text in
     rw c.in-Signature.is (text_value signature s refl
-    (ap has_zero (sym c.as_str-in-Signature.ensures.value) ∙ c.in_ok-check_nul-in-Signature.ensures)
+    (ap has_zero_byte (sym c.as_str-in-Signature.ensures.value) ∙ c.in_ok-check_nul-in-Signature.ensures)
     (ap is_signature (sym c.as_str-in-Signature-2.ensures.value) ∙ sym c.is_signature.ensures ∙ c.if-is_signature.true))
+
+pub returns-else-is_object_path : goal.returns-else-is_object_path
+returns-else-is_object_path c = search rules

@@ -7,9 +7,9 @@ pub returns-then-levels-gt-MAX_LEVELS : goal.returns-then-levels-gt-MAX_LEVELS
 unfolding depth
 returns-then-levels-gt-MAX_LEVELS c t vs h e f = elim c.then-levels-gt-MAX_LEVELS.branch [ then-levels-gt-MAX_LEVELS-via-then-levels-gt-MAX_LEVELS w ↦ inl (omega (arith, h.levels)) | then-levels-gt-MAX_LEVELS-via-else-levels-gt-MAX_LEVELS+then-type_levels-gt-MAX_LEVELS w ↦ inr (omega arith) ]
 
-pub returns-then-type_bytes-gt-MAX_TYPE_BYTES : goal.returns-then-type_bytes-gt-MAX_TYPE_BYTES
+pub returns-then-type_bytes-gt-MAX_LEN : goal.returns-then-type_bytes-gt-MAX_LEN
 unfolding depth
-returns-then-type_bytes-gt-MAX_TYPE_BYTES c t vs h e f = record {
+returns-then-type_bytes-gt-MAX_LEN c t vs h e f = record {
   levels = omega (arith, h.levels);
   type_levels = omega arith;
   long = omega arith;

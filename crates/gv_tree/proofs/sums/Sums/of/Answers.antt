@@ -1,9 +1,9 @@
 use Rattle.std.proofs.Common.{arith, subst, ◌≡◌, drop, []}
 use Rattle.std.proofs.lemmas.List.{drop_all}
 use Rattle.gv_tree.specs.Nodes.{trees_of}
-use Rattle.gv_tree.proofs.ListLaws.{drop_item}
 use Rattle.gv_tree.proofs.SumLaws.{SumsTo, sums_start, sums_step, sums_end}
 use Rattle.gv_tree.proofs.sums.Sums.of.Goals as goal
+use Rattle.gv_model.proofs.ListLaws.{drop_item}
 
 pub loop-tree-init : goal.loop-tree-init
 loop-tree-init c = record {

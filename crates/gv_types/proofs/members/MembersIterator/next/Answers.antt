@@ -1,6 +1,6 @@
 use Rattle.std.proofs.Common.{arith, rules}
 use Rattle.std.proofs.lemmas.Str.{IsCharBoundary-from_ascii}
-use Rattle.gv_types.proofs.TypeLists.{types_are_ascii, cut_behind_first, no_types_left}
+use Rattle.gv_types.proofs.TypeLists.{types_are_ascii, cut_after_first, no_types_left}
 use Rattle.gv_types.proofs.members.MembersIterator.next.Goals as goal
 
 pub returns-in-Err-clause-steps : goal.returns-in-Err-clause-steps
@@ -18,20 +18,20 @@ split_at-requires c =
 pub invariant_of-self : goal.invariant_of-self
 invariant_of-self c =
     let read = rw c.as_bytes.ensures.value at c.in-Ok.ensures in
-    record { are_types = (cut_behind_first c.args.self.now.rest.now c.in-Ok.behind.now c.split_at.result.0.now c.split_at.result.1.now c.args.self.now.are_types read c.split_at.ensures.front c.split_at.ensures.back).are }
+    record { are_types = (cut_after_first c.args.self.now.rest.now c.in-Ok.after.now c.split_at.result.0.now c.split_at.result.1.now c.args.self.now.are_types read c.split_at.ensures.front c.split_at.ensures.back).are }
 
 pub invariant_of-result : goal.invariant_of-result
 invariant_of-result c =
     let read = rw c.as_bytes.ensures.value at c.in-Ok.ensures in
-    record { spells_type = (cut_behind_first c.args.self.now.rest.now c.in-Ok.behind.now c.split_at.result.0.now c.split_at.result.1.now c.args.self.now.are_types read c.split_at.ensures.front c.split_at.ensures.back).checked }
+    record { spells_type = (cut_after_first c.args.self.now.rest.now c.in-Ok.after.now c.split_at.result.0.now c.split_at.result.1.now c.args.self.now.are_types read c.split_at.ensures.front c.split_at.ensures.back).checked }
 
 pub returns-clause-steps : goal.returns-clause-steps
 returns-clause-steps c =
     let read = rw c.as_bytes.ensures.value at c.in-Ok.ensures in
-    (cut_behind_first c.args.self.now.rest.now c.in-Ok.behind.now c.split_at.result.0.now c.split_at.result.1.now c.args.self.now.are_types read c.split_at.ensures.front c.split_at.ensures.back).listed
+    (cut_after_first c.args.self.now.rest.now c.in-Ok.after.now c.split_at.result.0.now c.split_at.result.1.now c.args.self.now.are_types read c.split_at.ensures.front c.split_at.ensures.back).listed
 
 pub returns-clause-goes : goal.returns-clause-goes
 returns-clause-goes c =
     let read = rw c.as_bytes.ensures.value at c.in-Ok.ensures in
-    let listed = (cut_behind_first c.args.self.now.rest.now c.in-Ok.behind.now c.split_at.result.0.now c.split_at.result.1.now c.args.self.now.are_types read c.split_at.ensures.front c.split_at.ensures.back).listed in
+    let listed = (cut_after_first c.args.self.now.rest.now c.in-Ok.after.now c.split_at.result.0.now c.split_at.result.1.now c.args.self.now.are_types read c.split_at.ensures.front c.split_at.ensures.back).listed in
     search (rules, listed)

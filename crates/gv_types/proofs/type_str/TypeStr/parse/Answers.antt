@@ -1,4 +1,4 @@
-use Rattle.std.proofs.Common.{sym, arith}
+use Rattle.std.proofs.Common.{sym, arith, rules}
 use Rattle.gv_types.proofs.Whole.{read_whole, no_type, too_long, no_empty_type, no_type_goes_on, no_type_stops, trails}
 use Rattle.std.proofs.lemmas.Bool.{eqb-true}
 use Rattle.gv_types.proofs.type_str.TypeStr.parse.Goals as goal
@@ -28,3 +28,6 @@ pub returns-in-Err-clause-accepts : goal.returns-in-Err-clause-accepts
 returns-in-Err-clause-accepts c =
     let e = rw c.as_bytes.ensures.value at c.in-Err.ensures in
     no_type c.args.text.now (no_type_stops c.args.text.now c.in-Err.stop.rest.now c.in-Err.stop.halt e)
+
+pub returns-then-text-gt-MAX_LEN-clause-fault : goal.returns-then-text-gt-MAX_LEN-clause-fault
+returns-then-text-gt-MAX_LEN-clause-fault c = search rules

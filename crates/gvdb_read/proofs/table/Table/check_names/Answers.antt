@@ -1,9 +1,25 @@
-use Rattle.std.proofs.Common.{arith}
-use Rattle.dconf_model.specs.Sound.Rule.{hash, span}
+use Rattle.std.proofs.Common.{rules, arith, Bool, IsTrue, ◌≡◌, ◌↔◌, subst, sym}
+use Rattle.dconf_model.specs.Sound.{KeepsAll}
+use Rattle.dconf_model.specs.Sound.Rule.{keys, chain, hash, span}
+use Rattle.gvdb_read.specs.Tables.{region}
 use Rattle.gvdb_read.proofs.table.Table.check_names.Goals as goal
 
-pub first_against_once-requires-clause-hash : goal.first_against_once-requires-clause-hash
-first_against_once-requires-clause-hash c = c.in_ok-kept-5.ensures.kept hash (omega arith)
+pub each_keeps-requires-3-clause-callable : goal.each_keeps-requires-3-clause-callable
+each_keeps-requires-3-clause-callable c =
+    let good : KeepsAll (region c.args.self) keys = c.in_ok-each_keeps-2.ensures.kept keys (omega arith) in
+    let ends : KeepsAll (region c.args.self) chain = c.in_ok-each_keeps-2.ensures.kept chain (omega arith) in
+    λ i counted. search rules
 
-pub first_against_once-requires-clause-span : goal.first_against_once-requires-clause-span
-first_against_once-requires-clause-span c = c.in_ok-kept-5.ensures.kept span (omega arith)
+pub each_keeps-requires-6-clause-callable : goal.each_keeps-requires-6-clause-callable
+each_keeps-requires-6-clause-callable c =
+    let good : KeepsAll (region c.args.self) keys = c.in_ok-each_keeps-5.ensures.kept keys (omega arith) in
+    let ends : KeepsAll (region c.args.self) chain = c.in_ok-each_keeps-5.ensures.kept chain (omega arith) in
+    let hashed : KeepsAll (region c.args.self) hash = c.in_ok-each_keeps-5.ensures.kept hash (omega arith) in
+    let spans : KeepsAll (region c.args.self) span = c.in_ok-each_keeps-5.ensures.kept span (omega arith) in
+    λ i counted. search rules
+
+moved : (r b : Bool) (P : Type 0) → b ≡ r → (IsTrue r ↔ P) → IsTrue b ↔ P
+moved r b P e h = subst (λ (x : Bool). IsTrue x ↔ P) (sym e) h
+
+pub each_keeps-requires-6-clause-tells : goal.each_keeps-requires-6-clause-tells
+each_keeps-requires-6-clause-tells c = λ i b post. search (rules, moved)

@@ -1,7 +1,7 @@
 use Rattle.std.proofs.Common.{ℕ, ◌+◌, ◌-◌, ◌/◌, ◌<◌, arith}
 use Rattle.dconf_model.specs.Sound.{list_length, listed}
 use Rattle.gvdb_read.specs.Tables.{region}
-use Rattle.gvdb_read.proofs.Ascending.{stands_behind, stands_before}
+use Rattle.gvdb_read.proofs.Ascending.{occurs_after, occurs_before}
 use Rattle.gvdb_read.proofs.table.Table.is_found_by_halving.Goals as goal
 
 pub loop-low-preserved-then-found-number-2 : goal.loop-low-preserved-then-found-number-2
@@ -12,8 +12,8 @@ loop-low-preserved-then-found-number-2 c =
     let lower : listed t c.args.i middle < c.args.number = omega (arith, c.listed-found.ensures, c.if-found-number-2.true) in
     record {
       inside = c.loop-low.invariant.inside;
-      not_before = λ k k_inside there. let behind : middle < k = stands_behind t c.args.i k middle c.args.number c.requires.ascends k_inside inside there lower in omega (arith, behind);
-      not_behind = c.loop-low.invariant.not_behind;
+      not_before = λ k k_inside there. let after : middle < k = occurs_after t c.args.i k middle c.args.number c.requires.ascends k_inside inside there lower in omega (arith, after);
+      not_after = c.loop-low.invariant.not_after;
     }
 
 pub loop-low-preserved : goal.loop-low-preserved
@@ -25,5 +25,5 @@ loop-low-preserved c =
     record {
       inside = omega (arith, inside);
       not_before = c.loop-low.invariant.not_before;
-      not_behind = λ k k_inside there. stands_before t c.args.i k middle c.args.number c.requires.ascends k_inside inside there higher;
+      not_after = λ k k_inside there. occurs_before t c.args.i k middle c.args.number c.requires.ascends k_inside inside there higher;
     }

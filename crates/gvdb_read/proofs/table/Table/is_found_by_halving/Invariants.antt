@@ -3,12 +3,12 @@ use Rattle.dconf_model.specs.Sound.{list_length, listed}
 use Rattle.gvdb_read.specs.Tables.{region}
 use Rattle.gvdb_read.proofs.table.Table.is_found_by_halving.Given as goal
 
--- the number stands between the two places if it stands anywhere
+-- the number occurs between the two places if it occurs anywhere
 abbrev pub invariant-loop-low : goal.invariant-loop-low
 invariant-loop-low l = record {
   inside : l.high ≤ list_length (region l.fn.self) l.i;
   not_before : (k : ℕ) → k < list_length (region l.fn.self) l.i → listed (region l.fn.self) l.i k ≡ l.number → l.low ≤ k;
-  not_behind : (k : ℕ) → k < list_length (region l.fn.self) l.i → listed (region l.fn.self) l.i k ≡ l.number → k < l.high;
+  not_after : (k : ℕ) → k < list_length (region l.fn.self) l.i → listed (region l.fn.self) l.i k ≡ l.number → k < l.high;
 }
 
 abbrev pub decreases-loop-low : goal.decreases-loop-low

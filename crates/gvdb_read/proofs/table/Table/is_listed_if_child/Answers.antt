@@ -1,7 +1,8 @@
 use Rattle.std.proofs.Common.{◌≡◌, ◌∙◌, Some, sym, ap}
 use Rattle.dconf_model.specs.Table.{Item, item}
+use Rattle.dconf_model.proofs.FullNames.{parent_counted}
 use Rattle.gvdb_read.specs.Tables.{region}
-use Rattle.gvdb_read.proofs.Places.{parent_counted, parent_is_list}
+use Rattle.gvdb_read.proofs.Places.{parent_is_list}
 use Rattle.gvdb_read.proofs.table.Table.is_listed_if_child.Goals as goal
 
 pub is_found_by_halving-requires : goal.is_found_by_halving-requires

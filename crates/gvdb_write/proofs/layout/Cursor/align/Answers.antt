@@ -1,6 +1,6 @@
 use Rattle.std.proofs.Common.{rules, ◌∙◌, subst}
 use Rattle.std.specs.Result.{IfErr}
-use Rattle.gvdb_write.specs.Laid.{IsPast}
+use Rattle.gvdb_write.specs.Limits.{IsPast}
 use Rattle.gvdb_write.proofs.Rounding.{rounded_past, rounded_whole}
 use Rattle.gvdb_write.proofs.layout.Cursor.align.Goals as goal
 

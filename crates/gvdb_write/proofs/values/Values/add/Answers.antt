@@ -8,7 +8,7 @@ pub returns-in-Some-clause-distinct : goal.returns-in-Some-clause-distinct
 returns-in-Some-clause-distinct c =
     let are = c.requires in
     let e = sym c.in-Some.ensures.value in
-    sym (there (bytes_of_each c.args.self.now.distinct.items) c.args.value.now c.in-Some.place.now (are.within c.args.value c.in-Some.place.now e, are.stands c.args.value c.in-Some.place.now e))
+    sym (there (bytes_of_each c.args.self.now.distinct.items) c.args.value.now c.in-Some.place.now (are.within c.args.value c.in-Some.place.now e, are.holds c.args.value c.in-Some.place.now e))
 
 pub returns-in-Some-clause-within : goal.returns-in-Some-clause-within
 returns-in-Some-clause-within c =
@@ -17,7 +17,7 @@ returns-in-Some-clause-within c =
     omega (arith, w, n)
 
 pub returns-in-Some-clause-place : goal.returns-in-Some-clause-place
-returns-in-Some-clause-place c = c.requires.stands c.args.value c.in-Some.place.now (sym c.in-Some.ensures.value)
+returns-in-Some-clause-place c = c.requires.holds c.args.value c.in-Some.place.now (sym c.in-Some.ensures.value)
 
 pub returns-clause-places : goal.returns-clause-places
 returns-clause-places c =

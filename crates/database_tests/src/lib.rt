@@ -1,0 +1,23 @@
+//! Tests of paths, and of databases as they are read, checked and written. There is no other code here.
+#![tactic(auto)]
+
+#[cfg(test)]
+mod checking;
+#[cfg(test)]
+mod faults;
+#[cfg(test)]
+mod finding;
+#[cfg(test)]
+mod maps;
+#[cfg(test)]
+mod opening;
+#[cfg(test)]
+mod paths;
+#[cfg(test)]
+mod slow_search;
+#[cfg(test)]
+mod vectors;
+#[cfg(test)]
+mod writing;
+#[cfg(test)]
+mod written;

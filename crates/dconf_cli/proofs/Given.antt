@@ -1,0 +1,80 @@
+-- How an answer comes about.
+use Rattle.std.proofs.Common.{◌≡◌, ◌∷◌, ◌++◌, ◌⊎◌, inl, inr, ℕ, List, [], Option, Some, None, Result, Err, refl, subst}
+use Rattle.dconf_disk.specs.declared.fault.FolderFault.{FolderFault}
+use Rattle.dconf_disk.specs.declared.fault.FolderFault.TheVariants.{Device, TooBig, Memory}
+use Rattle.dconf_model.specs.Folders.{Event}
+use Rattle.dconf_model.specs.FaultTexts.{device_text}
+use Rattle.dconf_model.specs.Replacing.{Replaced, MaybeReplaced}
+use Rattle.dconf_model.specs.Outcomes.{Outcome, Output, Replacement, changing, done, done_output, refused_output}
+use Rattle.dconf_cli.specs.declared.counted.Counted.{Counted}
+use Rattle.dconf_cli.specs.Answers.{refused_by}
+use Rattle.dconf_cli.specs.Counted.{Grew, Leaves, Prints, Unfailed}
+use Rattle.dconf_cli.specs.Endings.{Ends}
+use Rattle.dconf_cli.specs.Streams.{Rose}
+use Rattle.dconf_cli.proofs.Leaving.{leaves_line, leaves_text}
+use Rattle.std.specs.Prelude.{codes}
+
+module _ {F O E : Type 0} (past : F → List Event → Type 0) (failures : F → ℕ) (contents : O → Option (List ℕ)) (err_contents : E → Option (List ℕ)) where
+  -- the outcome was given: an output came about, and was left on out and err
+  abbrev pub Gives : F → F → Counted O → Counted O → Counted E → Counted E → Option Outcome → ℕ → Type 0
+  Gives old new out_old out_new err_old err_new o status =
+      (output : Output) × Ends past failures old new o output × Leaves contents err_contents out_old out_new err_old err_new output status
+
+  abbrev Wrote : Counted E → Counted E → List ℕ → Type 0
+  Wrote err_old err_new line = Unfailed err_old err_new → Grew err_contents err_old err_new line
+
+  pub gives_text : (folder : F) (out_old out_new : Counted O) (err : Counted E) (text bytes : List ℕ) (status : ℕ) → bytes ≡ text
+      → Prints contents out_old out_new bytes status → Gives folder folder out_old out_new err err (Some (done text)) status
+  gives_text folder out_old out_new err text bytes status same h =
+      (done_output text, (refl, refl), leaves_text contents err_contents out_old out_new err text status (subst (λ t. Prints contents out_old out_new t status) same h))
+
+  pub gives_line : (folder : F) (out : Counted O) (err_old err_new : Counted E) (line bytes : List ℕ) (status : ℕ) → bytes ≡ line → status ≡ 1
+      → Wrote err_old err_new bytes → Gives folder folder out out err_old err_new (Some (refused_by line)) status
+  gives_line folder out err_old err_new line bytes status same is h = (
+    record { out = []; err = line; status = 1 },
+    (refl, refl),
+    leaves_line contents err_contents out err_old err_new line status is (subst (λ t. Wrote err_old err_new t) same h),
+  )
+
+  pub gives_no_memory : (folder : F) (out : Counted O) (err_old err_new : Counted E) (status : ℕ) → status ≡ 1
+      → Wrote err_old err_new (codes "error: Memory" ++ 10 ∷ []) → Gives folder folder out out err_old err_new None status
+  gives_no_memory folder out err_old err_new status is h =
+      (refused_output (codes "Memory"), (refl, refl), leaves_line contents err_contents out err_old err_new (codes "error: Memory" ++ 10 ∷ []) status is h)
+
+  -- of a file that was to change
+  module _ (old new : F) (name bytes text : List ℕ) where
+    pub gives_no_memory_for_change : new ≡ old → (out : Counted O) (err_old err_new : Counted E) (status : ℕ) → status ≡ 1
+        → Wrote err_old err_new (codes "error: Memory" ++ 10 ∷ []) → Gives old new out out err_old err_new (Some (changing name bytes text)) status
+    gives_no_memory_for_change same out err_old err_new status is h = (
+      refused_output (codes "Memory"),
+      inr (inr (refl, same)),
+      leaves_line contents err_contents out err_old err_new (codes "error: Memory" ++ 10 ∷ []) status is h,
+    )
+
+    pub gives_change : (called held : List ℕ) → called ≡ name → held ≡ bytes → failures new ≡ failures old
+        → ((es : List Event) → past old es → (now : List Event) × past new now × Replaced es now called held)
+        → (out_old out_new : Counted O) (err : Counted E) (put : List ℕ) (status : ℕ) → put ≡ text → Prints contents out_old out_new put status
+        → Gives old new out_old out_new err err (Some (changing name bytes text)) status
+    gives_change called held named whole same replaced out_old out_new err put status is h = (
+      done_output text,
+      inl (refl, same, λ es p. let r = replaced es p in (r.0, r.1, subst (λ n. Replaced es r.0 n bytes) named (subst (λ b. Replaced es r.0 called b) whole r.2))),
+      leaves_text contents err_contents out_old out_new err text status (subst (λ t. Prints contents out_old out_new t status) is h),
+    )
+
+    pub gives_device : (called held : List ℕ) → called ≡ name → held ≡ bytes → Rose (failures old) (failures new)
+        → ((es : List Event) → past old es → (now : List Event) × past new now × MaybeReplaced es now called held)
+        → (out : Counted O) (err_old err_new : Counted E) (put : List ℕ) (status : ℕ) → put ≡ codes "error: Device " ++ (name ++ 10 ∷ []) → status ≡ 1
+        → Wrote err_old err_new put → Gives old new out out err_old err_new (Some (changing name bytes text)) status
+    gives_device called held named whole rose maybe out err_old err_new put status is one h = (
+      refused_output (device_text name),
+      inr (inl (refl, rose, λ es p. let r = maybe es p in (r.0, r.1, subst (λ n. MaybeReplaced es r.0 n bytes) named (subst (λ b. MaybeReplaced es r.0 called b) whole r.2)))),
+      leaves_line contents err_contents out err_old err_new (codes "error: Device " ++ (name ++ 10 ∷ [])) status one (subst (λ t. Wrote err_old err_new t) is h),
+    )
+
+abbrev pub failed_by : (T : Type 0) → FolderFault → Result T FolderFault
+failed_by T f = Err f
+
+-- `replace` reads no file, so it finds none too big
+pub never_too_big : (T : Type 0) (f : FolderFault) → f ≡ TooBig → (failed_by T f ≡ failed_by T Device) ⊎ (failed_by T f ≡ failed_by T Memory) → ⊥
+never_too_big T f is (inl e) = cc
+never_too_big T f is (inr e) = cc

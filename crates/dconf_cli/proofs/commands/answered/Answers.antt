@@ -1,0 +1,18 @@
+use Rattle.std.proofs.Common.{string_bytes, subst, sym}
+use Rattle.dconf_model.specs.Commands.{Command}
+use Rattle.dconf_model.specs.Commands.Command.{show, check}
+use Rattle.dconf_model.specs.Outcomes.{IsOutcome}
+use Rattle.dconf_cli.specs.Commands.{command_of}
+use Rattle.dconf_cli.specs.Readings.{Decides}
+use Rattle.dconf_cli.proofs.commands.answered.Goals as goal
+
+pub returns-in-Show : goal.returns-in-Show
+returns-in-Show g c = λ input.
+    let D : Command → Type 0 = λ k. Decides g.F.Folder.past g.F.Folder.failed c.args.folder.now c.show.new.folder 0 (λ reads. IsOutcome k reads input) c.show.result in
+    subst (λ k. D (command_of k)) (sym c.in-Show.is) (subst (λ n. D (show (string_bytes c.in-Show.type_text) n)) c.as_str-in-Show.ensures.value
+    (subst (λ t. D (show t c.as_str-in-Show.result.now)) c.as_str.ensures.value (c.show.ensures input)))
+
+pub returns-in-Check : goal.returns-in-Check
+returns-in-Check g c = λ input.
+    let D : Command → Type 0 = λ k. Decides g.F.Folder.past g.F.Folder.failed c.args.folder.now c.check.new.folder 0 (λ reads. IsOutcome k reads input) c.check.result in
+    subst (λ k. D (command_of k)) (sym c.in-Check.is) (subst (λ n. D (check n)) c.as_str-in-Check.ensures.value (c.check.ensures input))

@@ -1,6 +1,0 @@
-use Rattle.std.proofs.Common.{arith}
-use Rattle.std.proofs.lemmas.Map.Text.{text_keys}
-use Rattle.dconf_cli.proofs.folder.memory.MemoryFolder.insert.Goals as goal
-
-pub returns-clause-others : goal.returns-clause-others
-returns-clause-others c = grind (arith, text_keys)

@@ -1,0 +1,26 @@
+-- How an answer comes about in a folder.
+use Rattle.std.specs.Prelude.{◌≡◌, ◌⊎◌, ℕ, List, Option, Some, None}
+use Rattle.dconf_model.specs.Folders.{Event}
+use Rattle.dconf_model.specs.FaultTexts.{device_text}
+use Rattle.dconf_model.specs.Replacing.{Replaced, MaybeReplaced}
+use Rattle.dconf_model.specs.Outcomes.{Outcome, Output, Replacement, refused_output}
+use Rattle.dconf_model.specs.Runs.{NoMemory}
+use Rattle.dconf_cli.specs.Streams.{Rose}
+
+module _ {F : Type 0} (past : F → List Event → Type 0) (failures : F → ℕ) (old new : F) where
+  -- a file was replaced; or the device failed, and the file is the old one or the new one; or memory ran out, and nothing was done
+  abbrev pub Replaces : Outcome → Replacement → Output → Type 0
+  Replaces o r output =
+      ((output ≡ o.output) × (failures new ≡ failures old) × ((es : List Event) → past old es → (now : List Event) × past new now × Replaced es now r.name r.bytes))
+      ⊎ (((output ≡ refused_output (device_text r.name)) × Rose (failures old) (failures new)
+      × ((es : List Event) → past old es → (now : List Event) × past new now × MaybeReplaced es now r.name r.bytes))
+      ⊎ (NoMemory output × (new ≡ old)))
+
+  abbrev pub EndsBy : Outcome → Option Replacement → Output → Type 0
+  EndsBy o None output = (output ≡ o.output) × (new ≡ old)
+  EndsBy o (Some r) output = Replaces o r output
+
+  -- what is written of an outcome, and what was done for it
+  abbrev pub Ends : Option Outcome → Output → Type 0
+  Ends None output = NoMemory output × (new ≡ old)
+  Ends (Some o) output = EndsBy o o.change output

@@ -1,0 +1,11 @@
+pub mod Fresh
+pub mod Staged
+pub mod Renamed
+pub mod Results
+pub mod CallLemmas
+pub mod Untouched
+pub mod ReadLemmas
+pub mod Crashes
+pub mod Made
+pub mod MadeAgain
+pub mod Wholes

@@ -1,0 +1,5 @@
+pub mod Failures
+pub mod Staging
+pub mod MemoryFolders
+pub mod Crashes
+pub mod StdFolders

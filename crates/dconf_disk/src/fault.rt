@@ -1,0 +1,24 @@
+//! Why a call of a folder failed.
+use std::alloc::AllocError;
+
+/// Why a call of a folder failed.
+#[derive(Clone, Copy, Debug, PartialEq, Eq)]
+pub enum FolderFault {
+    /// The device failed, or a call that needs a file found none. The folder has counted it.
+    Device,
+    /// The file has more than `LARGEST_FILE` bytes.
+    TooBig,
+    /// Out of memory.
+    Memory,
+}
+
+impl From<AllocError> for FolderFault {
+    ghost use Rattle.dconf_disk.specs.declared.fault.FolderFault.TheVariants.{Memory};
+    ghost use Rattle.std.specs.Prelude.{◌≡◌};
+
+    ghost from_gives = { λ _ fault. fault ≡ Memory };
+
+    fn from(_error: AllocError) -> Self {
+        FolderFault::Memory
+    }
+}

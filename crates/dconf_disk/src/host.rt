@@ -1,0 +1,179 @@
+//! The current folder of the host.
+ghost use Rattle.std.specs.Prelude.{◌≡◌, ◌≢◌, ◌<◌, ◌≤◌, ◌↔◌, None, Ok, Err, IfSome, IfOk, IfErr, IsOk, IsTrue, IsErrOf, IsErrAnd, OnErr, length};
+ghost use Rattle.std.specs.IoError.{error_kind};
+ghost use Rattle.dconf_disk.specs.Failures.{HasCause};
+
+use crate::{Folder, FolderFault, LARGEST_FILE};
+use std::alloc::Global;
+use std::fs::{File, OpenFile, OpenOptions};
+use std::io::{ErrorKind, Read, Write};
+use std::rt::Files;
+use std::{fs, io};
+
+/// The files of the current folder, by `rt`. What they hold no contract can say, nor that the host keeps what a folder is.
+#[derive(Drop)]
+pub struct StdFolder<R> {
+    rt: R,
+    failures: u64,
+}
+
+impl<R: Files> StdFolder<R> {
+    ghost use Rattle.dconf_disk.specs.StdFolders.{failures_of};
+
+    /// The current folder, with no failure yet.
+    pub fn new(rt: R) -> StdFolder<R>
+        ensures { failures_of result ≡ 0 }
+    {
+        StdFolder { rt, failures: 0 }
+    }
+
+    /// The answer of a call, whose fault is counted.
+    fn counted<T: Drop>(&mut self, answer: Result<T, FolderFault>) -> Result<T, FolderFault>
+        ensures same { result ≡ answer }
+        ensures cause { HasCause (failures_of self.old) (failures_of self.new) result }
+    {
+        if matches!(&answer, Err(FolderFault::Device)) {
+            self.failures = self.failures.saturating_add(1);
+        }
+        answer
+    }
+}
+
+impl<R: Files> Folder for StdFolder<R> {
+    ghost use Rattle.dconf_disk.specs.StdFolders.{failures_of};
+
+    // Nothing is known of what was done to it.
+    ghost past = { λ _ _. ⊥ };
+
+    ghost failed = { failures_of };
+
+    fn failures(&self) -> u64 {
+        self.failures
+    }
+
+    fn read(&mut self, alloc: Global, name: &str) -> Result<Option<Vec<u8>>, FolderFault> {
+        let answer = read_opened(alloc, fs::open(&self.rt, name));
+        self.counted(answer)
+    }
+
+    fn create(&mut self, name: &str) -> Result<(), FolderFault> {
+        let answer = written(make_new(&self.rt, name));
+        self.counted(answer)
+    }
+
+    fn append(&mut self, name: &str, bytes: &[u8]) -> Result<(), FolderFault> {
+        let answer = written(append_to(&self.rt, name, bytes));
+        self.counted(answer)
+    }
+
+    fn sync(&mut self, name: &str) -> Result<(), FolderFault> {
+        let answer = written(sync_at(&self.rt, name));
+        self.counted(answer)
+    }
+
+    fn rename(&mut self, from: &str, to: &str) -> Result<(), FolderFault> {
+        let answer = written(rename_to(&self.rt, from, to));
+        self.counted(answer)
+    }
+
+    fn sync_folder(&mut self) -> Result<(), FolderFault> {
+        let answer = written(sync_at(&self.rt, "."));
+        self.counted(answer)
+    }
+}
+
+// A new file, in the place of any other: one of that name may be another name's too, so it is not written over.
+fn make_new<R: Files>(rt: &R, name: &str) -> io::Result<()> {
+    match fs::remove_file(rt, name) {
+        Err(error) if error.kind() != ErrorKind::NotFound => return Err(error),
+        _ => {}
+    }
+    let _file = File::create_new(rt, name)?;
+    Ok(())
+}
+
+fn append_to<R: Files>(rt: &R, name: &str, bytes: &[u8]) -> io::Result<()> {
+    let mut file = OpenOptions::new().append(true).open(rt, name)?;
+    file.write_all(bytes)
+}
+
+// A file's bytes, or a folder's names.
+fn sync_at<R: Files>(rt: &R, name: &str) -> io::Result<()> {
+    fs::open(rt, name)?.sync_all()
+}
+
+// `sync_folder` syncs the current folder alone, so the names of any other are synced here.
+fn rename_to<R: Files>(rt: &R, from: &str, to: &str) -> io::Result<()> {
+    fs::rename(rt, from, to)?;
+    match to.rsplit_once("/") {
+        Some((folder, _)) if !folder.is_empty() => sync_at(rt, folder),
+        _ => Ok(()),
+    }
+}
+
+// A writing call's answer: whatever fails is the device.
+fn written(answer: io::Result<()>) -> Result<(), FolderFault>
+    ensures done { IsOk result ↔ IsOk answer }
+    ensures only { OnErr result (IsErrOf result FolderFault.Device) }
+{
+    match answer {
+        Ok(()) => Ok(()),
+        Err(_) => Err(FolderFault::Device),
+    }
+}
+
+// What was opened, read. Only a name that is not there is no file; any other failure is one.
+fn read_opened<F: OpenFile + Read + Drop>(
+    alloc: Global,
+    opened: io::Result<F>,
+) -> Result<Option<Vec<u8>>, FolderFault>
+    ensures fits { IfOk result (λ found. IfSome found (λ v. length v.items ≤ LARGEST_FILE)) }
+    ensures bytes { IfOk opened (λ file. IfOk result (λ found. IfSome found (λ v. IfSome (F.remaining file) (λ rest. v.items ≡ rest)))) }
+    ensures missing { IfOk result (λ found. found ≡ None → IsErrAnd opened (λ e. error_kind e ≡ ErrorKind.NotFound)) }
+    ensures absent { IfErr opened (λ e. error_kind e ≡ ErrorKind.NotFound → result ≡ Ok None) }
+    ensures memory { IfErr opened (λ e. error_kind e ≡ ErrorKind.OutOfMemory → result ≡ Err FolderFault.Memory) }
+    ensures device { IfErr opened (λ e. error_kind e ≢ ErrorKind.NotFound → error_kind e ≢ ErrorKind.OutOfMemory
+        → result ≡ Err FolderFault.Device) }
+{
+    match opened {
+        Ok(file) => Ok(Some(whole(alloc, file)?)),
+        Err(error) if error.kind() == ErrorKind::NotFound => Ok(None),
+        Err(error) => Err(fault_of(error)),
+    }
+}
+
+// All of the file's bytes, held once. A file that says that it is too big is not read, and of one that never ends no more is
+// read than shows it.
+fn whole<F: OpenFile + Read + Drop>(alloc: Global, file: F) -> Result<Vec<u8>, FolderFault>
+    ensures fits { IfOk result (λ v. length v.items ≤ LARGEST_FILE) }
+    ensures bytes { IfOk result (λ v. IfSome (F.remaining file) (λ rest. v.items ≡ rest)) }
+{
+    let length = file.metadata().map_err(fault_of)?.len();
+    if is_too_big(length) {
+        return Err(FolderFault::TooBig);
+    }
+    // Room for one byte more, so that the end is seen without growing.
+    let mut bytes = Vec::with_capacity(alloc, length as usize + 1)?;
+    match file.take(LARGEST_FILE + 1).read_to_end(&mut bytes) {
+        Ok(length) if is_too_big(length as u64) => Err(FolderFault::TooBig),
+        Ok(_) => Ok(bytes),
+        Err(error) => Err(fault_of(error)),
+    }
+}
+
+fn is_too_big(length: u64) -> bool
+    ensures { IsTrue result ↔ (LARGEST_FILE < length) }
+{
+    length > LARGEST_FILE
+}
+
+// What an error of the host is to one who reads.
+fn fault_of(error: io::Error) -> FolderFault
+    ensures memory { error_kind error ≡ ErrorKind.OutOfMemory → result ≡ FolderFault.Memory }
+    ensures device { error_kind error ≢ ErrorKind.OutOfMemory → result ≡ FolderFault.Device }
+{
+    match error.kind() {
+        ErrorKind::OutOfMemory => FolderFault::Memory,
+        _ => FolderFault::Device,
+    }
+}

@@ -1,0 +1,198 @@
+//! A folder in memory, whose device fails when it is told to.
+ghost use Rattle.std.specs.Prelude.{◌≡◌, ◌⊎◌, ◌≤◌, ◌-◌, ◌↔◌, [], ◌∷◌, true, List, None, IfOk, IfSome, IsOk, OnOk, OnErr, IsErrOf, option_map, length};
+ghost use Rattle.dconf_model.specs.Folders.{Event, seen};
+ghost use Rattle.dconf_model.specs.Folders.Event.{create, append, sync, touch, rename};
+ghost use Rattle.dconf_model.specs.Reads.{IsOverSize};
+ghost use Rattle.dconf_disk.specs.Failures.{HasCause, failed_by};
+ghost use Rattle.dconf_disk.specs.MemoryFolders.{event_of, events_of, IsPast, failures_of, failing_call};
+
+use crate::calls::{
+    Call, append_call, content, create_call, file_of, rename_call, sync_call, touch_call,
+};
+use crate::{Folder, FolderFault, LARGEST_FILE};
+use std::alloc::{AllocError, Global};
+
+/// A folder in memory, which is the record of the calls that were made on it.
+///
+/// A growth that is refused to a writing call is a fault of its device.
+#[derive(Drop)]
+pub struct MemoryFolder {
+    pub(crate) alloc: Global,
+    pub(crate) calls: Vec<Call>,
+    failures: u64,
+    // The call that fails, counted from the next one as 1. 0 is none.
+    fails_in: u64,
+}
+
+impl MemoryFolder {
+    /// An empty folder, whose calls all succeed. It takes no memory.
+    pub fn new(alloc: Global) -> Self
+        ensures past { IsPast result [] }
+        ensures failures { failures_of result ≡ 0 }
+        ensures succeeds { failing_call result ≡ 0 }
+    {
+        MemoryFolder {
+            alloc,
+            calls: Vec::new(alloc),
+            failures: 0,
+            fails_in: 0,
+        }
+    }
+
+    /// Has the k-th call from now on fail, once, those of `failures` not counted; the next call is 1. With 0 none does.
+    pub fn fail_at(&mut self, k: u64)
+        ensures calls { self.new.calls ≡ self.old.calls }
+        ensures failures { failures_of self.new ≡ failures_of self.old }
+        ensures fails { failing_call self.new ≡ k }
+    {
+        self.fails_in = k;
+    }
+
+    /// Counts a fault of the device.
+    fn fault(&mut self) -> FolderFault
+        ensures calls { self.new.calls ≡ self.old.calls }
+        ensures failing { self.new.fails_in ≡ self.old.fails_in }
+        ensures cause { HasCause self.old.failures self.new.failures (failed_by result) }
+        ensures only { result ≡ FolderFault.Device }
+    {
+        self.failures = self.failures.saturating_add(1);
+        FolderFault::Device
+    }
+
+    /// Whether this call is the one that is to fail.
+    fn is_failing(&mut self) -> bool
+        ensures is { (result ≡ true) ↔ (self.old.fails_in ≡ 1) }
+        ensures counts { self.new.fails_in ≡ self.old.fails_in - 1 }
+        ensures calls { self.new.calls ≡ self.old.calls }
+        ensures failures { self.new.failures ≡ self.old.failures }
+    {
+        let fails = self.fails_in == 1;
+        self.fails_in = self.fails_in.saturating_sub(1);
+        fails
+    }
+
+    /// Counts a call on a name that has no file, and its fault.
+    fn refuse(&mut self) -> FolderFault
+        ensures counts { self.new.fails_in ≡ self.old.fails_in - 1 }
+        ensures calls { self.new.calls ≡ self.old.calls }
+        ensures cause { HasCause self.old.failures self.new.failures (failed_by result) }
+        ensures only { result ≡ FolderFault.Device }
+    {
+        let _fails = self.is_failing();
+        self.fault()
+    }
+
+    /// Notes a call, unless it is to fail or there is no memory for it.
+    #[tactic(auto, using(crate::proofs::CallLemmas::events_of_push))]
+    fn note(&mut self, call: Result<Call, AllocError>) -> Result<(), FolderFault>
+        ensures ok { OnOk result (IfOk call (λ k. events_of self.new.calls.items ≡ event_of k ∷ events_of self.old.calls.items)) }
+        ensures had { OnOk result (IsOk call) }
+        ensures err { OnErr result (self.new.calls.items ≡ self.old.calls.items) }
+        ensures fails { self.old.fails_in ≡ 1 → IsErrOf result FolderFault.Device }
+        ensures counts { self.new.fails_in ≡ self.old.fails_in - 1 }
+        ensures cause { HasCause self.old.failures self.new.failures result }
+        ensures only { OnErr result (IsErrOf result FolderFault.Device) }
+    {
+        if self.is_failing() {
+            return Err(self.fault());
+        }
+        let Ok(call) = call else {
+            return Err(self.fault());
+        };
+        if self.calls.push(call).is_err() {
+            return Err(self.fault());
+        }
+        Ok(())
+    }
+
+    /// Notes that an append or a sync failed, if there is memory for it.
+    #[tactic(auto, using(crate::proofs::CallLemmas::events_of_push))]
+    fn touch(&mut self, name: &str)
+        ensures events { (events_of self.new.calls.items ≡ touch name.now ∷ events_of self.old.calls.items) ⊎ (events_of self.new.calls.items ≡ events_of self.old.calls.items) }
+        ensures failures { self.new.failures ≡ self.old.failures }
+        ensures failing { self.new.fails_in ≡ self.old.fails_in }
+    {
+        let Ok(call) = touch_call(self.alloc, name) else {
+            return;
+        };
+        let _noted = self.calls.push(call).is_ok();
+    }
+
+    fn is_there(&self, name: &str) -> bool
+        ensures { result ≡ true → (es : List Event) → IsPast self.now es → seen es name.now ≡ None → ⊥ }
+    {
+        file_of(&self.calls, name).is_some()
+    }
+}
+
+impl Folder for MemoryFolder {
+    ghost use Rattle.dconf_disk.specs.MemoryFolders.{IsPast};
+
+    ghost past = { λ m es. IsPast m es };
+
+    ghost failed = { λ m. failures_of m };
+
+    fn failures(&self) -> u64 {
+        self.failures
+    }
+
+    /// The call that was told to fail does, before it looks for the file.
+    fn read(&mut self, alloc: Global, name: &str) -> Result<Option<Vec<u8>>, FolderFault>
+        ensures past { (es : List Event) → IsPast self.old es → IsPast self.new es }
+        ensures bytes { (es : List Event) → IsPast self.old es → IfOk result (λ found. option_map (λ v. v.items) found ≡ seen es name.now) }
+        ensures size { IfOk result (λ found. IfSome found (λ v. length v.items ≤ LARGEST_FILE)) }
+        ensures too_big { (es : List Event) → IsPast self.old es → IsErrOf result FolderFault.TooBig → IsOverSize (seen es name.now) }
+        ensures cause { HasCause (failures_of self.old) (failures_of self.new) result }
+        ensures fails { IsErrOf result FolderFault.Device ↔ (failing_call self.old ≡ 1) }
+        ensures counts { failing_call self.new ≡ failing_call self.old - 1 }
+    {
+        if self.is_failing() {
+            return Err(self.fault());
+        }
+        let Some(file) = file_of(&self.calls, name) else {
+            return Ok(None);
+        };
+        let bytes = content(alloc, &self.calls, file)?;
+        if bytes.len() as u64 > LARGEST_FILE {
+            return Err(FolderFault::TooBig);
+        }
+        Ok(Some(bytes))
+    }
+
+    fn create(&mut self, name: &str) -> Result<(), FolderFault> {
+        self.note(create_call(self.alloc, name))
+    }
+
+    fn append(&mut self, name: &str, bytes: &[u8]) -> Result<(), FolderFault> {
+        if !self.is_there(name) {
+            return Err(self.refuse());
+        }
+        let noted = self.note(append_call(self.alloc, name, bytes));
+        if noted.is_err() {
+            self.touch(name);
+        }
+        noted
+    }
+
+    fn sync(&mut self, name: &str) -> Result<(), FolderFault> {
+        if !self.is_there(name) {
+            return Err(self.refuse());
+        }
+        let noted = self.note(sync_call(self.alloc, name));
+        if noted.is_err() {
+            self.touch(name);
+        }
+        noted
+    }
+
+    fn rename(&mut self, from: &str, to: &str) -> Result<(), FolderFault> {
+        if !self.is_there(from) {
+            return Err(self.refuse());
+        }
+        self.note(rename_call(self.alloc, from, to))
+    }
+
+    fn sync_folder(&mut self) -> Result<(), FolderFault> {
+        self.note(Ok(Call::SyncFolder))
+    }
+}

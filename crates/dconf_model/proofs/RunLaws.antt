@@ -1,0 +1,83 @@
+-- Laws of runs.
+use Rattle.std.specs.Prelude.{◌≡◌, ◌≢◌, ◌⊎◌, ◌<◌, ℕ, List, [], ◌∷◌, length, Option, Some, None, refl, Bool, true, false}
+use Rattle.std.proofs.Common.{inl, inr, subst, sym, ap, ◌∙◌, arith}
+use Rattle.std.specs.Str.{bytes_eq}
+use Rattle.std.specs.Cmp.Lexicographic.{bytes_decides}
+use Rattle.dconf_model.specs.Folders.{Event, MayLeave, MayHaveLeft}
+use Rattle.dconf_model.specs.Replacing.{MayReplace, new_name}
+use Rattle.dconf_model.specs.Commands.{Command}
+use Rattle.dconf_model.specs.Reads.{Reads, Input, steady}
+use Rattle.dconf_model.specs.Outcomes.{Output, Outcome, Replacement, IsOutcome}
+use Rattle.dconf_model.specs.Folders.{seen}
+use Rattle.dconf_model.specs.Runs.{RanCalmly, ReadsAll, Ending, Did, AnswersIn, EndsCalmly, CalmRuns, RunsAreCrashSafe, IsCrashSafe, MayMake, IsNewName, written}
+use Rattle.dconf_model.specs.Runs.Ending.{as_meant, device}
+
+steady_reads : (old : List Event) (reads : Reads) → ReadsAll old reads → reads ≡ steady (seen old)
+steady_reads old reads all = λ i n name. all n name i
+
+calm_from : (command : Command) (input : Input) (reads : Reads) (old new : List Event) (output : Output) → reads ≡ steady (seen old) →
+    (answers : AnswersIn command input reads old new output) → EndsCalmly answers → RanCalmly command input old new output
+calm_from command input reads old new output same (inl p) calm = inl (record {
+  outcome = p.0.outcome;
+  is = subst (λ r. IsOutcome command r input p.0.outcome) same p.0.is;
+  did = subst (λ e. Did p.0.outcome.change e old new) calm p.1;
+  output_is = p.0.output_is ∙ ap (written p.0.outcome) calm;
+})
+calm_from command input reads old new output same (inr m) calm = inr m
+
+pub calm_runs : CalmRuns
+calm_runs command input old new output r all calm = calm_from command input r.reads old new output (steady_reads old r.reads all) r.answers calm
+
+-- ---- crashes
+
+too_late : (es : List Event) (since : ℕ) (name : List ℕ) (c : Option (List ℕ)) → length es < since → MayHaveLeft es since name c → ⊥
+too_late [] since name c late h = let early = h.0 in absurd (omega arith)
+too_late (e ∷ es) since name c late h = elim h [ inl now ↦ (let early = now.0 in absurd (omega arith)) | inr before ↦ too_late es since name c (omega arith) before ]
+
+only_now : (es : List Event) (name : List ℕ) (c : Option (List ℕ)) → MayHaveLeft es (length es) name c → MayLeave es name c
+only_now [] name c h = h.1
+only_now (e ∷ es) name c h = elim h [ inl now ↦ now.1 | inr before ↦ absurd (too_late es (length (e ∷ es)) name c (omega arith) before) ]
+
+unchanged : (old new : List Event) (name : List ℕ) (c : Option (List ℕ)) → new ≡ old → MayHaveLeft new (length old) name c → MayLeave old name c
+unchanged old new name c same h = only_now old name c (subst (λ es. MayHaveLeft es (length old) name c) same h)
+
+same_name : (a b : List ℕ) → (a ≡ b) ⊎ (a ≢ b)
+same_name a b = go (bytes_eq a b) refl
+  where
+    go : (r : Bool) → bytes_eq a b ≡ r → (a ≡ b) ⊎ (a ≢ b)
+    go true e = inl ((bytes_decides a b).0 e)
+    go false e = inr (λ same. differ (sym e ∙ (bytes_decides a b).1 same))
+      where
+        differ : false ≡ true → ⊥
+        differ d = absurd cc
+
+module _ (command : Command) (input : Input) (reads : Reads) (o : Outcome) (is : IsOutcome command reads input o) where
+  abbrev Safe : List Event → List ℕ → Option (List ℕ) → Type 0
+  Safe old name c = MayLeave old name c ⊎ (((bytes : List ℕ) × MayMake command input reads name bytes × (c ≡ Some bytes)) ⊎ IsNewName command input reads name)
+
+  replaced_safe : (r : Replacement) → o.change ≡ Some r → (old new : List Event) → MayReplace old new r.name r.bytes →
+      (name : List ℕ) (c : Option (List ℕ)) → MayHaveLeft new (length old) name c → Safe old name c
+  replaced_safe r change old new may name c h = elim (same_name name r.name) [
+    | inl own ↦ elim (may.own c (subst (λ n. MayHaveLeft new (length old) n c) own h)) [
+      | inl before ↦ inl (subst (λ n. MayLeave old n c) (sym own) before)
+      | inr made ↦ inr (inl (r.bytes, subst (λ n. MayMake command input reads n r.bytes) (sym own) (o, is, change), made))
+    ]
+    | inr other ↦ elim (same_name name (new_name r.name)) [
+      | inl fresh ↦ inr (inr (r.name, r.bytes, (o, is, change), fresh))
+      | inr apart ↦ inl (may.others name c other apart h)
+    ]
+  ]
+
+  safe : (change : Option Replacement) → o.change ≡ change → (e : Ending) (old new : List Event) → Did change e old new →
+      (name : List ℕ) (c : Option (List ℕ)) → MayHaveLeft new (length old) name c → Safe old name c
+  safe None change as_meant old new did name c h = inl (unchanged old new name c did h)
+  safe None change device old new did name c h = absurd did
+  safe (Some r) change as_meant old new did name c h = replaced_safe r change old new did.any_moment name c h
+  safe (Some r) change device old new did name c h = replaced_safe r change old new did.any_moment name c h
+
+pub runs_are_crash_safe : RunsAreCrashSafe
+runs_are_crash_safe command input old new output r = from r.answers
+  where
+    from : AnswersIn command input r.reads old new output → IsCrashSafe command input r.reads old new
+    from (inl p) name c h = safe command input r.reads p.0.outcome p.0.is p.0.outcome.change refl p.0.ending old new p.1 name c h
+    from (inr m) name c h = inl (unchanged old new name c m.1 h)

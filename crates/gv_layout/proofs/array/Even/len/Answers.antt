@@ -1,7 +1,0 @@
-use Rattle.std.proofs.Common.{sym}
-use Rattle.gv_types.specs.TypeStr.{ty}
-use Rattle.gv_layout.proofs.Elements.{even-length}
-use Rattle.gv_layout.proofs.array.Even.len.Goals as goal
-
-pub returns : goal.returns
-returns c = sym (even-length (ty c.args.self.element) c.args.self.len c.args.self.size c.args.self.at c.args.self.left)

@@ -1,0 +1,4 @@
+use Rattle.gv_layout.proofs.bounds.places.Goals as goal
+
+pub returns : goal.returns
+returns c = c.new.ensures

@@ -1,0 +1,5 @@
+use Rattle.std.proofs.Common.{rules}
+use Rattle.gv_tree.proofs.tree.Tree.depth.Goals as goal
+
+pub returns : goal.returns
+returns c = search rules

@@ -1,8 +1,0 @@
-use Rattle.std.proofs.Common.{rules, arith, below_more}
-use Rattle.gvdb_read.proofs.table.Table.first_against_once.Goals as goal
-
-pub loop-i-preserved : goal.loop-i-preserved
-loop-i-preserved c = below_more _ _ c.loop-i.invariant (c.is_only_named.ensures.0 (search rules))
-
-pub returns-clause-none : goal.returns-clause-none
-returns-clause-none c = λ j counted. c.loop-i.invariant j (omega arith)

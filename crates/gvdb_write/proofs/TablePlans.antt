@@ -1,0 +1,215 @@
+-- The tables of a map's names are the plan of its database.
+use Rattle.std.proofs.Common.{◌≡◌, ◌<◌, ◌≤◌, ℕ, List, [], length, get_or, Option, Some, None, refl, sym, ap, ◌∙◌, ◌&&◌, not, subst, arith, inl, inr, ⊎_elim, is_some}
+use Rattle.std.specs.Prelude.{IsTrue, IsUtf8, Contains, option_map}
+use Rattle.std.specs.FinMap.{get, keys}
+use Rattle.std.proofs.lemmas.Bool.{cases_lt, and_parts}
+use Rattle.std.proofs.lemmas.Option.{same_Some, none-some}
+use Rattle.dconf_model.specs.Bytes.{hash_of}
+use Rattle.dconf_model.specs.Table.{value_kind}
+use Rattle.dconf_model.specs.Settings.{Settings, IsSettings}
+use Rattle.dconf_model.specs.Paths.{is_path, starts_with_slash, has_two_slashes, is_short, has_zero_byte}
+use Rattle.dconf_model.specs.Renumbered.{renumbered}
+use Rattle.dconf_model.specs.Entries.{Entry, Entries, bucket_of, IsSpelled, IsEntry, AreEntries, IsLockEntry, EachEntry}
+use Rattle.dconf_model.specs.Plans.{IsRootName, IsLockName, AreNamed, Precedes, HasValueEntry, IsPlanOf}
+use Rattle.dconf_model.proofs.Renumbered.{name_at as name_by_number, kind_at as kind_by_number, name_is, entries_renumbered, root_renumbered}
+use Rattle.gvdb_write.specs.declared.names.Named.{Named}
+use Rattle.gvdb_write.specs.declared.table.TablePlan.{TablePlan}
+use Rattle.gvdb_write.specs.Groups.{ComesFirst}
+use Rattle.gvdb_write.specs.PlanWords.{kind_of, content_bytes, entries_of, plan_of}
+use Rattle.gvdb_write.specs.Names.{named, name_at, IsBefore, AreAscending, NameHasParent, AreNamesOf, AreLockNames}
+use Rattle.gvdb_write.specs.ItemOrder.{IsTableOf}
+use Rattle.gvdb_write.proofs.NamesEntries.{are_entries, once_each, are_root_entries, all_there}
+use Rattle.gvdb_write.proofs.PathTexts.{IsPathText, path_text}
+use Rattle.gvdb_write.proofs.KeysRise.{keys_rise, kept_is_listed, kept_at}
+
+module _ (names : List Named) (t : TablePlan) (is : IsTableOf names t) where
+  pub here_in_names : (i : ℕ) → i < length t.items.items → i < length names
+  here_in_names i here = subst (λ (n : ℕ). i < n) is.renumbered.counted here
+
+  name_of_item : (i : ℕ) → i < length t.items.items → name_at t.items.items i ≡ name_at names (is.order i)
+  name_of_item i here = name_is (entries_of names) (entries_of t.items.items) is.order is.number i is.renumbered (here_in_names i here)
+
+  later : (i j : ℕ) → i < j → j < length t.items.items → is.order i ≤ is.order j → is.order i < is.order j
+  later i j less here le =
+      let a = is.renumbered.forth i (here_in_names i (omega (arith, less, here))) in
+      let b = is.renumbered.forth j (here_in_names j here) in
+      ⊎_elim (λ (l : is.order i < is.order j). l)
+      (λ (ge : is.order j ≤ is.order i).
+      let same : is.order i ≡ is.order j = omega (arith, le, ge) in
+      let bad : i ≡ j = sym a ∙ (ap is.number same ∙ b) in
+      absurd (omega (arith, bad, less)))
+      (cases_lt (is.order i) (is.order j))
+
+  precedes : AreAscending names → (i j : ℕ) → i < j → j < length t.items.items → Precedes (entries_of t.items.items) i j
+  precedes ascending i j less here = by (is.ordered i j less here)
+    where
+      by : ComesFirst (bucket_of (entries_of t.items.items) i, is.order i) (bucket_of (entries_of t.items.items) j, is.order j) → Precedes (entries_of t.items.items) i j
+      by (inl l) = inl l
+      by (inr m) =
+          let l = later i j less here m.1 in
+          inr (
+            m.0,
+            subst (λ (x : List ℕ). IsBefore x (name_at t.items.items j)) (sym (name_of_item i (omega (arith, less, here))))
+                (subst (λ (x : List ℕ). IsBefore (name_at names (is.order i)) x) (sym (name_of_item j here))
+                (ascending (is.order i) (is.order j) l (is.renumbered.ordered j (here_in_names j here)))),
+          )
+
+  pub are_named : (IsName : List ℕ → Type 0) → AreAscending names → ((i : ℕ) → i < length names → IsName (name_at names i)) → ((name : List ℕ) → IsName name → (i : ℕ) × (i < length names) × (name_at names i ≡ name)) → AreNamed IsName (entries_of t.items.items)
+  are_named IsName ascending each all = record {
+    each = λ i here. subst IsName (sym (name_of_item i here)) (each (is.order i) (is.renumbered.ordered i (here_in_names i here)));
+    all = λ name named.
+        let f = all name named in (
+          is.number f.0,
+          subst (λ (n : ℕ). is.number f.0 < n) (sym is.renumbered.counted) (is.renumbered.numbered f.0 f.1),
+          name_by_number (entries_of names) (entries_of t.items.items) is.order is.number f.0 is.renumbered f.1 ∙ f.2,
+        );
+    ordered = precedes ascending;
+  }
+
+module _ (s : Settings) (names : List Named) (t : TablePlan) (are : AreNamesOf s names) (is : IsTableOf names t) where
+  pub root_values : (i : ℕ) → i < length t.items.items → kind_of (named t.items.items i).content ≡ value_kind → get s.values (name_at t.items.items i) ≡ Some (content_bytes (named t.items.items i).content)
+  root_values i here kind =
+      let same = is.contents i here in
+      let there = is.renumbered.ordered i (here_in_names names t is i here) in
+      ap (λ (x : List ℕ). get s.values x) (name_of_item names t is i here)
+      ∙ (are.values (is.order i) there (ap (λ c. kind_of c) (sym same) ∙ kind) ∙ ap (λ c. Some (content_bytes c)) (sym same))
+
+  root_keys : (locks : TablePlan) (path bytes : List ℕ) → get s.values path ≡ Some bytes → HasValueEntry (plan_of t locks) path bytes
+  root_keys locks path bytes at =
+      let f = are.keys path (ap (λ (o : Option (List ℕ)). is_some o) at) in
+      let i = is.number f.at in
+      let here : is.number f.at < length t.items.items = subst (λ (n : ℕ). is.number f.at < n) (sym is.renumbered.counted) (is.renumbered.numbered f.at f.counted) in
+      let name : name_at t.items.items (is.number f.at) ≡ path = name_by_number (entries_of names) (entries_of t.items.items) is.order is.number f.at is.renumbered f.counted ∙ f.named in
+      let kind : kind_of (named t.items.items (is.number f.at)).content ≡ value_kind = kind_by_number (entries_of names) (entries_of t.items.items) is.order is.number f.at is.renumbered f.counted ∙ f.of_kind in
+      let held = root_values (is.number f.at) here kind in (
+        is.number f.at,
+        here,
+        name,
+        kind,
+        same_Some (content_bytes (named t.items.items (is.number f.at)).content) bytes
+            (sym (ap (λ (x : List ℕ). get s.values x) (sym name) ∙ held) ∙ at),
+      )
+
+  pub root_named : AreNamed (IsRootName s) (entries_of t.items.items)
+  root_named = are_named names t is (IsRootName s) are.good.ascending are.each (all_there s names are)
+
+  pub root_entries : AreEntries (entries_of t.items.items)
+  root_entries = entries_renumbered (entries_of names) (entries_of t.items.items) is.order is.number is.renumbered (are_entries names are.good.placed are.good.ascending)
+
+-- ---- the locks
+
+starts : (path : List ℕ) → IsTrue (is_path path) → IsTrue (starts_with_slash path)
+starts path is =
+    let q = and_parts (starts_with_slash path && not (has_zero_byte path) && not (has_two_slashes path)) (is_short path) is in
+    let r = and_parts (starts_with_slash path && not (has_zero_byte path)) (not (has_two_slashes path)) q.0 in
+    (and_parts (starts_with_slash path) (not (has_zero_byte path)) r.0).0
+
+abbrev lock_entry : List ℕ → Entry
+lock_entry path = record { name = path; key = path; parent = None; kind = value_kind }
+
+is_lock_entry : (path : List ℕ) → IsTrue (is_path path) → IsLockEntry (lock_entry path)
+is_lock_entry path is = record { value = refl; whole = refl; absolute = starts path is }
+
+renumbered_lock : (number : ℕ → ℕ) (x : Entry) → IsLockEntry x → IsLockEntry (renumbered number x)
+renumbered_lock number x is = record {
+  value = is.value;
+  whole = ap (λ (o : Option ℕ). option_map number o) is.whole;
+  absolute = is.absolute;
+}
+
+-- what an entry has to be, where it is the entry of a lock
+lock_is_entry : (e : Entries) (i : ℕ) (path : List ℕ) → e.entry i ≡ lock_entry path → IsPathText path → IsUtf8 path → IsEntry e i
+lock_is_entry e i path is text utf8 =
+    let first = text.first.here in
+    let key : path ≡ (e.entry i).key = sym (ap (λ (x : Entry). x.key) is) in
+    record {
+      spelled = subst (λ (o : Option ℕ). IsSpelled e i o) (sym (ap (λ (x : Entry). x.parent) is)) (ap (λ (x : Entry). x.name) is ∙ key);
+      some = subst (λ (k : List ℕ). 0 < length k) key first;
+      utf8 = subst (λ (k : List ℕ). IsUtf8 k) key utf8;
+      no_nul = subst (λ (k : List ℕ). ¬ Contains k 0) key (λ there. text.no_nul there.0 there.1 there.2);
+      of_kind = inl (ap (λ (x : Entry). x.kind) is);
+    }
+
+module _ (s : Settings) (names : List Named) (t : TablePlan) (settings : IsSettings s) (are : AreLockNames s names) (is : IsTableOf names t) where
+  abbrev LockAt : ℕ → List ℕ
+  LockAt i = get_or (keys s.locks) i []
+
+  listed_here : (i : ℕ) → i < length names → i < length (keys s.locks)
+  listed_here i here = subst (λ (n : ℕ). i < n) are.counted here
+
+  lock_path : (i : ℕ) → i < length names → IsTrue (is_path (LockAt i))
+  lock_path i here = settings.locked (LockAt i) (kept_is_listed s.locks i (listed_here i here))
+
+  lock_name : (i : ℕ) → i < length names → name_at names i ≡ LockAt i
+  lock_name i here = ap (λ (x : Entry). x.name) (are.each i here).entry
+
+  locks_ascend : AreAscending names
+  locks_ascend i j less here =
+      subst (λ (x : List ℕ). IsBefore x (name_at names j)) (sym (lock_name i (omega (arith, less, here))))
+      (subst (λ (x : List ℕ). IsBefore (LockAt i) x) (sym (lock_name j here)) ((keys_rise s.locks).rising i j less (listed_here j here)))
+
+  lock_entries : AreEntries (entries_of names)
+  lock_entries = record {
+    each = λ i here. lock_is_entry (entries_of names) i (LockAt i) (are.each i here).entry (path_text (LockAt i) (lock_path i here)) (are.each i here).utf8;
+    once = once_each names locks_ascend;
+  }
+
+  all_locks_there : (name : List ℕ) → IsLockName s name → (i : ℕ) × (i < length names) × (name_at names i ≡ name)
+  all_locks_there name kept =
+      let f = kept_at s.locks name kept in
+      let here : f.0 < length names = subst (λ (n : ℕ). f.0 < n) (sym are.counted) f.1 in
+      (f.0, here, lock_name f.0 here ∙ f.2)
+
+  pub locks_named : AreNamed (IsLockName s) (entries_of t.items.items)
+  locks_named =
+      are_named names t is (IsLockName s) locks_ascend
+      (λ i here. subst (λ (x : List ℕ). IsLockName s x) (sym (lock_name i here)) (kept_is_listed s.locks i (listed_here i here)))
+      all_locks_there
+
+  pub locks_entries : AreEntries (entries_of t.items.items)
+  locks_entries = entries_renumbered (entries_of names) (entries_of t.items.items) is.order is.number is.renumbered lock_entries
+
+  pub locks_are : EachEntry (entries_of t.items.items) (λ i. IsLockEntry ((entries_of t.items.items).entry i))
+  locks_are i here =
+      let l = here_in_names names t is i here in
+      let o = is.renumbered.ordered i l in
+      subst (λ (x : Entry). IsLockEntry x) (sym (is.renumbered.entries i l))
+      (renumbered_lock is.number ((entries_of names).entry (is.order i))
+      (subst (λ (x : Entry). IsLockEntry x) (sym (are.each (is.order i) o).entry) (is_lock_entry (LockAt (is.order i)) (lock_path (is.order i) o))))
+
+-- ---- hashes and directories, as a table is made of names that have them
+
+parent_within : (names : List Named) (i : ℕ) → i < length names → (o : Option ℕ) → NameHasParent names i o → (p : ℕ) → o ≡ Some p → p < length names
+parent_within names i here None has_parent p is = absurd (none-some p is)
+parent_within names i here (Some q) has_parent p is =
+    let before = has_parent.0 in
+    let same : q ≡ p = cc in
+    omega (arith, before, here, same)
+
+module _ (s : Settings) (names : List Named) where
+  pub root_hashes : AreNamesOf s names → (k : ℕ) → k < length names → (named names k).hash ≡ hash_of (named names k).name.now
+  root_hashes are k here = (are.good.placed k here).fit.hash
+
+  pub root_parents : AreNamesOf s names → (k p : ℕ) → k < length names → (named names k).parent ≡ Some p → p < length names
+  root_parents are k p here is = parent_within names k here (named names k).parent (are.good.placed k here).has_parent p is
+
+  pub lock_hashes : AreLockNames s names → (k : ℕ) → k < length names → (named names k).hash ≡ hash_of (named names k).name.now
+  lock_hashes are k here = (are.each k here).hash
+
+  pub lock_parents : AreLockNames s names → (k p : ℕ) → k < length names → (named names k).parent ≡ Some p → p < length names
+  lock_parents are k p here is = absurd (none-some p (sym (ap (λ (x : Entry). x.parent) (are.each k here).entry) ∙ is))
+
+-- ---- the plan
+
+pub tables_are_plan : (s : Settings) (names lock_names : List Named) (root locks : TablePlan) → IsSettings s → AreNamesOf s names → IsTableOf names root → AreLockNames s lock_names → IsTableOf lock_names locks → IsPlanOf s (plan_of root locks)
+tables_are_plan s names lock_names root locks settings are is locks_of is_locks = record {
+  names = root_named s names root are is;
+  entries = root_entries s names root are is;
+  places = root_renumbered (entries_of names) (entries_of root.items.items) is.order is.number is.renumbered (are_entries names are.good.placed are.good.ascending) (are_root_entries names are.good);
+  children = is.children;
+  values = root_values s names root are is;
+  keys = root_keys s names root are is locks;
+  lock_names = locks_named s lock_names locks settings locks_of is_locks;
+  lock_entries = locks_entries s lock_names locks settings locks_of is_locks;
+  locks = locks_are s lock_names locks settings locks_of is_locks;
+}

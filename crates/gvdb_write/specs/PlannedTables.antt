@@ -1,0 +1,43 @@
+-- Two tables by which the database of settings is laid: the root table, and that of the locks.
+use Rattle.std.specs.Prelude.{ℕ, ◌+◌, ◌<◌, ◌≡◌, List, length, slice_index}
+use Rattle.dconf_model.specs.Bytes.{hash_of}
+use Rattle.dconf_model.specs.Table.{list_kind}
+use Rattle.dconf_model.specs.Settings.{Settings, IsSettings}
+use Rattle.dconf_model.specs.Entries.{AreFirsts, bucket_of}
+use Rattle.dconf_model.specs.Plans.{IsPlanOf, IsLaidBy, length_of}
+use Rattle.dconf_model.specs.Opening.{IsDatabase, root_of}
+use Rattle.gvdb_write.specs.declared.table.TablePlan.{TablePlan}
+use Rattle.gvdb_write.specs.PlanWords.{entries_of, plan_of}
+use Rattle.gvdb_write.specs.Names.{named, name_at, kind_at}
+use Rattle.gvdb_write.specs.LayoutParts.{CanBeLaid, AreLocks}
+
+-- the items are in the order of their buckets, each with the hash of its name
+pub record AreItems (t : TablePlan) : Type 0 where
+  pub bucketed : length t.buckets.items ≡ length t.items.items
+  pub firsts : AreFirsts (length t.items.items) (length t.items.items) (bucket_of (entries_of t.items.items)) (λ g. slice_index t.buckets.items g)
+  pub hashes : (i : ℕ) → i < length t.items.items → (named t.items.items i).hash ≡ hash_of (name_at t.items.items i)
+
+-- they are the plan of a database of some settings
+pub record AreTables (root locks : TablePlan) : Type 0 where
+  pub settings : Settings
+  pub are_settings : IsSettings settings
+  pub plan : IsPlanOf settings (plan_of root locks)
+  pub top : (i : ℕ) × (i < length root.items.items) × (kind_at root.items.items i ≡ list_kind)
+  pub root_items : AreItems root
+  pub lock_items : AreItems locks
+
+-- they are the plan of these settings, and can be laid
+pub record AreReady (s : Settings) (root locks : TablePlan) : Type 0 where
+  pub are_settings : IsSettings s
+  pub plan : IsPlanOf s (plan_of root locks)
+  pub tables : AreTables root locks
+  pub root_items : CanBeLaid root.items.items
+  pub lock_items : CanBeLaid locks.items.items
+  pub firsts : length root.firsts.items ≡ length root.items.items + 1
+  pub are_locks : AreLocks locks.items.items
+
+-- the file is a database that is laid by their plan, and as long as the plan says
+pub record IsFileOf (root locks : TablePlan) (file : List ℕ) : Type 0 where
+  pub opens : IsDatabase file
+  pub laid : IsLaidBy (root_of file) (plan_of root locks)
+  pub whole : length file ≡ length_of (plan_of root locks)

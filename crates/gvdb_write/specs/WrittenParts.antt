@@ -1,0 +1,58 @@
+-- What the writing functions append to a file.
+use Rattle.std.specs.Prelude.{ℕ, ◌+◌, ◌-◌, ◌/◌, ◌≤◌, ◌<◌, ◌≡◌, ◌⊎◌, List, ◌++◌, length, map, fold, drop, replicate, slice_index, slice_index_or}
+use Rattle.std.specs.List.{flat_map}
+use Rattle.gv_model.specs.Layout.{round_up}
+use Rattle.gv_model.specs.Limits.{limit}
+use Rattle.dconf_model.specs.TableBytes.{ItemRecord, table_bytes}
+use Rattle.dconf_model.specs.TableEncoding.{HasBits}
+use Rattle.gvdb_write.specs.declared.layout.ItemRecord.{ItemRecord as Numbers}
+use Rattle.gvdb_write.specs.declared.names.Named.{Named}
+use Rattle.gvdb_write.specs.declared.table.TablePlan.{TablePlan}
+use Rattle.gvdb_write.specs.ItemRecords.{record_of}
+use Rattle.gvdb_write.specs.PlanWords.{no_name}
+
+-- each has four bytes
+abbrev pub HaveFourBytes : List ℕ → Type 0
+HaveFourBytes numbers = (i : ℕ) → i < length numbers → slice_index numbers i ≤ limit
+
+abbrev pub HaveNumbers : List (ℕ × ℕ) → Type 0
+HaveNumbers members = (i : ℕ) → i < length members → (slice_index_or members i (0, 0)).1 ≤ limit
+
+-- each key begins in its name
+abbrev pub HaveKeys : List Named → Type 0
+HaveKeys items = (i : ℕ) → i < length items → (slice_index_or items i no_name).from ≤ length (slice_index_or items i no_name).name.now
+
+-- the bits of each hash are set
+abbrev pub HaveBits : List ℕ → List Named → Type 0
+HaveBits words items = (i : ℕ) → i < length items → HasBits words (slice_index_or items i no_name).hash
+
+abbrev pub keys_bytes : List Named → List ℕ
+keys_bytes items = flat_map (λ n. drop n.from n.name.now) items
+
+abbrev pub records_of : List Numbers → List ItemRecord
+records_of rows = map record_of rows
+
+-- the members of groups, without their groups
+abbrev pub numbers_of : List (ℕ × ℕ) → List ℕ
+numbers_of members = map (λ m. m.1) members
+
+-- zero bytes up to a multiple of a number
+abbrev pub with_padding : ℕ → List ℕ → List ℕ
+with_padding to file = file ++ replicate (round_up to (length file) - length file) 0
+
+-- the bytes of a table come after what was there, and its keys after them
+pub record HasTable (table : TablePlan) (rows : List Numbers) (before after : List ℕ) : Type 0 where
+  pub words : List ℕ
+  pub counted : length words ≡ (length table.items.items + 15) / 16
+  pub bits : HaveBits words table.items.items
+  pub bytes : after ≡ with_padding 4 before ++ (table_bytes words table.buckets.items (records_of rows) ++ keys_bytes table.items.items)
+
+-- the same of a table of locks, which is left out where there are none
+abbrev pub HasTableOfLocks : TablePlan → List Numbers → List ℕ → List ℕ → Type 0
+HasTableOfLocks locks rows before after =
+    (0 < length locks.items.items) × HasTable locks rows before after
+    ⊎ (length locks.items.items ≡ 0) × (after ≡ before)
+
+-- values after what was there, each at a multiple of 8
+abbrev pub with_values : List ℕ → List (List ℕ) → List ℕ
+with_values file values = fold (λ l value. with_padding 8 l ++ value) file values

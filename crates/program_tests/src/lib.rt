@@ -1,0 +1,26 @@
+//! Tests of the program: the words of command lines, and runs over a folder in memory and streams that fail.
+//! There is no other code here.
+#![tactic(auto)]
+
+#[cfg(test)]
+mod check;
+#[cfg(test)]
+mod containers;
+#[cfg(test)]
+mod counted;
+#[cfg(test)]
+mod failing;
+#[cfg(test)]
+mod limits;
+#[cfg(test)]
+mod runs;
+#[cfg(test)]
+mod show;
+#[cfg(test)]
+mod streams;
+#[cfg(test)]
+mod type_faults;
+#[cfg(test)]
+mod widths;
+#[cfg(test)]
+mod words;

@@ -1,0 +1,152 @@
+//! The words of a command line.
+use clap::error::ErrorKind;
+use dconf_cli::{Command, command};
+use std::alloc::{AllocError, Global};
+use std::test::Fail;
+
+fn texts(alloc: Global, words: &[&str]) -> Result<Vec<String>, AllocError> {
+    let mut texts = Vec::new(alloc);
+    for word in words {
+        texts.push(String::from_str(alloc, word)?)?;
+    }
+    Ok(texts)
+}
+
+#[test]
+fn reads_show(rt: HostRuntime) -> Result<(), Fail> {
+    let alloc = rt.alloc();
+    let lines = [
+        ["dconfdb", "show", "au", "two"].as_slice(),
+        ["dconfdb", "show", "--", "au", "two"].as_slice(),
+    ];
+    for line in lines {
+        let words = texts(alloc, line)?;
+        assert!(rt; shows(&command(alloc, &words)?, "au", "two"));
+    }
+    let words = texts(alloc, &["dconfdb", "show", "s", "--", "-x"])?;
+    assert!(rt; shows(&command(alloc, &words)?, "s", "-x"));
+    Ok(())
+}
+
+/// Whether it is `show` of this type and this file.
+fn shows(asked: &Command, wanted_type: &str, wanted_file: &str) -> bool {
+    match asked {
+        Command::Show { type_text, file } => {
+            type_text.as_str() == wanted_type && file.as_str() == wanted_file
+        }
+        _ => false,
+    }
+}
+
+/// Whether it is `check` of this file.
+fn checks(asked: &Command, wanted_file: &str) -> bool {
+    match asked {
+        Command::Check { file } => file.as_str() == wanted_file,
+        _ => false,
+    }
+}
+
+#[test]
+fn reads_check(rt: HostRuntime) -> Result<(), Fail> {
+    let alloc = rt.alloc();
+    let words = texts(alloc, &["dconfdb", "check", "site.db"])?;
+    assert!(rt; checks(&command(alloc, &words)?, "site.db"));
+    let words = texts(alloc, &["dconfdb", "check", "--", "-x"])?;
+    assert!(rt; checks(&command(alloc, &words)?, "-x"));
+    Ok(())
+}
+
+#[test]
+fn refuses_other_words(rt: HostRuntime) -> Result<(), Fail> {
+    let alloc = rt.alloc();
+    let lines = [
+        (["dconfdb"].as_slice(), ErrorKind::MissingSubcommand),
+        (
+            ["dconfdb", "shoe", "au", "two"].as_slice(),
+            ErrorKind::InvalidSubcommand,
+        ),
+        (
+            ["dconfdb", "show", "au"].as_slice(),
+            ErrorKind::MissingRequiredArgument,
+        ),
+        (
+            ["dconfdb", "show", "au", "two", "three"].as_slice(),
+            ErrorKind::UnknownArgument,
+        ),
+        (
+            ["dconfdb", "show", "au", "-x"].as_slice(),
+            ErrorKind::UnknownArgument,
+        ),
+        (
+            ["dconfdb", "check"].as_slice(),
+            ErrorKind::MissingRequiredArgument,
+        ),
+        (
+            ["dconfdb", "check", "one", "two"].as_slice(),
+            ErrorKind::UnknownArgument,
+        ),
+        (["dconfdb", "help"].as_slice(), ErrorKind::DisplayHelp),
+        (
+            ["dconfdb", "help", "show"].as_slice(),
+            ErrorKind::DisplayHelp,
+        ),
+        (
+            ["dconfdb", "help", "shoe"].as_slice(),
+            ErrorKind::InvalidSubcommand,
+        ),
+        (["dconfdb", "--help"].as_slice(), ErrorKind::DisplayHelp),
+        (
+            ["dconfdb", "show", "--help"].as_slice(),
+            ErrorKind::DisplayHelp,
+        ),
+        (
+            ["dconfdb", "--version"].as_slice(),
+            ErrorKind::DisplayVersion,
+        ),
+    ];
+    for (line, kind) in lines {
+        let words = texts(alloc, line)?;
+        match command(alloc, &words) {
+            Ok(_) => assert!(rt; false, "taken"),
+            Err(error) => assert!(rt; error.kind() == kind, "{error}"),
+        }
+    }
+    Ok(())
+}
+
+#[test]
+fn shows_help(rt: HostRuntime) -> Result<(), Fail> {
+    let alloc = rt.alloc();
+    let lines = [
+        (
+            ["dconfdb", "--help"].as_slice(),
+            "Prints the bytes of FILE, read as a value",
+        ),
+        (
+            ["dconfdb", "--help"].as_slice(),
+            "Says whether FILE is a sound database",
+        ),
+        (
+            ["dconfdb", "check", "--help"].as_slice(),
+            "Usage: dconfdb check <FILE>",
+        ),
+        (
+            ["dconfdb", "show", "--help"].as_slice(),
+            "Usage: dconfdb show <TYPE> <FILE>",
+        ),
+        (
+            ["dconfdb", "help", "show"].as_slice(),
+            "Usage: dconfdb show <TYPE> <FILE>",
+        ),
+        (["dconfdb", "--version"].as_slice(), "dconfdb 0.1.0"),
+    ];
+    for (line, part) in lines {
+        let words = texts(alloc, line)?;
+        let shown = match command(alloc, &words) {
+            Ok(_) => String::new(alloc),
+            Err(error) => format!(in alloc; "{error}")?,
+        };
+        assert!(rt; shown.contains(part), "{shown}");
+    }
+    Ok(())
+}
