@@ -43,22 +43,20 @@ fn holds(alloc: Global, folder: &mut MemoryFolder, name: &str, bytes: &[u8]) -> 
 fn a_stopped_replacement_leaves_a_whole_file(rt: HostRuntime) -> Result<(), Fail> {
     let alloc = rt.alloc();
     for calls in 0..6 {
-        let mut old = 0;
-        let mut new = 0;
+        let mut may_be_old = false;
+        let mut may_be_new = false;
         for outcome in 0..OUTCOMES {
             let mut folder = stopped_after(alloc, calls);
             assert!(rt; folder.crash(outcome).is_ok());
-            if holds(alloc, &mut folder, NAME, b"old") {
-                old += 1;
-            }
-            if holds(alloc, &mut folder, NAME, b"new") {
-                new += 1;
-            }
+            let is_old = holds(alloc, &mut folder, NAME, b"old");
+            let is_new = holds(alloc, &mut folder, NAME, b"new");
+            assert!(rt; is_old != is_new);
+            may_be_old |= is_old;
+            may_be_new |= is_new;
         }
         // Up to the sync of the new file it is the old one; once the folder is synced, the new one; in between, either.
-        assert_eq!(rt; old + new, OUTCOMES);
-        assert_eq!(rt; old > 0, calls < 5);
-        assert_eq!(rt; new > 0, calls > 3);
+        assert_eq!(rt; may_be_old, calls < 5);
+        assert_eq!(rt; may_be_new, calls > 3);
     }
     Ok(())
 }
@@ -84,17 +82,15 @@ fn unsynced_bytes_may_be_any(rt: HostRuntime) -> Result<(), Fail> {
     let alloc = rt.alloc();
     let left: [&[u8]; 6] = [b"", b"a", b"ab", b"abc", b"\0", b"\xff"];
     for bytes in left {
-        let mut times = 0;
+        let mut may_be_left = false;
         for outcome in 0..2_000 {
             let mut folder = MemoryFolder::new(alloc);
             let made = folder.create(NAME).is_ok() && folder.append(NAME, b"abc").is_ok();
             assert!(rt; made && folder.sync_folder().is_ok());
             assert!(rt; folder.crash(outcome).is_ok());
-            if holds(alloc, &mut folder, NAME, bytes) {
-                times += 1;
-            }
+            may_be_left |= holds(alloc, &mut folder, NAME, bytes);
         }
-        assert!(rt; times > 0);
+        assert!(rt; may_be_left);
     }
     Ok(())
 }
@@ -103,7 +99,7 @@ fn unsynced_bytes_may_be_any(rt: HostRuntime) -> Result<(), Fail> {
 fn each_name_is_old_or_new(rt: HostRuntime) -> Result<(), Fail> {
     let alloc = rt.alloc();
     // Whether each of the two names has the file: the four outcomes of a rename.
-    let mut seen = [0; 4];
+    let mut seen = [false; 4];
     for outcome in 0..16 {
         let mut folder = MemoryFolder::new(alloc);
         let made = folder.create("a").is_ok() && folder.append("a", b"x").is_ok();
@@ -112,32 +108,28 @@ fn each_name_is_old_or_new(rt: HostRuntime) -> Result<(), Fail> {
         assert!(rt; folder.crash(outcome).is_ok());
         let has_a = holds(alloc, &mut folder, "a", b"x");
         let has_b = holds(alloc, &mut folder, "b", b"x");
-        seen[usize::from(has_a) * 2 + usize::from(has_b)] += 1;
+        seen[usize::from(has_a) * 2 + usize::from(has_b)] = true;
     }
-    for times in seen {
-        assert!(rt; times > 0);
-    }
+    assert!(rt; seen == [true; 4]);
     Ok(())
 }
 
 #[test]
 fn a_file_that_no_sync_of_the_folder_saw_may_be_gone(rt: HostRuntime) -> Result<(), Fail> {
     let alloc = rt.alloc();
-    let mut gone = 0;
-    let mut there = 0;
+    let mut may_be_gone = false;
+    let mut may_be_there = false;
     for outcome in 0..16 {
         let mut folder = MemoryFolder::new(alloc);
         let made = folder.create("a").is_ok() && folder.append("a", b"x").is_ok();
         assert!(rt; made && folder.sync("a").is_ok());
         assert!(rt; folder.crash(outcome).is_ok());
-        if matches!(folder.read(alloc, "a"), Ok(None)) {
-            gone += 1;
-        }
-        if holds(alloc, &mut folder, "a", b"x") {
-            there += 1;
-        }
+        let is_gone = matches!(folder.read(alloc, "a"), Ok(None));
+        let is_there = holds(alloc, &mut folder, "a", b"x");
+        assert!(rt; is_gone != is_there);
+        may_be_gone |= is_gone;
+        may_be_there |= is_there;
     }
-    assert!(rt; gone > 0 && there > 0);
-    assert_eq!(rt; gone + there, 16);
+    assert!(rt; may_be_gone && may_be_there);
     Ok(())
 }
