@@ -6,6 +6,7 @@ pub mod OpenLaws
 pub mod WorkedTables
 pub mod PathLaws
 pub mod WorkedPaths
+pub mod SettingsIn
 pub mod SoundLaws
 pub mod WorkedSound
 pub mod FullNames
@@ -29,6 +30,7 @@ pub mod FirstParts
 pub mod DirectoryNames
 pub mod SoundRows
 pub mod PartsBelow
+pub mod KeyNames
 pub mod ListedParts
 pub mod WorkedParts
 pub mod OneOrder

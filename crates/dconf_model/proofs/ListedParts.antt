@@ -1,13 +1,13 @@
 -- The keys in a directory's list of a sound table are its children's keys, in the list's order.
 use Rattle.std.proofs.Common.{◌≡◌, ◌<◌, ◌+◌, ◌*◌, Bool, cond, ℕ, zero, suc, List, [], ◌∷◌, ◌++◌, length, refl, sym, ap, ◌∙◌, subst, arith}
-use Rattle.std.specs.Prelude.{slice_index_or}
+use Rattle.std.specs.Prelude.{slice_index_or, IsUtf8}
 use Rattle.dconf_model.specs.Bytes.{u32_at}
 use Rattle.dconf_model.specs.Table.{Table, item, key, list_kind}
 use Rattle.dconf_model.specs.Names.{HasName, IsItem, IsRow}
 use Rattle.dconf_model.specs.Listed.{key_if_any, listed_keys, keys_in_list}
 use Rattle.dconf_model.specs.Sound.{IsSound, IsChild, ListsChildren, list_length, listed}
 use Rattle.dconf_model.specs.Sound.Rule.{keys, lists}
-use Rattle.dconf_model.specs.SoundLaws.{IsPartBelow, ListsFirstParts, ListsPartsOnce}
+use Rattle.dconf_model.specs.SoundLaws.{IsPartBelow, ListsFirstParts, ListsTexts, ListsPartsOnce}
 use Rattle.dconf_model.proofs.RowLaws.{counted, one_item}
 use Rattle.dconf_model.proofs.FullNames.{here}
 use Rattle.dconf_model.proofs.ComputedNames.{is_tested}
@@ -86,6 +86,11 @@ lists_first_parts t directory i part sound row = (
         listed_key t i k.0 part sound l k.1 ∙ (ap (key t) k.2 ∙ c.2),
       ),
 )
+
+pub lists_texts : ListsTexts
+lists_texts t directory i part sound row has =
+    let c = part_is_child t directory i part sound row ((lists_first_parts t directory i part sound row).0 has) in
+    subst IsUtf8 c.2 (sound keys c.0 c.1.0).utf8
 
 -- ---- once each
 

@@ -75,7 +75,7 @@ first_of_part t j (inl a) = plain_first (key t j) a.1
 first_of_part t j (inr b) = ap first_part (sym (append-nil (key t j))) ∙ directory_first (key t j) [] b.1
 
 -- it doesn't go on after a slash
-no_more : (t : Table) (j : ℕ) (prefix rest : List ℕ) → IsPart t j → EndsInSlash prefix → key t j ≡ prefix ++ rest → 0 < length rest → ⊥
+pub no_more : (t : Table) (j : ℕ) (prefix rest : List ℕ) → IsPart t j → EndsInSlash prefix → key t j ≡ prefix ++ rest → 0 < length rest → ⊥
 no_more t j prefix rest part ends e some =
     let whole : key t j ≡ ends.0 ++ 47 ∷ rest =
     e ∙ (ap (λ (l : List ℕ). l ++ rest) ends.1 ∙ append_assoc ends.0 (47 ∷ []) rest) in
@@ -83,7 +83,7 @@ no_more t j prefix rest part ends e some =
     (λ b. let none = last_slash (key t j) ends.0 rest b.1 whole in omega (arith, none, some)) part
 
 -- a top item's name is no longer than a directory's
-no_top : (t : Table) (j : ℕ) (directory rest : List ℕ) → HasParent t j None → (item t j).kind ≢ table_kind → EndsInSlash directory → 0 < length rest → key t j ≡ directory ++ rest → ⊥
+pub no_top : (t : Table) (j : ℕ) (directory rest : List ℕ) → HasParent t j None → (item t j).kind ≢ table_kind → EndsInSlash directory → 0 < length rest → key t j ≡ directory ++ rest → ⊥
 no_top t j directory rest (inl a) other ends some e =
     let n : 1 ≡ length directory + length rest = ap length (sym a.1 ∙ e) ∙ length-append directory rest in
     let m = some_of_end directory ends in
@@ -114,7 +114,7 @@ child_above (p ∷ ps) t i directory d j rest h e other some =
       | before c m a b ↦ absurd (no_more t j (c ∷ m) rest below.1 (rest_ends directory (joined t p ps) c m d.ends a) b some)
     ]
 
-value_is_no_table : value_kind ≢ table_kind
+pub value_is_no_table : value_kind ≢ table_kind
 value_is_no_table e = omega (arith, e)
 
 -- a value is not the directory itself

@@ -1,12 +1,11 @@
 -- What a database says of settings, and the database that is written for settings.
 -- dconf(7), "Databases"; gvdb-format.h, as in Table and Sound.
-use Rattle.std.specs.Prelude.{◌≡◌, ◌≤◌, ◌<◌, ◌↔◌, ℕ, zero, suc, List, [], ◌∷◌, ◌++◌, length, map, Option, Some, None, Result, Ok, Err, IsTrue, codes, ◌==◌, if◌then◌else◌}
-use Rattle.std.specs.List.{range_with_len}
+use Rattle.std.specs.Prelude.{◌≡◌, ◌≤◌, ◌<◌, ◌↔◌, ℕ, zero, suc, List, [], ◌∷◌, ◌++◌, length, Option, Some, None, Result, Ok, Err, IsTrue, codes, ◌==◌, if◌then◌else◌}
 use Rattle.std.specs.Str.{bytes_eq}
 use Rattle.std.specs.FinMap.{contains_key, from_entries}
 use Rattle.dconf_model.specs.Bytes.{longest_file}
 use Rattle.dconf_model.specs.Paths.{is_path}
-use Rattle.dconf_model.specs.Settings.{Settings, Lock, no_settings}
+use Rattle.dconf_model.specs.Settings.{Settings, IsSettings, Lock, no_settings}
 use Rattle.dconf_model.specs.Table.{Table, table_of, item, item_count, bytes_of, value_kind}
 use Rattle.dconf_model.specs.Names.{HasName, name_of}
 use Rattle.dconf_model.specs.Opening.{OpenFault, IsDatabase, IsOpenFault, root_of}
@@ -38,38 +37,46 @@ pub record Says (file : List ℕ) (s : Settings) : Type 0 where
   pub values : HoldsValues (root_of file) s
   pub locks : (path : List ℕ) → IsTrue (contains_key s.locks path) ↔ (IsTrue (is_path path) × NamesLock (root_of file) path)
 
--- the same, computed: the rows of so many items
-abbrev pub row_at : Table → ℕ → Option (List ℕ) → List (List ℕ × List ℕ)
-row_at t i None = []
-row_at t i (Some name) = if (item t i).kind == value_kind then (name, bytes_of t i) ∷ [] else []
+-- ---- the same, computed
 
-abbrev pub rows_below : Table → ℕ → List (List ℕ × List ℕ)
-rows_below t zero = []
-rows_below t (suc i) = rows_below t i ++ row_at t i (name_of t i)
+-- what so many items give, in their order
+abbrev pub gathered : {X : Type 0} → (ℕ → List X) → ℕ → List X
+gathered f zero = []
+gathered f (suc i) = gathered f i ++ f i
 
-abbrev pub paths_in : List (Option (List ℕ)) → List (List ℕ × Lock)
-paths_in [] = []
-paths_in (None ∷ more) = paths_in more
-paths_in (Some name ∷ more) = if is_path name then (name, tt) ∷ paths_in more else paths_in more
+-- an item of this name gives its row, if it is a value
+abbrev pub row_of_value : Table → ℕ → Option (List ℕ) → List (List ℕ × List ℕ)
+row_of_value t i None = []
+row_of_value t i (Some name) = if (item t i).kind == value_kind then (name, bytes_of t i) ∷ [] else []
 
-abbrev pub names_of : Table → List (Option (List ℕ))
-names_of t = map (name_of t) (range_with_len 0 (item_count t))
+abbrev pub value_rows : Table → List (List ℕ × List ℕ)
+value_rows t = gathered (λ i. row_of_value t i (name_of t i)) (item_count t)
 
-abbrev pub locks_at : Table → ℕ → Option (List ℕ) → List (List ℕ × Lock)
-locks_at t i None = []
-locks_at t i (Some name) = if bytes_eq name (codes ".locks") then paths_in (names_of (table_of t i)) else []
+-- each name that is a path is a lock
+abbrev pub lock_of_name : Option (List ℕ) → List (List ℕ × Lock)
+lock_of_name None = []
+lock_of_name (Some name) = if is_path name then (name, tt) ∷ [] else []
 
-abbrev pub locks_below : Table → ℕ → List (List ℕ × Lock)
-locks_below t zero = []
-locks_below t (suc i) = locks_below t i ++ locks_at t i (name_of t i)
+abbrev pub named_locks : Table → List (List ℕ × Lock)
+named_locks t = gathered (λ i. lock_of_name (name_of t i)) (item_count t)
+
+-- an item of this name gives the locks of its table, if it is `.locks`
+abbrev pub locks_of_item : Table → ℕ → Option (List ℕ) → List (List ℕ × Lock)
+locks_of_item t i None = []
+locks_of_item t i (Some name) = if bytes_eq name (codes ".locks") then named_locks (table_of t i) else []
+
+abbrev pub lock_rows : Table → List (List ℕ × Lock)
+lock_rows t = gathered (λ i. locks_of_item t i (name_of t i)) (item_count t)
 
 abbrev pub settings_in : List ℕ → Settings
-settings_in file =
-    let t = root_of file in
-    record { values = from_entries (rows_below t (item_count t)); locks = from_entries (locks_below t (item_count t)) }
+settings_in file = record { values = from_entries (value_rows (root_of file)); locks = from_entries (lock_rows (root_of file)) }
 
 abbrev pub SaysWhatIsInIt : Type 0
 SaysWhatIsInIt = (file : List ℕ) → IsDatabase file → IsSound (root_of file) → Says file (settings_in file)
+
+-- its values are at the paths of keys, and its locks are paths
+abbrev pub SaysSettings : Type 0
+SaysSettings = (file : List ℕ) (s : Settings) → IsSound (root_of file) → Says file s → IsSettings s
 
 abbrev pub SaysOneThing : Type 0
 SaysOneThing = (file : List ℕ) (s t : Settings) → Says file s → Says file t → s ≡ t

@@ -1,7 +1,8 @@
 -- Laws of sound tables: what a search of one finds, what `.locks` holds, and what the list of a directory gives.
-use Rattle.std.specs.Prelude.{◌≡◌, ◌≢◌, ◌<◌, ◌↔◌, ℕ, List, ◌++◌, Some, None, Contains, AllPairs, codes}
+use Rattle.std.specs.Prelude.{◌≡◌, ◌≢◌, ◌<◌, ◌↔◌, ℕ, List, ◌++◌, Some, None, Contains, AllPairs, IsTrue, IsUtf8, codes}
 use Rattle.std.specs.Io.BufRead.{take_through}
-use Rattle.dconf_model.specs.Table.{Table, Opens, item_count, key, value_kind, list_kind, table_kind, table_of}
+use Rattle.dconf_model.specs.Paths.{is_key_path, ends_with_slash}
+use Rattle.dconf_model.specs.Table.{Table, Opens, item, item_count, key, value_kind, list_kind, table_kind, table_of}
 use Rattle.dconf_model.specs.Names.{HasName, IsRow, Rows}
 use Rattle.dconf_model.specs.Search.{Finds}
 use Rattle.dconf_model.specs.Listed.{keys_in_list}
@@ -33,6 +34,18 @@ LocksAreSearchable =
     (t : Table) (i : ℕ) → IsSound t → HasName t i (codes ".locks") →
     IsRow t (codes ".locks") table_kind i × HoldsLocksAlone (table_of t i)
 
+-- ---- the names of values
+
+-- a value's name is the path of a key
+abbrev pub ValuesAreAtKeys : Type 0
+ValuesAreAtKeys = (t : Table) (name : List ℕ) (i : ℕ) → IsSound t → HasName t i name → (item t i).kind ≡ value_kind → IsTrue (is_key_path name)
+
+-- a directory with whose name a value's name starts has a list
+abbrev pub DirectoriesAreListed : Type 0
+DirectoriesAreListed =
+    (t : Table) (directory rest : List ℕ) (v : ℕ) → IsSound t → IsTrue (ends_with_slash directory) →
+    HasName t v (directory ++ rest) → (item t v).kind ≡ value_kind → (i : ℕ) × IsRow t directory list_kind i
+
 -- ---- the list of a directory
 
 -- the first part of what follows a directory's name: up to and with the first `/`, or all of it where there is none
@@ -49,6 +62,12 @@ abbrev pub ListsFirstParts : Type 0
 ListsFirstParts =
     (t : Table) (directory : List ℕ) (i : ℕ) (part : List ℕ) → IsSound t → IsRow t directory list_kind i →
     Contains (keys_in_list t i) part ↔ IsPartBelow t directory part
+
+-- they are texts
+abbrev pub ListsTexts : Type 0
+ListsTexts =
+    (t : Table) (directory : List ℕ) (i : ℕ) (part : List ℕ) → IsSound t → IsRow t directory list_kind i →
+    Contains (keys_in_list t i) part → IsUtf8 part
 
 -- and no two of them are the same
 abbrev pub ListsPartsOnce : Type 0

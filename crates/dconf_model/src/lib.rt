@@ -8,7 +8,7 @@
 
 ghost use Rattle.dconf_model.specs.Paths.{KeysAreFaultless, DirectoriesAreFaultless};
 ghost use Rattle.dconf_model.specs.Sound.{SoundIsSearchable, SoundHasNoFault, HasOneFirstFault};
-ghost use Rattle.dconf_model.specs.SoundLaws.{SoundFindsRows, LocksAreSearchable, ListsFirstParts, ListsPartsOnce};
+ghost use Rattle.dconf_model.specs.SoundLaws.{SoundFindsRows, LocksAreSearchable, ValuesAreAtKeys, DirectoriesAreListed, ListsFirstParts, ListsTexts, ListsPartsOnce};
 ghost use Rattle.dconf_model.specs.Entries.{LaidIsSound, RowsAreEntries};
 ghost use Rattle.dconf_model.specs.Plans.{PlanIsSound, PlanHoldsValues, PlanHoldsLocks, OneLength};
 ghost use Rattle.dconf_model.specs.Laws.{FindsRowsAlone, FindsOneThing, HasOneItemPerName, FindsWhereRows, NameIsComputed, HasOneOpenFault};
@@ -19,7 +19,7 @@ ghost use Rattle.dconf_model.specs.Sessions.{UserFileSurvives};
 ghost use Rattle.std.specs.Prelude.{ℕ, List};
 ghost use Rattle.dconf_model.specs.Order.{OrderIsStable, ListingIsOnceEach};
 ghost use Rattle.dconf_model.specs.Keyfiles.{DumpReadsBack, DumpHasEachSetting, DumpIsInOrder};
-ghost use Rattle.dconf_model.specs.Databases.{SaysOneThing, WrittenSaysSettings};
+ghost use Rattle.dconf_model.specs.Databases.{SaysWhatIsInIt, SaysSettings, SaysOneThing, WrittenSaysSettings};
 ghost use Rattle.dconf_model.specs.Stores.{EachValueIsGiven, EachListingIsExact};
 
 /// A search in any table finds rows alone, and one thing only.
@@ -60,10 +60,17 @@ pub fn sound_rows_are_found()
 {}
 
 /// In a sound table the list of a directory gives, once each, the first parts of the names of values that start with the
-/// directory's name: what follows it up to and with the first `/`, or all where there is none.
+/// directory's name: what follows it up to and with the first `/`, or all where there is none. They are UTF-8.
 pub fn a_directory_lists_first_parts()
     ensures parts { ListsFirstParts }
+    ensures texts { ListsTexts }
     ensures once { ListsPartsOnce }
+{}
+
+/// In a sound table each value is named by the path of a key, and each directory of such a path has a list.
+pub fn sound_names_are_paths()
+    ensures keys { ValuesAreAtKeys }
+    ensures directories { DirectoriesAreListed }
 {}
 
 /// A text is a key path, or a directory path, exactly where it has no fault as one.
@@ -118,8 +125,11 @@ pub fn nothing_is_lost()
     ensures { UserFileSurvives }
 {}
 
-/// A file says one thing. A file that is written for settings says just these.
+/// A sound database says the settings that are computed from its items: values at the paths of keys, and locks at paths. A
+/// file says one thing. A file that is written for settings says just these.
 pub fn a_file_says_its_settings()
+    ensures is { SaysWhatIsInIt }
+    ensures paths { SaysSettings }
     ensures one { SaysOneThing }
     ensures written { WrittenSaysSettings }
 {}
