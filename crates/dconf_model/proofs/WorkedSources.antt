@@ -6,7 +6,7 @@ use Rattle.gv_model.specs.Tree.Tree.{number, text as text_value}
 use Rattle.gv_model.specs.Ty.Basic.{int32, uint32, string}
 use Rattle.gv_model.specs.Syntax.{levels}
 use Rattle.gv_model.specs.Grammar.{tokens_of}
-use Rattle.gv_model.specs.GrammarFaults.{fault_from}
+use Rattle.gv_model.specs.GrammarFaults.{first_fault}
 use Rattle.gv_model.specs.TreeReading.{read, list_items, tuple_items, pair_items}
 use Rattle.gv_model.specs.LeastTypes.{choice, least_in}
 use Rattle.gv_model.specs.Patterns.{common, under, exactly, pattern}
@@ -24,7 +24,7 @@ use Rattle.dconf_model.specs.Sources.File.{keyfile, lock_file}
 use Rattle.dconf_model.proofs.WorkedLines.{reading, text_of}
 
 unfoldable pub meaning : ℕ
-unfolding reading text_of digits computing lexing depth nodes tree_at levels tokens_of fault_from read list_items tuple_items pair_items choice common under exactly pattern least_in literal_value contents type_of_syntax value_of value_of_text encode number_bytes packed body_from ends_from open_ends_from least_width framed
+unfolding reading text_of digits computing lexing depth nodes tree_at levels tokens_of first_fault read list_items tuple_items pair_items choice common under exactly pattern least_in literal_value contents type_of_syntax value_of value_of_text encode number_bytes packed body_from ends_from open_ends_from least_width framed
 meaning = 0
 
 abbrev pub lines : List (List ℕ) → List ℕ

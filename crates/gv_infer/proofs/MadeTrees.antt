@@ -18,13 +18,12 @@ use Rattle.gv_tree.specs.declared.fault.TreeFault.{TreeFault}
 use Rattle.gv_tree.proofs.ListLaws.{none_other}
 use Rattle.gv_tree.specs.declared.fault.TreeFault.TheVariants as tree_faults
 use Rattle.gv_infer.specs.BareTypes.{bare_type}
-use Rattle.gv_infer.specs.ValueFaults.{FaultIs}
+use Rattle.gv_infer.specs.ValueFaults.{FaultIs, fault_of}
 use Rattle.gv_infer.specs.Building.{BuildsTo, IsBuilt, IsWithinLimits, IsContainerFault, IsConstructed, IsConstructedOf, IsNoneOrOfType, AreEntryParts, entry_node}
 use Rattle.gv_infer.specs.Children.{AreKeptIf, with_last, AllBuildTo, AllOfType, IsTupleTypeOf}
 use Rattle.std.specs.Global.{Vec}
-use Rattle.std.proofs.lemmas.Option.{same_Some}
+use Rattle.std.proofs.lemmas.Option.{IfSome_then, same_Some}
 use Rattle.gv_infer.specs.declared.value_fault.ValueFault.{ValueFault}
-use Rattle.gv_infer.specs.declared.value_fault.ValueFault.TheVariants as faults
 
 -- the type of a checked text is within the limits
 pub within_type : (w : List ℕ) → is_type w ≡ true → IsWithinLimits (type_at w)
@@ -87,14 +86,7 @@ unfolding depth
 deep_value t u v h = omega (arith, h)
 
 pub fault_as : (P Q : TheFault → Type 0) (e : ValueFault) → ((f : TheFault) → P f → Q f) → FaultIs P e → FaultIs Q e
-fault_as P Q faults.NoCommonType h f = h _ f
-fault_as P Q faults.Ambiguous h f = h _ f
-fault_as P Q faults.OutOfRange h f = h _ f
-fault_as P Q faults.BadObjectPath h f = h _ f
-fault_as P Q faults.BadSignature h f = h _ f
-fault_as P Q faults.DoubleText h f = h _ f
-fault_as P Q faults.TooDeep h f = h _ f
-fault_as P Q faults.Memory h f = tt
+fault_as P Q e h f = IfSome_then (fault_of e) f h
 
 pub maybe_built : (f : Ty → Result Tree TheFault) (t u : Ty) (child : Option Tree) (r : Result (Option Tree) ValueFault) → t ≡ maybe u → IsBuilt (at_maybes f u) (Ok child) → ((v : Tree) → BuildsTo child v → IsBuilt (Ok (node (maybe u) (first v none))) r) → IsBuilt (at_maybes f t) r
 maybe_built f t u child r e b j = rw e (subst (λ x. IsBuilt (in_node (maybe u) (only_one x)) r) (sym b.1) (j b.0 b.2))

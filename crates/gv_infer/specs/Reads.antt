@@ -7,11 +7,9 @@ use Rattle.gv_model.specs.Parsing.{IsTree}
 use Rattle.gv_model.specs.Chosen.Choice.{is}
 use Rattle.gv_model.specs.Literals.{ValueFault}
 use Rattle.gv_model.specs.TextValues.{HasChoice, HasValue}
-use Rattle.gv_text.specs.FaultTexts.{text_fault_text as text_fault}
 use Rattle.gv_text.specs.Parsed.{IsTextFault}
-use Rattle.gv_infer.specs.FaultTexts.{typing_fault_text as typing_fault}
 use Rattle.gv_infer.specs.Typings.{IsTypingFault}
-use Rattle.gv_infer.specs.ValueFaults.{FaultIs, value_fault_text as value_fault}
+use Rattle.gv_infer.specs.ValueFaults.{FaultIs}
 use Rattle.gv_infer.specs.declared.fault.TypingFault.{TypingFault}
 use Rattle.gv_infer.specs.declared.read_fault.ReadFault.{ReadFault}
 use Rattle.gv_infer.specs.declared.read_fault.ReadFault.TheVariants.{Text, Typing, Value}
@@ -35,9 +33,3 @@ abbrev pub IsReadFault : List ℕ → ReadFault → Type 0
 IsReadFault text (Text e) = IsTextFault text e
 IsReadFault text (Typing e) = HasTypingFault text e
 IsReadFault text (Value e) = FaultIs (λ f. Reads text (Err f)) e
-
--- how it is printed
-abbrev pub read_fault_text : ReadFault → List ℕ
-read_fault_text (Text e) = text_fault e
-read_fault_text (Typing e) = typing_fault e
-read_fault_text (Value e) = value_fault e

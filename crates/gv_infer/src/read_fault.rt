@@ -21,7 +21,7 @@ pub enum ReadFault {
 
 impl fmt::Display for ReadFault {
     ghost use Rattle.std.specs.Prelude.{Some};
-    ghost use Rattle.gv_infer.specs.Reads.{read_fault_text};
+    ghost use Rattle.gv_infer.specs.FaultTexts.{read_fault_text};
 
     ghost output = { λ fault. Some (read_fault_text fault) };
 

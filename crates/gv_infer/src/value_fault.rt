@@ -29,7 +29,7 @@ pub enum ValueFault {
 }
 
 impl ValueFault {
-    ghost use Rattle.gv_infer.specs.ValueFaults.{value_fault_text};
+    ghost use Rattle.gv_infer.specs.FaultTexts.{value_fault_text};
 
     /// How the fault is printed.
     fn name(self) -> &'static str
@@ -50,7 +50,7 @@ impl ValueFault {
 
 impl fmt::Display for ValueFault {
     ghost use Rattle.std.specs.Prelude.{Some};
-    ghost use Rattle.gv_infer.specs.ValueFaults.{value_fault_text};
+    ghost use Rattle.gv_infer.specs.FaultTexts.{value_fault_text};
 
     ghost output = { λ fault. Some (value_fault_text fault) };
 

@@ -1,5 +1,5 @@
 -- What the fault of tokens says of the tokens before it.
-use Rattle.std.proofs.Common.{◌≡◌, ◌≤◌, ◌<◌, ◌⊎◌, ℕ, suc, ◌+◌, Bool, true, false, cond, List, [], ◌∷◌, ◌++◌, length, take, Option, Some, None, Result, Ok, Err, refl, sym, ap, ◌∙◌, subst, arith, nat_le, append_assoc}
+use Rattle.std.proofs.Common.{◌≡◌, ◌≤◌, ◌<◌, ◌⊎◌, ℕ, suc, ◌+◌, Bool, true, false, cond, List, [], ◌∷◌, ◌++◌, length, take, Option, Some, None, Ok, Err, refl, sym, ap, ◌∙◌, subst, arith, nat_le, append_assoc}
 use Rattle.std.proofs.Math.Seq.{take-append_seam, take-append-add}
 use Rattle.std.proofs.lemmas.List.{length-append}
 use Rattle.std.proofs.lemmas.Option.{none-some, same_Some}
@@ -10,12 +10,12 @@ use Rattle.gv_model.specs.Tokens.{Token, Mark}
 use Rattle.gv_model.specs.Tokens.Mark.{open_tuple, open_list, open_brace, open_box, close_tuple, close_list, close_brace, close_box, comma, colon}
 use Rattle.gv_model.specs.Tokens.Word.{truth, just, nothing, type_word}
 use Rattle.gv_model.specs.Tokens.Token.{mark, string_token, byte_string, integer_token, type_token, word}
-use Rattle.gv_model.specs.GrammarFaults.{Stage, Want, Next, NumberedFault, after_value, after_mark, begun_wants, at_end, wants_of, or_fault, grammar_fault}
+use Rattle.gv_model.specs.GrammarFaults.{Stage, Want, Next, Left, NumberedFault, after_value, after_mark, begun_wants, begun, stage_or_value, after_next, step, at_end, wants_of, or_fault, grammar_fault}
 use Rattle.gv_model.specs.GrammarFaults.Stage.{list_start, list_more, tuple_start, tuple_one, tuple_two, tuple_more, brace_start, brace_first, pair_more, pair_colon, lone_end, box_end}
 use Rattle.gv_model.specs.GrammarFaults.Want.{a_value, inside}
 use Rattle.gv_model.specs.GrammarFaults.Next.{closed, goes_on, value_then, wrong}
 use Rattle.gv_model.specs.TextLaws.{after_bracket, open_brackets, BeginsWithin, BeginsTree, IsUnfinished, EndsPrefix}
-use Rattle.gv_model.proofs.LevelLimits.{begun_to, stage_to, next_to, step_to, fault_to, fault_128}
+use Rattle.gv_model.proofs.LevelLimits.{fault_to, fault_128}
 use Rattle.gv_model.proofs.FirstFaults.{AfterTokens, after_tokens, after_step, prefix_begins, no_tree_begins, no_tree_at_all, no_tree_whole, Shallow, ShallowAfter, after_shallow, SameAfter, after_higher}
 use Rattle.gv_model.proofs.FirstFaults.AfterTokens.{stays, left}
 
@@ -24,11 +24,11 @@ use Rattle.gv_model.proofs.FirstFaults.AfterTokens.{stays, left}
 abbrev StepFault : ℕ → NumberedFault → Type 0
 StepFault n f = (f ≡ (unexpected, n)) ⊎ (f ≡ (too_deep, n))
 
-abbrev GoesWrong : ℕ → Result (List Want) NumberedFault → Type 0
+abbrev GoesWrong : ℕ → Left ℕ → Type 0
 GoesWrong n (Ok wants) = Unit {0}
 GoesWrong n (Err f) = StepFault n f
 
-begun_wrong : (l d n : ℕ) (rest : List Want) (o : Option (List Want)) → GoesWrong n (begun_to l d n rest o)
+begun_wrong : (l d n : ℕ) (rest : List (Want ℕ)) (o : Option (List (Want ℕ))) → GoesWrong n (begun l d n rest o)
 begun_wrong l d n rest None = inl refl
 begun_wrong l d n rest (Some wants) = go (nat_le d l)
   where
@@ -36,17 +36,17 @@ begun_wrong l d n rest (Some wants) = go (nat_le d l)
     go true = tt
     go false = inr refl
 
-stage_wrong : (l d at n : ℕ) (t : Token) (o : Option Stage) → GoesWrong n (stage_to l d at n t o)
+stage_wrong : (l d at n : ℕ) (t : Token) (o : Option Stage) → GoesWrong n (stage_or_value l d at n t o)
 stage_wrong l d at n t None = inl refl
 stage_wrong l d at n t (Some s) = begun_wrong l d n (inside s d at ∷ []) (begun_wants d n t)
 
-next_wrong : (l : ℕ) (s : Stage) (d at n : ℕ) (t : Token) (x : Next) → GoesWrong n (next_to l s d at n t x)
+next_wrong : (l : ℕ) (s : Stage) (d at n : ℕ) (t : Token) (x : Next) → GoesWrong n (after_next l s d at n t x)
 next_wrong l s d at n t closed = tt
 next_wrong l s d at n t (goes_on r) = tt
 next_wrong l s d at n t (value_then r) = tt
 next_wrong l s d at n t wrong = stage_wrong l d at n t (after_value s)
 
-step_wrong : (l : ℕ) (w : Want) (n : ℕ) (t : Token) → GoesWrong n (step_to l w n t)
+step_wrong : (l : ℕ) (w : Want ℕ) (n : ℕ) (t : Token) → GoesWrong n (step l w n t)
 step_wrong l (a_value d) n t = begun_wrong l d n [] (begun_wants d n t)
 step_wrong l (inside s d at) n (mark x) = next_wrong l s d at n (mark x) (after_mark s x)
 step_wrong l (inside s d at) n (string_token x) = stage_wrong l d at n (string_token x) (after_value s)
@@ -57,26 +57,26 @@ step_wrong l (inside s d at) n (word x) = stage_wrong l d at n (word x) (after_v
 
 -- The fault is at a token, or at the end
 
-abbrev StepIs : ℕ → List Want → ℕ → Token → NumberedFault → Type 0
+abbrev StepIs : ℕ → List (Want ℕ) → ℕ → Token → NumberedFault → Type 0
 StepIs l [] n t f = f ≡ (unexpected, n)
-StepIs l (w ∷ ws) n t f = step_to l w n t ≡ Err f
+StepIs l (w ∷ ws) n t f = step l w n t ≡ Err f
 
-pub record Stopped (l n : ℕ) (ws : List Want) (ts : List Token) (f : NumberedFault) : Type 0 where
+pub record Stopped (l n : ℕ) (ws : List (Want ℕ)) (ts : List Token) (f : NumberedFault) : Type 0 where
   pub before : List Token
   pub token : Token
   pub after : List Token
   pub parts : ts ≡ before ++ token ∷ after
-  pub wants : List Want
+  pub wants : List (Want ℕ)
   pub prefix : after_tokens l n ws before ≡ left (n + length before) wants
   pub fault : StepIs l wants (n + length before) token f
 
-pub record Ended (l n : ℕ) (ws : List Want) (ts : List Token) (f : NumberedFault) : Type 0 where
-  pub want : Want
-  pub wants : List Want
+pub record Ended (l n : ℕ) (ws : List (Want ℕ)) (ts : List Token) (f : NumberedFault) : Type 0 where
+  pub want : Want ℕ
+  pub wants : List (Want ℕ)
   pub prefix : after_tokens l n ws ts ≡ left (n + length ts) (want ∷ wants)
   pub fault : f ≡ at_end (n + length ts) (want ∷ wants)
 
-stopped_later : (l n : ℕ) (w : Want) (ws vs : List Want) (t : Token) (ts : List Token) (f : NumberedFault) → step_to l w n t ≡ Ok vs → Stopped l (suc n) (vs ++ ws) ts f → Stopped l n (w ∷ ws) (t ∷ ts) f
+stopped_later : (l n : ℕ) (w : Want ℕ) (ws vs : List (Want ℕ)) (t : Token) (ts : List Token) (f : NumberedFault) → step l w n t ≡ Ok vs → Stopped l (suc n) (vs ++ ws) ts f → Stopped l n (w ∷ ws) (t ∷ ts) f
 unfolding after_tokens
 stopped_later l n w ws vs t ts f e s =
     let place : suc n + length s.before ≡ n + length (t ∷ s.before) = omega arith in record {
@@ -89,7 +89,7 @@ stopped_later l n w ws vs t ts f e s =
       fault = subst (λ (k : ℕ). StepIs l s.wants k s.token f) place s.fault;
     }
 
-ended_later : (l n : ℕ) (w : Want) (ws vs : List Want) (t : Token) (ts : List Token) (f : NumberedFault) → step_to l w n t ≡ Ok vs → Ended l (suc n) (vs ++ ws) ts f → Ended l n (w ∷ ws) (t ∷ ts) f
+ended_later : (l n : ℕ) (w : Want ℕ) (ws vs : List (Want ℕ)) (t : Token) (ts : List Token) (f : NumberedFault) → step l w n t ≡ Ok vs → Ended l (suc n) (vs ++ ws) ts f → Ended l n (w ∷ ws) (t ∷ ts) f
 unfolding after_tokens
 ended_later l n w ws vs t ts f e s =
     let place : suc n + length ts ≡ n + length (t ∷ ts) = omega arith in record {
@@ -100,7 +100,7 @@ ended_later l n w ws vs t ts f e s =
     }
 
 -- the fault is at the first token
-stopped_here : (l n : ℕ) (ws : List Want) (t : Token) (ts : List Token) (f : NumberedFault) → StepIs l ws n t f → Stopped l n ws (t ∷ ts) f
+stopped_here : (l n : ℕ) (ws : List (Want ℕ)) (t : Token) (ts : List Token) (f : NumberedFault) → StepIs l ws n t f → Stopped l n ws (t ∷ ts) f
 unfolding after_tokens
 stopped_here l n ws t ts f h =
     let place : n ≡ n + 0 = omega arith in record {
@@ -113,21 +113,21 @@ stopped_here l n ws t ts f h =
       fault = subst (λ (k : ℕ). StepIs l ws k t f) place h;
     }
 
-found : (l : ℕ) (ts : List Token) (n : ℕ) (ws : List Want) (f : NumberedFault) → fault_to l n ws ts ≡ Some f → Stopped l n ws ts f ⊎ Ended l n ws ts f
+found : (l : ℕ) (ts : List Token) (n : ℕ) (ws : List (Want ℕ)) (f : NumberedFault) → fault_to l n ws ts ≡ Some f → Stopped l n ws ts f ⊎ Ended l n ws ts f
 unfolding fault_to after_tokens
 found l [] n [] f h = absurd (none-some f h)
 found l [] n (w ∷ ws) f h =
     let place : n ≡ n + 0 = omega arith in
     inr (record { want = w; wants = ws; prefix = ap (λ k. left k (w ∷ ws)) place; fault = sym (same_Some _ f h) ∙ ap (λ k. at_end k (w ∷ ws)) place })
 found l (t ∷ ts) n [] f h = inl (stopped_here l n [] t ts f (sym (same_Some (unexpected, n) f h)))
-found l (t ∷ ts) n (w ∷ ws) f h = go (step_to l w n t) refl h (λ vs g. found l ts (suc n) (vs ++ ws) f g)
+found l (t ∷ ts) n (w ∷ ws) f h = go (step l w n t) refl h (λ vs g. found l ts (suc n) (vs ++ ws) f g)
   where
-    later : (vs : List Want) → step_to l w n t ≡ Ok vs → Stopped l (suc n) (vs ++ ws) ts f ⊎ Ended l (suc n) (vs ++ ws) ts f → Stopped l n (w ∷ ws) (t ∷ ts) f ⊎ Ended l n (w ∷ ws) (t ∷ ts) f
+    later : (vs : List (Want ℕ)) → step l w n t ≡ Ok vs → Stopped l (suc n) (vs ++ ws) ts f ⊎ Ended l (suc n) (vs ++ ws) ts f → Stopped l n (w ∷ ws) (t ∷ ts) f ⊎ Ended l n (w ∷ ws) (t ∷ ts) f
     later vs e (inl s) = inl (stopped_later l n w ws vs t ts f e s)
     later vs e (inr s) = inr (ended_later l n w ws vs t ts f e s)
 
-    go : (r : Result (List Want) NumberedFault) → step_to l w n t ≡ r → or_fault r (fault_to l (suc n) (wants_of r ++ ws) ts) ≡ Some f
-        → ((vs : List Want) → fault_to l (suc n) (vs ++ ws) ts ≡ Some f → Stopped l (suc n) (vs ++ ws) ts f ⊎ Ended l (suc n) (vs ++ ws) ts f)
+    go : (r : Left ℕ) → step l w n t ≡ r → or_fault r (fault_to l (suc n) (wants_of r ++ ws) ts) ≡ Some f
+        → ((vs : List (Want ℕ)) → fault_to l (suc n) (vs ++ ws) ts ≡ Some f → Stopped l (suc n) (vs ++ ws) ts f ⊎ Ended l (suc n) (vs ++ ws) ts f)
         → Stopped l n (w ∷ ws) (t ∷ ts) f ⊎ Ended l n (w ∷ ws) (t ∷ ts) f
     go (Ok vs) e g h = later vs e (h vs g)
     go (Err d) e g h = inl (stopped_here l n (w ∷ ws) t ts f (e ∙ ap Err (same_Some d f g)))
@@ -138,55 +138,55 @@ abbrev after_then : ℕ → AfterTokens → List Token → AfterTokens
 after_then l (stays e) us = stays e
 after_then l (left n ws) us = after_tokens l n ws us
 
-step_then : (l : ℕ) (r : Result (List Want) NumberedFault) (b later : AfterTokens) (us : List Token) → later ≡ after_then l b us → after_step r later ≡ after_then l (after_step r b) us
+step_then : (l : ℕ) (r : Left ℕ) (b later : AfterTokens) (us : List Token) → later ≡ after_then l b us → after_step r later ≡ after_then l (after_step r b) us
 step_then l (Ok wants) b later us h = h
 step_then l (Err e) b later us h = refl
 
-after_both : (l : ℕ) (ts us : List Token) (n : ℕ) (ws : List Want) → after_tokens l n ws (ts ++ us) ≡ after_then l (after_tokens l n ws ts) us
+after_both : (l : ℕ) (ts us : List Token) (n : ℕ) (ws : List (Want ℕ)) → after_tokens l n ws (ts ++ us) ≡ after_then l (after_tokens l n ws ts) us
 unfolding after_tokens
 after_both l [] us n ws = refl
 after_both l (t ∷ ts) us n [] = refl
 after_both l (t ∷ ts) us n (w ∷ ws) =
-    step_then l (step_to l w n t) (after_tokens l (suc n) (wants_of (step_to l w n t) ++ ws) ts) (after_tokens l (suc n) (wants_of (step_to l w n t) ++ ws) (ts ++ us)) us
-    (after_both l ts us (suc n) (wants_of (step_to l w n t) ++ ws))
+    step_then l (step l w n t) (after_tokens l (suc n) (wants_of (step l w n t) ++ ws) ts) (after_tokens l (suc n) (wants_of (step l w n t) ++ ws) (ts ++ us)) us
+    (after_both l ts us (suc n) (wants_of (step l w n t) ++ ws))
 
-one_more : (l : ℕ) (ts : List Token) (t : Token) (n m : ℕ) (ws : List Want) (w : Want) (vs us : List Want) → after_tokens l n ws ts ≡ left m (w ∷ vs) → step_to l w m t ≡ Ok us → after_tokens l n ws (ts ++ t ∷ []) ≡ left (suc m) (us ++ vs)
+one_more : (l : ℕ) (ts : List Token) (t : Token) (n m : ℕ) (ws : List (Want ℕ)) (w : Want ℕ) (vs us : List (Want ℕ)) → after_tokens l n ws ts ≡ left m (w ∷ vs) → step l w m t ≡ Ok us → after_tokens l n ws (ts ++ t ∷ []) ≡ left (suc m) (us ++ vs)
 unfolding after_tokens
 one_more l ts t n m ws w vs us h e = after_both l ts (t ∷ []) n ws ∙ (ap (λ b. after_then l b (t ∷ [])) h ∙ rw e refl)
 
-one_wrong : (l : ℕ) (ts : List Token) (t : Token) (n m : ℕ) (ws vs : List Want) (f : NumberedFault) → after_tokens l n ws ts ≡ left m vs → StepIs l vs m t f → after_tokens l n ws (ts ++ t ∷ []) ≡ stays f
+one_wrong : (l : ℕ) (ts : List Token) (t : Token) (n m : ℕ) (ws vs : List (Want ℕ)) (f : NumberedFault) → after_tokens l n ws ts ≡ left m vs → StepIs l vs m t f → after_tokens l n ws (ts ++ t ∷ []) ≡ stays f
 unfolding after_tokens
 one_wrong l ts t n m ws [] f h e = after_both l ts (t ∷ []) n ws ∙ (ap (λ b. after_then l b (t ∷ [])) h ∙ ap stays (sym e))
 one_wrong l ts t n m ws (w ∷ vs) f h e = after_both l ts (t ∷ []) n ws ∙ (ap (λ b. after_then l b (t ∷ [])) h ∙ rw e refl)
 
 -- A level more makes room for what was too deep
 
-abbrev HasRoom : ℕ → ℕ → Result (List Want) NumberedFault → Result (List Want) NumberedFault → Type 0
-HasRoom m k (Err (too_deep, n)) r = (wants : List Want) × (r ≡ Ok wants)
+abbrev HasRoom : ℕ → ℕ → Left ℕ → Left ℕ → Type 0
+HasRoom m k (Err (too_deep, n)) r = (wants : List (Want ℕ)) × (r ≡ Ok wants)
 HasRoom m k r s = Unit {0}
 
-room : (l d n : ℕ) (rest : List Want) (o : Option (List Want)) → d ≤ suc l → HasRoom l n (begun_to l d n rest o) (begun_to (suc l) d n rest o)
+room : (l d n : ℕ) (rest : List (Want ℕ)) (o : Option (List (Want ℕ))) → d ≤ suc l → HasRoom l n (begun l d n rest o) (begun (suc l) d n rest o)
 room l d n rest None h = tt
 room l d n rest (Some wants) h = go (nat_le d l)
   where
     fits : nat_le d (suc l) ≡ true
     fits = (let g = h in grind arith)
 
-    go : (b : Bool) → HasRoom l n (cond b (Ok (wants ++ rest)) (Err (too_deep, n))) (begun_to (suc l) d n rest (Some wants))
+    go : (b : Bool) → HasRoom l n (cond b (Ok (wants ++ rest)) (Err (too_deep, n))) (begun (suc l) d n rest (Some wants))
     go true = tt
     go false = (wants ++ rest, rw fits refl)
 
-stage_room : (l d at n : ℕ) (t : Token) (o : Option Stage) → d ≤ suc l → HasRoom l n (stage_to l d at n t o) (stage_to (suc l) d at n t o)
+stage_room : (l d at n : ℕ) (t : Token) (o : Option Stage) → d ≤ suc l → HasRoom l n (stage_or_value l d at n t o) (stage_or_value (suc l) d at n t o)
 stage_room l d at n t None h = tt
 stage_room l d at n t (Some s) h = room l d n (inside s d at ∷ []) (begun_wants d n t) h
 
-next_room : (l : ℕ) (s : Stage) (d at n : ℕ) (t : Token) (x : Next) → d ≤ suc l → HasRoom l n (next_to l s d at n t x) (next_to (suc l) s d at n t x)
+next_room : (l : ℕ) (s : Stage) (d at n : ℕ) (t : Token) (x : Next) → d ≤ suc l → HasRoom l n (after_next l s d at n t x) (after_next (suc l) s d at n t x)
 next_room l s d at n t closed h = tt
 next_room l s d at n t (goes_on r) h = tt
 next_room l s d at n t (value_then r) h = tt
 next_room l s d at n t wrong h = stage_room l d at n t (after_value s) h
 
-step_room : (l : ℕ) (w : Want) (n : ℕ) (t : Token) (ws : List Want) → Shallow (suc l) (w ∷ ws) → HasRoom l n (step_to l w n t) (step_to (suc l) w n t)
+step_room : (l : ℕ) (w : Want ℕ) (n : ℕ) (t : Token) (ws : List (Want ℕ)) → Shallow (suc l) (w ∷ ws) → HasRoom l n (step l w n t) (step (suc l) w n t)
 step_room l (a_value d) n t ws h = room l d n [] (begun_wants d n t) h.0
 step_room l (inside s d at) n (mark x) ws h = next_room l s d at n (mark x) (after_mark s x) h.0
 step_room l (inside s d at) n (string_token x) ws h = stage_room l d at n (string_token x) (after_value s) h.0
@@ -197,20 +197,20 @@ step_room l (inside s d at) n (word x) ws h = stage_room l d at n (word x) (afte
 
 -- Open brackets
 
-abbrev opened : List Want → List ℕ
+abbrev opened : List (Want ℕ) → List ℕ
 opened [] = []
 opened (a_value d ∷ ws) = opened ws
 opened (inside s d at ∷ ws) = at ∷ opened ws
 
-abbrev OpenStep : List ℕ → List Want → Result (List Want) NumberedFault → Type 0
+abbrev OpenStep : List ℕ → List (Want ℕ) → Left ℕ → Type 0
 OpenStep opens ws (Ok wants) = opened (wants ++ ws) ≡ opens
 OpenStep opens ws (Err e) = Unit {0}
 
-abbrev OpenFirst : List ℕ → List Want → Option (List Want) → Type 0
+abbrev OpenFirst : List ℕ → List (Want ℕ) → Option (List (Want ℕ)) → Type 0
 OpenFirst opens ws None = Unit {0}
 OpenFirst opens ws (Some wants) = opened (wants ++ ws) ≡ opens
 
-first_open : (d n : ℕ) (t : Token) (ws : List Want) → OpenFirst (after_bracket n (opened ws) t) ws (begun_wants d n t)
+first_open : (d n : ℕ) (t : Token) (ws : List (Want ℕ)) → OpenFirst (after_bracket n (opened ws) t) ws (begun_wants d n t)
 first_open d n (string_token s) ws = refl
 first_open d n (byte_string s) ws = refl
 first_open d n (integer_token b i) ws = refl
@@ -225,7 +225,7 @@ first_open d n (mark open_brace) ws = refl
 first_open d n (mark open_box) ws = refl
 first_open d n (mark _) ws = tt
 
-begun_open : (l d n : ℕ) (rest ws : List Want) (opens : List ℕ) (o : Option (List Want)) → OpenFirst opens (rest ++ ws) o → OpenStep opens ws (begun_to l d n rest o)
+begun_open : (l d n : ℕ) (rest ws : List (Want ℕ)) (opens : List ℕ) (o : Option (List (Want ℕ))) → OpenFirst opens (rest ++ ws) o → OpenStep opens ws (begun l d n rest o)
 begun_open l d n rest ws opens None h = tt
 begun_open l d n rest ws opens (Some wants) h = go (nat_le d l)
   where
@@ -233,11 +233,11 @@ begun_open l d n rest ws opens (Some wants) h = go (nat_le d l)
     go true = ap opened (append_assoc wants rest ws) ∙ h
     go false = tt
 
-stage_open : (l : ℕ) (d at n : ℕ) (t : Token) (ws : List Want) (o : Option Stage) → OpenStep (after_bracket n (at ∷ opened ws) t) ws (stage_to l d at n t o)
+stage_open : (l : ℕ) (d at n : ℕ) (t : Token) (ws : List (Want ℕ)) (o : Option Stage) → OpenStep (after_bracket n (at ∷ opened ws) t) ws (stage_or_value l d at n t o)
 stage_open l d at n t ws None = tt
 stage_open l d at n t ws (Some r) = begun_open l d n (inside r d at ∷ []) ws (after_bracket n (at ∷ opened ws) t) (begun_wants d n t) (first_open d n t (inside r d at ∷ ws))
 
-mark_open : (l : ℕ) (s : Stage) (m : Mark) (d at n : ℕ) (ws : List Want) → OpenStep (after_bracket n (at ∷ opened ws) (mark m)) ws (next_to l s d at n (mark m) (after_mark s m))
+mark_open : (l : ℕ) (s : Stage) (m : Mark) (d at n : ℕ) (ws : List (Want ℕ)) → OpenStep (after_bracket n (at ∷ opened ws) (mark m)) ws (after_next l s d at n (mark m) (after_mark s m))
 mark_open l list_start close_list d at n ws = refl
 mark_open l list_more close_list d at n ws = refl
 mark_open l list_more comma d at n ws = refl
@@ -256,7 +256,7 @@ mark_open l lone_end close_brace d at n ws = refl
 mark_open l box_end close_box d at n ws = refl
 mark_open l s m d at n ws = stage_open l d at n (mark m) ws (after_value s)
 
-step_open : (l : ℕ) (w : Want) (n : ℕ) (t : Token) (ws : List Want) → OpenStep (after_bracket n (opened (w ∷ ws)) t) ws (step_to l w n t)
+step_open : (l : ℕ) (w : Want ℕ) (n : ℕ) (t : Token) (ws : List (Want ℕ)) → OpenStep (after_bracket n (opened (w ∷ ws)) t) ws (step l w n t)
 step_open l (a_value d) n t ws = begun_open l d n [] ws (after_bracket n (opened ws) t) (begun_wants d n t) (first_open d n t ws)
 step_open l (inside s d at) n (mark x) ws = mark_open l s x d at n ws
 step_open l (inside s d at) n (string_token x) ws = stage_open l d at n (string_token x) ws (after_value s)
@@ -269,14 +269,14 @@ abbrev OpenAfter : List ℕ → AfterTokens → Type 0
 OpenAfter opens (left n ws) = opened ws ≡ opens
 OpenAfter opens (stays e) = Unit {0}
 
-after_open : (l : ℕ) (ts : List Token) (n : ℕ) (ws : List Want) → OpenAfter (open_brackets n (opened ws) ts) (after_tokens l n ws ts)
+after_open : (l : ℕ) (ts : List Token) (n : ℕ) (ws : List (Want ℕ)) → OpenAfter (open_brackets n (opened ws) ts) (after_tokens l n ws ts)
 unfolding after_tokens open_brackets
 after_open l [] n ws = refl
 after_open l (t ∷ ts) n [] = tt
-after_open l (t ∷ ts) n (w ∷ ws) = go (step_to l w n t) (step_open l w n t ws) (λ vs. after_open l ts (suc n) (vs ++ ws))
+after_open l (t ∷ ts) n (w ∷ ws) = go (step l w n t) (step_open l w n t ws) (λ vs. after_open l ts (suc n) (vs ++ ws))
   where
-    go : (r : Result (List Want) NumberedFault) → OpenStep (after_bracket n (opened (w ∷ ws)) t) ws r
-        → ((vs : List Want) → OpenAfter (open_brackets (suc n) (opened (vs ++ ws)) ts) (after_tokens l (suc n) (vs ++ ws) ts))
+    go : (r : Left ℕ) → OpenStep (after_bracket n (opened (w ∷ ws)) t) ws r
+        → ((vs : List (Want ℕ)) → OpenAfter (open_brackets (suc n) (opened (vs ++ ws)) ts) (after_tokens l (suc n) (vs ++ ws) ts))
         → OpenAfter (open_brackets (suc n) (after_bracket n (opened (w ∷ ws)) t) ts) (after_step r (after_tokens l (suc n) (wants_of r ++ ws) ts))
     go (Ok vs) e later = subst (λ (opens : List ℕ). OpenAfter (open_brackets (suc n) opens ts) (after_tokens l (suc n) (vs ++ ws) ts)) e (later vs)
     go (Err f) e later = tt
@@ -286,14 +286,14 @@ abbrev AtEnd : ℕ → List ℕ → NumberedFault → Type 0
 AtEnd n [] f = f ≡ (unexpected, n)
 AtEnd n (at ∷ outer) f = f ≡ (unclosed, at)
 
-end_open : (n : ℕ) (ws : List Want) → AtEnd n (opened ws) (at_end n ws)
+end_open : (n : ℕ) (ws : List (Want ℕ)) → AtEnd n (opened ws) (at_end n ws)
 end_open n [] = refl
 end_open n (a_value d ∷ ws) = end_open n ws
 end_open n (inside s d at ∷ ws) = refl
 
 -- The law
 
-start : List Want
+start : List (Want ℕ)
 start = a_value 1 ∷ []
 
 begins_any : (l : ℕ) (ts : List Token) → BeginsWithin l ts → BeginsTree ts
@@ -305,18 +305,18 @@ before_token before t after = take-append_seam before (t ∷ after)
 with_token : (before : List Token) (t : Token) (after : List Token) → take (suc (length before)) (before ++ t ∷ after) ≡ before ++ t ∷ []
 with_token before t after = (let z : suc (length before) ≡ length before + 1 = omega arith in ap (λ k. take k (before ++ t ∷ after)) z) ∙ take-append-add before (t ∷ after) 1
 
-stopped_number : (l n : ℕ) (ws : List Want) (t : Token) (f : NumberedFault) → StepIs l ws n t f → StepFault n f
+stopped_number : (l n : ℕ) (ws : List (Want ℕ)) (t : Token) (f : NumberedFault) → StepIs l ws n t f → StepFault n f
 stopped_number l n [] t f h = inl h
-stopped_number l n (w ∷ ws) t f h = subst (λ (r : Result (List Want) NumberedFault). GoesWrong n r) h (step_wrong l w n t)
+stopped_number l n (w ∷ ws) t f h = subst (λ (r : Left ℕ). GoesWrong n r) h (step_wrong l w n t)
 
 apart : (c : Cause) → c ≡ too_deep → c ≡ unexpected → ⊥
 apart c e f = cc
 
-room_after : (before : List Token) (t : Token) (ws : List Want) (n : ℕ) → after_tokens 128 0 (a_value 1 ∷ []) before ≡ left n ws → StepIs 128 ws n t (too_deep, n) → BeginsTree (before ++ t ∷ [])
+room_after : (before : List Token) (t : Token) (ws : List (Want ℕ)) (n : ℕ) → after_tokens 128 0 (a_value 1 ∷ []) before ≡ left n ws → StepIs 128 ws n t (too_deep, n) → BeginsTree (before ++ t ∷ [])
 room_after before t [] n e h = absurd (apart too_deep refl (ap (λ (p : NumberedFault). p.0) h))
 room_after before t (w ∷ ws) n e h =
     let shallow : Shallow 129 (w ∷ ws) = subst (λ b. ShallowAfter 129 b) e (after_shallow 128 before 0 (a_value 1 ∷ []) (omega arith, tt)) in
-    let more : (wants : List Want) × (step_to 129 w n t ≡ Ok wants) = subst (λ (r : Result (List Want) NumberedFault). HasRoom 128 n r (step_to 129 w n t)) h (step_room 128 w n t ws shallow) in
+    let more : (wants : List (Want ℕ)) × (step 129 w n t ≡ Ok wants) = subst (λ (r : Left ℕ). HasRoom 128 n r (step 129 w n t)) h (step_room 128 w n t ws shallow) in
     let same : after_tokens 129 0 (a_value 1 ∷ []) before ≡ left n (w ∷ ws) = subst (λ b. SameAfter b (after_tokens 129 0 (a_value 1 ∷ []) before)) e (after_higher 128 129 before 0 (a_value 1 ∷ []) (omega arith)) in
     begins_any 130 (before ++ t ∷ []) (prefix_begins 129 (before ++ t ∷ []) (suc n) (more.0 ++ ws) (omega arith) (one_more 129 before t 0 n (a_value 1 ∷ []) w ws more.0 same more.1))
 
@@ -383,7 +383,7 @@ at_the_end ts f s = subst (λ (g : NumberedFault). EndsPrefix ts g) (sym at_last
     go (at ∷ outer) o g e = subst (λ (d : NumberedFault). EndsPrefix ts d) (sym e) (unfinished, (outer, sym o))
 
 pub fault_ends_prefix : (ts : List Token) (f : NumberedFault) → grammar_fault ts ≡ Some f → EndsPrefix ts f
-fault_ends_prefix ts f h = go (found 128 ts 0 (a_value 1 ∷ []) f (fault_128 ts 0 (a_value 1 ∷ []) ∙ h))
+fault_ends_prefix ts f h = go (found 128 ts 0 (a_value 1 ∷ []) f (fault_128 ts ∙ h))
   where
     go : Stopped 128 0 (a_value 1 ∷ []) ts f ⊎ Ended 128 0 (a_value 1 ∷ []) ts f → EndsPrefix ts f
     go (inl s) = at_token ts f s

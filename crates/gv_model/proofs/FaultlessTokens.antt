@@ -1,5 +1,5 @@
 -- Tokens without a fault are those of a tree within the depth.
-use Rattle.std.proofs.Common.{◌≡◌, ◌≤◌, ◌⊎◌, ℕ, suc, ◌-◌, Bool, true, false, cond, List, [], ◌∷◌, ◌++◌, Option, None, Result, Ok, Err, refl, sym, ap, ◌∙◌, arith, append_assoc, append-nil, nat_le}
+use Rattle.std.proofs.Common.{◌≡◌, ◌≤◌, ◌⊎◌, ℕ, suc, ◌-◌, Bool, true, false, cond, List, [], ◌∷◌, ◌++◌, Option, None, Ok, Err, refl, sym, ap, ◌∙◌, arith, append_assoc, append-nil, nat_le}
 use Rattle.std.proofs.lemmas.Option.{none-some}
 use mathlib.Core.Logic.{inl, inr}
 use Rattle.gv_model.specs.Syntax.{Syntax, Syntaxes, Pairs, levels, greatest_levels, pairs_levels}
@@ -11,10 +11,10 @@ use Rattle.gv_model.specs.Tokens.Mark.{open_tuple, close_tuple, open_list, close
 use Rattle.gv_model.specs.Tokens.Word.{truth as truth_word, just as just_word, nothing as nothing_word, type_word}
 use Rattle.gv_model.specs.Tokens.Token.{mark, string_token, byte_string, integer_token, type_token, word}
 use Rattle.gv_model.specs.Grammar.{tokens_of, commas, members_tokens, pairs_tokens}
-use Rattle.gv_model.specs.GrammarFaults.{Stage, Want, NumberedFault, begun_wants, wants_of, or_fault, grammar_fault}
+use Rattle.gv_model.specs.GrammarFaults.{Stage, Want, Left, NumberedFault, begun_wants, begun, step, wants_of, or_fault, grammar_fault}
 use Rattle.gv_model.specs.GrammarFaults.Stage.{list_start, list_more, tuple_start, tuple_one, tuple_two, tuple_more, brace_start, brace_first, pair_more, pair_colon, lone_end, box_end}
 use Rattle.gv_model.specs.GrammarFaults.Want.{a_value, inside}
-use Rattle.gv_model.proofs.LevelLimits.{begun_to, step_to, fault_to, fault_128}
+use Rattle.gv_model.proofs.LevelLimits.{fault_to, fault_128}
 
 -- elements, each after a `,`
 abbrev commas_after : Syntaxes → List Token
@@ -55,23 +55,23 @@ Fills l pair_colon d ts us = (v : Syntax) × (ps : Pairs) × (ts ≡ mark colon 
 Fills l lone_end d ts us = ts ≡ mark close_brace ∷ us
 Fills l box_end d ts us = ts ≡ mark close_box ∷ us
 
-abbrev Means : ℕ → Want → List Token → List Token → Type 0
+abbrev Means : ℕ → Want ℕ → List Token → List Token → Type 0
 Means l (a_value d) ts us = (x : Syntax) × (ts ≡ tokens_of x ++ us) × (levels x ≤ suc l - d)
 Means l (inside s d at) ts us = Fills l s d ts us
 
-abbrev Complete : ℕ → List Want → List Token → Type 0
+abbrev Complete : ℕ → List (Want ℕ) → List Token → Type 0
 Complete l [] ts = ts ≡ []
 Complete l (w ∷ ws) ts = (us : List Token) × Means l w ts us × Complete l ws us
 
-abbrev Good : ℕ → Result (List Want) NumberedFault → List Want → List Token → Type 0
+abbrev Good : ℕ → Left ℕ → List (Want ℕ) → List Token → Type 0
 Good l (Ok wants) ws ts = Complete l (wants ++ ws) ts
 Good l (Err e) ws ts = ⊥
 
-good : (l : ℕ) (r : Result (List Want) NumberedFault) (later : Option NumberedFault) (ws : List Want) (ts : List Token) → or_fault r later ≡ None → (later ≡ None → Complete l (wants_of r ++ ws) ts) → Good l r ws ts
+good : (l : ℕ) (r : Left ℕ) (later : Option NumberedFault) (ws : List (Want ℕ)) (ts : List Token) → or_fault r later ≡ None → (later ≡ None → Complete l (wants_of r ++ ws) ts) → Good l r ws ts
 good l (Ok wants) later ws ts e h = h e
 good l (Err f) later ws ts e h = none-some f (sym e)
 
-chosen_good : (l : ℕ) (d : ℕ) (wants : List Want) (e : NumberedFault) (ws : List Want) (ts : List Token) → Good l (cond (nat_le d l) (Ok wants) (Err e)) ws ts → (d ≤ l) × Complete l (wants ++ ws) ts
+chosen_good : (l : ℕ) (d : ℕ) (wants : List (Want ℕ)) (e : NumberedFault) (ws : List (Want ℕ)) (ts : List Token) → Good l (cond (nat_le d l) (Ok wants) (Err e)) ws ts → (d ≤ l) × Complete l (wants ++ ws) ts
 chosen_good l d wants e ws ts = go (nat_le d l) refl
   where
     le_of : nat_le d l ≡ true → d ≤ l
@@ -82,7 +82,7 @@ chosen_good l d wants e ws ts = go (nat_le d l) refl
     go false q h = absurd h
 
 -- a token that begins a value, and the rest of the value
-back_begun : (l : ℕ) (t : Token) (d n : ℕ) (rest ws : List Want) (ts : List Token) → Good l (begun_to l d n rest (begun_wants d n t)) ws ts → Complete l (a_value d ∷ (rest ++ ws)) (t ∷ ts)
+back_begun : (l : ℕ) (t : Token) (d n : ℕ) (rest ws : List (Want ℕ)) (ts : List Token) → Good l (begun l d n rest (begun_wants d n t)) ws ts → Complete l (a_value d ∷ (rest ++ ws)) (t ∷ ts)
 unfolding tokens_of levels
 back_begun l (string_token s) d n rest ws ts h = let g = chosen_good l d _ _ ws ts h in (ts, (quoted s, refl, omega (arith, g.0)), g.1)
 back_begun l (byte_string s) d n rest ws ts h = let g = chosen_good l d _ _ ws ts h in (ts, (bytes s, refl, omega (arith, g.0)), g.1)
@@ -111,25 +111,25 @@ back_begun l (mark _) d n rest ws ts h = absurd h
 
 -- After a value that begins a bracket
 
-after_list : (l : ℕ) (d at : ℕ) (ws : List Want) (ts : List Token) → Complete l (a_value d ∷ inside list_more d at ∷ ws) ts → Complete l (inside list_start d at ∷ ws) ts
+after_list : (l : ℕ) (d at : ℕ) (ws : List (Want ℕ)) (ts : List Token) → Complete l (a_value d ∷ inside list_more d at ∷ ws) ts → Complete l (inside list_start d at ∷ ws) ts
 unfolding levels
 after_list l d at ws ts h =
     let x = h.1 in let m = h.2.1 in
     (h.2.0, (first x.0 m.0, x.1 ∙ (ap (λ r. tokens_of x.0 ++ r) m.1 ∙ (sym (append_assoc (tokens_of x.0) (commas_after m.0) (mark close_list ∷ h.2.0)) ∙ ap (λ r. r ++ mark close_list ∷ h.2.0) (sym (commas_first x.0 m.0)))), omega (arith, x.2, m.2)), h.2.2)
 
-after_second : (l : ℕ) (d at : ℕ) (ws : List Want) (ts : List Token) → Complete l (a_value d ∷ inside tuple_more d at ∷ ws) ts → Complete l (inside tuple_two d at ∷ ws) ts
+after_second : (l : ℕ) (d at : ℕ) (ws : List (Want ℕ)) (ts : List Token) → Complete l (a_value d ∷ inside tuple_more d at ∷ ws) ts → Complete l (inside tuple_two d at ∷ ws) ts
 unfolding levels
 after_second l d at ws ts h =
     let x = h.1 in let m = h.2.1 in
     (h.2.0, (first x.0 m.0, x.1 ∙ (ap (λ r. tokens_of x.0 ++ r) m.1 ∙ (sym (append_assoc (tokens_of x.0) (commas_after m.0) (mark close_tuple ∷ h.2.0)) ∙ ap (λ r. r ++ mark close_tuple ∷ h.2.0) (sym (commas_first x.0 m.0)))), omega (arith, x.2, m.2)), h.2.2)
 
-after_tuple : (l : ℕ) (d at : ℕ) (ws : List Want) (ts : List Token) → Complete l (a_value d ∷ inside tuple_one d at ∷ ws) ts → Complete l (inside tuple_start d at ∷ ws) ts
+after_tuple : (l : ℕ) (d at : ℕ) (ws : List (Want ℕ)) (ts : List Token) → Complete l (a_value d ∷ inside tuple_one d at ∷ ws) ts → Complete l (inside tuple_start d at ∷ ws) ts
 unfolding levels
 after_tuple l d at ws ts h =
     let x = h.1 in let m = h.2.1 in
     (h.2.0, (first x.0 m.0, x.1 ∙ (ap (λ r. tokens_of x.0 ++ r) m.1 ∙ (sym (append_assoc (tokens_of x.0) (mark comma ∷ commas m.0) (mark close_tuple ∷ h.2.0)) ∙ ap (λ r. r ++ mark close_tuple ∷ h.2.0) (sym (members_first x.0 m.0)))), omega (arith, x.2, m.2)), h.2.2)
 
-after_brace : (l : ℕ) (d at : ℕ) (ws : List Want) (ts : List Token) → Complete l (a_value d ∷ inside brace_first d at ∷ ws) ts → Complete l (inside brace_start d at ∷ ws) ts
+after_brace : (l : ℕ) (d at : ℕ) (ws : List (Want ℕ)) (ts : List Token) → Complete l (a_value d ∷ inside brace_first d at ∷ ws) ts → Complete l (inside brace_start d at ∷ ws) ts
 unfolding levels
 after_brace l d at ws ts h = (h.2.0, go h.2.1, h.2.2)
   where
@@ -138,7 +138,7 @@ after_brace l d at ws ts h = (h.2.0, go h.2.1, h.2.2)
     go (inr p) = let x = h.1 in inr (x.0, p.0, x.1 ∙ ap (λ r. tokens_of x.0 ++ r) p.1, x.2, p.2)
 
 -- the pair before the others
-pair_first : (l : ℕ) (d at : ℕ) (ws : List Want) (ts : List Token) → Complete l (a_value d ∷ inside pair_colon d at ∷ ws) ts → Complete l (inside pair_more d at ∷ ws) (mark comma ∷ ts)
+pair_first : (l : ℕ) (d at : ℕ) (ws : List (Want ℕ)) (ts : List Token) → Complete l (a_value d ∷ inside pair_colon d at ∷ ws) ts → Complete l (inside pair_more d at ∷ ws) (mark comma ∷ ts)
 unfolding levels
 pair_first l d at ws ts h =
     let x = h.1 in let p = h.2.1 in
@@ -148,7 +148,7 @@ next_first : (x : Syntax) (xs : Syntaxes) (close : Token) (ts us vs : List Token
 next_first x xs close ts us vs e f = ap (λ r. mark comma ∷ r) (e ∙ (ap (λ r. tokens_of x ++ r) f ∙ sym (append_assoc (tokens_of x) (commas_after xs) (close ∷ vs))))
 
 -- Each step back
-back_stage : (l : ℕ) (s : Stage) (t : Token) (d at n : ℕ) (ws : List Want) (ts : List Token) → Good l (step_to l (inside s d at) n t) ws ts → Complete l (inside s d at ∷ ws) (t ∷ ts)
+back_stage : (l : ℕ) (s : Stage) (t : Token) (d at n : ℕ) (ws : List (Want ℕ)) (ts : List Token) → Good l (step l (inside s d at) n t) ws ts → Complete l (inside s d at ∷ ws) (t ∷ ts)
 unfolding tokens_of levels
 back_stage l list_start (mark close_list) d at n ws ts h = (ts, (none, refl, omega arith), h)
 back_stage l list_start t d at n ws ts h = after_list l d at ws (t ∷ ts) (back_begun l t d n (inside list_more d at ∷ []) ws ts h)
@@ -172,17 +172,17 @@ back_stage l lone_end (mark close_brace) d at n ws ts h = (ts, refl, h)
 back_stage l box_end (mark close_box) d at n ws ts h = (ts, refl, h)
 back_stage l _ _ d at n ws ts h = absurd h
 
-back : (l : ℕ) (w : Want) (t : Token) (n : ℕ) (ws : List Want) (ts : List Token) → Good l (step_to l w n t) ws ts → Complete l (w ∷ ws) (t ∷ ts)
+back : (l : ℕ) (w : Want ℕ) (t : Token) (n : ℕ) (ws : List (Want ℕ)) (ts : List Token) → Good l (step l w n t) ws ts → Complete l (w ∷ ws) (t ∷ ts)
 back l (a_value d) t n ws ts h = back_begun l t d n [] ws ts h
 back l (inside s d at) t n ws ts h = back_stage l s t d at n ws ts h
 
-complete : (l : ℕ) (ts : List Token) (n : ℕ) (ws : List Want) → fault_to l n ws ts ≡ None → Complete l ws ts
+complete : (l : ℕ) (ts : List Token) (n : ℕ) (ws : List (Want ℕ)) → fault_to l n ws ts ≡ None → Complete l ws ts
 unfolding fault_to
 complete l [] n [] e = refl
 complete l [] n (w ∷ ws) e = absurd (none-some _ (sym e))
 complete l (t ∷ ts) n [] e = absurd (none-some _ (sym e))
 complete l (t ∷ ts) n (w ∷ ws) e =
-    back l w t n ws ts (good l (step_to l w n t) (fault_to l (suc n) (wants_of (step_to l w n t) ++ ws) ts) ws ts e (complete l ts (suc n) (wants_of (step_to l w n t) ++ ws)))
+    back l w t n ws ts (good l (step l w n t) (fault_to l (suc n) (wants_of (step l w n t) ++ ws) ts) ws ts e (complete l ts (suc n) (wants_of (step l w n t) ++ ws)))
 
 -- tokens without a fault under a limit are those of a tree within it
 pub whole_to : (l : ℕ) (ts : List Token) → fault_to l 0 (a_value 1 ∷ []) ts ≡ None → (x : Syntax) × (tokens_of x ≡ ts) × (levels x ≤ l)
@@ -193,4 +193,4 @@ whole_to l ts e =
 
 -- the limit of the grammar
 pub whole : (ts : List Token) → grammar_fault ts ≡ None → (x : Syntax) × (tokens_of x ≡ ts) × (levels x ≤ 128)
-whole ts e = whole_to 128 ts (fault_128 ts 0 (a_value 1 ∷ []) ∙ e)
+whole ts e = whole_to 128 ts (fault_128 ts ∙ e)

@@ -1,5 +1,5 @@
 -- The first fault of tokens is where the longest prefix ends that begins some tree's tokens.
-use Rattle.std.proofs.Common.{◌≡◌, ◌≤◌, ℕ, suc, ◌+◌, Bool, true, false, cond, List, [], ◌∷◌, ◌++◌, Option, Some, None, Result, Ok, Err, refl, sym, ap, ◌∙◌, subst, arith, nat_le, append_assoc, append-nil}
+use Rattle.std.proofs.Common.{◌≡◌, ◌≤◌, ℕ, suc, ◌+◌, Bool, true, false, cond, List, [], ◌∷◌, ◌++◌, Option, Some, None, Ok, Err, refl, sym, ap, ◌∙◌, subst, arith, nat_le, append_assoc, append-nil}
 use Rattle.std.proofs.lemmas.Option.{none-some, same_Some}
 use Rattle.gv_model.specs.TextFault.Cause.{bad_token, unclosed, bad_escape, double_text, unexpected, too_deep}
 use Rattle.gv_model.specs.Syntax.{Syntax, levels}
@@ -8,47 +8,47 @@ use Rattle.gv_model.specs.Tokens.Mark.{open_tuple, open_list, open_brace, open_b
 use Rattle.gv_model.specs.Tokens.Word.{truth, just, nothing, type_word}
 use Rattle.gv_model.specs.Tokens.Token.{mark, string_token, byte_string, integer_token, type_token, word}
 use Rattle.gv_model.specs.Grammar.{tokens_of}
-use Rattle.gv_model.specs.GrammarFaults.{Stage, Want, Next, NumberedFault, after_value, after_mark, begun_wants, at_end, wants_of, or_fault}
+use Rattle.gv_model.specs.GrammarFaults.{Stage, Want, Next, Left, NumberedFault, after_value, after_mark, begun_wants, begun, stage_or_value, after_next, step, at_end, wants_of, or_fault}
 use Rattle.gv_model.specs.GrammarFaults.Stage.{list_start, list_more, tuple_start, tuple_one, tuple_two, tuple_more, brace_start, brace_first, pair_more, pair_colon, lone_end, box_end}
 use Rattle.gv_model.specs.GrammarFaults.Want.{a_value, inside}
 use Rattle.gv_model.specs.GrammarFaults.Next.{closed, goes_on, value_then, wrong}
-use Rattle.gv_model.proofs.LevelLimits.{begun_to, stage_to, next_to, step_to, fault_to}
+use Rattle.gv_model.proofs.LevelLimits.{fault_to}
 use Rattle.gv_model.proofs.GrammarLaws.{no_fault_to}
 use Rattle.gv_model.proofs.FaultlessTokens.{whole_to}
 
 -- What a prefix of tokens leaves: a fault that stays, whatever follows, or the wants after it
 pub data AfterTokens : Type 0 where
   stays : NumberedFault → AfterTokens
-  left : ℕ → List Want → AfterTokens
+  left : ℕ → List (Want ℕ) → AfterTokens
 
-abbrev pub after_step : Result (List Want) NumberedFault → AfterTokens → AfterTokens
+abbrev pub after_step : Left ℕ → AfterTokens → AfterTokens
 after_step (Ok wants) later = later
 after_step (Err e) later = stays e
 
-unfoldable pub after_tokens : ℕ → ℕ → List Want → List Token → AfterTokens
+unfoldable pub after_tokens : ℕ → ℕ → List (Want ℕ) → List Token → AfterTokens
 after_tokens l n ws [] = left n ws
 after_tokens l n [] (t ∷ ts) = stays (unexpected, n)
-after_tokens l n (w ∷ ws) (t ∷ ts) = after_step (step_to l w n t) (after_tokens l (suc n) (wants_of (step_to l w n t) ++ ws) ts)
+after_tokens l n (w ∷ ws) (t ∷ ts) = after_step (step l w n t) (after_tokens l (suc n) (wants_of (step l w n t) ++ ws) ts)
 
 abbrev Decides : ℕ → AfterTokens → List Token → Option NumberedFault
 Decides l (stays e) us = Some e
 Decides l (left n ws) us = fault_to l n ws us
 
-one_step : (l : ℕ) (r : Result (List Want) NumberedFault) (b : AfterTokens) (later : Option NumberedFault) (us : List Token) → later ≡ Decides l b us → or_fault r later ≡ Decides l (after_step r b) us
+one_step : (l : ℕ) (r : Left ℕ) (b : AfterTokens) (later : Option NumberedFault) (us : List Token) → later ≡ Decides l b us → or_fault r later ≡ Decides l (after_step r b) us
 one_step l (Ok wants) b later us h = h
 one_step l (Err e) b later us h = refl
 
-decided : (l : ℕ) (ts us : List Token) (n : ℕ) (ws : List Want) → fault_to l n ws (ts ++ us) ≡ Decides l (after_tokens l n ws ts) us
+decided : (l : ℕ) (ts us : List Token) (n : ℕ) (ws : List (Want ℕ)) → fault_to l n ws (ts ++ us) ≡ Decides l (after_tokens l n ws ts) us
 unfolding after_tokens fault_to
 decided l [] us n ws = refl
 decided l (t ∷ ts) us n [] = refl
 decided l (t ∷ ts) us n (w ∷ ws) =
-    one_step l (step_to l w n t) (after_tokens l (suc n) (wants_of (step_to l w n t) ++ ws) ts) (fault_to l (suc n) (wants_of (step_to l w n t) ++ ws) (ts ++ us)) us
-    (decided l ts us (suc n) (wants_of (step_to l w n t) ++ ws))
+    one_step l (step l w n t) (after_tokens l (suc n) (wants_of (step l w n t) ++ ws) ts) (fault_to l (suc n) (wants_of (step l w n t) ++ ws) (ts ++ us)) us
+    (decided l ts us (suc n) (wants_of (step l w n t) ++ ws))
 
 -- Under a higher limit all stays, but for what was too deep
 
-abbrev SameStep : Result (List Want) NumberedFault → Result (List Want) NumberedFault → Type 0
+abbrev SameStep : Left ℕ → Left ℕ → Type 0
 SameStep (Ok wants) r = r ≡ Ok wants
 SameStep (Err (unexpected, n)) r = r ≡ Err (unexpected, n)
 SameStep (Err e) r = Unit {0}
@@ -61,25 +61,25 @@ SameAfter (stays e) b = Unit {0}
 higher_limit : (l m d : ℕ) → l ≤ m → nat_le d l ≡ true → nat_le d m ≡ true
 higher_limit l m d h e = grind arith
 
-chosen_higher : (l m d n : ℕ) (wants : List Want) → l ≤ m → (b : Bool) → nat_le d l ≡ b → SameStep (cond b (Ok wants) (Err (too_deep, n))) (cond (nat_le d m) (Ok wants) (Err (too_deep, n)))
+chosen_higher : (l m d n : ℕ) (wants : List (Want ℕ)) → l ≤ m → (b : Bool) → nat_le d l ≡ b → SameStep (cond b (Ok wants) (Err (too_deep, n))) (cond (nat_le d m) (Ok wants) (Err (too_deep, n)))
 chosen_higher l m d n wants h true e = rw (higher_limit l m d h e) refl
 chosen_higher l m d n wants h false e = tt
 
-begun_higher : (l m d n : ℕ) (rest : List Want) (o : Option (List Want)) → l ≤ m → SameStep (begun_to l d n rest o) (begun_to m d n rest o)
+begun_higher : (l m d n : ℕ) (rest : List (Want ℕ)) (o : Option (List (Want ℕ))) → l ≤ m → SameStep (begun l d n rest o) (begun m d n rest o)
 begun_higher l m d n rest None h = refl
 begun_higher l m d n rest (Some wants) h = chosen_higher l m d n (wants ++ rest) h (nat_le d l) refl
 
-stage_higher : (l m d at n : ℕ) (t : Token) (o : Option Stage) → l ≤ m → SameStep (stage_to l d at n t o) (stage_to m d at n t o)
+stage_higher : (l m d at n : ℕ) (t : Token) (o : Option Stage) → l ≤ m → SameStep (stage_or_value l d at n t o) (stage_or_value m d at n t o)
 stage_higher l m d at n t None h = refl
 stage_higher l m d at n t (Some s) h = begun_higher l m d n (inside s d at ∷ []) (begun_wants d n t) h
 
-next_higher : (l m : ℕ) (s : Stage) (d at n : ℕ) (t : Token) (x : Next) → l ≤ m → SameStep (next_to l s d at n t x) (next_to m s d at n t x)
+next_higher : (l m : ℕ) (s : Stage) (d at n : ℕ) (t : Token) (x : Next) → l ≤ m → SameStep (after_next l s d at n t x) (after_next m s d at n t x)
 next_higher l m s d at n t closed h = refl
 next_higher l m s d at n t (goes_on r) h = refl
 next_higher l m s d at n t (value_then r) h = refl
 next_higher l m s d at n t wrong h = stage_higher l m d at n t (after_value s) h
 
-step_higher : (l m : ℕ) (w : Want) (n : ℕ) (t : Token) → l ≤ m → SameStep (step_to l w n t) (step_to m w n t)
+step_higher : (l m : ℕ) (w : Want ℕ) (n : ℕ) (t : Token) → l ≤ m → SameStep (step l w n t) (step m w n t)
 step_higher l m (a_value d) n t h = begun_higher l m d n [] (begun_wants d n t) h
 step_higher l m (inside s d at) n (mark x) h = next_higher l m s d at n (mark x) (after_mark s x) h
 step_higher l m (inside s d at) n (string_token x) h = stage_higher l m d at n (string_token x) (after_value s) h
@@ -88,13 +88,13 @@ step_higher l m (inside s d at) n (integer_token b i) h = stage_higher l m d at 
 step_higher l m (inside s d at) n (type_token x) h = stage_higher l m d at n (type_token x) (after_value s) h
 step_higher l m (inside s d at) n (word x) h = stage_higher l m d at n (word x) (after_value s) h
 
-pub after_higher : (l m : ℕ) (ts : List Token) (n : ℕ) (ws : List Want) → l ≤ m → SameAfter (after_tokens l n ws ts) (after_tokens m n ws ts)
+pub after_higher : (l m : ℕ) (ts : List Token) (n : ℕ) (ws : List (Want ℕ)) → l ≤ m → SameAfter (after_tokens l n ws ts) (after_tokens m n ws ts)
 unfolding after_tokens
 after_higher l m [] n ws h = refl
 after_higher l m (t ∷ ts) n [] h = refl
-after_higher l m (t ∷ ts) n (w ∷ ws) h = go (step_to l w n t) (step_to m w n t) (step_higher l m w n t h) (λ vs. after_higher l m ts (suc n) (vs ++ ws) h)
+after_higher l m (t ∷ ts) n (w ∷ ws) h = go (step l w n t) (step m w n t) (step_higher l m w n t h) (λ vs. after_higher l m ts (suc n) (vs ++ ws) h)
   where
-    go : (r s : Result (List Want) NumberedFault) → SameStep r s → ((vs : List Want) → SameAfter (after_tokens l (suc n) (vs ++ ws) ts) (after_tokens m (suc n) (vs ++ ws) ts))
+    go : (r s : Left ℕ) → SameStep r s → ((vs : List (Want ℕ)) → SameAfter (after_tokens l (suc n) (vs ++ ws) ts) (after_tokens m (suc n) (vs ++ ws) ts))
         → SameAfter (after_step r (after_tokens l (suc n) (wants_of r ++ ws) ts)) (after_step s (after_tokens m (suc n) (wants_of s ++ ws) ts))
     go (Ok vs) s e later = rw e (later vs)
     go (Err (unexpected, k)) s e later = rw e refl
@@ -106,12 +106,12 @@ after_higher l m (t ∷ ts) n (w ∷ ws) h = go (step_to l w n t) (step_to m w n
 
 -- How deep the wants are
 
-abbrev pub Shallow : ℕ → List Want → Type 0
+abbrev pub Shallow : ℕ → List (Want ℕ) → Type 0
 Shallow m [] = Unit {0}
 Shallow m (a_value d ∷ ws) = (d ≤ m) × Shallow m ws
 Shallow m (inside s d at ∷ ws) = (d ≤ m) × Shallow m ws
 
-abbrev ShallowStep : ℕ → List Want → Result (List Want) NumberedFault → Type 0
+abbrev ShallowStep : ℕ → List (Want ℕ) → Left ℕ → Type 0
 ShallowStep m ws (Ok wants) = Shallow m (wants ++ ws)
 ShallowStep m ws (Err e) = Unit {0}
 
@@ -119,11 +119,11 @@ le_of : (d l : ℕ) → nat_le d l ≡ true → d ≤ l
 le_of d l e = grind arith
 
 -- what follows a value's first token is a level deeper at most
-first_shallow : (m d n : ℕ) (t : Token) (ws : List Want) → suc d ≤ m → Shallow m ws → (o : Option (List Want)) → begun_wants d n t ≡ o → (wants : List Want) → o ≡ Some wants → Shallow m (wants ++ ws)
+first_shallow : (m d n : ℕ) (t : Token) (ws : List (Want ℕ)) → suc d ≤ m → Shallow m ws → (o : Option (List (Want ℕ))) → begun_wants d n t ≡ o → (wants : List (Want ℕ)) → o ≡ Some wants → Shallow m (wants ++ ws)
 first_shallow m d n t ws h g o e wants q = go t (e ∙ q)
   where
-    at_once : (x : List Want) → Shallow m (x ++ ws) → Some x ≡ Some wants → Shallow m (wants ++ ws)
-    at_once x s e = subst (λ (v : List Want). Shallow m (v ++ ws)) (same_Some x wants e) s
+    at_once : (x : List (Want ℕ)) → Shallow m (x ++ ws) → Some x ≡ Some wants → Shallow m (wants ++ ws)
+    at_once x s e = subst (λ (v : List (Want ℕ)). Shallow m (v ++ ws)) (same_Some x wants e) s
 
     no_value : None ≡ Some wants → Shallow m (wants ++ ws)
     no_value e = absurd (let z : ⊥ = cc in z)
@@ -143,29 +143,29 @@ first_shallow m d n t ws h g o e wants q = go t (e ∙ q)
     go (mark open_box) e = at_once (a_value (suc d) ∷ inside box_end (suc d) n ∷ []) (h, (h, g)) e
     go (mark _) e = no_value e
 
-begun_shallow : (l d n : ℕ) (t : Token) (rest ws : List Want) → Shallow (suc l) (rest ++ ws) → ShallowStep (suc l) ws (begun_to l d n rest (begun_wants d n t))
+begun_shallow : (l d n : ℕ) (t : Token) (rest ws : List (Want ℕ)) → Shallow (suc l) (rest ++ ws) → ShallowStep (suc l) ws (begun l d n rest (begun_wants d n t))
 begun_shallow l d n t rest ws g = go (begun_wants d n t) refl
   where
-    chosen : (wants : List Want) → begun_wants d n t ≡ Some wants → (b : Bool) → nat_le d l ≡ b → ShallowStep (suc l) ws (cond b (Ok (wants ++ rest)) (Err (too_deep, n)))
+    chosen : (wants : List (Want ℕ)) → begun_wants d n t ≡ Some wants → (b : Bool) → nat_le d l ≡ b → ShallowStep (suc l) ws (cond b (Ok (wants ++ rest)) (Err (too_deep, n)))
     chosen wants e true q =
-        subst (λ (v : List Want). Shallow (suc l) v) (sym (append_assoc wants rest ws)) (first_shallow (suc l) d n t (rest ++ ws) (omega (arith, le_of d l q)) g (begun_wants d n t) refl wants e)
+        subst (λ (v : List (Want ℕ)). Shallow (suc l) v) (sym (append_assoc wants rest ws)) (first_shallow (suc l) d n t (rest ++ ws) (omega (arith, le_of d l q)) g (begun_wants d n t) refl wants e)
     chosen wants e false q = tt
 
-    go : (o : Option (List Want)) → begun_wants d n t ≡ o → ShallowStep (suc l) ws (begun_to l d n rest o)
+    go : (o : Option (List (Want ℕ))) → begun_wants d n t ≡ o → ShallowStep (suc l) ws (begun l d n rest o)
     go None e = tt
     go (Some wants) e = chosen wants e (nat_le d l) refl
 
-stage_shallow : (l d at n : ℕ) (t : Token) (ws : List Want) (o : Option Stage) → d ≤ suc l → Shallow (suc l) ws → ShallowStep (suc l) ws (stage_to l d at n t o)
+stage_shallow : (l d at n : ℕ) (t : Token) (ws : List (Want ℕ)) (o : Option Stage) → d ≤ suc l → Shallow (suc l) ws → ShallowStep (suc l) ws (stage_or_value l d at n t o)
 stage_shallow l d at n t ws None h g = tt
 stage_shallow l d at n t ws (Some s) h g = begun_shallow l d n t (inside s d at ∷ []) ws (h, g)
 
-next_shallow : (l : ℕ) (s : Stage) (d at n : ℕ) (t : Token) (ws : List Want) (x : Next) → d ≤ suc l → Shallow (suc l) ws → ShallowStep (suc l) ws (next_to l s d at n t x)
+next_shallow : (l : ℕ) (s : Stage) (d at n : ℕ) (t : Token) (ws : List (Want ℕ)) (x : Next) → d ≤ suc l → Shallow (suc l) ws → ShallowStep (suc l) ws (after_next l s d at n t x)
 next_shallow l s d at n t ws closed h g = g
 next_shallow l s d at n t ws (goes_on r) h g = (h, g)
 next_shallow l s d at n t ws (value_then r) h g = (h, (h, g))
 next_shallow l s d at n t ws wrong h g = stage_shallow l d at n t ws (after_value s) h g
 
-step_shallow : (l : ℕ) (w : Want) (n : ℕ) (t : Token) (ws : List Want) → Shallow (suc l) (w ∷ ws) → ShallowStep (suc l) ws (step_to l w n t)
+step_shallow : (l : ℕ) (w : Want ℕ) (n : ℕ) (t : Token) (ws : List (Want ℕ)) → Shallow (suc l) (w ∷ ws) → ShallowStep (suc l) ws (step l w n t)
 step_shallow l (a_value d) n t ws h = begun_shallow l d n t [] ws h.1
 step_shallow l (inside s d at) n (mark x) ws h = next_shallow l s d at n (mark x) ws (after_mark s x) h.0 h.1
 step_shallow l (inside s d at) n (string_token x) ws h = stage_shallow l d at n (string_token x) ws (after_value s) h.0 h.1
@@ -178,13 +178,13 @@ abbrev pub ShallowAfter : ℕ → AfterTokens → Type 0
 ShallowAfter m (left n ws) = Shallow m ws
 ShallowAfter m (stays e) = Unit {0}
 
-pub after_shallow : (l : ℕ) (ts : List Token) (n : ℕ) (ws : List Want) → Shallow (suc l) ws → ShallowAfter (suc l) (after_tokens l n ws ts)
+pub after_shallow : (l : ℕ) (ts : List Token) (n : ℕ) (ws : List (Want ℕ)) → Shallow (suc l) ws → ShallowAfter (suc l) (after_tokens l n ws ts)
 unfolding after_tokens
 after_shallow l [] n ws h = h
 after_shallow l (t ∷ ts) n [] h = tt
-after_shallow l (t ∷ ts) n (w ∷ ws) h = go (step_to l w n t) (step_shallow l w n t ws h) (λ vs g. after_shallow l ts (suc n) (vs ++ ws) g)
+after_shallow l (t ∷ ts) n (w ∷ ws) h = go (step l w n t) (step_shallow l w n t ws h) (λ vs g. after_shallow l ts (suc n) (vs ++ ws) g)
   where
-    go : (r : Result (List Want) NumberedFault) → ShallowStep (suc l) ws r → ((vs : List Want) → Shallow (suc l) (vs ++ ws) → ShallowAfter (suc l) (after_tokens l (suc n) (vs ++ ws) ts))
+    go : (r : Left ℕ) → ShallowStep (suc l) ws r → ((vs : List (Want ℕ)) → Shallow (suc l) (vs ++ ws) → ShallowAfter (suc l) (after_tokens l (suc n) (vs ++ ws) ts))
         → ShallowAfter (suc l) (after_step r (after_tokens l (suc n) (wants_of r ++ ws) ts))
     go (Ok vs) g later = later vs g
     go (Err e) g later = tt
@@ -208,7 +208,7 @@ ending pair_colon = mark colon ∷ one_value ∷ mark close_brace ∷ []
 ending lone_end = mark close_brace ∷ []
 ending box_end = mark close_box ∷ []
 
-abbrev endings : List Want → List Token
+abbrev endings : List (Want ℕ) → List Token
 endings [] = []
 endings (a_value d ∷ ws) = one_value ∷ endings ws
 endings (inside s d at ∷ ws) = ending s ++ endings ws
@@ -216,7 +216,7 @@ endings (inside s d at ∷ ws) = ending s ++ endings ws
 within : (d m : ℕ) → d ≤ m → nat_le d m ≡ true
 within d m h = grind arith
 
-ended : (m : ℕ) (ws : List Want) (n : ℕ) → Shallow m ws → fault_to m n ws (endings ws) ≡ None
+ended : (m : ℕ) (ws : List (Want ℕ)) (n : ℕ) → Shallow m ws → fault_to m n ws (endings ws) ≡ None
 unfolding fault_to
 ended m [] n h = refl
 ended m (a_value d ∷ ws) n h = rw (within d m h.0) (ended m ws (suc n) h.1)
@@ -234,7 +234,7 @@ ended m (inside lone_end d at ∷ ws) n h = ended m ws (suc n) h.1
 ended m (inside box_end d at ∷ ws) n h = ended m ws (suc n) h.1
 
 -- a prefix that leaves wants begins the tokens of a tree, at most a level deeper than the limit
-pub prefix_begins : (l : ℕ) (ts : List Token) (n : ℕ) (ws : List Want) → 1 ≤ l → after_tokens l 0 (a_value 1 ∷ []) ts ≡ left n ws → (x : Syntax) × (us : List Token) × (tokens_of x ≡ ts ++ us) × (levels x ≤ suc l)
+pub prefix_begins : (l : ℕ) (ts : List Token) (n : ℕ) (ws : List (Want ℕ)) → 1 ≤ l → after_tokens l 0 (a_value 1 ∷ []) ts ≡ left n ws → (x : Syntax) × (us : List Token) × (tokens_of x ≡ ts ++ us) × (levels x ≤ suc l)
 prefix_begins l ts n ws pos e =
     let shallow : Shallow (suc l) ws = subst (λ b. ShallowAfter (suc l) b) e (after_shallow l ts 0 (a_value 1 ∷ []) (omega (arith, pos), tt)) in
     let same : after_tokens (suc l) 0 (a_value 1 ∷ []) ts ≡ left n ws = subst (λ b. SameAfter b (after_tokens (suc l) 0 (a_value 1 ∷ []) ts)) e (after_higher l (suc l) ts 0 (a_value 1 ∷ []) (omega arith)) in
@@ -254,7 +254,7 @@ no_tree_at_all l ts k h x us same =
     no_tree_begins (l + levels x) ts (unexpected, k) higher x us (omega arith) same
 
 -- tokens that leave wants are no tree's
-pub no_tree_whole : (l : ℕ) (ts : List Token) (n : ℕ) (w : Want) (ws : List Want) → after_tokens l 0 (a_value 1 ∷ []) ts ≡ left n (w ∷ ws) → (x : Syntax) → tokens_of x ≡ ts → ⊥
+pub no_tree_whole : (l : ℕ) (ts : List Token) (n : ℕ) (w : Want ℕ) (ws : List (Want ℕ)) → after_tokens l 0 (a_value 1 ∷ []) ts ≡ left n (w ∷ ws) → (x : Syntax) → tokens_of x ≡ ts → ⊥
 unfolding fault_to
 no_tree_whole l ts n w ws h x same =
     let m = l + levels x in

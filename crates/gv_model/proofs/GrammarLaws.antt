@@ -10,7 +10,7 @@ use Rattle.gv_model.specs.Tokens.Mark.{close_tuple, close_list, close_brace, clo
 use Rattle.gv_model.specs.Tokens.Token.{mark}
 use Rattle.gv_model.specs.Grammar.{tokens_of, commas, members_tokens, pairs_tokens}
 use Rattle.gv_model.specs.TreeReading.{Read, read, around, list_before, list_items, list_with_first, tuple_before, tuple_items, tuple_with_first, brace_before, pair_items, pair_with_first, box_before}
-use Rattle.gv_model.specs.GrammarFaults.{Want, fault_from, grammar_fault}
+use Rattle.gv_model.specs.GrammarFaults.{Want, grammar_fault}
 use Rattle.gv_model.specs.TreeReading.Read.{value, mark_then}
 use Rattle.gv_model.specs.GrammarFaults.Stage.{list_start, list_more, tuple_start, tuple_one, tuple_two, tuple_more, brace_start, brace_first, pair_more, pair_colon, lone_end, box_end}
 use Rattle.gv_model.specs.GrammarFaults.Want.{a_value, inside}
@@ -134,26 +134,26 @@ within l d h = grind arith
 shallow : (l : ℕ) (x : Syntax) (d : ℕ) → levels x + d ≤ suc l → nat_le d l ≡ true
 shallow l x d h = within l d (omega (arith, levels_pos x))
 
-abbrev Passes : ℕ → ℕ → List Want → List Token → List Want → List Token → Type 0
+abbrev Passes : ℕ → ℕ → List (Want ℕ) → List Token → List (Want ℕ) → List Token → Type 0
 Passes l n ws ts vs us = (m : ℕ) × (fault_to l n ws ts ≡ fault_to l m vs us)
 
 -- a value where a bracket wants one
-enter_list : (l : ℕ) (x : Syntax) (d at n : ℕ) (ws : List Want) (ts : List Token) → nat_le d l ≡ true → fault_to l n (inside list_start d at ∷ ws) (tokens_of x ++ ts) ≡ fault_to l n (a_value d ∷ inside list_more d at ∷ ws) (tokens_of x ++ ts)
+enter_list : (l : ℕ) (x : Syntax) (d at n : ℕ) (ws : List (Want ℕ)) (ts : List Token) → nat_le d l ≡ true → fault_to l n (inside list_start d at ∷ ws) (tokens_of x ++ ts) ≡ fault_to l n (a_value d ∷ inside list_more d at ∷ ws) (tokens_of x ++ ts)
 unfolding tokens_of fault_to
 enter_list l (truth b) d at n ws ts h = rw h refl
 enter_list l _ d at n ws ts h = rw h refl
 
-enter_tuple : (l : ℕ) (x : Syntax) (d at n : ℕ) (ws : List Want) (ts : List Token) → nat_le d l ≡ true → fault_to l n (inside tuple_start d at ∷ ws) (tokens_of x ++ ts) ≡ fault_to l n (a_value d ∷ inside tuple_one d at ∷ ws) (tokens_of x ++ ts)
+enter_tuple : (l : ℕ) (x : Syntax) (d at n : ℕ) (ws : List (Want ℕ)) (ts : List Token) → nat_le d l ≡ true → fault_to l n (inside tuple_start d at ∷ ws) (tokens_of x ++ ts) ≡ fault_to l n (a_value d ∷ inside tuple_one d at ∷ ws) (tokens_of x ++ ts)
 unfolding tokens_of fault_to
 enter_tuple l (truth b) d at n ws ts h = rw h refl
 enter_tuple l _ d at n ws ts h = rw h refl
 
-enter_second : (l : ℕ) (x : Syntax) (d at n : ℕ) (ws : List Want) (ts : List Token) → nat_le d l ≡ true → fault_to l n (inside tuple_two d at ∷ ws) (tokens_of x ++ ts) ≡ fault_to l n (a_value d ∷ inside tuple_more d at ∷ ws) (tokens_of x ++ ts)
+enter_second : (l : ℕ) (x : Syntax) (d at n : ℕ) (ws : List (Want ℕ)) (ts : List Token) → nat_le d l ≡ true → fault_to l n (inside tuple_two d at ∷ ws) (tokens_of x ++ ts) ≡ fault_to l n (a_value d ∷ inside tuple_more d at ∷ ws) (tokens_of x ++ ts)
 unfolding tokens_of fault_to
 enter_second l (truth b) d at n ws ts h = rw h refl
 enter_second l _ d at n ws ts h = rw h refl
 
-enter_brace : (l : ℕ) (x : Syntax) (d at n : ℕ) (ws : List Want) (ts : List Token) → nat_le d l ≡ true → fault_to l n (inside brace_start d at ∷ ws) (tokens_of x ++ ts) ≡ fault_to l n (a_value d ∷ inside brace_first d at ∷ ws) (tokens_of x ++ ts)
+enter_brace : (l : ℕ) (x : Syntax) (d at n : ℕ) (ws : List (Want ℕ)) (ts : List Token) → nat_le d l ≡ true → fault_to l n (inside brace_start d at ∷ ws) (tokens_of x ++ ts) ≡ fault_to l n (a_value d ∷ inside brace_first d at ∷ ws) (tokens_of x ++ ts)
 unfolding tokens_of fault_to
 enter_brace l (truth b) d at n ws ts h = rw h refl
 enter_brace l _ d at n ws ts h = rw h refl
@@ -169,7 +169,7 @@ IsSome_pair (pair k v ps) = Unit {0}
 mutual
   unfolding tokens_of fault_to levels
 
-  pub passes_to : (l : ℕ) (x : Syntax) (d n : ℕ) (ws : List Want) (ts : List Token) → levels x + d ≤ suc l → Passes l n (a_value d ∷ ws) (tokens_of x ++ ts) ws ts
+  pub passes_to : (l : ℕ) (x : Syntax) (d n : ℕ) (ws : List (Want ℕ)) (ts : List Token) → levels x + d ≤ suc l → Passes l n (a_value d ∷ ws) (tokens_of x ++ ts) ws ts
   passes_to l (truth b) d n ws ts h = (suc n, rw (within l d (omega arith)) refl)
   passes_to l (integer negative i) d n ws ts h = (suc n, rw (within l d (omega arith)) refl)
   passes_to l (quoted s) d n ws ts h = (suc n, rw (within l d (omega arith)) refl)
@@ -201,7 +201,7 @@ mutual
       (suc rest.0, rw (within l d (omega arith)) (ap (fault_to l (suc n) (a_value (suc d) ∷ inside box_end (suc d) n ∷ ws)) (append_assoc (tokens_of x) (mark close_box ∷ []) ts) ∙ rest.1))
 
   -- elements of a list, the first of them wanted
-  list_more_pass : (l : ℕ) (xs : Syntaxes) (d at n : ℕ) (ws : List Want) (ts : List Token) → greatest_levels xs + d ≤ suc l → IsSome_first xs → Passes l n (a_value d ∷ inside list_more d at ∷ ws) (commas xs ++ mark close_list ∷ ts) ws ts
+  list_more_pass : (l : ℕ) (xs : Syntaxes) (d at n : ℕ) (ws : List (Want ℕ)) (ts : List Token) → greatest_levels xs + d ≤ suc l → IsSome_first xs → Passes l n (a_value d ∷ inside list_more d at ∷ ws) (commas xs ++ mark close_list ∷ ts) ws ts
   list_more_pass l none d at n ws ts h i = absurd i
   list_more_pass l (first x none) d at n ws ts h i =
       let one = passes_to l x d n (inside list_more d at ∷ ws) (mark close_list ∷ ts) (omega arith) in (suc one.0, one.1)
@@ -210,7 +210,7 @@ mutual
       let rest = list_more_pass l (first y xs) d at (suc one.0) ws ts (omega arith) tt in
       (rest.0, ap (fault_to l n (a_value d ∷ inside list_more d at ∷ ws)) (append_assoc (tokens_of x) (mark comma ∷ commas (first y xs)) (mark close_list ∷ ts)) ∙ (one.1 ∙ rest.1))
 
-  tuple_more_pass : (l : ℕ) (xs : Syntaxes) (d at n : ℕ) (ws : List Want) (ts : List Token) → greatest_levels xs + d ≤ suc l → IsSome_first xs → Passes l n (a_value d ∷ inside tuple_more d at ∷ ws) (commas xs ++ mark close_tuple ∷ ts) ws ts
+  tuple_more_pass : (l : ℕ) (xs : Syntaxes) (d at n : ℕ) (ws : List (Want ℕ)) (ts : List Token) → greatest_levels xs + d ≤ suc l → IsSome_first xs → Passes l n (a_value d ∷ inside tuple_more d at ∷ ws) (commas xs ++ mark close_tuple ∷ ts) ws ts
   tuple_more_pass l none d at n ws ts h i = absurd i
   tuple_more_pass l (first x none) d at n ws ts h i =
       let one = passes_to l x d n (inside tuple_more d at ∷ ws) (mark close_tuple ∷ ts) (omega arith) in (suc one.0, one.1)
@@ -219,7 +219,7 @@ mutual
       let rest = tuple_more_pass l (first y xs) d at (suc one.0) ws ts (omega arith) tt in
       (rest.0, ap (fault_to l n (a_value d ∷ inside tuple_more d at ∷ ws)) (append_assoc (tokens_of x) (mark comma ∷ commas (first y xs)) (mark close_tuple ∷ ts)) ∙ (one.1 ∙ rest.1))
 
-  list_passes : (l : ℕ) (xs : Syntaxes) (d at n : ℕ) (ws : List Want) (ts : List Token) → greatest_levels xs + d ≤ suc l → Passes l n (inside list_start d at ∷ ws) (commas xs ++ mark close_list ∷ ts) ws ts
+  list_passes : (l : ℕ) (xs : Syntaxes) (d at n : ℕ) (ws : List (Want ℕ)) (ts : List Token) → greatest_levels xs + d ≤ suc l → Passes l n (inside list_start d at ∷ ws) (commas xs ++ mark close_list ∷ ts) ws ts
   list_passes l none d at n ws ts h = (suc n, refl)
   list_passes l (first x none) d at n ws ts h =
       let one = passes_to l x d n (inside list_more d at ∷ ws) (mark close_list ∷ ts) (omega arith) in
@@ -232,7 +232,7 @@ mutual
             ∙ (enter_list l x d at n ws (mark comma ∷ (commas (first y xs) ++ mark close_list ∷ ts)) (shallow l x d (omega arith)) ∙ (one.1 ∙ rest.1)),
       )
 
-  tuple_passes : (l : ℕ) (xs : Syntaxes) (d at n : ℕ) (ws : List Want) (ts : List Token) → greatest_levels xs + d ≤ suc l → Passes l n (inside tuple_start d at ∷ ws) (members_tokens xs ++ mark close_tuple ∷ ts) ws ts
+  tuple_passes : (l : ℕ) (xs : Syntaxes) (d at n : ℕ) (ws : List (Want ℕ)) (ts : List Token) → greatest_levels xs + d ≤ suc l → Passes l n (inside tuple_start d at ∷ ws) (members_tokens xs ++ mark close_tuple ∷ ts) ws ts
   tuple_passes l none d at n ws ts h = (suc n, refl)
   tuple_passes l (first x none) d at n ws ts h =
       let one = passes_to l x d n (inside tuple_one d at ∷ ws) (mark comma ∷ mark close_tuple ∷ ts) (omega arith) in (
@@ -249,7 +249,7 @@ mutual
             ∙ (enter_tuple l x d at n ws (mark comma ∷ tail) (shallow l x d (omega arith)) ∙ (one.1 ∙ rest.1)),
       )
 
-  second_pass : (l : ℕ) (xs : Syntaxes) (d at n : ℕ) (ws : List Want) (ts : List Token) → greatest_levels xs + d ≤ suc l → IsSome_first xs → Passes l n (inside tuple_two d at ∷ ws) (commas xs ++ mark close_tuple ∷ ts) ws ts
+  second_pass : (l : ℕ) (xs : Syntaxes) (d at n : ℕ) (ws : List (Want ℕ)) (ts : List Token) → greatest_levels xs + d ≤ suc l → IsSome_first xs → Passes l n (inside tuple_two d at ∷ ws) (commas xs ++ mark close_tuple ∷ ts) ws ts
   second_pass l none d at n ws ts h i = absurd i
   second_pass l (first x none) d at n ws ts h i =
       let one = passes_to l x d n (inside tuple_more d at ∷ ws) (mark close_tuple ∷ ts) (omega arith) in
@@ -263,7 +263,7 @@ mutual
             ∙ (enter_second l x d at n ws (mark comma ∷ tail) (shallow l x d (omega arith)) ∙ (one.1 ∙ rest.1)),
       )
 
-  pairs_pass : (l : ℕ) (ps : Pairs) (d at n : ℕ) (ws : List Want) (ts : List Token) → pairs_levels ps + d ≤ suc l → Passes l n (inside brace_start d at ∷ ws) (pairs_tokens ps ++ mark close_brace ∷ ts) ws ts
+  pairs_pass : (l : ℕ) (ps : Pairs) (d at n : ℕ) (ws : List (Want ℕ)) (ts : List Token) → pairs_levels ps + d ≤ suc l → Passes l n (inside brace_start d at ∷ ws) (pairs_tokens ps ++ mark close_brace ∷ ts) ws ts
   pairs_pass l no_pair d at n ws ts h = (suc n, refl)
   pairs_pass l (pair k v no_pair) d at n ws ts h =
       let tail = tokens_of v ++ mark close_brace ∷ ts in
@@ -284,7 +284,7 @@ mutual
             ∙ (enter_brace l k d at n ws (mark colon ∷ tail) (shallow l k d (omega arith)) ∙ (key.1 ∙ (one.1 ∙ rest.1))),
       )
 
-  more_pairs_pass : (l : ℕ) (ps : Pairs) (d at n : ℕ) (ws : List Want) (ts : List Token) → pairs_levels ps + d ≤ suc l → IsSome_pair ps → Passes l n (a_value d ∷ inside pair_colon d at ∷ ws) (pairs_tokens ps ++ mark close_brace ∷ ts) ws ts
+  more_pairs_pass : (l : ℕ) (ps : Pairs) (d at n : ℕ) (ws : List (Want ℕ)) (ts : List Token) → pairs_levels ps + d ≤ suc l → IsSome_pair ps → Passes l n (a_value d ∷ inside pair_colon d at ∷ ws) (pairs_tokens ps ++ mark close_brace ∷ ts) ws ts
   more_pairs_pass l no_pair d at n ws ts h i = absurd i
   more_pairs_pass l (pair k v no_pair) d at n ws ts h i =
       let tail = tokens_of v ++ mark close_brace ∷ ts in
@@ -310,10 +310,5 @@ no_fault_to l x h =
     ap (fault_to l 0 (a_value 1 ∷ [])) (sym (append-nil (tokens_of x))) ∙ rest.1
 
 -- the limit of the grammar
-pub passes : (x : Syntax) (d n : ℕ) (ws : List Want) (ts : List Token) → levels x + d ≤ 129 → (m : ℕ) × (fault_from n (a_value d ∷ ws) (tokens_of x ++ ts) ≡ fault_from m ws ts)
-passes x d n ws ts h =
-    let rest = passes_to 128 x d n ws ts h in
-    (rest.0, sym (fault_128 (tokens_of x ++ ts) n (a_value d ∷ ws)) ∙ (rest.1 ∙ fault_128 ts rest.0 ws))
-
 pub no_fault : (x : Syntax) → levels x ≤ 128 → grammar_fault (tokens_of x) ≡ None
-no_fault x h = sym (fault_128 (tokens_of x) 0 (a_value 1 ∷ [])) ∙ no_fault_to 128 x h
+no_fault x h = sym (fault_128 (tokens_of x)) ∙ no_fault_to 128 x h

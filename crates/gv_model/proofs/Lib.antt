@@ -33,6 +33,7 @@ pub mod TextPrefixes
 pub mod FaultlessTokens
 pub mod FirstFaults
 pub mod FaultPrefixes
+pub mod FaultPlaces
 pub mod TextOutcomes
 pub mod PatternMeets
 pub mod LeastTypeLaws

@@ -12,7 +12,7 @@ use Rattle.gv_model.specs.TextFault.{Fault, Cause}
 use Rattle.gv_model.specs.Tokens.{Placed}
 use Rattle.gv_model.specs.TextFault.Cause.{bad_token, unclosed, bad_escape, double_text, unexpected, too_deep}
 use Rattle.gv_model.specs.Grammar.{tokens_of}
-use Rattle.gv_model.specs.GrammarFaults.{grammar_fault, fault_from, NumberedFault}
+use Rattle.gv_model.specs.GrammarFaults.{grammar_fault, first_fault, NumberedFault}
 use Rattle.gv_model.specs.Parsing.{fault_at, kinds}
 use Rattle.gv_model.specs.TreeReading.{read, list_items, tuple_items, pair_items, one_tree}
 use Rattle.gv_model.specs.LeastTypes.{choice, least_in}
@@ -54,7 +54,7 @@ outcome : List ℕ → Outcome
 outcome s = from_tokens (length s) (lexed 0 0 s)
 
 unfoldable all_computing : ℕ
-unfolding digits computing lexing depth text_of levels tokens_of fault_from read list_items tuple_items pair_items choice common under exactly pattern least_in literal_value contents type_of_syntax value_of shown from_fault from_syntax from_grammar from_tokens outcome
+unfolding digits computing lexing depth text_of levels tokens_of first_fault read list_items tuple_items pair_items choice common under exactly pattern least_in literal_value contents type_of_syntax value_of shown from_fault from_syntax from_grammar from_tokens outcome
 all_computing = 0
 
 reads_1 : outcome (codes "[1, @x 2]") ≡ fine (codes "ax") (codes "[int64 1, 2]")

@@ -1,5 +1,6 @@
 -- Where tokens that are no syntax tree's go wrong first: at the end of the longest prefix that begins some tree's tokens.
-use Rattle.std.specs.Prelude.{ℕ, suc, List, [], ◌∷◌, ◌++◌, Option, Some, None, Result, Ok, Err, nat_le, if◌then◌else◌}
+-- A token has a place: its number here, or its bytes in the text.
+use Rattle.std.specs.Prelude.{ℕ, suc, List, [], ◌∷◌, ◌++◌, length, Option, Some, None, Result, Ok, Err, nat_le, if◌then◌else◌}
 use Rattle.gv_model.specs.Tokens.{Mark, Token}
 use Rattle.gv_model.specs.TextFault.{Cause}
 use Rattle.gv_model.specs.Tokens.Mark.{open_tuple, close_tuple, open_list, close_list, open_brace, close_brace, open_box, close_box, comma, colon}
@@ -15,10 +16,10 @@ pub data Stage : Type 0 where
   box_end : Stage
 
 -- What is wanted next: a value so deep; or the rest of a bracket, whose values are so deep and which was opened at
--- the token of that number.
-pub data Want : Type 0 where
-  a_value : ℕ → Want
-  inside : Stage → ℕ → ℕ → Want
+-- that place.
+pub data Want (P : Type 0) : Type 0 where
+  a_value : ℕ → Want P
+  inside : Stage → ℕ → P → Want P
 
 -- where a value may occur at a stage, the stage after it
 abbrev pub after_value : Stage → Option Stage
@@ -56,66 +57,80 @@ after_mark lone_end close_brace = closed
 after_mark box_end close_box = closed
 after_mark _ _ = wrong
 
--- what is wanted after a token that begins a value so deep, n being the token's number
-abbrev pub begun_wants : ℕ → ℕ → Token → Option (List Want)
-begun_wants d n (mark open_list) = Some (inside list_start (suc d) n ∷ [])
-begun_wants d n (mark open_tuple) = Some (inside tuple_start (suc d) n ∷ [])
-begun_wants d n (mark open_brace) = Some (inside brace_start (suc d) n ∷ [])
-begun_wants d n (mark open_box) = Some (a_value (suc d) ∷ inside box_end (suc d) n ∷ [])
-begun_wants d n (mark _) = None
-begun_wants d n (string_token s) = Some []
-begun_wants d n (byte_string s) = Some []
-begun_wants d n (integer_token negative m) = Some []
-begun_wants d n (type_token t) = Some (a_value (suc d) ∷ [])
-begun_wants d n (word (truth_word b)) = Some []
-begun_wants d n (word nothing_word) = Some []
-begun_wants d n (word just_word) = Some (a_value (suc d) ∷ [])
-begun_wants d n (word (type_word k)) = Some (a_value (suc d) ∷ [])
+-- a fault and the place of its token; or that of the end of the text
+abbrev pub FaultAt : Type 0 → Type 0
+FaultAt P = Cause × P
 
--- a fault and the number of its token; the number past the last is the end of the text
-abbrev pub NumberedFault : Type 0
-NumberedFault = Cause × ℕ
+-- what a token leaves wanted, or its fault
+abbrev pub Left : Type 0 → Type 0
+Left P = Result (List (Want P)) (FaultAt P)
 
-abbrev pub begun : ℕ → ℕ → List Want → Option (List Want) → Result (List Want) NumberedFault
-begun d n rest None = Err (unexpected, n)
-begun d n rest (Some wants) = if nat_le d 128 then Ok (wants ++ rest) else Err (too_deep, n)
+-- what is wanted after a token that begins a value so deep
+abbrev pub begun_wants : {P : Type 0} → ℕ → P → Token → Option (List (Want P))
+begun_wants d p (mark open_list) = Some (inside list_start (suc d) p ∷ [])
+begun_wants d p (mark open_tuple) = Some (inside tuple_start (suc d) p ∷ [])
+begun_wants d p (mark open_brace) = Some (inside brace_start (suc d) p ∷ [])
+begun_wants d p (mark open_box) = Some (a_value (suc d) ∷ inside box_end (suc d) p ∷ [])
+begun_wants d p (mark _) = None
+begun_wants d p (string_token s) = Some []
+begun_wants d p (byte_string s) = Some []
+begun_wants d p (integer_token negative m) = Some []
+begun_wants d p (type_token t) = Some (a_value (suc d) ∷ [])
+begun_wants d p (word (truth_word b)) = Some []
+begun_wants d p (word nothing_word) = Some []
+begun_wants d p (word just_word) = Some (a_value (suc d) ∷ [])
+begun_wants d p (word (type_word k)) = Some (a_value (suc d) ∷ [])
 
-abbrev pub stage_or_value : ℕ → ℕ → ℕ → Token → Option Stage → Result (List Want) NumberedFault
-stage_or_value d at n t None = Err (unexpected, n)
-stage_or_value d at n t (Some s) = begun d n (inside s d at ∷ []) (begun_wants d n t)
+-- what a token leaves wanted, where there may be so many levels
+abbrev pub begun : {P : Type 0} → ℕ → ℕ → P → List (Want P) → Option (List (Want P)) → Left P
+begun l d p rest None = Err (unexpected, p)
+begun l d p rest (Some wants) = if nat_le d l then Ok (wants ++ rest) else Err (too_deep, p)
 
-abbrev pub after_next : Stage → ℕ → ℕ → ℕ → Token → Next → Result (List Want) NumberedFault
-after_next s d at n t closed = Ok []
-after_next s d at n t (goes_on r) = Ok (inside r d at ∷ [])
-after_next s d at n t (value_then r) = Ok (a_value d ∷ inside r d at ∷ [])
-after_next s d at n t wrong = stage_or_value d at n t (after_value s)
+abbrev pub stage_or_value : {P : Type 0} → ℕ → ℕ → P → P → Token → Option Stage → Left P
+stage_or_value l d at p t None = Err (unexpected, p)
+stage_or_value l d at p t (Some s) = begun l d p (inside s d at ∷ []) (begun_wants d p t)
 
-abbrev pub step : Want → ℕ → Token → Result (List Want) NumberedFault
-step (a_value d) n t = begun d n [] (begun_wants d n t)
-step (inside s d at) n (mark m) = after_next s d at n (mark m) (after_mark s m)
-step (inside s d at) n t = stage_or_value d at n t (after_value s)
+abbrev pub after_next : {P : Type 0} → ℕ → Stage → ℕ → P → P → Token → Next → Left P
+after_next l s d at p t closed = Ok []
+after_next l s d at p t (goes_on r) = Ok (inside r d at ∷ [])
+after_next l s d at p t (value_then r) = Ok (a_value d ∷ inside r d at ∷ [])
+after_next l s d at p t wrong = stage_or_value l d at p t (after_value s)
+
+abbrev pub step : {P : Type 0} → ℕ → Want P → P → Token → Left P
+step l (a_value d) p t = begun l d p [] (begun_wants d p t)
+step l (inside s d at) p (mark m) = after_next l s d at p (mark m) (after_mark s m)
+step l (inside s d at) p t = stage_or_value l d at p t (after_value s)
 
 -- at the end: the innermost open bracket, or else a value that is missing at the end
-abbrev pub at_end : ℕ → List Want → NumberedFault
-at_end n [] = (unexpected, n)
-at_end n (inside s d at ∷ wants) = (unclosed, at)
-at_end n (a_value d ∷ wants) = at_end n wants
+abbrev pub at_end : {P : Type 0} → P → List (Want P) → FaultAt P
+at_end end [] = (unexpected, end)
+at_end end (inside s d at ∷ wants) = (unclosed, at)
+at_end end (a_value d ∷ wants) = at_end end wants
 
-abbrev pub wants_of : Result (List Want) NumberedFault → List Want
+abbrev pub wants_of : {P : Type 0} → Left P → List (Want P)
 wants_of (Ok wants) = wants
 wants_of (Err e) = []
 
-abbrev pub or_fault : Result (List Want) NumberedFault → Option NumberedFault → Option NumberedFault
+abbrev pub or_fault : {P : Type 0} → Left P → Option (FaultAt P) → Option (FaultAt P)
 or_fault (Ok wants) later = later
 or_fault (Err e) later = Some e
 
--- the first fault of tokens, of which the first has the number n, where these things are wanted in this order
-unfoldable pub fault_from : ℕ → List Want → List Token → Option NumberedFault
-fault_from n [] [] = None
-fault_from n (w ∷ wants) [] = Some (at_end n (w ∷ wants))
-fault_from n [] (t ∷ ts) = Some (unexpected, n)
-fault_from n (w ∷ wants) (t ∷ ts) = or_fault (step w n t) (fault_from (suc n) (wants_of (step w n t) ++ wants) ts)
+-- the first fault of tokens, each with its place, where these things are wanted in this order and the text ends there
+unfoldable pub first_fault : {P : Type 0} → P → List (Want P) → List (P × Token) → Option (FaultAt P)
+first_fault end [] [] = None
+first_fault end (w ∷ wants) [] = Some (at_end end (w ∷ wants))
+first_fault end [] (t ∷ ts) = Some (unexpected, t.0)
+first_fault end (w ∷ wants) (t ∷ ts) = or_fault (step 128 w t.0 t.1) (first_fault end (wants_of (step 128 w t.0 t.1) ++ wants) ts)
+
+-- tokens with their numbers, the first having that one
+abbrev pub numbered : ℕ → List Token → List (ℕ × Token)
+numbered n [] = []
+numbered n (t ∷ ts) = (n, t) ∷ numbered (suc n) ts
+
+-- a fault and the number of its token; the number past the last is the end of the text
+abbrev pub NumberedFault : Type 0
+NumberedFault = FaultAt ℕ
 
 -- the first fault of the tokens of a text
 abbrev pub grammar_fault : List Token → Option NumberedFault
-grammar_fault ts = fault_from 0 (a_value 1 ∷ []) ts
+grammar_fault ts = first_fault (length ts) (a_value 1 ∷ []) (numbered 0 ts)

@@ -8,6 +8,7 @@ use Rattle.gv_model.specs.Tokens.Mark.{open_brace, close_tuple, close_brace, com
 use Rattle.gv_model.specs.Tokens.Token.{mark}
 use Rattle.gv_model.specs.Grammar.{tokens_of, commas, members_tokens, pairs_tokens}
 use Rattle.gv_model.specs.GrammarFaults.{Stage}
+use Rattle.gv_model.specs.GrammarFaults.Want.{a_value, inside}
 use Rattle.gv_model.specs.GrammarFaults.Stage.{tuple_start, tuple_one, tuple_two, tuple_more, brace_start, brace_first, pair_more, pair_colon, lone_end}
 use Rattle.gv_text.specs.declared.token.Mark.TheVariants.{CloseTuple}
 use Rattle.gv_text.specs.declared.token.Span.{Span}
@@ -20,14 +21,13 @@ use Rattle.gv_text.specs.declared.syntax.SyntaxKind.TheVariants.{Dictionary, Ent
 use Rattle.gv_text.specs.SyntaxNodes.{nodes_of, pairs_of}
 use Rattle.gv_text.specs.ModelTokens.{token_of}
 use Rattle.gv_text.specs.Expectations.{Want, first_fault, kinds_of, Taken, Stops, StopsWith}
-use Rattle.gv_text.specs.Expectations.Want.{a_value, inside}
 use Rattle.gv_text.specs.ParseSteps.{IsValue, IsBraced, ArePairs, AreMembers, AreMore}
 use Rattle.gv_text.proofs.ExpectationLaws.{Opens, Refuses, carried_in, carried_out, entered, taken, taken_tokens, second_opens}
 use Rattle.gv_text.proofs.SequenceLaws.{PairsSoFar, pairs_more, pairs_levels_more, members_of, no_longer}
 
 -- from these tokens, where the first things are wanted, to those, where the second are
 abbrev pub Reaches : List Want → List Token → List Want → List Token → Type 0
-Reaches ws old vs mid = (e : TextFault) (more : List Want) → first_fault e (ws ++ more) old ≡ first_fault e (vs ++ more) mid
+Reaches ws old vs mid = (e : Span) (more : List Want) → first_fault e (ws ++ more) old ≡ first_fault e (vs ++ more) mid
 
 pub stops_after : (ws vs : List Want) (old mid : List Token) (f : TextFault) → Reaches ws old vs mid → Stops vs mid f → Stops ws old f
 stops_after ws vs old mid f g h = carried_out f ws vs old mid h (λ e more. (more, g e more))

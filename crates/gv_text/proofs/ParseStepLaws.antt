@@ -1,6 +1,8 @@
 -- What each kind of value takes from the tokens, of its parts.
 use Rattle.std.proofs.Common.{arith, ◌≡◌, ◌≤◌, ◌+◌, ℕ, List, [], ◌∷◌, ◌++◌, refl, sym, ap, ◌∙◌, append_assoc, add-one, Bool, Box, Global, Vec, String}
 use Rattle.std.specs.Prelude.{IsSome, string_bytes, ◌⊎◌, true, false, Result, Ok, Err, IfOk, IfErr}
+use Rattle.gv_model.specs.GrammarFaults.{begun_wants}
+use Rattle.gv_model.specs.GrammarFaults.Want.{a_value, inside}
 use Rattle.gv_model.specs.GrammarFaults.Stage.{list_start, list_more, tuple_start, tuple_more, box_end}
 use Rattle.gv_model.specs.Syntax.{Syntax as Value, levels}
 use Rattle.gv_model.specs.Tokens.{Mark as TheMark}
@@ -22,8 +24,7 @@ use Rattle.gv_text.specs.declared.syntax.SyntaxKind.{SyntaxKind}
 use Rattle.gv_text.specs.declared.syntax.SyntaxKind.TheVariants.{Array, Tuple, Truth, Integer, Text, ByteString, Variant, Just, Nothing, OfType, Keyword}
 use Rattle.gv_text.specs.SyntaxNodes.{nodes_of, syntax_of}
 use Rattle.gv_text.specs.ModelTokens.{token_of, mark_of}
-use Rattle.gv_text.specs.Expectations.{Want, begun_wants, first_fault, kinds_of, Taken, NotTaken, TakesSeparator, Stops, Passes, more_stage, ClosesValues}
-use Rattle.gv_text.specs.Expectations.Want.{a_value, inside}
+use Rattle.gv_text.specs.Expectations.{Want, first_fault, kinds_of, Taken, NotTaken, TakesSeparator, Stops, Passes, more_stage, ClosesValues}
 use Rattle.gv_text.specs.ParseSteps.{IsValue, IsAfter, IsBraced, AreElements, AreMembers, AreMore}
 use Rattle.gv_text.proofs.ExpectationLaws.{begins, taken, taken_tokens, not_taken, list_wants, tuple_wants, Either}
 use Rattle.gv_text.proofs.SequenceLaws.{MoreSoFar, commas_more, levels_more}
@@ -115,7 +116,7 @@ no_elements d at old new l t = record {
 }
 
 pub elements_of : (d : ℕ) (at : Span) (old new mid : List Token) (before xs : List Value) → before ≡ [] → old ≡ mid
-    → ((e : TextFault) (more : List Want) → first_fault e (inside list_start d at ∷ more) old ≡ first_fault e (a_value d ∷ inside list_more d at ∷ more) mid)
+    → ((e : Span) (more : List Want) → first_fault e (inside list_start d at ∷ more) old ≡ first_fault e (a_value d ∷ inside list_more d at ∷ more) mid)
     → AreMore CloseArray d at mid new before xs → AreElements d at old new xs
 elements_of d at old new mid before xs none same enter h = rw (h.joined, none) (record {
   tokens = ap kinds_of same ∙ h.tokens;
@@ -144,12 +145,12 @@ not_separated CloseArray d at old f c h = not_taken list_more (Either close_list
 not_separated CloseTuple d at old f c h = not_taken tuple_more (Either close_tuple) d at [] old f tuple_wants h
 not_separated _ d at old f c h = absurd c
 
-pub separated : (close : Mark) (d : ℕ) (at : Span) (old new : List Token) → ClosesValues close → Taken (mark comma) old new → (e : TextFault) (more : List Want) → first_fault e (inside (more_stage close) d at ∷ more) old ≡ first_fault e (a_value d ∷ inside (more_stage close) d at ∷ more) new
+pub separated : (close : Mark) (d : ℕ) (at : Span) (old new : List Token) → ClosesValues close → Taken (mark comma) old new → (e : Span) (more : List Want) → first_fault e (inside (more_stage close) d at ∷ more) old ≡ first_fault e (a_value d ∷ inside (more_stage close) d at ∷ more) new
 separated CloseArray d at old new c t = taken comma list_more d at (a_value d ∷ inside list_more d at ∷ []) old new t (λ p. refl)
 separated CloseTuple d at old new c t = taken comma tuple_more d at (a_value d ∷ inside tuple_more d at ∷ []) old new t (λ p. refl)
 separated _ d at old new c t = absurd c
 
-pub closed_by : (close : Mark) (d : ℕ) (at : Span) (old new : List Token) → ClosesValues close → Taken (mark (mark_of close)) old new → (e : TextFault) (more : List Want) → first_fault e (inside (more_stage close) d at ∷ more) old ≡ first_fault e more new
+pub closed_by : (close : Mark) (d : ℕ) (at : Span) (old new : List Token) → ClosesValues close → Taken (mark (mark_of close)) old new → (e : Span) (more : List Want) → first_fault e (inside (more_stage close) d at ∷ more) old ≡ first_fault e more new
 closed_by CloseArray d at old new c t = taken close_list list_more d at [] old new t (λ p. refl)
 closed_by CloseTuple d at old new c t = taken close_tuple tuple_more d at [] old new t (λ p. refl)
 closed_by _ d at old new c t = absurd c

@@ -5,14 +5,13 @@ use Rattle.gv_model.specs.Tokens.{Token as TheToken}
 use Rattle.gv_model.specs.Tokens.Mark.{comma, colon}
 use Rattle.gv_model.specs.Tokens.Token.{mark}
 use Rattle.gv_model.specs.Grammar.{tokens_of, commas, members_tokens, pairs_tokens}
+use Rattle.gv_model.specs.GrammarFaults.Want.{a_value, inside}
 use Rattle.gv_model.specs.GrammarFaults.Stage.{pair_more}
 use Rattle.gv_text.specs.declared.token.Mark.{Mark}
 use Rattle.gv_text.specs.declared.token.Span.{Span}
 use Rattle.gv_text.specs.declared.token.Token.{Token}
-use Rattle.gv_text.specs.declared.fault.TextFault.{TextFault}
 use Rattle.gv_text.specs.SyntaxNodes.{nodes_of, pairs_of}
 use Rattle.gv_text.specs.Expectations.{Want, first_fault, kinds_of, more_stage}
-use Rattle.gv_text.specs.Expectations.Want.{a_value, inside}
 
 -- values read from start on, after others, and the tokens that are left
 pub record MoreSoFar (close : Mark) (d : ℕ) (opened : Span) (start rest : List Token) (before all : List Value) : Type 0 where
@@ -20,7 +19,7 @@ pub record MoreSoFar (close : Mark) (d : ℕ) (opened : Span) (start rest : List
   pub others : List Value
   pub joined : all ≡ before ++ (first ∷ others)
   pub tokens : kinds_of start ≡ commas (nodes_of (first ∷ others)) ++ kinds_of rest
-  pub passes : (e : TextFault) (more : List Want) → first_fault e (a_value d ∷ inside (more_stage close) d opened ∷ more) start ≡ first_fault e (inside (more_stage close) d opened ∷ more) rest
+  pub passes : (e : Span) (more : List Want) → first_fault e (a_value d ∷ inside (more_stage close) d opened ∷ more) start ≡ first_fault e (inside (more_stage close) d opened ∷ more) rest
   pub levels : greatest_levels (nodes_of (first ∷ others)) + d ≤ 129
 
 pub record PairsSoFar (key : Value) (d : ℕ) (opened : Span) (start rest : List Token) (ps : List (Value × Value)) : Type 0 where
@@ -28,7 +27,7 @@ pub record PairsSoFar (key : Value) (d : ℕ) (opened : Span) (start rest : List
   pub others : List (Value × Value)
   pub joined : ps ≡ first ∷ others
   pub tokens : tokens_of key ++ mark colon ∷ kinds_of start ≡ pairs_tokens (pairs_of (first ∷ others)) ++ kinds_of rest
-  pub passes : (e : TextFault) (more : List Want) → first_fault e (a_value d ∷ inside pair_more d opened ∷ more) start ≡ first_fault e (inside pair_more d opened ∷ more) rest
+  pub passes : (e : Span) (more : List Want) → first_fault e (a_value d ∷ inside pair_more d opened ∷ more) start ≡ first_fault e (inside pair_more d opened ∷ more) rest
   pub levels : levels key + d ≤ 129 → pairs_levels (pairs_of (first ∷ others)) + d ≤ 129
 
 -- one value more

@@ -1,10 +1,12 @@
 -- What the parts of reading a value take from the tokens.
-use Rattle.std.specs.Prelude.{ℕ, ◌≡◌, ◌≤◌, ◌+◌, List, [], ◌∷◌, ◌++◌, Result, Ok, Err, IsSome}
+use Rattle.std.specs.Prelude.{ℕ, ◌≡◌, ◌≤◌, ◌+◌, List, [], ◌∷◌, ◌++◌, Some, None, Result, Ok, Err, IsSome, option_map}
 use Rattle.gv_model.specs.Syntax.{Syntax as Value, levels, greatest_levels, pairs_levels}
 use Rattle.gv_model.specs.Tokens.{Token as TheToken}
 use Rattle.gv_model.specs.Tokens.Mark.{open_brace, close_list, close_tuple, close_brace, colon}
 use Rattle.gv_model.specs.Tokens.Token.{mark}
 use Rattle.gv_model.specs.Grammar.{tokens_of, commas, members_tokens, pairs_tokens}
+use Rattle.gv_model.specs.GrammarFaults.{begun_wants, begun, or_fault}
+use Rattle.gv_model.specs.GrammarFaults.Want.{a_value, inside}
 use Rattle.gv_model.specs.GrammarFaults.Stage.{list_start, tuple_start, brace_start, pair_more}
 use Rattle.gv_text.specs.declared.token.Mark.{Mark}
 use Rattle.gv_text.specs.declared.token.Span.{Span}
@@ -13,8 +15,7 @@ use Rattle.gv_text.specs.declared.fault.TextFault.{TextFault}
 use Rattle.gv_text.specs.declared.syntax.SyntaxKind.{SyntaxKind}
 use Rattle.gv_text.specs.SyntaxNodes.{nodes_of, pairs_of, syntax_of}
 use Rattle.gv_text.specs.ModelTokens.{token_of, mark_of}
-use Rattle.gv_text.specs.Expectations.{wants_after, begun_wants, begun, kinds_of, Passes, more_stage}
-use Rattle.gv_text.specs.Expectations.Want.{a_value, inside}
+use Rattle.gv_text.specs.Expectations.{fault_as, wants_after, kinds_of, Passes, more_stage}
 
 -- a value so deep
 pub record IsValue (d : ℕ) (old new : List Token) (x : Value) : Type 0 where
@@ -31,7 +32,7 @@ pub record IsAfter (d : ℕ) (s : Span) (t : TheToken) (old new : List Token) (k
 -- whether a value so deep may begin with a token
 abbrev pub BeginsValue : ℕ → Token → Result (Unit {0}) TextFault → Type 0
 BeginsValue d t (Ok x) = IsSome (begun_wants d t.span (token_of t.kind)) × (d ≤ 128)
-BeginsValue d t (Err f) = begun d t.span [] (begun_wants d t.span (token_of t.kind)) ≡ Err f
+BeginsValue d t (Err f) = option_map fault_as (or_fault (begun 128 d t.span [] (begun_wants d t.span (token_of t.kind))) None) ≡ Some f
 
 pub record AreElements (d : ℕ) (opened : Span) (old new : List Token) (xs : List Value) : Type 0 where
   pub tokens : kinds_of old ≡ commas (nodes_of xs) ++ mark close_list ∷ kinds_of new

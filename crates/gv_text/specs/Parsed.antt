@@ -4,13 +4,12 @@ use Rattle.gv_model.specs.Syntax.{Syntax, levels}
 use Rattle.gv_model.specs.Grammar.{tokens_of, text_bytes}
 use Rattle.gv_model.specs.PlainTexts.{IsPlain}
 use Rattle.gv_model.specs.Parsing.{HasFault}
+use Rattle.gv_model.specs.GrammarFaults.Want.{a_value}
 use Rattle.gv_text.specs.declared.token.Token.{Token}
-use Rattle.gv_text.specs.declared.fault.TextCause.TheVariants.{Unexpected}
 use Rattle.gv_text.specs.declared.fault.TextFault.{TextFault}
 use Rattle.gv_text.specs.declared.fault.TextFault.TheVariants.{Refused, Memory}
 use Rattle.gv_text.specs.ModelTokens.{fault_at_span}
 use Rattle.gv_text.specs.Expectations.{kinds_of, first_fault}
-use Rattle.gv_text.specs.Expectations.Want.{a_value}
 
 -- within the limits of depth and of a text's length, and without a zero byte in a string
 pub record IsWithin (x : Syntax) : Type 0 where
@@ -31,4 +30,4 @@ pub record IsTreeOf (ts : List Token) (x : Syntax) : Type 0 where
 -- the first fault of these tokens, the text being so long
 abbrev pub IsGrammarFault : ℕ → List Token → TextFault → Type 0
 IsGrammarFault length ts Memory = Unit {0}
-IsGrammarFault length ts (Refused cause span) = first_fault (Refused Unexpected (record { start = length; end = length })) (a_value 1 ∷ []) ts ≡ Some (Refused cause span)
+IsGrammarFault length ts (Refused cause span) = first_fault (record { start = length; end = length }) (a_value 1 ∷ []) ts ≡ Some (Refused cause span)

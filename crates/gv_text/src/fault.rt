@@ -46,11 +46,12 @@ impl TextFault {
 }
 
 impl TextCause {
-    ghost use Rattle.gv_text.specs.FaultTexts.{cause_text};
+    ghost use Rattle.gv_model.specs.FaultTexts.{text_cause_text};
+    ghost use Rattle.gv_text.specs.ModelTokens.{cause_of};
 
     /// How the fault is printed.
     fn name(self) -> &'static str
-        ensures { result.now ≡ cause_text self }
+        ensures { result.now ≡ text_cause_text (cause_of self) }
     {
         match self {
             TextCause::BadToken => "BadToken",
@@ -65,9 +66,10 @@ impl TextCause {
 
 impl fmt::Display for TextCause {
     ghost use Rattle.std.specs.Prelude.{Some};
-    ghost use Rattle.gv_text.specs.FaultTexts.{cause_text};
+    ghost use Rattle.gv_model.specs.FaultTexts.{text_cause_text};
+    ghost use Rattle.gv_text.specs.ModelTokens.{cause_of};
 
-    ghost output = { λ fault. Some (cause_text fault) };
+    ghost output = { λ fault. Some (text_cause_text (cause_of fault)) };
 
     fn fmt<W: fmt::Write>(&self, f: &mut fmt::Formatter<W>) -> fmt::Result {
         f.write_str(self.name())

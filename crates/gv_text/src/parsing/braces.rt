@@ -1,7 +1,7 @@
 //! Reading what occurs in braces: a dictionary's pairs, or an entry by itself.
 ghost use Rattle.std.specs.Prelude.{◌≡◌, ◌≤◌, ◌∷◌, [], IfOk, IfErr};
-ghost use Rattle.gv_model.specs.GrammarFaults.{Stage.brace_start, Stage.pair_more};
-ghost use Rattle.gv_text.specs.Expectations.{left, Stops, Want.inside, Want.a_value};
+ghost use Rattle.gv_model.specs.GrammarFaults.{Stage.brace_start, Stage.pair_more, Want.inside, Want.a_value};
+ghost use Rattle.gv_text.specs.Expectations.{left, Stops};
 ghost use Rattle.gv_text.specs.ParseSteps.{IsBraced, ArePairs};
 
 use crate::fault::{TextCause, TextFault};

@@ -1,8 +1,8 @@
 //! Reading arrays and tuples: values with `,` between.
 ghost use Rattle.std.specs.Prelude.{◌≡◌, ◌≤◌, ◌∷◌, [], IfOk, IfErr};
-ghost use Rattle.gv_model.specs.GrammarFaults.{Stage.list_start, Stage.tuple_start};
+ghost use Rattle.gv_model.specs.GrammarFaults.{Stage.list_start, Stage.tuple_start, Want.inside, Want.a_value};
 ghost use Rattle.gv_text.specs.ModelTokens.{mark_of};
-ghost use Rattle.gv_text.specs.Expectations.{left, Stops, Want.inside, Want.a_value, more_stage, ClosesValues};
+ghost use Rattle.gv_text.specs.Expectations.{left, Stops, more_stage, ClosesValues};
 ghost use Rattle.gv_text.specs.ParseSteps.{AreElements, AreMembers, AreMore};
 
 use crate::fault::{TextCause, TextFault};

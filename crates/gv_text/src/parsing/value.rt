@@ -1,8 +1,9 @@
 //! Reading a value: its first token, and what follows in it.
 ghost use Rattle.std.specs.Prelude.{◌≡◌, ◌≤◌, ◌∷◌, ◌↔◌, [], ℕ, IfOk, IfErr, IsSome, IsTrue};
 ghost use Rattle.gv_model.specs.Tokens.Token.{mark as mark_token, word as word_token};
+ghost use Rattle.gv_model.specs.GrammarFaults.{Want.a_value, begun_wants};
 ghost use Rattle.gv_text.specs.ModelTokens.{token_of, mark_of, word_of};
-ghost use Rattle.gv_text.specs.Expectations.{left, StopsWith, Stops, Want.a_value, wants_after, begun_wants};
+ghost use Rattle.gv_text.specs.Expectations.{left, StopsWith, Stops, wants_after};
 ghost use Rattle.gv_text.specs.ParseSteps.{IsValue, IsAfter, BeginsValue};
 ghost use Rattle.gv_text.specs.declared.token.Span.{Span};
 

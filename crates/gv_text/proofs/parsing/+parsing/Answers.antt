@@ -1,13 +1,14 @@
 use Rattle.std.proofs.Common.{arith, subst, add-one, length, ◌+◌, ◌≡◌, [], ◌∷◌, ◌++◌, refl, sym, ap, ◌∙◌}
 use Rattle.std.proofs.lemmas.Result.{err_from_is_err_and}
+use Rattle.gv_model.specs.GrammarFaults.{begun_wants}
+use Rattle.gv_model.specs.GrammarFaults.Want.{inside, a_value}
 use Rattle.gv_model.specs.GrammarFaults.Stage.{list_start, list_more, tuple_start, tuple_one, tuple_two, tuple_more, brace_start, brace_first, pair_more, pair_colon, lone_end, box_end}
 use Rattle.gv_model.specs.Tokens.Mark.{close_list, close_tuple, close_brace, close_box, colon, comma}
 use Rattle.gv_model.specs.Tokens.Token.{mark}
 use Rattle.gv_model.specs.Grammar.{tokens_of}
 use Rattle.gv_text.specs.ModelTokens.{token_of, mark_of}
 use Rattle.std.specs.Prelude.{IsSome}
-use Rattle.gv_text.specs.Expectations.{left, more_stage, begun_wants}
-use Rattle.gv_text.specs.Expectations.Want.{inside, a_value}
+use Rattle.gv_text.specs.Expectations.{left, more_stage}
 use Rattle.gv_text.proofs.ExpectationLaws.{Either, other, unclosed, missing, entered, carried, carried_in, carried_out, always, does_not_begin, begins, list_opens, tuple_opens, brace_opens, not_taken, pair_wants, wants_comma, wants_colon, wants_brace, wants_box}
 use Rattle.gv_text.proofs.ParseStepLaws.{whole_value, is_truth, is_text, is_bytes, is_integer, is_nothing, is_just, is_keyword, is_of_type, is_array, is_tuple, is_boxed, if_ok, if_err, no_elements, elements_of, no_members, took_comma, took_close, not_separated, separated, one_value, one_more, all_values}
 use Rattle.gv_text.proofs.SequenceLaws.{no_longer}
