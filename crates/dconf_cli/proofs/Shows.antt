@@ -5,13 +5,10 @@ use Rattle.gv_model.specs.Ty.{Ty}
 use Rattle.gv_model.specs.Ty.Ty.{tuple}
 use Rattle.gv_model.specs.Ty.Types.{end}
 use Rattle.gv_model.specs.TypeText.{is_type, type_at, type_of_text}
-use Rattle.std.specs.Fmt.{digits}
 use Rattle.gv_model.specs.TypeFault.{Fault, IsFault}
-use Rattle.gv_model.specs.TypeFault.Fault.{too_long, empty, bad_char, key_not_basic, too_deep, unclosed, trailing}
 use Rattle.gv_model.specs.Decode.{decode}
 use Rattle.gv_model.specs.Tree.{Tree}
 use Rattle.gv_model.specs.Printed.{printed, is_too_large, holds_double}
-use Rattle.gv_types.specs.TypeFaults.{type_fault_text as type_text}
 use Rattle.gv_text.specs.declared.printing.PrintFault.{PrintFault}
 use Rattle.gv_text.specs.declared.printing.PrintFault.TheVariants.{TooLarge, DoubleText, Memory}
 use Rattle.gv_text.specs.PrintFaults.{print_fault_name}
@@ -57,28 +54,18 @@ no_type w none_found = go (type_of_text w) refl
     go None e = refl
     go (Some t) e = absurd (false_true (none_found (ap is_some e)))
 
-type_text_is : (f : Fault) → type_text f ≡ type_fault_text f
-unfolding digits
-type_text_is too_long = refl
-type_text_is empty = refl
-type_text_is (bad_char at) = refl
-type_text_is (key_not_basic at) = refl
-type_text_is (too_deep at) = refl
-type_text_is (unclosed at) = refl
-type_text_is (trailing at) = refl
-
 -- ---- `show`
 
 module _ {F : Type 0} (past : F → List Event → Type 0) (failures : F → ℕ) (text name : List ℕ) (answer : Answer) (input : Input) where
   abbrev Shows : F → F → Type 0
   Shows old new = Decides past failures old new 0 (λ reads. IsOutcome (show text name) reads input) answer
 
-  pub shows_no_type : (folder : F) (f : Fault) → type_of_text text ≡ None → IsFault text f → RefusesFor answer (type_text f) → Shows folder folder
+  pub shows_no_type : (folder : F) (f : Fault) → type_of_text text ≡ None → IsFault text f → RefusesFor answer (type_fault_text f) → Shows folder folder
   shows_no_type folder f none is refuses =
       decides_at_once past failures folder 0 answer (λ reads. IsOutcome (show text name) reads input)
-      (λ reads. answers_also answer (Refused (type_text f)) (IsOutcome (show text name) reads input)
+      (λ reads. answers_also answer (Refused (type_fault_text f)) (IsOutcome (show text name) reads input)
       (λ o r. subst (λ u. WithType text u (λ t. WithFile reads 0 name (λ bytes p. p ≡ shown (decode t bytes))) o) (sym none)
-      (f, is, subst (λ why. Refused why o) (type_text_is f) r)) refuses)
+      (f, is, r)) refuses)
 
   with_type : (t : Ty) → type_of_text text ≡ Some t → (reads : Reads) (o : Outcome) → WithFile reads 0 name (λ bytes p. p ≡ shown (decode t bytes)) o
       → IsOutcome (show text name) reads input o

@@ -10,9 +10,11 @@ use Rattle.gv_model.proofs.TypeTextParts.{IsTextOfType, text_of_type}
 use Rattle.gv_model.proofs.TypeTextLaws.{within_limits}
 use Rattle.gv_tree.specs.declared.sums.Sums.{Sums}
 use Rattle.gv_tree.specs.declared.tree.Tree.{Tree}
+use Rattle.gv_tree.specs.declared.tree.Tree.TheInside.{Inside}
+use Rattle.gv_tree.specs.declared.tree.Node.{Node}
 use Rattle.gv_tree.specs.declared.tree.Node.TheVariants.{Container}
 use Rattle.gv_tree.specs.Nodes.{trees_of, tree_of}
-use Rattle.gv_tree.specs.Kept.{IsKept}
+use Rattle.gv_tree.specs.Kept.{IsKept, KeepsType}
 use Rattle.gv_tree.specs.Wholes.{IsWhole}
 use Rattle.gv_tree.specs.Sums.{top, AreWhole, IsSized}
 
@@ -47,3 +49,14 @@ kept_container t vs s text children e f h w z =
       type_levels = z.type_levels ∙ ap (λ (v : Value). nesting (type_of v)) (sym same);
       values = z.values ∙ ap (λ (v : Value). min (nodes v) top) (sym same);
     }
+
+-- a node of the same tree is kept with what is kept beside the old one
+pub kept_copy : (a : Inside) (copy : Node) → IsKept a → tree_of copy ≡ tree_of a.node → KeepsType copy
+    → IsKept (record { node = copy; levels = a.levels; type_levels = a.type_levels; values = a.values })
+kept_copy a copy kept same text = record {
+  whole = subst IsWhole (sym same) kept.whole;
+  text = text;
+  levels = kept.levels ∙ ap depth (sym same);
+  type_levels = kept.type_levels ∙ ap (λ (v : Value). nesting (type_of v)) (sym same);
+  values = kept.values ∙ ap (λ (v : Value). min (nodes v) top) (sym same);
+}

@@ -24,51 +24,22 @@ pub enum TypeFault {
     Trailing(usize),
 }
 
-impl TypeFault {
-    ghost use Rattle.std.specs.Prelude.{◌≡◌};
-    ghost use Rattle.gv_types.specs.TypeFaults.{type_fault_of, type_fault_name, fault_index};
-
-    /// Its name.
-    fn name(self) -> &'static str
-        ensures { result.now ≡ type_fault_name (type_fault_of self) }
-    {
-        match self {
-            TypeFault::TooLong => "TooLong",
-            TypeFault::Empty => "Empty",
-            TypeFault::BadChar(_) => "BadChar",
-            TypeFault::KeyNotBasic(_) => "KeyNotBasic",
-            TypeFault::TooDeep(_) => "TooDeep",
-            TypeFault::Unclosed(_) => "Unclosed",
-            TypeFault::Trailing(_) => "Trailing",
-        }
-    }
-
-    /// The index of its byte, if it has one.
-    fn index(self) -> Option<usize>
-        ensures { result ≡ fault_index (type_fault_of self) }
-    {
-        match self {
-            TypeFault::TooLong => None,
-            TypeFault::Empty => Some(0),
-            TypeFault::BadChar(at)
-            | TypeFault::KeyNotBasic(at)
-            | TypeFault::TooDeep(at)
-            | TypeFault::Unclosed(at)
-            | TypeFault::Trailing(at) => Some(at),
-        }
-    }
-}
-
 impl fmt::Display for TypeFault {
     ghost use Rattle.std.specs.Prelude.{Some};
-    ghost use Rattle.gv_types.specs.TypeFaults.{type_fault_of, type_fault_text};
+    ghost use Rattle.gv_model.specs.FaultTexts.{type_fault_text};
+    ghost use Rattle.gv_types.specs.TypeFaults.{type_fault_of};
 
     ghost output = { λ fault. Some (type_fault_text (type_fault_of fault)) };
 
     fn fmt<W: fmt::Write>(&self, f: &mut fmt::Formatter<W>) -> fmt::Result {
-        match self.index() {
-            None => f.write_str(self.name()),
-            Some(at) => write!(f, "{} at {at}", self.name()),
+        match self {
+            TypeFault::TooLong => f.write_str("TooLong"),
+            TypeFault::Empty => f.write_str("Empty at 0"),
+            TypeFault::BadChar(at) => write!(f, "BadChar at {at}"),
+            TypeFault::KeyNotBasic(at) => write!(f, "KeyNotBasic at {at}"),
+            TypeFault::TooDeep(at) => write!(f, "TooDeep at {at}"),
+            TypeFault::Unclosed(at) => write!(f, "Unclosed at {at}"),
+            TypeFault::Trailing(at) => write!(f, "Trailing at {at}"),
         }
     }
 }

@@ -1,4 +1,4 @@
-use Rattle.std.proofs.Common.{true, false, ◌≡◌, ap, ◌∙◌}
+use Rattle.std.proofs.Common.{rules, true, false, ◌≡◌, ap, ◌∙◌}
 use Rattle.gv_view.specs.Views.{view_ty, view_bytes}
 use Rattle.gv_view.specs.Children.{children_left}
 use Rattle.gv_view.proofs.EntryLemmas.{none_elsewhere, all_of, rest_of}
@@ -19,3 +19,9 @@ pub loop-entry-preserved : goal.loop-entry-preserved
 loop-entry-preserved c =
     rest_of (view_ty c.args.self) (view_bytes c.args.self) c.args.key.now (children_left c.loop-entry.entry-iterator) (children_left c.next.new.self)
     c.in-Some.entry c.loop-entry.invariant c.in-Some.ensures.steps c.in_default.ensures
+
+pub returns-clause-found : goal.returns-clause-found
+returns-clause-found c = search rules
+
+pub returns-clause-at_type : goal.returns-clause-at_type
+returns-clause-at_type c = search rules
