@@ -1,16 +1,10 @@
 -- A new file is no name's, and what is done to it changes no other file.
 use Rattle.std.proofs.Common.{ℕ, ◌+◌, ◌<◌, ◌≤◌, ◌≡◌, ◌≢◌, Bool, true, false, cond, List, [], ◌∷◌, ◌++◌, length, Option, Some, None, refl, sym, ◌∙◌, ap, arith, ⊎_elim, eqb}
 use Rattle.std.proofs.lemmas.Bool.{false_from_ne_true, eqb-true}
-use Rattle.std.proofs.lemmas.Slice.Eq.{bytes_eq-Decides}
 use Rattle.std.specs.Str.{bytes_eq}
 use Rattle.dconf_model.specs.Folders.{Event, files_made, file_of, is_file, content, is_synced, StoodFor, MayLeaveOf, MayLeave, MayHaveLeft, seen, content_of}
 use Rattle.dconf_model.specs.Folders.Event.{create, append, sync, touch, rename, sync_folder}
-
-pub same_name : (n : List ℕ) → bytes_eq n n ≡ true
-same_name n = (bytes_eq-Decides n n).1 refl
-
-pub other_name : (n m : List ℕ) → n ≢ m → bytes_eq n m ≡ false
-other_name n m differ = false_from_ne_true _ (λ e. differ ((bytes_eq-Decides n m).0 e))
+use Rattle.dconf_model.proofs.SameBytes.{itself, other_path}
 
 pick_bounded : (b : Bool) (x y : Option ℕ) (f n : ℕ) → ((x ≡ Some f) → f < n) → ((y ≡ Some f) → f < n) → cond b x y ≡ Some f → f < n
 pick_bounded true x y f n p q e = p e
@@ -81,11 +75,11 @@ pub created : (old : List Event) (new : List ℕ) → Apart old (create new ∷ 
 created old new = record {
   grown = omega arith;
   own = files_made old;
-  own_is = ap (λ b. cond b (Some (files_made old)) (file_of old new)) (same_name new);
+  own_is = ap (λ b. cond b (Some (files_made old)) (file_of old new)) (itself new);
   own_new = omega arith;
   files = λ file lt. refl;
   synced = λ file lt. refl;
-  names = λ other differ. ap (λ b. cond b (Some (files_made old)) (file_of old other)) (other_name other new differ);
+  names = λ other differ. ap (λ b. cond b (Some (files_made old)) (file_of old other)) (other_path other new differ);
   stood = λ other file differ h. ⊎_elim (λ (e : (other ≡ new) × (file ≡ Some (files_made old))). absurd (differ e.0)) (λ e. e) h;
 }
 
@@ -148,18 +142,6 @@ module _ (old es : List Event) (new : List ℕ) (a : Apart old es new) where
 
   pub reads : (other : List ℕ) → other ≢ new → seen es other ≡ seen old other
   reads other differ = ap (λ o. content_of es o) (a.names other differ) ∙ reads_of other (file_of old other) refl
-
-none_before : (es : List Event) (since : ℕ) (name : List ℕ) (c : Option (List ℕ)) → length es < since → MayHaveLeft es since name c → ⊥
-none_before [] since name c lt h = let k : since ≤ 0 = h.0 in omega (arith, k, lt)
-none_before (e ∷ es) since name c lt h =
-    ⊎_elim (λ (k : (since ≤ length es + 1) × MayLeave (e ∷ es) name c). let le : since ≤ length es + 1 = k.0 in omega (arith, le, lt))
-    (λ k. none_before es since name c (omega arith) k) h
-
--- since now there is no other moment
-pub only_now : (es : List Event) (name : List ℕ) (c : Option (List ℕ)) → MayHaveLeft es (length es) name c → MayLeave es name c
-only_now [] name c h = h.1
-only_now (e ∷ es) name c h =
-    ⊎_elim (λ (k : (length (e ∷ es) ≤ length es + 1) × MayLeave (e ∷ es) name c). k.1) (λ k. absurd (none_before es (length (e ∷ es)) name c (omega arith) k)) h
 
 -- what holds of what a crash may leave now and of what it might have left before holds of both
 pub goes_on : (e : Event) (es : List Event) (since : ℕ) (name : List ℕ) (P : Option (List ℕ) → Type 0) → ((c : Option (List ℕ)) → MayHaveLeft es since name c → P c)

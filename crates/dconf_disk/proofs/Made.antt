@@ -1,9 +1,10 @@
 -- A file that was made under a name, written and synced.
-use Rattle.std.proofs.Common.{ℕ, ◌≡◌, ◌≢◌, Bool, true, false, cond, List, [], ◌∷◌, ◌++◌, Option, Some, None, refl, ◌∙◌, ap, arith}
+use Rattle.std.proofs.Common.{ℕ, ◌≡◌, ◌≢◌, Bool, true, false, cond, List, ◌∷◌, ◌++◌, Some, refl, ◌∙◌, ap, arith}
 use Rattle.dconf_model.specs.Folders.{Event, files_made, file_of, is_file, content, is_synced, seen, content_of}
-use Rattle.dconf_model.specs.Folders.Event.{create, append, sync}
+use Rattle.dconf_model.specs.Folders.Event.{create, append}
 use Rattle.dconf_disk.specs.Staging.{staged_onto}
-use Rattle.dconf_disk.proofs.Fresh.{Apart, same_name, same_file, fresh_content, created, appended, synced_now, reads}
+use Rattle.dconf_model.proofs.SameBytes.{itself}
+use Rattle.dconf_disk.proofs.Fresh.{Apart, same_file, fresh_content, created, appended, synced_now, reads}
 
 module _ (old : List Event) (name bytes : List ℕ) where
   abbrev made : List Event
@@ -13,7 +14,7 @@ module _ (old : List Event) (name bytes : List ℕ) where
   made_apart = synced_now old (append name bytes ∷ create name ∷ old) name (appended old (create name ∷ old) name (created old name) bytes)
 
   pub made_file : file_of made name ≡ Some (files_made old)
-  made_file = ap (λ b. cond b (Some (files_made old)) (file_of old name)) (same_name name)
+  made_file = ap (λ b. cond b (Some (files_made old)) (file_of old name)) (itself name)
 
   is_made : is_file (file_of made name) (files_made old) ≡ true
   is_made = ap (λ o. is_file o (files_made old)) made_file ∙ same_file (files_made old)

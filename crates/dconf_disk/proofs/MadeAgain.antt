@@ -1,12 +1,12 @@
 -- What is made again after a crash is what a crash may leave, and settled.
 use Rattle.std.proofs.Common.{ℕ, ◌≡◌, ◌≢◌, Bool, true, false, cond, List, [], ◌∷◌, Option, Some, None, refl, sym, ◌∙◌, ap, subst, inr}
 use Rattle.std.specs.Str.{bytes_eq}
-use Rattle.std.proofs.lemmas.Slice.Eq.{bytes_eq-Decides}
-use Rattle.dconf_model.specs.Folders.{Event, files_made, file_of, content, content_of, is_synced, seen, StoodFor, MayLeaveOf, MayLeave, IsSettled, IsLeft}
+use Rattle.dconf_model.specs.Folders.{Event, files_made, file_of, content_of, is_synced, seen, StoodFor, MayLeaveOf, MayLeave, IsLeft}
 use Rattle.dconf_model.specs.Folders.Event.{create, append, sync, touch, rename, sync_folder}
+use Rattle.dconf_model.proofs.ParentLaws.{by_bool}
+use Rattle.dconf_model.proofs.SameBytes.{same_path, path_itself}
 use Rattle.dconf_disk.specs.Staging.{staged_onto}
 use Rattle.dconf_disk.specs.Crashes.{was_named, AreMadeAgain}
-use Rattle.dconf_disk.proofs.Fresh.{same_name, other_name}
 use Rattle.dconf_disk.proofs.Made.{seen_made, seen_beside, all_synced}
 
 -- ---- names that were never given
@@ -50,11 +50,7 @@ pub none_yet : (all : List Event) → AreMadeAgain [] all []
 none_yet all = record { synced = λ file. refl; named = λ name e. let bad : false ≡ true = e in cc; others = λ name e. refl }
 
 by_name : (other name : List ℕ) (P : Type 0) → (other ≡ name → P) → (bytes_eq other name ≡ false → P) → P
-by_name other name P same differ = go (bytes_eq other name) refl
-  where
-    go : (b : Bool) → bytes_eq other name ≡ b → P
-    go true e = same ((bytes_eq-Decides other name).0 e)
-    go false e = differ e
+by_name other name P same differ = by_bool (bytes_eq other name) P (λ e. same (same_path other name e)) differ
 
 module _ (given all left : List Event) (a : AreMadeAgain given all left) (name : List ℕ) where
   later : (other : List ℕ) (b : Bool) → bytes_eq other name ≡ false → was_named (create name ∷ given) other ≡ b → was_named given other ≡ b
@@ -85,7 +81,7 @@ module _ (given all left : List Event) (a : AreMadeAgain given all left) (name :
 
   -- a text that is compared as another
   differs_by : (other : List ℕ) → bytes_eq other name ≡ false → other ≢ name
-  differs_by other e same = let there : bytes_eq other name ≡ true = (bytes_eq-Decides other name).1 same in cc
+  differs_by other e same = let there : bytes_eq other name ≡ true = path_itself other name same in cc
 
   pub one_left : (bytes : List ℕ) (now : List Event) → MayLeave all name (Some bytes) → now ≡ with_file bytes → AreMadeAgain (create name ∷ given) all now
   one_left bytes now m is = subst (λ (es : List Event). AreMadeAgain (create name ∷ given) all es) (sym is) (record {

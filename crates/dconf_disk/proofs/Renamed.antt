@@ -1,42 +1,18 @@
 -- What a crash leaves once the new file is renamed.
-use Rattle.std.proofs.Common.{ℕ, ◌<◌, ◌≤◌, ◌≡◌, ◌≢◌, Bool, true, false, cond, List, [], ◌∷◌, ◌++◌, length, Option, Some, None, refl, sym, ◌∙◌, ap, subst, arith, ⊎_elim, inl, inr, ◌⊎◌, eqb, codes, length-append}
-use Rattle.std.proofs.lemmas.Bool.{false_from_ne_true, eqb-true}
-use Rattle.std.proofs.lemmas.Slice.Eq.{bytes_eq-Decides}
+use Rattle.std.proofs.Common.{ℕ, ◌≡◌, ◌≢◌, true, cond, List, [], ◌∷◌, ◌++◌, length, Option, Some, None, refl, sym, ◌∙◌, ap, subst, arith, ⊎_elim, inl, inr, ◌⊎◌, codes, length-append}
 use Rattle.std.specs.Str.{bytes_eq}
-use Rattle.dconf_model.specs.Folders.{Event, files_made, file_of, is_file, content, is_synced, StoodFor, MayLeaveOf, MayLeave, seen, content_of, IsSettled}
-use Rattle.dconf_model.specs.Folders.Event.{create, append, sync, touch, rename, sync_folder}
+use Rattle.dconf_model.specs.Folders.{Event, files_made, file_of, content, is_synced, StoodFor, MayLeaveOf, MayLeave, seen, content_of, IsSettled}
+use Rattle.dconf_model.specs.Folders.Event.{rename, sync_folder}
 use Rattle.dconf_model.specs.Replacing.{MayReplace, Replaced, MaybeReplaced, new_name}
 use Rattle.dconf_disk.specs.Staging.{Stages, staged_onto}
-use Rattle.dconf_disk.proofs.Fresh.{Apart, same_name, other_name, bounded, created, appended, synced_now, leaves, leaves_of, only_now, goes_on}
+use Rattle.dconf_model.proofs.SameBytes.{itself, other_path}
+use Rattle.dconf_model.proofs.FolderLaws.{current, only_now}
+use Rattle.dconf_disk.proofs.Fresh.{Apart, bounded, leaves, leaves_of, goes_on}
 use Rattle.dconf_disk.proofs.Made.{made_apart, made_file, made_content, made_synced}
 use Rattle.dconf_disk.proofs.Staged.{after_sync}
 
 pub differs : (name : List ℕ) → name ≢ new_name name
 differs name e = let long : length name ≡ length (name ++ codes ".new") = ap (λ (l : List ℕ). length l) e in let more : length (codes ".new") ≡ 4 = refl in absurd (omega (arith, length-append name (codes ".new"), long, more))
-
-by_test : (name other : List ℕ) (P : Type 0) → (name ≡ other → P) → (name ≢ other → P) → P
-by_test name other P same no_way = go (bytes_eq name other) refl
-  where
-    go : (b : Bool) → bytes_eq name other ≡ b → P
-    go true e = same ((bytes_eq-Decides name other).0 e)
-    go false e = no_way (λ h. let t : bytes_eq name other ≡ true = (bytes_eq-Decides name other).1 h in cc)
-
--- a name stood for what it stands for now
-pub current : (es : List Event) (name : List ℕ) → StoodFor es name (file_of es name)
-current [] name = refl
-current (sync_folder ∷ es) name = refl
-current (append _ _ ∷ es) name = current es name
-current (sync _ ∷ es) name = current es name
-current (touch _ ∷ es) name = current es name
-current (create made ∷ es) name = by_test name made (StoodFor (create made ∷ es) name (file_of (create made ∷ es) name))
-    (λ e. inl (e, ap (λ b. cond b (Some (files_made es)) (file_of es name)) ((bytes_eq-Decides name made).1 e)))
-    (λ d. inr (subst (λ o. StoodFor es name o) (sym (ap (λ b. cond b (Some (files_made es)) (file_of es name)) (other_name name made d))) (current es name)))
-current (rename from to ∷ es) name = by_test name to (StoodFor (rename from to ∷ es) name (file_of (rename from to ∷ es) name))
-    (λ e. inl (e, ap (λ b. cond b (file_of es from) (cond (bytes_eq name from) None (file_of es name))) ((bytes_eq-Decides name to).1 e)))
-    (λ d. let first = ap (λ b. cond b (file_of es from) (cond (bytes_eq name from) None (file_of es name))) (other_name name to d) in
-    by_test name from (StoodFor (rename from to ∷ es) name (file_of (rename from to ∷ es) name))
-    (λ e. inr (inl (e, first ∙ ap (λ b. cond b None (file_of es name)) ((bytes_eq-Decides name from).1 e))))
-    (λ f. inr (inr (subst (λ o. StoodFor es name o) (sym (first ∙ ap (λ b. cond b None (file_of es name)) (other_name name from f))) (current es name)))))
 
 module _ (old : List Event) (name bytes : List ℕ) where
   abbrev new : List ℕ
@@ -91,12 +67,12 @@ module _ (old : List Event) (name bytes : List ℕ) where
       (λ s. leaves old staged new apart other c n (m.0, s, same_leaves m.0 c m.2)) r) m.1
 
   name_file : file_of renamed name ≡ Some (files_made old)
-  name_file = ap (λ b. cond b (file_of staged new) (cond (bytes_eq name new) None (file_of staged name))) (same_name name) ∙ new_file
+  name_file = ap (λ b. cond b (file_of staged new) (cond (bytes_eq name new) None (file_of staged name))) (itself name) ∙ new_file
 
   other_file : (other : List ℕ) → other ≢ name → other ≢ new → file_of renamed other ≡ file_of old other
   other_file other d n =
-      ap (λ b. cond b (file_of staged new) (cond (bytes_eq other new) None (file_of staged other))) (other_name other name d)
-      ∙ ap (λ b. cond b None (file_of staged other)) (other_name other new n) ∙ apart.names other n
+      ap (λ b. cond b (file_of staged new) (cond (bytes_eq other new) None (file_of staged other))) (other_path other name d)
+      ∙ ap (λ b. cond b None (file_of staged other)) (other_path other new n) ∙ apart.names other n
 
   pub own_settled : IsSettled settled name (Some bytes)
   own_settled c m = new_leaves m.0 c (m.1 ∙ name_file) (same_leaves_settled m.0 c m.2)

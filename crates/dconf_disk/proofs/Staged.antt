@@ -3,7 +3,8 @@ use Rattle.std.proofs.Common.{ℕ, List, [], ◌∷◌, length, ap, Result, Ok, 
 use Rattle.dconf_model.specs.Folders.{Event, MayLeave}
 use Rattle.dconf_model.specs.Folders.Event.{create, append, sync, touch}
 use Rattle.dconf_disk.specs.Staging.{Stages}
-use Rattle.dconf_disk.proofs.Fresh.{Apart, created, appended, touched, synced_now, leaves, reads, only_now, goes_on}
+use Rattle.dconf_model.proofs.FolderLaws.{only_now}
+use Rattle.dconf_disk.proofs.Fresh.{Apart, created, appended, touched, synced_now, leaves, reads, goes_on}
 
 pub either : {T E : Type 0} (r : Result T E) (P Q : Type 0) → OnOk r P → OnErr r Q → P ⊎ Q
 either (Ok x) P Q p q = inl p

@@ -1,7 +1,6 @@
 -- A failed append or sync changes no name and no content.
-use Rattle.std.proofs.Common.{ℕ, Result, Ok, Err, OnOk, OnErr, IfOk, IsOk, is_ok, ◌+◌, ◌≡◌, ◌⊎◌, inl, inr, Bool, true, false, cond, Option, Some, None, List, [], ◌∷◌, ◌++◌, refl, sym, ◌∙◌, ap, subst}
+use Rattle.std.proofs.Common.{ℕ, Result, Ok, Err, OnOk, OnErr, IfSome, IsSome, ◌+◌, ◌≡◌, ◌⊎◌, inl, inr, Bool, true, false, cond, Option, Some, None, List, [], ◌∷◌, ◌++◌, refl, sym, ◌∙◌, ap, subst}
 use Rattle.std.specs.Str.{bytes_eq}
-use Rattle.std.specs.declared.alloc.AllocError.{AllocError}
 use Rattle.dconf_model.specs.Folders.{Event, files_made, file_of, content, content_of, is_file, is_synced, seen}
 use Rattle.dconf_model.specs.Folders.Event.{create, append, sync, touch, rename, sync_folder}
 use Rattle.dconf_disk.specs.MemoryFolders.{event_of, events_of, untouched, AddsTouches}
@@ -97,11 +96,11 @@ pub unchanged : (old new : List Call) (es : List Event) → new ≡ old → Adds
 unchanged old new es is a = subst (λ cs. AddsTouches (events_of cs) es) (sym is) a
 
 -- what a call that was noted did
-pub noted : {F : Type 0} (k : Result Call AllocError) (r : Result (Unit {0}) F) (e : Event) (old new : List Call) → OnOk r (IfOk k (λ c. events_of new ≡ event_of c ∷ events_of old))
-    → OnOk r (IsOk k) → IfOk k (λ c. event_of c ≡ e) → (es : List Event) → AddsTouches (events_of old) es → OnOk r (AddsTouches (events_of new) (e ∷ es))
+pub noted : {F : Type 0} (k : Option Call) (r : Result (Unit {0}) F) (e : Event) (old new : List Call) → OnOk r (IfSome k (λ c. events_of new ≡ event_of c ∷ events_of old))
+    → OnOk r (IsSome k) → IfSome k (λ c. event_of c ≡ e) → (es : List Event) → AddsTouches (events_of old) es → OnOk r (AddsTouches (events_of new) (e ∷ es))
 noted k (Err f) e old new a b c es past = tt
-noted (Ok call) (Ok u) e old new a b c es past = noted_event (events_of old) (events_of new) es e (a ∙ ap (λ x. x ∷ events_of old) c) past
-noted (Err x) (Ok u) e old new a b c es past = let bad : is_ok {T = Call} {E = AllocError} (Err x) ≡ true = b in cc
+noted (Some call) (Ok u) e old new a b c es past = noted_event (events_of old) (events_of new) es e (a ∙ ap (λ x. x ∷ events_of old) c) past
+noted None (Ok u) e old new a b c es past = let bad : false ≡ true = b in cc
 
 -- what one that failed did
 pub same_calls : {F : Type 0} (r : Result (Unit {0}) F) (old new : List Call) → OnErr r (new ≡ old) → (es : List Event) → AddsTouches (events_of old) es → OnErr r (AddsTouches (events_of new) es)

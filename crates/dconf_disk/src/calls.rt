@@ -1,7 +1,7 @@
 //! The calls of a folder, and what the names stand for after them.
-ghost use Rattle.std.specs.Prelude.{◌≡◌, ◌≤◌, ◌∷◌, IfOk, OnOk, OnErr, length};
+ghost use Rattle.std.specs.Prelude.{◌≡◌, ◌≤◌, ◌∷◌, IfOk, IfSome, OnOk, OnErr, length};
 ghost use Rattle.dconf_model.specs.Folders.{files_made, file_of, content, is_file, is_synced};
-ghost use Rattle.dconf_model.specs.Folders.Event.{create, append, sync, touch, rename};
+ghost use Rattle.dconf_model.specs.Folders.Event.{append, rename};
 ghost use Rattle.dconf_disk.specs.MemoryFolders.{event_of, events_of};
 ghost use Rattle.dconf_disk.specs.Crashes.{was_named};
 
@@ -169,32 +169,18 @@ pub(crate) fn push(calls: &mut Vec<Call>, call: Call) -> Result<(), AllocError>
     Ok(())
 }
 
-pub(crate) fn create_call(alloc: Global, name: &str) -> Result<Call, AllocError>
-    ensures { IfOk result (λ k. event_of k ≡ create name.now) }
+/// The call to append, where there is memory for it.
+pub(crate) fn append_call(alloc: Global, name: &str, bytes: &[u8]) -> Option<Call>
+    ensures { IfSome result (λ k. event_of k ≡ append name.now bytes.now) }
 {
-    Ok(Call::Create(String::from_str(alloc, name)?))
+    let name = String::from_str(alloc, name).ok()?;
+    Some(Call::Append(name, bytes.to_vec(alloc).ok()?))
 }
 
-pub(crate) fn append_call(alloc: Global, name: &str, bytes: &[u8]) -> Result<Call, AllocError>
-    ensures { IfOk result (λ k. event_of k ≡ append name.now bytes.now) }
+/// The call to rename, where there is memory for it.
+pub(crate) fn rename_call(alloc: Global, from: &str, to: &str) -> Option<Call>
+    ensures { IfSome result (λ k. event_of k ≡ rename from.now to.now) }
 {
-    Ok(Call::Append(String::from_str(alloc, name)?, bytes.to_vec(alloc)?))
-}
-
-pub(crate) fn sync_call(alloc: Global, name: &str) -> Result<Call, AllocError>
-    ensures { IfOk result (λ k. event_of k ≡ sync name.now) }
-{
-    Ok(Call::Sync(String::from_str(alloc, name)?))
-}
-
-pub(crate) fn touch_call(alloc: Global, name: &str) -> Result<Call, AllocError>
-    ensures { IfOk result (λ k. event_of k ≡ touch name.now) }
-{
-    Ok(Call::Touch(String::from_str(alloc, name)?))
-}
-
-pub(crate) fn rename_call(alloc: Global, from: &str, to: &str) -> Result<Call, AllocError>
-    ensures { IfOk result (λ k. event_of k ≡ rename from.now to.now) }
-{
-    Ok(Call::Rename(String::from_str(alloc, from)?, String::from_str(alloc, to)?))
+    let from = String::from_str(alloc, from).ok()?;
+    Some(Call::Rename(from, String::from_str(alloc, to).ok()?))
 }

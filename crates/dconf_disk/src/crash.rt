@@ -1,15 +1,13 @@
 //! A crash of a folder in memory: one of its outcomes, picked by a number.
 //!
 //! The number is used up by one choice after another, so each outcome has a number, and that of a small folder is small.
-ghost use Rattle.std.specs.Prelude.{◌≡◌, ◌<◌, ◌%◌, ◌/◌, ◌↔◌, ◌∷◌, true, List, IfOk, OnOk, OnErr, IsErrOf, option_map, vec_items};
-ghost use Rattle.dconf_model.specs.Folders.{Event, StoodFor, MayLeave, IsLeft, is_synced, content};
+ghost use Rattle.std.specs.Prelude.{◌≡◌, ◌<◌, ◌%◌, ◌/◌, ◌∷◌, true, List, IfOk, OnOk, OnErr, IsErrOf};
+ghost use Rattle.dconf_model.specs.Folders.{Event, StoodFor, IsLeft, is_synced, content};
 ghost use Rattle.dconf_model.specs.Folders.Event.{create, append, sync};
 ghost use Rattle.dconf_disk.specs.MemoryFolders.{events_of, IsPast, failures_of, failing_call};
 ghost use Rattle.dconf_disk.specs.Crashes.{AreMadeAgain};
 
-use crate::calls::{
-    Call, content, create_call, file_of, files_made, is_synced, push, sync_call, was_named,
-};
+use crate::calls::{Call, content, file_of, files_made, is_synced, push, was_named};
 use crate::{FolderFault, MemoryFolder};
 use std::alloc::{AllocError, Global};
 
@@ -20,9 +18,10 @@ const BYTE_OR_END: u64 = 257;
 const MOST_DIGITS: usize = 8;
 
 impl MemoryFolder {
-    /// Leaves one outcome of a crash, picked by the number, which is settled then.
+    /// Leaves one outcome of a crash, picked by the number, which is settled then. It is no call of the device: `fail_at` doesn't
+    /// count it, and it counts no failure.
     ///
-    /// `Memory` comes where a growth is refused, and then the folder stays as it was.
+    /// `Memory` comes where a growth is refused, and then the folder stays as it was. `Device` and `TooBig` can't happen.
     pub fn crash(&mut self, outcome: u64) -> Result<(), FolderFault>
         ensures left { (es : List Event) → IsPast self.old es → OnOk result ((now : List Event) × IsPast self.new now × IsLeft es now) }
         ensures only { OnErr result (IsErrOf result FolderFault.Memory) }
@@ -30,20 +29,12 @@ impl MemoryFolder {
         ensures failures { failures_of self.new ≡ failures_of self.old }
         ensures failing { failing_call self.new ≡ failing_call self.old }
     {
-        let left = after_crash(self.alloc, &self.calls, outcome)?;
+        let mut number = outcome;
+        let mut left = made_again(self.alloc, &self.calls, &self.calls, &mut number)?;
+        push(&mut left, Call::SyncFolder)?;
         self.calls = left;
         Ok(())
     }
-}
-
-/// The calls that make again what a crash after these calls leaves.
-fn after_crash(alloc: Global, calls: &[Call], outcome: u64) -> Result<Vec<Call>, AllocError>
-    ensures { IfOk result (λ left. IsLeft (events_of calls.now) (events_of left.items)) }
-{
-    let mut number = outcome;
-    let mut left = made_again(alloc, calls, calls, &mut number)?;
-    push(&mut left, Call::SyncFolder)?;
-    Ok(left)
 }
 
 /// The calls that make again what a crash after all the calls leaves under the names of the first of them.
@@ -84,8 +75,11 @@ fn make_again(
     if was_named(earlier, name) {
         return Ok(left);
     }
-    match left_under(alloc, all, name, number)? {
-        Some(bytes) => restore(alloc, left, name, bytes),
+    match stood_for(all, name, number) {
+        Some(file) => {
+            let bytes = bytes_left(alloc, all, file, number)?;
+            restore(alloc, left, name, bytes)
+        }
         None => Ok(left),
     }
 }
@@ -99,28 +93,13 @@ fn restore(
 ) -> Result<Vec<Call>, AllocError>
     ensures { IfOk result (λ made. events_of made.items ≡ sync name.now ∷ append name.now bytes.items ∷ create name.now ∷ events_of left.items) }
 {
-    push(&mut left, create_call(alloc, name)?)?;
-    push(
-        &mut left,
-        Call::Append(String::from_str(alloc, name)?, bytes),
-    )?;
-    push(&mut left, sync_call(alloc, name)?)?;
+    let made = String::from_str(alloc, name)?;
+    push(&mut left, Call::Create(made))?;
+    let filled = String::from_str(alloc, name)?;
+    push(&mut left, Call::Append(filled, bytes))?;
+    let synced = String::from_str(alloc, name)?;
+    push(&mut left, Call::Sync(synced))?;
     Ok(left)
-}
-
-/// What a crash leaves under a name, by the number.
-fn left_under(
-    alloc: Global,
-    calls: &[Call],
-    name: &str,
-    number: &mut u64,
-) -> Result<Option<Vec<u8>>, AllocError>
-    ensures { IfOk result (λ found. MayLeave (events_of calls.now) name.now (option_map vec_items found)) }
-{
-    match stood_for(calls, name, number) {
-        Some(file) => Ok(Some(bytes_left(alloc, calls, file, number)?)),
-        None => Ok(None),
-    }
 }
 
 /// A file that a name stood for since the folder was last synced, by the number.
@@ -133,16 +112,16 @@ fn stood_for(calls: &[Call], name: &str, number: &mut u64) -> Option<usize>
     match last {
         Call::SyncFolder => file_of(earlier, name),
         Call::Create(made) => {
-            if name == made.as_str() && is_picked(number) {
+            if name == made.as_str() && pick(number, 2) == 0 {
                 return Some(files_made(earlier));
             }
             stood_for(earlier, name, number)
         }
         Call::Rename(from, to) => {
-            if name == to.as_str() && is_picked(number) {
+            if name == to.as_str() && pick(number, 2) == 0 {
                 return file_of(earlier, from.as_str());
             }
-            if name == from.as_str() && is_picked(number) {
+            if name == from.as_str() && pick(number, 2) == 0 {
                 return None;
             }
             stood_for(earlier, name, number)
@@ -175,13 +154,6 @@ fn bytes_left(
         }
     }
     Ok(bytes)
-}
-
-/// Whether the number picks the first of two choices.
-fn is_picked(number: &mut u64) -> bool
-    ensures { (result ≡ true) ↔ (number.old % 2 ≡ 0) }
-{
-    pick(number, 2) == 0
 }
 
 /// Which of so many choices the number picks. The rest of it is left for other choices.

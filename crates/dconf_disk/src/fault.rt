@@ -4,11 +4,11 @@ use std::alloc::AllocError;
 /// Why a call of a folder failed.
 #[derive(Clone, Copy, Debug, PartialEq, Eq)]
 pub enum FolderFault {
-    /// The device failed, or a call that needs a file found none. The folder has counted it.
+    /// The device failed, or a call that needs a file found none. The folder has counted it. Any call may answer it.
     Device,
-    /// The file has more than `LARGEST_FILE` bytes.
+    /// The file has more than `LARGEST_FILE` bytes. Only `read` answers it.
     TooBig,
-    /// Out of memory.
+    /// Out of memory. Only `read`, `crash` and `replace` answer it.
     Memory,
 }
 

@@ -8,13 +8,14 @@ ghost use Rattle.dconf_disk.specs.Failures.{HasCause};
 use crate::FolderFault;
 use std::alloc::Global;
 
-/// The most bytes that a file may have.
+/// The most bytes that a file may have to be read: the places in a database are numbers of four bytes.
 pub const LARGEST_FILE: u64 = 4_294_967_295;
 
-/// A folder of files, by their names.
+/// A folder of files, by their names. A name is any text; what the host makes of it as a path is the host's matter.
 ///
 /// A fault may be followed by further calls. After a failed writing call the folder is as it was, or the call has had its
-/// effect; after a failed `append` or `sync` the file's bytes count as unsynced.
+/// effect; after a failed `append` or `sync` the file's bytes count as unsynced. A writing call fails with `Device` alone: `TooBig`
+/// can't happen there, and want of memory is a fault of the device too.
 pub trait Folder {
     // These events are what was done to the folder, the last first, and nobody else wrote it.
     ghost past: { Self → List Event → Type 0 };
@@ -22,11 +23,14 @@ pub trait Folder {
     // How often the device failed, up to `u64::MAX`.
     ghost failed: { Self → ℕ };
 
-    /// How often the device failed, up to `u64::MAX`.
+    /// How often the device failed, up to `u64::MAX`. It never falls, and rises by one where a call answers `Device`.
     fn failures(&self) -> u64
         ensures { result ≡ failed self.now };
 
-    /// The bytes of a file, held once, or `None` where there is no file of that name. It changes no file.
+    /// The bytes of a file, all of them and held once, or `None` where there is no file of that name. It changes no file.
+    ///
+    /// `TooBig` comes for a file of more than `LARGEST_FILE` bytes, of which no more are read than show it, `Device` where the
+    /// host fails otherwise, and `Memory`. That the name has no file is no error.
     fn read(&mut self, alloc: Global, name: &str) -> Result<Option<Vec<u8>>, FolderFault>
         ensures past { (es : List Event) → past self.old es → past self.new es }
         ensures bytes { (es : List Event) → past self.old es → IfOk result (λ found. option_map (λ v. v.items) found ≡ seen es name.now) }
@@ -34,14 +38,14 @@ pub trait Folder {
         ensures too_big { (es : List Event) → past self.old es → IsErrOf result FolderFault.TooBig → IsOverSize (seen es name.now) }
         ensures cause { HasCause (failed self.old) (failed self.new) result };
 
-    /// Makes an empty file, in the place of any other of that name.
+    /// Makes an empty file, in the place of any other of that name. It never fails for want of a file.
     fn create(&mut self, name: &str) -> Result<(), FolderFault>
         ensures ok { (es : List Event) → past self.old es → OnOk result (past self.new (create name.now ∷ es)) }
         ensures err { (es : List Event) → past self.old es → OnErr result (past self.new es ⊎ past self.new (create name.now ∷ es)) }
         ensures only { OnErr result (IsErrOf result FolderFault.Device) }
         ensures cause { HasCause (failed self.old) (failed self.new) result };
 
-    /// Writes the bytes after those of the file.
+    /// Writes the bytes after those of the file (POSIX, `O_APPEND`). A name without a file is a fault of the device.
     fn append(&mut self, name: &str, bytes: &[u8]) -> Result<(), FolderFault>
         ensures ok { (es : List Event) → past self.old es → OnOk result (past self.new (append name.now bytes.now ∷ es)) }
         ensures err { (es : List Event) → past self.old es → OnErr result (past self.new (touch name.now ∷ es) ⊎ past self.new (append name.now bytes.now ∷ es)) }
@@ -49,7 +53,7 @@ pub trait Folder {
         ensures only { OnErr result (IsErrOf result FolderFault.Device) }
         ensures cause { HasCause (failed self.old) (failed self.new) result };
 
-    /// Makes sure that a crash leaves all bytes of the file.
+    /// Makes sure that a crash leaves all bytes of the file (POSIX, `fsync`). A name without a file is a fault of the device.
     fn sync(&mut self, name: &str) -> Result<(), FolderFault>
         ensures ok { (es : List Event) → past self.old es → OnOk result (past self.new (sync name.now ∷ es)) }
         ensures err { (es : List Event) → past self.old es → OnErr result (past self.new (touch name.now ∷ es)) }
@@ -57,7 +61,8 @@ pub trait Folder {
         ensures only { OnErr result (IsErrOf result FolderFault.Device) }
         ensures cause { HasCause (failed self.old) (failed self.new) result };
 
-    /// Gives the file of one name another, in the place of any other file of that name.
+    /// Gives the file of one name another, in the place of any other file of that name (POSIX, `rename`). Where `from` has no file
+    /// it is a fault of the device.
     fn rename(&mut self, from: &str, to: &str) -> Result<(), FolderFault>
         ensures ok { (es : List Event) → past self.old es → OnOk result (past self.new (rename from.now to.now ∷ es)) }
         ensures err { (es : List Event) → past self.old es → OnErr result (past self.new es ⊎ past self.new (rename from.now to.now ∷ es)) }
@@ -65,7 +70,7 @@ pub trait Folder {
         ensures only { OnErr result (IsErrOf result FolderFault.Device) }
         ensures cause { HasCause (failed self.old) (failed self.new) result };
 
-    /// Makes sure that after a crash each name stands for the file that it stands for now.
+    /// Makes sure that after a crash each name stands for the file that it stands for now (POSIX, `fsync` of a folder).
     fn sync_folder(&mut self) -> Result<(), FolderFault>
         ensures ok { (es : List Event) → past self.old es → OnOk result (past self.new (sync_folder ∷ es)) }
         ensures err { (es : List Event) → past self.old es → OnErr result (past self.new es) }

@@ -2,15 +2,21 @@
 ghost use Rattle.std.specs.Prelude.{◌≡◌, ◌≢◌, ◌<◌, ◌≤◌, ◌↔◌, None, Ok, Err, IfSome, IfOk, IfErr, IsOk, IsTrue, IsErrOf, IsErrAnd, OnErr, length};
 ghost use Rattle.std.specs.IoError.{error_kind};
 ghost use Rattle.dconf_disk.specs.Failures.{HasCause};
+ghost use Rattle.dconf_disk.specs.StdFolders.{folder_of};
 
 use crate::{Folder, FolderFault, LARGEST_FILE};
 use std::alloc::Global;
 use std::fs::{File, OpenFile, OpenOptions};
 use std::io::{ErrorKind, Read, Write};
+use std::path::Path;
 use std::rt::Files;
 use std::{fs, io};
 
 /// The files of the current folder, by `rt`. What they hold no contract can say, nor that the host keeps what a folder is.
+///
+/// A name may lead into another folder, by the host's rules for a path. `sync_folder` syncs the current folder; a rename into
+/// another one syncs that one itself, so its `Device` may come when the file has its name already. `create` removes a file of
+/// that name first. Each call is a few calls of the host; `read` asks for the file's length, and takes that much memory once.
 #[derive(Drop)]
 pub struct StdFolder<R> {
     rt: R,
@@ -20,7 +26,7 @@ pub struct StdFolder<R> {
 impl<R: Files> StdFolder<R> {
     ghost use Rattle.dconf_disk.specs.StdFolders.{failures_of};
 
-    /// The current folder, with no failure yet.
+    /// The current folder, with no failure yet. It asks nothing of the host, so it can't fail.
     pub fn new(rt: R) -> StdFolder<R>
         ensures { failures_of result ≡ 0 }
     {
@@ -105,9 +111,19 @@ fn sync_at<R: Files>(rt: &R, name: &str) -> io::Result<()> {
 // `sync_folder` syncs the current folder alone, so the names of any other are synced here.
 fn rename_to<R: Files>(rt: &R, from: &str, to: &str) -> io::Result<()> {
     fs::rename(rt, from, to)?;
-    match to.rsplit_once("/") {
-        Some((folder, _)) if !folder.is_empty() => sync_at(rt, folder),
-        _ => Ok(()),
+    match folder_of(to) {
+        "." => Ok(()),
+        folder => sync_at(rt, folder),
+    }
+}
+
+// The folder that a name stands in.
+fn folder_of(name: &str) -> &str
+    ensures { result.now ≡ folder_of name.now }
+{
+    match Path::new(name).parent() {
+        Some(folder) if !folder.as_os_str().is_empty() => folder.as_os_str(),
+        _ => ".",
     }
 }
 

@@ -1,7 +1,19 @@
 //! Folders of files, and a file replaced in one, so that a crash leaves the old bytes or the new ones.
 //!
-//! A folder is known by what was done to it: its contracts speak of the list of those events, and the definitions of what a
-//! crash may leave are dconf_model's. `MemoryFolder` keeps that list itself; `StdFolder` is the current folder of the host.
+//! A [`Folder`] is known by what was done to it: its contracts speak of the list of those events, and the definitions of what a
+//! name stands for, and of what a crash may leave, are dconf_model's. [`MemoryFolder`] is that list, with a device that fails
+//! when it is told to, and crashes. [`StdFolder`] is the current folder of the host. [`replace`] works in any folder: it writes
+//! the new file whole, under a name of its own, before that takes the name of the old one.
+//!
+//! No call stops the program or runs without end. A fault is a [`FolderFault`]: of the device, which the folder counts, of a
+//! file of more than [`LARGEST_FILE`] bytes, or of memory.
+//!
+//! A read holds a file's bytes once. On the host no other call copies any. A `MemoryFolder` is for tests: it keeps each byte that
+//! was ever appended, and its calls go back through those before them.
+//!
+//! What no contract can say: that a host keeps what a folder is, that what it says is synced stays, what a file of it holds from
+//! one call to the next, and that nobody else writes there. So a `StdFolder` has no past, and its clauses say only which faults
+//! come, that they are counted, and that no file is read over the limit. Tests, and a look at its calls by strace, are for the rest.
 #![tactic(auto)]
 
 mod calls;

@@ -1,20 +1,19 @@
 //! A folder in memory, whose device fails when it is told to.
-ghost use Rattle.std.specs.Prelude.{◌≡◌, ◌⊎◌, ◌≤◌, ◌-◌, ◌↔◌, [], ◌∷◌, true, List, None, IfOk, IfSome, IsOk, OnOk, OnErr, IsErrOf, option_map, length};
+ghost use Rattle.std.specs.Prelude.{◌≡◌, ◌⊎◌, ◌≤◌, ◌-◌, ◌↔◌, [], ◌∷◌, true, List, None, IfOk, IfSome, IsSome, OnOk, OnErr, IsErrOf, option_map, length};
 ghost use Rattle.dconf_model.specs.Folders.{Event, seen};
-ghost use Rattle.dconf_model.specs.Folders.Event.{create, append, sync, touch, rename};
+ghost use Rattle.dconf_model.specs.Folders.Event.{touch};
 ghost use Rattle.dconf_model.specs.Reads.{IsOverSize};
 ghost use Rattle.dconf_disk.specs.Failures.{HasCause, failed_by};
 ghost use Rattle.dconf_disk.specs.MemoryFolders.{event_of, events_of, IsPast, failures_of, failing_call};
 
-use crate::calls::{
-    Call, append_call, content, create_call, file_of, rename_call, sync_call, touch_call,
-};
+use crate::calls::{Call, append_call, content, file_of, rename_call};
 use crate::{Folder, FolderFault, LARGEST_FILE};
-use std::alloc::{AllocError, Global};
+use std::alloc::Global;
 
 /// A folder in memory, which is the record of the calls that were made on it.
 ///
-/// A growth that is refused to a writing call is a fault of its device.
+/// A growth that is refused to a writing call is a fault of its device. Each call goes back through the calls before it: it takes
+/// time by their number, `read` by its square, and `crash` by its cube.
 #[derive(Drop)]
 pub struct MemoryFolder {
     pub(crate) alloc: Global,
@@ -25,7 +24,7 @@ pub struct MemoryFolder {
 }
 
 impl MemoryFolder {
-    /// An empty folder, whose calls all succeed. It takes no memory.
+    /// An empty folder, whose calls all succeed. It takes no memory, so it can't fail.
     pub fn new(alloc: Global) -> Self
         ensures past { IsPast result [] }
         ensures failures { failures_of result ≡ 0 }
@@ -71,22 +70,11 @@ impl MemoryFolder {
         fails
     }
 
-    /// Counts a call on a name that has no file, and its fault.
-    fn refuse(&mut self) -> FolderFault
-        ensures counts { self.new.fails_in ≡ self.old.fails_in - 1 }
-        ensures calls { self.new.calls ≡ self.old.calls }
-        ensures cause { HasCause self.old.failures self.new.failures (failed_by result) }
-        ensures only { result ≡ FolderFault.Device }
-    {
-        let _fails = self.is_failing();
-        self.fault()
-    }
-
-    /// Notes a call, unless it is to fail or there is no memory for it.
+    /// Notes a call, unless it is to fail or there is no memory for it. `None` is one that has no file, or no memory.
     #[tactic(auto, using(crate::proofs::CallLemmas::events_of_push))]
-    fn note(&mut self, call: Result<Call, AllocError>) -> Result<(), FolderFault>
-        ensures ok { OnOk result (IfOk call (λ k. events_of self.new.calls.items ≡ event_of k ∷ events_of self.old.calls.items)) }
-        ensures had { OnOk result (IsOk call) }
+    fn note(&mut self, call: Option<Call>) -> Result<(), FolderFault>
+        ensures ok { OnOk result (IfSome call (λ k. events_of self.new.calls.items ≡ event_of k ∷ events_of self.old.calls.items)) }
+        ensures had { OnOk result (IsSome call) }
         ensures err { OnErr result (self.new.calls.items ≡ self.old.calls.items) }
         ensures fails { self.old.fails_in ≡ 1 → IsErrOf result FolderFault.Device }
         ensures counts { self.new.fails_in ≡ self.old.fails_in - 1 }
@@ -96,7 +84,7 @@ impl MemoryFolder {
         if self.is_failing() {
             return Err(self.fault());
         }
-        let Ok(call) = call else {
+        let Some(call) = call else {
             return Err(self.fault());
         };
         if self.calls.push(call).is_err() {
@@ -112,10 +100,9 @@ impl MemoryFolder {
         ensures failures { self.new.failures ≡ self.old.failures }
         ensures failing { self.new.fails_in ≡ self.old.fails_in }
     {
-        let Ok(call) = touch_call(self.alloc, name) else {
-            return;
-        };
-        let _noted = self.calls.push(call).is_ok();
+        if let Ok(name) = String::from_str(self.alloc, name) {
+            let _noted = self.calls.push(Call::Touch(name)).is_ok();
+        }
     }
 
     fn is_there(&self, name: &str) -> bool
@@ -160,12 +147,12 @@ impl Folder for MemoryFolder {
     }
 
     fn create(&mut self, name: &str) -> Result<(), FolderFault> {
-        self.note(create_call(self.alloc, name))
+        self.note(String::from_str(self.alloc, name).ok().map(Call::Create))
     }
 
     fn append(&mut self, name: &str, bytes: &[u8]) -> Result<(), FolderFault> {
         if !self.is_there(name) {
-            return Err(self.refuse());
+            return self.note(None);
         }
         let noted = self.note(append_call(self.alloc, name, bytes));
         if noted.is_err() {
@@ -176,9 +163,9 @@ impl Folder for MemoryFolder {
 
     fn sync(&mut self, name: &str) -> Result<(), FolderFault> {
         if !self.is_there(name) {
-            return Err(self.refuse());
+            return self.note(None);
         }
-        let noted = self.note(sync_call(self.alloc, name));
+        let noted = self.note(String::from_str(self.alloc, name).ok().map(Call::Sync));
         if noted.is_err() {
             self.touch(name);
         }
@@ -187,12 +174,12 @@ impl Folder for MemoryFolder {
 
     fn rename(&mut self, from: &str, to: &str) -> Result<(), FolderFault> {
         if !self.is_there(from) {
-            return Err(self.refuse());
+            return self.note(None);
         }
         self.note(rename_call(self.alloc, from, to))
     }
 
     fn sync_folder(&mut self) -> Result<(), FolderFault> {
-        self.note(Ok(Call::SyncFolder))
+        self.note(Some(Call::SyncFolder))
     }
 }

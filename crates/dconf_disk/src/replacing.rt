@@ -1,5 +1,5 @@
 //! Replaces a file, so that a crash leaves the old bytes or the new ones.
-ghost use Rattle.std.specs.Prelude.{◌≡◌, ◌⊎◌, ◌∷◌, ℕ, List, OnOk, OnErr, IsErrOf};
+ghost use Rattle.std.specs.Prelude.{◌≡◌, ◌⊎◌, ◌∷◌, List, OnOk, OnErr, IsErrOf};
 ghost use Rattle.dconf_model.specs.Folders.{Event};
 ghost use Rattle.dconf_model.specs.Folders.Event.{rename};
 ghost use Rattle.dconf_model.specs.Replacing.{Replaced, MaybeReplaced, new_name};
@@ -50,6 +50,10 @@ fn replace_by<F: Folder>(
 }
 
 /// Replaces the file of that name, so that a crash leaves the old bytes or the new ones, whole.
+///
+/// It writes the file `NAME.new` and renames it, so what that name held is lost. There may be no file of either name before.
+/// `Memory` comes before anything is done. `Device` comes where a call of the folder failed: then the file holds the old bytes
+/// or the new ones, and `NAME.new` may be left. `TooBig` can't happen. It makes five calls, and copies the name and no byte.
 pub fn replace<F: Folder>(
     alloc: Global,
     folder: &mut F,

@@ -16,7 +16,8 @@ use Rattle.dconf_model.specs.Changes.{Change, Refusal, Values, with_all, changed
 use Rattle.dconf_model.specs.Changes.Change.{set_value, reset_value, reset_below_directory, load_values}
 use Rattle.dconf_model.specs.Stores.{sets_if, said, heard, user_value, AreAccepted, IsWhole, IsWholeChange}
 use Rattle.dconf_model.specs.Stores.Word.{silent, unset, sets}
-use Rattle.dconf_model.proofs.PathMaps.{get_removed, get_retained, same_path}
+use Rattle.dconf_model.proofs.PathMaps.{get_removed, get_retained}
+use Rattle.dconf_model.proofs.SameBytes.{same_path}
 use Rattle.dconf_model.proofs.HeldLaws.{IsWholeOption}
 use Rattle.dconf_model.proofs.ValueLaws.{stored_is_held}
 use Rattle.dconf_model.proofs.LastValues.{last_step, get_all, last_whole, last_kept, last_none, all_kept, whole_kept}

@@ -11,7 +11,8 @@ use Rattle.dconf_model.specs.Values.{stored}
 use Rattle.dconf_model.specs.Sources.{Assigned, value_if_at, last_value}
 use Rattle.dconf_model.specs.Changes.{Values, with_all}
 use Rattle.dconf_model.specs.Stores.{IsWhole}
-use Rattle.dconf_model.proofs.PathMaps.{get_inserted, same_path}
+use Rattle.dconf_model.proofs.PathMaps.{get_inserted}
+use Rattle.dconf_model.proofs.SameBytes.{same_path}
 use Rattle.dconf_model.proofs.HeldLaws.{IsWholeOption}
 
 -- the last value of rows, or else this

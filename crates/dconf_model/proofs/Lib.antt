@@ -44,6 +44,8 @@ pub mod WorkedSources
 pub mod WorkedLayers
 pub mod WorkedOutcomes
 pub mod WorkedStores
+pub mod SameBytes
+pub mod FolderLaws
 pub mod RunLaws
 pub mod ValueLaws
 pub mod DatabaseLaws

@@ -13,7 +13,8 @@ use Rattle.std.proofs.lemmas.Map.Text.{is_eq-slice_cmp}
 use Rattle.std.proofs.lemmas.Map.Views.{list_any-from_Contains, Contains-from_any}
 use Rattle.dconf_model.proofs.ParentLaws.{by_bool}
 use Rattle.dconf_model.specs.Order.{put_by, in_order, listing, is_at_most, IsRising, ListingIsOnceEach}
-use Rattle.dconf_model.proofs.PathMaps.{same_bool, same_path, eq_turned}
+use Rattle.dconf_model.proofs.PathMaps.{same_bool, eq_turned}
+use Rattle.dconf_model.proofs.SameBytes.{same_path}
 use Rattle.dconf_model.proofs.Listings.{listing_has, listing_from}
 
 -- each is at most the next

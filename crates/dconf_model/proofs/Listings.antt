@@ -13,7 +13,7 @@ use Rattle.dconf_model.proofs.ParentLaws.{by_bool}
 use Rattle.dconf_model.specs.Locks.{is_below}
 use Rattle.dconf_model.specs.Order.{put_by, in_order, listing, is_at_most}
 use Rattle.dconf_model.specs.Layers.{parts_below}
-use Rattle.dconf_model.proofs.PathMaps.{same_path, path_itself}
+use Rattle.dconf_model.proofs.SameBytes.{same_path, path_itself}
 
 -- ---- members
 

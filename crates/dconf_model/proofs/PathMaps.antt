@@ -7,21 +7,15 @@ use Rattle.std.specs.Cmp.Lexicographic.{slice_cmp, nat_list_cmp_total}
 use Rattle.std.specs.Ordering.{nat_cmp, eq_by_cmp}
 use Rattle.std.specs.FinMap.{get, insert, remove, retain_keys, keys, contains_key, get-insert, get-remove, get-retain_keys, contains_key-keys, slice_cmp-IsAntisymmetric, nat_cmp-IsAntisymmetric}
 use Rattle.std.proofs.lemmas.Bool.{or_left, or_right}
-use Rattle.std.proofs.lemmas.Slice.Eq.{bytes_eq-Decides}
 use Rattle.std.proofs.lemmas.Map.Text.{is_eq-slice_cmp}
 use Rattle.dconf_model.specs.Settings.{AtPaths}
 use Rattle.dconf_model.proofs.ParentLaws.{by_bool}
+use Rattle.dconf_model.proofs.SameBytes.{same_path, path_itself}
 
 pub same_bool : (a b : Bool) → (a ≡ true → b ≡ true) → (b ≡ true → a ≡ true) → a ≡ b
 same_bool true b f g = sym (f refl)
 same_bool false true f g = g refl
 same_bool false false f g = refl
-
-pub same_path : (p q : List ℕ) → bytes_eq p q ≡ true → p ≡ q
-same_path p q e = (bytes_eq-Decides p q).0 e
-
-pub path_itself : (p q : List ℕ) → p ≡ q → bytes_eq p q ≡ true
-path_itself p q e = (bytes_eq-Decides p q).1 e
 
 pub eq_turned : (p q : List ℕ) → bytes_eq p q ≡ bytes_eq q p
 eq_turned p q = same_bool (bytes_eq p q) (bytes_eq q p)

@@ -1,16 +1,15 @@
 -- Laws of runs.
-use Rattle.std.specs.Prelude.{◌≡◌, ◌≢◌, ◌⊎◌, ◌<◌, ℕ, List, [], ◌∷◌, length, Option, Some, None, refl, Bool, true, false}
-use Rattle.std.proofs.Common.{inl, inr, subst, sym, ap, ◌∙◌, arith}
-use Rattle.std.specs.Str.{bytes_eq}
-use Rattle.std.specs.Cmp.Lexicographic.{bytes_decides}
-use Rattle.dconf_model.specs.Folders.{Event, MayLeave, MayHaveLeft}
+use Rattle.std.specs.Prelude.{◌≡◌, ◌⊎◌, ℕ, List, length, Option, Some, None, refl}
+use Rattle.std.proofs.Common.{inl, inr, subst, sym, ap, ◌∙◌}
+use Rattle.dconf_model.specs.Folders.{Event, MayLeave, MayHaveLeft, seen}
 use Rattle.dconf_model.specs.Replacing.{MayReplace, new_name}
 use Rattle.dconf_model.specs.Commands.{Command}
 use Rattle.dconf_model.specs.Reads.{Reads, Input, steady}
 use Rattle.dconf_model.specs.Outcomes.{Output, Outcome, Replacement, IsOutcome}
-use Rattle.dconf_model.specs.Folders.{seen}
 use Rattle.dconf_model.specs.Runs.{RanCalmly, ReadsAll, Ending, Did, AnswersIn, EndsCalmly, CalmRuns, RunsAreCrashSafe, IsCrashSafe, MayMake, IsNewName, written}
 use Rattle.dconf_model.specs.Runs.Ending.{as_meant, device}
+use Rattle.dconf_model.proofs.FolderLaws.{unchanged}
+use Rattle.dconf_model.proofs.SameBytes.{same_or_not}
 
 steady_reads : (old : List Event) (reads : Reads) → ReadsAll old reads → reads ≡ steady (seen old)
 steady_reads old reads all = λ i n name. all n name i
@@ -30,39 +29,18 @@ calm_runs command input old new output r all calm = calm_from command input r.re
 
 -- ---- crashes
 
-too_late : (es : List Event) (since : ℕ) (name : List ℕ) (c : Option (List ℕ)) → length es < since → MayHaveLeft es since name c → ⊥
-too_late [] since name c late h = let early = h.0 in absurd (omega arith)
-too_late (e ∷ es) since name c late h = elim h [ inl now ↦ (let early = now.0 in absurd (omega arith)) | inr before ↦ too_late es since name c (omega arith) before ]
-
-only_now : (es : List Event) (name : List ℕ) (c : Option (List ℕ)) → MayHaveLeft es (length es) name c → MayLeave es name c
-only_now [] name c h = h.1
-only_now (e ∷ es) name c h = elim h [ inl now ↦ now.1 | inr before ↦ absurd (too_late es (length (e ∷ es)) name c (omega arith) before) ]
-
-unchanged : (old new : List Event) (name : List ℕ) (c : Option (List ℕ)) → new ≡ old → MayHaveLeft new (length old) name c → MayLeave old name c
-unchanged old new name c same h = only_now old name c (subst (λ es. MayHaveLeft es (length old) name c) same h)
-
-same_name : (a b : List ℕ) → (a ≡ b) ⊎ (a ≢ b)
-same_name a b = go (bytes_eq a b) refl
-  where
-    go : (r : Bool) → bytes_eq a b ≡ r → (a ≡ b) ⊎ (a ≢ b)
-    go true e = inl ((bytes_decides a b).0 e)
-    go false e = inr (λ same. differ (sym e ∙ (bytes_decides a b).1 same))
-      where
-        differ : false ≡ true → ⊥
-        differ d = absurd cc
-
 module _ (command : Command) (input : Input) (reads : Reads) (o : Outcome) (is : IsOutcome command reads input o) where
   abbrev Safe : List Event → List ℕ → Option (List ℕ) → Type 0
   Safe old name c = MayLeave old name c ⊎ (((bytes : List ℕ) × MayMake command input reads name bytes × (c ≡ Some bytes)) ⊎ IsNewName command input reads name)
 
   replaced_safe : (r : Replacement) → o.change ≡ Some r → (old new : List Event) → MayReplace old new r.name r.bytes →
       (name : List ℕ) (c : Option (List ℕ)) → MayHaveLeft new (length old) name c → Safe old name c
-  replaced_safe r change old new may name c h = elim (same_name name r.name) [
+  replaced_safe r change old new may name c h = elim (same_or_not name r.name) [
     | inl own ↦ elim (may.own c (subst (λ n. MayHaveLeft new (length old) n c) own h)) [
       | inl before ↦ inl (subst (λ n. MayLeave old n c) (sym own) before)
       | inr made ↦ inr (inl (r.bytes, subst (λ n. MayMake command input reads n r.bytes) (sym own) (o, is, change), made))
     ]
-    | inr other ↦ elim (same_name name (new_name r.name)) [
+    | inr other ↦ elim (same_or_not name (new_name r.name)) [
       | inl fresh ↦ inr (inr (r.name, r.bytes, (o, is, change), fresh))
       | inr apart ↦ inl (may.others name c other apart h)
     ]

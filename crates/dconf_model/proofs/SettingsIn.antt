@@ -23,7 +23,8 @@ use Rattle.dconf_model.proofs.ComputedNames.{name_of_named, named_of_name}
 use Rattle.dconf_model.proofs.RowLaws.{counted, one_item}
 use Rattle.dconf_model.proofs.SoundLaws.{sound_is_searchable}
 use Rattle.dconf_model.proofs.KeyNames.{values_are_keys}
-use Rattle.dconf_model.proofs.PathMaps.{same_path, path_itself, no_truth}
+use Rattle.dconf_model.proofs.PathMaps.{no_truth}
+use Rattle.dconf_model.proofs.SameBytes.{same_path, path_itself}
 
 -- the entry of a path
 abbrev found : {X : Type 0} → List ℕ → List (List ℕ × X) → Option X

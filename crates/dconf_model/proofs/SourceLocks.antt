@@ -13,7 +13,8 @@ use Rattle.dconf_model.specs.Lines.LineReading.{nothing, found, wrong}
 use Rattle.dconf_model.specs.Locks.{LockLine, lock_line, locks_in}
 use Rattle.dconf_model.specs.Sources.{Source, File, FileFault, Given, given, and_locks, and_more, in_files, AreGiven, Assigned, compiled, taken}
 use Rattle.dconf_model.specs.Sources.File.{keyfile, lock_file}
-use Rattle.dconf_model.proofs.PathMaps.{eq_turned, key_in, same_test, same_path, no_truth}
+use Rattle.dconf_model.proofs.PathMaps.{eq_turned, key_in, same_test, no_truth}
+use Rattle.dconf_model.proofs.SameBytes.{same_path}
 
 any_path : (f : List ℕ → Bool) (locks : List LockLine) → list_any f (map (λ lock. lock.path) locks) ≡ list_any (λ lock. f lock.path) locks
 any_path f [] = refl

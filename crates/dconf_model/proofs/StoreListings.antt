@@ -16,7 +16,8 @@ use Rattle.dconf_model.specs.Sources.{Given, last_value}
 use Rattle.dconf_model.specs.Layers.{Layers, children, all_paths, parts_below, greatest_from, locks_path}
 use Rattle.dconf_model.specs.Changes.{Change}
 use Rattle.dconf_model.specs.Stores.{Compilation, IsThere, givens, is_given, level_given, user_keeps, user_value, EachListingIsExact}
-use Rattle.dconf_model.proofs.PathMaps.{key_in, same_path, no_truth}
+use Rattle.dconf_model.proofs.PathMaps.{key_in, no_truth}
+use Rattle.dconf_model.proofs.SameBytes.{same_path}
 use Rattle.dconf_model.proofs.HeldLaws.{held_there}
 use Rattle.dconf_model.proofs.ChangeEffects.{with_values, value_at}
 use Rattle.dconf_model.proofs.DatabasesGiven.{Holds, HoldAll, same_level}

@@ -1,9 +1,13 @@
 -- Numbers in the bytes of a file, and the hash of a name.
 -- GVDB, file version 0 (gvdb-format.h): numbers are little-endian.
-use Rattle.std.specs.Prelude.{ℕ, ◌+◌, ◌*◌, ◌-◌, ◌%◌, ◌^◌, List, fold, if◌then◌else◌, nat_lt, slice_range, slice_index}
+use Rattle.std.specs.Prelude.{ℕ, ◌+◌, ◌*◌, ◌-◌, ◌%◌, ◌^◌, List, fold, if◌then◌else◌, nat_lt, slice_range, slice_index, Option}
 use Rattle.gv_model.specs.BasicValue.{number_in}
 -- how many bytes a file has at most: its places are numbers of four bytes
 pub use Rattle.gv_model.specs.Limits.{limit as longest_file}
+
+-- what a file or a stream holds: None where there is no file, and where the stream doesn't say
+abbrev pub MaybeBytes : Type 0
+MaybeBytes = Option (List ℕ)
 
 -- the numbers of four bytes, of two and of one that occur at a place
 unfoldable pub u32_at : List ℕ → ℕ → ℕ

@@ -1,5 +1,6 @@
 -- Histories: runs of commands that change one file, some of them stopped by a crash.
-use Rattle.std.specs.Prelude.{ℕ, ◌≡◌, ◌⊎◌, List, [], ◌∷◌, length, Option}
+use Rattle.std.specs.Prelude.{ℕ, ◌≡◌, ◌⊎◌, List, [], ◌∷◌, length}
+use Rattle.dconf_model.specs.Bytes.{MaybeBytes}
 use Rattle.dconf_model.specs.Folders.{Event, MayLeave, MayHaveLeft, IsSettled, Grows, seen}
 
 -- how a command ended: with status 0, with a refusal, with a fault of the device, or not at all
@@ -9,31 +10,27 @@ pub data Ending : Type 0 where
   faulted : Ending
   stopped : Ending
 
--- a file's content, or none
-abbrev pub FileContent : Type 0
-FileContent = Option (List ℕ)
-
 -- What commands make of a content: `May c command d` says that a command which reads c may leave d. It is no function, since
 -- the bytes of a database are not laid down by what it says.
-abbrev pub MayRun : {Command : Type 0} → (FileContent → Command → FileContent → Type 0) → FileContent → List Command → FileContent → Type 0
+abbrev pub MayRun : {Command : Type 0} → (MaybeBytes → Command → MaybeBytes → Type 0) → MaybeBytes → List Command → MaybeBytes → Type 0
 MayRun may c [] d = d ≡ c
-MayRun may c (command ∷ more) d = (mid : FileContent) × may c command mid × MayRun may mid more d
+MayRun may c (command ∷ more) d = (mid : MaybeBytes) × may c command mid × MayRun may mid more d
 
-module _ {Command : Type 0} (may : FileContent → Command → FileContent → Type 0) (name : List ℕ) where
+module _ {Command : Type 0} (may : MaybeBytes → Command → MaybeBytes → Type 0) (name : List ℕ) where
   -- a crash at any moment of a command's run leaves what it might have left before, or what the command makes of what it read
   pub record IsWholeAtAnyMoment (old new : List Event) (command : Command) : Type 0 where
     pub grown : Grows old new
-    pub any_moment : (c : FileContent) → MayHaveLeft new (length old) name c → MayLeave old name c ⊎ may (seen old name) command c
+    pub any_moment : (c : MaybeBytes) → MayHaveLeft new (length old) name c → MayLeave old name c ⊎ may (seen old name) command c
 
   -- what a command that ended so made of old
   abbrev pub Step : List Event → Command → Ending → List Event → Type 0
-  Step old command done new = (d : FileContent) × may (seen old name) command d × IsSettled new name d × (seen new name ≡ d)
-  Step old command refused new = ((c : FileContent) → MayLeave new name c → MayLeave old name c) × (seen new name ≡ seen old name)
+  Step old command done new = (d : MaybeBytes) × may (seen old name) command d × IsSettled new name d × (seen new name ≡ d)
+  Step old command refused new = ((c : MaybeBytes) → MayLeave new name c → MayLeave old name c) × (seen new name ≡ seen old name)
   Step old command faulted new =
       IsWholeAtAnyMoment old new command × ((seen new name ≡ seen old name) ⊎ may (seen old name) command (seen new name))
   -- what a crash left is settled, and is what the next command finds
   Step old command stopped new =
-      (cut : List Event) × IsWholeAtAnyMoment old cut command × ((c : FileContent) × MayHaveLeft cut (length old) name c × IsSettled new name c × (seen new name ≡ c))
+      (cut : List Event) × IsWholeAtAnyMoment old cut command × ((c : MaybeBytes) × MayHaveLeft cut (length old) name c × IsSettled new name c × (seen new name ≡ c))
 
   abbrev pub History : List Event → List (Command × Ending) → List Event → Type 0
   History old [] new = new ≡ old
@@ -56,8 +53,8 @@ Kept [] all = all ≡ []
 Kept (step ∷ more) all = KeptBy step.1 step.0 (Kept more) all
 
 -- Whatever a crash may leave in the end is what the commands made that were done, and some that were not, in order.
-abbrev pub NothingIsLost : {Command : Type 0} → (FileContent → Command → FileContent → Type 0) → Type 0
+abbrev pub NothingIsLost : {Command : Type 0} → (MaybeBytes → Command → MaybeBytes → Type 0) → Type 0
 NothingIsLost {Command} may =
-    (name : List ℕ) (old new : List Event) (steps : List (Command × Ending)) (c : FileContent) →
+    (name : List ℕ) (old new : List Event) (steps : List (Command × Ending)) (c : MaybeBytes) →
     IsSettled old name (seen old name) → History may name old steps new → MayLeave new name c →
     (kept : List Command) × Kept steps kept × MayRun may (seen old name) kept c

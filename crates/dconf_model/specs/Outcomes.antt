@@ -64,11 +64,15 @@ line_output line = record { out = []; err = line ++ 10 ∷ []; status = 1 }
 abbrev pub refused_output : List ℕ → Output
 refused_output why = line_output (codes "error: " ++ why)
 
+-- no file is replaced
+abbrev pub answering : Output → Outcome
+answering output = record { output = output; change = None }
+
 abbrev pub done : List ℕ → Outcome
-done text = record { output = done_output text; change = None }
+done text = answering (done_output text)
 
 abbrev pub refused : List ℕ → Outcome
-refused why = record { output = refused_output why; change = None }
+refused why = answering (refused_output why)
 
 -- the file is replaced, and then this is written
 abbrev pub changing : List ℕ → List ℕ → List ℕ → Outcome
@@ -252,7 +256,7 @@ Compiles out files locks o = (r : Result (List ℕ) FileFault) × IsCompiled fil
 abbrev pub check_output : Verdict → Outcome
 check_output (no_database f) = refused (open_fault_text f)
 check_output sound = done (codes "sound" ++ 10 ∷ [])
-check_output (unsound rule at) = record { output = line_output (unsound_text rule at); change = None }
+check_output (unsound rule at) = answering (line_output (unsound_text rule at))
 
 abbrev pub Checks : List ℕ → Gives
 Checks bytes o = (v : Verdict) × IsVerdict bytes v × (o ≡ check_output v)

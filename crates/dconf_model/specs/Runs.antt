@@ -2,6 +2,7 @@
 use Rattle.std.specs.Prelude.{◌≡◌, ◌⊎◌, ℕ, Bool, true, false, List, [], Option, Some, None, codes, length}
 use mathlib.Core.Logic.{inl, inr}
 use Rattle.std.specs.Io.KnownBytes.{Appends}
+use Rattle.dconf_model.specs.Bytes.{MaybeBytes}
 use Rattle.dconf_model.specs.Folders.{Event, MayLeave, MayHaveLeft, seen}
 use Rattle.dconf_model.specs.Replacing.{Replaced, MaybeReplaced, new_name}
 use Rattle.dconf_model.specs.Commands.{Command}
@@ -94,23 +95,19 @@ CalmRuns =
 
 -- ---- the streams
 
--- what a writer holds, where it says that
-abbrev pub Held : Type 0
-Held = Option (List ℕ)
-
 -- out and err grew by exactly the output's bytes, and the status is its status
-pub record Wrote (o : Output) (status : ℕ) (out_old out_new err_old err_new : Held) : Type 0 where
+pub record Wrote (o : Output) (status : ℕ) (out_old out_new err_old err_new : MaybeBytes) : Type 0 where
   pub out : Appends out_old out_new o.out
   pub err : Appends err_old err_new o.err
   pub status_is : status ≡ o.status
 
 -- a write to out failed: whatever the outcome was, nothing is said of it on err
-pub record LostOut (status : ℕ) (err_old err_new : Held) : Type 0 where
+pub record LostOut (status : ℕ) (err_old err_new : MaybeBytes) : Type 0 where
   pub err : Appends err_old err_new []
   pub status_is : status ≡ 1
 
 -- what a run leaves on its streams, where writes to err don't fail: whether one to out failed
-abbrev pub Left : Bool → Output → ℕ → Held → Held → Held → Held → Type 0
+abbrev pub Left : Bool → Output → ℕ → MaybeBytes → MaybeBytes → MaybeBytes → MaybeBytes → Type 0
 Left false o status out_old out_new err_old err_new = Wrote o status out_old out_new err_old err_new
 Left true o status out_old out_new err_old err_new = LostOut status err_old err_new
 

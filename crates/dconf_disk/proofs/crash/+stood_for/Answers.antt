@@ -1,11 +1,11 @@
-use Rattle.std.proofs.Common.{◌-◌, ◌∷◌, Option, ℕ, Some, None, length, take, sym, ap, ◌∙◌, arith, subst, refl, inl, inr}
+use Rattle.std.proofs.Common.{◌-◌, ℕ, Some, None, length, take, sym, ap, ◌∙◌, arith, subst, refl, inl, inr}
 use Rattle.dconf_model.specs.Folders.{file_of, StoodFor}
 use Rattle.dconf_disk.specs.MemoryFolders.{events_of}
 use Rattle.dconf_disk.proofs.CallLemmas.{newest, same_text}
 use Rattle.dconf_disk.proofs.crash.+stood_for.Goals as goal
 
-pub returns-then-is_picked : goal.returns-then-is_picked
-returns-then-is_picked t c =
+pub returns-then-pick-eq0 : goal.returns-then-pick-eq0
+returns-then-pick-eq0 t c =
     subst (λ es. StoodFor es c.args.name.now (Some c.files_made.result)) (sym (newest c.args.calls.now c.last-item.result _ (omega arith) c.last-item.is c.in-Create.is))
     (inl (same_text _ _ _ _ c.eq.ensures c.as_str.ensures.value c.if-eq.true, ap (λ (n : ℕ). Some n) c.files_made.ensures.is))
 
@@ -14,13 +14,13 @@ returns-else-eq t c =
     subst (λ es. StoodFor es c.args.name.now c.stood_for.result) (sym (newest c.args.calls.now c.last-item.result _ (omega arith) c.last-item.is c.in-Create.is))
     (inr c.stood_for.ensures)
 
-pub returns-then-is_picked-2 : goal.returns-then-is_picked-2
-returns-then-is_picked-2 t c =
-    subst (λ es. StoodFor es c.args.name.now c.file_of-then-is_picked-2.result) (sym (newest c.args.calls.now c.last-item.result _ (omega arith) c.last-item.is c.in-Rename.is))
-    (inl (same_text _ _ _ _ c.eq-in-Rename.ensures c.as_str-in-Rename.ensures.value c.if-eq-2.true, c.file_of-then-is_picked-2.ensures ∙ ap (file_of (events_of (take (length c.args.calls.now - 1) c.args.calls.now))) c.as_str-then-is_picked-2.ensures.value))
+pub returns-then-pick-eq0-2 : goal.returns-then-pick-eq0-2
+returns-then-pick-eq0-2 t c =
+    subst (λ es. StoodFor es c.args.name.now c.file_of-then-pick-eq0-2.result) (sym (newest c.args.calls.now c.last-item.result _ (omega arith) c.last-item.is c.in-Rename.is))
+    (inl (same_text _ _ _ _ c.eq-in-Rename.ensures c.as_str-in-Rename.ensures.value c.if-eq-2.true, c.file_of-then-pick-eq0-2.ensures ∙ ap (file_of (events_of (take (length c.args.calls.now - 1) c.args.calls.now))) c.as_str-then-pick-eq0-2.ensures.value))
 
-pub returns-then-is_picked-3 : goal.returns-then-is_picked-3
-returns-then-is_picked-3 t c =
+pub returns-then-pick-eq0-3 : goal.returns-then-pick-eq0-3
+returns-then-pick-eq0-3 t c =
     subst (λ es. StoodFor es c.args.name.now None) (sym (newest c.args.calls.now c.last-item.result _ (omega arith) c.last-item.is c.in-Rename.is))
     (inr (inl (same_text _ _ _ _ c.eq-in-Rename-2.ensures c.as_str-in-Rename-2.ensures.value c.if-eq-3.true, refl)))
 

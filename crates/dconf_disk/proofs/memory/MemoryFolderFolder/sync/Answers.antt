@@ -1,6 +1,6 @@
-use Rattle.std.proofs.Common.{◌∷◌}
+use Rattle.std.proofs.Common.{◌≡◌, ◌∷◌, IfSome, rules}
 use Rattle.dconf_model.specs.Folders.Event.{sync, touch}
-use Rattle.dconf_disk.specs.MemoryFolders.{events_of, AddsTouches, IsPast}
+use Rattle.dconf_disk.specs.MemoryFolders.{event_of, events_of, AddsTouches, IsPast}
 use Rattle.dconf_disk.proofs.Results.{on_err}
 use Rattle.dconf_disk.proofs.Untouched.{noted, same_calls, touched}
 use Rattle.dconf_disk.proofs.memory.MemoryFolderFolder.sync.Goals as goal
@@ -15,4 +15,5 @@ returns-then-is_err-clause-err c es past =
 
 pub returns-else-is_err-clause-ok : goal.returns-else-is_err-clause-ok
 returns-else-is_err-clause-ok c es past =
-    noted c.sync_call.result c.note-noted.result (sync c.args.name.now) c.args.self.now.calls.items c.note-noted.new.self.calls.items c.note-noted.ensures.ok c.note-noted.ensures.had c.sync_call.ensures es past
+    let is : IfSome c.map.result (λ k. event_of k ≡ sync c.args.name.now) = search rules in
+    noted c.map.result c.note-noted.result (sync c.args.name.now) c.args.self.now.calls.items c.note-noted.new.self.calls.items c.note-noted.ensures.ok c.note-noted.ensures.had is es past
