@@ -1,7 +1,8 @@
 -- The first fault of a text, from what was asked of it so far.
 use Rattle.std.proofs.Common.{◌≡◌, rules, ℕ, Bool, true, false, List, [], ◌∷◌, ◌++◌, Some, None, refl, sym, ap, ◌∙◌}
 use Rattle.std.specs.Prelude.{if◌then◌else◌, not, is_none}
-use Rattle.dconf_model.specs.Paths.{PathFault, Question, first_path_fault, questions_of_bytes, question_of_length, starts_with_slash, has_two_slashes, ends_with_slash, is_short, is_key_path, is_directory_path, key_fault, directory_fault, has_zero_byte}
+use Rattle.dconf_model.specs.Locks.{lock_fault}
+use Rattle.dconf_model.specs.Paths.{PathFault, Question, first_path_fault, questions_of_bytes, question_of_length, starts_with_slash, has_two_slashes, ends_with_slash, is_short, is_path, is_key_path, is_directory_path, key_fault, directory_fault, has_zero_byte}
 use Rattle.dconf_model.proofs.PathLaws.{keys_are_faultless, directories_are_faultless}
 use Rattle.dconf_model.specs.Paths.PathFault.{not_absolute, has_nul, double_slash, ends_in_slash, no_end_slash, too_long}
 
@@ -88,3 +89,20 @@ no_directory text f fault = directories_are_faultless text ∙ ap is_none fault
 
 pub a_directory : (text : List ℕ) → directory_fault text ≡ None → is_directory_path text ≡ true
 a_directory text none = directories_are_faultless text ∙ ap is_none none
+
+-- ---- locks
+
+pub is_faulty_as_key : (text : List ℕ) → ends_with_slash text ≡ false → lock_fault text ≡ key_fault text
+unfolding first_path_fault
+is_faulty_as_key text ends = rw ends refl
+
+pub is_faulty_as_directory : (text : List ℕ) → ends_with_slash text ≡ true → lock_fault text ≡ directory_fault text
+unfolding first_path_fault
+is_faulty_as_directory text ends = rw ends refl
+
+pub is_path_of_key : (text : List ℕ) → ends_with_slash text ≡ false → is_path text ≡ is_key_path text
+is_path_of_key text ends = go (is_path text) refl
+  where
+    go : (b : Bool) → is_path text ≡ b → is_path text ≡ is_key_path text
+    go true e = rw (e, ends) refl
+    go false e = rw e refl

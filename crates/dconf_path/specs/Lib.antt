@@ -1,2 +1,5 @@
 pub mod Paths
 pub mod PathFaults
+pub mod LockPaths
+pub mod LineFaults
+pub mod Locks

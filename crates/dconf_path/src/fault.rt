@@ -21,7 +21,8 @@ pub enum PathFault {
 
 impl PathFault {
     ghost use Rattle.std.specs.Prelude.{◌≡◌};
-    ghost use Rattle.dconf_path.specs.PathFaults.{path_fault_of, path_fault_text};
+    ghost use Rattle.dconf_model.specs.FaultTexts.{path_fault_text};
+    ghost use Rattle.dconf_path.specs.PathFaults.{path_fault_of};
 
     /// The name by which it is printed.
     fn name(self) -> &'static str
@@ -40,7 +41,8 @@ impl PathFault {
 
 impl fmt::Display for PathFault {
     ghost use Rattle.std.specs.Prelude.{Some};
-    ghost use Rattle.dconf_path.specs.PathFaults.{path_fault_of, path_fault_text};
+    ghost use Rattle.dconf_model.specs.FaultTexts.{path_fault_text};
+    ghost use Rattle.dconf_path.specs.PathFaults.{path_fault_of};
 
     ghost output = { λ fault. Some (path_fault_text (path_fault_of fault)) };
 

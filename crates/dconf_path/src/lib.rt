@@ -5,7 +5,13 @@
 #![tactic(auto)]
 
 mod fault;
+mod line_fault;
+mod lock_path;
+mod locks;
 mod path;
 
 pub use fault::PathFault;
+pub use line_fault::{LocksFault, ProfileFault};
+pub use lock_path::LockPath;
+pub use locks::{Lock, read_locks};
 pub use path::{DirPath, KeyPath, MAX_PATH_LEN};
