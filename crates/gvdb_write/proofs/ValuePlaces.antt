@@ -7,12 +7,11 @@ use Rattle.std.specs.Map.{update}
 use Rattle.std.specs.Cmp.Lexicographic.{slice_cmp}
 use Rattle.std.specs.Ordering.{nat_cmp, eq_by_cmp}
 use Rattle.std.specs.FinMap.{slice_cmp-IsAntisymmetric, nat_cmp-IsAntisymmetric}
-use Rattle.std.specs.Cmp.{eq_by_cmp_equiv}
-use Rattle.std.proofs.lemmas.Cmp.{nat_list_cmp_total}
 use Rattle.std.proofs.lemmas.Map.Views.{tells_apart}
 use Rattle.std.proofs.lemmas.List.{get_or_append_left, get_or_push}
 use Rattle.std.proofs.lemmas.List.Folds.{list_any_at, list_any-append}
 use Rattle.dconf_model.specs.Plans.{with_new}
+use Rattle.dconf_model.proofs.SameBytes.{itself}
 use Rattle.gvdb_write.specs.Values.{ArePlaces}
 use Rattle.gvdb_write.proofs.Read.{same_path}
 
@@ -37,9 +36,6 @@ are_places places values each = record {
 
 are_same : (a b : List ℕ) → eq_by_cmp (slice_cmp nat_cmp) a b ≡ true → a ≡ b
 are_same a b e = tells_apart (slice_cmp-IsAntisymmetric nat_cmp-IsAntisymmetric) a b e
-
-itself : (a : List ℕ) → bytes_eq a a ≡ true
-itself a = same_path a a ∙ (eq_by_cmp_equiv nat_list_cmp_total).refl a
 
 -- what has a place is there already
 pub there : (values : List (List ℕ)) (value : List ℕ) (k : ℕ) → IsPlaceOf values value (Some k) → with_new values value ≡ values
