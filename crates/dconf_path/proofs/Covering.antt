@@ -1,10 +1,10 @@
 -- Which keys a lock covers.
-use Rattle.std.proofs.Common.{◌≡◌, ℕ, Bool, true, false, List, refl, sym, ap, ◌∙◌, rules}
-use Rattle.std.specs.Prelude.{◌&&◌, ◌||◌, not, eqb}
+use Rattle.std.proofs.Common.{◌≡◌, ℕ, Bool, true, false, List, refl, sym, ap, ◌∙◌}
+use Rattle.std.specs.Prelude.{◌&&◌, not, eqb}
 use Rattle.std.specs.List.{starts_with}
 use Rattle.std.specs.Str.{bytes_eq}
 use Rattle.dconf_model.proofs.PathMaps.{same_path}
-use Rattle.dconf_model.specs.Locks.{covers, is_below}
+use Rattle.dconf_model.specs.Locks.{covers}
 use Rattle.dconf_model.specs.Paths.{ends_with_slash, is_path, is_key_path, is_directory_path}
 
 no_truth : false ≡ true → ⊥

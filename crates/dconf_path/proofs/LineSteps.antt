@@ -1,5 +1,5 @@
 -- Reading lines one after another: what was found so far, and what the lines that are left give.
-use Rattle.std.proofs.Common.{◌≡◌, ℕ, ◌+◌, ◌<◌, ◌≤◌, Bool, true, false, List, [], ◌∷◌, ◌++◌, length, take, drop, get_or, refl, sym, ap, ◌∙◌, rules, arith, append_assoc, add-one, length-take, append-nil, suc, eqb, ◌==◌, lit<}
+use Rattle.std.proofs.Common.{◌≡◌, ℕ, ◌+◌, ◌<◌, true, List, [], ◌∷◌, ◌++◌, length, take, drop, get_or, refl, sym, ap, ◌∙◌, arith, append_assoc, length-take, append-nil, suc, ◌==◌, lit<}
 use Rattle.std.specs.Prelude.{Result, Ok, Err, cond}
 use Rattle.std.specs.List.{slice_split, enumerate_from}
 use Rattle.std.specs.declared.iter.Enumerate.{Enumerate}
@@ -14,7 +14,7 @@ use Rattle.std.proofs.lemmas.Iterator.Splits.{YieldsList-from_str_split}
 use Rattle.std.proofs.lemmas.List.FromFn.{length-enumerate_from, get_or-enumerate_from}
 use Rattle.std.proofs.lemmas.List.{take_more, drop_more, drop_all, get_or_default}
 use Rattle.dconf_model.specs.Causes.{Cause}
-use Rattle.dconf_model.specs.Lines.{LineReading, LineFault, fault_at, with_first, put_first, read_after, read_lines, lines_of, without_empty_end}
+use Rattle.dconf_model.specs.Lines.{LineReading, LineFault, fault_at, with_first, put_first, read_after, read_lines, without_empty_end}
 use Rattle.dconf_model.specs.Lines.LineReading.{nothing, found, wrong}
 
 -- ---- the lines of a text, and what stands between its line feeds

@@ -1,5 +1,5 @@
 -- What a line of a lock file gives.
-use Rattle.std.proofs.Common.{◌≡◌, ℕ, ◌+◌, Bool, true, false, List, [], length, refl, sym, ap, ◌∙◌}
+use Rattle.std.proofs.Common.{◌≡◌, ℕ, ◌+◌, Bool, true, false, List, [], length, refl, sym, ◌∙◌}
 use Rattle.std.specs.Prelude.{if◌then◌else◌}
 use Rattle.dconf_model.specs.Causes.Cause.{lock_not_key}
 use Rattle.dconf_model.specs.Lines.LineReading.{nothing, found, wrong}

@@ -3,3 +3,4 @@ pub mod PathFaults
 pub mod LockPaths
 pub mod LineFaults
 pub mod Locks
+pub mod Profiles

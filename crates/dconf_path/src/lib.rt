@@ -1,7 +1,8 @@
-//! The paths of settings, checked once.
+//! The paths of settings, the locks of lock files and the databases of profiles, checked once.
 //!
-//! A [`KeyPath`] or a [`DirPath`] always holds the text of one path. No call takes memory, and none fails but the two
-//! `parse`. They look at each byte a fixed number of times.
+//! A [`KeyPath`], a [`DirPath`] or a [`LockPath`] always holds the text of one path. What is read is lent from its text,
+//! and nothing of it is copied. [`read_locks`] and [`read_profile`] take memory for what they find; no other call takes
+//! any. Each byte is looked at a fixed number of times.
 #![tactic(auto)]
 
 mod fault;
@@ -9,9 +10,11 @@ mod line_fault;
 mod lock_path;
 mod locks;
 mod path;
+mod profiles;
 
 pub use fault::PathFault;
 pub use line_fault::{LocksFault, ProfileFault};
 pub use lock_path::LockPath;
 pub use locks::{Lock, read_locks};
 pub use path::{DirPath, KeyPath, MAX_PATH_LEN};
+pub use profiles::{Database, DatabaseKind, MAX_DATABASES, Profile, read_profile};

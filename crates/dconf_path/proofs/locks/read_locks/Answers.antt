@@ -6,7 +6,6 @@ use Rattle.std.proofs.lemmas.Str.Pattern.{starts_text}
 use Rattle.dconf_model.specs.Causes.Cause.{lock_not_key}
 use Rattle.dconf_model.specs.Locks.{lock_line}
 use Rattle.dconf_model.specs.Paths.{is_path}
-use Rattle.dconf_path.specs.Locks.{lock_line_of}
 use Rattle.dconf_path.proofs.LineSteps.{parts_of, numbered_parts, part_yielded, read_none, read_nothing, read_found, read_wrong, read_all, read_parts}
 use Rattle.dconf_path.proofs.LockLines.{empty_line, no_lock, no_path, a_lock, refuted}
 use Rattle.dconf_path.proofs.locks.read_locks.Goals as goal

@@ -1,4 +1,4 @@
-use Rattle.std.proofs.Common.{rules, sym, ◌∙◌, ap}
+use Rattle.std.proofs.Common.{sym}
 use Rattle.std.proofs.lemmas.Str.Pattern.{starts_text}
 use Rattle.dconf_path.proofs.Covering.{directory_covers}
 use Rattle.dconf_path.proofs.lock_path.LockPath.covers.Goals as goal
