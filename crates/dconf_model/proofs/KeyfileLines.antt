@@ -41,17 +41,17 @@ last_after : (o : Option (List ℕ)) (gs : List (List ℕ)) (g : List ℕ) → l
 last_after o [] g = refl
 last_after o (x ∷ gs) g = last_after (Some x) gs g
 
-abbrev named : List ℕ → Option (List ℕ)
+abbrev pub named : List ℕ → Option (List ℕ)
 named line = group_named (kind_of (meant line)) (meant line)
 
-group_stays : (earlier : List (List ℕ)) (line : List ℕ) → named line ≡ None → last_group (earlier ++ line ∷ []) ≡ last_group earlier
+pub group_stays : (earlier : List (List ℕ)) (line : List ℕ) → named line ≡ None → last_group (earlier ++ line ∷ []) ≡ last_group earlier
 group_stays earlier line e =
     ap (last_or None) (filter_map-append named earlier (line ∷ [])) ∙ go
   where
     go : last_or None (filter_map named earlier ++ filter_map named (line ∷ [])) ≡ last_or None (filter_map named earlier)
     go = rw e (ap (last_or None) (append-nil (filter_map named earlier)))
 
-group_comes : (earlier : List (List ℕ)) (line g : List ℕ) → named line ≡ Some g → last_group (earlier ++ line ∷ []) ≡ Some g
+pub group_comes : (earlier : List (List ℕ)) (line g : List ℕ) → named line ≡ Some g → last_group (earlier ++ line ∷ []) ≡ Some g
 group_comes earlier line g e =
     ap (last_or None) (filter_map-append named earlier (line ∷ [])) ∙ go
   where
@@ -74,10 +74,10 @@ meant_head g = both_whole is_space is_blank (head_line g) refl (end_stops is_bla
 kind_head : (g : List ℕ) → kind_of (head_line g) ≡ bracket
 kind_head g = rw (not_empty 91 (g ++ 93 ∷ [])) refl
 
-inside_head : (g : List ℕ) → take (length (head_line g) - 2) (drop 1 (head_line g)) ≡ g
+pub inside_head : (g : List ℕ) → take (length (head_line g) - 2) (drop 1 (head_line g)) ≡ g
 inside_head g = let long = length-append g (93 ∷ []) in take_at g (93 ∷ []) (length (head_line g) - 2) (omega (arith, long))
 
-ends_head : (g : List ℕ) → ends_in 93 (head_line g) ≡ true
+pub ends_head : (g : List ℕ) → ends_in 93 (head_line g) ≡ true
 ends_head g =
     let long = length-append g (93 ∷ []) in
     let last : drop (length (head_line g) - 1) (head_line g) ≡ 93 ∷ [] = drop_at (91 ∷ g) (93 ∷ []) (length (head_line g) - 1) (omega (arith, long)) in

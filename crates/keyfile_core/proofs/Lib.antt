@@ -1,0 +1,4 @@
+pub mod Trims
+pub mod GroupParts
+pub mod LineParts
+pub mod ReadingLaws

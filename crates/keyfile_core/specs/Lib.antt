@@ -1,0 +1,5 @@
+pub mod Feeds
+pub mod KeyfileFaults
+pub mod LineMeanings
+pub mod Readings
+pub mod Rows

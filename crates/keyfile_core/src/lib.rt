@@ -1,0 +1,16 @@
+//! Keyfiles: groups of lines `key=value`, as in GLib's GKeyFile, read into rows and written from rows.
+//!
+//! [`read`] takes any bytes: each line is looked at once, and the first that is wrong is the fault. The rows are lent from the
+//! bytes, so that only the list of rows takes memory. [`write_rows`] writes the text that [`read`] gives back.
+//! Nothing here reads a value's text: a row has it as it stands in the file.
+#![tactic(auto)]
+
+mod blanks;
+mod fault;
+mod groups;
+mod keys;
+mod lines;
+mod rows;
+
+pub use fault::{KeyfileCause, KeyfileFault};
+pub use rows::{MAX_KEYFILE_LEN, Row, read};
