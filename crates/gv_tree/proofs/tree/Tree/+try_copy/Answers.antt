@@ -14,9 +14,9 @@ invariant_of-result t c =
     (elim c.match-self.branch [
       | in-Basic+in_ok-try_copy-in-Basic w ↦ search rules
       | in-Container+in_ok-text-in-Container+in_ok-copies-in-Container+else-loop-child-test w ↦
-        let text : string_bytes w.in_ok-text-in-Container.text ≡ string_bytes w.in-Container.text = search rules in
-        let children : w.loop-child.copies.items ≡ w.in-Container.children.items = w.loop-child.invariant ∙ take_all _ _ w.loop-child-test.false ∙ w.deref-child-items.ensures.value in
-        ap tree_of w.node-is ∙ ap₂ node (ap type_at text) (ap trees_of children) ∙ ap tree_of (sym w.in-Container.is)
+          let text : string_bytes w.in_ok-text-in-Container.text ≡ string_bytes w.in-Container.text = search rules in
+          let children : w.loop-child.copies.items ≡ w.in-Container.children.items = w.loop-child.invariant ∙ take_all _ _ w.loop-child-test.false ∙ w.deref-child-items.ensures.value in
+          ap tree_of w.node-is ∙ ap₂ node (ap type_at text) (ap trees_of children) ∙ ap tree_of (sym w.in-Container.is)
     ])
     (elim c.match-self.branch [
       | in-Basic+in_ok-try_copy-in-Basic w ↦ search rules
