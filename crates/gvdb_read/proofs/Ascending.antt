@@ -1,5 +1,5 @@
 -- Lists whose numbers ascend.
-use Rattle.std.proofs.Common.{ℕ, zero, suc, ◌+◌, ◌-◌, ◌<◌, ◌≤◌, ◌≡◌, refl, sym, ap, subst, arith, inl, inr}
+use Rattle.std.proofs.Common.{ℕ, zero, suc, ◌+◌, ◌-◌, ◌<◌, ◌≡◌, refl, sym, subst, arith, inl, inr}
 use Rattle.std.proofs.lemmas.Bool.{cases_order}
 use Rattle.dconf_model.specs.Table.{Table}
 use Rattle.dconf_model.specs.Searchable.{EachItem}
@@ -30,25 +30,6 @@ occurs_once t i k m up k_inside m_inside same = elim (cases_order k m) [
   ]
 ]
 
--- it comes after lower numbers, and before higher ones
-pub occurs_after : (t : Table) (i k m number : ℕ) → Ascends t i → k < list_length t i → m < list_length t i → listed t i k ≡ number → listed t i m < number → m < k
-occurs_after t i k m number up k_inside m_inside there lower = elim (cases_order k m) [
-  | inl e ↦ absurd (let same : listed t i k ≡ listed t i m = ap (λ (x : ℕ). listed t i x) e in omega (arith, same, there, lower))
-  | inr rest ↦ elim rest [
-    | inl before ↦ absurd (omega (arith, there, lower, rises t i k m up before m_inside))
-    | inr after ↦ after
-  ]
-]
-
-pub occurs_before : (t : Table) (i k m number : ℕ) → Ascends t i → k < list_length t i → m < list_length t i → listed t i k ≡ number → number < listed t i m → k < m
-occurs_before t i k m number up k_inside m_inside there higher = elim (cases_order k m) [
-  | inl e ↦ absurd (let same : listed t i k ≡ listed t i m = ap (λ (x : ℕ). listed t i x) e in omega (arith, same, there, higher))
-  | inr rest ↦ elim rest [
-    | inl before ↦ before
-    | inr after ↦ absurd (omega (arith, there, higher, rises t i m k up after k_inside))
-  ]
-]
-
 -- where each list ascends and each item is in its parent's list, the rule on lists is kept
 pub lists_kept : (t : Table) → EachItem t (HasAscendingListIfAny t) → EachItem t (IsListedIfChild t) → KeepsAll t lists
 lists_kept t ascending is_listed i counted of_kind =
@@ -59,22 +40,3 @@ lists_kept t ascending is_listed i counted of_kind =
       once = λ k m k_inside m_inside same. occurs_once t i k m list.ascends k_inside m_inside same;
       empty_at_root = list.empty_at_root;
     }
-
--- ---- a walk along the numbers
-
-pub rises_further : (t : Table) (i k : ℕ) → ((m : ℕ) → m + 1 < k → listed t i m < listed t i (m + 1)) → 1 ≤ k → listed t i (k - 1) < listed t i k → (m : ℕ) → m + 1 < k + 1 → listed t i m < listed t i (m + 1)
-rises_further t i k before some here m lt = elim (cases_order (m + 1) k) [
-  | inl e ↦
-      let low : k - 1 ≡ m = omega arith in
-      subst (λ (x : ℕ). listed t i m < listed t i x) (sym e) (subst (λ (x : ℕ). listed t i x < listed t i k) low here)
-  | inr rest ↦ elim rest [
-    | inl lower ↦ before m lower
-    | inr higher ↦ absurd (omega (arith, lt, higher))
-  ]
-]
-
-pub falls_here : (t : Table) (i k : ℕ) → 1 ≤ k → k < list_length t i → listed t i k ≤ listed t i (k - 1) → Ascends t i → ⊥
-falls_here t i k some inside fall up =
-    let e : k - 1 + 1 ≡ k = omega arith in
-    let there : listed t i (k - 1) < listed t i k = subst (λ (x : ℕ). listed t i (k - 1) < listed t i x) e (up (k - 1) (omega arith)) in
-    omega (arith, there, fall)

@@ -9,3 +9,5 @@ pub mod Ascending
 pub mod Places
 pub mod ListWalks
 pub mod Below
+pub mod KeyTexts
+pub mod ListNumbers

@@ -1,12 +1,8 @@
--- A walk along the numbers of a list: where one is, and whether one occurs twice.
+-- Whether a number occurs twice in a list.
 use Rattle.std.proofs.Common.{ℕ, ◌<◌, ◌≤◌, ◌≡◌, ◌≢◌, sym, arith, inl, inr}
 use Rattle.std.proofs.lemmas.Bool.{cases_order}
 use Rattle.dconf_model.specs.Table.{Table}
 use Rattle.dconf_model.specs.Sound.{list_length, listed}
-use Rattle.gvdb_read.specs.Ascending.{IsListed}
-
-pub occurs_nowhere : (t : Table) (i number n : ℕ) → list_length t i ≤ n → ((m : ℕ) → m < n → listed t i m ≢ number) → IsListed t i number → ⊥
-occurs_nowhere t i number n all none found = none found.0 (omega (arith, all, found.1)) found.2
 
 -- no number occurs twice
 abbrev pub IsOnce : Table → ℕ → Type 0

@@ -1,5 +1,4 @@
--- What a refusal to open says, and how it is printed.
-use Rattle.std.specs.Prelude.{ℕ, List, codes}
+-- What a refusal to open says: its fault among the model's.
 use Rattle.dconf_model.specs.Opening.{OpenFault as Fault}
 use Rattle.dconf_model.specs.Opening.OpenFault.{short, bad_signature, bad_version, bad_root, bad_table}
 use Rattle.gvdb_read.specs.declared.fault.OpenFault.{OpenFault}
@@ -11,11 +10,3 @@ open_fault_of BadSignature = bad_signature
 open_fault_of BadVersion = bad_version
 open_fault_of BadRoot = bad_root
 open_fault_of BadTable = bad_table
-
--- its name
-abbrev pub open_fault_text : Fault → List ℕ
-open_fault_text short = codes "Short"
-open_fault_text bad_signature = codes "BadSignature"
-open_fault_text bad_version = codes "BadVersion"
-open_fault_text bad_root = codes "BadRoot"
-open_fault_text bad_table = codes "BadTable"

@@ -7,3 +7,4 @@ pub mod Unsounds
 pub mod Joined
 pub mod Backwards
 pub mod Ascending
+pub mod ListNumbers

@@ -1,12 +1,11 @@
--- What an unsound database breaks, and how it is printed.
-use Rattle.std.specs.Prelude.{ℕ, ◌<◌, List, [], ◌++◌, Option, Some, None, codes, decimal}
+-- What an unsound database breaks: its rule among the model's.
+use Rattle.std.specs.Prelude.{ℕ, ◌<◌}
 use Rattle.dconf_model.specs.Table.{Table as Region}
 use Rattle.dconf_model.specs.Sound.{Rule as SoundRule}
 use Rattle.dconf_model.specs.Sound.{rule_number, KeepsAll}
 use Rattle.dconf_model.specs.Sound.Rule.{buckets, keys, chain, hash, span, bloom, once, content, place, lists, locks}
 use Rattle.gvdb_read.specs.declared.unsound.Rule.{Rule}
 use Rattle.gvdb_read.specs.declared.unsound.Rule.TheVariants.{Buckets, Keys, Chain, Hash, Span, Bloom, Once, Content, Place, Lists, Locks}
-use Rattle.gvdb_read.specs.declared.unsound.Unsound.{Unsound}
 
 abbrev pub rule_of : Rule → SoundRule
 rule_of Buckets = buckets
@@ -24,14 +23,3 @@ rule_of Locks = locks
 -- the rules whose numbers are below this one are kept
 abbrev pub KeepsBelow : Region → ℕ → Type 0
 KeepsBelow t n = (rule : SoundRule) → rule_number rule < n → KeepsAll t rule
-
--- its name
-abbrev pub rule_text : Rule → List ℕ
-rule_text rule = codes "S" ++ decimal (rule_number (rule_of rule))
-
-abbrev pub item_text : Option ℕ → List ℕ
-item_text None = []
-item_text (Some i) = codes " item " ++ decimal i
-
-abbrev pub unsound_text : Unsound → List ℕ
-unsound_text unsound = rule_text unsound.rule ++ item_text unsound.item

@@ -22,6 +22,7 @@ mod span;
 
 use crate::table::Table;
 use crate::unsound::{Rule, Unsound};
+pub use length::MAX_NAME_LEN;
 
 impl Table<'_> {
     ghost use Rattle.gvdb_read.specs.Tables.{region};

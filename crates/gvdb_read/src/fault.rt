@@ -19,7 +19,8 @@ pub enum OpenFault {
 
 impl OpenFault {
     ghost use Rattle.std.specs.Prelude.{◌≡◌};
-    ghost use Rattle.gvdb_read.specs.Faults.{open_fault_of, open_fault_text};
+    ghost use Rattle.dconf_model.specs.FaultTexts.{open_fault_text};
+    ghost use Rattle.gvdb_read.specs.Faults.{open_fault_of};
 
     /// The name by which it is printed.
     fn name(self) -> &'static str
@@ -37,7 +38,8 @@ impl OpenFault {
 
 impl fmt::Display for OpenFault {
     ghost use Rattle.std.specs.Prelude.{Some};
-    ghost use Rattle.gvdb_read.specs.Faults.{open_fault_of, open_fault_text};
+    ghost use Rattle.dconf_model.specs.FaultTexts.{open_fault_text};
+    ghost use Rattle.gvdb_read.specs.Faults.{open_fault_of};
 
     ghost output = { λ fault. Some (open_fault_text (open_fault_of fault)) };
 

@@ -5,7 +5,8 @@ ghost use Rattle.dconf_model.specs.Table.{Table as Region, list_kind, value_kind
 ghost use Rattle.dconf_model.specs.Search.{Finds, span_size};
 ghost use Rattle.gvdb_read.specs.Lookups.{IsFound, IsListOf, IsTableAt, IsValueOf, IsViewOf};
 
-use crate::names::{NUMBER_LEN, Names};
+use crate::names::Names;
+use crate::number::NUMBER_LEN;
 use crate::table::{LIST, TABLE, Table, VALUE};
 use gv_types::Steps;
 use gv_view::View;

@@ -17,6 +17,7 @@ mod search;
 mod table;
 mod unsound;
 
+pub use checking::MAX_NAME_LEN;
 pub use fault::OpenFault;
 pub use hashing::hash;
 pub use item::Item;

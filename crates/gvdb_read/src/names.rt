@@ -2,12 +2,9 @@
 ghost use Rattle.std.specs.Prelude.{◌≡◌, ◌+◌, ◌*◌, ◌≤◌, [], ◌∷◌, MatchOption, length};
 ghost use Rattle.dconf_model.specs.Listed.{listed_keys};
 
-use crate::number::read_u32;
+use crate::number::{NUMBER_LEN, read_u32};
 use crate::table::Table;
 use std::iter::FusedIterator;
-
-/// How many bytes an item's number has in a list.
-pub(crate) const NUMBER_LEN: usize = 4;
 
 /// The keys of the items that a list names, in its order. The number of no item is passed over, and so is an item
 /// whose key doesn't lie in the file.

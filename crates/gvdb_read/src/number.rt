@@ -1,8 +1,12 @@
 //! Numbers in a file: little-endian, at any place.
 ghost use Rattle.std.specs.Prelude.{◌≡◌, ◌+◌, ◌<◌, ◌≤◌, length};
+ghost use Rattle.gv_model.specs.BasicValue.{number_in};
 ghost use Rattle.dconf_model.specs.Bytes.{u32_at, u16_at, u8_at};
 
 use byteorder::{ByteOrder, LittleEndian};
+
+/// How many bytes an item's number has in a list.
+pub(crate) const NUMBER_LEN: usize = 4;
 
 /// The number in the four bytes from there on.
 pub(crate) fn read_u32(file: &[u8], at: usize) -> u32
@@ -26,4 +30,11 @@ pub(crate) fn read_u8(file: &[u8], at: usize) -> u8
     ensures { result ≡ u8_at file.now at }
 {
     file[at]
+}
+
+/// The number in four bytes.
+pub(crate) fn number(bytes: &[u8; NUMBER_LEN]) -> u32
+    ensures { result ≡ number_in bytes.now }
+{
+    LittleEndian::read_u32(bytes)
 }

@@ -61,9 +61,9 @@ impl Rule {
 
 impl fmt::Display for Rule {
     ghost use Rattle.std.specs.Prelude.{Some};
-    ghost use Rattle.gvdb_read.specs.Unsounds.{rule_text};
+    ghost use Rattle.dconf_model.specs.FaultTexts.{rule_text};
 
-    ghost output = { λ rule. Some (rule_text rule) };
+    ghost output = { λ rule. Some (rule_text (rule_of rule)) };
 
     fn fmt<W: fmt::Write>(&self, f: &mut fmt::Formatter<W>) -> fmt::Result {
         write!(f, "S{}", self.number())
@@ -80,9 +80,9 @@ pub struct Unsound {
 
 impl fmt::Display for Unsound {
     ghost use Rattle.std.specs.Prelude.{Some};
-    ghost use Rattle.gvdb_read.specs.Unsounds.{unsound_text};
+    ghost use Rattle.dconf_model.specs.FaultTexts.{broken_text};
 
-    ghost output = { λ unsound. Some (unsound_text unsound) };
+    ghost output = { λ unsound. Some (broken_text (rule_of unsound.rule) unsound.item) };
 
     fn fmt<W: fmt::Write>(&self, f: &mut fmt::Formatter<W>) -> fmt::Result {
         match self.item {

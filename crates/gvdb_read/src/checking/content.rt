@@ -3,7 +3,7 @@ ghost use Rattle.std.specs.Prelude.{◌<◌, ◌↔◌, IsTrue};
 ghost use Rattle.dconf_model.specs.Table.{item_count};
 ghost use Rattle.dconf_model.specs.Searchable.{HasContent};
 
-use crate::names::NUMBER_LEN;
+use crate::number::NUMBER_LEN;
 use crate::table::{LIST, TABLE, Table, VALUE};
 
 impl Table<'_> {

@@ -4,6 +4,7 @@ ghost use Rattle.dconf_model.specs.Table.{item_count};
 ghost use Rattle.dconf_model.specs.Searchable.{HasGoodKey};
 
 use crate::table::Table;
+use gv_view::utf8_of;
 
 impl Table<'_> {
     ghost use Rattle.gvdb_read.specs.Tables.{region};
@@ -31,5 +32,5 @@ impl Table<'_> {
 fn is_text(key: &[u8]) -> bool
     ensures { IsTrue result ↔ IsUtf8 key.now × (¬ Contains key.now 0) }
 {
-    str::from_utf8(key).is_ok() && !key.contains(&0)
+    utf8_of(key).is_some() && !key.contains(&0)
 }

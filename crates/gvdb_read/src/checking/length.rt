@@ -7,8 +7,8 @@ ghost use Rattle.dconf_model.specs.Sound.Rule.{keys, chain};
 
 use crate::table::Table;
 
-/// How many bytes a full name may have.
-const MOST_BYTES: usize = 65_535;
+/// How many bytes a full name may have: as many as one item's key, whose size is a number of two bytes.
+pub const MAX_NAME_LEN: usize = u16::MAX as usize;
 
 impl<'a> Table<'a> {
     ghost use Rattle.gvdb_read.specs.Tables.{region};
@@ -21,6 +21,6 @@ impl<'a> Table<'a> {
         ensures { IsTrue result
             ↔ ((name : List ℕ) → HasName (region self.entry) i name → length name ≤ 65535) }
     {
-        self.name_backwards(i).nth(MOST_BYTES).is_none()
+        self.name_backwards(i).nth(MAX_NAME_LEN).is_none()
     }
 }

@@ -2,15 +2,16 @@
 //!
 //! A writer puts the children of a list in the order of the items. So a fast pass looks whether each list ascends and
 //! each item is found in its parent's list by halving. Where that fails a slow pass asks list by list.
-ghost use Rattle.std.specs.Prelude.{◌≡◌, ◌≢◌, ◌<◌, ◌↔◌, ℕ, IsTrue, codes};
+ghost use Rattle.std.specs.Prelude.{◌≡◌, ◌<◌, ◌↔◌, ℕ, IsTrue, codes, length};
 ghost use Rattle.dconf_model.specs.Table.{HasBytes, item_count};
 ghost use Rattle.dconf_model.specs.Names.{HasName};
 ghost use Rattle.dconf_model.specs.Searchable.{EachItem};
 ghost use Rattle.dconf_model.specs.Sound.{HasListIfAny, IsChild, KeepsAll, ListsChildren, list_length, listed};
 ghost use Rattle.dconf_model.specs.Sound.Rule.{keys, content, place};
 ghost use Rattle.gvdb_read.specs.Ascending.{Ascends, HasAscendingListIfAny, IsAscending, IsListed, IsListedIfChild};
+ghost use Rattle.gvdb_read.specs.ListNumbers.{AreNumbers, IsFirstAt, Occurs};
 
-use crate::number::read_u32;
+use crate::number::{NUMBER_LEN, number};
 use crate::table::{LIST, Table};
 use gv_types::Steps;
 
@@ -56,12 +57,8 @@ impl<'a> Table<'a> {
         requires valid { HasBytes (region self) i }
         ensures { IsTrue result ↔ Ascends (region self.entry) i }
     {
-        for k in 1..self.list_length(i) {
-            if self.listed(i, k - 1) >= self.listed(i, k) {
-                return false;
-            }
-        }
-        true
+        self.numbers(i)
+            .is_sorted_by(|left, right| number(left) < number(right))
     }
 
     /// Whether each item with a parent is in its parent's list.
@@ -96,27 +93,13 @@ impl<'a> Table<'a> {
     }
 
     /// Whether the number is in a list that ascends.
-    fn is_found_by_halving(self, i: u32, number: u32) -> bool
+    fn is_found_by_halving(self, i: u32, item: u32) -> bool
         requires counted { i < item_count (region self) }
         requires valid { HasBytes (region self) i }
         requires ascends { Ascends (region self) i }
-        ensures { IsTrue result ↔ IsListed (region self.entry) i number }
+        ensures { IsTrue result ↔ IsListed (region self.entry) i item }
     {
-        let mut low = 0;
-        let mut high = self.list_length(i);
-        while low < high {
-            let middle = low + (high - low) / 2;
-            let found = self.listed(i, middle);
-            if found == number {
-                return true;
-            }
-            if found < number {
-                low = middle + 1;
-            } else {
-                high = middle;
-            }
-        }
-        false
+        self.numbers(i).binary_search_by_key(&item, number).is_ok()
     }
 
     // ---- the slow pass
@@ -149,12 +132,9 @@ impl<'a> Table<'a> {
         ensures { IsTrue result ↔ ((k : ℕ) → k < list_length (region self.entry) i
             → IsChild (region self.entry) i (listed (region self.entry) i k)) }
     {
-        for k in 0..self.list_length(i) {
-            if !self.is_child(i, self.listed(i, k)) {
-                return false;
-            }
-        }
-        true
+        self.numbers(i)
+            .iter()
+            .all(|bytes| self.is_child(i, number(bytes)))
     }
 
     /// Whether each child of the item is in its list.
@@ -172,17 +152,12 @@ impl<'a> Table<'a> {
     }
 
     /// Whether the number is in the list.
-    fn is_listed(self, i: u32, number: u32) -> bool
+    fn is_listed(self, i: u32, item: u32) -> bool
         requires counted { i < item_count (region self) }
         requires valid { HasBytes (region self) i }
-        ensures { IsTrue result ↔ IsListed (region self.entry) i number }
+        ensures { IsTrue result ↔ IsListed (region self.entry) i item }
     {
-        for k in 0..self.list_length(i) {
-            if self.listed(i, k) == number {
-                return true;
-            }
-        }
-        false
+        holds(self.numbers(i), item)
     }
 
     /// Whether no number occurs twice in the list.
@@ -193,29 +168,8 @@ impl<'a> Table<'a> {
             → m < list_length (region self.entry) i
             → listed (region self.entry) i k ≡ listed (region self.entry) i m → k ≡ m) }
     {
-        for k in 0..self.list_length(i) {
-            if !self.is_first_at(i, k) {
-                return false;
-            }
-        }
-        true
-    }
-
-    /// Whether the number at place `k` of the list occurs at no place before.
-    fn is_first_at(self, i: u32, k: u32) -> bool
-        requires counted { i < item_count (region self) }
-        requires valid { HasBytes (region self) i }
-        requires inside { k < list_length (region self) i }
-        ensures { IsTrue result ↔ ((m : ℕ) → m < k
-            → listed (region self.entry) i m ≢ listed (region self.entry) i k) }
-    {
-        let number = self.listed(i, k);
-        for m in 0..k {
-            if self.listed(i, m) == number {
-                return false;
-            }
-        }
-        true
+        let numbers = self.numbers(i);
+        (0..numbers.len()).all(|k| is_first_at(numbers, k))
     }
 
     // ---- one list
@@ -227,7 +181,7 @@ impl<'a> Table<'a> {
         ensures { IsTrue result ↔ (list_length (region self.entry) i ≡ 0 → HasName (region self.entry) i (codes "/")) }
     {
         let mut steps = Steps::new();
-        self.list_length(i) > 0 || self.is_named(i, b"/", &mut steps)
+        !self.numbers(i).is_empty() || self.is_named(i, b"/", &mut steps)
     }
 
     /// Whether this is the number of an item whose parent is item `i`.
@@ -237,23 +191,29 @@ impl<'a> Table<'a> {
         number < self.n_items() && self.stored(number).parent == Some(i)
     }
 
-    /// How many numbers the list has.
-    fn list_length(self, i: u32) -> u32
+    /// The numbers in the list, each as its four bytes.
+    fn numbers(self, i: u32) -> &'a [[u8; NUMBER_LEN]]
         requires counted { i < item_count (region self) }
         requires valid { HasBytes (region self) i }
-        ensures { result ≡ list_length (region self.entry) i }
+        ensures { AreNumbers (region self.entry) i result.now }
     {
-        let stored = self.stored(i);
-        (stored.end - stored.start) / 4
+        let bytes = self.pointed(self.stored(i)).unwrap_or_default();
+        let (numbers, _) = bytes.as_chunks();
+        numbers
     }
+}
 
-    /// The number at place `k` of the list.
-    fn listed(self, i: u32, k: u32) -> u32
-        requires counted { i < item_count (region self) }
-        requires valid { HasBytes (region self) i }
-        requires inside { k < list_length (region self) i }
-        ensures { result ≡ listed (region self.entry) i k }
-    {
-        read_u32(self.file, self.stored(i).start as usize + 4 * k as usize)
-    }
+/// Whether the number is among these.
+fn holds(numbers: &[[u8; NUMBER_LEN]], item: u32) -> bool
+    ensures { IsTrue result ↔ Occurs item numbers.now }
+{
+    numbers.iter().any(|bytes| number(bytes) == item)
+}
+
+/// Whether the number at place `k` is none of those before it.
+fn is_first_at(numbers: &[[u8; NUMBER_LEN]], k: usize) -> bool
+    requires { k < length numbers.now }
+    ensures { IsTrue result ↔ IsFirstAt numbers.now k }
+{
+    !holds(&numbers[..k], number(&numbers[k]))
 }

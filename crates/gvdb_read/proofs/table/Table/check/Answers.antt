@@ -4,3 +4,6 @@ use Rattle.gvdb_read.proofs.table.Table.check.Goals as goal
 
 pub returns-clause-sound : goal.returns-clause-sound
 returns-clause-sound c = sound_if_ok (region c.args.self) c.each_keeps-2.result c.each_keeps-2.ensures.kept
+
+pub returns-clause-fault : goal.returns-clause-fault
+returns-clause-fault c = c.each_keeps-2.ensures.fault

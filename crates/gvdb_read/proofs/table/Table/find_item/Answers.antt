@@ -1,4 +1,4 @@
-use Rattle.std.proofs.Common.{◌+◌, ◌*◌, ◌≤◌, ℕ, arith}
+use Rattle.std.proofs.Common.{rules, ◌+◌, ◌*◌, ◌≤◌, ℕ, arith}
 use Rattle.std.proofs.Math.Nat.{mul-le-mul_right}
 use Rattle.gvdb_read.proofs.table.Table.find_item.Goals as goal
 
@@ -7,3 +7,6 @@ within_all s b m k n le small = let more : k * n ≤ m * n = mul-le-mul_right n 
 
 pub returns-clause-cost : goal.returns-clause-cost
 returns-clause-cost c = within_all _ _ _ _ _ c.loop-i.invariant.cost c.loop-i.invariant.within
+
+pub returns-then-is_wanted-clause-found : goal.returns-then-is_wanted-clause-found
+returns-then-is_wanted-clause-found c = search rules

@@ -1,0 +1,9 @@
+use Rattle.std.proofs.Common.{◌≡◌, ◌∙◌, true, false, sym}
+use Rattle.gvdb_read.proofs.KeyTexts.{found_where_utf8}
+use Rattle.gvdb_read.proofs.checking.keys.is_text.Goals as goal
+
+pub returns-else-is_some : goal.returns-else-is_some
+returns-else-is_some c = (
+  λ h. let bad : false ≡ true = sym c.if-is_some.false ∙ h in cc,
+  λ text. c.is_some.ensures ∙ found_where_utf8 (λ s. s.now) c.args.key.now c.utf8_of.result c.utf8_of.ensures text.0,
+)
