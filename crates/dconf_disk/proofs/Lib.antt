@@ -9,3 +9,4 @@ pub mod Crashes
 pub mod Made
 pub mod MadeAgain
 pub mod Wholes
+pub mod WorkedFolders

@@ -1,4 +1,4 @@
--- What a name stands for, and what a crash at some moment might have left.
+-- What a name stands for, and what a crash at some moment might have left. For the crates above, too.
 use Rattle.std.specs.Prelude.{◌≡◌, ◌<◌, ◌≤◌, ◌+◌, ℕ, List, [], ◌∷◌, length, Option, Some, None, refl, Bool, true, false}
 use Rattle.std.proofs.Common.{inl, inr, subst, ap, ◌∙◌, arith, length-append}
 use Rattle.std.specs.Str.{bytes_eq}

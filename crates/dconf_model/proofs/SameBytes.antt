@@ -1,4 +1,4 @@
--- Whether two texts have the same bytes, by the test of it.
+-- Whether two texts have the same bytes, by the test of it. For the crates above, too.
 use Rattle.std.specs.Prelude.{◌≡◌, ◌≢◌, ◌⊎◌, ℕ, List, true, false, refl}
 use Rattle.std.proofs.Common.{inl, inr}
 use Rattle.std.specs.Str.{bytes_eq}
