@@ -16,6 +16,8 @@ mod paths;
 #[cfg(test)]
 mod slow_search;
 #[cfg(test)]
+mod texts;
+#[cfg(test)]
 mod vectors;
 #[cfg(test)]
 mod writing;
