@@ -1,17 +1,17 @@
 -- What a command decides, put together from its reads and from what it makes of their bytes.
-use Rattle.std.proofs.Common.{◌≡◌, ◌<◌, ◌≤◌, ◌+◌, ◌∷◌, ◌⊎◌, inl, inr, ℕ, List, [], length, true, false, Option, Some, None, refl, sym, ap, subst, ◌∙◌, arith}
-use Rattle.std.specs.Prelude.{◌≢◌, IfSome, codes, nat_lt, option_map, vec_items, if◌then◌else◌}
+use Rattle.std.proofs.Common.{◌≡◌, ◌≤◌, inl, inr, ℕ, List, [], length, true, false, Option, Some, None, refl, sym, arith}
+use Rattle.std.specs.Prelude.{◌≢◌, IfSome, codes, nat_lt, option_map, vec_items}
 use Rattle.std.specs.declared.vec.Vec.{Vec}
 use Rattle.dconf_model.specs.Bytes.{longest_file}
 use Rattle.dconf_model.specs.Folders.{Event, seen}
 use Rattle.dconf_model.specs.FaultTexts.{device_text, no_file_text}
-use Rattle.dconf_model.specs.Outcomes.{Gives, OrNoDatabase, OrNoRead, Outcome, Refused, WithFile, refused}
+use Rattle.dconf_model.specs.Outcomes.{OrNoDatabase, OrNoRead, Outcome, Refused, WithFile}
 use Rattle.dconf_model.specs.Reads.{FileRead, IsOverSize, Reads, read_of}
 use Rattle.dconf_model.specs.Reads.FileRead.{no_file, holds, over_size, failed}
 use Rattle.dconf_cli.specs.declared.answer.Answer.{Answer}
 use Rattle.dconf_cli.specs.declared.answer.Answer.TheVariants.{NoMemory}
 use Rattle.dconf_cli.specs.Answers.{Answers, RefusesFor, outcome_of}
-use Rattle.dconf_cli.specs.Readings.{AllRead, AreOf, BreaksAt, Decides, Gave, HasRead, Nothing, NothingIfAny, Reading, Tells, found_read, one_read}
+use Rattle.dconf_cli.specs.Readings.{Decides, HasRead, Nothing, NothingIfAny, found_read, one_read}
 use Rattle.dconf_cli.specs.Streams.{Rose}
 
 -- ---- answers

@@ -5,7 +5,7 @@ use Rattle.dconf_disk.specs.declared.fault.FolderFault.TheVariants.{Device, TooB
 use Rattle.dconf_model.specs.Folders.{Event}
 use Rattle.dconf_model.specs.FaultTexts.{device_text}
 use Rattle.dconf_model.specs.Replacing.{Replaced, MaybeReplaced}
-use Rattle.dconf_model.specs.Outcomes.{Outcome, Output, Replacement, changing, done, done_output, refused_output}
+use Rattle.dconf_model.specs.Outcomes.{Outcome, Output, changing, done, done_output, refused_output}
 use Rattle.dconf_cli.specs.declared.counted.Counted.{Counted}
 use Rattle.dconf_cli.specs.Answers.{refused_by}
 use Rattle.dconf_cli.specs.Counted.{Grew, Leaves, Prints, Unfailed}

@@ -1,10 +1,9 @@
 -- What is left on out and err of a text, and of a line.
-use Rattle.std.proofs.Common.{◌≡◌, ◌<◌, ◌+◌, ◌∷◌, ◌⊎◌, inl, inr, ℕ, List, [], Option, refl, arith}
-use Rattle.std.specs.Prelude.{◌≢◌}
+use Rattle.std.proofs.Common.{◌≡◌, inl, inr, ℕ, List, [], Option, refl, arith}
 use Rattle.std.proofs.KnownBytes.{Appends-nil}
-use Rattle.dconf_model.specs.Outcomes.{Output, done_output}
+use Rattle.dconf_model.specs.Outcomes.{done_output}
 use Rattle.dconf_cli.specs.declared.counted.Counted.{Counted}
-use Rattle.dconf_cli.specs.Counted.{Grew, Leaves, Prints, Unfailed, failures_of, inner_of}
+use Rattle.dconf_cli.specs.Counted.{Grew, Leaves, Prints, Unfailed, inner_of}
 use Rattle.dconf_cli.specs.Streams.{NoneFailed, Rose, one_more}
 
 -- no count rises where nothing failed

@@ -8,3 +8,4 @@ pub mod Decisions
 pub mod Runs
 pub mod Shows
 pub mod Given
+pub mod InputLaws

@@ -9,17 +9,17 @@ use Rattle.dconf_model.specs.Replacing.{MaybeReplaced, ReadsWhole, new_name}
 use Rattle.dconf_model.specs.Commands.{Command}
 use Rattle.dconf_model.specs.Reads.{FileRead, Input, Reads, read_of, steady}
 use Rattle.dconf_model.specs.Reads.FileRead.{no_file, holds, over_size, failed}
-use Rattle.dconf_model.specs.Outcomes.{IsOutcome, Outcome, Output, Refused, Replacement, refused, refused_output}
-use Rattle.dconf_model.specs.Runs.{Answered, Answers as AnswersAny, AnswersIn, Did, IsNewName, MayMake, NoMemory, Ran, RanCalmly, ReadsFrom, device_output}
+use Rattle.dconf_model.specs.Outcomes.{IsOutcome, Outcome, Output, Replacement, refused, refused_output}
+use Rattle.dconf_model.specs.Runs.{Answers as AnswersAny, AnswersIn, Did, MayMake, NoMemory, Ran, RanCalmly, ReadsFrom, device_output}
 use Rattle.dconf_model.specs.Runs.{Ending}
 use Rattle.dconf_model.specs.Runs.Ending.{as_meant, device}
 use Rattle.dconf_cli.specs.declared.answer.Answer.{Answer}
 use Rattle.dconf_cli.specs.declared.answer.Answer.TheVariants as answers
-use Rattle.dconf_cli.specs.Answers.{Answers, outcome_of}
+use Rattle.dconf_cli.specs.Answers.{outcome_of}
 use Rattle.dconf_cli.specs.Endings.{Ends, EndsBy}
 use Rattle.dconf_cli.specs.Readings.{AllRead, AreOf, Decides, Gave, Reading, Tells}
-use Rattle.dconf_cli.specs.Runs.{IsFormed, IsOwn, IsToReplace, KeepsFiles, NamesFile, RanAnywhere, Took}
-use Rattle.dconf_cli.specs.Streams.{NoneFailed, Rose}
+use Rattle.dconf_cli.specs.Runs.{IsFormed, IsOwn, KeepsFiles, NamesFile, RanAnywhere, Took}
+use Rattle.dconf_cli.specs.Streams.{NoneFailed}
 use Rattle.dconf_cli.proofs.Leaving.{not_rose}
 
 -- ---- input that no command read

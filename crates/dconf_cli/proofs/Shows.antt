@@ -15,13 +15,12 @@ use Rattle.gv_text.specs.PrintFaults.{print_fault_name}
 use Rattle.gv_text.specs.Printing.{IsUnprintable}
 use Rattle.dconf_model.specs.Opening.{OpenFault}
 use Rattle.dconf_model.specs.Opening.OpenFault.{short, bad_signature, bad_version, bad_root, bad_table}
-use Rattle.dconf_model.specs.Sound.{Rule}
 use Rattle.gvdb_read.specs.Faults.{open_fault_text as open_text}
 use Rattle.gvdb_read.specs.Unsounds.{item_text as item_words}
 use Rattle.gv_model.specs.FaultTexts.{type_fault_text}
-use Rattle.dconf_model.specs.FaultTexts.{item_text, open_fault_text, unsound_text}
+use Rattle.dconf_model.specs.FaultTexts.{item_text, open_fault_text}
 use Rattle.dconf_model.specs.Folders.{Event}
-use Rattle.dconf_model.specs.Commands.Command.{show, check}
+use Rattle.dconf_model.specs.Commands.Command.{show}
 use Rattle.dconf_model.specs.Databases.{IsVerdict, Verdict}
 use Rattle.dconf_model.specs.Outcomes.{Checks, IsOutcome, Outcome, Refused, WithFile, WithType, check_output, done, refused, shown}
 use Rattle.dconf_model.specs.Reads.{Input, Reads}

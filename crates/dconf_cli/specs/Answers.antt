@@ -1,6 +1,6 @@
 -- What an answer of a command stands for.
-use Rattle.std.specs.Prelude.{◌≡◌, ℕ, List, [], Option, Some, None, IfSome, string_bytes, vec_items}
-use Rattle.dconf_model.specs.Outcomes.{Outcome, Gives, Refused as RefusedWith, done, changing}
+use Rattle.std.specs.Prelude.{ℕ, List, [], Option, Some, None, IfSome, string_bytes, vec_items}
+use Rattle.dconf_model.specs.Outcomes.{Outcome, Refused as RefusedWith, done, changing}
 use Rattle.dconf_cli.specs.declared.answer.Answer.{Answer}
 use Rattle.dconf_cli.specs.declared.answer.Answer.TheVariants.{Done, Changed, Refused, NoMemory}
 

@@ -1,5 +1,5 @@
 -- What a counted stream shows.
-use Rattle.std.specs.Prelude.{◌≡◌, ◌≢◌, ◌⊎◌, ◌≤◌, ℕ, List, [], Option}
+use Rattle.std.specs.Prelude.{◌≡◌, ◌≢◌, ◌⊎◌, ◌≤◌, ℕ, List, Option}
 use Rattle.std.specs.Io.KnownBytes.{Appends}
 use Rattle.dconf_model.specs.Outcomes.{Output}
 use Rattle.dconf_cli.specs.declared.counted.Counted.{Counted}

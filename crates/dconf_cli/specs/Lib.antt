@@ -7,3 +7,4 @@ pub mod Answers
 pub mod Readings
 pub mod Endings
 pub mod Runs
+pub mod Inputs

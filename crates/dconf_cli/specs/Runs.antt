@@ -8,12 +8,12 @@ use Rattle.dconf_model.specs.Reads.{Input, Reads}
 use Rattle.dconf_model.specs.Outcomes.{Output, refused_output}
 use Rattle.dconf_model.specs.Runs.{Answers, IsNewName, MayMake, NoMemory, ReadsFrom}
 use Rattle.dconf_cli.specs.Readings.{BreaksAt, Gave, Reading}
-use Rattle.dconf_cli.specs.Streams.{Rose}
+use Rattle.dconf_cli.specs.Streams.{one_more}
 
 -- the input that a run was given: all that the stream had, where it says that, or the first part of it where the stream failed
 pub record Took (remaining : Option (List ℕ)) (failures_old failures_new : ℕ) (i : Input) : Type 0 where
   pub whole : i.fails ≡ false → IfSome remaining (λ xs. i.bytes ≡ xs)
-  pub part : i.fails ≡ true → IfSome remaining (λ xs. (n : ℕ) × (i.bytes ≡ take n xs)) × Rose failures_old failures_new
+  pub part : i.fails ≡ true → IfSome remaining (λ xs. (n : ℕ) × (i.bytes ≡ take n xs)) × (failures_new ≡ one_more failures_old)
 
 -- the file that a command is to replace, by the reads that it made
 abbrev pub IsToReplace : Command → Input → List Reading → List ℕ → Type 0

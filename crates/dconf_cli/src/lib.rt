@@ -5,11 +5,12 @@
 //! out, or one line to err.
 //!
 //! What can never happen: a word that a command needs is made up; a write is given up half way and called
-//! done; a failure of a folder is taken for a missing file; a refusal writes to out, or comes after a file was
-//! replaced.
+//! done; a failure of a folder is taken for a missing file, or one of the input for its end; a refusal writes to out, or
+//! comes after a file was replaced.
 //!
 //! What a call costs: `command` takes memory for clap's lists and for the words of its answer; `run` for the
-//! file's bytes, once, and for the text that it writes, in time linear in both; a `Counted` takes none.
+//! file's bytes, once, and for the text that it writes, in time linear in both; `read_input` for the input's bytes; a
+//! `Counted` takes none.
 #![tactic(auto)]
 
 mod answer;
@@ -18,6 +19,7 @@ mod command_line;
 mod commands;
 mod counted;
 mod giving;
+mod input;
 mod putting;
 mod reading;
 mod running;
@@ -25,4 +27,5 @@ mod running;
 pub use asked::Command;
 pub use command_line::command;
 pub use counted::Counted;
+pub use input::{InputFault, read_input};
 pub use running::run;

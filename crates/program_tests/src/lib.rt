@@ -11,6 +11,8 @@ mod counted;
 #[cfg(test)]
 mod failing;
 #[cfg(test)]
+mod input;
+#[cfg(test)]
 mod limits;
 #[cfg(test)]
 mod runs;

@@ -1,4 +1,4 @@
-use Rattle.std.proofs.Common.{◌≡◌, ◌++◌, ◌∷◌, ◌∙◌, [], ap, Err, refl, sym, subst, string_bytes, codes}
+use Rattle.std.proofs.Common.{◌++◌, ◌∷◌, ◌∙◌, [], ap, Err, refl, sym, subst, string_bytes, codes}
 use Rattle.dconf_cli.specs.Answers.{outcome_of}
 use Rattle.dconf_cli.proofs.Given.{Gives, gives_change, gives_device, gives_line, gives_no_memory, gives_no_memory_for_change, gives_text, never_too_big}
 use Rattle.dconf_cli.proofs.giving.give.Goals as goal
