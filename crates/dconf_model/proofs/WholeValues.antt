@@ -5,11 +5,11 @@ use Rattle.std.proofs.lemmas.Bool.{eqb-false}
 use Rattle.dconf_model.proofs.ParentLaws.{by_bool}
 use Rattle.std.specs.List.{AllByRecursion}
 use Rattle.std.specs.Str.{is_utf8}
-use Rattle.gv_model.specs.Ty.{Ty, Types, Basic, spelling}
+use Rattle.gv_model.specs.Ty.{Ty, Types, Basic}
 use Rattle.gv_model.specs.Ty.Ty.{basic, variant, array, maybe, tuple, entry}
 use Rattle.gv_model.specs.Ty.Types.{end, member}
 use Rattle.gv_model.specs.Ty.Basic.{boolean, byte, int16, uint16, int32, uint32, int64, uint64, handle, double, string, path, signature}
-use Rattle.gv_model.specs.TypeText.{is_within_limits}
+use Rattle.gv_model.specs.TypeText.{IsWithinLimits}
 use Rattle.gv_model.specs.Tree.{Tree, Trees, type_of, depth}
 use Rattle.gv_model.specs.Tree.Tree.{number, text}
 use Rattle.gv_model.specs.Tree.Trees.{none as no_tree}
@@ -187,11 +187,8 @@ maybe_good Q f h (array t) p = absurd p
 maybe_good Q f h (tuple ts) p = absurd p
 maybe_good Q f h (entry k t) p = absurd p
 
-abbrev Fits : Ty → Type 0
-Fits t = is_within_limits t (spelling t) ≡ true
-
-held_good : (t : Ty) (r : Result Tree ValueFault) → Fits t → Good r t → GoodAll (MayHold variant) (only_one r)
-held_good t (Ok v) fits h = (subst Fits (sym h.0) fits, (h.1, tt))
+held_good : (t : Ty) (r : Result Tree ValueFault) → IsWithinLimits t → Good r t → GoodAll (MayHold variant) (only_one r)
+held_good t (Ok v) fits h = (subst IsWithinLimits (sym h.0) fits, (h.1, tt))
 held_good t (Err e) fits h = tt
 
 variant_good : (r : Result Trees ValueFault) → GoodAll (MayHold variant) r → (t : Ty) → t ≡ variant → Good (at_variant r t) t
@@ -211,7 +208,7 @@ abbrev mutual
   IsGood choose (tuple_of xs) = AreGood choose xs
   IsGood choose (dictionary ps) = PairsGood choose ps
   IsGood choose (lone k v) = IsGood choose k × IsGood choose v
-  IsGood choose (boxed x) = IsGood choose x × ((t : Ty) → choose x ≡ is t → Fits t)
+  IsGood choose (boxed x) = IsGood choose x × ((t : Ty) → choose x ≡ is t → IsWithinLimits t)
   IsGood choose (just x) = IsGood choose x
   IsGood choose nothing = Unit {0}
   IsGood choose (at_type t x) = IsGood choose x
@@ -225,7 +222,7 @@ abbrev mutual
   PairsGood choose no_pair = Unit {0}
   PairsGood choose (pair k v ps) = IsGood choose k × IsGood choose v × PairsGood choose ps
 
-chosen_good : (choose : Syntax → Choice) → ((x : Syntax) → Chooses x (choose x)) → (x : Syntax) → ((t : Ty) → choose x ≡ is t → Fits t) →
+chosen_good : (choose : Syntax → Choice) → ((x : Syntax) → Chooses x (choose x)) → (x : Syntax) → ((t : Ty) → choose x ≡ is t → IsWithinLimits t) →
     ((t : Ty) → Admits x t → Good (literal_value choose x t) t) → (c : Choice) → choose x ≡ c → GoodAll (MayHold variant) (only_one (chosen_or (literal_value choose x) c))
 chosen_good choose right x fits h (is t) e = held_good t (literal_value choose x t) (fits t e) (h t (subst (Chooses x) e (right x)).among.admits)
 chosen_good choose right x fits h no_common_type e = tt
@@ -307,7 +304,7 @@ within_good t (Ok u) v h g =
     (λ e. absurd (no_value too_deep v (rw e at g)))
 
 -- the value of good syntax whose type is within the limits is whole
-pub good_is_whole : (x : Syntax) (v : Tree) → IsGood choice x → ((t : Ty) → choice x ≡ is t → Fits t) → Gives (value_of x) v → IsWhole v
+pub good_is_whole : (x : Syntax) (v : Tree) → IsGood choice x → ((t : Ty) → choice x ≡ is t → IsWithinLimits t) → Gives (value_of x) v → IsWhole v
 unfolding value_of type_of_syntax
 good_is_whole x v h fits g = go (type_of_syntax x) refl g
   where
@@ -315,6 +312,6 @@ good_is_whole x v h fits g = go (type_of_syntax x) refl g
     go (is t) same g =
         let ends = last_is choice (contents x) (choice x) t same in
         let good = within_good t (literal_value choice x t) v (value_good choice choice_right x t (admitted x t ends.0) h) g in
-        (good.1, subst Fits (sym good.0) (fits t ends.0))
+        (good.1, subst IsWithinLimits (sym good.0) (fits t ends.0))
     go no_common_type same g = absurd (no_value no_common v g)
     go ambiguous same g = absurd (no_value not_clear v g)

@@ -6,8 +6,7 @@ use Rattle.std.specs.List.{list_any, AllByRecursion}
 use Rattle.std.specs.Option.{option_or}
 use Rattle.std.specs.Str.{bytes_eq}
 use Rattle.std.specs.FinMap.{get}
-use Rattle.gv_model.specs.Ty.{spelling}
-use Rattle.gv_model.specs.TypeText.{is_within_limits}
+use Rattle.gv_model.specs.TypeText.{IsWithinLimits}
 use Rattle.gv_model.specs.Typed.{IsValue}
 use Rattle.gv_model.specs.Tree.{Tree, type_of}
 use Rattle.dconf_model.specs.Paths.{is_key_path, is_directory_path}
@@ -79,7 +78,7 @@ is_given databases path = list_any (λ g. is_some (last_value g.values path)) da
 
 -- a value of its type, with a type text within the limits: each owned tree is
 abbrev pub IsWhole : Tree → Type 0
-IsWhole v = IsValue v × (is_within_limits (type_of v) (spelling (type_of v)) ≡ true)
+IsWhole v = IsValue v × IsWithinLimits (type_of v)
 
 -- keyfiles and lock files, what they give, and a file that was compiled of them
 pub record Compilation : Type 0 where

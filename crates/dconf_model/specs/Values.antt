@@ -1,8 +1,8 @@
 -- The value of a text, and the bytes that are stored for a value.
 -- GLib, "GVariant Text Format"; gvdb-format.h, where a value is stored as a variant that holds it.
-use Rattle.std.specs.Prelude.{◌≡◌, ◌⊎◌, ℕ, List, length, slice_get, Option, Some, None, Result, Ok, Err, Bool, true, nat_lt, nat_le, ◌&&◌, if◌then◌else◌}
-use Rattle.gv_model.specs.Ty.{Ty, spelling}
-use Rattle.gv_model.specs.TypeText.{is_within_limits}
+use Rattle.std.specs.Prelude.{◌≡◌, ◌⊎◌, ℕ, List, length, slice_get, Option, Some, None, Result, Ok, Err, Bool, nat_lt, nat_le, ◌&&◌, if◌then◌else◌}
+use Rattle.gv_model.specs.Ty.{Ty}
+use Rattle.gv_model.specs.TypeText.{IsWithinLimits}
 use Rattle.gv_model.specs.Typed.{IsValue}
 use Rattle.gv_model.specs.Ty.Ty.{variant}
 use Rattle.gv_model.specs.Tree.{Tree, type_of, depth, children, tree_at}
@@ -89,4 +89,4 @@ if_storable (Err c) = Err c
 
 -- what is stored comes back
 abbrev pub StoredIsHeld : Type 0
-StoredIsHeld = (v : Tree) → IsValue v → is_within_limits (type_of v) (spelling (type_of v)) ≡ true → held (stored v) ≡ Some v
+StoredIsHeld = (v : Tree) → IsValue v → IsWithinLimits (type_of v) → held (stored v) ≡ Some v

@@ -1,7 +1,7 @@
 -- What building a value gives: the tree, nothing where that is too deep, or the first fault.
-use Rattle.std.specs.Prelude.{◌≡◌, ◌<◌, ◌≤◌, true, Option, Some, None, Result, Ok, Err}
-use Rattle.gv_model.specs.Ty.{Ty, spelling}
-use Rattle.gv_model.specs.TypeText.{is_within_limits}
+use Rattle.std.specs.Prelude.{◌≡◌, ◌<◌, ◌≤◌, Option, Some, None, Result, Ok, Err}
+use Rattle.gv_model.specs.Ty.{Ty}
+pub use Rattle.gv_model.specs.TypeText.{IsWithinLimits}
 use Rattle.gv_model.specs.Tree.{Tree, type_of, depth}
 use Rattle.gv_model.specs.Ty.Ty.{basic, entry}
 use Rattle.gv_model.specs.Tree.Tree.{node}
@@ -20,10 +20,6 @@ BuildsTo None v = 128 < depth v
 abbrev pub IsBuilt : Result Tree TheFault → Result (Option Tree) ValueFault → Type 0
 IsBuilt v (Ok built) = (t : Tree) × (v ≡ Ok t) × BuildsTo built t
 IsBuilt v (Err e) = FaultIs (λ f. v ≡ Err f) e
-
--- a type within the limits of type texts
-abbrev pub IsWithinLimits : Ty → Type 0
-IsWithinLimits t = is_within_limits t (spelling t) ≡ true
 
 -- the faults of a container of a type within the limits
 abbrev pub IsContainerFault : TreeFault → Type 0

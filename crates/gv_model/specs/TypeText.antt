@@ -3,8 +3,8 @@
 --
 -- A text is read from its end: each byte turns the types and closing brackets that come after it into
 -- those that come from it on.
-use Rattle.std.specs.Prelude.{ℕ, List, [], ◌∷◌, length, Option, Some, None, nat_le, ◌==◌, ◌&&◌, Bool, if◌then◌else◌, option_and_then, is_some, unwrap_or}
-use Rattle.gv_model.specs.Ty.{Ty, Basic, nesting}
+use Rattle.std.specs.Prelude.{◌≡◌, ℕ, true, List, [], ◌∷◌, length, Option, Some, None, nat_le, ◌==◌, ◌&&◌, Bool, if◌then◌else◌, option_and_then, is_some, unwrap_or}
+use Rattle.gv_model.specs.Ty.{Ty, Basic, nesting, spelling}
 use Rattle.gv_model.specs.Ty.Ty.{basic, variant, array, maybe, tuple, entry}
 use Rattle.gv_model.specs.Ty.Types.{end, member}
 use Rattle.gv_model.specs.Ty.Basic.{boolean, byte, int16, uint16, int32, uint32, int64, uint64, handle, double, string, path, signature}
@@ -85,6 +85,10 @@ one_type _ = None
 -- a type nests at most 128 deep, and its text has at most 67,108,864 bytes
 abbrev pub is_within_limits : Ty → List ℕ → Bool
 is_within_limits t text = nat_le (nesting t) 128 && nat_le (length text) 67108864
+
+-- the text is the type's own
+abbrev pub IsWithinLimits : Ty → Type 0
+IsWithinLimits t = is_within_limits t (spelling t) ≡ true
 
 -- the type that a text spells
 unfoldable pub type_of_text : List ℕ → Option Ty

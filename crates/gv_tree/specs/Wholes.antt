@@ -1,8 +1,8 @@
 -- What holds of each tree.
-use Rattle.std.specs.Prelude.{◌≡◌, ◌≤◌, Option, Some, None, true}
-use Rattle.gv_model.specs.Ty.{Ty, spelling}
+use Rattle.std.specs.Prelude.{◌≡◌, ◌≤◌, Option, Some, None}
+use Rattle.gv_model.specs.Ty.{Ty}
 use Rattle.gv_model.specs.Ty.Ty.{basic, entry}
-use Rattle.gv_model.specs.TypeText.{is_within_limits}
+use Rattle.gv_model.specs.TypeText.{IsWithinLimits}
 use Rattle.gv_model.specs.Tree.{Tree, type_of, depth}
 use Rattle.gv_model.specs.Tree.Tree.{node}
 use Rattle.gv_model.specs.Tree.Trees.{none, first}
@@ -12,7 +12,7 @@ use Rattle.gv_model.specs.Typed.{IsValue}
 pub record IsWhole (v : Tree) : Type 0 where
   pub value : IsValue v
   pub levels : depth v ≤ 128
-  pub limits : is_within_limits (type_of v) (spelling (type_of v)) ≡ true
+  pub limits : IsWithinLimits (type_of v)
 
 -- the entry of a key of this type, which may be basic
 abbrev pub entry_at_key : Ty → Tree → Tree → Option Tree
