@@ -63,6 +63,7 @@ pub mod ListingOrder
 pub mod WorkedStore
 pub mod WholeValues
 pub mod OrderLaws
+pub mod OneSortedList
 pub mod Trimmed
 pub mod EndedLines
 pub mod KeyfileLines

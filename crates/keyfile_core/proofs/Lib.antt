@@ -2,3 +2,5 @@ pub mod Trims
 pub mod GroupParts
 pub mod LineParts
 pub mod ReadingLaws
+pub mod DumpParts
+pub mod DumpTexts

@@ -1,7 +1,7 @@
 //! Groups of a keyfile: `/`, or the parts of a directory's path with a slash between, without brackets and control characters.
 ghost use Rattle.std.specs.Prelude.{◌≡◌, ◌∷◌, ◌&&◌, ◌||◌, ◌==◌, not, option_map};
 ghost use Rattle.dconf_model.specs.Paths.{has_two_slashes};
-ghost use Rattle.dconf_model.specs.Keyfiles.{group_in, has_slash_end, is_control, is_group, is_plain};
+ghost use Rattle.dconf_model.specs.Keyfiles.{group_in, group_name, has_slash_end, is_control, is_group, is_plain};
 
 /// The group that a line in brackets names, from what follows its first bracket.
 pub(crate) fn group_in(rest: &str) -> Option<&str>
@@ -9,6 +9,13 @@ pub(crate) fn group_in(rest: &str) -> Option<&str>
 {
     let group = rest.strip_suffix("]")?;
     if is_group(group) { Some(group) } else { None }
+}
+
+/// The group of the keys in a part of a path: `/` for the directory itself.
+pub(crate) fn group_name(part: &str) -> &str
+    ensures { result.now ≡ group_name part.now }
+{
+    if part.is_empty() { "/" } else { part }
 }
 
 /// Whether a text is a group.

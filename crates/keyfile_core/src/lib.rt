@@ -6,11 +6,14 @@
 #![tactic(auto)]
 
 mod blanks;
+mod dump_row;
 mod fault;
 mod groups;
 mod keys;
 mod lines;
 mod rows;
+mod writing;
 
-pub use fault::{KeyfileCause, KeyfileFault};
+pub use fault::{KeyfileCause, KeyfileFault, RowsCause, RowsFault};
 pub use rows::{MAX_KEYFILE_LEN, Row, read};
+pub use writing::write_rows;

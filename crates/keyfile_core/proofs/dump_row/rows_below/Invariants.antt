@@ -1,0 +1,10 @@
+use Rattle.std.proofs.Common.{◌≡◌, map, take, drop}
+use Rattle.dconf_model.specs.Keyfiles.{first_row_fault}
+use Rattle.keyfile_core.specs.DumpRows.{dump_meant, row_below}
+use Rattle.keyfile_core.proofs.dump_row.rows_below.Given as goal
+
+abbrev pub invariant-loop-at : goal.invariant-loop-at
+invariant-loop-at l = record {
+  rows : map dump_meant l.rows.items ≡ map (row_below l.directory) (take l.at l.settings);
+  faultless : first_row_fault 0 (map (row_below l.directory) l.settings) ≡ first_row_fault l.at (map (row_below l.directory) (drop l.at l.settings));
+}

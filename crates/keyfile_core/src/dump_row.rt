@@ -1,0 +1,93 @@
+//! A row of a dump: a setting's path below the directory, cut at its last slash.
+ghost use Rattle.std.specs.Prelude.{◌≡◌, IfOk, IfErr, None, IsTrue, map, option_map, length, take, drop, ◌-◌, nat_eq};
+ghost use Rattle.std.specs.List.{starts_with};
+ghost use Rattle.dconf_model.specs.Keyfiles.{first_row_fault, key_len};
+
+use crate::fault::{RowsCause, RowsFault};
+use crate::groups::{group_name, is_group};
+use crate::keys::is_readable_key;
+use dconf_path::KeyPath;
+use memchr::memrchr;
+use std::alloc::Global;
+
+/// A row of a dump.
+#[derive(Clone, Copy)]
+pub(crate) struct DumpRow<'a> {
+    /// The path below the directory up to its last slash, without it; empty for a key of the directory itself.
+    pub part: &'a str,
+    pub key: &'a str,
+    pub text: &'a str,
+}
+
+impl<'a> DumpRow<'a> {
+    ghost use Rattle.dconf_model.specs.Keyfiles.{row_fault};
+    ghost use Rattle.keyfile_core.specs.DumpRows.{dump_meant};
+    ghost use Rattle.keyfile_core.specs.RowsFaults.{rows_cause_of};
+
+    /// The row of a path below the directory and a value's text.
+    fn new(path: &'a str, text: &'a str) -> DumpRow<'a>
+        ensures part { result.part.now ≡ take (length path.entry.now - key_len path.entry.now - 1) path.entry.now }
+        ensures key { result.key.now ≡ drop (length path.entry.now - key_len path.entry.now) path.entry.now }
+        ensures text { result.text.now ≡ text.entry.now }
+    {
+        match memrchr(b'/', path.as_bytes()) {
+            Some(slash) => DumpRow {
+                part: &path[..slash],
+                key: &path[slash + 1..],
+                text,
+            },
+            None => DumpRow {
+                part: "",
+                key: path,
+                text,
+            },
+        }
+    }
+
+    /// Why the row could not be read again.
+    fn fault(self) -> Option<RowsCause>
+        ensures { option_map rows_cause_of result ≡ row_fault (dump_meant self.entry) }
+    {
+        if !is_group(group_name(self.part)) {
+            return Some(RowsCause::BadGroup);
+        }
+        if !is_readable_key(self.key) {
+            return Some(RowsCause::BadKeyName);
+        }
+        None
+    }
+}
+
+ghost use Rattle.keyfile_core.specs.DumpRows.{AreBelow, dump_meant, row_below};
+ghost use Rattle.keyfile_core.specs.RowsFaults.{IsRowFault};
+
+/// The rows of settings below a directory, unless one could not be read again.
+pub(crate) fn rows_below<'a>(
+    alloc: Global,
+    settings: &'a [(KeyPath<'a>, String)],
+    directory: &str,
+) -> Result<Vec<DumpRow<'a>>, RowsFault>
+    requires { AreBelow directory.now settings.now }
+    ensures rows { IfOk result (λ rows. map dump_meant rows.items ≡ map (row_below directory.entry.now) settings.entry.now) }
+    ensures faultless { IfOk result (λ rows. first_row_fault 0 (map (row_below directory.entry.now) settings.entry.now) ≡ None) }
+    ensures fault { IfErr result (IsRowFault (first_row_fault 0 (map (row_below directory.entry.now) settings.entry.now))) }
+{
+    let mut rows = Vec::new(alloc);
+    for (at, (path, text)) in settings.iter().enumerate() {
+        let path = path_below(path.as_str(), directory);
+        let row = DumpRow::new(path, text.as_str());
+        if let Some(cause) = row.fault() {
+            return Err(RowsFault::at(at, cause));
+        }
+        rows.push(row)?;
+    }
+    Ok(rows)
+}
+
+/// What follows the directory in a path below it.
+fn path_below<'a>(path: &'a str, directory: &str) -> &'a str
+    requires { IsTrue (starts_with nat_eq path.now directory.now) }
+    ensures { result.now ≡ drop (length directory.entry.now) path.entry.now }
+{
+    path.strip_prefix(directory).unwrap()
+}
