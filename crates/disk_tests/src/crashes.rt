@@ -1,4 +1,5 @@
 //! A crash after each call of a replacement, in all its outcomes, and the outcomes of small folders.
+use crate::seen::{holds, is_missing};
 use dconf_disk::{Folder, MemoryFolder, replace};
 use std::alloc::Global;
 use std::test::Fail;
@@ -31,14 +32,6 @@ fn stopped_after(alloc: Global, calls: usize) -> MemoryFolder {
     }
 }
 
-fn holds(alloc: Global, folder: &mut MemoryFolder, name: &str, bytes: &[u8]) -> bool {
-    match folder.read(alloc, name) {
-        Ok(Some(found)) => found.as_slice() == bytes,
-        Ok(None) => false,
-        Err(_) => false,
-    }
-}
-
 #[test]
 fn a_stopped_replacement_leaves_a_whole_file(rt: HostRuntime) -> Result<(), Fail> {
     let alloc = rt.alloc();
@@ -57,22 +50,6 @@ fn a_stopped_replacement_leaves_a_whole_file(rt: HostRuntime) -> Result<(), Fail
         // Up to the sync of the new file it is the old one; once the folder is synced, the new one; in between, either.
         assert_eq!(rt; may_be_old, calls < 5);
         assert_eq!(rt; may_be_new, calls > 3);
-    }
-    Ok(())
-}
-
-#[test]
-fn a_crash_settles_what_it_leaves(rt: HostRuntime) -> Result<(), Fail> {
-    let alloc = rt.alloc();
-    for outcome in 0..OUTCOMES {
-        let mut folder = stopped_after(alloc, 4);
-        assert!(rt; folder.crash(outcome).is_ok());
-        let is_new = holds(alloc, &mut folder, NAME, b"new");
-        for other in 0..5 {
-            assert!(rt; folder.crash(other).is_ok());
-            assert_eq!(rt; holds(alloc, &mut folder, NAME, b"new"), is_new);
-        }
-        assert_eq!(rt; folder.failures(), 0);
     }
     Ok(())
 }
@@ -124,7 +101,7 @@ fn a_file_that_no_sync_of_the_folder_saw_may_be_gone(rt: HostRuntime) -> Result<
         let made = folder.create("a").is_ok() && folder.append("a", b"x").is_ok();
         assert!(rt; made && folder.sync("a").is_ok());
         assert!(rt; folder.crash(outcome).is_ok());
-        let is_gone = matches!(folder.read(alloc, "a"), Ok(None));
+        let is_gone = is_missing(alloc, &mut folder, "a");
         let is_there = holds(alloc, &mut folder, "a", b"x");
         assert!(rt; is_gone != is_there);
         may_be_gone |= is_gone;

@@ -1,5 +1,6 @@
 //! The host's folder: files of some size, none, empty ones, and what is no file.
-use dconf_disk::{Folder, FolderFault, StdFolder, replace};
+use crate::seen::{cannot_be_read, holds, is_device, is_missing};
+use dconf_disk::{Folder, StdFolder, replace};
 use std::fs;
 use std::test::Fail;
 
@@ -17,12 +18,10 @@ fn reads_what_it_replaced(rt: HostRuntime) -> Result<(), Fail> {
     }
     assert!(rt; replace(alloc, &mut folder, name, b"old").is_ok());
     assert!(rt; replace(alloc, &mut folder, name, &bytes).is_ok());
-    assert!(rt;
-        matches!(folder.read(alloc, name), Ok(Some(found)) if found.as_slice() == bytes.as_slice())
-    );
-    assert!(rt; matches!(folder.read(alloc, "disk_tests_replaced.new"), Ok(None)));
+    assert!(rt; holds(alloc, &mut folder, name, &bytes));
+    assert!(rt; is_missing(alloc, &mut folder, "disk_tests_replaced.new"));
     assert!(rt; replace(alloc, &mut folder, name, b"").is_ok());
-    assert!(rt; matches!(folder.read(alloc, name), Ok(Some(found)) if found.is_empty()));
+    assert!(rt; holds(alloc, &mut folder, name, b""));
     assert_eq!(rt; folder.failures(), 0);
     fs::remove_file(&rt, name)?;
     Ok(())
@@ -31,26 +30,22 @@ fn reads_what_it_replaced(rt: HostRuntime) -> Result<(), Fail> {
 #[test]
 fn appends_and_renames(rt: HostRuntime) -> Result<(), Fail> {
     let alloc = rt.alloc();
+    let first = "disk_tests_first";
+    let second = "disk_tests_folder/second";
     let mut folder = StdFolder::new(rt);
-    assert!(rt; folder.create("disk_tests_first").is_ok());
-    assert!(rt; folder.append("disk_tests_first", b"one ").is_ok());
-    assert!(rt; folder.append("disk_tests_first", b"two").is_ok());
-    assert!(rt; folder.sync("disk_tests_first").is_ok());
-    assert!(rt;
-        folder
-            .rename("disk_tests_first", "./disk_tests_second")
-            .is_ok()
-    );
+    fs::create_dir(&rt, "disk_tests_folder")?;
+    assert!(rt; folder.create(first).is_ok());
+    assert!(rt; folder.append(first, b"one ").is_ok());
+    assert!(rt; folder.append(first, b"two").is_ok());
+    assert!(rt; folder.sync(first).is_ok());
+    assert!(rt; folder.rename(first, second).is_ok());
     assert!(rt; folder.sync_folder().is_ok());
-    assert!(rt; matches!(folder.read(alloc, "disk_tests_first"), Ok(None)));
-    assert!(rt;
-        matches!(folder.read(alloc, "disk_tests_second"), Ok(Some(found)) if found.as_slice() == b"one two".as_slice())
-    );
-    assert!(rt; folder.create("disk_tests_second").is_ok());
-    assert!(rt;
-        matches!(folder.read(alloc, "disk_tests_second"), Ok(Some(found)) if found.is_empty())
-    );
-    fs::remove_file(&rt, "disk_tests_second")?;
+    assert!(rt; is_missing(alloc, &mut folder, first));
+    assert!(rt; holds(alloc, &mut folder, second, b"one two"));
+    assert!(rt; folder.create(second).is_ok());
+    assert!(rt; holds(alloc, &mut folder, second, b""));
+    fs::remove_file(&rt, second)?;
+    fs::remove_dir(&rt, "disk_tests_folder")?;
     Ok(())
 }
 
@@ -63,47 +58,37 @@ fn a_new_file_leaves_the_old_ones_bytes(rt: HostRuntime) -> Result<(), Fail> {
     assert!(rt; folder.append("disk_tests_linked", b"old").is_ok());
     fs::hard_link(&rt, "disk_tests_linked", "disk_tests_linked.new")?;
     assert!(rt; folder.create("disk_tests_linked.new").is_ok());
-    assert!(rt;
-        matches!(folder.read(alloc, "disk_tests_linked"), Ok(Some(found)) if found.as_slice() == b"old".as_slice())
-    );
+    assert!(rt; holds(alloc, &mut folder, "disk_tests_linked", b"old"));
     fs::remove_file(&rt, "disk_tests_linked")?;
     fs::remove_file(&rt, "disk_tests_linked.new")?;
     Ok(())
 }
 
 #[test]
-fn counts_what_fails(rt: HostRuntime) -> Result<(), Fail> {
+fn reads_what_is_no_file(rt: HostRuntime) -> Result<(), Fail> {
     let alloc = rt.alloc();
     let mut folder = StdFolder::new(rt);
-    assert!(rt; matches!(folder.read(alloc, "/no/such/file"), Ok(None)));
-    assert!(rt; matches!(folder.read(alloc, "/dev/null"), Ok(Some(bytes)) if bytes.is_empty()));
-    assert!(rt;
-        matches!(folder.read(alloc, "/proc/self/comm"), Ok(Some(bytes)) if !bytes.is_empty())
-    );
+    assert!(rt; is_missing(alloc, &mut folder, "/no/such/file"));
+    assert!(rt; holds(alloc, &mut folder, "/dev/null", b""));
+    // A file that says that it is empty, and isn't.
+    let odd = "/proc/self/comm";
+    assert!(rt; !is_missing(alloc, &mut folder, odd) && !holds(alloc, &mut folder, odd, b""));
     assert_eq!(rt; folder.failures(), 0);
     // A folder opens, and its reading fails. A path through a plain file does not open.
-    assert!(rt; matches!(folder.read(alloc, "/"), Err(FolderFault::Device)));
-    assert!(rt;
-        matches!(
-            folder.read(alloc, "/proc/self/comm/x"),
-            Err(FolderFault::Device)
-        )
-    );
+    assert!(rt; cannot_be_read(alloc, &mut folder, "/"));
+    assert!(rt; cannot_be_read(alloc, &mut folder, "/proc/self/comm/x"));
     assert_eq!(rt; folder.failures(), 2);
-    assert!(rt;
-        matches!(
-            folder.append("/no/such/file", b"x"),
-            Err(FolderFault::Device)
-        )
-    );
-    assert!(rt; matches!(folder.sync("/no/such/file"), Err(FolderFault::Device)));
-    assert!(rt;
-        matches!(
-            folder.rename("/no/such/file", "disk_tests_no"),
-            Err(FolderFault::Device)
-        )
-    );
-    assert!(rt; matches!(folder.create("/no/such/file"), Err(FolderFault::Device)));
-    assert_eq!(rt; folder.failures(), 6);
+    Ok(())
+}
+
+#[test]
+fn counts_what_fails(rt: HostRuntime) -> Result<(), Fail> {
+    let name = "/no/such/file";
+    let mut folder = StdFolder::new(rt);
+    assert!(rt; is_device(folder.append(name, b"x")));
+    assert!(rt; is_device(folder.sync(name)));
+    assert!(rt; is_device(folder.rename(name, "disk_tests_no")));
+    assert!(rt; is_device(folder.create(name)));
+    assert_eq!(rt; folder.failures(), 4);
     Ok(())
 }

@@ -7,3 +7,5 @@ mod crashes;
 mod failures;
 #[cfg(test)]
 mod host;
+#[cfg(test)]
+mod seen;
