@@ -1,7 +1,10 @@
-use Rattle.std.proofs.Common.{sym}
+use Rattle.std.proofs.Common.{rules, sym}
 use Rattle.std.proofs.lemmas.Str.Pattern.{starts_text}
 use Rattle.dconf_path.proofs.Covering.{directory_covers}
 use Rattle.dconf_path.proofs.lock_path.LockPath.covers.Goals as goal
+
+pub returns-in-Key : goal.returns-in-Key
+returns-in-Key c = search rules
 
 pub returns-in-Directory : goal.returns-in-Directory
 returns-in-Directory c =
