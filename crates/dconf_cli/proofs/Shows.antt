@@ -13,12 +13,7 @@ use Rattle.gv_text.specs.declared.printing.PrintFault.{PrintFault}
 use Rattle.gv_text.specs.declared.printing.PrintFault.TheVariants.{TooLarge, DoubleText, Memory}
 use Rattle.gv_text.specs.PrintFaults.{print_fault_name}
 use Rattle.gv_text.specs.Printing.{IsUnprintable}
-use Rattle.dconf_model.specs.Opening.{OpenFault}
-use Rattle.dconf_model.specs.Opening.OpenFault.{short, bad_signature, bad_version, bad_root, bad_table}
-use Rattle.gvdb_read.specs.Faults.{open_fault_text as open_text}
-use Rattle.gvdb_read.specs.Unsounds.{item_text as item_words}
 use Rattle.gv_model.specs.FaultTexts.{type_fault_text}
-use Rattle.dconf_model.specs.FaultTexts.{item_text, open_fault_text}
 use Rattle.dconf_model.specs.Folders.{Event}
 use Rattle.dconf_model.specs.Commands.Command.{show}
 use Rattle.dconf_model.specs.Databases.{IsVerdict, Verdict}
@@ -86,17 +81,6 @@ module _ {F : Type 0} (past : F → List Event → Type 0) (failures : F → ℕ
 
 pub checks_as : (bytes : List ℕ) (answer : Answer) (v : Verdict) → IsVerdict bytes v → Answers answer (λ o. o ≡ check_output v) → Answers answer (Checks bytes)
 checks_as bytes answer v is h = answers_also answer (λ o. o ≡ check_output v) (Checks bytes) (λ o e. (v, is, e)) h
-
-pub open_text_is : (f : OpenFault) → open_text f ≡ open_fault_text f
-open_text_is short = refl
-open_text_is bad_signature = refl
-open_text_is bad_version = refl
-open_text_is bad_root = refl
-open_text_is bad_table = refl
-
-pub item_text_is : (item : Option ℕ) → item_words item ≡ item_text item
-item_text_is None = refl
-item_text_is (Some i) = refl
 
 -- ---- the value that `show` prints
 
