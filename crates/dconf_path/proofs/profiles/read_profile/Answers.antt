@@ -15,8 +15,11 @@ pub returns-in_err-database-clause-fault : goal.returns-in_err-database-clause-f
 returns-in_err-database-clause-fault c =
     let p = err_from_is_err_and c.from_residual.result c.from_residual.ensures.1 in
     let fault = c.in_err-database.ensures.fault in
-    let road = numbered_parts c.args.text.now c.split.result c.enumerate-before-items.result c.into_iter-before-iterator.result c.split.ensures.text c.split.ensures.has_more c.split.ensures.pattern c.enumerate-before-items.ensures.source c.enumerate-before-items.ensures.count c.into_iter-before-iterator.ensures.into_iter_gives in
-    let part = part_yielded (parts_of c.args.text.now) (length c.loop-before.yielded) c.in-Some.before c.in-Some.line.now (YieldsList-turn road c.loop-before.yielded _ c.loop-before.yielded_by _ _ (c.in-Some.before, c.in-Some.line) c.in-Some.is c.next.ensures.steps) in
+    let road = numbered_parts c.args.text.now c.split.result c.enumerate-before-items.result c.into_iter-before-iterator.result
+    c.split.ensures.text c.split.ensures.has_more c.split.ensures.pattern c.enumerate-before-items.ensures.source
+    c.enumerate-before-items.ensures.count c.into_iter-before-iterator.ensures.into_iter_gives in
+    let part = part_yielded (parts_of c.args.text.now) (length c.loop-before.yielded) c.in-Some.before c.in-Some.line.now
+    (YieldsList-turn road c.loop-before.yielded _ c.loop-before.yielded_by _ _ (c.in-Some.before, c.in-Some.line) c.in-Some.is c.next.ensures.steps) in
     let earlier = take (length c.loop-before.yielded) (parts_of c.args.text.now) in
     let same = line_is earlier (get_or (parts_of c.args.text.now) (length c.loop-before.yielded) []) c.in-Some.line.now c.entry_of.result.now c.len.result part.is c.entry_of.ensures (c.len.ensures ∙ sym c.loop-before.invariant.1) in
     rw (p.1, p.2, fault.same, part.numbered) (read_parts profile_line empty_profile_line c.args.text.now
@@ -24,8 +27,11 @@ returns-in_err-database-clause-fault c =
 
 pub loop-before-preserved-in-Continue-branch-3 : goal.loop-before-preserved-in-Continue-branch-3
 loop-before-preserved-in-Continue-branch-3 c =
-    let road = numbered_parts c.args.text.now c.split.result c.enumerate-before-items.result c.into_iter-before-iterator.result c.split.ensures.text c.split.ensures.has_more c.split.ensures.pattern c.enumerate-before-items.ensures.source c.enumerate-before-items.ensures.count c.into_iter-before-iterator.ensures.into_iter_gives in
-    let part = part_yielded (parts_of c.args.text.now) (length c.loop-before.yielded) c.in-Some.before c.in-Some.line.now (YieldsList-turn road c.loop-before.yielded _ c.loop-before.yielded_by _ _ (c.in-Some.before, c.in-Some.line) c.in-Some.is c.next.ensures.steps) in
+    let road = numbered_parts c.args.text.now c.split.result c.enumerate-before-items.result c.into_iter-before-iterator.result
+    c.split.ensures.text c.split.ensures.has_more c.split.ensures.pattern c.enumerate-before-items.ensures.source
+    c.enumerate-before-items.ensures.count c.into_iter-before-iterator.ensures.into_iter_gives in
+    let part = part_yielded (parts_of c.args.text.now) (length c.loop-before.yielded) c.in-Some.before c.in-Some.line.now
+    (YieldsList-turn road c.loop-before.yielded _ c.loop-before.yielded_by _ _ (c.in-Some.before, c.in-Some.line) c.in-Some.is c.next.ensures.steps) in
     let earlier = take (length c.loop-before.yielded) (parts_of c.args.text.now) in
     let same = line_is earlier (get_or (parts_of c.args.text.now) (length c.loop-before.yielded) []) c.in-Some.line.now c.entry_of.result.now c.len.result part.is c.entry_of.ensures (c.len.ensures ∙ sym c.loop-before.invariant.1) in
     let says = says_more (parts_of c.args.text.now) (length c.loop-before.yielded) c.in-Some.line.now c.entry_of.result.now part.inside part.is c.entry_of.ensures (ap is_some (sym c.in-Some-2.is) ∙ c.in_ok-database.ensures.says) in
@@ -36,8 +42,11 @@ loop-before-preserved-in-Continue-branch-3 c =
 
 pub loop-before-preserved : goal.loop-before-preserved
 loop-before-preserved c =
-    let road = numbered_parts c.args.text.now c.split.result c.enumerate-before-items.result c.into_iter-before-iterator.result c.split.ensures.text c.split.ensures.has_more c.split.ensures.pattern c.enumerate-before-items.ensures.source c.enumerate-before-items.ensures.count c.into_iter-before-iterator.ensures.into_iter_gives in
-    let part = part_yielded (parts_of c.args.text.now) (length c.loop-before.yielded) c.in-Some.before c.in-Some.line.now (YieldsList-turn road c.loop-before.yielded _ c.loop-before.yielded_by _ _ (c.in-Some.before, c.in-Some.line) c.in-Some.is c.next.ensures.steps) in
+    let road = numbered_parts c.args.text.now c.split.result c.enumerate-before-items.result c.into_iter-before-iterator.result
+    c.split.ensures.text c.split.ensures.has_more c.split.ensures.pattern c.enumerate-before-items.ensures.source
+    c.enumerate-before-items.ensures.count c.into_iter-before-iterator.ensures.into_iter_gives in
+    let part = part_yielded (parts_of c.args.text.now) (length c.loop-before.yielded) c.in-Some.before c.in-Some.line.now
+    (YieldsList-turn road c.loop-before.yielded _ c.loop-before.yielded_by _ _ (c.in-Some.before, c.in-Some.line) c.in-Some.is c.next.ensures.steps) in
     let earlier = take (length c.loop-before.yielded) (parts_of c.args.text.now) in
     let same = line_is earlier (get_or (parts_of c.args.text.now) (length c.loop-before.yielded) []) c.in-Some.line.now c.entry_of.result.now c.len.result part.is c.entry_of.ensures (c.len.ensures ∙ sym c.loop-before.invariant.1) in
     let tells = ap is_some (sym c.in_default.is) ∙ c.in_ok-database.ensures.says in
@@ -49,7 +58,9 @@ loop-before-preserved c =
 
 pub returns-clause-found : goal.returns-clause-found
 returns-clause-found c =
-    let road = numbered_parts c.args.text.now c.split.result c.enumerate-before-items.result c.into_iter-before-iterator.result c.split.ensures.text c.split.ensures.has_more c.split.ensures.pattern c.enumerate-before-items.ensures.source c.enumerate-before-items.ensures.count c.into_iter-before-iterator.ensures.into_iter_gives in
+    let road = numbered_parts c.args.text.now c.split.result c.enumerate-before-items.result c.into_iter-before-iterator.result
+    c.split.ensures.text c.split.ensures.has_more c.split.ensures.pattern c.enumerate-before-items.ensures.source
+    c.enumerate-before-items.ensures.count c.into_iter-before-iterator.ensures.into_iter_gives in
     let end = YieldsList-end road c.loop-before.yielded _ c.loop-before.yielded_by _ _ c.in-None.is c.next.ensures.steps in
     let all : length c.loop-before.yielded ≡ length (parts_of c.args.text.now) = end.1 ∙ length-enumerate_from 0 (parts_of c.args.text.now) in
     read_parts profile_line empty_profile_line c.args.text.now ∙ read_all profile_line (parts_of c.args.text.now) _ _ all c.loop-before.invariant.0
