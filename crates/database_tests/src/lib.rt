@@ -8,6 +8,8 @@ mod faults;
 #[cfg(test)]
 mod finding;
 #[cfg(test)]
+mod keyfiles;
+#[cfg(test)]
 mod maps;
 #[cfg(test)]
 mod opening;

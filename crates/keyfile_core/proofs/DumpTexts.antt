@@ -7,8 +7,8 @@ use Rattle.dconf_model.specs.Keyfiles.{DumpRow, dump_row, dumped, dumped_or, fir
 use Rattle.dconf_path.specs.declared.path.KeyPath.{KeyPath}
 use Rattle.keyfile_core.specs.DumpRows.{row_below, setting_of}
 use Rattle.keyfile_core.specs.RowsFaults.{IsRowFault, IsRowsFaultIn}
-use Rattle.keyfile_core.specs.declared.fault.RowsFault.{RowsFault}
-use Rattle.keyfile_core.specs.declared.fault.RowsFault.TheVariants.{Refused, Memory}
+use Rattle.keyfile_core.specs.declared.rows_fault.RowsFault.{RowsFault}
+use Rattle.keyfile_core.specs.declared.rows_fault.RowsFault.TheVariants.{Refused, Memory}
 
 module _ (directory : List ℕ) (settings : List (KeyPath × String Global)) where
   abbrev below : List DumpRow

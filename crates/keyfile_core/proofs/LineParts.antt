@@ -2,9 +2,9 @@
 use Rattle.std.proofs.Common.{◌≡◌, ℕ, ◌+◌, ◌<◌, Bool, true, false, List, [], ◌∷◌, length, get_or, take, drop, ◌∙◌, arith}
 use Rattle.std.specs.List.{list_any, position_or_len, slice_split}
 use Rattle.std.proofs.lemmas.List.Elements.{All-from_get_or}
-use Rattle.std.proofs.lemmas.List.Folds.{list_any_none}
+use Rattle.std.proofs.lemmas.List.Folds.{list_any_at, list_any_none}
 use Rattle.std.proofs.lemmas.List.Splits.{slice_split_first, slice_split_none}
-use Rattle.std.proofs.lemmas.List.Sums.{fails_before_first, position_or_len_is}
+use Rattle.std.proofs.lemmas.List.Sums.{fails_before_first, passes_at_first, position_or_len_is}
 use Rattle.std.proofs.lemmas.Bool.{false_from_ne_true}
 use Rattle.memchr.specs.Find.{Nowhere, NoneBefore, Passes, is_byte}
 use Rattle.keyfile_core.specs.Feeds.{is_feed}
@@ -13,6 +13,9 @@ use Rattle.keyfile_core.specs.Feeds.{is_feed}
 
 pub lacks : (p : ℕ → Bool) (s : List ℕ) → position_or_len p s ≡ length s → list_any p s ≡ false
 lacks p s none = list_any_none p s (All-from_get_or (λ c. p c ≡ false) s 0 (λ k l. fails_before_first p s k 0 (omega (arith, none))))
+
+pub has : (p : ℕ → Bool) (s : List ℕ) → position_or_len p s < length s → list_any p s ≡ true
+has p s lt = list_any_at p s (position_or_len p s) 0 lt (passes_at_first p s 0 lt)
 
 -- ---- line feeds
 

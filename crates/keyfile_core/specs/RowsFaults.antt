@@ -4,10 +4,10 @@ use Rattle.dconf_model.specs.Causes.{Cause}
 use Rattle.dconf_model.specs.Causes.Cause.{bad_group, bad_key_name}
 use Rattle.dconf_model.specs.FaultTexts.{cause_text}
 use Rattle.dconf_model.specs.Keyfiles.{RowFault}
-use Rattle.keyfile_core.specs.declared.fault.RowsCause.{RowsCause}
-use Rattle.keyfile_core.specs.declared.fault.RowsCause.TheVariants.{BadGroup, BadKeyName}
-use Rattle.keyfile_core.specs.declared.fault.RowsFault.{RowsFault}
-use Rattle.keyfile_core.specs.declared.fault.RowsFault.TheVariants.{Refused, Memory}
+use Rattle.keyfile_core.specs.declared.rows_fault.RowsCause.{RowsCause}
+use Rattle.keyfile_core.specs.declared.rows_fault.RowsCause.TheVariants.{BadGroup, BadKeyName}
+use Rattle.keyfile_core.specs.declared.rows_fault.RowsFault.{RowsFault}
+use Rattle.keyfile_core.specs.declared.rows_fault.RowsFault.TheVariants.{Refused, Memory}
 
 abbrev pub rows_cause_of : RowsCause → Cause
 rows_cause_of BadGroup = bad_group

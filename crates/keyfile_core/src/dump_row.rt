@@ -3,9 +3,9 @@ ghost use Rattle.std.specs.Prelude.{◌≡◌, IfOk, IfErr, None, IsTrue, map, o
 ghost use Rattle.std.specs.List.{starts_with};
 ghost use Rattle.dconf_model.specs.Keyfiles.{first_row_fault, key_len};
 
-use crate::fault::{RowsCause, RowsFault};
 use crate::groups::{group_name, is_group};
 use crate::keys::is_readable_key;
+use crate::rows_fault::{RowsCause, RowsFault};
 use dconf_path::KeyPath;
 use memchr::memrchr;
 use std::alloc::Global;

@@ -12,8 +12,10 @@ mod groups;
 mod keys;
 mod lines;
 mod rows;
+mod rows_fault;
 mod writing;
 
-pub use fault::{KeyfileCause, KeyfileFault, RowsCause, RowsFault};
+pub use fault::{KeyfileCause, KeyfileFault};
 pub use rows::{MAX_KEYFILE_LEN, Row, read};
+pub use rows_fault::{RowsCause, RowsFault};
 pub use writing::write_rows;

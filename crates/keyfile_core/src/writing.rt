@@ -6,8 +6,8 @@ ghost use Rattle.keyfile_core.specs.DumpRows.{AreBelow, dump_meant, setting_of};
 ghost use Rattle.keyfile_core.specs.RowsFaults.{IsRowsFaultIn};
 
 use crate::dump_row::{DumpRow, rows_below};
-use crate::fault::RowsFault;
 use crate::groups::group_name;
+use crate::rows_fault::RowsFault;
 use dconf_path::{DirPath, KeyPath};
 use std::alloc::{AllocError, Global};
 
