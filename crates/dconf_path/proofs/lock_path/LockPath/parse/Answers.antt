@@ -22,3 +22,9 @@ returns-in_err-parse-2-clause-fault c =
     let p = err_from_is_err_and c.from_residual-in_err-parse-2.result c.from_residual-in_err-parse-2.ensures.1 in
     let ends = sym (ends_text c.ends_with.result (47 ∷ []) c.args.text.now c.ends_with.ensures.cases) ∙ c.if-ends_with.false in
     rw (p.1, p.2) (is_faulty_as_key c.args.text.now ends ∙ c.in_err-parse-2.ensures.fault)
+
+pub returns-in_ok-parse-2-clause-accepts : goal.returns-in_ok-parse-2-clause-accepts
+returns-in_ok-parse-2-clause-accepts c = search rules
+
+pub returns-in_ok-parse-2-clause-found : goal.returns-in_ok-parse-2-clause-found
+returns-in_ok-parse-2-clause-found c = search rules
