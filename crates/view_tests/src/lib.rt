@@ -6,6 +6,8 @@ mod copies;
 #[cfg(test)]
 mod layout;
 #[cfg(test)]
+mod samples;
+#[cfg(test)]
 mod trees;
 #[cfg(test)]
 mod types;

@@ -1,268 +1,185 @@
 //! Trees by example: each constructor once, each of its refusals, and what trees tell of themselves.
+use crate::samples::{entry, in_variants, int, pair, strings, text};
 use gv_tree::{Basic, Shape, Tree, TreeFault};
-use gv_types::TypeStr;
+use gv_types::{BasicType, TypeStr};
 use std::alloc::Global;
 use std::test::Fail;
 
-fn int32(alloc: Global, number: i32) -> Result<Tree, TreeFault> {
-    Tree::basic(alloc, Basic::Int32(number))
+/// Whether the tree has this type, so many levels and so many values.
+fn tells(tree: Tree, of: &str, levels: u8, values: u64) -> bool {
+    tree.type_text().as_str() == of && tree.depth() == levels && tree.nodes() == values
 }
 
-fn text(alloc: Global, text: &str) -> Result<Tree, TreeFault> {
-    Tree::basic(alloc, Basic::Text(String::from_str(alloc, text)?))
+#[test]
+fn trees_have_types_and_sizes(rt: HostRuntime) -> Result<(), Fail> {
+    let alloc = rt.alloc();
+    let of = TypeStr::parse("a{sv}")?;
+    assert!(rt; tells(int(alloc, 5)?, "i", 1, 1));
+    assert!(rt; tells(text(alloc, "a")?, "s", 1, 1));
+    assert!(rt; tells(Tree::maybe(alloc, of, None)?, "ma{sv}", 1, 1));
+    assert!(rt;
+        tells(
+            Tree::maybe(alloc, TypeStr::parse("i")?, Some(int(alloc, 5)?))?,
+            "mi",
+            2,
+            2
+        )
+    );
+    assert!(rt; tells(strings(alloc)?, "as", 2, 3));
+    assert!(rt; tells(Tree::array(alloc, of, Vec::new(alloc))?, "aa{sv}", 1, 1));
+    assert!(rt; tells(pair(alloc)?, "(si)", 2, 3));
+    assert!(rt; tells(Tree::tuple(alloc, Vec::new(alloc))?, "()", 1, 1));
+    assert!(rt; tells(entry(alloc)?, "{si}", 2, 3));
+    assert!(rt; tells(Tree::variant(alloc, pair(alloc)?)?, "v", 3, 4));
+    Ok(())
+}
+
+/// Whether the tree is a variant of an entry of a text and the number 5.
+fn holds_five(tree: &Tree) -> bool {
+    let Shape::Variant(inner) = tree.shape() else {
+        return false;
+    };
+    let Shape::Entry(_, value) = inner.shape() else {
+        return false;
+    };
+    matches!(value.shape(), Shape::Basic(Basic::Int32(5)))
+}
+
+#[test]
+fn trees_have_parts(rt: HostRuntime) -> Result<(), Fail> {
+    let tree = Tree::variant(rt.alloc(), entry(rt.alloc())?)?;
+    assert!(rt; holds_five(&tree));
+    Ok(())
+}
+
+/// Why a text is no value of this type.
+fn fault_of(alloc: Global, of: BasicType, text: &str) -> Result<Option<TreeFault>, Fail> {
+    let text = String::from_str(alloc, text)?;
+    let value = match of {
+        BasicType::ObjectPath => Basic::ObjectPath(text),
+        BasicType::Signature => Basic::Signature(text),
+        _ => Basic::Text(text),
+    };
+    Ok(Tree::basic(alloc, value).err())
+}
+
+#[test]
+fn wrong_texts_are_refused(rt: HostRuntime) -> Result<(), Fail> {
+    for (of, text, fault) in [
+        (BasicType::Text, "a\0", Some(TreeFault::HasNul)),
+        (BasicType::Text, "", None),
+        (BasicType::ObjectPath, "a", Some(TreeFault::BadObjectPath)),
+        (BasicType::ObjectPath, "a\0", Some(TreeFault::HasNul)),
+        (BasicType::ObjectPath, "/a", None),
+        (BasicType::Signature, "a{vs}", Some(TreeFault::BadSignature)),
+        (BasicType::Signature, "a\0", Some(TreeFault::HasNul)),
+        (BasicType::Signature, "a{sv}i", None),
+    ] {
+        let found = fault_of(rt.alloc(), of, text)?;
+        assert!(rt; found == fault, "{text}");
+    }
+    Ok(())
+}
+
+/// Why these are no elements of an array of numbers.
+fn fault_of_mixed(alloc: Global) -> Result<Option<TreeFault>, Fail> {
+    let elements = Vec::from_array(alloc, [int(alloc, 5)?, text(alloc, "a")?])?;
+    Ok(Tree::array(alloc, TypeStr::parse("i")?, elements).err())
+}
+
+#[test]
+fn wrong_children_are_refused(rt: HostRuntime) -> Result<(), Fail> {
+    let alloc = rt.alloc();
+    assert!(rt; fault_of_mixed(alloc)? == Some(TreeFault::WrongType(1)));
+    let other = Tree::maybe(alloc, TypeStr::parse("i")?, Some(text(alloc, "a")?)).err();
+    assert!(rt; other == Some(TreeFault::WrongType(0)));
+    let key = Tree::entry(alloc, in_variants(alloc, 1)?, int(alloc, 5)?).err();
+    assert!(rt; key == Some(TreeFault::KeyNotBasic));
+    Ok(())
+}
+
+#[test]
+fn too_deep_trees_are_refused(rt: HostRuntime) -> Result<(), Fail> {
+    let alloc = rt.alloc();
+    let too_deep = Some(TreeFault::TooDeep);
+    assert!(rt; tells(in_variants(alloc, 127)?, "v", 128, 128));
+    let deepest = in_variants(alloc, 127)?;
+    assert!(rt; Tree::variant(alloc, deepest).err() == too_deep);
+    let deepest = in_variants(alloc, 127)?;
+    assert!(rt; Tree::entry(alloc, int(alloc, 5)?, deepest).err() == too_deep);
+    let deepest = in_variants(alloc, 127)?;
+    assert!(rt; Tree::tuple(alloc, Vec::from_array(alloc, [deepest])?).err() == too_deep);
+    let mut arrays = "a".repeat(alloc, 127)?;
+    arrays.push('i')?;
+    let of = TypeStr::parse(&arrays)?;
+    assert!(rt; Tree::array(alloc, of, Vec::new(alloc)).err() == too_deep);
+    assert!(rt; Tree::maybe(alloc, of, None).err() == too_deep);
+    Ok(())
+}
+
+/// The tuple of a tree and its copy.
+fn doubled(alloc: Global, tree: Tree) -> Result<Tree, TreeFault> {
+    let copy = tree.try_copy(alloc)?;
+    Tree::tuple(alloc, Vec::from_array(alloc, [tree, copy])?)
+}
+
+/// A tree whose type text has 65,536 bytes is doubled until the text has more than 67,108,864.
+#[test]
+fn too_large_types_are_refused(rt: HostRuntime) -> Result<(), Fail> {
+    let alloc = rt.alloc();
+    let mut text = String::from_str(alloc, "(")?;
+    text.push_str(&"y".repeat(alloc, 65_533)?)?;
+    text.push(')')?;
+    let mut tree = Tree::maybe(alloc, TypeStr::parse(&text)?, None)?;
+    for _ in 0..9 {
+        tree = doubled(alloc, tree)?;
+    }
+    assert!(rt; doubled(alloc, tree).err() == Some(TreeFault::TooLarge));
+    Ok(())
 }
 
 fn double(alloc: Global, bits: [u8; 8]) -> Result<Tree, TreeFault> {
     Tree::basic(alloc, Basic::DoubleBits(bits))
 }
 
-fn pair(alloc: Global, first: Tree, second: Tree) -> Result<Tree, TreeFault> {
-    Tree::tuple(alloc, Vec::from_array(alloc, [first, second])?)
-}
-
-/// The number 5 in so many variants.
-fn in_variants(alloc: Global, levels: u8) -> Result<Tree, TreeFault> {
-    let mut tree = int32(alloc, 5)?;
-    for _ in 0..levels {
-        tree = Tree::variant(alloc, tree)?;
-    }
-    Ok(tree)
-}
-
-#[test]
-fn trees_have_types_and_parts(rt: HostRuntime) -> Result<(), Fail> {
-    let alloc = rt.alloc();
-    let numbers = Vec::from_array(alloc, [int32(alloc, 5)?, int32(alloc, -6)?])?;
-    let cases = [
-        (int32(alloc, 5)?, "i", 1, 1),
-        (text(alloc, "a")?, "s", 1, 1),
-        (
-            Tree::maybe(alloc, TypeStr::parse("i")?, Some(int32(alloc, 5)?))?,
-            "mi",
-            2,
-            2,
-        ),
-        (
-            Tree::maybe(alloc, TypeStr::parse("as")?, None)?,
-            "mas",
-            1,
-            1,
-        ),
-        (
-            Tree::array(alloc, TypeStr::parse("i")?, numbers)?,
-            "ai",
-            2,
-            3,
-        ),
-        (
-            Tree::array(alloc, TypeStr::parse("{sv}")?, Vec::new(alloc))?,
-            "a{sv}",
-            1,
-            1,
-        ),
-        (
-            pair(alloc, int32(alloc, 5)?, text(alloc, "a")?)?,
-            "(is)",
-            2,
-            3,
-        ),
-        (Tree::tuple(alloc, Vec::new(alloc))?, "()", 1, 1),
-        (
-            Tree::entry(alloc, text(alloc, "a")?, int32(alloc, 5)?)?,
-            "{si}",
-            2,
-            3,
-        ),
-        (
-            Tree::variant(alloc, pair(alloc, int32(alloc, 5)?, text(alloc, "a")?)?)?,
-            "v",
-            3,
-            4,
-        ),
-    ];
-    for (tree, of, levels, values) in &cases {
-        assert_eq!(rt; tree.type_text().as_str(), *of);
-        assert_eq!(rt; tree.depth(), *levels, "at {of}");
-        assert_eq!(rt; tree.nodes(), *values, "at {of}");
-    }
-    let tree = Tree::variant(
-        alloc,
-        Tree::entry(alloc, text(alloc, "a")?, int32(alloc, 5)?)?,
-    )?;
-    let Shape::Variant(inner) = tree.shape() else {
-        return Err(Fail::new("no variant"));
-    };
-    let Shape::Entry(key, value) = inner.shape() else {
-        return Err(Fail::new("no entry"));
-    };
-    assert!(rt; key.equal(&text(alloc, "a")?));
-    assert!(rt; matches!(value.shape(), Shape::Basic(Basic::Int32(5))));
-    Ok(())
-}
-
-#[test]
-fn wrong_parts_are_refused(rt: HostRuntime) -> Result<(), Fail> {
-    let alloc = rt.alloc();
-    let cases = [
-        (
-            Basic::Text(String::from_str(alloc, "a\0")?),
-            Some(TreeFault::HasNul),
-        ),
-        (Basic::Text(String::new(alloc)), None),
-        (
-            Basic::ObjectPath(String::from_str(alloc, "a")?),
-            Some(TreeFault::BadObjectPath),
-        ),
-        (
-            Basic::ObjectPath(String::from_str(alloc, "a\0")?),
-            Some(TreeFault::HasNul),
-        ),
-        (Basic::ObjectPath(String::from_str(alloc, "/a")?), None),
-        (
-            Basic::Signature(String::from_str(alloc, "a{vs}")?),
-            Some(TreeFault::BadSignature),
-        ),
-        (
-            Basic::Signature(String::from_str(alloc, "a\0")?),
-            Some(TreeFault::HasNul),
-        ),
-        (Basic::Signature(String::from_str(alloc, "a{sv}i")?), None),
-    ];
-    for (value, fault) in cases {
-        assert_eq!(rt; Tree::basic(alloc, value).err(), fault);
-    }
-    let of = TypeStr::parse("i")?;
-    let mixed = Vec::from_array(
-        alloc,
-        [int32(alloc, 5)?, text(alloc, "a")?, text(alloc, "b")?],
-    )?;
-    assert_eq!(rt;
-        Tree::array(alloc, of, mixed).err(),
-        Some(TreeFault::WrongType(1))
-    );
-    let other = text(alloc, "a")?;
-    assert_eq!(rt;
-        Tree::maybe(alloc, of, Some(other)).err(),
-        Some(TreeFault::WrongType(0))
-    );
-    let key = Tree::variant(alloc, int32(alloc, 5)?)?;
-    let value = int32(alloc, 5)?;
-    assert_eq!(rt;
-        Tree::entry(alloc, key, value).err(),
-        Some(TreeFault::KeyNotBasic)
-    );
-    Ok(())
-}
-
-/// The text of a tuple of bytes, so many bytes long.
-fn tuple_text(alloc: Global, length: usize) -> Result<String, Fail> {
-    let mut text = String::with_capacity(alloc, length)?;
-    text.push('(')?;
-    for _ in 2..length {
-        text.push('y')?;
-    }
-    text.push(')')?;
-    Ok(text)
-}
-
-#[test]
-fn too_deep_and_too_large_are_refused(rt: HostRuntime) -> Result<(), Fail> {
-    let alloc = rt.alloc();
-    let deepest = in_variants(alloc, 127)?;
-    assert_eq!(rt; deepest.depth(), 128);
-    assert_eq!(rt; deepest.nodes(), 128);
-    let too_deep = Some(TreeFault::TooDeep);
-    assert_eq!(rt;
-        Tree::variant(alloc, deepest.try_copy(alloc)?).err(),
-        too_deep
-    );
-    assert_eq!(rt;
-        pair(alloc, int32(alloc, 5)?, deepest.try_copy(alloc)?).err(),
-        too_deep
-    );
-    assert_eq!(rt;
-        Tree::entry(alloc, int32(alloc, 5)?, deepest).err(),
-        too_deep
-    );
-    let mut arrays = String::new(alloc);
-    for _ in 0..127 {
-        arrays.push('a')?;
-    }
-    arrays.push('i')?;
-    let of = TypeStr::parse(arrays.as_str())?;
-    assert_eq!(rt; Tree::array(alloc, of, Vec::new(alloc)).err(), too_deep);
-    assert_eq!(rt; Tree::maybe(alloc, of, None).err(), too_deep);
-    let longest = tuple_text(alloc, 67_108_864)?;
-    let of = TypeStr::parse(longest.as_str())?;
-    let too_large = Some(TreeFault::TooLarge);
-    assert_eq!(rt; Tree::maybe(alloc, of, None).err(), too_large);
-    assert_eq!(rt; Tree::array(alloc, of, Vec::new(alloc)).err(), too_large);
-    let shorter = tuple_text(alloc, 67_108_863)?;
-    let nothing = Tree::maybe(alloc, TypeStr::parse(shorter.as_str())?, None)?;
-    assert_eq!(rt; nothing.type_text().as_str().len(), 67_108_864);
-    let copy = nothing.try_copy(alloc)?;
-    assert_eq!(rt; Tree::entry(alloc, int32(alloc, 5)?, copy).err(), too_large);
-    let copy = nothing.try_copy(alloc)?;
-    assert_eq!(rt;
-        Tree::tuple(alloc, Vec::from_array(alloc, [copy])?).err(),
-        too_large
-    );
-    assert_eq!(rt; Tree::variant(alloc, nothing)?.type_text().as_str(), "v");
-    Ok(())
+/// Whether two trees are equal either way.
+fn same(one: Tree, other: Tree) -> bool {
+    one.equal(&other) && other.equal(&one)
 }
 
 #[test]
 fn equal_compares_types_and_bits(rt: HostRuntime) -> Result<(), Fail> {
     let alloc = rt.alloc();
-    let zero = [0; 8];
-    let minus_zero = [0, 0, 0, 0, 0, 0, 0, 128];
     let nan = [1, 0, 0, 0, 0, 0, 240, 127];
+    assert!(rt; same(double(alloc, nan)?, double(alloc, nan)?));
+    let minus_zero = [0, 0, 0, 0, 0, 0, 0, 128];
+    assert!(rt; !same(double(alloc, [0; 8])?, double(alloc, minus_zero)?));
+    assert!(rt; !same(int(alloc, 5)?, int(alloc, 6)?));
+    assert!(rt; !same(int(alloc, 5)?, Tree::basic(alloc, Basic::Uint32(5))?));
+    assert!(rt; !same(int(alloc, 5)?, in_variants(alloc, 1)?));
+    assert!(rt; !same(text(alloc, "a")?, text(alloc, "b")?));
+    Ok(())
+}
+
+/// Arrays and maybes without a child are equal where their types are.
+#[test]
+fn equal_compares_containers(rt: HostRuntime) -> Result<(), Fail> {
+    let alloc = rt.alloc();
     let (signed, unsigned) = (TypeStr::parse("i")?, TypeStr::parse("u")?);
-    let cases = [
-        (double(alloc, nan)?, double(alloc, nan)?, true),
-        (double(alloc, zero)?, double(alloc, minus_zero)?, false),
-        (int32(alloc, 5)?, int32(alloc, 5)?, true),
-        (int32(alloc, 5)?, int32(alloc, 6)?, false),
-        (
-            int32(alloc, 5)?,
-            Tree::basic(alloc, Basic::Uint32(5))?,
-            false,
-        ),
-        (int32(alloc, 5)?, in_variants(alloc, 1)?, false),
-        (text(alloc, "a")?, text(alloc, "a")?, true),
-        (text(alloc, "a")?, text(alloc, "b")?, false),
-        (
-            Tree::array(alloc, signed, Vec::new(alloc))?,
-            Tree::array(alloc, signed, Vec::new(alloc))?,
-            true,
-        ),
-        (
-            Tree::array(alloc, signed, Vec::new(alloc))?,
-            Tree::array(alloc, unsigned, Vec::new(alloc))?,
-            false,
-        ),
-        (
-            Tree::maybe(alloc, signed, None)?,
-            Tree::maybe(alloc, signed, Some(int32(alloc, 0)?))?,
-            false,
-        ),
-        (
-            pair(alloc, int32(alloc, 5)?, int32(alloc, 6)?)?,
-            pair(alloc, int32(alloc, 5)?, int32(alloc, 7)?)?,
-            false,
-        ),
-    ];
-    for (one, other, equal) in &cases {
-        assert_eq!(rt; one.equal(other), *equal);
-        assert_eq!(rt; other.equal(one), *equal);
-        assert!(rt; one.try_copy(alloc)?.equal(one));
-    }
+    let one = Tree::array(alloc, signed, Vec::new(alloc))?;
+    let other = Tree::array(alloc, unsigned, Vec::new(alloc))?;
+    assert!(rt; one.equal(&one) && !one.equal(&other));
+    let just = Tree::maybe(alloc, signed, Some(int(alloc, 0)?))?;
+    assert!(rt; !same(just, Tree::maybe(alloc, signed, None)?));
+    assert!(rt; same(strings(alloc)?, strings(alloc)?));
+    let pair = pair(alloc)?;
+    assert!(rt; pair.try_copy(alloc)?.equal(&pair));
     Ok(())
 }
 
 #[test]
 fn faults_are_named(rt: HostRuntime) -> Result<(), Fail> {
-    let cases = [
+    for (fault, name) in [
         (TreeFault::HasNul, "HasNul"),
         (TreeFault::BadObjectPath, "BadObjectPath"),
         (TreeFault::BadSignature, "BadSignature"),
@@ -271,9 +188,9 @@ fn faults_are_named(rt: HostRuntime) -> Result<(), Fail> {
         (TreeFault::TooDeep, "TooDeep"),
         (TreeFault::TooLarge, "TooLarge"),
         (TreeFault::Memory, "Memory"),
-    ];
-    for (fault, name) in cases {
-        assert_eq!(rt; format!(in rt.alloc(); "{fault}")?.as_str(), name);
+    ] {
+        let text = format!(in rt.alloc(); "{fault}")?;
+        assert!(rt; text.as_str() == name, "{name}");
     }
     Ok(())
 }
