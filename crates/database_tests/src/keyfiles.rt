@@ -1,6 +1,5 @@
-//! Keyfiles that are read and written: which texts have which rows, and the line of each fault.
-use dconf_path::{DirPath, KeyPath};
-use keyfile_core::{KeyfileCause, KeyfileFault, Row, RowsCause, RowsFault, read, write_rows};
+//! Keyfiles that are read: which texts have which rows, and the line of each fault.
+use keyfile_core::{KeyfileCause, KeyfileFault, Row, read};
 use std::alloc::Global;
 use std::test::Fail;
 
@@ -74,88 +73,5 @@ fn the_first_fault_has_its_line(rt: HostRuntime) -> Result<(), Fail> {
     for (file, line, cause) in faults {
         assert_eq!(rt; refusal(rt.alloc(), file), Some((line, cause)), "{file:?}");
     }
-    Ok(())
-}
-
-#[test]
-fn one_byte_too_many_is_too_big(rt: HostRuntime) -> Result<(), Fail> {
-    let file = "#".repeat(rt.alloc(), 16_777_217)?;
-    assert_eq!(rt;
-        refusal(rt.alloc(), file.as_bytes()),
-        Some((0, KeyfileCause::TooBig))
-    );
-    Ok(())
-}
-
-/// The text of the settings that are below a directory.
-fn dump(alloc: Global, settings: &[(&str, &str)], directory: &str) -> Result<String, Fail> {
-    let mut rows = Vec::new(alloc);
-    for (path, text) in settings {
-        if path.starts_with(directory) {
-            rows.push((KeyPath::parse(path)?, String::from_str(alloc, text)?))?;
-        }
-    }
-    Ok(write_rows(alloc, &rows, DirPath::parse(directory)?)?)
-}
-
-#[test]
-fn dumps_come_by_groups_and_keys(rt: HostRuntime) -> Result<(), Fail> {
-    let settings = [
-        ("/a/b/k", "uint32 5"),
-        ("/x", "'hi'"),
-        ("/-/z", "1"),
-        ("/a/b/j", "2"),
-    ];
-    let root = "[/]\nx='hi'\n\n[-]\nz=1\n\n[a/b]\nj=2\nk=uint32 5\n";
-    assert_eq!(rt; dump(rt.alloc(), &settings, "/")?.as_str(), root);
-    let below = "[b]\nj=2\nk=uint32 5\n";
-    assert_eq!(rt; dump(rt.alloc(), &settings, "/a/")?.as_str(), below);
-    assert_eq!(rt; dump(rt.alloc(), &settings, "/k/")?.as_str(), "");
-    assert_eq!(rt; read(rt.alloc(), root.as_bytes())?.len(), 4);
-    Ok(())
-}
-
-/// The fault of a setting behind one that may be written.
-fn row_fault(alloc: Global, path: &str) -> Result<Option<RowsFault>, Fail> {
-    let mut rows = Vec::new(alloc);
-    rows.push((KeyPath::parse("/k")?, String::new(alloc)))?;
-    if path.starts_with("/") {
-        rows.push((KeyPath::parse(path)?, String::new(alloc)))?;
-    }
-    Ok(write_rows(alloc, &rows, DirPath::parse("/")?).err())
-}
-
-#[test]
-fn a_row_that_cannot_be_read_again_is_refused(rt: HostRuntime) -> Result<(), Fail> {
-    assert_eq!(rt; row_fault(rt.alloc(), "/a/k")?, None);
-    for path in ["/a=b", "/#k", "/ k", "/k\t", "/k]", "/a b/k\n"] {
-        let fault = RowsFault::Refused {
-            row: 1,
-            cause: RowsCause::BadKeyName,
-        };
-        assert_eq!(rt; row_fault(rt.alloc(), path)?, Some(fault), "{path}");
-    }
-    for path in ["/[/k", "/a\n/k=", "/a/]b/k"] {
-        let fault = RowsFault::Refused {
-            row: 1,
-            cause: RowsCause::BadGroup,
-        };
-        assert_eq!(rt; row_fault(rt.alloc(), path)?, Some(fault), "{path}");
-    }
-    Ok(())
-}
-
-#[test]
-fn keyfile_faults_are_printed_as_their_names(rt: HostRuntime) -> Result<(), Fail> {
-    let fault = KeyfileFault::Refused {
-        line: 2,
-        cause: KeyfileCause::BadLine,
-    };
-    assert_eq!(rt; format!(in rt.alloc(); "{fault}")?.as_str(), "BadLine");
-    let fault = RowsFault::Refused {
-        row: 2,
-        cause: RowsCause::BadGroup,
-    };
-    assert_eq!(rt; format!(in rt.alloc(); "{fault}")?.as_str(), "BadGroup");
     Ok(())
 }
