@@ -3,7 +3,8 @@ use Rattle.std.proofs.Common.{◌≡◌, ℕ, Bool, true, false, List, refl, sym
 use Rattle.std.specs.Prelude.{◌&&◌, not, eqb}
 use Rattle.std.specs.List.{starts_with}
 use Rattle.std.specs.Str.{bytes_eq}
-use Rattle.dconf_model.proofs.PathMaps.{no_truth, same_path}
+use Rattle.dconf_model.proofs.PathMaps.{no_truth}
+use Rattle.dconf_model.proofs.SameBytes.{same_path}
 use Rattle.dconf_model.specs.Locks.{covers}
 use Rattle.dconf_model.specs.Paths.{ends_with_slash, is_path, is_key_path, is_directory_path}
 
