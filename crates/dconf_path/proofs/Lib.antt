@@ -4,5 +4,5 @@ pub mod Covering
 pub mod LineSteps
 pub mod LockLines
 pub mod EntryLines
-pub mod Trimming
+pub mod Trims
 pub mod ProfileLines

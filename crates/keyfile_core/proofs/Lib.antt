@@ -1,4 +1,3 @@
-pub mod Trims
 pub mod GroupParts
 pub mod LineParts
 pub mod ReadingLaws

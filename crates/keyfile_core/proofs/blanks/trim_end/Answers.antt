@@ -1,6 +1,6 @@
 use Rattle.std.proofs.Common.{[], ◌∷◌}
 use Rattle.dconf_model.specs.Lines.{is_space}
-use Rattle.keyfile_core.proofs.Trims.{trimmed_end, spaces, small_space}
+use Rattle.dconf_path.proofs.Trims.{trimmed_end, spaces, small_space}
 use Rattle.keyfile_core.proofs.blanks.trim_end.Goals as goal
 
 pub returns : goal.returns

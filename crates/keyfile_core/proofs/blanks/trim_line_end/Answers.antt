@@ -1,6 +1,6 @@
 use Rattle.std.proofs.Common.{[], ◌∷◌}
 use Rattle.dconf_model.specs.Lines.{is_blank}
-use Rattle.keyfile_core.proofs.Trims.{trimmed_end, blanks, small_blank}
+use Rattle.dconf_path.proofs.Trims.{trimmed_end, blanks, small_blank}
 use Rattle.keyfile_core.proofs.blanks.trim_line_end.Goals as goal
 
 pub returns : goal.returns
