@@ -3,14 +3,14 @@ use Rattle.std.proofs.Common.{◌≡◌, ◌≤◌, inl, inr, ℕ, List, [], len
 use Rattle.std.specs.Prelude.{◌≢◌, IfSome, codes, nat_lt, option_map, vec_items}
 use Rattle.std.specs.declared.vec.Vec.{Vec}
 use Rattle.dconf_model.specs.Bytes.{longest_file}
-use Rattle.dconf_model.specs.Folders.{Event, seen}
+use Rattle.dconf_model.specs.Folders.{Event, read_content}
 use Rattle.dconf_model.specs.FaultTexts.{device_text, no_file_text}
 use Rattle.dconf_model.specs.Outcomes.{OrNoDatabase, OrNoRead, Outcome, Refused, WithFile}
-use Rattle.dconf_model.specs.Reads.{FileRead, IsOverSize, Reads, read_of}
+use Rattle.dconf_model.specs.Reads.{FileRead, IsOverSize, ReadResults, read_of}
 use Rattle.dconf_model.specs.Reads.FileRead.{no_file, holds, over_size, failed}
 use Rattle.dconf_cli.specs.declared.answer.Answer.{Answer}
 use Rattle.dconf_cli.specs.declared.answer.Answer.TheVariants.{NoMemory}
-use Rattle.dconf_cli.specs.Answers.{Answers, RefusesFor, outcome_of}
+use Rattle.dconf_cli.specs.Answers.{GivesOutcome, RefusesFor, outcome_of}
 use Rattle.dconf_cli.specs.Readings.{Decides, HasRead, Nothing, NothingIfAny, found_read, one_read}
 use Rattle.dconf_cli.specs.Streams.{Rose}
 
@@ -20,14 +20,14 @@ also_some : (o : Option Outcome) (Makes Also : Outcome → Type 0) → ((x : Out
 also_some None Makes Also also h = tt
 also_some (Some x) Makes Also also h = also x h
 
-pub answers_also : (answer : Answer) (Makes Also : Outcome → Type 0) → ((o : Outcome) → Makes o → Also o) → Answers answer Makes → Answers answer Also
+pub answers_also : (answer : Answer) (Makes Also : Outcome → Type 0) → ((o : Outcome) → Makes o → Also o) → GivesOutcome answer Makes → GivesOutcome answer Also
 answers_also answer Makes Also also h = also_some (outcome_of answer) Makes Also also h
 
 -- ---- a command's decision
 
 module _ {F : Type 0} (past : F → List Event → Type 0) (failures : F → ℕ) where
   -- the same, said of more outcomes
-  pub decides_also : (old new : F) (n : ℕ) (answer : Answer) (Makes Also : Reads → Outcome → Type 0) → ((reads : Reads) (o : Outcome) → Makes reads o → Also reads o)
+  pub decides_also : (old new : F) (n : ℕ) (answer : Answer) (Makes Also : ReadResults → Outcome → Type 0) → ((reads : ReadResults) (o : Outcome) → Makes reads o → Also reads o)
       → Decides past failures old new n Makes answer → Decides past failures old new n Also answer
   decides_also old new n answer Makes Also also d = record {
     log = d.log;
@@ -37,7 +37,7 @@ module _ {F : Type 0} (past : F → List Event → Type 0) (failures : F → ℕ
   }
 
   -- before anything is read
-  pub decides_at_once : (folder : F) (n : ℕ) (answer : Answer) (Makes : Reads → Outcome → Type 0) → ((reads : Reads) → Answers answer (Makes reads))
+  pub decides_at_once : (folder : F) (n : ℕ) (answer : Answer) (Makes : ReadResults → Outcome → Type 0) → ((reads : ReadResults) → GivesOutcome answer (Makes reads))
       → Decides past failures folder folder n Makes answer
   decides_at_once folder n answer Makes each = record {
     log = [];
@@ -51,7 +51,7 @@ module _ {F : Type 0} (past : F → List Event → Type 0) (failures : F → ℕ
 
   -- by the bytes of one file
   pub decides_by_file : (old new : F) (n : ℕ) (name bytes : List ℕ) (answer : Answer) (Go : List ℕ → Outcome → Type 0)
-      → HasRead past failures old new (one_read name (holds bytes)) → Answers answer (Go bytes)
+      → HasRead past failures old new (one_read name (holds bytes)) → GivesOutcome answer (Go bytes)
       → Decides past failures old new n (λ reads. WithFile reads n name Go) answer
   decides_by_file old new n name bytes answer Go has_read h = record {
     log = one_read name (holds bytes);
@@ -89,10 +89,10 @@ found_not_failed None e = cc
 found_not_failed (Some bytes) e = cc
 
 module _ {F : Type 0} (past : F → List Event → Type 0) (failures : F → ℕ) (old new : F) (name : List ℕ) (keeps : (es : List Event) → past old es → past new es) where
-  pub has_read : (found : Option (List ℕ)) → ((es : List Event) → past old es → found ≡ seen es name) → IfSome found (λ bytes. length bytes ≤ longest_file)
+  pub has_read : (found : Option (List ℕ)) → ((es : List Event) → past old es → found ≡ read_content es name) → IfSome found (λ bytes. length bytes ≤ longest_file)
       → failures new ≡ failures old → HasRead past failures old new (one_read name (found_read found))
   has_read found is short same = record {
-    known = λ es p. (keeps es p, (inl (read_whole (seen es name) found (is es p) short), tt));
+    known = λ es p. (keeps es p, (inl (read_whole (read_content es name) found (is es p) short), tt));
     none_failed = same;
   }
 
@@ -105,16 +105,16 @@ module _ {F : Type 0} (past : F → List Event → Type 0) (failures : F → ℕ
     answers = λ reads gave. answers_also answer (Refused (device_text name)) (OrNoDatabase name (reads n name) NothingIfAny) (λ o r. rw gave.0 r) refuses;
   }
 
-  pub decides_over_size : (n : ℕ) (answer : Answer) → ((es : List Event) → past old es → IsOverSize (seen es name)) → failures new ≡ failures old
+  pub decides_over_size : (n : ℕ) (answer : Answer) → ((es : List Event) → past old es → IsOverSize (read_content es name)) → failures new ≡ failures old
       → RefusesFor answer (codes "TooBig") → Decides past failures old new n (λ reads. OrNoDatabase name (reads n name) NothingIfAny) answer
   decides_over_size n answer much same refuses = record {
     log = one_read name over_size;
-    known = λ es p. (keeps es p, (inl (read_over (seen es name) (much es p)), tt));
+    known = λ es p. (keeps es p, (inl (read_over (read_content es name) (much es p)), tt));
     tells = inl (((λ e. cc), tt), same);
     answers = λ reads gave. answers_also answer (Refused (codes "TooBig")) (OrNoDatabase name (reads n name) NothingIfAny) (λ o r. rw gave.0 r) refuses;
   }
 
-  pub decides_no_memory : (n : ℕ) → failures new ≡ failures old → (Makes : Reads → Outcome → Type 0) → Decides past failures old new n Makes NoMemory
+  pub decides_no_memory : (n : ℕ) → failures new ≡ failures old → (Makes : ReadResults → Outcome → Type 0) → Decides past failures old new n Makes NoMemory
   decides_no_memory n same Makes = record {
     log = [];
     known = λ es p. (keeps es p, tt);

@@ -3,16 +3,16 @@ use Rattle.std.proofs.Common.{◌≡◌, ◌+◌, ◌∷◌, ◌⊎◌, ◌∙�
 use Rattle.std.specs.Prelude.{◌≢◌, IfSome, codes, unwrap_or}
 use Rattle.std.specs.Str.{bytes_eq}
 use Rattle.std.proofs.lemmas.Slice.Eq.{bytes_eq-Decides}
-use Rattle.dconf_model.specs.Folders.{Event, seen}
+use Rattle.dconf_model.specs.Folders.{Event, read_content}
 use Rattle.dconf_model.specs.FaultTexts.{device_text}
 use Rattle.dconf_model.specs.Replacing.{MaybeReplaced, ReadsWhole, new_name}
 use Rattle.dconf_model.specs.Commands.{Command}
-use Rattle.dconf_model.specs.Reads.{FileRead, Input, Reads, read_of, steady}
+use Rattle.dconf_model.specs.Reads.{FileRead, Input, ReadResults, read_of, steady}
 use Rattle.dconf_model.specs.Reads.FileRead.{no_file, holds, over_size, failed}
 use Rattle.dconf_model.specs.Outcomes.{IsOutcome, Outcome, Output, Replacement, refused, refused_output}
 use Rattle.dconf_model.specs.Runs.{Answers as AnswersAny, AnswersIn, Did, MayMake, NoMemory, Ran, RanCalmly, ReadsFrom, device_output}
-use Rattle.dconf_model.specs.Runs.{Ending}
-use Rattle.dconf_model.specs.Runs.Ending.{as_meant, device}
+use Rattle.dconf_model.specs.Runs.{RunEnding}
+use Rattle.dconf_model.specs.Runs.RunEnding.{as_meant, device}
 use Rattle.dconf_cli.specs.declared.answer.Answer.{Answer}
 use Rattle.dconf_cli.specs.declared.answer.Answer.TheVariants as answers
 use Rattle.dconf_cli.specs.Answers.{outcome_of}
@@ -61,17 +61,17 @@ either over_size given = inl refl
 either failed given = inr refl
 
 module _ (es : List Event) where
-  reads_in : List Reading → Reads
-  reads_in [] n name = read_of (seen es name)
-  reads_in (r ∷ more) zero name = or_failed r.gave (read_of (seen es name))
+  reads_in : List Reading → ReadResults
+  reads_in [] n name = read_of (read_content es name)
+  reads_in (r ∷ more) zero name = or_failed r.gave (read_of (read_content es name))
   reads_in (r ∷ more) (suc n) name = reads_in more n name
 
-  gave_in : (log : List Reading) (k : ℕ) (reads : Reads) → ((i m : ℕ) (name : List ℕ) → m ≡ k + i → reads m name ≡ reads_in log i name)
+  gave_in : (log : List Reading) (k : ℕ) (reads : ReadResults) → ((i m : ℕ) (name : List ℕ) → m ≡ k + i → reads m name ≡ reads_in log i name)
       → AreOf es log → Gave reads k log
   unfolding reads_in
   gave_in [] k reads same are = tt
   gave_in (r ∷ more) k reads same are = (
-    same zero k r.name (omega arith) ∙ is_given r.gave (read_of (seen es r.name)) are.0,
+    same zero k r.name (omega arith) ∙ is_given r.gave (read_of (read_content es r.name)) are.0,
     gave_in more (k + 1) reads (λ i m name e. same (suc i) m name (omega arith)) are.1,
   )
 
@@ -81,14 +81,14 @@ module _ (es : List Event) where
   given_in : (log : List Reading) → ReadsFrom es (reads_in log)
   unfolding reads_in
   given_in [] n name = inl refl
-  given_in (r ∷ more) zero name = either r.gave (read_of (seen es name))
+  given_in (r ∷ more) zero name = either r.gave (read_of (read_content es name))
   given_in (r ∷ more) (suc n) name = given_in more n name
 
-  gave_steadily : (log : List Reading) (k : ℕ) → AreOf es log → AllRead log → Gave (steady (seen es)) k log
+  gave_steadily : (log : List Reading) (k : ℕ) → AreOf es log → AllRead log → Gave (steady (read_content es)) k log
   gave_steadily [] k are all = tt
   gave_steadily (r ∷ more) k are all = (read are.0, gave_steadily more (k + 1) are.1 all.1)
     where
-      read : (r.gave ≡ read_of (seen es r.name)) ⊎ (r.gave ≡ failed) → read_of (seen es r.name) ≡ r.gave
+      read : (r.gave ≡ read_of (read_content es r.name)) ⊎ (r.gave ≡ failed) → read_of (read_content es r.name) ≡ r.gave
       read (inl e) = sym e
       read (inr e) = absurd (all.0 e)
 
@@ -119,13 +119,13 @@ not_both n z o = omega arith
 
 module _ {F : Type 0} (past : F → List Event → Type 0) (failures : F → ℕ) (command : Command) (input : Input) (mid new : F) (output : Output) where
   -- in a folder of these events, for an outcome by these reads
-  record Ended (reads : Reads) (es : List Event) : Type 0 where
+  record Ended (reads : ReadResults) (es : List Event) : Type 0 where
     now : List Event
     is : past new now
     answers_in : AnswersIn command input reads es now output
     refused : output.status ≡ 1 → (now ≡ es) ⊎ ((name : List ℕ) × (bytes : List ℕ) × (output ≡ refused_output (device_text name)) × MaybeReplaced es now name bytes)
 
-  module _ (reads : Reads) (es : List Event) (es_is : past mid es) where
+  module _ (reads : ReadResults) (es : List Event) (es_is : past mid es) where
     unchanged : NoMemory output → new ≡ mid → Ended reads es
     unchanged none same = record { now = es; is = subst (λ f. past f es) (sym same) es_is; answers_in = inr (none, refl); refused = λ _. inl refl }
 
@@ -165,8 +165,8 @@ module _ {F : Type 0} (past : F → List Event → Type 0) (failures : F → ℕ
     ended (Some o) is done e = ended_by o o.change refl is done e
 
     -- where nothing failed
-    calmly_by : NoneFailed (failures mid) (failures new) → reads ≡ steady (seen es) → (o : Outcome) (change : Option Replacement) → o.change ≡ change
-        → IsOutcome command (steady (seen es)) input o → EndsBy past failures mid new o change output → (now : List Event) × past new now × RanCalmly command input es now output
+    calmly_by : NoneFailed (failures mid) (failures new) → reads ≡ steady (read_content es) → (o : Outcome) (change : Option Replacement) → o.change ≡ change
+        → IsOutcome command (steady (read_content es)) input o → EndsBy past failures mid new o change output → (now : List Event) × past new now × RanCalmly command input es now output
     calmly_by none rs o None same is e = (
       es,
       subst (λ f. past f es) (sym e.1) es_is,
@@ -178,14 +178,14 @@ module _ {F : Type 0} (past : F → List Event → Type 0) (failures : F → ℕ
     calmly_by none rs o (Some r) same is (inr (inl e)) = absurd (not_rose _ _ none e.1)
     calmly_by none rs o (Some r) same is (inr (inr e)) = (es, subst (λ f. past f es) (sym e.1) es_is, inr (e.0, refl))
 
-    calmly : NoneFailed (failures mid) (failures new) → reads ≡ steady (seen es) → (o : Option Outcome)
-        → IfSome o (λ x. IsOutcome command (steady (seen es)) input x) → Ends past failures mid new o output
+    calmly : NoneFailed (failures mid) (failures new) → reads ≡ steady (read_content es) → (o : Option Outcome)
+        → IfSome o (λ x. IsOutcome command (steady (read_content es)) input x) → Ends past failures mid new o output
         → (now : List Event) × past new now × RanCalmly command input es now output
     calmly none rs None is e = (es, subst (λ f. past f es) (sym e.1) es_is, inr (e.0, refl))
     calmly none rs (Some o) is e = calmly_by none rs o o.change refl is e
 
   -- in any folder
-  anyhow_by : (reads : Reads) (o : Outcome) (change : Option Replacement) → o.change ≡ change → IsOutcome command reads input o
+  anyhow_by : (reads : ReadResults) (o : Outcome) (change : Option Replacement) → o.change ≡ change → IsOutcome command reads input o
       → EndsBy past failures mid new o change output → AnswersAny command input reads output
   anyhow_by reads o None same is e = inl (record { outcome = o; ending = as_meant; is = is; output_is = e.0 })
   anyhow_by reads o (Some r) same is (inl e) = inl (record { outcome = o; ending = as_meant; is = is; output_is = e.0 })
@@ -193,7 +193,7 @@ module _ {F : Type 0} (past : F → List Event → Type 0) (failures : F → ℕ
       inl (record { outcome = o; ending = device; is = is; output_is = subst (λ c. output ≡ device_output o.output c) (sym same) e.0 })
   anyhow_by reads o (Some r) same is (inr (inr e)) = inr e.0
 
-  anyhow : (reads : Reads) (o : Option Outcome) → IfSome o (λ x. IsOutcome command reads input x) → Ends past failures mid new o output
+  anyhow : (reads : ReadResults) (o : Option Outcome) → IfSome o (λ x. IsOutcome command reads input x) → Ends past failures mid new o output
       → AnswersAny command input reads output
   anyhow reads None is e = inr e.0
   anyhow reads (Some o) is e = anyhow_by reads o o.change refl is e
@@ -231,7 +231,7 @@ module _ {F : Type 0} (past : F → List Event → Type 0) (failures : F → ℕ
 
   -- a failure that rose while a file was replaced
   broke_by : (o : Outcome) (change : Option Replacement) → o.change ≡ change → failures new ≢ failures mid → (log : List Reading)
-      → ((reads : Reads) → Gave reads 0 log → IsOutcome command reads input o) → EndsBy past failures mid new o change output
+      → ((reads : ReadResults) → Gave reads 0 log → IsOutcome command reads input o) → EndsBy past failures mid new o change output
       → NamesFile command input log output ⊎ NoMemory output
   broke_by o None same rose log is e = absurd (rose (ap failures e.1))
   broke_by o (Some r) same rose log is (inl e) = absurd (rose e.1)
@@ -239,7 +239,7 @@ module _ {F : Type 0} (past : F → List Event → Type 0) (failures : F → ℕ
   broke_by o (Some r) same rose log is (inr (inr e)) = absurd (rose (ap failures e.1))
 
   broke : (o : Option Outcome) → failures new ≢ failures mid → (log : List Reading)
-      → ((reads : Reads) → Gave reads 0 log → IfSome o (λ x. IsOutcome command reads input x)) → Ends past failures mid new o output
+      → ((reads : ReadResults) → Gave reads 0 log → IfSome o (λ x. IsOutcome command reads input x)) → Ends past failures mid new o output
       → NamesFile command input log output ⊎ NoMemory output
   broke None rose log is e = absurd (rose (ap failures e.1))
   broke (Some o) rose log is e = broke_by o o.change refl rose log is e
@@ -247,13 +247,13 @@ module _ {F : Type 0} (past : F → List Event → Type 0) (failures : F → ℕ
 -- ---- a run
 
 -- no file but the command's own reads otherwise
-others_keep : (command : Command) (input : Input) (reads : Reads) (es now : List Event) (output : Output) → ReadsFrom es reads
-    → AnswersIn command input reads es now output → (name : List ℕ) → (seen now name ≡ seen es name) ⊎ IsOwn command input es name
-others_keep command input reads es now output given (inr none) name = inl (ap (λ (x : List Event). seen x name) none.1)
+others_keep : (command : Command) (input : Input) (reads : ReadResults) (es now : List Event) (output : Output) → ReadsFrom es reads
+    → AnswersIn command input reads es now output → (name : List ℕ) → (read_content now name ≡ read_content es name) ⊎ IsOwn command input es name
+others_keep command input reads es now output given (inr none) name = inl (ap (λ (x : List Event). read_content x name) none.1)
 others_keep command input reads es now output given (inl did) name = by_change did.0.outcome.change refl did.0.ending did.1
   where
     whole : (r : Replacement) → did.0.outcome.change ≡ Some r → ReadsWhole es now r.name r.bytes → (own fresh : Bool) → bytes_eq name r.name ≡ own
-        → bytes_eq name (new_name r.name) ≡ fresh → (seen now name ≡ seen es name) ⊎ IsOwn command input es name
+        → bytes_eq name (new_name r.name) ≡ fresh → (read_content now name ≡ read_content es name) ⊎ IsOwn command input es name
     whole r same reads_whole true fresh own_is fresh_is =
         let is : name ≡ r.name = (bytes_eq-Decides name r.name).0 own_is in
         inr (reads, given, inl (r.bytes, subst (λ n. MayMake command input reads n r.bytes) (sym is) (did.0.outcome, did.0.is, same)))
@@ -264,9 +264,9 @@ others_keep command input reads es now output given (inl did) name = by_change d
         let not_fresh : name ≡ new_name r.name → ⊥ = λ e. let bad : true ≡ false = sym ((bytes_eq-Decides name (new_name r.name)).1 e) ∙ fresh_is in cc in
         inl (reads_whole.others name not_own not_fresh)
 
-    by_change : (change : Option Replacement) → did.0.outcome.change ≡ change → (ending : Ending) → Did change ending es now
-        → (seen now name ≡ seen es name) ⊎ IsOwn command input es name
-    by_change None same as_meant d = inl (ap (λ (x : List Event). seen x name) d)
+    by_change : (change : Option Replacement) → did.0.outcome.change ≡ change → (ending : RunEnding) → Did change ending es now
+        → (read_content now name ≡ read_content es name) ⊎ IsOwn command input es name
+    by_change None same as_meant d = inl (ap (λ (x : List Event). read_content x name) d)
     by_change None same device d = absurd d
     by_change (Some r) same as_meant d = whole r same d.others _ _ refl refl
     by_change (Some r) same device d = whole r same d.whole _ _ refl refl
@@ -300,8 +300,8 @@ module _ {F : Type 0} (past : F → List Event → Type 0) (failures : F → ℕ
   ran_calmly none es es_is =
       let known = d.known es es_is in
       let all = none_rose none d.tells in
-      calmly past failures command input mid new output (steady (seen es)) es known.0 (subst (λ (n : ℕ). NoneFailed n (failures new)) (sym all.1) none) refl
-      (outcome_of answer) (d.answers (steady (seen es)) (gave_steadily es d.log 0 known.1 all.0)) e
+      calmly past failures command input mid new output (steady (read_content es)) es known.0 (subst (λ (n : ℕ). NoneFailed n (failures new)) (sym all.1) none) refl
+      (outcome_of answer) (d.answers (steady (read_content es)) (gave_steadily es d.log 0 known.1 all.0)) e
 
   named : failures new ≢ failures old → Tells (failures old) (failures mid) d.log answer → NamesFile command input d.log output ⊎ NoMemory output
   named rose (inl all) =

@@ -17,11 +17,11 @@ use Rattle.gv_model.specs.FaultTexts.{type_fault_text}
 use Rattle.dconf_model.specs.Folders.{Event}
 use Rattle.dconf_model.specs.Commands.Command.{show}
 use Rattle.dconf_model.specs.Databases.{IsVerdict, Verdict}
-use Rattle.dconf_model.specs.Outcomes.{Checks, IsOutcome, Outcome, Refused, WithFile, WithType, check_output, done, refused, shown}
-use Rattle.dconf_model.specs.Reads.{Input, Reads}
+use Rattle.dconf_model.specs.Outcomes.{Checks, IsOutcome, Outcome, Refused, WithFile, WithType, check_output, done, refused, shown_outcome}
+use Rattle.dconf_model.specs.Reads.{Input, ReadResults}
 use Rattle.dconf_model.specs.Reads.FileRead.{holds}
 use Rattle.dconf_cli.specs.declared.answer.Answer.{Answer}
-use Rattle.dconf_cli.specs.Answers.{Answers, RefusesFor}
+use Rattle.dconf_cli.specs.Answers.{GivesOutcome, RefusesFor}
 use Rattle.dconf_cli.specs.Readings.{Decides, HasRead, Nothing, one_read}
 use Rattle.dconf_cli.proofs.Decisions.{answers_also, decides_also, decides_at_once, decides_by_file, decides_without_file}
 
@@ -58,40 +58,40 @@ module _ {F : Type 0} (past : F → List Event → Type 0) (failures : F → ℕ
   shows_no_type folder f none is refuses =
       decides_at_once past failures folder 0 answer (λ reads. IsOutcome (show text name) reads input)
       (λ reads. answers_also answer (Refused (type_fault_text f)) (IsOutcome (show text name) reads input)
-      (λ o r. subst (λ u. WithType text u (λ t. WithFile reads 0 name (λ bytes p. p ≡ shown (decode t bytes))) o) (sym none)
+      (λ o r. subst (λ u. WithType text u (λ t. WithFile reads 0 name (λ bytes p. p ≡ shown_outcome (decode t bytes))) o) (sym none)
       (f, is, r)) refuses)
 
-  with_type : (t : Ty) → type_of_text text ≡ Some t → (reads : Reads) (o : Outcome) → WithFile reads 0 name (λ bytes p. p ≡ shown (decode t bytes)) o
+  with_type : (t : Ty) → type_of_text text ≡ Some t → (reads : ReadResults) (o : Outcome) → WithFile reads 0 name (λ bytes p. p ≡ shown_outcome (decode t bytes)) o
       → IsOutcome (show text name) reads input o
-  with_type t typed reads o h = subst (λ u. WithType text u (λ v. WithFile reads 0 name (λ bytes p. p ≡ shown (decode v bytes))) o) (sym typed) h
+  with_type t typed reads o h = subst (λ u. WithType text u (λ v. WithFile reads 0 name (λ bytes p. p ≡ shown_outcome (decode v bytes))) o) (sym typed) h
 
   pub shows_file : (old new : F) (t : Ty) (bytes : List ℕ) → type_of_text text ≡ Some t → HasRead past failures old new (one_read name (holds bytes))
-      → Answers answer (λ o. o ≡ shown (decode t bytes)) → Shows old new
+      → GivesOutcome answer (λ o. o ≡ shown_outcome (decode t bytes)) → Shows old new
   shows_file old new t bytes typed h is =
-      decides_also past failures old new 0 answer (λ reads. WithFile reads 0 name (λ bytes p. p ≡ shown (decode t bytes))) (λ reads. IsOutcome (show text name) reads input)
-      (with_type t typed) (decides_by_file past failures old new 0 name bytes answer (λ bytes p. p ≡ shown (decode t bytes)) h is)
+      decides_also past failures old new 0 answer (λ reads. WithFile reads 0 name (λ bytes p. p ≡ shown_outcome (decode t bytes))) (λ reads. IsOutcome (show text name) reads input)
+      (with_type t typed) (decides_by_file past failures old new 0 name bytes answer (λ bytes p. p ≡ shown_outcome (decode t bytes)) h is)
 
   pub shows_no_file : (old new : F) (t : Ty) → type_of_text text ≡ Some t → Decides past failures old new 0 (λ reads. WithFile reads 0 name Nothing) answer
       → Shows old new
   shows_no_file old new t typed d =
-      decides_also past failures old new 0 answer (λ reads. WithFile reads 0 name (λ bytes p. p ≡ shown (decode t bytes))) (λ reads. IsOutcome (show text name) reads input)
-      (with_type t typed) (decides_without_file past failures old new 0 name answer (λ bytes p. p ≡ shown (decode t bytes)) d)
+      decides_also past failures old new 0 answer (λ reads. WithFile reads 0 name (λ bytes p. p ≡ shown_outcome (decode t bytes))) (λ reads. IsOutcome (show text name) reads input)
+      (with_type t typed) (decides_without_file past failures old new 0 name answer (λ bytes p. p ≡ shown_outcome (decode t bytes)) d)
 
 -- ---- `check`
 
-pub checks_as : (bytes : List ℕ) (answer : Answer) (v : Verdict) → IsVerdict bytes v → Answers answer (λ o. o ≡ check_output v) → Answers answer (Checks bytes)
+pub checks_as : (bytes : List ℕ) (answer : Answer) (v : Verdict) → IsVerdict bytes v → GivesOutcome answer (λ o. o ≡ check_output v) → GivesOutcome answer (Checks bytes)
 checks_as bytes answer v is h = answers_also answer (λ o. o ≡ check_output v) (Checks bytes) (λ o e. (v, is, e)) h
 
 -- ---- the value that `show` prints
 
-pub shows_text : (v : Tree) (text : List ℕ) → text ≡ printed v true ++ 10 ∷ [] → (is_too_large v ≡ false) × (holds_double v ≡ false) → done text ≡ shown v
+pub shows_text : (v : Tree) (text : List ℕ) → text ≡ printed v true ++ 10 ∷ [] → (is_too_large v ≡ false) × (holds_double v ≡ false) → done text ≡ shown_outcome v
 shows_text v text e fits = rw (e, fits.0, fits.1) refl
 
-refuses_as : (why : List ℕ) (v : Tree) (answer : Answer) → refused why ≡ shown v → RefusesFor answer why → Answers answer (λ o. o ≡ shown v)
-refuses_as why v answer same h = answers_also answer (Refused why) (λ o. o ≡ shown v) (λ o r. r ∙ same) h
+refuses_as : (why : List ℕ) (v : Tree) (answer : Answer) → refused why ≡ shown_outcome v → RefusesFor answer why → GivesOutcome answer (λ o. o ≡ shown_outcome v)
+refuses_as why v answer same h = answers_also answer (Refused why) (λ o. o ≡ shown_outcome v) (λ o r. r ∙ same) h
 
 pub shows_fault : (v : Tree) (f : PrintFault) (answer : Answer) → IsUnprintable v f → f ≢ Memory → RefusesFor answer (print_fault_name f)
-    → Answers answer (λ o. o ≡ shown v)
+    → GivesOutcome answer (λ o. o ≡ shown_outcome v)
 shows_fault v TooLarge answer is other h = refuses_as (codes "TooLarge") v answer (rw is refl) h
 shows_fault v DoubleText answer is other h = refuses_as (codes "DoubleText") v answer (rw (is.0, is.1) refl) h
 shows_fault v Memory answer is other h = absurd (other refl)

@@ -16,9 +16,9 @@ outcome_of (Refused line) = Some (refused_by (string_bytes line))
 outcome_of NoMemory = None
 
 -- the outcome is one of these, unless memory ran out
-abbrev pub Answers : Answer → (Outcome → Type 0) → Type 0
-Answers answer Makes = IfSome (outcome_of answer) Makes
+abbrev pub GivesOutcome : Answer → (Outcome → Type 0) → Type 0
+GivesOutcome answer Makes = IfSome (outcome_of answer) Makes
 
 -- the refusal that says why, unless memory ran out
 abbrev pub RefusesFor : Answer → List ℕ → Type 0
-RefusesFor answer why = Answers answer (RefusedWith why)
+RefusesFor answer why = GivesOutcome answer (RefusedWith why)

@@ -1,13 +1,13 @@
 -- What a command read of a folder, and what it decides by that. It holds of any folder: of one whose events are known, and of one of
 -- which nothing is known.
 use Rattle.std.specs.Prelude.{◌≡◌, ◌≢◌, ◌⊎◌, ◌+◌, ℕ, List, [], ◌∷◌, Option, Some, None}
-use Rattle.dconf_model.specs.Folders.{Event, seen}
+use Rattle.dconf_model.specs.Folders.{Event, read_content}
 use Rattle.dconf_model.specs.FaultTexts.{device_text}
 use Rattle.dconf_model.specs.Outcomes.{Outcome}
-use Rattle.dconf_model.specs.Reads.{FileRead, Reads, read_of}
+use Rattle.dconf_model.specs.Reads.{FileRead, ReadResults, read_of}
 use Rattle.dconf_model.specs.Reads.FileRead.{no_file, holds, failed}
 use Rattle.dconf_cli.specs.declared.answer.Answer.{Answer}
-use Rattle.dconf_cli.specs.Answers.{Answers, RefusesFor}
+use Rattle.dconf_cli.specs.Answers.{GivesOutcome, RefusesFor}
 use Rattle.dconf_cli.specs.Streams.{Rose}
 
 -- a read of a file, and what it gave
@@ -16,14 +16,14 @@ pub record Reading : Type 0 where
   pub gave : FileRead
 
 -- the reads from that number on gave this
-abbrev pub Gave : Reads → ℕ → List Reading → Type 0
+abbrev pub Gave : ReadResults → ℕ → List Reading → Type 0
 Gave reads n [] = Unit {0}
 Gave reads n (r ∷ more) = (reads n r.name ≡ r.gave) × Gave reads (n + 1) more
 
 -- each read gave what the folder holds, or failed
 abbrev pub AreOf : List Event → List Reading → Type 0
 AreOf es [] = Unit {0}
-AreOf es (r ∷ more) = ((r.gave ≡ read_of (seen es r.name)) ⊎ (r.gave ≡ failed)) × AreOf es more
+AreOf es (r ∷ more) = ((r.gave ≡ read_of (read_content es r.name)) ⊎ (r.gave ≡ failed)) × AreOf es more
 
 -- no read failed
 abbrev pub AllRead : List Reading → Type 0
@@ -48,12 +48,12 @@ Tells old new log answer =
 
 -- What a command decides by its reads, the first of which has that number: whatever reads gave the same, its answer is one of the
 -- outcomes that they make.
-pub record Decides {F : Type 0} (past : F → List Event → Type 0) (failures : F → ℕ) (old new : F) (n : ℕ) (Makes : Reads → Outcome → Type 0)
+pub record Decides {F : Type 0} (past : F → List Event → Type 0) (failures : F → ℕ) (old new : F) (n : ℕ) (Makes : ReadResults → Outcome → Type 0)
     (answer : Answer) : Type 0 where
   pub log : List Reading
   pub known : (es : List Event) → past old es → past new es × AreOf es log
   pub tells : Tells (failures old) (failures new) log answer
-  pub answers : (reads : Reads) → Gave reads n log → Answers answer (Makes reads)
+  pub answers : (reads : ReadResults) → Gave reads n log → GivesOutcome answer (Makes reads)
 
 -- no bytes are looked at yet
 abbrev pub Nothing : List ℕ → Outcome → Type 0

@@ -1,6 +1,6 @@
 //! What a command answers, and the lines for err.
 ghost use Rattle.std.specs.Prelude.{◌≡◌, ◌++◌, ◌∷◌, [], IfSome, codes};
-ghost use Rattle.dconf_cli.specs.Answers.{Answers, RefusesFor, refused_by};
+ghost use Rattle.dconf_cli.specs.Answers.{GivesOutcome, RefusesFor, refused_by};
 
 use std::alloc::Global;
 use std::fmt::Display;
@@ -35,7 +35,7 @@ pub(crate) fn refused<D: Display + Drop>(alloc: Global, why: D) -> Answer
 /// The refusal of a database that breaks a rule: `unsound: `, the fault and a line feed.
 pub(crate) fn unsound<D: Display + Drop>(alloc: Global, fault: D) -> Answer
     ensures { IfSome (D.output fault)
-        (λ text. Answers result (λ o. o ≡ refused_by (codes "unsound: " ++ (text ++ 10 ∷ [])))) }
+        (λ text. GivesOutcome result (λ o. o ≡ refused_by (codes "unsound: " ++ (text ++ 10 ∷ [])))) }
 {
     match format!(in alloc; "unsound: {fault}\n") {
         Ok(line) => Answer::Refused(line),

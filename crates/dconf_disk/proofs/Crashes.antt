@@ -1,6 +1,6 @@
 -- A crash by the noted calls is one that the past allows.
 use Rattle.std.proofs.Common.{ℕ, ◌≡◌, Option, Some, None, List, [], ◌∷◌, sym, ◌∙◌, ap, subst, inl, inr, ⊎_elim}
-use Rattle.dconf_model.specs.Folders.{Event, files_made, file_of, content, StoodFor, MayLeaveOf, MayLeave, IsLeft, seen}
+use Rattle.dconf_model.specs.Folders.{Event, files_made, file_of, content, StoodFor, MayLeaveOf, MayLeave, IsLeft, read_content}
 use Rattle.dconf_model.specs.Folders.Event.{create, append, sync, touch, rename, sync_folder}
 use Rattle.dconf_disk.specs.MemoryFolders.{untouched, AddsTouches}
 use Rattle.dconf_disk.proofs.Untouched.{files_untouched, file_untouched, content_untouched}
@@ -43,4 +43,4 @@ module _ (ds es : List Event) (a : AddsTouches ds es) where
 
 -- so what a crash by the noted calls left is what one by the past may leave
 pub left_by_past : (ds es now : List Event) → AddsTouches ds es → IsLeft ds now → IsLeft es now
-left_by_past ds es now a left = record { allowed = λ name. crash_allowed ds es a name (seen now name) (left.allowed name); settled = left.settled }
+left_by_past ds es now a left = record { allowed = λ name. crash_allowed ds es a name (read_content now name) (left.allowed name); settled = left.settled }

@@ -2,7 +2,7 @@
 use Rattle.std.proofs.Common.{ℕ, ◌+◌, ◌<◌, ◌≤◌, ◌≡◌, ◌≢◌, Bool, true, false, cond, List, [], ◌∷◌, ◌++◌, length, Option, Some, None, refl, sym, ◌∙◌, ap, arith, ⊎_elim, eqb}
 use Rattle.std.proofs.lemmas.Bool.{false_from_ne_true, eqb-true}
 use Rattle.std.specs.Str.{bytes_eq}
-use Rattle.dconf_model.specs.Folders.{Event, files_made, file_of, is_file, content, is_synced, StoodFor, MayLeaveOf, MayLeave, MayHaveLeft, seen, content_of}
+use Rattle.dconf_model.specs.Folders.{Event, files_made, file_of, is_file, content, is_synced, StoodFor, MayLeaveOf, MayLeave, MayHaveLeft, read_content, content_of}
 use Rattle.dconf_model.specs.Folders.Event.{create, append, sync, touch, rename, sync_folder}
 use Rattle.dconf_model.proofs.SameBytes.{itself, other_path}
 
@@ -140,7 +140,7 @@ module _ (old es : List Event) (new : List ℕ) (a : Apart old es new) where
   reads_of other None e = refl
   reads_of other (Some k) e = ap (λ (x : List ℕ). Some x) (a.files k (bounded old other k e))
 
-  pub reads : (other : List ℕ) → other ≢ new → seen es other ≡ seen old other
+  pub reads : (other : List ℕ) → other ≢ new → read_content es other ≡ read_content old other
   reads other differ = ap (λ o. content_of es o) (a.names other differ) ∙ reads_of other (file_of old other) refl
 
 -- what holds of what a crash may leave now and of what it might have left before holds of both

@@ -1,6 +1,6 @@
 -- A file that was made under a name, written and synced.
 use Rattle.std.proofs.Common.{ℕ, ◌≡◌, ◌≢◌, Bool, true, false, cond, List, ◌∷◌, ◌++◌, Some, refl, ◌∙◌, ap, arith}
-use Rattle.dconf_model.specs.Folders.{Event, files_made, file_of, is_file, content, is_synced, seen, content_of}
+use Rattle.dconf_model.specs.Folders.{Event, files_made, file_of, is_file, content, is_synced, read_content, content_of}
 use Rattle.dconf_model.specs.Folders.Event.{create, append}
 use Rattle.dconf_disk.specs.Staging.{staged_onto}
 use Rattle.dconf_model.proofs.SameBytes.{itself}
@@ -27,10 +27,10 @@ module _ (old : List Event) (name bytes : List ℕ) where
   pub made_synced : is_synced made (files_made old) ≡ true
   made_synced = ap (λ b. cond b true (is_synced (append name bytes ∷ create name ∷ old) (files_made old))) is_made
 
-  pub seen_made : seen made name ≡ Some bytes
+  pub seen_made : read_content made name ≡ Some bytes
   seen_made = ap (λ o. content_of made o) made_file ∙ ap (λ (x : List ℕ). Some x) made_content
 
-  pub seen_beside : (other : List ℕ) → other ≢ name → seen made other ≡ seen old other
+  pub seen_beside : (other : List ℕ) → other ≢ name → read_content made other ≡ read_content old other
   seen_beside other differ = reads old made name made_apart other differ
 
   either_way : (b x : Bool) → x ≡ true → cond b true (cond b false x) ≡ true

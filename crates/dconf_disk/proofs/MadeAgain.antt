@@ -1,7 +1,7 @@
 -- What is made again after a crash is what a crash may leave, and settled.
 use Rattle.std.proofs.Common.{ℕ, ◌≡◌, ◌≢◌, Bool, true, false, cond, List, [], ◌∷◌, Option, Some, None, refl, sym, ◌∙◌, ap, subst, inr}
 use Rattle.std.specs.Str.{bytes_eq}
-use Rattle.dconf_model.specs.Folders.{Event, files_made, file_of, content_of, is_synced, seen, StoodFor, MayLeaveOf, MayLeave, IsLeft}
+use Rattle.dconf_model.specs.Folders.{Event, files_made, file_of, content_of, is_synced, read_content, StoodFor, MayLeaveOf, MayLeave, IsLeft}
 use Rattle.dconf_model.specs.Folders.Event.{create, append, sync, touch, rename, sync_folder}
 use Rattle.dconf_model.proofs.ParentLaws.{by_bool}
 use Rattle.dconf_model.proofs.SameBytes.{same_path, path_itself}
@@ -62,7 +62,7 @@ module _ (given all left : List Event) (a : AreMadeAgain given all left) (name :
   pub named_before : was_named given name ≡ true → AreMadeAgain (create name ∷ given) all left
   named_before e = record {
     synced = a.synced;
-    named = λ other h. by_name other name (MayLeave all other (seen left other))
+    named = λ other h. by_name other name (MayLeave all other (read_content left other))
         (λ same. a.named other (ap (λ n. was_named given n) same ∙ e)) (λ differ. a.named other (later other true differ h));
     others = λ other h. a.others other (unnamed other h);
   }
@@ -70,8 +70,8 @@ module _ (given all left : List Event) (a : AreMadeAgain given all left) (name :
   pub none_left : was_named given name ≡ false → MayLeave all name None → AreMadeAgain (create name ∷ given) all left
   none_left e m = record {
     synced = a.synced;
-    named = λ other h. by_name other name (MayLeave all other (seen left other))
-        (λ same. subst (λ (n : List ℕ). MayLeave all n (seen left n)) (sym same) (subst (λ (c : Option (List ℕ)). MayLeave all name c) (sym (a.others name e)) m))
+    named = λ other h. by_name other name (MayLeave all other (read_content left other))
+        (λ same. subst (λ (n : List ℕ). MayLeave all n (read_content left n)) (sym same) (subst (λ (c : Option (List ℕ)). MayLeave all name c) (sym (a.others name e)) m))
         (λ differ. a.named other (later other true differ h));
     others = λ other h. a.others other (unnamed other h);
   }
@@ -86,8 +86,8 @@ module _ (given all left : List Event) (a : AreMadeAgain given all left) (name :
   pub one_left : (bytes : List ℕ) (now : List Event) → MayLeave all name (Some bytes) → now ≡ with_file bytes → AreMadeAgain (create name ∷ given) all now
   one_left bytes now m is = subst (λ (es : List Event). AreMadeAgain (create name ∷ given) all es) (sym is) (record {
     synced = all_synced left name bytes a.synced;
-    named = λ other h. by_name other name (MayLeave all other (seen (with_file bytes) other))
-        (λ same. subst (λ (n : List ℕ). MayLeave all n (seen (with_file bytes) n)) (sym same)
+    named = λ other h. by_name other name (MayLeave all other (read_content (with_file bytes) other))
+        (λ same. subst (λ (n : List ℕ). MayLeave all n (read_content (with_file bytes) n)) (sym same)
         (subst (λ (c : Option (List ℕ)). MayLeave all name c) (sym (seen_made left name bytes)) m))
         (λ differ. subst (λ (c : Option (List ℕ)). MayLeave all other c) (sym (seen_beside left name bytes other (differs_by other differ)))
         (a.named other (later other true differ h)));
@@ -115,6 +115,6 @@ all_made_again all left now a is = subst (λ (es : List Event). IsLeft all es) (
   settled = λ name d m. settled_at (sync_folder ∷ left) m.0 d a.synced m.2 ∙ ap (λ (o : Option ℕ). content_of (sync_folder ∷ left) o) m.1;
 })
   where
-    under : (name : List ℕ) (b : Bool) → was_named all name ≡ b → MayLeave all name (seen left name)
+    under : (name : List ℕ) (b : Bool) → was_named all name ≡ b → MayLeave all name (read_content left name)
     under name true e = a.named name e
     under name false e = subst (λ (c : Option (List ℕ)). MayLeave all name c) (sym (a.others name e)) (None, stood_for_none all name e, refl)

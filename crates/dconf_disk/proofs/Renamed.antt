@@ -1,7 +1,7 @@
 -- What a crash leaves once the new file is renamed.
 use Rattle.std.proofs.Common.{ℕ, ◌≡◌, ◌≢◌, true, cond, List, [], ◌∷◌, ◌++◌, length, Option, Some, None, refl, sym, ◌∙◌, ap, subst, arith, ⊎_elim, inl, inr, ◌⊎◌, codes, length-append}
 use Rattle.std.specs.Str.{bytes_eq}
-use Rattle.dconf_model.specs.Folders.{Event, files_made, file_of, content, is_synced, StoodFor, MayLeaveOf, MayLeave, seen, content_of, IsSettled}
+use Rattle.dconf_model.specs.Folders.{Event, files_made, file_of, content, is_synced, StoodFor, MayLeaveOf, MayLeave, read_content, content_of, IsSettled}
 use Rattle.dconf_model.specs.Folders.Event.{rename, sync_folder}
 use Rattle.dconf_model.specs.Replacing.{MayReplace, Replaced, MaybeReplaced, new_name}
 use Rattle.dconf_disk.specs.Staging.{Stages, staged_onto}
@@ -85,7 +85,7 @@ module _ (old : List Event) (name bytes : List ℕ) where
       leaves_old : (file : Option ℕ) → StoodFor old other file → MayLeaveOf staged file c → MayLeave old other c
       leaves_old file was l = (file, was, leaves_of old staged new apart file other c was l)
 
-  pub seen_renamed : seen renamed name ≡ Some bytes
+  pub seen_renamed : read_content renamed name ≡ Some bytes
   seen_renamed = ap (λ o. content_of renamed o) name_file ∙ ap (λ (x : List ℕ). Some x) new_content
 
   old_content : (other : List ℕ) (o : Option ℕ) → file_of old other ≡ o → content_of staged o ≡ content_of old o
@@ -96,7 +96,7 @@ module _ (old : List Event) (name bytes : List ℕ) where
   same_content None = refl
   same_content (Some k) = refl
 
-  seen_other : (other : List ℕ) → other ≢ name → other ≢ new → seen renamed other ≡ seen old other
+  seen_other : (other : List ℕ) → other ≢ name → other ≢ new → read_content renamed other ≡ read_content old other
   seen_other other d n = ap (λ o. content_of renamed o) (other_file other d n) ∙ same_content (file_of old other) ∙ old_content other (file_of old other) refl
 
   same_settled : (o : Option ℕ) → content_of settled o ≡ content_of renamed o

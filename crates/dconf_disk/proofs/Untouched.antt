@@ -1,7 +1,7 @@
 -- A failed append or sync changes no name and no content.
 use Rattle.std.proofs.Common.{ℕ, Result, Ok, Err, OnOk, OnErr, IfSome, IsSome, ◌+◌, ◌≡◌, ◌⊎◌, inl, inr, Bool, true, false, cond, Option, Some, None, List, [], ◌∷◌, ◌++◌, refl, sym, ◌∙◌, ap, subst}
 use Rattle.std.specs.Str.{bytes_eq}
-use Rattle.dconf_model.specs.Folders.{Event, files_made, file_of, content, content_of, is_file, is_synced, seen}
+use Rattle.dconf_model.specs.Folders.{Event, files_made, file_of, content, content_of, is_file, is_synced, read_content}
 use Rattle.dconf_model.specs.Folders.Event.{create, append, sync, touch, rename, sync_folder}
 use Rattle.dconf_disk.specs.MemoryFolders.{event_of, events_of, untouched, AddsTouches}
 use Rattle.dconf_disk.specs.declared.calls.Call.{Call}
@@ -43,13 +43,13 @@ contents_untouched : (es : List Event) (o : Option ℕ) → content_of (untouche
 contents_untouched es None = refl
 contents_untouched es (Some file) = ap (λ (x : List ℕ). Some x) (content_untouched es file)
 
-seen_untouched : (es : List Event) (name : List ℕ) → seen (untouched es) name ≡ seen es name
+seen_untouched : (es : List Event) (name : List ℕ) → read_content (untouched es) name ≡ read_content es name
 seen_untouched es name = ap (λ o. content_of (untouched es) o) (file_untouched es name) ∙ contents_untouched es (file_of es name)
 
 module _ (ds es : List Event) (a : AddsTouches ds es) where
   -- what the events say of a name the calls say
-  pub seen_noted : (name : List ℕ) → seen es name ≡ seen ds name
-  seen_noted name = sym (seen_untouched es name) ∙ ap (λ (x : List Event). seen x name) a.others ∙ seen_untouched ds name
+  pub seen_noted : (name : List ℕ) → read_content es name ≡ read_content ds name
+  seen_noted name = sym (seen_untouched es name) ∙ ap (λ (x : List Event). read_content x name) a.others ∙ seen_untouched ds name
 
   same_file : (name : List ℕ) → file_of es name ≡ file_of ds name
   same_file name = sym (file_untouched es name) ∙ ap (λ (x : List Event). file_of x name) a.others ∙ file_untouched ds name

@@ -1,7 +1,7 @@
 -- What is made again of a folder in memory after a crash.
 use Rattle.std.specs.Prelude.{ℕ, ◌≡◌, Bool, true, false, List, [], ◌∷◌, None, if◌then◌else◌}
 use Rattle.std.specs.Str.{bytes_eq}
-use Rattle.dconf_model.specs.Folders.{Event, is_synced, seen, MayLeave}
+use Rattle.dconf_model.specs.Folders.{Event, is_synced, read_content, MayLeave}
 use Rattle.dconf_model.specs.Folders.Event.{create, rename}
 
 -- a file was made under the name, or renamed to it
@@ -14,5 +14,5 @@ was_named (_ ∷ es) name = was_named es name
 -- Of a folder with these events all, what a crash leaves under the names of the given ones was made again, and nothing else.
 pub record AreMadeAgain (given all now : List Event) : Type 0 where
   pub synced : (file : ℕ) → is_synced now file ≡ true
-  pub named : (name : List ℕ) → was_named given name ≡ true → MayLeave all name (seen now name)
-  pub others : (name : List ℕ) → was_named given name ≡ false → seen now name ≡ None
+  pub named : (name : List ℕ) → was_named given name ≡ true → MayLeave all name (read_content now name)
+  pub others : (name : List ℕ) → was_named given name ≡ false → read_content now name ≡ None

@@ -1,6 +1,6 @@
 //! A folder of files, which counts the failures of its device.
 ghost use Rattle.std.specs.Prelude.{◌≡◌, ◌⊎◌, ◌≤◌, ◌∷◌, ℕ, List, None, IfOk, OnOk, OnErr, IsErrOf, IfSome, option_map, length};
-ghost use Rattle.dconf_model.specs.Folders.{Event, seen};
+ghost use Rattle.dconf_model.specs.Folders.{Event, read_content};
 ghost use Rattle.dconf_model.specs.Folders.Event.{create, append, sync, touch, rename, sync_folder};
 ghost use Rattle.dconf_model.specs.Reads.{IsOverSize};
 ghost use Rattle.dconf_disk.specs.Failures.{HasCause};
@@ -33,9 +33,9 @@ pub trait Folder {
     /// host fails otherwise, and `Memory`. That the name has no file is no error.
     fn read(&mut self, alloc: Global, name: &str) -> Result<Option<Vec<u8>>, FolderFault>
         ensures past { (es : List Event) → past self.old es → past self.new es }
-        ensures bytes { (es : List Event) → past self.old es → IfOk result (λ found. option_map (λ v. v.items) found ≡ seen es name.now) }
+        ensures bytes { (es : List Event) → past self.old es → IfOk result (λ found. option_map (λ v. v.items) found ≡ read_content es name.now) }
         ensures size { IfOk result (λ found. IfSome found (λ v. length v.items ≤ LARGEST_FILE)) }
-        ensures too_big { (es : List Event) → past self.old es → IsErrOf result FolderFault.TooBig → IsOverSize (seen es name.now) }
+        ensures too_big { (es : List Event) → past self.old es → IsErrOf result FolderFault.TooBig → IsOverSize (read_content es name.now) }
         ensures cause { HasCause (failed self.old) (failed self.new) result };
 
     /// Makes an empty file, in the place of any other of that name. It never fails for want of a file.
@@ -49,7 +49,7 @@ pub trait Folder {
     fn append(&mut self, name: &str, bytes: &[u8]) -> Result<(), FolderFault>
         ensures ok { (es : List Event) → past self.old es → OnOk result (past self.new (append name.now bytes.now ∷ es)) }
         ensures err { (es : List Event) → past self.old es → OnErr result (past self.new (touch name.now ∷ es) ⊎ past self.new (append name.now bytes.now ∷ es)) }
-        ensures missing { (es : List Event) → past self.old es → seen es name.now ≡ None → IsErrOf result FolderFault.Device }
+        ensures missing { (es : List Event) → past self.old es → read_content es name.now ≡ None → IsErrOf result FolderFault.Device }
         ensures only { OnErr result (IsErrOf result FolderFault.Device) }
         ensures cause { HasCause (failed self.old) (failed self.new) result };
 
@@ -57,7 +57,7 @@ pub trait Folder {
     fn sync(&mut self, name: &str) -> Result<(), FolderFault>
         ensures ok { (es : List Event) → past self.old es → OnOk result (past self.new (sync name.now ∷ es)) }
         ensures err { (es : List Event) → past self.old es → OnErr result (past self.new (touch name.now ∷ es)) }
-        ensures missing { (es : List Event) → past self.old es → seen es name.now ≡ None → IsErrOf result FolderFault.Device }
+        ensures missing { (es : List Event) → past self.old es → read_content es name.now ≡ None → IsErrOf result FolderFault.Device }
         ensures only { OnErr result (IsErrOf result FolderFault.Device) }
         ensures cause { HasCause (failed self.old) (failed self.new) result };
 
@@ -66,7 +66,7 @@ pub trait Folder {
     fn rename(&mut self, from: &str, to: &str) -> Result<(), FolderFault>
         ensures ok { (es : List Event) → past self.old es → OnOk result (past self.new (rename from.now to.now ∷ es)) }
         ensures err { (es : List Event) → past self.old es → OnErr result (past self.new es ⊎ past self.new (rename from.now to.now ∷ es)) }
-        ensures missing { (es : List Event) → past self.old es → seen es from.now ≡ None → IsErrOf result FolderFault.Device }
+        ensures missing { (es : List Event) → past self.old es → read_content es from.now ≡ None → IsErrOf result FolderFault.Device }
         ensures only { OnErr result (IsErrOf result FolderFault.Device) }
         ensures cause { HasCause (failed self.old) (failed self.new) result };
 

@@ -1,6 +1,6 @@
 //! A folder in memory, whose device fails when it is told to.
 ghost use Rattle.std.specs.Prelude.{◌≡◌, ◌⊎◌, ◌≤◌, ◌-◌, ◌↔◌, [], ◌∷◌, true, List, None, IfOk, IfSome, IsSome, OnOk, OnErr, IsErrOf, option_map, length};
-ghost use Rattle.dconf_model.specs.Folders.{Event, seen};
+ghost use Rattle.dconf_model.specs.Folders.{Event, read_content};
 ghost use Rattle.dconf_model.specs.Folders.Event.{touch};
 ghost use Rattle.dconf_model.specs.Reads.{IsOverSize};
 ghost use Rattle.dconf_disk.specs.Failures.{HasCause, failed_by};
@@ -106,7 +106,7 @@ impl MemoryFolder {
     }
 
     fn is_there(&self, name: &str) -> bool
-        ensures { result ≡ true → (es : List Event) → IsPast self.now es → seen es name.now ≡ None → ⊥ }
+        ensures { result ≡ true → (es : List Event) → IsPast self.now es → read_content es name.now ≡ None → ⊥ }
     {
         file_of(&self.calls, name).is_some()
     }
@@ -126,9 +126,9 @@ impl Folder for MemoryFolder {
     /// The call that was told to fail does, before it looks for the file.
     fn read(&mut self, alloc: Global, name: &str) -> Result<Option<Vec<u8>>, FolderFault>
         ensures past { (es : List Event) → IsPast self.old es → IsPast self.new es }
-        ensures bytes { (es : List Event) → IsPast self.old es → IfOk result (λ found. option_map (λ v. v.items) found ≡ seen es name.now) }
+        ensures bytes { (es : List Event) → IsPast self.old es → IfOk result (λ found. option_map (λ v. v.items) found ≡ read_content es name.now) }
         ensures size { IfOk result (λ found. IfSome found (λ v. length v.items ≤ LARGEST_FILE)) }
-        ensures too_big { (es : List Event) → IsPast self.old es → IsErrOf result FolderFault.TooBig → IsOverSize (seen es name.now) }
+        ensures too_big { (es : List Event) → IsPast self.old es → IsErrOf result FolderFault.TooBig → IsOverSize (read_content es name.now) }
         ensures cause { HasCause (failures_of self.old) (failures_of self.new) result }
         ensures fails { IsErrOf result FolderFault.Device ↔ (failing_call self.old ≡ 1) }
         ensures counts { failing_call self.new ≡ failing_call self.old - 1 }

@@ -9,13 +9,13 @@ use Rattle.gv_model.specs.Tree.{Tree}
 use Rattle.dconf_model.specs.Settings.{Settings}
 use Rattle.dconf_model.proofs.ParentLaws.{by_bool}
 use Rattle.dconf_model.specs.Locks.{is_below}
-use Rattle.dconf_model.specs.Values.{stored, held}
+use Rattle.dconf_model.specs.Values.{stored, held_value}
 use Rattle.dconf_model.specs.Sources.{Assigned, last_value}
 use Rattle.dconf_model.specs.Layers.{Layers, greatest_from, locks_path}
 use Rattle.dconf_model.specs.Changes.{Change, Refusal, Values, with_all, changed, apply, run, or_as_before, load_all, set_all, all_storable, first_locked, unless_locked, paths_of}
 use Rattle.dconf_model.specs.Changes.Change.{set_value, reset_value, reset_below_directory, load_values}
-use Rattle.dconf_model.specs.Stores.{sets_if, said, heard, user_value, AreAccepted, IsWhole, IsWholeChange}
-use Rattle.dconf_model.specs.Stores.Word.{silent, unset, sets}
+use Rattle.dconf_model.specs.Stores.{sets_if, saying_of, heard, user_value, AreAccepted, IsLimitedValue, IsWholeChange}
+use Rattle.dconf_model.specs.Stores.Saying.{silent, unset, sets}
 use Rattle.dconf_model.proofs.PathMaps.{get_removed, get_retained}
 use Rattle.dconf_model.proofs.SameBytes.{same_path}
 use Rattle.dconf_model.proofs.HeldLaws.{IsWholeOption}
@@ -35,7 +35,7 @@ shut later path = nat_lt 0 (greatest_from 1 (locks_path path) later)
 
 -- the value at a path
 abbrev pub value_at : Values → List ℕ → Option Tree
-value_at values path = option_and_then held (get values path)
+value_at values path = option_and_then held_value (get values path)
 
 pub record HasEffect (later : List Settings) (path : List ℕ) (old new : Values) (after : Option Tree) : Type 0 where
   pub free : shut later path ≡ false → value_at new path ≡ after
@@ -43,17 +43,17 @@ pub record HasEffect (later : List Settings) (path : List ℕ) (old new : Values
 
 -- ---- rows that are set
 
-held_or : (o : Option Tree) (base : Option (List ℕ)) → IsWholeOption o → option_and_then held (option_or (option_map stored o) base) ≡ heard (option_and_then held base) (sets_if o)
+held_or : (o : Option Tree) (base : Option (List ℕ)) → IsWholeOption o → option_and_then held_value (option_or (option_map stored o) base) ≡ heard (option_and_then held_value base) (sets_if o)
 held_or None base h = refl
 held_or (Some v) base h = stored_is_held v h.0 h.1
 
 abbrev AreOpen : List Settings → List Assigned → Type 0
 AreOpen later rows = AllByRecursion (λ row. not (shut later row.path) ≡ true) rows
 
-set_effect : (later : List Settings) (rows : List Assigned) (path : List ℕ) (m : Values) → AreOpen later rows → AllByRecursion (λ row. IsWhole row.value) rows →
+set_effect : (later : List Settings) (rows : List Assigned) (path : List ℕ) (m : Values) → AreOpen later rows → AllByRecursion (λ row. IsLimitedValue row.value) rows →
     HasEffect later path m (with_all rows m) (heard (value_at m path) (sets_if (last_value rows path)))
 set_effect later rows path m unlocked whole = record {
-  free = λ _. ap (option_and_then held) (get_all rows m path) ∙ held_or (last_value rows path) (get m path) (last_whole rows path whole);
+  free = λ _. ap (option_and_then held_value) (get_all rows m path) ∙ held_or (last_value rows path) (get m path) (last_whole rows path whole);
   kept = λ e.
       get_all rows m path
       ∙ ap (λ o. option_or (option_map stored o) (get m path)) (last_none (λ p. not (shut later p)) rows path unlocked (ap not e));
@@ -65,7 +65,7 @@ set_effect later rows path m unlocked whole = record {
 abbrev Stepped : Settings → List Settings → Layers → Change → Type 0
 Stepped s later new change =
     (values : Values) × (new ≡ store (with_values s values) later)
-    × ((path : List ℕ) → HasEffect later path s.values values (heard (value_at s.values path) (said path change)))
+    × ((path : List ℕ) → HasEffect later path s.values values (heard (value_at s.values path) (saying_of path change)))
 
 -- a change's result is that it gives these layers
 abbrev Gives : Result Layers Refusal → Layers → Type 0
@@ -113,14 +113,14 @@ load_new s later rows new e =
 -- ---- each change
 
 -- one row says what a written value says
-one_row : (p path : List ℕ) (v : Tree) → sets_if (last_value (record { path = p; value = v } ∷ []) path) ≡ said path (set_value p v)
+one_row : (p path : List ℕ) (v : Tree) → sets_if (last_value (record { path = p; value = v } ∷ []) path) ≡ saying_of path (set_value p v)
 one_row p path v = ap sets_if (last_step None (record { path = p; value = v }) [] path) ∙ go (bytes_eq p path)
   where
     go : (b : Bool) → sets_if (cond b (Some v) None) ≡ cond b (sets v) silent
     go true = refl
     go false = refl
 
-write_step : (s : Settings) (later : List Settings) (p : List ℕ) (v : Tree) (new : Layers) → IsWhole v →
+write_step : (s : Settings) (later : List Settings) (p : List ℕ) (v : Tree) (new : Layers) → IsLimitedValue v →
     Gives (apply (store s later) (set_value p v)) new → Stepped s later new (set_value p v)
 write_step s later p v new whole e =
     let rows : List Assigned = record { path = p; value = v } ∷ [] in
@@ -132,7 +132,7 @@ write_step s later p v new whole e =
           (set_effect later rows path s.values parts.0 (whole, tt)),
     )
 
-load_step : (s : Settings) (later : List Settings) (rows : List Assigned) (force : Bool) (new : Layers) → AllByRecursion (λ row. IsWhole row.value) rows →
+load_step : (s : Settings) (later : List Settings) (rows : List Assigned) (force : Bool) (new : Layers) → AllByRecursion (λ row. IsLimitedValue row.value) rows →
     Gives (apply (store s later) (load_values rows force)) new → Stepped s later new (load_values rows force)
 load_step s later rows false new whole e =
     let parts = load_new s later rows new e in
@@ -157,12 +157,12 @@ reset_step s later p new e =
       remove s.values p,
       the_new (store s later) (changed (λ values. remove values p) (store s later)) new parts.1,
       λ path. record {
-        free = λ _. ap (option_and_then held) (get_removed s.values p path) ∙ unset_if path (bytes_eq p path);
+        free = λ _. ap (option_and_then held_value) (get_removed s.values p path) ∙ unset_if path (bytes_eq p path);
         kept = λ f. get_removed s.values p path ∙ ap (λ b. cond b None (get s.values path)) (other path parts.0.0 f);
       },
     )
   where
-    unset_if : (path : List ℕ) (b : Bool) → option_and_then held (cond b None (get s.values path)) ≡ heard (value_at s.values path) (cond b unset silent)
+    unset_if : (path : List ℕ) (b : Bool) → option_and_then held_value (cond b None (get s.values path)) ≡ heard (value_at s.values path) (cond b unset silent)
     unset_if path true = refl
     unset_if path false = refl
 
@@ -179,12 +179,12 @@ below_step s later directory new e =
       retain_keys s.values keep,
       the_new (store s later) (changed (λ values. retain_keys values keep) (store s later)) new e,
       λ path. record {
-        free = λ f. ap (option_and_then held) (get_retained s.values keep path) ∙ (ap (λ b. option_and_then held (cond (cond (is_below path directory) b true) (get s.values path) None)) f ∙ unset_if path (is_below path directory));
+        free = λ f. ap (option_and_then held_value) (get_retained s.values keep path) ∙ (ap (λ b. option_and_then held_value (cond (cond (is_below path directory) b true) (get s.values path) None)) f ∙ unset_if path (is_below path directory));
         kept = λ f. get_retained s.values keep path ∙ (ap (λ b. cond (cond (is_below path directory) b true) (get s.values path) None) f ∙ all_stay path (is_below path directory));
       },
     )
   where
-    unset_if : (path : List ℕ) (b : Bool) → option_and_then held (cond (cond b false true) (get s.values path) None) ≡ heard (value_at s.values path) (cond b unset silent)
+    unset_if : (path : List ℕ) (b : Bool) → option_and_then held_value (cond (cond b false true) (get s.values path) None) ≡ heard (value_at s.values path) (cond b unset silent)
     unset_if path true = refl
     unset_if path false = refl
 
@@ -208,7 +208,7 @@ AreRun s later changes =
 
 -- the effect of a change, and then of more
 both_effects : (later : List Settings) (path : List ℕ) (old middle new : Values) (change : Change) (changes : List Change) →
-    HasEffect later path old middle (heard (value_at old path) (said path change)) →
+    HasEffect later path old middle (heard (value_at old path) (saying_of path change)) →
     HasEffect later path middle new (user_value path (value_at middle path) changes) →
     HasEffect later path old new (user_value path (value_at old path) (change ∷ changes))
 both_effects later path old middle new change changes h k = record {

@@ -7,11 +7,11 @@ use Rattle.std.specs.FinMap.{get}
 use Rattle.gv_model.specs.Tree.{Tree}
 use Rattle.dconf_model.specs.Settings.{Settings}
 use Rattle.dconf_model.specs.Locks.{covers}
-use Rattle.dconf_model.specs.Values.{held}
+use Rattle.dconf_model.specs.Values.{held_value}
 use Rattle.dconf_model.specs.Sources.{Given, FileFault, AreGiven, last_value, taken, first_file}
 use Rattle.dconf_model.specs.Databases.{Says, IsMadeOfGiven, AreLayers}
 use Rattle.dconf_model.specs.Layers.{greatest_from, locks_path, later_or, first_from, place_or}
-use Rattle.dconf_model.specs.Stores.{Compilation, IsCompilation, IsWhole, givens, level_given, first_given}
+use Rattle.dconf_model.specs.Stores.{Compilation, IsCompilation, IsLimitedValue, givens, level_given, first_given}
 use Rattle.dconf_model.proofs.PathMaps.{no_truth}
 use Rattle.dconf_model.proofs.DatabaseLaws.{says_one_thing, written_says_settings}
 use Rattle.dconf_model.proofs.SourceLocks.{same_locks, locked_paths}
@@ -21,7 +21,7 @@ use Rattle.dconf_model.proofs.HeldLaws.{is_held, held_of_stored}
 -- settings that hold what is given
 pub record Holds (g : Given) (s : Settings) : Type 0 where
   pub given : AreGiven g s
-  pub whole : AllByRecursion (λ row. IsWhole row.value) g.values
+  pub whole : AllByRecursion (λ row. IsLimitedValue row.value) g.values
 
 abbrev pub HoldAll : List Given → List Settings → Type 0
 HoldAll [] [] = Unit {0}
@@ -58,7 +58,7 @@ same_level from (g ∷ gs) (s ∷ ss) path h =
 
 -- the value at the first place that has one
 abbrev pub value_from_layers : ℕ → List Settings → List ℕ → Option Tree
-value_from_layers i ss path = option_and_then held (option_map (λ p. p.1) (first_from i ss path))
+value_from_layers i ss path = option_and_then held_value (option_map (λ p. p.1) (first_from i ss path))
 
 -- what is there is taken
 first_there : {X : Type 0} (o later : Option X) → is_some o ≡ true → o ≡ option_or o later
@@ -67,16 +67,16 @@ first_there None later e = absurd (no_truth e)
 
 -- a layer before others
 pub value_after : (i : ℕ) (s : Settings) (ss : List Settings) (path : List ℕ) →
-    value_from_layers i (s ∷ ss) path ≡ option_or (option_and_then held (get s.values path)) (value_from_layers (i + 1) ss path)
+    value_from_layers i (s ∷ ss) path ≡ option_or (option_and_then held_value (get s.values path)) (value_from_layers (i + 1) ss path)
 value_after i s ss path = go (get s.values path)
   where
-    go : (o : Option (List ℕ)) → option_and_then held (option_map (λ p. p.1) (place_or i o (first_from (i + 1) ss path))) ≡ option_or (option_and_then held o) (value_from_layers (i + 1) ss path)
+    go : (o : Option (List ℕ)) → option_and_then held_value (option_map (λ p. p.1) (place_or i o (first_from (i + 1) ss path))) ≡ option_or (option_and_then held_value o) (value_from_layers (i + 1) ss path)
     go None = refl
-    go (Some bytes) = first_there (held bytes) (value_from_layers (i + 1) ss path) (is_held bytes)
+    go (Some bytes) = first_there (held_value bytes) (value_from_layers (i + 1) ss path) (is_held bytes)
 
 -- a compiled layer's value is the last row's
-value_held : (g : Given) (s : Settings) (path : List ℕ) → Holds g s → option_and_then held (get s.values path) ≡ last_value g.values path
-value_held g s path h = ap (option_and_then held) (h.given.values path) ∙ held_of_stored (last_value g.values path) (last_whole g.values path h.whole)
+value_held : (g : Given) (s : Settings) (path : List ℕ) → Holds g s → option_and_then held_value (get s.values path) ≡ last_value g.values path
+value_held g s path h = ap (option_and_then held_value) (h.given.values path) ∙ held_of_stored (last_value g.values path) (last_whole g.values path h.whole)
 
 pub same_first : (i : ℕ) (gs : List Given) (ss : List Settings) (path : List ℕ) → HoldAll gs ss → value_from_layers i ss path ≡ first_given gs path
 same_first i [] [] path h = refl

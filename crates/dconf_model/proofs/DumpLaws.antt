@@ -6,7 +6,7 @@ use Rattle.std.specs.Cmp.Lexicographic.{bytes_decides}
 use Rattle.std.proofs.Common.{sym, ap, subst, ◌∙◌, arith}
 use Rattle.std.proofs.lemmas.Bool.{true≢false, ne_eqb, le-ltb, false_from_ne_true}
 use Rattle.std.proofs.lemmas.Str.{is_utf8-from_IsUtf8}
-use Rattle.dconf_model.specs.Lines.{LineFault, longest_text, read_after, put_first, with_first}
+use Rattle.dconf_model.specs.Lines.{LineFault, longest_text, read_after, put_first, with_first_found}
 use Rattle.dconf_model.specs.Lines.LineReading.{nothing}
 use Rattle.dconf_model.specs.Keyfiles.{Row, DumpRow, RowFault, DumpReadsBack, rows_of, setting_of, dump_row, dumped_or, first_row_fault, group_name, in_groups, text_after, last_group}
 use Rattle.dconf_model.proofs.EndedLines.{ended, lines_of-ended}
@@ -45,7 +45,7 @@ module _ (directory : List ℕ) where
       let row : Row = row_at (length earlier + 1) (group_name r.part) r.key r.text in
       let rest : Result (List Row) LineFault = read_after read_one (earlier ++ row_line r.key r.text ∷ []) lines in (
         row ∷ later.0,
-        ap (λ got. put_first (length earlier + 1) got rest) (read_row earlier (group_name r.part) r.key r.text w.key w.text same) ∙ ap (with_first row) later.1,
+        ap (λ got. put_first (length earlier + 1) got rest) (read_row earlier (group_name r.part) r.key r.text w.key w.text same) ∙ ap (with_first_found row) later.1,
         λ i. same_setting (length earlier + 1) r w i ∷ later.2 i,
       )
 

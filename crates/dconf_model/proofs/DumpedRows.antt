@@ -14,8 +14,8 @@ use Rattle.std.proofs.lemmas.Str.{IsUtf8-from_is_utf8, IsUtf8-nil, IsUtf8-take, 
 use Rattle.dconf_model.specs.Paths.{has_two_slashes, is_directory_path, is_path, ends_with_slash, starts_with_slash, is_short}
 use Rattle.gv_model.specs.Texts.{has_zero_byte}
 use Rattle.dconf_model.specs.Order.{in_order}
-use Rattle.dconf_model.specs.Causes.{Cause}
-use Rattle.dconf_model.specs.Causes.Cause.{bad_group, bad_key_name}
+use Rattle.dconf_model.specs.Causes.{SettingsCause}
+use Rattle.dconf_model.specs.Causes.SettingsCause.{bad_group, bad_key_name}
 use Rattle.dconf_model.specs.Keyfiles.{DumpRow, Setting, MayBeDumped, RowFault, key_len, dump_row, group_name, is_group, is_readable_key, row_fault, or_later, first_row_fault, in_groups}
 use Rattle.dconf_model.proofs.Trimmed.{past}
 use Rattle.dconf_model.proofs.KeyfileLines.{KeyParts, TextParts, key_parts, text_parts}
@@ -135,7 +135,7 @@ writes_one directory x d may none =
       text_utf8 = IsUtf8-from_is_utf8 x.text may.utf8.1;
     }
 
-later_fault : (n : ℕ) (o : Option Cause) (later : Option RowFault) → or_later n o later ≡ None → (o ≡ None) × (later ≡ None)
+later_fault : (n : ℕ) (o : Option SettingsCause) (later : Option RowFault) → or_later n o later ≡ None → (o ≡ None) × (later ≡ None)
 later_fault n (Some c) later e = absurd (none-some _ (sym e))
 later_fault n None later e = (refl, e)
 

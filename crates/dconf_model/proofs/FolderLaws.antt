@@ -4,7 +4,7 @@ use Rattle.std.proofs.Common.{inl, inr, subst, ap, ◌∙◌, arith, length-appe
 use Rattle.std.specs.Str.{bytes_eq}
 use Rattle.std.specs.Cmp.Lexicographic.{bytes_decides}
 use Rattle.dconf_model.specs.Bytes.{MaybeBytes}
-use Rattle.dconf_model.specs.Folders.{Event, StoodFor, MayLeave, MayLeaveOf, MayHaveLeft, Grows, seen, file_of, content_of}
+use Rattle.dconf_model.specs.Folders.{Event, StoodFor, MayLeave, MayLeaveOf, MayHaveLeft, Grows, read_content, file_of, content_of}
 use Rattle.dconf_model.specs.Folders.Event.{create, append, sync, touch, rename, sync_folder}
 
 after_create : (es : List Event) (made name : List ℕ) → StoodFor es name (file_of es name) → StoodFor (create made ∷ es) name (file_of (create made ∷ es) name)
@@ -37,7 +37,7 @@ leaves_content es None = refl
 leaves_content es (Some file) = (refl, λ e. refl)
 
 -- a crash may leave what a read gives
-pub seen_may : (es : List Event) (name : List ℕ) → MayLeave es name (seen es name)
+pub seen_may : (es : List Event) (name : List ℕ) → MayLeave es name (read_content es name)
 seen_may es name = (file_of es name, current es name, leaves_content es (file_of es name))
 
 -- ---- moments

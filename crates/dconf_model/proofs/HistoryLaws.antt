@@ -2,7 +2,7 @@
 use Rattle.std.specs.Prelude.{◌≡◌, ◌⊎◌, ℕ, List, [], ◌∷◌, length, refl}
 use Rattle.std.proofs.Common.{inl, inr, subst}
 use Rattle.dconf_model.specs.Bytes.{MaybeBytes}
-use Rattle.dconf_model.specs.Folders.{Event, MayLeave, seen}
+use Rattle.dconf_model.specs.Folders.{Event, MayLeave, read_content}
 use Rattle.dconf_model.specs.Histories.{Ending, MayRun, Step, History, Kept, NothingIsLost}
 use Rattle.dconf_model.specs.Histories.Ending.{done, refused, faulted, stopped}
 use Rattle.dconf_model.proofs.FolderLaws.{seen_may, counts_now, longer}
@@ -15,14 +15,14 @@ module _ {Command : Type 0} (may : MaybeBytes → Command → MaybeBytes → Typ
   done_first : (old mid : List Event) (command : Command) (more : List (Command × Ending)) (c : MaybeBytes) → Step may name old command done mid → From mid more c → From old ((command, done) ∷ more) c
   done_first old mid command more c step later =
       let same : later.0 ≡ step.0 = step.2 later.0 later.1 in
-      (seen old name, seen_may old name, (command ∷ later.2.0, (later.2.0, refl, later.2.1), (step.0, step.1, subst (λ first. MayRun may first later.2.0 c) same later.2.2)))
+      (read_content old name, seen_may old name, (command ∷ later.2.0, (later.2.0, refl, later.2.1), (step.0, step.1, subst (λ first. MayRun may first later.2.0 c) same later.2.2)))
 
   made : (old mid : List Event) (command : Command) (end : Ending) (more : List (Command × Ending)) (c first : MaybeBytes) (kept : List Command) →
       ((all : List Command) → (Kept more all ⊎ ((others : List Command) × (all ≡ command ∷ others) × Kept more others)) → Kept ((command, end) ∷ more) all) →
-      MayLeave old name first ⊎ may (seen old name) command first → Kept more kept → MayRun may first kept c → From old ((command, end) ∷ more) c
+      MayLeave old name first ⊎ may (read_content old name) command first → Kept more kept → MayRun may first kept c → From old ((command, end) ∷ more) c
   made old mid command end more c first kept may_keep how k run = elim how [
     | inl before ↦ (first, before, (kept, may_keep kept (inl k), run))
-    | inr by ↦ (seen old name, seen_may old name, (command ∷ kept, may_keep (command ∷ kept) (inr (kept, refl, k)), (first, by, run)))
+    | inr by ↦ (read_content old name, seen_may old name, (command ∷ kept, may_keep (command ∷ kept) (inr (kept, refl, k)), (first, by, run)))
   ]
 
   one_more : (end : Ending) (old mid : List Event) (command : Command) (more : List (Command × Ending)) (c : MaybeBytes) → Step may name old command end mid → From mid more c → From old ((command, end) ∷ more) c
@@ -43,5 +43,5 @@ module _ {Command : Type 0} (may : MaybeBytes → Command → MaybeBytes → Typ
 pub nothing_is_lost : {Command : Type 0} (may : MaybeBytes → Command → MaybeBytes → Type 0) → NothingIsLost may
 nothing_is_lost may name old new steps c settled history m =
     let all = from_all may name old new steps c history m in
-    let same : all.0 ≡ seen old name = settled all.0 all.1 in
+    let same : all.0 ≡ read_content old name = settled all.0 all.1 in
     (all.2.0, all.2.1, subst (λ first. MayRun may first all.2.0 c) same all.2.2)

@@ -9,16 +9,16 @@ use Rattle.std.proofs.lemmas.List.{append-nil, length-append, take_at, drop_at}
 use Rattle.std.proofs.lemmas.List.Elements.{filter_map-append}
 use Rattle.std.proofs.lemmas.List.Folds.{list_any-append}
 use Rattle.gv_model.specs.Texts.{has_zero_byte}
-use Rattle.dconf_model.specs.Lines.{LineReading, is_blank, is_space, without_start, without_end}
+use Rattle.dconf_model.specs.Lines.{LineReading, is_line_blank, is_space, without_start, without_end}
 use Rattle.dconf_model.specs.Lines.LineReading.{nothing, found}
-use Rattle.dconf_model.specs.Keyfiles.{Row, is_control, is_plain, is_group, is_key, is_equals, is_readable_key, is_one_line, meant, begins_with, ends_in, kind_of, group_in, group_named, last_group, row_of, row_if, line_read, or_bad_group}
+use Rattle.dconf_model.specs.Keyfiles.{Row, is_control, is_plain, is_group, is_key, is_equals, is_readable_key, is_one_line, without_blanks, begins_with, ends_in, line_kind, group_in, group_named, last_group, row_of, row_if, line_read, or_bad_group}
 use Rattle.dconf_model.specs.Keyfiles.LineKind.{bracket, entry}
 use Rattle.dconf_model.proofs.Trimmed.{both_whole, end_whole, start_whole, end_none, start_none, end_stops, start_stops, before_it, after_it, no_such_byte}
 use Rattle.dconf_model.proofs.EndedLines.{HasNoFeed}
 
 -- a line, read after others
 abbrev pub read_one : List (List ℕ) → List ℕ → LineReading Row
-read_one earlier line = line_read (kind_of (meant line)) earlier (meant line)
+read_one earlier line = line_read (line_kind (without_blanks line)) earlier (without_blanks line)
 
 abbrev pub head_line : List ℕ → List ℕ
 head_line g = 91 ∷ (g ++ 93 ∷ [])
@@ -42,7 +42,7 @@ last_after o [] g = refl
 last_after o (x ∷ gs) g = last_after (Some x) gs g
 
 abbrev pub named : List ℕ → Option (List ℕ)
-named line = group_named (kind_of (meant line)) (meant line)
+named line = group_named (line_kind (without_blanks line)) (without_blanks line)
 
 pub group_stays : (earlier : List (List ℕ)) (line : List ℕ) → named line ≡ None → last_group (earlier ++ line ∷ []) ≡ last_group earlier
 group_stays earlier line e =
@@ -68,10 +68,10 @@ empty_stays earlier = group_stays earlier [] refl
 
 -- ---- a heading
 
-meant_head : (g : List ℕ) → meant (head_line g) ≡ head_line g
-meant_head g = both_whole is_space is_blank (head_line g) refl (end_stops is_blank (91 ∷ g) 93 [] refl refl)
+meant_head : (g : List ℕ) → without_blanks (head_line g) ≡ head_line g
+meant_head g = both_whole is_space is_line_blank (head_line g) refl (end_stops is_line_blank (91 ∷ g) 93 [] refl refl)
 
-kind_head : (g : List ℕ) → kind_of (head_line g) ≡ bracket
+kind_head : (g : List ℕ) → line_kind (head_line g) ≡ bracket
 kind_head g = rw (not_empty 91 (g ++ 93 ∷ [])) refl
 
 pub inside_head : (g : List ℕ) → take (length (head_line g) - 2) (drop 1 (head_line g)) ≡ g
@@ -88,11 +88,11 @@ group_in_head g h = rw (inside_head g, ends_head g, h) refl
 
 pub read_head : (earlier : List (List ℕ)) (g : List ℕ) → is_group g ≡ true → read_one earlier (head_line g) ≡ nothing
 read_head earlier g h =
-    ap (λ s. line_read (kind_of s) earlier s) (meant_head g) ∙ ap (λ k. line_read k earlier (head_line g)) (kind_head g) ∙ ap or_bad_group (group_in_head g h)
+    ap (λ s. line_read (line_kind s) earlier s) (meant_head g) ∙ ap (λ k. line_read k earlier (head_line g)) (kind_head g) ∙ ap or_bad_group (group_in_head g h)
 
 pub head_comes : (earlier : List (List ℕ)) (g : List ℕ) → is_group g ≡ true → last_group (earlier ++ head_line g ∷ []) ≡ Some g
 head_comes earlier g h =
-    group_comes earlier (head_line g) g (ap (λ s. group_named (kind_of s) s) (meant_head g) ∙ ap (λ k. group_named k (head_line g)) (kind_head g) ∙ group_in_head g h)
+    group_comes earlier (head_line g) g (ap (λ s. group_named (line_kind s) s) (meant_head g) ∙ ap (λ k. group_named k (head_line g)) (kind_head g) ∙ group_in_head g h)
 
 -- ---- keys and texts that fit on a line
 
@@ -126,13 +126,13 @@ pub record TextParts (s : List ℕ) : Type 0 where
   pub feed : HasNoFeed s
   pub nul : has_zero_byte s ≡ false
   pub start : prefix_len is_space s ≡ 0
-  pub ending : suffix_len is_blank s ≡ 0
+  pub ending : suffix_len is_line_blank s ≡ 0
 
-less_start : (s : List ℕ) → prefix_len is_blank s ≡ 0 → prefix_len is_space s ≡ 0
+less_start : (s : List ℕ) → prefix_len is_line_blank s ≡ 0 → prefix_len is_space s ≡ 0
 less_start [] h = refl
-less_start (c ∷ s) h = go (is_blank c) refl h
+less_start (c ∷ s) h = go (is_line_blank c) refl h
   where
-    go : (b : Bool) → is_blank c ≡ b → cond b (1 + prefix_len is_blank s) 0 ≡ 0 → cond (is_space c) (1 + prefix_len is_space s) 0 ≡ 0
+    go : (b : Bool) → is_line_blank c ≡ b → cond b (1 + prefix_len is_line_blank s) 0 ≡ 0 → cond (is_space c) (1 + prefix_len is_space s) 0 ≡ 0
     go true same more = let false_now : ⊥ = omega (arith, more) in absurd false_now
     go false same more = rw (or_parts (is_space c) (c == 13) same).0 refl
 
@@ -143,18 +143,18 @@ pub text_parts : (s : List ℕ) → is_one_line s ≡ true → TextParts s
 text_parts s e =
     let parts = and_parts (not (list_any is_feed_or_nul s)) _ e in
     let none_of = not-true (list_any is_feed_or_nul s) parts.0 in
-    let whole = (bytes_decides (without_start is_blank (without_end is_blank s)) s).0 parts.1 in
+    let whole = (bytes_decides (without_start is_line_blank (without_end is_line_blank s)) s).0 parts.1 in
     record {
       feed = no_such_byte is_feed_or_nul 10 s refl none_of;
       nul = no_such_byte is_feed_or_nul 0 s refl none_of;
-      start = less_start s (start_none is_blank is_blank s whole);
-      ending = end_none is_blank is_blank s whole;
+      start = less_start s (start_none is_line_blank is_line_blank s whole);
+      ending = end_none is_line_blank is_line_blank s whole;
     }
 
 -- ---- a key with its text
 
-meant_row : (key text : List ℕ) → KeyParts key → TextParts text → meant (row_line key text) ≡ row_line key text
-meant_row key text k t = both_whole is_space is_blank (row_line key text) (start_stops is_space key 61 text k.start refl) (end_stops is_blank key 61 text t.ending refl)
+meant_row : (key text : List ℕ) → KeyParts key → TextParts text → without_blanks (row_line key text) ≡ row_line key text
+meant_row key text k t = both_whole is_space is_line_blank (row_line key text) (start_stops is_space key 61 text k.start refl) (end_stops is_line_blank key 61 text t.ending refl)
 
 not_bracket : (c : ℕ) → is_special c ≡ false → (nat_eq 91 c && true) ≡ false
 not_bracket c e = go (nat_eq 91 c) refl
@@ -163,7 +163,7 @@ not_bracket c e = go (nat_eq 91 c) refl
     go true same = absurd (true≢false (ap is_special (eqb-true 91 c same) ∙ e))
     go false same = refl
 
-kind_row : (key text : List ℕ) → KeyParts key → kind_of (row_line key text) ≡ entry
+kind_row : (key text : List ℕ) → KeyParts key → line_kind (row_line key text) ≡ entry
 kind_row [] text k = absurd (true≢false (sym k.filled))
 kind_row (c ∷ key) text k =
     rw (not_empty c (row_line key text), k.mark, not_bracket c (or_parts (is_special c) (list_any is_special key) k.special).0) refl
@@ -199,11 +199,11 @@ read_entry earlier g key text k t same =
 pub read_row : (earlier : List (List ℕ)) (g key text : List ℕ) → KeyParts key → TextParts text → last_group earlier ≡ Some g →
     read_one earlier (row_line key text) ≡ found (row_at (length earlier + 1) g key text)
 read_row earlier g key text k t same =
-    ap (λ s. line_read (kind_of s) earlier s) (meant_row key text k t) ∙ ap (λ kind. line_read kind earlier (row_line key text)) (kind_row key text k) ∙ read_entry earlier g key text k t same
+    ap (λ s. line_read (line_kind s) earlier s) (meant_row key text k t) ∙ ap (λ kind. line_read kind earlier (row_line key text)) (kind_row key text k) ∙ read_entry earlier g key text k t same
 
 pub row_stays : (earlier : List (List ℕ)) (key text : List ℕ) → KeyParts key → TextParts text → last_group (earlier ++ row_line key text ∷ []) ≡ last_group earlier
 row_stays earlier key text k t =
-    group_stays earlier (row_line key text) (ap (λ s. group_named (kind_of s) s) (meant_row key text k t) ∙ ap (λ kind. group_named kind (row_line key text)) (kind_row key text k))
+    group_stays earlier (row_line key text) (ap (λ s. group_named (line_kind s) s) (meant_row key text k t) ∙ ap (λ kind. group_named kind (row_line key text)) (kind_row key text k))
 
 -- ---- no line feed in a group
 

@@ -10,7 +10,7 @@ use Rattle.dconf_model.proofs.ParentLaws.{by_bool}
 use Rattle.dconf_model.specs.Values.{stored}
 use Rattle.dconf_model.specs.Sources.{Assigned, value_if_at, last_value}
 use Rattle.dconf_model.specs.Changes.{Values, with_all}
-use Rattle.dconf_model.specs.Stores.{IsWhole}
+use Rattle.dconf_model.specs.Stores.{IsLimitedValue}
 use Rattle.dconf_model.proofs.PathMaps.{get_inserted}
 use Rattle.dconf_model.proofs.SameBytes.{same_path}
 use Rattle.dconf_model.proofs.HeldLaws.{IsWholeOption}
@@ -50,19 +50,19 @@ get_all rows m p = get_from None m rows p (get m p) refl
 
 -- ---- a value of whole rows is whole
 
-next_whole : (o : Option Tree) (row : Assigned) (p : List ℕ) → IsWholeOption o → IsWhole row.value → IsWholeOption (next_value o row p)
+next_whole : (o : Option Tree) (row : Assigned) (p : List ℕ) → IsWholeOption o → IsLimitedValue row.value → IsWholeOption (next_value o row p)
 next_whole o row p h k = go (bytes_eq row.path p)
   where
     go : (b : Bool) → IsWholeOption (cond b (Some row.value) o)
     go true = k
     go false = h
 
-whole_from : (o : Option Tree) (rows : List Assigned) (p : List ℕ) → IsWholeOption o → AllByRecursion (λ row. IsWhole row.value) rows → IsWholeOption (last_from o rows p)
+whole_from : (o : Option Tree) (rows : List Assigned) (p : List ℕ) → IsWholeOption o → AllByRecursion (λ row. IsLimitedValue row.value) rows → IsWholeOption (last_from o rows p)
 whole_from o [] p h k = h
 whole_from o (row ∷ rows) p h k =
     subst IsWholeOption (sym (last_step o row rows p)) (whole_from (next_value o row p) rows p (next_whole o row p h k.0) k.1)
 
-pub last_whole : (rows : List Assigned) (p : List ℕ) → AllByRecursion (λ row. IsWhole row.value) rows → IsWholeOption (last_value rows p)
+pub last_whole : (rows : List Assigned) (p : List ℕ) → AllByRecursion (λ row. IsLimitedValue row.value) rows → IsWholeOption (last_value rows p)
 last_whole rows p h = whole_from None rows p tt h
 
 -- ---- rows that are left out by their paths
@@ -99,9 +99,9 @@ all_kept keep (row ∷ rows) =
     (λ kept. rw kept (kept, all_kept keep rows))
     (λ out. rw out (all_kept keep rows))
 
-pub whole_kept : (keep : List ℕ → Bool) (rows : List Assigned) → AllByRecursion (λ row. IsWhole row.value) rows → AllByRecursion (λ row. IsWhole row.value) (filter (λ row. keep row.path) rows)
+pub whole_kept : (keep : List ℕ → Bool) (rows : List Assigned) → AllByRecursion (λ row. IsLimitedValue row.value) rows → AllByRecursion (λ row. IsLimitedValue row.value) (filter (λ row. keep row.path) rows)
 whole_kept keep [] h = tt
 whole_kept keep (row ∷ rows) h =
-    by_bool (keep row.path) (AllByRecursion (λ row. IsWhole row.value) (filter (λ row. keep row.path) (row ∷ rows)))
+    by_bool (keep row.path) (AllByRecursion (λ row. IsLimitedValue row.value) (filter (λ row. keep row.path) (row ∷ rows)))
     (λ kept. rw kept (h.0, whole_kept keep rows h.1))
     (λ out. rw out (whole_kept keep rows h.1))

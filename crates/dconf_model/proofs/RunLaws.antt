@@ -1,26 +1,26 @@
 -- Laws of runs.
 use Rattle.std.specs.Prelude.{◌≡◌, ◌⊎◌, ℕ, List, length, Option, Some, None, refl}
 use Rattle.std.proofs.Common.{inl, inr, subst, sym, ap, ◌∙◌}
-use Rattle.dconf_model.specs.Folders.{Event, MayLeave, MayHaveLeft, seen}
+use Rattle.dconf_model.specs.Folders.{Event, MayLeave, MayHaveLeft, read_content}
 use Rattle.dconf_model.specs.Replacing.{MayReplace, new_name}
 use Rattle.dconf_model.specs.Commands.{Command}
-use Rattle.dconf_model.specs.Reads.{Reads, Input, steady}
+use Rattle.dconf_model.specs.Reads.{ReadResults, Input, steady}
 use Rattle.dconf_model.specs.Outcomes.{Output, Outcome, Replacement, IsOutcome}
-use Rattle.dconf_model.specs.Runs.{RanCalmly, ReadsAll, Ending, Did, AnswersIn, EndsCalmly, CalmRuns, RunsAreCrashSafe, IsCrashSafe, MayMake, IsNewName, written}
-use Rattle.dconf_model.specs.Runs.Ending.{as_meant, device}
+use Rattle.dconf_model.specs.Runs.{RanCalmly, ReadsAll, RunEnding, Did, AnswersIn, EndsCalmly, CalmRuns, RunsAreCrashSafe, IsCrashSafe, MayMake, IsNewName, output_of}
+use Rattle.dconf_model.specs.Runs.RunEnding.{as_meant, device}
 use Rattle.dconf_model.proofs.FolderLaws.{unchanged}
 use Rattle.dconf_model.proofs.SameBytes.{same_or_not}
 
-steady_reads : (old : List Event) (reads : Reads) → ReadsAll old reads → reads ≡ steady (seen old)
+steady_reads : (old : List Event) (reads : ReadResults) → ReadsAll old reads → reads ≡ steady (read_content old)
 steady_reads old reads all = λ i n name. all n name i
 
-calm_from : (command : Command) (input : Input) (reads : Reads) (old new : List Event) (output : Output) → reads ≡ steady (seen old) →
+calm_from : (command : Command) (input : Input) (reads : ReadResults) (old new : List Event) (output : Output) → reads ≡ steady (read_content old) →
     (answers : AnswersIn command input reads old new output) → EndsCalmly answers → RanCalmly command input old new output
 calm_from command input reads old new output same (inl p) calm = inl (record {
   outcome = p.0.outcome;
   is = subst (λ r. IsOutcome command r input p.0.outcome) same p.0.is;
   did = subst (λ e. Did p.0.outcome.change e old new) calm p.1;
-  output_is = p.0.output_is ∙ ap (written p.0.outcome) calm;
+  output_is = p.0.output_is ∙ ap (output_of p.0.outcome) calm;
 })
 calm_from command input reads old new output same (inr m) calm = inr m
 
@@ -29,7 +29,7 @@ calm_runs command input old new output r all calm = calm_from command input r.re
 
 -- ---- crashes
 
-module _ (command : Command) (input : Input) (reads : Reads) (o : Outcome) (is : IsOutcome command reads input o) where
+module _ (command : Command) (input : Input) (reads : ReadResults) (o : Outcome) (is : IsOutcome command reads input o) where
   abbrev Safe : List Event → List ℕ → Option (List ℕ) → Type 0
   Safe old name c = MayLeave old name c ⊎ (((bytes : List ℕ) × MayMake command input reads name bytes × (c ≡ Some bytes)) ⊎ IsNewName command input reads name)
 
@@ -46,7 +46,7 @@ module _ (command : Command) (input : Input) (reads : Reads) (o : Outcome) (is :
     ]
   ]
 
-  safe : (change : Option Replacement) → o.change ≡ change → (e : Ending) (old new : List Event) → Did change e old new →
+  safe : (change : Option Replacement) → o.change ≡ change → (e : RunEnding) (old new : List Event) → Did change e old new →
       (name : List ℕ) (c : Option (List ℕ)) → MayHaveLeft new (length old) name c → Safe old name c
   safe None change as_meant old new did name c h = inl (unchanged old new name c did h)
   safe None change device old new did name c h = absurd did

@@ -7,8 +7,8 @@ use Rattle.std.specs.FinMap.{keys, contains_key}
 use Rattle.dconf_model.specs.Paths.{is_path, starts_with_slash}
 use Rattle.dconf_model.specs.Settings.{Settings}
 use Rattle.dconf_model.proofs.ParentLaws.{by_bool}
-use Rattle.dconf_model.specs.Causes.Cause.{lock_not_key, too_big, not_utf8}
-use Rattle.dconf_model.specs.Lines.{LineReading, LineFault, put_first, read_after, read_file, lines_of, fault_at, bad_line, longest_text}
+use Rattle.dconf_model.specs.Causes.SettingsCause.{lock_not_key, too_big, not_utf8}
+use Rattle.dconf_model.specs.Lines.{LineReading, LineFault, put_first, read_after, read_file, lines_of, fault_at_line, bad_line, longest_text}
 use Rattle.dconf_model.specs.Lines.LineReading.{nothing, found, wrong}
 use Rattle.dconf_model.specs.Locks.{LockLine, lock_line, locks_in}
 use Rattle.dconf_model.specs.Sources.{Source, File, FileFault, Given, given, and_locks, and_more, in_files, AreGiven, Assigned, compiled, taken}
@@ -63,7 +63,7 @@ lines_are_paths earlier (l ∷ lines) =
 file_of_paths : (bytes : List ℕ) → PathsIfOk (read_file locks_in bytes)
 file_of_paths bytes = go (nat_lt longest_text (length bytes)) (not (is_utf8 bytes))
   where
-    go : (b c : Bool) → PathsIfOk (cond b (fault_at 0 too_big) (cond c (fault_at (bad_line bytes) not_utf8) (locks_in bytes)))
+    go : (b c : Bool) → PathsIfOk (cond b (fault_at_line 0 too_big) (cond c (fault_at_line (bad_line bytes) not_utf8) (locks_in bytes)))
     go true c = tt
     go false true = tt
     go false false = lines_are_paths [] (lines_of bytes)

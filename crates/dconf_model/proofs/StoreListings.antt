@@ -13,9 +13,9 @@ use Rattle.dconf_model.specs.Settings.{Settings, AtPaths}
 use Rattle.dconf_model.specs.SoundLaws.{first_part}
 use Rattle.dconf_model.specs.Values.{stored}
 use Rattle.dconf_model.specs.Sources.{Given, last_value}
-use Rattle.dconf_model.specs.Layers.{Layers, children, all_paths, parts_below, greatest_from, locks_path}
+use Rattle.dconf_model.specs.Layers.{Layers, child_names, all_paths, parts_below, greatest_from, locks_path}
 use Rattle.dconf_model.specs.Changes.{Change}
-use Rattle.dconf_model.specs.Stores.{Compilation, IsThere, givens, is_given, level_given, user_keeps, user_value, EachListingIsExact}
+use Rattle.dconf_model.specs.Stores.{Compilation, IsInStore, givens, is_given, level_given, user_keeps, user_value, EachListingIsExact}
 use Rattle.dconf_model.proofs.PathMaps.{key_in, no_truth}
 use Rattle.dconf_model.proofs.SameBytes.{same_path}
 use Rattle.dconf_model.proofs.HeldLaws.{held_there}
@@ -87,7 +87,7 @@ user_path user databases changes l h p =
 -- ---- what is listed
 
 there : (user : Option (List ℕ)) (databases : List Compilation) (changes : List Change) (l : Layers) (h : IsOpened user databases changes l) (p : List ℕ) →
-    Contains (all_paths (with_values h.start h.values ∷ h.later)) p → IsThere user databases changes p
+    Contains (all_paths (with_values h.start h.values ∷ h.later)) p → IsInStore user databases changes p
 there user databases changes l h p k =
     elim (Contains-append_cases (keys h.values) (all_paths h.later) p k) [
       | inl first ↦ inr (value_at h.start.values p, (h.start, h.user_is, refl), user_path user databases changes l h p ∙ of_key h.values p first)
@@ -95,7 +95,7 @@ there user databases changes l h p k =
     ]
 
 listed : (user : Option (List ℕ)) (databases : List Compilation) (changes : List Change) (l : Layers) (h : IsOpened user databases changes l) (p : List ℕ) →
-    IsThere user databases changes p → Contains (all_paths (with_values h.start h.values ∷ h.later)) p
+    IsInStore user databases changes p → Contains (all_paths (with_values h.start h.values ∷ h.later)) p
 listed user databases changes l h p (inl given) = Contains-append_right (keys h.values) (all_paths h.later) p (path_given (givens databases) h.later p h.hold given)
 listed user databases changes l h p (inr own) =
     let same : own.0 ≡ value_at h.start.values p = start_value user p own.0 h.start h.user_is own.1 in
@@ -103,22 +103,22 @@ listed user databases changes l h p (inr own) =
     (sym (user_path user databases changes l h p) ∙ (ap (λ o. is_some (user_keeps p o changes (givens databases))) (sym same) ∙ own.2)))
 
 abbrev IsListed : Option (List ℕ) → List Compilation → List Change → List ℕ → List ℕ → Type 0
-IsListed user databases changes directory part = (rest : List ℕ) × IsThere user databases changes (directory ++ rest) × (part ≡ first_part rest)
+IsListed user databases changes directory part = (rest : List ℕ) × IsInStore user databases changes (directory ++ rest) × (part ≡ first_part rest)
 
 from_listing : (user : Option (List ℕ)) (databases : List Compilation) (changes : List Change) (l : Layers) (h : IsOpened user databases changes l) (directory part : List ℕ) →
-    Contains (children l directory) part → IsListed user databases changes directory part
+    Contains (child_names l directory) part → IsListed user databases changes directory part
 from_listing user databases changes l h directory part k =
     let paths : List (List ℕ) = all_paths (with_values h.start h.values ∷ h.later) in
-    let within : Contains (children l directory) part = k in
-    let named = path_of_part directory paths part (listing_from (parts_below directory paths) part (subst (λ (l : Layers). Contains (children l directory) part) h.now within)) in
+    let within : Contains (child_names l directory) part = k in
+    let named = path_of_part directory paths part (listing_from (parts_below directory paths) part (subst (λ (l : Layers). Contains (child_names l directory) part) h.now within)) in
     (named.0, there user databases changes l h (directory ++ named.0) named.1, named.2)
 
 to_listing : (user : Option (List ℕ)) (databases : List Compilation) (changes : List Change) (l : Layers) (h : IsOpened user databases changes l) (directory part : List ℕ) →
-    IsListed user databases changes directory part → Contains (children l directory) part
+    IsListed user databases changes directory part → Contains (child_names l directory) part
 to_listing user databases changes l h directory part k =
     let paths : List (List ℕ) = all_paths (with_values h.start h.values ∷ h.later) in
     let here = part_of_path directory k.0 paths (listed user databases changes l h (directory ++ k.0) k.1) in
-    subst (λ (l : Layers). Contains (children l directory) part) (sym h.now)
+    subst (λ (l : Layers). Contains (child_names l directory) part) (sym h.now)
     (listing_has (parts_below directory paths) part (subst (Contains (parts_below directory paths)) (sym k.2) here))
 
 pub each_listing_is_exact : EachListingIsExact

@@ -27,7 +27,7 @@ use Rattle.gv_model.specs.Literals.ValueFault.{bad_object_path, bad_signature, n
 use Rattle.gv_model.specs.TextValues.{literal_value, at_maybes, at_basic, at_array, at_tuple, at_entry, at_maybe, in_node, only_one, at_variant, with_first, elements, members_of, entries, chosen_or, within_depth, value_of, type_of_syntax, contents}
 use Rattle.gv_model.specs.LeastTypes.{choice}
 use Rattle.gv_model.proofs.PatternLaws.{choice_right}
-use Rattle.dconf_model.specs.Stores.{IsWhole}
+use Rattle.dconf_model.specs.Stores.{IsLimitedValue}
 use Rattle.dconf_model.proofs.ValueLaws.{last_is, admitted}
 
 abbrev Good : Result Tree ValueFault → Ty → Type 0
@@ -304,11 +304,11 @@ within_good t (Ok u) v h g =
     (λ e. absurd (no_value too_deep v (rw e at g)))
 
 -- the value of good syntax whose type is within the limits is whole
-pub good_is_whole : (x : Syntax) (v : Tree) → IsGood choice x → ((t : Ty) → choice x ≡ is t → IsWithinLimits t) → Gives (value_of x) v → IsWhole v
+pub good_is_whole : (x : Syntax) (v : Tree) → IsGood choice x → ((t : Ty) → choice x ≡ is t → IsWithinLimits t) → Gives (value_of x) v → IsLimitedValue v
 unfolding value_of type_of_syntax
 good_is_whole x v h fits g = go (type_of_syntax x) refl g
   where
-    go : (c : Choice) → type_of_syntax x ≡ c → Gives (chosen_or (λ t. within_depth (literal_value choice x t)) c) v → IsWhole v
+    go : (c : Choice) → type_of_syntax x ≡ c → Gives (chosen_or (λ t. within_depth (literal_value choice x t)) c) v → IsLimitedValue v
     go (is t) same g =
         let ends = last_is choice (contents x) (choice x) t same in
         let good = within_good t (literal_value choice x t) v (value_good choice choice_right x t (admitted x t ends.0) h) g in

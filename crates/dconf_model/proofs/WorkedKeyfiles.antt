@@ -1,7 +1,7 @@
 -- Worked keyfiles and dumps.
 use Rattle.std.specs.Prelude.{◌≡◌, ℕ, List, [], ◌∷◌, ◌++◌, Ok, Err, codes, refl, map}
-use Rattle.dconf_model.specs.Causes.Cause.{bad_line, no_group, bad_group, bad_key_name}
-use Rattle.dconf_model.specs.Lines.{fault_at}
+use Rattle.dconf_model.specs.Causes.SettingsCause.{bad_line, no_group, bad_group, bad_key_name}
+use Rattle.dconf_model.specs.Lines.{fault_at_line}
 use Rattle.dconf_model.specs.Order.{listing}
 use Rattle.dconf_model.specs.Keyfiles.{Row, Setting, rows_of, path_of, dumped, in_dump_order, setting_of}
 use Rattle.dconf_model.proofs.WorkedLines.{reading, text_of}
@@ -17,28 +17,28 @@ two_groups : rows_of (text_of (codes "[a]" ∷ codes "k=1" ∷ codes "j = 3 " �
 unfolding reading text_of
 two_groups = refl
 
-locale_key : rows_of (text_of (codes "[a]" ∷ codes "k[de]=1" ∷ [])) ≡ fault_at 2 bad_key_name
+locale_key : rows_of (text_of (codes "[a]" ∷ codes "k[de]=1" ∷ [])) ≡ fault_at_line 2 bad_key_name
 unfolding reading text_of
 locale_key = refl
 
-before_a_group : rows_of (text_of (codes "k=1" ∷ [])) ≡ fault_at 1 no_group
+before_a_group : rows_of (text_of (codes "k=1" ∷ [])) ≡ fault_at_line 1 no_group
 unfolding reading text_of
 before_a_group = refl
 
-nonsense_before_a_group : rows_of (text_of (codes "nonsense" ∷ [])) ≡ fault_at 1 bad_line
+nonsense_before_a_group : rows_of (text_of (codes "nonsense" ∷ [])) ≡ fault_at_line 1 bad_line
 unfolding reading text_of
 nonsense_before_a_group = refl
 
-group_with_slash : rows_of (text_of (codes "[/a]" ∷ [])) ≡ fault_at 1 bad_group
+group_with_slash : rows_of (text_of (codes "[/a]" ∷ [])) ≡ fault_at_line 1 bad_group
 unfolding reading text_of
 group_with_slash = refl
 
-lone_bracket : rows_of (codes "[") ≡ fault_at 1 bad_group
+lone_bracket : rows_of (codes "[") ≡ fault_at_line 1 bad_group
 unfolding reading
 lone_bracket = refl
 
 -- a carriage return is a blank at the end of a line alone
-carriage_return_before : rows_of (text_of (codes "[a]" ∷ (codes "k" ++ 13 ∷ codes "=1") ∷ [])) ≡ fault_at 2 bad_key_name
+carriage_return_before : rows_of (text_of (codes "[a]" ∷ (codes "k" ++ 13 ∷ codes "=1") ∷ [])) ≡ fault_at_line 2 bad_key_name
 unfolding reading text_of
 carriage_return_before = refl
 
@@ -47,7 +47,7 @@ unfolding reading text_of
 windows_lines = refl
 
 -- a byte order mark begins a line that has no `=`
-byte_order_mark : rows_of (text_of ((239 ∷ 187 ∷ 191 ∷ codes "[a]") ∷ [])) ≡ fault_at 1 bad_line
+byte_order_mark : rows_of (text_of ((239 ∷ 187 ∷ 191 ∷ codes "[a]") ∷ [])) ≡ fault_at_line 1 bad_line
 unfolding reading text_of
 byte_order_mark = refl
 
@@ -127,11 +127,11 @@ unfolding reading text_of
 blank_is_lost = refl
 
 -- a zero byte and a line feed make lines that are refused
-zero_byte_is_refused : rows_of (text_of (codes "[/]" ∷ (codes "k=" ++ 0 ∷ []) ∷ [])) ≡ fault_at 2 bad_line
+zero_byte_is_refused : rows_of (text_of (codes "[/]" ∷ (codes "k=" ++ 0 ∷ []) ∷ [])) ≡ fault_at_line 2 bad_line
 unfolding reading text_of
 zero_byte_is_refused = refl
 
-line_feed_is_refused : rows_of (text_of (codes "[/]" ∷ codes "k=1" ∷ codes "2" ∷ [])) ≡ fault_at 3 bad_line
+line_feed_is_refused : rows_of (text_of (codes "[/]" ∷ codes "k=1" ∷ codes "2" ∷ [])) ≡ fault_at_line 3 bad_line
 unfolding reading text_of
 line_feed_is_refused = refl
 

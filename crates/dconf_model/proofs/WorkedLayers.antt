@@ -11,15 +11,15 @@ use Rattle.gv_model.specs.Tree.{Tree}
 use Rattle.gv_model.specs.Tree.Trees.{none as no_tree, first as first_tree}
 use Rattle.dconf_model.specs.Paths.{is_short}
 use Rattle.dconf_model.specs.Paths.PathFault.{too_long}
-use Rattle.dconf_model.specs.Causes.{Cause}
-use Rattle.dconf_model.specs.Causes.Cause.{path_fault}
+use Rattle.dconf_model.specs.Causes.{SettingsCause}
+use Rattle.dconf_model.specs.Causes.SettingsCause.{path_fault}
 use Rattle.dconf_model.specs.Lines.LineReading.{wrong}
 use Rattle.gv_model.specs.Tree.Tree.{node, number, text as text_value}
 use Rattle.gv_model.specs.Ty.Basic.{int32, string}
 use Rattle.dconf_model.specs.Settings.{Settings, AtPaths, Lock}
 use Rattle.dconf_model.specs.Values.{is_storable, stored}
 use Rattle.dconf_model.specs.Sources.{row_read, Assigned, AreGiven, given}
-use Rattle.dconf_model.specs.Layers.{Layers, level, is_locked, place_of, origin, visible, children, locks_below, without_user}
+use Rattle.dconf_model.specs.Layers.{Layers, level, is_locked, place_of, origin, visible, child_names, locks_below, without_user}
 use Rattle.dconf_model.specs.Locks.{is_below}
 use Rattle.dconf_model.specs.Changes.{Refusal, apply, changed, with_all, RunsInParts, or_as_before}
 use Rattle.dconf_model.specs.Changes.Change.{set_value, reset_value, reset_below_directory, load_values}
@@ -121,7 +121,7 @@ site_paths : keys {R = slice_cmp nat_cmp} (from_sorted site) ≡ codes "/a/k" �
 unfolding site
 site_paths = paths_there site tt
 
-list_a : children store (codes "/a/") ≡ codes "k" ∷ []
+list_a : child_names store (codes "/a/") ≡ codes "k" ∷ []
 unfolding store
 list_a = rw (user_paths, site_paths) refl
 
@@ -144,7 +144,7 @@ base_hidden : visible base (codes "/a/k") ≡ None
 unfolding base
 base_hidden = rw (base_level, value_there [] (codes "/a/k") tt) refl
 
-base_listed : children base (codes "/a/") ≡ codes "k" ∷ []
+base_listed : child_names base (codes "/a/") ≡ codes "k" ∷ []
 unfolding base
 base_listed = rw (no_paths, site_paths) refl
 
@@ -245,7 +245,7 @@ ab_write : apply directory_locked (set_value (codes "/ab") (number int32 3)) ≡
 unfolding meaning directory_locked row
 ab_write = rw ab_level refl
 
-both_listed : children directory_locked (codes "/a/") ≡ codes "j" ∷ codes "k" ∷ []
+both_listed : child_names directory_locked (codes "/a/") ≡ codes "j" ∷ codes "k" ∷ []
 unfolding directory_locked
 both_listed = rw (j_paths, site_paths) refl
 
@@ -296,11 +296,11 @@ given_paths : keys {R = slice_cmp nat_cmp} (from_sorted given_values) ≡ codes 
 unfolding given_values
 given_paths = paths_there given_values tt
 
-given_root : children (given_store (settings given_values [])) (codes "/") ≡ codes "a/" ∷ codes "r" ∷ []
+given_root : child_names (given_store (settings given_values [])) (codes "/") ≡ codes "a/" ∷ codes "r" ∷ []
 unfolding given_store
 given_root = rw given_paths refl
 
-given_directory : children (given_store (settings given_values [])) (codes "/a/") ≡ codes "j" ∷ codes "k" ∷ []
+given_directory : child_names (given_store (settings given_values [])) (codes "/a/") ≡ codes "j" ∷ codes "k" ∷ []
 unfolding given_store
 given_directory = rw given_paths refl
 
@@ -341,7 +341,7 @@ none_left : retain_keys {R = slice_cmp nat_cmp} (from_sorted ((codes "/a/b/k", s
 unfolding alone
 none_left = gone (codes "/a/b/k") (stored (number int32 1)) keeps refl
 
-list_emptied : children emptied_store (codes "/") ≡ []
+list_emptied : child_names emptied_store (codes "/") ≡ []
 unfolding emptied_store
 list_emptied = rw (none_left, no_paths) refl
 
@@ -355,11 +355,11 @@ write_again : apply emptied_store (set_value (codes "/a/b/j") (number int32 1)) 
 unfolding meaning emptied_store refilled row
 write_again = refl
 
-list_a_again : children refilled (codes "/a/") ≡ codes "b/" ∷ []
+list_a_again : child_names refilled (codes "/a/") ≡ codes "b/" ∷ []
 unfolding refilled emptied_store row
 list_a_again = rw (j_path _ (stored (number int32 1)) none_left) refl
 
-list_b_again : children refilled (codes "/a/b/") ≡ codes "j" ∷ []
+list_b_again : child_names refilled (codes "/a/b/") ≡ codes "j" ∷ []
 unfolding refilled emptied_store row
 list_b_again = rw (j_path _ (stored (number int32 1)) none_left) refl
 
@@ -396,7 +396,7 @@ load_deep : apply store (load_values (record { path = codes "/b"; value = boxes 
 unfolding store row
 load_deep = rw (open_b, too_deep) refl
 
-long_path : (read : List ℕ → Result Tree Cause) (p text : List ℕ) → is_short p ≡ false → row_read read p text ≡ wrong (path_fault too_long)
+long_path : (read : List ℕ → Result Tree SettingsCause) (p text : List ℕ) → is_short p ≡ false → row_read read p text ≡ wrong (path_fault too_long)
 long_path read p text long = rw long refl
 
 -- with no user's database nothing is left aside

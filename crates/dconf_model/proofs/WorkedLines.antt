@@ -4,8 +4,8 @@ use Rattle.std.specs.Str.{is_utf8, chars}
 use Rattle.std.specs.Str.Lossy.{utf8_valid_len}
 use lib.Utf8.{encode as encode_char}
 use Rattle.dconf_model.specs.Paths.{first_path_fault, has_two_slashes}
-use Rattle.dconf_model.specs.Causes.Cause.{not_utf8, lock_not_key, bad_line, service_db, user_not_first, too_many}
-use Rattle.dconf_model.specs.Lines.{lines_of, fault_at}
+use Rattle.dconf_model.specs.Causes.SettingsCause.{not_utf8, lock_not_key, bad_line, service_db, user_not_first, too_many}
+use Rattle.dconf_model.specs.Lines.{lines_of, fault_at_line}
 use Rattle.dconf_model.specs.Locks.{locks_in, covers}
 use Rattle.dconf_model.specs.Profiles.{databases_in, profile_of}
 use Rattle.dconf_model.specs.Profiles.Kind.{user_db, system_db}
@@ -34,7 +34,7 @@ two_locks : locks_in (text_of (codes "/a/k" ∷ codes "# c" ∷ codes "/a/" ∷ 
 unfolding reading text_of
 two_locks = refl
 
-no_lock : locks_in (codes "/a//") ≡ fault_at 1 lock_not_key
+no_lock : locks_in (codes "/a//") ≡ fault_at_line 1 lock_not_key
 unfolding reading
 no_lock = refl
 
@@ -54,15 +54,15 @@ key_covers_itself_alone = refl
 
 -- ---- profiles
 
-site_first : databases_in (text_of (codes "system-db:a" ∷ codes "user-db:b" ∷ [])) ≡ fault_at 2 user_not_first
+site_first : databases_in (text_of (codes "system-db:a" ∷ codes "user-db:b" ∷ [])) ≡ fault_at_line 2 user_not_first
 unfolding reading text_of
 site_first = refl
 
-service : databases_in (codes "service-db:x") ≡ fault_at 1 service_db
+service : databases_in (codes "service-db:x") ≡ fault_at_line 1 service_db
 unfolding reading
 service = refl
 
-word : databases_in (codes "local") ≡ fault_at 1 bad_line
+word : databases_in (codes "local") ≡ fault_at_line 1 bad_line
 unfolding reading
 word = refl
 
@@ -71,22 +71,22 @@ two_databases : databases_in (text_of (codes "# c" ∷ codes "  user-db:me" ∷ 
 unfolding reading text_of
 two_databases = refl
 
-empty_name : databases_in (codes "file-db:#b") ≡ fault_at 1 bad_line
+empty_name : databases_in (codes "file-db:#b") ≡ fault_at_line 1 bad_line
 unfolding reading
 empty_name = refl
 
 lines : ℕ → List ℕ → List (List ℕ)
 lines n l = replicate n l
 
-many : databases_in (text_of (lines 65 (codes "file-db:a"))) ≡ fault_at 65 too_many
+many : databases_in (text_of (lines 65 (codes "file-db:a"))) ≡ fault_at_line 65 too_many
 unfolding reading text_of lines
 many = refl
 
 -- the user's as the 65th
-user_late : databases_in (text_of (lines 64 (codes "file-db:a") ++ codes "user-db:b" ∷ [])) ≡ fault_at 65 user_not_first
+user_late : databases_in (text_of (lines 64 (codes "file-db:a") ++ codes "user-db:b" ∷ [])) ≡ fault_at_line 65 user_not_first
 unfolding reading text_of lines
 user_late = refl
 
-not_text : profile_of (codes "local" ++ 10 ∷ 255 ∷ []) ≡ fault_at 2 not_utf8
+not_text : profile_of (codes "local" ++ 10 ∷ 255 ∷ []) ≡ fault_at_line 2 not_utf8
 unfolding reading
 not_text = refl

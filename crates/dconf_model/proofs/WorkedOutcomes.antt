@@ -11,7 +11,7 @@ use Rattle.dconf_model.specs.Commands.{Command}
 use Rattle.dconf_model.specs.Commands.Command.{read, list, write, load, compile, repair}
 use Rattle.dconf_model.specs.Reads.{Content, Input, steady, failing}
 use Rattle.dconf_model.specs.Databases.Verdict.{no_database}
-use Rattle.dconf_model.specs.Outcomes.{IsOutcome, refused, done, UnlessLost, OrLine, Changes, dump_of, with_value}
+use Rattle.dconf_model.specs.Outcomes.{IsOutcome, refused, done, UnlessLost, OrLine, Changes, dump_of, with_value_if_any}
 use Rattle.dconf_model.specs.Layers.{level}
 use Rattle.dconf_model.specs.Lines.{longest_text}
 use Rattle.dconf_model.specs.Sources.{loaded}
@@ -195,6 +195,6 @@ unreadable_key : dump_of (codes "/") (Ok (record { path = codes "/a=b"; text = c
 unfolding meaning
 unreadable_key = refl
 
-double_value : with_value (codes "/x") (Some (number double 0)) (Ok []) ≡ Err (codes "DoubleText /x")
+double_value : with_value_if_any (codes "/x") (Some (number double 0)) (Ok []) ≡ Err (codes "DoubleText /x")
 unfolding meaning holds_double
 double_value = refl

@@ -16,9 +16,9 @@ use Rattle.gv_model.specs.TextFault.Cause.{bad_token, double_text}
 use Rattle.gv_model.proofs.WorkedValues.{computing}
 use Rattle.gv_model.proofs.WorkedTokens.{lexing}
 use Rattle.dconf_model.specs.FaultTexts.{cause_text}
-use Rattle.dconf_model.specs.Causes.Cause.{bad_line, lock_not_key, text_fault}
-use Rattle.dconf_model.specs.Lines.{fault_at}
-use Rattle.dconf_model.specs.Values.{value_of_text, stored, held}
+use Rattle.dconf_model.specs.Causes.SettingsCause.{bad_line, lock_not_key, text_fault}
+use Rattle.dconf_model.specs.Lines.{fault_at_line}
+use Rattle.dconf_model.specs.Values.{value_of_text, stored, held_value}
 use Rattle.dconf_model.specs.Sources.{Assigned, Source, FileFault, Given, loaded, compiled, given, last_value}
 use Rattle.dconf_model.specs.Sources.File.{keyfile, lock_file}
 use Rattle.dconf_model.proofs.WorkedLines.{reading, text_of}
@@ -40,16 +40,16 @@ five_is_stored : stored (number int32 5) ≡ 5 ∷ 0 ∷ 0 ∷ 0 ∷ 0 ∷ 105 �
 unfolding meaning
 five_is_stored = refl
 
-five_is_held : held (5 ∷ 0 ∷ 0 ∷ 0 ∷ 0 ∷ 105 ∷ []) ≡ Some (number int32 5)
+five_is_held : held_value (5 ∷ 0 ∷ 0 ∷ 0 ∷ 0 ∷ 105 ∷ []) ≡ Some (number int32 5)
 unfolding meaning
 five_is_held = refl
 
-double : compiled (text_of (codes "[a]" ∷ codes "k=1.5" ∷ [])) ≡ fault_at 2 (text_fault (record { cause = double_text; start = 0; stop = 3 }))
+double : compiled (text_of (codes "[a]" ∷ codes "k=1.5" ∷ [])) ≡ fault_at_line 2 (text_fault (record { cause = double_text; start = 0; stop = 3 }))
 unfolding meaning
 double = refl
 
 -- lines at fault come before values
-later_line_first : compiled (text_of (codes "[a]" ∷ codes "k=oops" ∷ codes "nonsense" ∷ [])) ≡ fault_at 3 bad_line
+later_line_first : compiled (text_of (codes "[a]" ∷ codes "k=oops" ∷ codes "nonsense" ∷ [])) ≡ fault_at_line 3 bad_line
 unfolding meaning
 later_line_first = refl
 

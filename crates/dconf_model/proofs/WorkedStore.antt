@@ -14,7 +14,7 @@ use Rattle.dconf_model.specs.Settings.{no_settings}
 use Rattle.dconf_model.specs.Layers.{Layers, visible}
 use Rattle.dconf_model.specs.Changes.{Change, run}
 use Rattle.dconf_model.specs.Changes.Change.{set_value}
-use Rattle.dconf_model.specs.Stores.{IsStore, IsWhole}
+use Rattle.dconf_model.specs.Stores.{IsStore, IsLimitedValue}
 use Rattle.dconf_model.proofs.StoreValues.{each_value_is_given}
 
 abbrev pub k : List ℕ
@@ -26,7 +26,7 @@ opened = record { layers = no_settings ∷ []; written = true }
 abbrev changes : List Change
 changes = set_value k (number int32 5) ∷ []
 
-five_is_whole : IsWhole (number int32 5)
+five_is_whole : IsLimitedValue (number int32 5)
 unfolding nesting spelling
 five_is_whole = (omega arith, refl)
 

@@ -27,12 +27,12 @@ pub data Refusal : Type 0 where
 abbrev pub Values : Type 0
 Values = AtPaths (List ℕ)
 
-abbrev pub with_first : (Values → Values) → List Settings → List Settings
-with_first change [] = []
-with_first change (s ∷ more) = record { values = change s.values; locks = s.locks } ∷ more
+abbrev pub with_first_layer : (Values → Values) → List Settings → List Settings
+with_first_layer change [] = []
+with_first_layer change (s ∷ more) = record { values = change s.values; locks = s.locks } ∷ more
 
 abbrev pub changed : (Values → Values) → Layers → Layers
-changed change l = record { layers = with_first change l.layers; written = l.written }
+changed change l = record { layers = with_first_layer change l.layers; written = l.written }
 
 -- with these values, of which a later one of the same path counts
 abbrev pub with_all : List Assigned → Values → Values

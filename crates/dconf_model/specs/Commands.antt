@@ -1,29 +1,28 @@
 -- The commands, with their words. dconf(1); `show`, `origin`, `check` and `repair` are this project's.
-use Rattle.std.specs.Prelude.{Bool, List, Option}
-use Rattle.gv_model.specs.Printed.{Text}
+use Rattle.std.specs.Prelude.{Bool, ℕ, List, Option}
 
 pub data Command : Type 0 where
   -- TYPE FILE
-  show : Text → Text → Command
+  show : List ℕ → List ℕ → Command
   -- whether the user's values are left aside; KEY; the profile's file
-  read : Bool → Text → Text → Command
+  read : Bool → List ℕ → List ℕ → Command
   -- DIR; the profile's file
-  list : Text → Text → Command
-  list_locks : Text → Text → Command
+  list : List ℕ → List ℕ → Command
+  list_locks : List ℕ → List ℕ → Command
   -- KEY VALUE; the profile's file
-  write : Text → Text → Text → Command
+  write : List ℕ → List ℕ → List ℕ → Command
   -- KEY; the profile's file
-  reset : Text → Text → Command
+  reset : List ℕ → List ℕ → Command
   -- DIR; the profile's file
-  reset_below : Text → Text → Command
-  dump : Text → Text → Command
+  reset_below : List ℕ → List ℕ → Command
+  dump : List ℕ → List ℕ → Command
   -- whether locked rows are left out; DIR; the profile's file
-  load : Bool → Text → Text → Command
+  load : Bool → List ℕ → List ℕ → Command
   -- KEY; the profile's file
-  origin : Text → Text → Command
+  origin : List ℕ → List ℕ → Command
   -- OUT; the lock file, if there is one; KEYFILES
-  compile : Text → Option Text → List Text → Command
+  compile : List ℕ → Option (List ℕ) → List (List ℕ) → Command
   -- FILE
-  check : Text → Command
+  check : List ℕ → Command
   -- FILE OUT
-  repair : Text → Text → Command
+  repair : List ℕ → List ℕ → Command

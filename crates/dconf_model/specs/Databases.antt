@@ -11,7 +11,7 @@ use Rattle.dconf_model.specs.Names.{HasName, name_of}
 use Rattle.dconf_model.specs.Opening.{OpenFault, IsDatabase, IsOpenFault, root_of}
 use Rattle.dconf_model.specs.Sound.{Rule, IsSound, IsFirstFault}
 use Rattle.dconf_model.specs.Plans.{HoldsValues, HoldsLocks, HasLength}
-use Rattle.dconf_model.specs.Causes.Cause.{too_big}
+use Rattle.dconf_model.specs.Causes.SettingsCause.{too_big}
 use Rattle.dconf_model.specs.Sources.{Source, File, FileFault, given, AreGiven, taken, first_file, Given}
 
 -- ---- what bytes are: no database for its first fault, a sound one, or one that breaks a rule

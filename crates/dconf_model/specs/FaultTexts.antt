@@ -7,8 +7,8 @@ use Rattle.dconf_model.specs.Paths.PathFault.{not_absolute, has_nul, double_slas
 use Rattle.dconf_model.specs.Opening.{OpenFault}
 use Rattle.dconf_model.specs.Opening.OpenFault.{short, bad_signature, bad_version, bad_root, bad_table}
 use Rattle.dconf_model.specs.Sound.{Rule, rule_number}
-use Rattle.dconf_model.specs.Causes.{Cause}
-use Rattle.dconf_model.specs.Causes.Cause.{too_big, not_utf8, lock_not_key, bad_line, service_db, user_not_first, too_many, no_group, bad_group, bad_key_name, path_fault, text_fault, value_fault, too_large}
+use Rattle.dconf_model.specs.Causes.{SettingsCause}
+use Rattle.dconf_model.specs.Causes.SettingsCause.{too_big, not_utf8, lock_not_key, bad_line, service_db, user_not_first, too_many, no_group, bad_group, bad_key_name, path_fault, text_fault, value_fault, too_large}
 
 -- ---- paths, and texts of settings
 
@@ -20,7 +20,7 @@ path_fault_text ends_in_slash = codes "EndsInSlash"
 path_fault_text no_end_slash = codes "NoEndSlash"
 path_fault_text too_long = codes "TooLong"
 
-abbrev pub cause_text : Cause → List ℕ
+abbrev pub cause_text : SettingsCause → List ℕ
 cause_text too_big = codes "TooBig"
 cause_text not_utf8 = codes "NotUtf8"
 cause_text lock_not_key = codes "LockNotKey"
@@ -66,7 +66,7 @@ abbrev pub about : List ℕ → List ℕ → List ℕ
 about word subject = word ++ 32 ∷ subject
 
 -- a fault at a line of a file
-abbrev pub line_fault_text : List ℕ → ℕ → Cause → List ℕ
+abbrev pub line_fault_text : List ℕ → ℕ → SettingsCause → List ℕ
 line_fault_text file line cause = file ++ (58 ∷ (decimal line ++ (codes ": " ++ cause_text cause)))
 
 abbrev pub no_file_text : List ℕ → List ℕ

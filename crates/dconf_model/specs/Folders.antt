@@ -45,8 +45,8 @@ content_of es None = None
 content_of es (Some file) = Some (content es file)
 
 -- what a read of a name gives: no file is a content too
-abbrev pub seen : List Event → List ℕ → Option (List ℕ)
-seen es name = content_of es (file_of es name)
+abbrev pub read_content : List Event → List ℕ → Option (List ℕ)
+read_content es name = content_of es (file_of es name)
 
 -- ---- what a crash may leave
 
@@ -93,5 +93,5 @@ Grows old new = (more : List Event) × (new ≡ more ++ old)
 
 -- a folder as a crash may have left it: under each name is what a crash may leave there, and no other crash changes it
 pub record IsLeft (old new : List Event) : Type 0 where
-  pub allowed : (name : List ℕ) → MayLeave old name (seen new name)
-  pub settled : (name : List ℕ) → IsSettled new name (seen new name)
+  pub allowed : (name : List ℕ) → MayLeave old name (read_content new name)
+  pub settled : (name : List ℕ) → IsSettled new name (read_content new name)

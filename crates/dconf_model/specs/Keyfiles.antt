@@ -12,9 +12,9 @@ use Rattle.std.specs.Cmp.Lexicographic.{slice_cmp}
 use Rattle.std.specs.Str.{bytes_eq, is_utf8}
 use Rattle.dconf_model.specs.Paths.{has_two_slashes, is_key_path, is_directory_path}
 use Rattle.gv_model.specs.Texts.{has_zero_byte}
-use Rattle.dconf_model.specs.Causes.{Cause}
-use Rattle.dconf_model.specs.Causes.Cause.{bad_line, no_group, bad_group, bad_key_name}
-use Rattle.dconf_model.specs.Lines.{LineReading, LineFault, read_lines, read_file, without_start, without_end, is_blank, is_space, longest_text}
+use Rattle.dconf_model.specs.Causes.{SettingsCause}
+use Rattle.dconf_model.specs.Causes.SettingsCause.{bad_line, no_group, bad_group, bad_key_name}
+use Rattle.dconf_model.specs.Lines.{LineReading, LineFault, read_lines, read_file, without_start, without_end, is_line_blank, is_space, longest_text}
 use Rattle.dconf_model.specs.Lines.LineReading.{nothing, found, wrong}
 use Rattle.dconf_model.specs.Order.{in_order}
 
@@ -45,8 +45,8 @@ is_key s = nat_lt 0 (length s) && not (list_any (λ c. c == 47) s) && is_plain s
 
 -- ---- lines
 
-abbrev pub meant : List ℕ → List ℕ
-meant line = without_start is_space (without_end is_blank line)
+abbrev pub without_blanks : List ℕ → List ℕ
+without_blanks line = without_start is_space (without_end is_line_blank line)
 
 abbrev pub begins_with : ℕ → List ℕ → Bool
 begins_with c s = starts_with nat_eq s (c ∷ [])
@@ -63,8 +63,8 @@ pub data LineKind : Type 0 where
   bracket : LineKind
   entry : LineKind
 
-abbrev pub kind_of : List ℕ → LineKind
-kind_of s = if length s == 0 || begins_with 35 s then empty else if begins_with 91 s then bracket else entry
+abbrev pub line_kind : List ℕ → LineKind
+line_kind s = if length s == 0 || begins_with 35 s then empty else if begins_with 91 s then bracket else entry
 
 -- the group that a line in brackets names
 abbrev pub group_in : List ℕ → Option (List ℕ)
@@ -78,7 +78,7 @@ group_named _ s = None
 
 -- the group of the last line that names one
 abbrev pub last_group : List (List ℕ) → Option (List ℕ)
-last_group lines = last_or None (filter_map (λ line. group_named (kind_of (meant line)) (meant line)) lines)
+last_group lines = last_or None (filter_map (λ line. group_named (line_kind (without_blanks line)) (without_blanks line)) lines)
 
 -- the key comes before the first `=`, the value's text after it
 abbrev pub row_of : ℕ → List ℕ → List ℕ → Row
@@ -108,7 +108,7 @@ line_read entry earlier s =
 
 -- the rows of a keyfile, or its first line at fault
 abbrev pub rows_of : List ℕ → Result (List Row) LineFault
-rows_of bytes = read_file (read_lines (λ earlier line. line_read (kind_of (meant line)) earlier (meant line))) bytes
+rows_of bytes = read_file (read_lines (λ earlier line. line_read (line_kind (without_blanks line)) earlier (without_blanks line))) bytes
 
 -- a row's path below a directory; `/` for a keyfile by itself
 abbrev pub path_of : List ℕ → Row → List ℕ
@@ -143,7 +143,7 @@ abbrev pub is_readable_key : List ℕ → Bool
 is_readable_key s = is_key s && not (list_any is_equals s) && not (begins_with 35 s) && bytes_eq (without_start is_space (without_end is_space s)) s
 
 -- why a row can't be read again
-abbrev pub row_fault : DumpRow → Option Cause
+abbrev pub row_fault : DumpRow → Option SettingsCause
 row_fault r =
     if not (is_group (group_name r.part)) then Some bad_group
     else if not (is_readable_key r.key) then Some bad_key_name
@@ -152,9 +152,9 @@ row_fault r =
 -- the number of the first row at fault, and why
 pub record RowFault : Type 0 where
   pub row : ℕ
-  pub cause : Cause
+  pub cause : SettingsCause
 
-abbrev pub or_later : ℕ → Option Cause → Option RowFault → Option RowFault
+abbrev pub or_later : ℕ → Option SettingsCause → Option RowFault → Option RowFault
 or_later n (Some cause) later = Some (record { row = n; cause = cause })
 or_later n None later = later
 
@@ -192,7 +192,7 @@ dumped directory settings =
 
 -- a text without a line feed, a zero byte, or blanks at either end
 abbrev pub is_one_line : List ℕ → Bool
-is_one_line s = not (list_any (λ c. c == 10 || c == 0) s) && bytes_eq (without_start is_blank (without_end is_blank s)) s
+is_one_line s = not (list_any (λ c. c == 10 || c == 0) s) && bytes_eq (without_start is_line_blank (without_end is_line_blank s)) s
 
 abbrev pub row_path : List ℕ → DumpRow → List ℕ
 row_path directory r = directory ++ (if length r.part == 0 then r.key else r.part ++ 47 ∷ r.key)

@@ -9,7 +9,7 @@ use Rattle.dconf_model.specs.Settings.{Settings}
 use Rattle.dconf_model.specs.SoundLaws.{first_part}
 use Rattle.dconf_model.specs.Locks.{covers, is_below}
 use Rattle.dconf_model.specs.Order.{listing}
-use Rattle.dconf_model.specs.Values.{held}
+use Rattle.dconf_model.specs.Values.{held_value}
 
 -- the layers, the first first, and whether the first may be written
 pub record Layers : Type 0 where
@@ -64,7 +64,7 @@ abbrev pub visible_bytes : Layers → List ℕ → Option (List ℕ)
 visible_bytes l path = option_map (λ p. p.1) (place_of l path)
 
 abbrev pub visible : Layers → List ℕ → Option Tree
-visible l path = option_and_then held (visible_bytes l path)
+visible l path = option_and_then held_value (visible_bytes l path)
 
 -- ---- without the user's values
 
@@ -91,8 +91,8 @@ abbrev pub all_locks : List Settings → List (List ℕ)
 all_locks layers = flat_map (λ s. keys s.locks) layers
 
 -- what a directory has in any layer, locks aside
-abbrev pub children : Layers → List ℕ → List (List ℕ)
-children l directory = listing (parts_below directory (all_paths l.layers))
+abbrev pub child_names : Layers → List ℕ → List (List ℕ)
+child_names l directory = listing (parts_below directory (all_paths l.layers))
 
 -- the locks of the layers from 1 on that start with the directory
 abbrev pub locks_below : Layers → List ℕ → List (List ℕ)

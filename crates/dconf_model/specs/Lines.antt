@@ -6,8 +6,8 @@ use Rattle.std.specs.Prelude.{ℕ, ◌+◌, ◌-◌, List, [], ◌∷◌, ◌++�
 use Rattle.std.specs.List.{slice_split, prefix_len, suffix_len, count_by}
 use Rattle.std.specs.Str.{is_utf8}
 use Rattle.std.specs.Str.Lossy.{utf8_valid_len}
-use Rattle.dconf_model.specs.Causes.{Cause}
-use Rattle.dconf_model.specs.Causes.Cause.{too_big, not_utf8}
+use Rattle.dconf_model.specs.Causes.{SettingsCause}
+use Rattle.dconf_model.specs.Causes.SettingsCause.{too_big, not_utf8}
 
 abbrev pub without_empty_end : List (List ℕ) → List (List ℕ)
 without_empty_end [] = []
@@ -28,8 +28,8 @@ without_end f s = take (length s - suffix_len f s) s
 abbrev pub is_space : ℕ → Bool
 is_space c = c == 32 || c == 9
 
-abbrev pub is_blank : ℕ → Bool
-is_blank c = is_space c || c == 13
+abbrev pub is_line_blank : ℕ → Bool
+is_line_blank c = is_space c || c == 13
 
 -- ---- what is read of lines
 
@@ -37,24 +37,24 @@ is_blank c = is_space c || c == 13
 pub data LineReading (X : Type 0) : Type 0 where
   nothing : LineReading X
   found : X → LineReading X
-  wrong : Cause → LineReading X
+  wrong : SettingsCause → LineReading X
 
 -- why a text is refused, and the line; the line is 0 where the text is too big
 pub record LineFault : Type 0 where
   pub line : ℕ
-  pub cause : Cause
+  pub cause : SettingsCause
 
-abbrev pub fault_at : {X : Type 0} → ℕ → Cause → Result X LineFault
-fault_at line cause = Err (record { line = line; cause = cause })
+abbrev pub fault_at_line : {X : Type 0} → ℕ → SettingsCause → Result X LineFault
+fault_at_line line cause = Err (record { line = line; cause = cause })
 
-abbrev pub with_first : {X : Type 0} → X → Result (List X) LineFault → Result (List X) LineFault
-with_first x (Ok xs) = Ok (x ∷ xs)
-with_first x (Err f) = Err f
+abbrev pub with_first_found : {X : Type 0} → X → Result (List X) LineFault → Result (List X) LineFault
+with_first_found x (Ok xs) = Ok (x ∷ xs)
+with_first_found x (Err f) = Err f
 
 abbrev pub put_first : {X : Type 0} → ℕ → LineReading X → Result (List X) LineFault → Result (List X) LineFault
 put_first line nothing rest = rest
-put_first line (found x) rest = with_first x rest
-put_first line (wrong cause) rest = fault_at line cause
+put_first line (found x) rest = with_first_found x rest
+put_first line (wrong cause) rest = fault_at_line line cause
 
 -- What lines give, where each is read with the lines before it: what was found at them, in order, or the first
 -- fault and its line.
@@ -78,6 +78,6 @@ bad_line bytes = count_by (λ c. c == 10) (take (utf8_valid_len bytes) bytes) + 
 -- what a file of lines gives: its length is looked at first, and then whether it is UTF-8
 abbrev pub read_file : {X : Type 0} → (List ℕ → Result X LineFault) → List ℕ → Result X LineFault
 read_file read bytes =
-    if nat_lt longest_text (length bytes) then fault_at 0 too_big
-    else if not (is_utf8 bytes) then fault_at (bad_line bytes) not_utf8
+    if nat_lt longest_text (length bytes) then fault_at_line 0 too_big
+    else if not (is_utf8 bytes) then fault_at_line (bad_line bytes) not_utf8
     else read bytes

@@ -4,7 +4,7 @@ use Rattle.std.specs.Prelude.{ℕ, ◌+◌, List, [], ◌∷◌, ◌++◌, lengt
 use Rattle.std.specs.List.{starts_with}
 use Rattle.std.specs.Str.{bytes_eq}
 use Rattle.dconf_model.specs.Paths.{PathFault, is_path, starts_with_slash, ends_with_slash, first_path_fault, questions_of_bytes, question_of_length}
-use Rattle.dconf_model.specs.Causes.Cause.{lock_not_key}
+use Rattle.dconf_model.specs.Causes.SettingsCause.{lock_not_key}
 use Rattle.dconf_model.specs.Lines.{LineReading, LineFault, read_lines}
 use Rattle.dconf_model.specs.Lines.LineReading.{nothing, found, wrong}
 

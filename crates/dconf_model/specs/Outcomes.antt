@@ -13,8 +13,8 @@ use Rattle.gv_model.specs.Printed.{printed, is_too_large, holds_double}
 use Rattle.dconf_model.specs.Paths.{PathFault, key_fault, directory_fault}
 use Rattle.dconf_model.specs.Settings.{Settings}
 use Rattle.dconf_model.specs.Opening.{OpenFault, IsDatabase, IsOpenFault}
-use Rattle.dconf_model.specs.Causes.{Cause}
-use Rattle.dconf_model.specs.Causes.Cause.{too_big}
+use Rattle.dconf_model.specs.Causes.{SettingsCause}
+use Rattle.dconf_model.specs.Causes.SettingsCause.{too_big}
 use Rattle.dconf_model.specs.FaultTexts.{cause_text, path_fault_text, open_fault_text, unsound_text, about, line_fault_text, no_file_text, device_text, bad_database_text}
 use Rattle.dconf_model.specs.Lines.{LineFault, longest_text}
 use Rattle.dconf_model.specs.Values.{value_of_text}
@@ -24,14 +24,14 @@ use Rattle.dconf_model.specs.Sources.{Assigned, Source, File, FileFault, loaded}
 use Rattle.dconf_model.specs.Sources.File.{keyfile, lock_file}
 use Rattle.dconf_model.specs.Databases.{Verdict, IsVerdict, IsDatabaseOf, IsTooBig, IsCompiled, AreLayers, IsFirstBad}
 use Rattle.dconf_model.specs.Databases.Verdict.{no_database, sound, unsound}
-use Rattle.dconf_model.specs.Layers.{Layers, visible, origin as origin_of, children, locks_below, paths_below, without_user}
+use Rattle.dconf_model.specs.Layers.{Layers, visible, origin as origin_of, child_names, locks_below, paths_below, without_user}
 use Rattle.dconf_model.specs.Changes.{Change, Refusal, apply, saved, paths_of}
 use Rattle.dconf_model.specs.Changes.Change.{set_value, reset_value, reset_below_directory, load_values}
 use Rattle.dconf_model.specs.Changes.Refusal.{not_writable, locked, too_large}
 use Rattle.dconf_model.specs.Salvaging.{IsSalvaged}
 use Rattle.dconf_model.specs.Commands.{Command}
 use Rattle.dconf_model.specs.Commands.Command.{show, read, list, list_locks, write, reset, reset_below, dump, load, origin, compile, check, repair}
-use Rattle.dconf_model.specs.Reads.{FileRead, Reads, Input}
+use Rattle.dconf_model.specs.Reads.{FileRead, ReadResults, Input}
 use Rattle.dconf_model.specs.Reads.FileRead.{no_file, holds, over_size, failed}
 
 -- ---- outcomes
@@ -95,12 +95,12 @@ abbrev pub WithType : List ℕ → Option Ty → (Ty → Gives) → Gives
 WithType text None Go o = (f : Fault) × IsFault text f × Refused (type_fault_text f) o
 WithType text (Some t) Go o = Go t o
 
-abbrev pub OrCause : {X : Type 0} → Result X Cause → (X → Gives) → Gives
+abbrev pub OrCause : {X : Type 0} → Result X SettingsCause → (X → Gives) → Gives
 OrCause (Ok x) Go o = Go x o
 OrCause (Err c) Go o = Refused (cause_text c) o
 
 -- the value of a word; a word that is too long isn't read
-abbrev pub value_of_word : List ℕ → Result Tree Cause
+abbrev pub value_of_word : List ℕ → Result Tree SettingsCause
 value_of_word text = if nat_lt longest_text (length text) then Err too_big else value_of_text text
 
 abbrev pub OrLine : {X : Type 0} → List ℕ → Result X LineFault → (X → Gives) → Gives
@@ -114,11 +114,11 @@ OrNoRead name over_size Go o = Refused (codes "TooBig") o
 OrNoRead name failed Go o = Refused (device_text name) o
 
 -- the bytes of a file, by the read of that number
-abbrev pub WithFile : Reads → ℕ → List ℕ → (List ℕ → Gives) → Gives
+abbrev pub WithFile : ReadResults → ℕ → List ℕ → (List ℕ → Gives) → Gives
 WithFile reads n name Go = OrNoRead name (reads n name) Go
 
 -- of several files
-abbrev pub WithFiles : Reads → ℕ → List (List ℕ) → (List Source → Gives) → Gives
+abbrev pub WithFiles : ReadResults → ℕ → List (List ℕ) → (List Source → Gives) → Gives
 WithFiles reads n [] Go = Go []
 WithFiles reads n (name ∷ more) Go =
     WithFile reads n name (λ bytes. WithFiles reads (n + 1) more (λ files. Go (record { name = name; bytes = bytes } ∷ files)))
@@ -144,7 +144,7 @@ OrNoDatabase name (holds bytes) Go o = Go (Some bytes) o
 OrNoDatabase name over_size Go o = Refused (codes "TooBig") o
 OrNoDatabase name failed Go o = Refused (device_text name) o
 
-abbrev pub WithDatabases : Reads → ℕ → List Database → (List (Option (List ℕ)) → Gives) → Gives
+abbrev pub WithDatabases : ReadResults → ℕ → List Database → (List (Option (List ℕ)) → Gives) → Gives
 WithDatabases reads n [] Go = Go []
 WithDatabases reads n (d ∷ more) Go =
     OrNoDatabase (database_file d) (reads n (database_file d)) (λ item. WithDatabases reads (n + 1) more (λ items. Go (item ∷ items)))
@@ -160,7 +160,7 @@ WithLayers items written Go o =
     ⊎ ((i : ℕ) × (v : Verdict) × IsFirstBad items i v × Refused (bad_database_text i (verdict_text v)) o)
 
 -- all databases are read, and then opened
-abbrev pub WithStore : Reads → List ℕ → (List Database → Layers → Gives) → Gives
+abbrev pub WithStore : ReadResults → List ℕ → (List Database → Layers → Gives) → Gives
 WithStore reads file Go =
     WithFile reads 0 file (λ bytes. OrLine file (profile_of bytes) (λ databases.
     WithDatabases reads 1 databases (λ items. WithLayers items (is_written databases) (Go databases))))
@@ -174,12 +174,12 @@ abbrev pub printed_or : Option (List ℕ) → Tree → Outcome
 printed_or (Some why) v = refused why
 printed_or None v = done (printed v true ++ 10 ∷ [])
 
-abbrev pub shown : Tree → Outcome
-shown v = printed_or (print_fault v) v
+abbrev pub shown_outcome : Tree → Outcome
+shown_outcome v = printed_or (print_fault v) v
 
 abbrev pub shown_if_any : Option Tree → Outcome
 shown_if_any None = done []
-shown_if_any (Some v) = shown v
+shown_if_any (Some v) = shown_outcome v
 
 abbrev pub place_text : List Database → ℕ → List ℕ
 place_text databases i = about (decimal i) (unwrap_or (option_map database_text (slice_get databases i)) [] ++ 10 ∷ [])
@@ -195,14 +195,14 @@ with_setting (Some why) path v later = Err (about why path)
 with_setting None path v (Ok settings) = Ok (record { path = path; text = printed v true } ∷ settings)
 with_setting None path v (Err why) = Err why
 
-abbrev pub with_value : List ℕ → Option Tree → Result (List Setting) (List ℕ) → Result (List Setting) (List ℕ)
-with_value path None later = later
-with_value path (Some v) later = with_setting (print_fault v) path v later
+abbrev pub with_value_if_any : List ℕ → Option Tree → Result (List Setting) (List ℕ) → Result (List Setting) (List ℕ)
+with_value_if_any path None later = later
+with_value_if_any path (Some v) later = with_setting (print_fault v) path v later
 
 -- the settings at paths, with their printed values, or why the first isn't printed
 abbrev pub settings_at : Layers → List (List ℕ) → Result (List Setting) (List ℕ)
 settings_at l [] = Ok []
-settings_at l (path ∷ more) = with_value path (visible l path) (settings_at l more)
+settings_at l (path ∷ more) = with_value_if_any path (visible l path) (settings_at l more)
 
 abbrev pub path_at : List (List ℕ) → ℕ → List ℕ
 path_at paths n = unwrap_or (slice_get paths n) []
@@ -234,17 +234,17 @@ Saves paths name (Err r) o = Refused (refusal_text paths r) o
 Saves paths name (Ok new) o = Writes name [] (saved new.layers) o
 
 -- a change, at these paths
-abbrev pub Changes : Reads → List ℕ → List (List ℕ) → Change → Gives
+abbrev pub Changes : ReadResults → List ℕ → List (List ℕ) → Change → Gives
 Changes reads profile paths change = WithStore reads profile (λ databases l. Saves paths (user_file databases) (apply l change))
 
 -- ---- compile, check, repair
 
-abbrev pub name_at : List Source → ℕ → List ℕ
-name_at files i = unwrap_or (option_map (λ s. s.name) (slice_get files i)) []
+abbrev pub source_name : List Source → ℕ → List ℕ
+source_name files i = unwrap_or (option_map (λ s. s.name) (slice_get files i)) []
 
 abbrev pub file_name : List Source → List Source → File → List ℕ
-file_name files locks (keyfile i) = name_at files i
-file_name files locks (lock_file i) = name_at locks i
+file_name files locks (keyfile i) = source_name files i
+file_name files locks (lock_file i) = source_name locks i
 
 abbrev pub compile_output : List ℕ → List Source → List Source → Result (List ℕ) FileFault → Outcome
 compile_output out files locks (Ok bytes) = changing out bytes []
@@ -271,12 +271,12 @@ Repairs out bytes o =
 
 -- ---- every command
 
-abbrev pub IsOutcome : Command → Reads → Input → Gives
-IsOutcome (show type file) reads input = WithType type (type_of_text type) (λ t. WithFile reads 0 file (λ bytes o. o ≡ shown (decode t bytes)))
+abbrev pub IsOutcome : Command → ReadResults → Input → Gives
+IsOutcome (show type file) reads input = WithType type (type_of_text type) (λ t. WithFile reads 0 file (λ bytes o. o ≡ shown_outcome (decode t bytes)))
 IsOutcome (read default key profile) reads input =
     UnlessFault (key_fault key) (WithStore reads profile (λ databases l o. o ≡ shown_if_any (visible (if default then without_user l else l) key)))
 IsOutcome (list directory profile) reads input =
-    UnlessFault (directory_fault directory) (WithStore reads profile (λ databases l o. o ≡ done (lines_text (children l directory))))
+    UnlessFault (directory_fault directory) (WithStore reads profile (λ databases l o. o ≡ done (lines_text (child_names l directory))))
 IsOutcome (list_locks directory profile) reads input =
     UnlessFault (directory_fault directory) (WithStore reads profile (λ databases l o. o ≡ done (lines_text (locks_below l directory))))
 IsOutcome (write key text profile) reads input =

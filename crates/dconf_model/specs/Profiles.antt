@@ -5,8 +5,8 @@
 use Rattle.std.specs.Prelude.{ℕ, List, [], ◌∷◌, ◌++◌, length, drop, codes, Result, Bool, true, false, if◌then◌else◌, nat_lt, nat_eq, ◌==◌, ◌&&◌, not}
 use Rattle.std.specs.List.{before_first, count_by, list_any, starts_with}
 use Rattle.gv_model.specs.Texts.{has_zero_byte}
-use Rattle.dconf_model.specs.Causes.Cause.{bad_line, service_db, user_not_first, too_many}
-use Rattle.dconf_model.specs.Lines.{LineReading, LineFault, read_lines, read_file, without_start, without_end, is_blank}
+use Rattle.dconf_model.specs.Causes.SettingsCause.{bad_line, service_db, user_not_first, too_many}
+use Rattle.dconf_model.specs.Lines.{LineReading, LineFault, read_lines, read_file, without_start, without_end, is_line_blank}
 use Rattle.dconf_model.specs.Lines.LineReading.{nothing, found, wrong}
 
 pub data Kind : Type 0 where
@@ -32,13 +32,13 @@ abbrev pub database_text : Database → List ℕ
 database_text d = kind_text d.kind ++ d.name
 
 -- the name of the file that holds it
-abbrev pub file_of : Kind → List ℕ → List ℕ
-file_of user_db name = name ++ codes ".user"
-file_of system_db name = name ++ codes ".db"
-file_of file_db name = name
+abbrev pub file_of_kind : Kind → List ℕ → List ℕ
+file_of_kind user_db name = name ++ codes ".user"
+file_of_kind system_db name = name ++ codes ".db"
+file_of_kind file_db name = name
 
 abbrev pub database_file : Database → List ℕ
-database_file d = file_of d.kind d.name
+database_file d = file_of_kind d.kind d.name
 
 -- a file's path may have slashes, another name has none
 abbrev pub may_have_slash : Kind → Bool
@@ -61,12 +61,12 @@ user_file (d ∷ more) = database_file d
 -- ---- lines
 
 -- a line without its comment and the blanks at both ends
-abbrev pub meant : List ℕ → List ℕ
-meant line = without_start is_blank (without_end is_blank (before_first (λ c. c == 35) line))
+abbrev pub entry_of_line : List ℕ → List ℕ
+entry_of_line line = without_start is_line_blank (without_end is_line_blank (before_first (λ c. c == 35) line))
 
 -- how many lines say something
-abbrev pub said : List (List ℕ) → ℕ
-said lines = count_by (λ line. nat_lt 0 (length (meant line))) lines
+abbrev pub entries_in : List (List ℕ) → ℕ
+entries_in lines = count_by (λ line. nat_lt 0 (length (entry_of_line line))) lines
 
 -- a database after so many others
 abbrev pub database_line : ℕ → Kind → List ℕ → LineReading Database
@@ -92,7 +92,7 @@ entry_line before text =
 
 -- the databases of a text, or its first line at fault
 abbrev pub databases_in : List ℕ → Result (List Database) LineFault
-databases_in text = read_lines (λ earlier line. entry_line (said earlier) (meant line)) text
+databases_in text = read_lines (λ earlier line. entry_line (entries_in earlier) (entry_of_line line)) text
 
 -- and of a file
 abbrev pub profile_of : List ℕ → Result (List Database) LineFault

@@ -10,8 +10,8 @@ pub data FileRead : Type 0 where
   failed : FileRead
 
 -- what the read of that number gives, from 0 on, if it is of that name
-abbrev pub Reads : Type 0
-Reads = ℕ → List ℕ → FileRead
+abbrev pub ReadResults : Type 0
+ReadResults = ℕ → List ℕ → FileRead
 
 -- what a folder's names hold, None for no file
 abbrev pub Content : Type 0
@@ -28,11 +28,11 @@ IsOverSize None = ⊥
 IsOverSize (Some bytes) = longest_file < length bytes
 
 -- no read fails
-abbrev pub steady : Content → Reads
+abbrev pub steady : Content → ReadResults
 steady content n name = read_of (content name)
 
 -- the read of that number fails
-abbrev pub failing : ℕ → Reads → Reads
+abbrev pub failing : ℕ → ReadResults → ReadResults
 failing k reads n name = if n == k then failed else reads n name
 
 -- what input gives until it ends or fails

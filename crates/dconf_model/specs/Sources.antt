@@ -8,8 +8,8 @@ use Rattle.gv_model.specs.Tree.{Tree}
 use Rattle.dconf_model.specs.Paths.{is_short}
 use Rattle.dconf_model.specs.Paths.PathFault.{too_long}
 use Rattle.dconf_model.specs.Settings.{Settings}
-use Rattle.dconf_model.specs.Causes.{Cause}
-use Rattle.dconf_model.specs.Causes.Cause.{path_fault}
+use Rattle.dconf_model.specs.Causes.{SettingsCause}
+use Rattle.dconf_model.specs.Causes.SettingsCause.{path_fault}
 use Rattle.dconf_model.specs.Lines.{LineReading, LineFault, put_first, read_file}
 use Rattle.dconf_model.specs.Lines.LineReading.{found, wrong}
 use Rattle.dconf_model.specs.Order.{in_order}
@@ -24,15 +24,15 @@ pub record Assigned : Type 0 where
   pub path : List ℕ
   pub value : Tree
 
-abbrev pub assigned : List ℕ → Result Tree Cause → LineReading Assigned
+abbrev pub assigned : List ℕ → Result Tree SettingsCause → LineReading Assigned
 assigned p (Ok v) = found (record { path = p; value = v })
 assigned p (Err c) = wrong c
 
 -- the path's length is looked at first, and then the value's text
-abbrev pub row_read : (List ℕ → Result Tree Cause) → List ℕ → List ℕ → LineReading Assigned
+abbrev pub row_read : (List ℕ → Result Tree SettingsCause) → List ℕ → List ℕ → LineReading Assigned
 row_read read p text = if is_short p then assigned p (read text) else wrong (path_fault too_long)
 
-abbrev pub rows_read : (List ℕ → Result Tree Cause) → List ℕ → List Row → Result (List Assigned) LineFault
+abbrev pub rows_read : (List ℕ → Result Tree SettingsCause) → List ℕ → List Row → Result (List Assigned) LineFault
 rows_read read directory [] = Ok []
 rows_read read directory (r ∷ more) = put_first r.line (row_read read (path_of directory r) r.text) (rows_read read directory more)
 
@@ -61,7 +61,7 @@ pub data File : Type 0 where
 pub record FileFault : Type 0 where
   pub file : File
   pub line : ℕ
-  pub cause : Cause
+  pub cause : SettingsCause
 
 abbrev pub and_more : {X : Type 0} → File → Result (List X) LineFault → Result (List X) FileFault → Result (List X) FileFault
 and_more file (Err f) more = Err (record { file = file; line = f.line; cause = f.cause })

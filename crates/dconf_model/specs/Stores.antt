@@ -13,10 +13,10 @@ use Rattle.dconf_model.specs.Paths.{is_key_path, is_directory_path}
 use Rattle.dconf_model.specs.SoundLaws.{first_part}
 use Rattle.dconf_model.specs.Settings.{Settings}
 use Rattle.dconf_model.specs.Locks.{covers, is_below}
-use Rattle.dconf_model.specs.Values.{held}
+use Rattle.dconf_model.specs.Values.{held_value}
 use Rattle.dconf_model.specs.Sources.{Source, Given, given, last_value}
 use Rattle.dconf_model.specs.Databases.{IsCompiled, IsLayer, AreLayers}
-use Rattle.dconf_model.specs.Layers.{Layers, visible, children, later_or}
+use Rattle.dconf_model.specs.Layers.{Layers, visible, child_names, later_or}
 use Rattle.dconf_model.specs.Changes.{Change, apply, run}
 use Rattle.dconf_model.specs.Changes.Change.{set_value, reset_value, reset_below_directory, load_values}
 
@@ -37,29 +37,29 @@ first_given [] path = None
 first_given (g ∷ more) path = option_or (last_value g.values path) (first_given more path)
 
 -- what a change says of a path that is not locked: nothing, that it has no value of the user's, or which it has
-pub data Word : Type 0 where
-  silent : Word
-  unset : Word
-  sets : Tree → Word
+pub data Saying : Type 0 where
+  silent : Saying
+  unset : Saying
+  sets : Tree → Saying
 
-abbrev pub sets_if : Option Tree → Word
+abbrev pub sets_if : Option Tree → Saying
 sets_if None = silent
 sets_if (Some v) = sets v
 
-abbrev pub said : List ℕ → Change → Word
-said path (set_value p v) = if bytes_eq p path then sets v else silent
-said path (reset_value p) = if bytes_eq p path then unset else silent
-said path (reset_below_directory directory) = if is_below path directory then unset else silent
-said path (load_values rows force) = sets_if (last_value rows path)
+abbrev pub saying_of : List ℕ → Change → Saying
+saying_of path (set_value p v) = if bytes_eq p path then sets v else silent
+saying_of path (reset_value p) = if bytes_eq p path then unset else silent
+saying_of path (reset_below_directory directory) = if is_below path directory then unset else silent
+saying_of path (load_values rows force) = sets_if (last_value rows path)
 
-abbrev pub heard : Option Tree → Word → Option Tree
+abbrev pub heard : Option Tree → Saying → Option Tree
 heard before silent = before
 heard before unset = None
 heard before (sets v) = Some v
 
 -- the user's value after changes: the last that was said of the path, or what it was
 abbrev pub user_value : List ℕ → Option Tree → List Change → Option Tree
-user_value path start changes = fold (λ before change. heard before (said path change)) start changes
+user_value path start changes = fold (λ before change. heard before (saying_of path change)) start changes
 
 -- the value of a path: where it is not locked, the user's or else the first that is given; where it is, the first that is
 -- given from its lock's database on
@@ -77,8 +77,8 @@ is_given databases path = list_any (λ g. is_some (last_value g.values path)) da
 -- ---- the store
 
 -- a value of its type, with a type text within the limits: each owned tree is
-abbrev pub IsWhole : Tree → Type 0
-IsWhole v = IsValue v × IsWithinLimits (type_of v)
+abbrev pub IsLimitedValue : Tree → Type 0
+IsLimitedValue v = IsValue v × IsWithinLimits (type_of v)
 
 -- keyfiles and lock files, what they give, and a file that was compiled of them
 pub record Compilation : Type 0 where
@@ -89,7 +89,7 @@ pub record Compilation : Type 0 where
 
 pub record IsCompilation (c : Compilation) : Type 0 where
   pub given_is : given c.files c.locks ≡ Ok c.gives
-  pub whole : AllByRecursion (λ row. IsWhole row.value) c.gives.values
+  pub whole : AllByRecursion (λ row. IsLimitedValue row.value) c.gives.values
   pub compiled : IsCompiled c.files c.locks (Ok c.file)
 
 -- each is accepted
@@ -98,10 +98,10 @@ AreAccepted l [] = Unit {0}
 AreAccepted l (change ∷ more) = (new : Layers) × (apply l change ≡ Ok new) × AreAccepted new more
 
 abbrev pub IsWholeChange : Change → Type 0
-IsWholeChange (set_value path v) = IsWhole v
+IsWholeChange (set_value path v) = IsLimitedValue v
 IsWholeChange (reset_value path) = Unit {0}
 IsWholeChange (reset_below_directory directory) = Unit {0}
-IsWholeChange (load_values rows force) = AllByRecursion (λ row. IsWhole row.value) rows
+IsWholeChange (load_values rows force) = AllByRecursion (λ row. IsLimitedValue row.value) rows
 
 -- a user's database or none, and after it the compiled ones, were opened, and then changed
 pub record IsStore (user : Option (List ℕ)) (databases : List Compilation) (changes : List Change) (l : Layers) : Type 0 where
@@ -115,7 +115,7 @@ pub record IsStore (user : Option (List ℕ)) (databases : List Compilation) (ch
 
 -- the user's value in a file
 abbrev pub IsUserStart : Option (List ℕ) → List ℕ → Option Tree → Type 0
-IsUserStart user path v = (s : Settings) × IsLayer user s × (v ≡ option_and_then held (get s.values path))
+IsUserStart user path v = (s : Settings) × IsLayer user s × (v ≡ option_and_then held_value (get s.values path))
 
 -- ---- each value, each listing
 
@@ -133,8 +133,8 @@ abbrev pub user_keeps : List ℕ → Option Tree → List Change → List Given 
 user_keeps path start changes databases = if level_given 1 databases path == 0 then user_value path start changes else start
 
 -- a path that some keyfile gives, or that the user has, locked or not
-abbrev pub IsThere : Option (List ℕ) → List Compilation → List Change → List ℕ → Type 0
-IsThere user databases changes path =
+abbrev pub IsInStore : Option (List ℕ) → List Compilation → List Change → List ℕ → Type 0
+IsInStore user databases changes path =
     IsTrue (is_given (givens databases) path)
     ⊎ ((start : Option Tree) × IsUserStart user path start × IsTrue (is_some (user_keeps path start changes (givens databases))))
 
@@ -143,5 +143,5 @@ abbrev pub EachListingIsExact : Type 0
 EachListingIsExact =
     (user : Option (List ℕ)) (databases : List Compilation) (changes : List Change) (l : Layers) (directory part : List ℕ) →
     IsStore user databases changes l → IsTrue (is_directory_path directory) →
-    Contains (children l directory) part
-    ↔ ((rest : List ℕ) × IsThere user databases changes (directory ++ rest) × (part ≡ first_part rest))
+    Contains (child_names l directory) part
+    ↔ ((rest : List ℕ) × IsInStore user databases changes (directory ++ rest) × (part ≡ first_part rest))

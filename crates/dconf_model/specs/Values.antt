@@ -23,28 +23,28 @@ use Rattle.gv_model.specs.Literals.{ValueFault}
 use Rattle.gv_model.specs.Literals.ValueFault.{no_common, not_clear}
 use Rattle.gv_model.specs.TextValues.{HasChoice, HasValue, value_of}
 use Rattle.dconf_model.specs.Bytes.{longest_file}
-use Rattle.dconf_model.specs.Causes.{Cause}
-use Rattle.dconf_model.specs.Causes.Cause.{text_fault, value_fault, too_large}
+use Rattle.dconf_model.specs.Causes.{SettingsCause}
+use Rattle.dconf_model.specs.Causes.SettingsCause.{text_fault, value_fault, too_large}
 
 -- ---- the value of a text by its own type, or its first fault, computed
 
-abbrev pub or_value_fault : Result Tree ValueFault → Result Tree Cause
+abbrev pub or_value_fault : Result Tree ValueFault → Result Tree SettingsCause
 or_value_fault (Ok v) = Ok v
 or_value_fault (Err f) = Err (value_fault f)
 
-abbrev pub of_syntax : ℕ → Option Syntax → Result Tree Cause
+abbrev pub of_syntax : ℕ → Option Syntax → Result Tree SettingsCause
 of_syntax size (Some x) = or_value_fault (value_of x)
 of_syntax size None = Err (text_fault (fault_at size unexpected None))
 
-abbrev pub of_grammar : ℕ → List Placed → Option NumberedFault → Result Tree Cause
+abbrev pub of_grammar : ℕ → List Placed → Option NumberedFault → Result Tree SettingsCause
 of_grammar size placed (Some f) = Err (text_fault (fault_at size f.0 (slice_get placed f.1)))
 of_grammar size placed None = of_syntax size (one_tree (read (kinds placed)))
 
-abbrev pub of_tokens : ℕ → List Placed → Option Fault → Result Tree Cause
+abbrev pub of_tokens : ℕ → List Placed → Option Fault → Result Tree SettingsCause
 of_tokens size placed (Some f) = Err (text_fault f)
 of_tokens size placed None = of_grammar size placed (grammar_fault (kinds placed))
 
-unfoldable pub value_of_text : List ℕ → Result Tree Cause
+unfoldable pub value_of_text : List ℕ → Result Tree SettingsCause
 value_of_text s = let l = lexed 0 0 s in of_tokens (length s) l.0 l.1
 
 -- ---- the same, as it is said of texts. Laws: it is what is computed, and a text has no other.
@@ -58,7 +58,7 @@ HasNoType x _ = ⊥
 abbrev pub HasValueBy : Syntax → Result Tree ValueFault → Type 0
 HasValueBy x r = (t : Ty) × HasChoice x (is t) × HasValue x t r
 
-abbrev pub IsMeaning : List ℕ → Result Tree Cause → Type 0
+abbrev pub IsMeaning : List ℕ → Result Tree SettingsCause → Type 0
 IsMeaning s (Ok v) = (x : Syntax) × IsTree s x × HasValueBy x (Ok v)
 IsMeaning s (Err (text_fault f)) = HasFault s f
 IsMeaning s (Err (value_fault f)) = (x : Syntax) × IsTree s x × (HasNoType x f ⊎ HasValueBy x (Err f))
@@ -68,7 +68,7 @@ abbrev pub TextHasItsValue : Type 0
 TextHasItsValue = (s : List ℕ) → IsMeaning s (value_of_text s)
 
 abbrev pub HasOneMeaning : Type 0
-HasOneMeaning = (s : List ℕ) (p q : Result Tree Cause) → IsMeaning s p → IsMeaning s q → p ≡ q
+HasOneMeaning = (s : List ℕ) (p q : Result Tree SettingsCause) → IsMeaning s p → IsMeaning s q → p ≡ q
 
 -- ---- values that are stored
 
@@ -80,13 +80,13 @@ abbrev pub is_storable : Tree → Bool
 is_storable v = nat_lt (depth v) 128 && nat_le (length (stored v)) longest_file
 
 -- the value that stored bytes hold
-abbrev pub held : List ℕ → Option Tree
-held bytes = tree_at (children (decode variant bytes)) 0
+abbrev pub held_value : List ℕ → Option Tree
+held_value bytes = tree_at (children (decode variant bytes)) 0
 
-abbrev pub if_storable : Result Tree Cause → Result Tree Cause
+abbrev pub if_storable : Result Tree SettingsCause → Result Tree SettingsCause
 if_storable (Ok v) = if is_storable v then Ok v else Err too_large
 if_storable (Err c) = Err c
 
 -- what is stored comes back
 abbrev pub StoredIsHeld : Type 0
-StoredIsHeld = (v : Tree) → IsValue v → IsWithinLimits (type_of v) → held (stored v) ≡ Some v
+StoredIsHeld = (v : Tree) → IsValue v → IsWithinLimits (type_of v) → held_value (stored v) ≡ Some v

@@ -2,7 +2,7 @@
 use Rattle.std.proofs.Common.{◌≡◌, ℕ, Bool, true, false, List, length, Option, Some, None, refl, ap, ◌∙◌, ◌==◌}
 use Rattle.std.specs.Prelude.{codes, if◌then◌else◌, nat_eq}
 use Rattle.std.specs.List.{starts_with}
-use Rattle.dconf_model.specs.Causes.Cause.{bad_line, service_db}
+use Rattle.dconf_model.specs.Causes.SettingsCause.{bad_line, service_db}
 use Rattle.dconf_model.specs.Lines.{LineReading}
 use Rattle.dconf_model.specs.Lines.LineReading.{nothing, wrong}
 use Rattle.dconf_model.specs.Profiles.{Database, database_line, entry_line, kind_text}

@@ -13,8 +13,8 @@ use Rattle.std.proofs.lemmas.Iterator.Consumers.{YieldsList-at, YieldsList-from_
 use Rattle.std.proofs.lemmas.Iterator.Splits.{YieldsList-from_str_split}
 use Rattle.std.proofs.lemmas.List.FromFn.{length-enumerate_from, get_or-enumerate_from}
 use Rattle.std.proofs.lemmas.List.{take_more, drop_more, drop_all, get_or_default}
-use Rattle.dconf_model.specs.Causes.{Cause}
-use Rattle.dconf_model.specs.Lines.{LineReading, LineFault, fault_at, with_first, put_first, read_after, read_lines, without_empty_end}
+use Rattle.dconf_model.specs.Causes.{SettingsCause}
+use Rattle.dconf_model.specs.Lines.{LineReading, LineFault, fault_at_line, with_first_found, put_first, read_after, read_lines, without_empty_end}
 use Rattle.dconf_model.specs.Lines.LineReading.{nothing, found, wrong}
 
 -- ---- the lines of a text, and what stands between its line feeds
@@ -57,7 +57,7 @@ module _ {X : Type 0} (read : List (List ℕ) → List ℕ → LineReading X) wh
   front_of_none (Ok ys) = refl
   front_of_none (Err f) = refl
 
-  front_of_more : (xs : List X) (x : X) (r : Result (List X) LineFault) → with_front xs (with_first x r) ≡ with_front (xs ++ x ∷ []) r
+  front_of_more : (xs : List X) (x : X) (r : Result (List X) LineFault) → with_front xs (with_first_found x r) ≡ with_front (xs ++ x ∷ []) r
   front_of_more xs x (Ok ys) = ap Ok (sym (append_assoc xs (x ∷ []) ys))
   front_of_more xs x (Err f) = refl
 
@@ -83,7 +83,7 @@ module _ {X : Type 0} (read : List (List ℕ) → List ℕ → LineReading X) wh
     pub read_found : (x : X) → read (take n parts) (get_or parts n []) ≡ found x → HasRead parts (n + 1) (xs ++ x ∷ [])
     read_found x gives = record { so_far = turn (found x) gives ∙ front_of_more xs x (read_after read (take (n + 1) parts) (drop (n + 1) parts)) }
 
-    pub read_wrong : (cause : Cause) → read (take n parts) (get_or parts n []) ≡ wrong cause → read_after read [] parts ≡ fault_at (n + 1) cause
+    pub read_wrong : (cause : SettingsCause) → read (take n parts) (get_or parts n []) ≡ wrong cause → read_after read [] parts ≡ fault_at_line (n + 1) cause
     read_wrong cause gives = turn (wrong cause) gives
 
   pub read_all : (parts : List (List ℕ)) (n : ℕ) (xs : List X) → n ≡ length parts → HasRead parts n xs → read_after read [] parts ≡ Ok xs

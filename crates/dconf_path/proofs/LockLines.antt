@@ -1,7 +1,7 @@
 -- What a line of a lock file gives.
 use Rattle.std.proofs.Common.{◌≡◌, ℕ, ◌+◌, Bool, true, false, List, [], length, refl, sym, ◌∙◌}
 use Rattle.std.specs.Prelude.{if◌then◌else◌}
-use Rattle.dconf_model.specs.Causes.Cause.{lock_not_key}
+use Rattle.dconf_model.specs.Causes.SettingsCause.{lock_not_key}
 use Rattle.dconf_model.specs.Lines.LineReading.{nothing, found, wrong}
 use Rattle.dconf_model.specs.Locks.{lock_line}
 use Rattle.dconf_model.specs.Paths.{starts_with_slash, is_path}

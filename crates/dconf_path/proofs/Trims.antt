@@ -8,7 +8,7 @@ use Rattle.std.proofs.Math.Bool.{or-false}
 use lib.Utf8.{low_scalar}
 use Rattle.std.specs.Char.{char_set_contains}
 use Rattle.std.specs.Str.Pattern.{FindsPrefixBy, FindsSuffixBy, CutsPrefixes, CutsSuffixes, IsTrimStartMatches, IsTrimEndMatches, HasPassingCharAt}
-use Rattle.dconf_model.specs.Lines.{without_start, without_end, is_space, is_blank}
+use Rattle.dconf_model.specs.Lines.{without_start, without_end, is_space, is_line_blank}
 
 module _ (set : List ℕ) (f : ℕ → Bool) (same : (c : ℕ) → char_set_contains set c ≡ f c) (small : (c : ℕ) → f c ≡ true → c < 128) where
   abbrev Front : List ℕ → Option ℕ → Type 0
@@ -141,7 +141,7 @@ flip a b = go (a == b) (b == a) refl refl
 pub spaces : (c : ℕ) → char_set_contains (32 ∷ 9 ∷ []) c ≡ is_space c
 spaces c = rw (flip 32 c, flip 9 c) (ap (λ b. c == 32 || b) (or-false (c == 9)))
 
-pub blanks : (c : ℕ) → char_set_contains (32 ∷ 9 ∷ 13 ∷ []) c ≡ is_blank c
+pub blanks : (c : ℕ) → char_set_contains (32 ∷ 9 ∷ 13 ∷ []) c ≡ is_line_blank c
 blanks c = rw (flip 32 c, flip 9 c, flip 13 c) (go (c == 32) (c == 9) (c == 13))
   where
     go : (p q r : Bool) → (p || (q || (r || false))) ≡ ((p || q) || r)
@@ -157,7 +157,7 @@ small_space c e = go (or_cases (c == 32) (c == 9) e)
     go (inl p) = let is = eqb-true c 32 p in omega (arith, is)
     go (inr p) = let is = eqb-true c 9 p in omega (arith, is)
 
-pub small_blank : (c : ℕ) → is_blank c ≡ true → c < 128
+pub small_blank : (c : ℕ) → is_line_blank c ≡ true → c < 128
 small_blank c e = go (or_cases (is_space c) (c == 13) e)
   where
     go : (is_space c ≡ true) ⊎ ((c == 13) ≡ true) → c < 128

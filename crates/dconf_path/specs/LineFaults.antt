@@ -1,6 +1,6 @@
 -- Which fault of the model a fault of a lock file or of a profile is, if it is one of the text, and how it is printed.
 use Rattle.std.specs.Prelude.{ℕ, List, Option, Some, None, codes}
-use Rattle.dconf_model.specs.Causes.Cause.{lock_not_key, bad_line, service_db, user_not_first, too_many}
+use Rattle.dconf_model.specs.Causes.SettingsCause.{lock_not_key, bad_line, service_db, user_not_first, too_many}
 use Rattle.dconf_model.specs.FaultTexts.{cause_text}
 use Rattle.dconf_model.specs.Lines.{LineFault}
 use Rattle.dconf_path.specs.declared.line_fault.LocksFault.{LocksFault}

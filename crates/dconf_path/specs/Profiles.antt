@@ -2,7 +2,7 @@
 use Rattle.std.specs.Prelude.{◌≡◌, ℕ, List, map, Option, Some, None, if◌then◌else◌}
 use Rattle.std.specs.Prelude.{nat_eq}
 use Rattle.std.specs.List.{starts_with}
-use Rattle.dconf_model.specs.Causes.{Cause}
+use Rattle.dconf_model.specs.Causes.{SettingsCause}
 use Rattle.dconf_model.specs.Lines.{LineReading}
 use Rattle.dconf_model.specs.Lines.LineReading.{nothing, found, wrong}
 use Rattle.dconf_model.specs.Profiles.{Kind, Database as ProfileDatabase, kind_text, without_prefix}
@@ -33,7 +33,7 @@ reading_of (Some d) = found (database_of d)
 
 -- The line of that number has the fault of what is read of it.
 pub record IsFaultAt (line : ℕ) (reading : LineReading ProfileDatabase) (fault : ProfileFault) : Type 0 where
-  pub cause : Cause
+  pub cause : SettingsCause
   pub is : reading ≡ wrong cause
   pub same : profile_fault_of fault ≡ Some (record { line = line; cause = cause })
 

@@ -5,7 +5,7 @@
 ghost use Rattle.std.specs.List.{before_first};
 ghost use Rattle.std.specs.Prelude.{◌≡◌, ◌==◌, is_some, length, nat_lt, map, option_map, Ok, Err, IfOk, IfErr, IfSome};
 ghost use Rattle.dconf_model.specs.Lines.LineReading.{found};
-ghost use Rattle.dconf_model.specs.Profiles.{databases_in, entry_line, meant, is_name, database_line};
+ghost use Rattle.dconf_model.specs.Profiles.{databases_in, entry_line, entry_of_line, is_name, database_line};
 ghost use Rattle.dconf_path.specs.LineFaults.{profile_fault_of};
 ghost use Rattle.dconf_path.specs.Profiles.{database_of, databases_of, named_in, reading_of, IsFaultAt};
 
@@ -72,7 +72,7 @@ pub fn read_profile<'a>(alloc: Global, text: &'a str) -> Result<Profile<'a>, Pro
 
 /// A line without its comment and the blanks at both ends.
 fn entry_of(line: &str) -> &str
-    ensures { result.now ≡ meant line.now }
+    ensures { result.now ≡ entry_of_line line.now }
 {
     without_comment(line)
         .trim_end_matches(BLANKS)

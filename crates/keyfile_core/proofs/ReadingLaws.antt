@@ -7,11 +7,11 @@ use Rattle.std.specs.List.{slice_split}
 use Rattle.std.specs.Str.{is_utf8}
 use Rattle.std.proofs.lemmas.Bool.{ne_eqb}
 use Rattle.std.proofs.lemmas.List.{length-append}
-use Rattle.dconf_model.specs.Causes.{Cause}
-use Rattle.dconf_model.specs.Causes.Cause.{too_big, not_utf8}
-use Rattle.dconf_model.specs.Lines.{LineFault, bad_line, lines_of, longest_text, put_first, read_after, with_first, without_empty_end}
+use Rattle.dconf_model.specs.Causes.{SettingsCause}
+use Rattle.dconf_model.specs.Causes.SettingsCause.{too_big, not_utf8}
+use Rattle.dconf_model.specs.Lines.{LineFault, bad_line, lines_of, longest_text, put_first, read_after, with_first_found, without_empty_end}
 use Rattle.dconf_model.specs.Lines.LineReading.{nothing, found, wrong}
-use Rattle.dconf_model.specs.Keyfiles.{Row, LineKind, kind_of, last_group, line_read, meant, rows_of}
+use Rattle.dconf_model.specs.Keyfiles.{Row, LineKind, line_kind, last_group, line_read, without_blanks, rows_of}
 use Rattle.dconf_model.specs.Keyfiles.LineKind.{empty, bracket, entry}
 use Rattle.dconf_model.proofs.KeyfileLines.{group_comes, group_stays, named, read_one}
 use Rattle.keyfile_core.specs.Feeds.{is_feed, lines_in}
@@ -24,7 +24,7 @@ kind_is empty earlier s = refl
 kind_is bracket earlier s = refl
 kind_is entry earlier s = refl
 
-group_is : (earlier : List (List ℕ)) (l : List ℕ) → last_group (earlier ++ l ∷ []) ≡ group_after (last_group earlier) (meant l)
+group_is : (earlier : List (List ℕ)) (l : List ℕ) → last_group (earlier ++ l ∷ []) ≡ group_after (last_group earlier) (without_blanks l)
 group_is earlier l = go (named l) refl
   where
     go : (o : Option (List ℕ)) → named l ≡ o → last_group (earlier ++ l ∷ []) ≡ or_before (last_group earlier) (named l)
@@ -36,7 +36,7 @@ read_is earlier [] = refl
 read_is earlier (l ∷ more) =
     let longer : length (earlier ++ l ∷ []) ≡ length earlier + 1 = let sum = length-append earlier (l ∷ []) in omega (arith, sum) in
     let later = read_is (earlier ++ l ∷ []) more ∙ (λ i. read_below (group_is earlier l i) (longer i) more) in
-    λ i. put_first (length earlier + 1) (kind_is (kind_of (meant l)) earlier (meant l) i) (later i)
+    λ i. put_first (length earlier + 1) (kind_is (line_kind (without_blanks l)) earlier (without_blanks l) i) (later i)
 
 -- ---- an empty piece at the end is no line
 
@@ -45,8 +45,8 @@ ends_alike group n [] = refl
 ends_alike group n ([] ∷ []) = refl
 ends_alike group n ((c ∷ l) ∷ []) = let some : (length (c ∷ l) == 0) ≡ false = ne_eqb (length (c ∷ l)) 0 (λ e. omega (arith, e)) in rw some refl
 ends_alike group n (l ∷ m ∷ more) =
-    let later = ends_alike (group_after group (meant l)) (n + 1) (m ∷ more) in
-    λ i. put_first (n + 1) (line_meant group (n + 1) (meant l)) (later i)
+    let later = ends_alike (group_after group (without_blanks l)) (n + 1) (m ∷ more) in
+    λ i. put_first (n + 1) (line_meant group (n + 1) (without_blanks l)) (later i)
 
 -- ---- the whole file
 
@@ -64,31 +64,31 @@ is_not_utf8 bytes small text = rw (small, text) refl
 -- rows that were read, and what the rest gives
 abbrev pub with_rows : List Row → Result (List Row) LineFault → Result (List Row) LineFault
 with_rows [] rest = rest
-with_rows (row ∷ rows) rest = with_first row (with_rows rows rest)
+with_rows (row ∷ rows) rest = with_first_found row (with_rows rows rest)
 
-pub with_last : (rows : List Row) (row : Row) (rest : Result (List Row) LineFault) → with_rows rows (with_first row rest) ≡ with_rows (rows ++ row ∷ []) rest
+pub with_last : (rows : List Row) (row : Row) (rest : Result (List Row) LineFault) → with_rows rows (with_first_found row rest) ≡ with_rows (rows ++ row ∷ []) rest
 with_last [] row rest = refl
-with_last (first ∷ rows) row rest = ap (with_first first) (with_last rows row rest)
+with_last (first ∷ rows) row rest = ap (with_first_found first) (with_last rows row rest)
 
 pub with_none : (rows : List Row) → with_rows rows (Ok []) ≡ Ok rows
 with_none [] = refl
-with_none (row ∷ rows) = ap (with_first row) (with_none rows)
+with_none (row ∷ rows) = ap (with_first_found row) (with_none rows)
 
 with_fault : (rows : List Row) (f : LineFault) → with_rows rows (Err f) ≡ Err f
 with_fault [] f = refl
-with_fault (row ∷ rows) f = ap (with_first row) (with_fault rows f)
+with_fault (row ∷ rows) f = ap (with_first_found row) (with_fault rows f)
 
 module _ (rows : List Row) (group : Option (List ℕ)) (n : ℕ) (l : List ℕ) (more : List (List ℕ)) where
   abbrev later : Result (List Row) LineFault
-  later = read_below (group_after group (meant l)) (n + 1) more
+  later = read_below (group_after group (without_blanks l)) (n + 1) more
 
-  pub says_nothing : line_meant group (n + 1) (meant l) ≡ nothing → with_rows rows (read_below group n (l ∷ more)) ≡ with_rows rows later
+  pub says_nothing : line_meant group (n + 1) (without_blanks l) ≡ nothing → with_rows rows (read_below group n (l ∷ more)) ≡ with_rows rows later
   says_nothing e = ap (λ r. with_rows rows (put_first (n + 1) r later)) e
 
-  pub says_row : (row : Row) → line_meant group (n + 1) (meant l) ≡ found row → with_rows rows (read_below group n (l ∷ more)) ≡ with_rows (rows ++ row ∷ []) later
+  pub says_row : (row : Row) → line_meant group (n + 1) (without_blanks l) ≡ found row → with_rows rows (read_below group n (l ∷ more)) ≡ with_rows (rows ++ row ∷ []) later
   says_row row e = ap (λ r. with_rows rows (put_first (n + 1) r later)) e ∙ with_last rows row later
 
-  pub is_wrong : (cause : Cause) → line_meant group (n + 1) (meant l) ≡ wrong cause → with_rows rows (read_below group n (l ∷ more)) ≡ Err (record { line = n + 1; cause = cause })
+  pub is_wrong : (cause : SettingsCause) → line_meant group (n + 1) (without_blanks l) ≡ wrong cause → with_rows rows (read_below group n (l ∷ more)) ≡ Err (record { line = n + 1; cause = cause })
   is_wrong cause e = ap (λ r. with_rows rows (put_first (n + 1) r later)) e ∙ with_fault rows (record { line = n + 1; cause = cause })
 
 -- ---- what is left

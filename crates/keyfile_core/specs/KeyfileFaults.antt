@@ -1,7 +1,7 @@
 -- What a fault of a keyfile says, and how it is printed.
 use Rattle.std.specs.Prelude.{◌≡◌, ℕ, List, Result, Err, codes}
-use Rattle.dconf_model.specs.Causes.{Cause}
-use Rattle.dconf_model.specs.Causes.Cause.{too_big, not_utf8, bad_line, no_group, bad_group, bad_key_name}
+use Rattle.dconf_model.specs.Causes.{SettingsCause}
+use Rattle.dconf_model.specs.Causes.SettingsCause.{too_big, not_utf8, bad_line, no_group, bad_group, bad_key_name}
 use Rattle.dconf_model.specs.FaultTexts.{cause_text}
 use Rattle.dconf_model.specs.Lines.{LineFault}
 use Rattle.dconf_model.specs.Keyfiles.{Row}
@@ -10,7 +10,7 @@ use Rattle.keyfile_core.specs.declared.fault.KeyfileCause.TheVariants.{TooBig, N
 use Rattle.keyfile_core.specs.declared.fault.KeyfileFault.{KeyfileFault}
 use Rattle.keyfile_core.specs.declared.fault.KeyfileFault.TheVariants.{Refused, Memory}
 
-abbrev pub cause_of : KeyfileCause → Cause
+abbrev pub cause_of : KeyfileCause → SettingsCause
 cause_of TooBig = too_big
 cause_of NotUtf8 = not_utf8
 cause_of BadLine = bad_line

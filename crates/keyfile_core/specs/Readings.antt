@@ -2,10 +2,10 @@
 use Rattle.std.specs.Prelude.{ℕ, ◌+◌, ◌&&◌, not, if◌then◌else◌, List, [], ◌∷◌, Option, Some, None, Result, Ok, Err}
 use Rattle.std.specs.List.{list_any}
 use Rattle.dconf_model.specs.Paths.{has_zero_byte}
-use Rattle.dconf_model.specs.Causes.Cause.{bad_line, no_group}
+use Rattle.dconf_model.specs.Causes.SettingsCause.{bad_line, no_group}
 use Rattle.dconf_model.specs.Lines.{LineReading, LineFault, put_first}
 use Rattle.dconf_model.specs.Lines.LineReading.{nothing, found, wrong}
-use Rattle.dconf_model.specs.Keyfiles.{Row as KeyfileRow, LineKind, meant, kind_of, group_in, group_named, is_equals, entry_in, or_bad_group, row_if}
+use Rattle.dconf_model.specs.Keyfiles.{Row as KeyfileRow, LineKind, without_blanks, line_kind, group_in, group_named, is_equals, entry_in, or_bad_group, row_if}
 use Rattle.dconf_model.specs.Keyfiles.LineKind.{empty, bracket, entry}
 use Rattle.keyfile_core.specs.declared.fault.KeyfileCause.{KeyfileCause}
 use Rattle.keyfile_core.specs.declared.rows.Row.{Row}
@@ -19,18 +19,18 @@ kind_meant entry group line s = if list_any is_equals s && not (has_zero_byte s)
 
 -- a line of that number, without its blanks, below that group
 abbrev pub line_meant : Option (List ℕ) → ℕ → List ℕ → LineReading KeyfileRow
-line_meant group line s = kind_meant (kind_of s) group line s
+line_meant group line s = kind_meant (line_kind s) group line s
 
 abbrev pub or_before : Option (List ℕ) → Option (List ℕ) → Option (List ℕ)
 or_before group (Some named) = Some named
 or_before group None = group
 
 abbrev pub group_after : Option (List ℕ) → List ℕ → Option (List ℕ)
-group_after group s = or_before group (group_named (kind_of s) s)
+group_after group s = or_before group (group_named (line_kind s) s)
 
 abbrev pub read_below : Option (List ℕ) → ℕ → List (List ℕ) → Result (List KeyfileRow) LineFault
 read_below group n [] = Ok []
-read_below group n (l ∷ more) = put_first (n + 1) (line_meant group (n + 1) (meant l)) (read_below (group_after group (meant l)) (n + 1) more)
+read_below group n (l ∷ more) = put_first (n + 1) (line_meant group (n + 1) (without_blanks l)) (read_below (group_after group (without_blanks l)) (n + 1) more)
 
 -- ---- as the code says it
 

@@ -1,7 +1,7 @@
 -- What a fault of rows that are to be written says, and how it is printed.
 use Rattle.std.specs.Prelude.{◌≡◌, ℕ, List, Option, Some, Result, Err, codes}
-use Rattle.dconf_model.specs.Causes.{Cause}
-use Rattle.dconf_model.specs.Causes.Cause.{bad_group, bad_key_name}
+use Rattle.dconf_model.specs.Causes.{SettingsCause}
+use Rattle.dconf_model.specs.Causes.SettingsCause.{bad_group, bad_key_name}
 use Rattle.dconf_model.specs.FaultTexts.{cause_text}
 use Rattle.dconf_model.specs.Keyfiles.{RowFault}
 use Rattle.keyfile_core.specs.declared.rows_fault.RowsCause.{RowsCause}
@@ -9,7 +9,7 @@ use Rattle.keyfile_core.specs.declared.rows_fault.RowsCause.TheVariants.{BadGrou
 use Rattle.keyfile_core.specs.declared.rows_fault.RowsFault.{RowsFault}
 use Rattle.keyfile_core.specs.declared.rows_fault.RowsFault.TheVariants.{Refused, Memory}
 
-abbrev pub rows_cause_of : RowsCause → Cause
+abbrev pub rows_cause_of : RowsCause → SettingsCause
 rows_cause_of BadGroup = bad_group
 rows_cause_of BadKeyName = bad_key_name
 

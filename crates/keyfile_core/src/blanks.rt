@@ -1,6 +1,6 @@
 //! Blanks at the ends of a text: spaces and tabs, and at the end of a line carriage returns too.
 ghost use Rattle.std.specs.Prelude.{◌≡◌};
-ghost use Rattle.dconf_model.specs.Lines.{is_blank, is_space, without_end, without_start};
+ghost use Rattle.dconf_model.specs.Lines.{is_line_blank, is_space, without_end, without_start};
 
 /// A text without the spaces and tabs at its start.
 pub(crate) fn trim_start(text: &str) -> &str
@@ -18,7 +18,7 @@ pub(crate) fn trim_end(text: &str) -> &str
 
 /// A line without the spaces, tabs and carriage returns at its end.
 pub(crate) fn trim_line_end(line: &str) -> &str
-    ensures { result.now ≡ without_end is_blank line.now }
+    ensures { result.now ≡ without_end is_line_blank line.now }
 {
     line.trim_end_matches([' ', '\t', '\r'])
 }

@@ -2,7 +2,7 @@
 //! "Basic format of the file").
 ghost use Rattle.std.specs.Prelude.{◌≡◌, ◌<◌, ◌∷◌, IfSome, MatchResult, length, option_map};
 ghost use Rattle.std.specs.List.{slice_split};
-ghost use Rattle.dconf_model.specs.Keyfiles.{kind_of, meant};
+ghost use Rattle.dconf_model.specs.Keyfiles.{line_kind, without_blanks};
 ghost use Rattle.dconf_model.specs.Keyfiles.LineKind.{entry};
 ghost use Rattle.keyfile_core.specs.Feeds.{is_feed, lines_in};
 
@@ -27,7 +27,7 @@ impl<'a> Line<'a> {
 
     /// Reads one line by itself. It is `BadGroup` or `BadLine` otherwise.
     pub(crate) fn parse(line: &'a str) -> Result<Line<'a>, KeyfileCause>
-        ensures { MatchResult result (Says (meant line.entry.now)) (IsWrong (meant line.entry.now)) }
+        ensures { MatchResult result (Says (without_blanks line.entry.now)) (IsWrong (without_blanks line.entry.now)) }
     {
         let line = trim_start(trim_line_end(line));
         if line.is_empty() || line.starts_with("#") {
@@ -44,7 +44,7 @@ impl<'a> Line<'a> {
 
     /// Reads a line that is neither empty nor a comment nor in brackets.
     fn entry(line: &'a str) -> Result<Line<'a>, KeyfileCause>
-        requires { kind_of line.now ≡ entry }
+        requires { line_kind line.now ≡ entry }
         ensures { MatchResult result (Says line.entry.now) (IsWrong line.entry.now) }
     {
         if line.as_bytes().contains(&0) {

@@ -1,7 +1,7 @@
 //! The rows of a keyfile: each key of a group with the text of its value.
 ghost use Rattle.std.specs.Prelude.{◌≡◌, ◌≤◌, ◌+◌, IfOk, IfErr, length, map, take, count_by, option_map};
 ghost use Rattle.std.specs.List.{slice_split};
-ghost use Rattle.dconf_model.specs.Keyfiles.{meant, rows_of};
+ghost use Rattle.dconf_model.specs.Keyfiles.{without_blanks, rows_of};
 ghost use Rattle.keyfile_core.specs.Feeds.{is_feed};
 ghost use Rattle.keyfile_core.specs.KeyfileFaults.{IsFaultIn};
 ghost use Rattle.keyfile_core.specs.Readings.{read_below, line_meant, reading_of, row_read, row_reading, group_after};
@@ -94,8 +94,8 @@ impl<'a> Reader<'a> {
     /// The row of the next line, if it has one.
     fn read(&mut self, line: &'a str) -> Result<Option<Row<'a>>, KeyfileCause>
         requires { self.old.line ≤ MAX_KEYFILE_LEN }
-        ensures reading { line_meant (option_map (λ text. text.now) self.old.group) (self.old.line + 1) (meant line.entry.now) ≡ reading_of result }
-        ensures group { option_map (λ text. text.now) self.new.group ≡ group_after (option_map (λ text. text.now) self.old.group) (meant line.entry.now) }
+        ensures reading { line_meant (option_map (λ text. text.now) self.old.group) (self.old.line + 1) (without_blanks line.entry.now) ≡ reading_of result }
+        ensures group { option_map (λ text. text.now) self.new.group ≡ group_after (option_map (λ text. text.now) self.old.group) (without_blanks line.entry.now) }
         ensures line { self.new.line ≡ self.old.line + 1 }
     {
         self.line += 1;

@@ -4,7 +4,7 @@ ghost use Rattle.dconf_model.specs.Databases.{Verdict};
 ghost use Rattle.dconf_model.specs.Commands.Command.{check as check_of};
 ghost use Rattle.dconf_model.specs.Outcomes.{Checks, IsOutcome, check_output};
 ghost use Rattle.dconf_model.specs.Reads.{Input};
-ghost use Rattle.dconf_cli.specs.Answers.{Answers};
+ghost use Rattle.dconf_cli.specs.Answers.{GivesOutcome};
 ghost use Rattle.dconf_cli.specs.Readings.{Decides};
 
 use crate::answer::{Answer, refused, unsound};
@@ -26,7 +26,7 @@ pub(crate) fn check<F: Folder>(alloc: Global, name: &str, folder: &mut F) -> Ans
 
 /// What `check` answers for the bytes of the file.
 fn checked(alloc: Global, bytes: &[u8]) -> Answer
-    ensures { Answers result (Checks bytes.now) }
+    ensures { GivesOutcome result (Checks bytes.now) }
 {
     let table = match Table::open(bytes) {
         Ok(table) => table,
@@ -40,7 +40,7 @@ fn checked(alloc: Global, bytes: &[u8]) -> Answer
 
 /// The answer for a sound database.
 fn sound(alloc: Global) -> Answer
-    ensures { Answers result (λ o. o ≡ check_output Verdict.sound) }
+    ensures { GivesOutcome result (λ o. o ≡ check_output Verdict.sound) }
 {
     match String::from_str(alloc, "sound\n") {
         Ok(text) => Answer::Done(text),

@@ -3,9 +3,9 @@ ghost use Rattle.std.specs.Prelude.{◌≡◌};
 ghost use Rattle.gv_model.specs.Decode.{decode};
 ghost use Rattle.gv_types.specs.TypeStr.{ty};
 ghost use Rattle.dconf_model.specs.Commands.Command.{show as show_of};
-ghost use Rattle.dconf_model.specs.Outcomes.{IsOutcome, shown as shown_of};
+ghost use Rattle.dconf_model.specs.Outcomes.{IsOutcome, shown_outcome as shown_of};
 ghost use Rattle.dconf_model.specs.Reads.{Input};
-ghost use Rattle.dconf_cli.specs.Answers.{Answers};
+ghost use Rattle.dconf_cli.specs.Answers.{GivesOutcome};
 ghost use Rattle.dconf_cli.specs.Readings.{Decides};
 
 use crate::answer::{Answer, refused};
@@ -33,7 +33,7 @@ pub(crate) fn show<F: Folder>(alloc: Global, type_text: &str, name: &str, folder
 
 /// What `show` answers for the bytes of the file.
 fn shown(alloc: Global, type_str: TypeStr<'_>, bytes: &[u8]) -> Answer
-    ensures { Answers result (λ o. o ≡ shown_of (decode (ty type_str.entry) bytes.now)) }
+    ensures { GivesOutcome result (λ o. o ≡ shown_of (decode (ty type_str.entry) bytes.now)) }
 {
     match print(alloc, View::new(type_str, bytes)) {
         Ok(mut text) => match text.push('\n') {

@@ -3,7 +3,7 @@ use Rattle.std.proofs.lemmas.Iterator.Consumers.{YieldsList-turn, YieldsList-end
 use Rattle.std.proofs.lemmas.List.{length_push, length-take-le, map-append}
 use Rattle.std.proofs.lemmas.List.FromFn.{length-enumerate_from}
 use Rattle.std.proofs.lemmas.Str.Pattern.{starts_text}
-use Rattle.dconf_model.specs.Causes.Cause.{lock_not_key}
+use Rattle.dconf_model.specs.Causes.SettingsCause.{lock_not_key}
 use Rattle.dconf_model.specs.Locks.{lock_line}
 use Rattle.dconf_model.specs.Paths.{is_path}
 use Rattle.dconf_path.proofs.LineSteps.{parts_of, numbered_parts, part_yielded, read_none, read_nothing, read_found, read_wrong, read_all, read_parts}

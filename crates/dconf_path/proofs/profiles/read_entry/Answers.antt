@@ -2,7 +2,7 @@ use Rattle.std.proofs.Common.{refl, sym, ap, subst, ◌∙◌}
 use Rattle.std.specs.Prelude.{codes}
 use Rattle.std.proofs.lemmas.Result.{err_from_is_err_and}
 use Rattle.std.proofs.lemmas.Str.Pattern.{starts_text}
-use Rattle.dconf_model.specs.Causes.Cause.{bad_line}
+use Rattle.dconf_model.specs.Causes.SettingsCause.{bad_line}
 use Rattle.dconf_path.specs.Profiles.{IsFaultAt}
 use Rattle.dconf_path.proofs.EntryLines.{names, behind}
 use Rattle.dconf_path.proofs.profiles.read_entry.Goals as goal

@@ -3,7 +3,7 @@ use Rattle.std.specs.List.{slice_split}
 use Rattle.std.specs.Str.{is_utf8}
 use Rattle.std.proofs.lemmas.Bool.{false_from_ne_true, le-ltb, lt-ltb}
 use Rattle.std.proofs.lemmas.Str.{is_utf8-from_IsUtf8, IsUtf8-from_is_utf8}
-use Rattle.dconf_model.specs.Causes.Cause.{not_utf8}
+use Rattle.dconf_model.specs.Causes.SettingsCause.{not_utf8}
 use Rattle.dconf_model.specs.Lines.{longest_text}
 use Rattle.dconf_model.specs.Keyfiles.{rows_of}
 use Rattle.keyfile_core.specs.Feeds.{is_feed}

@@ -1,13 +1,13 @@
 use Rattle.std.proofs.Common.{subst}
 use Rattle.dconf_model.specs.Outcomes.{Checks}
-use Rattle.dconf_cli.specs.Answers.{Answers}
+use Rattle.dconf_cli.specs.Answers.{GivesOutcome}
 use Rattle.dconf_cli.proofs.Decisions.{decides_by_file, decides_without_file}
 use Rattle.dconf_cli.proofs.commands.check.check.Goals as goal
 
 pub returns-in-Ok : goal.returns-in-Ok
 returns-in-Ok g c = λ input.
     decides_by_file g.F.Folder.past g.F.Folder.failed c.args.folder.now c.file.new.folder 0 c.args.name.now c.in-Ok.bytes.items c.checked.result Checks c.in-Ok.ensures.ok
-    (subst (λ b. Answers c.checked.result (Checks b)) c.deref.ensures.value c.checked.ensures)
+    (subst (λ b. GivesOutcome c.checked.result (Checks b)) c.deref.ensures.value c.checked.ensures)
 
 pub returns-in-Err : goal.returns-in-Err
 returns-in-Err g c = λ input.

@@ -2,8 +2,8 @@ use Rattle.std.proofs.Common.{◌≡◌, subst}
 use Rattle.gv_model.specs.Decode.{decode}
 use Rattle.gv_types.specs.TypeFaults.{type_fault_of}
 use Rattle.gv_types.specs.TypeStr.{ty}
-use Rattle.dconf_model.specs.Outcomes.{shown}
-use Rattle.dconf_cli.specs.Answers.{Answers}
+use Rattle.dconf_model.specs.Outcomes.{shown_outcome}
+use Rattle.dconf_cli.specs.Answers.{GivesOutcome}
 use Rattle.dconf_cli.proofs.Shows.{checked_type, no_type, shows_file, shows_no_file, shows_no_type}
 use Rattle.dconf_cli.proofs.commands.show.show.Goals as goal
 
@@ -17,7 +17,7 @@ returns-in-Ok-file g c = λ input.
     let typed = checked_type c.in-Ok.type_str.text.now c.args.type_text.now c.in-Ok.ensures.found c.in-Ok.type_str.spells_type in
     shows_file g.F.Folder.past g.F.Folder.failed c.args.type_text.now c.args.name.now c.shown.result input c.args.folder.now c.file.new.folder (ty c.in-Ok.type_str)
     c.in-Ok-file.bytes.items typed c.in-Ok-file.ensures.ok
-    (subst (λ b. Answers c.shown.result (λ o. o ≡ shown (decode (ty c.in-Ok.type_str) b))) c.deref.ensures.value c.shown.ensures)
+    (subst (λ b. GivesOutcome c.shown.result (λ o. o ≡ shown_outcome (decode (ty c.in-Ok.type_str) b))) c.deref.ensures.value c.shown.ensures)
 
 pub returns-in-Err-file : goal.returns-in-Err-file
 returns-in-Err-file g c = λ input.
