@@ -1,12 +1,15 @@
-use Rattle.std.proofs.Common.{◌+◌, Some, length, take, count_by, sym, ap, ◌∙◌}
+use Rattle.std.proofs.Common.{refl, ◌+◌, Some, length, take, count_by, sym, ap, ◌∙◌}
 use Rattle.std.specs.Str.{is_utf8}
-use Rattle.std.proofs.lemmas.Bool.{false_from_ne_true, le-ltb}
+use Rattle.std.proofs.lemmas.Bool.{false_from_ne_true, le-ltb, lt-ltb}
 use Rattle.std.proofs.lemmas.Str.{is_utf8-from_IsUtf8, IsUtf8-from_is_utf8}
 use Rattle.dconf_model.specs.Causes.SettingsCause.{not_utf8}
 use Rattle.dconf_model.specs.Lines.{longest_text}
 use Rattle.dconf_path.specs.SettingsTexts.{is_line_end}
 use Rattle.dconf_path.proofs.TextFaults.{is_faultless, is_not_utf8}
 use Rattle.dconf_path.proofs.texts.settings_text.Goals as goal
+
+pub returns-then-bytes-gt-MAX_TEXT_LEN-clause-fault : goal.returns-then-bytes-gt-MAX_TEXT_LEN-clause-fault
+returns-then-bytes-gt-MAX_TEXT_LEN-clause-fault c = rw (lt-ltb longest_text (length c.args.bytes.now) c.if-bytes-gt-MAX_TEXT_LEN.true) refl
 
 pub returns-in-Ok-clause-faultless : goal.returns-in-Ok-clause-faultless
 returns-in-Ok-clause-faultless c =
