@@ -55,7 +55,9 @@ place_before : (places after : List ℕ) (place n : ℕ) → length places ≡ n
 place_before places after place n c is i l = ap (λ (ps : List ℕ). get_or ps i 0) is ∙ get_or_append_left places (place ∷ []) 0 i (omega (arith, l, c))
 
 -- the next item has a value, which is added
-pub value_found : (items : List Named) (first values more : List (List ℕ)) (places after : List ℕ) (bytes : Bor (List ℕ)) (place n : ℕ) (d : Named) → AreFound items first values places n → n < length items → (get_or items n d).content ≡ Value bytes → more ≡ with_new values bytes.now → place < length more → get_or more place [] ≡ bytes.now → after ≡ places ++ place ∷ [] → AreFound items first more after (n + 1)
+pub value_found : (items : List Named) (first values more : List (List ℕ)) (places after : List ℕ) (bytes : Bor (List ℕ)) (place n : ℕ) (d : Named)
+      → AreFound items first values places n → n < length items → (get_or items n d).content ≡ Value bytes → more ≡ with_new values bytes.now → place < length more
+      → get_or more place [] ≡ bytes.now → after ≡ places ++ place ∷ [] → AreFound items first more after (n + 1)
 value_found items first values more places after bytes place n d so l has new w at is =
     let value = bytes.now in
     let content : (named items n).content ≡ Value bytes = same_content items n d l ∙ has in
@@ -78,7 +80,8 @@ value_found items first values more places after bytes place n d so l has new w 
     }
 
 -- the next item has none
-pub other_found : (items : List Named) (first values : List (List ℕ)) (places after : List ℕ) (place n : ℕ) (d : Named) → AreFound items first values places n → n < length items → ((x : Bor (List ℕ)) → (get_or items n d).content ≢ Value x) → after ≡ places ++ place ∷ [] → AreFound items first values after (n + 1)
+pub other_found : (items : List Named) (first values : List (List ℕ)) (places after : List ℕ) (place n : ℕ) (d : Named) → AreFound items first values places n
+      → n < length items → ((x : Bor (List ℕ)) → (get_or items n d).content ≢ Value x) → after ≡ places ++ place ∷ [] → AreFound items first values after (n + 1)
 other_found items first values places after place n d so l none is =
     let content = same_content items n d l in
     let has = has_none (named items n).content (λ x e. none x (sym content ∙ e)) in

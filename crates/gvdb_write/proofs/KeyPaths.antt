@@ -84,7 +84,9 @@ first_is_path : (before after : List (String Global)) (first : String Global) �
 first_is_path before after first is kept = All-head IsKeyPath (string_bytes first) (texts after) (subst (λ (ks : List (String Global)). AreKeyPaths (texts ks)) is kept)
 
 -- the first text is taken as a path
-pub taken_as_path : (before after : List (String Global)) (first : String Global) (text : List ℕ) (read : Result KeyPath PathFault) (taken : Option KeyPath) → taken ≡ result_ok read → before ≡ first ∷ after → AreKeyPaths (texts before) → text ≡ string_bytes first → (IsKeyPath text → IsOk read) → IfOk read (λ p. key_text p ≡ text) → MatchOption taken ((texts before ≡ []) × (texts after ≡ [])) (λ p. texts before ≡ key_text p ∷ texts after)
+pub taken_as_path : (before after : List (String Global)) (first : String Global) (text : List ℕ) (read : Result KeyPath PathFault) (taken : Option KeyPath)
+      → taken ≡ result_ok read → before ≡ first ∷ after → AreKeyPaths (texts before) → text ≡ string_bytes first → (IsKeyPath text → IsOk read)
+      → IfOk read (λ p. key_text p ≡ text) → MatchOption taken ((texts before ≡ []) × (texts after ≡ [])) (λ p. texts before ≡ key_text p ∷ texts after)
 taken_as_path before after first text (Ok path) taken is_ok is kept named accepts found =
     subst (λ (o : Option KeyPath). MatchOption o ((texts before ≡ []) × (texts after ≡ [])) (λ p. texts before ≡ key_text p ∷ texts after)) (sym is_ok)
     (ap texts is ∙ ap (λ (t : List ℕ). t ∷ texts after) (sym named ∙ sym found))
