@@ -6,6 +6,7 @@ pub mod Yielded
 pub mod BackwardSteps
 pub mod NameChecks
 pub mod Ascending
+pub mod ByKey
 pub mod Places
 pub mod ListWalks
 pub mod Below

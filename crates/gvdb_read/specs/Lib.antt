@@ -7,4 +7,5 @@ pub mod Unsounds
 pub mod Joined
 pub mod Backwards
 pub mod Ascending
+pub mod ByKey
 pub mod ListNumbers

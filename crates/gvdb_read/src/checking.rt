@@ -15,6 +15,7 @@ mod hash;
 mod keys;
 mod length;
 mod lists;
+mod lists_by_key;
 mod locks;
 mod once;
 mod place;
@@ -33,8 +34,9 @@ impl Table<'_> {
     /// It takes no memory. S1, S2, S5, S6 and S8 take time in the buckets, the items and the bytes of their keys; S3
     /// takes a step for each of the parents of each item; S4 takes time in the bytes of the full names, and S9 in the
     /// first 65,536 of each. S7 looks at the items of each item's bucket, and compares names where the hashes agree.
-    /// S10 takes time in the items, times the logarithm of the longest list, where the lists ascend, as a writer puts
-    /// them; else in the items times the lists. S11 asks S1 to S8 of the table of locks.
+    /// S10 takes time in the items, times the logarithm of the longest list, where all lists ascend by number, as our
+    /// writer puts them, or by key, as dconf's does; else in the items times the lists. S11 asks S1 to S8 of the table of
+    /// locks.
     pub fn check(self) -> Result<(), Unsound>
         ensures sound { IfOk result (λ _. IsSound (region self.entry)) }
         ensures fault { IfErr result (λ e. IsFirstFault (region self.entry) (rule_of e.rule) e.item) }
@@ -73,15 +75,18 @@ impl Table<'_> {
         self.each_keeps(Rule::Content, |i| self.has_content(i))
     }
 
-    /// Asks S10. Where each list ascends it looks at the lists once, and for each item at as many numbers as the longest
-    /// list has binary digits. Else it looks at each item once for each list, and compares each number of a list with
-    /// its children and with the numbers before it.
+    /// Asks S10. Where each list ascends, by number or by key, it looks at the lists once or twice, and for each item at
+    /// as many numbers as the longest list has binary digits. Else it looks at each item once for each list, and compares
+    /// each number of a list with its children and with the numbers before it.
     fn check_lists(self) -> Result<(), Unsound>
         requires earlier { KeepsBelow (region self) 10 }
         ensures kept { IfOk result (λ _. KeepsBelow (region self.entry) 11) }
         ensures fault { IfErr result (λ e. IsFirstFault (region self.entry) (rule_of e.rule) e.item) }
     {
         if self.lists_ascend() && self.each_is_listed() {
+            return Ok(());
+        }
+        if self.lists_go_by_key() && self.each_is_found_by_key() {
             return Ok(());
         }
         self.each_keeps(Rule::Lists, |i| self.has_list_if_any(i))
