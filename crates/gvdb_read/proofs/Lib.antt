@@ -8,6 +8,7 @@ pub mod BackwardSteps
 pub mod NameChecks
 pub mod Ascending
 pub mod ByKey
+pub mod HashAbove
 pub mod Places
 pub mod ListWalks
 pub mod Below

@@ -8,4 +8,5 @@ pub mod Joined
 pub mod Backwards
 pub mod Ascending
 pub mod ByKey
+pub mod HashAbove
 pub mod ListNumbers
