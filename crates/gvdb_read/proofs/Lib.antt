@@ -1,4 +1,5 @@
 pub mod Numbers
+pub mod CoveredPaths
 pub mod ListSteps
 pub mod RuleOrder
 pub mod ChainSteps
@@ -6,6 +7,8 @@ pub mod Yielded
 pub mod BackwardSteps
 pub mod NameChecks
 pub mod Ascending
+pub mod ByKey
+pub mod HashAbove
 pub mod Places
 pub mod ListWalks
 pub mod Below

@@ -1,11 +1,12 @@
 -- The rules in their order: what is kept so far, and the first that isn't.
-use Rattle.std.proofs.Common.{◌≡◌, ◌≢◌, ◌<◌, ◌↔◌, ℕ, Some, refl, arith, true, false}
+use Rattle.std.proofs.Common.{◌≡◌, ◌≢◌, ◌<◌, ◌↔◌, ℕ, Some, ◌+◌, refl, sym, subst, arith, true, false, inl, inr}
+use Rattle.std.proofs.lemmas.Bool.{cases_order}
 use Rattle.std.specs.Prelude.{IfOk, IfErr, IsOk, Result, Ok, Err}
 use Rattle.dconf_model.specs.Table.{Table}
 use Rattle.dconf_model.specs.Searchable.{EachItem, IsSearchable}
 use Rattle.dconf_model.specs.Sound.{Rule, rule_number, Keeps, KeepsAll, IsSound, IsLeastFault}
 use Rattle.dconf_model.specs.Sound.Rule.{buckets, keys, chain, hash, span, bloom, once, content, place, lists, locks}
-use Rattle.dconf_model.proofs.SoundLaws.{failing_is_not_kept}
+use Rattle.dconf_model.proofs.SoundLaws.{failing_is_not_kept, same_rule}
 use Rattle.gvdb_read.specs.Unsounds.{KeepsBelow}
 use Rattle.gvdb_read.specs.declared.unsound.Unsound.{Unsound}
 
@@ -63,16 +64,12 @@ pub searchable_where_ok : {T : Type 0} (t : Table) (r : Result T Unsound) → If
 searchable_where_ok t (Ok x) kept fault = (λ _. searchable t kept, λ _. refl)
 searchable_where_ok t (Err e) kept fault = (λ h. let bad : false ≡ true = h in cc, λ s. absurd (fault s))
 
--- where the rules before that on lists are kept, and that one too
-pub lists_too : (t : Table) → KeepsBelow t 10 → KeepsAll t lists → KeepsBelow t 11
-lists_too t before here buckets lt = before buckets (omega arith)
-lists_too t before here keys lt = before keys (omega arith)
-lists_too t before here chain lt = before chain (omega arith)
-lists_too t before here hash lt = before hash (omega arith)
-lists_too t before here span lt = before span (omega arith)
-lists_too t before here bloom lt = before bloom (omega arith)
-lists_too t before here once lt = before once (omega arith)
-lists_too t before here content lt = before content (omega arith)
-lists_too t before here place lt = before place (omega arith)
-lists_too t before here lists lt = here
-lists_too t before here locks lt = absurd (omega arith)
+-- where the rules before one are kept, and that one too
+pub one_more : (t : Table) (rule : Rule) → KeepsBelow t (rule_number rule) → KeepsAll t rule → KeepsBelow t (rule_number rule + 1)
+one_more t rule before here r lt = elim (cases_order (rule_number r) (rule_number rule)) [
+  | inl e ↦ subst (KeepsAll t) (sym (same_rule r rule e)) here
+  | inr rest ↦ elim rest [
+    | inl lower ↦ before r lower
+    | inr higher ↦ absurd (omega (arith, lt, higher))
+  ]
+]

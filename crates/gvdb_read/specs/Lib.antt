@@ -7,4 +7,6 @@ pub mod Unsounds
 pub mod Joined
 pub mod Backwards
 pub mod Ascending
+pub mod ByKey
+pub mod HashAbove
 pub mod ListNumbers

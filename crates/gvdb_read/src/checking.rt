@@ -3,7 +3,7 @@ ghost use Rattle.std.specs.Prelude.{◌≢◌, ◌+◌, ◌<◌, ◌↔◌, ℕ,
 ghost use Rattle.dconf_model.specs.Table.{item_count};
 ghost use Rattle.dconf_model.specs.Searchable.{IsSearchable};
 ghost use Rattle.dconf_model.specs.Sound.{IsFirstFault, IsSound, Keeps, KeepsAll, rule_number};
-ghost use Rattle.dconf_model.specs.Sound.Rule.{buckets};
+ghost use Rattle.dconf_model.specs.Sound.Rule.{buckets, hash};
 ghost use Rattle.gvdb_read.specs.Unsounds.{KeepsBelow, rule_of};
 
 mod backwards;
@@ -12,9 +12,11 @@ mod buckets;
 mod chain;
 mod content;
 mod hash;
+mod hash_by_parent;
 mod keys;
 mod length;
 mod lists;
+mod lists_by_key;
 mod locks;
 mod once;
 mod place;
@@ -31,10 +33,11 @@ impl Table<'_> {
     /// fails, in the order of [`Rule`], and the least item that breaks it.
     ///
     /// It takes no memory. S1, S2, S5, S6 and S8 take time in the buckets, the items and the bytes of their keys; S3
-    /// takes a step for each of the parents of each item; S4 takes time in the bytes of the full names, and S9 in the
-    /// first 65,536 of each. S7 looks at the items of each item's bucket, and compares names where the hashes agree.
-    /// S10 takes time in the items, times the logarithm of the longest list, where the lists ascend, as a writer puts
-    /// them; else in the items times the lists. S11 asks S1 to S8 of the table of locks.
+    /// takes a step for each of the parents of each item. S4 takes time in the bytes of the keys where it is kept; else in
+    /// those of the full names. S7 looks at the items of each item's bucket, and compares names where the hashes agree. S9
+    /// takes time in the first 65,536 bytes of the full names. S10 takes time in the items, times the logarithm of the
+    /// longest list, where all lists ascend by number, as our writer puts them, or by key, as dconf's does; else in the
+    /// items times the lists. S11 asks S1 to S8 of the table of locks.
     pub fn check(self) -> Result<(), Unsound>
         ensures sound { IfOk result (λ _. IsSound (region self.entry)) }
         ensures fault { IfErr result (λ e. IsFirstFault (region self.entry) (rule_of e.rule) e.item) }
@@ -66,22 +69,39 @@ impl Table<'_> {
         }
         self.each_keeps(Rule::Keys, |i| self.has_good_key(i))?;
         self.each_keeps(Rule::Chain, |i| self.has_end(i))?;
-        self.each_keeps(Rule::Hash, |i| self.has_hash_of_name(i))?;
+        self.check_hashes()?;
         self.each_keeps(Rule::Span, |i| self.is_in_span(i))?;
         self.each_keeps(Rule::Bloom, |i| self.is_in_bloom(i))?;
         self.each_keeps(Rule::Once, |i| self.is_only_named(i))?;
         self.each_keeps(Rule::Content, |i| self.has_content(i))
     }
 
-    /// Asks S10. Where each list ascends it looks at the lists once, and for each item at as many numbers as the longest
-    /// list has binary digits. Else it looks at each item once for each list, and compares each number of a list with
-    /// its children and with the numbers before it.
+    /// Asks S4. Where each hash goes on from the parent's it looks at each byte of the keys once. Else it looks at each byte
+    /// of the full names, up to the first item whose hash is wrong.
+    fn check_hashes(self) -> Result<(), Unsound>
+        requires earlier { KeepsBelow (region self) 4 }
+        ensures kept { IfOk result (λ _. KeepsBelow (region self.entry) 5) }
+        ensures fault { IfErr result (λ e. IsFirstFault (region self.entry) (rule_of e.rule) e.item) }
+        ensures not_kept { IfErr result (λ _. ¬ KeepsAll (region self.entry) hash) }
+    {
+        if self.hashes_go_on() {
+            return Ok(());
+        }
+        self.each_keeps(Rule::Hash, |i| self.has_hash_of_name(i))
+    }
+
+    /// Asks S10. Where each list ascends, by number or by key, it looks at the lists once or twice, and for each item at
+    /// as many numbers as the longest list has binary digits. Else it looks at each item once for each list, and compares
+    /// each number of a list with its children and with the numbers before it.
     fn check_lists(self) -> Result<(), Unsound>
         requires earlier { KeepsBelow (region self) 10 }
         ensures kept { IfOk result (λ _. KeepsBelow (region self.entry) 11) }
         ensures fault { IfErr result (λ e. IsFirstFault (region self.entry) (rule_of e.rule) e.item) }
     {
         if self.lists_ascend() && self.each_is_listed() {
+            return Ok(());
+        }
+        if self.lists_go_by_key() && self.each_is_found_by_key() {
             return Ok(());
         }
         self.each_keeps(Rule::Lists, |i| self.has_list_if_any(i))

@@ -1,4 +1,5 @@
-//! S4: the stored hash is that of the full name.
+//! S4: the stored hash is that of the full name. It is asked name by name where the fast pass (hash_by_parent.rt) doesn't
+//! say that each is.
 ghost use Rattle.std.specs.Prelude.{◌≡◌, ◌<◌, ◌↔◌, IsTrue};
 ghost use Rattle.dconf_model.specs.Bytes.{hash_of};
 ghost use Rattle.dconf_model.specs.Table.{item_count};

@@ -1,7 +1,8 @@
 //! S10: a list holds exactly the items whose parent it is, once each; it is empty only at `/`.
 //!
-//! A writer puts the children of a list in the order of the items. So a fast pass looks whether each list ascends and
-//! each item is found in its parent's list by halving. Where that fails a slow pass asks list by list.
+//! Our writer puts the children of a list in the order of the items. So a fast pass looks whether each list ascends and
+//! each item is found in its parent's list by halving. Where that fails a second one goes by the keys (lists_by_key.rt),
+//! and where that fails too a slow pass asks list by list.
 ghost use Rattle.std.specs.Prelude.{◌≡◌, ◌<◌, ◌↔◌, ℕ, IsTrue, codes, length};
 ghost use Rattle.dconf_model.specs.Table.{HasBytes, item_count};
 ghost use Rattle.dconf_model.specs.Names.{HasName};
@@ -126,7 +127,7 @@ impl<'a> Table<'a> {
     }
 
     /// Whether each number in the list is a child of its item.
-    fn lists_children_alone(self, i: u32) -> bool
+    pub(super) fn lists_children_alone(self, i: u32) -> bool
         requires counted { i < item_count (region self) }
         requires valid { HasBytes (region self) i }
         ensures { IsTrue result ↔ ((k : ℕ) → k < list_length (region self.entry) i
@@ -175,7 +176,7 @@ impl<'a> Table<'a> {
     // ---- one list
 
     /// Whether the list has numbers, or is that of `/`.
-    fn is_empty_at_root_alone(self, i: u32) -> bool
+    pub(super) fn is_empty_at_root_alone(self, i: u32) -> bool
         requires counted { i < item_count (region self) }
         requires valid { HasBytes (region self) i }
         ensures { IsTrue result ↔ (list_length (region self.entry) i ≡ 0 → HasName (region self.entry) i (codes "/")) }
@@ -192,7 +193,7 @@ impl<'a> Table<'a> {
     }
 
     /// The numbers in the list, each as its four bytes.
-    fn numbers(self, i: u32) -> &'a [[u8; NUMBER_LEN]]
+    pub(super) fn numbers(self, i: u32) -> &'a [[u8; NUMBER_LEN]]
         requires counted { i < item_count (region self) }
         requires valid { HasBytes (region self) i }
         ensures { AreNumbers (region self.entry) i result.now }

@@ -4,22 +4,16 @@ use Rattle.dconf_model.specs.Sound.Rule.{keys, chain, hash, span}
 use Rattle.gvdb_read.specs.Tables.{region}
 use Rattle.gvdb_read.proofs.table.Table.check_names.Goals as goal
 
-pub each_keeps-requires-3-clause-callable : goal.each_keeps-requires-3-clause-callable
-each_keeps-requires-3-clause-callable c =
-    let good : KeepsAll (region c.args.self) keys = c.in_ok-each_keeps-2.ensures.kept keys (omega arith) in
-    let ends : KeepsAll (region c.args.self) chain = c.in_ok-each_keeps-2.ensures.kept chain (omega arith) in
-    λ i counted. search rules
-
-pub each_keeps-requires-6-clause-callable : goal.each_keeps-requires-6-clause-callable
-each_keeps-requires-6-clause-callable c =
-    let good : KeepsAll (region c.args.self) keys = c.in_ok-each_keeps-5.ensures.kept keys (omega arith) in
-    let ends : KeepsAll (region c.args.self) chain = c.in_ok-each_keeps-5.ensures.kept chain (omega arith) in
-    let hashed : KeepsAll (region c.args.self) hash = c.in_ok-each_keeps-5.ensures.kept hash (omega arith) in
-    let spans : KeepsAll (region c.args.self) span = c.in_ok-each_keeps-5.ensures.kept span (omega arith) in
+pub each_keeps-requires-5-clause-callable : goal.each_keeps-requires-5-clause-callable
+each_keeps-requires-5-clause-callable c =
+    let good : KeepsAll (region c.args.self) keys = c.in_ok-each_keeps-4.ensures.kept keys (omega arith) in
+    let ends : KeepsAll (region c.args.self) chain = c.in_ok-each_keeps-4.ensures.kept chain (omega arith) in
+    let hashed : KeepsAll (region c.args.self) hash = c.in_ok-each_keeps-4.ensures.kept hash (omega arith) in
+    let spans : KeepsAll (region c.args.self) span = c.in_ok-each_keeps-4.ensures.kept span (omega arith) in
     λ i counted. search rules
 
 moved : (r b : Bool) (P : Type 0) → b ≡ r → (IsTrue r ↔ P) → IsTrue b ↔ P
 moved r b P e h = subst (λ (x : Bool). IsTrue x ↔ P) (sym e) h
 
-pub each_keeps-requires-6-clause-tells : goal.each_keeps-requires-6-clause-tells
-each_keeps-requires-6-clause-tells c = λ i b post. search (rules, moved)
+pub each_keeps-requires-5-clause-tells : goal.each_keeps-requires-5-clause-tells
+each_keeps-requires-5-clause-tells c = λ i b post. search (rules, moved)
