@@ -9,6 +9,7 @@
 mod checking;
 mod fault;
 mod find;
+mod full_name;
 mod hashing;
 mod item;
 mod names;
