@@ -13,15 +13,11 @@ use Rattle.dconf_model.specs.Names.{HasName, IsRow}
 use Rattle.dconf_model.specs.Opening.{root_of}
 use Rattle.dconf_model.specs.Salvaging.{IsKeyText, IsLowestValue, IsOpenLocks, IsSalvaged}
 use Rattle.dconf_model.proofs.NameSteps.{is_item}
-use Rattle.dconf_model.proofs.ComputedNames.{name_of_named}
+use Rattle.dconf_model.proofs.LaidNames.{one_name}
 use Rattle.dconf_model.proofs.ParentLaws.{by_bool}
 use Rattle.dconf_model.proofs.PathMaps.{get_inserted}
 use Rattle.dconf_model.proofs.SameBytes.{same_path, path_itself}
 use Rattle.gvdb_write.specs.Salvaged.{HasLowestValues, IsLowestLocks, SpellsLock, TakesLock, TakesValue, with_first}
-
--- an item has one name
-pub one_name : (t : Table) (i : ℕ) (p q : List ℕ) → HasName t i p → HasName t i q → p ≡ q
-one_name t i p q h k = same_Some p q (sym (name_of_named t i p h) ∙ name_of_named t i q k)
 
 -- ---- values
 

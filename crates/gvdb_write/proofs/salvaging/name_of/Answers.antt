@@ -5,7 +5,7 @@ use Rattle.dconf_model.specs.Table.{Table}
 use Rattle.dconf_model.specs.Names.{HasName}
 use Rattle.gvdb_read.specs.Tables.{region}
 use Rattle.gvdb_write.specs.Salvaged.{HasNoShortText}
-use Rattle.gvdb_write.proofs.SalvagedSteps.{one_name}
+use Rattle.dconf_model.proofs.LaidNames.{one_name}
 use Rattle.gvdb_write.proofs.salvaging.name_of.Goals as goal
 
 -- the one name that the item has is no text

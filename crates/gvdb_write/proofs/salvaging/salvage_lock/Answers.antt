@@ -3,12 +3,13 @@ use Rattle.std.proofs.lemmas.Result.{on_ok_weaker}
 use Rattle.std.specs.String.{string_bytes}
 use Rattle.dconf_model.specs.Names.{HasName}
 use Rattle.dconf_model.specs.Paths.{is_path}
+use Rattle.dconf_model.proofs.LaidNames.{one_name}
 use Rattle.dconf_model.proofs.NameSteps.{is_item}
 use Rattle.dconf_path.specs.LockPaths.{lock_text}
 use Rattle.gvdb_read.specs.Tables.{region}
 use Rattle.gvdb_write.specs.Salvaged.{SpellsLock, TakesLock}
 use Rattle.gvdb_write.proofs.KeyPaths.{lock_is_path}
-use Rattle.gvdb_write.proofs.SalvagedSteps.{one_name, takes_no_lock, takes_lock}
+use Rattle.gvdb_write.proofs.SalvagedSteps.{takes_no_lock, takes_lock}
 use Rattle.gvdb_write.proofs.salvaging.salvage_lock.Goals as goal
 
 pub returns-then-not-is_value : goal.returns-then-not-is_value

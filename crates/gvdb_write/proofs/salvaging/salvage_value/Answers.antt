@@ -5,9 +5,10 @@ use Rattle.dconf_model.specs.Names.{HasName, IsRow}
 use Rattle.dconf_model.specs.Table.{value_kind}
 use Rattle.dconf_model.specs.Salvaging.{IsKeyText}
 use Rattle.dconf_model.specs.Paths.{is_key_path}
+use Rattle.dconf_model.proofs.LaidNames.{one_name}
 use Rattle.dconf_model.proofs.NameSteps.{is_item}
 use Rattle.gvdb_read.specs.Tables.{region}
-use Rattle.gvdb_write.proofs.SalvagedSteps.{takes_none, takes_first, one_name}
+use Rattle.gvdb_write.proofs.SalvagedSteps.{takes_none, takes_first}
 use Rattle.gvdb_write.specs.Salvaged.{TakesValue}
 use Rattle.gvdb_write.proofs.salvaging.salvage_value.Goals as goal
 
