@@ -1,0 +1,2 @@
+pub mod CoveringPaths
+pub mod SoundLayers
