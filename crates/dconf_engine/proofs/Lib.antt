@@ -1,2 +1,4 @@
 pub mod CoveringPaths
 pub mod SoundLayers
+pub mod Levels
+pub mod Opened

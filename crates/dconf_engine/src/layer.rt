@@ -1,7 +1,7 @@
 //! A layer of settings: a sound database, lent from its file.
 ghost use Rattle.std.specs.Prelude.{◌≡◌, Some, IfErr, IfOk, option_map};
 ghost use Rattle.std.specs.FinMap.{get};
-ghost use Rattle.dconf_model.specs.Databases.{IsLayer, IsVerdict};
+ghost use Rattle.dconf_model.specs.Databases.{IsBad, IsLayer, IsVerdict};
 ghost use Rattle.dconf_model.specs.Layers.{locks_path};
 ghost use Rattle.dconf_path.specs.Paths.{key_text};
 ghost use Rattle.dconf_engine.specs.Faults.{verdict_of};
@@ -23,7 +23,8 @@ pub(crate) struct Layer<'a> {
 }
 
 impl<'a> Layer<'a> {
-    ghost use Rattle.dconf_engine.specs.LayerSettings.{settings_of};
+    ghost use Rattle.dconf_engine.specs.LayerSettings.{settings_of, settings_of_item};
+    ghost use Rattle.dconf_engine.specs.Files.{bytes_of_file};
 
     /// Opens the bytes of a file. Those that open as no database, or as one that isn't sound, are refused.
     ///
@@ -41,6 +42,17 @@ impl<'a> Layer<'a> {
         }
         let locks = values.table(LOCKS);
         Ok(Layer { values, locks })
+    }
+
+    /// Opens a file, where there is one.
+    pub(crate) fn open_if_any(file: Option<&'a [u8]>) -> Result<Option<Layer<'a>>, DatabaseFault>
+        ensures opens { IfOk result (λ layer. IsLayer (bytes_of_file file.entry) (settings_of_item layer)) }
+        ensures fault { IfErr result (λ e. IsBad (bytes_of_file file.entry) (verdict_of e)) }
+    {
+        match file {
+            Some(file) => Ok(Some(Layer::open(file)?)),
+            None => Ok(None),
+        }
     }
 
     /// The bytes of the value at a path, or None where it has none. It is one search.

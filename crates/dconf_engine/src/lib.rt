@@ -5,7 +5,9 @@
 //! in. Bytes that are no sound database are refused when it opens.
 #![tactic(auto)]
 
+mod engine;
 mod fault;
 mod layer;
 
-pub use fault::DatabaseFault;
+pub use engine::Engine;
+pub use fault::{DatabaseFault, EngineFault};
