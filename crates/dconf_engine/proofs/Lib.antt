@@ -1,0 +1,2 @@
+pub mod TextMapLaws
+pub mod UnsavedLaws

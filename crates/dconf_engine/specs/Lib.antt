@@ -1,0 +1,4 @@
+pub mod Edits
+pub mod TextMaps
+pub mod Unsaved
+pub mod UnsavedLeft

@@ -1,0 +1,4 @@
+//! Layers of settings, the first of which may be changed.
+#![tactic(auto)]
+
+mod changes;
