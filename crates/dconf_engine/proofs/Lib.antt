@@ -1,2 +1,3 @@
 pub mod TextMapLaws
 pub mod UnsavedLaws
+pub mod WritingLaws
