@@ -2,3 +2,6 @@ pub mod CoveringPaths
 pub mod SoundLayers
 pub mod Levels
 pub mod Opened
+pub mod TextMapLaws
+pub mod UnsavedLaws
+pub mod WritingLaws

@@ -4,3 +4,9 @@ pub mod LayerSettings
 pub mod Files
 pub mod LayersCode
 pub mod EngineLayers
+pub mod ChangeFaults
+pub mod Edits
+pub mod Rows
+pub mod TextMaps
+pub mod Unsaved
+pub mod UnsavedLeft

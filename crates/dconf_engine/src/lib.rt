@@ -5,9 +5,13 @@
 //! in. Bytes that are no sound database are refused when it opens.
 #![tactic(auto)]
 
+mod change_fault;
+mod changes;
 mod engine;
 mod fault;
 mod layer;
+mod storing;
 
+pub use change_fault::ChangeFault;
 pub use engine::Engine;
 pub use fault::{DatabaseFault, EngineFault};
