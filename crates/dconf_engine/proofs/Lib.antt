@@ -6,3 +6,4 @@ pub mod FirstLayer
 pub mod TextMapLaws
 pub mod UnsavedLaws
 pub mod WritingLaws
+pub mod ChildNames

@@ -10,3 +10,4 @@ pub mod Rows
 pub mod TextMaps
 pub mod Unsaved
 pub mod UnsavedLeft
+pub mod Children

@@ -7,6 +7,7 @@
 
 mod change_fault;
 mod changes;
+mod children;
 mod engine;
 mod fault;
 mod layer;
