@@ -1,6 +1,6 @@
 //! What is salvaged, of files by hand with some bytes set and of files that `write` made, and full names of items.
-use crate::vectors::{BUCKETS, LOCKED, PLAIN, with};
-use dconf_path::{KeyPath, LockPath};
+use crate::maps::fives;
+use crate::vectors::Sample;
 use gvdb_read::Table;
 use gvdb_write::{Map, salvage, write};
 use std::alloc::Global;
@@ -28,19 +28,26 @@ fn kept(alloc: Global, file: &[u8]) -> Result<String, Fail> {
     }
 }
 
+/// What is salvaged of a file by hand with some bytes set.
+fn kept_of(alloc: Global, sample: Sample, changes: &[(usize, u8)]) -> Result<String, Fail> {
+    let file = sample.with(alloc, changes)?;
+    kept(alloc, &file)
+}
+
 #[test]
 fn keeps_what_has_a_name_and_a_place(rt: HostRuntime) -> Result<(), Fail> {
-    let rows: [(&[(usize, u8)], &str); 8] = [
-        (&[], "/k=Some(5) "),
+    let rows: [(Sample, &[(usize, u8)], &str); 12] = [
+        (Sample::Plain, &[], "/k=Some(5) "),
         // another hash; a circle of parents; a kind that is none; a pointer past the file
-        (&[(60, 0xbe)], "/k=Some(5) "),
-        (&[(40, 1), (41, 0), (42, 0), (43, 0)], ""),
-        (&[(74, b'x')], ""),
-        (&[(80, 200)], ""),
+        (Sample::Plain, &[(60, 0xbe)], "/k=Some(5) "),
+        (Sample::Plain, &[(40, 1), (41, 0), (42, 0), (43, 0)], ""),
+        (Sample::Plain, &[(74, b'x')], ""),
+        (Sample::Plain, &[(80, 200)], ""),
         // a name that is no text
-        (&[(85, 0xff)], ""),
+        (Sample::Plain, &[(85, 0xff)], ""),
         // two items `/k`; and the first of them with a pointer that isn't valid
         (
+            Sample::Plain,
             &[
                 (48, 2),
                 (50, b'v'),
@@ -54,6 +61,7 @@ fn keeps_what_has_a_name_and_a_place(rt: HostRuntime) -> Result<(), Fail> {
             "/k=Some(1) ",
         ),
         (
+            Sample::Plain,
             &[
                 (48, 2),
                 (50, b'v'),
@@ -67,13 +75,15 @@ fn keeps_what_has_a_name_and_a_place(rt: HostRuntime) -> Result<(), Fail> {
             ],
             "/k=Some(5) ",
         ),
+        // the lock's pointer isn't valid; the lock is of another kind; its table is a list
+        (Sample::Locked, &[], "/k=Some(5) lock /k "),
+        (Sample::Locked, &[(148, 169)], "/k=Some(5) lock /k "),
+        (Sample::Locked, &[(146, b'L')], "/k=Some(5) "),
+        (Sample::Locked, &[(50, b'L')], "/k=Some(5) "),
     ];
-    for (changes, text) in rows {
-        assert_eq!(rt;
-            kept(rt.alloc(), &with(PLAIN, changes))?.as_str(),
-            text,
-            "{changes:?}"
-        );
+    for (sample, changes, text) in rows {
+        let kept = kept_of(rt.alloc(), sample, changes)?;
+        assert!(rt; kept.as_str() == text, "{changes:?}");
     }
     Ok(())
 }
@@ -86,26 +96,8 @@ fn refuses_what_is_no_database(rt: HostRuntime) -> Result<(), Fail> {
         (101, ""),
         (102, "/k=Some(5) "),
     ] {
-        assert_eq!(rt; kept(rt.alloc(), &PLAIN[..len])?.as_str(), text);
-    }
-    Ok(())
-}
-
-#[test]
-fn keeps_the_paths_of_locks(rt: HostRuntime) -> Result<(), Fail> {
-    let rows: [(&[(usize, u8)], &str); 4] = [
-        (&[], "/k=Some(5) lock /k "),
-        // the lock's pointer isn't valid; the lock is of another kind; its table is a list
-        (&[(148, 169)], "/k=Some(5) lock /k "),
-        (&[(146, b'L')], "/k=Some(5) "),
-        (&[(50, b'L')], "/k=Some(5) "),
-    ];
-    for (changes, text) in rows {
-        assert_eq!(rt;
-            kept(rt.alloc(), &with(LOCKED, changes))?.as_str(),
-            text,
-            "{changes:?}"
-        );
+        let file = Sample::Plain.bytes().get(..len).unwrap_or(&[]);
+        assert!(rt; kept(rt.alloc(), file)?.as_str() == text, "{len}");
     }
     Ok(())
 }
@@ -113,20 +105,18 @@ fn keeps_the_paths_of_locks(rt: HostRuntime) -> Result<(), Fail> {
 #[test]
 fn what_is_salvaged_is_written_anew(rt: HostRuntime) -> Result<(), Fail> {
     let alloc = rt.alloc();
-    let bad = with(PLAIN, &[(60, 0xbe)]);
+    let bad = Sample::Plain.with(alloc, &[(60, 0xbe)])?;
     let salvaged = salvage(alloc, &bad)?;
-    assert!(rt; write(alloc, &salvaged)?.as_slice() == BUCKETS.as_slice());
-    let mut map = Map::new(alloc);
-    map.insert(KeyPath::parse("/a/k")?, &[5, 0, 0, 0, 0, b'i'])?;
-    map.lock(LockPath::parse("/a/")?)?;
-    let file = write(alloc, &map)?;
-    assert_eq!(rt; kept(alloc, &file)?.as_str(), "/a/k=Some(5) lock /a/ ");
+    assert!(rt; write(alloc, &salvaged)?.as_slice() == Sample::Buckets.bytes());
+    let file = write(alloc, &fives(alloc, &["/a/k"], &["/a/"])?)?;
+    assert!(rt; kept(alloc, &file)?.as_str() == "/a/k=Some(5) lock /a/ ");
     Ok(())
 }
 
-/// The full name of an item, or why there is none.
-fn name_of(alloc: Global, file: &[u8], i: u32) -> Result<String, Fail> {
-    let table = Table::open(file)?;
+/// The full name of an item of a file by hand with some bytes set, or why there is none.
+fn name_of(alloc: Global, sample: Sample, changes: &[(usize, u8)], i: u32) -> Result<String, Fail> {
+    let file = sample.with(alloc, changes)?;
+    let table = Table::open(&file)?;
     let mut name = Vec::new(alloc);
     match table.name_len(i, 6) {
         Some(len) => name.resize(len, 0u8)?,
@@ -140,18 +130,30 @@ fn name_of(alloc: Global, file: &[u8], i: u32) -> Result<String, Fail> {
 
 #[test]
 fn items_have_full_names(rt: HostRuntime) -> Result<(), Fail> {
-    let circle = with(PLAIN, &[(40, 1), (41, 0), (42, 0), (43, 0)]);
-    let rows: [(&[u8], u32, &str); 7] = [
-        (&BUCKETS, 0, "/"),
-        (&BUCKETS, 1, "/k"),
-        (&BUCKETS, 2, "none"),
-        (&LOCKED, 0, ".locks"),
-        (&LOCKED, 2, "/k"),
-        (&circle, 0, "none"),
-        (&circle, 1, "none"),
+    let rows: [(Sample, &[(usize, u8)], u32, &str); 7] = [
+        (Sample::Buckets, &[], 0, "/"),
+        (Sample::Buckets, &[], 1, "/k"),
+        (Sample::Buckets, &[], 2, "none"),
+        (Sample::Locked, &[], 0, ".locks"),
+        (Sample::Locked, &[], 2, "/k"),
+        (
+            Sample::Plain,
+            &[(40, 1), (41, 0), (42, 0), (43, 0)],
+            0,
+            "none",
+        ),
+        (
+            Sample::Plain,
+            &[(40, 1), (41, 0), (42, 0), (43, 0)],
+            1,
+            "none",
+        ),
     ];
-    for (file, i, name) in rows {
-        assert_eq!(rt; name_of(rt.alloc(), file, i)?.as_str(), name, "item {i}");
+    for (sample, changes, i, name) in rows {
+        assert!(rt;
+            name_of(rt.alloc(), sample, changes, i)?.as_str() == name,
+            "item {i}"
+        );
     }
     Ok(())
 }
