@@ -1,27 +1,28 @@
 //! Looking up names in files by hand.
-use crate::vectors::{BUCKETS, LOCKED, PLAIN, with};
+use crate::vectors::Sample;
 use gv_types::Steps;
 use gv_view::View;
 use gvdb_read::{OpenFault, Table, hash};
+use std::alloc::Global;
 use std::test::Fail;
 
 #[test]
-fn takes_bytes_as_signed_numbers(rt: HostRuntime) -> Result<(), Fail> {
-    let rows: [(&[u8], u32); 4] = [
-        (b"", 5381),
-        (b"/", 177620),
-        (b"/k", 5861567),
-        (b"\xc3\xa9", 5857809),
-    ];
-    for (name, expected) in rows {
-        assert_eq!(rt; hash(name), expected, "at {name:?}");
+fn takes_bytes_as_signed_numbers(rt: HostRuntime) {
+    for (name, expected) in [
+        ("", 5381),
+        ("/", 177620),
+        ("/k", 5861567),
+        ("\u{e9}", 5857809),
+    ] {
+        assert!(rt; hash(name.as_bytes()) == expected, "at {name}");
     }
-    Ok(())
 }
 
-/// The number that `/k` holds in a file.
-fn number_of_k(file: &[u8]) -> Result<Option<i32>, OpenFault> {
-    Ok(Table::open(file)?.find("/k").and_then(View::as_i32))
+/// Whether the value of this name has these bytes in a table, and no list has this name.
+fn has_bytes(table: Table<'_>, name: &str, bytes: Option<&[u8]>) -> bool {
+    table.find_bytes(name) == bytes
+        && table.find(name).is_some() == bytes.is_some()
+        && table.has(name) == bytes.is_some()
 }
 
 /// The first two names in the list of `/`.
@@ -31,38 +32,24 @@ fn root_names(table: Table<'_>) -> Option<(Option<&[u8]>, Option<&[u8]>)> {
     Some((first, names.next()))
 }
 
-/// The number that a search finds, and its steps.
-fn counted(file: &[u8], name: &str) -> Result<(Option<i32>, u128), OpenFault> {
-    let mut steps = Steps::new();
-    let table = Table::open(file)?;
-    let found = table.find_counted(name, &mut steps).and_then(View::as_i32);
-    Ok((found, steps.count()))
-}
+/// The only name in the list of `/`.
+const K: Option<&[u8]> = Some(b"k");
 
-/// Changes by which each of the two items of `PLAIN` is the other's parent.
-const CIRCLE: [(usize, u8); 4] = [(40, 1), (41, 0), (42, 0), (43, 0)];
-
-#[test]
-fn finds_values_and_lists(rt: HostRuntime) -> Result<(), Fail> {
-    for file in [PLAIN.as_slice(), &BUCKETS, &LOCKED] {
-        let table = Table::open(file)?;
-        assert_eq!(rt; table.find("/k").and_then(View::as_i32), Some(5));
-        assert_eq!(rt;
-            table.find_bytes("/k"),
-            Some([5, 0, 0, 0, 0, b'i'].as_slice())
-        );
-        assert!(rt; table.has("/k"));
-        for other in ["", "/", "k", "/j", "/k/", "//k", ".locks"] {
-            assert!(rt; table.find(other).is_none(), "at {other}");
-            assert_eq!(rt; table.find_bytes(other), None, "at {other}");
-            assert!(rt; !table.has(other), "at {other}");
+/// Whether `/k` is in a file, worth 5, `k` is in the list of `/`, and nothing else is in either.
+fn holds_k_alone(file: Sample) -> Result<bool, OpenFault> {
+    let table = Table::open(file.bytes())?;
+    for name in ["", "/", "k", "/j", "/k/", "//k", ".locks"] {
+        if !has_bytes(table, name, None) {
+            return Ok(false);
         }
-        let key: &[u8] = b"k";
-        assert_eq!(rt; root_names(table), Some((Some(key), None)));
-        assert!(rt; table.list("/k").is_none());
-        assert!(rt; table.list("").is_none());
     }
-    Ok(())
+    Ok(
+        has_bytes(table, "/k", Some(&[5, 0, 0, 0, 0, b'i']))
+            && table.find("/k").and_then(View::as_i32) == Some(5)
+            && root_names(table) == Some((K, None))
+            && table.list("/k").is_none()
+            && table.list("").is_none(),
+    )
 }
 
 /// The text at `/k` in the table `.locks`.
@@ -71,55 +58,88 @@ fn lock_value(table: Table<'_>) -> Option<&str> {
 }
 
 #[test]
-fn finds_the_table_of_locks(rt: HostRuntime) -> Result<(), Fail> {
-    let table = Table::open(&LOCKED)?;
-    assert_eq!(rt; lock_value(table), Some(""));
-    assert!(rt; table.table("/").is_none());
-    assert!(rt; Table::open(&PLAIN)?.table(".locks").is_none());
+fn finds_values_lists_and_locks(rt: HostRuntime) -> Result<(), Fail> {
+    for (file, lock) in [
+        (Sample::Plain, None),
+        (Sample::Buckets, None),
+        (Sample::Locked, Some("")),
+    ] {
+        let table = Table::open(file.bytes())?;
+        assert!(rt;
+            holds_k_alone(file)? && lock_value(table) == lock && table.table("/").is_none()
+        );
+    }
     Ok(())
 }
 
+/// Whether the first bytes of a file with some changed have this number at `/k`, and these names in the list of `/`.
+fn reads_as(
+    alloc: Global,
+    len: usize,
+    changes: &[(usize, u8)],
+    number: Option<i32>,
+    names: Option<(Option<&[u8]>, Option<&[u8]>)>,
+) -> Result<bool, Fail> {
+    let file = Sample::Plain.with(alloc, changes)?;
+    let table = Table::open(file.get(..len).unwrap_or(&[]))?;
+    Ok(table.find("/k").and_then(View::as_i32) == number && root_names(table) == names)
+}
+
+/// Changes by which each of the two items of the plain file is the other's parent.
+const CIRCLE: &[(usize, u8)] = &[(40, 1), (41, 0), (42, 0), (43, 0)];
+
 #[test]
-fn reads_files_without_words_and_items(rt: HostRuntime) -> Result<(), Fail> {
-    let key: &[u8] = b"k";
-    let shifted = with(PLAIN, &[(27, 0x28)]);
-    assert_eq!(rt; number_of_k(&shifted)?, Some(5));
-    assert_eq!(rt; root_names(Table::open(&shifted)?), Some((Some(key), None)));
-    let empty = with(PLAIN, &[(27, 0x28), (20, 0x20), (28, 0)]);
-    let header: &[u8] = empty.get(..32).unwrap_or(&[]);
-    assert_eq!(rt; number_of_k(header)?, None);
-    assert_eq!(rt; root_names(Table::open(header)?), None);
+fn reads_files_that_are_bare_or_damaged(rt: HostRuntime) -> Result<(), Fail> {
+    let k = Some((K, None));
+    let rows: [(
+        usize,
+        &[(usize, u8)],
+        Option<i32>,
+        Option<(Option<&[u8]>, Option<&[u8]>)>,
+    ); 6] = [
+        // no bloom words, and a shift; no items either
+        (102, &[(27, 0x28)], Some(5), k),
+        (32, &[(27, 0x28), (20, 0x20), (28, 0)], None, None),
+        (102, CIRCLE, None, None),
+        // a file that ends before its last value does, and another hash
+        (101, &[], None, k),
+        (102, &[(60, 0xbe)], None, k),
+        // a list of no item
+        (102, &[(88, 2)], Some(5), Some((None, None))),
+    ];
+    for (len, changes, number, names) in rows {
+        let found = reads_as(rt.alloc(), len, changes, number, names)?;
+        assert!(rt; found, "{len} bytes, with {changes:?}");
+    }
     Ok(())
 }
 
-#[test]
-fn reads_damaged_files(rt: HostRuntime) -> Result<(), Fail> {
-    let circle = with(PLAIN, &CIRCLE);
-    assert_eq!(rt; number_of_k(&circle)?, None);
-    assert_eq!(rt; root_names(Table::open(&circle)?), None);
-    assert_eq!(rt; number_of_k(&PLAIN[..101])?, None);
-    let other_hash = with(PLAIN, &[(60, 0xbe)]);
-    assert_eq!(rt; number_of_k(&other_hash)?, None);
-    let no_item_listed = with(PLAIN, &[(88, 2)]);
-    assert_eq!(rt;
-        root_names(Table::open(&no_item_listed)?),
-        Some((None, None))
-    );
-    Ok(())
+/// Whether a search finds this number, in so many steps at most.
+fn counts(
+    alloc: Global,
+    file: Sample,
+    changes: &[(usize, u8)],
+    name: &str,
+    number: Option<i32>,
+    most: u128,
+) -> Result<bool, Fail> {
+    let file = file.with(alloc, changes)?;
+    let mut steps = Steps::new();
+    let found = Table::open(&file)?.find_counted(name, &mut steps);
+    Ok(found.and_then(View::as_i32) == number && steps.count() <= most)
 }
 
 #[test]
 fn counts_the_items_of_a_search(rt: HostRuntime) -> Result<(), Fail> {
-    let (found, steps) = counted(&PLAIN, "/k")?;
-    assert_eq!(rt; found, Some(5));
-    assert!(rt; steps <= 6);
-    let circle = with(PLAIN, &CIRCLE);
-    let (found, steps) = counted(&circle, "/k")?;
-    assert_eq!(rt; found, None);
-    assert!(rt; steps <= 6);
-    let (found, steps) = counted(&BUCKETS, "/k")?;
-    assert_eq!(rt; found, Some(5));
-    assert!(rt; steps <= 3);
-    assert_eq!(rt; counted(&BUCKETS, "/j")?, (None, 0));
+    let rows: [(Sample, &[(usize, u8)], &str, Option<i32>, u128); 4] = [
+        (Sample::Plain, &[], "/k", Some(5), 6),
+        (Sample::Plain, CIRCLE, "/k", None, 6),
+        (Sample::Buckets, &[], "/k", Some(5), 3),
+        (Sample::Buckets, &[], "/j", None, 0),
+    ];
+    for (file, changes, name, number, most) in rows {
+        let found = counts(rt.alloc(), file, changes, name, number, most)?;
+        assert!(rt; found, "{name} within {most} steps");
+    }
     Ok(())
 }

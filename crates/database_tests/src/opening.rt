@@ -1,83 +1,112 @@
 //! Opening files, and looking at the items of their tables.
-use crate::vectors::{BUCKETS, LOCKED, PLAIN, with};
+use crate::vectors::Sample;
 use gvdb_read::{OpenFault, Table};
+use std::alloc::Global;
 use std::test::Fail;
+
+/// The fault of the first bytes of a file, one of which was changed.
+fn fault_of(alloc: Global, len: usize, at: usize, byte: u8) -> Result<Option<OpenFault>, Fail> {
+    let file = Sample::Plain.with(alloc, &[(at, byte)])?;
+    Ok(Table::open(file.get(..len).unwrap_or(&[])).err())
+}
 
 #[test]
 fn opens_exactly_databases(rt: HostRuntime) -> Result<(), Fail> {
-    assert_eq!(rt; Table::open(&[]).err(), Some(OpenFault::Short));
-    assert_eq!(rt; Table::open(&PLAIN[..23]).err(), Some(OpenFault::Short));
-    assert_eq!(rt; Table::open(&PLAIN[..24]).err(), Some(OpenFault::BadRoot));
-    assert_eq!(rt; Table::open(&PLAIN[..101]).err(), None);
-    let rows = [
-        (0, 0x67, Some(OpenFault::BadSignature)),
-        (7, 0x54, Some(OpenFault::BadSignature)),
-        (8, 0x01, Some(OpenFault::BadVersion)),
-        (12, 0x01, None),
-        (16, 0x19, Some(OpenFault::BadRoot)),
-        (20, 0x1f, Some(OpenFault::BadRoot)),
-        (20, 0x67, Some(OpenFault::BadRoot)),
-        (20, 0x20, Some(OpenFault::BadTable)),
-        (20, 0x53, Some(OpenFault::BadTable)),
-        (24, 0x40, Some(OpenFault::BadTable)),
-        (27, 0x28, None),
-        (28, 0x07, None),
-        (28, 0x40, Some(OpenFault::BadTable)),
-    ];
-    for (at, byte, fault) in rows {
-        let file = with(PLAIN, &[(at, byte)]);
-        assert_eq!(rt; Table::open(&file).err(), fault, "byte {at} as {byte}");
+    for (len, at, byte, fault) in [
+        (0, 0, 0x47, Some(OpenFault::Short)),
+        (23, 0, 0x47, Some(OpenFault::Short)),
+        (24, 0, 0x47, Some(OpenFault::BadRoot)),
+        (101, 0, 0x47, None),
+        (102, 0, 0x67, Some(OpenFault::BadSignature)),
+        (102, 7, 0x54, Some(OpenFault::BadSignature)),
+        (102, 8, 0x01, Some(OpenFault::BadVersion)),
+        (102, 12, 0x01, None),
+        (102, 16, 0x19, Some(OpenFault::BadRoot)),
+        (102, 20, 0x1f, Some(OpenFault::BadRoot)),
+        (102, 20, 0x67, Some(OpenFault::BadRoot)),
+        (102, 20, 0x20, Some(OpenFault::BadTable)),
+        (102, 20, 0x53, Some(OpenFault::BadTable)),
+        (102, 24, 0x40, Some(OpenFault::BadTable)),
+        (102, 27, 0x28, None),
+        (102, 28, 0x07, None),
+        (102, 28, 0x40, Some(OpenFault::BadTable)),
+    ] {
+        let found = fault_of(rt.alloc(), len, at, byte)?;
+        assert!(rt; found == fault, "{len} bytes, {at} as {byte}");
     }
-    assert_eq!(rt; Table::open(&BUCKETS).err(), None);
     Ok(())
 }
 
-/// An item's parent, key, kind and the length of its content.
-fn shown(table: Table<'_>, i: u32) -> Option<(Option<u32>, Option<&[u8]>, u8, Option<usize>)> {
-    let item = table.item(i)?;
-    let len = match item.bytes {
-        Some(bytes) => Some(bytes.len()),
-        None => None,
-    };
-    Some((item.parent, item.key, item.kind, len))
-}
-
-/// The key of the first item of the table that an item points to.
-fn first_key_at(table: Table<'_>, i: u32) -> Option<&[u8]> {
-    table.table_at(i)?.item(0)?.key
+/// Whether item i of a table has this parent, this key, this kind and so many bytes of content.
+fn is_item(
+    table: Table<'_>,
+    i: u32,
+    parent: Option<u32>,
+    key: Option<&[u8]>,
+    kind: u8,
+    len: Option<usize>,
+) -> bool {
+    match table.item(i) {
+        Some(item) => {
+            item.parent == parent
+                && item.key == key
+                && item.kind == kind
+                && item.bytes.map(<[u8]>::len) == len
+        }
+        None => false,
+    }
 }
 
 #[test]
 fn shows_its_items(rt: HostRuntime) -> Result<(), Fail> {
-    let table = Table::open(&LOCKED)?;
-    assert_eq!(rt; table.n_items(), 3);
-    let locks: &[u8] = b".locks";
-    let root: &[u8] = b"/";
-    let key: &[u8] = b"k";
-    assert_eq!(rt; shown(table, 0), Some((None, Some(locks), b'H', Some(36))));
-    assert_eq!(rt; shown(table, 1), Some((None, Some(root), b'L', Some(4))));
-    assert_eq!(rt; shown(table, 2), Some((Some(1), Some(key), b'v', Some(6))));
-    assert_eq!(rt; shown(table, 3), None);
-    assert_eq!(rt; shown(table, u32::MAX), None);
+    let table = Table::open(Sample::Locked.bytes())?;
+    let rows: [(u32, Option<u32>, &[u8], u8, usize); 3] = [
+        (0, None, b".locks", b'H', 36),
+        (1, None, b"/", b'L', 4),
+        (2, Some(1), b"k", b'v', 6),
+    ];
+    for (i, parent, key, kind, len) in rows {
+        assert!(rt;
+            is_item(table, i, parent, Some(key), kind, Some(len)),
+            "item {i}"
+        );
+    }
+    assert!(rt; table.n_items() == 3 && table.item(3).is_none() && table.item(u32::MAX).is_none());
     // a key and a pointer that end past the file
-    let file = with(PLAIN, &[(68, 0x66), (76, 0x61)]);
-    assert_eq!(rt;
-        shown(Table::open(&file)?, 1),
-        Some((Some(0), None, b'v', None))
-    );
+    let file = Sample::Plain.with(rt.alloc(), &[(68, 0x66), (76, 0x61)])?;
+    assert!(rt; is_item(Table::open(&file)?, 1, Some(0), None, b'v', None));
     Ok(())
+}
+
+/// The key of the first item of the table at an item, where one of the file's bytes was changed.
+fn has_first_key(
+    alloc: Global,
+    at: usize,
+    byte: u8,
+    i: u32,
+    key: Option<&[u8]>,
+) -> Result<bool, Fail> {
+    let file = Sample::Locked.with(alloc, &[(at, byte)])?;
+    match Table::open(&file)?.table_at(i) {
+        Some(table) => Ok(is_item(table, 0, None, key, b'v', Some(3))),
+        None => Ok(key == None),
+    }
 }
 
 #[test]
 fn opens_the_table_of_an_item(rt: HostRuntime) -> Result<(), Fail> {
-    let table = Table::open(&LOCKED)?;
-    let lock: &[u8] = b"/k";
-    assert_eq!(rt; first_key_at(table, 0), Some(lock));
-    for i in 1..5 {
-        assert!(rt; table.table_at(i).is_none(), "item {i}");
+    let rows: [(usize, u8, u32, Option<&[u8]>); 6] = [
+        (0, 0x47, 0, Some(b"/k")),
+        (0, 0x47, 1, None),
+        (0, 0x47, 2, None),
+        (0, 0x47, 3, None),
+        (0, 0x47, 4, None),
+        // a table of half an item
+        (56, 0x9b, 0, None),
+    ];
+    for (at, byte, i, key) in rows {
+        let found = has_first_key(rt.alloc(), at, byte, i, key)?;
+        assert!(rt; found, "item {i}, byte {at} as {byte}");
     }
-    // a table of half an item
-    let file = with(LOCKED, &[(56, 0x9b)]);
-    assert!(rt; Table::open(&file)?.table_at(0).is_none());
     Ok(())
 }

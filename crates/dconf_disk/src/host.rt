@@ -152,7 +152,7 @@ fn read_opened<F: OpenFile + Read + Drop>(
         → result ≡ Err FolderFault.Device) }
 {
     match opened {
-        Ok(file) => Ok(Some(whole(alloc, file)?)),
+        Ok(file) => whole(alloc, file).map(Some),
         Err(error) if error.kind() == ErrorKind::NotFound => Ok(None),
         Err(error) => Err(fault_of(error)),
     }

@@ -16,8 +16,8 @@ pub fn hash(name: &[u8]) -> u32
     hash
 }
 
-/// The hash of some bytes and one more, of the hash of those.
-pub(crate) fn hash_with(hash: u32, byte: u8) -> u32
+/// The hash of some bytes and one more, of the hash of those. So the hashes of a name's directories come on the way.
+pub fn hash_with(hash: u32, byte: u8) -> u32
     ensures { result ≡ hash_step hash byte }
 {
     hash.wrapping_mul(33).wrapping_add(signed(byte))

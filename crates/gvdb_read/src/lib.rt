@@ -10,6 +10,7 @@ mod checking;
 mod covering;
 mod fault;
 mod find;
+mod full_name;
 mod hashing;
 mod item;
 mod names;
@@ -20,7 +21,7 @@ mod unsound;
 
 pub use checking::MAX_NAME_LEN;
 pub use fault::OpenFault;
-pub use hashing::hash;
+pub use hashing::{hash, hash_with};
 pub use item::Item;
 pub use names::Names;
 pub use table::Table;

@@ -1,7 +1,7 @@
 //! The names of a database in the order of their bytes: each directory that a key lies in, and each key. A name's
 //! own key is its last part, a directory's with its slash.
 ghost use Rattle.std.specs.Prelude.{◌≡◌, ◌≤◌, ◌<◌, ℕ, length, take, None, IfOk, IfErr, IsTrue, IsUtf8};
-ghost use Rattle.dconf_model.specs.Bytes.{hash_of, hash_step};
+ghost use Rattle.dconf_model.specs.Bytes.{hash_of};
 ghost use Rattle.dconf_model.specs.Table.{list_kind};
 ghost use Rattle.dconf_model.specs.Settings.{IsSettings};
 ghost use Rattle.gvdb_write.specs.PlanWords.{kind_of, entry_of};
@@ -11,6 +11,7 @@ ghost use Rattle.gvdb_write.specs.declared.write_fault.WriteFault.TheVariants.{M
 
 use crate::map::Map;
 use crate::write_fault::WriteFault;
+use gvdb_read::{hash, hash_with};
 use std::alloc::Global;
 
 /// What occurs at a name.
@@ -36,9 +37,6 @@ pub(crate) struct Named<'a> {
     pub(crate) parent: Option<usize>,
     pub(crate) content: Content<'a>,
 }
-
-/// The hash of no bytes.
-const NO_HASH: u32 = 5381;
 
 /// The bytes of a `v` that holds the empty string: the value at each lock.
 const NOTHING: &[u8] = &[0, 0, b's'];
@@ -142,7 +140,7 @@ fn add<'a>(
     let mut from = names[directory].name.len();
     let mut hash = names[directory].hash;
     for i in from..text.len() {
-        hash = step(hash, text[i]);
+        hash = hash_with(hash, text[i]);
         if text[i] == b'/' {
             let place = names.len();
             names.push(Named {
@@ -180,27 +178,4 @@ fn common(left: &[u8], right: &[u8]) -> usize
         count += 1;
     }
     count
-}
-
-/// The hash of a name.
-fn hash(name: &[u8]) -> u32
-    ensures { result ≡ hash_of name.now }
-{
-    let mut hash = NO_HASH;
-    for byte in name {
-        hash = step(hash, *byte);
-    }
-    hash
-}
-
-/// The hash of one more byte, which is taken as a signed number.
-fn step(hash: u32, byte: u8) -> u32
-    ensures { result ≡ hash_step hash byte }
-{
-    let signed = if byte < 128 {
-        u32::from(byte)
-    } else {
-        u32::from(byte) + 0xffff_ff00
-    };
-    hash.wrapping_mul(33).wrapping_add(signed)
 }

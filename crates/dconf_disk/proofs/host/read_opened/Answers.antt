@@ -7,5 +7,5 @@ returns-in-Err-clause-missing g c = search rules
 pub returns-in-Err-clause-device : goal.returns-in-Err-clause-device
 returns-in-Err-clause-device g c = search rules
 
-pub returns-in_ok-whole-in-Ok-clause-missing : goal.returns-in_ok-whole-in-Ok-clause-missing
-returns-in_ok-whole-in-Ok-clause-missing g c = search rules
+pub returns-in-Ok-clause-missing : goal.returns-in-Ok-clause-missing
+returns-in-Ok-clause-missing g c = search rules

@@ -26,13 +26,13 @@ loop-i-preserved c = record {
   adding = elim c.if-text-i-eq47.branch [
     | then-text-i-eq47+in_ok-push w ↦
         slash_now c.args.names.now.items c.loop-i.names.items c.if-text-i-eq47.names.items c.args.text.now c.loop-i.parent c.if-text-i-eq47.parent
-        c.loop-i.from c.if-text-i-eq47.from c.loop-i.hash c.step-hash.result c.loop-i.i _ c.loop-i.invariant.path c.loop-i.invariant.utf8
-        c.loop-i.invariant.adding c.loop-i-test.true w.if-text-i-eq47.true refl refl c.step-hash.ensures refl refl
-        (ap (λ v. v.items) w.names-is ∙ w.in_ok-push.ensures.items) (w.parent-is ∙ (search rules)) w.from-is c.step-hash.ensures
+        c.loop-i.from c.if-text-i-eq47.from c.loop-i.hash c.hash_with-hash.result c.loop-i.i _ c.loop-i.invariant.path c.loop-i.invariant.utf8
+        c.loop-i.invariant.adding c.loop-i-test.true w.if-text-i-eq47.true refl refl c.hash_with-hash.ensures refl refl
+        (ap (λ v. v.items) w.names-is ∙ w.in_ok-push.ensures.items) (w.parent-is ∙ (search rules)) w.from-is c.hash_with-hash.ensures
     | else-text-i-eq47 w ↦
         plain_now c.args.names.now.items c.loop-i.names.items c.if-text-i-eq47.names.items c.args.text.now c.loop-i.parent c.if-text-i-eq47.parent
-        c.loop-i.from c.if-text-i-eq47.from c.loop-i.hash c.step-hash.result c.loop-i.i c.loop-i.invariant.adding c.loop-i-test.true
-        w.if-text-i-eq47.false (ap (λ v. v.items) w.names-is) w.parent-is w.from-is c.step-hash.ensures
+        c.loop-i.from c.if-text-i-eq47.from c.loop-i.hash c.hash_with-hash.result c.loop-i.i c.loop-i.invariant.adding c.loop-i-test.true
+        w.if-text-i-eq47.false (ap (λ v. v.items) w.names-is) w.parent-is w.from-is c.hash_with-hash.ensures
   ];
 }
 

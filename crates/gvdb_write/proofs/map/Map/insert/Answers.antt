@@ -24,3 +24,6 @@ returns-clause-ok c =
     let held : c.in_ok-value.value.items ≡ c.args.value.now = search rules in
     let e = inserted c.self.inside.values c.insert.new.self c.in_ok-path.path c.in_ok-value.value (key_text c.args.path) c.args.value.now c.in_ok-insert.ensures.updates named held in
     ap (λ (v : AtPaths (List ℕ)). record { values = v; locks = locks_of c.self.inside.locks }) e ∙ ap (λ (s : Settings). with_value s (key_text c.args.path) c.args.value.now) c.self.view_is
+
+pub returns-clause-err : goal.returns-clause-err
+returns-clause-err c = search rules
