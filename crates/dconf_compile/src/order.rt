@@ -52,7 +52,8 @@ fn with_numbers<'a>(
 fn sort_by_name(files: &mut Vec<Numbered<'_>>) -> Result<(), AllocError>
     ensures { OnOk result (map numbered files.new.items ≡ in_order (λ s. s.1.name) (map numbered files.old.items)) }
 {
-    files.sort_by_key(|file| file.source.name)
+    files.sort_by_key(|file| file.source.name)?;
+    Ok(())
 }
 
 /// The file that is taken first: a keyfile, or the first lock file where there is none.
