@@ -1,23 +1,24 @@
 //! Databases that `write` made: what is found in them is compared with the map and with a slow search, in whole files, in files of
 //! which one byte was changed, and in files with random damage.
-use crate::maps::fives;
 use crate::slow_search::agree;
 use dconf_path::{KeyPath, LockPath};
+use gv_types::Steps;
 use gv_view::View;
 use gvdb_read::Table;
 use gvdb_write::{Map, write};
-use std::alloc::{AllocError, Global};
+use std::alloc::Global;
 use std::test::Fail;
 
 /// The path of key number i: every fifth in the root, the others in directories up to three deep.
-fn path(alloc: Global, i: u32) -> Result<String, AllocError> {
-    match i % 5 {
-        0 => format!(in alloc; "/k{i}"),
-        1 => format!(in alloc; "/a/k{i}"),
-        2 => format!(in alloc; "/a/b{}/k{i}", i % 3),
-        3 => format!(in alloc; "/c{}/d/k{i}", i % 7),
-        _ => format!(in alloc; "/a/b0/é/k{i}"),
-    }
+fn path(alloc: Global, i: u32) -> Result<String, Fail> {
+    let text = match i % 5 {
+        0 => format!(in alloc; "/k{i}")?,
+        1 => format!(in alloc; "/a/k{i}")?,
+        2 => format!(in alloc; "/a/b{}/k{i}", i % 3)?,
+        3 => format!(in alloc; "/c{}/d/k{i}", i % 7)?,
+        _ => format!(in alloc; "/a/b0/é/k{i}")?,
+    };
+    Ok(text)
 }
 
 /// A number as a serialised `v` of type `u`.
@@ -61,6 +62,37 @@ fn names(alloc: Global, keys: u32) -> Result<Vec<String>, Fail> {
     Ok(names)
 }
 
+/// The number 5 as a serialised `v`.
+const FIVE: [u8; 6] = [5, 0, 0, 0, 0, b'i'];
+
+/// The map of these paths, each worth 5, and the locks.
+fn fives(alloc: Global, paths: &[&str], locks: &[&str]) -> Result<Map, Fail> {
+    let mut map = Map::new(alloc);
+    for path in paths {
+        map.insert(KeyPath::parse(path)?, &FIVE)?;
+    }
+    for path in locks {
+        map.lock(LockPath::parse(path)?)?;
+    }
+    Ok(map)
+}
+
+#[test]
+fn one_key_is_read_back(rt: HostRuntime) -> Result<(), Fail> {
+    let alloc = rt.alloc();
+    let file = write(alloc, &fives(alloc, &["/k"], &[])?)?;
+    let table = Table::open(&file)?;
+    assert_eq!(rt; table.check().is_ok(), true);
+    assert_eq!(rt; table.find("/k").and_then(View::as_i32), Some(5));
+    let mut steps = Steps::new();
+    assert!(rt; table.find_counted("/k", &mut steps).is_some());
+    assert!(rt; steps.count() <= 3);
+    let mut steps = Steps::new();
+    assert!(rt; table.find_counted("/j", &mut steps).is_none());
+    assert_eq!(rt; steps.count(), 0);
+    Ok(())
+}
+
 /// Whether a directory is there, and nothing is in it.
 fn lists_nothing(table: Table<'_>, directory: &str) -> bool {
     match table.list(directory) {
@@ -69,53 +101,57 @@ fn lists_nothing(table: Table<'_>, directory: &str) -> bool {
     }
 }
 
-/// Whether a path is locked.
-fn is_locked(table: Table<'_>, path: &str) -> bool {
-    match table.table(".locks") {
-        Some(locks) => locks.has(path),
-        None => false,
-    }
-}
-
 #[test]
-fn no_key_a_locked_one_and_equal_values(rt: HostRuntime) -> Result<(), Fail> {
+fn no_key_and_a_locked_one(rt: HostRuntime) -> Result<(), Fail> {
     let alloc = rt.alloc();
     let empty = write(alloc, &Map::new(alloc))?;
-    assert!(rt; empty.len() == 68 && lists_nothing(Table::open(&empty)?, "/"));
+    assert_eq!(rt; empty.len(), 68);
+    let table = Table::open(&empty)?;
+    assert!(rt; table.check().is_ok());
+    assert!(rt; lists_nothing(table, "/"));
     let locked = write(alloc, &fives(alloc, &["/a/k"], &["/a/k"])?)?;
-    assert!(rt; locked.len() == 227 && is_locked(Table::open(&locked)?, "/a/k"));
-    // the value is stored once
-    let file = write(alloc, &fives(alloc, &["/a", "/b"], &[])?)?;
-    let table = Table::open(&file)?;
-    let stored = file.get(136..);
-    assert!(rt;
-        file.len() == 142 && table.find_bytes("/a") == stored && table.find_bytes("/b") == stored
-    );
+    assert_eq!(rt; locked.len(), 227);
+    let table = Table::open(&locked)?;
+    assert!(rt; table.check().is_ok());
+    assert!(rt; table.table(".locks").is_some_and(|locks| locks.has("/a/k")));
+    let directory = write(alloc, &fives(alloc, &["/a/k"], &["/a/"])?)?;
+    let table = Table::open(&directory)?;
+    assert!(rt; table.check().is_ok());
+    assert!(rt; table.table(".locks").is_some_and(|locks| locks.has("/a/")));
     Ok(())
 }
 
-/// Whether a sound database has just its keys, each with its number, and just its locks.
-fn holds_its_keys(alloc: Global, keys: u32) -> Result<bool, Fail> {
-    let file = database(alloc, keys)?;
+#[test]
+fn equal_values_are_stored_once(rt: HostRuntime) -> Result<(), Fail> {
+    let alloc = rt.alloc();
+    let file = write(alloc, &fives(alloc, &["/a", "/b"], &[])?)?;
+    assert_eq!(rt; file.len(), 142);
     let table = Table::open(&file)?;
-    for i in 0..keys.saturating_add(20) {
-        let path = path(alloc, i)?;
-        let number = table.find(&path).and_then(View::as_u32);
-        let there = i < keys;
-        if (number == Some(i)) != there || number.is_some() != there {
-            return Ok(false);
-        }
-        if is_locked(table, &path) != (there && i % 3 == 0) {
-            return Ok(false);
-        }
+    for path in ["/a", "/b"] {
+        assert_eq!(rt; table.find_bytes(path), file.get(136..142), "{path}");
     }
-    Ok(table.check().is_ok())
+    Ok(())
 }
 
 #[test]
 fn each_key_is_found_and_no_other(rt: HostRuntime) -> Result<(), Fail> {
+    let alloc = rt.alloc();
     for keys in [0, 1, 2, 3, 5, 8, 13, 50, 200] {
-        assert!(rt; holds_its_keys(rt.alloc(), keys)?, "{keys} keys");
+        let file = database(alloc, keys)?;
+        let table = Table::open(&file)?;
+        assert_eq!(rt; table.check().err(), None, "{keys} keys");
+        let locks = table.table(".locks");
+        for i in 0..keys.saturating_add(20) {
+            let path = path(alloc, i)?;
+            let wanted = if i < keys { Some(i) } else { None };
+            assert_eq!(rt;
+                table.find(&path).and_then(View::as_u32),
+                wanted,
+                "{path} of {keys}"
+            );
+            let locked = locks.is_some_and(|locks| locks.has(&path));
+            assert_eq!(rt; locked, i < keys && i % 3 == 0, "{path} of {keys}");
+        }
     }
     Ok(())
 }
@@ -123,12 +159,19 @@ fn each_key_is_found_and_no_other(rt: HostRuntime) -> Result<(), Fail> {
 #[test]
 fn a_slow_search_finds_the_same(rt: HostRuntime) -> Result<(), Fail> {
     let alloc = rt.alloc();
-    for keys in [
-        0, 1, 2, 3, 4, 5, 6, 7, 8, 9, 10, 11, 12, 13, 14, 15, 16, 17, 18, 19, 20, 21, 22, 23, 50,
-        200,
-    ] {
-        let found = agree(alloc, &database(alloc, keys)?, &names(alloc, keys)?)?;
-        assert!(rt; found, "{keys} keys");
+    for keys in 0..24 {
+        let names = names(alloc, keys)?;
+        assert!(rt;
+            agree(alloc, &database(alloc, keys)?, &names)?,
+            "{keys} keys"
+        );
+    }
+    for keys in [50, 200] {
+        let names = names(alloc, keys)?;
+        assert!(rt;
+            agree(alloc, &database(alloc, keys)?, &names)?,
+            "{keys} keys"
+        );
     }
     Ok(())
 }
@@ -156,11 +199,9 @@ fn agree_with_one_byte_changed(alloc: Global, keys: u32) -> Result<bool, Fail> {
 
 #[test]
 fn a_slow_search_finds_the_same_in_damaged_files(rt: HostRuntime) -> Result<(), Fail> {
+    let alloc = rt.alloc();
     for keys in 0..4 {
-        assert!(rt;
-            agree_with_one_byte_changed(rt.alloc(), keys)?,
-            "{keys} keys"
-        );
+        assert!(rt; agree_with_one_byte_changed(alloc, keys)?, "{keys} keys");
     }
     Ok(())
 }
@@ -174,20 +215,6 @@ fn next(seed: u32) -> u32 {
     x
 }
 
-/// Changes up to eight bytes of a file. The seed after them is answered.
-fn damage(file: &mut [u8], seed: u32) -> u32 {
-    let mut seed = seed;
-    for _ in 0..=seed % 8 {
-        seed = next(seed);
-        let at = seed as usize % file.len().max(1);
-        seed = next(seed);
-        if at < file.len() {
-            file[at] = (seed % 256) as u8;
-        }
-    }
-    seed
-}
-
 #[test]
 fn every_call_returns_for_damaged_files(rt: HostRuntime) -> Result<(), Fail> {
     let alloc = rt.alloc();
@@ -196,7 +223,14 @@ fn every_call_returns_for_damaged_files(rt: HostRuntime) -> Result<(), Fail> {
     let mut seed = 2_463_534_242;
     for _ in 0..2000 {
         let mut file = whole.as_slice().to_vec(alloc)?;
-        seed = damage(&mut file, seed);
+        for _ in 0..=seed % 8 {
+            seed = next(seed);
+            let at = seed as usize % file.len().max(1);
+            seed = next(seed);
+            if at < file.len() {
+                file[at] = (seed % 256) as u8;
+            }
+        }
         if let Ok(table) = Table::open(&file) {
             let _ = table.check();
         }
