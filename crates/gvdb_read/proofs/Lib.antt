@@ -12,3 +12,4 @@ pub mod ListWalks
 pub mod Below
 pub mod KeyTexts
 pub mod ListNumbers
+pub mod NameWalks

@@ -10,6 +10,7 @@ mod checking;
 mod covering;
 mod fault;
 mod find;
+mod full_name;
 mod hashing;
 mod item;
 mod names;

@@ -6,10 +6,8 @@ use Rattle.dconf_model.specs.Names.{HasName}
 use Rattle.dconf_model.specs.Table.{Item, item, key}
 use Rattle.gvdb_read.specs.Tables.{region}
 use Rattle.dconf_model.proofs.NameSteps.{is_item, no_suffix, at_root, moves_up, empty_key}
+use Rattle.gvdb_read.proofs.NameWalks.{never}
 use Rattle.gvdb_read.proofs.table.Table.is_named.Goals as goal
-
-never : {P : Type 0} → (P → ⊥) → (IsTrue false → P) × (P → IsTrue false)
-never refuted = (λ h. let bad : false ≡ true = h in cc, λ p. absurd (refuted p))
 
 empty_test : (xs : List ℕ) (b : Bool) → b ≡ eqb (length xs) 0 → (IsTrue b → xs ≡ []) × (xs ≡ [] → IsTrue b)
 empty_test [] b e = (λ h. refl, λ h. e)

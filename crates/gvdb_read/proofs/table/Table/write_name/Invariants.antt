@@ -1,0 +1,16 @@
+use Rattle.std.proofs.Common.{◌≡◌, ◌≤◌, length}
+use Rattle.std.specs.Prelude.{drop}
+use Rattle.gvdb_read.specs.Tables.{region}
+use Rattle.gvdb_read.proofs.NameWalks.{LeadsTo}
+use Rattle.gvdb_read.proofs.table.Table.write_name.Given as goal
+
+-- the keys that were passed are in the room from the end at hand on
+abbrev pub invariant-loop-stored : goal.invariant-loop-stored
+invariant-loop-stored l = record {
+  walked : LeadsTo (region l.fn.self) l.i l.at (drop l.end l.room);
+  inside : l.end ≤ length l.room;
+  size : length l.room ≡ length l.fn.room;
+}
+
+abbrev pub decreases-loop-stored : goal.decreases-loop-stored
+decreases-loop-stored l = l.end
