@@ -39,3 +39,4 @@ pub mod PartPlaces
 pub mod PartContents
 pub mod PartsLaid
 pub mod TablesReady
+pub mod SalvagedSteps

@@ -14,3 +14,5 @@ pub mod LayoutParts
 pub mod Contents
 pub mod CursorPlaces
 pub mod PlannedTables
+pub mod Salvaged
+pub mod SalvageFaults

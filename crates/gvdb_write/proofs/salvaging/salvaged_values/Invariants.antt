@@ -1,0 +1,12 @@
+use Rattle.std.proofs.Common.{◌≡◌}
+use Rattle.std.specs.FinMap.{empty}
+use Rattle.gvdb_read.specs.Tables.{region}
+use Rattle.gvdb_write.proofs.SalvagedSteps.{AreLowestBelow}
+use Rattle.gvdb_write.proofs.salvaging.salvaged_values.Given as goal
+
+-- the values are the lowest of the items before this one
+abbrev pub invariant-loop-i : goal.invariant-loop-i
+invariant-loop-i l = record {
+  lowest : AreLowestBelow (region l.fn.root) l.i l.values;
+  no_locks : l.values.locks ≡ empty;
+}

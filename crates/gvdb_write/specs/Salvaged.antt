@@ -1,0 +1,57 @@
+-- What one item gives to the settings that are salvaged.
+use Rattle.std.specs.Prelude.{◌≡◌, ◌<◌, ◌⊎◌, ◌↔◌, ℕ, List, Some, None, IsSome, IsTrue, IsUtf8, is_some, length, if◌then◌else◌}
+use Rattle.std.specs.FinMap.{get, contains_key}
+use Rattle.dconf_model.specs.Settings.{Settings, with_value}
+use Rattle.dconf_model.specs.Table.{Table, item, item_count, HasBytes, bytes_of, value_kind, table_of}
+use Rattle.dconf_model.specs.Names.{HasName, IsRow}
+use Rattle.dconf_model.specs.Opening.{IsDatabase, IsOpenFault}
+use Rattle.dconf_model.specs.Salvaging.{IsKeyText, IsPathText, IsLowest, IsLowestValue, IsOpenLocks}
+use Rattle.gvdb_read.specs.Faults.{open_fault_of}
+use Rattle.gvdb_write.specs.declared.salvage_fault.SalvageFault.{SalvageFault}
+use Rattle.gvdb_write.specs.declared.salvage_fault.SalvageFault.TheVariants.{Open, Memory}
+
+-- why nothing is salvaged: memory is asked for in a database that opens, and there alone
+abbrev pub IsSalvageRefusal : List ℕ → SalvageFault → Type 0
+IsSalvageRefusal file (Open fault) = IsOpenFault file (open_fault_of fault)
+IsSalvageRefusal file Memory = IsDatabase file
+
+-- each path of a key has the bytes of its lowest value
+abbrev pub HasLowestValues : Table → Settings → Type 0
+HasLowestValues t s = (path bytes : List ℕ) → (get s.values path ≡ Some bytes) ↔ (IsKeyText path × IsLowestValue t path bytes)
+
+-- item i has no full name that is a text and no longer than a path
+abbrev pub HasNoShortText : Table → ℕ → Type 0
+HasNoShortText t i = (name : List ℕ) → HasName t i name → IsUtf8 name → 65535 < length name
+
+-- item i is a value whose pointer is valid
+pub record IsPointed (t : Table) (i : ℕ) : Type 0 where
+  pub counted : i < item_count t
+  pub of_kind : (item t i).kind ≡ value_kind
+  pub valid : HasBytes t i
+
+-- the value of a path, where it has none yet
+abbrev pub with_first : Settings → List ℕ → List ℕ → Settings
+with_first s path value = if is_some (get s.values path) then s else with_value s path value
+
+-- item i gives its bytes to the path that it spells, where that has no value yet
+pub record TakesValue (t : Table) (i : ℕ) (old new : Settings) : Type 0 where
+  pub kept : (path bytes : List ℕ) → get old.values path ≡ Some bytes → get new.values path ≡ Some bytes
+  pub taken : (path bytes : List ℕ) → get new.values path ≡ Some bytes →
+      (get old.values path ≡ Some bytes) ⊎ ((get old.values path ≡ None) × IsKeyText path × IsRow t path value_kind i × (bytes_of t i ≡ bytes))
+  pub held : (path : List ℕ) → IsKeyText path → IsRow t path value_kind i → IsSome (get new.values path)
+  pub same_locks : new.locks ≡ old.locks
+
+-- item i of a table of locks spells this path
+pub record SpellsLock (t : Table) (i : ℕ) (path : List ℕ) : Type 0 where
+  pub text : IsPathText path
+  pub named : HasName t i path
+  pub of_kind : (item t i).kind ≡ value_kind
+
+-- item i locks the path that it spells
+pub record TakesLock (t : Table) (i : ℕ) (old new : Settings) : Type 0 where
+  pub locks : (path : List ℕ) → IsTrue (contains_key new.locks path) ↔ (IsTrue (contains_key old.locks path) ⊎ SpellsLock t i path)
+  pub same_values : new.values ≡ old.values
+
+-- the lowest table of locks that opens
+abbrev pub IsLowestLocks : Table → Table → Type 0
+IsLowestLocks t locks = (i : ℕ) × IsLowest (IsOpenLocks t) i × (locks ≡ table_of t i)
