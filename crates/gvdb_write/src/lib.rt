@@ -21,5 +21,5 @@ pub use fault::MapFault;
 pub use layout::MAX_DATABASE_LEN;
 pub use map::{Keys, Locks, Map};
 pub use salvage_fault::SalvageFault;
-pub use salvaging::salvage;
+pub use salvaging::{name_of, salvage};
 pub use write_fault::WriteFault;
