@@ -1,11 +1,11 @@
 -- The level of a path and the place of its value, layer by layer.
-use Rattle.std.specs.Prelude.{option_map, is_some, nat_eq, ◌&&◌}
-use Rattle.std.proofs.Common.{◌≡◌, ◌+◌, ◌<◌, ◌≤◌, ℕ, zero, suc, Bool, true, false, cond, List, [], ◌∷◌, length, drop, get_or, Option, Some, None, refl, sym, ap, ◌∙◌, arith, ne_eqb, eqb, map, subst}
-use Rattle.std.proofs.lemmas.List.{get_or-map, length-map, drop_more, drop_all}
+use Rattle.std.specs.Prelude.{is_some}
+use Rattle.std.proofs.Common.{◌≡◌, ◌+◌, ◌<◌, ◌≤◌, ℕ, zero, suc, Bool, true, false, cond, List, [], ◌∷◌, length, drop, get_or, Option, None, refl, sym, ap, ◌∙◌, arith, ne_eqb, map, subst}
+use Rattle.std.proofs.lemmas.List.{get_or-map, drop_more, drop_all}
 use Rattle.std.specs.Cmp.Lexicographic.{slice_cmp}
 use Rattle.std.specs.Ordering.{nat_cmp}
-use Rattle.std.specs.FinMap.{get, get-empty, keys, contains_key}
-use Rattle.dconf_model.specs.Layers.{Place, greatest_from, later_or, locks_path, first_from, place_or, place_of, emptied, without_user}
+use Rattle.std.specs.FinMap.{get, get-empty, keys}
+use Rattle.dconf_model.specs.Layers.{greatest_from, later_or, locks_path, first_from, place_or, place_of, emptied, without_user}
 use Rattle.dconf_model.specs.Locks.{covers}
 use Rattle.dconf_model.specs.Settings.{Settings, no_settings}
 use Rattle.dconf_model.proofs.PathMaps.{key_in, passes, same_bool, no_truth}

@@ -12,9 +12,8 @@ use Rattle.dconf_model.specs.Layers.{locks_path}
 use Rattle.dconf_model.specs.Paths.{is_key_path, is_path}
 use Rattle.dconf_model.specs.Settings.{Settings}
 use Rattle.dconf_model.specs.Table.{Table as Region}
-use Rattle.dconf_model.specs.Table.{table_of, value_kind, table_kind, key, item_count}
+use Rattle.dconf_model.specs.Table.{table_of, value_kind, table_kind, key}
 use Rattle.dconf_model.specs.Names.{HasName, IsRow, Rows}
-use Rattle.dconf_model.specs.Opening.{root_of}
 use Rattle.dconf_model.specs.Search.{Finds}
 use Rattle.dconf_model.specs.Sound.{IsSound}
 use Rattle.dconf_model.specs.SoundLaws.{HoldsLocksAlone}
@@ -28,7 +27,7 @@ use Rattle.dconf_model.proofs.SoundRows.{sound_finds_rows, locks_are_searchable}
 use Rattle.gvdb_read.specs.declared.table.Table.{Table}
 use Rattle.gvdb_read.specs.Lookups.{IsFound, IsTableAt, IsValueOf}
 use Rattle.gvdb_read.specs.Tables.{region}
-use Rattle.dconf_engine.specs.SoundTables.{AreOfSoundDatabase, IsTableOfLocks}
+use Rattle.dconf_engine.specs.SoundTables.{AreOfSoundDatabase}
 use Rattle.dconf_engine.proofs.CoveringPaths.{covering_is_path}
 
 -- what is in the file

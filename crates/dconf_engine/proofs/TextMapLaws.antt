@@ -1,9 +1,9 @@
 -- What a map of texts keeps at their bytes: look-ups, changes, the order of its entries, and that each is at the path of a key.
-use Rattle.std.proofs.Common.{ℕ, ◌≡◌, T, Bool, true, false, cond, List, [], ◌∷◌, length, map, slice_index_or, ◌<◌, Bor, Option, Some, None, option_map, is_some, IsTrue, refl, sym, ◌∙◌, ap, subst, ◌||◌, ◌&&◌}
+use Rattle.std.proofs.Common.{ℕ, ◌≡◌, T, Bool, true, false, cond, List, [], ◌∷◌, length, slice_index_or, ◌<◌, Bor, Option, Some, None, option_map, is_some, IsTrue, refl, sym, ◌∙◌, ap, subst, ◌&&◌}
 use Rattle.std.specs.BTreeMap.{BTreeMap, is_at, get_by_text, UpdatesBy, IsOrdered}
 use Rattle.std.specs.Map.{lookup, keys_of}
 use Rattle.std.specs.Str.{bytes_eq}
-use Rattle.std.specs.List.{All, AllByRecursion, AllZip}
+use Rattle.std.specs.List.{AllByRecursion, AllZip}
 use Rattle.std.specs.List.Sorted.{IsStrictlySortedBy}
 use Rattle.std.specs.declared.string.String.{String}
 use Rattle.std.specs.declared.alloc.Global.{Global}
@@ -13,7 +13,7 @@ use Rattle.std.specs.Cmp.Lexicographic.{slice_cmp}
 use Rattle.std.specs.Cmp.{eq_by_cmp_equiv}
 use Rattle.std.specs.Ordering.{nat_cmp, eq_by_cmp, is_lt}
 use Rattle.std.specs.FinMap as fin
-use Rattle.std.specs.FinMap.{get, insert, find, entries, contains_key}
+use Rattle.std.specs.FinMap.{get, insert, find, entries}
 use Rattle.std.specs.FinMap.Entries.{is_sorted, below_all}
 use Rattle.std.proofs.lemmas.Cmp.{nat_list_cmp_total}
 use Rattle.std.proofs.lemmas.Map.Text.{btree_map_updates_text}

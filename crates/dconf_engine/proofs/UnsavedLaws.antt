@@ -1,5 +1,5 @@
 -- Values with changes: what is at a path, and what more changes do.
-use Rattle.std.proofs.Common.{ℕ, ◌≡◌, Bool, true, false, cond, List, [], ◌∷◌, Option, Some, None, option_map, refl, sym, ◌∙◌, ap}
+use Rattle.std.proofs.Common.{ℕ, ◌≡◌, Bool, true, false, cond, List, [], ◌∷◌, Option, Some, None, refl, sym, ◌∙◌, ap}
 use Rattle.std.specs.Str.{bytes_eq}
 use Rattle.std.specs.Option.{unwrap_or}
 use Rattle.std.specs.Cmp.Lexicographic.{slice_cmp}
@@ -12,7 +12,7 @@ use Rattle.dconf_model.specs.Changes.{Values, with_all}
 use Rattle.dconf_model.specs.Sources.{Assigned}
 use Rattle.dconf_model.proofs.ParentLaws.{by_bool}
 use Rattle.dconf_model.proofs.PathMaps.{get_inserted, get_removed, get_retained, eq_turned}
-use Rattle.dconf_engine.specs.Unsaved.{Unsaved, with_change, with_each, with_changes, and_rows, and_resets}
+use Rattle.dconf_engine.specs.Unsaved.{Unsaved, with_change, with_each, with_changes, and_rows}
 use Rattle.dconf_engine.proofs.TextMapLaws.{same_at_paths}
 
 -- ---- what is at a path

@@ -1,14 +1,13 @@
 -- Changes of the first layer: what they give where they are accepted, and by the changes beside it.
-use Rattle.std.proofs.Common.{ℕ, ◌≡◌, ◌+◌, Bool, true, false, not, cond, List, [], ◌∷◌, Option, Some, None, Result, Ok, Err, option_map, refl, sym, ◌∙◌, ap, filter, IfSome, ◌&&◌}
-use Rattle.std.specs.FinMap.{insert, remove, retain_keys}
+use Rattle.std.proofs.Common.{ℕ, ◌≡◌, ◌+◌, Bool, true, false, cond, List, [], ◌∷◌, Option, Some, None, Result, Ok, Err, option_map, refl, sym, ◌∙◌, ap, IfSome, ◌&&◌}
+use Rattle.std.specs.FinMap.{insert, remove}
 use Rattle.gv_model.specs.Tree.{Tree}
 use Rattle.dconf_model.specs.Settings.{Settings}
 use Rattle.dconf_model.specs.Layers.{Layers, is_locked}
-use Rattle.dconf_model.specs.Locks.{is_below}
 use Rattle.dconf_model.specs.Values.{stored, is_storable}
 use Rattle.dconf_model.specs.Sources.{Assigned}
 use Rattle.dconf_model.specs.Changes.{Values, Refusal, apply, changed, with_first_layer, with_all, first_locked, unless_locked, all_storable, set_all, load_all, paths_of}
-use Rattle.dconf_model.specs.Changes.Change.{set_value, reset_value, reset_below_directory, load_values}
+use Rattle.dconf_model.specs.Changes.Change.{set_value, reset_value, load_values}
 use Rattle.dconf_model.specs.Changes.Refusal.{not_writable, locked, too_large}
 use Rattle.dconf_model.proofs.ParentLaws.{by_bool}
 use Rattle.dconf_engine.specs.declared.change_fault.ChangeFault.{ChangeFault}

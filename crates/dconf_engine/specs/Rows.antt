@@ -1,5 +1,5 @@
 -- Rows that are loaded.
-use Rattle.std.specs.Prelude.{ℕ, List, map, filter, not}
+use Rattle.std.specs.Prelude.{List, map, filter, not}
 use Rattle.gv_model.specs.Tree.{Tree}
 use Rattle.dconf_path.specs.declared.path.KeyPath.{KeyPath}
 use Rattle.dconf_path.specs.Paths.{key_text}

@@ -13,6 +13,7 @@ ghost use Rattle.dconf_engine.specs.Faults.{bad_of};
 ghost use Rattle.dconf_engine.specs.Files.{bytes_of_files};
 ghost use Rattle.dconf_engine.specs.LayerSettings.{settings_of_item};
 
+use crate::changes::Changes;
 use crate::fault::EngineFault;
 use crate::layer::Layer;
 use dconf_path::{DatabaseKind, KeyPath, Profile};
@@ -25,8 +26,10 @@ use std::marker::Model;
 /// A lock of a layer from the second on hides what the layers before it have at the paths that it covers.
 #[derive(Drop)]
 pub struct Engine<'a> {
-    layers: Vec<Option<Layer<'a>>>,
+    alloc: Global,
     written: bool,
+    layers: Vec<Option<Layer<'a>>>,
+    changes: Changes,
 }
 
 impl<'a> Model for Engine<'a> {
@@ -39,7 +42,7 @@ impl<'a> Model for Engine<'a> {
 
     ghost use Rattle.dconf_engine.specs.EngineLayers.{layers_of};
 
-    ghost view = { λ e. layers_of e.layers.items e.written };
+    ghost view = { λ e. layers_of e.changes e.layers.items e.written };
 }
 
 impl<'a> Engine<'a> {
@@ -60,7 +63,13 @@ impl<'a> Engine<'a> {
     {
         let layers = open_layers(alloc, files)?;
         let written = is_of_user(profile);
-        Ok(Engine { layers, written })
+        let changes = Changes::new(alloc);
+        Ok(Engine {
+            alloc,
+            written,
+            layers,
+            changes,
+        })
     }
 
     /// The value that is seen at a path, or None where none is.
@@ -127,7 +136,7 @@ impl<'a> Engine<'a> {
     fn level(&self, path: KeyPath<'_>) -> usize
         ensures { result ≡ level self.now (key_text path.entry) }
     {
-        let mut i = self.layers.len();
+        let mut i = self.count();
         while i > 1 {
             i -= 1;
             if self.locks_at(i, path) {
@@ -141,7 +150,7 @@ impl<'a> Engine<'a> {
     fn place_from(&self, from: usize, path: KeyPath<'_>) -> Option<(usize, &[u8])>
         ensures { option_map {U = ℕ × List ℕ} (λ p. (p.0, p.1.now)) result ≡ first_from from (drop from self.now.layers) (key_text path.entry) }
     {
-        for i in from..self.layers.len() {
+        for i in from..self.count() {
             if let Some(bytes) = self.bytes_at(i, path) {
                 return Some((i, bytes));
             }
@@ -149,15 +158,19 @@ impl<'a> Engine<'a> {
         None
     }
 
+    /// How many layers there are.
+    fn count(&self) -> usize
+        ensures { result ≡ length self.now.layers }
+    {
+        self.layers.len()
+    }
+
     /// Whether a layer locks a path.
     fn locks_at(&self, i: usize, path: KeyPath<'_>) -> bool
         requires { i < length self.now.layers }
         ensures { result ≡ locks_path (key_text path.entry) (slice_index_or self.now.layers i no_settings) }
     {
-        match self.layers[i] {
-            Some(layer) => layer.locks_path(path),
-            None => false,
-        }
+        Layer::locks_if_any(self.layers[i], path)
     }
 
     /// The bytes of a layer's value at a path.
@@ -165,9 +178,20 @@ impl<'a> Engine<'a> {
         requires { i < length self.now.layers }
         ensures { option_map (λ bytes. bytes.now) result ≡ get (slice_index_or self.now.layers i no_settings).values (key_text path.entry) }
     {
-        match self.layers[i] {
-            Some(layer) => layer.get(path.as_str()),
-            None => None,
+        if i == 0 {
+            return self.first_bytes(path);
+        }
+        Layer::get_if_any(self.layers[i], path.as_str())
+    }
+
+    /// The bytes of the first layer's value at a path: those of a change where there is one, else those of its file.
+    fn first_bytes(&self, path: KeyPath<'_>) -> Option<&[u8]>
+        requires { 0 < length self.now.layers }
+        ensures { option_map (λ bytes. bytes.now) result ≡ get (slice_index_or self.now.layers 0 no_settings).values (key_text path.entry) }
+    {
+        match self.changes.get(path.as_str()) {
+            Some(changed) => changed,
+            None => Layer::get_if_any(self.layers[0], path.as_str()),
         }
     }
 }

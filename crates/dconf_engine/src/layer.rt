@@ -73,4 +73,24 @@ impl<'a> Layer<'a> {
             None => false,
         }
     }
+
+    /// As `get`, where there is a file.
+    pub(crate) fn get_if_any(layer: Option<Layer<'a>>, path: &str) -> Option<&'a [u8]>
+        ensures { option_map (λ bytes. bytes.now) result ≡ get (settings_of_item layer.entry).values path.now }
+    {
+        match layer {
+            Some(layer) => layer.get(path),
+            None => None,
+        }
+    }
+
+    /// As `locks_path`, where there is a file.
+    pub(crate) fn locks_if_any(layer: Option<Layer<'a>>, path: KeyPath<'_>) -> bool
+        ensures { result ≡ locks_path (key_text path.entry) (settings_of_item layer.entry) }
+    {
+        match layer {
+            Some(layer) => layer.locks_path(path),
+            None => false,
+        }
+    }
 }

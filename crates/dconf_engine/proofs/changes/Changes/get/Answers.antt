@@ -1,7 +1,6 @@
 use Rattle.std.proofs.Common.{◌≡◌, ◌∙◌, ap, sym, List, ℕ, Option, Some, None, option_map}
 use Rattle.std.specs.BTreeMap.{get_by_text}
 use Rattle.std.specs.FinMap.{get}
-use Rattle.dconf_engine.specs.declared.changes.Edit.{Edit}
 use Rattle.dconf_engine.specs.Edits.{edit_bytes}
 use Rattle.dconf_engine.specs.Unsaved.{Unsaved}
 use Rattle.dconf_engine.proofs.TextMapLaws.{get_at_texts}

@@ -1,4 +1,4 @@
-use Rattle.std.proofs.Common.{◌≡◌, ◌∙◌, ap, sym, length}
+use Rattle.std.proofs.Common.{◌∙◌, ap, sym, length}
 use Rattle.dconf_engine.specs.Edits.{edit_bytes}
 use Rattle.dconf_engine.proofs.TextMapLaws.{nothing_by, nothing_kept}
 use Rattle.dconf_engine.proofs.changes.Changes.is_empty.Goals as goal

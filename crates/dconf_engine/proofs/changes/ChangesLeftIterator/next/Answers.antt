@@ -1,4 +1,4 @@
-use Rattle.std.proofs.Common.{◌≡◌, ◌∙◌, ap, sym, subst, List, ℕ, Option, None, Result, Ok, Err, IsTrue}
+use Rattle.std.proofs.Common.{◌≡◌, sym, subst, List, ℕ, None, Result, Ok, Err, IsTrue}
 use Rattle.std.specs.Result.{IsOk, result_ok}
 use Rattle.std.proofs.lemmas.Bool.{true≢false}
 use Rattle.dconf_model.specs.Paths.{is_key_path}

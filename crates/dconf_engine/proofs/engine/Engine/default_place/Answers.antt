@@ -1,7 +1,7 @@
-use Rattle.std.proofs.Common.{◌≡◌, ◌∙◌, ap, sym, true, List, rules, eqb-true}
+use Rattle.std.proofs.Common.{◌≡◌, ◌∙◌, ap, sym, true, rules}
 use Rattle.dconf_model.specs.Layers.{Layers, place_of, without_user}
 use Rattle.dconf_path.specs.Paths.{key_text}
-use Rattle.dconf_engine.proofs.Levels.{default_low, default_high}
+use Rattle.dconf_engine.proofs.Levels.{default_low}
 use Rattle.dconf_engine.proofs.engine.Engine.default_place.Goals as goal
 
 pub returns-then-level-eq0 : goal.returns-then-level-eq0

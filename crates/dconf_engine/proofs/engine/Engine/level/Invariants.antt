@@ -1,4 +1,4 @@
-use Rattle.std.proofs.Common.{◌≡◌, ◌-◌, ◌≤◌, ◌<◌, length}
+use Rattle.std.proofs.Common.{◌-◌, ◌≤◌, length}
 use Rattle.dconf_model.specs.Layers.{locks_path}
 use Rattle.dconf_path.specs.Paths.{key_text}
 use Rattle.dconf_engine.proofs.Levels.{NoneFrom}

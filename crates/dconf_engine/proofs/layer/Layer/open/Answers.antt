@@ -1,4 +1,4 @@
-use Rattle.std.proofs.Common.{rules, ◌≡◌, ◌∙◌, List, ℕ, ap, subst, sym}
+use Rattle.std.proofs.Common.{rules, ◌≡◌, List, ℕ, ap, subst, sym}
 use Rattle.dconf_model.specs.Opening.{IsDatabase, root_of}
 use Rattle.dconf_model.specs.Sound.{IsSound}
 use Rattle.dconf_model.specs.Table.{Table as Region}
