@@ -6,3 +6,5 @@ pub mod FirstLayer
 pub mod TextMapLaws
 pub mod UnsavedLaws
 pub mod WritingLaws
+pub mod KeyNameLaws
+pub mod SavedLaws

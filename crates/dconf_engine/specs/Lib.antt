@@ -10,3 +10,5 @@ pub mod Rows
 pub mod TextMaps
 pub mod Unsaved
 pub mod UnsavedLeft
+pub mod KeyNames
+pub mod Saved

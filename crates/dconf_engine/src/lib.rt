@@ -10,7 +10,9 @@ mod change_fault;
 mod changes;
 mod engine;
 mod fault;
+mod key_names;
 mod layer;
+mod saving;
 mod storing;
 mod writing;
 
