@@ -16,6 +16,8 @@ mod opening;
 #[cfg(test)]
 mod paths;
 #[cfg(test)]
+mod salvaging;
+#[cfg(test)]
 mod slow_search;
 #[cfg(test)]
 mod texts;

@@ -8,6 +8,7 @@
 
 mod change_fault;
 mod changes;
+mod children;
 mod engine;
 mod fault;
 mod key_names;

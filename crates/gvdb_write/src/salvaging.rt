@@ -156,7 +156,7 @@ fn is_value(table: Table<'_>, i: u32) -> bool
 
 /// Item `i`'s full name, where it is a text that is no longer than a path.
 ///
-/// `Memory` comes where a growth is refused. It walks from the item up its parents, and takes memory for the name alone.
+/// `Memory` comes where a growth is refused. It takes as much memory as the name has bytes.
 pub fn name_of(alloc: Global, table: Table<'_>, i: u32) -> Result<Option<String>, MapFault>
     ensures some { IfOk result (λ found. IfSome found (λ name. HasName (region table.entry) i (string_bytes name))) }
     ensures none { IfOk result (λ found. IfNone found (HasNoShortText (region table.entry) i)) }
