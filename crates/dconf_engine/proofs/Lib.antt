@@ -6,4 +6,6 @@ pub mod FirstLayer
 pub mod TextMapLaws
 pub mod UnsavedLaws
 pub mod WritingLaws
+pub mod KeyNameLaws
+pub mod SavedLaws
 pub mod ChildNames

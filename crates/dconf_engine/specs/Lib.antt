@@ -10,4 +10,6 @@ pub mod Rows
 pub mod TextMaps
 pub mod Unsaved
 pub mod UnsavedLeft
+pub mod KeyNames
+pub mod Saved
 pub mod Children

@@ -26,10 +26,10 @@ use std::marker::Model;
 /// A lock of a layer from the second on hides what the layers before it have at the paths that it covers.
 #[derive(Drop)]
 pub struct Engine<'a> {
-    alloc: Global,
+    pub(crate) alloc: Global,
     written: bool,
-    layers: Vec<Option<Layer<'a>>>,
-    changes: Changes,
+    pub(crate) layers: Vec<Option<Layer<'a>>>,
+    pub(crate) changes: Changes,
 }
 
 impl<'a> Model for Engine<'a> {

@@ -17,7 +17,7 @@ const LOCKS: &str = ".locks";
 /// A sound database: its root table, and its table of locks where it has one.
 #[derive(Clone, Copy, Debug)]
 pub(crate) struct Layer<'a> {
-    values: Table<'a>,
+    pub(crate) values: Table<'a>,
     locks: Option<Table<'a>>,
     ghost sound: { ∥ AreOfSoundDatabase values locks ∥₁ },
 }

@@ -2,7 +2,8 @@
 //! directory has.
 //!
 //! An [`Engine`] stands for the layers of its databases, each sound, and lends each value from the bytes that were handed
-//! in. Bytes that are no sound database are refused when it opens.
+//! in. Bytes that are no sound database are refused when it opens. Where the first database is the user's, its values may
+//! be changed: what was changed is kept beside the bytes.
 #![tactic(auto)]
 
 mod change_fault;
@@ -10,8 +11,11 @@ mod changes;
 mod children;
 mod engine;
 mod fault;
+mod key_names;
 mod layer;
+mod saving;
 mod storing;
+mod writing;
 
 pub use change_fault::ChangeFault;
 pub use engine::Engine;

@@ -1,0 +1,23 @@
+use Rattle.std.proofs.Common.{◌≡◌, ◌∙◌, ap, sym, subst, Result, Ok, Err, ℕ, Vec}
+use Rattle.std.specs.Prelude.{IfOk, length, ◌≤◌}
+use Rattle.std.specs.declared.alloc.Global.{Global}
+use Rattle.dconf_model.specs.Bytes.{longest_file}
+use Rattle.dconf_model.specs.Changes.{saved}
+use Rattle.dconf_model.specs.Databases.{IsDatabaseOf}
+use Rattle.dconf_model.specs.Opening.{IsDatabase, root_of}
+use Rattle.dconf_model.specs.Plans.{HoldsValues, HoldsLocks, HasLength}
+use Rattle.dconf_model.specs.Settings.{Settings}
+use Rattle.dconf_model.specs.Sound.{IsSound}
+use Rattle.dconf_engine.proofs.engine.Engine.save.Goals as goal
+
+whole : {E : Type 0} (s : Settings) (r : Result (Vec ℕ Global) E) → IfOk r (λ file. IsDatabase file.items) → IfOk r (λ file. IsSound (root_of file.items)) →
+    IfOk r (λ file. HoldsValues (root_of file.items) s) → IfOk r (λ file. HoldsLocks (root_of file.items) s) → IfOk r (λ file. HasLength s (length file.items)) →
+    IfOk r (λ file. length file.items ≤ longest_file) → IfOk r (λ file. IsDatabaseOf s file.items)
+whole s (Ok file) opens sound values locks size fits = record { opens = opens; sound = sound; values = values; locks = locks; size = size; fits = fits }
+whole s (Err e) opens sound values locks size fits = tt
+
+pub returns-in-Ok-clause-database : goal.returns-in-Ok-clause-database
+returns-in-Ok-clause-database c =
+    let e = c.write.ensures in
+    subst (λ (s : Settings). IfOk c.write.result (λ file. IsDatabaseOf s file.items)) c.in-Ok.ensures
+    (whole c.in-Ok.map c.write.result e.opens e.sound e.values e.locks e.length e.fits)
