@@ -1,5 +1,5 @@
 -- Which fault of the model a fault of compiling is, if it is one of the files, and how it is printed.
-use Rattle.std.specs.Prelude.{ℕ, List, Option, Some, None, codes, option_map, unwrap_or}
+use Rattle.std.specs.Prelude.{◌≡◌, ℕ, List, Option, Some, None, Result, Err, IfSome, codes, option_map, unwrap_or}
 use Rattle.dconf_model.specs.Causes.{SettingsCause}
 use Rattle.dconf_model.specs.Causes.SettingsCause.{too_big, not_utf8, bad_line, no_group, bad_group, bad_key_name, lock_not_key, path_fault, text_fault, value_fault, too_large}
 use Rattle.dconf_model.specs.FaultTexts.{cause_text}
@@ -13,6 +13,8 @@ use Rattle.gv_infer.specs.TypingValues.{value_fault as typing_as_value}
 use Rattle.gv_infer.specs.ValueFaults.{fault_of as value_fault_of}
 use Rattle.gv_infer.specs.declared.read_fault.ReadFault.{ReadFault}
 use Rattle.gv_infer.specs.declared.read_fault.ReadFault.TheVariants.{Text, Typing, Value as OfValue}
+use Rattle.gv_build.specs.declared.fault.BuildFault.{BuildFault}
+use Rattle.gv_build.specs.declared.fault.BuildFault.TheVariants as builds
 use Rattle.dconf_compile.specs.declared.fault.FileRef.{FileRef}
 use Rattle.dconf_compile.specs.declared.fault.FileRef.TheVariants.{Keyfile, LockFile, Whole}
 use Rattle.dconf_compile.specs.declared.fault.CompileCause.{CompileCause}
@@ -43,6 +45,10 @@ cause_of (Value e) = read_cause_of e
 cause_of TooLarge = Some too_large
 cause_of Memory = None
 
+abbrev pub build_cause : BuildFault → CompileCause
+build_cause builds.TooLarge = TooLarge
+build_cause builds.Memory = Memory
+
 abbrev pub compile_cause_text : CompileCause → List ℕ
 compile_cause_text cause = unwrap_or (option_map cause_text (cause_of cause)) (codes "Memory")
 
@@ -64,3 +70,8 @@ fault_of e = fault_at (file_of e.file) e.line (cause_of e.cause)
 -- what is answered for want of memory
 abbrev pub no_memory : CompileFault
 no_memory = record { file = Whole; line = 0; cause = Memory }
+
+-- what is read ended with that fault, unless a growth was refused
+pub record StopsAt {X : Type 0} (reading : Result X FileFault) (e : CompileFault) : Type 0 where
+  pub fault : IfSome (fault_of e) (λ fault. reading ≡ Err fault)
+  pub memory : fault_of e ≡ None → e ≡ no_memory

@@ -1,2 +1,4 @@
+pub mod Added
 pub mod CompileFaults
+pub mod LineStops
 pub mod Sources

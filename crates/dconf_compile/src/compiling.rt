@@ -1,11 +1,15 @@
 //! All files, compiled into a database.
 ghost use Rattle.std.specs.Prelude.{◌≡◌, IfOk, IfErr, IfSome, None, Ok, Err};
 ghost use Rattle.dconf_model.specs.Databases.{IsCompiled};
-ghost use Rattle.dconf_compile.specs.CompileFaults.{fault_of, no_memory};
-ghost use Rattle.dconf_compile.specs.Sources.{sources_of, GiveLimitedValues};
+ghost use Rattle.dconf_compile.specs.CompileFaults.{StopsAt, fault_of, no_memory};
+ghost use Rattle.dconf_compile.specs.Sources.{AreGivenBy, GiveLimitedValues, given_by, sources_of};
 
-use crate::fault::CompileFault;
+use crate::adding::add_keyfiles;
+use crate::fault::{CompileCause, CompileFault};
+use crate::locking::add_lock_files;
+use crate::order::{Numbered, first_file, in_order};
 use crate::source::Source;
+use gvdb_write::{Map, WriteFault, write};
 use std::alloc::Global;
 
 /// The bytes of the database that keyfiles and lock files give, or their first fault.
@@ -26,5 +30,30 @@ pub fn compile(
     ensures fault { IfErr result (λ e. IfSome (fault_of e) (λ fault. IsCompiled (sources_of files.entry.now) (sources_of locks.entry.now) (Err fault))) }
     ensures memory { IfErr result (λ e. fault_of e ≡ None → e ≡ no_memory) }
 {
-    Err(CompileFault::memory())
+    let order = in_order(alloc, files)?;
+    let map = settings(alloc, &order, locks)?;
+    match write(alloc, &map) {
+        Ok(bytes) => Ok(bytes),
+        Err(WriteFault::TooBig) => Err(CompileFault::at(
+            first_file(&order),
+            0,
+            CompileCause::TooBig,
+        )),
+        Err(WriteFault::Memory) => Err(CompileFault::memory()),
+    }
+}
+
+/// The settings that keyfiles, in the order that they are taken in, and lock files give.
+fn settings(
+    alloc: Global,
+    files: &[Numbered<'_>],
+    locks: &[Source<'_>],
+) -> Result<Map, CompileFault>
+    ensures given { IfOk result (λ map. AreGivenBy (given_by files.now locks.now) map) }
+    ensures fault { IfErr result (StopsAt (given_by files.now locks.now)) }
+{
+    let mut map = Map::new(alloc);
+    add_keyfiles(alloc, files, &mut map)?;
+    add_lock_files(alloc, locks, &mut map)?;
+    Ok(map)
 }

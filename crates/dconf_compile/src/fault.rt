@@ -2,8 +2,12 @@
 ghost use Rattle.std.specs.Prelude.{◌≡◌, None, is_none};
 ghost use Rattle.dconf_compile.specs.CompileFaults.{cause_of, fault_at, fault_of, file_of, no_memory};
 
+use gv_build::BuildFault;
 use gv_infer::{ReadFault, TypingFault, ValueFault};
 use gv_text::TextFault;
+use gvdb_write::MapFault;
+use keyfile_core::KeyfileCause;
+use std::alloc::{AllocError, AllocFailed};
 use std::error::Error;
 use std::fmt;
 
@@ -133,3 +137,80 @@ impl fmt::Display for CompileFault {
 impl Error for CompileCause {}
 
 impl Error for CompileFault {}
+
+impl From<KeyfileCause> for CompileCause {
+    ghost use Rattle.std.specs.Prelude.{Some};
+    ghost use Rattle.keyfile_core.specs.KeyfileFaults.{cause_of as keyfile_cause_of};
+
+    ghost from_gives = { λ keyfile_cause cause. cause_of cause ≡ Some (keyfile_cause_of keyfile_cause) };
+
+    fn from(cause: KeyfileCause) -> CompileCause {
+        match cause {
+            KeyfileCause::TooBig => CompileCause::TooBig,
+            KeyfileCause::NotUtf8 => CompileCause::NotUtf8,
+            KeyfileCause::BadLine => CompileCause::BadLine,
+            KeyfileCause::NoGroup => CompileCause::NoGroup,
+            KeyfileCause::BadGroup => CompileCause::BadGroup,
+            KeyfileCause::BadKeyName => CompileCause::BadKeyName,
+        }
+    }
+}
+
+impl From<ReadFault> for CompileCause {
+    ghost use Rattle.dconf_compile.specs.declared.fault.CompileCause.TheVariants.{Value};
+
+    ghost from_gives = { λ fault cause. cause ≡ Value fault };
+
+    fn from(fault: ReadFault) -> CompileCause {
+        CompileCause::Value(fault)
+    }
+}
+
+impl From<BuildFault> for CompileCause {
+    ghost use Rattle.dconf_compile.specs.CompileFaults.{build_cause};
+
+    ghost from_gives = { λ fault cause. cause ≡ build_cause fault };
+
+    fn from(fault: BuildFault) -> CompileCause {
+        match fault {
+            BuildFault::TooLarge => CompileCause::TooLarge,
+            BuildFault::Memory => CompileCause::Memory,
+        }
+    }
+}
+
+impl From<MapFault> for CompileCause {
+    ghost use Rattle.dconf_compile.specs.declared.fault.CompileCause.TheVariants.{Memory};
+
+    ghost from_gives = { λ _ cause. cause ≡ Memory };
+
+    fn from(_fault: MapFault) -> CompileCause {
+        CompileCause::Memory
+    }
+}
+
+impl From<AllocError> for CompileCause {
+    ghost use Rattle.dconf_compile.specs.declared.fault.CompileCause.TheVariants.{Memory};
+
+    ghost from_gives = { λ _ cause. cause ≡ Memory };
+
+    fn from(_error: AllocError) -> CompileCause {
+        CompileCause::Memory
+    }
+}
+
+impl From<AllocError> for CompileFault {
+    ghost from_gives = { λ _ fault. fault ≡ no_memory };
+
+    fn from(_error: AllocError) -> CompileFault {
+        CompileFault::memory()
+    }
+}
+
+impl<T: Drop> From<AllocFailed<T>> for CompileFault {
+    ghost from_gives = { λ _ fault. fault ≡ no_memory };
+
+    fn from(_error: AllocFailed<T>) -> CompileFault {
+        CompileFault::memory()
+    }
+}

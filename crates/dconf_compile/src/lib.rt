@@ -4,8 +4,13 @@
 //! read or written. The texts of values are read once each, and only one value at a time is in memory beside the bytes of all.
 #![tactic(auto)]
 
+mod adding;
 mod compiling;
 mod fault;
+mod line_stop;
+mod locking;
+mod order;
+mod rows;
 mod source;
 
 pub use compiling::compile;

@@ -4,6 +4,7 @@ ghost use Rattle.gv_model.specs.Ty.{Ty.variant};
 ghost use Rattle.gv_model.specs.Tree.{Tree.node, Trees.first, Trees.none, depth};
 ghost use Rattle.gv_model.specs.Printed.{is_too_large};
 ghost use Rattle.gv_model.specs.Encode.{encode};
+ghost use Rattle.gv_tree.specs.Wholes.{IsWhole};
 ghost use Rattle.gv_view.specs.Views.{value};
 ghost use Rattle.gv_build.specs.Faults.{limit, IsOverLimit, IsUnbuildable};
 
@@ -36,6 +37,7 @@ pub fn variant_bytes(alloc: Global, tree: &Tree) -> Result<Vec<u8>, BuildFault>
     ensures bytes { IfOk result (λ v. v.items ≡ encode (node variant (first tree.now none))) }
     ensures fits { OnOk result (length (encode (node variant (first tree.now none))) ≤ limit) }
     ensures levels { OnOk result (depth tree.now < 128) }
+    ensures whole { OnOk result (IsWhole tree.now) }
     ensures fault { IfErr result (IsUnbuildable
         ((limit < length (encode (node variant (first tree.now none)))) ⊎ (depth tree.now ≡ 128))) }
 {

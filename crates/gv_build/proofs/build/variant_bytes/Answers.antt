@@ -37,3 +37,6 @@ returns-clause-fits c = let same = ap length (returns-clause-bytes c) in omega (
 
 pub returns-clause-levels : goal.returns-clause-levels
 returns-clause-levels c = omega arith
+
+pub returns-clause-whole : goal.returns-clause-whole
+returns-clause-whole c = c.type_text-of.ensures.whole

@@ -1,0 +1,64 @@
+//! Why one file is refused, its name aside.
+ghost use Rattle.std.specs.Prelude.{◌≡◌, None};
+ghost use Rattle.dconf_path.specs.LineFaults.{locks_fault_of};
+ghost use Rattle.dconf_compile.specs.LineStops.{keyfile_fault_of, line_fault_of};
+
+use crate::fault::CompileCause;
+use dconf_path::LocksFault;
+use gvdb_write::MapFault;
+use keyfile_core::{KeyfileCause, KeyfileFault};
+
+/// What is wrong at a line of a file. The line is 0 where it's none.
+#[derive(Clone, Copy)]
+pub(crate) struct LineStop {
+    pub line: usize,
+    pub cause: CompileCause,
+}
+
+impl LineStop {
+    /// A growth was refused.
+    fn memory() -> LineStop
+        ensures { line_fault_of result ≡ None }
+    {
+        LineStop {
+            line: 0,
+            cause: CompileCause::Memory,
+        }
+    }
+}
+
+impl From<KeyfileFault> for LineStop {
+    ghost from_gives = { λ fault stop. line_fault_of stop ≡ keyfile_fault_of fault };
+
+    fn from(fault: KeyfileFault) -> LineStop {
+        match fault {
+            KeyfileFault::Refused { line, cause } => LineStop {
+                line,
+                cause: CompileCause::from(cause),
+            },
+            KeyfileFault::Memory => LineStop::memory(),
+        }
+    }
+}
+
+impl From<LocksFault> for LineStop {
+    ghost from_gives = { λ fault stop. line_fault_of stop ≡ locks_fault_of fault };
+
+    fn from(fault: LocksFault) -> LineStop {
+        match fault {
+            LocksFault::LockNotKey(line) => LineStop {
+                line,
+                cause: CompileCause::LockNotKey,
+            },
+            LocksFault::Memory => LineStop::memory(),
+        }
+    }
+}
+
+impl From<MapFault> for LineStop {
+    ghost from_gives = { λ _ stop. line_fault_of stop ≡ None };
+
+    fn from(_fault: MapFault) -> LineStop {
+        LineStop::memory()
+    }
+}

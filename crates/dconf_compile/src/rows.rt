@@ -1,0 +1,56 @@
+//! A row of a keyfile, put into a map: its path, and the bytes that are stored for its value.
+ghost use Rattle.std.specs.Prelude.{◌≡◌, ◌≤◌, IfOk, IfErr, IfSome, OnOk, Err, codes, length, string_bytes};
+ghost use Rattle.dconf_model.specs.Keyfiles.{path_of};
+ghost use Rattle.dconf_model.specs.Lines.LineReading.{wrong};
+ghost use Rattle.keyfile_core.specs.Rows.{row_meant};
+ghost use Rattle.dconf_compile.specs.Added.{AddsRow, IsReadRow, IsStoredFor, row_compiled, text_compiled};
+ghost use Rattle.dconf_compile.specs.CompileFaults.{cause_of};
+
+use crate::fault::CompileCause;
+use dconf_path::KeyPath;
+use gv_build::variant_bytes;
+use gv_infer::read_value;
+use gvdb_write::Map;
+use keyfile_core::Row;
+use std::alloc::{AllocError, Global};
+
+/// Puts a row's value into a map, in the place of the one that its path had.
+pub(crate) fn add_row(alloc: Global, row: &Row<'_>, settings: &mut Map) -> Result<(), CompileCause>
+    requires { IsReadRow (row_meant row.now) }
+    ensures added { OnOk result (AddsRow (row_compiled (row_meant row.now)) settings.old settings.new) }
+    ensures fault { IfErr result (λ cause. IfSome (cause_of cause) (λ c. row_compiled (row_meant row.now) ≡ wrong c)) }
+{
+    let path = path_of(alloc, row)?;
+    match KeyPath::parse(&path) {
+        Ok(path) => {
+            let value = stored(alloc, row.text)?;
+            settings.insert(path, &value)?;
+            Ok(())
+        }
+        // The rules of keyfiles leave no other fault.
+        Err(_) => Err(CompileCause::TooLong),
+    }
+}
+
+/// The path of a row's key.
+fn path_of(alloc: Global, row: &Row<'_>) -> Result<String, AllocError>
+    ensures { IfOk result (λ path. string_bytes path ≡ path_of (codes "/") (row_meant row.now)) }
+{
+    let mut path = String::from_str(alloc, "/")?;
+    if row.group != "/" {
+        path.push_str(row.group)?;
+        path.push_str("/")?;
+    }
+    path.push_str(row.key)?;
+    Ok(path)
+}
+
+/// The bytes that are stored for the value of a text.
+fn stored(alloc: Global, text: &str) -> Result<Vec<u8>, CompileCause>
+    requires { length text.now ≤ 16777216 }
+    ensures bytes { IfOk result (λ bytes. IsStoredFor (text_compiled text.now) bytes.items) }
+    ensures fault { IfErr result (λ cause. IfSome (cause_of cause) (λ c. text_compiled text.now ≡ Err c)) }
+{
+    let value = read_value(alloc, text)?;
+    Ok(variant_bytes(alloc, &value)?)
+}
