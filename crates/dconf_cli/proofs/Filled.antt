@@ -11,8 +11,10 @@ use Rattle.clap.specs.declared.parser.matches.ValueSource.{ValueSource}
 use Rattle.clap.specs.declared.parser.matches.ValueSource.TheVariants.{CommandLine}
 use Rattle.clap.specs.Lexer.{long_of, short_of}
 use Rattle.clap.specs.Walk.{Row, Rule, Text, Held, Walk, Names, Waiting, idle, option, positional, Step, next, trailing, subcommand, value, Outcome, done, waits, plain, refused}
-use Rattle.clap.specs.Walk.{at_row, count_of, without, with_count, with_values, attached_value, counted, more_values, new_count, option_met, values_or_missing, used_as, used, used_by_id, settled_rows, settled, reacted, started, pushed, action_of, reading_by, takes_values, takes_several, is_pending, has_row, with_default, default_rows, finished}
-use Rattle.clap.specs.Walk.{arg_by_id, arg_by_long, arg_by_short, arg_by_index, flag_met, long_met, short_met, bundle_step, bundle_met, bundle, option_word, plain_word, after_flag, short_or_plain, long_or_other, subcommand_met, subcommand_or_other, word_met, positional_held, to_positional, after_step, walked_from, walked, walk_from, walk}
+use Rattle.clap.specs.Walk.{at_row, count_of, without, with_count, with_values, attached_value, counted, more_values, new_count, option_met, values_or_missing, used_as, used, used_by_id}
+use Rattle.clap.specs.Walk.{settled_rows, settled, reacted, started, pushed, action_of, reading_by, takes_values, takes_several, is_pending, has_row, with_default, default_rows, finished}
+use Rattle.clap.specs.Walk.{arg_by_id, arg_by_long, arg_by_short, arg_by_index, flag_met, long_met, short_met, bundle_step, bundle_met, bundle, option_word, plain_word, after_flag}
+use Rattle.clap.specs.Walk.{short_or_plain, long_or_other, subcommand_met, subcommand_or_other, word_met, positional_held, to_positional, after_step, walked_from, walked, walk_from, walk}
 use Rattle.clap.specs.Matches.{count_text}
 use Rattle.clap.specs.Takes.{is_given}
 use Rattle.clap.specs.Words.{first_of}
