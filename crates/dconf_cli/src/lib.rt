@@ -8,9 +8,9 @@
 //! done; a failure of a folder is taken for a missing file, or one of the input for its end; a refusal writes to out, or
 //! comes after a file was replaced.
 //!
-//! What a call costs: `command` takes memory for clap's lists and for the words of its answer; `run` for the
-//! file's bytes, once, and for the text that it writes, in time linear in both; `read_input` for the input's bytes; a
-//! `Counted` takes none.
+//! What a call costs: `command` takes memory for clap's lists and for the words of its answer; `run` for the bytes of the
+//! files that it reads, once, and for the text that it writes, in time linear in both, but for `compile`, which also makes
+//! the database; `read_input` for the input's bytes; a `Counted` takes none.
 #![tactic(auto)]
 
 mod answer;

@@ -24,10 +24,10 @@ use std::io::{Read, Write};
 /// `error: NoFile FILE`, `error: Device FILE` where the folder failed, `error: TooBig` for a file over 4,294,967,295
 /// bytes, and `error: Memory`. Of `show` they are also the fault of a text that is no type, as
 /// `error: KeyNotBasic at 2`, `error: TooLarge` for over 1,000,000 values or 128 levels, and `error: DoubleText` where a
-/// double is to be printed; of `check` why the file is no database, as `error: BadRoot`, and `unsound: S4 item 1` for the
-/// first rule that fails and the first item at which it does.
+/// double is to be printed; of `compile` the first line at fault, as `error: site:2: BadLine`; of `check` why the file is no
+/// database, as `error: BadRoot`, and `unsound: S4 item 1` for the first rule that fails and the first item at which it does.
 ///
-/// It holds the file's bytes once and the text once; `show` takes time linear in both.
+/// It holds the bytes of the files that it reads, and those that it writes; `show` takes time linear in both.
 pub fn run<F: Folder, I: Read, O: Write, E: Write>(
     alloc: Global,
     command: Command,

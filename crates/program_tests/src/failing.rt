@@ -1,5 +1,5 @@
-//! Runs of `show` and `check` where the k-th call of the folder, of out or of err fails.
-use crate::runs::{asked, asked_to_check, checked, one_file, shown};
+//! Runs of commands where the k-th call of the folder, of out or of err fails.
+use crate::runs::{asked, asked_to_check, checked, compiled, folder_of, kept, one_file, shown};
 use crate::streams::FailsAt;
 use dconf_cli::{Counted, run};
 use dconf_disk::{Folder, MemoryFolder};
@@ -38,6 +38,66 @@ fn calls_of_the_folder(rt: HostRuntime) -> Result<(), Fail> {
         };
         assert_eq!(rt; left.as_str(), wanted);
         assert_eq!(rt; folder.failures(), u64::from(k == 1));
+    }
+    Ok(())
+}
+
+/// Compiles two keyfiles and a lock file over an older database, where the k-th call of the folder fails. An error says that this
+/// isn't what is left.
+fn compiling(alloc: Global, k: u64, wanted: &str) -> Result<(), Fail> {
+    let files = [("f", "[/]\nk=5\n"), ("g", "[/]\nk=6\n"), ("locks", "/k\n")];
+    let mut folder = folder_of(alloc, &files)?;
+    let older = compiled(alloc, &files[..1], &mut folder)?;
+    folder.fail_at(k);
+    let left = compiled(alloc, &files, &mut folder)?;
+    let kept = kept(alloc, &mut folder)?;
+    let ran = format!(in alloc; "{older}; {left}{kept}")?;
+    if ran.as_str() == wanted {
+        Ok(())
+    } else {
+        Err(Fail::from(ran))
+    }
+}
+
+#[test]
+fn calls_of_the_folder_by_compile(rt: HostRuntime) -> Result<(), Fail> {
+    let rows = [
+        (
+            1,
+            "0 out= err=; 1 out= err=error: Device f\n110 bytes, sound\n",
+        ),
+        (
+            2,
+            "0 out= err=; 1 out= err=error: Device g\n110 bytes, sound\n",
+        ),
+        (
+            3,
+            "0 out= err=; 1 out= err=error: Device locks\n110 bytes, sound\n",
+        ),
+        (
+            4,
+            "0 out= err=; 1 out= err=error: Device out.db\n110 bytes, sound\n",
+        ),
+        (
+            5,
+            "0 out= err=; 1 out= err=error: Device out.db\n110 bytes, sound\n",
+        ),
+        (
+            6,
+            "0 out= err=; 1 out= err=error: Device out.db\n110 bytes, sound\n",
+        ),
+        (
+            7,
+            "0 out= err=; 1 out= err=error: Device out.db\n110 bytes, sound\n",
+        ),
+        (
+            8,
+            "0 out= err=; 1 out= err=error: Device out.db\n190 bytes, sound\n",
+        ),
+        (9, "0 out= err=; 0 out= err=190 bytes, sound\n"),
+    ];
+    for (k, wanted) in rows {
+        compiling(rt.alloc(), k, wanted)?;
     }
     Ok(())
 }

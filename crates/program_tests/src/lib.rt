@@ -5,6 +5,8 @@
 #[cfg(test)]
 mod check;
 #[cfg(test)]
+mod compiling;
+#[cfg(test)]
 mod containers;
 #[cfg(test)]
 mod counted;

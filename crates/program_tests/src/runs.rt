@@ -47,6 +47,57 @@ pub(crate) fn checked<F: Folder>(alloc: Global, folder: &mut F) -> Result<String
     left_by(alloc, command, folder)
 }
 
+/// A folder with files of these texts.
+pub(crate) fn folder_of(alloc: Global, files: &[(&str, &str)]) -> Result<MemoryFolder, Fail> {
+    let mut folder = MemoryFolder::new(alloc);
+    for (name, text) in files {
+        if put_file(&mut folder, name, text.as_bytes()).is_err() {
+            return Err(Fail::from("a file could not be put into the folder"));
+        }
+    }
+    Ok(folder)
+}
+
+/// What a run of `compile` of these files leaves; one of the name `locks` is the lock file. It makes `out.db`.
+pub(crate) fn compiled<F: Folder>(
+    alloc: Global,
+    files: &[(&str, &str)],
+    folder: &mut F,
+) -> Result<String, AllocError> {
+    let mut keyfiles = Vec::new(alloc);
+    let mut locks = None;
+    for (name, _) in files {
+        let copy = String::from_str(alloc, name)?;
+        if *name == "locks" {
+            locks = Some(copy);
+        } else {
+            keyfiles.push(copy)?;
+        }
+    }
+    let out = String::from_str(alloc, "out.db")?;
+    let command = Command::Compile {
+        out,
+        locks,
+        keyfiles,
+    };
+    left_by(alloc, command, folder)
+}
+
+/// How many bytes `out.db` has, and what a run of `check` prints of it; nothing where it isn't there.
+pub(crate) fn kept<F: Folder>(alloc: Global, folder: &mut F) -> Result<String, AllocError> {
+    let length = match folder.read(alloc, "out.db") {
+        Ok(Some(bytes)) => bytes.len(),
+        _ => return Ok(String::new(alloc)),
+    };
+    let file = String::from_str(alloc, "out.db")?;
+    let left = left_by(alloc, Command::Check { file }, folder)?;
+    let verdict = left
+        .as_str()
+        .trim_start_matches("0 out=")
+        .trim_end_matches(" err=");
+    format!(in alloc; "{length} bytes, {verdict}")
+}
+
 /// What a run leaves on out and err, each after its name, and its status.
 fn left_by<F: Folder>(
     alloc: Global,

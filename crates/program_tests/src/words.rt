@@ -57,6 +57,40 @@ fn reads_check(rt: HostRuntime) -> Result<(), Fail> {
 }
 
 #[test]
+fn reads_compile(rt: HostRuntime) -> Result<(), Fail> {
+    let alloc = rt.alloc();
+    let lines = [
+        (
+            ["dconfdb", "compile", "o"].as_slice(),
+            "Compile { out: \"o\", locks: None, keyfiles: [] }",
+        ),
+        (
+            ["dconfdb", "compile", "o", "b", "a", "b"].as_slice(),
+            "Compile { out: \"o\", locks: None, keyfiles: [\"b\", \"a\", \"b\"] }",
+        ),
+        (
+            ["dconfdb", "compile", "--locks", "l", "o", "a"].as_slice(),
+            "Compile { out: \"o\", locks: Some(\"l\"), keyfiles: [\"a\"] }",
+        ),
+        (
+            ["dconfdb", "compile", "o", "a", "--locks=l", "b"].as_slice(),
+            "Compile { out: \"o\", locks: Some(\"l\"), keyfiles: [\"a\", \"b\"] }",
+        ),
+        (
+            ["dconfdb", "compile", "o", "--", "--locks", "-x"].as_slice(),
+            "Compile { out: \"o\", locks: None, keyfiles: [\"--locks\", \"-x\"] }",
+        ),
+    ];
+    for (line, wanted) in lines {
+        let words = texts(alloc, line)?;
+        let asked = command(alloc, &words)?;
+        let shown = format!(in alloc; "{asked:?}")?;
+        assert!(rt; shown.as_str() == wanted, "{shown}");
+    }
+    Ok(())
+}
+
+#[test]
 fn refuses_other_words(rt: HostRuntime) -> Result<(), Fail> {
     let alloc = rt.alloc();
     let lines = [
@@ -84,6 +118,18 @@ fn refuses_other_words(rt: HostRuntime) -> Result<(), Fail> {
         (
             ["dconfdb", "check", "one", "two"].as_slice(),
             ErrorKind::UnknownArgument,
+        ),
+        (
+            ["dconfdb", "compile"].as_slice(),
+            ErrorKind::MissingRequiredArgument,
+        ),
+        (
+            ["dconfdb", "compile", "o", "--locks"].as_slice(),
+            ErrorKind::InvalidValue,
+        ),
+        (
+            ["dconfdb", "compile", "o", "--locks", "a", "--locks", "b"].as_slice(),
+            ErrorKind::ArgumentConflict,
         ),
         (["dconfdb", "help"].as_slice(), ErrorKind::DisplayHelp),
         (
@@ -129,6 +175,10 @@ fn shows_help(rt: HostRuntime) -> Result<(), Fail> {
         (
             ["dconfdb", "check", "--help"].as_slice(),
             "Usage: dconfdb check <FILE>",
+        ),
+        (
+            ["dconfdb", "compile", "--help"].as_slice(),
+            "Usage: dconfdb compile [OPTIONS] <OUT> [KEYFILE]...",
         ),
         (
             ["dconfdb", "show", "--help"].as_slice(),
