@@ -5,6 +5,7 @@ pub mod Puts
 pub mod Stops
 pub mod Leaving
 pub mod Decisions
+pub mod StoreReads
 pub mod Runs
 pub mod Shows
 pub mod Given

@@ -23,6 +23,7 @@ mod input;
 mod putting;
 mod reading;
 mod running;
+mod store;
 
 pub use asked::Command;
 pub use command_line::command;
