@@ -6,3 +6,4 @@ pub mod LockLines
 pub mod EntryLines
 pub mod Trims
 pub mod ProfileLines
+pub mod TextFaults

@@ -4,3 +4,4 @@ pub mod LockPaths
 pub mod LineFaults
 pub mod Locks
 pub mod Profiles
+pub mod SettingsTexts

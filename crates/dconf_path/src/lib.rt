@@ -2,7 +2,7 @@
 //!
 //! A [`KeyPath`], a [`DirPath`] or a [`LockPath`] always holds the text of one path. What is read is lent from its text,
 //! and nothing of it is copied. [`read_locks`] and [`read_profile`] take memory for what they find; no other call takes
-//! any. Each byte is looked at a fixed number of times.
+//! any. Each byte is looked at a fixed number of times. [`settings_text`] gives the text of a file of settings.
 #![tactic(auto)]
 
 mod fault;
@@ -11,6 +11,7 @@ mod lock_path;
 mod locks;
 mod path;
 mod profiles;
+mod texts;
 
 pub use fault::PathFault;
 pub use line_fault::{LocksFault, ProfileFault};
@@ -18,3 +19,4 @@ pub use lock_path::LockPath;
 pub use locks::{Lock, read_locks};
 pub use path::{DirPath, KeyPath, MAX_PATH_LEN};
 pub use profiles::{Database, DatabaseKind, MAX_DATABASES, Profile, read_profile};
+pub use texts::{MAX_TEXT_LEN, TextFault, settings_text};

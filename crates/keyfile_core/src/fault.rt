@@ -1,7 +1,10 @@
 //! Why bytes are refused as a keyfile.
-ghost use Rattle.std.specs.Prelude.{◌≡◌};
+ghost use Rattle.std.specs.Prelude.{◌≡◌, Err};
+ghost use Rattle.dconf_path.specs.SettingsTexts.{text_fault_of};
+ghost use Rattle.keyfile_core.specs.KeyfileFaults.{IsFaultIn};
 ghost use Rattle.keyfile_core.specs.declared.fault.KeyfileFault.TheVariants.{Memory, Refused};
 
+use dconf_path::TextFault;
 use std::alloc::AllocFailed;
 use std::error::Error;
 use std::fmt;
@@ -38,6 +41,16 @@ impl KeyfileFault {
         ensures { result ≡ Refused line cause }
     {
         KeyfileFault::Refused { line, cause }
+    }
+
+    /// The fault of a file that is no text.
+    pub(crate) fn of_text(fault: TextFault) -> KeyfileFault
+        ensures { IsFaultIn (Err (text_fault_of fault)) result }
+    {
+        match fault {
+            TextFault::TooBig => KeyfileFault::at(0, KeyfileCause::TooBig),
+            TextFault::NotUtf8(line) => KeyfileFault::at(line, KeyfileCause::NotUtf8),
+        }
     }
 }
 

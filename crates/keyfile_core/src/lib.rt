@@ -16,6 +16,6 @@ mod rows_fault;
 mod writing;
 
 pub use fault::{KeyfileCause, KeyfileFault};
-pub use rows::{MAX_KEYFILE_LEN, Row, read};
+pub use rows::{Row, read};
 pub use rows_fault::{RowsCause, RowsFault};
 pub use writing::write_rows;

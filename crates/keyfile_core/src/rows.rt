@@ -1,6 +1,7 @@
 //! The rows of a keyfile: each key of a group with the text of its value.
-ghost use Rattle.std.specs.Prelude.{◌≡◌, ◌≤◌, ◌+◌, IfOk, IfErr, length, map, take, count_by, option_map};
+ghost use Rattle.std.specs.Prelude.{◌≡◌, ◌≤◌, ◌+◌, IfOk, IfErr, length, map, option_map};
 ghost use Rattle.std.specs.List.{slice_split};
+ghost use Rattle.dconf_model.specs.Lines.{longest_text};
 ghost use Rattle.dconf_model.specs.Keyfiles.{without_blanks, rows_of};
 ghost use Rattle.keyfile_core.specs.Feeds.{is_feed};
 ghost use Rattle.keyfile_core.specs.KeyfileFaults.{IsFaultIn};
@@ -10,10 +11,8 @@ ghost use Rattle.keyfile_core.specs.Rows.{row_meant};
 use crate::fault::{KeyfileCause, KeyfileFault};
 use crate::keys::is_key;
 use crate::lines::{Line, split_line};
+use dconf_path::settings_text;
 use std::alloc::Global;
-
-/// How many bytes a keyfile has at most.
-pub const MAX_KEYFILE_LEN: usize = 16_777_216;
 
 /// A line `key=value` in its group, lent from the file.
 #[derive(Clone, Copy, Debug, PartialEq, Eq)]
@@ -37,29 +36,15 @@ pub fn read<'a>(alloc: Global, bytes: &'a [u8]) -> Result<Vec<Row<'a>>, KeyfileF
     ensures rows { IfOk result (λ rows. rows_of bytes.entry.now ≡ Ok (map row_meant rows.items)) }
     ensures fault { IfErr result (IsFaultIn (rows_of bytes.entry.now)) }
 {
-    if bytes.len() > MAX_KEYFILE_LEN {
-        return Err(KeyfileFault::at(0, KeyfileCause::TooBig));
-    }
-    match std::str::from_utf8(bytes) {
+    match settings_text(bytes) {
         Ok(text) => read_text(alloc, text),
-        Err(fault) => Err(KeyfileFault::at(
-            line_of(bytes, fault.valid_up_to()),
-            KeyfileCause::NotUtf8,
-        )),
+        Err(fault) => Err(KeyfileFault::of_text(fault)),
     }
-}
-
-/// The number of the line in which a place lies.
-fn line_of(bytes: &[u8], place: usize) -> usize
-    requires { place ≤ length bytes.now }
-    ensures { result ≡ count_by is_feed (take place bytes.now) + 1 }
-{
-    bytes[..place].iter().filter(|byte| **byte == b'\n').count() + 1
 }
 
 /// Reads the text of a keyfile, line by line.
 fn read_text<'a>(alloc: Global, text: &'a str) -> Result<Vec<Row<'a>>, KeyfileFault>
-    requires { length text.now ≤ MAX_KEYFILE_LEN }
+    requires { length text.now ≤ longest_text }
     ensures rows { IfOk result (λ rows. read_below None 0 (slice_split is_feed text.entry.now) ≡ Ok (map row_meant rows.items)) }
     ensures fault { IfErr result (IsFaultIn (read_below None 0 (slice_split is_feed text.entry.now))) }
 {
@@ -93,7 +78,7 @@ struct Reader<'a> {
 impl<'a> Reader<'a> {
     /// The row of the next line, if it has one.
     fn read(&mut self, line: &'a str) -> Result<Option<Row<'a>>, KeyfileCause>
-        requires { self.old.line ≤ MAX_KEYFILE_LEN }
+        requires { self.old.line ≤ longest_text }
         ensures reading { line_meant (option_map (λ text. text.now) self.old.group) (self.old.line + 1) (without_blanks line.entry.now) ≡ reading_of result }
         ensures group { option_map (λ text. text.now) self.new.group ≡ group_after (option_map (λ text. text.now) self.old.group) (without_blanks line.entry.now) }
         ensures line { self.new.line ≡ self.old.line + 1 }
