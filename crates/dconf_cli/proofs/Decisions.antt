@@ -60,7 +60,7 @@ module _ {F : Type 0} (past : F → List Event → Type 0) (failures : F → ℕ
     answers = λ reads gave. answers_also answer (Go bytes) (WithFile reads n name Go) (λ o g. rw gave.0 g) h;
   }
 
-  nothing_is_any : (name : List ℕ) (gave : FileRead) (Go : List ℕ → Outcome → Type 0) (o : Outcome) → OrNoRead name gave Nothing o → OrNoRead name gave Go o
+  pub nothing_is_any : (name : List ℕ) (gave : FileRead) (Go : List ℕ → Outcome → Type 0) (o : Outcome) → OrNoRead name gave Nothing o → OrNoRead name gave Go o
   nothing_is_any name (holds bytes) Go o h = absurd h
   nothing_is_any name no_file Go o h = h
   nothing_is_any name over_size Go o h = h

@@ -6,6 +6,7 @@ pub mod Stops
 pub mod Leaving
 pub mod Decisions
 pub mod StoreReads
+pub mod Stores
 pub mod Runs
 pub mod Shows
 pub mod Given

@@ -95,11 +95,11 @@ databases_given reads n (d ∷ ds) more (item ∷ items) Go o same gave h =
     (databases_given reads (n + 1) ds more items (λ is. Go (item ∷ is)) o shorter gave.1
     (subst (λ (k : ℕ). WithDatabases reads k more (λ later. Go (item ∷ (items ++ later))) o) next h))
 
-pub nothing_is_any : (name : List ℕ) (gave : FileRead) (Go : Option (List ℕ) → Gives) (o : Outcome) → OrNoDatabase name gave NothingIfAny o → OrNoDatabase name gave Go o
-nothing_is_any name (holds bytes) Go o h = absurd h
-nothing_is_any name no_file Go o h = absurd h
-nothing_is_any name over_size Go o h = h
-nothing_is_any name failed Go o h = h
+pub no_item_is_any : (name : List ℕ) (gave : FileRead) (Go : Option (List ℕ) → Gives) (o : Outcome) → OrNoDatabase name gave NothingIfAny o → OrNoDatabase name gave Go o
+no_item_is_any name (holds bytes) Go o h = absurd h
+no_item_is_any name no_file Go o h = absurd h
+no_item_is_any name over_size Go o h = h
+no_item_is_any name failed Go o h = h
 
 reads_length : (ds : List Database) (items : List (Option (List ℕ))) → length items ≡ length ds → length (database_reads ds items) ≡ length ds
 reads_length [] items same = refl
@@ -134,7 +134,7 @@ module _ {F : Type 0} (past : F → List Event → Type 0) (failures : F → ℕ
       decides_after past failures old mid new n log answer (λ reads. OrNoDatabase (database_file d) (reads (n + length log) (database_file d)) NothingIfAny)
       (λ reads. WithDatabases reads n (ds ++ d ∷ later) NoItems) read (databases_all_read ds items) (each (n + length log))
       (λ reads o gave m. databases_given reads n ds (d ∷ later) items NoItems o same gave
-      (nothing_is_any (database_file d) (reads (n + length ds) (database_file d)) (λ item. WithDatabases reads (n + length ds + 1) later (λ rest. NoItems (items ++ (item ∷ rest)))) o
+      (no_item_is_any (database_file d) (reads (n + length ds) (database_file d)) (λ item. WithDatabases reads (n + length ds + 1) later (λ rest. NoItems (items ++ (item ∷ rest)))) o
       (subst (λ (k : ℕ). OrNoDatabase (database_file d) (reads k (database_file d)) NothingIfAny o) place m)))
 
 -- ---- one after another

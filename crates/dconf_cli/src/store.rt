@@ -1,25 +1,83 @@
 //! The store of a profile: the databases that it names, and the bytes of each.
 ghost use Rattle.std.specs.Prelude.{◌≡◌, ◌++◌, ◌∷◌, ℕ, Ok, IfOk, IfErr, IfSome, codes, decimal, length, map, option_map, string_bytes, vec_items};
-ghost use Rattle.dconf_model.specs.Outcomes.{OrLine, OrNoDatabase, WithDatabases};
-ghost use Rattle.dconf_model.specs.Profiles.{database_file, profile_of};
+ghost use Rattle.dconf_model.specs.Outcomes.{OrLine, OrNoDatabase, WithDatabases, WithLayers, WithStore};
+ghost use Rattle.dconf_model.specs.Profiles.{database_file, is_written, profile_of};
 ghost use Rattle.dconf_path.specs.Profiles.{database_of, databases_of};
+ghost use Rattle.dconf_engine.specs.Files.{bytes_of_files};
 ghost use Rattle.dconf_cli.specs.Answers.{GivesOutcome, RefusesFor};
 ghost use Rattle.dconf_cli.specs.Readings.{Decides, HasRead, NothingIfAny, found_read, one_read};
 ghost use Rattle.dconf_cli.specs.StoreReads.{NoDatabases, NoItems, bytes_of, database_reads};
 
 use crate::answer::{Answer, refused};
-use crate::reading::file_if_any;
+use crate::reading::{file, file_if_any};
+use crate::task::Task;
 use dconf_disk::Folder;
-use dconf_path::{Database, DatabaseKind, Profile, file_text, read_profile};
+use dconf_engine::{Engine, EngineFault};
+use dconf_path::{Database, DatabaseKind, Profile, read_profile, settings_text};
 use std::alloc::{AllocError, Global};
 use std::fmt::Display;
+
+/// What a task answers for the store of a profile, by the name of the profile's file. All databases are read before one is opened.
+pub(crate) fn in_store<F: Folder, T: Task>(
+    alloc: Global,
+    name: &str,
+    task: &T,
+    folder: &mut F,
+) -> Answer
+    ensures { Decides F.past F.failed folder.old folder.new 0 (λ reads. WithStore reads name.now (T.makes task.now)) result }
+{
+    let bytes = match file(alloc, folder, name) {
+        Ok(bytes) => bytes,
+        Err(answer) => return answer,
+    };
+    let profile = match profile(alloc, name, &bytes) {
+        Ok(profile) => profile,
+        Err(answer) => return answer,
+    };
+    match databases(alloc, profile.databases(), folder) {
+        Ok(items) => opened(alloc, &profile, &items, task),
+        Err(answer) => answer,
+    }
+}
+
+/// What a task answers where the databases hold these bytes.
+fn opened<T: Task>(
+    alloc: Global,
+    profile: &Profile<'_>,
+    items: &[Option<Vec<u8>>],
+    task: &T,
+) -> Answer
+    requires { length items.now ≡ length (databases_of profile.now) }
+    ensures { GivesOutcome result (WithLayers (map bytes_of items.now) (is_written (databases_of profile.now))
+        (T.makes task.now (databases_of profile.now))) }
+{
+    let Ok(files) = lent(alloc, items) else {
+        return Answer::NoMemory;
+    };
+    match Engine::open(alloc, profile, &files) {
+        Ok(engine) => task.answer(alloc, profile, engine),
+        Err(EngineFault::Memory) => Answer::NoMemory,
+        Err(fault) => refused(alloc, fault),
+    }
+}
+
+/// The bytes of each, lent.
+fn lent(alloc: Global, items: &[Option<Vec<u8>>]) -> Result<Vec<Option<&[u8]>>, AllocError>
+    ensures { IfOk result (λ files. bytes_of_files files.items ≡ map bytes_of items.entry.now) }
+{
+    let mut files = Vec::new(alloc);
+    for item in items {
+        files.push(item.as_deref())?;
+    }
+    Ok(files)
+}
 
 /// The profile of its file's bytes, or the refusal of its first line at fault.
 pub(crate) fn profile<'a>(alloc: Global, name: &str, bytes: &'a [u8]) -> Result<Profile<'a>, Answer>
     ensures ok { IfOk result (λ profile. profile_of bytes.entry.now ≡ Ok (databases_of profile)) }
     ensures err { IfErr result (λ answer. GivesOutcome answer (OrLine name.now (profile_of bytes.entry.now) NoDatabases)) }
 {
-    let text = match file_text(bytes) {
+    let text = match settings_text(bytes) {
         Ok(text) => text,
         Err(fault) => return Err(refused_at(alloc, name, fault.line(), fault)),
     };
