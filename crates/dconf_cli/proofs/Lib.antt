@@ -7,6 +7,7 @@ pub mod Leaving
 pub mod Decisions
 pub mod StoreReads
 pub mod Stores
+pub mod PathArguments
 pub mod Runs
 pub mod Shows
 pub mod Given

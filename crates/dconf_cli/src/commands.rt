@@ -5,6 +5,9 @@ ghost use Rattle.dconf_cli.specs.Commands.{command_of};
 ghost use Rattle.dconf_cli.specs.Readings.{Decides};
 
 mod check;
+mod list;
+mod origin;
+mod read;
 mod show;
 
 use crate::answer::Answer;
