@@ -1,5 +1,5 @@
 //! Databases by example, byte for byte.
-use dconf_path::KeyPath;
+use dconf_path::{KeyPath, LockPath};
 use gvdb_write::{Map, write};
 use std::alloc::Global;
 use std::fmt::Write;
@@ -24,7 +24,7 @@ fn map_of(alloc: Global, values: &[(&str, &[u8])], locks: &[&str]) -> Result<Map
         map.insert(KeyPath::parse(path)?, value)?;
     }
     for path in locks {
-        map.lock(KeyPath::parse(path)?)?;
+        map.lock(LockPath::parse(path)?)?;
     }
     Ok(map)
 }
@@ -82,7 +82,7 @@ fn nested_directories_locks_and_shared_values(rt: HostRuntime) -> Result<(), Fai
         map.insert(KeyPath::parse(path)?, values[i % 4])?;
     }
     for path in ["/org/k", "/q", "/a/b/x"] {
-        map.lock(KeyPath::parse(path)?)?;
+        map.lock(LockPath::parse(path)?)?;
     }
     let bytes = write(alloc, &map)?;
     assert_eq!(rt; bytes.len(), 1067);
@@ -100,7 +100,7 @@ fn tables_of_several_bloom_words(rt: HostRuntime) -> Result<(), Fail> {
     }
     for i in 0..20u8 {
         let path = format!(in alloc; "/k{i}")?;
-        map.lock(KeyPath::parse(&path)?)?;
+        map.lock(LockPath::parse(&path)?)?;
     }
     let bytes = write(alloc, &map)?;
     assert_eq!(rt; bytes.len(), 3147);

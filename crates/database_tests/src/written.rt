@@ -1,7 +1,7 @@
 //! Databases that `write` made: what is found in them is compared with the map and with a slow search, in whole files, in files of
 //! which one byte was changed, and in files with random damage.
 use crate::slow_search::agree;
-use dconf_path::KeyPath;
+use dconf_path::{KeyPath, LockPath};
 use gv_types::Steps;
 use gv_view::View;
 use gvdb_read::Table;
@@ -34,7 +34,7 @@ fn database(alloc: Global, keys: u32) -> Result<Vec<u8>, Fail> {
         let path = path(alloc, i)?;
         map.insert(KeyPath::parse(&path)?, &value(i))?;
         if i % 3 == 0 {
-            map.lock(KeyPath::parse(&path)?)?;
+            map.lock(LockPath::parse(&path)?)?;
         }
     }
     Ok(write(alloc, &map)?)
@@ -72,7 +72,7 @@ fn fives(alloc: Global, paths: &[&str], locks: &[&str]) -> Result<Map, Fail> {
         map.insert(KeyPath::parse(path)?, &FIVE)?;
     }
     for path in locks {
-        map.lock(KeyPath::parse(path)?)?;
+        map.lock(LockPath::parse(path)?)?;
     }
     Ok(map)
 }
@@ -114,6 +114,10 @@ fn no_key_and_a_locked_one(rt: HostRuntime) -> Result<(), Fail> {
     let table = Table::open(&locked)?;
     assert!(rt; table.check().is_ok());
     assert!(rt; table.table(".locks").is_some_and(|locks| locks.has("/a/k")));
+    let directory = write(alloc, &fives(alloc, &["/a/k"], &["/a/"])?)?;
+    let table = Table::open(&directory)?;
+    assert!(rt; table.check().is_ok());
+    assert!(rt; table.table(".locks").is_some_and(|locks| locks.has("/a/")));
     Ok(())
 }
 

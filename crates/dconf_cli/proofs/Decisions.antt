@@ -23,6 +23,17 @@ also_some (Some x) Makes Also also h = also x h
 pub answers_also : (answer : Answer) (Makes Also : Outcome → Type 0) → ((o : Outcome) → Makes o → Also o) → GivesOutcome answer Makes → GivesOutcome answer Also
 answers_also answer Makes Also also h = also_some (outcome_of answer) Makes Also also h
 
+-- ---- what a read gave
+
+pub not_failed : (bytes : List ℕ) → holds bytes ≢ failed
+not_failed bytes e = cc
+
+pub nothing_is_any : (name : List ℕ) (gave : FileRead) (Go : List ℕ → Outcome → Type 0) (o : Outcome) → OrNoRead name gave Nothing o → OrNoRead name gave Go o
+nothing_is_any name (holds bytes) Go o h = absurd h
+nothing_is_any name no_file Go o h = h
+nothing_is_any name over_size Go o h = h
+nothing_is_any name failed Go o h = h
+
 -- ---- a command's decision
 
 module _ {F : Type 0} (past : F → List Event → Type 0) (failures : F → ℕ) where
@@ -46,9 +57,6 @@ module _ {F : Type 0} (past : F → List Event → Type 0) (failures : F → ℕ
     answers = λ reads _. each reads;
   }
 
-  not_failed : (bytes : List ℕ) → holds bytes ≢ failed
-  not_failed bytes e = cc
-
   -- by the bytes of one file
   pub decides_by_file : (old new : F) (n : ℕ) (name bytes : List ℕ) (answer : Answer) (Go : List ℕ → Outcome → Type 0)
       → HasRead past failures old new (one_read name (holds bytes)) → GivesOutcome answer (Go bytes)
@@ -59,12 +67,6 @@ module _ {F : Type 0} (past : F → List Event → Type 0) (failures : F → ℕ
     tells = inl ((not_failed bytes, tt), has_read.none_failed);
     answers = λ reads gave. answers_also answer (Go bytes) (WithFile reads n name Go) (λ o g. rw gave.0 g) h;
   }
-
-  pub nothing_is_any : (name : List ℕ) (gave : FileRead) (Go : List ℕ → Outcome → Type 0) (o : Outcome) → OrNoRead name gave Nothing o → OrNoRead name gave Go o
-  nothing_is_any name (holds bytes) Go o h = absurd h
-  nothing_is_any name no_file Go o h = h
-  nothing_is_any name over_size Go o h = h
-  nothing_is_any name failed Go o h = h
 
   -- without the bytes of the file
   pub decides_without_file : (old new : F) (n : ℕ) (name : List ℕ) (answer : Answer) (Go : List ℕ → Outcome → Type 0)

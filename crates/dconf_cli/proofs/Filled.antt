@@ -1,39 +1,55 @@
--- After a walk over words, each row has a value, where the flags only ask for help or the version.
-use Rattle.std.proofs.Common.{◌≡◌, ◌<◌, ◌++◌, ◌&&◌, ℕ, Bool, true, false, zero, suc, List, [], ◌∷◌, length, refl, sym, subst, Option, Some, None, arith, length-append, if◌then◌else◌}
-use Rattle.std.specs.Prelude.{⊤, IsSome, fold, slice_get, drop, encode_utf8}
+-- After a walk over words, each row has a value but those of options, where the other flags only ask for help or the version.
+use Rattle.std.proofs.Common.{◌≡◌, ◌<◌, ◌++◌, ◌&&◌, ◌∙◌, ◌⊎◌, inl, inr, ◌+◌, ℕ, Bool, true, false, zero, suc, List, [], ◌∷◌, length, refl, sym, ap, subst, min, Option, Some, None, arith, length-append, if◌then◌else◌, codes}
+use Rattle.std.specs.Prelude.{⊤, IfSome, IsSome, cond, fold, slice_get, drop, encode_utf8}
+use Rattle.std.specs.List.{list_any}
 use Rattle.std.specs.Str.{bytes_eq, chars}
+use Rattle.std.proofs.lemmas.Slice.Eq.{bytes_eq-Decides}
 use Rattle.clap.specs.declared.builder.ArgAction.{ArgAction}
 use Rattle.clap.specs.declared.builder.ArgAction.TheVariants as action
 use Rattle.clap.specs.declared.builder.value_parser.Reading.{Reading}
 use Rattle.clap.specs.declared.parser.matches.ValueSource.{ValueSource}
+use Rattle.clap.specs.declared.parser.matches.ValueSource.TheVariants.{CommandLine}
 use Rattle.clap.specs.Lexer.{long_of, short_of}
 use Rattle.clap.specs.Walk.{Row, Rule, Text, Held, Walk, Names, Waiting, idle, option, positional, Step, next, trailing, subcommand, value, Outcome, done, waits, plain, refused}
-use Rattle.clap.specs.Walk.{at_row, without, with_values, more_values, used_as, used, used_by_id, settled_rows, settled, reacted, started, pushed, action_of, reading_by, takes_values, takes_several, is_pending, has_row, with_default, default_rows, finished}
+use Rattle.clap.specs.Walk.{at_row, count_of, without, with_count, with_values, attached_value, counted, more_values, new_count, option_met, values_or_missing, used_as, used, used_by_id, settled_rows, settled, reacted, started, pushed, action_of, reading_by, takes_values, takes_several, is_pending, has_row, with_default, default_rows, finished}
 use Rattle.clap.specs.Walk.{arg_by_id, arg_by_long, arg_by_short, arg_by_index, flag_met, long_met, short_met, bundle_step, bundle_met, bundle, option_word, plain_word, after_flag, short_or_plain, long_or_other, subcommand_met, subcommand_or_other, word_met, positional_held, to_positional, after_step, walked_from, walked, walk_from, walk}
+use Rattle.clap.specs.Matches.{count_text}
 use Rattle.clap.specs.Takes.{is_given}
 use Rattle.clap.specs.Words.{first_of}
 
--- each row has a value
+-- the ids of the options, of which nothing is said here: their values come after them, and may be missing till the next word
+abbrev pub is_option : Text → Bool
+is_option id = list_any (λ other. bytes_eq other id) (codes "locks" ∷ [])
+
+-- there is a value, unless the argument is an option
+abbrev Holds : Text → List Text → Type 0
+Holds id values = (is_option id ≡ true) ⊎ (0 < length values)
+
+-- so it is of each row
 abbrev pub Filled : List Row → Type 0
 Filled [] = ⊤
-Filled (r ∷ rows) = (0 < length r.values) × Filled rows
+Filled (r ∷ rows) = Holds r.id r.values × Filled rows
 
--- and so has what is pending
+-- and of what is pending
 abbrev FilledPending : Option (Text × List Text) → Type 0
 FilledPending None = ⊤
-FilledPending (Some p) = 0 < length p.1
+FilledPending (Some p) = Holds p.0 p.1
 
-abbrev pub FilledHeld : Held → Type 0
+abbrev FilledHeld : Held → Type 0
 FilledHeld h = Filled h.rows × FilledPending h.pending
 
 -- ---- one use of an argument
+
+append_holds : (id : Text) (xs ys : List Text) → Holds id xs → Holds id (xs ++ ys)
+append_holds id xs ys (inl free) = inl free
+append_holds id xs ys (inr some) = inr (omega (arith, length-append xs ys))
 
 append_filled : (xs ys : List Row) → Filled xs → Filled ys → Filled (xs ++ ys)
 append_filled [] ys p q = q
 append_filled (x ∷ xs) ys p q = (p.0, append_filled xs ys p.1 q)
 
 at_row_filled : (id : Text) (change : Row → List Row) (missing rows : List Row)
-    → ((r : Row) → 0 < length r.values → Filled (change r)) → Filled missing → Filled rows → Filled (at_row id change missing rows)
+    → ((r : Row) → Holds r.id r.values → Filled (change r)) → Filled missing → Filled rows → Filled (at_row id change missing rows)
 at_row_filled id change missing [] each m f = m
 at_row_filled id change missing (r ∷ rows) each m f =
     go (bytes_eq r.id id) (append_filled (change r) rows (each r f.0) f.1) (f.0, at_row_filled id change missing rows each m f.1)
@@ -44,58 +60,110 @@ at_row_filled id change missing (r ∷ rows) each m f =
     go false a b = b
 
 without_filled : (id : Text) (rows : List Row) → Filled rows → Filled (without id rows)
-without_filled id rows f = at_row_filled id (λ _. []) [] rows (λ r lt. tt) tt f
+without_filled id rows f = at_row_filled id (λ _. []) [] rows (λ r some. tt) tt f
 
 with_values_filled : (id : Text) (how : Reading) (s : ValueSource) (values : List Text) (rows : List Row)
-    → 0 < length values → Filled rows → Filled (with_values id how s values rows)
-with_values_filled id how s values rows lt f =
-    at_row_filled id (more_values s values) _ rows (λ r some. (omega (arith, length-append r.values values), tt)) (lt, tt) f
+    → Holds id values → Filled rows → Filled (with_values id how s values rows)
+with_values_filled id how s values rows h f =
+    at_row_filled id (more_values s values) _ rows (λ r some. (append_holds r.id r.values values some, tt)) (h, tt) f
 
-used_as_filled : (x : ArgAction) (id : Text) (how : Reading) (v : Text) (vs : List Text) (rows : List Row)
-    → Filled rows → Filled (used_as x id how (v ∷ vs) rows)
-used_as_filled action.Set id how v vs rows f = with_values_filled id how _ (v ∷ vs) (without id rows) (omega arith) (without_filled id rows f)
-used_as_filled action.SetTrue id how v vs rows f = with_values_filled id how _ (v ∷ vs) (without id rows) (omega arith) (without_filled id rows f)
-used_as_filled action.SetFalse id how v vs rows f = with_values_filled id how _ (v ∷ vs) (without id rows) (omega arith) (without_filled id rows f)
-used_as_filled action.Count id how v vs rows f = with_values_filled id how _ (v ∷ vs) (without id rows) (omega arith) (without_filled id rows f)
-used_as_filled action.Append id how v vs rows f = with_values_filled id how _ (v ∷ vs) rows (omega arith) f
-used_as_filled action.Help id how v vs rows f = f
-used_as_filled action.HelpShort id how v vs rows f = f
-used_as_filled action.HelpLong id how v vs rows f = f
-used_as_filled action.Version id how v vs rows f = f
+set_filled : (id : Text) (how : Reading) (s : ValueSource) (values : List Text) (rows : List Row)
+    → Holds id values → Filled rows → Filled (with_values id how s values (without id rows))
+set_filled id how s values rows h f = with_values_filled id how s values (without id rows) h (without_filled id rows f)
 
-used_by_id_filled : (a : Option Rule) (values : List Text) (rows : List Row) → 0 < length values → Filled rows → Filled (used_by_id a values rows)
-used_by_id_filled None values rows lt f = f
-used_by_id_filled (Some a) [] rows lt f = absurd (omega arith)
-used_by_id_filled (Some a) (v ∷ vs) rows lt f = used_as_filled (action_of a) a.id (reading_by a) v vs rows f
+with_count_filled : (id : Text) (how : Reading) (s : ValueSource) (n : ℕ) (rows : List Row) → Filled rows → Filled (with_count id how s n rows)
+with_count_filled id how s n rows f =
+    at_row_filled id (new_count s n) _ rows (λ r some. (append_holds r.id r.values (count_text n ∷ []) some, tt)) (inr (omega arith), tt) f
+
+counted_filled : (id : Text) (how : Reading) (values : List Text) (rows : List Row) → Holds id values → Filled rows → Filled (counted id how values rows)
+counted_filled id how [] rows h f = with_count_filled id how CommandLine (min (count_of id rows + 1) 255) (without id rows) (without_filled id rows f)
+counted_filled id how (v ∷ vs) rows h f = set_filled id how CommandLine (v ∷ vs) rows h f
+
+used_as_filled : (x : ArgAction) (id : Text) (how : Reading) (values : List Text) (rows : List Row)
+    → Holds id values → Filled rows → Filled (used_as x id how values rows)
+used_as_filled action.Set id how values rows h f = set_filled id how _ values rows h f
+used_as_filled action.SetTrue id how values rows h f = set_filled id how _ values rows h f
+used_as_filled action.SetFalse id how values rows h f = set_filled id how _ values rows h f
+used_as_filled action.Count id how values rows h f = counted_filled id how values rows h f
+used_as_filled action.Append id how values rows h f = with_values_filled id how _ values rows h f
+used_as_filled action.Help id how values rows h f = f
+used_as_filled action.HelpShort id how values rows h f = f
+used_as_filled action.HelpLong id how values rows h f = f
+used_as_filled action.Version id how values rows h f = f
+
+-- values that stand for none are those of an option
+missing_holds : (a : Rule) (values : List Text) → Holds a.id values → Holds a.id (values_or_missing a values)
+missing_holds a [] (inl free) = inl free
+missing_holds a [] (inr some) = absurd (omega arith)
+missing_holds a (v ∷ vs) h = h
+
+used_filled : (a : Rule) (values : List Text) (rows : List Row) → Holds a.id values → Filled rows → Filled (used a values rows)
+used_filled a values rows h f = used_as_filled (action_of a) a.id (reading_by a) (values_or_missing a values) rows (missing_holds a values h) f
+
+used_by_id_filled : (id : Text) (a : Option Rule) (values : List Text) (rows : List Row) → IfSome a (λ r. r.id ≡ id) → Holds id values → Filled rows
+    → Filled (used_by_id a values rows)
+used_by_id_filled id None values rows same h f = f
+used_by_id_filled id (Some a) values rows same h f = used_filled a values rows (subst (λ (i : Text). Holds i values) (sym same) h) f
+
+-- what is looked up by an id has it
+found_by_id : (id : Text) (c : List Rule) → IfSome (arg_by_id c id) (λ a. a.id ≡ id)
+found_by_id id [] = tt
+found_by_id id (a ∷ c) = go (bytes_eq a.id id) refl (found_by_id id c)
+  where
+    go : (t : Bool) → bytes_eq a.id id ≡ t → IfSome (arg_by_id c id) (λ x. x.id ≡ id) → IfSome (cond t (Some a) (arg_by_id c id)) (λ x. x.id ≡ id)
+    go true same later = (bytes_eq-Decides a.id id).0 same
+    go false same later = later
+
+-- an option, or a flag that takes no value and leaves none
+abbrev pub OnlyAsks : Option Rule → Type 0
+OnlyAsks None = ⊤
+OnlyAsks (Some a) = (is_option a.id ≡ true) ⊎ ((takes_values a ≡ false) × ((rows : List Row) → used a [] rows ≡ rows))
 
 module _ (c : List Rule) where
   settled_rows_filled : (p : Option (Text × List Text)) (rows : List Row) → FilledPending p → Filled rows → Filled (settled_rows c p rows)
   settled_rows_filled None rows lt f = f
-  settled_rows_filled (Some p) rows lt f = used_by_id_filled (arg_by_id c p.0) p.1 rows lt f
+  settled_rows_filled (Some p) rows lt f = used_by_id_filled p.0 (arg_by_id c p.0) p.1 rows (found_by_id p.0 c) lt f
 
   settled_filled : (h : Held) → FilledHeld h → Filled (settled c h).rows
   settled_filled h f = settled_rows_filled h.pending h.rows f.1 f.0
 
-  -- a flag that takes no value, and leaves none
-  abbrev pub OnlyAsks : Option Rule → Type 0
-  OnlyAsks None = ⊤
-  OnlyAsks (Some a) = (takes_values a ≡ false) × ((rows : List Row) → used a [] rows ≡ rows)
-
   reacted_filled : (a : Rule) (h : Held) → ((rows : List Row) → used a [] rows ≡ rows) → FilledHeld h → FilledHeld (reacted c a [] h)
   reacted_filled a h same f = (subst Filled (sym (same (settled c h).rows)) (settled_filled h f), tt)
 
-  flag_met_filled : (a : Rule) (v : Option Text) (h : Held) → ((rows : List Row) → used a [] rows ≡ rows) → FilledHeld h → FilledHeld (flag_met c a v h).0
-  flag_met_filled a None h same f = reacted_filled a h same f
-  flag_met_filled a (Some v) h same f = f
+  -- of an option
+  freely_reacted : (a : Rule) (values : List Text) (h : Held) → is_option a.id ≡ true → FilledHeld h → FilledHeld (reacted c a values h)
+  freely_reacted a values h free f = (used_filled a values (settled c h).rows (inl free) (settled_filled h f), tt)
+
+  option_met_filled : (a : Rule) (v : Option Text) (h : Held) → is_option a.id ≡ true → FilledHeld h → FilledHeld (option_met c a v h).0
+  option_met_filled a (Some v) h free f = freely_reacted a (v ∷ []) h free f
+  option_met_filled a None h free f = (settled_filled h f, inl free)
+
+  flag_met_filled : (a : Rule) (v : Option Text) (h : Held) → FilledHeld (reacted c a [] h) → FilledHeld h → FilledHeld (flag_met c a v h).0
+  flag_met_filled a None h r f = r
+  flag_met_filled a (Some v) h r f = f
 
   long_met_filled : (found : Option Rule) (v : Option Text) (h : Held) → OnlyAsks found → FilledHeld h → FilledHeld (long_met c found v h).0
   long_met_filled None v h asks f = f
-  long_met_filled (Some a) v h asks f = rw asks.0 (flag_met_filled a v h asks.1 f)
+  long_met_filled (Some a) v h (inr asks) f = rw asks.0 (flag_met_filled a v h (reacted_filled a h asks.1 f) f)
+  long_met_filled (Some a) v h (inl free) f =
+      go (takes_values a) (option_met_filled a v h free f) (flag_met_filled a v h (freely_reacted a [] h free f) f)
+    where
+      go : (t : Bool) → FilledHeld (option_met c a v h).0 → FilledHeld (flag_met c a v h).0
+          → FilledHeld (if t then option_met c a v h else flag_met c a v h).0
+      go true x y = x
+      go false x y = y
 
   short_met_filled : (found : Option Rule) (rest : Text) (h : Held) (go_on : Held → Held × Outcome) → OnlyAsks found
       → ((g : Held) → FilledHeld g → FilledHeld (go_on g).0) → FilledHeld h → FilledHeld (short_met c found rest h go_on).0
   short_met_filled None rest h go_on asks each f = f
-  short_met_filled (Some a) rest h go_on asks each f = rw asks.0 (each (reacted c a [] h) (reacted_filled a h asks.1 f))
+  short_met_filled (Some a) rest h go_on (inr asks) each f = rw asks.0 (each (reacted c a [] h) (reacted_filled a h asks.1 f))
+  short_met_filled (Some a) rest h go_on (inl free) each f =
+      go (takes_values a) (option_met_filled a (attached_value rest) h free f) (each (reacted c a [] h) (freely_reacted a [] h free f))
+    where
+      go : (t : Bool) → FilledHeld (option_met c a (attached_value rest) h).0 → FilledHeld (go_on (reacted c a [] h)).0
+          → FilledHeld (if t then option_met c a (attached_value rest) h else go_on (reacted c a [] h)).0
+      go true x y = x
+      go false x y = y
 
   module _ (long_asks : (name : Text) → OnlyAsks (arg_by_long c name)) (short_asks : (x : ℕ) → OnlyAsks (arg_by_short c x)) where
     bundle_step_filled : (x : Option ℕ) (flags : Text) (skip : ℕ) (so_far : Outcome) (h : Held) (go_on : Text → ℕ → Outcome → Held → Held × Outcome)
@@ -116,7 +184,7 @@ module _ (c : List Rule) where
     -- ---- a word
 
     pushed_filled : (id word : Text) (h : Held) → Filled h.rows → FilledHeld (pushed id word h)
-    pushed_filled id word h f = (f, omega (arith, length-append (started id h.pending).1 (word ∷ [])))
+    pushed_filled id word h f = (f, inr (omega (arith, length-append (started id h.pending).1 (word ∷ []))))
 
     option_word_filled : (a : Option Rule) (id word : Text) (h : Held) → FilledHeld h → FilledHeld (option_word a id word h).0
     option_word_filled None id word h f = f
@@ -196,7 +264,7 @@ module _ (c : List Rule) where
 
     default_rows_filled : (id : Text) (how : Reading) (values : List Text) (rows : List Row) → Filled rows → Filled (default_rows id how values rows)
     default_rows_filled id how [] rows f = f
-    default_rows_filled id how (v ∷ vs) rows f = with_values_filled id how _ (v ∷ vs) rows (omega arith) f
+    default_rows_filled id how (v ∷ vs) rows f = with_values_filled id how _ (v ∷ vs) rows (inr (omega arith)) f
 
     with_default_filled : (rows : List Row) (a : Rule) → Filled rows → Filled (with_default rows a)
     with_default_filled rows a f = go (has_row a.id rows) (default_rows a.id (reading_by a) a.defaults rows) (default_rows_filled a.id (reading_by a) a.defaults rows f)
@@ -220,12 +288,20 @@ slice_some : (values : List Text) → 0 < length values → IsSome (slice_get va
 slice_some [] lt = absurd (omega arith)
 slice_some (v ∷ vs) lt = refl
 
--- an argument that was given has a first value
-pub given_first : (id : Text) (rows : List Row) → Filled rows → is_given id rows ≡ true → IsSome (first_of id rows)
-given_first id [] f given = cc
-given_first id (r ∷ rows) f given = go (bytes_eq r.id id) refl (λ e. given_first id rows f.1 e) given
+false_true : false ≡ true → ⊥
+false_true e = cc
+
+-- a row of an argument that is no option
+row_some : (id : Text) (r : Row) → is_option id ≡ false → r.id ≡ id → Holds r.id r.values → IsSome (slice_get r.values 0)
+row_some id r other same (inl free) = absurd (false_true (sym other ∙ ap is_option (sym same) ∙ free))
+row_some id r other same (inr some) = slice_some r.values some
+
+-- an argument that was given, and is no option, has a first value
+pub given_first : (id : Text) (rows : List Row) → is_option id ≡ false → Filled rows → is_given id rows ≡ true → IsSome (first_of id rows)
+given_first id [] other f given = cc
+given_first id (r ∷ rows) other f given = go (bytes_eq r.id id) refl (λ e. given_first id rows other f.1 e) given
   where
     go : (t : Bool) → bytes_eq r.id id ≡ t → (is_given id rows ≡ true → IsSome (first_of id rows)) → is_given id (r ∷ rows) ≡ true
         → IsSome (first_of id (r ∷ rows))
-    go true e rest g = rw e (slice_some r.values f.0)
+    go true e rest g = rw e (row_some id r other ((bytes_eq-Decides r.id id).0 e) f.0)
     go false e rest g = rw e (rest (rw e at g))

@@ -5,6 +5,7 @@ pub mod Puts
 pub mod Stops
 pub mod Leaving
 pub mod Decisions
+pub mod ManyFiles
 pub mod StoreReads
 pub mod Stores
 pub mod PathArguments

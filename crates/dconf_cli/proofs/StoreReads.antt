@@ -17,56 +17,12 @@ use Rattle.dconf_cli.proofs.Decisions.{answers_also, found_not_failed}
 
 -- ---- reads after reads
 
-gave_both : (reads : ReadResults) (n : ℕ) (a b : List Reading) → Gave reads n (a ++ b) → Gave reads n a × Gave reads (n + length a) b
-gave_both reads n [] b g = (tt, let same : n ≡ n + 0 = omega arith in subst (λ (k : ℕ). Gave reads k b) same g)
-gave_both reads n (r ∷ a) b g =
-    let later = gave_both reads (n + 1) a b g.1 in
-    let same : n + 1 + length a ≡ n + length (r ∷ a) = omega arith in
-    ((g.0, later.0), subst (λ (k : ℕ). Gave reads k b) same later.1)
-
-are_both : (es : List Event) (a b : List Reading) → AreOf es a → AreOf es b → AreOf es (a ++ b)
-are_both es [] b p q = q
-are_both es (r ∷ a) b p q = (p.0, are_both es a b p.1 q)
-
-pub all_both : (a b : List Reading) → AllRead a → AllRead b → AllRead (a ++ b)
-all_both [] b p q = q
-all_both (r ∷ a) b p q = (p.0, all_both a b p.1 q)
-
-breaks_behind : (r : Reading) (log : List Reading) (name : List ℕ) → r.gave ≢ failed → BreaksAt log name → BreaksAt (r ∷ log) name
-breaks_behind r [] name good h = absurd h
-breaks_behind r (s ∷ log) name good h = (good, h)
-
-breaks_after : (a b : List Reading) (name : List ℕ) → AllRead a → BreaksAt b name → BreaksAt (a ++ b) name
-breaks_after [] b name all h = h
-breaks_after (r ∷ a) b name all h = breaks_behind r (a ++ b) name all.0 (breaks_after a b name all.1 h)
-
 module _ {F : Type 0} (past : F → List Event → Type 0) (failures : F → ℕ) (old mid new : F) where
-  pub reads_both : (a b : List Reading) → HasRead past failures old mid a → HasRead past failures mid new b → HasRead past failures old new (a ++ b)
+  reads_both : (a b : List Reading) → HasRead past failures old mid a → HasRead past failures mid new b → HasRead past failures old new (a ++ b)
   reads_both a b p q = record {
-    known = λ es is. let one = p.known es is in let two = q.known es one.0 in (two.0, are_both es a b one.1 two.1);
+    known = λ es is. let one = p.known es is in let two = q.known es one.0 in (two.0, are_together es a b one.1 two.1);
     none_failed = q.none_failed ∙ p.none_failed;
   }
-
-  tells_after : (a b : List Reading) (answer : Answer) → failures mid ≡ failures old → AllRead a → Tells (failures mid) (failures new) b answer
-      → Tells (failures old) (failures new) (a ++ b) answer
-  tells_after a b answer same all (inl fine) = inl (all_both a b all fine.0, fine.1 ∙ same)
-  tells_after a b answer same all (inr broken) = inr (broken.0, breaks_after a b broken.0 all broken.1, rw same at broken.2, broken.3)
-
-  -- a decision after such reads
-  pub decides_after : (n : ℕ) (log : List Reading) (answer : Answer) (Makes Also : ReadResults → Outcome → Type 0) → HasRead past failures old mid log → AllRead log
-      → Decides past failures mid new (n + length log) Makes answer → ((reads : ReadResults) (o : Outcome) → Gave reads n log → Makes reads o → Also reads o)
-      → Decides past failures old new n Also answer
-  decides_after n log answer Makes Also h all d also = record {
-    log = log ++ d.log;
-    known = λ es is. let one = h.known es is in let two = d.known es one.0 in (two.0, are_both es log d.log one.1 two.1);
-    tells = tells_after log d.log answer h.none_failed all d.tells;
-    answers = λ reads gave. let both = gave_both reads n log d.log gave in
-        answers_also answer (Makes reads) (Also reads) (λ o m. also reads o both.0 m) (d.answers reads both.1);
-  }
-
--- nothing was read yet
-pub nothing_read : {F : Type 0} (past : F → List Event → Type 0) (failures : F → ℕ) (folder : F) → HasRead past failures folder folder []
-nothing_read past failures folder = record { known = λ es is. (is, tt); none_failed = refl }
 
 -- ---- the databases
 
@@ -131,11 +87,11 @@ module _ {F : Type 0} (past : F → List Event → Type 0) (failures : F → ℕ
   decides_at_database later answer each n =
       let log = database_reads ds items in
       let place : n + length log ≡ n + length ds = ap (λ (k : ℕ). n + k) (reads_length ds items same) in
-      decides_after past failures old mid new n log answer (λ reads. OrNoDatabase (database_file d) (reads (n + length log) (database_file d)) NothingIfAny)
-      (λ reads. WithDatabases reads n (ds ++ d ∷ later) NoItems) read (databases_all_read ds items) (each (n + length log))
-      (λ reads o gave m. databases_given reads n ds (d ∷ later) items NoItems o same gave
+      decides_later past failures old mid new n log answer (λ reads. OrNoDatabase (database_file d) (reads (n + length log) (database_file d)) NothingIfAny)
+      (λ reads. WithDatabases reads n (ds ++ d ∷ later) NoItems) read (databases_all_read ds items)
+      (λ reads gave o m. databases_given reads n ds (d ∷ later) items NoItems o same gave
       (no_item_is_any (database_file d) (reads (n + length ds) (database_file d)) (λ item. WithDatabases reads (n + length ds + 1) later (λ rest. NoItems (items ++ (item ∷ rest)))) o
-      (subst (λ (k : ℕ). OrNoDatabase (database_file d) (reads k (database_file d)) NothingIfAny o) place m)))
+      (subst (λ (k : ℕ). OrNoDatabase (database_file d) (reads k (database_file d)) NothingIfAny o) place m))) (each (n + length log))
 
 -- ---- one after another
 

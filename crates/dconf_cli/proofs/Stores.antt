@@ -13,7 +13,8 @@ use Rattle.dconf_cli.specs.Answers.{GivesOutcome}
 use Rattle.dconf_cli.specs.Readings.{Decides, Gave, HasRead, Nothing, one_read}
 use Rattle.dconf_cli.specs.StoreReads.{NoDatabases, NoItems, database_reads}
 use Rattle.dconf_cli.proofs.Decisions.{decides_also, decides_at_once, nothing_is_any}
-use Rattle.dconf_cli.proofs.StoreReads.{databases_all_read, databases_given, decides_after}
+use Rattle.dconf_cli.proofs.StoreReads.{databases_all_read, databases_given}
+use Rattle.dconf_cli.proofs.ManyFiles.{decides_later}
 
 -- ---- what is left aside
 
@@ -62,14 +63,14 @@ module _ {F : Type 0} (past : F → List Event → Type 0) (failures : F → ℕ
   pub store_without_file : (old new : F) → Decides past failures old new 0 (λ reads. WithFile reads 0 name Nothing) answer → Does old new
   store_without_file old new d =
       decides_also past failures old new 0 answer (λ reads. WithFile reads 0 name Nothing) (λ reads. WithStore reads name Go)
-      (λ reads o h. nothing_is_any past failures name (reads 0 name) (InProfile reads) o h) d
+      (λ reads o h. nothing_is_any name (reads 0 name) (InProfile reads) o h) d
 
   -- it is read
   module _ (old mid new : F) (bytes : List ℕ) (h : HasRead past failures old mid (one_read name (holds bytes))) where
     store_by_file : Decides past failures mid new 1 (λ reads. InProfile reads bytes) answer → Does old new
     store_by_file d =
-        decides_after past failures old mid new 0 (one_read name (holds bytes)) answer (λ reads. InProfile reads bytes) (λ reads. WithStore reads name Go)
-        h ((λ e. cc), tt) d (λ reads o gave m. rw gave.0 m)
+        decides_later past failures old mid new 0 (one_read name (holds bytes)) answer (λ reads. InProfile reads bytes) (λ reads. WithStore reads name Go)
+        h ((λ e. cc), tt) (λ reads gave o m. rw gave.0 m) d
 
     -- and is none
     pub store_without_profile : new ≡ mid → GivesOutcome answer (OrLine name (profile_of bytes) NoDatabases) → Does old new
@@ -95,7 +96,7 @@ module _ {F : Type 0} (past : F → List Event → Type 0) (failures : F → ℕ
       pub store_by_databases : (items : List (Option (List ℕ))) → length items ≡ length ds → HasRead past failures mid new (database_reads ds items)
           → GivesOutcome answer (InLayers ds items) → Does old new
       store_by_databases items same all gives =
-          store_by_profile (decides_after past failures mid new new 1 (database_reads ds items) answer (λ reads. InLayers ds items) (λ reads. InDatabases reads ds)
+          store_by_profile (decides_later past failures mid new new 1 (database_reads ds items) answer (λ reads. InLayers ds items) (λ reads. InDatabases reads ds)
           all (databases_all_read ds items)
-          (decides_at_once past failures new (1 + length (database_reads ds items)) answer (λ reads. InLayers ds items) (λ reads. gives))
-          (λ reads o gave m. all_given reads 1 ds items (InLayers ds) o same gave m))
+          (λ reads gave o m. all_given reads 1 ds items (InLayers ds) o same gave m)
+          (decides_at_once past failures new (1 + length (database_reads ds items)) answer (λ reads. InLayers ds items) (λ reads. gives)))

@@ -1,25 +1,25 @@
 -- The subcommand that the words name, and what clap gives its arguments where it finds no fault in the words.
 use Rattle.std.proofs.Common.{◌≡◌, ◌∙◌, ◌||◌, ◌&&◌, ◌⊎◌, inl, inr, not, ℕ, Bool, true, false, List, [], ◌∷◌, refl, sym, ap, subst, Option, Some, None, is_some, if◌then◌else◌, codes}
-use Rattle.std.specs.Prelude.{◌≢◌, ⊤, IfSome, IsSome, cond, find, option_map, unwrap_or}
+use Rattle.std.specs.Prelude.{◌≢◌, ⊤, IfSome, IsSome, cond, find, option_map, slice_get, unwrap_or}
 use Rattle.std.specs.List.{list_any}
 use Rattle.std.specs.Option.{option_map_or}
 use Rattle.std.specs.Str.{bytes_eq}
 use Rattle.std.proofs.lemmas.Slice.Eq.{bytes_eq-Decides}
 use Rattle.clap.specs.Kinds.{Kinds, check_kinds}
 use Rattle.clap.specs.Simple.{App, Shape, argument_words, built, entered, label_of, names_of, rows_at}
-use Rattle.clap.specs.Walk.{Names, Row, Rule, Text, answers_to, arg_by_long, arg_by_short, nothing_held, rows_after, stop_after, walk_from}
+use Rattle.clap.specs.Walk.{Names, Row, Rule, Text, answers_to, has_long, has_short, nothing_held, rows_after, stop_after, walk_from}
 use Rattle.clap.specs.Takes.{is_given}
 use Rattle.clap.specs.Faults.{level_fault, entered_fault, check_fault, fault_of, is_simple_and_free, walk_fault}
-use Rattle.clap.specs.Words.{HasMatchesOf, first_of, first_value, is_simple, rows_of, subcommand_name_of, subcommand_of, subcommand_rows, subcommand_rows_of}
+use Rattle.clap.specs.Words.{HasMatchesOf, first_of, first_value, is_simple, matched_of, raw_values, rows_of, subcommand_name_of, subcommand_of, subcommand_rows, subcommand_rows_of}
 use Rattle.clap.specs.declared.parser.matches.ArgMatches.TheViews.{out-ArgMatches, out-SubCommand}
 use Rattle.std.specs.Box.{box_value}
 use Rattle.clap.specs.declared.ArgMatches.{ArgMatches}
 use Rattle.clap.specs.declared.parser.matches.Found.{Found}
-use Rattle.clap.proofs.WalkLemmas.{first_value-rows}
-use Rattle.dconf_cli.specs.Asked.{AsksToCheck, AsksToShow}
+use Rattle.clap.proofs.WalkLemmas.{first_value-rows, raw_values-rows}
+use Rattle.dconf_cli.specs.Asked.{AsksToCheck, AsksToCompile, AsksToShow}
 use Rattle.dconf_cli.specs.CommandLine.{command_line, show_line}
 use Rattle.dconf_cli.proofs.Stops.{IsNotHelp, or_else_nil, walk_not_help}
-use Rattle.dconf_cli.proofs.Filled.{OnlyAsks, walk_filled, given_first}
+use Rattle.dconf_cli.proofs.Filled.{OnlyAsks, walk_filled, given_first, is_option}
 
 -- no fault of a level
 no_fault : (s : Shape) (names : Names) (words : List Text) (has : Bool) (below : Kinds) → level_fault s names nothing_held words has below ≡ []
@@ -70,22 +70,38 @@ abbrev line : App
 line = built command_line
 
 abbrev IsCommandName : Text → Type 0
-IsCommandName name = (name ≡ codes "show") ⊎ (name ≡ codes "check")
+IsCommandName name = (name ≡ codes "show") ⊎ ((name ≡ codes "check") ⊎ (name ≡ codes "compile"))
 
--- its flags only ask for help, and it has one name
+abbrev Each : {X : Type 0} → (X → Type 0) → List X → Type 0
+Each P [] = ⊤
+Each P (x ∷ rest) = P x × Each P rest
+
+-- a rule of a word in its place, of an option, or of a flag that only asks for help
+abbrev IsPlainRule : Rule → Type 0
+IsPlainRule a = (is_some a.index ≡ true) ⊎ OnlyAsks (Some a)
+
+met_asks : (a : Rule) (t : Bool) → IsPlainRule a → (not (is_some a.index) && t) ≡ true → OnlyAsks (Some a)
+met_asks a t (inl placed) met = let other : false ≡ true = rw placed at met in cc
+met_asks a t (inr asks) met = asks
+
+flags_ask : (named : Rule → Bool) (rules : List Rule) → Each IsPlainRule rules → OnlyAsks (find (λ a. not (is_some a.index) && named a) rules)
+flags_ask named [] each = tt
+flags_ask named (a ∷ rest) each = go (not (is_some a.index) && named a) refl (flags_ask named rest each.1)
+  where
+    go : (t : Bool) → (not (is_some a.index) && named a) ≡ t → OnlyAsks (find (λ x. not (is_some x.index) && named x) rest)
+        → OnlyAsks (cond t (Some a) (find (λ x. not (is_some x.index) && named x) rest))
+    go true met later = met_asks a (named a) each.0 met
+    go false met later = later
+
+-- its flags only ask for help, but for options, and its name is a command's
 record IsPlainSub (s : Shape) : Type 0 where
-  long : (name : Text) → OnlyAsks s.rules (arg_by_long s.rules name)
-  short : (x : ℕ) → OnlyAsks s.rules (arg_by_short s.rules x)
+  rules : Each IsPlainRule s.rules
   name : IsCommandName s.name
 
 -- it is one of ours or, after ours, clap's own `help`
 record IsOffered (s : Shape) : Type 0 where
   alone : s.aliases ≡ []
   ours : s.name ≢ codes "help" → IsPlainSub s
-
-abbrev Each : (Shape → Type 0) → List Shape → Type 0
-Each P [] = ⊤
-Each P (s ∷ rest) = P s × Each P rest
 
 each_found : (P : Shape → Type 0) (test : Shape → Bool) (subs : List Shape) → Each P subs → IfSome (find test subs) (λ s. P s × (test s ≡ true))
 each_found P test [] each = tt
@@ -95,35 +111,35 @@ each_found P test (s ∷ rest) each = go (test s) refl (each_found P test rest e
     go true e later = (each.0, e)
     go false e later = later
 
-help_asks : (rules : List Rule) (t : Bool) (help : Rule) → OnlyAsks rules (Some help) → OnlyAsks rules (if t then Some help else None)
-help_asks rules true help asks = asks
-help_asks rules false help asks = tt
+-- the commands as they are built
+abbrev shape_at : ℕ → Shape
+shape_at n = unwrap_or (slice_get line.subs n) show_line.top
 
--- `show` and `check` as they are built
-abbrev show_built : Shape
-show_built = elim line.subs [ [] ↦ show_line.top | s ∷ rest ↦ s ]
-
-abbrev check_built : Shape
-check_built = elim line.subs [ [] ↦ show_line.top | s ∷ rest ↦ elim rest [ [] ↦ show_line.top | t ∷ more ↦ t ] ]
-
-show_is_plain : IsPlainSub show_built
+show_is_plain : IsPlainSub (shape_at 0)
 show_is_plain = record {
-  long = λ name. help_asks show_built.rules _ _ (refl, λ rows. refl);
-  short = λ x. help_asks show_built.rules _ _ (refl, λ rows. refl);
+  rules = (inl refl, (inl refl, (inr (inr (refl, λ rows. refl)), tt)));
   name = inl refl;
 }
 
-check_is_plain : IsPlainSub check_built
+check_is_plain : IsPlainSub (shape_at 1)
 check_is_plain = record {
-  long = λ name. help_asks check_built.rules _ _ (refl, λ rows. refl);
-  short = λ x. help_asks check_built.rules _ _ (refl, λ rows. refl);
-  name = inr refl;
+  rules = (inl refl, (inr (inr (refl, λ rows. refl)), tt));
+  name = inr (inl refl);
+}
+
+compile_is_plain : IsPlainSub (shape_at 2)
+compile_is_plain = record {
+  rules = (inl refl, (inr (inl refl), (inl refl, (inr (inr (refl, λ rows. refl)), tt))));
+  name = inr (inr refl);
 }
 
 offered_subs : Each IsOffered line.subs
 offered_subs = (
   record { alone = refl; ours = λ _. show_is_plain },
-  (record { alone = refl; ours = λ _. check_is_plain }, (record { alone = refl; ours = λ other. absurd (other refl) }, tt)),
+  (
+    record { alone = refl; ours = λ _. check_is_plain },
+    (record { alone = refl; ours = λ _. compile_is_plain }, (record { alone = refl; ours = λ other. absurd (other refl) }, tt)),
+  ),
 )
 
 -- the subcommand of this name
@@ -143,7 +159,7 @@ pub record Enters (met : Option (Text × List Row)) : Type 0 where
   pub one : IsCommandName name
   pub rows : List Row
   pub named : met ≡ Some (name, rows)
-  pub given : (id : Text) → wants (sub_named name).rules id ≡ true → IsSome (first_of id rows)
+  pub given : (id : Text) → is_option id ≡ false → wants (sub_named name).rules id ≡ true → IsSome (first_of id rows)
 
 sub_entered : (asked : Text) (words : List Text) (o : Option Shape) → asked ≢ codes "help" → find (λ s. answers_to asked (label_of s)) line.subs ≡ o
     → IfSome o (λ s. IsOffered s × (answers_to asked (label_of s) ≡ true))
@@ -156,13 +172,14 @@ sub_entered asked words (Some s) other found offered fault met =
     let plain : IsPlainSub s = offered.0.ours (λ help. other (sym named ∙ help)) in
     let same : sub_named s.name ≡ s = ap sub_named named ∙ ap (λ (o : Option Shape). unwrap_or o show_line.top) found in
     let checked = (no_fault s [] words false [] fault).2 in
-    let filled = walk_filled s.rules plain.long plain.short [] nothing_held words (tt, tt) in
+    let filled = walk_filled s.rules (λ name. flags_ask (λ a. has_long a name) s.rules plain.rules) (λ x. flags_ask (λ a. has_short a x) s.rules plain.rules) []
+    nothing_held words (tt, tt) in
     record {
       name = s.name;
       one = plain.name;
       rows = rows;
       named = refl;
-      given = λ id wanted. given_first id rows filled (check_gives s rows id checked (subst (λ (x : Shape). wants x.rules id ≡ true) same wanted));
+      given = λ id other wanted. given_first id rows other filled (check_gives s rows id checked (subst (λ (x : Shape). wants x.rules id ≡ true) same wanted));
     }
 
 entered_gives : (stop : Option (Text × List Text)) → IsNotHelp stop → entered_fault line stop ≡ [] → is_some (entered line stop) ≡ true → Enters (entered line stop)
@@ -215,19 +232,20 @@ name_by_rows m = elim (out-ArgMatches m).subcommand as (λ o. option_map (λ b. 
 met_name : (words : List Text) (m : ArgMatches) (p : IsParsedBy words m) → subcommand_name_of m ≡ Some (enters words p.sound).name
 met_name words m p = name_by_rows m ∙ ap (option_map (λ q. q.0)) (p.met ∙ (enters words p.sound).named)
 
--- one that is not `check` is `show`
+-- one that is neither `check` nor `compile` is `show`
 pub named_show : (words : List Text) (m : ArgMatches) → IsParsedBy words m → subcommand_name_of m ≢ Some (codes "check")
-    → subcommand_name_of m ≡ Some (codes "show")
-named_show words m p other = go (enters words p.sound).one
+    → subcommand_name_of m ≢ Some (codes "compile") → subcommand_name_of m ≡ Some (codes "show")
+named_show words m p not_check not_compile = go (enters words p.sound).one
   where
     go : IsCommandName (enters words p.sound).name → subcommand_name_of m ≡ Some (codes "show")
     go (inl show) = met_name words m p ∙ ap Some show
-    go (inr check) = absurd (other (met_name words m p ∙ ap Some check))
+    go (inr (inl check)) = absurd (not_check (met_name words m p ∙ ap Some check))
+    go (inr (inr compile)) = absurd (not_compile (met_name words m p ∙ ap Some compile))
 
 -- the matches are those of the subcommand of this name
 pub record IsSub (words : List Text) (name : Text) (found : Found) : Type 0 where
   pub named : subcommand_of command_line words ≡ Some (name, rows_of found)
-  pub given : (id : Text) → wants (sub_named name).rules id ≡ true → IsSome (first_value found id)
+  pub given : (id : Text) → is_option id ≡ false → wants (sub_named name).rules id ≡ true → IsSome (first_value found id)
 
 pub is_sub : (words : List Text) (name : Text) (m : ArgMatches) (found : Found) → IsParsedBy words m → subcommand_name_of m ≡ Some name
     → option_map (λ p. p.1) (subcommand_rows_of m) ≡ Some (rows_of found) → IsSub words name found
@@ -237,7 +255,7 @@ is_sub words name m found p names rows =
     let is : met.name ≡ name = some_same (sym (met_name words m p) ∙ names) in
     record {
       named = met.named ∙ ap (λ (n : Text). Some (n, met.rows)) is ∙ ap (λ (rs : List Row). Some (name, rs)) (sym same);
-      given = λ id wanted. rw (first_value-rows found id, same) (met.given id (subst (λ (n : Text). wants (sub_named n).rules id ≡ true) (sym is) wanted));
+      given = λ id other wanted. rw (first_value-rows found id, same) (met.given id other (subst (λ (n : Text). wants (sub_named n).rules id ≡ true) (sym is) wanted));
     }
 
 pub asks_to_show : (words : List Text) (found : Found) (type_text file : Text) → IsSub words (codes "show") found
@@ -255,4 +273,15 @@ asks_to_check words found file sub f = record {
   rows = rows_of found;
   named = sub.named;
   file_value = sym (first_value-rows found (codes "FILE")) ∙ f;
+}
+
+pub asks_to_compile : (words : List Text) (found : Found) (out : Text) (locks : Option Text) (keyfiles : List Text) → IsSub words (codes "compile") found
+    → first_value found (codes "OUT") ≡ Some out → locks ≡ first_value found (codes "locks")
+    → keyfiles ≡ unwrap_or (option_map raw_values (matched_of found (codes "KEYFILE"))) [] → AsksToCompile words out locks keyfiles
+asks_to_compile words found out locks keyfiles sub o l k = record {
+  rows = rows_of found;
+  named = sub.named;
+  out_value = sym (first_value-rows found (codes "OUT")) ∙ o;
+  locks_value = sym (first_value-rows found (codes "locks")) ∙ sym l;
+  keyfile_values = sym (k ∙ ap (λ (o : Option (List Text)). unwrap_or o []) (raw_values-rows found (codes "KEYFILE")));
 }

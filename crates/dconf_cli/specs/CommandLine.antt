@@ -1,7 +1,7 @@
 -- The command line of `dconfdb`, as clap sees it.
 use Rattle.std.specs.Prelude.{true, Some, codes}
 use Rattle.clap.specs.Words.{App, Rule, Text, new_app, new_rule, with_rule, with_subcommand}
-use Rattle.clap.specs.declared.builder.action.ArgAction.TheVariants.{Set}
+use Rattle.clap.specs.declared.builder.action.ArgAction.TheVariants.{Append, Set}
 
 -- a word that must be there, in its place
 abbrev pub required_word : Text → Rule
@@ -15,6 +15,19 @@ show_line = with_rule (with_rule (new_app (codes "show")) (required_word (codes 
 abbrev pub check_line : App
 check_line = with_rule (new_app (codes "check")) (required_word (codes "FILE"))
 
+-- `--locks FILE`
+abbrev pub locks_option : Rule
+locks_option = record (new_rule (codes "locks")) { long = Some (codes "locks"); action = Some Set; value_names = 1 }
+
+-- words that may be there, each a value
+abbrev pub further_words : Text → Rule
+further_words id = record (new_rule id) { action = Some Append }
+
+-- `compile OUT [--locks FILE] [KEYFILE..]`
+abbrev pub compile_line : App
+compile_line =
+    with_rule (with_rule (with_rule (new_app (codes "compile")) (required_word (codes "OUT"))) locks_option) (further_words (codes "KEYFILE"))
+
 -- `dconfdb`, which wants a subcommand and has a version
 abbrev pub dconfdb_line : App
 dconfdb_line = record (new_app (codes "dconfdb")) {
@@ -25,4 +38,4 @@ dconfdb_line = record (new_app (codes "dconfdb")) {
 }
 
 abbrev pub command_line : App
-command_line = with_subcommand (with_subcommand dconfdb_line show_line.top) check_line.top
+command_line = with_subcommand (with_subcommand (with_subcommand dconfdb_line show_line.top) check_line.top) compile_line.top

@@ -1,12 +1,14 @@
 -- What a command read of a folder, and what it decides by that. It holds of any folder: of one whose events are known, and of one of
 -- which nothing is known.
-use Rattle.std.specs.Prelude.{◌≡◌, ◌≢◌, ◌⊎◌, ◌+◌, ℕ, List, [], ◌∷◌, Option, Some, None}
+use Rattle.std.specs.Prelude.{◌≡◌, ◌≢◌, ◌⊎◌, ◌+◌, ℕ, List, [], ◌∷◌, map, Option, Some, None, vec_items}
 use Rattle.dconf_model.specs.Folders.{Event, read_content}
 use Rattle.dconf_model.specs.FaultTexts.{device_text}
 use Rattle.dconf_model.specs.Outcomes.{Outcome}
 use Rattle.dconf_model.specs.Reads.{FileRead, ReadResults, read_of}
 use Rattle.dconf_model.specs.Reads.FileRead.{no_file, holds, failed}
+use Rattle.dconf_model.specs.Sources.{Source}
 use Rattle.dconf_cli.specs.declared.answer.Answer.{Answer}
+use Rattle.dconf_cli.specs.declared.reading.NamedFile.{NamedFile}
 use Rattle.dconf_cli.specs.Answers.{GivesOutcome, RefusesFor}
 use Rattle.dconf_cli.specs.Streams.{Rose}
 
@@ -70,3 +72,21 @@ one_read name gave = record { name = name; gave = gave } ∷ []
 abbrev pub found_read : Option (List ℕ) → FileRead
 found_read None = no_file
 found_read (Some bytes) = holds bytes
+
+-- no file is looked at yet
+abbrev pub NoSources : List Source → Outcome → Type 0
+NoSources files o = ⊥
+
+-- files that were read, by their names
+abbrev pub named_source : NamedFile → Source
+named_source file = record { name = file.name.now; bytes = vec_items file.bytes }
+
+abbrev pub named_sources : List NamedFile → List Source
+named_sources files = map named_source files
+
+-- the reads that gave them
+abbrev pub held_read : Source → Reading
+held_read s = record { name = s.name; gave = holds s.bytes }
+
+abbrev pub reads_of : List Source → List Reading
+reads_of files = map held_read files

@@ -1,7 +1,7 @@
 //! The command line of `dconfdb`, by clap's builder.
-ghost use Rattle.std.specs.Prelude.{◌≡◌, codes, false, IfOk, IsSome, Some, map, string_bytes};
-ghost use Rattle.clap.specs.Words.{FailsBy, app_of, fault_of, first_value, found_of, rule_of};
-ghost use Rattle.dconf_cli.specs.CommandLine.{check_line, command_line, required_word, show_line};
+ghost use Rattle.std.specs.Prelude.{◌≡◌, [], codes, false, IfOk, IsSome, Some, map, option_map, string_bytes, unwrap_or, vec_items};
+ghost use Rattle.clap.specs.Words.{FailsBy, app_of, fault_of, first_value, found_of, matched_of, raw_values, rule_of};
+ghost use Rattle.dconf_cli.specs.CommandLine.{check_line, command_line, compile_line, further_words, locks_option, required_word, show_line};
 ghost use Rattle.dconf_cli.specs.Asked.{IsAskedBy};
 
 use crate::asked::Command;
@@ -24,6 +24,13 @@ pub fn command(alloc: Global, words: &[String]) -> Result<Command, clap::Error>
         let file = value(alloc, check, "FILE")?;
         return Ok(Command::Check { file });
     }
+    if let Some(compile) = matches.subcommand_matches("compile") {
+        return Ok(Command::Compile {
+            out: value(alloc, compile, "OUT")?,
+            locks: value_if_any(alloc, compile, "locks")?,
+            keyfiles: values(alloc, compile, "KEYFILE")?,
+        });
+    }
     let show = matches.subcommand_matches("show").unwrap();
     Ok(Command::Show {
         type_text: value(alloc, show, "TYPE")?,
@@ -36,11 +43,12 @@ fn dconfdb<'a>(alloc: Global) -> Result<clap::Command<'a>, AllocError>
     ensures { IfOk result (λ c. app_of c ≡ command_line) }
 {
     clap::Command::new(alloc, "dconfdb")
-        .about("Reads GVariant values and dconf databases")
+        .about("Reads GVariant values, and reads and makes dconf databases")
         .version("0.1.0")
         .subcommand_required(true)
         .subcommand(show(alloc)?)?
-        .subcommand(check(alloc)?)
+        .subcommand(check(alloc)?)?
+        .subcommand(compile(alloc)?)
 }
 
 // `show TYPE FILE`.
@@ -63,6 +71,42 @@ fn check<'a>(alloc: Global) -> Result<clap::Command<'a>, AllocError>
     clap::Command::new(alloc, "check")
         .about("Says whether FILE is a sound database")
         .arg(file)
+}
+
+// `compile OUT [--locks FILE] [KEYFILE..]`.
+fn compile<'a>(alloc: Global) -> Result<clap::Command<'a>, AllocError>
+    ensures { IfOk result (λ c. app_of c ≡ compile_line) }
+{
+    let out = required(alloc, "OUT").help("the database to make, in the place of any file there");
+    let locks = locks_word(alloc);
+    let keyfiles = keyfile_words(alloc);
+    clap::Command::new(alloc, "compile")
+        .about("Makes the database OUT of keyfiles, taken in the byte order of their names")
+        .arg(out)?
+        .arg(locks)?
+        .arg(keyfiles)
+}
+
+// The lock file of `compile`.
+fn locks_word<'a>(alloc: Global) -> Arg<'a>
+    ensures rule { rule_of result ≡ locks_option }
+    ensures own { result.global ≡ false }
+{
+    Arg::new(alloc, "locks")
+        .long("locks")
+        .value_name("FILE")
+        .action(ArgAction::Set)
+        .help("a file of paths to lock, one on a line")
+}
+
+// The keyfiles of `compile`.
+fn keyfile_words<'a>(alloc: Global) -> Arg<'a>
+    ensures rule { rule_of result ≡ further_words (codes "KEYFILE") }
+    ensures own { result.global ≡ false }
+{
+    Arg::new(alloc, "KEYFILE")
+        .action(ArgAction::Append)
+        .help("a keyfile to read, by its path from the current folder")
 }
 
 // The file that a command reads.
@@ -88,4 +132,37 @@ fn value(alloc: Global, matches: &ArgMatches<'_>, id: &str) -> Result<String, Al
         first_value (found_of matches.now) id.now ≡ Some (string_bytes text)) }
 {
     String::from_str(alloc, matches.get_str(id).unwrap())
+}
+
+// The value of an argument that may be left out.
+fn value_if_any(
+    alloc: Global,
+    matches: &ArgMatches<'_>,
+    id: &str,
+) -> Result<Option<String>, AllocError>
+    ensures { IfOk result (λ text. option_map string_bytes text ≡ first_value (found_of matches.now) id.now) }
+{
+    match matches.get_str(id) {
+        Some(text) => Ok(Some(String::from_str(alloc, text)?)),
+        None => Ok(None),
+    }
+}
+
+// The values of an argument that may have several, or none.
+fn values(alloc: Global, matches: &ArgMatches<'_>, id: &str) -> Result<Vec<String>, AllocError>
+    ensures { IfOk result (λ texts. map string_bytes (vec_items texts)
+        ≡ unwrap_or (option_map raw_values (matched_of (found_of matches.now) id.now)) []) }
+{
+    copies(alloc, matches.get_strs(id).unwrap_or(&[]))
+}
+
+// A copy of each text.
+fn copies(alloc: Global, texts: &[&str]) -> Result<Vec<String>, AllocError>
+    ensures { IfOk result (λ copies. map string_bytes (vec_items copies) ≡ map (λ text. text.now) texts.now) }
+{
+    let mut copies = Vec::new(alloc);
+    for text in texts {
+        copies.push(String::from_str(alloc, text)?)?;
+    }
+    Ok(copies)
 }

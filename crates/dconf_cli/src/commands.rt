@@ -5,6 +5,7 @@ ghost use Rattle.dconf_cli.specs.Commands.{command_of};
 ghost use Rattle.dconf_cli.specs.Readings.{Decides};
 
 mod check;
+mod compile;
 mod list;
 mod origin;
 mod read;
@@ -13,6 +14,7 @@ mod show;
 use crate::answer::Answer;
 use crate::asked::Command;
 use check::check;
+use compile::compile;
 use dconf_disk::Folder;
 use show::show;
 use std::alloc::Global;
@@ -25,5 +27,10 @@ pub(crate) fn answered<F: Folder>(alloc: Global, command: &Command, folder: &mut
     match command {
         Command::Show { type_text, file } => show(alloc, type_text.as_str(), file.as_str(), folder),
         Command::Check { file } => check(alloc, file.as_str(), folder),
+        Command::Compile {
+            out,
+            locks,
+            keyfiles,
+        } => compile(alloc, out.as_str(), locks, keyfiles, folder),
     }
 }

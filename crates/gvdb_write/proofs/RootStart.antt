@@ -18,8 +18,8 @@ use Rattle.gvdb_write.specs.declared.names.Named.{Named}
 use Rattle.gvdb_write.specs.PlanWords.{kind_of, content_bytes, entry_of}
 use Rattle.std.specs.Vec.{vec_len}
 use Rattle.std.specs.declared.alloc.Global.{Global}
-use Rattle.dconf_path.specs.declared.path.KeyPath.{KeyPath}
-use Rattle.dconf_path.specs.Paths.{key_text}
+use Rattle.dconf_path.specs.declared.lock_path.LockPath.{LockPath}
+use Rattle.dconf_path.specs.LockPaths.{lock_text}
 use Rattle.gvdb_write.specs.Maps.{AreKeyPaths}
 use Rattle.gvdb_write.specs.Names.{named, name_at, kind_at, IsBefore, IsSlash, IsFit, NameHasParent, IsPlaced, AreAscending, HasChild, IsThere, IsDirectoryAt, AreNamesOf}
 use Rattle.gvdb_write.proofs.PathTexts.{IsText, text_of_key}
@@ -212,14 +212,14 @@ as_said s names said at place last left paths n a l so =
     (subst (λ (x : ℕ). AreNamesSoFar s names x last paths) (sym a) (subst (λ (x : List (List ℕ)). AreNamesSoFar s names at last x) (sym l) so))
 
 -- the first of the locks, if there is one
-abbrev IsFirst : List (List ℕ) → List (List ℕ) → Option KeyPath → Type 0
-IsFirst left after first = MatchOption first ((left ≡ []) × (after ≡ [])) (λ path. left ≡ key_text path ∷ after)
+abbrev IsFirst : List (List ℕ) → List (List ℕ) → Option LockPath → Type 0
+IsFirst left after first = MatchOption first ((left ≡ []) × (after ≡ [])) (λ path. left ≡ lock_text path ∷ after)
 
-pub some_lock : (s : Settings) (left after : List (List ℕ)) (first : Option KeyPath) → left ≡ keys s.locks → IsFirst left after first → is_some first ≡ true → HasLocks s
+pub some_lock : (s : Settings) (left after : List (List ℕ)) (first : Option LockPath) → left ≡ keys s.locks → IsFirst left after first → is_some first ≡ true → HasLocks s
 some_lock s left after None is steps some = let bad : false ≡ true = some in cc
-some_lock s left after (Some path) is steps some = (key_text path, listed_is_kept s.locks [] after (key_text path) (sym is ∙ steps))
+some_lock s left after (Some path) is steps some = (lock_text path, listed_is_kept s.locks [] after (lock_text path) (sym is ∙ steps))
 
-pub no_lock : (s : Settings) (left after : List (List ℕ)) (first : Option KeyPath) → left ≡ keys s.locks → IsFirst left after first → is_some first ≡ false → HasLocks s → ⊥
+pub no_lock : (s : Settings) (left after : List (List ℕ)) (first : Option LockPath) → left ≡ keys s.locks → IsFirst left after first → is_some first ≡ false → HasLocks s → ⊥
 no_lock s left after None is steps none locked =
     let at = kept_at s.locks locked.0 locked.1 in
     let here = at.1 in

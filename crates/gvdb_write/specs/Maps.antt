@@ -6,8 +6,8 @@ use Rattle.std.specs.BTreeSet.{BTreeSet}
 use Rattle.std.specs.declared.string.String.{String}
 use Rattle.std.specs.declared.alloc.Global.{Global}
 use Rattle.std.specs.String.{string_bytes}
-use Rattle.std.specs.FinMap.{from_entries, contains_key}
-use Rattle.dconf_model.specs.Paths.{is_key_path}
+use Rattle.std.specs.FinMap.{from_entries}
+use Rattle.dconf_model.specs.Paths.{is_path, is_key_path}
 use Rattle.dconf_model.specs.Settings.{AtPaths, Lock, Settings}
 
 abbrev pub value_entries : List (String Global × Vec ℕ Global) → List (List ℕ × List ℕ)
@@ -29,11 +29,10 @@ settings_of m s = record { values = values_of m; locks = locks_of s }
 abbrev pub texts : List (String Global) → List (List ℕ)
 texts ts = map string_bytes ts
 
--- each path that has a value or a lock is the path of a key: a map locks no directories
-pub record AreAtKeys (s : Settings) : Type 0 where
-  pub valued : (path : List ℕ) → IsTrue (contains_key s.values path) → IsTrue (is_key_path path)
-  pub locked : (path : List ℕ) → IsTrue (contains_key s.locks path) → IsTrue (is_key_path path)
-
 -- each of these is the path of a key
 abbrev pub AreKeyPaths : List (List ℕ) → Type 0
 AreKeyPaths paths = All (λ path. IsTrue (is_key_path path)) paths
+
+-- each of these is the path of a key or of a directory
+abbrev pub ArePaths : List (List ℕ) → Type 0
+ArePaths paths = All (λ path. IsTrue (is_path path)) paths

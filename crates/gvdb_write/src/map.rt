@@ -3,10 +3,11 @@ ghost use Rattle.std.specs.Prelude.{◌≡◌, OnOk, OnErr, option_map};
 ghost use Rattle.std.specs.FinMap.{contains_key, get, keys};
 ghost use Rattle.dconf_model.specs.Settings.{no_settings, with_value, with_lock};
 ghost use Rattle.dconf_path.specs.Paths.{key_text};
-ghost use Rattle.gvdb_write.specs.Maps.{AreKeyPaths, texts};
+ghost use Rattle.dconf_path.specs.LockPaths.{lock_text};
+ghost use Rattle.gvdb_write.specs.Maps.{AreKeyPaths, ArePaths, texts};
 
 use crate::fault::MapFault;
-use dconf_path::KeyPath;
+use dconf_path::{KeyPath, LockPath};
 use std::alloc::Global;
 use std::collections::{BTreeMap, BTreeSet, btree_map, btree_set};
 use std::marker::Model;
@@ -22,17 +23,17 @@ pub struct Map {
 }
 
 impl Model for Map {
-    ghost use Rattle.dconf_model.specs.Settings.{Settings, settings_code};
+    ghost use Rattle.dconf_model.specs.Settings.{IsSettings, Settings, settings_code};
 
     ghost Value = { Settings };
 
     ghost coded = { settings_code };
 
-    ghost use Rattle.gvdb_write.specs.Maps.{AreAtKeys, settings_of};
+    ghost use Rattle.gvdb_write.specs.Maps.{settings_of};
 
     ghost view = { λ m. settings_of m.values m.locks };
 
-    ghost invariant = { λ m. AreAtKeys (settings_of m.values m.locks) };
+    ghost invariant = { λ m. IsSettings (settings_of m.values m.locks) };
 }
 
 impl Map {
@@ -65,12 +66,12 @@ impl Map {
         Ok(())
     }
 
-    /// Locks a path, whether or not it has a value.
+    /// Locks the path of a key, whether or not it has a value, or that of a directory.
     ///
     /// `Memory` comes where a growth is refused, and then the map stays as it was. It copies the path, and compares
     /// as many paths as the set of locks is deep.
-    pub fn lock(&mut self, path: KeyPath<'_>) -> Result<(), MapFault>
-        ensures ok { OnOk result (self.new ≡ with_lock self.old (key_text path.entry)) }
+    pub fn lock(&mut self, path: LockPath<'_>) -> Result<(), MapFault>
+        ensures ok { OnOk result (self.new ≡ with_lock self.old (lock_text path.entry)) }
         ensures err { OnErr result (self.new ≡ self.old) }
     {
         let path = String::from_str(self.alloc, path.as_str())?;
@@ -88,9 +89,10 @@ impl Map {
         }
     }
 
-    /// Whether a path is locked. It compares as many paths as the set of locks is deep.
-    pub fn is_locked(&self, path: KeyPath<'_>) -> bool
-        ensures { result ≡ contains_key self.now.locks (key_text path.entry) }
+    /// Whether this very path is locked: that of a directory says nothing of the keys below it. It compares as many paths as
+    /// the set of locks is deep.
+    pub fn is_locked(&self, path: LockPath<'_>) -> bool
+        ensures { result ≡ contains_key self.now.locks (lock_text path.entry) }
     {
         self.locks.contains(path.as_str())
     }
@@ -141,23 +143,23 @@ impl<'a> Iterator for Keys<'a> {
 #[derive(Drop)]
 pub struct Locks<'a> {
     rest: btree_set::Iter<'a, String>,
-    ghost are_paths: { AreKeyPaths (texts rest) },
+    ghost are_paths: { ArePaths (texts rest) },
 }
 
 impl<'a> Iterator for Locks<'a> {
     ghost use Rattle.std.specs.Iterator.{YieldsFirstBy, item_count};
-    ghost use Rattle.dconf_path.specs.Paths.{key_text};
+    ghost use Rattle.dconf_path.specs.LockPaths.{lock_text};
     ghost use Rattle.gvdb_write.specs.PathsLeft.{locks_left};
 
-    type Item = KeyPath<'a>;
+    type Item = LockPath<'a>;
 
-    ghost next_gives = { YieldsFirstBy key_text locks_left };
+    ghost next_gives = { YieldsFirstBy lock_text locks_left };
 
     ghost remaining = { item_count locks_left };
 
-    fn next(&mut self) -> Option<KeyPath<'a>> {
+    fn next(&mut self) -> Option<LockPath<'a>> {
         let lock = self.rest.next()?;
-        // Each is the path of a key, so none is refused.
-        KeyPath::parse(lock.as_str()).ok()
+        // Each is a path, so none is refused.
+        LockPath::parse(lock.as_str()).ok()
     }
 }

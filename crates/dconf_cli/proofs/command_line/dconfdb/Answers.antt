@@ -15,5 +15,7 @@ returns c =
     let shown = c.in_ok-show.ensures in
     let checked = c.in_ok-check.ensures in
     let with_show = c.in_ok-subcommand.ensures.shape (first_not _ _ (second _ _ (second _ _ (ap (λ (a : App). a.top.is_plain) shown)))) ∙ ap₂ with_subcommand line (ap (λ (a : App). a.top) shown) in
-    IfOk-weaker c.subcommand-2.result _ _ (λ r h. h.shape (first_not _ _ (second _ _ (second _ _ (ap (λ (a : App). a.top.is_plain) checked)))) ∙ ap₂ with_subcommand with_show (ap (λ (a : App). a.top) checked))
-    c.subcommand-2.ensures
+    let with_check = c.in_ok-subcommand-2.ensures.shape (first_not _ _ (second _ _ (second _ _ (ap (λ (a : App). a.top.is_plain) checked)))) ∙ ap₂ with_subcommand with_show (ap (λ (a : App). a.top) checked) in
+    let compiled = c.in_ok-compile.ensures in
+    IfOk-weaker c.subcommand-3.result _ _ (λ r h. h.shape (first_not _ _ (second _ _ (second _ _ (ap (λ (a : App). a.top.is_plain) compiled)))) ∙ ap₂ with_subcommand with_check (ap (λ (a : App). a.top) compiled))
+    c.subcommand-3.ensures

@@ -1,6 +1,6 @@
-use Rattle.std.proofs.Common.{string_bytes, subst, sym}
+use Rattle.std.proofs.Common.{map, option_map, string_bytes, subst, sym, vec_items}
 use Rattle.dconf_model.specs.Commands.{Command}
-use Rattle.dconf_model.specs.Commands.Command.{show, check}
+use Rattle.dconf_model.specs.Commands.Command.{show, check, compile}
 use Rattle.dconf_model.specs.Outcomes.{IsOutcome}
 use Rattle.dconf_cli.specs.Commands.{command_of}
 use Rattle.dconf_cli.specs.Readings.{Decides}
@@ -16,3 +16,10 @@ pub returns-in-Check : goal.returns-in-Check
 returns-in-Check g c = λ input.
     let D : Command → Type 0 = λ k. Decides g.F.Folder.past g.F.Folder.failed c.args.folder.now c.check.new.folder 0 (λ reads. IsOutcome k reads input) c.check.result in
     subst (λ k. D (command_of k)) (sym c.in-Check.is) (subst (λ n. D (check n)) c.as_str-in-Check.ensures.value (c.check.ensures input))
+
+pub returns-in-Compile : goal.returns-in-Compile
+returns-in-Compile g c = λ input.
+    let D : Command → Type 0 = λ k. Decides g.F.Folder.past g.F.Folder.failed c.args.folder.now c.compile.new.folder 0 (λ reads. IsOutcome k reads input) c.compile.result in
+    let locks = option_map string_bytes c.in-Compile.locks in
+    subst (λ k. D (command_of k)) (sym c.in-Compile.is) (subst (λ n. D (compile n locks (map string_bytes (vec_items c.in-Compile.keyfiles)))) c.as_str-in-Compile.ensures.value
+    (subst (λ names. D (compile c.as_str-in-Compile.result.now locks (map string_bytes names))) c.deref.ensures.value (c.compile.ensures input)))

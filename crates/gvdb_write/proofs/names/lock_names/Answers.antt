@@ -1,4 +1,5 @@
 use Rattle.std.proofs.Common.{◌≡◌, ℕ, List, ◌∷◌, refl, sym, ◌∙◌, subst}
+use Rattle.dconf_path.specs.LockPaths.{lock_text}
 use Rattle.gvdb_write.specs.declared.names.Named.{Named}
 use Rattle.gvdb_write.specs.Names.{IsLockNamed}
 use Rattle.gvdb_write.specs.PathsLeft.{locks_left}
@@ -7,7 +8,7 @@ use Rattle.gvdb_write.proofs.names.lock_names.Goals as goal
 
 pub loop-path-preserved : goal.loop-path-preserved
 loop-path-preserved c =
-    let path : List ℕ = c.in-Some.path.text.now in
+    let path : List ℕ = lock_text c.in-Some.path in
     let bytes : c.as_bytes.result.now ≡ path = c.as_bytes.ensures.value ∙ c.as_str.ensures in
     let so : AreLocksSoFar c.args.map.now c.loop-path.names.items (path ∷ locks_left c.next.new.self) =
     subst (λ (left : List (List ℕ)). AreLocksSoFar c.args.map.now c.loop-path.names.items left) c.in-Some.ensures.steps c.loop-path.invariant.so_far in

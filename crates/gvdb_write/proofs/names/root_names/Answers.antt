@@ -5,7 +5,7 @@ use Rattle.dconf_model.specs.Table.{list_kind, table_kind}
 use Rattle.gvdb_write.specs.declared.names.Named.{Named}
 use Rattle.gvdb_write.specs.Names.{ArePlaced}
 use Rattle.gvdb_write.specs.PathsLeft.{keys_left}
-use Rattle.gvdb_write.specs.Maps.{AreKeyPaths}
+use Rattle.gvdb_write.specs.Maps.{AreKeyPaths, ArePaths}
 use Rattle.gvdb_write.proofs.KeysRise.{are_settings}
 use Rattle.gvdb_write.proofs.RootNames.{AreNamesSoFar, IsCommon, IsCommonDirectory, IsNextDirectory, some_common, text_of_path, text_is_first, next_directory, value_here, names_more}
 use Rattle.gvdb_write.proofs.RootStart.{IsTopName, is_top, vec_counted, as_said, start_without, start_with, all_names, some_lock, no_lock}
@@ -91,4 +91,4 @@ pub returns-clause-settings : goal.returns-clause-settings
 returns-clause-settings c =
     are_settings c.args.map.now
     (subst (λ (l : List (List ℕ)). AreKeyPaths l) c.keys-path-items.ensures c.keys-path-items.result.are_paths)
-    (subst (λ (l : List (List ℕ)). AreKeyPaths l) c.locks.ensures c.locks.result.are_paths)
+    (subst (λ (l : List (List ℕ)). ArePaths l) c.locks.ensures c.locks.result.are_paths)

@@ -1,0 +1,2 @@
+pub mod CompileFaults
+pub mod Sources

@@ -1,0 +1,13 @@
+//! From keyfiles and lock files to the bytes of a database, as `dconf compile` makes one.
+//!
+//! [`compile`] takes the bytes of all files, and gives those of a database or the first fault, with its file and line. Nothing is
+//! read or written. The texts of values are read once each, and only one value at a time is in memory beside the bytes of all.
+#![tactic(auto)]
+
+mod compiling;
+mod fault;
+mod source;
+
+pub use compiling::compile;
+pub use fault::{CompileCause, CompileFault, FileRef};
+pub use source::Source;
