@@ -1,4 +1,5 @@
 pub mod Numbers
+pub mod CoveredPaths
 pub mod ListSteps
 pub mod RuleOrder
 pub mod ChainSteps

@@ -7,6 +7,7 @@
 #![tactic(auto)]
 
 mod checking;
+mod covering;
 mod fault;
 mod find;
 mod hashing;

@@ -27,7 +27,18 @@ impl<'a> Table<'a> {
         ensures cost { steps.new ≤ steps.old
             + span_size (region self.entry) (hash_of name.now) * (length name.now + 1) }
     {
-        let hash = hash(name);
+        self.find_hashed(hash(name), name, kind, steps)
+    }
+
+    /// As `find_item`, of a name whose hash is known.
+    pub(crate) fn find_hashed(self, hash: u32, name: &[u8], kind: u8, steps: &mut Steps) -> Option<u32>
+        requires hash_is { hash ≡ hash_of name.now }
+        requires room { steps.old + span_size (region self) (hash_of name.now) * (length name.now + 1) < 2 ^ 128 }
+        ensures found { IfSome result (IsLeast (region self.entry) name.now kind) }
+        ensures none { IfNone result ((i : ℕ) → ¬ Fits (region self.entry) name.now kind i) }
+        ensures cost { steps.new ≤ steps.old
+            + span_size (region self.entry) (hash_of name.now) * (length name.now + 1) }
+    {
         if !self.passes_bloom(hash) {
             return None;
         }

@@ -1,6 +1,6 @@
 use Rattle.std.proofs.Common.{rules, ◌+◌, ◌*◌, ◌≤◌, ℕ, arith}
 use Rattle.std.proofs.Math.Nat.{mul-le-mul_right}
-use Rattle.gvdb_read.proofs.table.Table.find_item.Goals as goal
+use Rattle.gvdb_read.proofs.table.Table.find_hashed.Goals as goal
 
 within_all : (s b m k n : ℕ) → b ≤ s + k * n → k ≤ m → b ≤ s + m * n
 within_all s b m k n le small = let more : k * n ≤ m * n = mul-le-mul_right n small in omega arith

@@ -2,7 +2,7 @@ use Rattle.std.proofs.Common.{◌+◌, ◌*◌, ◌-◌, ◌<◌, ◌≤◌, ℕ
 use Rattle.dconf_model.specs.Bytes.{hash_of}
 use Rattle.dconf_model.specs.Search.{Fits, span_start, span_size}
 use Rattle.gvdb_read.specs.Tables.{region}
-use Rattle.gvdb_read.proofs.table.Table.find_item.Given as goal
+use Rattle.gvdb_read.proofs.table.Table.find_hashed.Given as goal
 
 -- no item before this one fits
 abbrev pub invariant-loop-i : goal.invariant-loop-i

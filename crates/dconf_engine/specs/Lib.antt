@@ -1,0 +1,12 @@
+pub mod Faults
+pub mod SoundTables
+pub mod LayerSettings
+pub mod Files
+pub mod LayersCode
+pub mod EngineLayers
+pub mod ChangeFaults
+pub mod Edits
+pub mod Rows
+pub mod TextMaps
+pub mod Unsaved
+pub mod UnsavedLeft

@@ -1,0 +1,173 @@
+//! Changes of the first layer that are not saved yet: at each path that was changed the bytes that it was set to, or
+//! that it was reset.
+ghost use Rattle.std.specs.Prelude.{◌≡◌, ◌↔◌, IsTrue, Some, None, OnOk, OnErr, IfOk, option_map};
+ghost use Rattle.std.specs.FinMap.{empty, entries, get, insert};
+ghost use Rattle.dconf_path.specs.Paths.{key_text};
+ghost use Rattle.dconf_engine.specs.Edits.{edit_bytes};
+ghost use Rattle.dconf_engine.specs.TextMaps.{entries_by, AreAtKeyPaths};
+
+use dconf_path::KeyPath;
+use std::alloc::{AllocError, Global};
+use std::collections::{BTreeMap, btree_map};
+use std::marker::Model;
+
+/// What was done at a path.
+#[derive(Drop)]
+enum Edit {
+    /// It was set to these bytes.
+    Set(Vec<u8>),
+    /// Its value was taken away.
+    Reset,
+}
+
+impl Edit {
+    /// The bytes that were set, or None.
+    fn bytes(&self) -> Option<&[u8]>
+        ensures { option_map (λ bytes. bytes.now) result ≡ edit_bytes self.now }
+    {
+        match self {
+            Edit::Set(bytes) => Some(bytes.as_slice()),
+            Edit::Reset => None,
+        }
+    }
+}
+
+impl Clone for Edit {
+    ghost is_clone = { λ a b. edit_bytes b ≡ edit_bytes a };
+
+    fn clone(&self) -> Result<Edit, AllocError> {
+        match self {
+            Edit::Set(bytes) => Ok(Edit::Set(bytes.clone()?)),
+            Edit::Reset => Ok(Edit::Reset),
+        }
+    }
+}
+
+/// At each path that was changed, what was done there.
+#[derive(Drop)]
+pub(crate) struct Changes {
+    alloc: Global,
+    edits: BTreeMap<String, Edit>,
+}
+
+impl Model for Changes {
+    ghost use Rattle.dconf_engine.specs.Edits.{edit_bytes};
+    ghost use Rattle.dconf_engine.specs.TextMaps.{at_texts, IsAtKeys};
+    ghost use Rattle.dconf_engine.specs.Unsaved.{Unsaved, unsaved_code};
+
+    ghost Value = { Unsaved };
+
+    ghost coded = { unsaved_code };
+
+    ghost view = { λ c. at_texts edit_bytes c.edits };
+
+    ghost invariant = { λ c. IsAtKeys (at_texts edit_bytes c.edits) };
+}
+
+impl Changes {
+    ghost use Rattle.dconf_engine.specs.UnsavedLeft.{changes_left};
+
+    /// No changes. It takes no memory.
+    pub(crate) fn new(alloc: Global) -> Changes
+        ensures { result ≡ empty }
+    {
+        let edits = BTreeMap::new(alloc);
+        Changes { alloc, edits }
+    }
+
+    /// Whether nothing was changed.
+    pub(crate) fn is_empty(&self) -> bool
+        ensures { IsTrue result ↔ (self.now ≡ empty) }
+    {
+        self.edits.is_empty()
+    }
+
+    /// What was changed at a path: the bytes that it was set to, or None within where it was reset. It compares as many
+    /// paths as the map is deep.
+    pub(crate) fn get(&self, path: &str) -> Option<Option<&[u8]>>
+        ensures { option_map (option_map (λ bytes. bytes.now)) result ≡ get self.now path.now }
+    {
+        match self.edits.get(path) {
+            Some(edit) => Some(edit.bytes()),
+            None => None,
+        }
+    }
+
+    /// Sets a path to these bytes, whatever was changed there before.
+    ///
+    /// An error comes where a growth is refused, and then the changes stay as they were. It copies the path, and compares
+    /// as many paths as the map is deep.
+    pub(crate) fn set(&mut self, path: KeyPath<'_>, bytes: Vec<u8>) -> Result<(), AllocError>
+        ensures ok { OnOk result (self.new ≡ insert self.old (key_text path.entry) (Some bytes.items)) }
+        ensures err { OnErr result (self.new ≡ self.old) }
+    {
+        let path = String::from_str(self.alloc, path.as_str())?;
+        self.edits.insert(path, Edit::Set(bytes))?;
+        Ok(())
+    }
+
+    /// Resets a path, whatever was changed there before.
+    ///
+    /// An error comes where a growth is refused, and then the changes stay as they were. It copies the path, and compares
+    /// as many paths as the map is deep.
+    pub(crate) fn reset(&mut self, path: KeyPath<'_>) -> Result<(), AllocError>
+        ensures ok { OnOk result (self.new ≡ insert self.old (key_text path.entry) None) }
+        ensures err { OnErr result (self.new ≡ self.old) }
+    {
+        let path = String::from_str(self.alloc, path.as_str())?;
+        self.edits.insert(path, Edit::Reset)?;
+        Ok(())
+    }
+
+    /// The same changes once more. An error comes where a growth is refused. It copies each path and its bytes.
+    pub(crate) fn try_copy(&self) -> Result<Changes, AllocError>
+        ensures { IfOk result (λ copy. copy ≡ self.now) }
+    {
+        let edits = self.edits.clone()?;
+        Ok(Changes {
+            alloc: self.alloc,
+            edits,
+        })
+    }
+
+    /// The changes, in the order of the bytes of their paths.
+    pub(crate) fn iter(&self) -> ChangesLeft<'_>
+        ensures { changes_left result ≡ entries self.now }
+    {
+        let rest = self.edits.iter();
+        ChangesLeft { rest }
+    }
+}
+
+/// A path that was changed, and the bytes that it was set to, or None where it was reset.
+#[derive(Clone, Copy)]
+pub(crate) struct Changed<'a> {
+    pub(crate) path: KeyPath<'a>,
+    pub(crate) bytes: Option<&'a [u8]>,
+}
+
+/// The changes that are left, in the order of the bytes of their paths.
+#[derive(Drop)]
+pub(crate) struct ChangesLeft<'a> {
+    rest: btree_map::Iter<'a, String, Edit>,
+    ghost are_paths: { AreAtKeyPaths (entries_by edit_bytes rest) },
+}
+
+impl<'a> Iterator for ChangesLeft<'a> {
+    ghost use Rattle.std.specs.Iterator.{YieldsFirstBy, item_count};
+    ghost use Rattle.dconf_engine.specs.UnsavedLeft.{change_of, changes_left};
+
+    type Item = Changed<'a>;
+
+    ghost next_gives = { YieldsFirstBy change_of changes_left };
+
+    ghost remaining = { item_count changes_left };
+
+    fn next(&mut self) -> Option<Changed<'a>> {
+        let (path, edit) = self.rest.next()?;
+        // Each is the path of a key, so none is refused.
+        let path = KeyPath::parse(path.as_str()).ok()?;
+        let bytes = edit.bytes();
+        Some(Changed { path, bytes })
+    }
+}

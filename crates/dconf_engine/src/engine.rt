@@ -1,0 +1,225 @@
+//! The layers of a profile's databases, and what is seen through them.
+ghost use Rattle.std.specs.Prelude.{◌≡◌, ◌<◌, IfErr, IfNone, IfOk, IfSome, List, None, Some, length, map, option_map, slice_index_or, drop, ℕ};
+ghost use Rattle.std.specs.FinMap.{get};
+ghost use Rattle.gv_view.specs.Views.{value};
+ghost use Rattle.gvdb_read.specs.Lookups.{ShowsHeld};
+ghost use Rattle.dconf_model.specs.Databases.{AreLayers, IsFirstBad};
+ghost use Rattle.dconf_model.specs.Layers.{first_from, is_locked, level, locks_path, origin, place_of, visible, visible_bytes, without_user};
+ghost use Rattle.dconf_model.specs.Profiles.{is_written};
+ghost use Rattle.dconf_model.specs.Settings.{no_settings};
+ghost use Rattle.dconf_path.specs.Paths.{key_text};
+ghost use Rattle.dconf_path.specs.Profiles.{databases_of};
+ghost use Rattle.dconf_engine.specs.Faults.{bad_of};
+ghost use Rattle.dconf_engine.specs.Files.{bytes_of_files};
+ghost use Rattle.dconf_engine.specs.LayerSettings.{settings_of_item};
+
+use crate::changes::Changes;
+use crate::fault::EngineFault;
+use crate::layer::Layer;
+use dconf_path::{DatabaseKind, KeyPath, Profile};
+use gv_view::View;
+use std::alloc::Global;
+use std::marker::Model;
+
+/// The layers of a profile's databases, lent from their files, the first database's first.
+///
+/// A lock of a layer from the second on hides what the layers before it have at the paths that it covers.
+#[derive(Drop)]
+pub struct Engine<'a> {
+    alloc: Global,
+    written: bool,
+    layers: Vec<Option<Layer<'a>>>,
+    changes: Changes,
+}
+
+impl<'a> Model for Engine<'a> {
+    ghost use Rattle.dconf_model.specs.Layers.{Layers};
+    ghost use Rattle.dconf_engine.specs.LayersCode.{layers_code};
+
+    ghost Value = { Layers };
+
+    ghost coded = { layers_code };
+
+    ghost use Rattle.dconf_engine.specs.EngineLayers.{layers_of};
+
+    ghost view = { λ e. layers_of e.changes e.layers.items e.written };
+}
+
+impl<'a> Engine<'a> {
+    /// Opens the databases of a profile. For each there is the bytes of its file, or None where there is no file: that is
+    /// an empty database.
+    ///
+    /// `BadDatabase` has the least index whose bytes open as no sound database; `Memory` comes where a growth is refused.
+    /// It takes memory once, by the number of databases, and asks of each database what [`gvdb_read::Table::check`] asks.
+    pub fn open(
+        alloc: Global,
+        profile: &Profile<'_>,
+        files: &[Option<&'a [u8]>],
+    ) -> Result<Engine<'a>, EngineFault>
+        requires { length files.now ≡ length (databases_of profile.now) }
+        ensures layers { IfOk result (λ engine. AreLayers (bytes_of_files files.now) engine.layers) }
+        ensures written { IfOk result (λ engine. engine.written ≡ is_written (databases_of profile.now)) }
+        ensures fault { IfErr result (λ e. IfSome (bad_of e) (λ bad. IsFirstBad (bytes_of_files files.now) bad.0 bad.1)) }
+    {
+        let layers = open_layers(alloc, files)?;
+        let written = is_of_user(profile);
+        let changes = Changes::new(alloc);
+        Ok(Engine {
+            alloc,
+            written,
+            layers,
+            changes,
+        })
+    }
+
+    /// The value that is seen at a path, or None where none is.
+    ///
+    /// It asks each layer, from the last on, whether it locks the path, and then each layer from there on for its value.
+    pub fn read(&self, path: KeyPath<'_>) -> Option<View<'_>>
+        ensures value { visible self.now (key_text path.entry) ≡ option_map value result }
+        ensures lent { IfSome result (λ view. (bytes : List ℕ) × (visible_bytes self.now (key_text path.entry) ≡ Some bytes) × ShowsHeld bytes view) }
+    {
+        let (_, bytes) = self.place(path)?;
+        Some(View::of_variant(bytes))
+    }
+
+    /// As `read`, without the values of the user's database.
+    pub fn read_default(&self, path: KeyPath<'_>) -> Option<View<'_>>
+        ensures value { visible (without_user self.now) (key_text path.entry) ≡ option_map value result }
+        ensures lent { IfSome result (λ view. (bytes : List ℕ) × (visible_bytes (without_user self.now) (key_text path.entry) ≡ Some bytes) × ShowsHeld bytes view) }
+    {
+        let (_, bytes) = self.default_place(path)?;
+        Some(View::of_variant(bytes))
+    }
+
+    /// Whether a path is locked: a layer from the second on has a lock that covers it.
+    pub fn is_locked(&self, path: KeyPath<'_>) -> bool
+        ensures { result ≡ is_locked self.now (key_text path.entry) }
+    {
+        self.level(path) > 0
+    }
+
+    /// The index of the database whose value is seen at a path, or None where none is.
+    pub fn origin(&self, path: KeyPath<'_>) -> Option<usize>
+        ensures { result ≡ origin self.now (key_text path.entry) }
+    {
+        let (i, _) = self.place(path)?;
+        Some(i)
+    }
+
+    /// Whether the first database is the user's, which may be written.
+    pub fn is_writable(&self) -> bool
+        ensures { result ≡ self.now.written }
+    {
+        self.written
+    }
+
+    /// Where the value that is seen at a path is: its layer, and its bytes.
+    fn place(&self, path: KeyPath<'_>) -> Option<(usize, &[u8])>
+        ensures { option_map {U = ℕ × List ℕ} (λ p. (p.0, p.1.now)) result ≡ place_of self.now (key_text path.entry) }
+    {
+        self.place_from(self.level(path), path)
+    }
+
+    /// The same without the values of the user's database.
+    fn default_place(&self, path: KeyPath<'_>) -> Option<(usize, &[u8])>
+        ensures { option_map {U = ℕ × List ℕ} (λ p. (p.0, p.1.now)) result ≡ place_of (without_user self.now) (key_text path.entry) }
+    {
+        let level = self.level(path);
+        if self.written && level == 0 {
+            return self.place_from(1, path);
+        }
+        self.place_from(level, path)
+    }
+
+    /// The greatest index of at least 1 whose layer locks the path; else 0.
+    fn level(&self, path: KeyPath<'_>) -> usize
+        ensures { result ≡ level self.now (key_text path.entry) }
+    {
+        let mut i = self.count();
+        while i > 1 {
+            i -= 1;
+            if self.locks_at(i, path) {
+                return i;
+            }
+        }
+        0
+    }
+
+    /// The first layer from that one on that has the path, and the bytes of its value.
+    fn place_from(&self, from: usize, path: KeyPath<'_>) -> Option<(usize, &[u8])>
+        ensures { option_map {U = ℕ × List ℕ} (λ p. (p.0, p.1.now)) result ≡ first_from from (drop from self.now.layers) (key_text path.entry) }
+    {
+        for i in from..self.count() {
+            if let Some(bytes) = self.bytes_at(i, path) {
+                return Some((i, bytes));
+            }
+        }
+        None
+    }
+
+    /// How many layers there are.
+    fn count(&self) -> usize
+        ensures { result ≡ length self.now.layers }
+    {
+        self.layers.len()
+    }
+
+    /// Whether a layer locks a path.
+    fn locks_at(&self, i: usize, path: KeyPath<'_>) -> bool
+        requires { i < length self.now.layers }
+        ensures { result ≡ locks_path (key_text path.entry) (slice_index_or self.now.layers i no_settings) }
+    {
+        Layer::locks_if_any(self.layers[i], path)
+    }
+
+    /// The bytes of a layer's value at a path.
+    fn bytes_at(&self, i: usize, path: KeyPath<'_>) -> Option<&[u8]>
+        requires { i < length self.now.layers }
+        ensures { option_map (λ bytes. bytes.now) result ≡ get (slice_index_or self.now.layers i no_settings).values (key_text path.entry) }
+    {
+        if i == 0 {
+            return self.first_bytes(path);
+        }
+        Layer::get_if_any(self.layers[i], path.as_str())
+    }
+
+    /// The bytes of the first layer's value at a path: those of a change where there is one, else those of its file.
+    fn first_bytes(&self, path: KeyPath<'_>) -> Option<&[u8]>
+        requires { 0 < length self.now.layers }
+        ensures { option_map (λ bytes. bytes.now) result ≡ get (slice_index_or self.now.layers 0 no_settings).values (key_text path.entry) }
+    {
+        match self.changes.get(path.as_str()) {
+            Some(changed) => changed,
+            None => Layer::get_if_any(self.layers[0], path.as_str()),
+        }
+    }
+}
+
+/// The layers of the databases whose files these are.
+fn open_layers<'a>(
+    alloc: Global,
+    files: &[Option<&'a [u8]>],
+) -> Result<Vec<Option<Layer<'a>>>, EngineFault>
+    ensures layers { IfOk result (λ layers. AreLayers (bytes_of_files files.now) (map settings_of_item layers.items)) }
+    ensures fault { IfErr result (λ e. IfSome (bad_of e) (λ bad. IsFirstBad (bytes_of_files files.now) bad.0 bad.1)) }
+{
+    let mut layers = Vec::with_capacity(alloc, files.len())?;
+    for (i, file) in files.iter().enumerate() {
+        match Layer::open_if_any(*file) {
+            Ok(layer) => layers.push(layer)?,
+            Err(fault) => return Err(EngineFault::BadDatabase(i, fault)),
+        }
+    }
+    Ok(layers)
+}
+
+/// Whether the first database of a profile is the user's.
+fn is_of_user(profile: &Profile<'_>) -> bool
+    ensures { result ≡ is_written (databases_of profile.now) }
+{
+    match profile.databases().first() {
+        Some(database) => database.kind == DatabaseKind::User,
+        None => false,
+    }
+}

@@ -1,0 +1,17 @@
+//! The databases of a profile as layers of settings: which value of a path is seen, which paths are locked, and what a
+//! directory has.
+//!
+//! An [`Engine`] stands for the layers of its databases, each sound, and lends each value from the bytes that were handed
+//! in. Bytes that are no sound database are refused when it opens.
+#![tactic(auto)]
+
+mod change_fault;
+mod changes;
+mod engine;
+mod fault;
+mod layer;
+mod storing;
+
+pub use change_fault::ChangeFault;
+pub use engine::Engine;
+pub use fault::{DatabaseFault, EngineFault};

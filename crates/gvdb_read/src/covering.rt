@@ -1,0 +1,53 @@
+//! Whether a table's names cover a path, as the names of locks do.
+ghost use Rattle.std.specs.Prelude.{◌≡◌, ◌+◌, ◌<◌, ◌↔◌, ℕ, List, IsTrue, length, slice_index, take};
+ghost use Rattle.dconf_model.specs.Bytes.{hash_of};
+ghost use Rattle.dconf_model.specs.Locks.{covers};
+ghost use Rattle.dconf_model.specs.Table.{value_kind};
+ghost use Rattle.gvdb_read.specs.Lookups.{IsFound};
+
+use crate::hashing::{HASH_OF_NOTHING, hash_with};
+use crate::table::{Table, VALUE};
+use gv_types::Steps;
+
+impl Table<'_> {
+    ghost use Rattle.gvdb_read.specs.Tables.{region};
+
+    /// Whether the name of some value covers a path: it is the path, or it ends in `/` and the path starts with it.
+    ///
+    /// It searches for the path, and for each prefix of it that ends in `/`. The path is hashed once, and a prefix is
+    /// compared with the names that have its hash alone.
+    pub fn covers(self, path: &str) -> bool
+        ensures { IsTrue result ↔ ((name : List ℕ) × IsTrue (covers name path.now) × IsFound (region self.entry) name value_kind) }
+    {
+        let path = path.as_bytes();
+        let mut hash = HASH_OF_NOTHING;
+        for i in 0..path.len() {
+            hash = hash_with(hash, path[i]);
+            if self.has_directory(hash, path, i) {
+                return true;
+            }
+        }
+        self.has_hashed(hash, path)
+    }
+
+    /// Whether the byte at a place is a `/`, and the prefix up to it, which has this hash, has a value.
+    fn has_directory(self, hash: u32, path: &[u8], i: usize) -> bool
+        requires within { i < length path.now }
+        requires hash_is { hash ≡ hash_of (take (i + 1) path.now) }
+        ensures { IsTrue result ↔ ((slice_index path.now i ≡ 47) × IsFound (region self.entry) (take (i + 1) path.now) value_kind) }
+    {
+        path[i] == b'/' && self.has_hashed(hash, &path[..i + 1])
+    }
+
+    /// Whether a name of this hash has a value.
+    fn has_hashed(self, hash: u32, name: &[u8]) -> bool
+        requires { hash ≡ hash_of name.now }
+        ensures { IsTrue result ↔ IsFound (region self.entry) name.now value_kind }
+    {
+        let mut steps = Steps::new();
+        match self.find_hashed(hash, name, VALUE, &mut steps) {
+            Some(i) => self.pointed(self.stored(i)).is_some(),
+            None => false,
+        }
+    }
+}
