@@ -13,7 +13,8 @@ use Rattle.dconf_path.specs.declared.profiles.DatabaseKind.TheVariants.{User}
 use Rattle.dconf_cli.specs.declared.answer.Answer.{Answer}
 use Rattle.dconf_cli.specs.Readings.{AllRead, AreOf, BreaksAt, Decides, Gave, HasRead, NothingIfAny, Reading, Tells, found_read, one_read}
 use Rattle.dconf_cli.specs.StoreReads.{NoItems, database_reads}
-use Rattle.dconf_cli.proofs.Decisions.{answers_also, found_not_failed}
+use Rattle.dconf_cli.proofs.Decisions.{found_not_failed}
+use Rattle.dconf_cli.proofs.ManyFiles.{are_together, decides_later}
 
 -- ---- reads after reads
 
