@@ -3,15 +3,18 @@ use Rattle.std.proofs.Common.{◌≡◌, ◌+◌, ◌++◌, ◌∷◌, ◌∙◌
 use Rattle.std.specs.Prelude.{◌≢◌, MatchOption, option_map, option_to_list, string_bytes, vec_items}
 use Rattle.std.specs.declared.string.String.{String}
 use Rattle.std.proofs.lemmas.List.{append-nil}
+use Rattle.std.specs.Prelude.{Err, IfSome}
+use Rattle.dconf_model.specs.Databases.{IsCompiled}
+use Rattle.dconf_model.specs.FaultTexts.{line_fault_text}
 use Rattle.dconf_model.specs.Folders.{Event}
 use Rattle.dconf_model.specs.Commands.Command.{compile}
-use Rattle.dconf_model.specs.Outcomes.{Compiles, IsOutcome, OrNoRead, Outcome, WithFile, WithFiles}
+use Rattle.dconf_model.specs.Outcomes.{Compiles, IsOutcome, OrNoRead, Outcome, Refused, WithFile, WithFiles, file_name}
 use Rattle.dconf_model.specs.Reads.{FileRead, Input, ReadResults}
 use Rattle.dconf_model.specs.Reads.FileRead.{no_file, holds, over_size, failed}
-use Rattle.dconf_model.specs.Sources.{Source}
+use Rattle.dconf_model.specs.Sources.{FileFault, Source}
 use Rattle.dconf_cli.specs.declared.answer.Answer.{Answer}
 use Rattle.dconf_cli.specs.declared.answer.Answer.TheVariants.{NoMemory}
-use Rattle.dconf_cli.specs.Answers.{GivesOutcome}
+use Rattle.dconf_cli.specs.Answers.{GivesOutcome, RefusesFor}
 use Rattle.dconf_cli.specs.Readings.{AllRead, AreOf, BreaksAt, Decides, Gave, HasRead, NoSources, Nothing, Reading, Tells, held_read, named_source, named_sources, one_read, reads_of}
 use Rattle.dconf_cli.specs.declared.reading.NamedFile.{NamedFile}
 use Rattle.dconf_cli.proofs.Decisions.{answers_also, decides_also, decides_at_once, not_failed, nothing_is_any}
@@ -213,3 +216,11 @@ module _ {F : Type 0} (past : F → List Event → Type 0) (failures : F → ℕ
       compiles_all locks is h_locks made =
           compiles_then (λ n. subst (λ (ns : List (List ℕ)). Decides past failures mid new n (λ reads. WithFiles reads n ns (Compiles out files)) answer) is
           (decides_by_files mid new n locks answer (Compiles out files) h_locks made))
+
+-- a fault of the files, or none where memory ran out
+pub compile_refuses : (out : List ℕ) (files locks : List Source) (answer : Answer) (fault : Option FileFault) → IfSome fault (λ f. IsCompiled files locks (Err f))
+    → IfSome fault (λ f. RefusesFor answer (line_fault_text (file_name files locks f.file) f.line f.cause)) → (fault ≡ None → answer ≡ NoMemory)
+    → GivesOutcome answer (Compiles out files locks)
+compile_refuses out files locks answer None is refuses lost = subst (λ a. GivesOutcome a (Compiles out files locks)) (sym (lost refl)) tt
+compile_refuses out files locks answer (Some f) is refuses lost =
+    answers_also answer (Refused (line_fault_text (file_name files locks f.file) f.line f.cause)) (Compiles out files locks) (λ o r. (Err f, is, r)) refuses

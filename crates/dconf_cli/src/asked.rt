@@ -15,7 +15,10 @@ pub enum Command {
         profile: String,
     },
     /// Names the database whose value is seen at `key` by the profile in the file `profile`.
-    Origin { key: String, profile: String },
+    Origin {
+        key: String,
+        profile: String,
+    },
     /// Says whether `file` is a sound database.
     Check {
         file: String,

@@ -155,7 +155,9 @@ fn key_word<'a>(alloc: Global) -> Arg<'a>
     ensures rule { rule_of result ≡ required_word (codes "KEY") }
     ensures own { result.global ≡ false }
 {
-    required(alloc, "KEY").help("the path of a key, such as /org/gnome/desktop/interface/clock-format")
+    required(alloc, "KEY").help(
+        "the path of a key, such as /org/gnome/desktop/interface/clock-format",
+    )
 }
 
 // Whether the user's values are left aside.
