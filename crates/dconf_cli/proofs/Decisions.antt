@@ -86,7 +86,7 @@ pub read_over : (held : Option (List ℕ)) → IsOverSize held → over_size ≡
 read_over None much = absurd much
 read_over (Some bytes) much = let large : nat_lt longest_file (length bytes) ≡ true = grind arith in rw large refl
 
-found_not_failed : (found : Option (List ℕ)) → found_read found ≢ failed
+pub found_not_failed : (found : Option (List ℕ)) → found_read found ≢ failed
 found_not_failed None e = cc
 found_not_failed (Some bytes) e = cc
 

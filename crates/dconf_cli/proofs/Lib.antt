@@ -6,6 +6,9 @@ pub mod Stops
 pub mod Leaving
 pub mod Decisions
 pub mod ManyFiles
+pub mod StoreReads
+pub mod Stores
+pub mod PathArguments
 pub mod Runs
 pub mod Shows
 pub mod Given

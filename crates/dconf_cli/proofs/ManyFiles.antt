@@ -1,16 +1,20 @@
 -- What a command decides by several files, which it reads one after the other.
 use Rattle.std.proofs.Common.{◌≡◌, ◌+◌, ◌++◌, ◌∷◌, ◌∙◌, inl, inr, ℕ, List, [], length, map, Option, Some, None, refl, sym, ap, subst, arith}
-use Rattle.std.specs.Prelude.{MatchOption, option_map, option_to_list, string_bytes, vec_items}
+use Rattle.std.specs.Prelude.{◌≢◌, MatchOption, option_map, option_to_list, string_bytes, vec_items}
 use Rattle.std.specs.declared.string.String.{String}
+use Rattle.std.proofs.lemmas.List.{append-nil}
+use Rattle.std.specs.Prelude.{Err, IfSome}
+use Rattle.dconf_model.specs.Databases.{IsCompiled}
+use Rattle.dconf_model.specs.FaultTexts.{line_fault_text}
 use Rattle.dconf_model.specs.Folders.{Event}
 use Rattle.dconf_model.specs.Commands.Command.{compile}
-use Rattle.dconf_model.specs.Outcomes.{Compiles, IsOutcome, OrNoRead, Outcome, WithFile, WithFiles}
+use Rattle.dconf_model.specs.Outcomes.{Compiles, IsOutcome, OrNoRead, Outcome, Refused, WithFile, WithFiles, file_name}
 use Rattle.dconf_model.specs.Reads.{FileRead, Input, ReadResults}
 use Rattle.dconf_model.specs.Reads.FileRead.{no_file, holds, over_size, failed}
-use Rattle.dconf_model.specs.Sources.{Source}
+use Rattle.dconf_model.specs.Sources.{FileFault, Source}
 use Rattle.dconf_cli.specs.declared.answer.Answer.{Answer}
 use Rattle.dconf_cli.specs.declared.answer.Answer.TheVariants.{NoMemory}
-use Rattle.dconf_cli.specs.Answers.{GivesOutcome}
+use Rattle.dconf_cli.specs.Answers.{GivesOutcome, RefusesFor}
 use Rattle.dconf_cli.specs.Readings.{AllRead, AreOf, BreaksAt, Decides, Gave, HasRead, NoSources, Nothing, Reading, Tells, held_read, named_source, named_sources, one_read, reads_of}
 use Rattle.dconf_cli.specs.declared.reading.NamedFile.{NamedFile}
 use Rattle.dconf_cli.proofs.Decisions.{answers_also, decides_also, decides_at_once, not_failed, nothing_is_any}
@@ -24,7 +28,7 @@ gave_apart reads n (x ∷ xs) ys gave =
     let same : n + 1 + length xs ≡ n + length (x ∷ xs) = omega arith in
     ((gave.0, rest.0), subst (λ (k : ℕ). Gave reads k ys) same rest.1)
 
-are_together : (es : List Event) (xs ys : List Reading) → AreOf es xs → AreOf es ys → AreOf es (xs ++ ys)
+pub are_together : (es : List Event) (xs ys : List Reading) → AreOf es xs → AreOf es ys → AreOf es (xs ++ ys)
 are_together es [] ys first later = later
 are_together es (x ∷ xs) ys first later = (first.0, are_together es xs ys first.1 later)
 
@@ -212,3 +216,11 @@ module _ {F : Type 0} (past : F → List Event → Type 0) (failures : F → ℕ
       compiles_all locks is h_locks made =
           compiles_then (λ n. subst (λ (ns : List (List ℕ)). Decides past failures mid new n (λ reads. WithFiles reads n ns (Compiles out files)) answer) is
           (decides_by_files mid new n locks answer (Compiles out files) h_locks made))
+
+-- a fault of the files, or none where memory ran out
+pub compile_refuses : (out : List ℕ) (files locks : List Source) (answer : Answer) (fault : Option FileFault) → IfSome fault (λ f. IsCompiled files locks (Err f))
+    → IfSome fault (λ f. RefusesFor answer (line_fault_text (file_name files locks f.file) f.line f.cause)) → (fault ≡ None → answer ≡ NoMemory)
+    → GivesOutcome answer (Compiles out files locks)
+compile_refuses out files locks answer None is refuses lost = subst (λ a. GivesOutcome a (Compiles out files locks)) (sym (lost refl)) tt
+compile_refuses out files locks answer (Some f) is refuses lost =
+    answers_also answer (Refused (line_fault_text (file_name files locks f.file) f.line f.cause)) (Compiles out files locks) (λ o r. (Err f, is, r)) refuses

@@ -16,7 +16,7 @@ use Rattle.std.specs.Box.{box_value}
 use Rattle.clap.specs.declared.ArgMatches.{ArgMatches}
 use Rattle.clap.specs.declared.parser.matches.Found.{Found}
 use Rattle.clap.proofs.WalkLemmas.{first_value-rows, raw_values-rows}
-use Rattle.dconf_cli.specs.Asked.{AsksToCheck, AsksToCompile, AsksToShow}
+use Rattle.dconf_cli.specs.Asked.{AsksToCheck, AsksForOrigin, AsksToCompile, AsksToRead, AsksToShow, is_set, profile_file}
 use Rattle.dconf_cli.specs.CommandLine.{command_line, show_line}
 use Rattle.dconf_cli.proofs.Stops.{IsNotHelp, or_else_nil, walk_not_help}
 use Rattle.dconf_cli.proofs.Filled.{OnlyAsks, walk_filled, given_first, is_option}
@@ -70,7 +70,7 @@ abbrev line : App
 line = built command_line
 
 abbrev IsCommandName : Text → Type 0
-IsCommandName name = (name ≡ codes "show") ⊎ ((name ≡ codes "check") ⊎ (name ≡ codes "compile"))
+IsCommandName name = (name ≡ codes "show") ⊎ ((name ≡ codes "check") ⊎ ((name ≡ codes "compile") ⊎ ((name ≡ codes "read") ⊎ (name ≡ codes "origin"))))
 
 abbrev Each : {X : Type 0} → (X → Type 0) → List X → Type 0
 Each P [] = ⊤
@@ -130,7 +130,19 @@ check_is_plain = record {
 compile_is_plain : IsPlainSub (shape_at 2)
 compile_is_plain = record {
   rules = (inl refl, (inr (inl refl), (inl refl, (inr (inr (refl, λ rows. refl)), tt))));
-  name = inr (inr refl);
+  name = inr (inr (inl refl));
+}
+
+read_is_plain : IsPlainSub (shape_at 3)
+read_is_plain = record {
+  rules = (inl refl, (inr (inl refl), (inr (inl refl), (inr (inr (refl, λ rows. refl)), tt))));
+  name = inr (inr (inr (inl refl)));
+}
+
+origin_is_plain : IsPlainSub (shape_at 4)
+origin_is_plain = record {
+  rules = (inl refl, (inr (inl refl), (inr (inr (refl, λ rows. refl)), tt)));
+  name = inr (inr (inr (inr refl)));
 }
 
 offered_subs : Each IsOffered line.subs
@@ -138,7 +150,13 @@ offered_subs = (
   record { alone = refl; ours = λ _. show_is_plain },
   (
     record { alone = refl; ours = λ _. check_is_plain },
-    (record { alone = refl; ours = λ _. compile_is_plain }, (record { alone = refl; ours = λ other. absurd (other refl) }, tt)),
+    (
+      record { alone = refl; ours = λ _. compile_is_plain },
+      (
+        record { alone = refl; ours = λ _. read_is_plain },
+        (record { alone = refl; ours = λ _. origin_is_plain }, (record { alone = refl; ours = λ other. absurd (other refl) }, tt)),
+      ),
+    ),
   ),
 )
 
@@ -232,15 +250,18 @@ name_by_rows m = elim (out-ArgMatches m).subcommand as (λ o. option_map (λ b. 
 met_name : (words : List Text) (m : ArgMatches) (p : IsParsedBy words m) → subcommand_name_of m ≡ Some (enters words p.sound).name
 met_name words m p = name_by_rows m ∙ ap (option_map (λ q. q.0)) (p.met ∙ (enters words p.sound).named)
 
--- one that is neither `check` nor `compile` is `show`
+-- one that is no other command is `show`
 pub named_show : (words : List Text) (m : ArgMatches) → IsParsedBy words m → subcommand_name_of m ≢ Some (codes "check")
-    → subcommand_name_of m ≢ Some (codes "compile") → subcommand_name_of m ≡ Some (codes "show")
-named_show words m p not_check not_compile = go (enters words p.sound).one
+    → subcommand_name_of m ≢ Some (codes "compile") → subcommand_name_of m ≢ Some (codes "read") → subcommand_name_of m ≢ Some (codes "origin")
+    → subcommand_name_of m ≡ Some (codes "show")
+named_show words m p not_check not_compile not_read not_origin = go (enters words p.sound).one
   where
     go : IsCommandName (enters words p.sound).name → subcommand_name_of m ≡ Some (codes "show")
     go (inl show) = met_name words m p ∙ ap Some show
     go (inr (inl check)) = absurd (not_check (met_name words m p ∙ ap Some check))
-    go (inr (inr compile)) = absurd (not_compile (met_name words m p ∙ ap Some compile))
+    go (inr (inr (inl compile))) = absurd (not_compile (met_name words m p ∙ ap Some compile))
+    go (inr (inr (inr (inl read)))) = absurd (not_read (met_name words m p ∙ ap Some read))
+    go (inr (inr (inr (inr origin)))) = absurd (not_origin (met_name words m p ∙ ap Some origin))
 
 -- the matches are those of the subcommand of this name
 pub record IsSub (words : List Text) (name : Text) (found : Found) : Type 0 where
@@ -284,4 +305,24 @@ asks_to_compile words found out locks keyfiles sub o l k = record {
   out_value = sym (first_value-rows found (codes "OUT")) ∙ o;
   locks_value = sym (first_value-rows found (codes "locks")) ∙ sym l;
   keyfile_values = sym (k ∙ ap (λ (o : Option (List Text)). unwrap_or o []) (raw_values-rows found (codes "KEYFILE")));
+}
+
+pub asks_to_read : (words : List Text) (found : Found) (default : Bool) (key profile : Text) → IsSub words (codes "read") found
+    → default ≡ is_set (first_value found (codes "default")) → first_value found (codes "KEY") ≡ Some key
+    → profile ≡ profile_file (first_value found (codes "profile")) → AsksToRead words default key profile
+asks_to_read words found default key profile sub d k p = record {
+  rows = rows_of found;
+  named = sub.named;
+  default_value = ap is_set (sym (first_value-rows found (codes "default"))) ∙ sym d;
+  key_value = sym (first_value-rows found (codes "KEY")) ∙ k;
+  profile_value = ap profile_file (sym (first_value-rows found (codes "profile"))) ∙ sym p;
+}
+
+pub asks_for_origin : (words : List Text) (found : Found) (key profile : Text) → IsSub words (codes "origin") found
+    → first_value found (codes "KEY") ≡ Some key → profile ≡ profile_file (first_value found (codes "profile")) → AsksForOrigin words key profile
+asks_for_origin words found key profile sub k p = record {
+  rows = rows_of found;
+  named = sub.named;
+  key_value = sym (first_value-rows found (codes "KEY")) ∙ k;
+  profile_value = ap profile_file (sym (first_value-rows found (codes "profile"))) ∙ sym p;
 }

@@ -1,9 +1,10 @@
 -- What the words of a command line ask for.
-use Rattle.std.specs.Prelude.{◌≡◌, List, [], Option, Some, codes, map, option_map, string_bytes, unwrap_or, vec_items}
+use Rattle.std.specs.Prelude.{◌≡◌, Bool, false, List, None, [], Option, Some, codes, map, option_map, string_bytes, unwrap_or, vec_items}
+use Rattle.std.specs.Str.{bytes_eq}
 use Rattle.clap.specs.Words.{Row, Text, all_of, first_of, subcommand_of}
 use Rattle.dconf_cli.specs.CommandLine.{command_line}
 use Rattle.dconf_cli.specs.declared.asked.Command.{Command}
-use Rattle.dconf_cli.specs.declared.asked.Command.TheVariants.{Show, Check, Compile}
+use Rattle.dconf_cli.specs.declared.asked.Command.TheVariants.{Show, Read, Origin, Check, Compile}
 
 -- the words name `show`, and clap gives its arguments these values
 pub record AsksToShow (words : List Text) (type_text file : Text) : Type 0 where
@@ -26,9 +27,35 @@ pub record AsksToCompile (words : List Text) (out : Text) (locks : Option Text) 
   pub locks_value : first_of (codes "locks") rows ≡ locks
   pub keyfile_values : unwrap_or (all_of (codes "KEYFILE") rows) [] ≡ keyfiles
 
+-- a flag was given
+abbrev pub is_set : Option Text → Bool
+is_set None = false
+is_set (Some text) = bytes_eq text (codes "true")
+
+-- the profile's file, where the words name it or don't
+abbrev pub profile_file : Option Text → Text
+profile_file given = unwrap_or given (codes "profile")
+
+-- the words name `read`, and clap gives its arguments these values
+pub record AsksToRead (words : List Text) (default : Bool) (key profile : Text) : Type 0 where
+  pub rows : List Row
+  pub named : subcommand_of command_line words ≡ Some (codes "read", rows)
+  pub default_value : is_set (first_of (codes "default") rows) ≡ default
+  pub key_value : first_of (codes "KEY") rows ≡ Some key
+  pub profile_value : profile_file (first_of (codes "profile") rows) ≡ profile
+
+-- the words name `origin`, and clap gives its arguments these values
+pub record AsksForOrigin (words : List Text) (key profile : Text) : Type 0 where
+  pub rows : List Row
+  pub named : subcommand_of command_line words ≡ Some (codes "origin", rows)
+  pub key_value : first_of (codes "KEY") rows ≡ Some key
+  pub profile_value : profile_file (first_of (codes "profile") rows) ≡ profile
+
 -- clap gives the command's values to the words
 abbrev pub IsAskedBy : List Text → Command → Type 0
 IsAskedBy words (Show type_text file) = AsksToShow words (string_bytes type_text) (string_bytes file)
+IsAskedBy words (Read default key profile) = AsksToRead words default (string_bytes key) (string_bytes profile)
+IsAskedBy words (Origin key profile) = AsksForOrigin words (string_bytes key) (string_bytes profile)
 IsAskedBy words (Check file) = AsksToCheck words (string_bytes file)
 IsAskedBy words (Compile out locks keyfiles) =
     AsksToCompile words (string_bytes out) (option_map string_bytes locks) (map string_bytes (vec_items keyfiles))

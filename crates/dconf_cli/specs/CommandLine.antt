@@ -1,7 +1,7 @@
 -- The command line of `dconfdb`, as clap sees it.
 use Rattle.std.specs.Prelude.{true, Some, codes}
 use Rattle.clap.specs.Words.{App, Rule, Text, new_app, new_rule, with_rule, with_subcommand}
-use Rattle.clap.specs.declared.builder.action.ArgAction.TheVariants.{Append, Set}
+use Rattle.clap.specs.declared.builder.action.ArgAction.TheVariants.{Append, Set, SetTrue}
 
 -- a word that must be there, in its place
 abbrev pub required_word : Text → Rule
@@ -28,6 +28,22 @@ abbrev pub compile_line : App
 compile_line =
     with_rule (with_rule (with_rule (new_app (codes "compile")) (required_word (codes "OUT"))) locks_option) (further_words (codes "KEYFILE"))
 
+-- `-d`
+abbrev pub default_flag : Rule
+default_flag = record (new_rule (codes "default")) { short = Some 100; action = Some SetTrue }
+
+-- `-p FILE`
+abbrev pub profile_option : Rule
+profile_option = record (new_rule (codes "profile")) { short = Some 112; action = Some Set; value_names = 1 }
+
+-- `read [-d] [-p FILE] KEY`
+abbrev pub read_line : App
+read_line = with_rule (with_rule (with_rule (new_app (codes "read")) (required_word (codes "KEY"))) default_flag) profile_option
+
+-- `origin [-p FILE] KEY`
+abbrev pub origin_line : App
+origin_line = with_rule (with_rule (new_app (codes "origin")) (required_word (codes "KEY"))) profile_option
+
 -- `dconfdb`, which wants a subcommand and has a version
 abbrev pub dconfdb_line : App
 dconfdb_line = record (new_app (codes "dconfdb")) {
@@ -38,4 +54,6 @@ dconfdb_line = record (new_app (codes "dconfdb")) {
 }
 
 abbrev pub command_line : App
-command_line = with_subcommand (with_subcommand (with_subcommand dconfdb_line show_line.top) check_line.top) compile_line.top
+command_line =
+    with_subcommand (with_subcommand (with_subcommand (with_subcommand (with_subcommand dconfdb_line show_line.top) check_line.top) compile_line.top) read_line.top)
+    origin_line.top

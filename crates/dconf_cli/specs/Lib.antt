@@ -5,6 +5,7 @@ pub mod Asked
 pub mod Commands
 pub mod Answers
 pub mod Readings
+pub mod StoreReads
 pub mod Endings
 pub mod Runs
 pub mod Inputs

@@ -2,7 +2,7 @@
 ghost use Rattle.std.specs.Prelude.{◌≡◌, ◌++◌, ◌∷◌, [], IfSome, codes};
 ghost use Rattle.dconf_cli.specs.Answers.{GivesOutcome, RefusesFor, refused_by};
 
-use std::alloc::Global;
+use std::alloc::{AllocError, AllocFailed, Global};
 use std::fmt::Display;
 
 /// What a command answers.
@@ -20,6 +20,26 @@ pub(crate) enum Answer {
     Refused(String),
     /// Memory is wanting.
     NoMemory,
+}
+
+impl From<AllocError> for Answer {
+    ghost use Rattle.dconf_cli.specs.declared.answer.Answer.TheVariants.{NoMemory};
+
+    ghost from_gives = { λ _ answer. answer ≡ NoMemory };
+
+    fn from(_error: AllocError) -> Answer {
+        Answer::NoMemory
+    }
+}
+
+impl<T: Drop> From<AllocFailed<T>> for Answer {
+    ghost use Rattle.dconf_cli.specs.declared.answer.Answer.TheVariants.{NoMemory};
+
+    ghost from_gives = { λ _ answer. answer ≡ NoMemory };
+
+    fn from(_error: AllocFailed<T>) -> Answer {
+        Answer::NoMemory
+    }
 }
 
 /// The refusal that says why: `error: `, the reason and a line feed.

@@ -8,6 +8,17 @@ pub enum Command {
         type_text: String,
         file: String,
     },
+    /// Prints the value that is seen at `key` by the profile in the file `profile`; where `default` is set, the user's values are left aside.
+    Read {
+        default: bool,
+        key: String,
+        profile: String,
+    },
+    /// Names the database whose value is seen at `key` by the profile in the file `profile`.
+    Origin {
+        key: String,
+        profile: String,
+    },
     /// Says whether `file` is a sound database.
     Check {
         file: String,

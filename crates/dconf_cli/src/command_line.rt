@@ -1,8 +1,8 @@
 //! The command line of `dconfdb`, by clap's builder.
 ghost use Rattle.std.specs.Prelude.{◌≡◌, [], codes, false, IfOk, IsSome, Some, map, option_map, string_bytes, unwrap_or, vec_items};
 ghost use Rattle.clap.specs.Words.{FailsBy, app_of, fault_of, first_value, found_of, matched_of, raw_values, rule_of};
-ghost use Rattle.dconf_cli.specs.CommandLine.{check_line, command_line, compile_line, further_words, locks_option, required_word, show_line};
-ghost use Rattle.dconf_cli.specs.Asked.{IsAskedBy};
+ghost use Rattle.dconf_cli.specs.CommandLine.{check_line, command_line, compile_line, further_words, default_flag, locks_option, origin_line, profile_option, read_line, required_word, show_line};
+ghost use Rattle.dconf_cli.specs.Asked.{IsAskedBy, is_set, profile_file};
 
 use crate::asked::Command;
 use clap::{Arg, ArgAction, ArgMatches};
@@ -31,6 +31,19 @@ pub fn command(alloc: Global, words: &[String]) -> Result<Command, clap::Error>
             keyfiles: values(alloc, compile, "KEYFILE")?,
         });
     }
+    if let Some(read) = matches.subcommand_matches("read") {
+        return Ok(Command::Read {
+            default: is_given(read, "default"),
+            key: value(alloc, read, "KEY")?,
+            profile: profile_value(alloc, read)?,
+        });
+    }
+    if let Some(origin) = matches.subcommand_matches("origin") {
+        return Ok(Command::Origin {
+            key: value(alloc, origin, "KEY")?,
+            profile: profile_value(alloc, origin)?,
+        });
+    }
     let show = matches.subcommand_matches("show").unwrap();
     Ok(Command::Show {
         type_text: value(alloc, show, "TYPE")?,
@@ -48,7 +61,9 @@ fn dconfdb<'a>(alloc: Global) -> Result<clap::Command<'a>, AllocError>
         .subcommand_required(true)
         .subcommand(show(alloc)?)?
         .subcommand(check(alloc)?)?
-        .subcommand(compile(alloc)?)
+        .subcommand(compile(alloc)?)?
+        .subcommand(read(alloc)?)?
+        .subcommand(origin(alloc)?)
 }
 
 // `show TYPE FILE`.
@@ -109,6 +124,65 @@ fn keyfile_words<'a>(alloc: Global) -> Arg<'a>
         .help("a keyfile to read, by its path from the current folder")
 }
 
+// `read [-d] [-p FILE] KEY`.
+fn read<'a>(alloc: Global) -> Result<clap::Command<'a>, AllocError>
+    ensures { IfOk result (λ c. app_of c ≡ read_line) }
+{
+    let key = key_word(alloc);
+    let default = default_word(alloc);
+    let profile = profile_word(alloc);
+    clap::Command::new(alloc, "read")
+        .about("Prints the value that is seen at KEY, and nothing where there is none")
+        .arg(key)?
+        .arg(default)?
+        .arg(profile)
+}
+
+// `origin [-p FILE] KEY`.
+fn origin<'a>(alloc: Global) -> Result<clap::Command<'a>, AllocError>
+    ensures { IfOk result (λ c. app_of c ≡ origin_line) }
+{
+    let key = key_word(alloc);
+    let profile = profile_word(alloc);
+    clap::Command::new(alloc, "origin")
+        .about("Prints the index and the line of the database whose value is seen at KEY")
+        .arg(key)?
+        .arg(profile)
+}
+
+// The key of a command.
+fn key_word<'a>(alloc: Global) -> Arg<'a>
+    ensures rule { rule_of result ≡ required_word (codes "KEY") }
+    ensures own { result.global ≡ false }
+{
+    required(alloc, "KEY").help(
+        "the path of a key, such as /org/gnome/desktop/interface/clock-format",
+    )
+}
+
+// Whether the user's values are left aside.
+fn default_word<'a>(alloc: Global) -> Arg<'a>
+    ensures rule { rule_of result ≡ default_flag }
+    ensures own { result.global ≡ false }
+{
+    Arg::new(alloc, "default")
+        .short('d')
+        .action(ArgAction::SetTrue)
+        .help("leave the user's values aside")
+}
+
+// The file of the profile.
+fn profile_word<'a>(alloc: Global) -> Arg<'a>
+    ensures rule { rule_of result ≡ profile_option }
+    ensures own { result.global ≡ false }
+{
+    Arg::new(alloc, "profile")
+        .short('p')
+        .value_name("FILE")
+        .action(ArgAction::Set)
+        .help("the file that lists the databases, in place of `profile`")
+}
+
 // The file that a command reads.
 fn file_word<'a>(alloc: Global) -> Arg<'a>
     ensures rule { rule_of result ≡ required_word (codes "FILE") }
@@ -146,6 +220,23 @@ fn value_if_any(
         Some(text) => Ok(Some(String::from_str(alloc, text)?)),
         None => Ok(None),
     }
+}
+
+// Whether a flag is among the words.
+fn is_given(matches: &ArgMatches<'_>, id: &str) -> bool
+    ensures { result ≡ is_set (first_value (found_of matches.now) id.now) }
+{
+    match matches.get_str(id) {
+        Some(text) => text == "true",
+        None => false,
+    }
+}
+
+// The name of the profile's file.
+fn profile_value(alloc: Global, matches: &ArgMatches<'_>) -> Result<String, AllocError>
+    ensures { IfOk result (λ text. string_bytes text ≡ profile_file (first_value (found_of matches.now) (codes "profile"))) }
+{
+    String::from_str(alloc, matches.get_str("profile").unwrap_or("profile"))
 }
 
 // The values of an argument that may have several, or none.

@@ -6,6 +6,8 @@ ghost use Rattle.dconf_cli.specs.Readings.{Decides};
 
 mod check;
 mod compile;
+mod origin;
+mod read;
 mod show;
 
 use crate::answer::Answer;
@@ -13,6 +15,8 @@ use crate::asked::Command;
 use check::check;
 use compile::compile;
 use dconf_disk::Folder;
+use origin::origin;
+use read::read;
 use show::show;
 use std::alloc::Global;
 
@@ -23,6 +27,12 @@ pub(crate) fn answered<F: Folder>(alloc: Global, command: &Command, folder: &mut
 {
     match command {
         Command::Show { type_text, file } => show(alloc, type_text.as_str(), file.as_str(), folder),
+        Command::Read {
+            default,
+            key,
+            profile,
+        } => read(alloc, *default, key.as_str(), profile.as_str(), folder),
+        Command::Origin { key, profile } => origin(alloc, key.as_str(), profile.as_str(), folder),
         Command::Check { file } => check(alloc, file.as_str(), folder),
         Command::Compile {
             out,

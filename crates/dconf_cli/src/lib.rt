@@ -20,9 +20,12 @@ mod commands;
 mod counted;
 mod giving;
 mod input;
+mod printing;
 mod putting;
 mod reading;
 mod running;
+mod store;
+mod task;
 
 pub use asked::Command;
 pub use command_line::command;

@@ -9,9 +9,9 @@ ghost use Rattle.dconf_cli.specs.Answers.{GivesOutcome};
 ghost use Rattle.dconf_cli.specs.Readings.{Decides};
 
 use crate::answer::{Answer, refused};
+use crate::printing::printed;
 use crate::reading::file;
 use dconf_disk::Folder;
-use gv_text::{PrintFault, print};
 use gv_types::TypeStr;
 use gv_view::View;
 use std::alloc::Global;
@@ -35,12 +35,5 @@ pub(crate) fn show<F: Folder>(alloc: Global, type_text: &str, name: &str, folder
 fn shown(alloc: Global, type_str: TypeStr<'_>, bytes: &[u8]) -> Answer
     ensures { GivesOutcome result (λ o. o ≡ shown_of (decode (ty type_str.entry) bytes.now)) }
 {
-    match print(alloc, View::new(type_str, bytes)) {
-        Ok(mut text) => match text.push('\n') {
-            Ok(()) => Answer::Done(text),
-            Err(_) => Answer::NoMemory,
-        },
-        Err(PrintFault::Memory) => Answer::NoMemory,
-        Err(fault) => refused(alloc, fault),
-    }
+    printed(alloc, View::new(type_str, bytes))
 }

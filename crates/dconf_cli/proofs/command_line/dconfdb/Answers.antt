@@ -17,5 +17,9 @@ returns c =
     let with_show = c.in_ok-subcommand.ensures.shape (first_not _ _ (second _ _ (second _ _ (ap (λ (a : App). a.top.is_plain) shown)))) ∙ ap₂ with_subcommand line (ap (λ (a : App). a.top) shown) in
     let with_check = c.in_ok-subcommand-2.ensures.shape (first_not _ _ (second _ _ (second _ _ (ap (λ (a : App). a.top.is_plain) checked)))) ∙ ap₂ with_subcommand with_show (ap (λ (a : App). a.top) checked) in
     let compiled = c.in_ok-compile.ensures in
-    IfOk-weaker c.subcommand-3.result _ _ (λ r h. h.shape (first_not _ _ (second _ _ (second _ _ (ap (λ (a : App). a.top.is_plain) compiled)))) ∙ ap₂ with_subcommand with_check (ap (λ (a : App). a.top) compiled))
-    c.subcommand-3.ensures
+    let with_compile = c.in_ok-subcommand-3.ensures.shape (first_not _ _ (second _ _ (second _ _ (ap (λ (a : App). a.top.is_plain) compiled)))) ∙ ap₂ with_subcommand with_check (ap (λ (a : App). a.top) compiled) in
+    let reads = c.in_ok-read.ensures in
+    let with_read = c.in_ok-subcommand-4.ensures.shape (first_not _ _ (second _ _ (second _ _ (ap (λ (a : App). a.top.is_plain) reads)))) ∙ ap₂ with_subcommand with_compile (ap (λ (a : App). a.top) reads) in
+    let traced = c.in_ok-origin.ensures in
+    IfOk-weaker c.subcommand-5.result _ _ (λ r h. h.shape (first_not _ _ (second _ _ (second _ _ (ap (λ (a : App). a.top.is_plain) traced)))) ∙ ap₂ with_subcommand with_read (ap (λ (a : App). a.top) traced))
+    c.subcommand-5.ensures

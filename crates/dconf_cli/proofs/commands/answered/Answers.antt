@@ -1,6 +1,6 @@
 use Rattle.std.proofs.Common.{map, option_map, string_bytes, subst, sym, vec_items}
 use Rattle.dconf_model.specs.Commands.{Command}
-use Rattle.dconf_model.specs.Commands.Command.{show, check, compile}
+use Rattle.dconf_model.specs.Commands.Command.{show, read, origin, check, compile}
 use Rattle.dconf_model.specs.Outcomes.{IsOutcome}
 use Rattle.dconf_cli.specs.Commands.{command_of}
 use Rattle.dconf_cli.specs.Readings.{Decides}
@@ -11,6 +11,18 @@ returns-in-Show g c = λ input.
     let D : Command → Type 0 = λ k. Decides g.F.Folder.past g.F.Folder.failed c.args.folder.now c.show.new.folder 0 (λ reads. IsOutcome k reads input) c.show.result in
     subst (λ k. D (command_of k)) (sym c.in-Show.is) (subst (λ n. D (show (string_bytes c.in-Show.type_text) n)) c.as_str-in-Show.ensures.value
     (subst (λ t. D (show t c.as_str-in-Show.result.now)) c.as_str.ensures.value (c.show.ensures input)))
+
+pub returns-in-Read : goal.returns-in-Read
+returns-in-Read g c = λ input.
+    let D : Command → Type 0 = λ k. Decides g.F.Folder.past g.F.Folder.failed c.args.folder.now c.read.new.folder 0 (λ reads. IsOutcome k reads input) c.read.result in
+    subst (λ k. D (command_of k)) (sym c.in-Read.is) (subst (λ n. D (read c.in-Read.default (string_bytes c.in-Read.key) n)) c.as_str-in-Read-2.ensures.value
+    (subst (λ t. D (read c.in-Read.default t c.as_str-in-Read-2.result.now)) c.as_str-in-Read.ensures.value (c.read.ensures input)))
+
+pub returns-in-Origin : goal.returns-in-Origin
+returns-in-Origin g c = λ input.
+    let D : Command → Type 0 = λ k. Decides g.F.Folder.past g.F.Folder.failed c.args.folder.now c.origin.new.folder 0 (λ reads. IsOutcome k reads input) c.origin.result in
+    subst (λ k. D (command_of k)) (sym c.in-Origin.is) (subst (λ n. D (origin (string_bytes c.in-Origin.key) n)) c.as_str-in-Origin-2.ensures.value
+    (subst (λ t. D (origin t c.as_str-in-Origin-2.result.now)) c.as_str-in-Origin.ensures.value (c.origin.ensures input)))
 
 pub returns-in-Check : goal.returns-in-Check
 returns-in-Check g c = λ input.

@@ -1,0 +1,14 @@
+use Rattle.std.proofs.Common.{◌≡◌, refl, subst}
+use Rattle.dconf_model.specs.Layers.{origin}
+use Rattle.dconf_model.specs.Outcomes.{UnlessFault, WithStore, done, origin_text}
+use Rattle.dconf_model.specs.Paths.{key_fault}
+use Rattle.dconf_cli.specs.Readings.{Decides}
+use Rattle.dconf_cli.proofs.PathArguments.{decides_faultless, key_faultless}
+use Rattle.dconf_cli.proofs.commands.origin.origin.Goals as goal
+
+pub returns-in-Ok : goal.returns-in-Ok
+returns-in-Ok g c = λ input.
+    subst (λ key. Decides g.F.Folder.past g.F.Folder.failed c.args.folder.now c.in_store.new.folder 0 (λ reads. UnlessFault (key_fault c.args.key.now)
+    (WithStore reads c.args.profile.now (λ databases l o. o ≡ done (origin_text databases (origin l key))))) c.in_store.result) c.in-Ok.ensures.found
+    (decides_faultless g.F.Folder.past g.F.Folder.failed c.args.folder.now c.in_store.new.folder _ c.in_store.result (key_fault c.args.key.now)
+    (key_faultless c.args.key.now (c.in-Ok.ensures.accepts.0 refl)) c.in_store.ensures)
