@@ -1,6 +1,6 @@
 -- The names of children in a set.
 use Rattle.std.specs.Prelude.{IsTrue}
-use Rattle.std.proofs.Common.{◌≡◌, ◌⊎◌, ◌↔◌, ◌+◌, ◌<◌, ℕ, suc, Bool, true, false, cond, eqb, not, List, [], ◌∷◌, ◌++◌, ◌||◌, length, take, drop, refl, sym, ap, ◌∙◌, subst, arith, inl, inr, ⊎_elim}
+use Rattle.std.proofs.Common.{◌≡◌, ◌⊎◌, ◌↔◌, ◌+◌, ◌<◌, ℕ, suc, Bool, true, false, cond, eqb, not, List, [], ◌∷◌, ◌++◌, length, take, drop, refl, sym, ap, ◌∙◌, arith, inl, inr}
 use Rattle.std.specs.BTreeSet.{BTreeSet, contains_text, UpdatesBy}
 use Rattle.std.specs.Io.BufRead.{take_through}
 use Rattle.std.specs.List.{before_first, position_or_len}
@@ -8,10 +8,9 @@ use Rattle.std.specs.Str.{bytes_eq}
 use Rattle.std.specs.String.{string_bytes, string_cmp}
 use Rattle.std.specs.declared.alloc.Global.{Global}
 use Rattle.std.specs.declared.string.String.{String}
-use Rattle.std.proofs.lemmas.Bool.{eqb-true, or_cases}
+use Rattle.std.proofs.lemmas.Bool.{eqb-true}
 use Rattle.std.proofs.lemmas.Map.Text.{btree_set_updates_text}
 use Rattle.dconf_model.proofs.ParentLaws.{by_bool}
-use Rattle.dconf_model.proofs.PathMaps.{no_truth}
 use Rattle.dconf_model.proofs.SameBytes.{same_path, path_itself}
 use Rattle.dconf_model.specs.Locks.{is_below}
 use Rattle.dconf_model.specs.SoundLaws.{first_part}
@@ -52,14 +51,15 @@ adds_none names directory P none name = (λ h. inl h, λ h. elim h [ inl a ↦ a
 pub adds_one : (old new : Names) (directory path : List ℕ) (key : String Global) → IsTrue (is_below path directory) → string_bytes key ≡ first_part (drop (length directory) path) →
     UpdatesBy string_cmp (string_cmp key) old new true → Adds old new directory (λ (p : List ℕ). p ≡ path)
 adds_one old new directory path key below is updates name =
-    let found = btree_set_updates_text (string_bytes key) old new true updates name in
-    (λ h. by_bool (bytes_eq (string_bytes key) name) (IsTrue (contains_text old name) ⊎ HasChild (λ (p : List ℕ). p ≡ path) directory name)
-    (λ same. inr (path, refl, below, sym is ∙ same_path (string_bytes key) name same))
-    (λ other. inl (sym (ap (λ b. cond b true (contains_text old name)) other) ∙ (sym found ∙ h))),
-    λ h. found ∙ elim h [
-      | inl a ↦ ap (cond (bytes_eq (string_bytes key) name) true) a ∙ both (bytes_eq (string_bytes key) name)
-      | inr b ↦ ap (λ c. cond c true (contains_text old name)) (path_itself (string_bytes key) name (is ∙ (ap (λ (p : List ℕ). first_part (drop (length directory) p)) (sym b.1) ∙ b.3)))
-    ])
+    let found = btree_set_updates_text (string_bytes key) old new true updates name in (
+      λ h. by_bool (bytes_eq (string_bytes key) name) (IsTrue (contains_text old name) ⊎ HasChild (λ (p : List ℕ). p ≡ path) directory name)
+          (λ same. inr (path, refl, below, sym is ∙ same_path (string_bytes key) name same))
+          (λ other. inl (sym (ap (λ b. cond b true (contains_text old name)) other) ∙ (sym found ∙ h))),
+      λ h. found ∙ elim h [
+        | inl a ↦ ap (cond (bytes_eq (string_bytes key) name) true) a ∙ both (bytes_eq (string_bytes key) name)
+        | inr b ↦ ap (λ c. cond c true (contains_text old name)) (path_itself (string_bytes key) name (is ∙ (ap (λ (p : List ℕ). first_part (drop (length directory) p)) (sym b.1) ∙ b.3)))
+      ],
+    )
   where
     both : (b : Bool) → cond b true true ≡ true
     both true = refl

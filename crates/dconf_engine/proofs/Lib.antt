@@ -9,3 +9,4 @@ pub mod WritingLaws
 pub mod KeyNameLaws
 pub mod SavedLaws
 pub mod ChildNames
+pub mod ClearedLaws

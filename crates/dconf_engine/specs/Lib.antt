@@ -13,3 +13,4 @@ pub mod UnsavedLeft
 pub mod KeyNames
 pub mod Saved
 pub mod Children
+pub mod Cleared

@@ -13,6 +13,7 @@ mod engine;
 mod fault;
 mod key_names;
 mod layer;
+mod resetting;
 mod saving;
 mod storing;
 mod writing;
