@@ -1,0 +1,9 @@
+//! Tests of layers of settings: what is seen through the databases of a profile. There is no other code here.
+#![tactic(auto)]
+
+#[cfg(test)]
+mod layers;
+#[cfg(test)]
+mod opening;
+#[cfg(test)]
+mod reading;
