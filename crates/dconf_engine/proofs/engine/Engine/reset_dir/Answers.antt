@@ -28,3 +28,6 @@ returns-clause-ok c =
     ∙ (ap (λ (m : Layers). Ok (changed f m)) (sym c.self.view_is)
     ∙ ap (λ (ls : List Settings). Ok (record { layers = ls; written = i.written }))
     (reset_layers l d i.changes items ∙ ap (λ (u : Unsaved). with_first_layer (with_changes u) (map settings_of_item items)) (sym made)))
+
+pub returns-then-not-is_writable-clause-fault : goal.returns-then-not-is_writable-clause-fault
+returns-then-not-is_writable-clause-fault c = search rules
