@@ -24,6 +24,7 @@ use Rattle.dconf_model.proofs.PathMaps.{get_inserted, eq_turned}
 use Rattle.dconf_model.proofs.SameBytes.{same_path, path_itself}
 use Rattle.dconf_engine.specs.Unsaved.{Unsaved, with_changes}
 use Rattle.dconf_engine.specs.Saved.{set_if, and_unchanged, with_unchanged, with_sets}
+use Rattle.gvdb_write.proofs.Read.{same_path as tie}
 use Rattle.dconf_engine.proofs.TextMapLaws.{same_at_paths}
 use Rattle.dconf_engine.proofs.UnsavedLaws.{get_changed}
 
@@ -60,9 +61,6 @@ get_set_if s p None q = both (bytes_eq p q)
     both : (b : Bool) → get s.values q ≡ cond b (get s.values q) (get s.values q)
     both true = refl
     both false = refl
-
-tie : (p q : List ℕ) → bytes_eq p q ≡ eq_by_cmp (slice_cmp nat_cmp) q p
-tie p q = eq_turned p q ∙ sym (is_eq-slice_cmp q p)
 
 is_less : (r : Ordering) → is_lt r ≡ true → is_eq r ≡ false
 is_less Less h = refl
