@@ -6,4 +6,3 @@ pub mod FirstLayer
 pub mod TextMapLaws
 pub mod UnsavedLaws
 pub mod WritingLaws
-pub mod ChildNames

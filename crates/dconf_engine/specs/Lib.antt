@@ -10,4 +10,3 @@ pub mod Rows
 pub mod TextMaps
 pub mod Unsaved
 pub mod UnsavedLeft
-pub mod Children

@@ -7,7 +7,6 @@
 
 mod change_fault;
 mod changes;
-mod children;
 mod engine;
 mod fault;
 mod layer;
