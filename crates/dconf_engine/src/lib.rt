@@ -8,7 +8,6 @@
 
 mod change_fault;
 mod changes;
-mod children;
 mod engine;
 mod fault;
 mod key_names;
