@@ -1,6 +1,6 @@
 -- The names of a layer's items: they are texts, and each path that has a value is one of them.
 use Rattle.std.specs.Prelude.{IfSome, IfNone, IsUtf8}
-use Rattle.std.proofs.Common.{◌≡◌, ◌+◌, ◌<◌, ◌≤◌, ℕ, zero, suc, Bool, true, false, cond, List, [], ◌∷◌, ◌++◌, length, Option, Some, None, option_map, IsTrue, refl, sym, ap, ◌∙◌, subst, arith, T, not, ◌||◌, ◌&&◌}
+use Rattle.std.proofs.Common.{◌≡◌, ◌<◌, ◌≤◌, ℕ, zero, suc, true, false, List, [], ◌∷◌, ◌++◌, length, Option, Some, None, option_map, refl, sym, ap, ◌∙◌, subst, arith, T, not, ◌||◌, ◌&&◌}
 use Rattle.std.specs.List.{list_any}
 use Rattle.std.specs.Str.{bytes_eq}
 use Rattle.std.specs.FinMap.{get}
@@ -22,7 +22,6 @@ use Rattle.dconf_model.specs.Table.{Table as Region, item_count, key, value_kind
 use Rattle.dconf_model.proofs.ComputedNames.{name_of_named, named_of_name}
 use Rattle.dconf_model.proofs.KeyNames.{values_are_keys}
 use Rattle.dconf_model.proofs.ParentLaws.{by_bool}
-use Rattle.dconf_model.proofs.PathMaps.{no_truth}
 use Rattle.dconf_model.proofs.RowLaws.{counted}
 use Rattle.dconf_model.proofs.SameBytes.{path_itself}
 use Rattle.dconf_model.proofs.SoundLaws.{sound_is_searchable}
@@ -30,7 +29,7 @@ use Rattle.gvdb_read.specs.declared.table.Table.{Table}
 use Rattle.gvdb_read.specs.Tables.{region}
 use Rattle.gvdb_write.specs.Salvaged.{HasNoShortText}
 use Rattle.dconf_engine.specs.declared.layer.Layer.{Layer}
-use Rattle.dconf_engine.specs.KeyNames.{key_name, key_name_at, key_names, items_of}
+use Rattle.dconf_engine.specs.KeyNames.{key_name, key_names, items_of}
 use Rattle.dconf_engine.specs.LayerSettings.{settings_of}
 use Rattle.dconf_engine.specs.SoundTables.{AreOfSoundDatabase}
 use Rattle.dconf_engine.proofs.SoundLayers.{says, settings_at}

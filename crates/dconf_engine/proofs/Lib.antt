@@ -8,4 +8,4 @@ pub mod UnsavedLaws
 pub mod WritingLaws
 pub mod KeyNameLaws
 pub mod SavedLaws
-pub mod ChildNames
+pub mod ClearedLaws

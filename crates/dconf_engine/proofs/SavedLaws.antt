@@ -1,5 +1,5 @@
 -- The settings that are put together of what a layer has and what was set are the user's, without locks.
-use Rattle.std.proofs.Common.{◌≡◌, ℕ, T, Bool, true, false, cond, List, [], ◌∷◌, Option, Some, None, is_some, refl, sym, ap, ◌∙◌, subst, ◌||◌, ◌&&◌}
+use Rattle.std.proofs.Common.{◌≡◌, ℕ, T, Bool, true, false, cond, List, [], ◌∷◌, Option, Some, None, is_some, refl, sym, ap, ◌∙◌, subst, ◌||◌}
 use Rattle.std.specs.List.{list_any}
 use Rattle.std.specs.Option.{unwrap_or}
 use Rattle.std.specs.Str.{bytes_eq}
@@ -12,7 +12,7 @@ use Rattle.std.specs.FinMap.{get, contains_key, entries, empty, find}
 use Rattle.std.specs.FinMap.Entries.{is_sorted, below_all}
 use Rattle.std.proofs.lemmas.Bool.{and_parts}
 use Rattle.std.proofs.lemmas.Map.Text.{is_eq-slice_cmp}
-use Rattle.dconf_model.specs.Settings.{Settings, no_settings, with_value, AtPaths, Lock}
+use Rattle.dconf_model.specs.Settings.{Settings, no_settings}
 use Rattle.dconf_model.specs.Changes.{Values, saved, with_first_layer}
 use Rattle.std.proofs.Common.{slice_get, map}
 use Rattle.dconf_engine.specs.declared.layer.Layer.{Layer}
@@ -24,6 +24,7 @@ use Rattle.dconf_model.proofs.PathMaps.{get_inserted, eq_turned}
 use Rattle.dconf_model.proofs.SameBytes.{same_path, path_itself}
 use Rattle.dconf_engine.specs.Unsaved.{Unsaved, with_changes}
 use Rattle.dconf_engine.specs.Saved.{set_if, and_unchanged, with_unchanged, with_sets}
+use Rattle.gvdb_write.proofs.Read.{same_path as tie}
 use Rattle.dconf_engine.proofs.TextMapLaws.{same_at_paths}
 use Rattle.dconf_engine.proofs.UnsavedLaws.{get_changed}
 
@@ -60,9 +61,6 @@ get_set_if s p None q = both (bytes_eq p q)
     both : (b : Bool) → get s.values q ≡ cond b (get s.values q) (get s.values q)
     both true = refl
     both false = refl
-
-tie : (p q : List ℕ) → bytes_eq p q ≡ eq_by_cmp (slice_cmp nat_cmp) q p
-tie p q = eq_turned p q ∙ sym (is_eq-slice_cmp q p)
 
 is_less : (r : Ordering) → is_lt r ≡ true → is_eq r ≡ false
 is_less Less h = refl
@@ -160,7 +158,7 @@ put_together base u ps each =
 
 -- ---- the first layer
 
-named_of_item : (item : Option Layer) (p bytes : List ℕ) → get (settings_of_item item).values p ≡ Some bytes → list_any (bytes_eq p) (all_key_names item) ≡ true
+pub named_of_item : (item : Option Layer) (p bytes : List ℕ) → get (settings_of_item item).values p ≡ Some bytes → list_any (bytes_eq p) (all_key_names item) ≡ true
 named_of_item None p bytes e = let bad : None ≡ Some bytes = sym (fin.get-empty (slice_cmp nat_cmp) p) ∙ e in absurd cc
 named_of_item (Some layer) p bytes e = each_is_named layer p bytes e
 

@@ -12,4 +12,4 @@ pub mod Unsaved
 pub mod UnsavedLeft
 pub mod KeyNames
 pub mod Saved
-pub mod Children
+pub mod Cleared

@@ -8,11 +8,11 @@
 
 mod change_fault;
 mod changes;
-mod children;
 mod engine;
 mod fault;
 mod key_names;
 mod layer;
+mod resetting;
 mod saving;
 mod storing;
 mod writing;

@@ -16,7 +16,7 @@ use gv_tree::Tree;
 impl<'a> Engine<'a> {
     /// Sets the value of a key.
     ///
-    /// Refusals, in this order: `NotWritable`, `Locked` of row 0, `TooLarge`; and `Memory` where a growth is refused. After
+    /// Refusals, in this order: `NotWritable`, `Locked(0)`, `TooLarge`; and `Memory` where a growth is refused. After
     /// each the engine is as it was. It writes the value's bytes once, copies the path, and compares as many paths as there
     /// are levels of unsaved changes.
     pub fn write(&mut self, path: KeyPath<'_>, value: &Tree) -> Result<(), ChangeFault>
@@ -32,7 +32,7 @@ impl<'a> Engine<'a> {
 
     /// Takes away the user's value of a key, where it has one.
     ///
-    /// Refusals, in this order: `NotWritable`, `Locked` of row 0; and `Memory` where a growth is refused. After each the
+    /// Refusals, in this order: `NotWritable`, `Locked(0)`; and `Memory` where a growth is refused. After each the
     /// engine is as it was. It copies the path, and compares as many paths as there are levels of unsaved changes.
     pub fn reset(&mut self, path: KeyPath<'_>) -> Result<(), ChangeFault>
         ensures ok { OnOk result (apply self.old (reset_value (key_text path.entry)) ≡ Ok self.new) }

@@ -1,6 +1,6 @@
 //! Databases and engines of short texts.
 use dconf_engine::Engine;
-use dconf_path::{KeyPath, LockPath, Profile, read_profile};
+use dconf_path::{KeyPath, LockPath, read_profile};
 use gvdb_write::{Map, write};
 use std::alloc::Global;
 use std::test::Fail;
@@ -20,17 +20,31 @@ pub(crate) fn database(alloc: Global, words: &str) -> Result<Vec<u8>, Fail> {
     Ok(write(alloc, &map)?)
 }
 
-/// The profile of a user's database and two more.
-pub(crate) fn profile<'a>(alloc: Global) -> Result<Profile<'a>, Fail> {
-    Ok(read_profile(alloc, "user-db:me\nsystem-db:site\nfile-db:base")?)
+/// What is seen at a path through the files of a profile, or why they don't open; nothing where there are too few or too many.
+pub(crate) fn opened(
+    alloc: Global,
+    profile: &str,
+    files: &[Option<&[u8]>],
+    path: &str,
+) -> Result<String, Fail> {
+    let profile = read_profile(alloc, profile)?;
+    if profile.databases().len() != files.len() {
+        return Ok(String::new(alloc));
+    }
+    match Engine::open(alloc, &profile, files) {
+        Ok(engine) => seen(alloc, &engine, path),
+        Err(fault) => Ok(format!(in alloc; "{fault}")?),
+    }
 }
 
-/// What is seen at a path: its value, its value without the user's, the number of its database, and whether it is locked.
-pub(crate) fn seen(alloc: Global, engine: &Engine<'_>, path: &str) -> Result<String, Fail> {
+/// What is seen at a path: its value, its value without the user's, the number of its database, and whether it is locked;
+/// and whether there is a user's database.
+fn seen(alloc: Global, engine: &Engine<'_>, path: &str) -> Result<String, Fail> {
     let path = KeyPath::parse(path)?;
     let value = engine.read(path).and_then(|view| view.as_i32());
     let default = engine.read_default(path).and_then(|view| view.as_i32());
     let origin = engine.origin(path);
     let locked = engine.is_locked(path);
-    Ok(format!(in alloc; "{value:?} {default:?} {origin:?} {locked}")?)
+    let writable = engine.is_writable();
+    Ok(format!(in alloc; "{value:?} {default:?} {origin:?} {locked} {writable}")?)
 }

@@ -1,59 +1,35 @@
 //! Which databases an engine opens, and what it is without some of them.
-use crate::layers::{database, profile, seen};
-use dconf_engine::Engine;
-use dconf_path::read_profile;
+use crate::layers::{database, opened};
 use std::alloc::Global;
 use std::test::Fail;
 
-/// What is seen at `/k` through these files, or why they don't open.
-fn opened(alloc: Global, files: [Option<&[u8]>; 3]) -> Result<String, Fail> {
-    match Engine::open(alloc, &profile(alloc)?, &files) {
-        Ok(engine) => seen(alloc, &engine, "/k"),
-        Err(fault) => Ok(format!(in alloc; "{fault}")?),
-    }
+/// Whether this is seen at `/k`, or is why the files don't open, where the first file is without so many bytes at its end.
+fn opens(
+    alloc: Global,
+    profile: &str,
+    cut: usize,
+    others: &str,
+    wanted: &str,
+) -> Result<bool, Fail> {
+    let first = database(alloc, "/k=5")?;
+    let other = database(alloc, others)?;
+    let len = first.len().saturating_sub(cut);
+    let files = [first.get(..len), None, Some(other.as_slice())];
+    Ok(opened(alloc, profile, &files, "/k")?.as_str() == wanted)
 }
 
 #[test]
-fn names_the_first_bad_database(rt: HostRuntime) -> Result<(), Fail> {
-    let good = database(rt.alloc(), "/k=5")?;
-    let mut bad = database(rt.alloc(), "/k=5")?;
-    bad[68] = 0xbe;
-    let (good, bad) = (good.as_slice(), bad.as_slice());
-    for (files, text) in [
-        ([Some(good), None, None], "Some(5) None Some(0) false"),
-        ([None, None, Some(good)], "Some(5) Some(5) Some(2) false"),
-        ([None, None, None], "None None None false"),
-        (
-            [Some(good), Some(&good[..23]), Some(bad)],
-            "BadDatabase 1: Short",
-        ),
-        (
-            [Some(bad), Some(&good[..23]), None],
-            "BadDatabase 0: unsound: S4 item 1",
-        ),
-        (
-            [None, None, Some(&good[1..])],
-            "BadDatabase 2: BadSignature",
-        ),
+fn opens_good_databases_alone(rt: HostRuntime) -> Result<(), Fail> {
+    let user = "user-db:me\nsystem-db:site\nfile-db:base";
+    let site = "system-db:me\nsystem-db:site\nfile-db:base";
+    for (profile, cut, others, wanted) in [
+        (user, 0, "/k=6", "Some(5) Some(6) Some(0) false true"),
+        (site, 0, "/k=6", "Some(5) Some(5) Some(0) false false"),
+        (user, 0, "/z=6", "Some(5) None Some(0) false true"),
+        (user, 1, "/k=6", "BadDatabase 0: unsound: S8 item 1"),
+        (user, 87, "/k=6", "BadDatabase 0: Short"),
     ] {
-        assert_eq!(rt; opened(rt.alloc(), files)?.as_str(), text);
-    }
-    Ok(())
-}
-
-#[test]
-fn writes_the_user_s_database_alone(rt: HostRuntime) -> Result<(), Fail> {
-    let alloc = rt.alloc();
-    let file = database(alloc, "/k=5")?;
-    for (text, writable, wanted) in [
-        ("user-db:me", true, "Some(5) None Some(0) false"),
-        ("system-db:site", false, "Some(5) Some(5) Some(0) false"),
-    ] {
-        let profile = read_profile(alloc, text)?;
-        let engine = Engine::open(alloc, &profile, &[Some(file.as_slice())])?;
-        assert!(rt;
-            engine.is_writable() == writable && seen(alloc, &engine, "/k")?.as_str() == wanted
-        );
+        assert!(rt; opens(rt.alloc(), profile, cut, others, wanted)?);
     }
     Ok(())
 }

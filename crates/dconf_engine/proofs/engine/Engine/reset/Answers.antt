@@ -1,4 +1,4 @@
-use Rattle.std.proofs.Common.{◌≡◌, ◌∙◌, sym, ap, List, ℕ, Ok, None, map}
+use Rattle.std.proofs.Common.{◌∙◌, sym, ap, Ok, map}
 use Rattle.std.specs.FinMap.{remove}
 use Rattle.dconf_path.specs.Paths.{key_text}
 use Rattle.dconf_model.specs.Layers.{Layers}

@@ -1,8 +1,7 @@
-use Rattle.std.proofs.Common.{◌≡◌, ◌∙◌, ap, sym, subst, Result, Ok, Err, ℕ, Vec}
+use Rattle.std.proofs.Common.{rules, subst, Result, Ok, Err, ℕ, Vec}
 use Rattle.std.specs.Prelude.{IfOk, length, ◌≤◌}
 use Rattle.std.specs.declared.alloc.Global.{Global}
 use Rattle.dconf_model.specs.Bytes.{longest_file}
-use Rattle.dconf_model.specs.Changes.{saved}
 use Rattle.dconf_model.specs.Databases.{IsDatabaseOf}
 use Rattle.dconf_model.specs.Opening.{IsDatabase, root_of}
 use Rattle.dconf_model.specs.Plans.{HoldsValues, HoldsLocks, HasLength}
@@ -21,3 +20,6 @@ returns-in-Ok-clause-database c =
     let e = c.write.ensures in
     subst (λ (s : Settings). IfOk c.write.result (λ file. IsDatabaseOf s file.items)) c.in-Ok.ensures
     (whole c.in-Ok.map c.write.result e.opens e.sound e.values e.locks e.length e.fits)
+
+pub returns-in-Ok-clause-fault : goal.returns-in-Ok-clause-fault
+returns-in-Ok-clause-fault c = search rules

@@ -2,7 +2,7 @@ use Rattle.std.proofs.Common.{◌≡◌, Option, Result, Ok, Err, option_map, st
 use Rattle.std.specs.Prelude.{IfOk, IfSome, IfNone, ℕ}
 use Rattle.std.specs.declared.string.String.{String}
 use Rattle.std.specs.declared.alloc.Global.{Global}
-use Rattle.dconf_model.specs.Names.{HasName, name_of}
+use Rattle.dconf_model.specs.Names.{HasName}
 use Rattle.gvdb_read.specs.Tables.{region}
 use Rattle.gvdb_write.specs.Salvaged.{HasNoShortText}
 use Rattle.dconf_engine.specs.declared.layer.Layer.{Layer}

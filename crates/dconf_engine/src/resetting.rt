@@ -1,0 +1,127 @@
+//! Resetting all keys below a directory.
+ghost use Rattle.std.specs.Prelude.{◌≡◌, [], ◌∷◌, Ok, IfErr, OnErr, OnOk};
+ghost use Rattle.std.specs.FinMap.{entries};
+ghost use Rattle.dconf_path.specs.Paths.{directory_text, key_text};
+ghost use Rattle.dconf_model.specs.Changes.{apply, Change.reset_below_directory};
+ghost use Rattle.dconf_engine.specs.ChangeFaults.{Refuses};
+ghost use Rattle.dconf_engine.specs.Cleared.{changed_paths, cleared, first_names, keeps};
+ghost use Rattle.dconf_engine.specs.KeyNames.{items_of, key_name_at, key_names};
+ghost use Rattle.dconf_engine.specs.Unsaved.{and_resets};
+
+use crate::change_fault::ChangeFault;
+use crate::changes::Changes;
+use crate::engine::Engine;
+use crate::layer::Layer;
+use dconf_path::{DirPath, KeyPath};
+use gvdb_write::MapFault;
+
+impl<'a> Engine<'a> {
+    /// Takes away the user's values of the keys below a directory, except of those that are locked.
+    ///
+    /// Refusals: `NotWritable`; and `Memory` where a growth is refused. After each the engine is as it was. It copies all
+    /// unsaved changes, and looks at the name of each item of the user's file.
+    pub fn reset_dir(&mut self, directory: DirPath<'_>) -> Result<(), ChangeFault>
+        ensures ok { OnOk result (apply self.old (reset_below_directory (directory_text directory.entry)) ≡ Ok self.new) }
+        ensures fault { IfErr result (Refuses (apply self.old (reset_below_directory (directory_text directory.entry)))) }
+        ensures err { OnErr result (self.new ≡ self.old) }
+    {
+        if !self.is_writable() {
+            return Err(ChangeFault::NotWritable);
+        }
+        let mut changes = self.changes.try_copy()?;
+        self.reset_changed(&self.changes, directory, &mut changes)?;
+        self.reset_first(&self.layers, directory, &mut changes)?;
+        self.changes = changes;
+        Ok(())
+    }
+
+    /// Resets what was changed below a directory.
+    fn reset_changed(
+        &self,
+        from: &Changes,
+        directory: DirPath<'_>,
+        changes: &mut Changes,
+    ) -> Result<(), MapFault>
+        ensures { OnOk result (changes.new ≡ and_resets (cleared self.now (directory_text directory.entry) (changed_paths (entries from.now))) changes.old) }
+    {
+        for change in from.iter() {
+            self.reset_below(change.path, directory, changes)?;
+        }
+        Ok(())
+    }
+
+    /// Resets what the first layer has below a directory.
+    fn reset_first(
+        &self,
+        layers: &[Option<Layer<'_>>],
+        directory: DirPath<'_>,
+        changes: &mut Changes,
+    ) -> Result<(), MapFault>
+        ensures { OnOk result (changes.new ≡ and_resets (cleared self.now (directory_text directory.entry) (first_names layers.now)) changes.old) }
+    {
+        let Some(first) = layers.first() else {
+            return Ok(());
+        };
+        let Some(layer) = *first else {
+            return Ok(());
+        };
+        self.reset_layer(layer, directory, changes)
+    }
+
+    /// Resets what a layer has below a directory.
+    fn reset_layer(
+        &self,
+        layer: Layer<'_>,
+        directory: DirPath<'_>,
+        changes: &mut Changes,
+    ) -> Result<(), MapFault>
+        ensures { OnOk result (changes.new ≡ and_resets (cleared self.now (directory_text directory.entry) (key_names layer.entry (items_of layer.entry))) changes.old) }
+    {
+        for i in 0..layer.n_items() {
+            self.reset_item(layer, i, directory, changes)?;
+        }
+        Ok(())
+    }
+
+    /// Resets an item's name, where it is below a directory.
+    fn reset_item(
+        &self,
+        layer: Layer<'_>,
+        i: u32,
+        directory: DirPath<'_>,
+        changes: &mut Changes,
+    ) -> Result<(), MapFault>
+        ensures { OnOk result (changes.new ≡ and_resets (cleared self.now (directory_text directory.entry) (key_name_at layer.entry i)) changes.old) }
+    {
+        let Some(name) = layer.name_at(self.alloc, i)? else {
+            return Ok(());
+        };
+        match KeyPath::parse(name.as_str()) {
+            Ok(path) => self.reset_below(path, directory, changes),
+            Err(_) => Ok(()),
+        }
+    }
+
+    /// Resets a path that is below a directory and not locked.
+    fn reset_below(
+        &self,
+        path: KeyPath<'_>,
+        directory: DirPath<'_>,
+        changes: &mut Changes,
+    ) -> Result<(), MapFault>
+        ensures { OnOk result (changes.new ≡ and_resets (cleared self.now (directory_text directory.entry) (key_text path.entry ∷ [])) changes.old) }
+    {
+        if self.keeps(path, directory) {
+            return Ok(());
+        }
+        changes.reset(path)?;
+        Ok(())
+    }
+
+    /// Whether a path keeps its value: it is not below the directory, or it is locked.
+    fn keeps(&self, path: KeyPath<'_>, directory: DirPath<'_>) -> bool
+        ensures { result ≡ keeps self.now (directory_text directory.entry) (key_text path.entry) }
+    {
+        !path.as_str().starts_with(directory.as_str()) || self.is_locked(path)
+    }
+}
