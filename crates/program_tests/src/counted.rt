@@ -28,38 +28,36 @@ impl Write for OneByOne {
     }
 }
 
+/// Whether five bytes are put into a writer with so many failures.
+fn puts(room: usize, then: Result<(), ErrorKind>, failures: u64) -> bool {
+    let mut out = Counted::new(OneByOne { room, then });
+    out.put(b"").is_ok()
+        && out.failures() == 0
+        && out.put(b"12345").is_err() == (failures == 1)
+        && out.failures() == failures
+}
+
 #[test]
-fn counts_a_writer(rt: HostRuntime) -> Result<(), Fail> {
+fn counts_a_writer(rt: HostRuntime) {
     for (room, then, failures) in [
         (5, Ok(()), 0),
         (4, Ok(()), 1),
         (4, Err(ErrorKind::Interrupted), 1),
         (0, Err(ErrorKind::BrokenPipe), 1),
     ] {
-        let mut out = Counted::new(OneByOne { room, then });
-        assert!(rt; out.put(b"").is_ok() && out.failures() == 0);
-        assert_eq!(rt; out.put(b"12345").is_err(), failures == 1);
-        assert_eq!(rt; out.failures(), failures);
+        assert!(rt; puts(room, then, failures), "room for {room}");
     }
-    Ok(())
 }
 
 #[test]
-fn writes_into_memory(rt: HostRuntime) -> Result<(), Fail> {
+fn writes_into_memory_and_reads_to_the_end(rt: HostRuntime) -> Result<(), Fail> {
     let mut out = Counted::new(Vec::new(rt.alloc()));
     out.put(b"au ")?;
     out.put(b"[1]\n")?;
-    assert!(rt; out.get_ref().as_slice() == b"au [1]\n".as_slice());
-    assert_eq!(rt; out.failures(), 0);
-    Ok(())
-}
-
-#[test]
-fn reads_to_the_end(rt: HostRuntime) -> Result<(), Fail> {
+    assert!(rt; out.get_ref().as_slice() == b"au [1]\n".as_slice() && out.failures() == 0);
     let mut input = Counted::new(b"ab".as_slice());
     let mut buf = [0; 4];
-    assert_eq!(rt; input.read_once(&mut buf)?, 2);
-    assert_eq!(rt; input.read_once(&mut buf)?, 0);
-    assert_eq!(rt; input.failures(), 0);
+    let (first, second) = (input.read_once(&mut buf)?, input.read_once(&mut buf)?);
+    assert!(rt; first == 2 && second == 0 && input.failures() == 0);
     Ok(())
 }

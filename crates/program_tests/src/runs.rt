@@ -4,11 +4,16 @@ use dconf_disk::{Folder, FolderFault, MemoryFolder};
 use std::alloc::{AllocError, Global};
 use std::test::Fail;
 
-pub(crate) fn asked(alloc: Global, type_text: &str, file: &str) -> Result<Command, AllocError> {
-    Ok(Command::Show {
-        type_text: String::from_str(alloc, type_text)?,
-        file: String::from_str(alloc, file)?,
-    })
+/// `show` of the file `f` at this type, or `check` of it.
+pub(crate) fn asked(alloc: Global, type_text: Option<&str>) -> Result<Command, AllocError> {
+    let file = String::from_str(alloc, "f")?;
+    match type_text {
+        Some(text) => Ok(Command::Show {
+            type_text: String::from_str(alloc, text)?,
+            file,
+        }),
+        None => Ok(Command::Check { file }),
+    }
 }
 
 /// A folder with one file, `f`.
@@ -25,34 +30,13 @@ fn put_file(folder: &mut MemoryFolder, name: &str, bytes: &[u8]) -> Result<(), F
     folder.append(name, bytes)
 }
 
-/// `check` of the file `f`.
-pub(crate) fn asked_to_check(alloc: Global) -> Result<Command, AllocError> {
-    let file = String::from_str(alloc, "f")?;
-    Ok(Command::Check { file })
-}
-
-/// What a run of `show` of the file `f` leaves.
-pub(crate) fn shown<F: Folder>(
+/// What a run of `show` or `check` of the file `f` leaves on out and err, each after its name, and its status.
+pub(crate) fn left<F: Folder>(
     alloc: Global,
-    type_text: &str,
+    type_text: Option<&str>,
     folder: &mut F,
 ) -> Result<String, AllocError> {
-    let command = asked(alloc, type_text, "f")?;
-    left_by(alloc, command, folder)
-}
-
-/// What a run of `check` of the file `f` leaves.
-pub(crate) fn checked<F: Folder>(alloc: Global, folder: &mut F) -> Result<String, AllocError> {
-    let command = asked_to_check(alloc)?;
-    left_by(alloc, command, folder)
-}
-
-/// What a run leaves on out and err, each after its name, and its status.
-fn left_by<F: Folder>(
-    alloc: Global,
-    command: Command,
-    folder: &mut F,
-) -> Result<String, AllocError> {
+    let command = asked(alloc, type_text)?;
     let mut input = Counted::new(b"".as_slice());
     let mut out = Counted::new(Vec::new(alloc));
     let mut err = Counted::new(Vec::new(alloc));
@@ -70,7 +54,7 @@ pub(crate) fn wants_text(
     text: &str,
 ) -> Result<(), Fail> {
     let wanted = format!(in alloc; "0 out={text}\n err=")?;
-    wants(alloc, type_text, bytes, wanted)
+    wants_left(alloc, Some(type_text), bytes, &wanted)
 }
 
 /// Runs `show` of these bytes at this type. An error says that err doesn't hold this refusal.
@@ -81,15 +65,20 @@ pub(crate) fn wants_refusal(
     why: &str,
 ) -> Result<(), Fail> {
     let wanted = format!(in alloc; "1 out= err=error: {why}\n")?;
-    wants(alloc, type_text, bytes, wanted)
+    wants_left(alloc, Some(type_text), bytes, &wanted)
 }
 
-fn wants(alloc: Global, type_text: &str, bytes: &[u8], wanted: String) -> Result<(), Fail> {
-    let mut folder = one_file(alloc, bytes)?;
-    let ran = shown(alloc, type_text, &mut folder)?;
-    if ran.as_str() == wanted.as_str() {
+/// Runs `show` or `check` of these bytes. An error says that it doesn't leave this.
+pub(crate) fn wants_left(
+    alloc: Global,
+    type_text: Option<&str>,
+    bytes: &[u8],
+    wanted: &str,
+) -> Result<(), Fail> {
+    let ran = left(alloc, type_text, &mut one_file(alloc, bytes)?)?;
+    if ran.as_str() == wanted {
         Ok(())
     } else {
-        Err(Fail::from((wanted, ran)))
+        Err(Fail::from((String::from_str(alloc, wanted)?, ran)))
     }
 }

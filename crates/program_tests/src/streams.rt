@@ -47,53 +47,28 @@ impl Folder for Refusing {
     }
 }
 
-/// A writer that takes one byte of each write.
-#[derive(Drop)]
-pub struct Slow {
-    pub taken: Vec<u8>,
-}
-
-impl Write for Slow {
-    fn write(&mut self, buf: &[u8]) -> io::Result<usize> {
-        match buf.first() {
-            Some(byte) => {
-                self.taken.push(*byte)?;
-                Ok(1)
-            }
-            None => Ok(0),
-        }
-    }
-
-    fn flush(&mut self) -> io::Result<()> {
-        Ok(())
-    }
-}
-
-/// A writer whose writes fail, or take nothing.
-#[derive(Drop)]
-pub struct Broken {
-    pub kind: Option<ErrorKind>,
-}
-
-impl Write for Broken {
-    fn write(&mut self, _buf: &[u8]) -> io::Result<usize> {
-        match self.kind {
-            Some(kind) => Err(Error::from(kind)),
-            None => Ok(0),
-        }
-    }
-
-    fn flush(&mut self) -> io::Result<()> {
-        Ok(())
-    }
-}
-
 /// A writer that takes four bytes of each write, and whose k-th write fails, or takes nothing.
 #[derive(Drop)]
 pub struct FailsAt {
-    pub taken: Vec<u8>,
-    pub left: usize,
-    pub kind: Option<ErrorKind>,
+    taken: Vec<u8>,
+    left: usize,
+    kind: Option<ErrorKind>,
+}
+
+impl FailsAt {
+    pub(crate) fn new(alloc: Global, k: usize, kind: Option<ErrorKind>) -> FailsAt {
+        FailsAt {
+            taken: Vec::new(alloc),
+            left: k,
+            kind,
+        }
+    }
+
+    /// Whether it has taken what goes into the writes before the k-th.
+    pub(crate) fn has_taken(&self, text: &[u8], k: usize) -> bool {
+        let before = 4 * k.saturating_sub(1).min(4);
+        self.taken.as_slice() == text.get(..before).unwrap_or(text)
+    }
 }
 
 impl Write for FailsAt {

@@ -4,149 +4,103 @@ use dconf_cli::{Command, command};
 use std::alloc::{AllocError, Global};
 use std::test::Fail;
 
-fn texts(alloc: Global, words: &[&str]) -> Result<Vec<String>, AllocError> {
-    let mut texts = Vec::new(alloc);
-    for word in words {
-        texts.push(String::from_str(alloc, word)?)?;
+/// The words of a line, a space between them.
+pub(crate) fn words_of(alloc: Global, line: &str) -> Result<Vec<String>, AllocError> {
+    let mut words = Vec::new(alloc);
+    for word in line.split(' ') {
+        words.push(String::from_str(alloc, word)?)?;
     }
-    Ok(texts)
+    Ok(words)
 }
 
-#[test]
-fn reads_show(rt: HostRuntime) -> Result<(), Fail> {
-    let alloc = rt.alloc();
-    let lines = [
-        ["dconfdb", "show", "au", "two"].as_slice(),
-        ["dconfdb", "show", "--", "au", "two"].as_slice(),
-    ];
-    for line in lines {
-        let words = texts(alloc, line)?;
-        assert!(rt; shows(&command(alloc, &words)?, "au", "two"));
-    }
-    let words = texts(alloc, &["dconfdb", "show", "s", "--", "-x"])?;
-    assert!(rt; shows(&command(alloc, &words)?, "s", "-x"));
-    Ok(())
-}
-
-/// Whether it is `show` of this type and this file.
-fn shows(asked: &Command, wanted_type: &str, wanted_file: &str) -> bool {
-    match asked {
+/// Whether a line asks for `show` of this type and this file.
+fn shows(alloc: Global, line: &str, wanted_type: &str, wanted_file: &str) -> Result<bool, Fail> {
+    let words = words_of(alloc, line)?;
+    match command(alloc, &words)? {
         Command::Show { type_text, file } => {
-            type_text.as_str() == wanted_type && file.as_str() == wanted_file
+            Ok(type_text.as_str() == wanted_type && file.as_str() == wanted_file)
         }
-        _ => false,
+        _ => Ok(false),
     }
 }
 
-/// Whether it is `check` of this file.
-fn checks(asked: &Command, wanted_file: &str) -> bool {
-    match asked {
-        Command::Check { file } => file.as_str() == wanted_file,
-        _ => false,
+/// Whether a line asks for `check` of this file.
+fn checks(alloc: Global, line: &str, wanted_file: &str) -> Result<bool, Fail> {
+    let words = words_of(alloc, line)?;
+    match command(alloc, &words)? {
+        Command::Check { file } => Ok(file.as_str() == wanted_file),
+        _ => Ok(false),
     }
 }
 
 #[test]
-fn reads_check(rt: HostRuntime) -> Result<(), Fail> {
+fn reads_commands(rt: HostRuntime) -> Result<(), Fail> {
     let alloc = rt.alloc();
-    let words = texts(alloc, &["dconfdb", "check", "site.db"])?;
-    assert!(rt; checks(&command(alloc, &words)?, "site.db"));
-    let words = texts(alloc, &["dconfdb", "check", "--", "-x"])?;
-    assert!(rt; checks(&command(alloc, &words)?, "-x"));
+    for (line, wanted_type, wanted_file) in [
+        ("dconfdb show au two", "au", "two"),
+        ("dconfdb show -- au two", "au", "two"),
+        ("dconfdb show s -- -x", "s", "-x"),
+    ] {
+        assert!(rt; shows(alloc, line, wanted_type, wanted_file)?, "{line}");
+    }
+    assert!(rt; checks(alloc, "dconfdb check site.db", "site.db")?);
+    assert!(rt; checks(alloc, "dconfdb check -- -x", "-x")?);
     Ok(())
 }
 
-#[test]
-fn refuses_other_words(rt: HostRuntime) -> Result<(), Fail> {
-    let alloc = rt.alloc();
-    let lines = [
-        (["dconfdb"].as_slice(), ErrorKind::MissingSubcommand),
-        (
-            ["dconfdb", "shoe", "au", "two"].as_slice(),
-            ErrorKind::InvalidSubcommand,
-        ),
-        (
-            ["dconfdb", "show", "au"].as_slice(),
-            ErrorKind::MissingRequiredArgument,
-        ),
-        (
-            ["dconfdb", "show", "au", "two", "three"].as_slice(),
-            ErrorKind::UnknownArgument,
-        ),
-        (
-            ["dconfdb", "show", "au", "-x"].as_slice(),
-            ErrorKind::UnknownArgument,
-        ),
-        (
-            ["dconfdb", "check"].as_slice(),
-            ErrorKind::MissingRequiredArgument,
-        ),
-        (
-            ["dconfdb", "check", "one", "two"].as_slice(),
-            ErrorKind::UnknownArgument,
-        ),
-        (["dconfdb", "help"].as_slice(), ErrorKind::DisplayHelp),
-        (
-            ["dconfdb", "help", "show"].as_slice(),
-            ErrorKind::DisplayHelp,
-        ),
-        (
-            ["dconfdb", "help", "shoe"].as_slice(),
-            ErrorKind::InvalidSubcommand,
-        ),
-        (["dconfdb", "--help"].as_slice(), ErrorKind::DisplayHelp),
-        (
-            ["dconfdb", "show", "--help"].as_slice(),
-            ErrorKind::DisplayHelp,
-        ),
-        (
-            ["dconfdb", "--version"].as_slice(),
-            ErrorKind::DisplayVersion,
-        ),
-    ];
-    for (line, kind) in lines {
-        let words = texts(alloc, line)?;
-        match command(alloc, &words) {
-            Ok(_) => assert!(rt; false, "taken"),
-            Err(error) => assert!(rt; error.kind() == kind, "{error}"),
-        }
+/// Whether a line is refused so, and what is printed has this part.
+fn refuses(alloc: Global, line: &str, kind: ErrorKind, part: &str) -> Result<bool, Fail> {
+    let words = words_of(alloc, line)?;
+    match command(alloc, &words) {
+        Ok(_) => Ok(false),
+        Err(error) => Ok(error.kind() == kind && format!(in alloc; "{error}")?.contains(part)),
     }
-    Ok(())
 }
 
 #[test]
-fn shows_help(rt: HostRuntime) -> Result<(), Fail> {
-    let alloc = rt.alloc();
-    let lines = [
+fn refuses_other_words_and_shows_help(rt: HostRuntime) -> Result<(), Fail> {
+    for (line, kind, part) in [
+        ("dconfdb", ErrorKind::MissingSubcommand, ""),
+        ("dconfdb shoe au two", ErrorKind::InvalidSubcommand, ""),
+        ("dconfdb show au", ErrorKind::MissingRequiredArgument, ""),
+        ("dconfdb show au two three", ErrorKind::UnknownArgument, ""),
+        ("dconfdb show au -x", ErrorKind::UnknownArgument, ""),
+        ("dconfdb check", ErrorKind::MissingRequiredArgument, ""),
+        ("dconfdb check one two", ErrorKind::UnknownArgument, ""),
+        ("dconfdb help shoe", ErrorKind::InvalidSubcommand, ""),
+        ("dconfdb help", ErrorKind::DisplayHelp, ""),
         (
-            ["dconfdb", "--help"].as_slice(),
-            "Prints the bytes of FILE, read as a value",
+            "dconfdb help show",
+            ErrorKind::DisplayHelp,
+            "Usage: dconfdb show <TYPE> <FILE>",
         ),
         (
-            ["dconfdb", "--help"].as_slice(),
-            "Says whether FILE is a sound database",
+            "dconfdb show --help",
+            ErrorKind::DisplayHelp,
+            "Usage: dconfdb show <TYPE> <FILE>",
         ),
         (
-            ["dconfdb", "check", "--help"].as_slice(),
+            "dconfdb check --help",
+            ErrorKind::DisplayHelp,
             "Usage: dconfdb check <FILE>",
         ),
         (
-            ["dconfdb", "show", "--help"].as_slice(),
-            "Usage: dconfdb show <TYPE> <FILE>",
+            "dconfdb --help",
+            ErrorKind::DisplayHelp,
+            "Prints the bytes of FILE, read as a value",
         ),
         (
-            ["dconfdb", "help", "show"].as_slice(),
-            "Usage: dconfdb show <TYPE> <FILE>",
+            "dconfdb --help",
+            ErrorKind::DisplayHelp,
+            "Says whether FILE is a sound database",
         ),
-        (["dconfdb", "--version"].as_slice(), "dconfdb 0.1.0"),
-    ];
-    for (line, part) in lines {
-        let words = texts(alloc, line)?;
-        let shown = match command(alloc, &words) {
-            Ok(_) => String::new(alloc),
-            Err(error) => format!(in alloc; "{error}")?,
-        };
-        assert!(rt; shown.contains(part), "{shown}");
+        (
+            "dconfdb --version",
+            ErrorKind::DisplayVersion,
+            "dconfdb 0.1.0",
+        ),
+    ] {
+        assert!(rt; refuses(rt.alloc(), line, kind, part)?, "{line}");
     }
     Ok(())
 }
