@@ -34,7 +34,8 @@ fn values_and_locks_are_where_they_were_put(rt: HostRuntime) -> Result<(), Fail>
     assert!(rt;
         !map.is_locked(LockPath::parse("/a/kk")?) && !map.is_locked(LockPath::parse("/a/")?)
     );
-    assert!(rt; map.locks().count() == 1);
+    let mut locks = map.locks();
+    assert!(rt; locks.next().is_some() && locks.next().is_none());
     Ok(())
 }
 
