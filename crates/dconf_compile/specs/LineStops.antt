@@ -1,5 +1,6 @@
 -- Which fault of the model it is that a file is refused for.
-use Rattle.std.specs.Prelude.{Option, Some, None, option_map}
+use Rattle.std.specs.Prelude.{ℕ, Option, Some, None, option_map}
+use Rattle.dconf_model.specs.Causes.{SettingsCause}
 use Rattle.dconf_model.specs.Lines.{LineFault}
 use Rattle.keyfile_core.specs.KeyfileFaults.{cause_of as keyfile_cause_of}
 use Rattle.keyfile_core.specs.declared.fault.KeyfileFault.{KeyfileFault}
@@ -7,8 +8,11 @@ use Rattle.keyfile_core.specs.declared.fault.KeyfileFault.TheVariants.{Refused, 
 use Rattle.dconf_compile.specs.declared.line_stop.LineStop.{LineStop}
 use Rattle.dconf_compile.specs.CompileFaults.{cause_of}
 
+abbrev pub at_line : ℕ → SettingsCause → LineFault
+at_line line cause = record { line = line; cause = cause }
+
 abbrev pub line_fault_of : LineStop → Option LineFault
-line_fault_of stop = option_map (λ cause. record { line = stop.line; cause = cause }) (cause_of stop.cause)
+line_fault_of stop = option_map (at_line stop.line) (cause_of stop.cause)
 
 abbrev pub keyfile_fault_of : KeyfileFault → Option LineFault
 keyfile_fault_of (Refused line cause) = Some (record { line = line; cause = keyfile_cause_of cause })

@@ -31,10 +31,7 @@ pub(crate) fn in_order<'a>(
 }
 
 /// Files with their numbers.
-fn with_numbers<'a>(
-    alloc: Global,
-    files: &[Source<'a>],
-) -> Result<Vec<Numbered<'a>>, CompileFault>
+fn with_numbers<'a>(alloc: Global, files: &[Source<'a>]) -> Result<Vec<Numbered<'a>>, CompileFault>
     ensures files { IfOk result (λ all. map numbered all.items ≡ enumerate_from 0 (sources_of files.entry.now)) }
     ensures fault { IfErr result (λ e. e ≡ no_memory) }
 {
@@ -52,7 +49,8 @@ fn with_numbers<'a>(
 fn sort_by_name(files: &mut Vec<Numbered<'_>>) -> Result<(), AllocError>
     ensures { OnOk result (map numbered files.new.items ≡ in_order (λ s. s.1.name) (map numbered files.old.items)) }
 {
-    files.sort_by_key(|file| file.source.name)
+    files.sort_by_key(|file| file.source.name)?;
+    Ok(())
 }
 
 /// The file that is taken first: a keyfile, or the first lock file where there is none.

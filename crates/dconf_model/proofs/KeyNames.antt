@@ -24,19 +24,19 @@ use Rattle.dconf_model.proofs.PathMaps.{no_truth}
 
 -- ---- bytes that a list doesn't have
 
-abbrev has : ℕ → List ℕ → Bool
+abbrev pub has : ℕ → List ℕ → Bool
 has x s = list_any (λ c. c == x) s
 
 not_there : (x : ℕ) (s : List ℕ) → ¬ Contains s x → has x s ≡ false
 not_there x s none = by_bool (has x s) (has x s ≡ false) (λ e. absurd (none (Contains-from_any {eq = λ a b. b == a} (λ a b e. sym (eqb-true b a e)) x s e))) (λ e. e)
 
-in_neither : (x : ℕ) (s t : List ℕ) → has x s ≡ false → has x t ≡ false → has x (s ++ t) ≡ false
+pub in_neither : (x : ℕ) (s t : List ℕ) → has x s ≡ false → has x t ≡ false → has x (s ++ t) ≡ false
 in_neither x s t e f = list_any-append (λ c. c == x) s t ∙ (ap (λ b. b || has x t) e ∙ f)
 
 -- ---- slashes
 
 -- no slash follows the one at the end
-after_slash : (prefix : List ℕ) (c : ℕ) (rest : List ℕ) → has_two_slashes (prefix ++ 47 ∷ []) ≡ false → c == 47 ≡ false → has_two_slashes (c ∷ rest) ≡ false →
+pub after_slash : (prefix : List ℕ) (c : ℕ) (rest : List ℕ) → has_two_slashes (prefix ++ 47 ∷ []) ≡ false → c == 47 ≡ false → has_two_slashes (c ∷ rest) ≡ false →
     has_two_slashes (prefix ++ 47 ∷ c ∷ rest) ≡ false
 unfolding has_two_slashes
 after_slash [] c rest single other more = ap (λ b. b || has_two_slashes (c ∷ rest)) other ∙ more
@@ -51,7 +51,7 @@ after_slash (x ∷ y ∷ prefix) c rest single other more =
     ∙ after_slash (y ∷ prefix) c rest (sym (ap (λ b. b || has_two_slashes (y ∷ prefix ++ 47 ∷ [])) one) ∙ single) other more)
 
 -- a list without slash has no two, also with one at its end
-plain_single : (s : List ℕ) → has 47 s ≡ false → has_two_slashes s ≡ false
+pub plain_single : (s : List ℕ) → has 47 s ≡ false → has_two_slashes s ≡ false
 unfolding has_two_slashes
 plain_single [] e = refl
 plain_single (c ∷ []) e = refl
@@ -81,7 +81,7 @@ record IsDirectoryText (name : List ℕ) : Type 0 where
   single : has_two_slashes name ≡ false
   ends : EndsInSlash name
 
-starts_on : (name more : List ℕ) → starts_with_slash name ≡ true → starts_with_slash (name ++ more) ≡ true
+pub starts_on : (name more : List ℕ) → starts_with_slash name ≡ true → starts_with_slash (name ++ more) ≡ true
 starts_on [] more e = absurd (no_truth e)
 starts_on (c ∷ name) more e = e
 
@@ -169,7 +169,7 @@ value_text (p ∷ ps) t j name sound h e value = go (part_below t p j sound (h.0
     go (list, inl a) = (joined t p ps, directory_text ps t p sound h.3 list, sym e, a.1)
     go (list, inr b) = absurd (list_is_no_value (sym b.0 ∙ value))
 
-open_end : (directory part name : List ℕ) → name ≡ directory ++ part → 0 < length part → ¬ Contains part 47 → ends_with_slash name ≡ false
+pub open_end : (directory part name : List ℕ) → name ≡ directory ++ part → 0 < length part → ¬ Contains part 47 → ends_with_slash name ≡ false
 open_end directory [] name e some none = absurd (omega (arith, some))
 open_end directory (c ∷ part) name e some none =
     by_bool (ends_with_slash name) (ends_with_slash name ≡ false)

@@ -1,0 +1,7 @@
+pub mod AddedRows
+pub mod Compiled
+pub mod FileSteps
+pub mod GivenSettings
+pub mod ReadRows
+pub mod RowPaths
+pub mod TextMeanings

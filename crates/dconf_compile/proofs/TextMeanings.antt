@@ -1,0 +1,91 @@
+-- What reading a value's text gives is the value of the model, or its fault; and which values are stored.
+use Rattle.std.proofs.Common.{◌≡◌, ◌<◌, ◌≤◌, ◌⊎◌, ℕ, Bool, true, false, ◌&&◌, List, length, Option, Some, None, Ok, Err, Result, refl, ap, sym, ◌∙◌, inl, inr}
+use Rattle.std.proofs.Common.{IfErr, IsErrAnd, subst}
+use Rattle.std.proofs.lemmas.Result.{err_from_is_err_and}
+use Rattle.std.specs.Prelude.{IfSome, option_map, nat_lt, nat_le, cond}
+use Rattle.std.proofs.lemmas.Bool.{lt-ltb, le-leb, lt-leb}
+use Rattle.gv_model.specs.Tree.{Tree, depth}
+use Rattle.gv_model.specs.Literals.{ValueFault as TheFault}
+use Rattle.gv_text.specs.ModelTokens.{fault_at_span}
+use Rattle.gv_text.specs.declared.fault.TextFault.TheVariants.{Refused, Memory}
+use Rattle.gv_infer.specs.Reads.{Reads, HasTypingFault, IsReadFault}
+use Rattle.gv_infer.specs.ValueFaults.{fault_of}
+use Rattle.gv_infer.specs.declared.fault.TypingFault.{TypingFault}
+use Rattle.gv_infer.specs.declared.fault.TypingFault.TheVariants as typings
+use Rattle.gv_infer.specs.declared.read_fault.ReadFault.{ReadFault}
+use Rattle.gv_infer.specs.declared.read_fault.ReadFault.TheVariants.{Text, Typing, Value}
+use Rattle.gv_build.specs.Faults.{IsUnbuildable}
+use Rattle.gv_build.specs.declared.fault.BuildFault.{BuildFault}
+use Rattle.gv_build.specs.declared.fault.BuildFault.TheVariants as builds
+use Rattle.dconf_model.specs.Bytes.{longest_file}
+use Rattle.dconf_model.specs.Causes.{SettingsCause}
+use Rattle.dconf_model.specs.Causes.SettingsCause.{text_fault, value_fault, too_large}
+use Rattle.dconf_model.specs.Values.{IsMeaning, value_of_text, stored, if_storable}
+use Rattle.dconf_model.proofs.ValueLaws.{text_has_its_value, has_one_meaning}
+use Rattle.dconf_compile.specs.Added.{text_compiled}
+use Rattle.dconf_compile.specs.CompileFaults.{build_cause, cause_of, read_cause_of}
+
+-- the fault of a step is that of the whole
+pub stops : {A E : Type 0} (P : E → Type 0) (r : Result A E) (e : E) → P e → IsErrAnd r (λ y. y ≡ e) → IfErr r P
+stops P r e h stop =
+    let p = err_from_is_err_and r stop in
+    rw p.1 (subst P (sym p.2) h)
+
+meant : (s : List ℕ) (r : Result Tree SettingsCause) → IsMeaning s r → value_of_text s ≡ r
+meant s r h = has_one_meaning s (value_of_text s) r (text_has_its_value s) h
+
+pub value_read : (s : List ℕ) (v : Tree) → Reads s (Ok v) → value_of_text s ≡ Ok v
+value_read s v h = meant s (Ok v) (h.syntax, h.tree, (h.type, h.chosen, h.value))
+
+-- a fault is the text's, if it is one of the model
+abbrev Faults : List ℕ → Option SettingsCause → Type 0
+Faults s o = IfSome o (λ c. value_of_text s ≡ Err c)
+
+untyped : (s : List ℕ) (e : TypingFault) → HasTypingFault s e → Faults s (read_cause_of (Typing e))
+untyped s typings.NoCommonType h = meant s (Err (value_fault TheFault.no_common)) (h.syntax, h.tree, inl h.fault)
+untyped s typings.Ambiguous h = meant s (Err (value_fault TheFault.not_clear)) (h.syntax, h.tree, inl h.fault)
+untyped s typings.Memory h = tt
+
+unvalued : (s : List ℕ) (o : Option TheFault) → IfSome o (λ f. Reads s (Err f)) → Faults s (option_map value_fault o)
+unvalued s (Some f) h = meant s (Err (value_fault f)) (h.syntax, h.tree, inr (h.type, h.chosen, h.value))
+unvalued s None h = tt
+
+fault_read : (s : List ℕ) (e : ReadFault) → IsReadFault s e → Faults s (read_cause_of e)
+fault_read s (Text (Refused cause span)) h = meant s (Err (text_fault (fault_at_span cause span))) h
+fault_read s (Text Memory) h = tt
+fault_read s (Typing e) h = untyped s e h
+fault_read s (Value e) h = unvalued s (fault_of e) h
+
+refused : (s : List ℕ) (o : Option SettingsCause) → Faults s o → IfSome o (λ c. text_compiled s ≡ Err c)
+refused s (Some c) h = ap if_storable h
+refused s None h = tt
+
+-- the fault of a text is that of compiling it
+pub text_refused : (s : List ℕ) (e : ReadFault) → IsReadFault s e → IfSome (read_cause_of e) (λ c. text_compiled s ≡ Err c)
+text_refused s e h = refused s (read_cause_of e) (fault_read s e h)
+
+-- ---- values that are stored
+
+pub text_stored : (s : List ℕ) (v : Tree) → Reads s (Ok v) → depth v < 128 → length (stored v) ≤ longest_file → text_compiled s ≡ Ok v
+text_stored s v h levels fits =
+    let d : nat_lt (depth v) 128 ≡ true = lt-ltb (depth v) 128 levels in
+    let n : nat_le (length (stored v)) longest_file ≡ true = le-leb (length (stored v)) longest_file fits in
+    ap if_storable (value_read s v h) ∙ rw (d, n) refl
+
+unstorable : (v : Tree) (a b : Bool) → (a && b) ≡ false → cond (a && b) (Ok v) (Err too_large) ≡ Err too_large
+unstorable v a b e = rw e refl
+
+neither : (a b : Bool) → b ≡ false → (a && b) ≡ false
+neither true b e = e
+neither false b e = refl
+
+pub text_too_large : (s : List ℕ) (v : Tree) (e : BuildFault) → Reads s (Ok v) → IsUnbuildable ((longest_file < length (stored v)) ⊎ (depth v ≡ 128)) e →
+    IfSome (cause_of (build_cause e)) (λ c. text_compiled s ≡ Err c)
+text_too_large s v builds.Memory h why = tt
+text_too_large s v builds.TooLarge h why = ap if_storable (value_read s v h) ∙ go why
+  where
+    go : (longest_file < length (stored v)) ⊎ (depth v ≡ 128) → if_storable (Ok v) ≡ Err too_large
+    go (inl long) =
+        unstorable v (nat_lt (depth v) 128) (nat_le (length (stored v)) longest_file)
+        (neither (nat_lt (depth v) 128) (nat_le (length (stored v)) longest_file) (lt-leb (length (stored v)) longest_file long))
+    go (inr deep) = rw deep refl

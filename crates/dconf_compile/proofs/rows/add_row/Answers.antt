@@ -1,0 +1,10 @@
+use Rattle.std.proofs.Common.{◌≡◌, codes, rules}
+use Rattle.dconf_model.specs.Keyfiles.{path_of}
+use Rattle.keyfile_core.specs.Rows.{row_meant}
+use Rattle.dconf_compile.proofs.RowPaths.{too_long_row}
+use Rattle.dconf_compile.proofs.rows.add_row.Goals as goal
+
+pub returns-clause-fault : goal.returns-clause-fault
+returns-clause-fault c =
+    let same : c.deref.result.now ≡ path_of (codes "/") (row_meant c.args.row.now) = search rules in
+    too_long_row (row_meant c.args.row.now) c.requires c.deref.result.now same c.in-Err.ensures.accepts.1
