@@ -1,12 +1,12 @@
 -- What is put into a map row by row, lock by lock, and file by file, up to the first fault.
-use Rattle.std.proofs.Common.{◌≡◌, ℕ, List, [], ◌∷◌, ◌++◌, map, Option, Some, None, Result, Ok, Err, refl, sym, ap, ◌∙◌, append_assoc, append-nil, subst}
-use Rattle.std.specs.Prelude.{IfSome, fold, option_map, codes}
+use Rattle.std.proofs.Common.{◌≡◌, ℕ, List, [], ◌∷◌, ◌++◌, Option, Some, None, Result, Ok, Err, refl, sym, ap, ◌∙◌, append_assoc, append-nil}
+use Rattle.std.specs.Prelude.{IfSome, option_map, codes}
 use Rattle.std.specs.List.{AllByRecursion}
 use Rattle.std.proofs.lemmas.List.Sums.{fold-append}
 use Rattle.dconf_model.specs.Causes.{SettingsCause}
-use Rattle.dconf_model.specs.Lines.{LineReading, LineFault, put_first, with_first_found}
-use Rattle.dconf_model.specs.Lines.LineReading.{found, wrong}
-use Rattle.dconf_model.specs.Keyfiles.{Row, path_of}
+use Rattle.dconf_model.specs.Lines.{LineFault, put_first, with_first_found}
+use Rattle.dconf_model.specs.Lines.LineReading.{wrong}
+use Rattle.dconf_model.specs.Keyfiles.{Row}
 use Rattle.dconf_model.specs.Locks.{LockLine}
 use Rattle.dconf_model.specs.Settings.{Settings, with_value, with_lock}
 use Rattle.dconf_model.specs.Sources.{Assigned, File, FileFault, Source, and_more, in_files, rows_read}

@@ -1,5 +1,5 @@
 -- One more row or file of those that are left, put into a map, or refused.
-use Rattle.std.proofs.Common.{◌≡◌, ◌<◌, ◌+◌, ℕ, true, false, List, [], ◌∷◌, length, map, drop, get_or, Option, Some, None, Result, Ok, Err, is_some, refl, sym, ap, ◌∙◌, subst}
+use Rattle.std.proofs.Common.{◌≡◌, ◌<◌, ◌+◌, ℕ, true, false, List, ◌∷◌, length, map, drop, get_or, Option, Some, None, Result, Err, is_some, refl, sym, ap, ◌∙◌, subst}
 use Rattle.std.specs.Prelude.{IfSome, option_map, nat_lt}
 use Rattle.std.specs.List.{AllByRecursion, enumerate_from}
 use Rattle.std.specs.Str.{is_utf8}
@@ -32,7 +32,7 @@ module _ (rows : List Row) (i : ℕ) (d : Row) (inside : i < length rows) where
       HasAddedRows whole (rows_compiled (map row_meant (drop (i + 1) rows))) old new × AllByRecursion IsReadRow (map row_meant (drop (i + 1) rows))
   next_row whole old now new h left a = (
     row_added whole old now new (row_meant (get_or rows i d)) (map row_meant (drop (i + 1) rows))
-    (subst (λ (l : List Row). HasAddedRows whole (rows_compiled (map row_meant l)) old now) (drop_more rows i d inside) h) a,
+        (subst (λ (l : List Row). HasAddedRows whole (rows_compiled (map row_meant l)) old now) (drop_more rows i d inside) h) a,
     (subst (λ (l : List Row). AllByRecursion IsReadRow (map row_meant l)) (drop_more rows i d inside) left).1,
   )
 

@@ -1,16 +1,16 @@
 -- The settings that rows and locks are put into are those that are given.
-use Rattle.std.proofs.Common.{◌≡◌, ℕ, Bool, true, false, ◌||◌, List, [], ◌∷◌, Option, Some, None, Result, Ok, Err, refl, sym, ap, ◌∙◌, cond, is_some, subst}
+use Rattle.std.proofs.Common.{◌≡◌, ℕ, Bool, true, false, ◌||◌, List, [], ◌∷◌, Option, Some, None, Result, Ok, Err, refl, ap, ◌∙◌, cond, is_some}
 use Rattle.std.specs.Prelude.{IfSome, option_map}
 use Rattle.std.specs.List.{list_any}
 use Rattle.std.specs.Option.{option_or}
 use Rattle.std.specs.Str.{bytes_eq}
 use Rattle.std.specs.Cmp.Lexicographic.{slice_cmp}
 use Rattle.std.specs.Ordering.{nat_cmp}
-use Rattle.std.specs.FinMap.{get, contains_key, empty, insert, get-empty}
+use Rattle.std.specs.FinMap.{get, contains_key, empty, get-empty}
 use Rattle.dconf_model.specs.Changes.{with_all}
 use Rattle.dconf_model.specs.Locks.{LockLine}
 use Rattle.dconf_model.specs.Settings.{Settings, AtPaths, Lock, no_settings, with_value, with_lock}
-use Rattle.dconf_model.specs.Sources.{Assigned, FileFault, Given, AreGiven, and_locks, last_value}
+use Rattle.dconf_model.specs.Sources.{Assigned, FileFault, and_locks, last_value}
 use Rattle.dconf_model.specs.Values.{stored}
 use Rattle.dconf_model.proofs.LastValues.{get_all}
 use Rattle.dconf_model.proofs.PathMaps.{get_inserted}

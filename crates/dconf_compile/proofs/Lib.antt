@@ -1,4 +1,5 @@
 pub mod AddedRows
+pub mod Compiled
 pub mod FileSteps
 pub mod GivenSettings
 pub mod ReadRows

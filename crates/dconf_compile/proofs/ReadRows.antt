@@ -1,15 +1,15 @@
 -- The rows that a keyfile gives are as the rules of keyfiles want them, and their texts are no longer than a keyfile.
-use Rattle.std.proofs.Common.{◌≡◌, ◌≤◌, ◌+◌, ◌-◌, ℕ, Bool, true, false, ◌&&◌, not, List, [], ◌∷◌, ◌++◌, length, take, drop, Option, Some, None, Result, Ok, Err, refl, sym, ap, ◌∙◌, arith, subst, cond, suc}
+use Rattle.std.proofs.Common.{◌≡◌, ◌≤◌, ◌+◌, ◌-◌, ℕ, Bool, true, false, ◌&&◌, not, List, [], ◌∷◌, ◌++◌, length, take, drop, Option, Some, None, Result, Ok, Err, refl, arith, subst, cond, suc}
 use Rattle.std.specs.Prelude.{IfSome, nat_lt, ◌==◌, filter_map}
 use Rattle.std.specs.List.{AllByRecursion, list_any, slice_split, onto_first, last_or, suffix_len, prefix_len, position_or_len, after_first}
 use Rattle.std.specs.Str.{is_utf8}
-use Rattle.std.proofs.lemmas.Bool.{le-ltb, ltb-false}
+use Rattle.std.proofs.lemmas.Bool.{ltb-false}
 use Rattle.std.proofs.lemmas.List.{length-take, length-drop}
 use Rattle.dconf_model.specs.Causes.SettingsCause.{bad_line, bad_key_name, too_big, not_utf8}
 use Rattle.dconf_model.specs.Lines.{LineReading, LineFault, put_first, read_after, lines_of, without_empty_end, fault_at_line, bad_line as bad_line_of, longest_text, is_space, is_line_blank, without_start, without_end}
 use Rattle.dconf_model.specs.Lines.LineReading.{nothing, found, wrong}
 use Rattle.dconf_model.specs.Paths.{has_zero_byte}
-use Rattle.dconf_model.specs.Keyfiles.{Row, LineKind, is_group, is_key, is_equals, ends_in, group_in, group_named, last_group, line_kind, line_read, or_bad_group, entry_in, row_if, row_of, rows_of, without_blanks}
+use Rattle.dconf_model.specs.Keyfiles.{Row, LineKind, is_group, is_key, is_equals, ends_in, group_in, group_named, last_group, line_kind, line_read, or_bad_group, entry_in, row_of, rows_of, without_blanks}
 use Rattle.dconf_model.specs.Keyfiles.LineKind.{empty, bracket, entry}
 use Rattle.dconf_model.proofs.KeyfileLines.{named, read_one}
 use Rattle.dconf_compile.specs.Added.{IsReadRow}

@@ -3,9 +3,8 @@ use Rattle.std.proofs.Common.{◌≡◌, ◌<◌, ◌-◌, ℕ, Bool, true, fals
 use Rattle.std.specs.Prelude.{IfSome, Contains, nat_lt, nat_eq, ◌==◌, IsTrue}
 use Rattle.std.specs.List.{list_any, ends_with, starts_with}
 use Rattle.std.specs.Str.{bytes_eq}
-use Rattle.std.specs.Cmp.Lexicographic.{bytes_decides}
-use Rattle.std.proofs.lemmas.Bool.{and_parts, not-true, or_parts, ltb-true, eqb-true, true≢false}
-use Rattle.dconf_model.specs.Paths.{has_two_slashes, has_zero_byte, starts_with_slash, ends_with_slash, is_short, is_path, is_key_path}
+use Rattle.std.proofs.lemmas.Bool.{and_parts, not-true, or_parts, ltb-true, eqb-true}
+use Rattle.dconf_model.specs.Paths.{has_two_slashes, has_zero_byte, starts_with_slash, ends_with_slash, is_short, is_key_path}
 use Rattle.dconf_model.specs.Keyfiles.{Row, has_slash_end, is_control, is_group, is_key, is_plain, path_of}
 use Rattle.dconf_model.proofs.KeyNames.{has, in_neither, after_slash, plain_single, starts_on, open_end}
 use Rattle.dconf_model.proofs.Trimmed.{no_such_byte}

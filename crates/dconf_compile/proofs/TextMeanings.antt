@@ -1,5 +1,5 @@
 -- What reading a value's text gives is the value of the model, or its fault; and which values are stored.
-use Rattle.std.proofs.Common.{◌≡◌, ◌<◌, ◌≤◌, ◌⊎◌, ℕ, Bool, true, false, ◌&&◌, List, length, Option, Some, None, Ok, Err, Result, refl, ap, sym, ◌∙◌, inl, inr, arith}
+use Rattle.std.proofs.Common.{◌≡◌, ◌<◌, ◌≤◌, ◌⊎◌, ℕ, Bool, true, false, ◌&&◌, List, length, Option, Some, None, Ok, Err, Result, refl, ap, sym, ◌∙◌, inl, inr}
 use Rattle.std.proofs.Common.{IfErr, IsErrAnd, subst}
 use Rattle.std.proofs.lemmas.Result.{err_from_is_err_and}
 use Rattle.std.specs.Prelude.{IfSome, option_map, nat_lt, nat_le, cond}
@@ -20,7 +20,7 @@ use Rattle.gv_build.specs.declared.fault.BuildFault.TheVariants as builds
 use Rattle.dconf_model.specs.Bytes.{longest_file}
 use Rattle.dconf_model.specs.Causes.{SettingsCause}
 use Rattle.dconf_model.specs.Causes.SettingsCause.{text_fault, value_fault, too_large}
-use Rattle.dconf_model.specs.Values.{IsMeaning, value_of_text, stored, is_storable, if_storable}
+use Rattle.dconf_model.specs.Values.{IsMeaning, value_of_text, stored, if_storable}
 use Rattle.dconf_model.proofs.ValueLaws.{text_has_its_value, has_one_meaning}
 use Rattle.dconf_compile.specs.Added.{text_compiled}
 use Rattle.dconf_compile.specs.CompileFaults.{build_cause, cause_of, read_cause_of}

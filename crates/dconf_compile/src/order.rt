@@ -31,10 +31,7 @@ pub(crate) fn in_order<'a>(
 }
 
 /// Files with their numbers.
-fn with_numbers<'a>(
-    alloc: Global,
-    files: &[Source<'a>],
-) -> Result<Vec<Numbered<'a>>, CompileFault>
+fn with_numbers<'a>(alloc: Global, files: &[Source<'a>]) -> Result<Vec<Numbered<'a>>, CompileFault>
     ensures files { IfOk result (λ all. map numbered all.items ≡ enumerate_from 0 (sources_of files.entry.now)) }
     ensures fault { IfErr result (λ e. e ≡ no_memory) }
 {

@@ -26,7 +26,7 @@ fn makes_databases(rt: HostRuntime) -> Result<(), Fail> {
     let rows = [
         (
             [("10-b", LATER), ("00-a", FIRST)].as_slice(),
-            "0 out= err=222 bytes, sound\n",
+            "0 out= err=220 bytes, sound\n",
         ),
         (
             [("f", "[/]\nk=5\n")].as_slice(),
@@ -40,7 +40,7 @@ fn makes_databases(rt: HostRuntime) -> Result<(), Fail> {
         // Locks of a key and of a directory.
         (
             [("f", "[/]\nk=5\n"), ("locks", "/a/k\n# c\n/a/\n")].as_slice(),
-            "0 out= err=198 bytes, sound\n",
+            "0 out= err=219 bytes, sound\n",
         ),
         // The database is one of its own keyfiles.
         (

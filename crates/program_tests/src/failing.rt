@@ -42,7 +42,7 @@ fn calls_of_the_folder(rt: HostRuntime) -> Result<(), Fail> {
     Ok(())
 }
 
-/// Compiles two keyfiles and a lock file over an older database, where the k-th call of the folder fails. An error says that this
+/// Compiles two keyfiles and a lock file over an older database, where the k-th call of the folder fails, and with 0 none. An error says that this
 /// isn't what is left.
 fn compiling(alloc: Global, k: u64, wanted: &str) -> Result<(), Fail> {
     let files = [("f", "[/]\nk=5\n"), ("g", "[/]\nk=6\n"), ("locks", "/k\n")];
@@ -92,9 +92,9 @@ fn calls_of_the_folder_by_compile(rt: HostRuntime) -> Result<(), Fail> {
         ),
         (
             8,
-            "0 out= err=; 1 out= err=error: Device out.db\n190 bytes, sound\n",
+            "0 out= err=; 1 out= err=error: Device out.db\n187 bytes, sound\n",
         ),
-        (9, "0 out= err=; 0 out= err=190 bytes, sound\n"),
+        (0, "0 out= err=; 0 out= err=187 bytes, sound\n"),
     ];
     for (k, wanted) in rows {
         compiling(rt.alloc(), k, wanted)?;
