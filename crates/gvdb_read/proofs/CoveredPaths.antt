@@ -34,10 +34,12 @@ parts path name front rest ends starts =
     }
 
 prefix : (path name : List ℕ) → ends_with_slash name ≡ true → is_below path name ≡ true → (k : ℕ) × IsPrefixAt path name k
-prefix path name ends below =
-    (length (take (length name - 1) name), parts path name (take (length name - 1) name) (drop (length name) path)
-    ((ends_is Decides-eqb name (47 ∷ []) (ends_with_slash name) refl).0 ends)
-    ((starts_is Decides-eqb path name (is_below path name) refl).0 below))
+prefix path name ends below = (
+  length (take (length name - 1) name),
+  parts path name (take (length name - 1) name) (drop (length name) path)
+      ((ends_is Decides-eqb name (47 ∷ []) (ends_with_slash name) refl).0 ends)
+      ((starts_is Decides-eqb path name (is_below path name) refl).0 below),
+)
 
 pub covering : (path name : List ℕ) → covers name path ≡ true → (name ≡ path) ⊎ ((k : ℕ) × IsPrefixAt path name k)
 covering path name e =

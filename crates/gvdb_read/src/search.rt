@@ -31,7 +31,13 @@ impl<'a> Table<'a> {
     }
 
     /// As `find_item`, of a name whose hash is known.
-    pub(crate) fn find_hashed(self, hash: u32, name: &[u8], kind: u8, steps: &mut Steps) -> Option<u32>
+    pub(crate) fn find_hashed(
+        self,
+        hash: u32,
+        name: &[u8],
+        kind: u8,
+        steps: &mut Steps,
+    ) -> Option<u32>
         requires hash_is { hash ≡ hash_of name.now }
         requires room { steps.old + span_size (region self) (hash_of name.now) * (length name.now + 1) < 2 ^ 128 }
         ensures found { IfSome result (IsLeast (region self.entry) name.now kind) }
