@@ -1,5 +1,5 @@
-use Rattle.std.proofs.Common.{ℕ, List, ap, sym, arith, subst, rules, take, ◌+◌, ◌∙◌, ◌≡◌, ◌↔◌, true, refl}
-use Rattle.std.specs.Prelude.{slice_index, IsTrue}
+use Rattle.std.proofs.Common.{ℕ, List, ap, sym, arith, subst, take, ◌+◌, ◌∙◌, ◌≡◌, ◌↔◌, true, refl}
+use Rattle.std.specs.Prelude.{IsTrue}
 use Rattle.std.proofs.lemmas.List.{take_all}
 use Rattle.dconf_model.specs.Bytes.{hash_of}
 use Rattle.dconf_model.specs.Locks.{covers}
