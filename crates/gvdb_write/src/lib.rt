@@ -1,7 +1,8 @@
 //! Settings that are collected, and the bytes of a database that holds them.
 //!
 //! A [`Map`] keeps the bytes of a value at each path that has one, and the paths that are locked. [`write`] gives the
-//! bytes of a database of them, from start to end in one buffer.
+//! bytes of a database of them, from start to end in one buffer. [`salvage`] gives what can be saved of one that may not
+//! be sound.
 #![tactic(auto)]
 
 mod database;
