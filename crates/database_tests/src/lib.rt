@@ -4,6 +4,8 @@
 #[cfg(test)]
 mod checking;
 #[cfg(test)]
+mod compiling;
+#[cfg(test)]
 mod faults;
 #[cfg(test)]
 mod finding;
