@@ -4,8 +4,6 @@
 #[cfg(test)]
 mod checking;
 #[cfg(test)]
-mod compiling;
-#[cfg(test)]
 mod faults;
 #[cfg(test)]
 mod finding;
