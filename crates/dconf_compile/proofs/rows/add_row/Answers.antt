@@ -8,3 +8,6 @@ pub returns-clause-fault : goal.returns-clause-fault
 returns-clause-fault c =
     let same : c.deref.result.now ≡ path_of (codes "/") (row_meant c.args.row.now) = search rules in
     too_long_row (row_meant c.args.row.now) c.requires c.deref.result.now same c.in-Err.ensures.accepts.1
+
+pub returns-in-Ok-clause-added : goal.returns-in-Ok-clause-added
+returns-in-Ok-clause-added c = search rules
