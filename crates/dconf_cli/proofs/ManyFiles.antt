@@ -1,8 +1,7 @@
 -- What a command decides by several files, which it reads one after the other.
 use Rattle.std.proofs.Common.{◌≡◌, ◌+◌, ◌++◌, ◌∷◌, ◌∙◌, inl, inr, ℕ, List, [], length, map, Option, Some, None, refl, sym, ap, subst, arith}
-use Rattle.std.specs.Prelude.{◌≢◌, MatchOption, option_map, option_to_list, string_bytes, vec_items}
+use Rattle.std.specs.Prelude.{MatchOption, option_map, option_to_list, string_bytes, vec_items}
 use Rattle.std.specs.declared.string.String.{String}
-use Rattle.std.proofs.lemmas.List.{append-nil}
 use Rattle.std.specs.Prelude.{Err, IfSome}
 use Rattle.dconf_model.specs.Databases.{IsCompiled}
 use Rattle.dconf_model.specs.FaultTexts.{line_fault_text}

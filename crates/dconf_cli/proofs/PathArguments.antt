@@ -1,9 +1,8 @@
 -- A path among the words of a command, which is looked at first.
-use Rattle.std.proofs.Common.{◌≡◌, ◌∙◌, ℕ, List, Bool, true, false, Option, Some, None, refl, sym, subst}
+use Rattle.std.proofs.Common.{◌≡◌, ◌∙◌, ℕ, List, true, Option, Some, None, refl, sym, subst}
 use Rattle.std.specs.Prelude.{is_none}
 use Rattle.dconf_model.specs.Folders.{Event}
-use Rattle.dconf_model.specs.Layers.{Layers}
-use Rattle.dconf_model.specs.Outcomes.{Gives, Outcome, UnlessFault, WithStore}
+use Rattle.dconf_model.specs.Outcomes.{Gives, UnlessFault}
 use Rattle.dconf_model.specs.Paths.{PathFault, directory_fault, is_directory_path, is_key_path, key_fault}
 use Rattle.dconf_model.specs.Reads.{ReadResults}
 use Rattle.dconf_model.proofs.PathLaws.{directories_are_faultless, keys_are_faultless}

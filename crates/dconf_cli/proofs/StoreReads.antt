@@ -1,8 +1,7 @@
 -- What follows from the reads of a store's files.
-use Rattle.std.proofs.Common.{◌≡◌, ◌+◌, ◌∷◌, ◌++◌, ◌∙◌, inl, inr, ℕ, List, [], length, map, Option, Some, None, refl, sym, ap, subst, arith}
+use Rattle.std.proofs.Common.{◌≡◌, ◌+◌, ◌∷◌, ◌++◌, ◌∙◌, ℕ, List, [], length, map, Option, Some, None, refl, sym, ap, subst, arith}
 use Rattle.std.proofs.Common.{◌<◌, ◌≤◌, drop, get_or, take}
 use Rattle.std.proofs.lemmas.List.{append_assoc, length-map, length-take-le, map_more, take-append-drop, take-map}
-use Rattle.std.specs.Prelude.{◌≢◌}
 use Rattle.dconf_model.specs.Folders.{Event}
 use Rattle.dconf_model.specs.Profiles.{Database, database_file}
 use Rattle.dconf_model.specs.Outcomes.{Gives, OrNoDatabase, Outcome, WithDatabases}
@@ -11,7 +10,7 @@ use Rattle.dconf_model.specs.Reads.FileRead.{no_file, holds, over_size, failed}
 use Rattle.dconf_path.specs.declared.profiles.Database.{Database as ProfileDatabase}
 use Rattle.dconf_path.specs.declared.profiles.DatabaseKind.TheVariants.{User}
 use Rattle.dconf_cli.specs.declared.answer.Answer.{Answer}
-use Rattle.dconf_cli.specs.Readings.{AllRead, AreOf, BreaksAt, Decides, Gave, HasRead, NothingIfAny, Reading, Tells, found_read, one_read}
+use Rattle.dconf_cli.specs.Readings.{AllRead, Decides, Gave, HasRead, NothingIfAny, Reading, found_read, one_read}
 use Rattle.dconf_cli.specs.StoreReads.{NoItems, database_reads}
 use Rattle.dconf_cli.proofs.Decisions.{found_not_failed}
 use Rattle.dconf_cli.proofs.ManyFiles.{are_together, decides_later}

@@ -24,10 +24,12 @@ use std::io::{Read, Write};
 /// `error: NoFile FILE`, `error: Device FILE` where the folder failed, `error: TooBig` for a file over 4,294,967,295
 /// bytes, and `error: Memory`. Of `show` they are also the fault of a text that is no type, as
 /// `error: KeyNotBasic at 2`, `error: TooLarge` for over 1,000,000 values or 128 levels, and `error: DoubleText` where a
-/// double is to be printed; of `compile` the first line at fault, as `error: site:2: BadLine`; of `check` why the file is no
+/// double is to be printed; of `read` and `origin` the fault of the key's path, as `error: NotAbsolute`, of the profile's first line at
+/// fault, as `error: profile:2: BadLine`, and of the first database that is no sound one, as `error: BadDatabase 1: Short`, and of `read`
+/// those of a value's printing; of `compile` the first line at fault, as `error: site:2: BadLine`; of `check` why the file is no
 /// database, as `error: BadRoot`, and `unsound: S4 item 1` for the first rule that fails and the first item at which it does.
 ///
-/// It holds the bytes of the files that it reads, and those that it writes; `show` takes time linear in both.
+/// It holds the bytes of the files that it reads once, and those that it writes; `show` takes time linear in both.
 pub fn run<F: Folder, I: Read, O: Write, E: Write>(
     alloc: Global,
     command: Command,
