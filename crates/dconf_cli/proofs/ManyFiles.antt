@@ -1,16 +1,18 @@
 -- What a command decides by several files, which it reads one after the other.
-use Rattle.std.proofs.Common.{◌≡◌, ◌+◌, ◌++◌, ◌∷◌, ◌∙◌, inl, inr, ℕ, List, [], length, map, Option, Some, None, refl, sym, ap, subst, arith}
-use Rattle.std.specs.Prelude.{MatchOption, option_map, option_to_list, string_bytes, vec_items}
+use Rattle.std.proofs.Common.{◌≡◌, ◌+◌, ◌++◌, ◌∷◌, ◌∙◌, inl, inr, ℕ, List, [], length, map, Option, Some, None, Err, refl, sym, ap, subst, arith}
+use Rattle.std.specs.Prelude.{IfSome, MatchOption, option_map, option_to_list, string_bytes, vec_items}
 use Rattle.std.specs.declared.string.String.{String}
+use Rattle.dconf_model.specs.Databases.{IsCompiled}
+use Rattle.dconf_model.specs.FaultTexts.{line_fault_text}
 use Rattle.dconf_model.specs.Folders.{Event}
 use Rattle.dconf_model.specs.Commands.Command.{compile}
-use Rattle.dconf_model.specs.Outcomes.{Compiles, IsOutcome, OrNoRead, Outcome, WithFile, WithFiles}
+use Rattle.dconf_model.specs.Outcomes.{Compiles, IsOutcome, Refused, file_name, OrNoRead, Outcome, WithFile, WithFiles}
 use Rattle.dconf_model.specs.Reads.{FileRead, Input, ReadResults}
 use Rattle.dconf_model.specs.Reads.FileRead.{no_file, holds, over_size, failed}
-use Rattle.dconf_model.specs.Sources.{Source}
+use Rattle.dconf_model.specs.Sources.{FileFault, Source}
 use Rattle.dconf_cli.specs.declared.answer.Answer.{Answer}
 use Rattle.dconf_cli.specs.declared.answer.Answer.TheVariants.{NoMemory}
-use Rattle.dconf_cli.specs.Answers.{GivesOutcome}
+use Rattle.dconf_cli.specs.Answers.{GivesOutcome, RefusesFor}
 use Rattle.dconf_cli.specs.Readings.{AllRead, AreOf, BreaksAt, Decides, Gave, HasRead, NoSources, Nothing, Reading, Tells, held_read, named_source, named_sources, one_read, reads_of}
 use Rattle.dconf_cli.specs.declared.reading.NamedFile.{NamedFile}
 use Rattle.dconf_cli.proofs.Decisions.{answers_also, decides_also, decides_at_once, not_failed, nothing_is_any}
@@ -212,3 +214,12 @@ module _ {F : Type 0} (past : F → List Event → Type 0) (failures : F → ℕ
       compiles_all locks is h_locks made =
           compiles_then (λ n. subst (λ (ns : List (List ℕ)). Decides past failures mid new n (λ reads. WithFiles reads n ns (Compiles out files)) answer) is
           (decides_by_files mid new n locks answer (Compiles out files) h_locks made))
+
+-- a fault of compiling is refused, and out of memory it is none
+pub compile_refused : (fault : Option FileFault) (out : List ℕ) (keyfiles locks : List Source) (answer : Answer)
+    → IfSome fault (λ f. IsCompiled keyfiles locks (Err f))
+    → IfSome fault (λ f. RefusesFor answer (line_fault_text (file_name keyfiles locks f.file) f.line f.cause))
+    → (fault ≡ None → answer ≡ NoMemory) → GivesOutcome answer (Compiles out keyfiles locks)
+compile_refused None out keyfiles locks answer is says none = rw (none refl) tt
+compile_refused (Some f) out keyfiles locks answer is says none =
+    answers_also answer (Refused (line_fault_text (file_name keyfiles locks f.file) f.line f.cause)) (Compiles out keyfiles locks) (λ o r. (Err f, is, r)) says
