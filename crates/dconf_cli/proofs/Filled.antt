@@ -290,12 +290,9 @@ slice_some : (values : List Text) → 0 < length values → IsSome (slice_get va
 slice_some [] lt = absurd (omega arith)
 slice_some (v ∷ vs) lt = refl
 
-false_true : false ≡ true → ⊥
-false_true e = cc
-
 -- a row of an argument that is no option
 row_some : (id : Text) (r : Row) → is_option id ≡ false → r.id ≡ id → Holds r.id r.values → IsSome (slice_get r.values 0)
-row_some id r other same (inl free) = absurd (false_true (sym other ∙ ap is_option (sym same) ∙ free))
+row_some id r other same (inl free) = let bad : false ≡ true = sym other ∙ ap is_option (sym same) ∙ free in cc
 row_some id r other same (inr some) = slice_some r.values some
 
 -- an argument that was given, and is no option, has a first value
