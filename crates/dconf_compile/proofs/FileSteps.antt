@@ -80,14 +80,3 @@ stops_at whole e file line o is memory h = record {
   fault = subst (λ (x : Option FileFault). IfSome x (λ f. whole ≡ Err f)) (sym is) h;
   memory = λ none. memory (no_fault file line o (sym is ∙ none));
 }
-
--- ---- the text of a lock file
-
-pub locks_of_text : (bytes : List ℕ) → nat_lt longest_text (length bytes) ≡ false → is_utf8 bytes ≡ true → read_file locks_in bytes ≡ locks_in bytes
-locks_of_text bytes small text = rw (small, text) refl
-
-pub locks_too_big : (bytes : List ℕ) → nat_lt longest_text (length bytes) ≡ true → read_file locks_in bytes ≡ Err (at_line 0 too_big)
-locks_too_big bytes long = rw long refl
-
-pub locks_not_utf8 : (bytes : List ℕ) → nat_lt longest_text (length bytes) ≡ false → is_utf8 bytes ≡ false → read_file locks_in bytes ≡ Err (at_line (bad_line bytes) not_utf8)
-locks_not_utf8 bytes small text = rw (small, text) refl

@@ -1,10 +1,11 @@
 //! Why one file is refused, its name aside.
-ghost use Rattle.std.specs.Prelude.{◌≡◌, None};
+ghost use Rattle.std.specs.Prelude.{◌≡◌, None, Some};
 ghost use Rattle.dconf_path.specs.LineFaults.{locks_fault_of};
+ghost use Rattle.dconf_path.specs.SettingsTexts.{text_fault_of};
 ghost use Rattle.dconf_compile.specs.LineStops.{keyfile_fault_of, line_fault_of};
 
 use crate::fault::CompileCause;
-use dconf_path::LocksFault;
+use dconf_path::{LocksFault, TextFault};
 use gvdb_write::MapFault;
 use keyfile_core::{KeyfileCause, KeyfileFault};
 
@@ -37,6 +38,23 @@ impl From<KeyfileFault> for LineStop {
                 cause: CompileCause::from(cause),
             },
             KeyfileFault::Memory => LineStop::memory(),
+        }
+    }
+}
+
+impl From<TextFault> for LineStop {
+    ghost from_gives = { λ fault stop. line_fault_of stop ≡ Some (text_fault_of fault) };
+
+    fn from(fault: TextFault) -> LineStop {
+        match fault {
+            TextFault::TooBig => LineStop {
+                line: 0,
+                cause: CompileCause::TooBig,
+            },
+            TextFault::NotUtf8(line) => LineStop {
+                line,
+                cause: CompileCause::NotUtf8,
+            },
         }
     }
 }

@@ -1,5 +1,5 @@
 //! Lock files, put into a map one after another.
-ghost use Rattle.std.specs.Prelude.{◌≡◌, ◌≤◌, ◌+◌, ◌==◌, IfErr, IfSome, OnOk, Err, length, take, count_by};
+ghost use Rattle.std.specs.Prelude.{◌≡◌, IfErr, IfSome, OnOk, Err};
 ghost use Rattle.std.specs.List.{enumerate_from};
 ghost use Rattle.dconf_model.specs.Lines.{read_file};
 ghost use Rattle.dconf_model.specs.Locks.{locks_in};
@@ -10,12 +10,11 @@ ghost use Rattle.dconf_compile.specs.CompileFaults.{StopsAt};
 ghost use Rattle.dconf_compile.specs.LineStops.{line_fault_of};
 ghost use Rattle.dconf_compile.specs.Sources.{sources_of};
 
-use crate::fault::{CompileCause, CompileFault, FileRef};
+use crate::fault::{CompileFault, FileRef};
 use crate::line_stop::LineStop;
 use crate::source::Source;
-use dconf_path::read_locks;
+use dconf_path::{read_locks, settings_text};
 use gvdb_write::Map;
-use keyfile_core::MAX_KEYFILE_LEN;
 use std::alloc::Global;
 
 /// Puts the locks of lock files into a map.
@@ -41,27 +40,10 @@ fn add_lock_file(alloc: Global, bytes: &[u8], settings: &mut Map) -> Result<(), 
     ensures added { OnOk result (AddsLocks (read_file locks_in bytes.now) settings.old settings.new) }
     ensures fault { IfErr result (λ stop. IfSome (line_fault_of stop) (λ fault. read_file locks_in bytes.now ≡ Err fault)) }
 {
-    if bytes.len() > MAX_KEYFILE_LEN {
-        return Err(LineStop {
-            line: 0,
-            cause: CompileCause::TooBig,
-        });
-    }
-    match std::str::from_utf8(bytes) {
+    match settings_text(bytes) {
         Ok(text) => add_locks(alloc, text, settings),
-        Err(fault) => Err(LineStop {
-            line: line_of(bytes, fault.valid_up_to()),
-            cause: CompileCause::NotUtf8,
-        }),
+        Err(fault) => Err(LineStop::from(fault)),
     }
-}
-
-/// The number of the line in which a place lies.
-fn line_of(bytes: &[u8], place: usize) -> usize
-    requires { place ≤ length bytes.now }
-    ensures { result ≡ count_by (λ c. c == 10) (take place bytes.now) + 1 }
-{
-    bytes[..place].iter().filter(|byte| **byte == b'\n').count() + 1
 }
 
 /// Puts the locks of a text into a map.

@@ -39,7 +39,7 @@ pub(crate) fn opened(
 
 /// What is seen at a path: its value, its value without the user's, the number of its database, and whether it is locked;
 /// and whether there is a user's database.
-fn seen(alloc: Global, engine: &Engine<'_>, path: &str) -> Result<String, Fail> {
+pub(crate) fn seen(alloc: Global, engine: &Engine<'_>, path: &str) -> Result<String, Fail> {
     let path = KeyPath::parse(path)?;
     let value = engine.read(path).and_then(|view| view.as_i32());
     let default = engine.read_default(path).and_then(|view| view.as_i32());

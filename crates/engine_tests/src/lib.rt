@@ -2,6 +2,8 @@
 #![tactic(auto)]
 
 #[cfg(test)]
+mod changing;
+#[cfg(test)]
 mod layers;
 #[cfg(test)]
 mod opening;
