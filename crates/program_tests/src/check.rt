@@ -7,7 +7,7 @@ use std::test::Fail;
 
 /// A database of the key `/k`, worth 5: a header, a table of one bucket, the items `/` and `k`, their keys, the list of
 /// `/`, and the value.
-const PLAIN: [u8; 102] = [
+pub(crate) const PLAIN: [u8; 102] = [
     71, 86, 97, 114, 105, 97, 110, 116, 0, 0, 0, 0, 0, 0, 0, 0, 24, 0, 0, 0, 84, 0, 0, 0, 0, 0, 0,
     0, 1, 0, 0, 0, 0, 0, 0, 0, 212, 181, 2, 0, 255, 255, 255, 255, 84, 0, 0, 0, 1, 0, 76, 0, 88, 0,
     0, 0, 92, 0, 0, 0, 191, 112, 89, 0, 0, 0, 0, 0, 85, 0, 0, 0, 1, 0, 118, 0, 96, 0, 0, 0, 102, 0,
@@ -15,7 +15,7 @@ const PLAIN: [u8; 102] = [
 ];
 
 /// The first bytes of the database, with some of them changed.
-fn changed(alloc: Global, len: usize, changes: &[(usize, u8)]) -> Result<Vec<u8>, Fail> {
+pub(crate) fn changed(alloc: Global, len: usize, changes: &[(usize, u8)]) -> Result<Vec<u8>, Fail> {
     let mut bytes = PLAIN;
     for (at, byte) in changes {
         if *at < bytes.len() {

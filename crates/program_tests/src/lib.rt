@@ -19,6 +19,8 @@ mod limits;
 #[cfg(test)]
 mod runs;
 #[cfg(test)]
+mod settings;
+#[cfg(test)]
 mod show;
 #[cfg(test)]
 mod streams;

@@ -20,7 +20,11 @@ pub(crate) fn one_file(alloc: Global, bytes: &[u8]) -> Result<MemoryFolder, Fail
     }
 }
 
-fn put_file(folder: &mut MemoryFolder, name: &str, bytes: &[u8]) -> Result<(), FolderFault> {
+pub(crate) fn put_file(
+    folder: &mut MemoryFolder,
+    name: &str,
+    bytes: &[u8],
+) -> Result<(), FolderFault> {
     folder.create(name)?;
     folder.append(name, bytes)
 }
@@ -99,7 +103,7 @@ pub(crate) fn kept<F: Folder>(alloc: Global, folder: &mut F) -> Result<String, A
 }
 
 /// What a run leaves on out and err, each after its name, and its status.
-fn left_by<F: Folder>(
+pub(crate) fn left_by<F: Folder>(
     alloc: Global,
     command: Command,
     folder: &mut F,

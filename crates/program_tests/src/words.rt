@@ -56,6 +56,38 @@ fn reads_check(rt: HostRuntime) -> Result<(), Fail> {
     Ok(())
 }
 
+/// Whether it is `read` with or without `-d`, of this key and by this profile.
+fn reads(asked: &Command, wanted_default: bool, wanted_key: &str, wanted_profile: &str) -> bool {
+    match asked {
+        Command::Read {
+            default,
+            key,
+            profile,
+        } => {
+            *default == wanted_default
+                && key.as_str() == wanted_key
+                && profile.as_str() == wanted_profile
+        }
+        _ => false,
+    }
+}
+
+#[test]
+fn reads_read(rt: HostRuntime) -> Result<(), Fail> {
+    let alloc = rt.alloc();
+    let lines = [
+        (["dconfdb", "read", "/k"].as_slice(), false, "profile"),
+        (["dconfdb", "read", "-d", "/k"].as_slice(), true, "profile"),
+        (["dconfdb", "read", "-p", "x", "/k"].as_slice(), false, "x"),
+        (["dconfdb", "read", "/k", "-dp", "x"].as_slice(), true, "x"),
+    ];
+    for (line, default, profile) in lines {
+        let words = texts(alloc, line)?;
+        assert!(rt; reads(&command(alloc, &words)?, default, "/k", profile));
+    }
+    Ok(())
+}
+
 #[test]
 fn reads_compile(rt: HostRuntime) -> Result<(), Fail> {
     let alloc = rt.alloc();
