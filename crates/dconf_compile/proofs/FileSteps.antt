@@ -1,13 +1,11 @@
 -- One more row or file of those that are left, put into a map, or refused.
-use Rattle.std.proofs.Common.{◌≡◌, ◌<◌, ◌+◌, ℕ, true, false, List, ◌∷◌, length, map, drop, get_or, Option, Some, None, Result, Err, is_some, refl, sym, ap, ◌∙◌, subst}
-use Rattle.std.specs.Prelude.{IfSome, option_map, nat_lt}
+use Rattle.std.proofs.Common.{◌≡◌, ◌<◌, ◌+◌, ℕ, List, ◌∷◌, length, map, drop, get_or, Option, Some, None, Result, Err, is_some, refl, sym, ap, ◌∙◌, subst}
+use Rattle.std.specs.Prelude.{IfSome, option_map}
 use Rattle.std.specs.List.{AllByRecursion, enumerate_from}
-use Rattle.std.specs.Str.{is_utf8}
 use Rattle.std.proofs.lemmas.Bool.{true≢false}
 use Rattle.std.proofs.lemmas.List.{drop_more}
 use Rattle.dconf_model.specs.Causes.{SettingsCause}
-use Rattle.dconf_model.specs.Causes.SettingsCause.{not_utf8, too_big}
-use Rattle.dconf_model.specs.Lines.{LineFault, bad_line, longest_text, read_file}
+use Rattle.dconf_model.specs.Lines.{LineFault, read_file}
 use Rattle.dconf_model.specs.Locks.{LockLine, locks_in}
 use Rattle.dconf_model.specs.Settings.{Settings}
 use Rattle.dconf_model.specs.Sources.{Assigned, File, FileFault, compiled, in_files}

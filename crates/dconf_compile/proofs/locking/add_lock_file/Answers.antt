@@ -1,4 +1,4 @@
-use Rattle.std.proofs.Common.{◌≡◌, Some, Err, IfErr, IfSome, OnOk, sym, ap, subst, ◌∙◌}
+use Rattle.std.proofs.Common.{◌≡◌, Err, IfErr, IfSome, OnOk, sym, ap, subst, ◌∙◌}
 use Rattle.dconf_model.specs.Lines.{read_file}
 use Rattle.dconf_model.specs.Locks.{locks_in}
 use Rattle.dconf_path.specs.SettingsTexts.{text_fault_of}
