@@ -38,8 +38,8 @@ newest cs c k lt is same =
 
 -- the same for each kind of call, as `grind` takes it
 pub newest_create : (cs : List Call) (made : String Global) (name : List ℕ) (c : Call) → 0 < length cs → c ≡ get_or cs (length cs - 1) c → c ≡ call.Create made
-      → file_of (events_of cs) name ≡ cond (bytes_eq name (string_bytes made)) (Some (files_made (events_of (take (length cs - 1) cs))))
-      (file_of (events_of (take (length cs - 1) cs)) name)
+    → file_of (events_of cs) name ≡ cond (bytes_eq name (string_bytes made)) (Some (files_made (events_of (take (length cs - 1) cs))))
+    (file_of (events_of (take (length cs - 1) cs)) name)
 newest_create cs made name c lt is same = ap (λ (l : List Event). file_of l name) (newest cs c _ lt is same)
 
 -- how many files were made after one call more
@@ -47,8 +47,8 @@ pub made_by : (cs : List Call) (c k : Call) → 0 < length cs → c ≡ get_or c
 made_by cs c k lt is same = ap (λ (l : List Event). files_made l) (newest cs c k lt is same)
 
 pub newest_rename : (cs : List Call) (from to : String Global) (name : List ℕ) (c : Call) → 0 < length cs → c ≡ get_or cs (length cs - 1) c → c ≡ call.Rename from to
-      → file_of (events_of cs) name ≡ cond (bytes_eq name (string_bytes to)) (file_of (events_of (take (length cs - 1) cs)) (string_bytes from))
-      (cond (bytes_eq name (string_bytes from)) None (file_of (events_of (take (length cs - 1) cs)) name))
+    → file_of (events_of cs) name ≡ cond (bytes_eq name (string_bytes to)) (file_of (events_of (take (length cs - 1) cs)) (string_bytes from))
+    (cond (bytes_eq name (string_bytes from)) None (file_of (events_of (take (length cs - 1) cs)) name))
 newest_rename cs from to name c lt is same = ap (λ (l : List Event). file_of l name) (newest cs c _ lt is same)
 
 pub newest_append : (cs : List Call) (n : String Global) (b : Vec ℕ Global) (name : List ℕ) (c : Call) → 0 < length cs → c ≡ get_or cs (length cs - 1) c → c ≡ call.Append n b → file_of (events_of cs) name ≡ file_of (events_of (take (length cs - 1) cs)) name
@@ -73,8 +73,8 @@ by_false false x y r e h = sym e
 
 -- the bytes of a file after one call more
 pub content_append : (cs : List Call) (n : String Global) (b : Vec ℕ Global) (file : ℕ) (c : Call) → 0 < length cs → c ≡ get_or cs (length cs - 1) c
-      → c ≡ call.Append n b → content (events_of cs) file ≡ cond (is_file (file_of (events_of (take (length cs - 1) cs)) (string_bytes n)) file)
-      (content (events_of (take (length cs - 1) cs)) file ++ b.items) (content (events_of (take (length cs - 1) cs)) file)
+    → c ≡ call.Append n b → content (events_of cs) file ≡ cond (is_file (file_of (events_of (take (length cs - 1) cs)) (string_bytes n)) file)
+    (content (events_of (take (length cs - 1) cs)) file ++ b.items) (content (events_of (take (length cs - 1) cs)) file)
 content_append cs n b file c lt is same = ap (λ (l : List Event). content l file) (newest cs c _ lt is same)
 
 -- another call writes nothing

@@ -75,7 +75,7 @@ written_is_laid t e words buckets rows w are some = record {
 
 -- a value that is where its item says is the item's
 pub bytes_are : (t : Table) (e : Entries) (words buckets : List ℕ) (rows : List ItemRecord) (i : ℕ) (value : List ℕ) → IsWritten t e words buckets rows → AreEntries e
-      → i < e.count → OccursAt t.file (get_or rows i no_row).start value → (get_or rows i no_row).end ≡ (get_or rows i no_row).start + length value → bytes_of t i ≡ value
+    → i < e.count → OccursAt t.file (get_or rows i no_row).start value → (get_or rows i no_row).end ≡ (get_or rows i no_row).start + length value → bytes_of t i ≡ value
 bytes_are t e words buckets rows i value w are here s end =
     let r = get_or rows i no_row in
     ap (λ (x : Item). slice_range t.file x.start x.end) (row_at t e words buckets rows i w are here)
@@ -86,9 +86,9 @@ quarter n a b le = omega (arith, le)
 
 -- where all children come one after another, the list of each item is its part of them
 pub list_is_laid : (t : Table) (e : Entries) (c : Children) (words buckets : List ℕ) (rows : List ItemRecord) (base i : ℕ) (all : List ℕ)
-      → IsWritten t e words buckets rows → AreEntries e → i < e.count → OccursAt t.file base (words_bytes all) → length all ≡ c.count
-      → ((k : ℕ) → k < c.count → get_or all k 0 ≡ c.child k) → c.first i ≤ c.first (i + 1) → c.first (i + 1) ≤ c.count
-      → (get_or rows i no_row).start ≡ base + 4 * c.first i → (get_or rows i no_row).end ≡ base + 4 * c.first (i + 1) → IsLaidList t c i
+    → IsWritten t e words buckets rows → AreEntries e → i < e.count → OccursAt t.file base (words_bytes all) → length all ≡ c.count
+    → ((k : ℕ) → k < c.count → get_or all k 0 ≡ c.child k) → c.first i ≤ c.first (i + 1) → c.first (i + 1) ≤ c.count
+    → (get_or rows i no_row).start ≡ base + 4 * c.first i → (get_or rows i no_row).end ≡ base + 4 * c.first (i + 1) → IsLaidList t c i
 list_is_laid t e c words buckets rows base i all w are here s n each rising within start end =
     let is = row_at t e words buckets rows i w are here in
     let from : (item t i).start ≡ base + 4 * c.first i = ap (λ (x : Item). x.start) is ∙ start in

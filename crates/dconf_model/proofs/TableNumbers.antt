@@ -44,8 +44,8 @@ item_of_row r = record {
 }
 
 same_item : (a b c d e f g h i : ℕ) (o p : Option ℕ) → a ≡ b → o ≡ p → c ≡ d → e ≡ f → g ≡ h → (j k l m : ℕ) → j ≡ k → l ≡ m
-      → (let left : Item = record { hash = a; parent = o; key_start = c; key_end = e; kind = g; start = j; end = l } in left) ≡ record
-      { hash = b; parent = p; key_start = d; key_end = f; kind = h; start = k; end = m }
+    → (let left : Item = record { hash = a; parent = o; key_start = c; key_end = e; kind = g; start = j; end = l } in left) ≡ record
+    { hash = b; parent = p; key_start = d; key_end = f; kind = h; start = k; end = m }
 same_item a b c d e f g h i o p x1 x2 x3 x4 x5 j k l m x6 x7 = cc
 
 pub read_item : (file : List ℕ) (at : ℕ) (r : ItemRecord) → IsSmallParent r.parent → OccursAt file at (record_bytes r) → item_at file at ≡ item_of_row r

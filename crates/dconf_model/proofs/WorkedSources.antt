@@ -25,7 +25,7 @@ use Rattle.dconf_model.proofs.WorkedLines.{reading, text_of}
 
 unfoldable pub meaning : ℕ
 unfolding reading text_of digits computing lexing depth nodes tree_at levels tokens_of first_fault read list_items tuple_items pair_items choice common under exactly
-      pattern least_in literal_value contents type_of_syntax value_of value_of_text encode number_bytes packed body_from ends_from open_ends_from least_width framed
+    pattern least_in literal_value contents type_of_syntax value_of value_of_text encode number_bytes packed body_from ends_from open_ends_from least_width framed
 meaning = 0
 
 abbrev pub lines : List (List ℕ) → List ℕ

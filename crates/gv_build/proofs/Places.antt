@@ -68,8 +68,8 @@ at_most-open n (Some s) = tt
 
 -- an element more
 pub framed_next : (start : ℕ) (before out next ends more : List ℕ) (whole left : List Part) (x : Part) (xs : List Part) → left ≡ x ∷ xs
-      → FramedSoFar start before out ends whole left → next ≡ out ++ placed_bytes (length out - start) x → length next ≤ limit
-      → more ≡ ends ++ (length next - start) ∷ [] → FramedSoFar start before next more whole xs
+    → FramedSoFar start before out ends whole left → next ≡ out ++ placed_bytes (length out - start) x → length next ≤ limit
+    → more ≡ ends ++ (length next - start) ∷ [] → FramedSoFar start before next more whole xs
 framed_next start before out next ends more whole left x xs here so_far e room g =
     let h = subst (FramedSoFar start before out ends whole) here so_far in
     let p = length out - start in
@@ -86,8 +86,8 @@ framed_next start before out next ends more whole left x xs here so_far e room g
 
 -- a member more, after which there are others
 pub members_next : (start : ℕ) (before out next ends more : List ℕ) (whole left : List Part) (x y : Part) (xs : List Part) → left ≡ x ∷ y ∷ xs
-      → MembersSoFar start before out ends whole left → next ≡ out ++ placed_bytes (length out - start) x → length next ≤ limit
-      → more ≡ ends ++ open_end (fixed_size x.0) (length next - start) → MembersSoFar start before next more whole (y ∷ xs)
+    → MembersSoFar start before out ends whole left → next ≡ out ++ placed_bytes (length out - start) x → length next ≤ limit
+    → more ≡ ends ++ open_end (fixed_size x.0) (length next - start) → MembersSoFar start before next more whole (y ∷ xs)
 members_next start before out next ends more whole left x y xs here so_far e room g =
     let h = subst (MembersSoFar start before out ends whole) here so_far in
     let p = length out - start in

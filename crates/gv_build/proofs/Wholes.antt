@@ -64,8 +64,8 @@ at_most-reverse n [] h = tt
 at_most-reverse n (x ∷ xs) h = subst (AtMost n) (sym (reverse-append (x ∷ []) xs)) (at_most-append n (reverse xs) (x ∷ []) (at_most-reverse n xs h.1) (h.0, tt))
 
 pub members_end : (start n : ℕ) (before out next ends slice : List ℕ) (whole left : List Part) (x : Part) (f g : Option ℕ) → left ≡ x ∷ []
-      → MembersSoFar start before out ends whole left → next ≡ out ++ placed_bytes (length out - start) x → length next ≤ limit → start ≡ length before → n ≡ length next
-      → slice ≡ reverse ends → g ≡ f → next ++ tuple_end g (n - start) slice ≡ before ++ tuple_bytes whole f
+    → MembersSoFar start before out ends whole left → next ≡ out ++ placed_bytes (length out - start) x → length next ≤ limit → start ≡ length before → n ≡ length next
+    → slice ≡ reverse ends → g ≡ f → next ++ tuple_end g (n - start) slice ≡ before ++ tuple_bytes whole f
 members_end start n before out next ends slice whole left x f g here so_far e room k m same size =
     let h = subst (MembersSoFar start before out ends whole) here so_far in
     let placed = placed_next start before out next whole x [] h.placed e room in

@@ -43,8 +43,8 @@ held_none whole rest c e h = record { prefix = none; held = h; more = e }
 
 -- a child more
 pub held_next : (whole rest left : Result Trees TheFault) (child : Result Tree TheFault) (old new : BuiltTrees) (o : Option Tree) → IsBuiltSoFar whole rest old
-      → rest ≡ with_first child left → IsBuilt child (Ok o) → ((vs : Trees) (v : Tree) → IsBuiltFrom old vs → BuildsTo o v → IsBuiltFrom new (with_last vs v))
-      → IsBuiltSoFar whole left new
+    → rest ≡ with_first child left → IsBuilt child (Ok o) → ((vs : Trees) (v : Tree) → IsBuiltFrom old vs → BuildsTo o v → IsBuiltFrom new (with_last vs v))
+    → IsBuiltSoFar whole left new
 held_next whole rest left child old new o h e b p = record {
   prefix = with_last h.prefix b.0;
   held = p h.prefix b.0 h.held b.2;
@@ -138,8 +138,8 @@ just_built f t u child r e b j = rw e (subst (λ x. IsBuilt (in_node (maybe u) (
 
 -- an entry of a key and a value that are built
 pub entry_built : (f g : Ty → Result Tree TheFault) (t : Ty) (o : Option (TypeStr × TypeStr)) (p : TypeStr × TypeStr) (key value : Option Tree)
-      (r : Result (Option Tree) ValueFault) → AreEntryTypes t o → o ≡ Some p → IsBuilt (f (ty p.0)) (Ok key) → IsBuilt (g (ty p.1)) (Ok value)
-      → ((u v : Tree) → BuildsTo key u → BuildsTo value v → IsBuilt (Ok (entry_node t u v)) r) → IsBuilt (at_entry f g t) r
+    (r : Result (Option Tree) ValueFault) → AreEntryTypes t o → o ≡ Some p → IsBuilt (f (ty p.0)) (Ok key) → IsBuilt (g (ty p.1)) (Ok value)
+    → ((u v : Tree) → BuildsTo key u → BuildsTo value v → IsBuilt (Ok (entry_node t u v)) r) → IsBuilt (at_entry f g t) r
 entry_built f g (entry k t) o p key value r h e b d m =
     let types = subst (AreEntryTypes (entry k t)) e h in
     let is_key = ap f (sym types.0) ∙ b.1 in

@@ -123,13 +123,13 @@ entry_text : (k : Basic) (t : Ty) (before opened keyed valued after : List ℕ) 
 unfolding spelling
 entry_text k t before opened keyed valued after e g h i =
     g ∙ ap (λ (x : List ℕ). x ++ 125 ∷ []) (i ∙ ap (λ (x : List ℕ). x ++ spelling t)
-          (h ∙ ap (λ (x : List ℕ). x ++ letter k ∷ []) e ∙ append_assoc before (123 ∷ []) (letter k ∷ [])) ∙ append_assoc before (123 ∷ letter k ∷ []) (spelling t))
-          ∙ append_assoc before (123 ∷ letter k ∷ spelling t) (125 ∷ [])
+    (h ∙ ap (λ (x : List ℕ). x ++ letter k ∷ []) e ∙ append_assoc before (123 ∷ []) (letter k ∷ [])) ∙ append_assoc before (123 ∷ letter k ∷ []) (spelling t))
+    ∙ append_assoc before (123 ∷ letter k ∷ spelling t) (125 ∷ [])
 
 -- a key and a value, between braces
 pub written_entry : (s : BasicSet) (l : TheLeast) (before opened keyed valued after : List ℕ) (f g : Found) → opened ≡ before ++ 123 ∷ [] → after ≡ valued ++ 125 ∷ []
-      → Written (least_basics basic s) opened keyed f → Written l keyed valued g
-      → Written (least_entry (least_basics basic s) (λ k. least_with (entry k) l)) before after (both_found f g)
+    → Written (least_basics basic s) opened keyed f → Written l keyed valued g
+    → Written (least_entry (least_basics basic s) (λ k. least_with (entry k) l)) before after (both_found f g)
 unfolding spelling
 written_entry s l before opened keyed valued after f g e d w v = record { found = ap₂ both_found w.found v.found ∙ same s l; text = spelled s l w.text v.text }
   where
@@ -202,8 +202,8 @@ unfolding least_in
 bare_tuple c ps qs before opened full after f e d g h w = rw e (rw (sym d) (written_tuple (leasts_in (patterns_of qs)) before opened full after f g h w))
 
 pub bare_entry : (c : Bare) (s : BasicSet) (p q : Pattern) (before opened keyed valued after : List ℕ) (f g : Found) → c ≡ entry_of s p → q ≡ p
-      → opened ≡ before ++ 123 ∷ [] → after ≡ valued ++ 125 ∷ [] → Written (least_basics basic s) opened keyed f → Written (least_in q) keyed valued g
-      → Written (least_bare c) before after (both_found f g)
+    → opened ≡ before ++ 123 ∷ [] → after ≡ valued ++ 125 ∷ [] → Written (least_basics basic s) opened keyed f → Written (least_in q) keyed valued g
+    → Written (least_bare c) before after (both_found f g)
 unfolding least_in
 bare_entry c s p q before opened keyed valued after f g e d h i w v = rw e (rw (sym d) (written_entry s (least_in q) before opened keyed valued after f g h i w v))
 

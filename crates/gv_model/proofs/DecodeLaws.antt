@@ -282,8 +282,8 @@ reading_within f e zero t b h =
     e t b ∙ tree_same (λ c. f c.type (child_bytes b c)) (λ c. decode_within 0 c.type (child_bytes b c)) t b (each_weaker (IsLess t b) (λ c. f c.type (child_bytes b c) ≡ decode_within 0 c.type (child_bytes b c)) (λ c less. absurd (omega arith)) (cut t b) (container_less t b))
 reading_within f e (suc n) t b h =
     e t b ∙ tree_same (λ c. f c.type (child_bytes b c)) (λ c. decode_within (suc n) c.type (child_bytes b c)) t b
-          (each_weaker (IsLess t b) (λ c. f c.type (child_bytes b c) ≡ decode_within (suc n) c.type (child_bytes b c))
-          (λ c less. reading_within f e n c.type (child_bytes b c) (omega arith)) (cut t b) (container_less t b))
+    (each_weaker (IsLess t b) (λ c. f c.type (child_bytes b c) ≡ decode_within (suc n) c.type (child_bytes b c))
+    (λ c less. reading_within f e n c.type (child_bytes b c) (omega arith)) (cut t b) (container_less t b))
 
 pub only_reading : (f : Ty → List ℕ → Tree) → ((t : Ty) (b : List ℕ) → f t b ≡ tree_with (λ c. f c.type (child_bytes b c)) t b) → (t : Ty) (b : List ℕ) → f t b ≡ decode t b
 only_reading f e t b = reading_within f e (weight t + length b) t b (omega arith) ∙ decode_at (suc (weight t + length b)) t b (omega arith)

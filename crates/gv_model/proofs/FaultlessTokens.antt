@@ -102,9 +102,13 @@ back_begun l (mark open_brace) d n rest ws ts h = let g = chosen_good l d _ _ ws
   where
     braces : d ≤ l → (us : List Token) → Fills l brace_start (suc d) ts us → Means l (a_value d) (mark open_brace ∷ ts) us
     braces b us (inl p) = (dictionary p.0, ap (λ r. mark open_brace ∷ r) (p.1 ∙ sym (append_assoc (pairs_tokens p.0) (mark close_brace ∷ []) us)), omega (arith, b, p.2))
-    braces b us (inr p) = (lone p.0 p.1, ap (λ r. mark open_brace ∷ r)
+    braces b us (inr p) = (
+      lone p.0 p.1,
+      ap (λ r. mark open_brace ∷ r)
           (p.2 ∙ (ap (λ r. tokens_of p.0 ++ mark comma ∷ r) (sym (append_assoc (tokens_of p.1) (mark close_brace ∷ []) us))
-          ∙ sym (append_assoc (tokens_of p.0) (mark comma ∷ (tokens_of p.1 ++ mark close_brace ∷ [])) us))), omega (arith, b, p.3, p.4))
+          ∙ sym (append_assoc (tokens_of p.0) (mark comma ∷ (tokens_of p.1 ++ mark close_brace ∷ [])) us))),
+      omega (arith, b, p.3, p.4),
+    )
 back_begun l (mark open_box) d n rest ws ts h =
     let g = chosen_good l d _ _ ws ts h in let x = g.1.1 in
     let close = g.1.2 in
@@ -136,21 +140,32 @@ unfolding levels
 after_brace l d at ws ts h = (h.2.0, go h.2.1, h.2.2)
   where
     go : Fills l brace_first d h.0 h.2.0 → Fills l brace_start d ts h.2.0
-    go (inl p) = let x = h.1 in inl (pair x.0 p.0 p.1, x.1 ∙ (ap (λ r. tokens_of x.0 ++ r) p.2
+    go (inl p) = let x = h.1 in inl (
+      pair x.0 p.0 p.1,
+      x.1 ∙ (ap (λ r. tokens_of x.0 ++ r) p.2
           ∙ (ap (λ r. tokens_of x.0 ++ mark colon ∷ r) (sym (append_assoc (tokens_of p.0) (pairs_after p.1) (mark close_brace ∷ h.2.0)))
           ∙ (sym (append_assoc (tokens_of x.0) (mark colon ∷ (tokens_of p.0 ++ pairs_after p.1)) (mark close_brace ∷ h.2.0))
-          ∙ ap (λ r. r ++ mark close_brace ∷ h.2.0) (sym (pairs_first x.0 p.0 p.1))))), omega (arith, x.2, p.3, p.4))
+          ∙ ap (λ r. r ++ mark close_brace ∷ h.2.0) (sym (pairs_first x.0 p.0 p.1))))),
+      omega (arith, x.2, p.3, p.4),
+    )
     go (inr p) = let x = h.1 in inr (x.0, p.0, x.1 ∙ ap (λ r. tokens_of x.0 ++ r) p.1, x.2, p.2)
 
 -- the pair before the others
 pair_first : (l : ℕ) (d at : ℕ) (ws : List (Want ℕ)) (ts : List Token) → Complete l (a_value d ∷ inside pair_colon d at ∷ ws) ts → Complete l (inside pair_more d at ∷ ws) (mark comma ∷ ts)
 unfolding levels
 pair_first l d at ws ts h =
-    let x = h.1 in let p = h.2.1 in
-    (h.2.0, (pair x.0 p.0 p.1, ap (λ r. mark comma ∷ r) (x.1 ∙ (ap (λ r. tokens_of x.0 ++ r) p.2
-          ∙ (ap (λ r. tokens_of x.0 ++ mark colon ∷ r) (sym (append_assoc (tokens_of p.0) (pairs_after p.1) (mark close_brace ∷ h.2.0)))
-          ∙ (sym (append_assoc (tokens_of x.0) (mark colon ∷ (tokens_of p.0 ++ pairs_after p.1)) (mark close_brace ∷ h.2.0))
-          ∙ ap (λ r. r ++ mark close_brace ∷ h.2.0) (sym (pairs_first x.0 p.0 p.1)))))), omega (arith, x.2, p.3, p.4)), h.2.2)
+    let x = h.1 in let p = h.2.1 in (
+      h.2.0,
+      (
+        pair x.0 p.0 p.1,
+        ap (λ r. mark comma ∷ r) (x.1 ∙ (ap (λ r. tokens_of x.0 ++ r) p.2
+            ∙ (ap (λ r. tokens_of x.0 ++ mark colon ∷ r) (sym (append_assoc (tokens_of p.0) (pairs_after p.1) (mark close_brace ∷ h.2.0)))
+            ∙ (sym (append_assoc (tokens_of x.0) (mark colon ∷ (tokens_of p.0 ++ pairs_after p.1)) (mark close_brace ∷ h.2.0))
+            ∙ ap (λ r. r ++ mark close_brace ∷ h.2.0) (sym (pairs_first x.0 p.0 p.1)))))),
+        omega (arith, x.2, p.3, p.4),
+      ),
+      h.2.2,
+    )
 
 next_first : (x : Syntax) (xs : Syntaxes) (close : Token) (ts us vs : List Token) → ts ≡ tokens_of x ++ us → us ≡ commas_after xs ++ close ∷ vs → mark comma ∷ ts ≡ commas_after (first x xs) ++ close ∷ vs
 next_first x xs close ts us vs e f = ap (λ r. mark comma ∷ r) (e ∙ (ap (λ r. tokens_of x ++ r) f ∙ sym (append_assoc (tokens_of x) (commas_after xs) (close ∷ vs))))

@@ -31,10 +31,13 @@ unclosed_string : lexed 0 0 (codes "'a") ≡ ([], Some (record { cause = unclose
 unfolding lexing
 unclosed_string = refl
 
-list_with_a_type : lexed 0 0 (codes "[1, @x 2]") ≡ (record { token = mark_token open_list; start = 0; stop = 1 } ∷ record
+list_with_a_type : lexed 0 0 (codes "[1, @x 2]") ≡ (
+  record { token = mark_token open_list; start = 0; stop = 1 } ∷ record
       { token = integer_token false 1; start = 1; stop = 2 } ∷ record { token = mark_token comma; start = 2; stop = 3 } ∷ record
       { token = type_token (basic int64); start = 4; stop = 6 } ∷ record { token = integer_token false 2; start = 7; stop = 8 } ∷ record
-      { token = mark_token close_list; start = 8; stop = 9 } ∷ [], None)
+      { token = mark_token close_list; start = 8; stop = 9 } ∷ [],
+  None,
+)
 unfolding lexing
 list_with_a_type = refl
 

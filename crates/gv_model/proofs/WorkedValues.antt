@@ -23,7 +23,7 @@ use Rattle.gv_model.specs.Printed.{printed, text_of, holds_double}
 -- what these computations open
 unfoldable pub computing : ℕ
 unfolding digits chars encode_char is_utf8 spelling nesting type_of_text seen mark tuple_type_before alignment fixed_size round_up offset_width default are_parts
-      basic_value text_in number_in numbers_in offset_spans fixed_spans empty_spans member_spans at_last_zero decode decode_within cut spans text_of
+    basic_value text_in number_in numbers_in offset_spans fixed_spans empty_spans member_spans at_last_zero decode decode_within cut spans text_of
 computing = 0
 
 -- the text of bytes at a type

@@ -79,7 +79,7 @@ pub second_reached : (d : ℕ) (at : Span) (t : Token) (ts old mid : List Token)
 second_reached d at t ts old mid x h s k e more = h.reaches e more ∙ entered tuple_two tuple_more close_tuple d at t ts mid second_opens s k e more
 
 pub more_members : (d : ℕ) (at : Span) (t : Token) (ts old mid new : List Token) (x : Value) (before all : List Value) → FirstMember d at old mid x → mid ≡ t ∷ ts
-      → (token_of t.kind ≡ mark close_tuple → ⊥) → before ≡ x ∷ [] → AreMore CloseTuple d at (t ∷ ts) new before all → AreMembers d at old new all
+    → (token_of t.kind ≡ mark close_tuple → ⊥) → before ≡ x ∷ [] → AreMore CloseTuple d at (t ∷ ts) new before all → AreMembers d at old new all
 unfolding levels
 more_members d at t ts old mid new x before all h s k b m = rw (m.joined, b) (record {
   tokens = h.tokens ∙ (ap (λ us. tokens_of x ++ mark comma ∷ us) (ap kinds_of s ∙ m.tokens) ∙ sym (member_tokens x m.values (mark close_tuple ∷ kinds_of new)));
@@ -155,8 +155,8 @@ pub colon_reached : (key k : Value) (d : ℕ) (at : Span) (start rest mid last :
 colon_reached key k d at start rest mid last ps h t w e more = key_reached key d at start rest mid ps h t e more ∙ w.passes e (inside pair_colon d at ∷ more)
 
 pub value_reached : (key k : Value) (d : ℕ) (at : Span) (start rest mid last later : List Token) (ps : List (Value × Value)) → PairsSoFar key d at start rest ps
-      → Taken (mark comma) rest mid → IsValue d mid last k → Taken (mark colon) last later
-      → Reaches (a_value d ∷ inside pair_more d at ∷ []) start (a_value d ∷ inside pair_more d at ∷ []) later
+    → Taken (mark comma) rest mid → IsValue d mid last k → Taken (mark colon) last later
+    → Reaches (a_value d ∷ inside pair_more d at ∷ []) start (a_value d ∷ inside pair_more d at ∷ []) later
 value_reached key k d at start rest mid last later ps h t w u e more = colon_reached key k d at start rest mid last ps h t w e more ∙ taken colon pair_colon d at (a_value d ∷ inside pair_more d at ∷ []) last later u (λ p. refl) e more
 
 -- the tokens of one pair more
@@ -170,8 +170,8 @@ shorter k v rest mid last later new d t w u x =
     omega (arith, ap length t.tokens, ap length u.tokens, no_longer (tokens_of k) mid last w.tokens, no_longer (tokens_of v) later new x.tokens)
 
 pub pair_more_read : (key k v : Value) (d : ℕ) (at : Span) (start rest mid last later new : List Token) (ps both : List (Value × Value))
-      → PairsSoFar key d at start rest ps → Taken (mark comma) rest mid → IsValue d mid last k → Taken (mark colon) last later → IsValue d later new v
-      → both ≡ ps ++ (k, v) ∷ [] → PairsSoFar key d at start new both
+    → PairsSoFar key d at start rest ps → Taken (mark comma) rest mid → IsValue d mid last k → Taken (mark colon) last later → IsValue d later new v
+    → both ≡ ps ++ (k, v) ∷ [] → PairsSoFar key d at start new both
 unfolding levels
 pair_more_read key k v d at start rest mid last later new ps both h t w u x j = record {
   first = h.first;

@@ -134,8 +134,8 @@ begun_then d s w (Some vs) e more ts = go (nat_le d 128)
     go false = refl
 
 pub enters : (r q : Stage) (d : ℕ) (at : Span) (t : Token) (ts : List Token) → step 128 (inside r d at) t.span (token_of t.kind) ≡ begun 128 d t.span
-      (inside q d at ∷ []) (begun_wants d t.span (token_of t.kind)) → (e : Span) (more : List Want) → first_fault e (inside r d at ∷ more) (t ∷ ts) ≡ first_fault e
-      (a_value d ∷ inside q d at ∷ more) (t ∷ ts)
+    (inside q d at ∷ []) (begun_wants d t.span (token_of t.kind)) → (e : Span) (more : List Want) → first_fault e (inside r d at ∷ more) (t ∷ ts) ≡ first_fault e
+    (a_value d ∷ inside q d at ∷ more) (t ∷ ts)
 unfolding first_fault first_fault_at
 enters r q d at t ts h e more = ap (stepped e more ts) h ∙ begun_then d t.span (inside q d at) (begun_wants d t.span (token_of t.kind)) e more ts
 

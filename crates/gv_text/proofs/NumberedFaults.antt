@@ -87,7 +87,7 @@ fault_of_text text ts c s l h = record { placed = map placed_of ts; stopped = No
     spans n = span_at (end_of (length text)) ts n
 
     go : (o : Option NumberedFault) → grammar_fault (kinds_of ts) ≡ o → option_map fault_as (option_map (move_fault spans) o) ≡ Some (Refused c s) → (f : NumberedFault)
-          × (grammar_fault (kinds (map placed_of ts)) ≡ Some f) × (fault_at_span c s ≡ fault_at_token (length text) f.0 (slice_get (map placed_of ts) f.1))
+        × (grammar_fault (kinds (map placed_of ts)) ≡ Some f) × (fault_at_span c s ≡ fault_at_token (length text) f.0 (slice_get (map placed_of ts) f.1))
     go None e g = absurd cc
     go (Some f) e g = (f, ap grammar_fault (kinds_placed ts) ∙ e, refused f g ∙ (fault_in_text (length text) f.0 (slice_get ts f.1) ∙ ap (fault_at_token (length text) f.0) (sym (slice_get-map placed_of ts f.1))))
       where

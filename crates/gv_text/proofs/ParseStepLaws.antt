@@ -167,7 +167,7 @@ one_value close d at start rest before all x j h = record {
 }
 
 pub one_more : (close : Mark) (d : ℕ) (at : Span) (start rest mid new : List Token) (before all both : List Value) (x : Value) → ClosesValues close
-      → MoreSoFar close d at start rest before all → Taken (mark comma) rest mid → IsValue d mid new x → both ≡ all ++ x ∷ [] → MoreSoFar close d at start new before both
+    → MoreSoFar close d at start rest before all → Taken (mark comma) rest mid → IsValue d mid new x → both ≡ all ++ x ∷ [] → MoreSoFar close d at start new before both
 unfolding levels
 one_more close d at start rest mid new before all both x c h t v j = record {
   first = h.first;

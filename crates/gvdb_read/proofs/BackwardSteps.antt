@@ -52,8 +52,8 @@ hash_begins name left e =
     ap (λ (l : List ℕ). (hash_of l * 1 + 0) % 2 ^ 32) whole ∙ none_is_gone name
 
 pub hash_goes_on : (left rest : List ℕ) (b s factor sum product new_factor new_sum whole : ℕ) → left ≡ b ∷ rest → ((h : ℕ) → hash_step h b ≡ (h * 33 + s) % 2 ^ 32)
-      → product ≡ factor * s % 2 ^ 32 → new_sum ≡ (sum + product) % 2 ^ 32 → new_factor ≡ factor * 33 % 2 ^ 32 → (hash_of (reverse left) * factor + sum) % 2 ^ 32 ≡ whole
-      → (hash_of (reverse rest) * new_factor + new_sum) % 2 ^ 32 ≡ whole
+    → product ≡ factor * s % 2 ^ 32 → new_sum ≡ (sum + product) % 2 ^ 32 → new_factor ≡ factor * 33 % 2 ^ 32 → (hash_of (reverse left) * factor + sum) % 2 ^ 32 ≡ whole
+    → (hash_of (reverse rest) * new_factor + new_sum) % 2 ^ 32 ≡ whole
 hash_goes_on left rest b s factor sum product new_factor new_sum whole e step times more bigger before =
     let split : reverse left ≡ reverse rest ++ b ∷ [] = ap (λ (l : List ℕ). reverse l) e ∙ reverse-append (b ∷ []) rest in
     let hash : hash_of (reverse left) ≡ (hash_of (reverse rest) * 33 + s) % 2 ^ 32 = ap hash_of split ∙ (hash_of_last (reverse rest) b ∙ step (hash_of (reverse rest))) in

@@ -62,8 +62,8 @@ cut_out t i bytes numbers valid is cut len =
 
 -- each number has P
 pub each_has : (t : Table) (i : ℕ) (numbers : List (List ℕ)) (P : ℕ → Type 0) (b : Bool) → AreNumbers t i numbers
-      → MatchBool b (AllWithin (λ x. P (number_in x)) numbers 0 (length numbers)) ((k : ℕ) × (k < length numbers) × HoldsAt (λ x. P (number_in x) → ⊥) numbers k)
-      → IsTrue b ↔ ((k : ℕ) → k < list_length t i → P (listed t i k))
+    → MatchBool b (AllWithin (λ x. P (number_in x)) numbers 0 (length numbers)) ((k : ℕ) × (k < length numbers) × HoldsAt (λ x. P (number_in x) → ⊥) numbers k)
+    → IsTrue b ↔ ((k : ℕ) → k < list_length t i → P (listed t i k))
 each_has t i numbers P true are all = (λ _ k lt. let inside : k < length numbers = omega (arith, lt, are.len) in subst P (are.each k [] inside) (all k [] (omega arith) inside), λ _. refl)
 each_has t i numbers P false are some = (
   λ h. let bad : false ≡ true = h in cc,
@@ -82,8 +82,8 @@ range_at n k lt = let same : 0 + k ≡ k = omega arith in get_or-range_with_len 
 
 -- no number occurs twice where each is none of those before it
 pub once_where_first : (t : Table) (i n : ℕ) (numbers : List (List ℕ)) (b : Bool) → AreNumbers t i numbers → n ≡ length numbers
-      → MatchBool b (AllWithin (IsFirstAt numbers) (range_with_len 0 n) 0 (length (range_with_len 0 n)))
-      ((k : ℕ) × (k < length (range_with_len 0 n)) × HoldsAt (λ m. IsFirstAt numbers m → ⊥) (range_with_len 0 n) k) → IsTrue b ↔ IsOnce t i
+    → MatchBool b (AllWithin (IsFirstAt numbers) (range_with_len 0 n) 0 (length (range_with_len 0 n)))
+    ((k : ℕ) × (k < length (range_with_len 0 n)) × HoldsAt (λ m. IsFirstAt numbers m → ⊥) (range_with_len 0 n) k) → IsTrue b ↔ IsOnce t i
 once_where_first t i n numbers true are e all = (
   λ _. all_once t i n (omega (arith, e, are.len)) (λ m k lt below same.
       let first = subst (IsFirstAt numbers) (range_at n m lt) (all m 0 (omega arith) (omega (arith, lt, length-range_with_len 0 n))) in

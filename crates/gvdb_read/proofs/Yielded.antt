@@ -38,8 +38,8 @@ same_numbers eq tells (x ∷ xs) (y ∷ ys) zip =
 
 -- what is left decides, by its first number
 decided : (eq : ℕ → ℕ → Bool) → ((x : ℕ) → eq x x ≡ true) → (o p : Option ℕ) (b : Bool) (l m k n : List ℕ) → MatchOption o ((l ≡ []) × (k ≡ [])) (λ x. l ≡ x ∷ k)
-      → MatchOption p ((m ≡ []) × (n ≡ [])) (λ y. m ≡ y ∷ n) → MatchOption o (MatchOption p (b ≡ true) (λ _. b ≡ false))
-      (λ x. (b ≡ false) × IfSome p (λ y. eq x y ≡ false)) → IsTrue b ↔ (l ≡ m)
+    → MatchOption p ((m ≡ []) × (n ≡ [])) (λ y. m ≡ y ∷ n) → MatchOption o (MatchOption p (b ≡ true) (λ _. b ≡ false))
+    (λ x. (b ≡ false) × IfSome p (λ y. eq x y ≡ false)) → IsTrue b ↔ (l ≡ m)
 decided eq same None None b l m k n one other last = (λ h. one.0 ∙ sym other.0, λ e. last)
 decided eq same None (Some y) b l m k n one other last =
     (λ h. let no : b ≡ false = last in let yes : b ≡ true = h in cc, λ e. let empty : l ≡ [] = one.0 in let some : m ≡ y ∷ n = other in cc)
@@ -53,8 +53,8 @@ decided eq same (Some x) (Some y) b l m k n one other last = (
 
 -- two such iterators compare equal exactly where the same numbers are left
 pub compares_lists : {S U : Type 0} (rest : S → List ℕ) (becomes : U → S → Type 0) (eq : ℕ → ℕ → Bool) (s : S) (other : U) (others : List ℕ) (b : Bool)
-      → ((x y : ℕ) → eq x y ≡ true → x ≡ y) → ((x : ℕ) → eq x x ≡ true) → ((it : S) → becomes other it → rest it ≡ others)
-      → ComparesItemsByEq (YieldsFirst rest) becomes (YieldsFirst rest) s other eq b → IsTrue b ↔ (rest s ≡ others)
+    → ((x y : ℕ) → eq x y ≡ true → x ≡ y) → ((x : ℕ) → eq x x ≡ true) → ((it : S) → becomes other it → rest it ≡ others)
+    → ComparesItemsByEq (YieldsFirst rest) becomes (YieldsFirst rest) s other eq b → IsTrue b ↔ (rest s ≡ others)
 compares_lists rest becomes eq s other others b tells same is run =
     let ours = gone rest run.1 s run.8.0 run.8.1 in
     let theirs = gone rest run.2 run.0 run.9.0 run.9.1 in

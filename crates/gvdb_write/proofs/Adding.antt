@@ -124,8 +124,8 @@ from_less text from at path some le here before slash =
     (cases_lt from at)
 
 list_lies : (names : List Named) (text : List ℕ) (parent from at : ℕ) (n : Named) → IsDirectoryAt names text parent → from ≡ length (name_at names parent) → from < at
-      → at < length text → get_or text at 0 ≡ 47 → HasNoSlash text from at → n.name.now ≡ take (at + 1) text → n.from ≡ from → kind_of n.content ≡ list_kind
-      → LiesIn (named names parent) n
+    → at < length text → get_or text at 0 ≡ 47 → HasNoSlash text from at → n.name.now ≡ take (at + 1) text → n.from ≡ from → kind_of n.content ≡ list_kind
+    → LiesIn (named names parent) n
 list_lies names text parent from at n lies from_is less here slash plain is n_from kind =
     let len : length n.name.now ≡ at + 1 = ap (λ (x : List ℕ). length x) is ∙ length-take-le (at + 1) text (omega (arith, here)) in
     let end : length n.name.now - 1 ≡ at = omega (arith, len) in
@@ -187,8 +187,8 @@ directory_pushed names text n at is kind here =
     }
 
 pub slash_step : (old names : List Named) (text : List ℕ) (parent from hash at : ℕ) (n : Named) → IsText text → IsUtf8 text → IsAdding old names text parent from hash at
-      → at < length text → get_or text at 0 ≡ 47 → n.name.now ≡ take (at + 1) text → n.from ≡ from → n.hash ≡ hash_step hash (get_or text at 0) → n.parent ≡ Some parent
-      → kind_of n.content ≡ list_kind → IsAdding old (names ++ n ∷ []) text (length names) (at + 1) (hash_step hash (get_or text at 0)) (at + 1)
+    → at < length text → get_or text at 0 ≡ 47 → n.name.now ≡ take (at + 1) text → n.from ≡ from → n.hash ≡ hash_step hash (get_or text at 0) → n.parent ≡ Some parent
+    → kind_of n.content ≡ list_kind → IsAdding old (names ++ n ∷ []) text (length names) (at + 1) (hash_step hash (get_or text at 0)) (at + 1)
 slash_step old names text parent from hash at n path utf8 a here slash is n_from n_hash up kind =
     let less : from < at = from_less text from at path a.some a.from_le here a.after_slash slash in
     let hash_now = step_hash text at hash here a.hash_is in
@@ -235,8 +235,8 @@ path_lies names text parent from n lies from_is plain is n_from kind = record {
 }
 
 pub path_step : (old names : List Named) (text value : List ℕ) (parent from hash : ℕ) (n : Named) → IsText text → IsUtf8 text
-      → IsAdding old names text parent from hash (length text) → IsNewPath text value n → n.from ≡ from → n.hash ≡ hash → n.parent ≡ Some parent
-      → IsAdded old (names ++ n ∷ []) text value parent
+    → IsAdding old names text parent from hash (length text) → IsNewPath text value n → n.from ≡ from → n.hash ≡ hash → n.parent ≡ Some parent
+    → IsAdded old (names ++ n ∷ []) text value parent
 path_step old names text value parent from hash n path utf8 a new n_from n_hash up =
     let all : take (length text) text ≡ text = take_all (length text) text (omega arith) in
     let is : n.name.now ≡ text = new.0 in
@@ -324,15 +324,15 @@ start names text parent from hash good lies beyond from_is hash_is =
 -- ---- in the words of the code
 
 pub start_now : (names : List Named) (text : List ℕ) (parent : ℕ) (d e : Named) → AreGood names → IsDirectoryAt names text parent
-      → IsBeyond (last_name names) text (length (name_at names parent)) → d ≡ named names parent → e ≡ named names parent
-      → IsAdding names names text parent (length d.name.now) e.hash (length d.name.now)
+    → IsBeyond (last_name names) text (length (name_at names parent)) → d ≡ named names parent → e ≡ named names parent
+    → IsAdding names names text parent (length d.name.now) e.hash (length d.name.now)
 start_now names text parent d e good lies beyond is same =
     let from_is : length d.name.now ≡ length (name_at names parent) = ap (λ (x : Named). length x.name.now) is in
     start names text parent (length d.name.now) e.hash good lies (subst (λ (k : ℕ). IsBeyond (last_name names) text k) (sym from_is) beyond) from_is (ap (λ (x : Named). x.hash) same)
 
 pub plain_now : (old names new : List Named) (text : List ℕ) (parent parent_now from from_now hash hash_now at : ℕ) → IsAdding old names text parent from hash at
-      → at < length text → get_or text at 0 ≢ 47 → new ≡ names → parent_now ≡ parent → from_now ≡ from → hash_now ≡ hash_step hash (get_or text at 0)
-      → IsAdding old new text parent_now from_now hash_now (at + 1)
+    → at < length text → get_or text at 0 ≢ 47 → new ≡ names → parent_now ≡ parent → from_now ≡ from → hash_now ≡ hash_step hash (get_or text at 0)
+    → IsAdding old new text parent_now from_now hash_now (at + 1)
 plain_now old names new text parent parent_now from from_now hash hash_now at a here other n p f h =
     subst (λ (x : List Named). IsAdding old x text parent_now from_now hash_now (at + 1)) (sym n)
     (subst (λ (x : ℕ). IsAdding old names text x from_now hash_now (at + 1)) (sym p)
@@ -341,9 +341,9 @@ plain_now old names new text parent parent_now from from_now hash hash_now at a 
     (plain_step old names text parent from hash at a here other))))
 
 pub slash_now : (old names new : List Named) (text : List ℕ) (parent parent_now from from_now hash hash_now at : ℕ) (n : Named) → IsText text → IsUtf8 text
-      → IsAdding old names text parent from hash at → at < length text → get_or text at 0 ≡ 47 → n.name.now ≡ take (at + 1) text → n.from ≡ from
-      → n.hash ≡ hash_step hash (get_or text at 0) → n.parent ≡ Some parent → kind_of n.content ≡ list_kind → new ≡ names ++ n ∷ [] → parent_now ≡ length names
-      → from_now ≡ at + 1 → hash_now ≡ hash_step hash (get_or text at 0) → IsAdding old new text parent_now from_now hash_now (at + 1)
+    → IsAdding old names text parent from hash at → at < length text → get_or text at 0 ≡ 47 → n.name.now ≡ take (at + 1) text → n.from ≡ from
+    → n.hash ≡ hash_step hash (get_or text at 0) → n.parent ≡ Some parent → kind_of n.content ≡ list_kind → new ≡ names ++ n ∷ [] → parent_now ≡ length names
+    → from_now ≡ at + 1 → hash_now ≡ hash_step hash (get_or text at 0) → IsAdding old new text parent_now from_now hash_now (at + 1)
 slash_now old names new text parent parent_now from from_now hash hash_now at n path utf8 a here slash is n_from n_hash up kind e p f h =
     subst (λ (x : List Named). IsAdding old x text parent_now from_now hash_now (at + 1)) (sym e)
     (subst (λ (x : ℕ). IsAdding old (names ++ n ∷ []) text x from_now hash_now (at + 1)) (sym p)
@@ -352,8 +352,8 @@ slash_now old names new text parent parent_now from from_now hash hash_now at n 
     (slash_step old names text parent from hash at n path utf8 a here slash is n_from n_hash up kind))))
 
 pub path_now : (old names new : List Named) (text value : List ℕ) (parent from hash at : ℕ) (n : Named) → IsText text → IsUtf8 text
-      → IsAdding old names text parent from hash at → length text ≤ at → n.name.now ≡ text → kind_of n.content ≡ value_kind → content_bytes n.content ≡ value
-      → n.from ≡ from → n.hash ≡ hash → n.parent ≡ Some parent → new ≡ names ++ n ∷ [] → IsAdded old new text value parent
+    → IsAdding old names text parent from hash at → length text ≤ at → n.name.now ≡ text → kind_of n.content ≡ value_kind → content_bytes n.content ≡ value
+    → n.from ≡ from → n.hash ≡ hash → n.parent ≡ Some parent → new ≡ names ++ n ∷ [] → IsAdded old new text value parent
 path_now old names new text value parent from hash at n path utf8 a end is kind held n_from n_hash up e =
     let inside = a.inside in
     let last : at ≡ length text = omega (arith, end, inside) in

@@ -56,8 +56,8 @@ place_before places after place n c is i l = ap (λ (ps : List ℕ). get_or ps i
 
 -- the next item has a value, which is added
 pub value_found : (items : List Named) (first values more : List (List ℕ)) (places after : List ℕ) (bytes : Bor (List ℕ)) (place n : ℕ) (d : Named)
-      → AreFound items first values places n → n < length items → (get_or items n d).content ≡ Value bytes → more ≡ with_new values bytes.now → place < length more
-      → get_or more place [] ≡ bytes.now → after ≡ places ++ place ∷ [] → AreFound items first more after (n + 1)
+    → AreFound items first values places n → n < length items → (get_or items n d).content ≡ Value bytes → more ≡ with_new values bytes.now → place < length more
+    → get_or more place [] ≡ bytes.now → after ≡ places ++ place ∷ [] → AreFound items first more after (n + 1)
 value_found items first values more places after bytes place n d so l has new w at is =
     let value = bytes.now in
     let content : (named items n).content ≡ Value bytes = same_content items n d l ∙ has in
@@ -81,7 +81,7 @@ value_found items first values more places after bytes place n d so l has new w 
 
 -- the next item has none
 pub other_found : (items : List Named) (first values : List (List ℕ)) (places after : List ℕ) (place n : ℕ) (d : Named) → AreFound items first values places n
-      → n < length items → ((x : Bor (List ℕ)) → (get_or items n d).content ≢ Value x) → after ≡ places ++ place ∷ [] → AreFound items first values after (n + 1)
+    → n < length items → ((x : Bor (List ℕ)) → (get_or items n d).content ≢ Value x) → after ≡ places ++ place ∷ [] → AreFound items first values after (n + 1)
 other_found items first values places after place n d so l none is =
     let content = same_content items n d l in
     let has = has_none (named items n).content (λ x e. none x (sym content ∙ e)) in

@@ -48,7 +48,7 @@ next_end items from at next n ends is =
 
 -- one item more
 pub row_more : (items : List Named) (from : ℕ) (rows new : List Numbers) (at next n : ℕ) (d : Named) (r : Numbers) → AreRowsBelow items from rows at n
-      → d ≡ named items n → next ≡ at + (length d.name.now - d.from) → new ≡ rows ++ r ∷ [] → AreNumbersOf d at r → AreRowsBelow items from new next (n + 1)
+    → d ≡ named items n → next ≡ at + (length d.name.now - d.from) → new ≡ rows ++ r ∷ [] → AreNumbersOf d at r → AreRowsBelow items from new next (n + 1)
 row_more items from rows new at next n d r so item laid pushed is =
     subst (λ (rs : List Numbers). AreRowsBelow items from rs next (n + 1)) (sym pushed) record {
       counted = let c = so.counted in let more = length_push rows r in omega (arith, c, more);

@@ -28,12 +28,12 @@ moved at at' values values' value r e f has =
 
 -- those of the root table are added first, then those of the locks, and then all are laid
 pub are_valued : (root locks : TablePlan) (at keys lock_keys : ℕ) (root_old root_new lock_old lock_new : List Numbers) (first all : List (List ℕ))
-      (root_places lock_places : List ℕ) (pointers : List Pointer) → AreLocks locks.items.items → AreRecords root.items.items keys root_old
-      → AreRecords locks.items.items lock_keys lock_old → first ≡ fold with_new [] (own_values root.items.items)
-      → all ≡ fold with_new first (own_values locks.items.items) → HavePlaces root.items.items first root_places → HavePlaces locks.items.items all lock_places
-      → ArePointers at all pointers → AreSet root_old root_new value_kind (λ i. pointer_at pointers (get_or root_places i 0))
-      → AreSet lock_old lock_new value_kind (λ i. pointer_at pointers (get_or lock_places i 0)) → at ≡ values_at (plan_of root locks)
-      → AreValued root locks all root_new lock_new
+    (root_places lock_places : List ℕ) (pointers : List Pointer) → AreLocks locks.items.items → AreRecords root.items.items keys root_old
+    → AreRecords locks.items.items lock_keys lock_old → first ≡ fold with_new [] (own_values root.items.items)
+    → all ≡ fold with_new first (own_values locks.items.items) → HavePlaces root.items.items first root_places → HavePlaces locks.items.items all lock_places
+    → ArePointers at all pointers → AreSet root_old root_new value_kind (λ i. pointer_at pointers (get_or root_places i 0))
+    → AreSet lock_old lock_new value_kind (λ i. pointer_at pointers (get_or lock_places i 0)) → at ≡ values_at (plan_of root locks)
+    → AreValued root locks all root_new lock_new
 are_valued root locks at keys lock_keys root_old root_new lock_old lock_new first all root_places lock_places pointers are rows lock_rows of_root of_locks have lock_have laid set lock_set is =
     let items = root.items.items in
     let whole : all ≡ once_each (all_values (plan_of root locks)) = all_once root locks first all are of_root of_locks in

@@ -33,8 +33,8 @@ none_laid start values pointers none = record {
 }
 
 pub one_laid : (start : ℕ) (values : List (List ℕ)) (n at next : ℕ) (pointers after : List Pointer) (pointer : Pointer) → AreLaid start values n at pointers
-      → n < length values → pointer.start ≡ round_up 8 at → pointer.end ≡ round_up 8 at + length (get_or values n []) → next ≡ pointer.end
-      → after ≡ pointers ++ pointer ∷ [] → AreLaid start values (n + 1) next after
+    → n < length values → pointer.start ≡ round_up 8 at → pointer.end ≡ round_up 8 at + length (get_or values n []) → next ≡ pointer.end
+    → after ≡ pointers ++ pointer ∷ [] → AreLaid start values (n + 1) next after
 one_laid start values n at next pointers after pointer so l from to end is =
     let begins : round_up 8 at ≡ value_start start values n = ap (round_up 8) so.here in
     let stops : pointer.end ≡ value_start start values n + length (get_or values n []) = to ∙ ap (λ (m : ℕ). m + length (get_or values n [])) begins in
@@ -78,7 +78,7 @@ past_at_align start values n at pointers so l e past =
     past_is_over (round_up 8 at) (values_end start values) e (omega (arith, begins, le)) past
 
 pub past_at_lay : (start : ℕ) (values : List (List ℕ)) (n at aligned size : ℕ) (pointers : List Pointer) → AreLaid start values n at pointers → n < length values
-      → aligned ≡ round_up 8 at → size ≡ length (get_or values n []) → (e : WriteFault) → IsPast (aligned + size) e → IsOver (values_end start values) e
+    → aligned ≡ round_up 8 at → size ≡ length (get_or values n []) → (e : WriteFault) → IsPast (aligned + size) e → IsOver (values_end start values) e
 past_at_lay start values n at aligned size pointers so l is many e past =
     let begins : aligned ≡ value_start start values n = is ∙ ap (round_up 8) so.here in
     let le = ends_below start values n l in

@@ -23,8 +23,8 @@ root_keys root locks = ap (λ (n : ℕ). n + size_of_table (length root.items.it
 
 -- the root table ends with its lists
 pub root_ends : (root locks : TablePlan) → CanBeLaid root.items.items → EachEntry (entries_of root.items.items) (IsRootEntry (entries_of root.items.items))
-      → AreChildren (entries_of root.items.items) (children_of root) → (i : ℕ) × (i < length root.items.items) × (kind_at root.items.items i ≡ list_kind)
-      → all_lists_end (laid_end 24 root.items.items) (children_of root) ≡ root_end (plan_of root locks)
+    → AreChildren (entries_of root.items.items) (children_of root) → (i : ℕ) × (i < length root.items.items) × (kind_at root.items.items i ≡ list_kind)
+    → all_lists_end (laid_end 24 root.items.items) (children_of root) ≡ root_end (plan_of root locks)
 root_ends root locks items entries children top =
     ap (λ (n : ℕ). all_lists_end (keys_end (entries_of root.items.items) n (length root.items.items)) (children_of root)) (root_keys root locks)
     ∙ sym (lists_end_is (entries_of root.items.items) (children_of root)
@@ -43,8 +43,8 @@ root_within root locks =
 
 -- all of it
 pub whole_is : (root locks : TablePlan) (root_at lock_at end : ℕ) (values : List (List ℕ)) → root_at ≡ root_end (plan_of root locks)
-      → lock_at ≡ locks_end (entries_of locks.items.items) root_at → values ≡ once_each (all_values (plan_of root locks)) → end ≡ values_end lock_at values
-      → end ≡ length_of (plan_of root locks)
+    → lock_at ≡ locks_end (entries_of locks.items.items) root_at → values ≡ once_each (all_values (plan_of root locks)) → end ≡ values_end lock_at values
+    → end ≡ length_of (plan_of root locks)
 whole_is root locks root_at lock_at end values from to once is =
     is ∙ (ap (λ (n : ℕ). values_end n values) (to ∙ ap (locks_end (entries_of locks.items.items)) from)
     ∙ ap (values_end (locks_end (entries_of locks.items.items) (root_end (plan_of root locks)))) once)

@@ -17,8 +17,8 @@ use Rattle.gvdb_write.proofs.PushedNames.{kept, pushed}
 
 -- a name without a directory, with the value at a lock
 pub is_lock_named : (path : List ℕ) (n : Named) (content : Content) → IsUtf8 path → n.hash ≡ hash_of path
-      → entry_of n ≡ record { name = path; key = path; parent = None; kind = kind_of content } → n.content ≡ content → kind_of content ≡ value_kind
-      → content_bytes content ≡ nothing_bytes → IsLockNamed path n
+    → entry_of n ≡ record { name = path; key = path; parent = None; kind = kind_of content } → n.content ≡ content → kind_of content ≡ value_kind
+    → content_bytes content ≡ nothing_bytes → IsLockNamed path n
 is_lock_named path n content utf8 hash entry is kind value = record {
   utf8 = utf8;
   hash = hash ∙ ap (λ (e : Entry). hash_of e.name) (sym entry);

@@ -159,8 +159,8 @@ end_of n k (inr list) le s =
     )
 
 closed_by : (names : List Named) (i k : ℕ) → i < length names → (o : Option ℕ) → NameHasParent names i o → IsSlash (name_at names i) k
-      → ((p : ℕ) → p < i → IsSlash (name_at names p) k → IsThere names (take (k + 1) (name_at names p)) list_kind)
-      → IsThere names (take (k + 1) (name_at names i)) list_kind
+    → ((p : ℕ) → p < i → IsSlash (name_at names p) k → IsThere names (take (k + 1) (name_at names p)) list_kind)
+    → IsThere names (take (k + 1) (name_at names i)) list_kind
 closed_by names i k here None has_parent s above = top_directory names i k here has_parent.0 has_parent.1 s
 closed_by names i k here (Some p) has_parent s above =
     let lies = has_parent.1 in

@@ -132,8 +132,8 @@ module _ (root locks : TablePlan) (layout : Layout) (tables : AreTables root loc
       omega (arith, long, b, c, d)
 
   pub values_within : (with_root lists with_locks : List ℕ) (values : List (Bor (List ℕ)))
-        → HasTable root layout.root.rows.items (header_bytes layout.root.pointer.start layout.root.pointer.end) with_root → lists ≡ with_lists root with_root
-        → HasTableOfLocks locks layout.locks.rows.items lists with_locks → values ≡ layout.values.items → values_end (length with_locks) (bytes_of_each values) ≤ limit
+      → HasTable root layout.root.rows.items (header_bytes layout.root.pointer.start layout.root.pointer.end) with_root → lists ≡ with_lists root with_root
+      → HasTableOfLocks locks layout.locks.rows.items lists with_locks → values ≡ layout.values.items → values_end (length with_locks) (bytes_of_each values) ≤ limit
   values_within with_root lists with_locks values has is locked same =
       let long = locks_long lists with_locks (lists_ends with_root lists has is) locked in
       let end : values_end (length with_locks) (bytes_of_each values) ≡ length_of P = ap (λ (vs : List (Bor (List ℕ))). values_end (length with_locks) (bytes_of_each vs)) same ∙ values_long (length with_locks) long in

@@ -31,8 +31,8 @@ piece_appended f xs i d out before after l b a =
 
 -- one more key, which is read as the part of a name from there up to its end
 pub key_appended : (items : List Named) (i : ℕ) (d : Named) (out before after : List ℕ) → i < length items
-      → before ≡ out ++ flat_map (λ n. drop n.from n.name.now) (take i items) → after ≡ before ++ take (length (get_or items i d).name.now - (get_or items i d).from)
-      (drop (get_or items i d).from (get_or items i d).name.now) → after ≡ out ++ flat_map (λ n. drop n.from n.name.now) (take (i + 1) items)
+    → before ≡ out ++ flat_map (λ n. drop n.from n.name.now) (take i items) → after ≡ before ++ take (length (get_or items i d).name.now - (get_or items i d).from)
+    (drop (get_or items i d).from (get_or items i d).name.now) → after ≡ out ++ flat_map (λ n. drop n.from n.name.now) (take (i + 1) items)
 key_appended items i d out before after l b a =
     let n = get_or items i d in
     let size = length-drop n.from n.name.now in

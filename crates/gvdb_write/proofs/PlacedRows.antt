@@ -13,8 +13,8 @@ use Rattle.gvdb_write.proofs.PointedRows.{set_pointer}
 
 -- the place of each row's value has a pointer
 pub places_within : (items : List Named) (keys_at : ℕ) (rows : List Numbers) (values : List (List ℕ)) (places : List ℕ) (pointers : List Pointer)
-      → AreRecords items keys_at rows → HavePlaces items values places → length pointers ≡ length values → (i : ℕ) → i < length rows → (row rows i).kind ≡ value_kind
-      → get_or places i 0 < length pointers
+    → AreRecords items keys_at rows → HavePlaces items values places → length pointers ≡ length values → (i : ℕ) → i < length rows → (row rows i).kind ≡ value_kind
+    → get_or places i 0 < length pointers
 places_within items keys_at rows values places pointers are have n i l k =
     let c = are.counted in
     let here : i < length items = omega (arith, l, c) in
@@ -23,9 +23,9 @@ places_within items keys_at rows values places pointers are have n i l k =
 
 -- each item's value is where its row says
 pub value_placed : (items : List Named) (keys_at at : ℕ) (old new : List Numbers) (values : List (List ℕ)) (places : List ℕ) (pointers : List Pointer)
-      → AreRecords items keys_at old → HavePlaces items values places → ArePointers at values pointers
-      → AreSet old new value_kind (λ i. pointer_at pointers (get_or places i 0)) → (i : ℕ) → i < length items → kind_at items i ≡ value_kind
-      → HasPlacedValue at values (content_bytes (named items i).content) (row new i)
+    → AreRecords items keys_at old → HavePlaces items values places → ArePointers at values pointers
+    → AreSet old new value_kind (λ i. pointer_at pointers (get_or places i 0)) → (i : ℕ) → i < length items → kind_at items i ≡ value_kind
+    → HasPlacedValue at values (content_bytes (named items i).content) (row new i)
 value_placed items keys_at at old new values places pointers are have laid set i l k =
     let c = are.counted in
     let p = get_or places i 0 in
@@ -44,8 +44,8 @@ value_placed items keys_at at old new values places pointers are have laid set i
 
 -- that of a lock is the empty string
 pub lock_placed : (items : List Named) (keys_at at : ℕ) (old new : List Numbers) (values : List (List ℕ)) (places : List ℕ) (pointers : List Pointer) → AreLocks items
-      → AreRecords items keys_at old → HavePlaces items values places → ArePointers at values pointers
-      → AreSet old new value_kind (λ i. pointer_at pointers (get_or places i 0)) → (i : ℕ) → i < length items → HasPlacedValue at values nothing_bytes (row new i)
+    → AreRecords items keys_at old → HavePlaces items values places → ArePointers at values pointers
+    → AreSet old new value_kind (λ i. pointer_at pointers (get_or places i 0)) → (i : ℕ) → i < length items → HasPlacedValue at values nothing_bytes (row new i)
 lock_placed items keys_at at old new values places pointers locks are have laid set i l =
     subst (λ (v : List ℕ). HasPlacedValue at values v (row new i)) (locks i l).1
     (value_placed items keys_at at old new values places pointers are have laid set i l (locks i l).0)

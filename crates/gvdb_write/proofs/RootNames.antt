@@ -88,8 +88,8 @@ slash_in_prefix text prefix i is less s = record {
 }
 
 not_in_prefix : (names : List Named) (last text : List ℕ) (at len result i : ℕ) → IsDirectoryAt names last at
-      → ((j : ℕ) → IsSlash last j → j < length (name_at names at)) → IsCommon last text len → IsCommonDirectory names at len result → IsSlash text i
-      → length (name_at names result) ≤ i → (rest : List ℕ) → last ≢ take (i + 1) text ++ rest
+    → ((j : ℕ) → IsSlash last j → j < length (name_at names at)) → IsCommon last text len → IsCommonDirectory names at len result → IsSlash text i
+    → length (name_at names result) ≤ i → (rest : List ℕ) → last ≢ take (i + 1) text ++ rest
 not_in_prefix names last text at len result i lies innermost common d s after rest is =
     let here = s.here in
     let size : length (take (i + 1) text) ≡ i + 1 = length-take-le (i + 1) text (omega (arith, here)) in
@@ -104,7 +104,7 @@ not_in_prefix names last text at len result i lies innermost common d s after re
     omega (arith, inner, after)
 
 beyond_next : (names : List Named) (last text : List ℕ) (at len result : ℕ) → IsDirectoryAt names last at → ((j : ℕ) → IsSlash last j → j < length (name_at names at))
-      → IsCommon last text len → IsCommonDirectory names at len result → IsBefore last text → IsBeyond last text (length (name_at names result))
+    → IsCommon last text len → IsCommonDirectory names at len result → IsBefore last text → IsBeyond last text (length (name_at names result))
 beyond_next names last text at len result lies innermost common d before = record {
   path = before;
   directories = λ i s after.
@@ -126,8 +126,8 @@ pub record IsNextDirectory (names : List Named) (text : List ℕ) (at : ℕ) : T
   pub beyond : IsBeyond (last_name names) text (length (name_at names at))
 
 pub next_directory : (s : Settings) (names slice : List Named) (at : ℕ) (last text : List ℕ) (left rest : List (List ℕ)) (len result : ℕ)
-      → AreNamesSoFar s names at last left → left ≡ text ∷ rest → IsCommon last text len → slice ≡ names → IsCommonDirectory slice at len result
-      → IsNextDirectory names text result
+    → AreNamesSoFar s names at last left → left ≡ text ∷ rest → IsCommon last text len → slice ≡ names → IsCommonDirectory slice at len result
+    → IsNextDirectory names text result
 next_directory s names slice at last text left rest len result so is common same inner =
     let some : length left ≡ suc (length rest) = ap (λ (l : List (List ℕ)). length l) is in
     let before : IsBefore last text = subst (λ (l : List (List ℕ)). IsBefore last (get_or l 0 [])) is (so.before 0 (omega (arith, some))) in
@@ -141,8 +141,8 @@ next_directory s names slice at last text left rest len result so is common same
 -- ---- the value of the next path
 
 pub value_here : (s : Settings) (text : List ℕ) (found : Option (Bor (List ℕ))) (Default : Bor (List ℕ) → Type 0) (value : Bor (List ℕ))
-      → option_map (λ (b : Bor (List ℕ)). b.now) found ≡ get s.values text → UnwrapsOrElse found Default value → IsTrue (contains_key s.values text)
-      → get s.values text ≡ Some value.now
+    → option_map (λ (b : Bor (List ℕ)). b.now) found ≡ get s.values text → UnwrapsOrElse found Default value → IsTrue (contains_key s.values text)
+    → get s.values text ≡ Some value.now
 value_here s text None Default value is unwraps kept = let bad : false ≡ true = ap is_some is ∙ kept in cc
 value_here s text (Some bytes) Default value is unwraps kept = sym is ∙ ap (λ (b : Bor (List ℕ)). Some b.now) (sym unwraps)
 

@@ -108,7 +108,7 @@ pub row_is : (rows : List Numbers) (i : ℕ) → get_or (records_of rows) i no_r
 row_is rows i = get_or-map record_of rows i no_numbers
 
 encodes_item : (items : List Named) (file : List ℕ) (keys_at i : ℕ) (r : Numbers) → (named items i).hash ≡ hash_of (name_at items i) → IsRecordOf items keys_at i r
-      → i < length items → OccursAt file keys_at (keys_bytes items) → HasContentAt file (kind_at items i) r → EncodesItem file ((entries_of items).entry i) (record_of r)
+    → i < length items → OccursAt file keys_at (keys_bytes items) → HasContentAt file (kind_at items i) r → EncodesItem file ((entries_of items).entry i) (record_of r)
 encodes_item items file keys_at i r hash is here keys content = record {
   hash = is.hash ∙ hash;
   parent = is.parent;
@@ -127,9 +127,9 @@ module _ (t : TablePlan) (rows : List Numbers) (file : List ℕ) (at : ℕ) (are
   place = record { file = file; start = at; end = at + size_of_table (length t.items.items) }
 
   pub is_written : (words : List ℕ) → length words ≡ (length t.items.items + 15) / 16 → HaveBits words t.items.items
-        → OccursAt file at (table_bytes words t.buckets.items (records_of rows) ++ keys_bytes t.items.items)
-        → ((i : ℕ) → i < length t.items.items → HasContentAt file (kind_at t.items.items i) (row rows i))
-        → IsWritten place (entries_of t.items.items) words t.buckets.items (records_of rows)
+      → OccursAt file at (table_bytes words t.buckets.items (records_of rows) ++ keys_bytes t.items.items)
+      → ((i : ℕ) → i < length t.items.items → HasContentAt file (kind_at t.items.items i) (row rows i))
+      → IsWritten place (entries_of t.items.items) words t.buckets.items (records_of rows)
   is_written words counted bits occurs contents =
       let table = table_bytes words t.buckets.items (records_of rows) in
       let keys_at = at + size_of_table (length t.items.items) in

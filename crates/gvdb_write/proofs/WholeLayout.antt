@@ -35,8 +35,8 @@ last_are items keys_at first then_ last tables values so = rows_stay items keys_
 
 -- lists stay where they are
 list_stays : (items : List Named) (keys_at : ℕ) (first then_ last : List Numbers) (tables values : ℕ → Pointer) (i start end : ℕ)
-      → AreSetTwice items keys_at first then_ last tables values → i < length items → kind_at items i ≡ list_kind → HasPointer (row first i) start end
-      → HasPointer (row last i) start end
+    → AreSetTwice items keys_at first then_ last tables values → i < length items → kind_at items i ≡ list_kind → HasPointer (row first i) start end
+    → HasPointer (row last i) start end
 list_stays items keys_at first then_ last tables values i start end so here list is =
     let then_so = then_are items keys_at first then_ last tables values so in
     let a = so.are.counted in
@@ -63,12 +63,12 @@ pub record IsLockPointer (locks : TablePlan) (root_at : ℕ) (pointer : Pointer)
   pub end_is : 0 < length locks.items.items → pointer.end ≡ table_end root_at (length locks.items.items)
 
 pub is_layout : (root locks : TablePlan) (layout : Layout) (root_at : ℕ) (first then_ lock_rows : List Numbers) (values lock_values : ℕ → Pointer)
-      → layout.root.pointer.start ≡ round_up 4 24 → layout.root.pointer.end ≡ table_end 24 (length root.items.items)
-      → AreSetTwice root.items.items (table_end 24 (length root.items.items)) first then_ layout.root.rows.items (λ i. layout.locks.pointer) values
-      → AreListed root (laid_end 24 root.items.items) first → root_at ≡ root_end (plan_of root locks) → IsLockPointer locks root_at layout.locks.pointer
-      → AreRecords locks.items.items (table_end root_at (length locks.items.items)) lock_rows → AreSet lock_rows layout.locks.rows.items value_kind lock_values
-      → AreValued root locks (bytes_of_each layout.values.items) layout.root.rows.items layout.locks.rows.items → layout.end ≡ length_of (plan_of root locks)
-      → layout.end ≤ limit → IsLayoutOf root locks layout
+    → layout.root.pointer.start ≡ round_up 4 24 → layout.root.pointer.end ≡ table_end 24 (length root.items.items)
+    → AreSetTwice root.items.items (table_end 24 (length root.items.items)) first then_ layout.root.rows.items (λ i. layout.locks.pointer) values
+    → AreListed root (laid_end 24 root.items.items) first → root_at ≡ root_end (plan_of root locks) → IsLockPointer locks root_at layout.locks.pointer
+    → AreRecords locks.items.items (table_end root_at (length locks.items.items)) lock_rows → AreSet lock_rows layout.locks.rows.items value_kind lock_values
+    → AreValued root locks (bytes_of_each layout.values.items) layout.root.rows.items layout.locks.rows.items → layout.end ≡ length_of (plan_of root locks)
+    → layout.end ≤ limit → IsLayoutOf root locks layout
 is_layout root locks layout root_at first then_ lock_rows values lock_values from to so listed ends lock_pointer lock_are lock_set valued whole within =
     let items = root.items.items in
     let keys : ℕ = table_end 24 (length items) in
@@ -104,8 +104,8 @@ HavePointers rows places pointers = (i : ℕ) → i < length rows → (row rows 
 
 -- a place among the first values is one among all that are laid
 pub has_pointer : (items : List Named) (keys_at at : ℕ) (old rows : List Numbers) (tables : ℕ → Pointer) (first all more : List (List ℕ)) (places : List ℕ)
-      (pointers : List Pointer) → AreRecords items keys_at old → AreSet old rows table_kind tables → HavePlaces items first places → all ≡ fold with_new first more
-      → ArePointers at all pointers → HavePointers rows places pointers
+    (pointers : List Pointer) → AreRecords items keys_at old → AreSet old rows table_kind tables → HavePlaces items first places → all ≡ fold with_new first more
+    → ArePointers at all pointers → HavePointers rows places pointers
 has_pointer items keys_at at old rows tables first all more places pointers are set have is laid =
     places_within items keys_at rows all places pointers (rows_stay items keys_at old rows table_kind tables are set)
     (subst (λ (vs : List (List ℕ)). HavePlaces items vs places) (sym is) (places_stay items first places have more)) laid.counted

@@ -22,8 +22,8 @@ least::write_least_bare-returns-in_ok-push_str-in-Tuple-2 t c = bare_tuple _ c.i
 
 pub least::write_least_bare-returns-in_ok-push_str-in-Entry-2 : goal.least::write_least_bare-returns-in_ok-push_str-in-Entry-2
 least::write_least_bare-returns-in_ok-push_str-in-Entry-2 t c = rw c.and.ensures
-      (bare_entry _ _ _ _ _ _ _ _ _ _ _ (ap bare_of c.in-Entry.is) c.deref-in-Entry.ensures c.in_ok-push_str-in-Entry.ensures.bytes
-      c.in_ok-push_str-in-Entry-2.ensures.bytes c.in_ok-key-in-Entry.ensures c.in_ok-value-in-Entry.ensures)
+    (bare_entry _ _ _ _ _ _ _ _ _ _ _ (ap bare_of c.in-Entry.is) c.deref-in-Entry.ensures c.in_ok-push_str-in-Entry.ensures.bytes
+    c.in_ok-push_str-in-Entry-2.ensures.bytes c.in_ok-key-in-Entry.ensures c.in_ok-value-in-Entry.ensures)
 
 pub least::write_least_bare-returns-in-Empty : goal.least::write_least_bare-returns-in-Empty
 least::write_least_bare-returns-in-Empty t c = bare_none _ _ _ (ap bare_of c.in-Empty.is)
@@ -49,9 +49,9 @@ least::write_leasts-loop-p-preserved t c =
     let here = drop_item c.args.ps.now c.loop-p.p-index c.p-item.result c.loop-p-test.true c.p-item.is in record {
       small = omega (arith, ap (λ l. all_parts (patterns_of l)) here, c.loop-p.invariant.small);
       goes_on = rw c.and-found.ensures (goes_on (least_in c.p-item.result)
-            (leasts_in (patterns_of (drop (c.loop-p.p-index + 1) c.args.ps.now))) _ _ _ _ _ _ c.in_ok-write_least.ensures
-            (subst (λ l. GoesOn (leasts_in (patterns_of l)) (leasts_in (patterns_of c.args.ps.now)) (string_bytes c.args.text.now)
-            (string_bytes c.loop-p.text) c.loop-p.found) here c.loop-p.invariant.goes_on));
+          (leasts_in (patterns_of (drop (c.loop-p.p-index + 1) c.args.ps.now))) _ _ _ _ _ _ c.in_ok-write_least.ensures
+          (subst (λ l. GoesOn (leasts_in (patterns_of l)) (leasts_in (patterns_of c.args.ps.now)) (string_bytes c.args.text.now)
+          (string_bytes c.loop-p.text) c.loop-p.found) here c.loop-p.invariant.goes_on));
     }
 
 pub least::write_leasts-returns : goal.least::write_leasts-returns

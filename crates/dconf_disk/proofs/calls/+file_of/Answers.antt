@@ -21,16 +21,16 @@ returns-then-eq-2 t c =
 pub returns-then-eq-3 : goal.returns-then-eq-3
 returns-then-eq-3 t c =
     by_true _ _ _ _ (sym (by_false _ _ _ _ (newest_rename c.args.calls.now c.in-Rename.from c.in-Rename.to c.args.name.now c.last-item.result
-          (omega arith) c.last-item.is c.in-Rename.is) (ap (bytes_eq c.args.name.now) (sym c.as_str-in-Rename.ensures.value)
-          ∙ (sym c.eq-in-Rename.ensures ∙ c.if-eq-2.false))))
+    (omega arith) c.last-item.is c.in-Rename.is) (ap (bytes_eq c.args.name.now) (sym c.as_str-in-Rename.ensures.value)
+    ∙ (sym c.eq-in-Rename.ensures ∙ c.if-eq-2.false))))
     (ap (bytes_eq c.args.name.now) (sym c.as_str-in-Rename-2.ensures.value) ∙ (sym c.eq-in-Rename-2.ensures ∙ c.if-eq-3.true))
 
 pub returns-else-eq-3 : goal.returns-else-eq-3
 returns-else-eq-3 t c =
     c.file_of-in-Rename.ensures
     ∙ by_false _ _ _ _ (sym (by_false _ _ _ _ (newest_rename c.args.calls.now c.in-Rename.from c.in-Rename.to c.args.name.now c.last-item.result
-          (omega arith) c.last-item.is c.in-Rename.is) (ap (bytes_eq c.args.name.now) (sym c.as_str-in-Rename.ensures.value)
-          ∙ (sym c.eq-in-Rename.ensures ∙ c.if-eq-2.false))))
+    (omega arith) c.last-item.is c.in-Rename.is) (ap (bytes_eq c.args.name.now) (sym c.as_str-in-Rename.ensures.value)
+    ∙ (sym c.eq-in-Rename.ensures ∙ c.if-eq-2.false))))
     (ap (bytes_eq c.args.name.now) (sym c.as_str-in-Rename-2.ensures.value) ∙ (sym c.eq-in-Rename-2.ensures ∙ c.if-eq-3.false))
 
 pub returns-in-Append : goal.returns-in-Append

@@ -63,10 +63,14 @@ build-build_array-requires t c =
     let same = ap (λ xs. greatest_levels (nodes_of xs)) c.as_slice-in-Array.ensures.value in
     let fits = subst (λ x. Admits x (ty c.args.of)) is c.requires.fits in
     let within = list_within _ (subst IsInLimits is c.requires.within) in
-    let xs = c.as_slice-in-Array.ensures.value in
-    (omega (arith, deep, same, c.decreases), (subst (λ ys. IsArrayOf (AllAdmit (nodes_of ys)) (ty c.bare-inside.result)) (sym xs)
-          (fits_bare (IsArrayOf (AllAdmit (nodes_of c.in-Array.elements.items))) (ty c.args.of) _ fits c.bare-inside.ensures),
-          subst (λ ys. AreWithin (nodes_of ys)) (sym xs) within))
+    let xs = c.as_slice-in-Array.ensures.value in (
+      omega (arith, deep, same, c.decreases),
+      (
+        subst (λ ys. IsArrayOf (AllAdmit (nodes_of ys)) (ty c.bare-inside.result)) (sym xs)
+            (fits_bare (IsArrayOf (AllAdmit (nodes_of c.in-Array.elements.items))) (ty c.args.of) _ fits c.bare-inside.ensures),
+        subst (λ ys. AreWithin (nodes_of ys)) (sym xs) within,
+      ),
+    )
 
 pub build-build_tuple-requires : goal.build-build_tuple-requires
 build-build_tuple-requires t c =
@@ -150,10 +154,14 @@ build-build_dictionary-requires t c =
     let fits = subst (λ x. Admits x (ty c.args.of)) is c.requires.fits in
     let within = dictionary_within _ (subst IsInLimits is c.requires.within) in
     let ps = pairs_of c.in-Dictionary.pairs.items in
-    let xs = c.as_slice-in-Dictionary.ensures.value in
-    (omega (arith, deep, same, c.decreases), (subst (λ ys. IsArrayOf (IsEntryOf (KeysAdmit (pairs_of ys)) (ValuesAdmit (pairs_of ys))) (ty c.bare-inside.result))
-          (sym xs) (fits_bare (IsArrayOf (IsEntryOf (KeysAdmit ps) (ValuesAdmit ps))) (ty c.args.of) _ fits c.bare-inside.ensures),
-          subst (λ ys. PairsWithin (pairs_of ys)) (sym xs) within))
+    let xs = c.as_slice-in-Dictionary.ensures.value in (
+      omega (arith, deep, same, c.decreases),
+      (
+        subst (λ ys. IsArrayOf (IsEntryOf (KeysAdmit (pairs_of ys)) (ValuesAdmit (pairs_of ys))) (ty c.bare-inside.result))
+            (sym xs) (fits_bare (IsArrayOf (IsEntryOf (KeysAdmit ps) (ValuesAdmit ps))) (ty c.args.of) _ fits c.bare-inside.ensures),
+        subst (λ ys. PairsWithin (pairs_of ys)) (sym xs) within,
+      ),
+    )
 
 pub build-in_maybes-requires-in-Variant : goal.build-in_maybes-requires-in-Variant
 build-in_maybes-requires-in-Variant t c =
@@ -285,8 +293,8 @@ build_elements-returns-in_err-build t c =
     let item = drop_item c.args.nodes.now c.loop-node.node-index c.node-item.result c.loop-node-test.true c.node-item.is in
     let p = err_from_is_err_and c.from_residual-in_err-build.result c.from_residual-in_err-build.ensures.1 in
     rw (p.1, p.2) (held_fault _ _ (elements choice (nodes_of (drop (c.loop-node.node-index + 1) c.args.nodes.now)) (ty c.args.of))
-          (literal_value choice c.node-item.result (ty c.args.of)) c.loop-node.children c.in_err-build.field-0.0 c.loop-node.invariant.held
-          (ap (λ xs. elements choice (nodes_of xs) (ty c.args.of)) item) c.in_err-build.ensures.built)
+    (literal_value choice c.node-item.result (ty c.args.of)) c.loop-node.children c.in_err-build.field-0.0 c.loop-node.invariant.held
+    (ap (λ xs. elements choice (nodes_of xs) (ty c.args.of)) item) c.in_err-build.ensures.built)
 
 pub build_elements-loop-node-preserved : goal.build_elements-loop-node-preserved
 unfolding literal_value
@@ -296,8 +304,8 @@ build_elements-loop-node-preserved t c =
     let within = subst (λ xs. AreWithin (nodes_of xs)) item c.loop-node.invariant.within in
     record {
       held = held_next _ _ (elements choice (nodes_of (drop (c.loop-node.node-index + 1) c.args.nodes.now)) (ty c.args.of))
-            (literal_value choice c.node-item.result (ty c.args.of)) c.loop-node.children c.push.new.self c.in_ok-build.field-0 c.loop-node.invariant.held
-            (ap (λ xs. elements choice (nodes_of xs) (ty c.args.of)) item) c.in_ok-build.ensures.built c.in_ok-push.ensures;
+          (literal_value choice c.node-item.result (ty c.args.of)) c.loop-node.children c.push.new.self c.in_ok-build.field-0 c.loop-node.invariant.held
+          (ap (λ xs. elements choice (nodes_of xs) (ty c.args.of)) item) c.in_ok-build.ensures.built c.in_ok-push.ensures;
       fits = fits.1;
       within = within.1;
     }
@@ -322,8 +330,8 @@ build_entries-returns-in_err-build_entry t c =
     let item = drop_item c.args.pairs.now c.loop-key.key-index c.loop-key-item.result c.loop-key-test.true c.loop-key-item.is in
     let p = err_from_is_err_and c.from_residual-in_err-build_entry.result c.from_residual-in_err-build_entry.ensures.1 in
     rw (p.1, p.2) (held_fault _ _ (entries choice (pairs_of (drop (c.loop-key.key-index + 1) c.args.pairs.now)) (ty c.args.of))
-          (at_entry (literal_value choice c.loop-key-item.result.0) (literal_value choice c.loop-key-item.result.1) (ty c.args.of)) c.loop-key.children
-          c.in_err-build_entry.field-0.0 c.loop-key.invariant.held (ap (λ ps. entries choice (pairs_of ps) (ty c.args.of)) item) c.in_err-build_entry.ensures.built)
+    (at_entry (literal_value choice c.loop-key-item.result.0) (literal_value choice c.loop-key-item.result.1) (ty c.args.of)) c.loop-key.children
+    c.in_err-build_entry.field-0.0 c.loop-key.invariant.held (ap (λ ps. entries choice (pairs_of ps) (ty c.args.of)) item) c.in_err-build_entry.ensures.built)
 
 pub build_entries-loop-key-preserved : goal.build_entries-loop-key-preserved
 unfolding literal_value
@@ -333,9 +341,9 @@ build_entries-loop-key-preserved t c =
     let within = subst (λ ps. PairsWithin (pairs_of ps)) item c.loop-key.invariant.within in
     record {
       held = held_next _ _ (entries choice (pairs_of (drop (c.loop-key.key-index + 1) c.args.pairs.now)) (ty c.args.of))
-            (at_entry (literal_value choice c.loop-key-item.result.0) (literal_value choice c.loop-key-item.result.1) (ty c.args.of)) c.loop-key.children c.push.new.self
-            c.in_ok-build_entry.field-0 c.loop-key.invariant.held (ap (λ ps. entries choice (pairs_of ps) (ty c.args.of)) item) c.in_ok-build_entry.ensures.built
-            c.in_ok-push.ensures;
+          (at_entry (literal_value choice c.loop-key-item.result.0) (literal_value choice c.loop-key-item.result.1) (ty c.args.of)) c.loop-key.children c.push.new.self
+          c.in_ok-build_entry.field-0 c.loop-key.invariant.held (ap (λ ps. entries choice (pairs_of ps) (ty c.args.of)) item) c.in_ok-build_entry.ensures.built
+          c.in_ok-push.ensures;
       fits = fits.1;
       within = within.2;
     }
@@ -349,8 +357,8 @@ build_entries-returns t c =
 pub build_entry-returns-clause-built : goal.build_entry-returns-clause-built
 build_entry-returns-clause-built t c =
     entry_built (literal_value choice c.args.key.now) (literal_value choice c.args.value.now)
-          (ty c.args.of) c.entry_types.result c.unwrap.result c.in_ok-key.key c.in_ok-value.value c.entry.result c.entry_types.ensures c.unwrap.ensures
-          c.in_ok-key.ensures.built c.in_ok-value.ensures.built c.entry.ensures.built
+    (ty c.args.of) c.entry_types.result c.unwrap.result c.in_ok-key.key c.in_ok-value.value c.entry.result c.entry_types.ensures c.unwrap.ensures
+    c.in_ok-key.ensures.built c.in_ok-value.ensures.built c.entry.ensures.built
 
 pub build_just-just-requires-clause-within : goal.build_just-just-requires-clause-within
 build_just-just-requires-clause-within t c =
@@ -388,8 +396,8 @@ build_members-returns-in_err-build t c =
     let is = ap (λ xs. members_of choice (nodes_of xs) (types_from (members_left c.loop-node.types))) item ∙ ap (λ ts. members_of choice (nodes_of (c.node-item.result ∷ drop (c.loop-node.node-index + 1) c.args.nodes.now)) (types_from ts)) step in
     let p = err_from_is_err_and c.from_residual-in_err-build.result c.from_residual-in_err-build.ensures.1 in
     rw (p.1, p.2) (held_fault _ _ (members_of choice (nodes_of (drop (c.loop-node.node-index + 1) c.args.nodes.now)) (types_from (members_left c.next.new.self)))
-          (literal_value choice c.node-item.result (ty c.unwrap-of.result)) c.loop-node.children c.in_err-build.field-0.0 c.loop-node.invariant.held is
-          c.in_err-build.ensures.built)
+    (literal_value choice c.node-item.result (ty c.unwrap-of.result)) c.loop-node.children c.in_err-build.field-0.0 c.loop-node.invariant.held is
+    c.in_err-build.ensures.built)
 
 pub build_members-loop-node-preserved : goal.build_members-loop-node-preserved
 unfolding literal_value
@@ -401,8 +409,8 @@ build_members-loop-node-preserved t c =
     let is = ap (λ xs. members_of choice (nodes_of xs) (types_from (members_left c.loop-node.types))) item ∙ ap (λ ts. members_of choice (nodes_of (c.node-item.result ∷ drop (c.loop-node.node-index + 1) c.args.nodes.now)) (types_from ts)) step in
     record {
       held = held_next _ _ (members_of choice (nodes_of (drop (c.loop-node.node-index + 1) c.args.nodes.now)) (types_from (members_left c.next.new.self)))
-            (literal_value choice c.node-item.result (ty c.unwrap-of.result)) c.loop-node.children c.push.new.self c.in_ok-build.field-0 c.loop-node.invariant.held is
-            c.in_ok-build.ensures.built c.in_ok-push.ensures;
+          (literal_value choice c.node-item.result (ty c.unwrap-of.result)) c.loop-node.children c.push.new.self c.in_ok-build.field-0 c.loop-node.invariant.held is
+          c.in_ok-build.ensures.built c.in_ok-push.ensures;
       fits = fits.1;
       within = within.1;
     }

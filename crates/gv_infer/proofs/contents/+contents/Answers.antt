@@ -20,8 +20,8 @@ pub check_contents-returns-in_err-type_of_node-in-Variant-clause-fault : goal.ch
 check_contents-returns-in_err-type_of_node-in-Variant-clause-fault t c =
     let whole = sym c.node.view_is ∙ ap syntax_of c.in-Variant.is in
     stops_itself c.from_residual-in_err-type_of_node-in-Variant.result _ _ c.in_err-type_of_node-in-Variant.field-0.0 whole
-          (rw c.deref-in-Variant.ensures at c.in_ok-check_contents-in-Variant.ensures.typed)
-          (rw c.deref-in-Variant-2.ensures at c.in_err-type_of_node-in-Variant.ensures.fault) c.from_residual-in_err-type_of_node-in-Variant.ensures.1
+    (rw c.deref-in-Variant.ensures at c.in_ok-check_contents-in-Variant.ensures.typed)
+    (rw c.deref-in-Variant-2.ensures at c.in_err-type_of_node-in-Variant.ensures.fault) c.from_residual-in_err-type_of_node-in-Variant.ensures.1
 
 pub check_contents-returns-in_ok-check_contents-in-Entry-clause-fault : goal.check_contents-returns-in_ok-check_contents-in-Entry-clause-fault
 check_contents-returns-in_ok-check_contents-in-Entry-clause-fault t c =

@@ -10,12 +10,59 @@ use Rattle.gv_text.specs.ModelTokens.{token_of, mark_of}
 use Rattle.std.specs.Prelude.{IsSome}
 use Rattle.gv_text.specs.Expectations.{left, more_stage}
 use Rattle.gv_text.proofs.ExpectationLaws.{Either, other, unclosed, missing, entered, carried, carried_in, carried_out, always, does_not_begin, begins, list_opens, tuple_opens, brace_opens, not_taken, pair_wants, wants_comma, wants_colon, wants_brace, wants_box}
-use Rattle.gv_text.proofs.ParseStepLaws.{whole_value, is_truth, is_text, is_bytes, is_integer, is_nothing, is_just, is_keyword, is_of_type, is_array, is_tuple, is_boxed,
-  if_ok, if_err, no_elements, elements_of, no_members, took_comma, took_close, not_separated, separated, one_value, one_more, all_values}
+use Rattle.gv_text.proofs.ParseStepLaws.{
+  whole_value,
+  is_truth,
+  is_text,
+  is_bytes,
+  is_integer,
+  is_nothing,
+  is_just,
+  is_keyword,
+  is_of_type,
+  is_array,
+  is_tuple,
+  is_boxed,
+  if_ok,
+  if_err,
+  no_elements,
+  elements_of,
+  no_members,
+  took_comma,
+  took_close,
+  not_separated,
+  separated,
+  one_value,
+  one_more,
+  all_values,
+}
 use Rattle.gv_text.proofs.SequenceLaws.{no_longer}
-use Rattle.gv_text.proofs.BracketLaws.{HoldsFirst, FirstMember, holds_first, stops_after, stops_in_value, first_member, one_member, second_reached, more_members,
-  first_wants, neither, no_pairs, pairs_reached, some_pairs, lone_reached, lone_ended, is_entry, one_pair, key_reached, colon_reached, value_reached, shorter,
-  pair_more_read, all_pairs}
+use Rattle.gv_text.proofs.BracketLaws.{
+  HoldsFirst,
+  FirstMember,
+  holds_first,
+  stops_after,
+  stops_in_value,
+  first_member,
+  one_member,
+  second_reached,
+  more_members,
+  first_wants,
+  neither,
+  no_pairs,
+  pairs_reached,
+  some_pairs,
+  lone_reached,
+  lone_ended,
+  is_entry,
+  one_pair,
+  key_reached,
+  colon_reached,
+  value_reached,
+  shorter,
+  pair_more_read,
+  all_pairs,
+}
 use Rattle.gv_text.proofs.parsing.+parsing.Goals as goal
 
 -- src/parsing/braces.rt:23:17
@@ -40,10 +87,13 @@ pub braces::braces-returns-in_err-key-clause-fault :
 braces::braces-returns-in_err-key-clause-fault t c =
     let p = err_from_is_err_and c.from_residual-in_err-key.result c.from_residual-in_err-key.ensures.1 in
     rw (p.1, p.2) (carried_in _ _ (inside brace_start c.args.depth c.args.opened ∷ []) (a_value c.args.depth ∷ []) (left c.args.rest.now)
-          (c.in_ok-first.first ∷ left c.next.new.rest) c.in_err-key.ensures.fault
-          (λ e more. (inside brace_first c.args.depth c.args.opened ∷ more,
-          entered brace_start brace_first close_brace c.args.depth c.args.opened _ _ _ brace_opens c.in_ok-first.ensures
-          (λ h. cc (c.if-is_mark.false, c.is_mark.ensures.1 h)) e more, sym c.refused-ended.ensures)))
+    (c.in_ok-first.first ∷ left c.next.new.rest) c.in_err-key.ensures.fault
+    (λ e more. (
+      inside brace_first c.args.depth c.args.opened ∷ more,
+      entered brace_start brace_first close_brace c.args.depth c.args.opened _ _ _ brace_opens c.in_ok-first.ensures
+          (λ h. cc (c.if-is_mark.false, c.is_mark.ensures.1 h)) e more,
+      sym c.refused-ended.ensures,
+    )))
 
 -- src/parsing/braces.rt:28:16
 pub braces::braces-returns-in_err-mark-clause-fault :
@@ -51,9 +101,9 @@ pub braces::braces-returns-in_err-mark-clause-fault :
 braces::braces-returns-in_err-mark-clause-fault t c =
     let p = err_from_is_err_and c.from_residual-in_err-mark.result c.from_residual-in_err-mark.ensures.1 in
     rw (p.1, p.2) (stops_after (inside brace_start c.args.depth c.args.opened ∷ []) (inside brace_first c.args.depth c.args.opened ∷ []) (left c.args.rest.now)
-          (left c.value_from.new.rest) _ (HoldsFirst.reaches (holds_first brace_start brace_first close_brace c.args.depth c.args.opened _ _ _ _ _ brace_opens
-          c.in_ok-first.ensures (λ h. cc (c.if-is_mark.false, c.is_mark.ensures.1 h)) c.in_ok-key.ensures.value))
-          (unclosed brace_first _ _ [] _ _ c.in_err-mark.ensures.0 (c.in_err-mark.ensures.1 ∙ c.refused-ended.ensures)))
+    (left c.value_from.new.rest) _ (HoldsFirst.reaches (holds_first brace_start brace_first close_brace c.args.depth c.args.opened _ _ _ _ _ brace_opens
+    c.in_ok-first.ensures (λ h. cc (c.if-is_mark.false, c.is_mark.ensures.1 h)) c.in_ok-key.ensures.value))
+    (unclosed brace_first _ _ [] _ _ c.in_err-mark.ensures.0 (c.in_err-mark.ensures.1 ∙ c.refused-ended.ensures)))
 
 -- src/parsing/braces.rt:30:42
 pub braces::braces-pairs-requires : goal.braces::braces-pairs-requires
@@ -65,29 +115,29 @@ pub braces::braces-returns-in_err-pairs-clause-fault :
 braces::braces-returns-in_err-pairs-clause-fault t c =
     let p = err_from_is_err_and c.from_residual-in_err-pairs.result c.from_residual-in_err-pairs.ensures.1 in
     rw (p.1, p.2) (stops_after (inside brace_start c.args.depth c.args.opened ∷ []) (a_value c.args.depth ∷ inside pair_more c.args.depth c.args.opened ∷ [])
-          (left c.args.rest.now) (left c.next-2.new.rest) _ (pairs_reached c.args.depth c.args.opened _ _ _ _
-          (holds_first brace_start brace_first close_brace c.args.depth c.args.opened _ _ _ _ _ brace_opens c.in_ok-first.ensures
-          (λ h. cc (c.if-is_mark.false, c.is_mark.ensures.1 h)) c.in_ok-key.ensures.value)
-          (record { first = c.in_ok-mark.mark; tokens = c.in_ok-mark.ensures; kind = c.is_mark-2.ensures.0 c.if-is_mark-2.true })) c.in_err-pairs.ensures.fault)
+    (left c.args.rest.now) (left c.next-2.new.rest) _ (pairs_reached c.args.depth c.args.opened _ _ _ _
+    (holds_first brace_start brace_first close_brace c.args.depth c.args.opened _ _ _ _ _ brace_opens c.in_ok-first.ensures
+    (λ h. cc (c.if-is_mark.false, c.is_mark.ensures.1 h)) c.in_ok-key.ensures.value)
+    (record { first = c.in_ok-mark.mark; tokens = c.in_ok-mark.ensures; kind = c.is_mark-2.ensures.0 c.if-is_mark-2.true })) c.in_err-pairs.ensures.fault)
 
 -- src/parsing/braces.rt:30:9
 pub braces::braces-returns-then-is_mark-2-clause-braced :
     goal.braces::braces-returns-then-is_mark-2-clause-braced
 braces::braces-returns-then-is_mark-2-clause-braced t c = some_pairs _ _ _ _ _ _ _ _
-      (holds_first brace_start brace_first close_brace c.args.depth c.args.opened _ _ _ _ _ brace_opens c.in_ok-first.ensures
-      (λ h. cc (c.if-is_mark.false, c.is_mark.ensures.1 h)) c.in_ok-key.ensures.value)
-      (record { first = c.in_ok-mark.mark; tokens = c.in_ok-mark.ensures; kind = c.is_mark-2.ensures.0 c.if-is_mark-2.true }) c.in_ok-pairs.ensures.pairs
+    (holds_first brace_start brace_first close_brace c.args.depth c.args.opened _ _ _ _ _ brace_opens c.in_ok-first.ensures
+    (λ h. cc (c.if-is_mark.false, c.is_mark.ensures.1 h)) c.in_ok-key.ensures.value)
+    (record { first = c.in_ok-mark.mark; tokens = c.in_ok-mark.ensures; kind = c.is_mark-2.ensures.0 c.if-is_mark-2.true }) c.in_ok-pairs.ensures.pairs
 
 -- src/parsing/braces.rt:33:9
 pub braces::braces-returns-then-not-is_mark-clause-fault :
     goal.braces::braces-returns-then-not-is_mark-clause-fault
 braces::braces-returns-then-not-is_mark-clause-fault t c = stops_after (inside brace_start c.args.depth c.args.opened ∷ [])
-      (inside brace_first c.args.depth c.args.opened ∷ []) (left c.args.rest.now) (left c.value_from.new.rest) _
-      (HoldsFirst.reaches (holds_first brace_start brace_first close_brace c.args.depth c.args.opened _ _ _ _ _ brace_opens c.in_ok-first.ensures
-      (λ h. cc (c.if-is_mark.false, c.is_mark.ensures.1 h)) c.in_ok-key.ensures.value))
-      (other (inside brace_first c.args.depth c.args.opened) [] _ c.in_ok-mark.mark _ _ c.in_ok-mark.ensures c.refused.ensures
-      (first_wants c.args.depth c.args.opened _ _ (neither _ _ (λ h. cc (c.if-not-is_mark.true, c.is_mark-3.ensures.1 h))
-      (λ h. cc (c.if-is_mark-2.false, c.is_mark-2.ensures.1 h)))))
+    (inside brace_first c.args.depth c.args.opened ∷ []) (left c.args.rest.now) (left c.value_from.new.rest) _
+    (HoldsFirst.reaches (holds_first brace_start brace_first close_brace c.args.depth c.args.opened _ _ _ _ _ brace_opens c.in_ok-first.ensures
+    (λ h. cc (c.if-is_mark.false, c.is_mark.ensures.1 h)) c.in_ok-key.ensures.value))
+    (other (inside brace_first c.args.depth c.args.opened) [] _ c.in_ok-mark.mark _ _ c.in_ok-mark.ensures c.refused.ensures
+    (first_wants c.args.depth c.args.opened _ _ (neither _ _ (λ h. cc (c.if-not-is_mark.true, c.is_mark-3.ensures.1 h))
+    (λ h. cc (c.if-is_mark-2.false, c.is_mark-2.ensures.1 h)))))
 
 -- src/parsing/braces.rt:35:17
 pub braces::braces-value-requires : goal.braces::braces-value-requires
@@ -99,10 +149,10 @@ pub braces::braces-returns-in_err-value-clause-fault :
 braces::braces-returns-in_err-value-clause-fault t c =
     let p = err_from_is_err_and c.from_residual-in_err-value.result c.from_residual-in_err-value.ensures.1 in
     rw (p.1, p.2) (stops_in_value (inside brace_start c.args.depth c.args.opened ∷ []) lone_end c.args.depth c.args.opened (left c.args.rest.now)
-          (left c.next-2.new.rest) _ _ c.refused-ended.ensures (lone_reached c.args.depth c.args.opened _ _ _ _
-          (holds_first brace_start brace_first close_brace c.args.depth c.args.opened _ _ _ _ _ brace_opens c.in_ok-first.ensures
-          (λ h. cc (c.if-is_mark.false, c.is_mark.ensures.1 h)) c.in_ok-key.ensures.value)
-          (record { first = c.in_ok-mark.mark; tokens = c.in_ok-mark.ensures; kind = c.is_mark-3.ensures.0 c.if-not-is_mark.false })) c.in_err-value.ensures.fault)
+    (left c.next-2.new.rest) _ _ c.refused-ended.ensures (lone_reached c.args.depth c.args.opened _ _ _ _
+    (holds_first brace_start brace_first close_brace c.args.depth c.args.opened _ _ _ _ _ brace_opens c.in_ok-first.ensures
+    (λ h. cc (c.if-is_mark.false, c.is_mark.ensures.1 h)) c.in_ok-key.ensures.value)
+    (record { first = c.in_ok-mark.mark; tokens = c.in_ok-mark.ensures; kind = c.is_mark-3.ensures.0 c.if-not-is_mark.false })) c.in_err-value.ensures.fault)
 
 -- src/parsing/braces.rt:36:5
 pub braces::braces-returns-in_err-expect-clause-fault :
@@ -110,19 +160,19 @@ pub braces::braces-returns-in_err-expect-clause-fault :
 braces::braces-returns-in_err-expect-clause-fault t c =
     let p = err_from_is_err_and c.from_residual-in_err-expect.result c.from_residual-in_err-expect.ensures.1 in
     rw (p.1, p.2) (stops_after (inside brace_start c.args.depth c.args.opened ∷ []) (inside lone_end c.args.depth c.args.opened ∷ []) (left c.args.rest.now)
-          (left c.value.new.rest) _ (lone_ended c.args.depth c.args.opened _ _ _ _ _ _
-          (holds_first brace_start brace_first close_brace c.args.depth c.args.opened _ _ _ _ _ brace_opens c.in_ok-first.ensures
-          (λ h. cc (c.if-is_mark.false, c.is_mark.ensures.1 h)) c.in_ok-key.ensures.value)
-          (record { first = c.in_ok-mark.mark; tokens = c.in_ok-mark.ensures; kind = c.is_mark-3.ensures.0 c.if-not-is_mark.false }) c.in_ok-value.ensures.value)
-          (not_taken lone_end (λ t. t ≡ mark close_brace) c.args.depth c.args.opened [] _ _ wants_brace c.in_err-expect.ensures))
+    (left c.value.new.rest) _ (lone_ended c.args.depth c.args.opened _ _ _ _ _ _
+    (holds_first brace_start brace_first close_brace c.args.depth c.args.opened _ _ _ _ _ brace_opens c.in_ok-first.ensures
+    (λ h. cc (c.if-is_mark.false, c.is_mark.ensures.1 h)) c.in_ok-key.ensures.value)
+    (record { first = c.in_ok-mark.mark; tokens = c.in_ok-mark.ensures; kind = c.is_mark-3.ensures.0 c.if-not-is_mark.false }) c.in_ok-value.ensures.value)
+    (not_taken lone_end (λ t. t ≡ mark close_brace) c.args.depth c.args.opened [] _ _ wants_brace c.in_err-expect.ensures))
 
 -- src/parsing/braces.rt:16:1
 pub braces::braces-returns-clause-braced : goal.braces::braces-returns-clause-braced
 braces::braces-returns-clause-braced t c = is_entry _ _ _ _ _ _ _ c.in_ok-new.field-0 c.in_ok-new-2.field-0
-      (holds_first brace_start brace_first close_brace c.args.depth c.args.opened _ _ _ _ _ brace_opens c.in_ok-first.ensures
-      (λ h. cc (c.if-is_mark.false, c.is_mark.ensures.1 h)) (rw c.in_ok-new.ensures.ok c.in_ok-key.ensures.value))
-      (record { first = c.in_ok-mark.mark; tokens = c.in_ok-mark.ensures; kind = c.is_mark-3.ensures.0 c.if-not-is_mark.false })
-      (rw c.in_ok-new-2.ensures.ok c.in_ok-value.ensures.value) c.in_ok-expect.ensures
+    (holds_first brace_start brace_first close_brace c.args.depth c.args.opened _ _ _ _ _ brace_opens c.in_ok-first.ensures
+    (λ h. cc (c.if-is_mark.false, c.is_mark.ensures.1 h)) (rw c.in_ok-new.ensures.ok c.in_ok-key.ensures.value))
+    (record { first = c.in_ok-mark.mark; tokens = c.in_ok-mark.ensures; kind = c.is_mark-3.ensures.0 c.if-not-is_mark.false })
+    (rw c.in_ok-new-2.ensures.ok c.in_ok-value.ensures.value) c.in_ok-expect.ensures
 
 -- src/parsing/braces.rt:49:24
 pub braces::pairs-value-requires : goal.braces::pairs-value-requires
@@ -138,8 +188,8 @@ pub braces::pairs-returns-in_err-more_follow-clause-fault :
 braces::pairs-returns-in_err-more_follow-clause-fault t c =
     let p = err_from_is_err_and c.from_residual-in_err-more_follow.result c.from_residual-in_err-more_follow.ensures.1 in
     rw (p.1, p.2) (stops_after (a_value c.args.depth ∷ inside pair_more c.args.depth c.args.opened ∷ []) (inside pair_more c.args.depth c.args.opened ∷ [])
-          (left c.args.rest.now) (left c.loop-pairs.rest) _ c.loop-pairs.invariant.passes
-          (not_taken pair_more (Either close_brace) c.args.depth c.args.opened [] _ _ pair_wants c.in_err-more_follow.ensures))
+    (left c.args.rest.now) (left c.loop-pairs.rest) _ c.loop-pairs.invariant.passes
+    (not_taken pair_more (Either close_brace) c.args.depth c.args.opened [] _ _ pair_wants c.in_err-more_follow.ensures))
 
 -- src/parsing/braces.rt:51:19
 pub braces::pairs-value-requires-in-loop-pairs : goal.braces::pairs-value-requires-in-loop-pairs
@@ -151,9 +201,9 @@ pub braces::pairs-returns-in_err-key-clause-fault :
 braces::pairs-returns-in_err-key-clause-fault t c =
     let p = err_from_is_err_and c.from_residual-in_err-key.result c.from_residual-in_err-key.ensures.1 in
     rw (p.1, p.2) (stops_in_value (a_value c.args.depth ∷ inside pair_more c.args.depth c.args.opened ∷ []) pair_colon c.args.depth c.args.opened (left c.args.rest.now)
-          (left c.more_follow.new.rest) _ _ c.refused-ended.ensures (key_reached c.args.first c.args.depth c.args.opened _ _ _ _ c.loop-pairs.invariant
-          (took_comma close_brace c.args.opened (left c.loop-pairs.rest) (left c.more_follow.new.rest) _ c.if-branch.true c.in_ok-more_follow.ensures))
-          c.in_err-key.ensures.fault)
+    (left c.more_follow.new.rest) _ _ c.refused-ended.ensures (key_reached c.args.first c.args.depth c.args.opened _ _ _ _ c.loop-pairs.invariant
+    (took_comma close_brace c.args.opened (left c.loop-pairs.rest) (left c.more_follow.new.rest) _ c.if-branch.true c.in_ok-more_follow.ensures))
+    c.in_err-key.ensures.fault)
 
 -- src/parsing/braces.rt:52:9
 pub braces::pairs-returns-in_err-expect-clause-fault :
@@ -161,10 +211,10 @@ pub braces::pairs-returns-in_err-expect-clause-fault :
 braces::pairs-returns-in_err-expect-clause-fault t c =
     let p = err_from_is_err_and c.from_residual-in_err-expect.result c.from_residual-in_err-expect.ensures.1 in
     rw (p.1, p.2) (stops_after (a_value c.args.depth ∷ inside pair_more c.args.depth c.args.opened ∷ []) (inside pair_colon c.args.depth c.args.opened ∷ [])
-          (left c.args.rest.now) (left c.value-in-loop-pairs.new.rest) _
-          (colon_reached c.args.first _ c.args.depth c.args.opened _ _ _ _ _ c.loop-pairs.invariant
-          (took_comma close_brace c.args.opened (left c.loop-pairs.rest) (left c.more_follow.new.rest) _ c.if-branch.true c.in_ok-more_follow.ensures)
-          c.in_ok-key.ensures.value) (not_taken pair_colon (λ t. t ≡ mark colon) c.args.depth c.args.opened [] _ _ wants_colon c.in_err-expect.ensures))
+    (left c.args.rest.now) (left c.value-in-loop-pairs.new.rest) _
+    (colon_reached c.args.first _ c.args.depth c.args.opened _ _ _ _ _ c.loop-pairs.invariant
+    (took_comma close_brace c.args.opened (left c.loop-pairs.rest) (left c.more_follow.new.rest) _ c.if-branch.true c.in_ok-more_follow.ensures)
+    c.in_ok-key.ensures.value) (not_taken pair_colon (λ t. t ≡ mark colon) c.args.depth c.args.opened [] _ _ wants_colon c.in_err-expect.ensures))
 
 -- src/parsing/braces.rt:53:26
 pub braces::pairs-value-requires-in-loop-pairs-2 :
@@ -177,9 +227,9 @@ pub braces::pairs-returns-in_err-value-2-clause-fault :
 braces::pairs-returns-in_err-value-2-clause-fault t c =
     let p = err_from_is_err_and c.from_residual-in_err-value-2.result c.from_residual-in_err-value-2.ensures.1 in
     rw (p.1, p.2) (stops_in_value (a_value c.args.depth ∷ inside pair_more c.args.depth c.args.opened ∷ []) pair_more c.args.depth c.args.opened (left c.args.rest.now)
-          (left c.expect.new.rest) _ _ c.refused-ended.ensures (value_reached c.args.first _ c.args.depth c.args.opened _ _ _ _ _ _ c.loop-pairs.invariant
-          (took_comma close_brace c.args.opened (left c.loop-pairs.rest) (left c.more_follow.new.rest) _ c.if-branch.true c.in_ok-more_follow.ensures)
-          c.in_ok-key.ensures.value c.in_ok-expect.ensures) c.in_err-value-2.ensures.fault)
+    (left c.expect.new.rest) _ _ c.refused-ended.ensures (value_reached c.args.first _ c.args.depth c.args.opened _ _ _ _ _ _ c.loop-pairs.invariant
+    (took_comma close_brace c.args.opened (left c.loop-pairs.rest) (left c.more_follow.new.rest) _ c.if-branch.true c.in_ok-more_follow.ensures)
+    c.in_ok-key.ensures.value c.in_ok-expect.ensures) c.in_err-value-2.ensures.fault)
 
 -- src/parsing/braces.rt:50:5
 pub braces::pairs-loop-pairs-smaller : goal.braces::pairs-loop-pairs-smaller
@@ -188,9 +238,9 @@ braces::pairs-loop-pairs-smaller t c = shorter _ _ _ _ _ _ _ c.args.depth (took_
 -- src/parsing/braces.rt:50:5
 pub braces::pairs-loop-pairs-preserved : goal.braces::pairs-loop-pairs-preserved
 braces::pairs-loop-pairs-preserved t c = pair_more_read _ _ _ _ _ _ _ _ _ _ _ _ _ c.loop-pairs.invariant
-      (took_comma close_brace c.args.opened (left c.loop-pairs.rest) (left c.more_follow.new.rest) _ c.if-branch.true c.in_ok-more_follow.ensures)
-      c.in_ok-key.ensures.value c.in_ok-expect.ensures c.in_ok-value-2.ensures.value
-      (c.in_ok-push-2.ensures.items ∙ ap (λ k. c.loop-pairs.pairs.items ++ (k, c.in_ok-value-2.field-0) ∷ []) c.key.view_is)
+    (took_comma close_brace c.args.opened (left c.loop-pairs.rest) (left c.more_follow.new.rest) _ c.if-branch.true c.in_ok-more_follow.ensures)
+    c.in_ok-key.ensures.value c.in_ok-expect.ensures c.in_ok-value-2.ensures.value
+    (c.in_ok-push-2.ensures.items ∙ ap (λ k. c.loop-pairs.pairs.items ++ (k, c.in_ok-value-2.field-0) ∷ []) c.key.view_is)
 
 -- src/parsing/braces.rt:41:1
 pub braces::pairs-returns-clause-pairs : goal.braces::pairs-returns-clause-pairs
@@ -215,17 +265,20 @@ sequence::elements-values_until-requires t c = (omega (arith, c.requires), (c.re
 -- src/parsing/sequence.rt:17:1
 pub sequence::elements-returns-clause-elements : goal.sequence::elements-returns-clause-elements
 sequence::elements-returns-clause-elements t c = if_ok c.values_until.result
-      (λ xs h. elements_of _ _ _ _ _ _ _ c.new-none.ensures.items c.in_ok-first.ensures
-      (entered list_start list_more close_list c.args.depth c.args.opened _ _ _ list_opens c.in_ok-first.ensures (λ h. cc (c.if-is_mark.false, c.is_mark.ensures.1 h)))
-      h) c.values_until.ensures.values
+    (λ xs h. elements_of _ _ _ _ _ _ _ c.new-none.ensures.items c.in_ok-first.ensures
+    (entered list_start list_more close_list c.args.depth c.args.opened _ _ _ list_opens c.in_ok-first.ensures (λ h. cc (c.if-is_mark.false, c.is_mark.ensures.1 h)))
+    h) c.values_until.ensures.values
 
 -- src/parsing/sequence.rt:17:1
 pub sequence::elements-returns-clause-fault : goal.sequence::elements-returns-clause-fault
 sequence::elements-returns-clause-fault t c = if_err c.values_until.result
-      (λ f h. carried_out f (inside list_start c.args.depth c.args.opened ∷ []) (a_value c.args.depth ∷ inside list_more c.args.depth c.args.opened ∷ [])
-      (left c.args.rest.now) (c.in_ok-first.first ∷ left c.next.new.rest) h
-      (λ e more. (more, (entered list_start list_more close_list c.args.depth c.args.opened _ _ _ list_opens c.in_ok-first.ensures
-      (λ h. cc (c.if-is_mark.false, c.is_mark.ensures.1 h))) e more))) c.values_until.ensures.fault
+    (λ f h. carried_out f (inside list_start c.args.depth c.args.opened ∷ []) (a_value c.args.depth ∷ inside list_more c.args.depth c.args.opened ∷ [])
+    (left c.args.rest.now) (c.in_ok-first.first ∷ left c.next.new.rest) h
+    (λ e more. (
+      more,
+      (entered list_start list_more close_list c.args.depth c.args.opened _ _ _ list_opens c.in_ok-first.ensures
+          (λ h. cc (c.if-is_mark.false, c.is_mark.ensures.1 h))) e more,
+    ))) c.values_until.ensures.fault
 
 -- src/parsing/sequence.rt:40:17
 pub sequence::members-returns-in_err-first-clause-fault :
@@ -249,9 +302,9 @@ pub sequence::members-returns-in_err-value_from-clause-fault :
 sequence::members-returns-in_err-value_from-clause-fault t c =
     let p = err_from_is_err_and c.from_residual-in_err-value_from.result c.from_residual-in_err-value_from.ensures.1 in
     rw (p.1, p.2) (stops_in_value (inside tuple_start c.args.depth c.args.opened ∷ []) tuple_one c.args.depth c.args.opened (left c.args.rest.now)
-          (c.in_ok-first.first ∷ left c.next.new.rest) _ _ c.refused-ended.ensures
-          (entered tuple_start tuple_one close_tuple c.args.depth c.args.opened _ _ _ tuple_opens c.in_ok-first.ensures
-          (λ h. cc (c.if-is_mark.false, c.is_mark.ensures.1 h))) c.in_err-value_from.ensures.fault)
+    (c.in_ok-first.first ∷ left c.next.new.rest) _ _ c.refused-ended.ensures
+    (entered tuple_start tuple_one close_tuple c.args.depth c.args.opened _ _ _ tuple_opens c.in_ok-first.ensures
+    (λ h. cc (c.if-is_mark.false, c.is_mark.ensures.1 h))) c.in_err-value_from.ensures.fault)
 
 -- src/parsing/sequence.rt:45:5
 pub sequence::members-returns-in_err-expect-clause-fault :
@@ -259,9 +312,9 @@ pub sequence::members-returns-in_err-expect-clause-fault :
 sequence::members-returns-in_err-expect-clause-fault t c =
     let p = err_from_is_err_and c.from_residual-in_err-expect.result c.from_residual-in_err-expect.ensures.1 in
     rw (p.1, p.2) (stops_after (inside tuple_start c.args.depth c.args.opened ∷ []) (inside tuple_one c.args.depth c.args.opened ∷ []) (left c.args.rest.now)
-          (left c.value_from.new.rest) _ (HoldsFirst.reaches (holds_first tuple_start tuple_one close_tuple c.args.depth c.args.opened _ _ _ _ _ tuple_opens
-          c.in_ok-first.ensures (λ h. cc (c.if-is_mark.false, c.is_mark.ensures.1 h)) c.in_ok-value_from.ensures.value))
-          (not_taken tuple_one (λ t. t ≡ mark comma) c.args.depth c.args.opened [] _ _ wants_comma c.in_err-expect.ensures))
+    (left c.value_from.new.rest) _ (HoldsFirst.reaches (holds_first tuple_start tuple_one close_tuple c.args.depth c.args.opened _ _ _ _ _ tuple_opens
+    c.in_ok-first.ensures (λ h. cc (c.if-is_mark.false, c.is_mark.ensures.1 h)) c.in_ok-value_from.ensures.value))
+    (not_taken tuple_one (λ t. t ≡ mark comma) c.args.depth c.args.opened [] _ _ wants_comma c.in_err-expect.ensures))
 
 -- src/parsing/sequence.rt:46:18
 pub sequence::members-returns-in_err-second-clause-fault :
@@ -269,19 +322,19 @@ pub sequence::members-returns-in_err-second-clause-fault :
 sequence::members-returns-in_err-second-clause-fault t c =
     let p = err_from_is_err_and c.from_residual-in_err-second.result c.from_residual-in_err-second.ensures.1 in
     rw (p.1, p.2) (stops_after (inside tuple_start c.args.depth c.args.opened ∷ []) (inside tuple_two c.args.depth c.args.opened ∷ []) (left c.args.rest.now)
-          (left c.expect.new.rest) _ (FirstMember.reaches (first_member c.args.depth c.args.opened _ _ _ _
-          (holds_first tuple_start tuple_one close_tuple c.args.depth c.args.opened _ _ _ _ _ tuple_opens c.in_ok-first.ensures
-          (λ h. cc (c.if-is_mark.false, c.is_mark.ensures.1 h)) c.in_ok-value_from.ensures.value) c.in_ok-expect.ensures))
-          (unclosed tuple_two _ _ [] _ _ c.in_err-second.ensures.0 (c.in_err-second.ensures.1 ∙ c.refused-ended.ensures)))
+    (left c.expect.new.rest) _ (FirstMember.reaches (first_member c.args.depth c.args.opened _ _ _ _
+    (holds_first tuple_start tuple_one close_tuple c.args.depth c.args.opened _ _ _ _ _ tuple_opens c.in_ok-first.ensures
+    (λ h. cc (c.if-is_mark.false, c.is_mark.ensures.1 h)) c.in_ok-value_from.ensures.value) c.in_ok-expect.ensures))
+    (unclosed tuple_two _ _ [] _ _ c.in_err-second.ensures.0 (c.in_err-second.ensures.1 ∙ c.refused-ended.ensures)))
 
 -- src/parsing/sequence.rt:48:9
 pub sequence::members-returns-then-is_mark-2-clause-members :
     goal.sequence::members-returns-then-is_mark-2-clause-members
 sequence::members-returns-then-is_mark-2-clause-members t c = one_member _ _ _ _ _ _ _
-      (first_member c.args.depth c.args.opened _ _ _ _ (holds_first tuple_start tuple_one close_tuple c.args.depth c.args.opened _ _ _ _ _ tuple_opens
-      c.in_ok-first.ensures (λ h. cc (c.if-is_mark.false, c.is_mark.ensures.1 h)) c.in_ok-value_from.ensures.value) c.in_ok-expect.ensures)
-      (record { first = c.in_ok-second.second; tokens = c.in_ok-second.ensures; kind = c.is_mark-2.ensures.0 c.if-is_mark-2.true })
-      (c.in_ok-push.ensures.items ∙ ap (λ xs. xs ++ c.in_ok-value_from.field-0 ∷ []) c.new-members.ensures.items)
+    (first_member c.args.depth c.args.opened _ _ _ _ (holds_first tuple_start tuple_one close_tuple c.args.depth c.args.opened _ _ _ _ _ tuple_opens
+    c.in_ok-first.ensures (λ h. cc (c.if-is_mark.false, c.is_mark.ensures.1 h)) c.in_ok-value_from.ensures.value) c.in_ok-expect.ensures)
+    (record { first = c.in_ok-second.second; tokens = c.in_ok-second.ensures; kind = c.is_mark-2.ensures.0 c.if-is_mark-2.true })
+    (c.in_ok-push.ensures.items ∙ ap (λ xs. xs ++ c.in_ok-value_from.field-0 ∷ []) c.new-members.ensures.items)
 
 -- src/parsing/sequence.rt:50:5
 pub sequence::members-values_until-requires : goal.sequence::members-values_until-requires
@@ -290,21 +343,21 @@ sequence::members-values_until-requires t c = (omega (arith, c.requires), (c.req
 -- src/parsing/sequence.rt:32:1
 pub sequence::members-returns-clause-members : goal.sequence::members-returns-clause-members
 sequence::members-returns-clause-members t c = if_ok c.values_until.result
-      (λ xs h. more_members _ _ _ _ _ _ _ _ _ _ (first_member c.args.depth c.args.opened _ _ _ _
-      (holds_first tuple_start tuple_one close_tuple c.args.depth c.args.opened _ _ _ _ _ tuple_opens c.in_ok-first.ensures
-      (λ h. cc (c.if-is_mark.false, c.is_mark.ensures.1 h)) c.in_ok-value_from.ensures.value) c.in_ok-expect.ensures) c.in_ok-second.ensures
-      (λ h. cc (c.if-is_mark-2.false, c.is_mark-2.ensures.1 h)) (c.in_ok-push.ensures.items
-      ∙ ap (λ xs. xs ++ c.in_ok-value_from.field-0 ∷ []) c.new-members.ensures.items) h) c.values_until.ensures.values
+    (λ xs h. more_members _ _ _ _ _ _ _ _ _ _ (first_member c.args.depth c.args.opened _ _ _ _
+    (holds_first tuple_start tuple_one close_tuple c.args.depth c.args.opened _ _ _ _ _ tuple_opens c.in_ok-first.ensures
+    (λ h. cc (c.if-is_mark.false, c.is_mark.ensures.1 h)) c.in_ok-value_from.ensures.value) c.in_ok-expect.ensures) c.in_ok-second.ensures
+    (λ h. cc (c.if-is_mark-2.false, c.is_mark-2.ensures.1 h)) (c.in_ok-push.ensures.items
+    ∙ ap (λ xs. xs ++ c.in_ok-value_from.field-0 ∷ []) c.new-members.ensures.items) h) c.values_until.ensures.values
 
 -- src/parsing/sequence.rt:32:1
 pub sequence::members-returns-clause-fault : goal.sequence::members-returns-clause-fault
 sequence::members-returns-clause-fault t c = if_err c.values_until.result
-      (λ f h. stops_after (inside tuple_start c.args.depth c.args.opened ∷ []) (a_value c.args.depth ∷ inside tuple_more c.args.depth c.args.opened ∷ [])
-      (left c.args.rest.now) (c.in_ok-second.second ∷ left c.next-2.new.rest) f
-      (second_reached c.args.depth c.args.opened _ _ _ _ _ (first_member c.args.depth c.args.opened _ _ _ _
-      (holds_first tuple_start tuple_one close_tuple c.args.depth c.args.opened _ _ _ _ _ tuple_opens c.in_ok-first.ensures
-      (λ h. cc (c.if-is_mark.false, c.is_mark.ensures.1 h)) c.in_ok-value_from.ensures.value) c.in_ok-expect.ensures) c.in_ok-second.ensures
-      (λ h. cc (c.if-is_mark-2.false, c.is_mark-2.ensures.1 h))) h) c.values_until.ensures.fault
+    (λ f h. stops_after (inside tuple_start c.args.depth c.args.opened ∷ []) (a_value c.args.depth ∷ inside tuple_more c.args.depth c.args.opened ∷ [])
+    (left c.args.rest.now) (c.in_ok-second.second ∷ left c.next-2.new.rest) f
+    (second_reached c.args.depth c.args.opened _ _ _ _ _ (first_member c.args.depth c.args.opened _ _ _ _
+    (holds_first tuple_start tuple_one close_tuple c.args.depth c.args.opened _ _ _ _ _ tuple_opens c.in_ok-first.ensures
+    (λ h. cc (c.if-is_mark.false, c.is_mark.ensures.1 h)) c.in_ok-value_from.ensures.value) c.in_ok-expect.ensures) c.in_ok-second.ensures
+    (λ h. cc (c.if-is_mark-2.false, c.is_mark-2.ensures.1 h))) h) c.values_until.ensures.fault
 
 -- src/parsing/sequence.rt:63:17
 pub sequence::values_until-value_from-requires : goal.sequence::values_until-value_from-requires
@@ -320,9 +373,9 @@ pub sequence::values_until-returns-in_err-more_follow-clause-fault :
 sequence::values_until-returns-in_err-more_follow-clause-fault t c =
     let p = err_from_is_err_and c.from_residual-in_err-more_follow.result c.from_residual-in_err-more_follow.ensures.1 in
     rw (p.1, p.2) (carried_out _ (a_value c.args.depth ∷ inside (more_stage c.args.close) c.args.depth c.args.opened ∷ [])
-          (inside (more_stage c.args.close) c.args.depth c.args.opened ∷ []) (c.args.first ∷ left c.args.rest.now) (left c.loop-values.rest)
-          (not_separated c.args.close c.args.depth c.args.opened _ _ c.requires.closes c.in_err-more_follow.ensures)
-          (λ e more. (more, c.loop-values.invariant.passes e more)))
+    (inside (more_stage c.args.close) c.args.depth c.args.opened ∷ []) (c.args.first ∷ left c.args.rest.now) (left c.loop-values.rest)
+    (not_separated c.args.close c.args.depth c.args.opened _ _ c.requires.closes c.in_err-more_follow.ensures)
+    (λ e more. (more, c.loop-values.invariant.passes e more)))
 
 -- src/parsing/sequence.rt:65:21
 pub sequence::values_until-value-requires : goal.sequence::values_until-value-requires
@@ -334,11 +387,15 @@ pub sequence::values_until-returns-in_err-value-clause-fault :
 sequence::values_until-returns-in_err-value-clause-fault t c =
     let p = err_from_is_err_and c.from_residual-in_err-value.result c.from_residual-in_err-value.ensures.1 in
     rw (p.1, p.2) (carried_in _ _ (a_value c.args.depth ∷ inside (more_stage c.args.close) c.args.depth c.args.opened ∷ []) (a_value c.args.depth ∷ [])
-          (c.args.first ∷ left c.args.rest.now) (left c.more_follow.new.rest) c.in_err-value.ensures.fault
-          (λ e more. (inside (more_stage c.args.close) c.args.depth c.args.opened ∷ more, c.loop-values.invariant.passes e more
+    (c.args.first ∷ left c.args.rest.now) (left c.more_follow.new.rest) c.in_err-value.ensures.fault
+    (λ e more. (
+      inside (more_stage c.args.close) c.args.depth c.args.opened ∷ more,
+      c.loop-values.invariant.passes e more
           ∙ separated c.args.close c.args.depth c.args.opened _ _ c.requires.closes
           (took_comma (mark_of c.args.close) c.args.opened (left c.loop-values.rest) (left c.more_follow.new.rest) _ c.if-branch.true c.in_ok-more_follow.ensures) e
-          more, sym c.refused-ended.ensures)))
+          more,
+      sym c.refused-ended.ensures,
+    )))
 
 -- src/parsing/sequence.rt:64:5
 pub sequence::values_until-loop-values-smaller : goal.sequence::values_until-loop-values-smaller
@@ -350,8 +407,8 @@ sequence::values_until-loop-values-smaller t c =
 pub sequence::values_until-loop-values-preserved :
     goal.sequence::values_until-loop-values-preserved
 sequence::values_until-loop-values-preserved t c = one_more _ _ _ _ _ _ _ _ _ _ _ c.requires.closes c.loop-values.invariant
-      (took_comma (mark_of c.args.close) c.args.opened (left c.loop-values.rest) (left c.more_follow.new.rest) _ c.if-branch.true c.in_ok-more_follow.ensures)
-      c.in_ok-value.ensures.value c.in_ok-push-2.ensures.items
+    (took_comma (mark_of c.args.close) c.args.opened (left c.loop-values.rest) (left c.more_follow.new.rest) _ c.if-branch.true c.in_ok-more_follow.ensures)
+    c.in_ok-value.ensures.value c.in_ok-push-2.ensures.items
 
 -- src/parsing/sequence.rt:54:1
 pub sequence::values_until-returns-clause-values :
@@ -431,8 +488,8 @@ pub value::after_mark-returns-in_err-inner-in-OpenVariant-clause-fault :
 value::after_mark-returns-in_err-inner-in-OpenVariant-clause-fault t c =
     let p = err_from_is_err_and c.from_residual-in_err-inner-in-OpenVariant.result c.from_residual-in_err-inner-in-OpenVariant.ensures.1 in
     rw (p.1, p.2) (rw (c.in-OpenVariant.is, ← add-one) (carried_in _ _ (a_value (c.args.depth + 1) ∷ inside box_end (c.args.depth + 1) c.args.opened ∷ [])
-          (a_value (c.args.depth + 1) ∷ []) (left c.args.rest.now) (left c.args.rest.now) c.in_err-inner-in-OpenVariant.ensures.fault
-          (λ e more. (inside box_end (c.args.depth + 1) c.args.opened ∷ more, refl, sym c.refused.ensures))))
+    (a_value (c.args.depth + 1) ∷ []) (left c.args.rest.now) (left c.args.rest.now) c.in_err-inner-in-OpenVariant.ensures.fault
+    (λ e more. (inside box_end (c.args.depth + 1) c.args.opened ∷ more, refl, sym c.refused.ensures))))
 
 -- src/parsing/value.rt:123:13
 pub value::after_mark-returns-in_err-expect-in-OpenVariant-clause-fault :
@@ -440,9 +497,9 @@ pub value::after_mark-returns-in_err-expect-in-OpenVariant-clause-fault :
 value::after_mark-returns-in_err-expect-in-OpenVariant-clause-fault t c =
     let p = err_from_is_err_and c.from_residual-in_err-expect-in-OpenVariant.result c.from_residual-in_err-expect-in-OpenVariant.ensures.1 in
     rw (p.1, p.2) (rw (c.in-OpenVariant.is, ← add-one) (stops_after (a_value (c.args.depth + 1) ∷ inside box_end (c.args.depth + 1) c.args.opened ∷ [])
-          (inside box_end (c.args.depth + 1) c.args.opened ∷ []) (left c.args.rest.now) (left c.value.new.rest) _
-          (λ e more. c.in_ok-inner-in-OpenVariant.ensures.value.passes e (inside box_end (c.args.depth + 1) c.args.opened ∷ more))
-          (not_taken box_end (λ t. t ≡ mark close_box) (c.args.depth + 1) c.args.opened [] _ _ wants_box c.in_err-expect-in-OpenVariant.ensures)))
+    (inside box_end (c.args.depth + 1) c.args.opened ∷ []) (left c.args.rest.now) (left c.value.new.rest) _
+    (λ e more. c.in_ok-inner-in-OpenVariant.ensures.value.passes e (inside box_end (c.args.depth + 1) c.args.opened ∷ more))
+    (not_taken box_end (λ t. t ≡ mark close_box) (c.args.depth + 1) c.args.opened [] _ _ wants_box c.in_err-expect-in-OpenVariant.ensures)))
 
 -- src/parsing/value.rt:110:1
 pub value::after_mark-returns-in_ok-elements-in-OpenArray-clause-value :

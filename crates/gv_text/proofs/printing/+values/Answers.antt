@@ -10,17 +10,43 @@ use Rattle.gv_types.specs.TypeStr.{element_of, ty}
 use Rattle.gv_view.specs.Views.{value, view_ty, view_bytes}
 use Rattle.gv_view.specs.Children.{children_left}
 use Rattle.gv_text.specs.Printing.{brackets_of, child_texts, rest_annotated}
-use Rattle.gv_text.proofs.ContainerTexts.{array_no_entry, basic_no_entry, entry_alone, entry_doubles, entry_in_array, maybe_no_entry, marked_text, same_in_array,
-  tuple_doubles, tuple_no_entry, tuple_text_of, unwanted_mark, variant_alike, variant_doubles, variant_text, wanted_mark, written_as, written_by_children}
+use Rattle.gv_text.proofs.ContainerTexts.{
+  array_no_entry,
+  basic_no_entry,
+  entry_alone,
+  entry_doubles,
+  entry_in_array,
+  maybe_no_entry,
+  marked_text,
+  same_in_array,
+  tuple_doubles,
+  tuple_no_entry,
+  tuple_text_of,
+  unwanted_mark,
+  variant_alike,
+  variant_doubles,
+  variant_text,
+  wanted_mark,
+  written_as,
+  written_by_children,
+}
 use Rattle.gv_text.proofs.Containers.{child_deeper, fault_of_children}
 use Rattle.gv_text.proofs.ChildTexts.{childless_text, first_fault, left_deeper, left_first, left_next, left_none, one_member, other_members, rest_of_plain, same_faults}
 use Rattle.gv_text.proofs.ArrayTexts.{array_written, byte_string_text}
 use Rattle.gv_text.proofs.Maybes.{maybe_text, within_written}
 use Rattle.gv_text.proofs.printing.+values.Goals as goal
-use Rattle.gv_text.proofs.printing.+values.Goals.{tuple::push_tuple-then-n_children-eq1, tuple::push_tuple-else-n_children-eq1, children::push_children-then-annotated,
-  children::push_children-else-annotated, maybe::push_maybe-then-annotated+in_ok-push_type_mark, maybe::push_maybe-else-annotated,
-  array::push_array-then-annotated+then-is_empty+in_ok-push_type_mark, array::push_array-else-annotated,
-  array::push_array-else-annotated-via-then-annotated+else-is_empty, array::push_array-else-annotated-via-else-annotated}
+use Rattle.gv_text.proofs.printing.+values.Goals.{
+  tuple::push_tuple-then-n_children-eq1,
+  tuple::push_tuple-else-n_children-eq1,
+  children::push_children-then-annotated,
+  children::push_children-else-annotated,
+  maybe::push_maybe-then-annotated+in_ok-push_type_mark,
+  maybe::push_maybe-else-annotated,
+  array::push_array-then-annotated+then-is_empty+in_ok-push_type_mark,
+  array::push_array-else-annotated,
+  array::push_array-else-annotated-via-then-annotated+else-is_empty,
+  array::push_array-else-annotated-via-else-annotated,
+}
 
 -- ---- push_value
 
@@ -62,16 +88,16 @@ tuple::push_entry-returns-else-in_array t c =
     let of = view_ty c.args.view in
     let b = view_bytes c.args.view in
     written_by_children c.push_between.result (value c.args.view) _ _ (string_bytes c.args.to.now) (string_bytes c.push_between.new.to)
-          (entry_doubles of b c.requires.kind) (sym (entry_alone of b c.args.annotated c.requires.kind)
-          ∙ ap (text_of (value c.args.view) c.args.annotated) (sym c.if-in_array.false)) c.push_between.ensures
+    (entry_doubles of b c.requires.kind) (sym (entry_alone of b c.args.annotated c.requires.kind)
+    ∙ ap (text_of (value c.args.view) c.args.annotated) (sym c.if-in_array.false)) c.push_between.ensures
 
 pub tuple::push_entry-returns-then-in_array : goal.tuple::push_entry-returns-then-in_array
 tuple::push_entry-returns-then-in_array t c =
     let of = view_ty c.args.view in
     let b = view_bytes c.args.view in
     written_by_children c.push_children.result (value c.args.view) _ _ (string_bytes c.args.to.now) (string_bytes c.push_children.new.to)
-          (entry_doubles of b c.requires.kind) (sym (entry_in_array of b c.args.annotated c.requires.kind)
-          ∙ ap (text_of (value c.args.view) c.args.annotated) (sym c.if-in_array.true)) c.push_children.ensures
+    (entry_doubles of b c.requires.kind) (sym (entry_in_array of b c.args.annotated c.requires.kind)
+    ∙ ap (text_of (value c.args.view) c.args.annotated) (sym c.if-in_array.true)) c.push_children.ensures
 
 pub tuple::push_tuple-returns : goal.tuple::push_tuple-returns
 tuple::push_tuple-returns t c =
@@ -117,8 +143,8 @@ pub children::push_children-loop-child-init : goal.children::push_children-loop-
 children::push_children-loop-child-init t c =
     let some = children_are_parts (view_ty c.args.view) (view_bytes c.args.view) ∙ (ap part_trees (sym c.children-children.ensures) ∙ ap part_trees c.in-Some.ensures.steps) in
     rw (some, c.into_iter-child-iterator.ensures.into_iter_gives)
-          (left_first c.args.mark.now (value c.in-Some.first) (part_trees (children_left c.next.new.self)) c.args.annotated c.args.in_array (string_bytes c.args.to.now)
-          (string_bytes c.push_value.new.to) c.in_ok-push_value.ensures.0 c.in_ok-push_value.ensures.1)
+    (left_first c.args.mark.now (value c.in-Some.first) (part_trees (children_left c.next.new.self)) c.args.annotated c.args.in_array (string_bytes c.args.to.now)
+    (string_bytes c.push_value.new.to) c.in_ok-push_value.ensures.0 c.in_ok-push_value.ensures.1)
 
 pub children::push_children-push_value-requires-in-loop-child : goal.children::push_children-push_value-requires-in-loop-child
 children::push_children-push_value-requires-in-loop-child t c =
@@ -133,9 +159,9 @@ children::push_children-loop-child-preserved t c =
       | children::push_children-else-annotated w ↦ w.push_value-is ∙ rest_of_plain c.args.annotated c.args.in_array w.if-annotated.false
     ] in
     left_next c.args.mark.now (children (value c.args.view)) (value c.in-Some-child.child)
-          (part_trees (children_left c.next-in-loop-child.new.self)) c.args.annotated c.args.in_array (string_bytes c.args.to.now) (string_bytes c.loop-child.to)
-          (string_bytes c.push_str.new.self) (string_bytes c.push_value-in-loop-child.new.to) so_far c.in_ok-push_str.ensures.bytes c.in_ok-push_value-2.ensures.0
-          (c.in_ok-push_value-2.ensures.1 ∙ ap (λ a. string_bytes c.push_str.new.self ++ text_of (value c.in-Some-child.child) a c.args.in_array) annotate)
+    (part_trees (children_left c.next-in-loop-child.new.self)) c.args.annotated c.args.in_array (string_bytes c.args.to.now) (string_bytes c.loop-child.to)
+    (string_bytes c.push_str.new.self) (string_bytes c.push_value-in-loop-child.new.to) so_far c.in_ok-push_str.ensures.bytes c.in_ok-push_value-2.ensures.0
+    (c.in_ok-push_value-2.ensures.1 ∙ ap (λ a. string_bytes c.push_str.new.self ++ text_of (value c.in-Some-child.child) a c.args.in_array) annotate)
 
 pub children::push_children-returns-in_err-push_value-2 : goal.children::push_children-returns-in_err-push_value-2
 children::push_children-returns-in_err-push_value-2 t c =
@@ -185,13 +211,13 @@ array::push_array-returns t c =
     let wanted = c.args.annotated && is_empty vs in
     let mid : string_bytes c.if-annotated.to ≡ old ++ when wanted (type_mark of) = elim c.if-annotated.branch [
       | array::push_array-then-annotated+then-is_empty+in_ok-push_type_mark w ↦ ap string_bytes w.to-is
-            ∙ wanted_mark wanted (type_mark of) old _ (and_from c.args.annotated (is_empty vs) w.if-annotated.true (sym w.if-is_empty.ensures))
-            (w.in_ok-push_type_mark.ensures ∙ ap (λ s. old ++ type_mark (ty s)) w.type_str.ensures)
+          ∙ wanted_mark wanted (type_mark of) old _ (and_from c.args.annotated (is_empty vs) w.if-annotated.true (sym w.if-is_empty.ensures))
+          (w.in_ok-push_type_mark.ensures ∙ ap (λ s. old ++ type_mark (ty s)) w.type_str.ensures)
       | array::push_array-else-annotated w ↦ ap string_bytes w.to-is ∙ unwanted_mark wanted (type_mark of) old (elim w.else-annotated.branch [
         | array::push_array-else-annotated-via-then-annotated+else-is_empty u ↦ and_right c.args.annotated (is_empty vs) (sym u.if-is_empty.ensures)
         | array::push_array-else-annotated-via-else-annotated u ↦ and_left c.args.annotated (is_empty vs) u.if-annotated.false
       ])
     ] in
     array_written c.push_between.result of (view_bytes c.args.view) c.args.annotated c.brackets.result old (string_bytes c.if-annotated.to)
-          (string_bytes c.push_between.new.to) c.requires.kind (sym c.in_default.ensures.text)
-          (c.brackets.ensures ∙ ap (λ s. brackets_of (element_of (ty s))) c.type_str-2.ensures) mid c.push_between.ensures
+    (string_bytes c.push_between.new.to) c.requires.kind (sym c.in_default.ensures.text)
+    (c.brackets.ensures ∙ ap (λ s. brackets_of (element_of (ty s))) c.type_str-2.ensures) mid c.push_between.ensures

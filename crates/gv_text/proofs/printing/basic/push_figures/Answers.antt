@@ -27,8 +27,8 @@ returns-in_ok-push_hex_byte-in-Byte c =
 pub returns-in_ok-write-in-Int16 : goal.returns-in_ok-write-in-Int16
 returns-in_ok-write-in-Int16 c =
     wrote_number int16 (cast_unsigned w16 c.unwrap-in-Int16.result) (value c.args.view) (string_bytes c.args.to.now) (string_bytes c.write.new.self)
-          (figures int16 (cast_unsigned w16 c.unwrap-in-Int16.result))
-          (rw c.unwrap-in-Int16.ensures at c.as_i16.ensures.value) refl c.in_ok-write-in-Int16.ensures.bytes refl
+    (figures int16 (cast_unsigned w16 c.unwrap-in-Int16.result))
+    (rw c.unwrap-in-Int16.ensures at c.as_i16.ensures.value) refl c.in_ok-write-in-Int16.ensures.bytes refl
 
 pub returns-in_ok-write-in-Uint16 : goal.returns-in_ok-write-in-Uint16
 returns-in_ok-write-in-Uint16 c =
@@ -37,8 +37,8 @@ returns-in_ok-write-in-Uint16 c =
 pub returns-in_ok-write-in-Int32 : goal.returns-in_ok-write-in-Int32
 returns-in_ok-write-in-Int32 c =
     wrote_number int32 (cast_unsigned w32 c.unwrap-in-Int32.result) (value c.args.view) (string_bytes c.args.to.now) (string_bytes c.write-in-Int32.new.self)
-          (figures int32 (cast_unsigned w32 c.unwrap-in-Int32.result))
-          (rw c.unwrap-in-Int32.ensures at c.as_i32.ensures.value) refl c.in_ok-write-in-Int32.ensures.bytes refl
+    (figures int32 (cast_unsigned w32 c.unwrap-in-Int32.result))
+    (rw c.unwrap-in-Int32.ensures at c.as_i32.ensures.value) refl c.in_ok-write-in-Int32.ensures.bytes refl
 
 pub returns-in_ok-write-in-Uint32 : goal.returns-in_ok-write-in-Uint32
 returns-in_ok-write-in-Uint32 c =
@@ -47,8 +47,8 @@ returns-in_ok-write-in-Uint32 c =
 pub returns-in_ok-write-in-Int64 : goal.returns-in_ok-write-in-Int64
 returns-in_ok-write-in-Int64 c =
     wrote_number int64 (cast_unsigned w64 c.unwrap-in-Int64.result) (value c.args.view) (string_bytes c.args.to.now) (string_bytes c.write-in-Int64.new.self)
-          (figures int64 (cast_unsigned w64 c.unwrap-in-Int64.result))
-          (rw c.unwrap-in-Int64.ensures at c.as_i64.ensures.value) refl c.in_ok-write-in-Int64.ensures.bytes refl
+    (figures int64 (cast_unsigned w64 c.unwrap-in-Int64.result))
+    (rw c.unwrap-in-Int64.ensures at c.as_i64.ensures.value) refl c.in_ok-write-in-Int64.ensures.bytes refl
 
 pub returns-in_ok-write-in-Uint64 : goal.returns-in_ok-write-in-Uint64
 returns-in_ok-write-in-Uint64 c =
@@ -57,8 +57,8 @@ returns-in_ok-write-in-Uint64 c =
 pub returns-in_ok-write-in-Handle : goal.returns-in_ok-write-in-Handle
 returns-in_ok-write-in-Handle c =
     wrote_number handle (cast_unsigned w32 c.unwrap-in-Handle.result) (value c.args.view) (string_bytes c.args.to.now) (string_bytes c.write-in-Handle.new.self)
-          (figures handle (cast_unsigned w32 c.unwrap-in-Handle.result))
-          (rw c.unwrap-in-Handle.ensures at c.as_handle.ensures.value) refl c.in_ok-write-in-Handle.ensures.bytes refl
+    (figures handle (cast_unsigned w32 c.unwrap-in-Handle.result))
+    (rw c.unwrap-in-Handle.ensures at c.as_handle.ensures.value) refl c.in_ok-write-in-Handle.ensures.bytes refl
 
 pub returns-in_ok-push_quoted-in-Text : goal.returns-in_ok-push_quoted-in-Text
 returns-in_ok-push_quoted-in-Text c =
