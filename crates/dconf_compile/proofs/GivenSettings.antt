@@ -1,4 +1,5 @@
 -- The settings that rows and locks are put into are those that are given.
+use Rattle.std.proofs.Math.Bool.{or-false}
 use Rattle.std.proofs.Common.{◌≡◌, ℕ, Bool, true, false, ◌||◌, List, [], ◌∷◌, Option, Some, None, Result, Ok, Err, refl, ap, ◌∙◌, cond, is_some}
 use Rattle.std.specs.Prelude.{IfSome, option_map}
 use Rattle.std.specs.List.{list_any}
@@ -59,15 +60,11 @@ locked_at (lock ∷ locks) s p =
     ∙ (ap (λ b. list_any (λ lock. bytes_eq lock.path p) locks || b) (ap is_some (get_inserted s.locks lock.path tt p) ∙ either (bytes_eq lock.path p) tt (get s.locks p))
     ∙ or_swap (bytes_eq lock.path p) (list_any (λ lock. bytes_eq lock.path p) locks) (contains_key s.locks p))
 
-or_false : (b : Bool) → (b || false) ≡ b
-or_false true = refl
-or_false false = refl
-
 lock_at : (locks : List LockLine) (s : Settings) (p : List ℕ) → s.locks ≡ empty → contains_key (with_locks locks s).locks p ≡ list_any (λ lock. bytes_eq lock.path p) locks
 lock_at locks s p none =
     locked_at locks s p
     ∙ (ap (λ b. list_any (λ lock. bytes_eq lock.path p) locks || b) (ap (λ (m : AtPaths Lock). contains_key m p) none ∙ ap is_some (get-empty (slice_cmp nat_cmp) p))
-    ∙ or_false (list_any (λ lock. bytes_eq lock.path p) locks))
+    ∙ or-false (list_any (λ lock. bytes_eq lock.path p) locks))
 
 -- ---- all that is given
 

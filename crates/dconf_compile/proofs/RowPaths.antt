@@ -7,6 +7,7 @@ use Rattle.std.proofs.lemmas.Bool.{and_parts, not-true, or_parts, ltb-true, eqb-
 use Rattle.dconf_model.specs.Paths.{has_two_slashes, has_zero_byte, starts_with_slash, ends_with_slash, is_short, is_key_path}
 use Rattle.dconf_model.specs.Keyfiles.{Row, has_slash_end, is_control, is_group, is_key, is_plain, path_of}
 use Rattle.dconf_model.proofs.KeyNames.{has, in_neither, after_slash, plain_single, starts_on, open_end}
+use Rattle.dconf_model.proofs.KeyfileLines.{is_special}
 use Rattle.dconf_model.proofs.Trimmed.{no_such_byte}
 use Rattle.dconf_model.proofs.ParentLaws.{by_bool}
 use Rattle.dconf_model.proofs.PathMaps.{no_truth}
@@ -17,9 +18,6 @@ use Rattle.dconf_model.specs.Paths.PathFault.{too_long}
 use Rattle.dconf_model.specs.Settings.{Settings, with_value}
 use Rattle.dconf_model.specs.Sources.{assigned}
 use Rattle.dconf_compile.specs.Added.{AddsRow, IsReadRow, IsStoredFor, row_compiled, text_compiled}
-
-abbrev is_special : ℕ → Bool
-is_special c = c == 91 || (c == 93 || is_control c)
 
 no_nul : (s : List ℕ) → is_plain s ≡ true → has_zero_byte s ≡ false
 no_nul s e = no_such_byte is_special 0 s refl (not-true (list_any is_special s) e)

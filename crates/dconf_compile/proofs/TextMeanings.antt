@@ -21,7 +21,7 @@ use Rattle.dconf_model.specs.Bytes.{longest_file}
 use Rattle.dconf_model.specs.Causes.{SettingsCause}
 use Rattle.dconf_model.specs.Causes.SettingsCause.{text_fault, value_fault, too_large}
 use Rattle.dconf_model.specs.Values.{IsMeaning, value_of_text, stored, if_storable}
-use Rattle.dconf_model.proofs.ValueLaws.{text_has_its_value, has_one_meaning}
+use Rattle.dconf_model.proofs.ValueLaws.{computed}
 use Rattle.dconf_compile.specs.Added.{text_compiled}
 use Rattle.dconf_compile.specs.CompileFaults.{build_cause, cause_of, read_cause_of}
 
@@ -31,27 +31,24 @@ stops P r e h stop =
     let p = err_from_is_err_and r stop in
     rw p.1 (subst P (sym p.2) h)
 
-meant : (s : List ℕ) (r : Result Tree SettingsCause) → IsMeaning s r → value_of_text s ≡ r
-meant s r h = has_one_meaning s (value_of_text s) r (text_has_its_value s) h
-
 pub value_read : (s : List ℕ) (v : Tree) → Reads s (Ok v) → value_of_text s ≡ Ok v
-value_read s v h = meant s (Ok v) (h.syntax, h.tree, (h.type, h.chosen, h.value))
+value_read s v h = computed s (Ok v) (h.syntax, h.tree, (h.type, h.chosen, h.value))
 
 -- a fault is the text's, if it is one of the model
 abbrev Faults : List ℕ → Option SettingsCause → Type 0
 Faults s o = IfSome o (λ c. value_of_text s ≡ Err c)
 
 untyped : (s : List ℕ) (e : TypingFault) → HasTypingFault s e → Faults s (read_cause_of (Typing e))
-untyped s typings.NoCommonType h = meant s (Err (value_fault TheFault.no_common)) (h.syntax, h.tree, inl h.fault)
-untyped s typings.Ambiguous h = meant s (Err (value_fault TheFault.not_clear)) (h.syntax, h.tree, inl h.fault)
+untyped s typings.NoCommonType h = computed s (Err (value_fault TheFault.no_common)) (h.syntax, h.tree, inl h.fault)
+untyped s typings.Ambiguous h = computed s (Err (value_fault TheFault.not_clear)) (h.syntax, h.tree, inl h.fault)
 untyped s typings.Memory h = tt
 
 unvalued : (s : List ℕ) (o : Option TheFault) → IfSome o (λ f. Reads s (Err f)) → Faults s (option_map value_fault o)
-unvalued s (Some f) h = meant s (Err (value_fault f)) (h.syntax, h.tree, inr (h.type, h.chosen, h.value))
+unvalued s (Some f) h = computed s (Err (value_fault f)) (h.syntax, h.tree, inr (h.type, h.chosen, h.value))
 unvalued s None h = tt
 
 fault_read : (s : List ℕ) (e : ReadFault) → IsReadFault s e → Faults s (read_cause_of e)
-fault_read s (Text (Refused cause span)) h = meant s (Err (text_fault (fault_at_span cause span))) h
+fault_read s (Text (Refused cause span)) h = computed s (Err (text_fault (fault_at_span cause span))) h
 fault_read s (Text Memory) h = tt
 fault_read s (Typing e) h = untyped s e h
 fault_read s (Value e) h = unvalued s (fault_of e) h

@@ -24,8 +24,9 @@ use Rattle.dconf_model.proofs.PathMaps.{get_inserted, eq_turned}
 use Rattle.dconf_model.proofs.SameBytes.{same_path, path_itself}
 use Rattle.dconf_engine.specs.Unsaved.{Unsaved, with_changes}
 use Rattle.dconf_engine.specs.Saved.{set_if, and_unchanged, with_unchanged, with_sets}
+use Rattle.gvdb_write.proofs.KeysRise.{from_true}
 use Rattle.gvdb_write.proofs.Read.{same_path as tie}
-use Rattle.dconf_engine.proofs.TextMapLaws.{same_at_paths}
+use Rattle.dconf_model.proofs.DatabaseLaws.{at_paths}
 use Rattle.dconf_engine.proofs.UnsavedLaws.{get_changed}
 
 -- ---- no locks
@@ -129,10 +130,6 @@ get_unchanged base u (p ∷ ps) s q =
 
 -- ---- together
 
-true_of : (b : Bool) → T b → b ≡ true
-true_of true h = refl
-true_of false h = absurd h
-
 together : (c : Option (Option (List ℕ))) (o : Option (List ℕ)) (listed : Bool) → ((bytes : List ℕ) → o ≡ Some bytes → listed ≡ true) →
     set_or c (unless_changed listed (is_some c) o None) ≡ unwrap_or c o
 together (Some (Some bytes)) o listed each = refl
@@ -147,8 +144,8 @@ pub put_together : (base : Values) (u : Unsaved) (ps : List (List ℕ)) → ((p 
 put_together base u ps each =
     let s = with_unchanged base u ps no_settings in
     let whole = with_sets (entries u) s in
-    let values : whole.values ≡ with_changes u base = same_at_paths whole.values (with_changes u base) (λ q.
-    get_sets (entries u) s q (true_of _ (fin.entries_sorted u))
+    let values : whole.values ≡ with_changes u base = at_paths whole.values (with_changes u base) (λ q.
+    get_sets (entries u) s q (from_true _ (fin.entries_sorted u))
     ∙ ap (λ c. set_or c (get s.values q)) (sym (fin.get-entries u q))
     ∙ ap (set_or (get u q)) (get_unchanged base u ps no_settings q ∙ ap (unless_changed (list_any (bytes_eq q) ps) (contains_key u q) (get base q)) (fin.get-empty (slice_cmp nat_cmp) q))
     ∙ together (get u q) (get base q) (list_any (bytes_eq q) ps) (λ bytes e. each q bytes e)

@@ -28,6 +28,7 @@ use Rattle.gvdb_read.specs.declared.table.Table.{Table}
 use Rattle.gvdb_read.specs.Lookups.{IsFound, IsTableAt, IsValueOf}
 use Rattle.gvdb_read.specs.Tables.{region}
 use Rattle.dconf_engine.specs.SoundTables.{AreOfSoundDatabase}
+use Rattle.gvdb_read.proofs.CoveredPaths.{HasCovering}
 use Rattle.dconf_engine.proofs.CoveringPaths.{covering_is_path}
 
 -- what is in the file
@@ -94,10 +95,6 @@ none_is_named t name sound none names =
     let i = names.0 in
     let law = locks_are_searchable t i sound names.1 in
     none (table_of t i) (i, ((sound_finds_rows t sound).found (codes ".locks") table_kind i).1 law.0, law.1.opens, refl)
-
--- a lock that covers a path, of those that P has
-abbrev HasCovering : (List ℕ → Type 0) → List ℕ → Type 0
-HasCovering P path = (name : List ℕ) × IsTrue (covers name path) × P name
 
 covered : (t : Region) (s : Settings) (path : List ℕ) → ((p : List ℕ) → IsTrue (contains_key s.locks p) ↔ (IsTrue (is_path p) × NamesLock t p)) → IsTrue (is_key_path path) →
     locks_path path s ≡ true → HasCovering (NamesLock t) path

@@ -24,14 +24,11 @@ use Rattle.std.proofs.lemmas.Map.Views.{list_any-from_Contains}
 use Rattle.std.specs.Map.Iter.{TakesFirst, deref_pair}
 use Rattle.dconf_model.specs.Paths.{is_key_path}
 use Rattle.dconf_model.specs.Settings.{AtPaths}
+use Rattle.dconf_model.proofs.DatabaseLaws.{at_paths}
 use Rattle.dconf_model.proofs.ParentLaws.{by_bool}
 use Rattle.dconf_model.proofs.PathMaps.{get_inserted}
 use Rattle.dconf_model.proofs.SameBytes.{same_path, path_itself}
 use Rattle.dconf_engine.specs.TextMaps.{entries_by, at_texts, IsAtKeys, AreAtKeyPaths}
-
--- maps that give the same at each path are the same
-pub same_at_paths : {X : Type 0} (m n : AtPaths X) → ((q : List ℕ) → get m q ≡ get n q) → m ≡ n
-same_at_paths m n h = fin.same_map nat_list_cmp_total (fin.slice_cmp-IsAntisymmetric fin.nat_cmp-IsAntisymmetric) m n h
 
 -- ---- look-ups
 
@@ -52,7 +49,7 @@ get_at_texts read m q = fin.get-from_entries nat_list_cmp_total (entries_by read
 pub taken_at : {V X : Type 0} (read : V → X) (m n : BTreeMap (String Global) V) (key : String Global) (v : V) (path : List ℕ) →
     UpdatesBy string_cmp (string_cmp key) m n (Some v) → string_bytes key ≡ path → at_texts read n ≡ insert (at_texts read m) path (read v)
 taken_at read m n key v path updates named =
-    same_at_paths (at_texts read n) (insert (at_texts read m) (string_bytes key) (read v)) (λ q.
+    at_paths (at_texts read n) (insert (at_texts read m) (string_bytes key) (read v)) (λ q.
     get_at_texts read n q
     ∙ ap (option_map read) (btree_map_updates_text (string_bytes key) m n (Some v) updates q)
     ∙ sym (read_if read (bytes_eq (string_bytes key) q) v (get_by_text m q))
@@ -66,7 +63,7 @@ taken_at read m n key v path updates named =
 entries_of_sorted : {X : Type 0} (es : List (List ℕ × X)) → is_sorted (slice_cmp nat_cmp) es ≡ true → entries (fin.from_entries {R = slice_cmp nat_cmp} es) ≡ es
 entries_of_sorted es sorted =
     let holds = subst (λ b. T b) (sym sorted) tt in
-    let same = same_at_paths (fin.from_entries es) (fin.from_sorted es) (λ q.
+    let same = at_paths (fin.from_entries es) (fin.from_sorted es) (λ q.
     fin.get-from_entries nat_list_cmp_total es q ∙ sym (fin.get-from_sorted (slice_cmp nat_cmp) es q holds)) in
     ap entries same ∙ fin.entries-from_sorted (slice_cmp nat_cmp) es holds
 

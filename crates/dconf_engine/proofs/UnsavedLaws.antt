@@ -13,7 +13,7 @@ use Rattle.dconf_model.specs.Sources.{Assigned}
 use Rattle.dconf_model.proofs.ParentLaws.{by_bool}
 use Rattle.dconf_model.proofs.PathMaps.{get_inserted, get_removed, get_retained, eq_turned}
 use Rattle.dconf_engine.specs.Unsaved.{Unsaved, with_change, with_each, with_changes, and_rows}
-use Rattle.dconf_engine.proofs.TextMapLaws.{same_at_paths}
+use Rattle.dconf_model.proofs.DatabaseLaws.{at_paths}
 
 -- ---- what is at a path
 
@@ -40,10 +40,10 @@ get_changed c base q = get_each (entries c) base q ∙ ap (λ o. unwrap_or o (ge
 -- ---- more changes
 
 pub none_changed : (base : Values) → with_changes empty base ≡ base
-none_changed base = same_at_paths (with_changes empty base) base (λ q. get_changed empty base q ∙ ap (λ o. unwrap_or o (get base q)) (fin.get-empty (slice_cmp nat_cmp) q))
+none_changed base = at_paths (with_changes empty base) base (λ q. get_changed empty base q ∙ ap (λ o. unwrap_or o (get base q)) (fin.get-empty (slice_cmp nat_cmp) q))
 
 pub changed_more : (c : Unsaved) (base : Values) (p : List ℕ) (o : Option (List ℕ)) → with_changes (insert c p o) base ≡ with_change (with_changes c base) p o
-changed_more c base p o = same_at_paths (with_changes (insert c p o) base) (with_change (with_changes c base) p o) (λ q.
+changed_more c base p o = at_paths (with_changes (insert c p o) base) (with_change (with_changes c base) p o) (λ q.
     get_changed (insert c p o) base q
     ∙ ap (λ x. unwrap_or x (get base q)) (get_inserted c p o q)
     ∙ sym (or_if (bytes_eq p q) o (get c q) (get base q))
@@ -69,7 +69,7 @@ pub kept_of : (c new : Unsaved) (base : Values) (keep : List ℕ → Bool) →
     ((q : List ℕ) → keep q ≡ true → get new q ≡ get c q) →
     ((q : List ℕ) → keep q ≡ false → unwrap_or (get new q) (get base q) ≡ None) →
     with_changes new base ≡ retain_keys (with_changes c base) keep
-kept_of c new base keep same gone = same_at_paths (with_changes new base) (retain_keys (with_changes c base) keep) (λ q.
+kept_of c new base keep same gone = at_paths (with_changes new base) (retain_keys (with_changes c base) keep) (λ q.
     get_changed new base q
     ∙ by_bool (keep q) (unwrap_or (get new q) (get base q) ≡ cond (keep q) (get (with_changes c base) q) None)
     (λ yes. rw yes (ap (λ o. unwrap_or o (get base q)) (same q yes) ∙ sym (get_changed c base q)))

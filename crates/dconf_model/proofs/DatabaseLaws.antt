@@ -24,7 +24,8 @@ same_lock None (Some y) f g = absurd (no_truth (g refl))
 same_lock (Some x) None f g = absurd (no_truth (f refl))
 same_lock (Some x) (Some y) f g = refl
 
-at_paths : {X : Type 0} (m n : AtPaths X) → ((q : List ℕ) → get m q ≡ get n q) → m ≡ n
+-- maps that give the same at each path are the same
+pub at_paths : {X : Type 0} (m n : AtPaths X) → ((q : List ℕ) → get m q ≡ get n q) → m ≡ n
 at_paths m n e = same_map nat_list_cmp_total (slice_cmp-IsAntisymmetric nat_cmp-IsAntisymmetric) m n e
 
 pub says_one_thing : SaysOneThing

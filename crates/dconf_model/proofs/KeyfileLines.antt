@@ -26,7 +26,7 @@ head_line g = 91 ∷ (g ++ 93 ∷ [])
 abbrev pub row_line : List ℕ → List ℕ → List ℕ
 row_line key text = key ++ 61 ∷ text
 
-abbrev is_special : ℕ → Bool
+abbrev pub is_special : ℕ → Bool
 is_special c = c == 91 || (c == 93 || is_control c)
 
 plain : (s : List ℕ) → is_plain s ≡ true → list_any is_special s ≡ false

@@ -159,7 +159,7 @@ with_fault s f h =
     go (Some e) fault = ap (λ e. Err (text_fault e)) (sym fault)
     go None fault = rw fault.1 (ap (λ e. Err (text_fault e)) (sym fault.2))
 
-computed : (s : List ℕ) (r : Result Tree SettingsCause) → IsMeaning s r → value_of_text s ≡ r
+pub computed : (s : List ℕ) (r : Result Tree SettingsCause) → IsMeaning s r → value_of_text s ≡ r
 computed s (Ok v) h = with_tree s h.0 h.1 ∙ ap or_value_fault (of_value h.0 h.2.0 (Ok v) h.2.1 h.2.2)
 computed s (Err (text_fault f)) h = with_fault s f h
 computed s (Err (value_fault f)) h = with_tree s h.0 h.1 ∙ ap or_value_fault (elim h.2 [ inl untyped ↦ of_none h.0 f untyped | inr by ↦ of_value h.0 by.0 (Err f) by.1 by.2 ])

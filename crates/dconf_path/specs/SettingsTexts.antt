@@ -1,13 +1,10 @@
 -- The faults of a file of settings that come before those of its lines.
-use Rattle.std.specs.Prelude.{ℕ, List, length, Bool, Option, Some, None, nat_lt, ◌==◌, not, if◌then◌else◌}
+use Rattle.std.specs.Prelude.{List, length, Option, Some, None, nat_lt, not, if◌then◌else◌}
 use Rattle.std.specs.Str.{is_utf8}
 use Rattle.dconf_model.specs.Causes.SettingsCause.{too_big, not_utf8}
 use Rattle.dconf_model.specs.Lines.{LineFault, longest_text, bad_line}
 use Rattle.dconf_path.specs.declared.texts.TextFault.{TextFault}
 use Rattle.dconf_path.specs.declared.texts.TextFault.TheVariants.{TooBig, NotUtf8}
-
-abbrev pub is_line_end : ℕ → Bool
-is_line_end c = c == 10
 
 abbrev pub text_fault_of : TextFault → LineFault
 text_fault_of TooBig = record { line = 0; cause = too_big }

@@ -1,8 +1,8 @@
 //! The text of a file of settings, which is a keyfile, a lock file or a profile: its length is looked at first, and then
 //! whether it is UTF-8.
-ghost use Rattle.std.specs.Prelude.{◌≡◌, ◌≤◌, ◌+◌, None, Some, IfErr, IfOk, length, take, count_by};
+ghost use Rattle.std.specs.Prelude.{◌≡◌, ◌≤◌, ◌+◌, ◌==◌, None, Some, IfErr, IfOk, length, take, count_by};
 ghost use Rattle.dconf_model.specs.Lines.{longest_text};
-ghost use Rattle.dconf_path.specs.SettingsTexts.{is_line_end, text_fault, text_fault_of};
+ghost use Rattle.dconf_path.specs.SettingsTexts.{text_fault, text_fault_of};
 
 use std::error::Error;
 use std::fmt;
@@ -67,7 +67,7 @@ pub fn settings_text(bytes: &[u8]) -> Result<&str, TextFault>
 /// The number of the line in which a place lies, counted from 1.
 fn line_of(bytes: &[u8], place: usize) -> usize
     requires { place ≤ length bytes.now }
-    ensures { result ≡ count_by is_line_end (take place bytes.now) + 1 }
+    ensures { result ≡ count_by (λ c. c == 10) (take place bytes.now) + 1 }
 {
     bytes[..place].iter().filter(|byte| **byte == b'\n').count() + 1
 }

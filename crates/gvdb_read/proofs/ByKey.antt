@@ -17,7 +17,7 @@ use Rattle.gvdb_read.specs.ListNumbers.{AreNumbers}
 abbrev IsBelow : Table → ℕ → ℕ → ℕ → Type 0
 IsBelow t i k m = IsTrue (has_lower_key t (listed t i k) (listed t i m))
 
-less : (o : Ordering) → is_lt o ≡ true → o ≡ Less
+pub less : (o : Ordering) → is_lt o ≡ true → o ≡ Less
 less Less e = refl
 less Equal e = let bad : false ≡ true = e in cc
 less Greater e = let bad : false ≡ true = e in cc

@@ -13,6 +13,7 @@ use Rattle.std.proofs.lemmas.Cmp.{nat_list_cmp_total}
 use Rattle.std.proofs.lemmas.List.{get_or_at, get_or_default}
 use Rattle.std.proofs.lemmas.Map.Views.{tells_apart, Contains-from_any, list_any-from_Contains}
 use Rattle.std.specs.Prelude.{Contains}
+use Rattle.gvdb_read.proofs.ByKey.{less}
 use Rattle.dconf_model.specs.Settings.{AtPaths, Settings, IsSettings}
 use Rattle.dconf_model.specs.Paths.{is_path, is_key_path}
 use Rattle.gvdb_write.specs.Maps.{AreKeyPaths, ArePaths}
@@ -22,18 +23,13 @@ use Rattle.gvdb_write.specs.Names.{IsBefore}
 pub record Rise (paths : List (List ℕ)) : Type 0 where
   pub rising : (i j : ℕ) → i < j → j < length paths → IsBefore (get_or paths i []) (get_or paths j [])
 
-from_true : (b : Bool) → T b → b ≡ true
+pub from_true : (b : Bool) → T b → b ≡ true
 from_true true h = refl
 from_true false h = elim h [ ]
 
-is_less : (o : Ordering) → is_lt o ≡ true → o ≡ Less
-is_less Less e = refl
-is_less Equal e = cc
-is_less Greater e = cc
-
 below : {X : Type 0} (path : List ℕ) (es : List (List ℕ × X)) → below_all (slice_cmp nat_cmp) path es ≡ true → (j : ℕ) → j < length (map (λ e. e.0) es) → IsBefore path (get_or (map (λ e. e.0) es) j [])
 below path [] h j here = absurd (omega (arith, here))
-below path (e ∷ es) h zero here = is_less _ (and_parts (is_lt (slice_cmp nat_cmp path e.0)) (below_all (slice_cmp nat_cmp) path es) h).0
+below path (e ∷ es) h zero here = less _ (and_parts (is_lt (slice_cmp nat_cmp path e.0)) (below_all (slice_cmp nat_cmp) path es) h).0
 below path (e ∷ es) h (suc j) here = below path es (and_parts (is_lt (slice_cmp nat_cmp path e.0)) (below_all (slice_cmp nat_cmp) path es) h).1 j (omega (arith, here))
 
 rise : {X : Type 0} (es : List (List ℕ × X)) → is_sorted (slice_cmp nat_cmp) es ≡ true → (i j : ℕ) → i < j → j < length (map (λ e. e.0) es) → IsBefore (get_or (map (λ e. e.0) es) i []) (get_or (map (λ e. e.0) es) j [])

@@ -1,10 +1,9 @@
-use Rattle.std.proofs.Common.{refl, ◌+◌, Some, length, take, count_by, sym, ap, ◌∙◌}
+use Rattle.std.proofs.Common.{refl, ◌+◌, ◌==◌, Some, length, take, count_by, sym, ap, ◌∙◌}
 use Rattle.std.specs.Str.{is_utf8}
 use Rattle.std.proofs.lemmas.Bool.{false_from_ne_true, le-ltb, lt-ltb}
 use Rattle.std.proofs.lemmas.Str.{is_utf8-from_IsUtf8, IsUtf8-from_is_utf8}
 use Rattle.dconf_model.specs.Causes.SettingsCause.{not_utf8}
 use Rattle.dconf_model.specs.Lines.{longest_text}
-use Rattle.dconf_path.specs.SettingsTexts.{is_line_end}
 use Rattle.dconf_path.proofs.TextFaults.{is_faultless, is_not_utf8}
 use Rattle.dconf_path.proofs.texts.settings_text.Goals as goal
 
@@ -22,5 +21,5 @@ returns-in-Err-clause-fault c =
     let small = le-ltb longest_text (length bytes) c.if-bytes-gt-MAX_TEXT_LEN.false in
     let none = false_from_ne_true (is_utf8 bytes) (λ e. c.in-Err.ensures.cases.0 (IsUtf8-from_is_utf8 bytes e)) in
     let place = c.valid_up_to.ensures ∙ c.in-Err.ensures.valid_len in
-    let line = c.line_of.ensures ∙ ap (λ n. count_by is_line_end (take n bytes) + 1) place in
+    let line = c.line_of.ensures ∙ ap (λ n. count_by (λ c. c == 10) (take n bytes) + 1) place in
     is_not_utf8 bytes small none ∙ (λ i. Some (record { line = sym line i; cause = not_utf8 }))
