@@ -1,5 +1,5 @@
 -- The faults of a file of settings that come before those of its lines.
-use Rattle.std.specs.Prelude.{List, length, Option, Some, None, nat_lt, not, if◌then◌else◌}
+use Rattle.std.specs.Prelude.{ℕ, List, length, Option, Some, None, nat_lt, not, if◌then◌else◌}
 use Rattle.std.specs.Str.{is_utf8}
 use Rattle.dconf_model.specs.Causes.SettingsCause.{too_big, not_utf8}
 use Rattle.dconf_model.specs.Lines.{LineFault, longest_text, bad_line}

@@ -9,3 +9,5 @@ mod layers;
 mod opening;
 #[cfg(test)]
 mod reading;
+#[cfg(test)]
+mod store;
