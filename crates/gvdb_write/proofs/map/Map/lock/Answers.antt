@@ -18,3 +18,6 @@ returns-clause-ok c =
     let named : string_bytes c.in_ok-path.path ≡ lock_text c.args.path = search rules in
     let e = locked c.self.inside.locks c.insert.new.self c.in_ok-path.path (lock_text c.args.path) c.in_ok-insert.ensures.updates named in
     ap (λ (l : AtPaths Lock). record { values = values_of c.self.inside.values; locks = l }) e ∙ ap (λ (s : Settings). with_lock s (lock_text c.args.path)) c.self.view_is
+
+pub returns-clause-err : goal.returns-clause-err
+returns-clause-err c = search rules
