@@ -1,14 +1,14 @@
 -- The locks of what is given: they are paths, and settings that are given lock the same paths.
-use Rattle.std.specs.Prelude.{◌≡◌, ℕ, ◌+◌, Bool, true, false, ◌||◌, List, [], ◌∷◌, ◌++◌, length, map, Result, Ok, Err, refl, nat_lt, not, cond}
+use Rattle.std.specs.Prelude.{◌≡◌, ℕ, ◌+◌, Bool, true, false, ◌||◌, List, [], ◌∷◌, ◌++◌, length, map, Option, Some, None, Result, Ok, Err, refl, cond}
 use Rattle.std.proofs.Common.{ap, sym, ◌∙◌, subst}
 use Rattle.std.specs.List.{list_any, AllByRecursion, enumerate_from}
-use Rattle.std.specs.Str.{bytes_eq, is_utf8}
+use Rattle.std.specs.Str.{bytes_eq}
 use Rattle.std.specs.FinMap.{keys, contains_key}
 use Rattle.dconf_model.specs.Paths.{is_path, starts_with_slash}
 use Rattle.dconf_model.specs.Settings.{Settings}
 use Rattle.dconf_model.proofs.ParentLaws.{by_bool}
-use Rattle.dconf_model.specs.Causes.SettingsCause.{lock_not_key, too_big, not_utf8}
-use Rattle.dconf_model.specs.Lines.{LineReading, LineFault, put_first, read_after, read_file, lines_of, fault_at_line, bad_line, longest_text}
+use Rattle.dconf_model.specs.Causes.SettingsCause.{lock_not_key}
+use Rattle.dconf_model.specs.Lines.{LineReading, LineFault, put_first, read_after, read_file, settings_text_fault, unless_fault, lines_of}
 use Rattle.dconf_model.specs.Lines.LineReading.{nothing, found, wrong}
 use Rattle.dconf_model.specs.Locks.{LockLine, lock_line, locks_in}
 use Rattle.dconf_model.specs.Sources.{Source, File, FileFault, Given, given, and_locks, and_more, in_files, AreGiven, Assigned, compiled, taken}
@@ -61,12 +61,11 @@ lines_are_paths earlier (l ∷ lines) =
     put_paths (length earlier + 1) (lock_line earlier l) (read_after lock_line (earlier ++ l ∷ []) lines) (line_is_path earlier l) (lines_are_paths (earlier ++ l ∷ []) lines)
 
 file_of_paths : (bytes : List ℕ) → PathsIfOk (read_file locks_in bytes)
-file_of_paths bytes = go (nat_lt longest_text (length bytes)) (not (is_utf8 bytes))
+file_of_paths bytes = go (settings_text_fault bytes)
   where
-    go : (b c : Bool) → PathsIfOk (cond b (fault_at_line 0 too_big) (cond c (fault_at_line (bad_line bytes) not_utf8) (locks_in bytes)))
-    go true c = tt
-    go false true = tt
-    go false false = lines_are_paths [] (lines_of bytes)
+    go : (fault : Option LineFault) → PathsIfOk (unless_fault fault (locks_in bytes))
+    go (Some f) = tt
+    go None = lines_are_paths [] (lines_of bytes)
 
 both_paths : (xs ys : List LockLine) → ArePaths xs → ArePaths ys → ArePaths (xs ++ ys)
 both_paths [] ys h k = k

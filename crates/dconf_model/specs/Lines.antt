@@ -2,7 +2,7 @@
 --
 -- A line ends at a line feed. What follows the last one is a line too, unless it is empty. POSIX, "Line", where only the
 -- former is one.
-use Rattle.std.specs.Prelude.{ℕ, ◌+◌, ◌-◌, List, [], ◌∷◌, ◌++◌, length, take, drop, Result, Ok, Err, nat_lt, ◌==◌, ◌||◌, not, if◌then◌else◌, Bool}
+use Rattle.std.specs.Prelude.{ℕ, ◌+◌, ◌-◌, List, [], ◌∷◌, ◌++◌, length, take, drop, Option, Some, None, Result, Ok, Err, nat_lt, ◌==◌, ◌||◌, not, if◌then◌else◌, Bool}
 use Rattle.std.specs.List.{slice_split, prefix_len, suffix_len, count_by}
 use Rattle.std.specs.Str.{is_utf8}
 use Rattle.std.specs.Str.Lossy.{utf8_valid_len}
@@ -75,9 +75,17 @@ longest_text = 16777216
 abbrev pub bad_line : List ℕ → ℕ
 bad_line bytes = count_by (λ c. c == 10) (take (utf8_valid_len bytes) bytes) + 1
 
--- what a file of lines gives: its length is looked at first, and then whether it is UTF-8
+-- why bytes are no text of settings: there are too many, which is looked at first, or they are no UTF-8
+abbrev pub settings_text_fault : List ℕ → Option LineFault
+settings_text_fault bytes =
+    if nat_lt longest_text (length bytes) then Some (record { line = 0; cause = too_big })
+    else if not (is_utf8 bytes) then Some (record { line = bad_line bytes; cause = not_utf8 })
+    else None
+
+abbrev pub unless_fault : {X : Type 0} → Option LineFault → Result X LineFault → Result X LineFault
+unless_fault (Some f) read = Err f
+unless_fault None read = read
+
+-- what a file of lines gives
 abbrev pub read_file : {X : Type 0} → (List ℕ → Result X LineFault) → List ℕ → Result X LineFault
-read_file read bytes =
-    if nat_lt longest_text (length bytes) then fault_at_line 0 too_big
-    else if not (is_utf8 bytes) then fault_at_line (bad_line bytes) not_utf8
-    else read bytes
+read_file read bytes = unless_fault (settings_text_fault bytes) (read bytes)

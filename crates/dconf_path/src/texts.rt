@@ -1,8 +1,8 @@
 //! The text of a file of settings, which is a keyfile, a lock file or a profile: its length is looked at first, and then
 //! whether it is UTF-8.
 ghost use Rattle.std.specs.Prelude.{◌≡◌, ◌≤◌, ◌+◌, ◌==◌, None, Some, IfErr, IfOk, length, take, count_by};
-ghost use Rattle.dconf_model.specs.Lines.{longest_text};
-ghost use Rattle.dconf_path.specs.SettingsTexts.{text_fault, text_fault_of};
+ghost use Rattle.dconf_model.specs.Lines.{longest_text, settings_text_fault};
+ghost use Rattle.dconf_path.specs.SettingsTexts.{text_fault_of};
 
 use std::error::Error;
 use std::fmt;
@@ -52,8 +52,8 @@ impl Error for TextFault {}
 pub fn settings_text(bytes: &[u8]) -> Result<&str, TextFault>
     ensures text { IfOk result (λ text. text.now ≡ bytes.entry.now) }
     ensures small { IfOk result (λ _. length bytes.entry.now ≤ longest_text) }
-    ensures faultless { IfOk result (λ _. text_fault bytes.entry.now ≡ None) }
-    ensures fault { IfErr result (λ fault. text_fault bytes.entry.now ≡ Some (text_fault_of fault)) }
+    ensures faultless { IfOk result (λ _. settings_text_fault bytes.entry.now ≡ None) }
+    ensures fault { IfErr result (λ fault. settings_text_fault bytes.entry.now ≡ Some (text_fault_of fault)) }
 {
     if bytes.len() > MAX_TEXT_LEN {
         return Err(TextFault::TooBig);

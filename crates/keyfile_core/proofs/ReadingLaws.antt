@@ -7,12 +7,11 @@ use Rattle.std.specs.List.{slice_split}
 use Rattle.std.proofs.lemmas.Bool.{ne_eqb}
 use Rattle.std.proofs.lemmas.List.{length-append}
 use Rattle.dconf_model.specs.Causes.{SettingsCause}
-use Rattle.dconf_model.specs.Lines.{LineFault, lines_of, put_first, read_after, read_lines, with_first_found, without_empty_end}
+use Rattle.dconf_model.specs.Lines.{LineFault, lines_of, put_first, read_after, read_lines, settings_text_fault, with_first_found, without_empty_end}
 use Rattle.dconf_model.specs.Lines.LineReading.{nothing, found, wrong}
 use Rattle.dconf_model.specs.Keyfiles.{Row, LineKind, line_kind, last_group, line_read, without_blanks, rows_of}
 use Rattle.dconf_model.specs.Keyfiles.LineKind.{empty, bracket, entry}
 use Rattle.dconf_model.proofs.KeyfileLines.{group_comes, group_stays, named, read_one}
-use Rattle.dconf_path.specs.SettingsTexts.{text_fault}
 use Rattle.dconf_path.proofs.TextFaults.{reads_lines, reads_no_lines}
 use Rattle.keyfile_core.specs.Feeds.{is_feed, lines_in}
 use Rattle.keyfile_core.specs.Readings.{group_after, kind_meant, line_meant, or_before, read_below}
@@ -50,10 +49,10 @@ ends_alike group n (l ∷ m ∷ more) =
 
 -- ---- the whole file
 
-pub rows_are : (bytes : List ℕ) → text_fault bytes ≡ None → rows_of bytes ≡ read_below None 0 (slice_split is_feed bytes)
+pub rows_are : (bytes : List ℕ) → settings_text_fault bytes ≡ None → rows_of bytes ≡ read_below None 0 (slice_split is_feed bytes)
 rows_are bytes none = reads_lines (read_lines read_one) bytes none ∙ (read_is [] (lines_of bytes) ∙ ends_alike None 0 (slice_split is_feed bytes))
 
-pub rows_refused : (bytes : List ℕ) (fault : LineFault) → text_fault bytes ≡ Some fault → rows_of bytes ≡ Err fault
+pub rows_refused : (bytes : List ℕ) (fault : LineFault) → settings_text_fault bytes ≡ Some fault → rows_of bytes ≡ Err fault
 rows_refused bytes fault some = reads_no_lines (read_lines read_one) bytes fault some
 
 -- ---- line by line
