@@ -211,7 +211,7 @@ directory_above (p ∷ ps) t directory j rest sound ends h e other some =
       | before c m a b ↦ absurd (no_more t j (c ∷ m) rest below.1 (rest_ends directory (joined t p ps) c m ends a) b some)
     ]
 
-key_is_open : (name : List ℕ) → is_key_path name ≡ true → ends_with_slash name ≡ false
+pub key_is_open : (name : List ℕ) → is_key_path name ≡ true → ends_with_slash name ≡ false
 key_is_open name e = go (is_path name) (ends_with_slash name) e
   where
     go : (p e : Bool) → (p && not e) ≡ true → e ≡ false

@@ -72,3 +72,9 @@ pub mod DumpLines
 pub mod DumpLaws
 pub mod DumpedPaths
 pub mod DumpOrder
+pub mod RisingTexts
+pub mod FirstPartLaws
+pub mod PathPrefixes
+pub mod WalkedKeys
+pub mod WalkedSettings
+pub mod LayerPaths

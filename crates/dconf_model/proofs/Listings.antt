@@ -75,15 +75,15 @@ listing_from ts u h = order_from ts u (Contains-from_dedup bytes_eq (in_order (�
 
 -- ---- below a directory
 
-below_itself : (directory rest : List ℕ) → is_below (directory ++ rest) directory ≡ true
+pub below_itself : (directory rest : List ℕ) → is_below (directory ++ rest) directory ≡ true
 below_itself directory rest = path_itself directory (take (length directory) (directory ++ rest)) (sym (take-append_seam directory rest))
 
-below_cut : (directory path : List ℕ) → is_below path directory ≡ true → directory ++ drop (length directory) path ≡ path
+pub below_cut : (directory path : List ℕ) → is_below path directory ≡ true → directory ++ drop (length directory) path ≡ path
 below_cut directory path e =
     ap (λ (earlier : List ℕ). earlier ++ drop (length directory) path) (same_path directory (take (length directory) path) e)
     ∙ take-append-drop (length directory) path
 
-part_here : (directory rest path : List ℕ) → path ≡ directory ++ rest → first_part (drop (length directory) path) ≡ first_part rest
+pub part_here : (directory rest path : List ℕ) → path ≡ directory ++ rest → first_part (drop (length directory) path) ≡ first_part rest
 part_here directory rest path e = ap (λ (p : List ℕ). first_part (drop (length directory) p)) e ∙ ap first_part (drop-append_seam directory rest)
 
 pub part_of_path : (directory rest : List ℕ) (paths : Texts) → Contains paths (directory ++ rest) → Contains (parts_below directory paths) (first_part rest)

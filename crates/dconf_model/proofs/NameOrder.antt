@@ -21,7 +21,7 @@ before_longer [] c more = refl
 before_longer (x ∷ name) c more =
     ap (λ (o : Ordering). ordering_then o (slice_cmp nat_cmp name (name ++ c ∷ more))) (same_ties x) ∙ before_longer name c more
 
-prefix_step : (o a b : Ordering) → ordering_then o a ≡ Less → (o ≡ Equal → a ≡ Less → b ≡ Less) → ordering_then o b ≡ Less
+pub prefix_step : (o a b : Ordering) → ordering_then o a ≡ Less → (o ≡ Equal → a ≡ Less → b ≡ Less) → ordering_then o b ≡ Less
 prefix_step Less a b less rest = refl
 prefix_step Equal a b less rest = rest refl less
 prefix_step Greater a b less rest = less

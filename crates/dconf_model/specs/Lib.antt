@@ -37,3 +37,4 @@ pub mod Outcomes
 pub mod Runs
 pub mod Stores
 pub mod Sessions
+pub mod Walks

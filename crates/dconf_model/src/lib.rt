@@ -21,6 +21,7 @@ ghost use Rattle.dconf_model.specs.Order.{OrderIsStable, ListingIsOnceEach};
 ghost use Rattle.dconf_model.specs.Keyfiles.{DumpReadsBack, DumpHasEachSetting, DumpIsInOrder};
 ghost use Rattle.dconf_model.specs.Databases.{SaysWhatIsInIt, SaysSettings, SaysOneThing, WrittenSaysSettings};
 ghost use Rattle.dconf_model.specs.Stores.{EachValueIsGiven, EachListingIsExact};
+ghost use Rattle.dconf_model.specs.Walks.{LayersHaveKeyPaths, WalkFindsEachKey, WalkEnds, WalkHasEachSetting};
 
 /// A search in any table finds rows alone, and one thing only.
 pub fn a_search_finds_a_row()
@@ -157,4 +158,13 @@ pub fn a_dump_reads_back()
     ensures again { DumpReadsBack }
     ensures same { DumpHasEachSetting }
     ensures order { DumpIsInOrder }
+{}
+
+/// A walk over a directory, which takes the names that it has in their order and goes through what is below each before the
+/// next, finds each key once, in byte order of paths. It ends, and has the settings of a dump.
+pub fn a_walk_finds_each_key()
+    ensures keys { WalkFindsEachKey }
+    ensures ends { WalkEnds }
+    ensures settings { WalkHasEachSetting }
+    ensures paths { LayersHaveKeyPaths }
 {}

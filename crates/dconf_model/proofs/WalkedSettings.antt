@@ -1,0 +1,55 @@
+-- The settings at the paths below a directory are those at the paths that have a value.
+use Rattle.std.specs.Prelude.{filter}
+use Rattle.std.proofs.Common.{◌≡◌, ℕ, Bool, true, false, List, [], ◌∷◌, cond, Option, Some, None, refl, sym, ap, ◌∙◌}
+use Rattle.std.specs.Option.{is_some, option_and_then}
+use Rattle.gv_model.specs.Tree.{Tree}
+use Rattle.dconf_model.specs.Layers.{Layers, all_paths, has_value, paths_below, visible, visible_bytes}
+use Rattle.dconf_model.specs.Locks.{is_below}
+use Rattle.dconf_model.specs.Outcomes.{settings_at, with_value_if_any}
+use Rattle.dconf_model.specs.Values.{held_value}
+use Rattle.dconf_model.specs.Walks.{WalkHasEachSetting, keys_below}
+use Rattle.dconf_model.proofs.Listings.{Texts, listing_has, listing_from}
+use Rattle.dconf_model.proofs.ParentLaws.{by_bool}
+use Rattle.dconf_model.proofs.PathMaps.{no_truth}
+use Rattle.dconf_model.proofs.RisingTexts.{listing_rises, kept_rise, one_rises, kept_is_there, there_is_kept}
+
+-- ---- of the paths with a value alone
+
+both_tests : (a b : Bool) → cond a b false ≡ true → (a ≡ true) × (b ≡ true)
+both_tests true b e = (refl, e)
+both_tests false b e = absurd (no_truth e)
+
+abbrev has : Layers → List ℕ → List ℕ → Bool
+has l directory path = cond (is_below path directory) (has_value l path) false
+
+paths_are_kept : (l : Layers) (directory : List ℕ) → paths_below l directory ≡ filter (has_value l) (keys_below (all_paths l.layers) directory)
+paths_are_kept l directory =
+    let all : Texts = all_paths l.layers in
+    let below : List ℕ → Bool = λ path. is_below path directory in
+    one_rises (paths_below l directory) (filter (has_value l) (keys_below all directory))
+    (listing_rises (filter (has l directory) all)) (kept_rise (has_value l) (keys_below all directory) (listing_rises (filter below all)))
+    (λ path c.
+    let k = kept_is_there (has l directory) all path (listing_from (filter (has l directory) all) path c) in
+    let t = both_tests (is_below path directory) (has_value l path) k.1 in
+    there_is_kept (has_value l) (keys_below all directory) path (listing_has (filter below all) path (there_is_kept below all path k.0 t.0)) t.1)
+    (λ path c.
+    let v = kept_is_there (has_value l) (keys_below all directory) path c in
+    let k = kept_is_there below all path (listing_from (filter below all) path v.0) in
+    listing_has (filter (has l directory) all) path (there_is_kept (has l directory) all path k.0 (rw (k.1, v.1) refl)))
+
+-- ---- the settings
+
+none_seen : (o : Option (List ℕ)) → is_some o ≡ false → option_and_then held_value o ≡ None
+none_seen None e = refl
+none_seen (Some bytes) e = cc
+
+same_settings : (l : Layers) (paths : Texts) → settings_at l (filter (has_value l) paths) ≡ settings_at l paths
+same_settings l [] = refl
+same_settings l (path ∷ paths) =
+    by_bool (has_value l path) (settings_at l (filter (has_value l) (path ∷ paths)) ≡ settings_at l (path ∷ paths))
+    (λ yes. ap (λ b. settings_at l (cond b (path ∷ filter (has_value l) paths) (filter (has_value l) paths))) yes ∙ ap (with_value_if_any path (visible l path)) (same_settings l paths))
+    (λ other. ap (λ b. settings_at l (cond b (path ∷ filter (has_value l) paths) (filter (has_value l) paths))) other
+    ∙ (same_settings l paths ∙ ap (λ (o : Option Tree). with_value_if_any path o (settings_at l paths)) (sym (none_seen (visible_bytes l path) other))))
+
+pub walk_has_each_setting : WalkHasEachSetting
+walk_has_each_setting l directory = sym (ap (settings_at l) (paths_are_kept l directory) ∙ same_settings l (keys_below (all_paths l.layers) directory))
