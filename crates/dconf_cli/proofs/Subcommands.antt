@@ -16,7 +16,7 @@ use Rattle.std.specs.Box.{box_value}
 use Rattle.clap.specs.declared.ArgMatches.{ArgMatches}
 use Rattle.clap.specs.declared.parser.matches.Found.{Found}
 use Rattle.clap.proofs.WalkLemmas.{first_value-rows, raw_values-rows}
-use Rattle.dconf_cli.specs.Asked.{AsksToCheck, AsksForOrigin, AsksToCompile, AsksToRead, AsksToShow, is_set, profile_file}
+use Rattle.dconf_cli.specs.Asked.{AsksToCheck, AsksForOrigin, AsksToCompile, AsksToRead, AsksToRepair, AsksToShow, is_set, profile_file}
 use Rattle.dconf_cli.specs.CommandLine.{command_line, show_line}
 use Rattle.dconf_cli.proofs.Stops.{IsNotHelp, or_else_nil, walk_not_help}
 use Rattle.dconf_cli.proofs.Filled.{OnlyAsks, walk_filled, given_first, is_option}
@@ -70,7 +70,7 @@ abbrev line : App
 line = built command_line
 
 abbrev IsCommandName : Text → Type 0
-IsCommandName name = (name ≡ codes "show") ⊎ ((name ≡ codes "check") ⊎ ((name ≡ codes "compile") ⊎ ((name ≡ codes "read") ⊎ (name ≡ codes "origin"))))
+IsCommandName name = (name ≡ codes "show") ⊎ ((name ≡ codes "check") ⊎ ((name ≡ codes "compile") ⊎ ((name ≡ codes "read") ⊎ ((name ≡ codes "origin") ⊎ (name ≡ codes "repair")))))
 
 abbrev Each : {X : Type 0} → (X → Type 0) → List X → Type 0
 Each P [] = ⊤
@@ -142,7 +142,13 @@ read_is_plain = record {
 origin_is_plain : IsPlainSub (shape_at 4)
 origin_is_plain = record {
   rules = (inl refl, (inr (inl refl), (inr (inr (refl, λ rows. refl)), tt)));
-  name = inr (inr (inr (inr refl)));
+  name = inr (inr (inr (inr (inl refl))));
+}
+
+repair_is_plain : IsPlainSub (shape_at 5)
+repair_is_plain = record {
+  rules = (inl refl, (inl refl, (inr (inr (refl, λ rows. refl)), tt)));
+  name = inr (inr (inr (inr (inr refl))));
 }
 
 offered_subs : Each IsOffered line.subs
@@ -154,7 +160,10 @@ offered_subs = (
       record { alone = refl; ours = λ _. compile_is_plain },
       (
         record { alone = refl; ours = λ _. read_is_plain },
-        (record { alone = refl; ours = λ _. origin_is_plain }, (record { alone = refl; ours = λ other. absurd (other refl) }, tt)),
+        (
+          record { alone = refl; ours = λ _. origin_is_plain },
+          (record { alone = refl; ours = λ _. repair_is_plain }, (record { alone = refl; ours = λ other. absurd (other refl) }, tt)),
+        ),
       ),
     ),
   ),
@@ -253,15 +262,16 @@ met_name words m p = name_by_rows m ∙ ap (option_map (λ q. q.0)) (p.met ∙ (
 -- one that is no other command is `show`
 pub named_show : (words : List Text) (m : ArgMatches) → IsParsedBy words m → subcommand_name_of m ≢ Some (codes "check")
     → subcommand_name_of m ≢ Some (codes "compile") → subcommand_name_of m ≢ Some (codes "read") → subcommand_name_of m ≢ Some (codes "origin")
-    → subcommand_name_of m ≡ Some (codes "show")
-named_show words m p not_check not_compile not_read not_origin = go (enters words p.sound).one
+    → subcommand_name_of m ≢ Some (codes "repair") → subcommand_name_of m ≡ Some (codes "show")
+named_show words m p not_check not_compile not_read not_origin not_repair = go (enters words p.sound).one
   where
     go : IsCommandName (enters words p.sound).name → subcommand_name_of m ≡ Some (codes "show")
     go (inl show) = met_name words m p ∙ ap Some show
     go (inr (inl check)) = absurd (not_check (met_name words m p ∙ ap Some check))
     go (inr (inr (inl compile))) = absurd (not_compile (met_name words m p ∙ ap Some compile))
     go (inr (inr (inr (inl read)))) = absurd (not_read (met_name words m p ∙ ap Some read))
-    go (inr (inr (inr (inr origin)))) = absurd (not_origin (met_name words m p ∙ ap Some origin))
+    go (inr (inr (inr (inr (inl origin))))) = absurd (not_origin (met_name words m p ∙ ap Some origin))
+    go (inr (inr (inr (inr (inr repair))))) = absurd (not_repair (met_name words m p ∙ ap Some repair))
 
 -- the matches are those of the subcommand of this name
 pub record IsSub (words : List Text) (name : Text) (found : Found) : Type 0 where
@@ -325,4 +335,13 @@ asks_for_origin words found key profile sub k p = record {
   named = sub.named;
   key_value = sym (first_value-rows found (codes "KEY")) ∙ k;
   profile_value = ap profile_file (sym (first_value-rows found (codes "profile"))) ∙ sym p;
+}
+
+pub asks_to_repair : (words : List Text) (found : Found) (file out : Text) → IsSub words (codes "repair") found
+    → first_value found (codes "FILE") ≡ Some file → first_value found (codes "OUT") ≡ Some out → AsksToRepair words file out
+asks_to_repair words found file out sub f o = record {
+  rows = rows_of found;
+  named = sub.named;
+  file_value = sym (first_value-rows found (codes "FILE")) ∙ f;
+  out_value = sym (first_value-rows found (codes "OUT")) ∙ o;
 }

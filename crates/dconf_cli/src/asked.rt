@@ -29,4 +29,9 @@ pub enum Command {
         locks: Option<String>,
         keyfiles: Vec<String>,
     },
+    /// Makes a sound database `out` of what can be saved of `file`.
+    Repair {
+        file: String,
+        out: String,
+    },
 }

@@ -1,7 +1,7 @@
 //! The command line of `dconfdb`, by clap's builder.
 ghost use Rattle.std.specs.Prelude.{◌≡◌, [], codes, false, IfOk, IsSome, Some, map, option_map, string_bytes, unwrap_or, vec_items};
 ghost use Rattle.clap.specs.Words.{FailsBy, app_of, fault_of, first_value, found_of, matched_of, raw_values, rule_of};
-ghost use Rattle.dconf_cli.specs.CommandLine.{check_line, command_line, compile_line, further_words, default_flag, locks_option, origin_line, profile_option, read_line, required_word, show_line};
+ghost use Rattle.dconf_cli.specs.CommandLine.{check_line, command_line, compile_line, further_words, default_flag, locks_option, origin_line, profile_option, read_line, repair_line, required_word, show_line};
 ghost use Rattle.dconf_cli.specs.Asked.{IsAskedBy, is_set, profile_file};
 
 use crate::asked::Command;
@@ -44,6 +44,12 @@ pub fn command(alloc: Global, words: &[String]) -> Result<Command, clap::Error>
             profile: profile_value(alloc, origin)?,
         });
     }
+    if let Some(repair) = matches.subcommand_matches("repair") {
+        return Ok(Command::Repair {
+            file: value(alloc, repair, "FILE")?,
+            out: value(alloc, repair, "OUT")?,
+        });
+    }
     let show = matches.subcommand_matches("show").unwrap();
     Ok(Command::Show {
         type_text: value(alloc, show, "TYPE")?,
@@ -63,7 +69,8 @@ fn dconfdb<'a>(alloc: Global) -> Result<clap::Command<'a>, AllocError>
         .subcommand(check(alloc)?)?
         .subcommand(compile(alloc)?)?
         .subcommand(read(alloc)?)?
-        .subcommand(origin(alloc)?)
+        .subcommand(origin(alloc)?)?
+        .subcommand(repair(alloc)?)
 }
 
 // `show TYPE FILE`.
@@ -92,7 +99,7 @@ fn check<'a>(alloc: Global) -> Result<clap::Command<'a>, AllocError>
 fn compile<'a>(alloc: Global) -> Result<clap::Command<'a>, AllocError>
     ensures { IfOk result (λ c. app_of c ≡ compile_line) }
 {
-    let out = required(alloc, "OUT").help("the database to make, in the place of any file there");
+    let out = out_word(alloc);
     let locks = locks_word(alloc);
     let keyfiles = keyfile_words(alloc);
     clap::Command::new(alloc, "compile")
@@ -150,6 +157,18 @@ fn origin<'a>(alloc: Global) -> Result<clap::Command<'a>, AllocError>
         .arg(profile)
 }
 
+// `repair FILE OUT`.
+fn repair<'a>(alloc: Global) -> Result<clap::Command<'a>, AllocError>
+    ensures { IfOk result (λ c. app_of c ≡ repair_line) }
+{
+    let file = file_word(alloc);
+    let out = out_word(alloc);
+    clap::Command::new(alloc, "repair")
+        .about("Makes a sound database OUT of what can be saved of FILE")
+        .arg(file)?
+        .arg(out)
+}
+
 // The key of a command.
 fn key_word<'a>(alloc: Global) -> Arg<'a>
     ensures rule { rule_of result ≡ required_word (codes "KEY") }
@@ -189,6 +208,14 @@ fn file_word<'a>(alloc: Global) -> Arg<'a>
     ensures own { result.global ≡ false }
 {
     required(alloc, "FILE").help("the file to read, by its path from the current folder")
+}
+
+// The database that a command makes.
+fn out_word<'a>(alloc: Global) -> Arg<'a>
+    ensures rule { rule_of result ≡ required_word (codes "OUT") }
+    ensures own { result.global ≡ false }
+{
+    required(alloc, "OUT").help("the database to make, in the place of any file there")
 }
 
 // A word that must be there, in its place.

@@ -8,6 +8,7 @@ mod check;
 mod compile;
 mod origin;
 mod read;
+mod repair;
 mod show;
 
 use crate::answer::Answer;
@@ -17,6 +18,7 @@ use compile::compile;
 use dconf_disk::Folder;
 use origin::origin;
 use read::read;
+use repair::repair;
 use show::show;
 use std::alloc::Global;
 
@@ -39,5 +41,6 @@ pub(crate) fn answered<F: Folder>(alloc: Global, command: &Command, folder: &mut
             locks,
             keyfiles,
         } => compile(alloc, out.as_str(), locks, keyfiles, folder),
+        Command::Repair { file, out } => repair(alloc, file.as_str(), out.as_str(), folder),
     }
 }

@@ -26,8 +26,8 @@ use std::io::{Read, Write};
 /// `error: KeyNotBasic at 2`, `error: TooLarge` for over 1,000,000 values or 128 levels, and `error: DoubleText` where a
 /// double is to be printed; of `read` and `origin` the fault of the key's path, as `error: NotAbsolute`, of the profile's first line at
 /// fault, as `error: profile:2: BadLine`, and of the first database that is no sound one, as `error: BadDatabase 1: Short`, and of `read`
-/// those of a value's printing; of `compile` the first line at fault, as `error: site:2: BadLine`; of `check` why the file is no
-/// database, as `error: BadRoot`, and `unsound: S4 item 1` for the first rule that fails and the first item at which it does.
+/// those of a value's printing; of `compile` the first line at fault, as `error: site:2: BadLine`; of `check` and `repair` why the file is
+/// no database, as `error: BadRoot`, and of `check` `unsound: S4 item 1` for the first rule that fails and the first item at which it does.
 ///
 /// It holds the bytes of the files that it reads once, and those that it writes; `show` takes time linear in both.
 pub fn run<F: Folder, I: Read, O: Write, E: Write>(

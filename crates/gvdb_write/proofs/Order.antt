@@ -1,7 +1,7 @@
 -- The paths of the settings that a map stands for are its keys, in order.
-use Rattle.std.proofs.Common.{ℕ, ◌≡◌, T, true, List, [], ◌∷◌, map, refl, sym, ◌∙◌, ap, subst, Vec, ◌&&◌}
-use Rattle.std.specs.BTreeMap.{BTreeMap, IsOrdered, keys}
-use Rattle.std.specs.BTreeSet.{BTreeSet}
+use Rattle.std.proofs.Common.{ℕ, ◌≡◌, T, true, List, [], ◌∷◌, map, length, refl, sym, ◌∙◌, ap, subst, Vec, ◌&&◌}
+use Rattle.std.specs.BTreeMap.{BTreeMap, IsOrdered, btree_map_len, keys}
+use Rattle.std.specs.BTreeSet.{BTreeSet, btree_set_len}
 use Rattle.std.specs.BTreeSet.{IsOrdered as IsOrderedSet}
 use Rattle.std.specs.List.Sorted.{IsStrictlySortedBy}
 use Rattle.std.specs.declared.string.String.{String}
@@ -14,6 +14,7 @@ use Rattle.std.specs.List.{AllByRecursion}
 use Rattle.std.specs.FinMap as fin
 use Rattle.std.specs.FinMap.Entries.{is_sorted, below_all}
 use Rattle.std.proofs.lemmas.Cmp.{nat_list_cmp_total}
+use Rattle.std.proofs.lemmas.List.{length-map}
 use Rattle.gvdb_write.specs.Maps.{values_of, locks_of, value_entries, lock_entries}
 
 -- a list in order is its map's entries
@@ -56,3 +57,9 @@ paths_of_locks (k ∷ ks) = ap (λ ps. string_bytes k ∷ ps) (paths_of_locks ks
 pub keys_locks : (s : BTreeSet (String Global)) → IsOrderedSet string_cmp s → fin.keys (locks_of s) ≡ map string_bytes s.keys
 keys_locks s o =
     ap (λ (es : List (List ℕ × Unit {0})). map (λ p. p.0) es) (entries_of_sorted (lock_entries s.keys) (sorted_locks s.keys o)) ∙ paths_of_locks s.keys
+
+pub len_values : (m : BTreeMap (String Global) (Vec ℕ Global)) → IsOrdered string_cmp m → fin.len (values_of m) ≡ btree_map_len m
+len_values m o = fin.len-entries (values_of m) ∙ ap length (entries_of_sorted (value_entries m.entries) (sorted_values m.entries o)) ∙ length-map m.entries _
+
+pub len_locks : (s : BTreeSet (String Global)) → IsOrderedSet string_cmp s → fin.len (locks_of s) ≡ btree_set_len s
+len_locks s o = fin.len-entries (locks_of s) ∙ ap length (entries_of_sorted (lock_entries s.keys) (sorted_locks s.keys o)) ∙ length-map s.keys _

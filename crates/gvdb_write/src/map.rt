@@ -1,6 +1,6 @@
 //! A map of paths to the bytes of their values, and a set of locked paths.
 ghost use Rattle.std.specs.Prelude.{◌≡◌, OnOk, OnErr, option_map};
-ghost use Rattle.std.specs.FinMap.{contains_key, get, keys};
+ghost use Rattle.std.specs.FinMap.{contains_key, get, keys, len};
 ghost use Rattle.dconf_model.specs.Settings.{no_settings, with_value, with_lock};
 ghost use Rattle.dconf_path.specs.Paths.{key_text};
 ghost use Rattle.dconf_path.specs.LockPaths.{lock_text};
@@ -95,6 +95,20 @@ impl Map {
         ensures { result ≡ contains_key self.now.locks (lock_text path.entry) }
     {
         self.locks.contains(path.as_str())
+    }
+
+    /// How many paths have a value.
+    pub fn key_count(&self) -> usize
+        ensures { result ≡ len self.now.values }
+    {
+        self.values.len()
+    }
+
+    /// How many paths are locked.
+    pub fn lock_count(&self) -> usize
+        ensures { result ≡ len self.now.locks }
+    {
+        self.locks.len()
     }
 
     /// The paths that have a value, in the order of their bytes.

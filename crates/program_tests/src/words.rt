@@ -123,6 +123,28 @@ fn reads_compile(rt: HostRuntime) -> Result<(), Fail> {
 }
 
 #[test]
+fn reads_repair(rt: HostRuntime) -> Result<(), Fail> {
+    let alloc = rt.alloc();
+    let lines = [
+        (
+            ["dconfdb", "repair", "a", "b"].as_slice(),
+            "Repair { file: \"a\", out: \"b\" }",
+        ),
+        (
+            ["dconfdb", "repair", "--", "-a", "-b"].as_slice(),
+            "Repair { file: \"-a\", out: \"-b\" }",
+        ),
+    ];
+    for (line, wanted) in lines {
+        let words = texts(alloc, line)?;
+        let asked = command(alloc, &words)?;
+        let shown = format!(in alloc; "{asked:?}")?;
+        assert!(rt; shown.as_str() == wanted, "{shown}");
+    }
+    Ok(())
+}
+
+#[test]
 fn refuses_other_words(rt: HostRuntime) -> Result<(), Fail> {
     let alloc = rt.alloc();
     let lines = [
@@ -162,6 +184,14 @@ fn refuses_other_words(rt: HostRuntime) -> Result<(), Fail> {
         (
             ["dconfdb", "compile", "o", "--locks", "a", "--locks", "b"].as_slice(),
             ErrorKind::ArgumentConflict,
+        ),
+        (
+            ["dconfdb", "repair", "f"].as_slice(),
+            ErrorKind::MissingRequiredArgument,
+        ),
+        (
+            ["dconfdb", "repair", "a", "b", "c"].as_slice(),
+            ErrorKind::UnknownArgument,
         ),
         (["dconfdb", "help"].as_slice(), ErrorKind::DisplayHelp),
         (

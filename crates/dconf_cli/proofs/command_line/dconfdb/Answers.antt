@@ -21,5 +21,7 @@ returns c =
     let reads = c.in_ok-read.ensures in
     let with_read = c.in_ok-subcommand-4.ensures.shape (first_not _ _ (second _ _ (second _ _ (ap (λ (a : App). a.top.is_plain) reads)))) ∙ ap₂ with_subcommand with_compile (ap (λ (a : App). a.top) reads) in
     let traced = c.in_ok-origin.ensures in
-    IfOk-weaker c.subcommand-5.result _ _ (λ r h. h.shape (first_not _ _ (second _ _ (second _ _ (ap (λ (a : App). a.top.is_plain) traced)))) ∙ ap₂ with_subcommand with_read (ap (λ (a : App). a.top) traced))
-    c.subcommand-5.ensures
+    let with_origin = c.in_ok-subcommand-5.ensures.shape (first_not _ _ (second _ _ (second _ _ (ap (λ (a : App). a.top.is_plain) traced)))) ∙ ap₂ with_subcommand with_read (ap (λ (a : App). a.top) traced) in
+    let repaired = c.in_ok-repair.ensures in
+    IfOk-weaker c.subcommand-6.result _ _ (λ r h. h.shape (first_not _ _ (second _ _ (second _ _ (ap (λ (a : App). a.top.is_plain) repaired)))) ∙ ap₂ with_subcommand with_origin (ap (λ (a : App). a.top) repaired))
+    c.subcommand-6.ensures

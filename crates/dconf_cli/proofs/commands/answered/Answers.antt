@@ -1,6 +1,6 @@
 use Rattle.std.proofs.Common.{map, option_map, string_bytes, subst, sym, vec_items}
 use Rattle.dconf_model.specs.Commands.{Command}
-use Rattle.dconf_model.specs.Commands.Command.{show, read, origin, check, compile}
+use Rattle.dconf_model.specs.Commands.Command.{show, read, origin, check, compile, repair}
 use Rattle.dconf_model.specs.Outcomes.{IsOutcome}
 use Rattle.dconf_cli.specs.Commands.{command_of}
 use Rattle.dconf_cli.specs.Readings.{Decides}
@@ -35,3 +35,9 @@ returns-in-Compile g c = λ input.
     let locks = option_map string_bytes c.in-Compile.locks in
     subst (λ k. D (command_of k)) (sym c.in-Compile.is) (subst (λ n. D (compile n locks (map string_bytes (vec_items c.in-Compile.keyfiles)))) c.as_str-in-Compile.ensures.value
     (subst (λ names. D (compile c.as_str-in-Compile.result.now locks (map string_bytes names))) c.deref.ensures.value (c.compile.ensures input)))
+
+pub returns-in-Repair : goal.returns-in-Repair
+returns-in-Repair g c = λ input.
+    let D : Command → Type 0 = λ k. Decides g.F.Folder.past g.F.Folder.failed c.args.folder.now c.repair.new.folder 0 (λ reads. IsOutcome k reads input) c.repair.result in
+    subst (λ k. D (command_of k)) (sym c.in-Repair.is) (subst (λ n. D (repair (string_bytes c.in-Repair.file) n)) c.as_str-in-Repair-2.ensures.value
+    (subst (λ n. D (repair n c.as_str-in-Repair-2.result.now)) c.as_str-in-Repair.ensures.value (c.repair.ensures input)))
