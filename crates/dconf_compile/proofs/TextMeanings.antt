@@ -35,7 +35,7 @@ pub value_read : (s : List ℕ) (v : Tree) → Reads s (Ok v) → value_of_text 
 value_read s v h = computed s (Ok v) (h.syntax, h.tree, (h.type, h.chosen, h.value))
 
 -- a fault is the text's, if it is one of the model
-abbrev Faults : List ℕ → Option SettingsCause → Type 0
+abbrev pub Faults : List ℕ → Option SettingsCause → Type 0
 Faults s o = IfSome o (λ c. value_of_text s ≡ Err c)
 
 untyped : (s : List ℕ) (e : TypingFault) → HasTypingFault s e → Faults s (read_cause_of (Typing e))
@@ -47,27 +47,24 @@ unvalued : (s : List ℕ) (o : Option TheFault) → IfSome o (λ f. Reads s (Err
 unvalued s (Some f) h = computed s (Err (value_fault f)) (h.syntax, h.tree, inr (h.type, h.chosen, h.value))
 unvalued s None h = tt
 
-fault_read : (s : List ℕ) (e : ReadFault) → IsReadFault s e → Faults s (read_cause_of e)
+pub fault_read : (s : List ℕ) (e : ReadFault) → IsReadFault s e → Faults s (read_cause_of e)
 fault_read s (Text (Refused cause span)) h = computed s (Err (text_fault (fault_at_span cause span))) h
 fault_read s (Text Memory) h = tt
 fault_read s (Typing e) h = untyped s e h
 fault_read s (Value e) h = unvalued s (fault_of e) h
 
-refused : (s : List ℕ) (o : Option SettingsCause) → Faults s o → IfSome o (λ c. text_compiled s ≡ Err c)
-refused s (Some c) h = ap if_storable h
-refused s None h = tt
-
 -- the fault of a text is that of compiling it
-pub text_refused : (s : List ℕ) (e : ReadFault) → IsReadFault s e → IfSome (read_cause_of e) (λ c. text_compiled s ≡ Err c)
-text_refused s e h = refused s (read_cause_of e) (fault_read s e h)
+pub text_refused : (s : List ℕ) (o : Option SettingsCause) → Faults s o → IfSome o (λ c. text_compiled s ≡ Err c)
+text_refused s (Some c) h = ap if_storable h
+text_refused s None h = tt
 
 -- ---- values that are stored
 
-pub text_stored : (s : List ℕ) (v : Tree) → Reads s (Ok v) → depth v < 128 → length (stored v) ≤ longest_file → text_compiled s ≡ Ok v
+pub text_stored : (s : List ℕ) (v : Tree) → value_of_text s ≡ Ok v → depth v < 128 → length (stored v) ≤ longest_file → text_compiled s ≡ Ok v
 text_stored s v h levels fits =
     let d : nat_lt (depth v) 128 ≡ true = lt-ltb (depth v) 128 levels in
     let n : nat_le (length (stored v)) longest_file ≡ true = le-leb (length (stored v)) longest_file fits in
-    ap if_storable (value_read s v h) ∙ rw (d, n) refl
+    ap if_storable h ∙ rw (d, n) refl
 
 unstorable : (v : Tree) (a b : Bool) → (a && b) ≡ false → cond (a && b) (Ok v) (Err too_large) ≡ Err too_large
 unstorable v a b e = rw e refl
@@ -76,10 +73,10 @@ neither : (a b : Bool) → b ≡ false → (a && b) ≡ false
 neither true b e = e
 neither false b e = refl
 
-pub text_too_large : (s : List ℕ) (v : Tree) (e : BuildFault) → Reads s (Ok v) → IsUnbuildable ((longest_file < length (stored v)) ⊎ (depth v ≡ 128)) e →
+pub text_too_large : (s : List ℕ) (v : Tree) (e : BuildFault) → value_of_text s ≡ Ok v → IsUnbuildable ((longest_file < length (stored v)) ⊎ (depth v ≡ 128)) e →
     IfSome (cause_of (build_cause e)) (λ c. text_compiled s ≡ Err c)
 text_too_large s v builds.Memory h why = tt
-text_too_large s v builds.TooLarge h why = ap if_storable (value_read s v h) ∙ go why
+text_too_large s v builds.TooLarge h why = ap if_storable h ∙ go why
   where
     go : (longest_file < length (stored v)) ⊎ (depth v ≡ 128) → if_storable (Ok v) ≡ Err too_large
     go (inl long) =

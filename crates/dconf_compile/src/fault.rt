@@ -63,7 +63,7 @@ impl CompileCause {
     ghost use Rattle.dconf_compile.specs.CompileFaults.{compile_cause_text};
 
     /// Whether a growth was refused, also while a value's text was read.
-    fn is_memory(self) -> bool
+    pub fn is_memory(self) -> bool
         ensures { result ≡ is_none (cause_of self) }
     {
         match self {

@@ -12,7 +12,9 @@ mod locking;
 mod order;
 mod rows;
 mod source;
+mod value;
 
 pub use compiling::compile;
 pub use fault::{CompileCause, CompileFault, FileRef};
 pub use source::Source;
+pub use value::value_of_text;

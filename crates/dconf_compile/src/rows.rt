@@ -7,9 +7,9 @@ ghost use Rattle.dconf_compile.specs.Added.{AddsRow, IsReadRow, IsStoredFor, row
 ghost use Rattle.dconf_compile.specs.CompileFaults.{cause_of};
 
 use crate::fault::CompileCause;
+use crate::value::value_of_text;
 use dconf_path::KeyPath;
 use gv_build::variant_bytes;
-use gv_infer::read_value;
 use gvdb_write::Map;
 use keyfile_core::Row;
 use std::alloc::{AllocError, Global};
@@ -51,6 +51,6 @@ fn stored(alloc: Global, text: &str) -> Result<Vec<u8>, CompileCause>
     ensures bytes { IfOk result (λ bytes. IsStoredFor (text_compiled text.now) bytes.items) }
     ensures fault { IfErr result (λ cause. IfSome (cause_of cause) (λ c. text_compiled text.now ≡ Err c)) }
 {
-    let value = read_value(alloc, text)?;
+    let value = value_of_text(alloc, text)?;
     Ok(variant_bytes(alloc, &value)?)
 }

@@ -1,0 +1,21 @@
+//! The value that a text spells, as the rows of keyfiles and the words of commands have it.
+ghost use Rattle.std.specs.Prelude.{◌≡◌, ◌≤◌, Err, IfErr, IfOk, IfSome, Ok, length};
+ghost use Rattle.dconf_model.specs.Values.{value_of_text};
+ghost use Rattle.dconf_compile.specs.CompileFaults.{cause_of};
+
+use crate::fault::CompileCause;
+use gv_infer::read_value;
+use gv_tree::Tree;
+use std::alloc::Global;
+
+/// The value of a text of at most 16,777,216 bytes, by its own type.
+///
+/// The refusal is the text's first fault, as [`read_value`] gives it: `Value`, which may also be that a growth was refused. It
+/// takes the time and the memory that [`read_value`] takes.
+pub fn value_of_text(alloc: Global, text: &str) -> Result<Tree, CompileCause>
+    requires { length text.now ≤ 16777216 }
+    ensures value { IfOk result (λ v. value_of_text text.now ≡ Ok v) }
+    ensures fault { IfErr result (λ cause. IfSome (cause_of cause) (λ c. value_of_text text.now ≡ Err c)) }
+{
+    Ok(read_value(alloc, text)?)
+}
