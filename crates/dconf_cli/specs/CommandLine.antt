@@ -44,6 +44,10 @@ read_line = with_rule (with_rule (with_rule (new_app (codes "read")) (required_w
 abbrev pub origin_line : App
 origin_line = with_rule (with_rule (new_app (codes "origin")) (required_word (codes "KEY"))) profile_option
 
+-- `NAME [-p FILE] DIR`, such as `list [-p FILE] DIR`
+abbrev pub directory_line : Text → App
+directory_line name = with_rule (with_rule (new_app name) (required_word (codes "DIR"))) profile_option
+
 -- `dconfdb`, which wants a subcommand and has a version
 abbrev pub dconfdb_line : App
 dconfdb_line = record (new_app (codes "dconfdb")) {
@@ -55,5 +59,6 @@ dconfdb_line = record (new_app (codes "dconfdb")) {
 
 abbrev pub command_line : App
 command_line =
-    with_subcommand (with_subcommand (with_subcommand (with_subcommand (with_subcommand dconfdb_line show_line.top) check_line.top) compile_line.top) read_line.top)
-    origin_line.top
+    with_subcommand (with_subcommand (with_subcommand (with_subcommand (with_subcommand (with_subcommand (with_subcommand (with_subcommand dconfdb_line
+    show_line.top) check_line.top) compile_line.top) read_line.top) origin_line.top)
+    (directory_line (codes "list")).top) (directory_line (codes "list-locks")).top) (directory_line (codes "dump")).top

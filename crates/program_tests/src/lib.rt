@@ -17,6 +17,8 @@ mod input;
 #[cfg(test)]
 mod limits;
 #[cfg(test)]
+mod listing;
+#[cfg(test)]
 mod runs;
 #[cfg(test)]
 mod settings;

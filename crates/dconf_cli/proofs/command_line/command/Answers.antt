@@ -1,6 +1,6 @@
 use Rattle.std.proofs.Common.{◌≡◌, codes, false, map, refl, string_bytes, true}
 use Rattle.clap.specs.Words.{found_of}
-use Rattle.dconf_cli.proofs.Subcommands.{IsParsedBy, IsSub, asks_for_origin, asks_to_check, asks_to_compile, asks_to_read, asks_to_show, is_sub, named_show, parsed}
+use Rattle.dconf_cli.proofs.Subcommands.{IsParsedBy, IsSub, asks_for_origin, asks_of_directory, asks_to_check, asks_to_compile, asks_to_read, asks_to_show, is_sub, named_show, parsed}
 use Rattle.dconf_cli.proofs.command_line.command.Goals as goal
 
 pub value-requires : goal.value-requires
@@ -96,14 +96,83 @@ returns-in-Some-subcommand_matches-3-clause-faults c =
     let m = c.in_ok-matches.matches in
     (parsed _ words m c.in_ok-dconfdb.ensures c.in_ok-matches.ensures.kinds c.in_ok-matches.ensures.matches).sound
 
+pub value-requires-in-Some-subcommand_matches-4 : goal.value-requires-in-Some-subcommand_matches-4
+value-requires-in-Some-subcommand_matches-4 c =
+    let words = map string_bytes c.args.words.now in
+    let m = c.in_ok-matches.matches in
+    let p : IsParsedBy words m = parsed _ words m c.in_ok-dconfdb.ensures c.in_ok-matches.ensures.kinds c.in_ok-matches.ensures.matches in
+    let found = found_of c.in-Some-subcommand_matches-4.list.now in
+    (is_sub words (codes "list") m found p (c.in-Some-subcommand_matches-4.ensures.found.0 refl) c.in-Some-subcommand_matches-4.ensures.rows).given (codes "DIR") refl refl
+
+pub returns-in-Some-subcommand_matches-4-clause-asked : goal.returns-in-Some-subcommand_matches-4-clause-asked
+returns-in-Some-subcommand_matches-4-clause-asked c =
+    let words = map string_bytes c.args.words.now in
+    let m = c.in_ok-matches.matches in
+    let p : IsParsedBy words m = parsed _ words m c.in_ok-dconfdb.ensures c.in_ok-matches.ensures.kinds c.in_ok-matches.ensures.matches in
+    let found = found_of c.in-Some-subcommand_matches-4.list.now in
+    asks_of_directory (codes "list") words found _ _ (is_sub words (codes "list") m found p (c.in-Some-subcommand_matches-4.ensures.found.0 refl) c.in-Some-subcommand_matches-4.ensures.rows) c.in_ok-value-4.ensures c.in_ok-profile_value-3.ensures
+
+pub returns-in-Some-subcommand_matches-4-clause-faults : goal.returns-in-Some-subcommand_matches-4-clause-faults
+returns-in-Some-subcommand_matches-4-clause-faults c =
+    let words = map string_bytes c.args.words.now in
+    let m = c.in_ok-matches.matches in
+    (parsed _ words m c.in_ok-dconfdb.ensures c.in_ok-matches.ensures.kinds c.in_ok-matches.ensures.matches).sound
+
+pub value-requires-in-Some-subcommand_matches-5 : goal.value-requires-in-Some-subcommand_matches-5
+value-requires-in-Some-subcommand_matches-5 c =
+    let words = map string_bytes c.args.words.now in
+    let m = c.in_ok-matches.matches in
+    let p : IsParsedBy words m = parsed _ words m c.in_ok-dconfdb.ensures c.in_ok-matches.ensures.kinds c.in_ok-matches.ensures.matches in
+    let found = found_of c.in-Some-subcommand_matches-5.list_locks.now in
+    (is_sub words (codes "list-locks") m found p (c.in-Some-subcommand_matches-5.ensures.found.0 refl) c.in-Some-subcommand_matches-5.ensures.rows).given (codes "DIR") refl refl
+
+pub returns-in-Some-subcommand_matches-5-clause-asked : goal.returns-in-Some-subcommand_matches-5-clause-asked
+returns-in-Some-subcommand_matches-5-clause-asked c =
+    let words = map string_bytes c.args.words.now in
+    let m = c.in_ok-matches.matches in
+    let p : IsParsedBy words m = parsed _ words m c.in_ok-dconfdb.ensures c.in_ok-matches.ensures.kinds c.in_ok-matches.ensures.matches in
+    let found = found_of c.in-Some-subcommand_matches-5.list_locks.now in
+    asks_of_directory (codes "list-locks") words found _ _ (is_sub words (codes "list-locks") m found p (c.in-Some-subcommand_matches-5.ensures.found.0 refl) c.in-Some-subcommand_matches-5.ensures.rows) c.in_ok-value-5.ensures c.in_ok-profile_value-4.ensures
+
+pub returns-in-Some-subcommand_matches-5-clause-faults : goal.returns-in-Some-subcommand_matches-5-clause-faults
+returns-in-Some-subcommand_matches-5-clause-faults c =
+    let words = map string_bytes c.args.words.now in
+    let m = c.in_ok-matches.matches in
+    (parsed _ words m c.in_ok-dconfdb.ensures c.in_ok-matches.ensures.kinds c.in_ok-matches.ensures.matches).sound
+
+pub value-requires-in-Some-subcommand_matches-6 : goal.value-requires-in-Some-subcommand_matches-6
+value-requires-in-Some-subcommand_matches-6 c =
+    let words = map string_bytes c.args.words.now in
+    let m = c.in_ok-matches.matches in
+    let p : IsParsedBy words m = parsed _ words m c.in_ok-dconfdb.ensures c.in_ok-matches.ensures.kinds c.in_ok-matches.ensures.matches in
+    let found = found_of c.in-Some-subcommand_matches-6.dump.now in
+    (is_sub words (codes "dump") m found p (c.in-Some-subcommand_matches-6.ensures.found.0 refl) c.in-Some-subcommand_matches-6.ensures.rows).given (codes "DIR") refl refl
+
+pub returns-in-Some-subcommand_matches-6-clause-asked : goal.returns-in-Some-subcommand_matches-6-clause-asked
+returns-in-Some-subcommand_matches-6-clause-asked c =
+    let words = map string_bytes c.args.words.now in
+    let m = c.in_ok-matches.matches in
+    let p : IsParsedBy words m = parsed _ words m c.in_ok-dconfdb.ensures c.in_ok-matches.ensures.kinds c.in_ok-matches.ensures.matches in
+    let found = found_of c.in-Some-subcommand_matches-6.dump.now in
+    asks_of_directory (codes "dump") words found _ _ (is_sub words (codes "dump") m found p (c.in-Some-subcommand_matches-6.ensures.found.0 refl) c.in-Some-subcommand_matches-6.ensures.rows) c.in_ok-value-6.ensures c.in_ok-profile_value-5.ensures
+
+pub returns-in-Some-subcommand_matches-6-clause-faults : goal.returns-in-Some-subcommand_matches-6-clause-faults
+returns-in-Some-subcommand_matches-6-clause-faults c =
+    let words = map string_bytes c.args.words.now in
+    let m = c.in_ok-matches.matches in
+    (parsed _ words m c.in_ok-dconfdb.ensures c.in_ok-matches.ensures.kinds c.in_ok-matches.ensures.matches).sound
+
 pub unwrap-show-requires : goal.unwrap-show-requires
 unwrap-show-requires c =
     let words = map string_bytes c.args.words.now in
     let m = c.in_ok-matches.matches in
     let p : IsParsedBy words m = parsed _ words m c.in_ok-dconfdb.ensures c.in_ok-matches.ensures.kinds c.in_ok-matches.ensures.matches in
-    c.subcommand_matches-5.ensures.found.1 (named_show words m p (λ e. let none : false ≡ true = c.in_default.ensures.found.1 e in cc)
+    c.subcommand_matches-8.ensures.found.1 (named_show words m p (λ e. let none : false ≡ true = c.in_default.ensures.found.1 e in cc)
     (λ e. let none : false ≡ true = c.in_default-subcommand_matches.ensures.found.1 e in cc) (λ e. let none : false ≡ true = c.in_default-subcommand_matches-2.ensures.found.1 e in cc)
-    (λ e. let none : false ≡ true = c.in_default-subcommand_matches-3.ensures.found.1 e in cc))
+    (λ e. let none : false ≡ true = c.in_default-subcommand_matches-3.ensures.found.1 e in cc)
+    (λ e. let none : false ≡ true = c.in_default-subcommand_matches-4.ensures.found.1 e in cc)
+    (λ e. let none : false ≡ true = c.in_default-subcommand_matches-5.ensures.found.1 e in cc)
+    (λ e. let none : false ≡ true = c.in_default-subcommand_matches-6.ensures.found.1 e in cc))
 
 pub value-requires-2 : goal.value-requires-2
 value-requires-2 c =
@@ -112,8 +181,11 @@ value-requires-2 c =
     let p : IsParsedBy words m = parsed _ words m c.in_ok-dconfdb.ensures c.in_ok-matches.ensures.kinds c.in_ok-matches.ensures.matches in
     let named = named_show words m p (λ e. let none : false ≡ true = c.in_default.ensures.found.1 e in cc)
     (λ e. let none : false ≡ true = c.in_default-subcommand_matches.ensures.found.1 e in cc) (λ e. let none : false ≡ true = c.in_default-subcommand_matches-2.ensures.found.1 e in cc)
-    (λ e. let none : false ≡ true = c.in_default-subcommand_matches-3.ensures.found.1 e in cc) in
-    (is_sub words (codes "show") m (found_of c.unwrap-show.result.now) p named (rw c.unwrap-show.ensures at c.subcommand_matches-5.ensures.rows)).given (codes "TYPE") refl refl
+    (λ e. let none : false ≡ true = c.in_default-subcommand_matches-3.ensures.found.1 e in cc)
+    (λ e. let none : false ≡ true = c.in_default-subcommand_matches-4.ensures.found.1 e in cc)
+    (λ e. let none : false ≡ true = c.in_default-subcommand_matches-5.ensures.found.1 e in cc)
+    (λ e. let none : false ≡ true = c.in_default-subcommand_matches-6.ensures.found.1 e in cc) in
+    (is_sub words (codes "show") m (found_of c.unwrap-show.result.now) p named (rw c.unwrap-show.ensures at c.subcommand_matches-8.ensures.rows)).given (codes "TYPE") refl refl
 
 pub value-requires-3 : goal.value-requires-3
 value-requires-3 c =
@@ -122,8 +194,11 @@ value-requires-3 c =
     let p : IsParsedBy words m = parsed _ words m c.in_ok-dconfdb.ensures c.in_ok-matches.ensures.kinds c.in_ok-matches.ensures.matches in
     let named = named_show words m p (λ e. let none : false ≡ true = c.in_default.ensures.found.1 e in cc)
     (λ e. let none : false ≡ true = c.in_default-subcommand_matches.ensures.found.1 e in cc) (λ e. let none : false ≡ true = c.in_default-subcommand_matches-2.ensures.found.1 e in cc)
-    (λ e. let none : false ≡ true = c.in_default-subcommand_matches-3.ensures.found.1 e in cc) in
-    (is_sub words (codes "show") m (found_of c.unwrap-show.result.now) p named (rw c.unwrap-show.ensures at c.subcommand_matches-5.ensures.rows)).given (codes "FILE") refl refl
+    (λ e. let none : false ≡ true = c.in_default-subcommand_matches-3.ensures.found.1 e in cc)
+    (λ e. let none : false ≡ true = c.in_default-subcommand_matches-4.ensures.found.1 e in cc)
+    (λ e. let none : false ≡ true = c.in_default-subcommand_matches-5.ensures.found.1 e in cc)
+    (λ e. let none : false ≡ true = c.in_default-subcommand_matches-6.ensures.found.1 e in cc) in
+    (is_sub words (codes "show") m (found_of c.unwrap-show.result.now) p named (rw c.unwrap-show.ensures at c.subcommand_matches-8.ensures.rows)).given (codes "FILE") refl refl
 
 pub returns-clause-asked : goal.returns-clause-asked
 returns-clause-asked c =
@@ -133,9 +208,12 @@ returns-clause-asked c =
     let p : IsParsedBy words m = parsed _ words m c.in_ok-dconfdb.ensures c.in_ok-matches.ensures.kinds c.in_ok-matches.ensures.matches in
     let named = named_show words m p (λ e. let none : false ≡ true = c.in_default.ensures.found.1 e in cc)
     (λ e. let none : false ≡ true = c.in_default-subcommand_matches.ensures.found.1 e in cc) (λ e. let none : false ≡ true = c.in_default-subcommand_matches-2.ensures.found.1 e in cc)
-    (λ e. let none : false ≡ true = c.in_default-subcommand_matches-3.ensures.found.1 e in cc) in
-    let sub : IsSub words (codes "show") found = is_sub words (codes "show") m found p named (rw c.unwrap-show.ensures at c.subcommand_matches-5.ensures.rows) in
-    asks_to_show words found _ _ sub c.in_ok-value-4.ensures c.in_ok-value-5.ensures
+    (λ e. let none : false ≡ true = c.in_default-subcommand_matches-3.ensures.found.1 e in cc)
+    (λ e. let none : false ≡ true = c.in_default-subcommand_matches-4.ensures.found.1 e in cc)
+    (λ e. let none : false ≡ true = c.in_default-subcommand_matches-5.ensures.found.1 e in cc)
+    (λ e. let none : false ≡ true = c.in_default-subcommand_matches-6.ensures.found.1 e in cc) in
+    let sub : IsSub words (codes "show") found = is_sub words (codes "show") m found p named (rw c.unwrap-show.ensures at c.subcommand_matches-8.ensures.rows) in
+    asks_to_show words found _ _ sub c.in_ok-value-7.ensures c.in_ok-value-8.ensures
 
 pub returns-clause-faults : goal.returns-clause-faults
 returns-clause-faults c =

@@ -21,5 +21,11 @@ returns c =
     let reads = c.in_ok-read.ensures in
     let with_read = c.in_ok-subcommand-4.ensures.shape (first_not _ _ (second _ _ (second _ _ (ap (λ (a : App). a.top.is_plain) reads)))) ∙ ap₂ with_subcommand with_compile (ap (λ (a : App). a.top) reads) in
     let traced = c.in_ok-origin.ensures in
-    IfOk-weaker c.subcommand-5.result _ _ (λ r h. h.shape (first_not _ _ (second _ _ (second _ _ (ap (λ (a : App). a.top.is_plain) traced)))) ∙ ap₂ with_subcommand with_read (ap (λ (a : App). a.top) traced))
-    c.subcommand-5.ensures
+    let with_origin = c.in_ok-subcommand-5.ensures.shape (first_not _ _ (second _ _ (second _ _ (ap (λ (a : App). a.top.is_plain) traced)))) ∙ ap₂ with_subcommand with_read (ap (λ (a : App). a.top) traced) in
+    let listed = c.in_ok-list.ensures in
+    let with_list = c.in_ok-subcommand-6.ensures.shape (first_not _ _ (second _ _ (second _ _ (ap (λ (a : App). a.top.is_plain) listed)))) ∙ ap₂ with_subcommand with_origin (ap (λ (a : App). a.top) listed) in
+    let locks = c.in_ok-list_locks.ensures in
+    let with_locks = c.in_ok-subcommand-7.ensures.shape (first_not _ _ (second _ _ (second _ _ (ap (λ (a : App). a.top.is_plain) locks)))) ∙ ap₂ with_subcommand with_list (ap (λ (a : App). a.top) locks) in
+    let dumped = c.in_ok-dump.ensures in
+    IfOk-weaker c.subcommand-8.result _ _ (λ r h. h.shape (first_not _ _ (second _ _ (second _ _ (ap (λ (a : App). a.top.is_plain) dumped)))) ∙ ap₂ with_subcommand with_locks (ap (λ (a : App). a.top) dumped))
+    c.subcommand-8.ensures
