@@ -30,6 +30,11 @@ same_locks change [] i path = refl
 same_locks change (s ∷ xs) zero path = refl
 same_locks change (s ∷ xs) (suc i) path = refl
 
+same_locks_at : (change : Values → Values) (xs : List Settings) (i : ℕ) → (get_or (with_first_layer change xs) i no_settings).locks ≡ (get_or xs i no_settings).locks
+same_locks_at change [] i = refl
+same_locks_at change (s ∷ xs) zero = refl
+same_locks_at change (s ∷ xs) (suc i) = refl
+
 -- nothing changed
 pub unchanged : (xs : List Settings) → with_first_layer (with_changes empty) xs ≡ xs
 unchanged [] = refl
@@ -47,6 +52,22 @@ pub locks_of_item : (c : Unsaved) (items : Items) (i : ℕ) (item : Option Layer
     locks_path path (settings_of_item item) ≡ locks_path path (get_or (with_first_layer (with_changes c) (map settings_of_item items)) i no_settings)
 locks_of_item c items i item path within is =
     sym (same_locks (with_changes c) (map settings_of_item items) i path ∙ ap (locks_path path) (layer_at items i item within is))
+
+pub locks_at_item : (c : Unsaved) (items : Items) (i : ℕ) (item : Option Layer) → i < length items → item ≡ get_or items i item →
+    (settings_of_item item).locks ≡ (get_or (with_first_layer (with_changes c) (map settings_of_item items)) i no_settings).locks
+locks_at_item c items i item within is =
+    sym (same_locks_at (with_changes c) (map settings_of_item items) i ∙ ap (λ (s : Settings). s.locks) (layer_at items i item within is))
+
+pub values_at_item : (c : Unsaved) (items : Items) (i : ℕ) (item : Option Layer) → 0 < i → i < length items → item ≡ get_or items i item →
+    (settings_of_item item).values ≡ (get_or (with_first_layer (with_changes c) (map settings_of_item items)) i no_settings).values
+values_at_item c items i item some within is =
+    sym (ap (λ (s : Settings). s.values) (later_layer (with_changes c) (map settings_of_item items) i some ∙ layer_at items i item within is))
+
+pub first_values_at : (c : Unsaved) (items : Items) (item : Option Layer) → 0 < length items → item ≡ get_or items 0 item →
+    with_changes c (settings_of_item item).values ≡ (get_or (with_first_layer (with_changes c) (map settings_of_item items)) 0 no_settings).values
+first_values_at c items item some is =
+    let n : length (map settings_of_item items) ≡ length items = length-map items settings_of_item in
+    sym (first_values (with_changes c) (map settings_of_item items) (omega (arith, n, some)) ∙ ap (λ (s : Settings). with_changes c s.values) (layer_at items 0 item some is))
 
 pub later_value : (c : Unsaved) (items : Items) (i : ℕ) (item : Option Layer) (path : List ℕ) → 0 < i → i < length items → item ≡ get_or items i item →
     get (settings_of_item item).values path ≡ get (get_or (with_first_layer (with_changes c) (map settings_of_item items)) i no_settings).values path

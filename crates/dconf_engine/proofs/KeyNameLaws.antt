@@ -40,16 +40,18 @@ joined_utf8 : (t : Region) (i : ℕ) (ps : List ℕ) → IsSearchable t → HasP
 joined_utf8 t i [] s h = (s.good_key i h.0.counted).utf8
 joined_utf8 t i (p ∷ ps) s h = IsUtf8-append (joined t p ps) (key t i) (joined_utf8 t p ps s h.3) (s.good_key i h.0.counted).utf8
 
-name_utf8 : (t : Region) (i : ℕ) (name : List ℕ) → IsSearchable t → HasName t i name → IsUtf8 name
+pub name_utf8 : (t : Region) (i : ℕ) (name : List ℕ) → IsSearchable t → HasName t i name → IsUtf8 name
 name_utf8 t i name s h = subst IsUtf8 h.spelled (joined_utf8 t i h.parents s h.chain)
 
 -- ---- what the name of an item is found to be
 
-short_key : (name : List ℕ) → is_key_path name ≡ true → length name ≤ 65535
-short_key name e =
-    let path : is_path name ≡ true = (and_parts (is_path name) (not (ends_with_slash name)) e).0 in
+pub short_path : (name : List ℕ) → is_path name ≡ true → length name ≤ 65535
+short_path name path =
     let short = (and_parts (starts_with_slash name && not (has_zero_byte name) && not (has_two_slashes name)) (is_short name) path).1 in
     leb_yes (subst (λ b. T b) (sym short) tt)
+
+short_key : (name : List ℕ) → is_key_path name ≡ true → length name ≤ 65535
+short_key name e = short_path name (and_parts (is_path name) (not (ends_with_slash name)) e).0
 
 no_key : (t : Region) (i : ℕ) (o : Option (List ℕ)) → ((name : List ℕ) → o ≡ Some name → 65535 < length name) → key_name o ≡ []
 no_key t i None long = refl
@@ -80,7 +82,7 @@ any_append p (x ∷ xs) ys e =
     (λ other. or_right (bytes_eq p x) (list_any (bytes_eq p) (xs ++ ys))
     (any_append p xs ys (sym (ap (λ b. (b || list_any (bytes_eq p) xs) || list_any (bytes_eq p) ys) other) ∙ e)))
 
-any_gathered : (p : List ℕ) (f : ℕ → List (List ℕ)) (i n : ℕ) → i < n → list_any (bytes_eq p) (f i) ≡ true → list_any (bytes_eq p) (gathered f n) ≡ true
+pub any_gathered : (p : List ℕ) (f : ℕ → List (List ℕ)) (i n : ℕ) → i < n → list_any (bytes_eq p) (f i) ≡ true → list_any (bytes_eq p) (gathered f n) ≡ true
 any_gathered p f i zero within e = absurd (omega (arith, within))
 any_gathered p f i (suc n) within e =
     any_append p (gathered f n) (f n)

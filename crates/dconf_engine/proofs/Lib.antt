@@ -9,3 +9,10 @@ pub mod WritingLaws
 pub mod KeyNameLaws
 pub mod SavedLaws
 pub mod ClearedLaws
+pub mod TextSetLaws
+pub mod ChildNames
+pub mod PathTests
+pub mod ListedNames
+pub mod LockNameLaws
+pub mod LayerTurns
+pub mod LeftLaws

@@ -1,17 +1,16 @@
 -- The settings that are put together of what a layer has and what was set are the user's, without locks.
-use Rattle.std.proofs.Common.{◌≡◌, ℕ, T, Bool, true, false, cond, List, [], ◌∷◌, Option, Some, None, is_some, refl, sym, ap, ◌∙◌, subst, ◌||◌}
+use Rattle.std.proofs.Common.{◌≡◌, ℕ, Bool, true, false, cond, List, [], ◌∷◌, Option, Some, None, is_some, refl, sym, ap, ◌∙◌, subst, ◌||◌}
 use Rattle.std.specs.List.{list_any}
 use Rattle.std.specs.Option.{unwrap_or}
 use Rattle.std.specs.Str.{bytes_eq}
 use Rattle.std.specs.Cmp.Lexicographic.{slice_cmp}
-use Rattle.std.specs.Ordering.{nat_cmp, eq_by_cmp, is_lt, is_eq}
+use Rattle.std.specs.Ordering.{nat_cmp, is_lt, is_eq}
 use Rattle.std.specs.declared.cmp.Ordering.{Ordering}
 use Rattle.std.specs.declared.cmp.Ordering.TheVariants.{Less, Equal, Greater}
 use Rattle.std.specs.FinMap as fin
 use Rattle.std.specs.FinMap.{get, contains_key, entries, empty, find}
 use Rattle.std.specs.FinMap.Entries.{is_sorted, below_all}
 use Rattle.std.proofs.lemmas.Bool.{and_parts}
-use Rattle.std.proofs.lemmas.Map.Text.{is_eq-slice_cmp}
 use Rattle.dconf_model.specs.Settings.{Settings, no_settings}
 use Rattle.dconf_model.specs.Changes.{Values, saved, with_first_layer}
 use Rattle.std.proofs.Common.{slice_get, map}
@@ -68,7 +67,7 @@ is_less Less h = refl
 is_less Equal h = absurd cc
 is_less Greater h = absurd cc
 
-find_below : (q : List ℕ) (cs : List (List ℕ × Option (List ℕ))) → below_all (slice_cmp nat_cmp) q cs ≡ true → find (slice_cmp nat_cmp) q cs ≡ None
+pub find_below : (q : List ℕ) (cs : List (List ℕ × Option (List ℕ))) → below_all (slice_cmp nat_cmp) q cs ≡ true → find (slice_cmp nat_cmp) q cs ≡ None
 find_below q [] h = refl
 find_below q (c ∷ cs) h =
     let parts = and_parts (is_lt (slice_cmp nat_cmp q c.0)) (below_all (slice_cmp nat_cmp) q cs) h in

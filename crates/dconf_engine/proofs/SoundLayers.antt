@@ -61,12 +61,12 @@ value_is_missed values locks path o h =
 -- ---- locks
 
 -- `.locks` and its table
-record IsLocksAt (t u : Region) (i : ℕ) : Type 0 where
-  named : HasName t i (codes ".locks")
-  holds : HoldsLocksAlone u
-  is : u ≡ table_of t i
+pub record IsLocksAt (t u : Region) (i : ℕ) : Type 0 where
+  pub named : HasName t i (codes ".locks")
+  pub holds : HoldsLocksAlone u
+  pub is : u ≡ table_of t i
 
-locks_at : (t u : Region) → IsSound t → (h : IsTableAt t (codes ".locks") u) → IsLocksAt t u h.0
+pub locks_at : (t u : Region) → IsSound t → (h : IsTableAt t (codes ".locks") u) → IsLocksAt t u h.0
 locks_at t u sound h =
     let row = ((sound_finds_rows t sound).found (codes ".locks") table_kind h.0).0 h.1 in
     let law = locks_are_searchable t h.0 sound row.named in
@@ -78,19 +78,26 @@ lock_is_named t u name sound h found =
     let row = (at.holds.finds.found name value_kind found.0).0 found.1 in
     (h.0, at.named, (found.0, subst (λ (u : Region). HasName u found.0 name) at.is row.named))
 
-lock_is_found : (t u : Region) (name : List ℕ) → IsSound t → IsTableAt t (codes ".locks") u → NamesLock t name → IsFound u name value_kind
-lock_is_found t u name sound h names =
+pub item_of_lock : (t u : Region) (name : List ℕ) → IsSound t → IsTableAt t (codes ".locks") u → NamesLock t name → (j : ℕ) × HasName u j name
+item_of_lock t u name sound h names =
     let at = locks_at t u sound h in
     let same : names.0 ≡ h.0 = one_item t (codes ".locks") names.0 h.0 (sound_is_searchable t sound) names.1 at.named in
     let j = names.2.0 in
-    let named : HasName u j name = subst (λ (u : Region). HasName u j name) (ap (λ i. table_of t i) same ∙ sym at.is) names.2.1 in
+    (j, subst (λ (u : Region). HasName u j name) (ap (λ i. table_of t i) same ∙ sym at.is) names.2.1)
+
+lock_is_found : (t u : Region) (name : List ℕ) → IsSound t → IsTableAt t (codes ".locks") u → NamesLock t name → IsFound u name value_kind
+lock_is_found t u name sound h names =
+    let at = locks_at t u sound h in
+    let item = item_of_lock t u name sound h names in
+    let j = item.0 in
+    let named : HasName u j name = item.1 in
     let here = counted u j name named in
     let own = (at.holds.rows (key u j) value_kind j).1 (here, refl, refl) in
     let is : name ≡ key u j = one_name u j name (key u j) named own.named in
     (j, (at.holds.finds.found name value_kind j).1 ((at.holds.rows name value_kind j).1 (here, is, refl)))
 
 -- where there is no table of locks nothing is locked
-none_is_named : (t : Region) (name : List ℕ) → IsSound t → ((u : Region) → ¬ IsTableAt t (codes ".locks") u) → ¬ NamesLock t name
+pub none_is_named : (t : Region) (name : List ℕ) → IsSound t → ((u : Region) → ¬ IsTableAt t (codes ".locks") u) → ¬ NamesLock t name
 none_is_named t name sound none names =
     let i = names.0 in
     let law = locks_are_searchable t i sound names.1 in
@@ -107,7 +114,7 @@ covering : (t : Region) (s : Settings) (path : List ℕ) → ((p : List ℕ) →
 covering t s path says key h =
     any_passes (λ lock. covers lock path) (keys s.locks) h.0 (sym (key_in s.locks h.0) ∙ (says h.0).1 (covering_is_path h.0 path h.1 key, h.2)) h.1
 
-said_of : (values : Table) (locks : Option Table) → AreOfSoundDatabase values locks → (p : List ℕ) →
+pub said_of : (values : Table) (locks : Option Table) → AreOfSoundDatabase values locks → (p : List ℕ) →
     IsTrue (contains_key (settings_at (region values)).locks p) ↔ (IsTrue (is_path p) × NamesLock (region values) p)
 said_of values locks o p =
     subst (λ (t : Region). IsTrue (contains_key (settings_at (region values)).locks p) ↔ (IsTrue (is_path p) × NamesLock t p)) (sym o.root) ((says values locks o).locks p)

@@ -13,3 +13,6 @@ pub mod UnsavedLeft
 pub mod KeyNames
 pub mod Saved
 pub mod Cleared
+pub mod TextSets
+pub mod LeftPaths
+pub mod LockNames

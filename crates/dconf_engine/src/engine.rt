@@ -159,7 +159,7 @@ impl<'a> Engine<'a> {
     }
 
     /// How many layers there are.
-    fn count(&self) -> usize
+    pub(crate) fn count(&self) -> usize
         ensures { result ≡ length self.now.layers }
     {
         self.layers.len()

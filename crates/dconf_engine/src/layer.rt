@@ -18,7 +18,7 @@ const LOCKS: &str = ".locks";
 #[derive(Clone, Copy, Debug)]
 pub(crate) struct Layer<'a> {
     pub(crate) values: Table<'a>,
-    locks: Option<Table<'a>>,
+    pub(crate) locks: Option<Table<'a>>,
     ghost sound: { ∥ AreOfSoundDatabase values locks ∥₁ },
 }
 

@@ -8,10 +8,14 @@
 
 mod change_fault;
 mod changes;
+mod children;
 mod engine;
 mod fault;
 mod key_names;
 mod layer;
+mod layer_lists;
+mod left;
+mod listing;
 mod resetting;
 mod saving;
 mod storing;

@@ -1,0 +1,218 @@
+-- The paths at which the first layer has a value: those of its file that were not changed, and those that were set.
+use Rattle.std.proofs.Common.{◌≡◌, ◌||◌, ◌&&◌, ◌+◌, ℕ, suc, arith, Bool, true, false, cond, not, List, [], ◌∷◌, ◌++◌, Option, Some, None, is_some, refl, sym, ap, ◌∙◌, subst}
+use Rattle.std.specs.Cmp.Lexicographic.{slice_cmp}
+use Rattle.std.specs.FinMap as fin
+use Rattle.std.specs.FinMap.{get, keys, entries, find}
+use Rattle.std.specs.FinMap.Entries.{is_sorted, below_all}
+use Rattle.std.specs.List.{list_any}
+use Rattle.std.specs.Option.{unwrap_or}
+use Rattle.std.specs.Ordering.{nat_cmp}
+use Rattle.std.specs.Str.{bytes_eq}
+use Rattle.std.proofs.lemmas.Bool.{and_parts}
+use Rattle.std.proofs.lemmas.List.Concat.{flat_map-cons}
+use Rattle.std.proofs.lemmas.List.Elements.{filter-append}
+use Rattle.std.proofs.lemmas.List.Folds.{list_any-append}
+use Rattle.std.proofs.lemmas.Map.Text.{is_eq-slice_cmp}
+use Rattle.dconf_model.specs.Changes.{Values}
+use Rattle.dconf_model.specs.Databases.{gathered}
+use Rattle.dconf_model.specs.Layers.{parts_below}
+use Rattle.dconf_model.specs.Locks.{is_below}
+use Rattle.dconf_model.specs.Paths.{is_key_path}
+use Rattle.dconf_model.proofs.ParentLaws.{by_bool}
+use Rattle.dconf_model.proofs.PathMaps.{key_in, no_truth}
+use Rattle.dconf_model.proofs.SameBytes.{same_path}
+use Rattle.gvdb_write.proofs.KeysRise.{from_true}
+use Rattle.dconf_engine.specs.declared.layer.Layer.{Layer}
+use Rattle.dconf_engine.specs.KeyNames.{items_of, key_name, key_names}
+use Rattle.dconf_engine.specs.LayerSettings.{settings_of, settings_of_item}
+use Rattle.dconf_engine.specs.LeftPaths.{base_paths, has_reset_below, is_left, is_reset_below, left_of, left_parts, path_if_set, set_paths}
+use Rattle.dconf_engine.specs.TextSets.{TextSet, is_in, Adds}
+use Rattle.dconf_engine.specs.Unsaved.{Unsaved, with_changes}
+use Rattle.dconf_engine.proofs.KeyNameLaws.{each_is_named}
+use Rattle.dconf_engine.proofs.PathTests.{any_passing, parts_alike}
+use Rattle.dconf_engine.proofs.SavedLaws.{find_below}
+use Rattle.dconf_engine.proofs.TextSetLaws.{adds_alike, adds_more, adds_nothing, one_turn, parts_append}
+use Rattle.dconf_engine.proofs.UnsavedLaws.{get_changed}
+
+abbrev pub Entries : Type 0
+Entries = List (List ℕ × Option (List ℕ))
+
+found : List ℕ → Entries → Option (Option (List ℕ))
+found q es = find (slice_cmp nat_cmp) q es
+
+-- ---- what was set
+
+abbrev is_set : Option (Option (List ℕ)) → Bool
+is_set (Some (Some bytes)) = true
+is_set (Some None) = false
+is_set None = false
+
+found_if : (q : List ℕ) (e : List ℕ × Option (List ℕ)) (es : Entries) → found q (e ∷ es) ≡ cond (bytes_eq q e.0) (Some e.1) (found q es)
+unfolding found
+found_if q e es = ap (λ b. cond b (Some e.1) (find (slice_cmp nat_cmp) q es)) (is_eq-slice_cmp q e.0)
+
+set_here : (q p : List ℕ) (o : Option (List ℕ)) → bytes_eq q p ≡ true → list_any (bytes_eq q) (path_if_set p o) ≡ is_set (Some o)
+set_here q p (Some bytes) same = rw same refl
+set_here q p None same = refl
+
+set_elsewhere : (q p : List ℕ) (o : Option (List ℕ)) → bytes_eq q p ≡ false → list_any (bytes_eq q) (path_if_set p o) ≡ false
+set_elsewhere q p (Some bytes) other = rw other refl
+set_elsewhere q p None other = refl
+
+or_none : (b : Bool) → (b || false) ≡ b
+or_none true = refl
+or_none false = refl
+
+were_set : (q : List ℕ) (es : Entries) → is_sorted (slice_cmp nat_cmp) es ≡ true → list_any (bytes_eq q) (set_paths es) ≡ is_set (found q es)
+unfolding found
+were_set q [] sorted = refl
+were_set q (e ∷ es) sorted =
+    let parts = and_parts (below_all (slice_cmp nat_cmp) e.0 es) (is_sorted (slice_cmp nat_cmp) es) sorted in
+    let later = were_set q es parts.1 in
+    list_any-append (bytes_eq q) (path_if_set e.0 e.1) (set_paths es)
+    ∙ by_bool (bytes_eq q e.0) ((list_any (bytes_eq q) (path_if_set e.0 e.1) || list_any (bytes_eq q) (set_paths es)) ≡ is_set (found q (e ∷ es)))
+    (λ same.
+    let none : found q es ≡ None = subst (λ (p : List ℕ). found p es ≡ None) (sym (same_path q e.0 same)) (find_below e.0 es parts.0) in
+    ap (λ b. list_any (bytes_eq q) (path_if_set e.0 e.1) || b) (later ∙ ap is_set none)
+    ∙ (or_none (list_any (bytes_eq q) (path_if_set e.0 e.1))
+    ∙ (set_here q e.0 e.1 same ∙ sym (ap is_set (found_if q e es ∙ ap (λ b. cond b (Some e.1) (found q es)) same)))))
+    (λ other.
+    ap (λ b. b || list_any (bytes_eq q) (set_paths es)) (set_elsewhere q e.0 e.1 other)
+    ∙ (later ∙ sym (ap is_set (found_if q e es ∙ ap (λ b. cond b (Some e.1) (found q es)) other))))
+
+pub set_there : (c : Unsaved) (q : List ℕ) → list_any (bytes_eq q) (set_paths (entries c)) ≡ is_set (get c q)
+unfolding found
+set_there c q = were_set q (entries c) (from_true _ (fin.entries_sorted c)) ∙ ap is_set (sym (fin.get-entries c q))
+
+-- ---- what was reset
+
+some_inner : (o p : Option (List ℕ)) → Some o ≡ Some p → o ≡ p
+some_inner o p e = ap (λ x. unwrap_or x o) e
+
+was_reset : (d q : List ℕ) (es : Entries) → list_any (λ e. is_reset_below d e.0 e.1) es ≡ false → is_below q d ≡ true → found q es ≡ Some None → ⊥
+unfolding found
+was_reset d q [] none below e = cc
+was_reset d q (x ∷ es) none below e =
+    by_bool (bytes_eq q x.0) ⊥
+    (λ same.
+    let is : x.1 ≡ None = some_inner x.1 None (sym (ap (λ b. cond b (Some x.1) (found q es)) same) ∙ (sym (found_if q x es) ∙ e)) in
+    let reset : is_reset_below d x.0 x.1 ≡ true = ap (is_reset_below d x.0) is ∙ (ap (λ (p : List ℕ). is_below p d) (sym (same_path q x.0 same)) ∙ below) in
+    no_truth (sym none ∙ ap (λ b. b || list_any (λ e. is_reset_below d e.0 e.1) es) reset))
+    (λ other.
+    was_reset d q es (later (is_reset_below d x.0 x.1) none) below (sym (ap (λ b. cond b (Some x.1) (found q es)) other) ∙ (sym (found_if q x es) ∙ e)))
+  where
+    later : (b : Bool) → (b || list_any (λ e. is_reset_below d e.0 e.1) es) ≡ false → list_any (λ e. is_reset_below d e.0 e.1) es ≡ false
+    later true h = absurd (no_truth (sym h))
+    later false h = h
+
+not_reset : (d q : List ℕ) (c : Unsaved) → has_reset_below d c ≡ false → is_below q d ≡ true → get c q ≡ Some None → ⊥
+unfolding found
+not_reset d q c none below e = was_reset d q (entries c) none below (sym (fin.get-entries c q) ∙ e)
+
+-- ---- both
+
+unchanged_or_set : (g : Option (Option (List ℕ))) (o : Option (List ℕ)) (listed : Bool) → ((bytes : List ℕ) → o ≡ Some bytes → listed ≡ true) →
+    (listed && (not (is_some g) && is_some o) || is_set g) ≡ is_some (unwrap_or g o)
+unchanged_or_set (Some (Some bytes)) o true each = refl
+unchanged_or_set (Some (Some bytes)) o false each = refl
+unchanged_or_set (Some None) o true each = refl
+unchanged_or_set (Some None) o false each = refl
+unchanged_or_set None None true each = refl
+unchanged_or_set None None false each = refl
+unchanged_or_set None (Some bytes) true each = refl
+unchanged_or_set None (Some bytes) false each = absurd (no_truth (each bytes refl))
+
+there_or_set : (g : Option (Option (List ℕ))) (o : Option (List ℕ)) → (g ≡ Some None → ⊥) → (is_some o || is_set g) ≡ is_some (unwrap_or g o)
+there_or_set (Some (Some bytes)) None other = refl
+there_or_set (Some (Some bytes)) (Some x) other = refl
+there_or_set (Some None) o other = absurd (other refl)
+there_or_set None None other = refl
+there_or_set None (Some x) other = refl
+
+set_alone : (g : Option (Option (List ℕ))) (o : Option (List ℕ)) → o ≡ None → (false || is_set g) ≡ is_some (unwrap_or g o)
+set_alone g None e = go g
+  where
+    go : (g : Option (Option (List ℕ))) → is_set g ≡ is_some (unwrap_or g None)
+    go (Some (Some bytes)) = refl
+    go (Some None) = refl
+    go None = refl
+set_alone g (Some x) e = absurd cc
+
+-- paths of the file below the directory, and what was set
+base_or_set : (d : List ℕ) (c : Unsaved) (item : Option Layer) (p : List ℕ) → is_below p d ≡ true →
+    (list_any (bytes_eq p) (base_paths d c item) || is_set (get c p)) ≡ is_some (unwrap_or (get c p) (get (settings_of_item item).values p))
+base_or_set d c None p below = set_alone (get c p) (get (settings_of_item None).values p) (fin.get-empty (slice_cmp nat_cmp) p)
+base_or_set d c (Some layer) p below =
+    let base = (settings_of layer).values in
+    let names = key_names layer (items_of layer) in
+    by_bool (has_reset_below d c) ((list_any (bytes_eq p) (base_paths d c (Some layer)) || is_set (get c p)) ≡ is_some (unwrap_or (get c p) (get base p)))
+    (λ yes.
+    ap (λ b. list_any (bytes_eq p) (cond b (left_of base c names) (keys base)) || is_set (get c p)) yes
+    ∙ (ap (λ b. b || is_set (get c p)) (any_passing p (is_left base c) names)
+    ∙ unchanged_or_set (get c p) (get base p) (list_any (bytes_eq p) names) (λ bytes e. each_is_named layer p bytes e)))
+    (λ none.
+    ap (λ b. list_any (bytes_eq p) (cond b (left_of base c names) (keys base)) || is_set (get c p)) none
+    ∙ (ap (λ b. b || is_set (get c p)) (sym (key_in base p))
+    ∙ there_or_set (get c p) (get base p) (not_reset d p c none below)))
+
+left_there : (d : List ℕ) (c : Unsaved) (item : Option Layer) (p : List ℕ) → is_below p d ≡ true →
+    list_any (bytes_eq p) (base_paths d c item ++ set_paths (entries c)) ≡ list_any (bytes_eq p) (keys (with_changes c (settings_of_item item).values))
+left_there d c item p below =
+    let base = (settings_of_item item).values in
+    list_any-append (bytes_eq p) (base_paths d c item) (set_paths (entries c))
+    ∙ (ap (λ b. list_any (bytes_eq p) (base_paths d c item) || b) (set_there c p)
+    ∙ (base_or_set d c item p below
+    ∙ (ap is_some (sym (get_changed c base p)) ∙ key_in (with_changes c base) p)))
+
+-- a set that takes both takes what the directory has
+pub with_changes_added : (d : List ℕ) (c : Unsaved) (item : Option Layer) (a b e : TextSet) → Adds (parts_below d (base_paths d c item)) a b → Adds (parts_below d (set_paths (entries c))) b e →
+    Adds (parts_below d (keys (with_changes c (settings_of_item item).values))) a e
+with_changes_added d c item a b e first second =
+    let ps = base_paths d c item in
+    let qs = set_paths (entries c) in
+    let all = keys (with_changes c (settings_of_item item).values) in
+    adds_alike (parts_below d ps ++ parts_below d qs) (parts_below d all) a e
+    (λ t. ap (λ (l : List (List ℕ)). list_any (bytes_eq t) l) (sym (parts_append d ps qs)) ∙ parts_alike d (ps ++ qs) all (λ p below. left_there d c item p below) t)
+    (adds_more (parts_below d ps) (parts_below d qs) a b e first second)
+
+-- ---- in turns
+
+pub base_if_reset : (d : List ℕ) (c : Unsaved) (layer : Layer) → has_reset_below d c ≡ true → left_of (settings_of layer).values c (key_names layer (items_of layer)) ≡ base_paths d c (Some layer)
+base_if_reset d c layer reset = sym (ap (λ b. cond b (left_of (settings_of layer).values c (key_names layer (items_of layer))) (keys (settings_of layer).values)) reset)
+
+pub base_if_none : (d : List ℕ) (c : Unsaved) (layer : Layer) → has_reset_below d c ≡ false → keys (settings_of layer).values ≡ base_paths d c (Some layer)
+base_if_none d c layer none = sym (ap (λ b. cond b (left_of (settings_of layer).values c (key_names layer (items_of layer))) (keys (settings_of layer).values)) none)
+
+-- of what is gathered from items
+pub left_more : (d : List ℕ) (values : Values) (c : Unsaved) (g : ℕ → List (List ℕ)) (n : ℕ) (x y z : TextSet) → Adds (left_parts d values c (gathered g n)) x y → Adds (left_parts d values c (g n)) y z →
+    Adds (left_parts d values c (gathered g (n + 1))) x z
+left_more d values c g n x y z first second =
+    let more : suc n ≡ n + 1 = omega arith in
+    let apart : left_parts d values c (gathered g n ++ g n) ≡ left_parts d values c (gathered g n) ++ left_parts d values c (g n) =
+    ap (parts_below d) (filter-append (is_left values c) (gathered g n) (g n)) ∙ parts_append d (left_of values c (gathered g n)) (left_of values c (g n)) in
+    subst (λ (m : ℕ). Adds (left_parts d values c (gathered g m)) x z) more
+    (subst (λ (l : List (List ℕ)). Adds l x z) (sym apart) (adds_more (left_parts d values c (gathered g n)) (left_parts d values c (g n)) x y z first second))
+
+-- one path
+pub key_left : (values : Values) (c : Unsaved) (p : List ℕ) → (is_key_path p && is_left values c p) ≡ true → p ∷ [] ≡ left_of values c (key_name (Some p))
+key_left values c p e =
+    let parts = and_parts (is_key_path p) (is_left values c p) e in
+    sym (ap (λ b. left_of values c (cond b (p ∷ []) [])) parts.0 ∙ ap (λ b. cond b (p ∷ []) []) parts.1)
+
+no_key_left : (values : Values) (c : Unsaved) (p : List ℕ) → (is_key_path p && is_left values c p) ≡ false → [] ≡ left_of values c (key_name (Some p))
+no_key_left values c p e =
+    by_bool (is_key_path p) ([] ≡ left_of values c (key_name (Some p)))
+    (λ yes. let none : is_left values c p ≡ false = sym (ap (λ b. b && is_left values c p) yes) ∙ e in
+    sym (ap (λ b. left_of values c (cond b (p ∷ []) [])) yes ∙ ap (λ b. cond b (p ∷ []) []) none))
+    (λ other. sym (ap (λ b. left_of values c (cond b (p ∷ []) [])) other))
+
+pub none_left_added : (d : List ℕ) (values : Values) (c : Unsaved) (p : List ℕ) (a : TextSet) → (is_key_path p && is_left values c p) ≡ false → Adds (left_parts d values c (key_name (Some p))) a a
+none_left_added d values c p a e = subst (λ (l : List (List ℕ)). Adds (parts_below d l) a a) (no_key_left values c p e) (adds_nothing a)
+
+-- one change
+pub set_turn : (d : List ℕ) (before after : Entries) (x : List ℕ × Option (List ℕ)) (a b : TextSet) (t : List ℕ) → before ≡ x ∷ after → Adds (parts_below d (path_if_set x.0 x.1)) a b →
+    is_in (parts_below d (set_paths after)) b t ≡ is_in (parts_below d (set_paths before)) a t
+set_turn d before after x a b t e h =
+    one_turn (parts_below d (set_paths before)) (parts_below d (path_if_set x.0 x.1)) (parts_below d (set_paths after)) a b t
+    (ap (λ (es : Entries). parts_below d (set_paths es)) e
+    ∙ (ap (parts_below d) (flat_map-cons (λ (c : List ℕ × Option (List ℕ)). path_if_set c.0 c.1) x after) ∙ parts_append d (path_if_set x.0 x.1) (set_paths after))) h

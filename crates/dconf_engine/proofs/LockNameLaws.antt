@@ -1,0 +1,135 @@
+-- The names of the items of a sound database's table of locks are its locks, as far as they are paths.
+use Rattle.std.specs.Prelude.{IfSome, IfNone, option_map, string_bytes, is_some}
+use Rattle.std.proofs.Common.{◌≡◌, ◌<◌, ◌||◌, ◌&&◌, ℕ, Bool, true, false, List, [], ◌∷◌, length, Option, Some, None, refl, sym, ap, ◌∙◌, subst, arith}
+use Rattle.std.specs.Coded.{coded_list, coded_ℕ}
+use Rattle.std.specs.Cmp.Lexicographic.{slice_cmp}
+use Rattle.std.specs.FinMap.{keys, get-empty}
+use Rattle.std.specs.List.{list_any}
+use Rattle.std.specs.Ordering.{nat_cmp}
+use Rattle.std.specs.Str.{bytes_eq}
+use Rattle.std.specs.declared.alloc.Global.{Global}
+use Rattle.std.specs.declared.string.String.{String}
+use Rattle.std.proofs.Math.Bool.{Bool-set}
+use Rattle.std.proofs.Math.Logic.{∥∥₁_elim}
+use Rattle.std.proofs.lemmas.Bool.{or_left, and_parts}
+use base.Stored.{Coded-set}
+use Rattle.dconf_model.specs.Locks.{is_below}
+use Rattle.dconf_model.specs.Names.{HasName, name_of}
+use Rattle.dconf_model.specs.Paths.{is_path}
+use Rattle.dconf_model.specs.Settings.{no_settings}
+use Rattle.dconf_model.specs.Searchable.{IsSearchable}
+use Rattle.dconf_model.specs.Table.{Table as Region, item_count}
+use Rattle.dconf_model.proofs.ComputedNames.{name_of_named, named_of_name}
+use Rattle.dconf_model.proofs.ParentLaws.{by_bool}
+use Rattle.dconf_model.proofs.PathMaps.{key_in, same_bool, no_truth}
+use Rattle.dconf_model.proofs.RowLaws.{counted}
+use Rattle.dconf_model.proofs.SameBytes.{same_path, path_itself}
+use Rattle.gvdb_read.specs.declared.table.Table.{Table}
+use Rattle.gvdb_read.specs.Tables.{region}
+use Rattle.gvdb_write.specs.Salvaged.{HasNoShortText}
+use Rattle.dconf_engine.specs.declared.layer.Layer.{Layer}
+use Rattle.dconf_engine.specs.LayerSettings.{settings_of}
+use Rattle.dconf_engine.specs.LockNames.{lock_name, lock_count, lock_name_at, lock_names, locks_under}
+use Rattle.dconf_engine.specs.SoundTables.{AreOfSoundDatabase}
+use Rattle.dconf_engine.specs.TextSets.{TextSet, Adds}
+use Rattle.dconf_engine.proofs.KeyNameLaws.{any_gathered, name_utf8, short_path}
+use Rattle.dconf_engine.proofs.PathTests.{any_of_gathered, any_passing}
+use Rattle.dconf_engine.proofs.SoundLayers.{item_of_lock, locks_at, none_is_named, said_of, settings_at}
+use Rattle.dconf_engine.proofs.TextSetLaws.{adds_alike, adds_nothing}
+
+-- ---- what the name of an item is found to be
+
+no_lock : (u : Region) (i : ℕ) (o : Option (List ℕ)) → ((name : List ℕ) → o ≡ Some name → 65535 < length name) → lock_name o ≡ []
+no_lock u i None long = refl
+no_lock u i (Some name) long =
+    by_bool (is_path name) (lock_name (Some name) ≡ [])
+    (λ is. absurd (let a = short_path name is in let b = long name refl in omega (arith, a, b)))
+    (λ other. rw other refl)
+
+found_lock : (u : Region) (i : ℕ) (found : Option (String Global)) → IsSearchable u →
+    IfSome found (λ name. HasName u i (string_bytes name)) → IfNone found (HasNoShortText u i) → lock_name (option_map string_bytes found) ≡ lock_name (name_of u i)
+found_lock u i (Some name) s some none = ap lock_name (sym (name_of_named u i (string_bytes name) some))
+found_lock u i None s some none =
+    sym (no_lock u i (name_of u i) (λ name e. let h = named_of_name u i name e in none name h (name_utf8 u i name s h)))
+
+pub found_lock_in : (values locks : Table) (i : ℕ) (found : Option (String Global)) → ∥ AreOfSoundDatabase values (Some locks) ∥₁ →
+    IfSome found (λ name. HasName (region locks) i (string_bytes name)) → IfNone found (HasNoShortText (region locks) i) →
+    lock_name (option_map string_bytes found) ≡ lock_name (name_of (region locks) i)
+found_lock_in values locks i found h some none =
+    ∥∥₁_elim h (Coded-set (coded_list (coded_list coded_ℕ)) _ _)
+    (λ o. found_lock (region locks) i found ((locks_at (region values) (region locks) o.sound o.locks_are).holds.searchable) some none)
+
+-- ---- the names are the locks
+
+or_neither : (b : Bool) → (b || false) ≡ b
+or_neither true = refl
+or_neither false = refl
+
+lock_given : (p : List ℕ) (o : Option (List ℕ)) → list_any (bytes_eq p) (lock_name o) ≡ true → (o ≡ Some p) × (is_path p ≡ true)
+lock_given p None e = absurd (no_truth e)
+lock_given p (Some name) e =
+    by_bool (is_path name) ((Some name ≡ Some p) × (is_path p ≡ true))
+    (λ is.
+    let there : (bytes_eq p name || false) ≡ true = rw is at e in
+    let same : p ≡ name = same_path p name (sym (or_neither (bytes_eq p name)) ∙ there) in
+    (ap (λ (n : List ℕ). Some n) (sym same), ap is_path same ∙ is))
+    (λ other. absurd (let none : false ≡ true = rw other at e in no_truth none))
+
+lock_listed : (p : List ℕ) → is_path p ≡ true → list_any (bytes_eq p) (lock_name (Some p)) ≡ true
+lock_listed p is = rw is (or_left (bytes_eq p p) false (path_itself p p refl))
+
+locks_named : (values : Table) (locks : Option Table) (p : List ℕ) → AreOfSoundDatabase values locks →
+    list_any (bytes_eq p) (lock_names locks (lock_count locks)) ≡ list_any (bytes_eq p) (keys (settings_at (region values)).locks)
+locks_named values None p o =
+    let m = (settings_at (region values)).locks in
+    same_bool false (list_any (bytes_eq p) (keys m)) (λ e. absurd (no_truth e))
+    (λ e. absurd (none_is_named (region values) p o.sound o.locks_are ((said_of values None o p).0 (key_in m p ∙ e)).1))
+locks_named values (Some locks) p o =
+    let t = region values in
+    let u = region locks in
+    let m = (settings_at t).locks in
+    let at = locks_at t u o.sound o.locks_are in
+    same_bool (list_any (bytes_eq p) (lock_names (Some locks) (item_count u))) (list_any (bytes_eq p) (keys m))
+    (λ e.
+    let h = any_of_gathered p (lock_name_at (Some locks)) (item_count u) e in
+    let given = lock_given p (name_of u h.0) h.2 in
+    let named = subst (λ (u : Region). HasName u h.0 p) at.is (named_of_name u h.0 p given.0) in
+    sym (key_in m p) ∙ (said_of values (Some locks) o p).1 (given.1, (o.locks_are.0, at.named, (h.0, named))))
+    (λ e.
+    let said = (said_of values (Some locks) o p).0 (key_in m p ∙ e) in
+    let item = item_of_lock t u p o.sound o.locks_are said.1 in
+    any_gathered p (lock_name_at (Some locks)) item.0 (item_count u) (counted u item.0 p item.1)
+    (ap (λ (found : Option (List ℕ)). list_any (bytes_eq p) (lock_name found)) (name_of_named u item.0 p item.1) ∙ lock_listed p said.0))
+
+pub locks_of_layer : (layer : Layer) (p : List ℕ) → list_any (bytes_eq p) (lock_names layer.locks (lock_count layer.locks)) ≡ list_any (bytes_eq p) (keys (settings_of layer).locks)
+locks_of_layer layer p = ∥∥₁_elim layer.sound (Bool-set _ _) (λ o. locks_named layer.values layer.locks p o)
+
+-- ---- below a directory
+
+pub lock_under : (d p : List ℕ) → (is_path p && is_below p d) ≡ true → p ∷ [] ≡ locks_under d (lock_name (Some p))
+lock_under d p e = let parts = and_parts (is_path p) (is_below p d) e in rw (parts.0, parts.1) refl
+
+none_under : (d p : List ℕ) → (is_path p && is_below p d) ≡ false → [] ≡ locks_under d (lock_name (Some p))
+none_under d p e =
+    by_bool (is_path p) ([] ≡ locks_under d (lock_name (Some p)))
+    (λ yes. let none : is_below p d ≡ false = sym (ap (λ a. a && is_below p d) yes) ∙ e in rw (yes, none) refl)
+    (λ other. rw other refl)
+
+pub no_lock_added : (d p : List ℕ) (a : TextSet) → (is_path p && is_below p d) ≡ false → Adds (locks_under d (lock_name (Some p))) a a
+no_lock_added d p a e = subst (λ (l : List (List ℕ)). Adds l a a) (none_under d p e) (adds_nothing a)
+
+under_alike : (d : List ℕ) (xs ys : List (List ℕ)) → ((p : List ℕ) → list_any (bytes_eq p) xs ≡ list_any (bytes_eq p) ys) → (t : List ℕ) →
+    list_any (bytes_eq t) (locks_under d xs) ≡ list_any (bytes_eq t) (locks_under d ys)
+under_alike d xs ys same t =
+    any_passing t (λ lock. is_below lock d) xs ∙ (ap (λ b. b && is_below t d) (same t) ∙ sym (any_passing t (λ lock. is_below lock d) ys))
+
+pub layer_locks_added : (d : List ℕ) (layer : Layer) (a b : TextSet) → Adds (locks_under d (lock_names layer.locks (lock_count layer.locks))) a b → Adds (locks_under d (keys (settings_of layer).locks)) a b
+layer_locks_added d layer a b h =
+    adds_alike (locks_under d (lock_names layer.locks (lock_count layer.locks))) (locks_under d (keys (settings_of layer).locks)) a b
+    (under_alike d (lock_names layer.locks (lock_count layer.locks)) (keys (settings_of layer).locks) (locks_of_layer layer)) h
+
+-- nothing is locked
+pub no_locks_added : (d : List ℕ) (a : TextSet) → Adds (locks_under d (keys no_settings.locks)) a a
+no_locks_added d a =
+    adds_alike [] (locks_under d (keys no_settings.locks)) a a
+    (under_alike d [] (keys no_settings.locks) (λ p. ap is_some (sym (get-empty (slice_cmp nat_cmp) p)) ∙ key_in no_settings.locks p)) (adds_nothing a)

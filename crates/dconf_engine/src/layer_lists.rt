@@ -1,0 +1,200 @@
+//! What a layer's file lists: the names of what a directory has, and the paths of its locks.
+ghost use Rattle.std.specs.Prelude.{◌≡◌, ◌&&◌, [], ◌∷◌, Some, IfOk, IfSome, IfNone, OnOk, filter, option_map, string_bytes};
+ghost use Rattle.std.specs.FinMap.{keys};
+ghost use Rattle.std.specs.Str.{is_utf8};
+ghost use Rattle.dconf_model.specs.Layers.{parts_below};
+ghost use Rattle.dconf_model.specs.Locks.{is_below};
+ghost use Rattle.dconf_model.specs.Names.{HasName};
+ghost use Rattle.dconf_model.specs.Paths.{is_path};
+ghost use Rattle.dconf_path.specs.Paths.{directory_text};
+ghost use Rattle.gvdb_read.specs.NamesLeft.{names_left};
+ghost use Rattle.gvdb_read.specs.Tables.{region};
+ghost use Rattle.gvdb_write.specs.Salvaged.{HasNoShortText};
+ghost use Rattle.dconf_engine.specs.LockNames.{lock_count, lock_name, lock_name_at, lock_names, locks_under};
+ghost use Rattle.dconf_engine.specs.TextSets.{Adds};
+
+use crate::children::add_text;
+use crate::layer::Layer;
+use dconf_path::{DirPath, LockPath};
+use gvdb_read::{Names, Table};
+use std::alloc::{AllocError, Global};
+use std::collections::BTreeSet;
+
+impl<'a> Layer<'a> {
+    ghost use Rattle.dconf_engine.specs.LayerSettings.{settings_of, settings_of_item};
+
+    // ---- children
+
+    /// Adds the names of what a directory has, by the directory's list.
+    ///
+    /// An error comes where a growth is refused. It is one search, and then it looks at these names alone.
+    pub(crate) fn add_listed(
+        self,
+        alloc: Global,
+        directory: DirPath<'_>,
+        names: &mut BTreeSet<String>,
+    ) -> Result<(), AllocError>
+        ensures { OnOk result (Adds (parts_below (directory_text directory.entry) (keys (settings_of self.entry).values)) names.old names.new) }
+    {
+        match self.values.list(directory.as_str()) {
+            Some(listed) => add_keys(alloc, listed, names),
+            None => Ok(()),
+        }
+    }
+
+    /// As `add_listed`, where there is a file.
+    pub(crate) fn add_listed_if_any(
+        alloc: Global,
+        layer: Option<Layer<'a>>,
+        directory: DirPath<'_>,
+        names: &mut BTreeSet<String>,
+    ) -> Result<(), AllocError>
+        ensures { OnOk result (Adds (parts_below (directory_text directory.entry) (keys (settings_of_item layer.entry).values)) names.old names.new) }
+    {
+        match layer {
+            Some(layer) => layer.add_listed(alloc, directory, names),
+            None => Ok(()),
+        }
+    }
+
+    // ---- locks
+
+    /// Adds the paths of a layer's locks that start with a directory, where there is a file.
+    ///
+    /// An error comes where a growth is refused. It looks at the name of each lock.
+    pub(crate) fn add_locks_if_any(
+        alloc: Global,
+        layer: Option<Layer<'a>>,
+        directory: DirPath<'_>,
+        paths: &mut BTreeSet<String>,
+    ) -> Result<(), AllocError>
+        ensures { OnOk result (Adds (locks_under (directory_text directory.entry) (keys (settings_of_item layer.entry).locks)) paths.old paths.new) }
+    {
+        match layer {
+            Some(layer) => layer.add_locks(alloc, directory, paths),
+            None => Ok(()),
+        }
+    }
+
+    /// Adds the paths of its locks that start with a directory.
+    fn add_locks(
+        self,
+        alloc: Global,
+        directory: DirPath<'_>,
+        paths: &mut BTreeSet<String>,
+    ) -> Result<(), AllocError>
+        ensures { OnOk result (Adds (locks_under (directory_text directory.entry) (lock_names self.entry.locks (lock_count self.entry.locks))) paths.old paths.new) }
+    {
+        for i in 0..self.n_locks() {
+            self.add_lock(alloc, i, directory, paths)?;
+        }
+        Ok(())
+    }
+
+    /// Adds the path of a lock, if it starts with a directory.
+    fn add_lock(
+        self,
+        alloc: Global,
+        i: u32,
+        directory: DirPath<'_>,
+        paths: &mut BTreeSet<String>,
+    ) -> Result<(), AllocError>
+        ensures { OnOk result (Adds (locks_under (directory_text directory.entry) (lock_name_at self.entry.locks i)) paths.old paths.new) }
+    {
+        match self.lock_at(alloc, i)? {
+            Some(name) => add_if_lock(alloc, name.as_str(), directory, paths),
+            None => Ok(()),
+        }
+    }
+
+    /// How many items its table of locks has.
+    fn n_locks(self) -> u32
+        ensures { result ≡ lock_count self.entry.locks }
+    {
+        match self.locks {
+            Some(locks) => locks.n_items(),
+            None => 0,
+        }
+    }
+
+    /// The name of item `i` of its table of locks, where it is a text no longer than a path.
+    fn lock_at(self, alloc: Global, i: u32) -> Result<Option<String>, AllocError>
+        ensures { IfOk result (λ found. lock_name (option_map string_bytes found) ≡ lock_name_at self.entry.locks i) }
+    {
+        match self.locks {
+            Some(locks) => short_name(alloc, locks, i),
+            None => Ok(None),
+        }
+    }
+}
+
+/// Item `i`'s full name, where it is a text no longer than a path.
+fn short_name(alloc: Global, table: Table<'_>, i: u32) -> Result<Option<String>, AllocError>
+    ensures some { IfOk result (λ found. IfSome found (λ name. HasName (region table.entry) i (string_bytes name))) }
+    ensures none { IfOk result (λ found. IfNone found (HasNoShortText (region table.entry) i)) }
+{
+    match gvdb_write::name_of(alloc, table, i) {
+        Ok(found) => Ok(found),
+        Err(_) => Err(AllocError),
+    }
+}
+
+/// Adds a text, if it is the path of a lock that starts with a directory.
+fn add_if_lock(
+    alloc: Global,
+    text: &str,
+    directory: DirPath<'_>,
+    paths: &mut BTreeSet<String>,
+) -> Result<(), AllocError>
+    ensures { OnOk result (Adds (locks_under (directory_text directory.entry) (lock_name (Some text.now))) paths.old paths.new) }
+{
+    if !is_listed_lock(text, directory) {
+        return Ok(());
+    }
+    add_text(alloc, text, paths)
+}
+
+/// Whether a text is the path of a lock that starts with a directory.
+fn is_listed_lock(text: &str, directory: DirPath<'_>) -> bool
+    ensures { result ≡ (is_path text.now && is_below text.now (directory_text directory.entry)) }
+{
+    is_lock(text) && is_under(text, directory)
+}
+
+/// Whether a text is the path of a lock.
+fn is_lock(text: &str) -> bool
+    ensures { result ≡ is_path text.now }
+{
+    LockPath::parse(text).is_ok()
+}
+
+/// Whether a path starts with a directory.
+pub(crate) fn is_under(path: &str, directory: DirPath<'_>) -> bool
+    ensures { result ≡ is_below path.now (directory_text directory.entry) }
+{
+    path.starts_with(directory.as_str())
+}
+
+/// Adds the keys that a list names, those that are texts.
+fn add_keys(
+    alloc: Global,
+    listed: Names<'_>,
+    names: &mut BTreeSet<String>,
+) -> Result<(), AllocError>
+    ensures { OnOk result (Adds (filter is_utf8 (names_left listed.entry)) names.old names.new) }
+{
+    for key in listed {
+        add_key(alloc, key, names)?;
+    }
+    Ok(())
+}
+
+/// Adds a key, if it is a text.
+fn add_key(alloc: Global, key: &[u8], names: &mut BTreeSet<String>) -> Result<(), AllocError>
+    ensures { OnOk result (Adds (filter is_utf8 (key.now ∷ [])) names.old names.new) }
+{
+    match str::from_utf8(key) {
+        Ok(name) => add_text(alloc, name, names),
+        Err(_) => Ok(()),
+    }
+}
