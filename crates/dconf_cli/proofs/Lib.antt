@@ -13,3 +13,5 @@ pub mod Runs
 pub mod Shows
 pub mod Given
 pub mod InputLaws
+pub mod Walks
+pub mod Dumping

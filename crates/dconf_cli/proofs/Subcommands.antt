@@ -16,7 +16,7 @@ use Rattle.std.specs.Box.{box_value}
 use Rattle.clap.specs.declared.ArgMatches.{ArgMatches}
 use Rattle.clap.specs.declared.parser.matches.Found.{Found}
 use Rattle.clap.proofs.WalkLemmas.{first_value-rows, raw_values-rows}
-use Rattle.dconf_cli.specs.Asked.{AsksToCheck, AsksForOrigin, AsksToCompile, AsksToRead, AsksToRepair, AsksToShow, is_set, profile_file}
+use Rattle.dconf_cli.specs.Asked.{AsksToCheck, AsksForOrigin, AsksToCompile, AsksToRead, AsksToRepair, AsksToShow, is_set, profile_file, AsksOfDirectory}
 use Rattle.dconf_cli.specs.CommandLine.{command_line, show_line}
 use Rattle.dconf_cli.proofs.Stops.{IsNotHelp, or_else_nil, walk_not_help}
 use Rattle.dconf_cli.proofs.Filled.{OnlyAsks, walk_filled, given_first, is_option}
@@ -70,7 +70,7 @@ abbrev line : App
 line = built command_line
 
 abbrev IsCommandName : Text → Type 0
-IsCommandName name = (name ≡ codes "show") ⊎ ((name ≡ codes "check") ⊎ ((name ≡ codes "compile") ⊎ ((name ≡ codes "read") ⊎ ((name ≡ codes "origin") ⊎ (name ≡ codes "repair")))))
+IsCommandName name = (name ≡ codes "show") ⊎ ((name ≡ codes "check") ⊎ ((name ≡ codes "compile") ⊎ ((name ≡ codes "read") ⊎ ((name ≡ codes "origin") ⊎ ((name ≡ codes "repair") ⊎ ((name ≡ codes "list") ⊎ ((name ≡ codes "list-locks") ⊎ (name ≡ codes "dump"))))))))
 
 abbrev Each : {X : Type 0} → (X → Type 0) → List X → Type 0
 Each P [] = ⊤
@@ -148,26 +148,11 @@ origin_is_plain = record {
 repair_is_plain : IsPlainSub (shape_at 5)
 repair_is_plain = record {
   rules = (inl refl, (inl refl, (inr (inr (refl, λ rows. refl)), tt)));
-  name = inr (inr (inr (inr (inr refl))));
+  name = inr (inr (inr (inr (inr (inl refl)))));
 }
 
 offered_subs : Each IsOffered line.subs
-offered_subs = (
-  record { alone = refl; ours = λ _. show_is_plain },
-  (
-    record { alone = refl; ours = λ _. check_is_plain },
-    (
-      record { alone = refl; ours = λ _. compile_is_plain },
-      (
-        record { alone = refl; ours = λ _. read_is_plain },
-        (
-          record { alone = refl; ours = λ _. origin_is_plain },
-          (record { alone = refl; ours = λ _. repair_is_plain }, (record { alone = refl; ours = λ other. absurd (other refl) }, tt)),
-        ),
-      ),
-    ),
-  ),
-)
+offered_subs = (record { alone = refl; ours = λ _. show_is_plain }, (record { alone = refl; ours = λ _. check_is_plain }, (record { alone = refl; ours = λ _. compile_is_plain }, (record { alone = refl; ours = λ _. read_is_plain }, (record { alone = refl; ours = λ _. origin_is_plain }, (record { alone = refl; ours = λ _. repair_is_plain }, (record { alone = refl; ours = λ _. list_is_plain }, (record { alone = refl; ours = λ _. list_locks_is_plain }, (record { alone = refl; ours = λ _. dump_is_plain }, (record { alone = refl; ours = λ other. absurd (other refl) }, tt))))))))))
 
 -- the subcommand of this name
 abbrev pub sub_named : Text → Shape
@@ -260,10 +245,17 @@ met_name : (words : List Text) (m : ArgMatches) (p : IsParsedBy words m) → sub
 met_name words m p = name_by_rows m ∙ ap (option_map (λ q. q.0)) (p.met ∙ (enters words p.sound).named)
 
 -- one that is no other command is `show`
-pub named_show : (words : List Text) (m : ArgMatches) → IsParsedBy words m → subcommand_name_of m ≢ Some (codes "check")
-    → subcommand_name_of m ≢ Some (codes "compile") → subcommand_name_of m ≢ Some (codes "read") → subcommand_name_of m ≢ Some (codes "origin")
-    → subcommand_name_of m ≢ Some (codes "repair") → subcommand_name_of m ≡ Some (codes "show")
-named_show words m p not_check not_compile not_read not_origin not_repair = go (enters words p.sound).one
+pub named_show : (words : List Text) (m : ArgMatches) → IsParsedBy words m
+    → subcommand_name_of m ≢ Some (codes "check")
+    → subcommand_name_of m ≢ Some (codes "compile")
+    → subcommand_name_of m ≢ Some (codes "read")
+    → subcommand_name_of m ≢ Some (codes "origin")
+    → subcommand_name_of m ≢ Some (codes "repair")
+    → subcommand_name_of m ≢ Some (codes "list")
+    → subcommand_name_of m ≢ Some (codes "list-locks")
+    → subcommand_name_of m ≢ Some (codes "dump")
+    → subcommand_name_of m ≡ Some (codes "show")
+named_show words m p not_check not_compile not_read not_origin not_repair not_list not_list_locks not_dump = go (enters words p.sound).one
   where
     go : IsCommandName (enters words p.sound).name → subcommand_name_of m ≡ Some (codes "show")
     go (inl show) = met_name words m p ∙ ap Some show
@@ -271,7 +263,10 @@ named_show words m p not_check not_compile not_read not_origin not_repair = go (
     go (inr (inr (inl compile))) = absurd (not_compile (met_name words m p ∙ ap Some compile))
     go (inr (inr (inr (inl read)))) = absurd (not_read (met_name words m p ∙ ap Some read))
     go (inr (inr (inr (inr (inl origin))))) = absurd (not_origin (met_name words m p ∙ ap Some origin))
-    go (inr (inr (inr (inr (inr repair))))) = absurd (not_repair (met_name words m p ∙ ap Some repair))
+    go (inr (inr (inr (inr (inr (inl repair)))))) = absurd (not_repair (met_name words m p ∙ ap Some repair))
+    go (inr (inr (inr (inr (inr (inr (inl list))))))) = absurd (not_list (met_name words m p ∙ ap Some list))
+    go (inr (inr (inr (inr (inr (inr (inr (inl list_locks)))))))) = absurd (not_list_locks (met_name words m p ∙ ap Some list_locks))
+    go (inr (inr (inr (inr (inr (inr (inr (inr dump)))))))) = absurd (not_dump (met_name words m p ∙ ap Some dump))
 
 -- the matches are those of the subcommand of this name
 pub record IsSub (words : List Text) (name : Text) (found : Found) : Type 0 where
@@ -344,4 +339,11 @@ asks_to_repair words found file out sub f o = record {
   named = sub.named;
   file_value = sym (first_value-rows found (codes "FILE")) ∙ f;
   out_value = sym (first_value-rows found (codes "OUT")) ∙ o;
+pub asks_of_directory : (name : Text) (words : List Text) (found : Found) (directory profile : Text) → IsSub words name found
+    → first_value found (codes "DIR") ≡ Some directory → profile ≡ profile_file (first_value found (codes "profile")) → AsksOfDirectory name words directory profile
+asks_of_directory name words found directory profile sub d p = record {
+  rows = rows_of found;
+  named = sub.named;
+  directory_value = sym (first_value-rows found (codes "DIR")) ∙ d;
+  profile_value = ap profile_file (sym (first_value-rows found (codes "profile"))) ∙ sym p;
 }

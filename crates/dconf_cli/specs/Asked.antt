@@ -4,7 +4,7 @@ use Rattle.std.specs.Str.{bytes_eq}
 use Rattle.clap.specs.Words.{Row, Text, all_of, first_of, subcommand_of}
 use Rattle.dconf_cli.specs.CommandLine.{command_line}
 use Rattle.dconf_cli.specs.declared.asked.Command.{Command}
-use Rattle.dconf_cli.specs.declared.asked.Command.TheVariants.{Show, Read, Origin, Check, Compile, Repair}
+use Rattle.dconf_cli.specs.declared.asked.Command.TheVariants.{Show, Read, Origin, Check, Compile, Repair, List as ListIt, ListLocks, Dump}
 
 -- the words name `show`, and clap gives its arguments these values
 pub record AsksToShow (words : List Text) (type_text file : Text) : Type 0 where
@@ -57,12 +57,21 @@ pub record AsksToRepair (words : List Text) (file out : Text) : Type 0 where
   pub named : subcommand_of command_line words ≡ Some (codes "repair", rows)
   pub file_value : first_of (codes "FILE") rows ≡ Some file
   pub out_value : first_of (codes "OUT") rows ≡ Some out
+-- the words name this command of a directory, and clap gives its arguments these values
+pub record AsksOfDirectory (name : Text) (words : List Text) (directory profile : Text) : Type 0 where
+  pub rows : List Row
+  pub named : subcommand_of command_line words ≡ Some (name, rows)
+  pub directory_value : first_of (codes "DIR") rows ≡ Some directory
+  pub profile_value : profile_file (first_of (codes "profile") rows) ≡ profile
 
 -- clap gives the command's values to the words
 abbrev pub IsAskedBy : List Text → Command → Type 0
 IsAskedBy words (Show type_text file) = AsksToShow words (string_bytes type_text) (string_bytes file)
 IsAskedBy words (Read default key profile) = AsksToRead words default (string_bytes key) (string_bytes profile)
 IsAskedBy words (Origin key profile) = AsksForOrigin words (string_bytes key) (string_bytes profile)
+IsAskedBy words (ListIt directory profile) = AsksOfDirectory (codes "list") words (string_bytes directory) (string_bytes profile)
+IsAskedBy words (ListLocks directory profile) = AsksOfDirectory (codes "list-locks") words (string_bytes directory) (string_bytes profile)
+IsAskedBy words (Dump directory profile) = AsksOfDirectory (codes "dump") words (string_bytes directory) (string_bytes profile)
 IsAskedBy words (Check file) = AsksToCheck words (string_bytes file)
 IsAskedBy words (Compile out locks keyfiles) =
     AsksToCompile words (string_bytes out) (option_map string_bytes locks) (map string_bytes (vec_items keyfiles))

@@ -9,3 +9,4 @@ pub mod StoreReads
 pub mod Endings
 pub mod Runs
 pub mod Inputs
+pub mod Dumps

@@ -19,6 +19,21 @@ pub enum Command {
         key: String,
         profile: String,
     },
+    /// Names what `directory` has by the profile in the file `profile`, a directory with its `/`.
+    List {
+        directory: String,
+        profile: String,
+    },
+    /// Names the locks below `directory` by the profile in the file `profile`.
+    ListLocks {
+        directory: String,
+        profile: String,
+    },
+    /// Prints the values that are seen below `directory` by the profile in the file `profile`, as a keyfile.
+    Dump {
+        directory: String,
+        profile: String,
+    },
     /// Says whether `file` is a sound database.
     Check {
         file: String,

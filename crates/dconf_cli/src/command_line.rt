@@ -1,7 +1,7 @@
 //! The command line of `dconfdb`, by clap's builder.
 ghost use Rattle.std.specs.Prelude.{◌≡◌, [], codes, false, IfOk, IsSome, Some, map, option_map, string_bytes, unwrap_or, vec_items};
 ghost use Rattle.clap.specs.Words.{FailsBy, app_of, fault_of, first_value, found_of, matched_of, raw_values, rule_of};
-ghost use Rattle.dconf_cli.specs.CommandLine.{check_line, command_line, compile_line, further_words, default_flag, locks_option, origin_line, profile_option, read_line, repair_line, required_word, show_line};
+ghost use Rattle.dconf_cli.specs.CommandLine.{check_line, command_line, compile_line, further_words, default_flag, locks_option, origin_line, profile_option, read_line, repair_line, required_word, show_line, directory_line};
 ghost use Rattle.dconf_cli.specs.Asked.{IsAskedBy, is_set, profile_file};
 
 use crate::asked::Command;
@@ -48,6 +48,22 @@ pub fn command(alloc: Global, words: &[String]) -> Result<Command, clap::Error>
         return Ok(Command::Repair {
             file: value(alloc, repair, "FILE")?,
             out: value(alloc, repair, "OUT")?,
+    if let Some(list) = matches.subcommand_matches("list") {
+        return Ok(Command::List {
+            directory: value(alloc, list, "DIR")?,
+            profile: profile_value(alloc, list)?,
+        });
+    }
+    if let Some(list_locks) = matches.subcommand_matches("list-locks") {
+        return Ok(Command::ListLocks {
+            directory: value(alloc, list_locks, "DIR")?,
+            profile: profile_value(alloc, list_locks)?,
+        });
+    }
+    if let Some(dump) = matches.subcommand_matches("dump") {
+        return Ok(Command::Dump {
+            directory: value(alloc, dump, "DIR")?,
+            profile: profile_value(alloc, dump)?,
         });
     }
     let show = matches.subcommand_matches("show").unwrap();
@@ -71,6 +87,9 @@ fn dconfdb<'a>(alloc: Global) -> Result<clap::Command<'a>, AllocError>
         .subcommand(read(alloc)?)?
         .subcommand(origin(alloc)?)?
         .subcommand(repair(alloc)?)
+        .subcommand(list(alloc)?)?
+        .subcommand(list_locks(alloc)?)?
+        .subcommand(dump(alloc)?)
 }
 
 // `show TYPE FILE`.
@@ -167,6 +186,57 @@ fn repair<'a>(alloc: Global) -> Result<clap::Command<'a>, AllocError>
         .about("Makes a sound database OUT of what can be saved of FILE")
         .arg(file)?
         .arg(out)
+// `list [-p FILE] DIR`.
+fn list<'a>(alloc: Global) -> Result<clap::Command<'a>, AllocError>
+    ensures { IfOk result (λ c. app_of c ≡ directory_line (codes "list")) }
+{
+    of_directory(
+        alloc,
+        "list",
+        "Prints the names that DIR has, each directory with its slash",
+    )
+}
+
+// `list-locks [-p FILE] DIR`.
+fn list_locks<'a>(alloc: Global) -> Result<clap::Command<'a>, AllocError>
+    ensures { IfOk result (λ c. app_of c ≡ directory_line (codes "list-locks")) }
+{
+    of_directory(alloc, "list-locks", "Prints the locks that start with DIR")
+}
+
+// `dump [-p FILE] DIR`.
+fn dump<'a>(alloc: Global) -> Result<clap::Command<'a>, AllocError>
+    ensures { IfOk result (λ c. app_of c ≡ directory_line (codes "dump")) }
+{
+    of_directory(
+        alloc,
+        "dump",
+        "Prints the values that are seen below DIR, as a keyfile",
+    )
+}
+
+// A command of this name with a directory and a profile.
+fn of_directory<'a>(
+    alloc: Global,
+    name: &'a str,
+    about: &'a str,
+) -> Result<clap::Command<'a>, AllocError>
+    ensures { IfOk result (λ c. app_of c ≡ directory_line name.now) }
+{
+    let directory = directory_word(alloc);
+    let profile = profile_word(alloc);
+    clap::Command::new(alloc, name)
+        .about(about)
+        .arg(directory)?
+        .arg(profile)
+}
+
+// The directory of a command.
+fn directory_word<'a>(alloc: Global) -> Arg<'a>
+    ensures rule { rule_of result ≡ required_word (codes "DIR") }
+    ensures own { result.global ≡ false }
+{
+    required(alloc, "DIR").help("the path of a directory, such as /org/gnome/ or /")
 }
 
 // The key of a command.

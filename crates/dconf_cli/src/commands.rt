@@ -6,6 +6,8 @@ ghost use Rattle.dconf_cli.specs.Readings.{Decides};
 
 mod check;
 mod compile;
+mod dump;
+mod list;
 mod origin;
 mod read;
 mod repair;
@@ -16,6 +18,8 @@ use crate::asked::Command;
 use check::check;
 use compile::compile;
 use dconf_disk::Folder;
+use dump::dump;
+use list::{list, list_locks};
 use origin::origin;
 use read::read;
 use repair::repair;
@@ -35,6 +39,15 @@ pub(crate) fn answered<F: Folder>(alloc: Global, command: &Command, folder: &mut
             profile,
         } => read(alloc, *default, key.as_str(), profile.as_str(), folder),
         Command::Origin { key, profile } => origin(alloc, key.as_str(), profile.as_str(), folder),
+        Command::List { directory, profile } => {
+            list(alloc, directory.as_str(), profile.as_str(), folder)
+        }
+        Command::ListLocks { directory, profile } => {
+            list_locks(alloc, directory.as_str(), profile.as_str(), folder)
+        }
+        Command::Dump { directory, profile } => {
+            dump(alloc, directory.as_str(), profile.as_str(), folder)
+        }
         Command::Check { file } => check(alloc, file.as_str(), folder),
         Command::Compile {
             out,

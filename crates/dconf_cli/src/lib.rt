@@ -26,6 +26,7 @@ mod reading;
 mod running;
 mod store;
 mod task;
+mod walk;
 
 pub use asked::Command;
 pub use command_line::command;

@@ -1,8 +1,9 @@
 //! What is done with a store once its databases are open.
 ghost use Rattle.std.specs.Prelude.{List};
-ghost use Rattle.dconf_model.specs.Layers.{Layers};
+ghost use Rattle.dconf_model.specs.Layers.{Layers, all_paths};
 ghost use Rattle.dconf_model.specs.Outcomes.{Outcome};
 ghost use Rattle.dconf_model.specs.Profiles.{Database};
+ghost use Rattle.dconf_model.specs.Walks.{AreKeyPaths};
 ghost use Rattle.dconf_path.specs.Profiles.{databases_of};
 ghost use Rattle.dconf_cli.specs.Answers.{GivesOutcome};
 
@@ -18,5 +19,6 @@ pub(crate) trait Task {
 
     /// What it answers.
     fn answer(&self, alloc: Global, profile: &Profile<'_>, engine: Engine<'_>) -> Answer
+        requires { AreKeyPaths (all_paths engine.layers) }
         ensures { GivesOutcome result (makes self.now (databases_of profile.now) engine.entry) };
 }

@@ -18,6 +18,7 @@ mod input;
 mod limits;
 #[cfg(test)]
 mod repairing;
+mod listing;
 #[cfg(test)]
 mod runs;
 #[cfg(test)]

@@ -22,6 +22,12 @@ returns c =
     let with_read = c.in_ok-subcommand-4.ensures.shape (first_not _ _ (second _ _ (second _ _ (ap (λ (a : App). a.top.is_plain) reads)))) ∙ ap₂ with_subcommand with_compile (ap (λ (a : App). a.top) reads) in
     let traced = c.in_ok-origin.ensures in
     let with_origin = c.in_ok-subcommand-5.ensures.shape (first_not _ _ (second _ _ (second _ _ (ap (λ (a : App). a.top.is_plain) traced)))) ∙ ap₂ with_subcommand with_read (ap (λ (a : App). a.top) traced) in
-    let repaired = c.in_ok-repair.ensures in
-    IfOk-weaker c.subcommand-6.result _ _ (λ r h. h.shape (first_not _ _ (second _ _ (second _ _ (ap (λ (a : App). a.top.is_plain) repaired)))) ∙ ap₂ with_subcommand with_origin (ap (λ (a : App). a.top) repaired))
-    c.subcommand-6.ensures
+    let of_repair = c.in_ok-repair.ensures in
+    let with_repair = c.in_ok-subcommand-6.ensures.shape (first_not _ _ (second _ _ (second _ _ (ap (λ (a : App). a.top.is_plain) of_repair)))) ∙ ap₂ with_subcommand with_origin (ap (λ (a : App). a.top) of_repair) in
+    let of_list = c.in_ok-list.ensures in
+    let with_list = c.in_ok-subcommand-7.ensures.shape (first_not _ _ (second _ _ (second _ _ (ap (λ (a : App). a.top.is_plain) of_list)))) ∙ ap₂ with_subcommand with_repair (ap (λ (a : App). a.top) of_list) in
+    let of_list_locks = c.in_ok-list_locks.ensures in
+    let with_list_locks = c.in_ok-subcommand-8.ensures.shape (first_not _ _ (second _ _ (second _ _ (ap (λ (a : App). a.top.is_plain) of_list_locks)))) ∙ ap₂ with_subcommand with_list (ap (λ (a : App). a.top) of_list_locks) in
+    let of_dump = c.in_ok-dump.ensures in
+    IfOk-weaker c.subcommand-9.result _ _ (λ r h. h.shape (first_not _ _ (second _ _ (second _ _ (ap (λ (a : App). a.top.is_plain) of_dump)))) ∙ ap₂ with_subcommand with_list_locks (ap (λ (a : App). a.top) of_dump))
+    c.subcommand-9.ensures

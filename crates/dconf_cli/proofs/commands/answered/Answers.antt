@@ -1,6 +1,6 @@
 use Rattle.std.proofs.Common.{map, option_map, string_bytes, subst, sym, vec_items}
 use Rattle.dconf_model.specs.Commands.{Command}
-use Rattle.dconf_model.specs.Commands.Command.{show, read, origin, check, compile, repair}
+use Rattle.dconf_model.specs.Commands.Command.{show, read, origin, check, compile, repair, list, list_locks, dump}
 use Rattle.dconf_model.specs.Outcomes.{IsOutcome}
 use Rattle.dconf_cli.specs.Commands.{command_of}
 use Rattle.dconf_cli.specs.Readings.{Decides}
@@ -41,3 +41,20 @@ returns-in-Repair g c = λ input.
     let D : Command → Type 0 = λ k. Decides g.F.Folder.past g.F.Folder.failed c.args.folder.now c.repair.new.folder 0 (λ reads. IsOutcome k reads input) c.repair.result in
     subst (λ k. D (command_of k)) (sym c.in-Repair.is) (subst (λ n. D (repair (string_bytes c.in-Repair.file) n)) c.as_str-in-Repair-2.ensures.value
     (subst (λ n. D (repair n c.as_str-in-Repair-2.result.now)) c.as_str-in-Repair.ensures.value (c.repair.ensures input)))
+pub returns-in-List : goal.returns-in-List
+returns-in-List g c = λ input.
+    let D : Command → Type 0 = λ k. Decides g.F.Folder.past g.F.Folder.failed c.args.folder.now c.list.new.folder 0 (λ reads. IsOutcome k reads input) c.list.result in
+    subst (λ k. D (command_of k)) (sym c.in-List.is) (subst (λ n. D (list (string_bytes c.in-List.directory) n)) c.as_str-in-List-2.ensures.value
+    (subst (λ t. D (list t c.as_str-in-List-2.result.now)) c.as_str-in-List.ensures.value (c.list.ensures input)))
+
+pub returns-in-ListLocks : goal.returns-in-ListLocks
+returns-in-ListLocks g c = λ input.
+    let D : Command → Type 0 = λ k. Decides g.F.Folder.past g.F.Folder.failed c.args.folder.now c.list_locks.new.folder 0 (λ reads. IsOutcome k reads input) c.list_locks.result in
+    subst (λ k. D (command_of k)) (sym c.in-ListLocks.is) (subst (λ n. D (list_locks (string_bytes c.in-ListLocks.directory) n)) c.as_str-in-ListLocks-2.ensures.value
+    (subst (λ t. D (list_locks t c.as_str-in-ListLocks-2.result.now)) c.as_str-in-ListLocks.ensures.value (c.list_locks.ensures input)))
+
+pub returns-in-Dump : goal.returns-in-Dump
+returns-in-Dump g c = λ input.
+    let D : Command → Type 0 = λ k. Decides g.F.Folder.past g.F.Folder.failed c.args.folder.now c.dump.new.folder 0 (λ reads. IsOutcome k reads input) c.dump.result in
+    subst (λ k. D (command_of k)) (sym c.in-Dump.is) (subst (λ n. D (dump (string_bytes c.in-Dump.directory) n)) c.as_str-in-Dump-2.ensures.value
+    (subst (λ t. D (dump t c.as_str-in-Dump-2.result.now)) c.as_str-in-Dump.ensures.value (c.dump.ensures input)))
