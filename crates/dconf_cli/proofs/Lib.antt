@@ -12,6 +12,7 @@ pub mod PathArguments
 pub mod Runs
 pub mod Shows
 pub mod Given
+pub mod ChangeLaws
 pub mod InputLaws
 pub mod Walks
 pub mod Dumping

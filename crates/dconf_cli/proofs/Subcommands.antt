@@ -16,7 +16,7 @@ use Rattle.std.specs.Box.{box_value}
 use Rattle.clap.specs.declared.ArgMatches.{ArgMatches}
 use Rattle.clap.specs.declared.parser.matches.Found.{Found}
 use Rattle.clap.proofs.WalkLemmas.{first_value-rows, raw_values-rows}
-use Rattle.dconf_cli.specs.Asked.{AsksToCheck, AsksForOrigin, AsksToCompile, AsksToRead, AsksToRepair, AsksToShow, is_set, profile_file, AsksOfDirectory}
+use Rattle.dconf_cli.specs.Asked.{AsksToCheck, AsksForOrigin, AsksToCompile, AsksToRead, AsksToRepair, AsksToShow, is_set, profile_file, AsksOfDirectory, AsksToReset, AsksToWrite}
 use Rattle.dconf_cli.specs.CommandLine.{command_line, show_line}
 use Rattle.dconf_cli.proofs.Stops.{IsNotHelp, or_else_nil, walk_not_help}
 use Rattle.dconf_cli.proofs.Filled.{OnlyAsks, walk_filled, given_first, is_option}
@@ -70,7 +70,8 @@ abbrev line : App
 line = built command_line
 
 abbrev IsCommandName : Text → Type 0
-IsCommandName name = (name ≡ codes "show") ⊎ ((name ≡ codes "check") ⊎ ((name ≡ codes "compile") ⊎ ((name ≡ codes "read") ⊎ ((name ≡ codes "origin") ⊎ ((name ≡ codes "repair") ⊎ ((name ≡ codes "list") ⊎ ((name ≡ codes "list-locks") ⊎ (name ≡ codes "dump"))))))))
+IsCommandName name =
+    (name ≡ codes "show") ⊎ ((name ≡ codes "check") ⊎ ((name ≡ codes "compile") ⊎ ((name ≡ codes "read") ⊎ ((name ≡ codes "origin") ⊎ ((name ≡ codes "repair") ⊎ ((name ≡ codes "list") ⊎ ((name ≡ codes "list-locks") ⊎ ((name ≡ codes "dump") ⊎ ((name ≡ codes "write") ⊎ (name ≡ codes "reset"))))))))))
 
 abbrev Each : {X : Type 0} → (X → Type 0) → List X → Type 0
 Each P [] = ⊤
@@ -151,8 +152,38 @@ repair_is_plain = record {
   name = inr (inr (inr (inr (inr (inl refl)))));
 }
 
+list_is_plain : IsPlainSub (shape_at 6)
+list_is_plain = record {
+  rules = (inl refl, (inr (inl refl), (inr (inr (refl, λ rows. refl)), tt)));
+  name = inr (inr (inr (inr (inr (inr (inl refl))))));
+}
+
+list_locks_is_plain : IsPlainSub (shape_at 7)
+list_locks_is_plain = record {
+  rules = (inl refl, (inr (inl refl), (inr (inr (refl, λ rows. refl)), tt)));
+  name = inr (inr (inr (inr (inr (inr (inr (inl refl)))))));
+}
+
+dump_is_plain : IsPlainSub (shape_at 8)
+dump_is_plain = record {
+  rules = (inl refl, (inr (inl refl), (inr (inr (refl, λ rows. refl)), tt)));
+  name = inr (inr (inr (inr (inr (inr (inr (inr (inl refl))))))));
+}
+
+write_is_plain : IsPlainSub (shape_at 9)
+write_is_plain = record {
+  rules = (inl refl, (inl refl, (inr (inl refl), (inr (inr (refl, λ rows. refl)), tt))));
+  name = inr (inr (inr (inr (inr (inr (inr (inr (inr (inl refl)))))))));
+}
+
+reset_is_plain : IsPlainSub (shape_at 10)
+reset_is_plain = record {
+  rules = (inl refl, (inr (inl refl), (inr (inl refl), (inr (inr (refl, λ rows. refl)), tt))));
+  name = inr (inr (inr (inr (inr (inr (inr (inr (inr (inr refl)))))))));
+}
+
 offered_subs : Each IsOffered line.subs
-offered_subs = (record { alone = refl; ours = λ _. show_is_plain }, (record { alone = refl; ours = λ _. check_is_plain }, (record { alone = refl; ours = λ _. compile_is_plain }, (record { alone = refl; ours = λ _. read_is_plain }, (record { alone = refl; ours = λ _. origin_is_plain }, (record { alone = refl; ours = λ _. repair_is_plain }, (record { alone = refl; ours = λ _. list_is_plain }, (record { alone = refl; ours = λ _. list_locks_is_plain }, (record { alone = refl; ours = λ _. dump_is_plain }, (record { alone = refl; ours = λ other. absurd (other refl) }, tt))))))))))
+offered_subs = (record { alone = refl; ours = λ _. show_is_plain }, (record { alone = refl; ours = λ _. check_is_plain }, (record { alone = refl; ours = λ _. compile_is_plain }, (record { alone = refl; ours = λ _. read_is_plain }, (record { alone = refl; ours = λ _. origin_is_plain }, (record { alone = refl; ours = λ _. repair_is_plain }, (record { alone = refl; ours = λ _. list_is_plain }, (record { alone = refl; ours = λ _. list_locks_is_plain }, (record { alone = refl; ours = λ _. dump_is_plain }, (record { alone = refl; ours = λ _. write_is_plain }, (record { alone = refl; ours = λ _. reset_is_plain }, (record { alone = refl; ours = λ other. absurd (other refl) }, tt))))))))))))
 
 -- the subcommand of this name
 abbrev pub sub_named : Text → Shape
@@ -254,8 +285,10 @@ pub named_show : (words : List Text) (m : ArgMatches) → IsParsedBy words m
     → subcommand_name_of m ≢ Some (codes "list")
     → subcommand_name_of m ≢ Some (codes "list-locks")
     → subcommand_name_of m ≢ Some (codes "dump")
+    → subcommand_name_of m ≢ Some (codes "write")
+    → subcommand_name_of m ≢ Some (codes "reset")
     → subcommand_name_of m ≡ Some (codes "show")
-named_show words m p not_check not_compile not_read not_origin not_repair not_list not_list_locks not_dump = go (enters words p.sound).one
+named_show words m p not_check not_compile not_read not_origin not_repair not_list not_list_locks not_dump not_write not_reset = go (enters words p.sound).one
   where
     go : IsCommandName (enters words p.sound).name → subcommand_name_of m ≡ Some (codes "show")
     go (inl show) = met_name words m p ∙ ap Some show
@@ -266,7 +299,9 @@ named_show words m p not_check not_compile not_read not_origin not_repair not_li
     go (inr (inr (inr (inr (inr (inl repair)))))) = absurd (not_repair (met_name words m p ∙ ap Some repair))
     go (inr (inr (inr (inr (inr (inr (inl list))))))) = absurd (not_list (met_name words m p ∙ ap Some list))
     go (inr (inr (inr (inr (inr (inr (inr (inl list_locks)))))))) = absurd (not_list_locks (met_name words m p ∙ ap Some list_locks))
-    go (inr (inr (inr (inr (inr (inr (inr (inr dump)))))))) = absurd (not_dump (met_name words m p ∙ ap Some dump))
+    go (inr (inr (inr (inr (inr (inr (inr (inr (inl dump))))))))) = absurd (not_dump (met_name words m p ∙ ap Some dump))
+    go (inr (inr (inr (inr (inr (inr (inr (inr (inr (inl write)))))))))) = absurd (not_write (met_name words m p ∙ ap Some write))
+    go (inr (inr (inr (inr (inr (inr (inr (inr (inr (inr reset)))))))))) = absurd (not_reset (met_name words m p ∙ ap Some reset))
 
 -- the matches are those of the subcommand of this name
 pub record IsSub (words : List Text) (name : Text) (found : Found) : Type 0 where
@@ -339,11 +374,35 @@ asks_to_repair words found file out sub f o = record {
   named = sub.named;
   file_value = sym (first_value-rows found (codes "FILE")) ∙ f;
   out_value = sym (first_value-rows found (codes "OUT")) ∙ o;
+}
+
 pub asks_of_directory : (name : Text) (words : List Text) (found : Found) (directory profile : Text) → IsSub words name found
     → first_value found (codes "DIR") ≡ Some directory → profile ≡ profile_file (first_value found (codes "profile")) → AsksOfDirectory name words directory profile
 asks_of_directory name words found directory profile sub d p = record {
   rows = rows_of found;
   named = sub.named;
   directory_value = sym (first_value-rows found (codes "DIR")) ∙ d;
+  profile_value = ap profile_file (sym (first_value-rows found (codes "profile"))) ∙ sym p;
+}
+
+pub asks_to_write : (words : List Text) (found : Found) (key value profile : Text) → IsSub words (codes "write") found
+    → first_value found (codes "KEY") ≡ Some key → first_value found (codes "VALUE") ≡ Some value
+    → profile ≡ profile_file (first_value found (codes "profile")) → AsksToWrite words key value profile
+asks_to_write words found key value profile sub k v p = record {
+  rows = rows_of found;
+  named = sub.named;
+  key_value = sym (first_value-rows found (codes "KEY")) ∙ k;
+  value_value = sym (first_value-rows found (codes "VALUE")) ∙ v;
+  profile_value = ap profile_file (sym (first_value-rows found (codes "profile"))) ∙ sym p;
+}
+
+pub asks_to_reset : (words : List Text) (found : Found) (force : Bool) (path profile : Text) → IsSub words (codes "reset") found
+    → force ≡ is_set (first_value found (codes "force")) → first_value found (codes "PATH") ≡ Some path
+    → profile ≡ profile_file (first_value found (codes "profile")) → AsksToReset words force path profile
+asks_to_reset words found force path profile sub f k p = record {
+  rows = rows_of found;
+  named = sub.named;
+  force_value = ap is_set (sym (first_value-rows found (codes "force"))) ∙ sym f;
+  path_value = sym (first_value-rows found (codes "PATH")) ∙ k;
   profile_value = ap profile_file (sym (first_value-rows found (codes "profile"))) ∙ sym p;
 }

@@ -4,7 +4,7 @@ use Rattle.std.specs.Str.{bytes_eq}
 use Rattle.clap.specs.Words.{Row, Text, all_of, first_of, subcommand_of}
 use Rattle.dconf_cli.specs.CommandLine.{command_line}
 use Rattle.dconf_cli.specs.declared.asked.Command.{Command}
-use Rattle.dconf_cli.specs.declared.asked.Command.TheVariants.{Show, Read, Origin, Check, Compile, Repair, List as ListIt, ListLocks, Dump}
+use Rattle.dconf_cli.specs.declared.asked.Command.TheVariants.{Show, Read, Origin, Check, Compile, Repair, List as ListIt, ListLocks, Dump, Write, Reset}
 
 -- the words name `show`, and clap gives its arguments these values
 pub record AsksToShow (words : List Text) (type_text file : Text) : Type 0 where
@@ -57,11 +57,28 @@ pub record AsksToRepair (words : List Text) (file out : Text) : Type 0 where
   pub named : subcommand_of command_line words ≡ Some (codes "repair", rows)
   pub file_value : first_of (codes "FILE") rows ≡ Some file
   pub out_value : first_of (codes "OUT") rows ≡ Some out
+
 -- the words name this command of a directory, and clap gives its arguments these values
 pub record AsksOfDirectory (name : Text) (words : List Text) (directory profile : Text) : Type 0 where
   pub rows : List Row
   pub named : subcommand_of command_line words ≡ Some (name, rows)
   pub directory_value : first_of (codes "DIR") rows ≡ Some directory
+  pub profile_value : profile_file (first_of (codes "profile") rows) ≡ profile
+
+-- the words name `write`, and clap gives its arguments these values
+pub record AsksToWrite (words : List Text) (key value profile : Text) : Type 0 where
+  pub rows : List Row
+  pub named : subcommand_of command_line words ≡ Some (codes "write", rows)
+  pub key_value : first_of (codes "KEY") rows ≡ Some key
+  pub value_value : first_of (codes "VALUE") rows ≡ Some value
+  pub profile_value : profile_file (first_of (codes "profile") rows) ≡ profile
+
+-- the words name `reset`, and clap gives its arguments these values
+pub record AsksToReset (words : List Text) (force : Bool) (path profile : Text) : Type 0 where
+  pub rows : List Row
+  pub named : subcommand_of command_line words ≡ Some (codes "reset", rows)
+  pub force_value : is_set (first_of (codes "force") rows) ≡ force
+  pub path_value : first_of (codes "PATH") rows ≡ Some path
   pub profile_value : profile_file (first_of (codes "profile") rows) ≡ profile
 
 -- clap gives the command's values to the words
@@ -76,3 +93,5 @@ IsAskedBy words (Check file) = AsksToCheck words (string_bytes file)
 IsAskedBy words (Compile out locks keyfiles) =
     AsksToCompile words (string_bytes out) (option_map string_bytes locks) (map string_bytes (vec_items keyfiles))
 IsAskedBy words (Repair file out) = AsksToRepair words (string_bytes file) (string_bytes out)
+IsAskedBy words (Write key value profile) = AsksToWrite words (string_bytes key) (string_bytes value) (string_bytes profile)
+IsAskedBy words (Reset force path profile) = AsksToReset words force (string_bytes path) (string_bytes profile)

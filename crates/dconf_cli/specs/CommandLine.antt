@@ -47,9 +47,22 @@ origin_line = with_rule (with_rule (new_app (codes "origin")) (required_word (co
 -- `repair FILE OUT`
 abbrev pub repair_line : App
 repair_line = with_rule (with_rule (new_app (codes "repair")) (required_word (codes "FILE"))) (required_word (codes "OUT"))
+
 -- `NAME [-p FILE] DIR`, such as `list [-p FILE] DIR`
 abbrev pub directory_line : Text → App
 directory_line name = with_rule (with_rule (new_app name) (required_word (codes "DIR"))) profile_option
+
+-- `write [-p FILE] KEY VALUE`
+abbrev pub write_line : App
+write_line = with_rule (with_rule (with_rule (new_app (codes "write")) (required_word (codes "KEY"))) (required_word (codes "VALUE"))) profile_option
+
+-- `-f`
+abbrev pub force_flag : Rule
+force_flag = record (new_rule (codes "force")) { short = Some 102; action = Some SetTrue }
+
+-- `reset [-f] [-p FILE] PATH`
+abbrev pub reset_line : App
+reset_line = with_rule (with_rule (with_rule (new_app (codes "reset")) (required_word (codes "PATH"))) force_flag) profile_option
 
 -- `dconfdb`, which wants a subcommand and has a version
 abbrev pub dconfdb_line : App
@@ -62,6 +75,6 @@ dconfdb_line = record (new_app (codes "dconfdb")) {
 
 abbrev pub command_line : App
 command_line =
-    with_subcommand (with_subcommand (with_subcommand (with_subcommand (with_subcommand (with_subcommand (with_subcommand (with_subcommand (with_subcommand dconfdb_line
+    with_subcommand (with_subcommand (with_subcommand (with_subcommand (with_subcommand (with_subcommand (with_subcommand (with_subcommand (with_subcommand (with_subcommand (with_subcommand dconfdb_line
     show_line.top) check_line.top) compile_line.top) read_line.top) origin_line.top) repair_line.top)
-    (directory_line (codes "list")).top) (directory_line (codes "list-locks")).top) (directory_line (codes "dump")).top
+    (directory_line (codes "list")).top) (directory_line (codes "list-locks")).top) (directory_line (codes "dump")).top) write_line.top) reset_line.top

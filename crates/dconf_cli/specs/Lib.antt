@@ -10,3 +10,4 @@ pub mod Endings
 pub mod Runs
 pub mod Inputs
 pub mod Dumps
+pub mod Changing

@@ -49,4 +49,17 @@ pub enum Command {
         file: String,
         out: String,
     },
+    /// Sets the user's value of `key`, by the profile in the file `profile`, to the one that `value` spells.
+    Write {
+        key: String,
+        value: String,
+        profile: String,
+    },
+    /// Takes away the user's value of the key `path`, by the profile in the file `profile`; where `force` is set, those of all keys below the
+    /// directory `path`.
+    Reset {
+        force: bool,
+        path: String,
+        profile: String,
+    },
 }

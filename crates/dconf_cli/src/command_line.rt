@@ -1,7 +1,7 @@
 //! The command line of `dconfdb`, by clap's builder.
 ghost use Rattle.std.specs.Prelude.{◌≡◌, [], codes, false, IfOk, IsSome, Some, map, option_map, string_bytes, unwrap_or, vec_items};
 ghost use Rattle.clap.specs.Words.{FailsBy, app_of, fault_of, first_value, found_of, matched_of, raw_values, rule_of};
-ghost use Rattle.dconf_cli.specs.CommandLine.{check_line, command_line, compile_line, further_words, default_flag, locks_option, origin_line, profile_option, read_line, repair_line, required_word, show_line, directory_line};
+ghost use Rattle.dconf_cli.specs.CommandLine.{check_line, command_line, compile_line, further_words, default_flag, locks_option, origin_line, profile_option, read_line, repair_line, required_word, show_line, directory_line, force_flag, reset_line, write_line};
 ghost use Rattle.dconf_cli.specs.Asked.{IsAskedBy, is_set, profile_file};
 
 use crate::asked::Command;
@@ -48,6 +48,8 @@ pub fn command(alloc: Global, words: &[String]) -> Result<Command, clap::Error>
         return Ok(Command::Repair {
             file: value(alloc, repair, "FILE")?,
             out: value(alloc, repair, "OUT")?,
+        });
+    }
     if let Some(list) = matches.subcommand_matches("list") {
         return Ok(Command::List {
             directory: value(alloc, list, "DIR")?,
@@ -66,6 +68,20 @@ pub fn command(alloc: Global, words: &[String]) -> Result<Command, clap::Error>
             profile: profile_value(alloc, dump)?,
         });
     }
+    if let Some(write) = matches.subcommand_matches("write") {
+        return Ok(Command::Write {
+            key: value(alloc, write, "KEY")?,
+            value: value(alloc, write, "VALUE")?,
+            profile: profile_value(alloc, write)?,
+        });
+    }
+    if let Some(reset) = matches.subcommand_matches("reset") {
+        return Ok(Command::Reset {
+            force: is_given(reset, "force"),
+            path: value(alloc, reset, "PATH")?,
+            profile: profile_value(alloc, reset)?,
+        });
+    }
     let show = matches.subcommand_matches("show").unwrap();
     Ok(Command::Show {
         type_text: value(alloc, show, "TYPE")?,
@@ -78,7 +94,7 @@ fn dconfdb<'a>(alloc: Global) -> Result<clap::Command<'a>, AllocError>
     ensures { IfOk result (λ c. app_of c ≡ command_line) }
 {
     clap::Command::new(alloc, "dconfdb")
-        .about("Reads GVariant values, and reads and makes dconf databases")
+        .about("Reads GVariant values, and reads, makes and changes dconf databases")
         .version("0.1.0")
         .subcommand_required(true)
         .subcommand(show(alloc)?)?
@@ -86,10 +102,12 @@ fn dconfdb<'a>(alloc: Global) -> Result<clap::Command<'a>, AllocError>
         .subcommand(compile(alloc)?)?
         .subcommand(read(alloc)?)?
         .subcommand(origin(alloc)?)?
-        .subcommand(repair(alloc)?)
+        .subcommand(repair(alloc)?)?
         .subcommand(list(alloc)?)?
         .subcommand(list_locks(alloc)?)?
-        .subcommand(dump(alloc)?)
+        .subcommand(dump(alloc)?)?
+        .subcommand(write(alloc)?)?
+        .subcommand(reset(alloc)?)
 }
 
 // `show TYPE FILE`.
@@ -186,6 +204,8 @@ fn repair<'a>(alloc: Global) -> Result<clap::Command<'a>, AllocError>
         .about("Makes a sound database OUT of what can be saved of FILE")
         .arg(file)?
         .arg(out)
+}
+
 // `list [-p FILE] DIR`.
 fn list<'a>(alloc: Global) -> Result<clap::Command<'a>, AllocError>
     ensures { IfOk result (λ c. app_of c ≡ directory_line (codes "list")) }
@@ -239,6 +259,36 @@ fn directory_word<'a>(alloc: Global) -> Arg<'a>
     required(alloc, "DIR").help("the path of a directory, such as /org/gnome/ or /")
 }
 
+// `write [-p FILE] KEY VALUE`.
+fn write<'a>(alloc: Global) -> Result<clap::Command<'a>, AllocError>
+    ensures { IfOk result (λ c. app_of c ≡ write_line) }
+{
+    let key = key_word(alloc);
+    let value = value_word(alloc);
+    let profile = profile_word(alloc);
+    clap::Command::new(alloc, "write")
+        .about("Sets the user's value of KEY to VALUE")
+        .arg(key)?
+        .arg(value)?
+        .arg(profile)
+}
+
+// `reset [-f] [-p FILE] PATH`.
+fn reset<'a>(alloc: Global) -> Result<clap::Command<'a>, AllocError>
+    ensures { IfOk result (λ c. app_of c ≡ reset_line) }
+{
+    let path = path_word(alloc);
+    let force = force_word(alloc);
+    let profile = profile_word(alloc);
+    clap::Command::new(alloc, "reset")
+        .about(
+            "Takes away the user's value of the key PATH, or with -f those of all keys below the directory PATH",
+        )
+        .arg(path)?
+        .arg(force)?
+        .arg(profile)
+}
+
 // The key of a command.
 fn key_word<'a>(alloc: Global) -> Arg<'a>
     ensures rule { rule_of result ≡ required_word (codes "KEY") }
@@ -247,6 +297,37 @@ fn key_word<'a>(alloc: Global) -> Arg<'a>
     required(alloc, "KEY").help(
         "the path of a key, such as /org/gnome/desktop/interface/clock-format",
     )
+}
+
+// The value that a key gets.
+fn value_word<'a>(alloc: Global) -> Arg<'a>
+    ensures rule { rule_of result ≡ required_word (codes "VALUE") }
+    ensures own { result.global ≡ false }
+{
+    required(alloc, "VALUE").help(
+        "the value in GVariant text, such as 5 or \"'12h'\"; one that starts with - comes after --",
+    )
+}
+
+// A key, or a directory.
+fn path_word<'a>(alloc: Global) -> Arg<'a>
+    ensures rule { rule_of result ≡ required_word (codes "PATH") }
+    ensures own { result.global ≡ false }
+{
+    required(alloc, "PATH").help(
+        "the path of a key, or with -f of a directory, such as /org/gnome/",
+    )
+}
+
+// Whether all keys below a directory are meant.
+fn force_word<'a>(alloc: Global) -> Arg<'a>
+    ensures rule { rule_of result ≡ force_flag }
+    ensures own { result.global ≡ false }
+{
+    Arg::new(alloc, "force")
+        .short('f')
+        .action(ArgAction::SetTrue)
+        .help("reset all keys below a directory, but for locked ones")
 }
 
 // Whether the user's values are left aside.

@@ -11,7 +11,9 @@ mod list;
 mod origin;
 mod read;
 mod repair;
+mod reset;
 mod show;
+mod write;
 
 use crate::answer::Answer;
 use crate::asked::Command;
@@ -23,8 +25,10 @@ use list::{list, list_locks};
 use origin::origin;
 use read::read;
 use repair::repair;
+use reset::reset;
 use show::show;
 use std::alloc::Global;
+use write::write;
 
 /// What the command answers.
 pub(crate) fn answered<F: Folder>(alloc: Global, command: &Command, folder: &mut F) -> Answer
@@ -55,5 +59,21 @@ pub(crate) fn answered<F: Folder>(alloc: Global, command: &Command, folder: &mut
             keyfiles,
         } => compile(alloc, out.as_str(), locks, keyfiles, folder),
         Command::Repair { file, out } => repair(alloc, file.as_str(), out.as_str(), folder),
+        Command::Write {
+            key,
+            value,
+            profile,
+        } => write(
+            alloc,
+            key.as_str(),
+            value.as_str(),
+            profile.as_str(),
+            folder,
+        ),
+        Command::Reset {
+            force,
+            path,
+            profile,
+        } => reset(alloc, *force, path.as_str(), profile.as_str(), folder),
     }
 }

@@ -15,6 +15,7 @@
 
 mod answer;
 mod asked;
+mod changing;
 mod command_line;
 mod commands;
 mod counted;
@@ -27,6 +28,7 @@ mod running;
 mod store;
 mod task;
 mod walk;
+mod word_value;
 
 pub use asked::Command;
 pub use command_line::command;

@@ -134,7 +134,7 @@ fn read_database<F: Folder>(
 }
 
 /// The name of the file that holds a database.
-fn file_name(alloc: Global, database: Database<'_>) -> Result<String, AllocError>
+pub(crate) fn file_name(alloc: Global, database: Database<'_>) -> Result<String, AllocError>
     ensures { IfOk result (λ name. string_bytes name ≡ database_file (database_of database.entry)) }
 {
     let name = database.name;

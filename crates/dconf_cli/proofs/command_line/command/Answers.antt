@@ -1,6 +1,6 @@
 use Rattle.std.proofs.Common.{◌≡◌, codes, false, map, refl, string_bytes, true}
 use Rattle.clap.specs.Words.{found_of}
-use Rattle.dconf_cli.proofs.Subcommands.{IsParsedBy, IsSub, asks_for_origin, asks_of_directory, asks_to_check, asks_to_compile, asks_to_read, asks_to_repair, asks_to_show, is_sub, named_show, parsed}
+use Rattle.dconf_cli.proofs.Subcommands.{IsParsedBy, IsSub, asks_for_origin, asks_of_directory, asks_to_check, asks_to_compile, asks_to_read, asks_to_repair, asks_to_reset, asks_to_show, asks_to_write, is_sub, named_show, parsed}
 use Rattle.dconf_cli.proofs.command_line.command.Goals as goal
 
 pub value-requires : goal.value-requires
@@ -195,6 +195,60 @@ returns-in-Some-subcommand_matches-7-clause-faults c =
     let m = c.in_ok-matches.matches in
     (parsed _ words m c.in_ok-dconfdb.ensures c.in_ok-matches.ensures.kinds c.in_ok-matches.ensures.matches).sound
 
+pub value-requires-in-Some-subcommand_matches-8 : goal.value-requires-in-Some-subcommand_matches-8
+value-requires-in-Some-subcommand_matches-8 c =
+    let words = map string_bytes c.args.words.now in
+    let m = c.in_ok-matches.matches in
+    let p : IsParsedBy words m = parsed _ words m c.in_ok-dconfdb.ensures c.in_ok-matches.ensures.kinds c.in_ok-matches.ensures.matches in
+    let found = found_of c.in-Some-subcommand_matches-8.write.now in
+    (is_sub words (codes "write") m found p (c.in-Some-subcommand_matches-8.ensures.found.0 refl) c.in-Some-subcommand_matches-8.ensures.rows).given (codes "KEY") refl refl
+
+pub value-requires-in-Some-subcommand_matches-8-2 : goal.value-requires-in-Some-subcommand_matches-8-2
+value-requires-in-Some-subcommand_matches-8-2 c =
+    let words = map string_bytes c.args.words.now in
+    let m = c.in_ok-matches.matches in
+    let p : IsParsedBy words m = parsed _ words m c.in_ok-dconfdb.ensures c.in_ok-matches.ensures.kinds c.in_ok-matches.ensures.matches in
+    let found = found_of c.in-Some-subcommand_matches-8.write.now in
+    (is_sub words (codes "write") m found p (c.in-Some-subcommand_matches-8.ensures.found.0 refl) c.in-Some-subcommand_matches-8.ensures.rows).given (codes "VALUE") refl refl
+
+pub returns-in-Some-subcommand_matches-8-clause-asked : goal.returns-in-Some-subcommand_matches-8-clause-asked
+returns-in-Some-subcommand_matches-8-clause-asked c =
+    let words = map string_bytes c.args.words.now in
+    let m = c.in_ok-matches.matches in
+    let found = found_of c.in-Some-subcommand_matches-8.write.now in
+    let p : IsParsedBy words m = parsed _ words m c.in_ok-dconfdb.ensures c.in_ok-matches.ensures.kinds c.in_ok-matches.ensures.matches in
+    let sub : IsSub words (codes "write") found = is_sub words (codes "write") m found p (c.in-Some-subcommand_matches-8.ensures.found.0 refl) c.in-Some-subcommand_matches-8.ensures.rows in
+    asks_to_write words found _ _ _ sub c.in_ok-value-9.ensures c.in_ok-value-10.ensures c.in_ok-profile_value-6.ensures
+
+pub returns-in-Some-subcommand_matches-8-clause-faults : goal.returns-in-Some-subcommand_matches-8-clause-faults
+returns-in-Some-subcommand_matches-8-clause-faults c =
+    let words = map string_bytes c.args.words.now in
+    let m = c.in_ok-matches.matches in
+    (parsed _ words m c.in_ok-dconfdb.ensures c.in_ok-matches.ensures.kinds c.in_ok-matches.ensures.matches).sound
+
+pub value-requires-in-Some-subcommand_matches-9 : goal.value-requires-in-Some-subcommand_matches-9
+value-requires-in-Some-subcommand_matches-9 c =
+    let words = map string_bytes c.args.words.now in
+    let m = c.in_ok-matches.matches in
+    let p : IsParsedBy words m = parsed _ words m c.in_ok-dconfdb.ensures c.in_ok-matches.ensures.kinds c.in_ok-matches.ensures.matches in
+    let found = found_of c.in-Some-subcommand_matches-9.reset.now in
+    (is_sub words (codes "reset") m found p (c.in-Some-subcommand_matches-9.ensures.found.0 refl) c.in-Some-subcommand_matches-9.ensures.rows).given (codes "PATH") refl refl
+
+pub returns-in-Some-subcommand_matches-9-clause-asked : goal.returns-in-Some-subcommand_matches-9-clause-asked
+returns-in-Some-subcommand_matches-9-clause-asked c =
+    let words = map string_bytes c.args.words.now in
+    let m = c.in_ok-matches.matches in
+    let found = found_of c.in-Some-subcommand_matches-9.reset.now in
+    let p : IsParsedBy words m = parsed _ words m c.in_ok-dconfdb.ensures c.in_ok-matches.ensures.kinds c.in_ok-matches.ensures.matches in
+    let sub : IsSub words (codes "reset") found = is_sub words (codes "reset") m found p (c.in-Some-subcommand_matches-9.ensures.found.0 refl) c.in-Some-subcommand_matches-9.ensures.rows in
+    asks_to_reset words found _ _ _ sub c.is_given-in-Some-subcommand_matches-9.ensures c.in_ok-value-11.ensures c.in_ok-profile_value-7.ensures
+
+pub returns-in-Some-subcommand_matches-9-clause-faults : goal.returns-in-Some-subcommand_matches-9-clause-faults
+returns-in-Some-subcommand_matches-9-clause-faults c =
+    let words = map string_bytes c.args.words.now in
+    let m = c.in_ok-matches.matches in
+    (parsed _ words m c.in_ok-dconfdb.ensures c.in_ok-matches.ensures.kinds c.in_ok-matches.ensures.matches).sound
+
 pub unwrap-show-requires : goal.unwrap-show-requires
 unwrap-show-requires c =
     let words = map string_bytes c.args.words.now in
@@ -208,8 +262,10 @@ unwrap-show-requires c =
     (λ e. let none : false ≡ true = c.in_default-subcommand_matches-4.ensures.found.1 e in cc)
     (λ e. let none : false ≡ true = c.in_default-subcommand_matches-5.ensures.found.1 e in cc)
     (λ e. let none : false ≡ true = c.in_default-subcommand_matches-6.ensures.found.1 e in cc)
-    (λ e. let none : false ≡ true = c.in_default-subcommand_matches-7.ensures.found.1 e in cc) in
-    c.subcommand_matches-9.ensures.found.1 named
+    (λ e. let none : false ≡ true = c.in_default-subcommand_matches-7.ensures.found.1 e in cc)
+    (λ e. let none : false ≡ true = c.in_default-subcommand_matches-8.ensures.found.1 e in cc)
+    (λ e. let none : false ≡ true = c.in_default-subcommand_matches-9.ensures.found.1 e in cc) in
+    c.subcommand_matches-11.ensures.found.1 named
 
 pub value-requires-2 : goal.value-requires-2
 value-requires-2 c =
@@ -224,8 +280,10 @@ value-requires-2 c =
     (λ e. let none : false ≡ true = c.in_default-subcommand_matches-4.ensures.found.1 e in cc)
     (λ e. let none : false ≡ true = c.in_default-subcommand_matches-5.ensures.found.1 e in cc)
     (λ e. let none : false ≡ true = c.in_default-subcommand_matches-6.ensures.found.1 e in cc)
-    (λ e. let none : false ≡ true = c.in_default-subcommand_matches-7.ensures.found.1 e in cc) in
-    (is_sub words (codes "show") m (found_of c.unwrap-show.result.now) p named (rw c.unwrap-show.ensures at c.subcommand_matches-9.ensures.rows)).given (codes "TYPE") refl refl
+    (λ e. let none : false ≡ true = c.in_default-subcommand_matches-7.ensures.found.1 e in cc)
+    (λ e. let none : false ≡ true = c.in_default-subcommand_matches-8.ensures.found.1 e in cc)
+    (λ e. let none : false ≡ true = c.in_default-subcommand_matches-9.ensures.found.1 e in cc) in
+    (is_sub words (codes "show") m (found_of c.unwrap-show.result.now) p named (rw c.unwrap-show.ensures at c.subcommand_matches-11.ensures.rows)).given (codes "TYPE") refl refl
 
 pub value-requires-3 : goal.value-requires-3
 value-requires-3 c =
@@ -240,8 +298,10 @@ value-requires-3 c =
     (λ e. let none : false ≡ true = c.in_default-subcommand_matches-4.ensures.found.1 e in cc)
     (λ e. let none : false ≡ true = c.in_default-subcommand_matches-5.ensures.found.1 e in cc)
     (λ e. let none : false ≡ true = c.in_default-subcommand_matches-6.ensures.found.1 e in cc)
-    (λ e. let none : false ≡ true = c.in_default-subcommand_matches-7.ensures.found.1 e in cc) in
-    (is_sub words (codes "show") m (found_of c.unwrap-show.result.now) p named (rw c.unwrap-show.ensures at c.subcommand_matches-9.ensures.rows)).given (codes "FILE") refl refl
+    (λ e. let none : false ≡ true = c.in_default-subcommand_matches-7.ensures.found.1 e in cc)
+    (λ e. let none : false ≡ true = c.in_default-subcommand_matches-8.ensures.found.1 e in cc)
+    (λ e. let none : false ≡ true = c.in_default-subcommand_matches-9.ensures.found.1 e in cc) in
+    (is_sub words (codes "show") m (found_of c.unwrap-show.result.now) p named (rw c.unwrap-show.ensures at c.subcommand_matches-11.ensures.rows)).given (codes "FILE") refl refl
 
 pub returns-clause-asked : goal.returns-clause-asked
 returns-clause-asked c =
@@ -257,9 +317,11 @@ returns-clause-asked c =
     (λ e. let none : false ≡ true = c.in_default-subcommand_matches-4.ensures.found.1 e in cc)
     (λ e. let none : false ≡ true = c.in_default-subcommand_matches-5.ensures.found.1 e in cc)
     (λ e. let none : false ≡ true = c.in_default-subcommand_matches-6.ensures.found.1 e in cc)
-    (λ e. let none : false ≡ true = c.in_default-subcommand_matches-7.ensures.found.1 e in cc) in
-    let sub : IsSub words (codes "show") found = is_sub words (codes "show") m found p named (rw c.unwrap-show.ensures at c.subcommand_matches-9.ensures.rows) in
-    asks_to_show words found _ _ sub c.in_ok-value-9.ensures c.in_ok-value-10.ensures
+    (λ e. let none : false ≡ true = c.in_default-subcommand_matches-7.ensures.found.1 e in cc)
+    (λ e. let none : false ≡ true = c.in_default-subcommand_matches-8.ensures.found.1 e in cc)
+    (λ e. let none : false ≡ true = c.in_default-subcommand_matches-9.ensures.found.1 e in cc) in
+    let sub : IsSub words (codes "show") found = is_sub words (codes "show") m found p named (rw c.unwrap-show.ensures at c.subcommand_matches-11.ensures.rows) in
+    asks_to_show words found _ _ sub c.in_ok-value-12.ensures c.in_ok-value-13.ensures
 
 pub returns-clause-faults : goal.returns-clause-faults
 returns-clause-faults c =

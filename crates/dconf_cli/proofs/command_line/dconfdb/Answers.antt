@@ -29,5 +29,9 @@ returns c =
     let of_list_locks = c.in_ok-list_locks.ensures in
     let with_list_locks = c.in_ok-subcommand-8.ensures.shape (first_not _ _ (second _ _ (second _ _ (ap (λ (a : App). a.top.is_plain) of_list_locks)))) ∙ ap₂ with_subcommand with_list (ap (λ (a : App). a.top) of_list_locks) in
     let of_dump = c.in_ok-dump.ensures in
-    IfOk-weaker c.subcommand-9.result _ _ (λ r h. h.shape (first_not _ _ (second _ _ (second _ _ (ap (λ (a : App). a.top.is_plain) of_dump)))) ∙ ap₂ with_subcommand with_list_locks (ap (λ (a : App). a.top) of_dump))
-    c.subcommand-9.ensures
+    let with_dump = c.in_ok-subcommand-9.ensures.shape (first_not _ _ (second _ _ (second _ _ (ap (λ (a : App). a.top.is_plain) of_dump)))) ∙ ap₂ with_subcommand with_list_locks (ap (λ (a : App). a.top) of_dump) in
+    let of_write = c.in_ok-write.ensures in
+    let with_write = c.in_ok-subcommand-10.ensures.shape (first_not _ _ (second _ _ (second _ _ (ap (λ (a : App). a.top.is_plain) of_write)))) ∙ ap₂ with_subcommand with_dump (ap (λ (a : App). a.top) of_write) in
+    let of_reset = c.in_ok-reset.ensures in
+    IfOk-weaker c.subcommand-11.result _ _ (λ r h. h.shape (first_not _ _ (second _ _ (second _ _ (ap (λ (a : App). a.top.is_plain) of_reset)))) ∙ ap₂ with_subcommand with_write (ap (λ (a : App). a.top) of_reset))
+    c.subcommand-11.ensures

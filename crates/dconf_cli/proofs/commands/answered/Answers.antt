@@ -1,8 +1,8 @@
 use Rattle.std.proofs.Common.{map, option_map, string_bytes, subst, sym, vec_items}
 use Rattle.dconf_model.specs.Commands.{Command}
-use Rattle.dconf_model.specs.Commands.Command.{show, read, origin, check, compile, repair, list, list_locks, dump}
+use Rattle.dconf_model.specs.Commands.Command.{show, read, origin, check, compile, repair, list, list_locks, dump, write}
 use Rattle.dconf_model.specs.Outcomes.{IsOutcome}
-use Rattle.dconf_cli.specs.Commands.{command_of}
+use Rattle.dconf_cli.specs.Commands.{command_of, resetting}
 use Rattle.dconf_cli.specs.Readings.{Decides}
 use Rattle.dconf_cli.proofs.commands.answered.Goals as goal
 
@@ -41,6 +41,7 @@ returns-in-Repair g c = λ input.
     let D : Command → Type 0 = λ k. Decides g.F.Folder.past g.F.Folder.failed c.args.folder.now c.repair.new.folder 0 (λ reads. IsOutcome k reads input) c.repair.result in
     subst (λ k. D (command_of k)) (sym c.in-Repair.is) (subst (λ n. D (repair (string_bytes c.in-Repair.file) n)) c.as_str-in-Repair-2.ensures.value
     (subst (λ n. D (repair n c.as_str-in-Repair-2.result.now)) c.as_str-in-Repair.ensures.value (c.repair.ensures input)))
+
 pub returns-in-List : goal.returns-in-List
 returns-in-List g c = λ input.
     let D : Command → Type 0 = λ k. Decides g.F.Folder.past g.F.Folder.failed c.args.folder.now c.list.new.folder 0 (λ reads. IsOutcome k reads input) c.list.result in
@@ -58,3 +59,16 @@ returns-in-Dump g c = λ input.
     let D : Command → Type 0 = λ k. Decides g.F.Folder.past g.F.Folder.failed c.args.folder.now c.dump.new.folder 0 (λ reads. IsOutcome k reads input) c.dump.result in
     subst (λ k. D (command_of k)) (sym c.in-Dump.is) (subst (λ n. D (dump (string_bytes c.in-Dump.directory) n)) c.as_str-in-Dump-2.ensures.value
     (subst (λ t. D (dump t c.as_str-in-Dump-2.result.now)) c.as_str-in-Dump.ensures.value (c.dump.ensures input)))
+
+pub returns-in-Write : goal.returns-in-Write
+returns-in-Write g c = λ input.
+    let D : Command → Type 0 = λ k. Decides g.F.Folder.past g.F.Folder.failed c.args.folder.now c.write.new.folder 0 (λ reads. IsOutcome k reads input) c.write.result in
+    subst (λ k. D (command_of k)) (sym c.in-Write.is) (subst (λ n. D (write (string_bytes c.in-Write.key) (string_bytes c.in-Write.value) n)) c.as_str-in-Write-3.ensures.value
+    (subst (λ v. D (write (string_bytes c.in-Write.key) v c.as_str-in-Write-3.result.now)) c.as_str-in-Write-2.ensures.value
+    (subst (λ t. D (write t c.as_str-in-Write-2.result.now c.as_str-in-Write-3.result.now)) c.as_str-in-Write.ensures.value (c.write.ensures input))))
+
+pub returns-in-Reset : goal.returns-in-Reset
+returns-in-Reset g c = λ input.
+    let D : Command → Type 0 = λ k. Decides g.F.Folder.past g.F.Folder.failed c.args.folder.now c.reset.new.folder 0 (λ reads. IsOutcome k reads input) c.reset.result in
+    subst (λ k. D (command_of k)) (sym c.in-Reset.is) (subst (λ n. D (resetting c.in-Reset.force (string_bytes c.in-Reset.path) n)) c.as_str-in-Reset-2.ensures.value
+    (subst (λ t. D (resetting c.in-Reset.force t c.as_str-in-Reset-2.result.now)) c.as_str-in-Reset.ensures.value (c.reset.ensures input)))
