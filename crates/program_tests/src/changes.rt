@@ -230,6 +230,8 @@ fn wants_change(
         let mut folder = two_layers(alloc, "/x\n")?;
         folder.fail_at(k);
         wants(alloc, line, wanted, &mut folder)?;
+        // Of the ninth call there is none left to fail.
+        folder.fail_at(0);
         if folder.crash(outcome).is_err() {
             return Err(Fail::from("out of memory"));
         }

@@ -5,8 +5,8 @@ use Rattle.dconf_cli.specs.Changing.{IsLockedPath}
 use Rattle.dconf_cli.proofs.ChangeLaws.{refuses_change, set_locks}
 use Rattle.dconf_cli.proofs.commands.write.WriteTaskTask.answer.Goals as goal
 
-pub returns-in-Err : goal.returns-in-Err
-returns-in-Err c =
+pub returns : goal.returns
+returns c =
     let path = key_text c.args.self.now.key in
     let why = refusal_of c.in-Err.fault in
     refuses_change c.change_refused.result (path ∷ []) _ _ why c.in-Err.ensures.fault
