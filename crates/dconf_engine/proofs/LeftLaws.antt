@@ -216,3 +216,9 @@ set_turn d before after x a b t e h =
     one_turn (parts_below d (set_paths before)) (parts_below d (path_if_set x.0 x.1)) (parts_below d (set_paths after)) a b t
     (ap (λ (es : Entries). parts_below d (set_paths es)) e
     ∙ (ap (parts_below d) (flat_map-cons (λ (c : List ℕ × Option (List ℕ)). path_if_set c.0 c.1) x after) ∙ parts_append d (path_if_set x.0 x.1) (set_paths after))) h
+
+-- a change that resets a path below the directory is found among all
+pub reset_found : (d : List ℕ) (before after all : Entries) (x : List ℕ × Option (List ℕ)) → before ≡ x ∷ after → is_reset_below d x.0 x.1 ≡ true →
+    list_any (λ c. is_reset_below d c.0 c.1) before ≡ list_any (λ c. is_reset_below d c.0 c.1) all → true ≡ list_any (λ c. is_reset_below d c.0 c.1) all
+reset_found d before after all x e is same =
+    sym (ap (λ b. b || list_any (λ c. is_reset_below d c.0 c.1) after) is) ∙ (sym (ap (λ (es : Entries). list_any (λ c. is_reset_below d c.0 c.1) es) e) ∙ same)
