@@ -6,7 +6,7 @@ use Rattle.std.specs.Str.{is_utf8}
 use Rattle.std.proofs.lemmas.Bool.{ltb-false}
 use Rattle.std.proofs.lemmas.List.{length-take, length-drop}
 use Rattle.dconf_model.specs.Causes.SettingsCause.{bad_line, bad_key_name, too_big, not_utf8}
-use Rattle.dconf_model.specs.Lines.{LineReading, LineFault, put_first, read_after, lines_of, without_empty_end, fault_at_line, bad_line as bad_line_of, longest_text, is_space, is_line_blank, without_start, without_end}
+use Rattle.dconf_model.specs.Lines.{LineReading, LineFault, put_first, read_after, lines_of, without_empty_end, unless_fault, bad_line as bad_line_of, longest_text, is_space, is_line_blank, without_start, without_end}
 use Rattle.dconf_model.specs.Lines.LineReading.{nothing, found, wrong}
 use Rattle.dconf_model.specs.Paths.{has_zero_byte}
 use Rattle.dconf_model.specs.Keyfiles.{Row, LineKind, is_group, is_key, is_equals, ends_in, group_in, group_named, last_group, line_kind, line_read, or_bad_group, entry_in, row_of, rows_of, without_blanks}
@@ -148,7 +148,8 @@ file_good : (bytes : List ℕ) → RowsIfOk (rows_of bytes)
 file_good bytes = go (nat_lt longest_text (length bytes)) refl (not (is_utf8 bytes))
   where
     go : (b : Bool) → nat_lt longest_text (length bytes) ≡ b → (c : Bool) →
-        RowsIfOk (cond b (fault_at_line 0 too_big) (cond c (fault_at_line (bad_line_of bytes) not_utf8) (read_after read_one [] (lines_of bytes))))
+        RowsIfOk (unless_fault (cond b (Some (record { line = 0; cause = too_big })) (cond c (Some (record { line = bad_line_of bytes; cause = not_utf8 })) None))
+        (read_after read_one [] (lines_of bytes)))
     go true e c = tt
     go false e true = tt
     go false e false = lines_good [] (lines_of bytes) (longer (length bytes) longest_text (lines_of bytes) (ltb-false longest_text (length bytes) e) (lines_short bytes))

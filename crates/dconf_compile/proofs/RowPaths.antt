@@ -5,7 +5,7 @@ use Rattle.std.specs.List.{list_any, ends_with, starts_with}
 use Rattle.std.specs.Str.{bytes_eq}
 use Rattle.std.proofs.lemmas.Bool.{and_parts, not-true, or_parts, ltb-true, eqb-true}
 use Rattle.dconf_model.specs.Paths.{has_two_slashes, has_zero_byte, starts_with_slash, ends_with_slash, is_short, is_key_path}
-use Rattle.dconf_model.specs.Keyfiles.{Row, has_slash_end, is_control, is_group, is_key, is_plain, path_of}
+use Rattle.dconf_model.specs.Keyfiles.{Row, has_slash_end, is_group, is_key, is_plain, path_of}
 use Rattle.dconf_model.proofs.KeyNames.{has, in_neither, after_slash, plain_single, starts_on, open_end}
 use Rattle.dconf_model.proofs.KeyfileLines.{is_special}
 use Rattle.dconf_model.proofs.Trimmed.{no_such_byte}

@@ -20,7 +20,7 @@ use Rattle.gv_build.specs.declared.fault.BuildFault.TheVariants as builds
 use Rattle.dconf_model.specs.Bytes.{longest_file}
 use Rattle.dconf_model.specs.Causes.{SettingsCause}
 use Rattle.dconf_model.specs.Causes.SettingsCause.{text_fault, value_fault, too_large}
-use Rattle.dconf_model.specs.Values.{IsMeaning, value_of_text, stored, if_storable}
+use Rattle.dconf_model.specs.Values.{value_of_text, stored, if_storable}
 use Rattle.dconf_model.proofs.ValueLaws.{computed}
 use Rattle.dconf_compile.specs.Added.{text_compiled}
 use Rattle.dconf_compile.specs.CompileFaults.{build_cause, cause_of, read_cause_of}
