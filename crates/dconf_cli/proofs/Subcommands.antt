@@ -5,7 +5,7 @@ use Rattle.std.specs.List.{list_any}
 use Rattle.std.specs.Option.{option_map_or}
 use Rattle.std.specs.Str.{bytes_eq}
 use Rattle.std.proofs.lemmas.Slice.Eq.{bytes_eq-Decides}
-use Rattle.clap.specs.Kinds.{Kinds, check_kinds}
+use Rattle.clap.specs.Kinds.{HasKind, Kinds, check_kinds}
 use Rattle.clap.specs.Simple.{App, Shape, argument_words, built, entered, label_of, names_of, rows_at}
 use Rattle.clap.specs.Walk.{Names, Row, Rule, Text, answers_to, has_long, has_short, nothing_held, rows_after, stop_after, walk_from}
 use Rattle.clap.specs.Takes.{is_given}
@@ -14,6 +14,7 @@ use Rattle.clap.specs.Words.{HasMatchesOf, first_of, first_value, is_simple, mat
 use Rattle.clap.specs.declared.parser.matches.ArgMatches.TheViews.{out-ArgMatches, out-SubCommand}
 use Rattle.std.specs.Box.{box_value}
 use Rattle.clap.specs.declared.ArgMatches.{ArgMatches}
+use Rattle.clap.specs.declared.error.Error.{Error}
 use Rattle.clap.specs.declared.parser.matches.Found.{Found}
 use Rattle.clap.proofs.WalkLemmas.{first_value-rows, raw_values-rows}
 use Rattle.dconf_cli.specs.Asked.{AsksToCheck, AsksForOrigin, AsksToCompile, AsksToRead, AsksToRepair, AsksToShow, is_set, profile_file, AsksOfDirectory, AsksToReset, AsksToWrite}
@@ -264,6 +265,10 @@ parsed a words m e kinds matches = record {
   sound = subst (λ (x : App). fault_of x words ≡ []) e (kinds (ap is_simple_and_free e ∙ free_line));
   met = (matches (ap is_simple e ∙ simple_line)).1 ∙ ap (λ (x : App). subcommand_of x words) e;
 }
+
+-- clap refuses the words for a fault of ours
+pub refused_by : (a : App) (words : List Text) (e : Error) → a ≡ command_line → (is_simple_and_free a ≡ true → HasKind (fault_of a words) e) → HasKind (fault_of command_line words) e
+refused_by a words e same kinds = subst (λ (x : App). HasKind (fault_of x words) e) same (kinds (ap is_simple_and_free same ∙ free_line))
 
 name_by_rows : (m : ArgMatches) → subcommand_name_of m ≡ option_map (λ p. p.0) (subcommand_rows_of m)
 name_by_rows m = elim (out-ArgMatches m).subcommand as (λ o. option_map (λ b. (out-SubCommand (box_value b)).name.now) o ≡ option_map (λ p. p.0) (subcommand_rows o)) [

@@ -1,6 +1,8 @@
-use Rattle.std.proofs.Common.{◌≡◌, codes, false, map, refl, string_bytes, true}
-use Rattle.clap.specs.Words.{found_of}
-use Rattle.dconf_cli.proofs.Subcommands.{IsParsedBy, IsSub, asks_for_origin, asks_of_directory, asks_to_check, asks_to_compile, asks_to_read, asks_to_repair, asks_to_reset, asks_to_show, asks_to_write, is_sub, named_show, parsed}
+use Rattle.std.proofs.Common.{◌≡◌, codes, false, map, refl, string_bytes, subst, sym, true}
+use Rattle.std.proofs.lemmas.Result.{err_from_is_err_and}
+use Rattle.clap.specs.Words.{FailsBy, HasKind, fault_of, found_of}
+use Rattle.dconf_cli.specs.CommandLine.{command_line}
+use Rattle.dconf_cli.proofs.Subcommands.{IsParsedBy, IsSub, asks_for_origin, asks_of_directory, asks_to_check, asks_to_compile, asks_to_read, asks_to_repair, asks_to_reset, asks_to_show, asks_to_write, is_sub, named_show, parsed, refused_by}
 use Rattle.dconf_cli.proofs.command_line.command.Goals as goal
 
 pub value-requires : goal.value-requires
@@ -328,3 +330,11 @@ returns-clause-faults c =
     let words = map string_bytes c.args.words.now in
     let m = c.in_ok-matches.matches in
     (parsed _ words m c.in_ok-dconfdb.ensures c.in_ok-matches.ensures.kinds c.in_ok-matches.ensures.matches).sound
+
+pub returns-in_err-matches-clause-faults : goal.returns-in_err-matches-clause-faults
+returns-in_err-matches-clause-faults c =
+    let words = map string_bytes c.args.words.now in
+    let p = err_from_is_err_and c.from_residual-in_err-matches.result c.from_residual-in_err-matches.ensures.1 in
+    let kind : HasKind (fault_of command_line words) p.0 = subst (HasKind (fault_of command_line words)) (sym p.2)
+    (refused_by _ words c.in_err-matches.field-0.0 c.in_ok-dconfdb.ensures c.in_err-matches.ensures.kinds) in
+    subst (FailsBy (fault_of command_line words)) (sym p.1) kind

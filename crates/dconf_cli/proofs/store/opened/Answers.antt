@@ -2,4 +2,4 @@ use Rattle.dconf_model.proofs.LayerPaths.{layers_have_key_paths}
 use Rattle.dconf_cli.proofs.store.opened.Goals as goal
 
 pub answer-requires : goal.answer-requires
-answer-requires g c = layers_have_key_paths _ _ c.in-Ok.ensures.layers
+answer-requires g c = layers_have_key_paths _ _ c.in-Ok-open.ensures.layers
