@@ -5,7 +5,7 @@ use Rattle.std.specs.Prelude.{IfSome, nat_lt, if◌then◌else◌}
 use Rattle.gv_model.specs.Tree.{Tree}
 use Rattle.dconf_model.specs.Causes.{SettingsCause}
 use Rattle.dconf_model.specs.Causes.SettingsCause.{too_big}
-use Rattle.dconf_model.specs.Changes.{Refusal, all_storable, apply, first_locked, saved, set_all, unless_locked}
+use Rattle.dconf_model.specs.Changes.{Refusal, all_storable, apply, saved, set_all, unless_locked}
 use Rattle.dconf_model.specs.Changes.Change.{reset_value, set_value}
 use Rattle.dconf_model.specs.Changes.Refusal.{locked, not_writable, too_large}
 use Rattle.dconf_model.specs.Layers.{Layers, is_locked}

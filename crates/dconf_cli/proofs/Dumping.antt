@@ -1,6 +1,6 @@
 -- The settings of a dump, put together one by one.
 use Rattle.std.specs.Prelude.{Contains, IsTrue, String, nat_eq, option_map, slice_get, unwrap_or}
-use Rattle.std.proofs.Common.{◌≡◌, ◌<◌, ◌+◌, ℕ, Bool, true, false, List, [], ◌∷◌, ◌++◌, drop, length, map, get_or, string_bytes, Option, Some, None, Result, Ok, Err, refl, sym, ap, ◌∙◌, subst, append_assoc, append-nil}
+use Rattle.std.proofs.Common.{◌≡◌, ◌+◌, ℕ, true, false, List, [], ◌∷◌, ◌++◌, drop, map, string_bytes, Option, Some, None, Result, Ok, Err, refl, sym, ap, ◌∙◌, subst, append_assoc, append-nil}
 use Rattle.std.specs.Global.{Global}
 use Rattle.std.specs.List.{All, filter, starts_with}
 use Rattle.std.proofs.lemmas.Option.{slice_get-map}
@@ -8,7 +8,7 @@ use Rattle.std.proofs.lemmas.List.Elements.{All-nil, All-cons, All-head, All-tai
 use Rattle.gv_model.specs.Tree.{Tree}
 use Rattle.gv_model.specs.Printed.{printed, is_too_large, holds_double}
 use Rattle.dconf_model.specs.Keyfiles.{Setting}
-use Rattle.dconf_model.specs.Layers.{Layers, all_paths, visible}
+use Rattle.dconf_model.specs.Layers.{Layers, visible}
 use Rattle.dconf_model.specs.Locks.{is_below}
 use Rattle.dconf_model.specs.Outcomes.{dump_of, path_at, print_fault, setting_paths, settings_at, with_setting, with_value_if_any}
 use Rattle.dconf_model.specs.Paths.{is_key_path}

@@ -1,6 +1,6 @@
 -- A walk over directories with a list of places that wait, the next at its end.
 use Rattle.std.specs.Prelude.{String, flat_map}
-use Rattle.std.proofs.Common.{◌≡◌, ◌<◌, ◌+◌, ℕ, Bool, true, false, List, [], ◌∷◌, ◌++◌, cond, length, map, reverse, string_bytes, refl, sym, ap, ◌∙◌, subst, arith, append_assoc, append-nil}
+use Rattle.std.proofs.Common.{◌≡◌, ◌<◌, ◌+◌, ℕ, true, false, List, [], ◌∷◌, ◌++◌, cond, map, reverse, string_bytes, sym, ap, ◌∙◌, arith, append_assoc, append-nil}
 use Rattle.std.specs.Global.{Global}
 use Rattle.std.specs.List.{sum_by}
 use Rattle.std.proofs.lemmas.Grind.{flat_map-append}
@@ -9,7 +9,7 @@ use Rattle.std.proofs.lemmas.List.Concat.{flat_map-cons}
 use Rattle.std.proofs.lemmas.List.Sorted.{IsPermutation-reverse, sum_by-IsPermutation}
 use Rattle.std.proofs.lemmas.List.Sums.{sum_by-append, sum_by_push}
 use Rattle.dconf_model.specs.Paths.{is_directory_path}
-use Rattle.dconf_model.specs.Walks.{AreKeyPaths, keys_at, keys_below, names_in, places_in, work_at}
+use Rattle.dconf_model.specs.Walks.{AreKeyPaths, keys_at, keys_below, places_in, work_at}
 use Rattle.dconf_model.proofs.WalkedKeys.{walk_finds_each_key, walk_ends}
 
 abbrev pub Strings : Type 0

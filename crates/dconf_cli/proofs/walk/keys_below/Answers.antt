@@ -1,4 +1,4 @@
-use Rattle.std.proofs.Common.{arith, string_bytes}
+use Rattle.std.proofs.Common.{arith}
 use Rattle.dconf_model.specs.Layers.{all_paths}
 use Rattle.dconf_model.specs.Walks.{keys_below}
 use Rattle.dconf_path.specs.Paths.{directory_text}

@@ -1,4 +1,4 @@
-use Rattle.std.proofs.Common.{◌≡◌, ◌∙◌, ℕ, List, ap, map, string_bytes, sym, subst}
+use Rattle.std.proofs.Common.{◌∙◌, ℕ, List, ap, map, string_bytes, sym, subst}
 use Rattle.std.specs.Prelude.{IsTrue, String}
 use Rattle.std.specs.Global.{Global}
 use Rattle.std.proofs.lemmas.List.{drop_all}

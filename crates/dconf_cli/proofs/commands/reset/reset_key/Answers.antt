@@ -1,4 +1,4 @@
-use Rattle.std.proofs.Common.{◌≡◌, ◌∷◌, [], refl, subst}
+use Rattle.std.proofs.Common.{◌∷◌, [], refl, subst}
 use Rattle.dconf_model.specs.Changes.{apply}
 use Rattle.dconf_model.specs.Changes.Change.{reset_value}
 use Rattle.dconf_model.specs.Outcomes.{Saves, UnlessFault, WithStore}

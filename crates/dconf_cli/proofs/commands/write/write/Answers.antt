@@ -1,4 +1,4 @@
-use Rattle.std.proofs.Common.{◌≡◌, ◌∷◌, ℕ, List, [], Ok, Result, refl, subst, sym}
+use Rattle.std.proofs.Common.{◌∷◌, ℕ, List, [], Result, refl, subst, sym}
 use Rattle.gv_model.specs.Tree.{Tree}
 use Rattle.dconf_model.specs.Causes.{SettingsCause}
 use Rattle.dconf_model.specs.Changes.Change.{set_value}
