@@ -1,6 +1,8 @@
 pub mod Faults
 pub mod Opened
 pub mod Tables
+pub mod Kinds
+pub mod ItemRecords
 pub mod NamesLeft
 pub mod Lookups
 pub mod Unsounds

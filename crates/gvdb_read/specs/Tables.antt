@@ -4,7 +4,7 @@ use Rattle.std.specs.Borrow.{Bor}
 use Rattle.dconf_model.specs.Table.{Item, item, item_count, key, HasBytes, IsValidPointer, alignment_of, bytes_of, table_kind, table_of, Opens}
 use Rattle.dconf_model.specs.Table.{Table as Region}
 use Rattle.gvdb_read.specs.declared.table.Table.{Table}
-use Rattle.gvdb_read.specs.declared.item.Stored.{Stored}
+use Rattle.gvdb_read.specs.declared.format.record.ItemRecord.{ItemRecord}
 use Rattle.gvdb_read.specs.declared.item.Item.{Item as Shown}
 
 -- where in its file the table lies
@@ -12,12 +12,12 @@ abbrev pub region : Table → Region
 region t = record { file = t.file.now; start = t.start; end = t.end }
 
 -- an item as it is stored
-abbrev pub item_of : Stored → Item
+abbrev pub item_of : ItemRecord → Item
 item_of s = record {
   hash = s.hash;
   parent = s.parent;
   key_start = s.key_start;
-  key_end = s.key_start + s.key_len;
+  key_end = s.key_start + s.key_size;
   kind = s.kind;
   start = s.start;
   end = s.end;

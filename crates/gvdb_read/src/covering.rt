@@ -5,8 +5,8 @@ ghost use Rattle.dconf_model.specs.Locks.{covers};
 ghost use Rattle.dconf_model.specs.Table.{value_kind};
 ghost use Rattle.gvdb_read.specs.Lookups.{IsFound};
 
-use crate::hashing::{HASH_OF_NOTHING, hash_with};
-use crate::table::{Table, VALUE};
+use crate::format::{HASH_OF_NOTHING, Kind, hash_with};
+use crate::table::Table;
 use gv_types::Steps;
 
 impl Table<'_> {
@@ -45,8 +45,8 @@ impl Table<'_> {
         ensures { IsTrue result ↔ IsFound (region self.entry) name.now value_kind }
     {
         let mut steps = Steps::new();
-        match self.find_hashed(hash, name, VALUE, &mut steps) {
-            Some(i) => self.pointed(self.stored(i)).is_some(),
+        match self.find_hashed(hash, name, Kind::Value, &mut steps) {
+            Some(i) => self.pointed_at(i, Kind::Value).is_some(),
             None => false,
         }
     }

@@ -2,12 +2,12 @@
 ghost use Rattle.std.specs.Prelude.{◌≡◌, ◌+◌, ◌*◌, ◌<◌, ◌≤◌, ◌^◌, ◌↔◌, IfNone, IfSome, IsTrue, None, length};
 ghost use Rattle.dconf_model.specs.Bytes.{hash_of};
 ghost use Rattle.dconf_model.specs.Table.{Table as Region, list_kind, value_kind};
-ghost use Rattle.dconf_model.specs.Search.{Finds, span_size};
+ghost use Rattle.dconf_model.specs.Search.{Finds, PassesBloom, span_size};
 ghost use Rattle.gvdb_read.specs.Lookups.{IsFound, IsListOf, IsTableAt, IsValueOf, IsViewOf};
 
+use crate::format::{Kind, NUMBER_LEN};
 use crate::names::Names;
-use crate::number::NUMBER_LEN;
-use crate::table::{LIST, TABLE, Table, VALUE};
+use crate::table::Table;
 use gv_types::Steps;
 use gv_view::View;
 
@@ -37,13 +37,16 @@ impl<'a> Table<'a> {
     }
 
     /// As `find`. Each item that is looked at along a chain of parents is a step: at most as many for each item of the
-    /// bucket as the name has bytes, and one.
+    /// bucket as the name has bytes, and one. Where the bloom words rule the name out there is none.
     pub fn find_counted(self, name: &str, steps: &mut Steps) -> Option<View<'a>>
-        requires { steps.old + span_size (region self) (hash_of name.now) * (length name.now + 1) < 2 ^ 128 }
+        requires { PassesBloom (region self) (hash_of name.now)
+            → steps.old + span_size (region self) (hash_of name.now) * (length name.now + 1) < 2 ^ 128 }
         ensures found { IfSome result (IsViewOf (region self.entry) name.now) }
         ensures none { IfNone result (Finds (region self.entry) name.now value_kind None) }
         ensures cost { steps.new ≤ steps.old
             + span_size (region self.entry) (hash_of name.now) * (length name.now + 1) }
+        ensures grows { steps.old ≤ steps.new }
+        ensures spared { ¬ PassesBloom (region self.entry) (hash_of name.now) → steps.new ≡ steps.old }
     {
         let bytes = self.bytes_counted(name, steps)?;
         Some(View::of_variant(bytes))
@@ -62,7 +65,7 @@ impl<'a> Table<'a> {
         ensures none { IfNone result (Finds (region self.entry) name.now list_kind None) }
     {
         let mut steps = Steps::new();
-        let i = self.find_item(name.as_bytes(), LIST, &mut steps)?;
+        let i = self.find_item(name.as_bytes(), Kind::List, &mut steps)?;
         let stored = self.stored(i);
         let numbers = self.pointed(stored)?;
         Some(Names {
@@ -78,19 +81,22 @@ impl<'a> Table<'a> {
         ensures none { IfNone result ((t : Region) → ¬ IsTableAt (region self.entry) name.now t) }
     {
         let mut steps = Steps::new();
-        let i = self.find_item(name.as_bytes(), TABLE, &mut steps)?;
+        let i = self.find_item(name.as_bytes(), Kind::Table, &mut steps)?;
         self.table_at(i)
     }
 
     /// The bytes of the value of this name.
     fn bytes_counted(self, name: &str, steps: &mut Steps) -> Option<&'a [u8]>
-        requires { steps.old + span_size (region self) (hash_of name.now) * (length name.now + 1) < 2 ^ 128 }
+        requires { PassesBloom (region self) (hash_of name.now)
+            → steps.old + span_size (region self) (hash_of name.now) * (length name.now + 1) < 2 ^ 128 }
         ensures found { IfSome result (λ bytes. IsValueOf (region self.entry) name.now bytes.now) }
         ensures none { IfNone result (Finds (region self.entry) name.now value_kind None) }
         ensures cost { steps.new ≤ steps.old
             + span_size (region self.entry) (hash_of name.now) * (length name.now + 1) }
+        ensures grows { steps.old ≤ steps.new }
+        ensures spared { ¬ PassesBloom (region self.entry) (hash_of name.now) → steps.new ≡ steps.old }
     {
-        let i = self.find_item(name.as_bytes(), VALUE, steps)?;
-        self.pointed(self.stored(i))
+        let i = self.find_item(name.as_bytes(), Kind::Value, steps)?;
+        self.pointed_at(i, Kind::Value)
     }
 }

@@ -21,12 +21,12 @@ impl<'a> Table<'a> {
         let mut at = i;
         let mut left = longest;
         loop {
-            let (stored, key) = self.named_item(at)?;
-            left = left.checked_sub(key.len())?;
-            let Some(parent) = stored.parent else {
+            let link = self.link_at(at)?;
+            left = left.checked_sub(link.key.len())?;
+            let Some(parent) = link.parent else {
                 return Some(longest - left);
             };
-            if key.is_empty() {
+            if link.key.is_empty() {
                 return None;
             }
             at = parent;
@@ -46,17 +46,17 @@ impl<'a> Table<'a> {
         let mut at = i;
         let mut end = room.len();
         loop {
-            let Some((stored, key)) = self.named_item(at) else {
+            let Some(link) = self.link_at(at) else {
                 return false;
             };
-            let Some(start) = end.checked_sub(key.len()) else {
+            let Some(start) = end.checked_sub(link.key.len()) else {
                 return false;
             };
-            room[start..end].copy_from_slice(key);
-            let Some(parent) = stored.parent else {
+            room[start..end].copy_from_slice(link.key);
+            let Some(parent) = link.parent else {
                 return start == 0;
             };
-            if key.is_empty() {
+            if link.key.is_empty() {
                 return false;
             }
             (at, end) = (parent, start);

@@ -9,19 +9,19 @@
 mod checking;
 mod covering;
 mod fault;
+mod fields;
 mod find;
+pub mod format;
 mod full_name;
-mod hashing;
 mod item;
 mod names;
-mod number;
 mod search;
 mod table;
 mod unsound;
 
 pub use checking::MAX_NAME_LEN;
 pub use fault::OpenFault;
-pub use hashing::{hash, hash_with};
+pub use format::{hash, hash_with};
 pub use item::Item;
 pub use names::Names;
 pub use table::Table;

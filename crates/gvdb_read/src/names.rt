@@ -2,7 +2,7 @@
 ghost use Rattle.std.specs.Prelude.{◌≡◌, ◌+◌, ◌*◌, ◌≤◌, [], ◌∷◌, MatchOption, length};
 ghost use Rattle.dconf_model.specs.Listed.{listed_keys};
 
-use crate::number::{NUMBER_LEN, read_u32};
+use crate::format::{NUMBER_LEN, read_u32};
 use crate::table::Table;
 use std::iter::FusedIterator;
 
@@ -51,11 +51,11 @@ impl<'a> Table<'a> {
         let mut at = at;
         let mut left = left;
         while left > 0 {
-            let found = self.named_item(read_u32(self.file, at));
+            let found = self.link_at(read_u32(self.file, at));
             at += NUMBER_LEN;
             left -= 1;
-            if let Some((_, key)) = found {
-                return (Some(key), at, left);
+            if let Some(link) = found {
+                return (Some(link.key), at, left);
             }
         }
         (None, at, 0)

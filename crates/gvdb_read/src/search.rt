@@ -2,30 +2,29 @@
 //! the bucket's span names are compared from their ends, along the parents.
 ghost use Rattle.std.specs.Prelude.{◌≡◌, ◌+◌, ◌*◌, ◌<◌, ◌≤◌, ◌^◌, ◌↔◌, ℕ, IfNone, IfSome, IsTrue, length};
 ghost use Rattle.dconf_model.specs.Bytes.{hash_of};
-ghost use Rattle.dconf_model.specs.Table.{bucket, bucket_count, item, key};
-ghost use Rattle.dconf_model.specs.Names.{HasName, IsItem};
+ghost use Rattle.dconf_model.specs.Table.{bucket, bucket_count, item_count};
+ghost use Rattle.dconf_model.specs.Names.{HasName};
 ghost use Rattle.dconf_model.specs.Search.{Fits, IsLeast, IsWanted, PassesBloom, span_end, span_size, span_start};
+ghost use Rattle.gvdb_read.specs.Kinds.{letter_of};
 
-use crate::hashing::hash;
-use crate::item::Stored;
-use crate::number::read_u32;
+use crate::format::{Kind, WORD_LEN, hash, read_u32};
 use crate::table::Table;
 use gv_types::Steps;
 
-/// How many bytes a bloom word has, and a bucket.
-const WORD_LEN: usize = 4;
-
 impl<'a> Table<'a> {
-    ghost use Rattle.gvdb_read.specs.Tables.{item_of, region};
+    ghost use Rattle.gvdb_read.specs.Tables.{region};
 
     /// The least item of the span with this hash, name and kind, whatever it points to. Each item that is looked at
     /// along a chain of parents is a step.
-    pub(crate) fn find_item(self, name: &[u8], kind: u8, steps: &mut Steps) -> Option<u32>
-        requires { steps.old + span_size (region self) (hash_of name.now) * (length name.now + 1) < 2 ^ 128 }
-        ensures found { IfSome result (IsLeast (region self.entry) name.now kind) }
-        ensures none { IfNone result ((i : ℕ) → ¬ Fits (region self.entry) name.now kind i) }
+    pub(crate) fn find_item(self, name: &[u8], kind: Kind, steps: &mut Steps) -> Option<u32>
+        requires { PassesBloom (region self) (hash_of name.now)
+            → steps.old + span_size (region self) (hash_of name.now) * (length name.now + 1) < 2 ^ 128 }
+        ensures found { IfSome result (IsLeast (region self.entry) name.now (letter_of kind)) }
+        ensures none { IfNone result ((i : ℕ) → ¬ Fits (region self.entry) name.now (letter_of kind) i) }
         ensures cost { steps.new ≤ steps.old
             + span_size (region self.entry) (hash_of name.now) * (length name.now + 1) }
+        ensures grows { steps.old ≤ steps.new }
+        ensures spared { ¬ PassesBloom (region self.entry) (hash_of name.now) → steps.new ≡ steps.old }
     {
         self.find_hashed(hash(name), name, kind, steps)
     }
@@ -35,19 +34,36 @@ impl<'a> Table<'a> {
         self,
         hash: u32,
         name: &[u8],
-        kind: u8,
+        kind: Kind,
         steps: &mut Steps,
     ) -> Option<u32>
         requires hash_is { hash ≡ hash_of name.now }
-        requires room { steps.old + span_size (region self) (hash_of name.now) * (length name.now + 1) < 2 ^ 128 }
-        ensures found { IfSome result (IsLeast (region self.entry) name.now kind) }
-        ensures none { IfNone result ((i : ℕ) → ¬ Fits (region self.entry) name.now kind i) }
+        requires room { PassesBloom (region self) (hash_of name.now)
+            → steps.old + span_size (region self) (hash_of name.now) * (length name.now + 1) < 2 ^ 128 }
+        ensures found { IfSome result (IsLeast (region self.entry) name.now (letter_of kind)) }
+        ensures none { IfNone result ((i : ℕ) → ¬ Fits (region self.entry) name.now (letter_of kind) i) }
         ensures cost { steps.new ≤ steps.old
             + span_size (region self.entry) (hash_of name.now) * (length name.now + 1) }
+        ensures grows { steps.old ≤ steps.new }
+        ensures spared { ¬ PassesBloom (region self.entry) (hash_of name.now) → steps.new ≡ steps.old }
     {
         if !self.passes_bloom(hash) {
             return None;
         }
+        self.find_in_span(hash, name, kind, steps)
+    }
+
+    /// As `find_hashed`, where the bloom words don't rule the hash out.
+    fn find_in_span(self, hash: u32, name: &[u8], kind: Kind, steps: &mut Steps) -> Option<u32>
+        requires hash_is { hash ≡ hash_of name.now }
+        requires passes { PassesBloom (region self) (hash_of name.now) }
+        requires room { steps.old + span_size (region self) (hash_of name.now) * (length name.now + 1) < 2 ^ 128 }
+        ensures found { IfSome result (IsLeast (region self.entry) name.now (letter_of kind)) }
+        ensures none { IfNone result ((i : ℕ) → ¬ Fits (region self.entry) name.now (letter_of kind) i) }
+        ensures cost { steps.new ≤ steps.old
+            + span_size (region self.entry) (hash_of name.now) * (length name.now + 1) }
+        ensures grows { steps.old ≤ steps.new }
+    {
         let (first, end) = self.span(hash);
         for i in first..end {
             if self.is_wanted(i, hash, name, kind, steps) {
@@ -74,6 +90,7 @@ impl<'a> Table<'a> {
     pub(crate) fn span(self, hash: u32) -> (u32, u32)
         ensures first { result.0 ≡ span_start (region self.entry) hash }
         ensures end { result.1 ≡ span_end (region self.entry) hash }
+        ensures within { result.1 ≤ item_count (region self.entry) }
     {
         if self.buckets == 0 {
             return (0, 0);
@@ -98,19 +115,15 @@ impl<'a> Table<'a> {
         read_u32(self.file, buckets + WORD_LEN * k as usize)
     }
 
-    /// Whether item `i` has this hash, name and kind.
-    fn is_wanted(self, i: u32, hash: u32, name: &[u8], kind: u8, steps: &mut Steps) -> bool
-        requires { steps.old + length name.now + 1 < 2 ^ 128 }
-        ensures wanted { IsTrue result ↔ IsWanted (region self.entry) hash name.now kind i }
+    /// Whether item `i` has this hash, name and kind. Where the hash is another it looks at nothing else.
+    fn is_wanted(self, i: u32, hash: u32, name: &[u8], kind: Kind, steps: &mut Steps) -> bool
+        requires counted { i < item_count (region self) }
+        requires room { steps.old + length name.now + 1 < 2 ^ 128 }
+        ensures wanted { IsTrue result ↔ IsWanted (region self.entry) hash name.now (letter_of kind) i }
         ensures cost { steps.new ≤ steps.old + length name.now + 1 }
+        ensures grows { steps.old ≤ steps.new }
     {
-        let Some((stored, _)) = self.named_item(i) else {
-            return false;
-        };
-        if stored.hash != hash || stored.kind != kind {
-            return false;
-        }
-        self.is_named(i, name, steps)
+        self.hash_at(i) == hash && self.has_kind(i, kind) && self.is_named(i, name, steps)
     }
 
     /// Whether item `i` has this full name. It is compared from its end, key by key up the parents; each item with a
@@ -119,39 +132,26 @@ impl<'a> Table<'a> {
         requires { steps.old + length name.now + 1 < 2 ^ 128 }
         ensures named { IsTrue result ↔ HasName (region self.entry) i name.now }
         ensures cost { steps.new ≤ steps.old + length name.now + 1 }
+        ensures grows { steps.old ≤ steps.new }
     {
         let mut at = i;
         let mut rest = name;
         loop {
             steps.tick();
-            let Some((stored, key)) = self.named_item(at) else {
+            let Some(link) = self.link_at(at) else {
                 return false;
             };
-            let Some(prefix) = rest.strip_suffix(key) else {
+            let Some(prefix) = rest.strip_suffix(link.key) else {
                 return false;
             };
-            let Some(parent) = stored.parent else {
+            let Some(parent) = link.parent else {
                 return prefix.is_empty();
             };
-            if key.is_empty() {
+            if link.key.is_empty() {
                 return false;
             }
             at = parent;
             rest = prefix;
         }
-    }
-
-    /// Item `i` and its key. None where there is no such item, and where its key doesn't lie in the file.
-    pub(crate) fn named_item(self, i: u32) -> Option<(Stored, &'a [u8])>
-        ensures some { IfSome result (λ found. IsItem (region self.entry) i
-            × (item_of found.0 ≡ item (region self.entry) i) × (found.1.now ≡ key (region self.entry) i)) }
-        ensures none { IfNone result (¬ IsItem (region self.entry) i) }
-    {
-        if i >= self.n_items() {
-            return None;
-        }
-        let stored = self.stored(i);
-        let key = self.key_of(stored)?;
-        Some((stored, key))
     }
 }

@@ -1,31 +1,14 @@
 //! A table of a file: where it opens, and its items.
-ghost use Rattle.std.specs.Prelude.{◌≡◌, ◌+◌, ◌<◌, ◌≤◌, ◌^◌, ◌↔◌, length};
+ghost use Rattle.std.specs.Prelude.{◌≡◌, ◌+◌, ◌<◌, ◌≤◌, ◌^◌, ◌↔◌, length, slice_range};
 ghost use Rattle.std.specs.Prelude.{IsOk, IsSome, IsTrue, IfErr, IfNone, IfOk, IfSome};
-ghost use Rattle.dconf_model.specs.Table.{HasHead, HasItems, item, item_count, table_of};
+ghost use Rattle.dconf_model.specs.Table.{HasHead, HasItems, IsValidPointer, alignment_of, item, item_count, table_of};
 ghost use Rattle.dconf_model.specs.Opening.{IsDatabase, IsOpenFault, root_of};
 ghost use Rattle.gvdb_read.specs.Faults.{open_fault_of};
 ghost use Rattle.gvdb_read.specs.Opened.{IsOpened};
 
 use crate::fault::OpenFault;
-use crate::item::{Item, Stored};
-use crate::number::read_u32;
-
-/// How many bytes a file's header has, a table's head, and an item.
-const HEADER_LEN: usize = 24;
-
-const HEAD_LEN: usize = 8;
-
-const ITEM_LEN: usize = 24;
-
-/// What a database begins with.
-const SIGNATURE: &[u8] = b"GVariant";
-
-/// The kinds of items: a value, a list of items, a table.
-pub(crate) const VALUE: u8 = b'v';
-
-pub(crate) const LIST: u8 = b'L';
-
-pub(crate) const TABLE: u8 = b'H';
+use crate::format::{HEAD_LEN, HEADER_LEN, ItemRecord, Kind, RECORD_LEN, SIGNATURE, read_u32};
+use crate::item::Item;
 
 /// A table that opened, in the file where it was found.
 #[derive(Clone, Copy, Debug)]
@@ -107,7 +90,7 @@ impl<'a> Table<'a> {
         }
         let stored = self.stored(i);
         let (start, end) = (stored.start as usize, stored.end as usize);
-        if stored.kind != TABLE || !has_head(self.file, start, end) {
+        if stored.kind != Kind::Table.letter() || !has_head(self.file, start, end) {
             return None;
         }
         Table::within(self.file, start, end)
@@ -124,7 +107,7 @@ impl<'a> Table<'a> {
         let bloom_words = head % 0x800_0000;
         let buckets = read_u32(file, start + 4);
         let first_item = start + HEAD_LEN + 4 * bloom_words as usize + 4 * buckets as usize;
-        if first_item > end || (end - first_item) % ITEM_LEN != 0 {
+        if first_item > end || (end - first_item) % RECORD_LEN != 0 {
             return None;
         }
         Some(Table {
@@ -135,39 +118,60 @@ impl<'a> Table<'a> {
             bloom_shift: head / 0x800_0000,
             buckets,
             first_item,
-            items: ((end - first_item) / ITEM_LEN) as u32,
+            items: ((end - first_item) / RECORD_LEN) as u32,
         })
     }
 
     /// The numbers of item `i`.
-    pub(crate) fn stored(self, i: u32) -> Stored
+    pub(crate) fn stored(self, i: u32) -> ItemRecord
         requires { i < item_count (region self) }
         ensures { item_of result ≡ item (region self.entry) i }
     {
-        Stored::read(self.file, self.first_item + ITEM_LEN * i as usize)
+        ItemRecord::read(self.file, self.first_item + RECORD_LEN * i as usize)
     }
 
-    /// An item's key: the one place where a key is cut out of the file. None where its bytes don't lie there.
-    pub(crate) fn key_of(self, stored: Stored) -> Option<&'a [u8]>
+    /// An item's key. None where its bytes don't lie in the file.
+    pub(crate) fn key_of(self, stored: ItemRecord) -> Option<&'a [u8]>
         ensures lent { IfSome result (λ key. IsKeyInside self.entry.file.now (item_of stored)
             × (key.now ≡ key_at self.entry.file.now (item_of stored))) }
         ensures none { IfNone result (¬ IsKeyInside self.entry.file.now (item_of stored)) }
     {
-        let start = stored.key_start as usize;
-        self.file.get(start..start + usize::from(stored.key_len))
+        self.cut_key(stored.key_start, stored.key_size)
     }
 
-    /// What an item points to: the one place where a pointer is followed. None where the pointer isn't valid.
-    pub(crate) fn pointed(self, stored: Stored) -> Option<&'a [u8]>
+    /// So many bytes from there on: the one place where a key is cut out of the file. None where they don't lie there.
+    #[inline(always)]
+    pub(crate) fn cut_key(self, start: u32, size: u16) -> Option<&'a [u8]>
+        ensures lent { IfSome result (λ key. (start + size ≤ length self.entry.file.now)
+            × (key.now ≡ slice_range self.entry.file.now start (start + size))) }
+        ensures none { IfNone result (¬ (start + size ≤ length self.entry.file.now)) }
+    {
+        let start = start as usize;
+        self.file.get(start..start + usize::from(size))
+    }
+
+    /// What an item points to. None where the pointer isn't valid.
+    pub(crate) fn pointed(self, stored: ItemRecord) -> Option<&'a [u8]>
         ensures lent { IfSome result (λ bytes. IsPointer self.entry.file.now (item_of stored)
             × (bytes.now ≡ content_at self.entry.file.now (item_of stored))) }
         ensures none { IfNone result (¬ IsPointer self.entry.file.now (item_of stored)) }
     {
-        let alignment = if stored.kind == VALUE { 8 } else { 4 };
-        if stored.start % alignment != 0 {
+        self.follow(stored.kind, stored.start, stored.end)
+    }
+
+    /// The bytes to which an item of this kind points: the one place where a pointer is followed. None where the pointer
+    /// isn't valid.
+    #[inline(always)]
+    pub(crate) fn follow(self, kind: u8, start: u32, end: u32) -> Option<&'a [u8]>
+        ensures lent { IfSome result (λ bytes. IsValidPointer self.entry.file.now (alignment_of kind) start end
+            × (bytes.now ≡ slice_range self.entry.file.now start end)) }
+        ensures none { IfNone result (¬ IsValidPointer self.entry.file.now (alignment_of kind) start end) }
+    {
+        let alignment = if kind == Kind::Value.letter() { 8 } else { 4 };
+        if start % alignment != 0 {
             return None;
         }
-        self.file.get(stored.start as usize..stored.end as usize)
+        self.file.get(start as usize..end as usize)
     }
 }
 

@@ -31,11 +31,11 @@ impl<'a> Backwards<'a> {
         ensures left { backwards_left result ≡ reverse (full_name (region table.entry) i) }
         ensures some { 0 < length result.key.now }
     {
-        let (stored, key) = table.named_item(i).unwrap();
+        let link = table.link_at(i).unwrap();
         Backwards {
             table,
-            key,
-            parent: stored.parent,
+            key: link.key,
+            parent: link.parent,
         }
     }
 

@@ -13,6 +13,6 @@ impl Table<'_> {
         requires { i < item_count (region self) }
         ensures { IsTrue result ↔ IsInBloom (region self.entry) i }
     {
-        self.passes_bloom(self.stored(i).hash)
+        self.passes_bloom(self.hash_at(i))
     }
 }

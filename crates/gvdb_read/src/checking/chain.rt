@@ -16,7 +16,7 @@ impl Table<'_> {
         requires keys { KeepsAll (region self) keys }
         ensures { IsTrue result ↔ HasEnd (region self.entry) i }
     {
-        self.stored(i).key_len > 0 && self.has_first_parent(i)
+        self.key_size_at(i) > 0 && self.has_first_parent(i)
     }
 
     /// Whether the parents of item `i` end. As many steps as there are items are enough: more would come to an item for
@@ -28,7 +28,7 @@ impl Table<'_> {
     {
         let mut at = i;
         for _ in 0..self.n_items() {
-            let Some(parent) = self.stored(at).parent else {
+            let Some(parent) = self.parent_at(at) else {
                 return true;
             };
             at = parent;

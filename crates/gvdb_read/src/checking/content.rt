@@ -3,8 +3,8 @@ ghost use Rattle.std.specs.Prelude.{◌<◌, ◌↔◌, IsTrue};
 ghost use Rattle.dconf_model.specs.Table.{item_count};
 ghost use Rattle.dconf_model.specs.Searchable.{HasContent};
 
-use crate::number::NUMBER_LEN;
-use crate::table::{LIST, TABLE, Table, VALUE};
+use crate::format::{Kind, NUMBER_LEN};
+use crate::table::Table;
 
 impl Table<'_> {
     ghost use Rattle.gvdb_read.specs.Tables.{region};
@@ -18,10 +18,10 @@ impl Table<'_> {
         let Some(bytes) = self.pointed(stored) else {
             return false;
         };
-        match stored.kind {
-            VALUE | TABLE => true,
-            LIST => bytes.len() % NUMBER_LEN == 0,
-            _ => false,
+        match Kind::of(stored.kind) {
+            Some(Kind::Value | Kind::Table) => true,
+            Some(Kind::List) => bytes.len() % NUMBER_LEN == 0,
+            None => false,
         }
     }
 }

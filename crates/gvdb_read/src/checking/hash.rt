@@ -8,7 +8,7 @@ ghost use Rattle.dconf_model.specs.Searchable.{HasHash};
 ghost use Rattle.dconf_model.specs.Sound.{KeepsAll};
 ghost use Rattle.dconf_model.specs.Sound.Rule.{keys, chain};
 
-use crate::hashing::signed;
+use crate::format::signed;
 use crate::table::Table;
 
 impl<'a> Table<'a> {
@@ -21,7 +21,7 @@ impl<'a> Table<'a> {
         requires counted { i < item_count (region self) }
         ensures { IsTrue result ↔ HasHash (region self.entry) i }
     {
-        self.stored(i).hash == self.hash_of_name(i)
+        self.hash_at(i) == self.hash_of_name(i)
     }
 
     /// The hash of item `i`'s full name. From its end, each byte counts 33 times as much as the one after it, and what

@@ -2,15 +2,14 @@
 //!
 //! So a fast pass looks whether each stored hash is the parent's stored one, gone on with over the item's own key. Where
 //! each is, each is that of its full name.
-ghost use Rattle.std.specs.Prelude.{◌≡◌, ◌<◌, ◌↔◌, IsTrue, fold};
-ghost use Rattle.dconf_model.specs.Bytes.{hash_step};
+ghost use Rattle.std.specs.Prelude.{◌≡◌, ◌<◌, ◌↔◌, IsTrue};
 ghost use Rattle.dconf_model.specs.Table.{item, item_count};
 ghost use Rattle.dconf_model.specs.Searchable.{EachItem};
 ghost use Rattle.dconf_model.specs.Sound.{KeepsAll};
 ghost use Rattle.dconf_model.specs.Sound.Rule.{keys};
 ghost use Rattle.gvdb_read.specs.HashAbove.{GoesOn, hash_above};
 
-use crate::hashing::{HASH_OF_NOTHING, hash_with};
+use crate::format::{HASH_OF_NOTHING, hash_on};
 use crate::table::Table;
 
 impl Table<'_> {
@@ -35,7 +34,7 @@ impl Table<'_> {
         requires counted { i < item_count (region self) }
         ensures { IsTrue result ↔ GoesOn (region self.entry) i }
     {
-        self.stored(i).hash == hash_on(self.hash_above(i), self.key(i))
+        self.hash_at(i) == hash_on(self.hash_above(i), self.key(i))
     }
 
     /// The hash of item `i`'s parent, or that of no bytes.
@@ -44,20 +43,9 @@ impl Table<'_> {
         requires counted { i < item_count (region self) }
         ensures { result ≡ hash_above (region self.entry) (item (region self.entry) i).parent }
     {
-        match self.stored(i).parent {
-            Some(parent) => self.stored(parent).hash,
+        match self.parent_at(i) {
+            Some(parent) => self.hash_at(parent),
             None => HASH_OF_NOTHING,
         }
     }
-}
-
-/// The hash of some bytes and of those after them, of the hash of the first.
-fn hash_on(hash: u32, bytes: &[u8]) -> u32
-    ensures { result ≡ fold hash_step hash bytes.now }
-{
-    let mut hash = hash;
-    for byte in bytes {
-        hash = hash_with(hash, *byte);
-    }
-    hash
 }

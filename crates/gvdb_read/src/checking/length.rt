@@ -13,7 +13,7 @@ pub const MAX_NAME_LEN: usize = u16::MAX as usize;
 impl<'a> Table<'a> {
     ghost use Rattle.gvdb_read.specs.Tables.{region};
 
-    /// Whether item `i`'s full name has at most 65,535 bytes. It looks at one more at most.
+    /// Whether item `i`'s full name has at most 65,535 bytes. It looks at the keys' sizes alone.
     pub(super) fn has_short_name(self, i: u32) -> bool
         requires keys { KeepsAll (region self) keys }
         requires chain { KeepsAll (region self) chain }
@@ -21,6 +21,6 @@ impl<'a> Table<'a> {
         ensures { IsTrue result
             ↔ ((name : List ℕ) → HasName (region self.entry) i name → length name ≤ 65535) }
     {
-        self.name_backwards(i).nth(MAX_NAME_LEN).is_none()
+        self.name_len(i, MAX_NAME_LEN).is_some()
     }
 }

@@ -12,8 +12,8 @@ ghost use Rattle.dconf_model.specs.Sound.Rule.{keys, content, place};
 ghost use Rattle.gvdb_read.specs.Ascending.{Ascends, HasAscendingListIfAny, IsAscending, IsListed, IsListedIfChild};
 ghost use Rattle.gvdb_read.specs.ListNumbers.{AreNumbers, IsFirstAt, Occurs};
 
-use crate::number::{NUMBER_LEN, number};
-use crate::table::{LIST, Table};
+use crate::format::{Kind, NUMBER_LEN, number};
+use crate::table::Table;
 use gv_types::Steps;
 
 impl<'a> Table<'a> {
@@ -40,7 +40,7 @@ impl<'a> Table<'a> {
         requires valid { HasBytes (region self) i }
         ensures { IsTrue result ↔ HasAscendingListIfAny (region self.entry) i }
     {
-        self.stored(i).kind != LIST || self.has_ascending_list(i)
+        !self.has_kind(i, Kind::List) || self.has_ascending_list(i)
     }
 
     /// Whether the list holds children of its item alone, in ascending order, and is empty only at `/`.
@@ -87,7 +87,7 @@ impl<'a> Table<'a> {
         requires counted { j < item_count (region self) }
         ensures { IsTrue result ↔ IsListedIfChild (region self.entry) j }
     {
-        match self.stored(j).parent {
+        match self.parent_at(j) {
             Some(parent) => self.is_found_by_halving(parent, j),
             None => true,
         }
@@ -111,7 +111,7 @@ impl<'a> Table<'a> {
         requires valid { HasBytes (region self) i }
         ensures { IsTrue result ↔ HasListIfAny (region self.entry) i }
     {
-        self.stored(i).kind != LIST || self.lists_children(i)
+        !self.has_kind(i, Kind::List) || self.lists_children(i)
     }
 
     /// Whether the list holds exactly the children of its item, once each, and is empty only at `/`.
@@ -189,7 +189,7 @@ impl<'a> Table<'a> {
     fn is_child(self, i: u32, number: u32) -> bool
         ensures { IsTrue result ↔ IsChild (region self.entry) i number }
     {
-        number < self.n_items() && self.stored(number).parent == Some(i)
+        number < self.n_items() && self.parent_at(number) == Some(i)
     }
 
     /// The numbers in the list, each as its four bytes.

@@ -10,8 +10,8 @@ ghost use Rattle.dconf_model.specs.Sound.Rule.{keys, content, place};
 ghost use Rattle.gvdb_read.specs.Ascending.{IsListed, IsListedIfChild};
 ghost use Rattle.gvdb_read.specs.ByKey.{HasListByKeyIfAny, IsByKey, KeysRise, has_lower_key, key_or_none};
 
-use crate::number::number;
-use crate::table::{LIST, Table};
+use crate::format::{Kind, number};
+use crate::table::Table;
 
 impl<'a> Table<'a> {
     ghost use Rattle.gvdb_read.specs.Tables.{region};
@@ -35,7 +35,7 @@ impl<'a> Table<'a> {
         requires valid { HasBytes (region self) i }
         ensures { IsTrue result ↔ HasListByKeyIfAny (region self.entry) i }
     {
-        self.stored(i).kind != LIST || self.has_list_by_key(i)
+        !self.has_kind(i, Kind::List) || self.has_list_by_key(i)
     }
 
     /// Whether the list holds children of its item alone, whose keys rise, and is empty only at `/`.
@@ -84,7 +84,7 @@ impl<'a> Table<'a> {
         requires counted { j < item_count (region self) }
         ensures { IsTrue result → IsListedIfChild (region self.entry) j }
     {
-        match self.stored(j).parent {
+        match self.parent_at(j) {
             Some(parent) => self.is_found_by_key(parent, j),
             None => true,
         }
@@ -108,8 +108,8 @@ impl<'a> Table<'a> {
     fn key_or_none(self, i: u32) -> &'a [u8]
         ensures { result.now ≡ key_or_none (region self.entry) i }
     {
-        match self.named_item(i) {
-            Some((_, key)) => key,
+        match self.link_at(i) {
+            Some(link) => link.key,
             None => &[],
         }
     }

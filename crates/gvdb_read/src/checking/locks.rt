@@ -6,7 +6,8 @@ ghost use Rattle.dconf_model.specs.Searchable.{EachItem};
 ghost use Rattle.dconf_model.specs.Sound.{HasLocksIfAny, IsLock, IsLockTable, KeepsAll};
 ghost use Rattle.dconf_model.specs.Sound.Rule.{keys, place};
 
-use crate::table::{Table, VALUE};
+use crate::format::Kind;
+use crate::table::Table;
 use gv_types::Steps;
 
 impl<'a> Table<'a> {
@@ -60,7 +61,8 @@ impl<'a> Table<'a> {
         requires counted { i < item_count (region self) }
         ensures { IsTrue result ↔ IsLock (region self.entry) i }
     {
-        let stored = self.stored(i);
-        stored.kind == VALUE && stored.parent.is_none() && self.key(i).starts_with(b"/")
+        self.has_kind(i, Kind::Value)
+            && self.parent_at(i).is_none()
+            && self.key(i).starts_with(b"/")
     }
 }

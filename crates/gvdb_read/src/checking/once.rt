@@ -21,7 +21,7 @@ impl<'a> Table<'a> {
         requires counted { i < item_count (region self) }
         ensures { IsTrue result ↔ IsOnlyNamed (region self.entry) i }
     {
-        let (first, _) = self.span(self.stored(i).hash);
+        let (first, _) = self.span(self.hash_at(i));
         for j in first..i {
             if self.has_name_of(i, j) {
                 return false;
@@ -39,7 +39,7 @@ impl<'a> Table<'a> {
         requires second { j < item_count (region self) }
         ensures { IsTrue result ↔ (full_name (region self.entry) i ≡ full_name (region self.entry) j) }
     {
-        self.stored(i).hash == self.stored(j).hash && self.has_bytes_of_name(i, j)
+        self.hash_at(i) == self.hash_at(j) && self.has_bytes_of_name(i, j)
     }
 
     /// The same, without a look at the hashes.

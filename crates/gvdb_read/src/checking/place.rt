@@ -5,7 +5,8 @@ ghost use Rattle.dconf_model.specs.Table.{item, item_count, key, list_kind, tabl
 ghost use Rattle.dconf_model.specs.Sound.{HasPlace, IsDirectoryPart, KeepsAll, HasParent};
 ghost use Rattle.dconf_model.specs.Sound.Rule.{keys, chain};
 
-use crate::table::{LIST, TABLE, Table, VALUE};
+use crate::format::Kind;
+use crate::table::Table;
 
 impl<'a> Table<'a> {
     ghost use Rattle.gvdb_read.specs.Tables.{region};
@@ -31,7 +32,7 @@ impl<'a> Table<'a> {
         let key = self.key(i);
         match stored.parent {
             None => is_top(stored.kind, key),
-            Some(parent) => self.stored(parent).kind == LIST && is_part(stored.kind, key),
+            Some(parent) => self.has_kind(parent, Kind::List) && is_part(stored.kind, key),
         }
     }
 
@@ -50,7 +51,8 @@ fn is_top(kind: u8, key: &[u8]) -> bool
     ensures { IsTrue result ↔ ((kind ≡ list_kind) × (key.now ≡ codes "/")
         ⊎ (kind ≡ table_kind) × (key.now ≡ codes ".locks")) }
 {
-    kind == LIST && key == b"/".as_slice() || kind == TABLE && key == b".locks".as_slice()
+    kind == Kind::List.letter() && key == b"/".as_slice()
+        || kind == Kind::Table.letter() && key == b".locks".as_slice()
 }
 
 /// Whether this is the kind and the last part of the path of a key, or of a directory.
@@ -58,7 +60,8 @@ fn is_part(kind: u8, key: &[u8]) -> bool
     ensures { IsTrue result ↔ ((kind ≡ value_kind) × ¬ Contains key.now 47
         ⊎ (kind ≡ list_kind) × IsDirectoryPart key.now) }
 {
-    kind == VALUE && !key.contains(&b'/') || kind == LIST && is_directory_part(key)
+    kind == Kind::Value.letter() && !key.contains(&b'/')
+        || kind == Kind::List.letter() && is_directory_part(key)
 }
 
 /// Whether the key has one slash, at its end and not alone.

@@ -13,7 +13,7 @@ impl Table<'_> {
         requires { i < item_count (region self) }
         ensures { IsTrue result ↔ IsInSpan (region self.entry) i }
     {
-        let (first, end) = self.span(self.stored(i).hash);
+        let (first, end) = self.span(self.hash_at(i));
         (first..end).contains(&i)
     }
 }

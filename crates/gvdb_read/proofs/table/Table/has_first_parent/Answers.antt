@@ -1,17 +1,17 @@
-use Rattle.std.proofs.Common.{◌≡◌, Some, None, [], arith, ap, sym, ◌∙◌, refl, true, false}
-use Rattle.dconf_model.specs.Table.{Item, item}
+use Rattle.std.proofs.Common.{◌≡◌, Some, None, [], arith, sym, ◌∙◌, refl, true, false}
+use Rattle.dconf_model.specs.Table.{item}
 use Rattle.gvdb_read.specs.Tables.{region}
 use Rattle.gvdb_read.proofs.ChainSteps.{climbs_more, in_a_circle}
 use Rattle.gvdb_read.proofs.table.Table.has_first_parent.Goals as goal
 
 pub returns-in_default : goal.returns-in_default
 returns-in_default c =
-    let top : (item (region c.args.self) c.loop.at).parent ≡ None = sym (ap (λ (x : Item). x.parent) c.stored.ensures) ∙ c.in_default.is in
+    let top : (item (region c.args.self) c.loop.at).parent ≡ None = sym c.parent_at.ensures ∙ c.in_default.is in
     (λ _. c.loop.invariant.climbs.ahead [] top, λ _. refl)
 
 pub loop-preserved : goal.loop-preserved
 loop-preserved c =
-    let up : (item (region c.args.self) c.loop.at).parent ≡ Some c.in-Some.parent = sym (ap (λ (x : Item). x.parent) c.stored.ensures) ∙ c.in-Some.is in
+    let up : (item (region c.args.self) c.loop.at).parent ≡ Some c.in-Some.parent = sym c.parent_at.ensures ∙ c.in-Some.is in
     record { climbs = climbs_more _ _ _ _ _ c.requires.keys c.loop.invariant.climbs up; all = c.loop.invariant.all }
 
 pub returns : goal.returns

@@ -3,7 +3,7 @@ use borrow.Author.Tests.{eqb-true, eqb-false}
 use Rattle.std.proofs.lemmas.Slice.Eq.{strip_suffix_is}
 use Rattle.std.proofs.lemmas.Bool.Decides.{Decides-eqb}
 use Rattle.dconf_model.specs.Names.{HasName}
-use Rattle.dconf_model.specs.Table.{Item, item, key}
+use Rattle.dconf_model.specs.Table.{item, key}
 use Rattle.gvdb_read.specs.Tables.{region}
 use Rattle.dconf_model.proofs.NameSteps.{is_item, no_suffix, at_root, moves_up, empty_key}
 use Rattle.gvdb_read.proofs.NameWalks.{never}
@@ -20,54 +20,55 @@ long_key_test : (xs : List ℕ) (b : Bool) → b ≡ eqb (length xs) 0 → b ≡
 long_key_test xs b e h = let d : length xs ≢ 0 = eqb-false _ _ (sym e ∙ h) in omega arith
 
 pub returns-in_default-clause-named : goal.returns-in_default-clause-named
-returns-in_default-clause-named c = never (λ h. c.in_default.ensures.none (is_item _ _ _ (c.loop-stored.invariant.named.1 h)))
+returns-in_default-clause-named c = never (λ h. c.in_default.ensures.none (is_item _ _ _ (c.loop-link.invariant.named.1 h)))
 
 pub returns-in_default-strip_suffix-clause-named : goal.returns-in_default-strip_suffix-clause-named
 returns-in_default-strip_suffix-clause-named c =
     let t = region c.args.self in
-    let rest = c.loop-stored.rest.now in
-    let none = strip_suffix_is Decides-eqb rest c.in-Some.key.now None c.in_default-strip_suffix.ensures.cases in
+    let rest = c.loop-link.rest.now in
+    let none = strip_suffix_is Decides-eqb rest c.in-Some.link.key.now None c.in_default-strip_suffix.ensures.cases in
     let other = subst (λ (k : List ℕ). (prefix : List ℕ) → rest ≢ prefix ++ k) c.in-Some.ensures.some.2 none in
-    never (λ h. no_suffix t c.loop-stored.at rest other (c.loop-stored.invariant.named.1 h))
+    never (λ h. no_suffix t c.loop-link.at rest other (c.loop-link.invariant.named.1 h))
 
 pub returns-in_default-parent-clause-named : goal.returns-in_default-parent-clause-named
 returns-in_default-parent-clause-named c =
     let t = region c.args.self in
-    let rest = c.loop-stored.rest.now in
+    let rest = c.loop-link.rest.now in
     let some = c.in-Some.ensures.some in
     let prefix = c.in-Some-strip_suffix.prefix.now in
-    let cut = strip_suffix_is Decides-eqb rest c.in-Some.key.now (Some c.in-Some-strip_suffix.prefix) c.in-Some-strip_suffix.ensures.cases in
+    let cut = strip_suffix_is Decides-eqb rest c.in-Some.link.key.now (Some c.in-Some-strip_suffix.prefix) c.in-Some-strip_suffix.ensures.cases in
     let is = cut ∙ ap (λ (k : List ℕ). prefix ++ k) some.2 in
-    let orphan : (item t c.loop-stored.at).parent ≡ None = sym (ap (λ (e : Item). e.parent) some.1) ∙ c.in_default-parent.is in
-    let root = at_root t c.loop-stored.at prefix rest some.0 orphan is in
+    let orphan : (item t c.loop-link.at).parent ≡ None = sym some.1 ∙ c.in_default-parent.is in
+    let root = at_root t c.loop-link.at prefix rest some.0 orphan is in
     let test = empty_test prefix c.is_empty.result c.is_empty.ensures in
-    (λ h. c.loop-stored.invariant.named.0 (root.0 (test.0 h)), λ h. test.1 (root.1 (c.loop-stored.invariant.named.1 h)))
+    (λ h. c.loop-link.invariant.named.0 (root.0 (test.0 h)), λ h. test.1 (root.1 (c.loop-link.invariant.named.1 h)))
 
 pub returns-then-is_empty-clause-named : goal.returns-then-is_empty-clause-named
 returns-then-is_empty-clause-named c =
     let t = region c.args.self in
-    let rest = c.loop-stored.rest.now in
+    let rest = c.loop-link.rest.now in
     let some = c.in-Some.ensures.some in
     let prefix = c.in-Some-strip_suffix.prefix.now in
-    let cut = strip_suffix_is Decides-eqb rest c.in-Some.key.now (Some c.in-Some-strip_suffix.prefix) c.in-Some-strip_suffix.ensures.cases in
+    let cut = strip_suffix_is Decides-eqb rest c.in-Some.link.key.now (Some c.in-Some-strip_suffix.prefix) c.in-Some-strip_suffix.ensures.cases in
     let is = cut ∙ ap (λ (k : List ℕ). prefix ++ k) some.2 in
-    let up : (item t c.loop-stored.at).parent ≡ Some c.in-Some-parent.parent = sym (ap (λ (e : Item). e.parent) some.1) ∙ c.in-Some-parent.is in
-    let long = λ (h : HasName t c.loop-stored.at rest). empty_key t c.loop-stored.at c.in-Some-parent.parent prefix rest up is h in
-    let none : length (key t c.loop-stored.at) ≡ 0 = sym (ap (λ (k : List ℕ). length k) some.2) ∙ empty_key_test _ _ c.is_empty-in-loop-stored.ensures c.if-is_empty.true in
-    never (λ h. let l : 0 < length (key t c.loop-stored.at) = long (c.loop-stored.invariant.named.1 h) in omega (arith, l, none))
+    let up : (item t c.loop-link.at).parent ≡ Some c.in-Some-parent.parent = sym some.1 ∙ c.in-Some-parent.is in
+    let long = λ (h : HasName t c.loop-link.at rest). empty_key t c.loop-link.at c.in-Some-parent.parent prefix rest up is h in
+    let none : length (key t c.loop-link.at) ≡ 0 = sym (ap (λ (k : List ℕ). length k) some.2) ∙ empty_key_test _ _ c.is_empty-in-loop-link.ensures c.if-is_empty.true in
+    never (λ h. let l : 0 < length (key t c.loop-link.at) = long (c.loop-link.invariant.named.1 h) in omega (arith, l, none))
 
-pub loop-stored-preserved : goal.loop-stored-preserved
-loop-stored-preserved c =
+pub loop-link-preserved : goal.loop-link-preserved
+loop-link-preserved c =
     let t = region c.args.self in
-    let rest = c.loop-stored.rest.now in
+    let rest = c.loop-link.rest.now in
     let some = c.in-Some.ensures.some in
     let prefix = c.in-Some-strip_suffix.prefix.now in
-    let cut = strip_suffix_is Decides-eqb rest c.in-Some.key.now (Some c.in-Some-strip_suffix.prefix) c.in-Some-strip_suffix.ensures.cases in
+    let cut = strip_suffix_is Decides-eqb rest c.in-Some.link.key.now (Some c.in-Some-strip_suffix.prefix) c.in-Some-strip_suffix.ensures.cases in
     let is = cut ∙ ap (λ (k : List ℕ). prefix ++ k) some.2 in
-    let up : (item t c.loop-stored.at).parent ≡ Some c.in-Some-parent.parent = sym (ap (λ (e : Item). e.parent) some.1) ∙ c.in-Some-parent.is in
-    let long : 0 < length (key t c.loop-stored.at) = subst (λ (k : List ℕ). 0 < length k) some.2 (long_key_test _ _ c.is_empty-in-loop-stored.ensures c.if-is_empty.false) in
-    let moved = moves_up t c.loop-stored.at c.in-Some-parent.parent prefix rest some.0 up long is in
+    let up : (item t c.loop-link.at).parent ≡ Some c.in-Some-parent.parent = sym some.1 ∙ c.in-Some-parent.is in
+    let long : 0 < length (key t c.loop-link.at) = subst (λ (k : List ℕ). 0 < length k) some.2 (long_key_test _ _ c.is_empty-in-loop-link.ensures c.if-is_empty.false) in
+    let moved = moves_up t c.loop-link.at c.in-Some-parent.parent prefix rest some.0 up long is in
     record {
-      named = (λ h. c.loop-stored.invariant.named.0 (moved.0 h), λ h. moved.1 (c.loop-stored.invariant.named.1 h));
-      cost = omega (arith, c.loop-stored.invariant.cost, c.tick.ensures, long, length-append prefix (key t c.loop-stored.at), ap (λ (k : List ℕ). length k) is);
+      named = (λ h. c.loop-link.invariant.named.0 (moved.0 h), λ h. moved.1 (c.loop-link.invariant.named.1 h));
+      grows = omega (arith, c.loop-link.invariant.grows, c.tick.ensures);
+      cost = omega (arith, c.loop-link.invariant.cost, c.tick.ensures, long, length-append prefix (key t c.loop-link.at), ap (λ (k : List ℕ). length k) is);
     }

@@ -1,5 +1,4 @@
-use Rattle.std.proofs.Common.{rules, ◌≡◌, ◌∙◌, true, false, ap, refl, arith}
-use Rattle.dconf_model.specs.Table.{Item}
+use Rattle.std.proofs.Common.{rules, ℕ, ◌≡◌, ◌∙◌, true, false, ap, refl, arith}
 use Rattle.dconf_model.specs.Search.{span_start}
 use Rattle.gvdb_read.specs.Tables.{region}
 use Rattle.gvdb_read.proofs.NameChecks.{has_namesake, has_no_namesake}
@@ -14,5 +13,5 @@ returns-then-has_name_of c = (
 pub returns : goal.returns
 returns c =
     let t = region c.args.self in
-    let begin = c.span-first.ensures.first ∙ ap (λ (e : Item). span_start t e.hash) c.stored.ensures in
+    let begin = c.span-first.ensures.first ∙ ap (λ (h : ℕ). span_start t h) c.hash_at.ensures in
     (λ h. has_no_namesake t c.args.i _ c.requires.keys c.requires.chain c.requires.hash c.requires.span c.requires.counted begin (λ k lower le e. c.loop-j.invariant k (omega arith) le e), λ only. refl)

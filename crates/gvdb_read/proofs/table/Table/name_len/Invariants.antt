@@ -4,8 +4,8 @@ use Rattle.gvdb_read.proofs.NameWalks.{LeadsTo}
 use Rattle.gvdb_read.proofs.table.Table.name_len.Given as goal
 
 -- the bytes of the keys that were passed are taken off the longest length
-abbrev pub invariant-loop-stored : goal.invariant-loop-stored
-invariant-loop-stored l = (back : List ℕ) × LeadsTo (region l.fn.self) l.i l.at back × (length back + l.left ≡ l.longest)
+abbrev pub invariant-loop-link : goal.invariant-loop-link
+invariant-loop-link l = (back : List ℕ) × LeadsTo (region l.fn.self) l.i l.at back × (length back + l.left ≡ l.longest)
 
-abbrev pub decreases-loop-stored : goal.decreases-loop-stored
-decreases-loop-stored l = l.left
+abbrev pub decreases-loop-link : goal.decreases-loop-link
+decreases-loop-link l = l.left

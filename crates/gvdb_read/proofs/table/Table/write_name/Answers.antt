@@ -4,7 +4,7 @@ use Rattle.std.proofs.lemmas.List.{length-append, length-drop, length-take-le, d
 use borrow.Author.Tests.{eqb-true, eqb-false, eq-eqb}
 use borrow.Rule.Slice.PartMut.{put_mid, post_of, same_len_mid}
 use Rattle.dconf_model.specs.Names.{HasName}
-use Rattle.dconf_model.specs.Table.{Item, key, item}
+use Rattle.dconf_model.specs.Table.{key, item}
 use Rattle.gvdb_read.specs.Tables.{region}
 use Rattle.gvdb_read.proofs.NameWalks.{never, LeadsTo, no_item, is_as_long, joined_name, only_name, no_key, leads_more}
 use Rattle.gvdb_read.proofs.table.Table.write_name.Goals as goal
@@ -19,13 +19,13 @@ put_before start end room own le inside =
 
 pub returns-in_default-clause-fits : goal.returns-in_default-clause-fits
 returns-in_default-clause-fits c =
-    never (λ h. no_item (region c.args.self) c.args.i c.loop-stored.at _ h.0 c.loop-stored.invariant.walked c.in_default.ensures.none h.1)
+    never (λ h. no_item (region c.args.self) c.args.i c.loop-link.at _ h.0 c.loop-link.invariant.walked c.in_default.ensures.none h.1)
 
 pub returns-in_default-checked_sub-clause-fits : goal.returns-in_default-checked_sub-clause-fits
 returns-in_default-checked_sub-clause-fits c =
     let same = ap (λ (l : List ℕ). length l) c.in-Some.ensures.some.2 in
-    let long : c.loop-stored.end < length c.in-Some.key.now = omega (arith, c.in_default-checked_sub.ensures) in
-    let inv = c.loop-stored.invariant in
+    let long : c.loop-link.end < length c.in-Some.link.key.now = omega (arith, c.in_default-checked_sub.ensures) in
+    let inv = c.loop-link.invariant in
     never (λ h.
     omega (
       arith,
@@ -34,29 +34,29 @@ returns-in_default-checked_sub-clause-fits c =
       h.2,
       inv.inside,
       inv.size,
-      length-drop c.loop-stored.end c.loop-stored.room,
-      is_as_long (region c.args.self) c.args.i c.loop-stored.at _ h.0 inv.walked h.1,
+      length-drop c.loop-link.end c.loop-link.room,
+      is_as_long (region c.args.self) c.args.i c.loop-link.at _ h.0 inv.walked h.1,
     ))
 
 pub returns-in_default-parent-clause-fits : goal.returns-in_default-parent-clause-fits
 returns-in_default-parent-clause-fits c =
     let t = region c.args.self in
     let some = c.in-Some.ensures.some in
-    let inv = c.loop-stored.invariant in
-    let own = key t c.loop-stored.at in
-    let back = drop c.loop-stored.end c.loop-stored.room in
+    let inv = c.loop-link.invariant in
+    let own = key t c.loop-link.at in
+    let back = drop c.loop-link.end c.loop-link.room in
     let start = c.in-Some-checked_sub.ensures in
-    let orphan : (item t c.loop-stored.at).parent ≡ None = sym (ap (λ (e : Item). e.parent) some.1) ∙ c.in_default-parent.is in
+    let orphan : (item t c.loop-link.at).parent ≡ None = sym some.1 ∙ c.in_default-parent.is in
     let same = ap (λ (l : List ℕ). length l) some.2 in
-    let kept = length-drop c.loop-stored.end c.loop-stored.room in
+    let kept = length-drop c.loop-link.end c.loop-link.room in
     let all = length-append own back in (
       λ e. (
         own ++ back,
-        joined_name t c.args.i c.loop-stored.at back inv.walked some.0 orphan,
+        joined_name t c.args.i c.loop-link.at back inv.walked some.0 orphan,
         omega (arith, eqb-true _ _ e, start.0, start.1, same, kept, all, inv.inside, inv.size),
       ),
       λ h.
-          let only = ap (λ (l : List ℕ). length l) (only_name t c.args.i c.loop-stored.at back h.0 inv.walked some.0 orphan h.1) in
+          let only = ap (λ (l : List ℕ). length l) (only_name t c.args.i c.loop-link.at back h.0 inv.walked some.0 orphan h.1) in
           eq-eqb _ _ (omega (arith, only, h.2, start.0, start.1, same, kept, all, inv.inside, inv.size)),
     )
 
@@ -64,41 +64,41 @@ pub returns-in_default-parent-clause-name : goal.returns-in_default-parent-claus
 returns-in_default-parent-clause-name c =
     let t = region c.args.self in
     let some = c.in-Some.ensures.some in
-    let inv = c.loop-stored.invariant in
-    let orphan : (item t c.loop-stored.at).parent ≡ None = sym (ap (λ (e : Item). e.parent) some.1) ∙ c.in_default-parent.is in
-    let named = joined_name t c.args.i c.loop-stored.at _ inv.walked some.0 orphan in
+    let inv = c.loop-link.invariant in
+    let orphan : (item t c.loop-link.at).parent ≡ None = sym some.1 ∙ c.in_default-parent.is in
+    let named = joined_name t c.args.i c.loop-link.at _ inv.walked some.0 orphan in
     let start = c.in-Some-checked_sub.ensures in
-    let le : c.in-Some-checked_sub.start ≤ c.loop-stored.end = omega (arith, start.0, start.1) in
-    let k = c.loop-stored.end - c.in-Some-checked_sub.start in
-    let room = put_mid c.in-Some-checked_sub.start k c.loop-stored.room c.copy_from_slice.new.self in
-    let put = put_before c.in-Some-checked_sub.start c.loop-stored.end c.loop-stored.room c.copy_from_slice.new.self le inv.inside in
-    let is = put ∙ ap (λ (l : List ℕ). l ++ drop c.loop-stored.end c.loop-stored.room) (c.copy_from_slice.ensures.after ∙ some.2) in
+    let le : c.in-Some-checked_sub.start ≤ c.loop-link.end = omega (arith, start.0, start.1) in
+    let k = c.loop-link.end - c.in-Some-checked_sub.start in
+    let room = put_mid c.in-Some-checked_sub.start k c.loop-link.room c.copy_from_slice.new.self in
+    let put = put_before c.in-Some-checked_sub.start c.loop-link.end c.loop-link.room c.copy_from_slice.new.self le inv.inside in
+    let is = put ∙ ap (λ (l : List ℕ). l ++ drop c.loop-link.end c.loop-link.room) (c.copy_from_slice.ensures.after ∙ some.2) in
     λ e. subst (HasName t c.args.i) (sym is ∙ ap (λ n. drop n room) (eqb-true _ _ e)) named
 
 pub returns-then-is_empty-clause-fits : goal.returns-then-is_empty-clause-fits
 returns-then-is_empty-clause-fits c =
     let t = region c.args.self in
     let some = c.in-Some.ensures.some in
-    let up : (item t c.loop-stored.at).parent ≡ Some c.in-Some-parent.parent = sym (ap (λ (e : Item). e.parent) some.1) ∙ c.in-Some-parent.is in
-    let empty : length (key t c.loop-stored.at) ≡ 0 = sym (ap (λ (l : List ℕ). length l) some.2) ∙ eqb-true _ _ (sym c.is_empty.ensures ∙ c.if-is_empty.true) in
-    never (λ h. no_key t c.args.i c.loop-stored.at c.in-Some-parent.parent _ h.0 c.loop-stored.invariant.walked up empty h.1)
+    let up : (item t c.loop-link.at).parent ≡ Some c.in-Some-parent.parent = sym some.1 ∙ c.in-Some-parent.is in
+    let empty : length (key t c.loop-link.at) ≡ 0 = sym (ap (λ (l : List ℕ). length l) some.2) ∙ eqb-true _ _ (sym c.is_empty.ensures ∙ c.if-is_empty.true) in
+    never (λ h. no_key t c.args.i c.loop-link.at c.in-Some-parent.parent _ h.0 c.loop-link.invariant.walked up empty h.1)
 
-pub loop-stored-preserved : goal.loop-stored-preserved
-loop-stored-preserved c =
+pub loop-link-preserved : goal.loop-link-preserved
+loop-link-preserved c =
     let t = region c.args.self in
     let some = c.in-Some.ensures.some in
-    let inv = c.loop-stored.invariant in
-    let own = key t c.loop-stored.at in
+    let inv = c.loop-link.invariant in
+    let own = key t c.loop-link.at in
     let start = c.in-Some-checked_sub.ensures in
-    let up : (item t c.loop-stored.at).parent ≡ Some c.in-Some-parent.parent = sym (ap (λ (e : Item). e.parent) some.1) ∙ c.in-Some-parent.is in
+    let up : (item t c.loop-link.at).parent ≡ Some c.in-Some-parent.parent = sym some.1 ∙ c.in-Some-parent.is in
     let same = ap (λ (l : List ℕ). length l) some.2 in
     let long : 0 < length own = let d = eqb-false _ _ (sym c.is_empty.ensures ∙ c.if-is_empty.false) in omega (arith, d, same) in
-    let le : c.in-Some-checked_sub.start ≤ c.loop-stored.end = omega (arith, start.0, start.1) in
-    let put = put_before c.in-Some-checked_sub.start c.loop-stored.end c.loop-stored.room c.copy_from_slice.new.self le inv.inside in
-    let is = put ∙ ap (λ (l : List ℕ). l ++ drop c.loop-stored.end c.loop-stored.room) (c.copy_from_slice.ensures.after ∙ some.2) in
-    let size = same_len_mid c.in-Some-checked_sub.start (c.loop-stored.end - c.in-Some-checked_sub.start) c.loop-stored.room c.copy_from_slice.new.self c.copy_from_slice.ensures.len in
+    let le : c.in-Some-checked_sub.start ≤ c.loop-link.end = omega (arith, start.0, start.1) in
+    let put = put_before c.in-Some-checked_sub.start c.loop-link.end c.loop-link.room c.copy_from_slice.new.self le inv.inside in
+    let is = put ∙ ap (λ (l : List ℕ). l ++ drop c.loop-link.end c.loop-link.room) (c.copy_from_slice.ensures.after ∙ some.2) in
+    let size = same_len_mid c.in-Some-checked_sub.start (c.loop-link.end - c.in-Some-checked_sub.start) c.loop-link.room c.copy_from_slice.new.self c.copy_from_slice.ensures.len in
     record {
-      walked = subst (LeadsTo t c.args.i c.in-Some-parent.parent) (sym is) (leads_more t c.args.i c.loop-stored.at c.in-Some-parent.parent _ inv.walked some.0 up long);
+      walked = subst (LeadsTo t c.args.i c.in-Some-parent.parent) (sym is) (leads_more t c.args.i c.loop-link.at c.in-Some-parent.parent _ inv.walked some.0 up long);
       inside = omega (arith, le, size, inv.inside);
       size = size ∙ inv.size;
     }

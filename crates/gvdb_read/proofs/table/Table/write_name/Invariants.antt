@@ -5,12 +5,12 @@ use Rattle.gvdb_read.proofs.NameWalks.{LeadsTo}
 use Rattle.gvdb_read.proofs.table.Table.write_name.Given as goal
 
 -- the keys that were passed are in the room from the end at hand on
-abbrev pub invariant-loop-stored : goal.invariant-loop-stored
-invariant-loop-stored l = record {
+abbrev pub invariant-loop-link : goal.invariant-loop-link
+invariant-loop-link l = record {
   walked : LeadsTo (region l.fn.self) l.i l.at (drop l.end l.room);
   inside : l.end ≤ length l.room;
   size : length l.room ≡ length l.fn.room;
 }
 
-abbrev pub decreases-loop-stored : goal.decreases-loop-stored
-decreases-loop-stored l = l.end
+abbrev pub decreases-loop-link : goal.decreases-loop-link
+decreases-loop-link l = l.end

@@ -1,0 +1,89 @@
+//! Single fields of an item's record, read without the others.
+ghost use Rattle.std.specs.Prelude.{◌≡◌, ◌+◌, ◌<◌, ◌↔◌, IfNone, IfSome, IsTrue};
+ghost use Rattle.dconf_model.specs.Names.{IsItem};
+ghost use Rattle.dconf_model.specs.Table.{HasBytes, bytes_of, item, item_count, key};
+ghost use Rattle.gvdb_read.specs.Kinds.{letter_of};
+
+use crate::format::{Kind, RECORD_LEN, parent, read_u8, read_u16, read_u32};
+use crate::table::Table;
+
+/// What leads from an item up to the one above it.
+#[derive(Clone, Copy, Debug)]
+pub(crate) struct Link<'a> {
+    pub(crate) parent: Option<u32>,
+    pub(crate) key: &'a [u8],
+}
+
+impl<'a> Table<'a> {
+    ghost use Rattle.gvdb_read.specs.Tables.{region};
+
+    /// The hash of item `i`.
+    #[inline(always)]
+    pub(crate) fn hash_at(self, i: u32) -> u32
+        requires { i < item_count (region self) }
+        ensures { result ≡ (item (region self.entry) i).hash }
+    {
+        read_u32(self.file, self.first_item + RECORD_LEN * i as usize)
+    }
+
+    /// The parent of item `i`.
+    #[inline(always)]
+    pub(crate) fn parent_at(self, i: u32) -> Option<u32>
+        requires { i < item_count (region self) }
+        ensures { result ≡ (item (region self.entry) i).parent }
+    {
+        parent(read_u32(self.file, self.first_item + RECORD_LEN * i as usize + 4))
+    }
+
+    /// How many bytes the key of item `i` has.
+    #[inline(always)]
+    pub(crate) fn key_size_at(self, i: u32) -> u16
+        requires { i < item_count (region self) }
+        ensures { (item (region self.entry) i).key_start + result ≡ (item (region self.entry) i).key_end }
+    {
+        read_u16(self.file, self.first_item + RECORD_LEN * i as usize + 12)
+    }
+
+    /// Whether item `i` is of a kind.
+    #[inline(always)]
+    pub(crate) fn has_kind(self, i: u32, kind: Kind) -> bool
+        requires { i < item_count (region self) }
+        ensures { IsTrue result ↔ ((item (region self.entry) i).kind ≡ letter_of kind) }
+    {
+        read_u8(self.file, self.first_item + RECORD_LEN * i as usize + 14) == kind.letter()
+    }
+
+    /// The parent and the key of item `i`. None where there is no such item, and where its key doesn't lie in the file.
+    #[inline(always)]
+    pub(crate) fn link_at(self, i: u32) -> Option<Link<'a>>
+        ensures some { IfSome result (λ link. IsItem (region self.entry) i
+            × (link.parent ≡ (item (region self.entry) i).parent) × (link.key.now ≡ key (region self.entry) i)) }
+        ensures none { IfNone result (¬ IsItem (region self.entry) i) }
+    {
+        if i >= self.items {
+            return None;
+        }
+        let at = self.first_item + RECORD_LEN * i as usize;
+        let key = self.cut_key(read_u32(self.file, at + 8), read_u16(self.file, at + 12))?;
+        Some(Link {
+            parent: parent(read_u32(self.file, at + 4)),
+            key,
+        })
+    }
+
+    /// What item `i`, which is of this kind, points to. None where the pointer isn't valid.
+    #[inline(always)]
+    pub(crate) fn pointed_at(self, i: u32, kind: Kind) -> Option<&'a [u8]>
+        requires counted { i < item_count (region self) }
+        requires of_kind { (item (region self) i).kind ≡ letter_of kind }
+        ensures lent { IfSome result (λ bytes. HasBytes (region self.entry) i × (bytes.now ≡ bytes_of (region self.entry) i)) }
+        ensures none { IfNone result (¬ HasBytes (region self.entry) i) }
+    {
+        let at = self.first_item + RECORD_LEN * i as usize;
+        self.follow(
+            kind.letter(),
+            read_u32(self.file, at + 16),
+            read_u32(self.file, at + 20),
+        )
+    }
+}

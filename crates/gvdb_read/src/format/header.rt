@@ -1,0 +1,16 @@
+//! The fixed parts: what each file begins with, and the sizes of what each table begins with.
+
+/// What each database begins with.
+pub const SIGNATURE: &[u8] = b"GVariant";
+
+/// How many bytes a file's header has: the signature, the version, the options, and a pointer to the root table.
+pub const HEADER_LEN: usize = 24;
+
+/// How many bytes a table's head has.
+pub(crate) const HEAD_LEN: usize = 8;
+
+/// How many bytes a bloom word has, and a bucket.
+pub(crate) const WORD_LEN: usize = 4;
+
+/// What stands for the parent of an item without one.
+pub(crate) const NO_PARENT: u32 = 0xffff_ffff;
