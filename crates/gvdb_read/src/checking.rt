@@ -35,7 +35,7 @@ impl Table<'_> {
     /// It takes no memory. S1, S2, S5, S6 and S8 take time in the buckets, the items and the bytes of their keys; S3
     /// takes a step for each of the parents of each item. S4 takes time in the bytes of the keys where it is kept; else in
     /// those of the full names. S7 looks at the items of each item's bucket, and compares names where the hashes agree. S9
-    /// takes time in the first 65,536 bytes of the full names. S10 takes time in the items, times the logarithm of the
+    /// takes a step for each of the parents of each item, as far as their keys have 65,535 bytes. S10 takes time in the items, times the logarithm of the
     /// longest list, where all lists ascend by number, as our writer puts them, or by key, as dconf's does; else in the
     /// items times the lists. S11 asks S1 to S8 of the table of locks.
     pub fn check(self) -> Result<(), Unsound>
