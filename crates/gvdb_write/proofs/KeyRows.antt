@@ -3,7 +3,7 @@ use Rattle.std.proofs.Common.{ℕ, ◌≡◌, ◌<◌, ◌+◌, ◌-◌, List, [
 use Rattle.std.proofs.lemmas.List.{length-drop, length_push}
 use Rattle.dconf_model.specs.Plans.{keys_end}
 use Rattle.dconf_model.proofs.PlanEnds.{keys_next, keys_grow}
-use Rattle.gvdb_write.specs.declared.layout.ItemRecord.{ItemRecord as Numbers}
+use Rattle.gvdb_read.specs.declared.format.record.ItemRecord.{ItemRecord as Numbers}
 use Rattle.gvdb_write.specs.declared.names.Named.{Named}
 use Rattle.gvdb_write.specs.Names.{named, name_at}
 use Rattle.gvdb_write.specs.PlanWords.{kind_of, entries_of}

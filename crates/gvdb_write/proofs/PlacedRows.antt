@@ -2,7 +2,7 @@
 use Rattle.std.proofs.Common.{ℕ, ◌≡◌, ◌<◌, ◌+◌, List, length, get_or, sym, ap, ◌∙◌, subst, arith}
 use Rattle.dconf_model.specs.Table.{value_kind}
 use Rattle.dconf_model.specs.Plans.{nothing_bytes}
-use Rattle.gvdb_write.specs.declared.layout.ItemRecord.{ItemRecord as Numbers}
+use Rattle.gvdb_read.specs.declared.format.record.ItemRecord.{ItemRecord as Numbers}
 use Rattle.gvdb_write.specs.declared.layout.Pointer.{Pointer}
 use Rattle.gvdb_write.specs.declared.names.Named.{Named}
 use Rattle.gvdb_write.specs.LayoutParts.{row, value_start, AreRecords, AreLocks, HasPlacedValue}

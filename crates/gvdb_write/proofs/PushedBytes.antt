@@ -1,16 +1,9 @@
 -- The bytes of a number as the machine gives them, and one append after another.
-use Rattle.std.proofs.Common.{ℕ, ◌≡◌, List, [], ◌∷◌, ◌++◌, sym, ap, ◌∙◌, append_assoc, length}
-use Rattle.gv_model.specs.Encode.{number_bytes}
-use Rattle.dconf_model.specs.TableBytes.{ItemRecord, parent_number, record_bytes, records_bytes, words_bytes, head_bytes, table_bytes}
+use Rattle.std.proofs.Common.{ℕ, ◌≡◌, List, ◌++◌, sym, ap, ◌∙◌, append_assoc, length}
+use Rattle.dconf_model.specs.TableBytes.{ItemRecord, records_bytes, words_bytes, head_bytes, table_bytes}
 
 pub then_append : (first next last x y : List ℕ) → next ≡ first ++ x → last ≡ next ++ y → last ≡ first ++ (x ++ y)
 then_append first next last x y e f = f ∙ (ap (λ (l : List ℕ). l ++ y) e ∙ append_assoc first x y)
-
-pub row_appended : (r : ItemRecord) (a b c d e f g h : List ℕ) → b ≡ a ++ number_bytes 4 r.hash → c ≡ b ++ number_bytes 4 (parent_number r.parent)
-    → d ≡ c ++ number_bytes 4 r.key_start → e ≡ d ++ number_bytes 2 r.key_size → f ≡ e ++ (r.kind ∷ 0 ∷ []) → g ≡ f ++ number_bytes 4 r.start
-    → h ≡ g ++ number_bytes 4 r.end → h ≡ a ++ record_bytes r
-row_appended r a b c d e f g h p1 p2 p3 p4 p5 p6 p7 =
-    then_append a b h _ _ p1 (then_append b c h _ _ p2 (then_append c d h _ _ p3 (then_append d e h _ _ p4 (then_append e f h _ _ p5 (then_append f g h _ _ p6 p7)))))
 
 in_one : (h w b r k : List ℕ) → h ++ (w ++ (b ++ (r ++ k))) ≡ (h ++ (w ++ (b ++ r))) ++ k
 in_one h w b r k =

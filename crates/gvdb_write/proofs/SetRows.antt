@@ -2,7 +2,7 @@
 use Rattle.std.proofs.Common.{ℕ, ◌≡◌, List, ◌++◌, length, take, drop, sym, ◌∙◌, subst, arith}
 use Rattle.std.proofs.lemmas.List.{take_at}
 use Rattle.dconf_model.specs.Table.{list_kind}
-use Rattle.gvdb_write.specs.declared.layout.ItemRecord.{ItemRecord as Numbers}
+use Rattle.gvdb_read.specs.declared.format.record.ItemRecord.{ItemRecord as Numbers}
 use Rattle.gvdb_write.specs.declared.layout.Pointer.{Pointer}
 use Rattle.gvdb_write.specs.declared.table.TablePlan.{TablePlan}
 use Rattle.gvdb_write.specs.PlanWords.{children_of}

@@ -5,7 +5,7 @@ use Rattle.gv_model.specs.Limits.{limit}
 use Rattle.dconf_model.specs.Table.{value_kind, list_kind, table_kind}
 use Rattle.dconf_model.specs.Plans.{keys_end, root_end, length_of, with_new}
 use Rattle.gvdb_write.specs.declared.layout.Layout.{Layout}
-use Rattle.gvdb_write.specs.declared.layout.ItemRecord.{ItemRecord as Numbers}
+use Rattle.gvdb_read.specs.declared.format.record.ItemRecord.{ItemRecord as Numbers}
 use Rattle.gvdb_write.specs.declared.layout.Pointer.{Pointer}
 use Rattle.gvdb_write.specs.declared.names.Named.{Named}
 use Rattle.gvdb_write.specs.declared.table.TablePlan.{TablePlan}

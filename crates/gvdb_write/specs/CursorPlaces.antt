@@ -6,7 +6,7 @@ use Rattle.dconf_model.specs.Entries.{Children}
 use Rattle.dconf_model.specs.Plans.{size_of_table, keys_end}
 use Rattle.gvdb_write.specs.declared.layout.Pointer.{Pointer}
 use Rattle.gvdb_write.specs.declared.names.Named.{Named}
-use Rattle.gvdb_write.specs.declared.layout.ItemRecord.{ItemRecord as Numbers}
+use Rattle.gvdb_read.specs.declared.format.record.ItemRecord.{ItemRecord as Numbers}
 use Rattle.gvdb_write.specs.declared.table.TablePlan.{TablePlan}
 use Rattle.gvdb_write.specs.Names.{kind_at}
 use Rattle.gvdb_write.specs.PlanWords.{entries_of, children_of}

@@ -3,7 +3,6 @@ pub mod Maps
 pub mod PathsLeft
 pub mod WriteFaults
 pub mod Limits
-pub mod ItemRecords
 pub mod Groups
 pub mod PlanWords
 pub mod Names

@@ -5,10 +5,10 @@ use Rattle.gv_model.specs.Layout.{round_up}
 use Rattle.gv_model.specs.Limits.{limit}
 use Rattle.dconf_model.specs.TableBytes.{ItemRecord, table_bytes}
 use Rattle.dconf_model.specs.TableEncoding.{HasBits}
-use Rattle.gvdb_write.specs.declared.layout.ItemRecord.{ItemRecord as Numbers}
+use Rattle.gvdb_read.specs.declared.format.record.ItemRecord.{ItemRecord as Numbers}
 use Rattle.gvdb_write.specs.declared.names.Named.{Named}
 use Rattle.gvdb_write.specs.declared.table.TablePlan.{TablePlan}
-use Rattle.gvdb_write.specs.ItemRecords.{record_of}
+use Rattle.gvdb_read.specs.ItemRecords.{record_of}
 use Rattle.gvdb_write.specs.PlanWords.{no_name}
 
 -- each has four bytes

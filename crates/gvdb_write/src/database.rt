@@ -2,34 +2,27 @@
 //! them.
 ghost use Rattle.std.specs.Prelude.{ℕ, ◌≡◌, ◌++◌, ◌+◌, ◌-◌, ◌*◌, ◌/◌, ◌%◌, ◌^◌, ◌≤◌, ◌<◌, length, OnOk, IfOk, IfErr, replicate, IsBitSet};
 ghost use Rattle.gv_model.specs.Encode.{number_bytes};
-ghost use Rattle.dconf_model.specs.TableBytes.{record_bytes, records_bytes, words_bytes, head_bytes, header_bytes};
+ghost use Rattle.dconf_model.specs.TableBytes.{records_bytes, words_bytes, head_bytes, header_bytes};
 ghost use Rattle.dconf_model.specs.Opening.{IsDatabase, root_of};
 ghost use Rattle.dconf_model.specs.Sound.{IsSound};
 ghost use Rattle.dconf_model.specs.Plans.{values_end, HoldsValues, HoldsLocks, HasLength};
-ghost use Rattle.dconf_model.specs.TableBytes.{parent_number as number_of_parent};
 ghost use Rattle.gvdb_write.specs.Limits.{limit, IsRefusal};
-ghost use Rattle.gvdb_write.specs.ItemRecords.{record_of};
 ghost use Rattle.gvdb_write.specs.Values.{bytes_of_each};
 ghost use Rattle.gvdb_write.specs.LayoutParts.{IsLayoutOf};
 ghost use Rattle.gvdb_write.specs.PlannedTables.{AreTables, AreReady, IsFileOf};
 ghost use Rattle.gvdb_write.specs.WrittenParts.{HaveFourBytes, HaveNumbers, HaveKeys, HaveBits, HasTable, HasTableOfLocks, keys_bytes, numbers_of, records_of, with_padding, with_values};
 ghost use Rattle.gvdb_write.specs.declared.write_fault.WriteFault.TheVariants.{Memory};
 
-use crate::layout::{ItemRecord, Layout, Pointer, bloom_words};
+use crate::layout::{Layout, Pointer, bloom_words};
 use crate::map::Map;
 use crate::names::{Named, lock_names, root_names};
 use crate::table::TablePlan;
 use crate::write_fault::WriteFault;
+use gvdb_read::format::{ItemRecord, SIGNATURE};
 use std::alloc::Global;
-
-/// What each database begins with.
-const SIGNATURE: &[u8] = b"GVariant";
 
 /// The second hash of a bloom word is the hash after so many bits.
 const BLOOM_SHIFT: u32 = 5;
-
-/// The parent of an item without one.
-const NO_PARENT: u32 = 0xffff_ffff;
 
 /// The bytes of a database that holds a map's values and locks.
 ///
@@ -202,7 +195,7 @@ fn write_rows(rows: &[ItemRecord], out: &mut Vec<u8>) -> Result<(), WriteFault>
     ensures fault { IfErr result (λ e. e ≡ Memory) }
 {
     for row in rows {
-        push_row(*row, out)?;
+        row.push(out)?;
     }
     Ok(())
 }
@@ -217,30 +210,6 @@ fn write_keys(items: &[Named<'_>], out: &mut Vec<u8>) -> Result<(), WriteFault>
         out.extend_from_slice(&named.name[named.from..])?;
     }
     Ok(())
-}
-
-/// Appends the numbers of an item.
-fn push_row(row: ItemRecord, out: &mut Vec<u8>) -> Result<(), WriteFault>
-    ensures bytes { OnOk result (out.new.items ≡ out.old.items ++ record_bytes (record_of row)) }
-    ensures fault { IfErr result (λ e. e ≡ Memory) }
-{
-    push(row.hash, out)?;
-    push(parent_number(row.parent), out)?;
-    push(row.key_start, out)?;
-    push_short(row.key_size, out)?;
-    out.extend_from_slice(&[row.kind, 0])?;
-    push(row.start, out)?;
-    push(row.end, out)
-}
-
-/// What stands for a parent.
-fn parent_number(parent: Option<u32>) -> u32
-    ensures { result ≡ number_of_parent parent }
-{
-    match parent {
-        Some(number) => number,
-        None => NO_PARENT,
-    }
 }
 
 /// Appends the lists of all directories, at a multiple of 4.
@@ -284,15 +253,6 @@ fn pad(to: usize, out: &mut Vec<u8>) -> Result<(), WriteFault>
 /// Appends a number, the lowest byte first.
 fn push(number: u32, out: &mut Vec<u8>) -> Result<(), WriteFault>
     ensures bytes { OnOk result (out.new.items ≡ out.old.items ++ number_bytes 4 number) }
-    ensures fault { IfErr result (λ e. e ≡ Memory) }
-{
-    out.extend_from_slice(&number.to_le_bytes())?;
-    Ok(())
-}
-
-/// Appends a number of two bytes, the lowest byte first.
-fn push_short(number: u16, out: &mut Vec<u8>) -> Result<(), WriteFault>
-    ensures bytes { OnOk result (out.new.items ≡ out.old.items ++ number_bytes 2 number) }
     ensures fault { IfErr result (λ e. e ≡ Memory) }
 {
     out.extend_from_slice(&number.to_le_bytes())?;

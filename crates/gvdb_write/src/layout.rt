@@ -18,31 +18,17 @@ use crate::names::{Content, Named};
 use crate::table::TablePlan;
 use crate::values::Values;
 use crate::write_fault::WriteFault;
+use gvdb_read::format::{HEADER_LEN, ItemRecord, Kind};
 use std::alloc::Global;
 
 /// How many bytes a database has at most.
 pub const MAX_DATABASE_LEN: usize = 4_294_967_295;
-
-/// How many bytes a header has.
-pub(crate) const HEADER: usize = 24;
 
 /// From where to where something is.
 #[derive(Clone, Copy, Debug)]
 pub(crate) struct Pointer {
     pub(crate) start: usize,
     pub(crate) end: usize,
-}
-
-/// The numbers of an item. Its key and its content occur from start up to end.
-#[derive(Clone, Copy, Debug)]
-pub(crate) struct ItemRecord {
-    pub(crate) hash: u32,
-    pub(crate) parent: Option<u32>,
-    pub(crate) key_start: u32,
-    pub(crate) key_size: u16,
-    pub(crate) kind: u8,
-    pub(crate) start: u32,
-    pub(crate) end: u32,
 }
 
 /// Where a table is, and the numbers of its items.
@@ -125,7 +111,7 @@ fn lay_keys(
     ensures at { OnOk result (cursor.new.at ≡ all_keys_end cursor.old.at items.now) }
     ensures fault { IfErr result (IsOver (all_keys_end cursor.old.at items.now)) }
 {
-    let mut rows = Vec::new(alloc);
+    let mut rows = Vec::with_capacity(alloc, items.len())?;
     for named in items {
         let size = named.name.len() - named.from;
         let key = cursor.lay(size)?;
@@ -158,9 +144,9 @@ fn kind(content: Content<'_>) -> u8
     ensures { result ≡ kind_of content.entry }
 {
     match content {
-        Content::Value(_) => b'v',
-        Content::List => b'L',
-        Content::Locks => b'H',
+        Content::Value(_) => Kind::Value.letter(),
+        Content::List => Kind::List.letter(),
+        Content::Locks => Kind::Table.letter(),
     }
 }
 
@@ -183,7 +169,7 @@ fn lay_lists(
     }
     let all = cursor.lay(4 * table.children.len())?;
     for (number, row) in rows.iter_mut().enumerate() {
-        if row.kind == b'L' {
+        if row.kind == Kind::List.letter() {
             row.start = (all.start + 4 * table.firsts[number]) as u32;
             row.end = (all.start + 4 * table.firsts[number + 1]) as u32;
         }
@@ -238,7 +224,7 @@ fn set_locks(pointer: Pointer, rows: &mut [ItemRecord])
     ensures { AreSet rows.old rows.new table_kind (λ i. pointer) }
 {
     for row in rows.iter_mut() {
-        if row.kind == b'H' {
+        if row.kind == Kind::Table.letter() {
             row.start = pointer.start as u32;
             row.end = pointer.end as u32;
         }
@@ -258,7 +244,7 @@ fn value_places<'a>(
     ensures places { IfOk result (λ places. HavePlaces items.now (bytes_of_each values.new.distinct.items) places.items) }
     ensures fault { IfErr result (λ e. e ≡ Memory) }
 {
-    let mut places = Vec::new(alloc);
+    let mut places = Vec::with_capacity(alloc, items.len())?;
     for named in items {
         let place = match named.content {
             Content::Value(bytes) => values.add(bytes)?,
@@ -279,7 +265,7 @@ fn lay_values(
     ensures at { OnOk result (cursor.new.at ≡ values_end cursor.old.at (bytes_of_each values.now)) }
     ensures fault { IfErr result (IsOver (values_end cursor.old.at (bytes_of_each values.now))) }
 {
-    let mut pointers = Vec::new(alloc);
+    let mut pointers = Vec::with_capacity(alloc, values.len())?;
     for value in values {
         cursor.align(8)?;
         pointers.push(cursor.lay(value.len())?)?;
@@ -295,7 +281,7 @@ fn set_values(places: &[usize], pointers: &[Pointer], rows: &mut [ItemRecord])
     ensures { AreSet rows.old rows.new value_kind (λ i. pointer_at pointers.now (slice_index places.now i)) }
 {
     for (number, row) in rows.iter_mut().enumerate() {
-        if row.kind == b'v' {
+        if row.kind == Kind::Value.letter() {
             let pointer = pointers[places[number]];
             row.start = pointer.start as u32;
             row.end = pointer.end as u32;
@@ -332,7 +318,7 @@ impl<'a> Layout<'a> {
         ensures layout { IfOk result (IsLayoutOf root.now locks.now) }
         ensures fault { IfErr result (IsOver (length_of (plan_of root.now locks.now))) }
     {
-        let mut cursor = Cursor { at: HEADER };
+        let mut cursor = Cursor { at: HEADER_LEN };
         let mut root_rows = lay_root(alloc, &mut cursor, root)?;
         let mut lock_rows = lay_locks(alloc, &mut cursor, locks)?;
         // Without locks no item has their table.

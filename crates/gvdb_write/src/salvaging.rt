@@ -15,10 +15,8 @@ use crate::map::Map;
 use crate::salvage_fault::SalvageFault;
 use dconf_path::{KeyPath, LockPath, MAX_PATH_LEN};
 use gvdb_read::Table;
+use gvdb_read::format::Kind;
 use std::alloc::Global;
-
-/// The kind of a value.
-const VALUE: u8 = b'v';
 
 /// The name of the table of locks.
 const LOCKS: &str = ".locks";
@@ -88,7 +86,11 @@ fn pointed_value<'a>(table: Table<'a>, i: u32) -> Option<&'a [u8]>
     ensures none { IfNone result (¬ IsPointed (region table.entry) i) }
 {
     let item = table.item(i)?;
-    if item.kind == VALUE { item.bytes } else { None }
+    if item.kind == Kind::Value.letter() {
+        item.bytes
+    } else {
+        None
+    }
 }
 
 /// The lowest table of locks that opens.
@@ -149,7 +151,7 @@ fn is_value(table: Table<'_>, i: u32) -> bool
     ensures { IsTrue result ↔ ((i < item_count (region table.entry)) × ((item (region table.entry) i).kind ≡ value_kind)) }
 {
     match table.item(i) {
-        Some(item) => item.kind == VALUE,
+        Some(item) => item.kind == Kind::Value.letter(),
         None => false,
     }
 }

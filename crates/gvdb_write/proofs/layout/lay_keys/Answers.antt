@@ -14,7 +14,7 @@ abbrev no_item : Named
 no_item = record { name = record { ref_ptr = (0, 0); now = [] }; from = 0; hash = 0; parent = None; content = Value record { ref_ptr = (0, 0); now = [] } }
 
 pub loop-named-init : goal.loop-named-init
-loop-named-init c = no_rows c.args.items.now c.args.cursor.now.at c.new-rows.result.items c.new-rows.ensures.items
+loop-named-init c = no_rows c.args.items.now c.args.cursor.now.at c.in_ok-rows.rows.items c.in_ok-rows.ensures.items
 
 pub loop-named-preserved : goal.loop-named-preserved
 loop-named-preserved c =
@@ -39,7 +39,7 @@ returns-in_err-key-clause-fault c =
     let n = c.loop-named.named-index in
     let item : Named = get_or items n no_item in
     let size : ℕ = length item.name.now - item.from in
-    past_is_over c.from_residual.result (c.loop-named.cursor.at + size) (all_keys_end c.args.cursor.now.at items)
+    past_is_over c.from_residual-in_err-key.result (c.loop-named.cursor.at + size) (all_keys_end c.args.cursor.now.at items)
     (past_all items c.args.cursor.now.at c.loop-named.cursor.at n size limit item c.loop-named-test.true c.loop-named.invariant.ends
     (get_or_default items n no_item no_name c.loop-named-test.true) refl)
     (search rules)

@@ -1,7 +1,7 @@
 use Rattle.std.proofs.Common.{rules, ℕ, ◌≡◌, List, ◌++◌, length, take, drop, sym, subst, arith}
 use Rattle.gv_model.proofs.NumberBytes.{le-round_up}
 use Rattle.dconf_model.specs.Table.{list_kind}
-use Rattle.gvdb_write.specs.declared.layout.ItemRecord.{ItemRecord as Numbers}
+use Rattle.gvdb_read.specs.declared.format.record.ItemRecord.{ItemRecord as Numbers}
 use Rattle.gvdb_write.specs.PlanWords.{children_of}
 use Rattle.gvdb_write.specs.LayoutParts.{AreRecords}
 use Rattle.gvdb_write.specs.CursorPlaces.{table_end, laid_end, all_lists_end, list_pointer, AreListed}

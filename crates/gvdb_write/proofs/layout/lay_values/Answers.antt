@@ -17,7 +17,7 @@ size : (values : List (Bor (List ℕ))) (i : ℕ) → length (get_or values i no
 size values i = ap length (sym (get_or-map (λ (v : Bor (List ℕ)). v.now) values i no_bytes))
 
 pub loop-value-init : goal.loop-value-init
-loop-value-init c = record { so_far = none_laid c.args.cursor.now.at (bytes_of_each c.args.values.now) c.new-pointers.result.items c.new-pointers.ensures.items }
+loop-value-init c = record { so_far = none_laid c.args.cursor.now.at (bytes_of_each c.args.values.now) c.in_ok-pointers.pointers.items c.in_ok-pointers.ensures.items }
 
 pub loop-value-preserved : goal.loop-value-preserved
 loop-value-preserved c =
@@ -38,7 +38,7 @@ returns-in_err-align-clause-fault c =
     let values = bytes_of_each c.args.values.now in
     let n = counted c.args.values.now in
     let test = c.loop-value-test.true in
-    IfErr-weaker c.from_residual.result (IsPast (round_up 8 c.loop-value.cursor.at)) (IsOver (values_end c.args.cursor.now.at values))
+    IfErr-weaker c.from_residual-in_err-align.result (IsPast (round_up 8 c.loop-value.cursor.at)) (IsOver (values_end c.args.cursor.now.at values))
     (past_at_align c.args.cursor.now.at values c.loop-value.value-index c.loop-value.cursor.at c.loop-value.pointers.items c.loop-value.invariant.so_far (omega (arith, n, test)))
     (search rules)
 

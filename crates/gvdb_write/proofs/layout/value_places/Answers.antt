@@ -9,7 +9,7 @@ use Rattle.gvdb_write.proofs.layout.value_places.Goals.{in-Value+in_ok-place-in-
 pub loop-named-init : goal.loop-named-init
 loop-named-init c = record {
   known = c.requires;
-  so_far = none_found c.args.items.now (bytes_of_each c.args.values.now.distinct.items) c.new-places.result.items c.new-places.ensures.items;
+  so_far = none_found c.args.items.now (bytes_of_each c.args.values.now.distinct.items) c.in_ok-places.places.items c.in_ok-places.ensures.items;
 }
 
 abbrev AreKnown : Values → Type 0

@@ -2,7 +2,7 @@ use Rattle.std.proofs.Common.{rules, ℕ, ◌≡◌, ◌<◌, List, [], length, 
 use Rattle.std.specs.Vec.{with_items}
 use Rattle.dconf_model.specs.Table.{table_kind, value_kind}
 use Rattle.dconf_model.specs.Plans.{length_of, root_end, locks_end, values_end}
-use Rattle.gvdb_write.specs.declared.layout.ItemRecord.{ItemRecord as Numbers}
+use Rattle.gvdb_read.specs.declared.format.record.ItemRecord.{ItemRecord as Numbers}
 use Rattle.gvdb_write.specs.declared.layout.Pointer.{Pointer}
 use Rattle.gvdb_write.specs.PlanWords.{plan_of, children_of, entries_of}
 use Rattle.gvdb_write.specs.Values.{bytes_of_each}
