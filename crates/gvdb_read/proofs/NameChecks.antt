@@ -1,5 +1,5 @@
 -- What the rules on full names say of the one name that an item has.
-use Rattle.std.proofs.Common.{ℕ, List, ◌≡◌, ◌≤◌, ◌<◌, ◌↔◌, length, sym, ◌∙◌, ap, subst, arith}
+use Rattle.std.proofs.Common.{ℕ, ◌≡◌, ◌≤◌, ◌<◌, ◌↔◌, sym, ◌∙◌, ap, subst, arith}
 use Rattle.dconf_model.specs.Bytes.{hash_of}
 use Rattle.dconf_model.specs.Table.{Table, item, item_count}
 use Rattle.dconf_model.specs.Names.{HasName, full_name}
@@ -13,12 +13,6 @@ pub hash_is_of_name : (t : Table) (i : ℕ) → KeepsAll t keys → KeepsAll t c
 hash_is_of_name t i good ends counted = (
   λ e name h. e ∙ ap hash_of (full_name_is t i name h),
   λ has. has (full_name t i) (has_full_name t i good ends counted),
-)
-
-pub name_is_short : (t : Table) (i n : ℕ) → KeepsAll t keys → KeepsAll t chain → i < item_count t → (length (full_name t i) ≤ n) ↔ ((name : List ℕ) → HasName t i name → length name ≤ n)
-name_is_short t i n good ends counted = (
-  λ short name h. subst (λ (l : List ℕ). length l ≤ n) (full_name_is t i name h) short,
-  λ each. each (full_name t i) (has_full_name t i good ends counted),
 )
 
 -- items of one name have one hash

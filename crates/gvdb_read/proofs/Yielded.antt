@@ -1,5 +1,5 @@
 -- What calls of `next` gave, at an iterator that shows the numbers that are left.
-use Rattle.std.proofs.Common.{ℕ, Bool, true, false, List, [], ◌∷◌, ◌++◌, Option, Some, None, ◌+◌, ◌≡◌, ◌≤◌, ◌↔◌, length, IsTrue, refl, sym, ◌∙◌, ap, arith, length-append}
+use Rattle.std.proofs.Common.{ℕ, Bool, true, false, List, [], ◌∷◌, ◌++◌, Option, Some, None, ◌≡◌, ◌↔◌, IsTrue, refl, sym, ◌∙◌, ap}
 use Rattle.std.specs.Prelude.{MatchOption, IfSome}
 use Rattle.std.specs.List.{AllZip}
 use Rattle.std.specs.Iterator.{YieldsFirst, Yields, ComparesItemsByEq}
@@ -9,23 +9,6 @@ use Rattle.std.proofs.lemmas.List.{append_cancel_left}
 gone : {S : Type 0} (rest : S → List ℕ) (xs : List ℕ) (s t : S) → Yields (YieldsFirst rest) s xs t → rest s ≡ xs ++ rest t
 gone rest [] s t y = ap rest y
 gone rest (x ∷ xs) s t y = y.1 ∙ ap (λ (l : List ℕ). x ∷ l) (gone rest xs y.0 t y.2)
-
--- calls gave the first numbers of those that were left, and the next one r; these are left then
-abbrev pub GivesAfter : {S : Type 0} → (S → List ℕ) → ℕ → S → List ℕ → Option ℕ → Type 0
-GivesAfter {S} rest n s then_left r = (xs : List ℕ) × ((t : S) × Yields (YieldsFirst rest) s xs t × MatchOption r ((rest t ≡ []) × (then_left ≡ [])) (λ x. rest t ≡ x ∷ then_left)) × MatchOption r (length xs ≤ n) (λ _. length xs ≡ n)
-
--- after n numbers comes none where there are no more than n
-pub no_more : {S : Type 0} (rest : S → List ℕ) (n : ℕ) (s : S) (then_left : List ℕ) (r : Option ℕ) → GivesAfter rest n s then_left r → (r ≡ None) ↔ (length (rest s) ≤ n)
-no_more rest n s then_left None ran =
-    let all = gone rest ran.0 s ran.1.0 ran.1.1 in
-    let len : length (rest s) ≡ length ran.0 + length (rest ran.1.0) = ap (λ (l : List ℕ). length l) all ∙ length-append ran.0 (rest ran.1.0) in
-    let end : length (rest ran.1.0) ≡ 0 = ap (λ (l : List ℕ). length l) ran.1.2.0 in
-    (λ e. omega (arith, ran.2), λ h. refl)
-no_more rest n s then_left (Some x) ran =
-    let all = gone rest ran.0 s ran.1.0 ran.1.1 in
-    let len : length (rest s) ≡ length ran.0 + length (rest ran.1.0) = ap (λ (l : List ℕ). length l) all ∙ length-append ran.0 (rest ran.1.0) in
-    let more : length (rest ran.1.0) ≡ length (x ∷ then_left) = ap (λ (l : List ℕ). length l) ran.1.2 in
-    (λ e. let bad : Some x ≡ None = e in cc, λ h. absurd (omega (arith, ran.2)))
 
 same_numbers : (eq : ℕ → ℕ → Bool) → ((x y : ℕ) → eq x y ≡ true → x ≡ y) → (xs ys : List ℕ) → AllZip (λ x y. eq x y ≡ true) xs ys → xs ≡ ys
 same_numbers eq tells [] [] zip = refl
