@@ -74,11 +74,14 @@ fn changes(
 fn changes_are_seen_and_saved(rt: HostRuntime) -> Result<(), Fail> {
     let free = ["/a/k=1 /b/j=1", "/a/k=2"];
     let locked = ["/a/k=1 /b/j=1", "/a/k=2 /a/k"];
+    // a key of the name of a directory
+    let both = ["/a=1 /a/k=5", "/z=9"];
     let three = "Some(3) Some(2) Some(0) false true; Some(3) Some(2) Some(0) false true";
     let seven = "Some(7) None Some(0) false true; Some(7) None Some(0) false true";
     let site = "Some(2) Some(2) Some(1) false true; Some(2) Some(2) Some(1) false true";
     let kept = "Some(1) None Some(0) false true; Some(1) None Some(0) false true";
     let gone = "None None None false true; None None None false true";
+    let five = "Some(5) None Some(0) false true; Some(5) None Some(0) false true";
     for (words, asked, path, wanted) in [
         (free, ("write", "/a/k=3"), "/a/k", three),
         (free, ("write", "/a/k=3"), "/b/j", kept),
@@ -89,6 +92,11 @@ fn changes_are_seen_and_saved(rt: HostRuntime) -> Result<(), Fail> {
         (free, ("load", "/a/k=3"), "/a/k", three),
         (free, ("load", "/a/k=3"), "/b/j", seven),
         (locked, ("force", "/a/k=3"), "/b/j", seven),
+        (free, ("reset", "/none"), "/b/j", kept),
+        (both, ("clear", "/a/"), "/a", kept),
+        (both, ("clear", "/a/"), "/a/k", gone),
+        (both, ("reset", "/a"), "/a", gone),
+        (both, ("reset", "/a"), "/a/k", five),
     ] {
         assert!(rt; changes(rt.alloc(), words, asked, path, wanted)?);
     }

@@ -4,10 +4,16 @@
 #[cfg(test)]
 mod changing;
 #[cfg(test)]
+mod keeping;
+#[cfg(test)]
 mod layers;
 #[cfg(test)]
 mod opening;
 #[cfg(test)]
+mod profiles;
+#[cfg(test)]
 mod reading;
+#[cfg(test)]
+mod refusing;
 #[cfg(test)]
 mod store;
