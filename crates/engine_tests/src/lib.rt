@@ -8,6 +8,8 @@ mod keeping;
 #[cfg(test)]
 mod layers;
 #[cfg(test)]
+mod listing;
+#[cfg(test)]
 mod opening;
 #[cfg(test)]
 mod profiles;
