@@ -19,8 +19,9 @@ mod input;
 #[cfg(test)]
 mod limits;
 #[cfg(test)]
-mod repairing;
 mod listing;
+#[cfg(test)]
+mod repairing;
 #[cfg(test)]
 mod runs;
 #[cfg(test)]
