@@ -5,6 +5,7 @@ ghost use Rattle.dconf_cli.specs.CommandLine.{check_line, command_line, compile_
 ghost use Rattle.dconf_cli.specs.Asked.{IsAskedBy, is_set, profile_file};
 
 use crate::asked::Command;
+use crate::help;
 use clap::{Arg, ArgAction, ArgMatches};
 use std::alloc::{AllocError, Global};
 
@@ -94,7 +95,10 @@ fn dconfdb<'a>(alloc: Global) -> Result<clap::Command<'a>, AllocError>
     ensures { IfOk result (λ c. app_of c ≡ command_line) }
 {
     clap::Command::new(alloc, "dconfdb")
-        .about("Reads GVariant values, and reads, makes and changes dconf databases")
+        .about(
+            "A settings store in the manner of dconf: reads, changes, makes and checks its databases",
+        )
+        .after_long_help(help::PROGRAM)
         .version("0.1.0")
         .subcommand_required(true)
         .subcommand(show(alloc)?)?
@@ -118,6 +122,7 @@ fn show<'a>(alloc: Global) -> Result<clap::Command<'a>, AllocError>
     let file = file_word(alloc);
     clap::Command::new(alloc, "show")
         .about("Prints the bytes of FILE, read as a value of the GVariant type TYPE")
+        .after_long_help(help::SHOW)
         .arg(type_text)?
         .arg(file)
 }
@@ -129,6 +134,7 @@ fn check<'a>(alloc: Global) -> Result<clap::Command<'a>, AllocError>
     let file = file_word(alloc);
     clap::Command::new(alloc, "check")
         .about("Says whether FILE is a sound database")
+        .after_long_help(help::CHECK)
         .arg(file)
 }
 
@@ -141,6 +147,7 @@ fn compile<'a>(alloc: Global) -> Result<clap::Command<'a>, AllocError>
     let keyfiles = keyfile_words(alloc);
     clap::Command::new(alloc, "compile")
         .about("Makes the database OUT of keyfiles, taken in the byte order of their names")
+        .after_long_help(help::COMPILE)
         .arg(out)?
         .arg(locks)?
         .arg(keyfiles)
@@ -177,6 +184,7 @@ fn read<'a>(alloc: Global) -> Result<clap::Command<'a>, AllocError>
     let profile = profile_word(alloc);
     clap::Command::new(alloc, "read")
         .about("Prints the value that is seen at KEY, and nothing where there is none")
+        .after_long_help(help::READ)
         .arg(key)?
         .arg(default)?
         .arg(profile)
@@ -190,6 +198,7 @@ fn origin<'a>(alloc: Global) -> Result<clap::Command<'a>, AllocError>
     let profile = profile_word(alloc);
     clap::Command::new(alloc, "origin")
         .about("Prints the index and the line of the database whose value is seen at KEY")
+        .after_long_help(help::ORIGIN)
         .arg(key)?
         .arg(profile)
 }
@@ -202,6 +211,7 @@ fn repair<'a>(alloc: Global) -> Result<clap::Command<'a>, AllocError>
     let out = out_word(alloc);
     clap::Command::new(alloc, "repair")
         .about("Makes a sound database OUT of what can be saved of FILE")
+        .after_long_help(help::REPAIR)
         .arg(file)?
         .arg(out)
 }
@@ -213,7 +223,8 @@ fn list<'a>(alloc: Global) -> Result<clap::Command<'a>, AllocError>
     of_directory(
         alloc,
         "list",
-        "Prints the names that DIR has, each directory with its slash",
+        "Prints the names right below DIR, one on a line; a directory's ends in /",
+        help::LIST,
     )
 }
 
@@ -221,7 +232,12 @@ fn list<'a>(alloc: Global) -> Result<clap::Command<'a>, AllocError>
 fn list_locks<'a>(alloc: Global) -> Result<clap::Command<'a>, AllocError>
     ensures { IfOk result (λ c. app_of c ≡ directory_line (codes "list-locks")) }
 {
-    of_directory(alloc, "list-locks", "Prints the locks that start with DIR")
+    of_directory(
+        alloc,
+        "list-locks",
+        "Prints the locked paths at or below DIR, one on a line",
+        help::LIST_LOCKS,
+    )
 }
 
 // `dump [-p FILE] DIR`.
@@ -232,14 +248,16 @@ fn dump<'a>(alloc: Global) -> Result<clap::Command<'a>, AllocError>
         alloc,
         "dump",
         "Prints the values that are seen below DIR, as a keyfile",
+        help::DUMP,
     )
 }
 
-// A command of this name with a directory and a profile.
+// A command of this name with a directory and a profile, and `more` behind its long help.
 fn of_directory<'a>(
     alloc: Global,
     name: &'a str,
     about: &'a str,
+    more: &'a str,
 ) -> Result<clap::Command<'a>, AllocError>
     ensures { IfOk result (λ c. app_of c ≡ directory_line name.now) }
 {
@@ -247,6 +265,7 @@ fn of_directory<'a>(
     let profile = profile_word(alloc);
     clap::Command::new(alloc, name)
         .about(about)
+        .after_long_help(more)
         .arg(directory)?
         .arg(profile)
 }
@@ -268,6 +287,7 @@ fn write<'a>(alloc: Global) -> Result<clap::Command<'a>, AllocError>
     let profile = profile_word(alloc);
     clap::Command::new(alloc, "write")
         .about("Sets the user's value of KEY to VALUE")
+        .after_long_help(help::WRITE)
         .arg(key)?
         .arg(value)?
         .arg(profile)
@@ -284,6 +304,7 @@ fn reset<'a>(alloc: Global) -> Result<clap::Command<'a>, AllocError>
         .about(
             "Takes away the user's value of the key PATH, or with -f those of all keys below the directory PATH",
         )
+        .after_long_help(help::RESET)
         .arg(path)?
         .arg(force)?
         .arg(profile)

@@ -20,6 +20,7 @@ mod command_line;
 mod commands;
 mod counted;
 mod giving;
+mod help;
 mod input;
 mod printing;
 mod putting;

@@ -8,8 +8,8 @@ use Rattle.dconf_cli.proofs.command_line.dconfdb.Goals as goal
 
 pub returns : goal.returns
 returns c =
-    let start : app_of c.about.result ≡ new_app (codes "dconfdb") = ap app_of_fields c.about.ensures ∙ c.new.ensures.app in
-    let version : app_of c.version.result ≡ versioned (app_of c.about.result) = ap app_of_fields c.version.ensures in
+    let start : app_of c.after_long_help.result ≡ new_app (codes "dconfdb") = ap app_of_fields c.after_long_help.ensures ∙ ap app_of_fields c.about.ensures ∙ c.new.ensures.app in
+    let version : app_of c.version.result ≡ versioned (app_of c.after_long_help.result) = ap app_of_fields c.version.ensures in
     let wants : app_of c.subcommand_required.result ≡ wanting_subcommand (app_of c.version.result) = ap app_of_fields c.subcommand_required.ensures in
     let line : app_of c.subcommand_required.result ≡ dconfdb_line = wants ∙ ap wanting_subcommand (version ∙ ap versioned start) in
     let shown = c.in_ok-show.ensures in

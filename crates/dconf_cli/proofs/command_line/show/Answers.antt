@@ -7,7 +7,7 @@ use Rattle.dconf_cli.proofs.command_line.show.Goals as goal
 
 pub returns : goal.returns
 returns c =
-    let start : app_of c.about.result ≡ new_app (codes "show") = ap app_of_fields c.about.ensures ∙ c.new.ensures.app in
+    let start : app_of c.after_long_help.result ≡ new_app (codes "show") = ap app_of_fields c.after_long_help.ensures ∙ ap app_of_fields c.about.ensures ∙ c.new.ensures.app in
     let type_is : rule_of c.help-type_text.result ≡ required_word (codes "TYPE") = ap rule_of c.help-type_text.ensures ∙ c.required.ensures.rule in
     let file_is : rule_of c.file_word-file.result ≡ required_word (codes "FILE") = c.file_word-file.ensures.rule in
     let one = c.in_ok-arg.ensures.shape (search rules) ∙ ap₂ with_rule start type_is in
