@@ -21,11 +21,11 @@ abbrev pub before : {X F : Type 0} → List X → Result (List X) F → Result (
 before xs (Ok ys) = Ok (xs ++ ys)
 before xs (Err f) = Err f
 
-before_none : {X F : Type 0} (r : Result (List X) F) → r ≡ before [] r
+pub before_none : {X F : Type 0} (r : Result (List X) F) → r ≡ before [] r
 before_none (Ok ys) = refl
 before_none (Err f) = refl
 
-before_more : {X F : Type 0} (xs ys : List X) (r : Result (List X) F) → before xs (before ys r) ≡ before (xs ++ ys) r
+pub before_more : {X F : Type 0} (xs ys : List X) (r : Result (List X) F) → before xs (before ys r) ≡ before (xs ++ ys) r
 before_more xs ys (Ok zs) = ap Ok (sym (append_assoc xs ys zs))
 before_more xs ys (Err f) = refl
 
@@ -71,7 +71,7 @@ module _ {F : Type 0} (whole : Result (List Assigned) F) (old : Settings) where
 abbrev pub rows_compiled : List Row → Result (List Assigned) LineFault
 rows_compiled rows = rows_read text_compiled (codes "/") rows
 
-found_first : {X : Type 0} (x : X) (r : Result (List X) LineFault) → with_first_found x r ≡ before (x ∷ []) r
+pub found_first : {X : Type 0} (x : X) (r : Result (List X) LineFault) → with_first_found x r ≡ before (x ∷ []) r
 found_first x (Ok xs) = refl
 found_first x (Err f) = refl
 

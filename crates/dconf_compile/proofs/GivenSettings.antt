@@ -14,7 +14,7 @@ use Rattle.dconf_model.specs.Settings.{Settings, AtPaths, Lock, no_settings, wit
 use Rattle.dconf_model.specs.Sources.{Assigned, FileFault, and_locks, last_value}
 use Rattle.dconf_model.specs.Values.{stored}
 use Rattle.dconf_model.proofs.LastValues.{get_all}
-use Rattle.dconf_model.proofs.PathMaps.{get_inserted}
+use Rattle.dconf_model.proofs.PathMaps.{get_inserted, or_swap}
 use Rattle.dconf_compile.specs.Added.{AddsRows, AddsLocks, with_rows, with_locks}
 use Rattle.dconf_compile.specs.Sources.{AreGivenBy}
 
@@ -46,12 +46,6 @@ value_at rows p =
 either : (b : Bool) (v : Lock) (o : Option Lock) → is_some (cond b (Some v) o) ≡ (b || is_some o)
 either true v o = refl
 either false v o = refl
-
-or_swap : (a b c : Bool) → (b || (a || c)) ≡ ((a || b) || c)
-or_swap true true c = refl
-or_swap true false c = refl
-or_swap false true c = refl
-or_swap false false c = refl
 
 locked_at : (locks : List LockLine) (s : Settings) (p : List ℕ) → contains_key (with_locks locks s).locks p ≡ (list_any (λ lock. bytes_eq lock.path p) locks || contains_key s.locks p)
 locked_at [] s p = refl

@@ -1,11 +1,14 @@
 -- The path of a keyfile's row is that of a key, unless it is too long.
-use Rattle.std.proofs.Common.{◌≡◌, ◌<◌, ◌-◌, ℕ, Bool, true, false, ◌&&◌, ◌||◌, not, List, [], ◌∷◌, ◌++◌, length, codes, refl, sym, ap, ◌∙◌, arith, append_assoc, cond, zero, suc, get_or, subst, Option, Some, None, Err}
+use Rattle.std.proofs.Common.{◌≡◌, ◌<◌, ◌-◌, ℕ, Bool, true, false, ◌&&◌, ◌||◌, not, List, [], ◌∷◌, ◌++◌, length, codes, refl, sym, ap, ◌∙◌, arith, append_assoc, cond, zero, suc, get_or, subst, Option, Some, None, Result, Err, take}
 use Rattle.std.specs.Prelude.{IfSome, Contains, nat_lt, nat_eq, ◌==◌, IsTrue}
 use Rattle.std.specs.List.{list_any, ends_with, starts_with}
 use Rattle.std.specs.Str.{bytes_eq}
 use Rattle.std.proofs.lemmas.Bool.{and_parts, not-true, or_parts, ltb-true, eqb-true}
-use Rattle.dconf_model.specs.Paths.{has_two_slashes, has_zero_byte, starts_with_slash, ends_with_slash, is_short, is_key_path}
+use Rattle.dconf_model.specs.Paths.{has_two_slashes, has_zero_byte, starts_with_slash, ends_with_slash, is_short, is_path, is_key_path, is_directory_path}
 use Rattle.dconf_model.specs.Keyfiles.{Row, has_slash_end, is_group, is_key, is_plain, path_of}
+use Rattle.std.proofs.lemmas.Bool.Decides.{Decides-eqb}
+use Rattle.std.proofs.lemmas.Slice.Eq.{ends_is}
+use Rattle.gv_model.specs.Tree.{Tree}
 use Rattle.dconf_model.proofs.KeyNames.{has, in_neither, after_slash, plain_single, starts_on, open_end}
 use Rattle.dconf_model.proofs.KeyfileLines.{is_special}
 use Rattle.dconf_model.proofs.Trimmed.{no_such_byte}
@@ -16,7 +19,7 @@ use Rattle.dconf_model.specs.Causes.SettingsCause.{path_fault}
 use Rattle.dconf_model.specs.Lines.LineReading.{wrong}
 use Rattle.dconf_model.specs.Paths.PathFault.{too_long}
 use Rattle.dconf_model.specs.Settings.{Settings, with_value}
-use Rattle.dconf_model.specs.Sources.{assigned}
+use Rattle.dconf_model.specs.Sources.{assigned, row_read}
 use Rattle.dconf_compile.specs.Added.{AddsRow, IsReadRow, IsStoredFor, row_compiled, text_compiled}
 
 no_nul : (s : List ℕ) → is_plain s ≡ true → has_zero_byte s ≡ false
@@ -56,7 +59,7 @@ no_slash_in k e h = no_truth (sym e ∙ slash_at k h.0 h.1 h.2)
 
 -- ---- a directory that a key's part is put to: it starts and ends in a slash
 
-record IsStart (d before : List ℕ) : Type 0 where
+pub record IsStart (d before : List ℕ) : Type 0 where
   whole : d ≡ before ++ 47 ∷ []
   starts : starts_with_slash d ≡ true
   nul : has_zero_byte d ≡ false
@@ -80,9 +83,18 @@ below d before k s h = record {
   ends = open_end d k (d ++ k) refl (let n = ap length h.whole in omega (arith, n)) (no_slash_in k h.slashless);
 }
 
-root_start : IsStart (codes "/") []
-unfolding has_two_slashes
-root_start = record { whole = refl; starts = refl; nul = refl; single = refl }
+pub directory_start : (d : List ℕ) → is_directory_path d ≡ true → IsStart d (take (length d - 1) d)
+directory_start d e =
+    let whole = and_parts (is_path d) (ends_with_slash d) e in
+    let short = and_parts (starts_with_slash d && not (has_zero_byte d) && not (has_two_slashes d)) (is_short d) whole.0 in
+    let single = and_parts (starts_with_slash d && not (has_zero_byte d)) (not (has_two_slashes d)) short.0 in
+    let nul = and_parts (starts_with_slash d) (not (has_zero_byte d)) single.0 in
+    record {
+      whole = (ends_is Decides-eqb d (47 ∷ []) (ends_with_slash d) refl).0 whole.1;
+      starts = nul.0;
+      nul = not-true (has_zero_byte d) nul.1;
+      single = not-true (has_two_slashes d) single.1;
+    }
 
 ends_later : (c d : ℕ) (g : List ℕ) → ends_with nat_eq (c ∷ d ∷ g) (47 ∷ []) ≡ ends_with nat_eq (d ∷ g) (47 ∷ [])
 ends_later c d g =
@@ -102,69 +114,92 @@ one_more (c ∷ d ∷ g) single ends =
     let parts = or_parts (c == 47 && d == 47) (has_two_slashes (d ∷ g)) single in
     ap (λ b. b || has_two_slashes (d ∷ g ++ 47 ∷ [])) parts.0 ∙ one_more (d ∷ g) parts.1 (sym (ends_later c d g) ∙ ends)
 
-group_start : (g : List ℕ) → 0 < length g → has_slash_end g ≡ false → has_two_slashes g ≡ false → has_zero_byte g ≡ false → IsStart (47 ∷ g ++ 47 ∷ []) (47 ∷ g)
-unfolding has_two_slashes
-group_start g some slashes single nul =
-    let ends = or_parts (starts_with nat_eq g (codes "/")) (ends_with nat_eq g (codes "/")) slashes in
-    record {
-      whole = refl;
-      starts = refl;
-      nul = in_neither 0 (47 ∷ g) (47 ∷ []) nul refl;
-      single = go g some ends.0 (one_more g single ends.1);
-    }
-  where
-    go : (g : List ℕ) → 0 < length g → starts_with nat_eq g (codes "/") ≡ false → has_two_slashes (g ++ 47 ∷ []) ≡ false → has_two_slashes (47 ∷ g ++ 47 ∷ []) ≡ false
-    go [] some starts more = absurd (omega (arith, some))
-    go (c ∷ g) some starts more =
-        by_bool (c == 47) (has_two_slashes (47 ∷ (c ∷ g) ++ 47 ∷ []) ≡ false)
-        (λ slash. absurd (no_truth (sym starts ∙ ap (λ x. starts_with nat_eq (x ∷ g) (codes "/")) (eqb-true c 47 slash))))
-        (λ plain. ap (λ b. b || has_two_slashes ((c ∷ g) ++ 47 ∷ [])) plain ∙ more)
+module _ (d before : List ℕ) (s : IsStart d before) where
+  group_start : (g : List ℕ) → 0 < length g → has_slash_end g ≡ false → has_two_slashes g ≡ false → has_zero_byte g ≡ false
+      → IsStart (d ++ (g ++ 47 ∷ [])) (d ++ g)
+  group_start g some slashes single nul =
+      let ends = or_parts (starts_with nat_eq g (codes "/")) (ends_with nat_eq g (codes "/")) slashes in
+      record {
+        whole = sym (append_assoc d g (47 ∷ []));
+        starts = starts_on d (g ++ 47 ∷ []) s.starts;
+        nul = in_neither 0 d (g ++ 47 ∷ []) s.nul (in_neither 0 g (47 ∷ []) nul refl);
+        single = go g some ends.0 (one_more g single ends.1);
+      }
+    where
+      go : (g : List ℕ) → 0 < length g → starts_with nat_eq g (codes "/") ≡ false → has_two_slashes (g ++ 47 ∷ []) ≡ false → has_two_slashes (d ++ (g ++ 47 ∷ [])) ≡ false
+      go [] some starts more = absurd (omega (arith, some))
+      go (c ∷ g) some starts more =
+          by_bool (c == 47) (has_two_slashes (d ++ ((c ∷ g) ++ 47 ∷ [])) ≡ false)
+          (λ slash. absurd (no_truth (sym starts ∙ ap (λ x. starts_with nat_eq (x ∷ g) (codes "/")) (eqb-true c 47 slash))))
+          (λ plain.
+          let text : d ++ ((c ∷ g) ++ 47 ∷ []) ≡ before ++ 47 ∷ c ∷ (g ++ 47 ∷ []) =
+          ap (λ (l : List ℕ). l ++ ((c ∷ g) ++ 47 ∷ [])) s.whole ∙ append_assoc before (47 ∷ []) ((c ∷ g) ++ 47 ∷ []) in
+          ap has_two_slashes text ∙ after_slash before c (g ++ 47 ∷ []) (sym (ap has_two_slashes s.whole) ∙ s.single) plain more)
 
--- ---- the path
+  -- ---- the path
 
-named_path : (g k : List ℕ) (b : Bool) → bytes_eq g (codes "/") ≡ b → is_group g ≡ true → KeyParts k → PathParts (codes "/" ++ cond b k (g ++ 47 ∷ k))
-named_path g k true e h key = below (codes "/") [] k root_start key
-named_path g k false e h key =
-    let named : (nat_lt 0 (length g) && not (has_slash_end g) && not (has_two_slashes g) && is_plain g) ≡ true = rw e at h in
-    let outer = and_parts (nat_lt 0 (length g) && not (has_slash_end g) && not (has_two_slashes g)) (is_plain g) named in
-    let inner = and_parts (nat_lt 0 (length g) && not (has_slash_end g)) (not (has_two_slashes g)) outer.0 in
-    let ends = and_parts (nat_lt 0 (length g)) (not (has_slash_end g)) inner.0 in
-    let start = group_start g (ltb-true 0 (length g) ends.0) (not-true (has_slash_end g) ends.1) (not-true (has_two_slashes g) inner.1) (no_nul g outer.1) in
-    let text : (47 ∷ g ++ 47 ∷ []) ++ k ≡ 47 ∷ g ++ 47 ∷ k = append_assoc (47 ∷ g) (47 ∷ []) k in
-    subst PathParts text (below (47 ∷ g ++ 47 ∷ []) (47 ∷ g) k start key)
+  named_path : (g k : List ℕ) (b : Bool) → bytes_eq g (codes "/") ≡ b → is_group g ≡ true → KeyParts k → PathParts (d ++ cond b k (g ++ 47 ∷ k))
+  named_path g k true e h key = below d before k s key
+  named_path g k false e h key =
+      let named : (nat_lt 0 (length g) && not (has_slash_end g) && not (has_two_slashes g) && is_plain g) ≡ true = rw e at h in
+      let outer = and_parts (nat_lt 0 (length g) && not (has_slash_end g) && not (has_two_slashes g)) (is_plain g) named in
+      let inner = and_parts (nat_lt 0 (length g) && not (has_slash_end g)) (not (has_two_slashes g)) outer.0 in
+      let ends = and_parts (nat_lt 0 (length g)) (not (has_slash_end g)) inner.0 in
+      let start = group_start g (ltb-true 0 (length g) ends.0) (not-true (has_slash_end g) ends.1) (not-true (has_two_slashes g) inner.1) (no_nul g outer.1) in
+      let text : (d ++ (g ++ 47 ∷ [])) ++ k ≡ d ++ (g ++ 47 ∷ k) = append_assoc d (g ++ 47 ∷ []) k ∙ ap (λ (l : List ℕ). d ++ l) (append_assoc g (47 ∷ []) k) in
+      subst PathParts text (below (d ++ (g ++ 47 ∷ [])) (d ++ g) k start key)
 
-row_path : (r : Row) → IsReadRow r → PathParts (path_of (codes "/") r)
-row_path r h = named_path r.group r.key (bytes_eq r.group (codes "/")) refl h.group (key_parts r.key h.key)
+  row_path : (r : Row) → IsReadRow r → PathParts (path_of d r)
+  row_path r h = named_path r.group r.key (bytes_eq r.group (codes "/")) refl h.group (key_parts r.key h.key)
 
--- it is a key's path exactly where it is short
-pub path_if_short : (r : Row) → IsReadRow r → is_key_path (path_of (codes "/") r) ≡ is_short (path_of (codes "/") r)
-path_if_short r h = let p = row_path r h in go (is_short (path_of (codes "/") r)) p.starts p.nul p.single p.ends
-  where
-    go : {s n d e : Bool} (l : Bool) → s ≡ true → n ≡ false → d ≡ false → e ≡ false → ((s && not n && not d && l) && not e) ≡ l
-    go true a b c f = rw (a, b, c, f) refl
-    go false a b c f = rw (a, b, c) refl
+  -- it is a key's path exactly where it is short
+  path_if_short : (r : Row) → IsReadRow r → is_key_path (path_of d r) ≡ is_short (path_of d r)
+  path_if_short r h = let p = row_path r h in go (is_short (path_of d r)) p.starts p.nul p.single p.ends
+    where
+      go : {s n d e : Bool} (l : Bool) → s ≡ true → n ≡ false → d ≡ false → e ≡ false → ((s && not n && not d && l) && not e) ≡ l
+      go true a b c f = rw (a, b, c, f) refl
+      go false a b c f = rw (a, b, c) refl
 
 -- ---- what a row gives
 
-module _ (r : Row) (h : IsReadRow r) (p : List ℕ) (same : p ≡ path_of (codes "/") r) where
-  pub too_long_row : (IsTrue (is_key_path p) → false ≡ true) → row_compiled r ≡ wrong (path_fault too_long)
-  too_long_row refuted = go (is_short (path_of (codes "/") r)) (sym (path_if_short r h) ∙ sym (ap is_key_path same))
+module _ (d : List ℕ) (directory : is_directory_path d ≡ true) (read : List ℕ → Result Tree SettingsCause) (r : Row) (h : IsReadRow r) (p : List ℕ)
+    (same : p ≡ path_of d r) where
+  row_short : is_key_path (path_of d r) ≡ is_short (path_of d r)
+  row_short = path_if_short d (take (length d - 1) d) (directory_start d directory) r h
+
+  pub long_row : (IsTrue (is_key_path p) → false ≡ true) → row_read read (path_of d r) r.text ≡ wrong (path_fault too_long)
+  long_row refuted = go (is_short (path_of d r)) (sym row_short ∙ sym (ap is_key_path same))
     where
-      go : (b : Bool) → b ≡ is_key_path p → cond b (assigned (path_of (codes "/") r) (text_compiled r.text)) (wrong (path_fault too_long)) ≡ wrong (path_fault too_long)
+      go : (b : Bool) → b ≡ is_key_path p → cond b (assigned (path_of d r) (read r.text)) (wrong (path_fault too_long)) ≡ wrong (path_fault too_long)
       go true e = absurd (no_truth (refuted (sym e)))
       go false e = refl
 
-  short_row : IsTrue (is_key_path p) → row_compiled r ≡ assigned (path_of (codes "/") r) (text_compiled r.text)
-  short_row is = let short : is_short (path_of (codes "/") r) ≡ true = sym (path_if_short r h) ∙ (sym (ap is_key_path same) ∙ is) in rw short refl
+  pub short_row : IsTrue (is_key_path p) → row_read read (path_of d r) r.text ≡ assigned (path_of d r) (read r.text)
+  short_row is = let short : is_short (path_of d r) ≡ true = sym row_short ∙ (sym (ap is_key_path same) ∙ is) in rw short refl
+
+  pub refused_row : (o : Option SettingsCause) → IsTrue (is_key_path p) → IfSome o (λ c. read r.text ≡ Err c)
+      → IfSome o (λ c. row_read read (path_of d r) r.text ≡ wrong c)
+  refused_row None is k = tt
+  refused_row (Some c) is k = short_row is ∙ ap (assigned (path_of d r)) k
+
+-- `/` is a directory
+pub root_is_directory : is_directory_path (codes "/") ≡ true
+unfolding has_two_slashes
+root_is_directory = refl
+
+-- ---- a row that is compiled
+
+module _ (r : Row) (h : IsReadRow r) (p : List ℕ) (same : p ≡ path_of (codes "/") r) where
+  pub too_long_row : (IsTrue (is_key_path p) → false ≡ true) → row_compiled r ≡ wrong (path_fault too_long)
+  too_long_row refuted = long_row (codes "/") root_is_directory text_compiled r h p same refuted
 
   pub row_refused : (o : Option SettingsCause) → IsTrue (is_key_path p) → IfSome o (λ c. text_compiled r.text ≡ Err c) → IfSome o (λ c. row_compiled r ≡ wrong c)
-  row_refused None is k = tt
-  row_refused (Some c) is k = short_row is ∙ ap (assigned (path_of (codes "/") r)) k
+  row_refused o is k = refused_row (codes "/") root_is_directory text_compiled r h p same o is k
 
   pub row_stored : (bytes : List ℕ) (old new : Settings) → IsTrue (is_key_path p) → IsStoredFor (text_compiled r.text) bytes → new ≡ with_value old p bytes → AddsRow (row_compiled r) old new
   row_stored bytes old new is s added = record {
     row = record { path = path_of (codes "/") r; value = s.value };
-    found = short_row is ∙ ap (assigned (path_of (codes "/") r)) s.read;
+    found = short_row (codes "/") root_is_directory text_compiled r h p same is ∙ ap (assigned (path_of (codes "/") r)) s.read;
     limited = s.limited;
     added = added ∙ (ap (λ (x : List ℕ). with_value old x bytes) same ∙ ap (with_value old (path_of (codes "/") r)) s.bytes);
   }

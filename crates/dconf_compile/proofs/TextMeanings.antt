@@ -24,6 +24,7 @@ use Rattle.dconf_model.specs.Values.{value_of_text, stored, if_storable}
 use Rattle.dconf_model.proofs.ValueLaws.{computed}
 use Rattle.dconf_compile.specs.Added.{text_compiled}
 use Rattle.dconf_compile.specs.CompileFaults.{build_cause, cause_of, read_cause_of}
+use Rattle.dconf_model.proofs.PathMaps.{and_false}
 
 -- the fault of a step is that of the whole
 pub stops : {A E : Type 0} (P : E → Type 0) (r : Result A E) (e : E) → P e → IsErrAnd r (λ y. y ≡ e) → IfErr r P
@@ -69,10 +70,6 @@ text_stored s v h levels fits =
 unstorable : (v : Tree) (a b : Bool) → (a && b) ≡ false → cond (a && b) (Ok v) (Err too_large) ≡ Err too_large
 unstorable v a b e = rw e refl
 
-neither : (a b : Bool) → b ≡ false → (a && b) ≡ false
-neither true b e = e
-neither false b e = refl
-
 pub text_too_large : (s : List ℕ) (v : Tree) (e : BuildFault) → value_of_text s ≡ Ok v → IsUnbuildable ((longest_file < length (stored v)) ⊎ (depth v ≡ 128)) e →
     IfSome (cause_of (build_cause e)) (λ c. text_compiled s ≡ Err c)
 text_too_large s v builds.Memory h why = tt
@@ -81,5 +78,5 @@ text_too_large s v builds.TooLarge h why = ap if_storable h ∙ go why
     go : (longest_file < length (stored v)) ⊎ (depth v ≡ 128) → if_storable (Ok v) ≡ Err too_large
     go (inl long) =
         unstorable v (nat_lt (depth v) 128) (nat_le (length (stored v)) longest_file)
-        (neither (nat_lt (depth v) 128) (nat_le (length (stored v)) longest_file) (lt-leb (length (stored v)) longest_file long))
+        (and_false (nat_lt (depth v) 128) (nat_le (length (stored v)) longest_file) (lt-leb (length (stored v)) longest_file long))
     go (inr deep) = rw deep refl

@@ -1,4 +1,6 @@
 pub mod Added
 pub mod CompileFaults
 pub mod LineStops
+pub mod Loading
+pub mod PathedRows
 pub mod Sources

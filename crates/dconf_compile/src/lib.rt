@@ -8,6 +8,7 @@ mod adding;
 mod compiling;
 mod fault;
 mod line_stop;
+mod loading;
 mod locking;
 mod order;
 mod rows;
@@ -16,5 +17,7 @@ mod value;
 
 pub use compiling::compile;
 pub use fault::{CompileCause, CompileFault, FileRef};
+pub use line_stop::LineStop;
+pub use loading::RowsBelow;
 pub use source::Source;
 pub use value::value_of_text;

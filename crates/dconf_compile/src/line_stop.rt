@@ -8,10 +8,12 @@ use crate::fault::CompileCause;
 use dconf_path::{LocksFault, TextFault};
 use gvdb_write::MapFault;
 use keyfile_core::{KeyfileCause, KeyfileFault};
+use std::alloc::{AllocError, AllocFailed};
 
-/// What is wrong at a line of a file. The line is 0 where it's none.
-#[derive(Clone, Copy)]
-pub(crate) struct LineStop {
+/// What is wrong at a line of a file.
+#[derive(Clone, Copy, Debug, PartialEq, Eq)]
+pub struct LineStop {
+    /// The number of the line, from 1 on, or 0 where it is none.
     pub line: usize,
     pub cause: CompileCause,
 }
@@ -77,6 +79,22 @@ impl From<MapFault> for LineStop {
     ghost from_gives = { λ _ stop. line_fault_of stop ≡ None };
 
     fn from(_fault: MapFault) -> LineStop {
+        LineStop::memory()
+    }
+}
+
+impl From<AllocError> for LineStop {
+    ghost from_gives = { λ _ stop. line_fault_of stop ≡ None };
+
+    fn from(_error: AllocError) -> LineStop {
+        LineStop::memory()
+    }
+}
+
+impl<T: Drop> From<AllocFailed<T>> for LineStop {
+    ghost from_gives = { λ _ stop. line_fault_of stop ≡ None };
+
+    fn from(_error: AllocFailed<T>) -> LineStop {
         LineStop::memory()
     }
 }

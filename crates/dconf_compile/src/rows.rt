@@ -20,7 +20,7 @@ pub(crate) fn add_row(alloc: Global, row: &Row<'_>, settings: &mut Map) -> Resul
     ensures added { OnOk result (AddsRow (row_compiled (row_meant row.now)) settings.old settings.new) }
     ensures fault { IfErr result (λ cause. IfSome (cause_of cause) (λ c. row_compiled (row_meant row.now) ≡ wrong c)) }
 {
-    let path = path_of(alloc, row)?;
+    let path = path_of(alloc, "/", row)?;
     match KeyPath::parse(&path) {
         Ok(path) => {
             let value = stored(alloc, row.text)?;
@@ -32,11 +32,11 @@ pub(crate) fn add_row(alloc: Global, row: &Row<'_>, settings: &mut Map) -> Resul
     }
 }
 
-/// The path of a row's key.
-fn path_of(alloc: Global, row: &Row<'_>) -> Result<String, AllocError>
-    ensures { IfOk result (λ path. string_bytes path ≡ path_of (codes "/") (row_meant row.now)) }
+/// The path of a row's key below a directory.
+pub(crate) fn path_of(alloc: Global, directory: &str, row: &Row<'_>) -> Result<String, AllocError>
+    ensures { IfOk result (λ path. string_bytes path ≡ path_of directory.now (row_meant row.now)) }
 {
-    let mut path = String::from_str(alloc, "/")?;
+    let mut path = String::from_str(alloc, directory)?;
     if row.group != "/" {
         path.push_str(row.group)?;
         path.push_str("/")?;

@@ -33,12 +33,6 @@ get_resets (p ∷ ps) c q =
     ∙ ap (cond (list_any (bytes_eq q) ps) (Some None)) (get_inserted c p None q ∙ ap (λ b. cond b (Some None) (get c q)) (eq_turned p q))
     ∙ reset_if (bytes_eq q p) (list_any (bytes_eq q) ps) (get c q)
 
-listed_if : (a b k : Bool) → (a && k || b && k) ≡ ((a || b) && k)
-listed_if true b true = refl
-listed_if true true false = refl
-listed_if true false false = refl
-listed_if false b k = refl
-
 -- of paths those are cleared that are not kept
 listed : (l : Layers) (d q : List ℕ) (ps : List (List ℕ)) → list_any (bytes_eq q) (cleared l d ps) ≡ (list_any (bytes_eq q) ps && not (keeps l d q))
 listed l d q [] = refl

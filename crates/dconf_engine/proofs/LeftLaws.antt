@@ -33,6 +33,7 @@ use Rattle.dconf_engine.proofs.PathTests.{any_passing, parts_alike}
 use Rattle.dconf_engine.proofs.SavedLaws.{find_below}
 use Rattle.dconf_engine.proofs.TextSetLaws.{adds_alike, adds_more, adds_nothing, one_turn, parts_append}
 use Rattle.dconf_engine.proofs.UnsavedLaws.{get_changed}
+use Rattle.std.proofs.Math.Bool.{or-false}
 
 abbrev pub Entries : Type 0
 Entries = List (List ℕ × Option (List ℕ))
@@ -59,10 +60,6 @@ set_elsewhere : (q p : List ℕ) (o : Option (List ℕ)) → bytes_eq q p ≡ fa
 set_elsewhere q p (Some bytes) other = rw other refl
 set_elsewhere q p None other = refl
 
-or_none : (b : Bool) → (b || false) ≡ b
-or_none true = refl
-or_none false = refl
-
 were_set : (q : List ℕ) (es : Entries) → is_sorted (slice_cmp nat_cmp) es ≡ true → list_any (bytes_eq q) (set_paths es) ≡ is_set (found q es)
 unfolding found
 were_set q [] sorted = refl
@@ -74,7 +71,7 @@ were_set q (e ∷ es) sorted =
     (λ same.
     let none : found q es ≡ None = subst (λ (p : List ℕ). found p es ≡ None) (sym (same_path q e.0 same)) (find_below e.0 es parts.0) in
     ap (λ b. list_any (bytes_eq q) (path_if_set e.0 e.1) || b) (later ∙ ap is_set none)
-    ∙ (or_none (list_any (bytes_eq q) (path_if_set e.0 e.1))
+    ∙ (or-false (list_any (bytes_eq q) (path_if_set e.0 e.1))
     ∙ (set_here q e.0 e.1 same ∙ sym (ap is_set (found_if q e es ∙ ap (λ b. cond b (Some e.1) (found q es)) same)))))
     (λ other.
     ap (λ b. b || list_any (bytes_eq q) (set_paths es)) (set_elsewhere q e.0 e.1 other)

@@ -24,8 +24,9 @@ use Rattle.gvdb_read.specs.declared.table.Table.{Table}
 use Rattle.gvdb_read.specs.Lookups.{IsListOf}
 use Rattle.gvdb_read.specs.Tables.{region}
 use Rattle.dconf_engine.specs.SoundTables.{AreOfSoundDatabase}
-use Rattle.dconf_engine.proofs.PathTests.{member, of_member, any_passing}
+use Rattle.dconf_engine.proofs.PathTests.{any_passing}
 use Rattle.dconf_engine.proofs.SoundLayers.{says, settings_at}
+use Rattle.dconf_model.proofs.ListingOrder.{find_text, found_text}
 
 -- ---- values
 
@@ -40,7 +41,7 @@ row_at : (values : Table) (locks : Option Table) (path : List ℕ) → AreOfSoun
     (bytes : List ℕ) × Rows (region values) path value_kind bytes
 row_at values locks path o h =
     let m = (settings_at (region values)).values in
-    let some = some_bytes (get m path) (key_in m path ∙ member path (keys m) h) in
+    let some = some_bytes (get m path) (key_in m path ∙ find_text path (keys m) h) in
     (some.0, subst (λ (t : Region). Rows t path value_kind some.0) (sym o.root) (((says values locks o).values path some.0).1 some.1))
 
 path_at : (values : Table) (locks : Option Table) (path bytes : List ℕ) → AreOfSoundDatabase values locks → Rows (region values) path value_kind bytes →
@@ -48,7 +49,7 @@ path_at : (values : Table) (locks : Option Table) (path bytes : List ℕ) → Ar
 path_at values locks path bytes o row =
     let m = (settings_at (region values)).values in
     let e = ((says values locks o).values path bytes).0 (subst (λ (t : Region). Rows t path value_kind bytes) o.root row) in
-    of_member path (keys m) (sym (key_in m path) ∙ ap is_some e)
+    found_text path (keys m) (sym (key_in m path) ∙ ap is_some e)
 
 -- a part below the directory, by the table and by the settings
 part_in : (values : Table) (locks : Option Table) (d part : List ℕ) → AreOfSoundDatabase values locks → IsPartBelow (region values) d part →
@@ -74,11 +75,11 @@ listed values locks d names part o h =
     same_bool (list_any (bytes_eq part) (filter is_utf8 names)) (list_any (bytes_eq part) (parts_below d (paths_at t)))
     (λ e.
     let both = and_parts (list_any (bytes_eq part) names) (is_utf8 part) (sym (any_passing part is_utf8 names) ∙ e) in
-    member part (parts_below d (paths_at t)) (part_in values locks d part o (law.0 (subst (λ (l : List (List ℕ)). Contains l part) h.2 (of_member part names both.0)))))
+    find_text part (parts_below d (paths_at t)) (part_in values locks d part o (law.0 (subst (λ (l : List (List ℕ)). Contains l part) h.2 (found_text part names both.0)))))
     (λ e.
-    let there : Contains (keys_in_list t i) part = law.1 (part_of values locks d part o (of_member part (parts_below d (paths_at t)) e)) in
+    let there : Contains (keys_in_list t i) part = law.1 (part_of values locks d part o (found_text part (parts_below d (paths_at t)) e)) in
     let text : is_utf8 part ≡ true = is_utf8-from_IsUtf8 part (lists_texts t d i part o.sound row there) in
-    let named : list_any (bytes_eq part) names ≡ true = member part names (subst (λ (l : List (List ℕ)). Contains l part) (sym h.2) there) in
+    let named : list_any (bytes_eq part) names ≡ true = find_text part names (subst (λ (l : List (List ℕ)). Contains l part) (sym h.2) there) in
     any_passing part is_utf8 names ∙ (rw (named, text) refl))
 
 not_listed : (values : Table) (locks : Option Table) (d part : List ℕ) → AreOfSoundDatabase values locks → IsTrue (ends_with_slash d) → Finds (region values) d list_kind None →
@@ -87,7 +88,7 @@ not_listed values locks d part o ends none =
     let t = region values in
     same_bool false (list_any (bytes_eq part) (parts_below d (paths_at t))) (λ e. absurd (no_truth e))
     (λ e.
-    let b = part_of values locks d part o (of_member part (parts_below d (paths_at t)) e) in
+    let b = part_of values locks d part o (found_text part (parts_below d (paths_at t)) e) in
     let list = directories_are_listed t d b.0 b.2.0 o.sound ends b.2.1.named b.2.1.of_kind in
     absurd (((sound_finds_rows t o.sound).missed d list_kind).0 none list.0 list.1))
 

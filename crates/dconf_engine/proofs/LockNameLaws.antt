@@ -1,6 +1,6 @@
 -- The names of the items of a sound database's table of locks are its locks, as far as they are paths.
 use Rattle.std.specs.Prelude.{IfSome, IfNone, option_map, string_bytes, is_some}
-use Rattle.std.proofs.Common.{◌≡◌, ◌<◌, ◌||◌, ◌&&◌, ℕ, Bool, true, false, List, [], ◌∷◌, length, Option, Some, None, refl, sym, ap, ◌∙◌, subst, arith}
+use Rattle.std.proofs.Common.{◌≡◌, ◌<◌, ◌||◌, ◌&&◌, ℕ, true, false, List, [], ◌∷◌, length, Option, Some, None, refl, sym, ap, ◌∙◌, subst, arith}
 use Rattle.std.specs.Coded.{coded_list, coded_ℕ}
 use Rattle.std.specs.Cmp.Lexicographic.{slice_cmp}
 use Rattle.std.specs.FinMap.{keys, get-empty}
@@ -9,7 +9,7 @@ use Rattle.std.specs.Ordering.{nat_cmp}
 use Rattle.std.specs.Str.{bytes_eq}
 use Rattle.std.specs.declared.alloc.Global.{Global}
 use Rattle.std.specs.declared.string.String.{String}
-use Rattle.std.proofs.Math.Bool.{Bool-set}
+use Rattle.std.proofs.Math.Bool.{Bool-set, or-false}
 use Rattle.std.proofs.Math.Logic.{∥∥₁_elim}
 use Rattle.std.proofs.lemmas.Bool.{or_left, and_parts}
 use base.Stored.{Coded-set}
@@ -61,17 +61,13 @@ found_lock_in values locks i found h some none =
 
 -- ---- the names are the locks
 
-or_neither : (b : Bool) → (b || false) ≡ b
-or_neither true = refl
-or_neither false = refl
-
 lock_given : (p : List ℕ) (o : Option (List ℕ)) → list_any (bytes_eq p) (lock_name o) ≡ true → (o ≡ Some p) × (is_path p ≡ true)
 lock_given p None e = absurd (no_truth e)
 lock_given p (Some name) e =
     by_bool (is_path name) ((Some name ≡ Some p) × (is_path p ≡ true))
     (λ is.
     let there : (bytes_eq p name || false) ≡ true = rw is at e in
-    let same : p ≡ name = same_path p name (sym (or_neither (bytes_eq p name)) ∙ there) in
+    let same : p ≡ name = same_path p name (sym (or-false (bytes_eq p name)) ∙ there) in
     (ap (λ (n : List ℕ). Some n) (sym same), ap is_path same ∙ is))
     (λ other. absurd (let none : false ≡ true = rw other at e in no_truth none))
 

@@ -1,31 +1,22 @@
 -- Whether a path is among others: among those that pass a test, that are gathered, or below a directory.
 use Rattle.std.specs.Prelude.{Contains, filter}
-use Rattle.std.proofs.Common.{◌≡◌, ◌<◌, ℕ, zero, suc, Bool, true, false, cond, List, [], ◌∷◌, ◌++◌, ◌||◌, ◌&&◌, length, take, refl, sym, ap, ◌∙◌, subst, arith, inl, inr}
+use Rattle.std.proofs.Common.{◌≡◌, ◌<◌, ℕ, zero, suc, Bool, true, false, cond, List, [], ◌∷◌, ◌++◌, ◌||◌, ◌&&◌, refl, sym, ap, ◌∙◌, subst, arith, inl, inr}
 use Rattle.std.specs.List.{list_any}
 use Rattle.std.specs.Str.{bytes_eq}
-use Rattle.std.specs.Cmp.{decided}
-use Rattle.std.proofs.Math.Seq.{take-append_seam}
 use Rattle.std.proofs.lemmas.Bool.{or_cases}
 use Rattle.std.proofs.lemmas.List.Folds.{list_any-append}
-use Rattle.std.proofs.lemmas.Map.Views.{list_any-from_Contains, Contains-from_any}
-use Rattle.std.proofs.lemmas.Slice.Eq.{bytes_eq-Decides}
 use Rattle.dconf_model.specs.Databases.{gathered}
 use Rattle.dconf_model.specs.Layers.{parts_below}
 use Rattle.dconf_model.specs.Locks.{is_below}
-use Rattle.dconf_model.proofs.Listings.{path_of_part, part_of_path}
+use Rattle.dconf_model.proofs.Listings.{path_of_part, part_of_path, below_itself}
 use Rattle.dconf_model.proofs.ParentLaws.{by_bool}
 use Rattle.dconf_model.proofs.PathMaps.{same_bool, no_truth}
-use Rattle.dconf_model.proofs.SameBytes.{same_path, path_itself}
-
-pub member : (t : List ℕ) (ts : List (List ℕ)) → Contains ts t → list_any (bytes_eq t) ts ≡ true
-member t ts h = list_any-from_Contains (decided bytes_eq bytes_eq-Decides) t ts h
-
-pub of_member : (t : List ℕ) (ts : List (List ℕ)) → list_any (bytes_eq t) ts ≡ true → Contains ts t
-of_member t ts e = Contains-from_any same_path t ts e
+use Rattle.dconf_model.proofs.SameBytes.{same_path}
+use Rattle.dconf_model.proofs.ListingOrder.{find_text, found_text}
 
 -- ---- those that pass a test
 
-joined_if : (a b k : Bool) → (a && k || b && k) ≡ ((a || b) && k)
+pub joined_if : (a b k : Bool) → (a && k || b && k) ≡ ((a || b) && k)
 joined_if true b true = refl
 joined_if true true false = refl
 joined_if true false false = refl
@@ -68,15 +59,12 @@ any_of_gathered t f (suc n) e =
 
 -- ---- below a directory
 
-below_itself : (directory rest : List ℕ) → is_below (directory ++ rest) directory ≡ true
-below_itself directory rest = path_itself directory (take (length directory) (directory ++ rest)) (sym (take-append_seam directory rest))
-
 part_there : (d : List ℕ) (ps qs : List (List ℕ)) → ((p : List ℕ) → is_below p d ≡ true → list_any (bytes_eq p) ps ≡ true → list_any (bytes_eq p) qs ≡ true) →
     (t : List ℕ) → list_any (bytes_eq t) (parts_below d ps) ≡ true → list_any (bytes_eq t) (parts_below d qs) ≡ true
 part_there d ps qs each t e =
-    let h = path_of_part d ps t (of_member t (parts_below d ps) e) in
-    let there = each (d ++ h.0) (below_itself d h.0) (member (d ++ h.0) ps h.1) in
-    member t (parts_below d qs) (subst (Contains (parts_below d qs)) (sym h.2) (part_of_path d h.0 qs (of_member (d ++ h.0) qs there)))
+    let h = path_of_part d ps t (found_text t (parts_below d ps) e) in
+    let there = each (d ++ h.0) (below_itself d h.0) (find_text (d ++ h.0) ps h.1) in
+    find_text t (parts_below d qs) (subst (Contains (parts_below d qs)) (sym h.2) (part_of_path d h.0 qs (found_text (d ++ h.0) qs there)))
 
 -- lists of the same paths below a directory have the same parts there
 pub parts_alike : (d : List ℕ) (ps qs : List (List ℕ)) → ((p : List ℕ) → is_below p d ≡ true → list_any (bytes_eq p) ps ≡ list_any (bytes_eq p) qs) →

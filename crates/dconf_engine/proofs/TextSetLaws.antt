@@ -28,7 +28,7 @@ use Rattle.dconf_model.specs.Order.{in_order, listing}
 use Rattle.dconf_model.specs.SoundLaws.{first_part}
 use Rattle.dconf_model.proofs.ListingOrder.{listing_is_once_each}
 use Rattle.dconf_model.proofs.OrderLaws.{order_is_stable}
-use Rattle.dconf_model.proofs.PathMaps.{eq_turned}
+use Rattle.dconf_model.proofs.PathMaps.{eq_turned, or_swap}
 use Rattle.dconf_engine.specs.TextSets.{TextSet, is_in, Adds}
 
 -- ---- one text
@@ -49,15 +49,10 @@ adds_nothing set t = refl
 
 -- ---- more texts
 
-moved : (a b c : Bool) → (b || (a || c)) ≡ ((a || b) || c)
-moved true true c = refl
-moved true false c = refl
-moved false b c = refl
-
 -- what is left to add after some
 pub rest_after : (xs rest : List (List ℕ)) (a b : TextSet) (t : List ℕ) → Adds xs a b → is_in rest b t ≡ is_in (xs ++ rest) a t
 rest_after xs rest a b t h =
-    ap (λ c. list_any (bytes_eq t) rest || c) (h t) ∙ (moved (list_any (bytes_eq t) xs) (list_any (bytes_eq t) rest) (contains_text a t)
+    ap (λ c. list_any (bytes_eq t) rest || c) (h t) ∙ (or_swap (list_any (bytes_eq t) xs) (list_any (bytes_eq t) rest) (contains_text a t)
     ∙ ap (λ c. c || contains_text a t) (sym (list_any-append (bytes_eq t) xs rest)))
 
 pub adds_more : (xs ys : List (List ℕ)) (a b c : TextSet) → Adds xs a b → Adds ys b c → Adds (xs ++ ys) a c

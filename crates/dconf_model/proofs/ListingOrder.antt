@@ -80,10 +80,10 @@ all_rising : (ts : List (List ℕ)) → IsUp ts → IsRising (dedup bytes_eq ts)
 all_rising [] h = tt
 all_rising (t ∷ ts) h = rising t ts h
 
-find_text : (t : List ℕ) (ts : List (List ℕ)) → Contains ts t → list_any (bytes_eq t) ts ≡ true
+pub find_text : (t : List ℕ) (ts : List (List ℕ)) → Contains ts t → list_any (bytes_eq t) ts ≡ true
 find_text t ts h = list_any-from_Contains (decided bytes_eq bytes_eq-Decides) t ts h
 
-found_text : (t : List ℕ) (ts : List (List ℕ)) → list_any (bytes_eq t) ts ≡ true → Contains ts t
+pub found_text : (t : List ℕ) (ts : List (List ℕ)) → list_any (bytes_eq t) ts ≡ true → Contains ts t
 found_text t ts e = Contains-from_any same_path t ts e
 
 pub listing_is_once_each : ListingIsOnceEach

@@ -1,5 +1,5 @@
 -- What is kept at paths, and tests of lists of paths.
-use Rattle.std.specs.Prelude.{◌≡◌, ℕ, List, [], ◌∷◌, Bool, true, false, Some, None, cond, refl, ◌||◌}
+use Rattle.std.specs.Prelude.{◌≡◌, ℕ, List, [], ◌∷◌, Bool, true, false, Some, None, cond, refl, ◌||◌, ◌&&◌}
 use Rattle.std.proofs.Common.{ap, sym, ◌∙◌}
 use Rattle.std.specs.List.{list_any}
 use Rattle.std.specs.Str.{bytes_eq}
@@ -67,3 +67,14 @@ pub same_test : (f : List ℕ → Bool) (ps qs : List (List ℕ)) → ((p : List
 same_test f ps qs same = same_bool (list_any f ps) (list_any f qs)
     (λ e. let r = passes f ps e in any_passes f qs r.0 (sym (same r.0) ∙ r.1) r.2)
     (λ e. let r = passes f qs e in any_passes f ps r.0 (same r.0 ∙ r.1) r.2)
+
+-- ---- tests joined
+
+pub or_swap : (a b c : Bool) → (b || (a || c)) ≡ ((a || b) || c)
+or_swap true true c = refl
+or_swap true false c = refl
+or_swap false b c = refl
+
+pub and_false : (a b : Bool) → b ≡ false → (a && b) ≡ false
+and_false true b e = e
+and_false false b e = refl

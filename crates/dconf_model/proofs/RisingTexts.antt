@@ -28,7 +28,7 @@ Rises (t ∷ ts) = ((u : List ℕ) → Contains ts u → IsLess t u) × Rises ts
 
 -- ---- lists that rise
 
-less_of : (r : Ordering) → is_lt r ≡ true → r ≡ Less
+pub less_of : (r : Ordering) → is_lt r ≡ true → r ≡ Less
 less_of Less e = refl
 less_of Equal e = absurd cc
 less_of Greater e = absurd cc

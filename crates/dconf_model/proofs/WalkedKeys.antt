@@ -16,7 +16,7 @@ use Rattle.dconf_model.proofs.FirstPartLaws.{cut_rest, first_again, less_below, 
 use Rattle.dconf_model.proofs.KeyNames.{key_is_open}
 use Rattle.dconf_model.proofs.Listings.{Texts, PathOf, below_itself, below_cut, part_of_path, path_of_part, listing_has, listing_from, has_first, has_later, none_of_none, first_or_later}
 use Rattle.dconf_model.proofs.PathLaws.{ends_in}
-use Rattle.dconf_model.proofs.PathMaps.{no_truth}
+use Rattle.dconf_model.proofs.PathMaps.{no_truth, and_false}
 use Rattle.dconf_model.proofs.PathPrefixes.{prefix_is_path}
 use Rattle.dconf_model.proofs.RisingTexts.{IsLess, Rises, listing_rises, rises_after, one_rises, kept_is_there, there_is_kept}
 
@@ -27,10 +27,6 @@ at_directory paths place e = ap (λ b. cond b (keys_below paths place) (place �
 
 at_key : (paths : Texts) (place : List ℕ) → is_directory_path place ≡ false → keys_at paths place ≡ place ∷ []
 at_key paths place e = ap (λ b. cond b (keys_below paths place) (place ∷ [])) e
-
-and_false : (a b : Bool) → b ≡ false → (a && b) ≡ false
-and_false true b e = e
-and_false false b e = refl
 
 both : (a b : Bool) → a ≡ true → b ≡ true → (a && b) ≡ true
 both a b e f = rw (e, f) refl

@@ -1,7 +1,7 @@
 -- Worked layers: values that are seen, locks, listings and changes.
 use Rattle.std.specs.Prelude.{zero, suc, ◌≡◌, ℕ, Bool, true, false, if◌then◌else◌, List, [], ◌∷◌, Ok, Err, Some, None, codes, refl, Result, map, T, cond}
 use Rattle.std.proofs.Common.{◌∙◌, ap, sym}
-use Rattle.std.specs.FinMap.{get, keys, from_sorted, insert, retain_keys, get-from_sorted, entries-from_sorted, is_sorted, find, get-insert, get-retain_keys, get-empty, empty, same_map, entries-insert, put, slice_cmp-IsAntisymmetric, nat_cmp-IsAntisymmetric}
+use Rattle.std.specs.FinMap.{get, keys, from_sorted, insert, retain_keys, get-from_sorted, entries-from_sorted, is_sorted, find, get-insert, get-empty, empty, same_map, entries-insert, put, slice_cmp-IsAntisymmetric, nat_cmp-IsAntisymmetric}
 use Rattle.std.specs.Cmp.Lexicographic.{slice_cmp, nat_list_cmp_total}
 use Rattle.std.specs.Ordering.{nat_cmp, is_eq}
 use Rattle.std.specs.declared.cmp.Ordering.{Ordering}

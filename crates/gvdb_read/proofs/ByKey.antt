@@ -12,18 +12,14 @@ use Rattle.dconf_model.specs.Sound.Rule.{lists}
 use Rattle.gvdb_read.specs.Ascending.{IsListedIfChild}
 use Rattle.gvdb_read.specs.ByKey.{HasListByKeyIfAny, KeysRise, has_lower_key, key_or_none}
 use Rattle.gvdb_read.specs.ListNumbers.{AreNumbers}
+use Rattle.dconf_model.proofs.RisingTexts.{less_of}
 
 -- the number at place k of the list has a lower key than that at place m
 abbrev IsBelow : Table → ℕ → ℕ → ℕ → Type 0
 IsBelow t i k m = IsTrue (has_lower_key t (listed t i k) (listed t i m))
 
-pub less : (o : Ordering) → is_lt o ≡ true → o ≡ Less
-less Less e = refl
-less Equal e = let bad : false ≡ true = e in cc
-less Greater e = let bad : false ≡ true = e in cc
-
 goes_on : (a b c : List ℕ) → is_lt (slice_cmp nat_cmp a b) ≡ true → is_lt (slice_cmp nat_cmp b c) ≡ true → is_lt (slice_cmp nat_cmp a c) ≡ true
-goes_on a b c one other = ap is_lt (nat_list_cmp_total.trans a b c (less (slice_cmp nat_cmp a b) one) (less (slice_cmp nat_cmp b c) other))
+goes_on a b c one other = ap is_lt (nat_list_cmp_total.trans a b c (less_of (slice_cmp nat_cmp a b) one) (less_of (slice_cmp nat_cmp b c) other))
 
 rises_by : (t : Table) (i : ℕ) → KeysRise t i → (d k m : ℕ) → m ≡ k + 1 + d → m < list_length t i → IsBelow t i k m
 rises_by t i up zero k m e inside =

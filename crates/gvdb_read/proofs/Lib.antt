@@ -15,3 +15,4 @@ pub mod Below
 pub mod KeyTexts
 pub mod ListNumbers
 pub mod NameWalks
+pub mod AppendedBytes

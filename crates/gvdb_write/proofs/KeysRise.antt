@@ -11,7 +11,7 @@ use Rattle.std.proofs.lemmas.Cmp.{nat_list_cmp_total}
 use Rattle.std.proofs.lemmas.List.{get_or_at, get_or_default}
 use Rattle.std.proofs.lemmas.Map.Views.{tells_apart, Contains-from_any, list_any-from_Contains}
 use Rattle.std.specs.Prelude.{Contains}
-use Rattle.gvdb_read.proofs.ByKey.{less}
+use Rattle.dconf_model.proofs.RisingTexts.{less_of}
 use Rattle.dconf_model.specs.Settings.{AtPaths, Settings, IsSettings}
 use Rattle.dconf_model.specs.Paths.{is_path, is_key_path}
 use Rattle.gvdb_write.specs.Maps.{AreKeyPaths, ArePaths}
@@ -27,7 +27,7 @@ from_true false h = elim h [ ]
 
 below : {X : Type 0} (path : List ℕ) (es : List (List ℕ × X)) → below_all (slice_cmp nat_cmp) path es ≡ true → (j : ℕ) → j < length (map (λ e. e.0) es) → IsBefore path (get_or (map (λ e. e.0) es) j [])
 below path [] h j here = absurd (omega (arith, here))
-below path (e ∷ es) h zero here = less _ (and_parts (is_lt (slice_cmp nat_cmp path e.0)) (below_all (slice_cmp nat_cmp) path es) h).0
+below path (e ∷ es) h zero here = less_of _ (and_parts (is_lt (slice_cmp nat_cmp path e.0)) (below_all (slice_cmp nat_cmp) path es) h).0
 below path (e ∷ es) h (suc j) here = below path es (and_parts (is_lt (slice_cmp nat_cmp path e.0)) (below_all (slice_cmp nat_cmp) path es) h).1 j (omega (arith, here))
 
 rise : {X : Type 0} (es : List (List ℕ × X)) → is_sorted (slice_cmp nat_cmp) es ≡ true → (i j : ℕ) → i < j → j < length (map (λ e. e.0) es) → IsBefore (get_or (map (λ e. e.0) es) i []) (get_or (map (λ e. e.0) es) j [])

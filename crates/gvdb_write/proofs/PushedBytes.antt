@@ -1,9 +1,7 @@
 -- The bytes of a number as the machine gives them, and one append after another.
 use Rattle.std.proofs.Common.{ℕ, ◌≡◌, List, ◌++◌, sym, ap, ◌∙◌, append_assoc, length}
 use Rattle.dconf_model.specs.TableBytes.{ItemRecord, records_bytes, words_bytes, head_bytes, table_bytes}
-
-pub then_append : (first next last x y : List ℕ) → next ≡ first ++ x → last ≡ next ++ y → last ≡ first ++ (x ++ y)
-then_append first next last x y e f = f ∙ (ap (λ (l : List ℕ). l ++ y) e ∙ append_assoc first x y)
+use Rattle.gvdb_read.proofs.AppendedBytes.{then_append}
 
 in_one : (h w b r k : List ℕ) → h ++ (w ++ (b ++ (r ++ k))) ≡ (h ++ (w ++ (b ++ r))) ++ k
 in_one h w b r k =

@@ -4,9 +4,7 @@ use Rattle.gv_model.specs.Encode.{number_bytes}
 use Rattle.dconf_model.specs.TableBytes.{ItemRecord, parent_number, record_bytes}
 use Rattle.gvdb_read.specs.ItemRecords.{record_of}
 use Rattle.gvdb_read.proofs.format.record.ItemRecord.push.Goals as goal
-
-then_append : (first next last x y : List ℕ) → next ≡ first ++ x → last ≡ next ++ y → last ≡ first ++ (x ++ y)
-then_append first next last x y e f = f ∙ (ap (λ (l : List ℕ). l ++ y) e ∙ append_assoc first x y)
+use Rattle.gvdb_read.proofs.AppendedBytes.{then_append}
 
 row_appended : (r : ItemRecord) (a b c d e f g h : List ℕ) → b ≡ a ++ number_bytes 4 r.hash → c ≡ b ++ number_bytes 4 (parent_number r.parent)
     → d ≡ c ++ number_bytes 4 r.key_start → e ≡ d ++ number_bytes 2 r.key_size → f ≡ e ++ (r.kind ∷ 0 ∷ []) → g ≡ f ++ number_bytes 4 r.start

@@ -1,0 +1,113 @@
+//! A keyfile whose rows are loaded below a directory: the path of each row, and the value that its text spells.
+ghost use Rattle.std.specs.Prelude.{◌≡◌, Err, IfErr, IfOk, IfSome, Ok, map};
+ghost use Rattle.std.specs.List.{All, AllByRecursion};
+ghost use Rattle.dconf_model.specs.Lines.LineReading.{found, wrong};
+ghost use Rattle.dconf_model.specs.Sources.{loaded};
+ghost use Rattle.dconf_path.specs.Paths.{directory_text};
+ghost use Rattle.keyfile_core.specs.Rows.{row_meant};
+ghost use Rattle.dconf_compile.specs.Added.{IsReadRow};
+ghost use Rattle.dconf_compile.specs.CompileFaults.{cause_of};
+ghost use Rattle.dconf_compile.specs.LineStops.{line_fault_of};
+ghost use Rattle.dconf_compile.specs.PathedRows.{IsPathed, assigned_of, pathed_meant, row_loaded, values_of};
+
+use crate::fault::CompileCause;
+use crate::line_stop::LineStop;
+use crate::rows::path_of;
+use crate::value::value_of_text;
+use dconf_path::{DirPath, KeyPath};
+use gv_tree::Tree;
+use keyfile_core::{Row, read};
+use std::alloc::{AllocError, Global};
+
+/// A row of a keyfile, and the path of its key.
+#[derive(Drop)]
+struct PathedRow<'a> {
+    row: Row<'a>,
+    path: String,
+}
+
+/// The rows of a keyfile, with the paths of their keys below a directory. Their values are not read yet.
+#[derive(Drop)]
+pub struct RowsBelow<'a> {
+    directory: DirPath<'a>,
+    rows: Vec<PathedRow<'a>>,
+
+    ghost are_pathed: { All (IsPathed (directory_text directory)) rows.items },
+}
+
+impl<'a> RowsBelow<'a> {
+    ghost use Rattle.dconf_compile.specs.Loading.{rows_loaded};
+
+    /// Reads the lines of a keyfile, and puts the path of each row's key below a directory.
+    ///
+    /// The refusals are those of [`read`], with their line. The rows are lent from the bytes; the paths are copied.
+    pub fn read(
+        alloc: Global,
+        directory: DirPath<'a>,
+        bytes: &'a [u8],
+    ) -> Result<RowsBelow<'a>, LineStop>
+        ensures found { IfOk result (λ rows. loaded (directory_text directory.entry) bytes.entry.now ≡ rows_loaded rows) }
+        ensures fault { IfErr result (λ stop. IfSome (line_fault_of stop) (λ fault. loaded (directory_text directory.entry) bytes.entry.now ≡ Err fault)) }
+    {
+        let rows = read(alloc, bytes)?;
+        let rows = with_paths(alloc, directory, &rows)?;
+        Ok(RowsBelow { directory, rows })
+    }
+
+    /// The key and the value of each row, in their order, or the first line at fault: its path is `TooLong`, or its text has no value.
+    ///
+    /// Each text is read once, as [`value_of_text`] does. All values are in memory then.
+    pub fn values(&self, alloc: Global) -> Result<Vec<(KeyPath<'_>, Tree)>, LineStop>
+        ensures found { IfOk result (λ values. rows_loaded self.now ≡ Ok (values_of values.items)) }
+        ensures fault { IfErr result (λ stop. IfSome (line_fault_of stop) (λ fault. rows_loaded self.now ≡ Err fault)) }
+    {
+        let mut values = Vec::new(alloc);
+        for row in &self.rows {
+            match self.value_of(alloc, row) {
+                Ok(value) => values.push(value)?,
+                Err(cause) => {
+                    return Err(LineStop {
+                        line: row.row.line,
+                        cause,
+                    });
+                }
+            }
+        }
+        Ok(values)
+    }
+
+    /// The key and the value of a row, or what is wrong with it.
+    fn value_of<'p>(
+        &self,
+        alloc: Global,
+        row: &'p PathedRow<'_>,
+    ) -> Result<(KeyPath<'p>, Tree), CompileCause>
+        requires { IsPathed (directory_text self.now.directory) row.now }
+        ensures found { IfOk result (λ value. row_loaded (directory_text self.now.directory) (pathed_meant row.entry.now) ≡ found (assigned_of value)) }
+        ensures fault { IfErr result (λ cause. IfSome (cause_of cause) (λ c. row_loaded (directory_text self.now.directory) (pathed_meant row.entry.now) ≡ wrong c)) }
+    {
+        match KeyPath::parse(&row.path) {
+            Ok(path) => Ok((path, value_of_text(alloc, row.row.text)?)),
+            // The rules of keyfiles leave no other fault.
+            Err(_) => Err(CompileCause::TooLong),
+        }
+    }
+}
+
+/// Rows with the paths of their keys below a directory.
+fn with_paths<'a>(
+    alloc: Global,
+    directory: DirPath<'_>,
+    rows: &[Row<'a>],
+) -> Result<Vec<PathedRow<'a>>, AllocError>
+    requires { AllByRecursion IsReadRow (map row_meant rows.now) }
+    ensures rows { IfOk result (λ pathed. map pathed_meant pathed.items ≡ map row_meant rows.entry.now) }
+    ensures paths { IfOk result (λ pathed. All (IsPathed (directory_text directory.entry)) pathed.items) }
+{
+    let mut pathed = Vec::new(alloc);
+    for row in rows {
+        let path = path_of(alloc, directory.as_str(), row)?;
+        pathed.push(PathedRow { row: *row, path })?;
+    }
+    Ok(pathed)
+}
