@@ -184,7 +184,37 @@ reset_is_plain = record {
 }
 
 offered_subs : Each IsOffered line.subs
-offered_subs = (record { alone = refl; ours = λ _. show_is_plain }, (record { alone = refl; ours = λ _. check_is_plain }, (record { alone = refl; ours = λ _. compile_is_plain }, (record { alone = refl; ours = λ _. read_is_plain }, (record { alone = refl; ours = λ _. origin_is_plain }, (record { alone = refl; ours = λ _. repair_is_plain }, (record { alone = refl; ours = λ _. list_is_plain }, (record { alone = refl; ours = λ _. list_locks_is_plain }, (record { alone = refl; ours = λ _. dump_is_plain }, (record { alone = refl; ours = λ _. write_is_plain }, (record { alone = refl; ours = λ _. reset_is_plain }, (record { alone = refl; ours = λ other. absurd (other refl) }, tt))))))))))))
+offered_subs = (
+  record { alone = refl; ours = λ _. show_is_plain },
+  (
+    record { alone = refl; ours = λ _. check_is_plain },
+    (
+      record { alone = refl; ours = λ _. compile_is_plain },
+      (
+        record { alone = refl; ours = λ _. read_is_plain },
+        (
+          record { alone = refl; ours = λ _. origin_is_plain },
+          (
+            record { alone = refl; ours = λ _. repair_is_plain },
+            (
+              record { alone = refl; ours = λ _. list_is_plain },
+              (
+                record { alone = refl; ours = λ _. list_locks_is_plain },
+                (
+                  record { alone = refl; ours = λ _. dump_is_plain },
+                  (
+                    record { alone = refl; ours = λ _. write_is_plain },
+                    (record { alone = refl; ours = λ _. reset_is_plain }, (record { alone = refl; ours = λ other. absurd (other refl) }, tt)),
+                  ),
+                ),
+              ),
+            ),
+          ),
+        ),
+      ),
+    ),
+  ),
+)
 
 -- the subcommand of this name
 abbrev pub sub_named : Text → Shape
