@@ -20,6 +20,7 @@ use Rattle.dconf_model.specs.Lines.LineReading.{wrong}
 use Rattle.dconf_model.specs.Paths.PathFault.{too_long}
 use Rattle.dconf_model.specs.Settings.{Settings, with_value}
 use Rattle.dconf_model.specs.Sources.{assigned, row_read}
+use Rattle.dconf_model.proofs.WorkedPaths.{root_is_a_directory}
 use Rattle.dconf_compile.specs.Added.{AddsRow, IsReadRow, IsStoredFor, row_compiled, text_compiled}
 
 no_nul : (s : List ℕ) → is_plain s ≡ true → has_zero_byte s ≡ false
@@ -182,24 +183,19 @@ module _ (d : List ℕ) (directory : is_directory_path d ≡ true) (read : List 
   refused_row None is k = tt
   refused_row (Some c) is k = short_row is ∙ ap (assigned (path_of d r)) k
 
--- `/` is a directory
-pub root_is_directory : is_directory_path (codes "/") ≡ true
-unfolding has_two_slashes
-root_is_directory = refl
-
 -- ---- a row that is compiled
 
 module _ (r : Row) (h : IsReadRow r) (p : List ℕ) (same : p ≡ path_of (codes "/") r) where
   pub too_long_row : (IsTrue (is_key_path p) → false ≡ true) → row_compiled r ≡ wrong (path_fault too_long)
-  too_long_row refuted = long_row (codes "/") root_is_directory text_compiled r h p same refuted
+  too_long_row refuted = long_row (codes "/") root_is_a_directory text_compiled r h p same refuted
 
   pub row_refused : (o : Option SettingsCause) → IsTrue (is_key_path p) → IfSome o (λ c. text_compiled r.text ≡ Err c) → IfSome o (λ c. row_compiled r ≡ wrong c)
-  row_refused o is k = refused_row (codes "/") root_is_directory text_compiled r h p same o is k
+  row_refused o is k = refused_row (codes "/") root_is_a_directory text_compiled r h p same o is k
 
   pub row_stored : (bytes : List ℕ) (old new : Settings) → IsTrue (is_key_path p) → IsStoredFor (text_compiled r.text) bytes → new ≡ with_value old p bytes → AddsRow (row_compiled r) old new
   row_stored bytes old new is s added = record {
     row = record { path = path_of (codes "/") r; value = s.value };
-    found = short_row (codes "/") root_is_directory text_compiled r h p same is ∙ ap (assigned (path_of (codes "/") r)) s.read;
+    found = short_row (codes "/") root_is_a_directory text_compiled r h p same is ∙ ap (assigned (path_of (codes "/") r)) s.read;
     limited = s.limited;
     added = added ∙ (ap (λ (x : List ℕ). with_value old x bytes) same ∙ ap (with_value old (path_of (codes "/") r)) s.bytes);
   }

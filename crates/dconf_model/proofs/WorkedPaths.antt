@@ -16,7 +16,7 @@ a_directory : is_directory_path (codes "/a/") ≡ true
 unfolding computing
 a_directory = refl
 
-root_is_a_directory : is_directory_path (codes "/") ≡ true
+pub root_is_a_directory : is_directory_path (codes "/") ≡ true
 unfolding computing
 root_is_a_directory = refl
 
