@@ -2,12 +2,12 @@
 use Rattle.std.proofs.Common.{◌≡◌, ◌≤◌, ◌<◌, ◌+◌, ◌++◌, ◌⊎◌, ◌∙◌, inl, inr, ℕ, true, false, List, [], Option, Some, None, Result, Ok, Err, refl, sym, ap, length, length-append, take, append-nil, arith}
 use Rattle.std.specs.Prelude.{IfSome, unwrap_or}
 use Rattle.std.specs.Io.KnownBytes.{Consumes, IsAtEnd}
-use Rattle.std.proofs.KnownBytes.{Consumes-trans}
+use Rattle.std.proofs.KnownBytes.{Consumes-nil, Consumes-trans}
 use Rattle.dconf_model.specs.Lines.{longest_text}
 use Rattle.dconf_model.specs.Reads.{Input}
 use Rattle.dconf_cli.specs.declared.input.InputFault.{InputFault}
 use Rattle.dconf_cli.specs.declared.input.InputFault.TheVariants.{Device, Memory}
-use Rattle.dconf_cli.specs.Inputs.{IsReadOf, SameText, TakesPiece}
+use Rattle.dconf_cli.specs.Inputs.{ConsumesText, IsReadOf, SameText, TakesPiece}
 use Rattle.dconf_cli.specs.Runs.{Took}
 use Rattle.dconf_cli.specs.Streams.{one_more}
 
@@ -22,6 +22,10 @@ took_whole (Some xs) bytes old new = record { whole = λ _. refl; part = λ e. c
 nothing_of : (remaining : Option (List ℕ)) → IfSome remaining (λ xs. (n : ℕ) × ([] ≡ take n xs))
 nothing_of None = tt
 nothing_of (Some xs) = (0, refl)
+
+-- a stream that was left alone
+pub takes_none : (remaining : Option (List ℕ)) → ConsumesText remaining remaining
+takes_none remaining = ([], Consumes-nil remaining, omega arith)
 
 -- the bytes are all that the stream had, or both are too many
 same_text : (remaining left : Option (List ℕ)) (bytes : List ℕ) → Consumes remaining left bytes

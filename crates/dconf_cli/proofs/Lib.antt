@@ -16,3 +16,4 @@ pub mod ChangeLaws
 pub mod InputLaws
 pub mod Walks
 pub mod Dumping
+pub mod LoadLaws

@@ -2,6 +2,8 @@
 use Rattle.std.proofs.Common.{◌≡◌, ◌+◌, ◌∷◌, ◌⊎◌, ◌∙◌, inl, inr, ℕ, Bool, true, false, zero, suc, List, [], Option, Some, None, refl, sym, ap, subst, arith}
 use Rattle.std.specs.Prelude.{◌≢◌, IfSome, codes, unwrap_or}
 use Rattle.std.specs.Str.{bytes_eq}
+use Rattle.std.proofs.Math.Dec.{eqb}
+use Rattle.std.proofs.lemmas.Bool.Decides.{eqb_tells}
 use Rattle.std.proofs.lemmas.Slice.Eq.{bytes_eq-Decides}
 use Rattle.dconf_model.specs.Folders.{Event, read_content}
 use Rattle.dconf_model.specs.FaultTexts.{device_text}
@@ -15,7 +17,7 @@ use Rattle.dconf_model.specs.Runs.{RunEnding}
 use Rattle.dconf_model.specs.Runs.RunEnding.{as_meant, device}
 use Rattle.dconf_cli.specs.declared.answer.Answer.{Answer}
 use Rattle.dconf_cli.specs.declared.answer.Answer.TheVariants as answers
-use Rattle.dconf_cli.specs.Answers.{outcome_of}
+use Rattle.dconf_cli.specs.Answers.{RefusesFor, outcome_of}
 use Rattle.dconf_cli.specs.Endings.{Ends, EndsBy}
 use Rattle.dconf_cli.specs.Readings.{AllRead, AreOf, Decides, Gave, Reading, Tells}
 use Rattle.dconf_cli.specs.Runs.{IsFormed, IsOwn, KeepsFiles, NamesFile, RanAnywhere, Took}
@@ -330,3 +332,17 @@ module _ {F : Type 0} (past : F → List Event → Type 0) (failures : F → ℕ
       go : Tells (failures old) (failures mid) d.log answer → failures new ≡ failures old
       go (inl all) = kept past failures command input mid new output (outcome_of answer) zero_is e ∙ all.1
       go (inr broken) = lost (device_text broken.0) (refusal_says past failures command input mid new output (outcome_of answer) (device_text broken.0) broken.3 e)
+
+  -- it is not 0 where the input failed
+  pub zero_keeps_input : (failed_old failed_new : ℕ) → (failed_new ≢ failed_old → RefusesFor answer (device_text (codes "input")))
+      → output.status ≡ 0 → failed_new ≡ failed_old
+  zero_keeps_input failed_old failed_new says zero_is = go (eqb_tells failed_new failed_old)
+    where
+      lost : (output ≡ refused_output (device_text (codes "input"))) ⊎ NoMemory output → failed_new ≡ failed_old
+      lost (inl is) = absurd (not_both output.status zero_is (line_status output (device_text (codes "input")) is))
+      lost (inr is) = absurd (not_both output.status zero_is (line_status output (codes "Memory") is))
+
+      go : ((eqb failed_new failed_old ≡ true) × (failed_new ≡ failed_old)) ⊎ ((eqb failed_new failed_old ≡ false) × (failed_new ≢ failed_old)) → failed_new ≡ failed_old
+      go (inl same) = same.1
+      go (inr other) =
+          lost (refusal_says past failures command input mid new output (outcome_of answer) (device_text (codes "input")) (says other.1) e)

@@ -1,23 +1,22 @@
 -- The subcommand that the words name, and what clap gives its arguments where it finds no fault in the words.
-use Rattle.std.proofs.Common.{◌≡◌, ◌∙◌, ◌||◌, ◌&&◌, ◌⊎◌, inl, inr, not, ℕ, Bool, true, false, List, [], ◌∷◌, refl, sym, ap, subst, Option, Some, None, is_some, codes}
-use Rattle.std.specs.Prelude.{◌≢◌, ⊤, IfSome, IsSome, cond, find, option_map, slice_get, unwrap_or}
+use Rattle.std.proofs.Common.{◌≡◌, ◌∙◌, ◌||◌, ◌&&◌, ◌⊎◌, inl, inr, not, ℕ, Bool, true, false, List, [], ◌∷◌, refl, sym, ap, subst, Option, Some, None, Result, Ok, Err, is_some, codes}
+use Rattle.std.specs.Prelude.{◌≢◌, ⊤, IfOk, IfSome, IsSome, cond, find, option_map, slice_get, unwrap_or}
 use Rattle.std.specs.List.{list_any}
 use Rattle.std.specs.Option.{option_map_or}
 use Rattle.std.specs.Str.{bytes_eq}
 use Rattle.std.proofs.lemmas.Slice.Eq.{bytes_eq-Decides}
-use Rattle.clap.specs.Kinds.{HasKind, Kinds, check_kinds}
+use Rattle.clap.specs.Kinds.{FailsBy, Kinds, check_kinds}
 use Rattle.clap.specs.Simple.{App, Shape, argument_words, built, entered, label_of, names_of, rows_at}
 use Rattle.clap.specs.Walk.{Names, Row, Rule, Text, answers_to, has_long, has_short, nothing_held, rows_after, stop_after, walk_from}
 use Rattle.clap.specs.Takes.{is_given}
 use Rattle.clap.specs.Faults.{level_fault, entered_fault, check_fault, fault_of, is_simple_and_free, walk_fault}
-use Rattle.clap.specs.Words.{HasMatchesOf, first_of, first_value, is_simple, matched_of, raw_values, rows_of, subcommand_name_of, subcommand_of, subcommand_rows, subcommand_rows_of}
+use Rattle.clap.specs.Words.{HasMatchesOf, first_of, first_value, found_of, is_simple, matched_of, raw_values, rows_of, subcommand_name_of, subcommand_of, subcommand_rows, subcommand_rows_of}
 use Rattle.clap.specs.declared.parser.matches.ArgMatches.TheViews.{out-ArgMatches, out-SubCommand}
 use Rattle.std.specs.Box.{box_value}
 use Rattle.clap.specs.declared.ArgMatches.{ArgMatches}
 use Rattle.clap.specs.declared.error.Error.{Error}
-use Rattle.clap.specs.declared.parser.matches.Found.{Found}
 use Rattle.clap.proofs.WalkLemmas.{first_value-rows, raw_values-rows}
-use Rattle.dconf_cli.specs.Asked.{AsksToCheck, AsksForOrigin, AsksToCompile, AsksToRead, AsksToRepair, AsksToShow, is_set, profile_file, AsksOfDirectory, AsksToReset, AsksToWrite}
+use Rattle.dconf_cli.specs.Asked.{AreOf, AsksToLoad, HasValue, IsParsedBy, AsksToCheck, AsksForOrigin, AsksToCompile, AsksToRead, AsksToRepair, AsksToShow, is_set, profile_file, AsksOfDirectory, AsksToReset, AsksToWrite}
 use Rattle.dconf_cli.specs.CommandLine.{command_line, show_line}
 use Rattle.dconf_cli.proofs.Stops.{IsNotHelp, or_else_nil, walk_not_help}
 use Rattle.dconf_cli.proofs.Filled.{OnlyAsks, walk_filled, given_first, is_option}
@@ -72,7 +71,7 @@ line = built command_line
 
 abbrev IsCommandName : Text → Type 0
 IsCommandName name =
-    (name ≡ codes "show") ⊎ ((name ≡ codes "check") ⊎ ((name ≡ codes "compile") ⊎ ((name ≡ codes "read") ⊎ ((name ≡ codes "origin") ⊎ ((name ≡ codes "repair") ⊎ ((name ≡ codes "list") ⊎ ((name ≡ codes "list-locks") ⊎ ((name ≡ codes "dump") ⊎ ((name ≡ codes "write") ⊎ (name ≡ codes "reset"))))))))))
+    (name ≡ codes "show") ⊎ ((name ≡ codes "check") ⊎ ((name ≡ codes "compile") ⊎ ((name ≡ codes "read") ⊎ ((name ≡ codes "origin") ⊎ ((name ≡ codes "repair") ⊎ ((name ≡ codes "list") ⊎ ((name ≡ codes "list-locks") ⊎ ((name ≡ codes "dump") ⊎ ((name ≡ codes "write") ⊎ ((name ≡ codes "reset") ⊎ (name ≡ codes "load")))))))))))
 
 abbrev Each : {X : Type 0} → (X → Type 0) → List X → Type 0
 Each P [] = ⊤
@@ -180,7 +179,13 @@ write_is_plain = record {
 reset_is_plain : IsPlainSub (shape_at 10)
 reset_is_plain = record {
   rules = (inl refl, (inr (inl refl), (inr (inl refl), (inr (inr (refl, λ rows. refl)), tt))));
-  name = inr (inr (inr (inr (inr (inr (inr (inr (inr (inr refl)))))))));
+  name = inr (inr (inr (inr (inr (inr (inr (inr (inr (inr (inl refl))))))))));
+}
+
+load_is_plain : IsPlainSub (shape_at 11)
+load_is_plain = record {
+  rules = (inl refl, (inr (inl refl), (inr (inl refl), (inr (inr (refl, λ rows. refl)), tt))));
+  name = inr (inr (inr (inr (inr (inr (inr (inr (inr (inr (inr refl))))))))));
 }
 
 offered_subs : Each IsOffered line.subs
@@ -204,7 +209,10 @@ offered_subs = (
                   record { alone = refl; ours = λ _. dump_is_plain },
                   (
                     record { alone = refl; ours = λ _. write_is_plain },
-                    (record { alone = refl; ours = λ _. reset_is_plain }, (record { alone = refl; ours = λ other. absurd (other refl) }, tt)),
+                    (
+                      record { alone = refl; ours = λ _. reset_is_plain },
+                      (record { alone = refl; ours = λ _. load_is_plain }, (record { alone = refl; ours = λ other. absurd (other refl) }, tt)),
+                    ),
                   ),
                 ),
               ),
@@ -284,21 +292,17 @@ free_line = refl
 some_same : {X : Type 0} {x y : X} → Some x ≡ Some y → x ≡ y
 some_same {X} {x} {y} e = ap (λ (o : Option X). unwrap_or o x) e
 
--- clap finds no fault in the words, and met the subcommand that they name
-pub record IsParsedBy (words : List Text) (m : ArgMatches) : Type 0 where
-  pub sound : fault_of command_line words ≡ []
-  pub met : subcommand_rows_of m ≡ subcommand_of command_line words
+module _ (a : App) (words : List Text) (r : Result ArgMatches Error) (same : a ≡ command_line) (kinds : is_simple_and_free a ≡ true → FailsBy (fault_of a words) r) where
+  pub fails : FailsBy (fault_of command_line words) r
+  fails = subst (λ (x : App). FailsBy (fault_of x words) r) same (kinds (ap is_simple_and_free same ∙ free_line))
 
-pub parsed : (a : App) (words : List Text) (m : ArgMatches) → a ≡ command_line → (is_simple_and_free a ≡ true → fault_of a words ≡ [])
-    → HasMatchesOf a words m → IsParsedBy words m
-parsed a words m e kinds matches = record {
-  sound = subst (λ (x : App). fault_of x words ≡ []) e (kinds (ap is_simple_and_free e ∙ free_line));
-  met = (matches (ap is_simple e ∙ simple_line)).1 ∙ ap (λ (x : App). subcommand_of x words) e;
+pub parsed : (a : App) (words : List Text) (r : Result ArgMatches Error) → a ≡ command_line → (is_simple_and_free a ≡ true → FailsBy (fault_of a words) r)
+    → IfOk r (HasMatchesOf a words) → IfOk r (IsParsedBy words)
+parsed a words (Err e) same kinds matches = tt
+parsed a words (Ok m) same kinds matches = record {
+  sound = fails a words (Ok m) same kinds;
+  met = (matches (ap is_simple same ∙ simple_line)).1 ∙ ap (λ (x : App). subcommand_of x words) same;
 }
-
--- clap refuses the words for a fault of ours
-pub refused_by : (a : App) (words : List Text) (e : Error) → a ≡ command_line → (is_simple_and_free a ≡ true → HasKind (fault_of a words) e) → HasKind (fault_of command_line words) e
-refused_by a words e same kinds = subst (λ (x : App). HasKind (fault_of x words) e) same (kinds (ap is_simple_and_free same ∙ free_line))
 
 name_by_rows : (m : ArgMatches) → subcommand_name_of m ≡ option_map (λ p. p.0) (subcommand_rows_of m)
 name_by_rows m = elim (out-ArgMatches m).subcommand as (λ o. option_map (λ b. (out-SubCommand (box_value b)).name.now) o ≡ option_map (λ p. p.0) (subcommand_rows o)) [
@@ -322,8 +326,9 @@ pub named_show : (words : List Text) (m : ArgMatches) → IsParsedBy words m
     → subcommand_name_of m ≢ Some (codes "dump")
     → subcommand_name_of m ≢ Some (codes "write")
     → subcommand_name_of m ≢ Some (codes "reset")
+    → subcommand_name_of m ≢ Some (codes "load")
     → subcommand_name_of m ≡ Some (codes "show")
-named_show words m p not_check not_compile not_read not_origin not_repair not_list not_list_locks not_dump not_write not_reset = go (enters words p.sound).one
+named_show words m p not_check not_compile not_read not_origin not_repair not_list not_list_locks not_dump not_write not_reset not_load = go (enters words p.sound).one
   where
     go : IsCommandName (enters words p.sound).name → subcommand_name_of m ≡ Some (codes "show")
     go (inl show) = met_name words m p ∙ ap Some show
@@ -336,17 +341,19 @@ named_show words m p not_check not_compile not_read not_origin not_repair not_li
     go (inr (inr (inr (inr (inr (inr (inr (inl list_locks)))))))) = absurd (not_list_locks (met_name words m p ∙ ap Some list_locks))
     go (inr (inr (inr (inr (inr (inr (inr (inr (inl dump))))))))) = absurd (not_dump (met_name words m p ∙ ap Some dump))
     go (inr (inr (inr (inr (inr (inr (inr (inr (inr (inl write)))))))))) = absurd (not_write (met_name words m p ∙ ap Some write))
-    go (inr (inr (inr (inr (inr (inr (inr (inr (inr (inr reset)))))))))) = absurd (not_reset (met_name words m p ∙ ap Some reset))
+    go (inr (inr (inr (inr (inr (inr (inr (inr (inr (inr (inl reset))))))))))) = absurd (not_reset (met_name words m p ∙ ap Some reset))
+    go (inr (inr (inr (inr (inr (inr (inr (inr (inr (inr (inr load))))))))))) = absurd (not_load (met_name words m p ∙ ap Some load))
 
--- the matches are those of the subcommand of this name
-pub record IsSub (words : List Text) (name : Text) (found : Found) : Type 0 where
-  pub named : subcommand_of command_line words ≡ Some (name, rows_of found)
-  pub given : (id : Text) → is_option id ≡ false → wants (sub_named name).rules id ≡ true → IsSome (first_value found id)
+-- the values are those of the subcommand of this name, and each of its required words has one
+pub record IsSub (words : List Text) (name : Text) (sub : ArgMatches) : Type 0 where
+  pub named : AreOf words name sub
+  pub given : (id : Text) → is_option id ≡ false → wants (sub_named name).rules id ≡ true → HasValue sub id
 
-pub is_sub : (words : List Text) (name : Text) (m : ArgMatches) (found : Found) → IsParsedBy words m → subcommand_name_of m ≡ Some name
-    → option_map (λ p. p.1) (subcommand_rows_of m) ≡ Some (rows_of found) → IsSub words name found
-is_sub words name m found p names rows =
+pub is_sub : (words : List Text) (name : Text) (m sub : ArgMatches) → IsParsedBy words m → subcommand_name_of m ≡ Some name
+    → option_map (λ p. p.1) (subcommand_rows_of m) ≡ Some (rows_of (found_of sub)) → IsSub words name sub
+is_sub words name m sub p names rows =
     let met = enters words p.sound in
+    let found = found_of sub in
     let same : rows_of found ≡ met.rows = some_same (sym rows ∙ ap (option_map (λ q. q.1)) (p.met ∙ met.named)) in
     let is : met.name ≡ name = some_same (sym (met_name words m p) ∙ names) in
     record {
@@ -354,90 +361,101 @@ is_sub words name m found p names rows =
       given = λ id other wanted. rw (first_value-rows found id, same) (met.given id other (subst (λ (n : Text). wants (sub_named n).rules id ≡ true) (sym is) wanted));
     }
 
-pub asks_to_show : (words : List Text) (found : Found) (type_text file : Text) → IsSub words (codes "show") found
-    → first_value found (codes "TYPE") ≡ Some type_text → first_value found (codes "FILE") ≡ Some file → AsksToShow words type_text file
-asks_to_show words found type_text file sub t f = record {
-  rows = rows_of found;
-  named = sub.named;
-  type_value = sym (first_value-rows found (codes "TYPE")) ∙ t;
-  file_value = sym (first_value-rows found (codes "FILE")) ∙ f;
+pub asks_to_show : (words : List Text) (sub : ArgMatches) (type_text file : Text) → AreOf words (codes "show") sub
+    → first_value (found_of sub) (codes "TYPE") ≡ Some type_text → first_value (found_of sub) (codes "FILE") ≡ Some file → AsksToShow words type_text file
+asks_to_show words sub type_text file named t f = record {
+  rows = rows_of (found_of sub);
+  named = named;
+  type_value = sym (first_value-rows (found_of sub) (codes "TYPE")) ∙ t;
+  file_value = sym (first_value-rows (found_of sub) (codes "FILE")) ∙ f;
 }
 
-pub asks_to_check : (words : List Text) (found : Found) (file : Text) → IsSub words (codes "check") found
-    → first_value found (codes "FILE") ≡ Some file → AsksToCheck words file
-asks_to_check words found file sub f = record {
-  rows = rows_of found;
-  named = sub.named;
-  file_value = sym (first_value-rows found (codes "FILE")) ∙ f;
+pub asks_to_check : (words : List Text) (sub : ArgMatches) (file : Text) → AreOf words (codes "check") sub
+    → first_value (found_of sub) (codes "FILE") ≡ Some file → AsksToCheck words file
+asks_to_check words sub file named f = record {
+  rows = rows_of (found_of sub);
+  named = named;
+  file_value = sym (first_value-rows (found_of sub) (codes "FILE")) ∙ f;
 }
 
-pub asks_to_compile : (words : List Text) (found : Found) (out : Text) (locks : Option Text) (keyfiles : List Text) → IsSub words (codes "compile") found
-    → first_value found (codes "OUT") ≡ Some out → locks ≡ first_value found (codes "locks")
-    → keyfiles ≡ unwrap_or (option_map raw_values (matched_of found (codes "KEYFILE"))) [] → AsksToCompile words out locks keyfiles
-asks_to_compile words found out locks keyfiles sub o l k = record {
-  rows = rows_of found;
-  named = sub.named;
-  out_value = sym (first_value-rows found (codes "OUT")) ∙ o;
-  locks_value = sym (first_value-rows found (codes "locks")) ∙ sym l;
-  keyfile_values = sym (k ∙ ap (λ (o : Option (List Text)). unwrap_or o []) (raw_values-rows found (codes "KEYFILE")));
+pub asks_to_compile : (words : List Text) (sub : ArgMatches) (out : Text) (locks : Option Text) (keyfiles : List Text) → AreOf words (codes "compile") sub
+    → first_value (found_of sub) (codes "OUT") ≡ Some out → locks ≡ first_value (found_of sub) (codes "locks")
+    → keyfiles ≡ unwrap_or (option_map raw_values (matched_of (found_of sub) (codes "KEYFILE"))) [] → AsksToCompile words out locks keyfiles
+asks_to_compile words sub out locks keyfiles named o l k = record {
+  rows = rows_of (found_of sub);
+  named = named;
+  out_value = sym (first_value-rows (found_of sub) (codes "OUT")) ∙ o;
+  locks_value = sym (first_value-rows (found_of sub) (codes "locks")) ∙ sym l;
+  keyfile_values = sym (k ∙ ap (λ (o : Option (List Text)). unwrap_or o []) (raw_values-rows (found_of sub) (codes "KEYFILE")));
 }
 
-pub asks_to_read : (words : List Text) (found : Found) (default : Bool) (key profile : Text) → IsSub words (codes "read") found
-    → default ≡ is_set (first_value found (codes "default")) → first_value found (codes "KEY") ≡ Some key
-    → profile ≡ profile_file (first_value found (codes "profile")) → AsksToRead words default key profile
-asks_to_read words found default key profile sub d k p = record {
-  rows = rows_of found;
-  named = sub.named;
-  default_value = ap is_set (sym (first_value-rows found (codes "default"))) ∙ sym d;
-  key_value = sym (first_value-rows found (codes "KEY")) ∙ k;
-  profile_value = ap profile_file (sym (first_value-rows found (codes "profile"))) ∙ sym p;
+pub asks_to_read : (words : List Text) (sub : ArgMatches) (default : Bool) (key profile : Text) → AreOf words (codes "read") sub
+    → default ≡ is_set (first_value (found_of sub) (codes "default")) → first_value (found_of sub) (codes "KEY") ≡ Some key
+    → profile ≡ profile_file (first_value (found_of sub) (codes "profile")) → AsksToRead words default key profile
+asks_to_read words sub default key profile named d k p = record {
+  rows = rows_of (found_of sub);
+  named = named;
+  default_value = ap is_set (sym (first_value-rows (found_of sub) (codes "default"))) ∙ sym d;
+  key_value = sym (first_value-rows (found_of sub) (codes "KEY")) ∙ k;
+  profile_value = ap profile_file (sym (first_value-rows (found_of sub) (codes "profile"))) ∙ sym p;
 }
 
-pub asks_for_origin : (words : List Text) (found : Found) (key profile : Text) → IsSub words (codes "origin") found
-    → first_value found (codes "KEY") ≡ Some key → profile ≡ profile_file (first_value found (codes "profile")) → AsksForOrigin words key profile
-asks_for_origin words found key profile sub k p = record {
-  rows = rows_of found;
-  named = sub.named;
-  key_value = sym (first_value-rows found (codes "KEY")) ∙ k;
-  profile_value = ap profile_file (sym (first_value-rows found (codes "profile"))) ∙ sym p;
+pub asks_for_origin : (words : List Text) (sub : ArgMatches) (key profile : Text) → AreOf words (codes "origin") sub
+    → first_value (found_of sub) (codes "KEY") ≡ Some key → profile ≡ profile_file (first_value (found_of sub) (codes "profile")) → AsksForOrigin words key profile
+asks_for_origin words sub key profile named k p = record {
+  rows = rows_of (found_of sub);
+  named = named;
+  key_value = sym (first_value-rows (found_of sub) (codes "KEY")) ∙ k;
+  profile_value = ap profile_file (sym (first_value-rows (found_of sub) (codes "profile"))) ∙ sym p;
 }
 
-pub asks_to_repair : (words : List Text) (found : Found) (file out : Text) → IsSub words (codes "repair") found
-    → first_value found (codes "FILE") ≡ Some file → first_value found (codes "OUT") ≡ Some out → AsksToRepair words file out
-asks_to_repair words found file out sub f o = record {
-  rows = rows_of found;
-  named = sub.named;
-  file_value = sym (first_value-rows found (codes "FILE")) ∙ f;
-  out_value = sym (first_value-rows found (codes "OUT")) ∙ o;
+pub asks_to_repair : (words : List Text) (sub : ArgMatches) (file out : Text) → AreOf words (codes "repair") sub
+    → first_value (found_of sub) (codes "FILE") ≡ Some file → first_value (found_of sub) (codes "OUT") ≡ Some out → AsksToRepair words file out
+asks_to_repair words sub file out named f o = record {
+  rows = rows_of (found_of sub);
+  named = named;
+  file_value = sym (first_value-rows (found_of sub) (codes "FILE")) ∙ f;
+  out_value = sym (first_value-rows (found_of sub) (codes "OUT")) ∙ o;
 }
 
-pub asks_of_directory : (name : Text) (words : List Text) (found : Found) (directory profile : Text) → IsSub words name found
-    → first_value found (codes "DIR") ≡ Some directory → profile ≡ profile_file (first_value found (codes "profile")) → AsksOfDirectory name words directory profile
-asks_of_directory name words found directory profile sub d p = record {
-  rows = rows_of found;
-  named = sub.named;
-  directory_value = sym (first_value-rows found (codes "DIR")) ∙ d;
-  profile_value = ap profile_file (sym (first_value-rows found (codes "profile"))) ∙ sym p;
+pub asks_of_directory : (name : Text) (words : List Text) (sub : ArgMatches) (directory profile : Text) → AreOf words name sub
+    → first_value (found_of sub) (codes "DIR") ≡ Some directory → profile ≡ profile_file (first_value (found_of sub) (codes "profile")) → AsksOfDirectory name words directory profile
+asks_of_directory name words sub directory profile named d p = record {
+  rows = rows_of (found_of sub);
+  named = named;
+  directory_value = sym (first_value-rows (found_of sub) (codes "DIR")) ∙ d;
+  profile_value = ap profile_file (sym (first_value-rows (found_of sub) (codes "profile"))) ∙ sym p;
 }
 
-pub asks_to_write : (words : List Text) (found : Found) (key value profile : Text) → IsSub words (codes "write") found
-    → first_value found (codes "KEY") ≡ Some key → first_value found (codes "VALUE") ≡ Some value
-    → profile ≡ profile_file (first_value found (codes "profile")) → AsksToWrite words key value profile
-asks_to_write words found key value profile sub k v p = record {
-  rows = rows_of found;
-  named = sub.named;
-  key_value = sym (first_value-rows found (codes "KEY")) ∙ k;
-  value_value = sym (first_value-rows found (codes "VALUE")) ∙ v;
-  profile_value = ap profile_file (sym (first_value-rows found (codes "profile"))) ∙ sym p;
+pub asks_to_write : (words : List Text) (sub : ArgMatches) (key value profile : Text) → AreOf words (codes "write") sub
+    → first_value (found_of sub) (codes "KEY") ≡ Some key → first_value (found_of sub) (codes "VALUE") ≡ Some value
+    → profile ≡ profile_file (first_value (found_of sub) (codes "profile")) → AsksToWrite words key value profile
+asks_to_write words sub key value profile named k v p = record {
+  rows = rows_of (found_of sub);
+  named = named;
+  key_value = sym (first_value-rows (found_of sub) (codes "KEY")) ∙ k;
+  value_value = sym (first_value-rows (found_of sub) (codes "VALUE")) ∙ v;
+  profile_value = ap profile_file (sym (first_value-rows (found_of sub) (codes "profile"))) ∙ sym p;
 }
 
-pub asks_to_reset : (words : List Text) (found : Found) (force : Bool) (path profile : Text) → IsSub words (codes "reset") found
-    → force ≡ is_set (first_value found (codes "force")) → first_value found (codes "PATH") ≡ Some path
-    → profile ≡ profile_file (first_value found (codes "profile")) → AsksToReset words force path profile
-asks_to_reset words found force path profile sub f k p = record {
-  rows = rows_of found;
-  named = sub.named;
-  force_value = ap is_set (sym (first_value-rows found (codes "force"))) ∙ sym f;
-  path_value = sym (first_value-rows found (codes "PATH")) ∙ k;
-  profile_value = ap profile_file (sym (first_value-rows found (codes "profile"))) ∙ sym p;
+pub asks_to_reset : (words : List Text) (sub : ArgMatches) (force : Bool) (path profile : Text) → AreOf words (codes "reset") sub
+    → force ≡ is_set (first_value (found_of sub) (codes "force")) → first_value (found_of sub) (codes "PATH") ≡ Some path
+    → profile ≡ profile_file (first_value (found_of sub) (codes "profile")) → AsksToReset words force path profile
+asks_to_reset words sub force path profile named f k p = record {
+  rows = rows_of (found_of sub);
+  named = named;
+  force_value = ap is_set (sym (first_value-rows (found_of sub) (codes "force"))) ∙ sym f;
+  path_value = sym (first_value-rows (found_of sub) (codes "PATH")) ∙ k;
+  profile_value = ap profile_file (sym (first_value-rows (found_of sub) (codes "profile"))) ∙ sym p;
+}
+
+pub asks_to_load : (words : List Text) (sub : ArgMatches) (force : Bool) (directory profile : Text) → AreOf words (codes "load") sub
+    → force ≡ is_set (first_value (found_of sub) (codes "force")) → first_value (found_of sub) (codes "DIR") ≡ Some directory
+    → profile ≡ profile_file (first_value (found_of sub) (codes "profile")) → AsksToLoad words force directory profile
+asks_to_load words sub force directory profile named f d p = record {
+  rows = rows_of (found_of sub);
+  named = named;
+  force_value = ap is_set (sym (first_value-rows (found_of sub) (codes "force"))) ∙ sym f;
+  directory_value = sym (first_value-rows (found_of sub) (codes "DIR")) ∙ d;
+  profile_value = ap profile_file (sym (first_value-rows (found_of sub) (codes "profile"))) ∙ sym p;
 }

@@ -1,10 +1,24 @@
 -- What the words of a command line ask for.
-use Rattle.std.specs.Prelude.{◌≡◌, Bool, false, List, None, [], Option, Some, codes, map, option_map, string_bytes, unwrap_or, vec_items}
+use Rattle.std.specs.Prelude.{◌≡◌, IsSome, Bool, false, List, None, [], Option, Some, codes, map, option_map, string_bytes, unwrap_or, vec_items}
 use Rattle.std.specs.Str.{bytes_eq}
-use Rattle.clap.specs.Words.{Row, Text, all_of, first_of, subcommand_of}
+use Rattle.clap.specs.Words.{Row, Text, all_of, fault_of, first_of, first_value, found_of, rows_of, subcommand_of, subcommand_rows_of}
+use Rattle.clap.specs.declared.ArgMatches.{ArgMatches}
 use Rattle.dconf_cli.specs.CommandLine.{command_line}
 use Rattle.dconf_cli.specs.declared.asked.Command.{Command}
-use Rattle.dconf_cli.specs.declared.asked.Command.TheVariants.{Show, Read, Origin, Check, Compile, Repair, List as ListIt, ListLocks, Dump, Write, Reset}
+use Rattle.dconf_cli.specs.declared.asked.Command.TheVariants.{Show, Read, Origin, Check, Compile, Repair, List as ListIt, ListLocks, Dump, Write, Reset, Load}
+
+-- clap finds no fault in the words, and met the subcommand that they name
+pub record IsParsedBy (words : List Text) (m : ArgMatches) : Type 0 where
+  pub sound : fault_of command_line words ≡ []
+  pub met : subcommand_rows_of m ≡ subcommand_of command_line words
+
+-- these are the values of the subcommand of this name
+abbrev pub AreOf : List Text → Text → ArgMatches → Type 0
+AreOf words name m = subcommand_of command_line words ≡ Some (name, rows_of (found_of m))
+
+-- an argument has a value
+abbrev pub HasValue : ArgMatches → Text → Type 0
+HasValue m id = IsSome (first_value (found_of m) id)
 
 -- the words name `show`, and clap gives its arguments these values
 pub record AsksToShow (words : List Text) (type_text file : Text) : Type 0 where
@@ -81,6 +95,14 @@ pub record AsksToReset (words : List Text) (force : Bool) (path profile : Text) 
   pub path_value : first_of (codes "PATH") rows ≡ Some path
   pub profile_value : profile_file (first_of (codes "profile") rows) ≡ profile
 
+-- the words name `load`, and clap gives its arguments these values
+pub record AsksToLoad (words : List Text) (force : Bool) (directory profile : Text) : Type 0 where
+  pub rows : List Row
+  pub named : subcommand_of command_line words ≡ Some (codes "load", rows)
+  pub force_value : is_set (first_of (codes "force") rows) ≡ force
+  pub directory_value : first_of (codes "DIR") rows ≡ Some directory
+  pub profile_value : profile_file (first_of (codes "profile") rows) ≡ profile
+
 -- clap gives the command's values to the words
 abbrev pub IsAskedBy : List Text → Command → Type 0
 IsAskedBy words (Show type_text file) = AsksToShow words (string_bytes type_text) (string_bytes file)
@@ -95,3 +117,4 @@ IsAskedBy words (Compile out locks keyfiles) =
 IsAskedBy words (Repair file out) = AsksToRepair words (string_bytes file) (string_bytes out)
 IsAskedBy words (Write key value profile) = AsksToWrite words (string_bytes key) (string_bytes value) (string_bytes profile)
 IsAskedBy words (Reset force path profile) = AsksToReset words force (string_bytes path) (string_bytes profile)
+IsAskedBy words (Load force directory profile) = AsksToLoad words force (string_bytes directory) (string_bytes profile)

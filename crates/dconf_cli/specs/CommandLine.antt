@@ -64,6 +64,10 @@ force_flag = record (new_rule (codes "force")) { short = Some 102; action = Some
 abbrev pub reset_line : App
 reset_line = with_rule (with_rule (with_rule (new_app (codes "reset")) (required_word (codes "PATH"))) force_flag) profile_option
 
+-- `load [-f] [-p FILE] DIR`
+abbrev pub load_line : App
+load_line = with_rule (with_rule (with_rule (new_app (codes "load")) (required_word (codes "DIR"))) force_flag) profile_option
+
 -- `dconfdb`, which wants a subcommand and has a version
 abbrev pub dconfdb_line : App
 dconfdb_line = record (new_app (codes "dconfdb")) {
@@ -75,6 +79,6 @@ dconfdb_line = record (new_app (codes "dconfdb")) {
 
 abbrev pub command_line : App
 command_line =
-    with_subcommand (with_subcommand (with_subcommand (with_subcommand (with_subcommand (with_subcommand (with_subcommand (with_subcommand (with_subcommand (with_subcommand (with_subcommand dconfdb_line
+    with_subcommand (with_subcommand (with_subcommand (with_subcommand (with_subcommand (with_subcommand (with_subcommand (with_subcommand (with_subcommand (with_subcommand (with_subcommand (with_subcommand dconfdb_line
     show_line.top) check_line.top) compile_line.top) read_line.top) origin_line.top) repair_line.top)
-    (directory_line (codes "list")).top) (directory_line (codes "list-locks")).top) (directory_line (codes "dump")).top) write_line.top) reset_line.top
+    (directory_line (codes "list")).top) (directory_line (codes "list-locks")).top) (directory_line (codes "dump")).top) write_line.top) reset_line.top) load_line.top

@@ -1,9 +1,9 @@
 -- The model's command of ours.
 use Rattle.std.specs.Prelude.{ℕ, Bool, true, false, List, map, option_map, string_bytes, vec_items}
 use Rattle.dconf_model.specs.Commands.{Command as Asked}
-use Rattle.dconf_model.specs.Commands.Command.{show, read, list, list_locks, write, reset, reset_below, dump, origin, check, compile, repair}
+use Rattle.dconf_model.specs.Commands.Command.{show, read, list, list_locks, write, reset, reset_below, load, dump, origin, check, compile, repair}
 use Rattle.dconf_cli.specs.declared.asked.Command.{Command}
-use Rattle.dconf_cli.specs.declared.asked.Command.TheVariants.{Show, Read, List as ListIt, ListLocks, Write, Reset, Dump, Origin, Check, Compile, Repair}
+use Rattle.dconf_cli.specs.declared.asked.Command.TheVariants.{Show, Read, List as ListIt, ListLocks, Write, Reset, Load, Dump, Origin, Check, Compile, Repair}
 
 -- of all keys below a directory, or of a key
 abbrev pub resetting : Bool → List ℕ → List ℕ → Asked
@@ -22,3 +22,4 @@ command_of (Compile out locks keyfiles) = compile (string_bytes out) (option_map
 command_of (Repair file out) = repair (string_bytes file) (string_bytes out)
 command_of (Write key value profile) = write (string_bytes key) (string_bytes value) (string_bytes profile)
 command_of (Reset force path profile) = resetting force (string_bytes path) (string_bytes profile)
+command_of (Load force directory profile) = load force (string_bytes directory) (string_bytes profile)

@@ -1,11 +1,15 @@
 -- What reading the input gives.
-use Rattle.std.specs.Prelude.{◌≡◌, ◌≤◌, ◌<◌, ◌⊎◌, ◌++◌, ℕ, true, false, List, length, Option, Result, IfOk, IsErrOf}
+use Rattle.std.specs.Prelude.{◌≡◌, ◌≤◌, ◌<◌, ◌+◌, ◌⊎◌, ◌++◌, ℕ, true, false, List, length, Option, Result, IfOk, IsErrOf}
 use Rattle.std.specs.Io.KnownBytes.{Consumes, IsAtEnd}
 use Rattle.dconf_model.specs.Lines.{longest_text}
 use Rattle.dconf_model.specs.Outcomes.{is_lost}
 use Rattle.dconf_model.specs.Reads.{Input}
 use Rattle.dconf_cli.specs.declared.input.InputFault.{InputFault}
 use Rattle.dconf_cli.specs.declared.input.InputFault.TheVariants.{Device}
+
+-- no more was consumed than shows that a text is too long
+abbrev pub ConsumesText : Option (List ℕ) → Option (List ℕ) → Type 0
+ConsumesText old new = (bytes : List ℕ) × Consumes old new bytes × (length bytes ≤ longest_text + 1)
 
 -- the same bytes, or both too many for a text
 abbrev pub SameText : List ℕ → List ℕ → Type 0

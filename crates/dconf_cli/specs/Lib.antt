@@ -11,3 +11,4 @@ pub mod Runs
 pub mod Inputs
 pub mod Dumps
 pub mod Changing
+pub mod Loads

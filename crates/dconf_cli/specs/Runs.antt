@@ -1,9 +1,10 @@
 -- What a run of a command does, by what is known of its folder and its input.
-use Rattle.std.specs.Prelude.{◌≡◌, ◌≢◌, ◌⊎◌, ℕ, true, false, List, [], Option, IfSome, take}
+use Rattle.std.specs.Prelude.{◌≡◌, ◌≢◌, ◌⊎◌, ℕ, Bool, true, false, List, [], Option, IfSome, take}
 use Rattle.dconf_model.specs.Folders.{Event, read_content}
 use Rattle.dconf_model.specs.FaultTexts.{device_text}
 use Rattle.dconf_model.specs.Replacing.{MaybeReplaced}
 use Rattle.dconf_model.specs.Commands.{Command}
+use Rattle.dconf_model.specs.Commands.Command.{load}
 use Rattle.dconf_model.specs.Reads.{Input, ReadResults}
 use Rattle.dconf_model.specs.Outcomes.{Output, refused_output}
 use Rattle.dconf_model.specs.Runs.{Answers, IsNewName, MayMake, NoMemory, ReadsFrom}
@@ -14,6 +15,11 @@ use Rattle.dconf_cli.specs.Streams.{one_more}
 pub record Took (remaining : Option (List ℕ)) (failures_old failures_new : ℕ) (i : Input) : Type 0 where
   pub whole : i.fails ≡ false → IfSome remaining (λ xs. i.bytes ≡ xs)
   pub part : i.fails ≡ true → IfSome remaining (λ xs. (n : ℕ) × (i.bytes ≡ take n xs)) × (failures_new ≡ one_more failures_old)
+
+-- whether a command reads its input
+abbrev pub reads_input : Command → Bool
+reads_input (load force directory profile) = true
+reads_input other = false
 
 -- the file that a command is to replace, by the reads that it made
 abbrev pub IsToReplace : Command → Input → List Reading → List ℕ → Type 0

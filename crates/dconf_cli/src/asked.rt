@@ -62,4 +62,11 @@ pub enum Command {
         path: String,
         profile: String,
     },
+    /// Sets the user's values, by the profile in the file `profile`, of the keys below `directory` that the keyfile on input gives; where
+    /// `force` is set, the rows of locked keys are left out.
+    Load {
+        force: bool,
+        directory: String,
+        profile: String,
+    },
 }

@@ -1,97 +1,14 @@
 //! The command line of `dconfdb`, by clap's builder.
-ghost use Rattle.std.specs.Prelude.{◌≡◌, [], codes, false, IfOk, IsSome, Some, map, option_map, string_bytes, unwrap_or, vec_items};
-ghost use Rattle.clap.specs.Words.{FailsBy, app_of, fault_of, first_value, found_of, matched_of, raw_values, rule_of};
-ghost use Rattle.dconf_cli.specs.CommandLine.{check_line, command_line, compile_line, further_words, default_flag, locks_option, origin_line, profile_option, read_line, repair_line, required_word, show_line, directory_line, force_flag, reset_line, write_line};
-ghost use Rattle.dconf_cli.specs.Asked.{IsAskedBy, is_set, profile_file};
+ghost use Rattle.std.specs.Prelude.{◌≡◌, codes, false, IfOk};
+ghost use Rattle.clap.specs.Words.{app_of, rule_of};
+ghost use Rattle.dconf_cli.specs.CommandLine.{check_line, command_line, compile_line, default_flag, directory_line, force_flag, further_words, load_line, locks_option, origin_line, profile_option, read_line, repair_line, required_word, reset_line, show_line, write_line};
 
-use crate::asked::Command;
 use crate::help;
-use clap::{Arg, ArgAction, ArgMatches};
+use clap::{Arg, ArgAction};
 use std::alloc::{AllocError, Global};
 
-/// The command that the words ask for, where the first word is the program's name and a word after
-/// `--` is a value even if it starts with `-`.
-///
-/// An error is clap's own: its `Display` is the text for the user, and its `exit_code` the status.
-/// It is a fault in the words, a request for help or the version, or `OutOfMemory`.
-///
-/// It costs a few short lists for clap, and a copy of the words in the answer.
-pub fn command(alloc: Global, words: &[String]) -> Result<Command, clap::Error>
-    ensures asked { IfOk result (IsAskedBy (map string_bytes words.now)) }
-    ensures faults { FailsBy (fault_of command_line (map string_bytes words.now)) result }
-{
-    let matches = dconfdb(alloc)?.try_get_matches_from(words)?;
-    if let Some(check) = matches.subcommand_matches("check") {
-        let file = value(alloc, check, "FILE")?;
-        return Ok(Command::Check { file });
-    }
-    if let Some(compile) = matches.subcommand_matches("compile") {
-        return Ok(Command::Compile {
-            out: value(alloc, compile, "OUT")?,
-            locks: value_if_any(alloc, compile, "locks")?,
-            keyfiles: values(alloc, compile, "KEYFILE")?,
-        });
-    }
-    if let Some(read) = matches.subcommand_matches("read") {
-        return Ok(Command::Read {
-            default: is_given(read, "default"),
-            key: value(alloc, read, "KEY")?,
-            profile: profile_value(alloc, read)?,
-        });
-    }
-    if let Some(origin) = matches.subcommand_matches("origin") {
-        return Ok(Command::Origin {
-            key: value(alloc, origin, "KEY")?,
-            profile: profile_value(alloc, origin)?,
-        });
-    }
-    if let Some(repair) = matches.subcommand_matches("repair") {
-        return Ok(Command::Repair {
-            file: value(alloc, repair, "FILE")?,
-            out: value(alloc, repair, "OUT")?,
-        });
-    }
-    if let Some(list) = matches.subcommand_matches("list") {
-        return Ok(Command::List {
-            directory: value(alloc, list, "DIR")?,
-            profile: profile_value(alloc, list)?,
-        });
-    }
-    if let Some(list_locks) = matches.subcommand_matches("list-locks") {
-        return Ok(Command::ListLocks {
-            directory: value(alloc, list_locks, "DIR")?,
-            profile: profile_value(alloc, list_locks)?,
-        });
-    }
-    if let Some(dump) = matches.subcommand_matches("dump") {
-        return Ok(Command::Dump {
-            directory: value(alloc, dump, "DIR")?,
-            profile: profile_value(alloc, dump)?,
-        });
-    }
-    if let Some(write) = matches.subcommand_matches("write") {
-        return Ok(Command::Write {
-            key: value(alloc, write, "KEY")?,
-            value: value(alloc, write, "VALUE")?,
-            profile: profile_value(alloc, write)?,
-        });
-    }
-    if let Some(reset) = matches.subcommand_matches("reset") {
-        return Ok(Command::Reset {
-            force: is_given(reset, "force"),
-            path: value(alloc, reset, "PATH")?,
-            profile: profile_value(alloc, reset)?,
-        });
-    }
-    let show = matches.subcommand_matches("show").unwrap();
-    Ok(Command::Show {
-        type_text: value(alloc, show, "TYPE")?,
-        file: value(alloc, show, "FILE")?,
-    })
-}
-
-// The whole command line.
-fn dconfdb<'a>(alloc: Global) -> Result<clap::Command<'a>, AllocError>
+/// The whole command line.
+pub(crate) fn dconfdb<'a>(alloc: Global) -> Result<clap::Command<'a>, AllocError>
     ensures { IfOk result (λ c. app_of c ≡ command_line) }
 {
     clap::Command::new(alloc, "dconfdb")
@@ -111,7 +28,8 @@ fn dconfdb<'a>(alloc: Global) -> Result<clap::Command<'a>, AllocError>
         .subcommand(list_locks(alloc)?)?
         .subcommand(dump(alloc)?)?
         .subcommand(write(alloc)?)?
-        .subcommand(reset(alloc)?)
+        .subcommand(reset(alloc)?)?
+        .subcommand(load(alloc)?)
 }
 
 // `show TYPE FILE`.
@@ -298,7 +216,10 @@ fn reset<'a>(alloc: Global) -> Result<clap::Command<'a>, AllocError>
     ensures { IfOk result (λ c. app_of c ≡ reset_line) }
 {
     let path = path_word(alloc);
-    let force = force_word(alloc);
+    let force = force_word(
+        alloc,
+        "reset all keys below a directory, but for locked ones",
+    );
     let profile = profile_word(alloc);
     clap::Command::new(alloc, "reset")
         .about(
@@ -306,6 +227,21 @@ fn reset<'a>(alloc: Global) -> Result<clap::Command<'a>, AllocError>
         )
         .after_long_help(help::RESET)
         .arg(path)?
+        .arg(force)?
+        .arg(profile)
+}
+
+// `load [-f] [-p FILE] DIR`.
+fn load<'a>(alloc: Global) -> Result<clap::Command<'a>, AllocError>
+    ensures { IfOk result (λ c. app_of c ≡ load_line) }
+{
+    let directory = directory_word(alloc);
+    let force = force_word(alloc, "leave out the rows of locked keys");
+    let profile = profile_word(alloc);
+    clap::Command::new(alloc, "load")
+        .about("Sets the user's values of the keys below DIR to those of the keyfile on input")
+        .after_long_help(help::LOAD)
+        .arg(directory)?
         .arg(force)?
         .arg(profile)
 }
@@ -340,15 +276,15 @@ fn path_word<'a>(alloc: Global) -> Arg<'a>
     )
 }
 
-// Whether all keys below a directory are meant.
-fn force_word<'a>(alloc: Global) -> Arg<'a>
+// Whether locked keys are left out, in place of a refusal.
+fn force_word<'a>(alloc: Global, help: &'a str) -> Arg<'a>
     ensures rule { rule_of result ≡ force_flag }
     ensures own { result.global ≡ false }
 {
     Arg::new(alloc, "force")
         .short('f')
         .action(ArgAction::SetTrue)
-        .help("reset all keys below a directory, but for locked ones")
+        .help(help)
 }
 
 // Whether the user's values are left aside.
@@ -396,63 +332,4 @@ fn required<'a>(alloc: Global, name: &'a str) -> Arg<'a>
     ensures own { result.global ≡ false }
 {
     Arg::new(alloc, name).required(true).action(ArgAction::Set)
-}
-
-// The value of an argument that has one.
-fn value(alloc: Global, matches: &ArgMatches<'_>, id: &str) -> Result<String, AllocError>
-    requires { IsSome (first_value (found_of matches.now) id.now) }
-    ensures { IfOk result (λ text.
-        first_value (found_of matches.now) id.now ≡ Some (string_bytes text)) }
-{
-    String::from_str(alloc, matches.get_str(id).unwrap())
-}
-
-// The value of an argument that may be left out.
-fn value_if_any(
-    alloc: Global,
-    matches: &ArgMatches<'_>,
-    id: &str,
-) -> Result<Option<String>, AllocError>
-    ensures { IfOk result (λ text. option_map string_bytes text ≡ first_value (found_of matches.now) id.now) }
-{
-    match matches.get_str(id) {
-        Some(text) => Ok(Some(String::from_str(alloc, text)?)),
-        None => Ok(None),
-    }
-}
-
-// Whether a flag is among the words.
-fn is_given(matches: &ArgMatches<'_>, id: &str) -> bool
-    ensures { result ≡ is_set (first_value (found_of matches.now) id.now) }
-{
-    match matches.get_str(id) {
-        Some(text) => text == "true",
-        None => false,
-    }
-}
-
-// The name of the profile's file.
-fn profile_value(alloc: Global, matches: &ArgMatches<'_>) -> Result<String, AllocError>
-    ensures { IfOk result (λ text. string_bytes text ≡ profile_file (first_value (found_of matches.now) (codes "profile"))) }
-{
-    String::from_str(alloc, matches.get_str("profile").unwrap_or("profile"))
-}
-
-// The values of an argument that may have several, or none.
-fn values(alloc: Global, matches: &ArgMatches<'_>, id: &str) -> Result<Vec<String>, AllocError>
-    ensures { IfOk result (λ texts. map string_bytes (vec_items texts)
-        ≡ unwrap_or (option_map raw_values (matched_of (found_of matches.now) id.now)) []) }
-{
-    copies(alloc, matches.get_strs(id).unwrap_or(&[]))
-}
-
-// A copy of each text.
-fn copies(alloc: Global, texts: &[&str]) -> Result<Vec<String>, AllocError>
-    ensures { IfOk result (λ copies. map string_bytes (vec_items copies) ≡ map (λ text. text.now) texts.now) }
-{
-    let mut copies = Vec::new(alloc);
-    for text in texts {
-        copies.push(String::from_str(alloc, text)?)?;
-    }
-    Ok(copies)
 }

@@ -1,13 +1,20 @@
 //! The commands, one file each: what a command answers for what it reads.
+ghost use Rattle.std.specs.Prelude.{◌≡◌, ◌≢◌, codes, false};
+ghost use Rattle.dconf_model.specs.FaultTexts.{device_text};
 ghost use Rattle.dconf_model.specs.Outcomes.{IsOutcome};
 ghost use Rattle.dconf_model.specs.Reads.{Input};
+ghost use Rattle.dconf_cli.specs.Answers.{RefusesFor};
 ghost use Rattle.dconf_cli.specs.Commands.{command_of};
+ghost use Rattle.dconf_cli.specs.Counted.{failures_of, inner_of};
+ghost use Rattle.dconf_cli.specs.Inputs.{ConsumesText};
 ghost use Rattle.dconf_cli.specs.Readings.{Decides};
+ghost use Rattle.dconf_cli.specs.Runs.{Took, reads_input};
 
 mod check;
 mod compile;
 mod dump;
 mod list;
+mod load;
 mod origin;
 mod read;
 mod repair;
@@ -17,23 +24,34 @@ mod write;
 
 use crate::answer::Answer;
 use crate::asked::Command;
+use crate::counted::Counted;
 use check::check;
 use compile::compile;
 use dconf_disk::Folder;
 use dump::dump;
 use list::{list, list_locks};
+use load::load;
 use origin::origin;
 use read::read;
 use repair::repair;
 use reset::reset;
 use show::show;
 use std::alloc::Global;
+use std::io::Read;
 use write::write;
 
-/// What the command answers.
-pub(crate) fn answered<F: Folder>(alloc: Global, command: &Command, folder: &mut F) -> Answer
-    ensures { (input : Input) → Decides F.past F.failed folder.old folder.new 0
-        (λ reads. IsOutcome (command_of command.now) reads input) result }
+/// What the command answers. Only `load` reads the input.
+pub(crate) fn answered<F: Folder, I: Read>(
+    alloc: Global,
+    command: &Command,
+    folder: &mut F,
+    input: &mut Counted<I>,
+) -> Answer
+    ensures answer { (i : Input) × Took (I.remaining (inner_of input.old)) (failures_of input.old) (failures_of input.new) i
+        × Decides F.past F.failed folder.old folder.new 0 (λ reads. IsOutcome (command_of command.now) reads i) result }
+    ensures device { failures_of input.new ≢ failures_of input.old → RefusesFor result (device_text (codes "input")) }
+    ensures input { reads_input (command_of command.now) ≡ false → input.new ≡ input.old }
+    ensures limit { ConsumesText (I.remaining (inner_of input.old)) (I.remaining (inner_of input.new)) }
 {
     match command {
         Command::Show { type_text, file } => show(alloc, type_text.as_str(), file.as_str(), folder),
@@ -75,5 +93,17 @@ pub(crate) fn answered<F: Folder>(alloc: Global, command: &Command, folder: &mut
             path,
             profile,
         } => reset(alloc, *force, path.as_str(), profile.as_str(), folder),
+        Command::Load {
+            force,
+            directory,
+            profile,
+        } => load(
+            alloc,
+            *force,
+            directory.as_str(),
+            profile.as_str(),
+            folder,
+            input,
+        ),
     }
 }

@@ -141,3 +141,16 @@ Example:
 
 Status:
   0 done, 1 refused (one line on err says why), 2 wrong words";
+
+/// Of `load`.
+pub(crate) const LOAD: &str = "Files:
+  input       groups such as [example], below DIR, and in them lines such as name='desk'; for DIR itself [/]
+  profile     the databases, one on a line: user-db:NAME, system-db:NAME or file-db:PATH
+  NAME.user   the user's database, of user-db:NAME; it is replaced whole: a crash leaves the old one or the new one
+  NAME.db     a database of the site, of system-db:NAME
+
+Example:
+  dconfdb load /org/ < saved.keyfile
+
+Status:
+  0 done, 1 refused (one line on err says why), 2 wrong words";

@@ -5,7 +5,7 @@ ghost use Rattle.std.specs.Io.KnownBytes.{Consumes};
 ghost use Rattle.dconf_model.specs.Lines.{longest_text};
 ghost use Rattle.dconf_model.specs.Reads.{Input};
 ghost use Rattle.dconf_cli.specs.Counted.{failures_of, inner_of};
-ghost use Rattle.dconf_cli.specs.Inputs.{IsReadOf, TakesPiece};
+ghost use Rattle.dconf_cli.specs.Inputs.{ConsumesText, IsReadOf, TakesPiece};
 ghost use Rattle.dconf_cli.specs.Runs.{Took};
 ghost use Rattle.dconf_cli.specs.Streams.{one_more};
 
@@ -60,8 +60,7 @@ pub fn read_input<I: Read>(alloc: Global, input: &mut Counted<I>) -> Result<Vec<
         × IsReadOf i vec_items result }
     ensures bytes { IfOk result (λ bytes. Consumes (I.remaining (inner_of input.old)) (I.remaining (inner_of input.new)) (vec_items bytes)) }
     ensures limit { IfOk result (λ bytes. length (vec_items bytes) ≤ longest_text + 1) }
-    ensures lost { OnErr result ((bytes : List ℕ) × Consumes (I.remaining (inner_of input.old)) (I.remaining (inner_of input.new)) bytes
-        × (length bytes ≤ longest_text + 1)) }
+    ensures lost { OnErr result (ConsumesText (I.remaining (inner_of input.old)) (I.remaining (inner_of input.new))) }
     ensures ok { OnOk result (failures_of input.new ≡ failures_of input.old) }
     ensures device { IsErrOf result InputFault.Device → failures_of input.new ≡ one_more (failures_of input.old) }
     ensures memory { IsErrOf result InputFault.Memory → failures_of input.new ≡ failures_of input.old }

@@ -30,9 +30,10 @@ mod store;
 mod task;
 mod walk;
 mod word_value;
+mod words;
 
 pub use asked::Command;
-pub use command_line::command;
 pub use counted::Counted;
 pub use input::{InputFault, read_input};
 pub use running::run;
+pub use words::command;

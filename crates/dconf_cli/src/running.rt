@@ -1,12 +1,13 @@
 //! A run of a command: it reads, decides what it answers, and then writes.
-ghost use Rattle.std.specs.Prelude.{◌≡◌, ◌≢◌, ◌≤◌, ℕ, List};
+ghost use Rattle.std.specs.Prelude.{◌≡◌, ◌≢◌, ◌≤◌, ℕ, List, false};
 ghost use Rattle.dconf_model.specs.Folders.{Event};
 ghost use Rattle.dconf_model.specs.Outcomes.{Output};
 ghost use Rattle.dconf_model.specs.Reads.{Input};
 ghost use Rattle.dconf_model.specs.Runs.{Ran, RanCalmly};
 ghost use Rattle.dconf_cli.specs.Commands.{command_of};
 ghost use Rattle.dconf_cli.specs.Counted.{Leaves, failures_of, inner_of};
-ghost use Rattle.dconf_cli.specs.Runs.{KeepsFiles, RanAnywhere, Took};
+ghost use Rattle.dconf_cli.specs.Inputs.{ConsumesText};
+ghost use Rattle.dconf_cli.specs.Runs.{KeepsFiles, RanAnywhere, Took, reads_input};
 ghost use Rattle.dconf_cli.specs.Streams.{NoneFailed};
 
 use crate::asked::Command;
@@ -20,16 +21,17 @@ use std::io::{Read, Write};
 /// Runs the command on the folder, and gives its status: 0 is done, 1 is refused.
 ///
 /// Done, its text is on out; refused, one line on err says why, and out got nothing. A failed write to out
-/// is status 1 with nothing on err, and a failed one to err changes no status. Of every command the lines are
-/// `error: NoFile FILE`, `error: Device FILE` where the folder failed, `error: TooBig` for a file over 4,294,967,295
-/// bytes, and `error: Memory`. Of `show` they are also the fault of a text that is no type, as
-/// `error: KeyNotBasic at 2`, `error: TooLarge` for over 1,000,000 values or 128 levels, and `error: DoubleText` where a
-/// double is to be printed; of `read` and `origin` the fault of the key's path, as `error: NotAbsolute`, of the profile's first line at
-/// fault, as `error: profile:2: BadLine`, and of the first database that is no sound one, as `error: BadDatabase 1: Short`, and of `read`
-/// those of a value's printing; of `compile` the first line at fault, as `error: site:2: BadLine`; of `check` and `repair` why the file is
-/// no database, as `error: BadRoot`, and of `check` `unsound: S4 item 1` for the first rule that fails and the first item at which it does.
+/// is status 1 with nothing on err, and a failed one to err changes no status. The lines, by what is at fault:
+/// a file, `error: NoFile FILE`, `error: Device FILE` where the folder failed, `error: TooBig` over 4,294,967,295 bytes;
+/// memory, `error: Memory`; a word, the fault of its path or type or value, as `error: NotAbsolute` or `error: KeyNotBasic at 2`;
+/// the profile or a keyfile or locks or the input, the first line at fault, as `error: site:2: BadLine`; the input, `error: Device input`
+/// where it failed; a database, `error: BadDatabase 1: Short` for the first by the profile that is no sound one, and for `check`
+/// and `repair` why the file is no database, as `error: BadRoot`, and for `check` `unsound: S4 item 1` for the first rule that fails and
+/// the first item at which it does; a change, `error: NotWritable`, `error: Locked /a/k`, `error: TooLarge` or `error: TooBig`;
+/// a value to print, `error: TooLarge` for over 1,000,000 values or 128 levels, and `error: DoubleText` for a double.
 ///
-/// It holds the bytes of the files that it reads once, and those that it writes; `show` takes time linear in both.
+/// It holds the bytes of the files that it reads once, and those that it writes. Only `load` reads the input, and at most
+/// 16,777,217 bytes of it.
 pub fn run<F: Folder, I: Read, O: Write, E: Write>(
     alloc: Global,
     command: Command,
@@ -61,10 +63,9 @@ pub fn run<F: Folder, I: Read, O: Write, E: Write>(
         × (failures_of input.new ≡ failures_of input.old) × (failures_of out.new ≡ failures_of out.old) }
     ensures lost_out { failures_of out.new ≢ failures_of out.old → (result ≡ 1) × (err.new ≡ err.old) }
     ensures status { result ≤ 1 }
-    ensures input { input.new ≡ input.old }
+    ensures input { reads_input (command_of command) ≡ false → input.new ≡ input.old }
+    ensures limit { ConsumesText (I.remaining (inner_of input.old)) (I.remaining (inner_of input.new)) }
 {
-    // No command reads the input so far.
-    let _ = input;
-    let answer = answered(alloc, &command, folder);
+    let answer = answered(alloc, &command, folder, input);
     give(alloc, answer, folder, out, err)
 }

@@ -91,7 +91,12 @@ pub(crate) fn profile<'a>(alloc: Global, name: &str, bytes: &'a [u8]) -> Result<
 }
 
 /// The refusal of a line of a file.
-fn refused_at<D: Display + Drop>(alloc: Global, file: &str, line: usize, cause: D) -> Answer
+pub(crate) fn refused_at<D: Display + Drop>(
+    alloc: Global,
+    file: &str,
+    line: usize,
+    cause: D,
+) -> Answer
     ensures { IfSome (D.output cause) (λ text. RefusesFor result (file.now ++ (58 ∷ (decimal line ++ (codes ": " ++ text))))) }
 {
     refused(alloc, format_args!("{file}:{line}: {cause}"))

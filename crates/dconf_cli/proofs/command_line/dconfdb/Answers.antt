@@ -33,5 +33,7 @@ returns c =
     let of_write = c.in_ok-write.ensures in
     let with_write = c.in_ok-subcommand-10.ensures.shape (first_not _ _ (second _ _ (second _ _ (ap (λ (a : App). a.top.is_plain) of_write)))) ∙ ap₂ with_subcommand with_dump (ap (λ (a : App). a.top) of_write) in
     let of_reset = c.in_ok-reset.ensures in
-    IfOk-weaker c.subcommand-11.result _ _ (λ r h. h.shape (first_not _ _ (second _ _ (second _ _ (ap (λ (a : App). a.top.is_plain) of_reset)))) ∙ ap₂ with_subcommand with_write (ap (λ (a : App). a.top) of_reset))
-    c.subcommand-11.ensures
+    let with_reset = c.in_ok-subcommand-11.ensures.shape (first_not _ _ (second _ _ (second _ _ (ap (λ (a : App). a.top.is_plain) of_reset)))) ∙ ap₂ with_subcommand with_write (ap (λ (a : App). a.top) of_reset) in
+    let of_load = c.in_ok-load.ensures in
+    IfOk-weaker c.subcommand-12.result _ _ (λ r h. h.shape (first_not _ _ (second _ _ (second _ _ (ap (λ (a : App). a.top.is_plain) of_load)))) ∙ ap₂ with_subcommand with_reset (ap (λ (a : App). a.top) of_load))
+    c.subcommand-12.ensures

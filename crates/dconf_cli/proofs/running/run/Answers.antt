@@ -1,46 +1,45 @@
-use Rattle.std.proofs.Common.{refl}
-use Rattle.dconf_cli.specs.Counted.{failures_of, inner_of}
-use Rattle.dconf_cli.proofs.Runs.{input_of, ran, ran_anywhere, ran_calmly, took, zero_keeps}
+use Rattle.dconf_cli.proofs.Runs.{ran, ran_anywhere, ran_calmly, zero_keeps, zero_keeps_input}
 use Rattle.dconf_cli.proofs.running.run.Goals as goal
 
 pub returns-clause-calm : goal.returns-clause-calm
 returns-clause-calm g c = λ none es es_is.
-    let given = g.I.Read.remaining (inner_of c.args.input.now) in
+    let a = c.answered-answer.ensures.answer in
     let end = c.give.ensures in
-    let r = ran_calmly g.F.Folder.past g.F.Folder.failed _ (input_of given) c.args.folder.now c.answered-answer.new.folder c.give.new.folder c.answered-answer.result end.0
-    (c.answered-answer.ensures (input_of given)) end.1 none es es_is in
-    (input_of given, took given (failures_of c.args.input.now), (r.0, r.1, (end.0, r.2, end.2)))
+    let r = ran_calmly g.F.Folder.past g.F.Folder.failed _ a.0 c.args.folder.now c.answered-answer.new.folder c.give.new.folder c.answered-answer.result end.0
+    a.2 end.1 none es es_is in
+    (a.0, a.1, (r.0, r.1, (end.0, r.2, end.2)))
 
 pub returns-clause-ran : goal.returns-clause-ran
 returns-clause-ran g c = λ es es_is.
-    let given = g.I.Read.remaining (inner_of c.args.input.now) in
+    let a = c.answered-answer.ensures.answer in
     let end = c.give.ensures in
-    let r = ran g.F.Folder.past g.F.Folder.failed _ (input_of given) c.args.folder.now c.answered-answer.new.folder c.give.new.folder c.answered-answer.result end.0
-    (c.answered-answer.ensures (input_of given)) end.1 es es_is in
-    (input_of given, took given (failures_of c.args.input.now), (r.0, r.1, (end.0, r.2, r.3, end.2)))
+    let r = ran g.F.Folder.past g.F.Folder.failed _ a.0 c.args.folder.now c.answered-answer.new.folder c.give.new.folder c.answered-answer.result end.0
+    a.2 end.1 es es_is in
+    (a.0, a.1, (r.0, r.1, (end.0, r.2, r.3, end.2)))
 
 pub returns-clause-anywhere : goal.returns-clause-anywhere
 returns-clause-anywhere g c =
-    let given = g.I.Read.remaining (inner_of c.args.input.now) in
+    let a = c.answered-answer.ensures.answer in
     let end = c.give.ensures in (
-      input_of given,
-      took given (failures_of c.args.input.now),
+      a.0,
+      a.1,
       (
         end.0,
-        ran_anywhere g.F.Folder.past g.F.Folder.failed _ (input_of given) c.args.folder.now
-            c.answered-answer.new.folder c.give.new.folder c.answered-answer.result end.0 (c.answered-answer.ensures (input_of given)) end.1,
+        ran_anywhere g.F.Folder.past g.F.Folder.failed _ a.0 c.args.folder.now
+            c.answered-answer.new.folder c.give.new.folder c.answered-answer.result end.0 a.2 end.1,
         end.2,
       ),
     )
 
 pub returns-clause-zero : goal.returns-clause-zero
 returns-clause-zero g c = λ zero_is.
-    let given = g.I.Read.remaining (inner_of c.args.input.now) in
+    let a = c.answered-answer.ensures.answer in
     let end = c.give.ensures in
     let done = end.2.done zero_is in (
-      zero_keeps g.F.Folder.past g.F.Folder.failed _ (input_of given) c.args.folder.now
-          c.answered-answer.new.folder c.give.new.folder c.answered-answer.result end.0 (c.answered-answer.ensures (input_of given)) end.1 done.0,
-      refl,
+      zero_keeps g.F.Folder.past g.F.Folder.failed _ a.0 c.args.folder.now
+          c.answered-answer.new.folder c.give.new.folder c.answered-answer.result end.0 a.2 end.1 done.0,
+      zero_keeps_input g.F.Folder.past g.F.Folder.failed _ a.0 c.args.folder.now
+          c.answered-answer.new.folder c.give.new.folder c.answered-answer.result end.0 a.2 end.1 _ _ c.answered-answer.ensures.device done.0,
       done.1,
     )
 
