@@ -1,15 +1,26 @@
-//! `write` and `reset` over a folder in memory: what they leave in it, and the line for each kind of fault.
+//! `write` and `reset` over a folder in memory: what they leave in it, and the line for each kind of fault. Of `load` what a failing folder leaves.
 use crate::check::PLAIN;
-use crate::runs::{folder_of, left_by, put_file};
-use dconf_cli::command;
+use crate::runs::{folder_of, left_on, put_file};
+use dconf_cli::{Counted, command};
 use dconf_disk::{Folder, FolderFault, MemoryFolder};
 use std::alloc::{AllocError, Global};
+use std::io::Read;
 use std::test::Fail;
 
-/// What a run of the words leaves, which stand with one blank between them.
+/// What a run of the words without input leaves. They stand with one blank between them.
 pub(crate) fn ran<F: Folder>(alloc: Global, line: &str, folder: &mut F) -> Result<String, Fail> {
+    ran_on(alloc, line, folder, &mut Counted::new(b"".as_slice()))
+}
+
+/// What a run of the words on this input leaves.
+pub(crate) fn ran_on<F: Folder, I: Read>(
+    alloc: Global,
+    line: &str,
+    folder: &mut F,
+    input: &mut Counted<I>,
+) -> Result<String, Fail> {
     match command(alloc, &words_of(alloc, line)?) {
-        Ok(command) => Ok(left_by(alloc, command, folder)?),
+        Ok(command) => Ok(left_on(alloc, command, folder, input)?),
         Err(_) => Err(Fail::from("the words are refused")),
     }
 }
@@ -30,7 +41,19 @@ pub(crate) fn wants(
     wanted: &str,
     folder: &mut MemoryFolder,
 ) -> Result<(), Fail> {
-    let left = ran(alloc, line, folder)?;
+    wants_on(alloc, line, "", wanted, folder)
+}
+
+/// Runs the words on this input. An error says that they don't leave this.
+pub(crate) fn wants_on(
+    alloc: Global,
+    line: &str,
+    text: &str,
+    wanted: &str,
+    folder: &mut MemoryFolder,
+) -> Result<(), Fail> {
+    let mut input = Counted::new(text.as_bytes());
+    let left = ran_on(alloc, line, folder, &mut input)?;
     if left.as_str() == wanted {
         Ok(())
     } else {
@@ -50,10 +73,10 @@ pub(crate) fn wants_all(
     Ok(())
 }
 
-const DONE: &str = "0 out= err=";
+pub(crate) const DONE: &str = "0 out= err=";
 
 /// A folder whose profile names the user's database `me`, with 1 at `/a/k`, and `site`, with 2 there. `own` names `me` alone, `theirs` names
-/// `site` alone, and `bad` names `me` and a database that is cut off.
+/// `site` alone, and `cut` names `me` and a database that is cut off; `late` names that one before `site`.
 pub(crate) fn two_layers(alloc: Global, locks: &str) -> Result<MemoryFolder, Fail> {
     let files = [
         ("u", "[a]\nk=1\n"),
@@ -64,6 +87,7 @@ pub(crate) fn two_layers(alloc: Global, locks: &str) -> Result<MemoryFolder, Fai
         ("theirs", "system-db:site\n"),
         ("cut", "user-db:me\nsystem-db:bad\n"),
         ("worse", "system-db:bad\nlocal\n"),
+        ("late", "system-db:bad\nsystem-db:site\n"),
     ];
     let mut folder = folder_of(alloc, &files)?;
     if put_file(&mut folder, "bad.db", &PLAIN[..23]).is_err() {
@@ -146,8 +170,8 @@ fn sets_and_resets_keys(rt: HostRuntime) -> Result<(), Fail> {
     wants_all(alloc, &saved, &mut folder_of(alloc, &files)?)
 }
 
-/// A value that is 128 deep.
-const DEEP: &str =
+/// A value that is 128 deep, written to a key.
+pub(crate) const DEEP: &str =
     "dconfdb write /a/k <<<<<<<<<<<<<<<<<<<<<<<<<<<<<<<<<<<<<<<<<<<<<<<<<<<<<<<<<<<<<<<<<<<<<<<<<<<<<<<<<<<<<<<<<<<<<<<<<<<<<<<<<<<<<<<<<<<<<<<<<<<<<<<1>>>>>>>>>>>>>>>>>>>>>>>>>>>>>>>>>>>>>>>>>>>>>>>>>>>>>>>>>>>>>>>>>>>>>>>>>>>>>>>>>>>>>>>>>>>>>>>>>>>>>>>>>>>>>>>>>>>>>>>>>>>>>>>";
 
 #[test]
@@ -216,11 +240,11 @@ fn names_the_first_refusal_of_a_change(rt: HostRuntime) -> Result<(), Fail> {
     wants_all(alloc, &unlocked, &mut two_layers(alloc, "")?)
 }
 
-/// Runs a change where the k-th call of the folder fails, and then a crash. An error says that it doesn't leave this, or that what is then read is
-/// neither of these.
+/// Runs a change on its input where the k-th call of the folder fails, and then a crash. An error says that it doesn't leave this, or that what is
+/// then read is neither of these.
 fn wants_change(
     alloc: Global,
-    line: &str,
+    (line, text): (&str, &str),
     k: u64,
     wanted: &str,
     read: &str,
@@ -229,7 +253,7 @@ fn wants_change(
     for outcome in 0..6 {
         let mut folder = two_layers(alloc, "/x\n")?;
         folder.fail_at(k);
-        wants(alloc, line, wanted, &mut folder)?;
+        wants_on(alloc, line, text, wanted, &mut folder)?;
         // Of the ninth call there is none left to fail.
         folder.fail_at(0);
         if folder.crash(outcome).is_err() {
@@ -259,23 +283,29 @@ fn calls_of_the_folder_by_changes(rt: HostRuntime) -> Result<(), Fail> {
     ];
     let changes = [
         (
-            "dconfdb write /b 1",
+            ("dconfdb write /b 1", ""),
             "dconfdb read /b",
             DONE,
             "0 out=1\n err=",
         ),
         (
-            "dconfdb reset /a/k",
+            ("dconfdb reset /a/k", ""),
             "dconfdb read -p own /a/k",
             "0 out=1\n err=",
             DONE,
         ),
+        (
+            ("dconfdb load /", "[b]\nj=1\n"),
+            "dconfdb read /b/j",
+            DONE,
+            "0 out=1\n err=",
+        ),
     ];
     for (k, wanted, old, new) in rows {
-        for (line, read, before, after) in changes {
+        for (change, read, before, after) in changes {
             let first = if old { before } else { after };
             let last = if new { after } else { before };
-            wants_change(alloc, line, k, wanted, read, (first, last))?;
+            wants_change(alloc, change, k, wanted, read, (first, last))?;
         }
     }
     Ok(())

@@ -6,8 +6,8 @@ use std::test::Fail;
 
 /// A reader of so many bytes, each `#`, whose k-th read fails.
 #[derive(Drop)]
-struct Marks {
-    left: usize,
+pub(crate) struct Marks {
+    pub(crate) left: usize,
     fails_in: usize,
     kind: ErrorKind,
 }
@@ -26,7 +26,7 @@ impl Read for Marks {
     }
 }
 
-fn marked(left: usize, fails_in: usize, kind: ErrorKind) -> Counted<Marks> {
+pub(crate) fn marked(left: usize, fails_in: usize, kind: ErrorKind) -> Counted<Marks> {
     Counted::new(Marks {
         left,
         fails_in,

@@ -21,6 +21,8 @@ mod limits;
 #[cfg(test)]
 mod listing;
 #[cfg(test)]
+mod loading;
+#[cfg(test)]
 mod repairing;
 #[cfg(test)]
 mod runs;

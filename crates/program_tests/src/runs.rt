@@ -2,6 +2,7 @@
 use dconf_cli::{Command, Counted, run};
 use dconf_disk::{Folder, FolderFault, MemoryFolder};
 use std::alloc::{AllocError, Global};
+use std::io::Read;
 use std::test::Fail;
 
 pub(crate) fn asked(alloc: Global, type_text: &str, file: &str) -> Result<Command, AllocError> {
@@ -102,16 +103,25 @@ pub(crate) fn kept<F: Folder>(alloc: Global, folder: &mut F) -> Result<String, A
     format!(in alloc; "{length} bytes, {verdict}")
 }
 
-/// What a run leaves on out and err, each after its name, and its status.
+/// What a run without input leaves on out and err, each after its name, and its status.
 pub(crate) fn left_by<F: Folder>(
     alloc: Global,
     command: Command,
     folder: &mut F,
 ) -> Result<String, AllocError> {
-    let mut input = Counted::new(b"".as_slice());
+    left_on(alloc, command, folder, &mut Counted::new(b"".as_slice()))
+}
+
+/// What a run on this input leaves on out and err, each after its name, and its status.
+pub(crate) fn left_on<F: Folder, I: Read>(
+    alloc: Global,
+    command: Command,
+    folder: &mut F,
+    input: &mut Counted<I>,
+) -> Result<String, AllocError> {
     let mut out = Counted::new(Vec::new(alloc));
     let mut err = Counted::new(Vec::new(alloc));
-    let status = run(alloc, command, folder, &mut input, &mut out, &mut err);
+    let status = run(alloc, command, folder, input, &mut out, &mut err);
     let out = String::from_utf8_lossy(alloc, out.get_ref().as_slice())?;
     let err = String::from_utf8_lossy(alloc, err.get_ref().as_slice())?;
     format!(in alloc; "{status} out={out} err={err}")

@@ -145,6 +145,46 @@ fn reads_repair(rt: HostRuntime) -> Result<(), Fail> {
 }
 
 #[test]
+fn reads_load(rt: HostRuntime) -> Result<(), Fail> {
+    let alloc = rt.alloc();
+    let lines = [
+        (
+            ["dconfdb", "load", "/a/"].as_slice(),
+            "Load { force: false, directory: \"/a/\", profile: \"profile\" }",
+        ),
+        (
+            ["dconfdb", "load", "-f", "/a/"].as_slice(),
+            "Load { force: true, directory: \"/a/\", profile: \"profile\" }",
+        ),
+        (
+            ["dconfdb", "load", "-p", "x", "/a/"].as_slice(),
+            "Load { force: false, directory: \"/a/\", profile: \"x\" }",
+        ),
+        (
+            ["dconfdb", "load", "/a/", "-fp", "x"].as_slice(),
+            "Load { force: true, directory: \"/a/\", profile: \"x\" }",
+        ),
+        (
+            ["dconfdb", "load", "--", "-f"].as_slice(),
+            "Load { force: false, directory: \"-f\", profile: \"profile\" }",
+        ),
+    ];
+    for (line, wanted) in lines {
+        let words = texts(alloc, line)?;
+        let asked = command(alloc, &words)?;
+        let shown = format!(in alloc; "{asked:?}")?;
+        assert!(rt; shown.as_str() == wanted, "{shown}");
+    }
+    // Without a directory it is refused.
+    let words = texts(alloc, &["dconfdb", "load", "-f"])?;
+    match command(alloc, &words) {
+        Ok(_) => assert!(rt; false, "taken"),
+        Err(error) => assert_eq!(rt; error.exit_code(), 2),
+    }
+    Ok(())
+}
+
+#[test]
 fn refuses_other_words(rt: HostRuntime) -> Result<(), Fail> {
     let alloc = rt.alloc();
     let lines = [
@@ -191,6 +231,18 @@ fn refuses_other_words(rt: HostRuntime) -> Result<(), Fail> {
         ),
         (
             ["dconfdb", "repair", "a", "b", "c"].as_slice(),
+            ErrorKind::UnknownArgument,
+        ),
+        (
+            ["dconfdb", "load"].as_slice(),
+            ErrorKind::MissingRequiredArgument,
+        ),
+        (
+            ["dconfdb", "load", "-f", "-p", "x"].as_slice(),
+            ErrorKind::MissingRequiredArgument,
+        ),
+        (
+            ["dconfdb", "load", "/a/", "/b/"].as_slice(),
             ErrorKind::UnknownArgument,
         ),
         (["dconfdb", "help"].as_slice(), ErrorKind::DisplayHelp),
@@ -249,6 +301,14 @@ fn shows_help(rt: HostRuntime) -> Result<(), Fail> {
         (
             ["dconfdb", "help", "show"].as_slice(),
             "Usage: dconfdb show <TYPE> <FILE>",
+        ),
+        (
+            ["dconfdb", "--help"].as_slice(),
+            "Sets the user's values of the keys below DIR",
+        ),
+        (
+            ["dconfdb", "load", "--help"].as_slice(),
+            "Usage: dconfdb load [OPTIONS] <DIR>",
         ),
         (["dconfdb", "--version"].as_slice(), "dconfdb 0.1.0"),
     ];
