@@ -411,7 +411,6 @@ static const size_t TWINS[] = {8, 0};
 
 typedef enum {
     PLAIN,
-    DIFFER,  /* the two have other definitions of this value */
     TRUSTED, /* GLib trusts the bytes, and holds on to what it knows of the type */
 } Manner;
 
@@ -456,9 +455,9 @@ static const Case CASES[] = {
     {"parse `ai`", "ai", GROWING, array_text, parse_ours, parse_glib, parsed_ours, parsed_glib, 0, PLAIN},
     {"parse nested brackets", "", BRACKETS, nested_brackets, parse_ours, parse_glib, parsed_ours, parsed_glib, 0, PLAIN},
     {"parse a string of escapes", "", GROWING, escapes, parse_ours, parse_glib, parsed_ours, parsed_glib, 0, PLAIN},
-    {"print a tower", NULL, TOWERS, tower, print_ours, print_glib, 0, 0, 0, DIFFER},
+    {"print a tower", NULL, TOWERS, tower, print_ours, print_glib, 0, 0, 0, PLAIN},
     {"normal test of a tower", NULL, TOWERS, tower, normal_ours, normal_glib, 0, 0, 0, PLAIN},
-    {"print twins `(ssvsvs)`", "v", TWINS, twins, print_ours, print_glib, 0, 0, 0, DIFFER},
+    {"print twins `(ssvsvs)`", "v", TWINS, twins, print_ours, print_glib, 0, 0, 0, PLAIN},
     {"normal test of twins `(ssvsvs)`", "v", TWINS, twins, normal_ours, normal_glib, 0, 0, 0, PLAIN},
 };
 
@@ -513,10 +512,6 @@ static int check(const Case *c, Input *in) {
     renew(c, in);
     Answer ours = answer_to(in), glib = answer_to(in);
     (c->check_ours ? c->check_ours : c->ours)(in, &ours);
-    if (c->manner == DIFFER) {
-        puts(ours.done ? "differ" : "refused");
-        return 0;
-    }
     (c->check_glib ? c->check_glib : c->glib)(in, &glib);
     if (c->glib == tree_glib)
         count_nodes(in, &glib);

@@ -26,7 +26,7 @@ mod sizes;
 use given::{hand_out, text_of, view_of};
 use gv_build::serialise;
 use gv_infer::read_value;
-use gv_normal::is_normal_plain;
+use gv_normal::is_normal;
 use gv_text::print;
 use gv_view::View;
 use sizes::{member_size, size};
@@ -174,26 +174,15 @@ pub extern "C" fn dconf_bench_written(
     true
 }
 
-/// Whether the bytes are normal, by the plain test.
+/// Whether the bytes are normal.
 #[unsafe(no_mangle)]
-pub extern "C" fn dconf_bench_normal(
-    alloc: Global,
-    of: &[u8],
-    bytes: &[u8],
-    found: &mut bool,
-) -> bool
+pub extern "C" fn dconf_bench_normal(of: &[u8], bytes: &[u8], found: &mut bool) -> bool
     ensures { IsTrue result → (IsTrue found.new ↔ IsNormal (type_at of.now) bytes.now) }
 {
     let Some(view) = view_of(of, bytes) else {
         return false;
     };
-    if bytes.len() > 4_294_967_295 {
-        return false;
-    }
-    let Ok(normal) = is_normal_plain(alloc, view) else {
-        return false;
-    };
-    *found = normal;
+    *found = is_normal(view);
     true
 }
 
@@ -291,7 +280,7 @@ mod tests {
         assert!(rt; dconf_bench_read(alloc, b"[1, 2]", &mut count));
         assert_eq!(rt; count, 3);
         let mut normal = false;
-        assert!(rt; dconf_bench_normal(alloc, b"as", STRINGS, &mut normal));
+        assert!(rt; dconf_bench_normal(b"as", STRINGS, &mut normal));
         assert!(rt; normal);
         assert!(rt; dconf_bench_map(alloc, b"/a/k\0/b\0"));
         assert!(rt; dconf_bench_database(alloc, b"/a/k\0/b\0", &mut room, &mut len));

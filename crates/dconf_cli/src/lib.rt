@@ -9,8 +9,8 @@
 //! comes after a file was replaced.
 //!
 //! What a call costs: `command` takes memory for clap's lists and for the words of its answer; `run` for the bytes of the
-//! files that it reads, once, and for the text that it writes, in time linear in both, but for `compile`, which also makes
-//! the database; `read_input` for the input's bytes; a `Counted` takes none.
+//! files that it reads, once, for the text that it writes, and for what the command makes of them, as its docs say;
+//! `read_input` for the input's bytes; a `Counted` takes none.
 #![tactic(auto)]
 
 mod answer;

@@ -28,10 +28,14 @@ use std::io::{Read, Write};
 /// where it failed; a database, `error: BadDatabase 1: Short` for the first by the profile that is no sound one, and for `check`
 /// and `repair` why the file is no database, as `error: BadRoot`, and for `check` `unsound: S4 item 1` for the first rule that fails and
 /// the first item at which it does; a change, `error: NotWritable`, `error: Locked /a/k`, `error: TooLarge` or `error: TooBig`;
-/// a value to print, `error: TooLarge` for over 1,000,000 values or 128 levels, and `error: DoubleText` for a double.
+/// a value to print, `error: TooLarge` for over 128 levels, and `error: DoubleText` for a double; for `dump` these two with the path of the
+/// first row at fault, as `error: TooLarge /a/k`, and `error: BadGroup /a[/k` or `error: BadKeyName /a/k=` for a path that no keyfile can name.
 ///
 /// It holds the bytes of the files that it reads once, and those that it writes. Only `load` reads the input, and at most
-/// 16,777,217 bytes of it.
+/// 16,777,217 bytes of it. `show` takes time linear in the file and in its text. Each command that opens a database asks first whether it
+/// is sound: near-linear in the files of dconf and of this program, and at most the items times themselves in a hostile one. Beyond
+/// that, `read`, `origin` and `list-locks` look one path up in each database, and `list` one directory; `write`, `reset` and `load` write the user's
+/// database anew, and `compile` and `repair` theirs: they, and `dump`, put the paths in order.
 pub fn run<F: Folder, I: Read, O: Write, E: Write>(
     alloc: Global,
     command: Command,

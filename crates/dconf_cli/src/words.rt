@@ -1,5 +1,5 @@
 //! The words of a command line: the command that they ask for, by what clap gives its arguments.
-ghost use Rattle.std.specs.Prelude.{◌≡◌, [], codes, List, IfOk, IsSome, Some, map, option_map, string_bytes, unwrap_or, vec_items};
+ghost use Rattle.std.specs.Prelude.{◌≡◌, [], codes, List, IfOk, Some, map, option_map, string_bytes, unwrap_or, vec_items};
 ghost use Rattle.clap.specs.Words.{FailsBy, Text, fault_of, first_value, found_of, matched_of, raw_values};
 ghost use Rattle.dconf_cli.specs.Asked.{AreOf, HasValue, IsAskedBy, IsParsedBy, is_set, profile_file};
 ghost use Rattle.dconf_cli.specs.CommandLine.{command_line};

@@ -1,17 +1,17 @@
 -- Stored bytes always hold a value.
-use Rattle.std.specs.Prelude.{◌≡◌, ℕ, List, Option, Some, None, true, is_some, option_map, option_and_then, refl}
-use Rattle.std.proofs.Common.{ap}
+use Rattle.std.specs.Prelude.{◌≡◌, ℕ, List, Option, Some, None, true, is_some, option_map, option_and_then, slice_get, refl}
+use Rattle.std.proofs.Common.{ap, ◌∙◌}
 use Rattle.gv_model.specs.Ty.Ty.{variant}
 use Rattle.gv_model.specs.Tree.{Tree}
-use Rattle.gv_model.specs.Decode.{cut, spans}
-use Rattle.gv_model.proofs.ChildLaws.{child_of_value}
+use Rattle.gv_model.specs.Children.{Child, child_bytes}
+use Rattle.gv_model.specs.Decode.{decode}
+use Rattle.gv_model.proofs.ChildLaws.{child_of_value, variant_cut}
 use Rattle.dconf_model.specs.Values.{stored, held_value}
 use Rattle.dconf_model.specs.Stores.{IsLimitedValue}
 use Rattle.dconf_model.proofs.ValueLaws.{stored_is_held}
 
 pub is_held : (bytes : List ℕ) → is_some (held_value bytes) ≡ true
-unfolding cut spans
-is_held bytes = ap is_some (child_of_value variant bytes 0)
+is_held bytes = ap is_some (child_of_value variant bytes 0) ∙ ap (λ (cs : List Child). is_some (option_map (λ c. decode c.type (child_bytes bytes c)) (slice_get cs 0))) (variant_cut bytes)
 
 -- what is held is there exactly where bytes are
 pub held_there : (o : Option (List ℕ)) → is_some (option_and_then held_value o) ≡ is_some o

@@ -62,4 +62,6 @@ plan_holds_locks t s p settings is by =
       names = λ i h.
           let here = is_entry t p.root i (codes ".locks") laid h in
           lock_names (table_of t i) s p.locks (by.laid.locks i here (sym (name_is t p.root i (codes ".locks") laid entries h))) is.lock_names;
+      values = λ i h.
+          by.lock_values i (is_entry t p.root i (codes ".locks") laid h) (sym (name_is t p.root i (codes ".locks") laid entries h));
     }

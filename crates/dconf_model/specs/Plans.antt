@@ -12,6 +12,7 @@ use Rattle.std.specs.FinMap.{contains_key, get}
 use Rattle.gv_model.specs.Layout.{round_up}
 use Rattle.dconf_model.specs.Table.{Table, value_kind, list_kind, bytes_of, table_of}
 use Rattle.dconf_model.specs.Names.{HasName, Rows}
+use Rattle.dconf_model.specs.Searchable.{EachItem}
 use Rattle.dconf_model.specs.Sound.{IsSound}
 use Rattle.dconf_model.specs.Paths.{ends_with_slash}
 use Rattle.dconf_model.specs.Settings.{Settings, IsSettings}
@@ -77,20 +78,30 @@ pub record IsPlanOf (s : Settings) (p : Plan) : Type 0 where
 
 -- ---- a root table that is laid out by a plan, and what it holds
 
+-- the bytes of a `v` that holds the empty string: the value at each lock
+abbrev pub nothing_bytes : List ℕ
+nothing_bytes = 0 ∷ 0 ∷ 115 ∷ []
+
+-- the value of each item is the empty string
+abbrev pub HaveEmptyStrings : Table → Type 0
+HaveEmptyStrings t = EachItem t (λ i. bytes_of t i ≡ nothing_bytes)
+
 pub record IsLaidBy (t : Table) (p : Plan) : Type 0 where
   pub laid : IsLaidRoot t p.root p.children p.locks
   pub values : (i : ℕ) → i < p.root.count → (p.root.entry i).kind ≡ value_kind → bytes_of t i ≡ p.value i
+  pub lock_values : (i : ℕ) → i < p.root.count → (p.root.entry i).name ≡ codes ".locks" → HaveEmptyStrings (table_of t i)
 
 -- its rows of kind `v` are the paths that have a value, with the bytes of the value
 abbrev pub HoldsValues : Table → Settings → Type 0
 HoldsValues t s = (path bytes : List ℕ) → Rows t path value_kind bytes ↔ (get s.values path ≡ Some bytes)
 
--- it has a table of locks where there are locks, and there the locks are what is named
+-- it has a table of locks where there are locks; there the locks are what is named, each with the empty string
 pub record HoldsLocks (t : Table) (s : Settings) : Type 0 where
   pub there : HasLocks s → (i : ℕ) × HasName t i (codes ".locks")
   pub needed : (i : ℕ) → HasName t i (codes ".locks") → HasLocks s
   pub names : (i : ℕ) → HasName t i (codes ".locks") →
       (path : List ℕ) → ((j : ℕ) × HasName (table_of t i) j path) ↔ IsTrue (contains_key s.locks path)
+  pub values : (i : ℕ) → HasName t i (codes ".locks") → HaveEmptyStrings (table_of t i)
 
 -- laws: a root table that is laid out by a plan of settings is sound, and holds them
 abbrev pub PlanIsSound : Type 0
@@ -130,10 +141,6 @@ locks_end l at = if l.count == 0 then at else keys_end l (round_up 4 at + size_o
 abbrev pub item_values : Plan → ℕ → List (List ℕ)
 item_values p zero = []
 item_values p (suc i) = item_values p i ++ (if (p.root.entry i).kind == value_kind then p.value i ∷ [] else [])
-
--- the bytes of a `v` that holds the empty string: the value at each lock
-abbrev pub nothing_bytes : List ℕ
-nothing_bytes = 0 ∷ 0 ∷ 115 ∷ []
 
 abbrev pub all_values : Plan → List (List ℕ)
 all_values p = item_values p p.root.count ++ (if p.locks.count == 0 then [] else nothing_bytes ∷ [])

@@ -54,8 +54,8 @@ pub fn variant_bytes(alloc: Global, tree: &Tree) -> Result<Vec<u8>, BuildFault>
 
 /// The bytes of a view's value in normal form.
 ///
-/// `TooLarge` comes exactly where the value has over 1,000,000 values in it or over 128 levels, or there would be over
-/// 4,294,967,295 bytes, and `Memory` where a growth is refused. It makes the value's tree, and writes each byte once.
+/// `TooLarge` comes exactly where the value has over 128 levels, or there would be over 4,294,967,295 bytes, and
+/// `Memory` where a growth is refused. It makes the value's tree, and writes each byte once.
 pub fn normal_form(alloc: Global, view: View<'_>) -> Result<Vec<u8>, BuildFault>
     ensures bytes { IfOk result (λ v. v.items ≡ encode (value view.entry)) }
     ensures fits { OnOk result (length (encode (value view.entry)) ≤ limit) }

@@ -7,6 +7,7 @@ pub mod WeightLaws
 pub mod ChoiceTexts
 pub mod ContentLaws
 pub mod ContentRules
+pub mod TypedContents
 pub mod BuiltChildren
 pub mod ValueLaws
 pub mod BuildLaws

@@ -2,9 +2,11 @@
 ghost use Rattle.std.specs.Prelude.{◌≤◌, Ok, length, IfOk, IfErr};
 ghost use Rattle.gv_infer.specs.Reads.{Reads, IsReadFault};
 
+use crate::build::build;
+use crate::contents::check_contents;
 use crate::read_fault::ReadFault;
-use crate::typing::type_of;
-use crate::value::value_at;
+use crate::typing::type_of_root;
+use crate::value_fault::ValueFault;
 use gv_text::parse;
 use gv_tree::Tree;
 use std::alloc::Global;
@@ -13,14 +15,25 @@ use std::alloc::Global;
 ///
 /// It gives the text's first fault: `Text` where it has no syntax; `Typing` where that has no type of its own, or what
 /// is in one of its `<..>` has none; and `Value` where a literal is no value of the type that it gets, or the value
-/// would have over 128 levels. Each of them may also be running out of memory. It takes the time that [`parse`], [`type_of`]
-/// and [`value_at`] take, and memory for the syntax, the type and the value.
+/// would have over 128 levels. Each of them may also be running out of memory.
+///
+/// It types the whole once and what is in each `<..>` once, each in time linear in its own syntax times the levels of its
+/// type, and asks nothing of a type that it has just chosen. Only where there is no value are the `<..>` typed once more, to
+/// find the first without a type. It takes memory for the syntax, the value, and the types of the `<..>` that lie around one
+/// another.
 pub fn read_value(alloc: Global, text: &str) -> Result<Tree, ReadFault>
     requires { length text.now ≤ 16777216 }
     ensures value { IfOk result (λ v. Reads text.now (Ok v)) }
     ensures fault { IfErr result (IsReadFault text.now) }
 {
     let syntax = parse(alloc, text)?;
-    let of = type_of(alloc, &syntax)?;
-    Ok(value_at(alloc, &syntax, of.as_type())?)
+    let root = syntax.root();
+    let of = type_of_root(alloc, root)?;
+    match build(alloc, root, of.as_type()) {
+        Ok(built) => built.ok_or(ReadFault::Value(ValueFault::TooDeep)),
+        Err(fault) => {
+            check_contents(alloc, root)?;
+            Err(ReadFault::Value(fault))
+        }
+    }
 }

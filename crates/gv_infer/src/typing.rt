@@ -30,6 +30,22 @@ pub fn type_of(alloc: Global, syntax: &Syntax) -> Result<TypeText, TypingFault>
     type_of_node(alloc, root)
 }
 
+/// The type of a text, by its whole syntax, or the fault that [`type_of`] gives. Where it has a type, nothing is known of
+/// what is in `<..>`: that is not looked at.
+pub(crate) fn type_of_root(alloc: Global, root: &SyntaxNode) -> Result<TypeText, TypingFault>
+    requires { text_bytes root.now ≤ 16777216 }
+    ensures chosen { IfOk result (λ t. choice root.now ≡ is (type_of_owned t)) }
+    ensures fault { IfErr result (IsTypingFault root.now) }
+{
+    match type_of_node(alloc, root) {
+        Ok(of) => Ok(of),
+        Err(fault) => {
+            check_contents(alloc, root)?;
+            Err(fault)
+        }
+    }
+}
+
 /// The type of a part of the syntax for itself; what is in `<..>` is not looked at.
 pub(crate) fn type_of_node(alloc: Global, node: &SyntaxNode) -> Result<TypeText, TypingFault>
     requires { text_bytes node.now ≤ 16777216 }

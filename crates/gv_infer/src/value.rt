@@ -19,6 +19,7 @@ use std::alloc::Global;
 /// has no type of its own, in the order of the closing `>` (`NoCommonType`, `Ambiguous`); the first literal from the
 /// left that is no value of its type (`OutOfRange`, `BadObjectPath`, `BadSignature`, `DoubleText`); a value of over 128
 /// levels (`TooDeep`); running out of memory. It looks at each part of the syntax a few times, and copies each string once.
+/// What is in a `<..>` is typed once, as it is met, and once more only where there is no value.
 pub fn value_at(alloc: Global, syntax: &Syntax, of: TypeStr<'_>) -> Result<Tree, ValueFault>
     ensures value { IfOk result (λ v. HasValue syntax.now (ty of.entry) (Ok v)) }
     ensures fault { IfErr result (IsValueFault syntax.now (ty of.entry)) }
@@ -27,6 +28,11 @@ pub fn value_at(alloc: Global, syntax: &Syntax, of: TypeStr<'_>) -> Result<Tree,
     if !admits(root, of) {
         return Err(ValueFault::NoCommonType);
     }
-    check_contents(alloc, root)?;
-    build(alloc, root, of)?.ok_or(ValueFault::TooDeep)
+    match build(alloc, root, of) {
+        Ok(built) => built.ok_or(ValueFault::TooDeep),
+        Err(fault) => {
+            check_contents(alloc, root)?;
+            Err(fault)
+        }
+    }
 }

@@ -14,7 +14,7 @@ unfolding type_list spellings
 members_short end = omega arith
 members_short (member t ts) = omega (arith, members_short ts, spelling-positive t, length-append (spelling t) (spellings ts))
 
-members_short_of : (t : Ty) → length (type_list (members t)) ≤ length (spelling t)
+pub members_short_of : (t : Ty) → length (type_list (members t)) ≤ length (spelling t)
 unfolding type_list spelling spellings
 members_short_of (tuple ts) = omega (arith, members_short ts, length-append (spellings ts) (41 ∷ []))
 members_short_of (entry k t) = omega (arith, length-append (spelling t) (125 ∷ []))

@@ -1,16 +1,17 @@
 -- What a container is cut into, by what the code finds out of it.
-use Rattle.std.proofs.Common.{◌≡◌, ◌⊎◌, inl, inr, ℕ, ◌-◌, ◌/◌, ◌%◌, ◌<◌, ◌≤◌, Bool, true, false, cond, ◌==◌, nat_le, ◌&&◌, List, [], ◌∷◌, length, drop, Option, Some, None, refl, sym, ap, ap₂, ◌∙◌, arith, eq-eqb, ne_eqb, eqb-true}
+use Rattle.std.proofs.Common.{◌≡◌, ◌⊎◌, inl, inr, ℕ, ◌-◌, ◌*◌, ◌/◌, ◌%◌, ◌<◌, ◌≤◌, Bool, true, false, cond, ◌==◌, nat_le, ◌&&◌, List, [], ◌∷◌, length, drop, Option, Some, None, refl, sym, ap, ap₂, ◌∙◌, arith, eq-eqb, ne_eqb, eqb-true, le-leb}
 use Rattle.std.specs.Prelude.{option_map, slice_range}
 use Rattle.std.proofs.lemmas.Option.{none-some, same_Some}
 use Rattle.std.proofs.lemmas.List.{take_rest}
-use Rattle.gv_model.specs.Ty.{Ty, Types, type_list, members, types_from}
+use Rattle.gv_model.specs.Ty.{Ty, type_list, members, types_from}
 use Rattle.gv_model.specs.Ty.Ty.{basic, variant, array, maybe, tuple, entry}
 use Rattle.gv_model.specs.Layout.{fixed_size, offset_width}
 use Rattle.gv_model.specs.BasicValue.{number_in}
-use Rattle.gv_model.specs.Children.{children_at}
-use Rattle.gv_model.specs.Arrays.{element_spans, framed_from, offset_spans, numbers_in, fixed_spans}
+use Rattle.gv_model.specs.Children.{Child, children_at, ordered}
+use Rattle.gv_model.specs.Arrays.{element_spans, elements_end, framed_from, offset_spans, numbers_in, fixed_spans}
 use Rattle.gv_model.specs.Maybes.{just_span}
-use Rattle.gv_model.specs.Tuples.{tuple_spans, is_other_size, member_spans, empty_spans}
+use Rattle.gv_model.specs.Tuples.{tuple_spans, is_other_size, member_spans, empty_spans, members_end, offset_count}
+use Rattle.gv_model.specs.Variants.{variant_span, at_last_zero}
 use Rattle.gv_model.specs.Decode.{cut, spans}
 use Rattle.gv_model.proofs.ListLaws.{types_from-listed}
 use Rattle.gv_types.specs.declared.class.BasicType.{BasicType}
@@ -19,7 +20,12 @@ use Rattle.gv_types.specs.declared.class.Class.TheVariants as classes
 use Rattle.gv_types.specs.Classes.{class_of}
 use Rattle.gv_types.specs.TypeStr.{element_of}
 use Rattle.gv_types.proofs.ClassLaws.{basic_class, variant_class}
-use Rattle.gv_layout.proofs.MemberLaws.{lost}
+use Rattle.gv_model.proofs.EmptyLaws.{fixed_size_pos}
+use Rattle.gv_model.proofs.PlacedParts.{ordered-nil}
+use Rattle.gv_model.proofs.InOrder.{just_stay}
+use Rattle.gv_layout.specs.Bodies.{placed_body}
+use Rattle.gv_layout.proofs.InOrder.{as_many, fixed_stay}
+use Rattle.gv_layout.proofs.MemberLaws.{walked, lost, empty_stay, no_body}
 
 -- ---- arrays
 
@@ -42,19 +48,22 @@ by_offsets t b w e is_width is_begin some =
 
 pub framed_array : (t : Ty) (b : List ℕ) (w e : ℕ) → w ≡ offset_width (length b)
     → e ≡ number_in (slice_range b (length b - w) (length b)) → 0 < w → w ≤ length b → e ≤ length b → (length b - e) % w ≡ 0
-    → children_at (length b) (offset_spans t 0 (numbers_in w ((length b - e) / w) (slice_range b e (length b)))) ≡ children_at (length b) (element_spans t b None)
+    → children_at (length b) (ordered (Some e) (offset_spans t 0 (numbers_in w ((length b - e) / w) (slice_range b e (length b)))))
+    ≡ children_at (length b) (ordered (Some (elements_end b None)) (element_spans t b None))
 framed_array t b w e is_width is_begin pos within whole fixed =
     let first : nat_le e (length b) ≡ true = grind arith in
     let second : ((length b - e) % w == 0) ≡ true = eq-eqb ((length b - e) % w) 0 fixed in
     let begin : e ≡ number_in (drop (length b - w) b) = is_begin ∙ ap number_in (take_rest b (length b - w)) in
     let all : framed_from t w e b ≡ offset_spans t 0 (numbers_in w ((length b - e) / w) (drop e b)) = rw (first, second) refl in
-    ap (children_at (length b)) (ap (λ x. offset_spans t 0 (numbers_in w ((length b - e) / w) x)) (take_rest b e) ∙ (sym all ∙ sym (by_offsets t b w e is_width begin (λ z. omega arith))))
+    ap₂ (λ x xs. children_at (length b) (ordered (Some x) xs)) (begin ∙ ap (λ x. number_in (drop (length b - x) b)) is_width)
+    (ap (λ x. offset_spans t 0 (numbers_in w ((length b - e) / w) x)) (take_rest b e) ∙ (sym all ∙ sym (by_offsets t b w e is_width begin (λ z. omega arith))))
 
 pub no_array : (t : Ty) (b : List ℕ) (w e : ℕ) → w ≡ offset_width (length b)
     → e ≡ number_in (slice_range b (length b - w) (length b)) → (0 < length b → 0 < w)
     → (0 < w → e ≤ length b → (length b - e) % w ≡ 0 → ⊥)
-    → [] ≡ children_at (length b) (element_spans t b None)
-no_array t b w e is_width is_begin some never = go (length b == 0) refl
+    → [] ≡ children_at (length b) (ordered (Some (elements_end b None)) (element_spans t b None))
+no_array t b w e is_width is_begin some never =
+    ap (children_at (length b)) (sym (ordered-nil (Some (elements_end b None))) ∙ ap (ordered (Some (elements_end b None))) (go (length b == 0) refl))
   where
     inner : (c d : Bool) → nat_le e (length b) ≡ c → ((length b - e) % w == 0) ≡ d → 0 < w
         → cond (c && d) (offset_spans t 0 (numbers_in w ((length b - e) / w) (drop e b))) [] ≡ []
@@ -62,12 +71,12 @@ no_array t b w e is_width is_begin some never = go (length b == 0) refl
     inner true false f g pos = refl
     inner false d f g pos = refl
 
-    go : (z : Bool) → (length b == 0) ≡ z → [] ≡ children_at (length b) (element_spans t b None)
-    go true f = ap (λ c. children_at (length b) (cond c [] (framed_from t (offset_width (length b)) (number_in (drop (length b - offset_width (length b)) b)) b))) (sym f)
+    go : (z : Bool) → (length b == 0) ≡ z → [] ≡ element_spans t b None
+    go true f = ap (λ c. cond c [] (framed_from t (offset_width (length b)) (number_in (drop (length b - offset_width (length b)) b)) b)) (sym f)
     go false f =
         let pos : 0 < length b = grind arith in
         let begin : e ≡ number_in (drop (length b - w) b) = is_begin ∙ ap number_in (take_rest b (length b - w)) in
-        ap (children_at (length b)) (sym (by_offsets t b w e is_width begin (λ z. omega arith) ∙ inner (nat_le e (length b)) ((length b - e) % w == 0) refl refl (some pos)))
+        sym (by_offsets t b w e is_width begin (λ z. omega arith) ∙ inner (nat_le e (length b)) ((length b - e) % w == 0) refl refl (some pos))
 
 -- ---- maybes
 
@@ -96,41 +105,78 @@ nothing t n (Some size) e h g =
 
 -- ---- tuples and entries
 
-pub tuple_placed : (t : Ty) (ts : Types) (xs : List Ty) (b : List ℕ) (w : ℕ) → w ≡ offset_width (length b) → xs ≡ type_list ts
-    → is_other_size (fixed_size t) (length b) ≡ false
-    → children_at (length b) (member_spans w b 0 (Some 0) (types_from xs)) ≡ children_at (length b) (tuple_spans t ts b)
-tuple_placed t ts xs b w is_width is_list e =
-    let same : types_from xs ≡ ts = ap types_from is_list ∙ types_from-listed ts in
-    ap₂ (λ v us. children_at (length b) (member_spans v b 0 (Some 0) us)) is_width same
-    ∙ ap (λ c. children_at (length b) (cond c (empty_spans ts) (member_spans (offset_width (length b)) b 0 (Some 0) ts))) (sym e)
+abbrev CutMembers : Ty → List ℕ → List Child
+CutMembers t b = children_at (length b) (ordered (members_end (fixed_size t) (members t) b) (tuple_spans t (members t) b))
 
-pub tuple_lost : (t : Ty) (ts : Types) (xs : List Ty) (b : List ℕ) (w : ℕ) → xs ≡ type_list ts
-    → is_other_size (fixed_size t) (length b) ≡ true
-    → children_at (length b) (member_spans w b 0 None (types_from xs)) ≡ children_at (length b) (tuple_spans t ts b)
-tuple_lost t ts xs b w is_list e =
-    let same : types_from xs ≡ ts = ap types_from is_list ∙ types_from-listed ts in
-    ap (λ us. children_at (length b) (member_spans w b 0 None us)) same
-    ∙ (lost (length b) w 0 b ts
-    ∙ ap (λ c. children_at (length b) (cond c (empty_spans ts) (member_spans (offset_width (length b)) b 0 (Some 0) ts))) (sym e))
+pub tuple_placed : (t : Ty) (xs : List Ty) (b : List ℕ) (w m : ℕ) → w ≡ offset_width (length b) → xs ≡ type_list (members t) → Some m ≡ placed_body t b
+    → walked (length b) m w 0 b (Some 0) xs ≡ CutMembers t b
+tuple_placed t xs b w m is_width is_list h =
+    let same : types_from xs ≡ members t = ap types_from is_list ∙ types_from-listed (members t) in
+    ap₂ (λ v us. children_at (length b) (ordered (Some m) (member_spans v b 0 (Some 0) us))) is_width same
+    ∙ go (is_other_size (fixed_size t) (length b)) h
+  where
+    go : (c : Bool) → Some m ≡ cond c None (members_end (fixed_size t) (members t) b)
+        → children_at (length b) (ordered (Some m) (member_spans (offset_width (length b)) b 0 (Some 0) (members t)))
+        ≡ children_at (length b) (ordered (members_end (fixed_size t) (members t) b) (cond c (empty_spans (members t)) (member_spans (offset_width (length b)) b 0 (Some 0) (members t))))
+    go true e = absurd (none-some m (sym e))
+    go false e = ap (λ o. children_at (length b) (ordered o (member_spans (offset_width (length b)) b 0 (Some 0) (members t)))) e
 
-pub other_size : (o : Option ℕ) (size n : ℕ) → o ≡ Some size → (size ≡ n → ⊥) → is_other_size o n ≡ true
-other_size None size n e h = absurd (none-some size e)
-other_size (Some s) size n e h =
-    let different : (n == s) ≡ false = ne_eqb n s (λ z. h (sym (same_Some s size e) ∙ sym z)) in rw different refl
+pub tuple_lost : (t : Ty) (xs : List Ty) (b : List ℕ) (w m : ℕ) → xs ≡ type_list (members t) → None ≡ placed_body t b
+    → walked (length b) m w 0 b None xs ≡ CutMembers t b
+tuple_lost t xs b w m is_list h =
+    let same : types_from xs ≡ members t = ap types_from is_list ∙ types_from-listed (members t) in
+    ap (λ us. children_at (length b) (ordered (Some m) (member_spans w b 0 None us))) same
+    ∙ (lost (length b) w 0 b (Some m) (members t) ∙ go (is_other_size (fixed_size t) (length b)) h)
+  where
+    go : (c : Bool) → None ≡ cond c None (members_end (fixed_size t) (members t) b)
+        → children_at (length b) (empty_spans (members t))
+        ≡ children_at (length b) (ordered (members_end (fixed_size t) (members t) b) (cond c (empty_spans (members t)) (member_spans (offset_width (length b)) b 0 (Some 0) (members t))))
+    go true e = sym (empty_stay (length b) (members_end (fixed_size t) (members t) b) (members t))
+    go false e =
+        sym (no_body (length b) (offset_width (length b)) 0 0 b (members t))
+        ∙ ap (λ o. children_at (length b) (ordered o (member_spans (offset_width (length b)) b 0 (Some 0) (members t)))) e
 
-pub same_size : (o : Option ℕ) (size n : ℕ) → o ≡ Some size → size ≡ n → is_other_size o n ≡ false
-same_size None size n e h = absurd (none-some size e)
-same_size (Some s) size n e h =
-    let same : (n == s) ≡ true = eq-eqb n s (sym (same_Some s size e ∙ h)) in rw same refl
+pub body_same : (t : Ty) (b : List ℕ) (size : ℕ) → fixed_size t ≡ Some size → size ≡ length b → Some (length b) ≡ placed_body t b
+body_same t b size e h =
+    let same : (length b == size) ≡ true = eq-eqb (length b) size (sym h) in rw (e, same) refl
 
-pub no_size : (o : Option ℕ) (n : ℕ) → o ≡ None → is_other_size o n ≡ false
-no_size None n e = refl
-no_size (Some s) n e = absurd (none-some s (sym e))
+pub body_other : (t : Ty) (b : List ℕ) (size : ℕ) → fixed_size t ≡ Some size → (size ≡ length b → ⊥) → None ≡ placed_body t b
+body_other t b size e h =
+    let different : (length b == size) ≡ false = ne_eqb (length b) size (λ z. h (sym z)) in rw (e, different) refl
+
+pub body_open : (t : Ty) (b : List ℕ) (taken : ℕ) → fixed_size t ≡ None → taken ≡ offset_width (length b) * offset_count (members t) → taken ≤ length b
+    → Some (length b - taken) ≡ placed_body t b
+body_open t b taken e is_taken h =
+    let room : nat_le (offset_width (length b) * offset_count (members t)) (length b) ≡ true = le-leb (offset_width (length b) * offset_count (members t)) (length b) (omega (arith, h, is_taken)) in
+    ap (λ x. Some (length b - x)) is_taken ∙ rw (e, room) refl
+
+pub body_wanting : (t : Ty) (b : List ℕ) (taken : ℕ) → fixed_size t ≡ None → taken ≡ offset_width (length b) * offset_count (members t) → (taken ≤ length b → ⊥)
+    → None ≡ placed_body t b
+body_wanting t b taken e is_taken h = go (nat_le (offset_width (length b) * offset_count (members t)) (length b)) refl
+  where
+    go : (c : Bool) → nat_le (offset_width (length b) * offset_count (members t)) (length b) ≡ c → None ≡ placed_body t b
+    go true f = let room : offset_width (length b) * offset_count (members t) ≤ length b = grind (arith, f) in absurd (h (omega (arith, room, is_taken)))
+    go false f = rw (e, f) refl
+
+pub body_within : (t : Ty) (b : List ℕ) (m : ℕ) → Some m ≡ placed_body t b → m ≤ length b
+body_within t b m h = within (is_other_size (fixed_size t) (length b)) (fixed_size t) h
+  where
+    inside : (c : Bool) (k : ℕ) → Some m ≡ cond c (Some (length b - k)) None → m ≤ length b
+    inside true k e = let same = same_Some m (length b - k) e in omega (arith, same)
+    inside false k e = absurd (none-some m (sym e))
+
+    sized : (o : Option ℕ) → Some m ≡ members_end o (members t) b → m ≤ length b
+    sized (Some size) e = let same = same_Some m (length b) e in omega (arith, same)
+    sized None e = inside (nat_le (offset_width (length b) * offset_count (members t)) (length b)) (offset_width (length b) * offset_count (members t)) e
+
+    within : (c : Bool) (o : Option ℕ) → Some m ≡ cond c None (members_end o (members t) b) → m ≤ length b
+    within true o e = absurd (none-some m (sym e))
+    within false o e = sized o e
 
 -- ---- by the class of a type
 
 pub no_children : (t : Ty) (b : List ℕ) (k : Class) → k ≡ class_of t → ((x : BasicType) × (k ≡ classes.Basic x)) ⊎ (k ≡ classes.Variant) → (t ≡ variant → ⊥) → [] ≡ cut t b
-unfolding cut spans
+unfolding cut spans ordered
 no_children t b k e (inl x) other = ap (λ u. cut u b) (sym (basic_class t x.0 (sym x.1 ∙ e)))
 no_children t b k e (inr x) other = absurd (other (variant_class t (sym x ∙ e)))
 
@@ -152,15 +198,22 @@ maybe_class f (array u) k (Some y) x e c m h = absurd cc
 maybe_class f (tuple ts) k (Some y) x e c m h = absurd (none-some (f y) (sym m))
 maybe_class f (entry j u) k (Some y) x e c m h = absurd (none-some (f y) (sym m))
 
-pub cut_array : (t u : Ty) (b : List ℕ) (o : Option ℕ) → t ≡ array u → o ≡ fixed_size u → children_at (length b) (element_spans u b o) ≡ cut t b
+pub cut_elements : (t u : Ty) (b : List ℕ) → t ≡ array u → None ≡ fixed_size u
+    → children_at (length b) (ordered (Some (elements_end b None)) (element_spans u b None)) ≡ cut t b
 unfolding cut spans
-cut_array t u b o e h = ap (λ p. children_at (length b) (element_spans u b p)) h ∙ ap (λ s. cut s b) (sym e)
+cut_elements t u b e h = ap (λ p. children_at (length b) (ordered (Some (elements_end b p)) (element_spans u b p))) h ∙ ap (λ s. cut s b) (sym e)
+
+pub cut_array : (t u : Ty) (b : List ℕ) (size : ℕ) → t ≡ array u → Some size ≡ fixed_size u → children_at (length b) (element_spans u b (Some size)) ≡ cut t b
+unfolding cut spans
+cut_array t u b size e h =
+    ap (children_at (length b)) (sym (fixed_stay u b size (fixed_size_pos u size (sym h))))
+    ∙ (ap (λ p. children_at (length b) (ordered (Some (elements_end b p)) (element_spans u b p))) h ∙ ap (λ s. cut s b) (sym e))
 
 pub cut_maybe : (t u : Ty) (b : List ℕ) → t ≡ maybe u → children_at (length b) (just_span u (length b) (fixed_size u)) ≡ cut t b
 unfolding cut spans
-cut_maybe t u b e = ap (λ s. cut s b) (sym e)
+cut_maybe t u b e = ap (children_at (length b)) (sym (just_stay u (length b) (fixed_size u))) ∙ ap (λ s. cut s b) (sym e)
 
-pub cut_members : (t : Ty) (b : List ℕ) (k : Class) → k ≡ class_of t → (k ≡ classes.Tuple) ⊎ (k ≡ classes.Entry) → children_at (length b) (tuple_spans t (members t) b) ≡ cut t b
+pub cut_members : (t : Ty) (b : List ℕ) (k : Class) → k ≡ class_of t → (k ≡ classes.Tuple) ⊎ (k ≡ classes.Entry) → CutMembers t b ≡ cut t b
 unfolding cut spans
 cut_members (tuple ts) b k e h = refl
 cut_members (entry j u) b k e h = refl
@@ -175,4 +228,5 @@ cut_members (maybe u) b k e (inr h) = absurd cc
 
 pub one_of_variant : (t : Ty) (b : List ℕ) (k : Class) → k ≡ class_of t → k ≡ classes.Variant → 1 ≡ length (cut t b)
 unfolding cut spans
-one_of_variant t b k e h = ap (λ u. length (cut u b)) (sym (variant_class t (sym h ∙ e)))
+one_of_variant t b k e h =
+    sym (as_many (length b) (Some (length b)) (variant_span (at_last_zero b) ∷ [])) ∙ ap (λ u. length (cut u b)) (sym (variant_class t (sym h ∙ e)))

@@ -1,15 +1,14 @@
 -- The elements of arrays: of one size, and by framing offsets.
-use Rattle.std.proofs.Common.{◌≡◌, ℕ, zero, suc, ◌+◌, ◌-◌, ◌*◌, ◌<◌, ◌≤◌, min, List, [], ◌∷◌, length, take, drop, Some, refl, sym, ap, ap₂, ◌∙◌, arith, zero-add}
-use Rattle.std.specs.Prelude.{slice_range}
-use Rattle.std.proofs.lemmas.List.{drop-drop}
+use Rattle.std.proofs.Common.{◌≡◌, ℕ, zero, suc, ◌+◌, ◌-◌, ◌*◌, ◌<◌, ◌≤◌, true, false, map, min, List, [], ◌∷◌, length, take, drop, Option, Some, None, refl, sym, ap, ap₂, ◌∙◌, arith, zero-add}
 use Rattle.gv_model.specs.Ty.{Ty}
 use Rattle.gv_model.specs.Layout.{alignment, round_up}
 use Rattle.gv_model.specs.BasicValue.{number_in}
-use Rattle.gv_model.specs.Children.{Child, child_at, children_at}
+use Rattle.gv_model.specs.Children.{Child, children_at, is_out, nowhere, ordered}
 use Rattle.gv_model.specs.Arrays.{fixed_spans, offset_spans, numbers_in}
 use Rattle.gv_model.proofs.LayoutLaws.{bounds_within}
-use Rattle.gv_layout.specs.Places.{clamp}
-use Rattle.gv_layout.proofs.Alike.{child, alike_child}
+use Rattle.gv_layout.specs.Places.{clamp, elements_after}
+use Rattle.gv_layout.proofs.Alike.{child}
+use Rattle.gv_layout.proofs.InOrder.{in_bounds, out_alike, same_within, kept, dropped, as_many, as_many_nowhere}
 use Rattle.gv_layout.proofs.Lists.{drop_within}
 
 -- ---- elements of one size
@@ -61,65 +60,76 @@ fixed-passed t n size at left i passed e =
 
 -- ---- elements by framing offsets
 
-pub by_offsets-first : (t : Ty) (n p w m : ℕ) (b : List ℕ)
-    → children_at n (offset_spans t p (numbers_in w (suc m) b))
-    ≡ child_at n (t, Some (round_up (alignment t) p, number_in (take w b))) ∷ children_at n (offset_spans t (number_in (take w b)) (numbers_in w m (drop w b)))
+nowhere_alike : (t : Ty) (p q : ℕ) (ends : List ℕ) → map nowhere (offset_spans t p ends) ≡ map nowhere (offset_spans t q ends)
+unfolding offset_spans
+nowhere_alike t p q [] = refl
+nowhere_alike t p q (e ∷ ends) = refl
+
+-- what is left of a walk
+abbrev pub walked : Ty → ℕ → ℕ → ℕ → Option ℕ → ℕ → List ℕ → List Child
+walked t n m w o left b = children_at n (elements_after t m o (numbers_in w left b))
+
+spans-length : (t : Ty) (n p w m : ℕ) (b : List ℕ) → length (children_at n (offset_spans t p (numbers_in w m b))) ≡ m
 unfolding offset_spans numbers_in
-by_offsets-first t n p w m b = refl
+spans-length t n p w zero b = refl
+spans-length t n p w (suc m) b = ap suc (spans-length t n (number_in (take w b)) w m (drop w b))
 
-pub by_offsets-after : (t : Ty) (n p w i r m : ℕ) (b : List ℕ) → suc i + r ≡ m
-    → children_at n (offset_spans t (number_in (take w (drop (w * i) b))) (numbers_in w r (drop (w * suc i) b))) ≡ drop (suc i) (children_at n (offset_spans t p (numbers_in w m b)))
+pub by_offsets-length : (t : Ty) (n m w left : ℕ) (o : Option ℕ) (b : List ℕ) → length (walked t n m w o left b) ≡ left
+by_offsets-length t n m w left None b = as_many_nowhere n (offset_spans t 0 (numbers_in w left b)) ∙ spans-length t n 0 w left b
+by_offsets-length t n m w left (Some p) b = as_many n (Some m) (offset_spans t p (numbers_in w left b)) ∙ spans-length t n p w left b
+
+pub by_offsets-none : (t : Ty) (n m w left : ℕ) (o : Option ℕ) (b : List ℕ) → left < 1 → walked t n m w o left b ≡ []
+unfolding offset_spans numbers_in ordered
+by_offsets-none t n m w zero None b h = refl
+by_offsets-none t n m w zero (Some p) b h = refl
+by_offsets-none t n m w (suc left) o b h = absurd (omega arith)
+
+lost_first : (t : Ty) (n m w k : ℕ) (b : List ℕ) → walked t n m w None (suc k) b ≡ child t 0 0 ∷ walked t n m w None k (drop w b)
 unfolding offset_spans numbers_in
-by_offsets-after t n p w i r zero b e = absurd (omega arith)
-by_offsets-after t n p w zero r (suc m) b e =
-    let same : r ≡ m = omega arith in let here : w * 0 ≡ 0 = omega arith in let one : w * 1 ≡ w = omega arith in
-    rw (same, here, one) refl
-by_offsets-after t n p w (suc i) r (suc m) b e =
-    let from : w * suc i ≡ w + w * i = omega arith in
-    let on : w * suc (suc i) ≡ w + w * suc i = omega arith in
-    let tail = by_offsets-after t n (number_in (take w b)) w i r m (drop w b) (omega arith) in
-    ap₂ (λ x y. children_at n (offset_spans t (number_in (take w x)) (numbers_in w r y)))
-    (ap (λ k. drop k b) from ∙ sym (drop-drop (w * i) w b))
-    (ap (λ k. drop k b) on ∙ sym (drop-drop (w * suc i) w b))
-    ∙ tail
+lost_first t n m w k b = ap (λ xs. child t 0 0 ∷ children_at n xs) (nowhere_alike t (number_in (take w b)) 0 (numbers_in w k (drop w b)))
 
-pub by_offsets-length : (t : Ty) (n p w m : ℕ) (b : List ℕ) → length (children_at n (offset_spans t p (numbers_in w m b))) ≡ m
+pub by_offsets-lost : (t : Ty) (n m w left k : ℕ) (o : Option ℕ) (b back : List ℕ) (place : Child) → IsNext left k → o ≡ None → back ≡ drop w b → place ≡ child t 0 0
+    → walked t n m w o left b ≡ place ∷ walked t n m w None k back
+by_offsets-lost t n m w zero k o b back place h none is_back is_place = absurd (omega (arith, h.0))
+by_offsets-lost t n m w (suc j) k o b back place h none is_back is_place =
+    let same : k ≡ j = omega (arith, h.1) in
+    ap (λ q. walked t n m w q (suc j) b) none
+    ∙ (lost_first t n m w j b
+    ∙ ap₂ (λ c cs. c ∷ cs) (sym is_place) (ap₂ (walked t n m w None) (sym same) (sym is_back)))
+
+open_first : (t : Ty) (n m w p k : ℕ) (b : List ℕ)
+    → walked t n m w (Some p) (suc k) b
+    ≡ children_at n (ordered (Some m) ((t, Some (round_up (alignment t) p, number_in (take w b))) ∷ offset_spans t (number_in (take w b)) (numbers_in w k (drop w b))))
 unfolding offset_spans numbers_in
-by_offsets-length t n p w zero b = refl
-by_offsets-length t n p w (suc m) b = ap suc (by_offsets-length t n (number_in (take w b)) w m (drop w b))
+open_first t n m w p k b = refl
 
-pub by_offsets-none : (t : Ty) (n p w left : ℕ) (b : List ℕ) → left < 1 → children_at n (offset_spans t p (numbers_in w left b)) ≡ []
-unfolding offset_spans numbers_in
-by_offsets-none t n p w zero b h = refl
-by_offsets-none t n p w (suc m) b h = absurd (omega arith)
+pub by_offsets-out : (t : Ty) (n m w left k p s e : ℕ) (o : Option ℕ) (b prefix back : List ℕ) (place : Child) → m ≤ n → IsNext left k → o ≡ Some p
+    → clamp n s ≡ clamp n (round_up (alignment t) p) → e ≡ number_in prefix → prefix ≡ take w b → back ≡ drop w b
+    → true ≡ is_out (Some m) (Some (s, e)) → place ≡ child t 0 0
+    → walked t n m w o left b ≡ place ∷ walked t n m w None k back
+by_offsets-out t n m w zero k p s e o b prefix back place within h some starts is_end is_prefix is_back out is_place = absurd (omega (arith, h.0))
+by_offsets-out t n m w (suc j) k p s e o b prefix back place within h some starts is_end is_prefix is_back out is_place =
+    let same : k ≡ j = omega (arith, h.1) in
+    let end = number_in (take w b) in
+    let ends : e ≡ end = is_end ∙ ap number_in is_prefix in
+    ap (λ q. walked t n m w q (suc j) b) some
+    ∙ (open_first t n m w p j b
+    ∙ (dropped n m t (round_up (alignment t) p) end (offset_spans t end (numbers_in w j (drop w b))) (out_alike n m s (round_up (alignment t) p) e end within starts (ap (clamp n) ends) (sym out))
+    ∙ ap₂ (λ c cs. c ∷ cs) (sym is_place)
+    (ap (children_at n) (nowhere_alike t end 0 (numbers_in w j (drop w b))) ∙ ap₂ (walked t n m w None) (sym same) (sym is_back))))
 
-pub by_offsets-next : (t : Ty) (n p w left m s e : ℕ) (b prefix back : List ℕ) (place : Child) → IsNext left m
-    → clamp n s ≡ clamp n (round_up (alignment t) p) → place ≡ child_at n (t, Some (s, e))
-    → e ≡ number_in prefix → prefix ≡ take w b → back ≡ drop w b
-    → children_at n (offset_spans t p (numbers_in w left b)) ≡ place ∷ children_at n (offset_spans t e (numbers_in w m back))
-by_offsets-next t n p w zero m s e b prefix back place h starts is_place is_end is_prefix is_back = absurd (omega arith)
-by_offsets-next t n p w (suc k) m s e b prefix back place h starts is_place is_end is_prefix is_back =
-    let same : m ≡ k = omega (arith, h.1) in
-    let ends : e ≡ number_in (take w b) = is_end ∙ ap number_in is_prefix in
-    let here = alike_child t n s (round_up (alignment t) p) e (number_in (take w b)) starts (ap (clamp n) ends) in
-    by_offsets-first t n p w k b
-    ∙ ap₂ (λ c cs. c ∷ cs) (sym (is_place ∙ here))
-    (sym (ap₂ (λ x y. children_at n (offset_spans t x (numbers_in w m y))) ends is_back ∙ ap (λ x. children_at n (offset_spans t (number_in (take w b)) (numbers_in w x (drop w b)))) same))
-
-pub by_offsets-stays : (t : Ty) (n p w left i passed : ℕ) (b : List ℕ) → passed ≡ min i left → passed ≡ 0
-    → children_at n (offset_spans t p (numbers_in w left b)) ≡ drop i (children_at n (offset_spans t p (numbers_in w left b)))
-by_offsets-stays t n p w left i passed b e z =
-    drop_within (children_at n (offset_spans t p (numbers_in w left b))) i 0 (omega (arith, e, z, by_offsets-length t n p w left b))
-
-pub by_offsets-passed : (t : Ty) (n p w left i passed till : ℕ) (b back : List ℕ) → passed ≡ min i left → (passed ≡ 0 → ⊥)
-    → till ≡ number_in (slice_range b (w * passed - w) (w * passed)) → back ≡ drop (w * passed) b
-    → children_at n (offset_spans t till (numbers_in w (left - passed) back)) ≡ drop i (children_at n (offset_spans t p (numbers_in w left b)))
-by_offsets-passed t n p w left i zero till b back e some ends rest = absurd (some refl)
-by_offsets-passed t n p w left i (suc j) till b back e some ends rest =
-    let step : w * suc j ≡ w * j + w = omega arith in
-    let low : w * suc j - w ≡ w * j = omega arith in
-    let wide : w * suc j - (w * suc j - w) ≡ w = omega arith in
-    let number : till ≡ number_in (take w (drop (w * j) b)) = ends ∙ ap₂ (λ x y. number_in (take x (drop y b))) wide low in
-    ap₂ (λ x y. children_at n (offset_spans t x (numbers_in w (left - suc j) y))) number rest
-    ∙ (by_offsets-after t n p w j (left - suc j) left b (omega arith)
-    ∙ drop_within (children_at n (offset_spans t p (numbers_in w left b))) i (suc j) (omega (arith, e, by_offsets-length t n p w left b)))
+pub by_offsets-next : (t : Ty) (n m w left k p s e : ℕ) (o : Option ℕ) (b prefix back : List ℕ) (place : Child) → m ≤ n → IsNext left k → o ≡ Some p
+    → clamp n s ≡ clamp n (round_up (alignment t) p) → e ≡ number_in prefix → prefix ≡ take w b → back ≡ drop w b
+    → false ≡ is_out (Some m) (Some (s, e)) → place ≡ child t s e
+    → walked t n m w o left b ≡ place ∷ walked t n m w (Some e) k back
+by_offsets-next t n m w zero k p s e o b prefix back place within h some starts is_end is_prefix is_back fine is_place = absurd (omega (arith, h.0))
+by_offsets-next t n m w (suc j) k p s e o b prefix back place within h some starts is_end is_prefix is_back fine is_place =
+    let same : k ≡ j = omega (arith, h.1) in
+    let inside = in_bounds m s e (sym fine) in
+    let ends : number_in (take w b) ≡ e = sym (is_end ∙ ap number_in is_prefix) in
+    let from : round_up (alignment t) p ≡ s = same_within n m s (round_up (alignment t) p) within (omega (arith, inside.0, inside.1)) starts in
+    ap (λ q. walked t n m w q (suc j) b) some
+    ∙ (open_first t n m w p j b
+    ∙ (ap₂ (λ x y. children_at n (ordered (Some m) ((t, Some (x, y)) ∷ offset_spans t y (numbers_in w j (drop w b))))) from ends
+    ∙ (kept n m t s e (offset_spans t e (numbers_in w j (drop w b))) within (sym fine)
+    ∙ ap₂ (λ c cs. c ∷ cs) (sym is_place) (ap₂ (walked t n m w (Some e)) (sym same) (sym is_back)))))

@@ -4,8 +4,10 @@ pub mod MemberWalk
 pub mod Numbers
 pub mod Widths
 pub mod Alike
+pub mod InOrder
 pub mod Elements
 pub mod MemberLaws
 pub mod Cuts
 pub mod Counts
+pub mod OffsetCounts
 pub mod WalkSteps

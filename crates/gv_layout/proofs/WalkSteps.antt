@@ -4,8 +4,8 @@ use Rattle.std.specs.Prelude.{slice_get, IsSome, IfSome, MatchOption}
 use Rattle.std.proofs.lemmas.List.{length-drop}
 use Rattle.std.proofs.lemmas.Option.{none-some, same_Some}
 use Rattle.gv_model.specs.Ty.{Ty}
-use Rattle.gv_model.specs.Children.{Child, Span, child_at, children_at}
-use Rattle.gv_model.specs.Decode.{cut, spans}
+use Rattle.gv_model.specs.Children.{Child, Span, child_at, children_at, ordered}
+use Rattle.gv_model.specs.Decode.{cut, spans, body}
 use Rattle.gv_layout.proofs.Lists.{get_past, get_drop}
 
 pub none_at : (xs : List Child) (i : ℕ) (ys zs : List Child) → zs ≡ xs → ys ≡ drop i zs → ys ≡ [] → slice_get xs i ≡ None
@@ -36,7 +36,7 @@ within_at n (x ∷ xs) (suc i) c e = within_at n xs i c e
 -- a child lies within its container
 pub child_inside : (t : Ty) (b : List ℕ) (i : ℕ) (c : Child) → slice_get (cut t b) i ≡ Some c → (c.from ≤ c.to) × (c.to ≤ length b)
 unfolding cut
-child_inside t b i c e = within_at (length b) (spans t b) i c e
+child_inside t b i c e = within_at (length b) (ordered (body t b) (spans t b)) i c e
 
 pub bounds_at : (t : Ty) (b : List ℕ) (i : ℕ) (c : Child) → slice_get (cut t b) i ≡ Some c → IfSome (slice_get (cut t b) i) (λ d. (c.from ≡ d.from) × (c.to ≡ d.to))
 bounds_at t b i c e = rw e (refl, refl)

@@ -1,7 +1,7 @@
 -- The children of a container that a walk has still to give.
-use Rattle.std.specs.Prelude.{ℕ, ◌+◌, min, Bool, true, false, List, length, Option, Some, None}
-use Rattle.gv_model.specs.Ty.{types_from}
-use Rattle.gv_model.specs.Children.{Child, children_at, framing_offset}
+use Rattle.std.specs.Prelude.{ℕ, ◌+◌, min, Bool, true, false, List, map, length, Option, Some, None}
+use Rattle.gv_model.specs.Ty.{Ty, types_from}
+use Rattle.gv_model.specs.Children.{Child, Span, children_at, framing_offset, ordered, nowhere}
 use Rattle.gv_model.specs.Arrays.{fixed_spans, offset_spans, numbers_in}
 use Rattle.gv_model.specs.Tuples.{member_spans, body_end}
 use Rattle.gv_types.specs.TypeStr.{ty}
@@ -32,13 +32,18 @@ end_by w b k p None false = framing_offset w b k
 abbrev pub fixed_left : FixedSize → List Child
 fixed_left e = children_at e.len (fixed_spans (ty e.element) e.size e.at e.left)
 
+-- elements with these ends in a body that ends there, if those before are in order and the last of them ends at p
+abbrev pub elements_after : Ty → ℕ → Option ℕ → List ℕ → List (Ty × Span)
+elements_after t body None ends = map nowhere (offset_spans t 0 ends)
+elements_after t body (Some p) ends = ordered (Some body) (offset_spans t p ends)
+
 -- elements by framing offsets
 abbrev pub by_offsets_left : ByOffsets → List Child
-by_offsets_left f = children_at f.len (offset_spans (ty f.element) f.end (numbers_in f.width f.left f.offsets.now))
+by_offsets_left f = children_at f.len (elements_after (ty f.element) f.body f.previous (numbers_in f.width f.left f.offsets.now))
 
 -- members
 abbrev pub by_members_left : ByMembers → List Child
-by_members_left m = children_at (length m.bytes.now) (member_spans m.width m.bytes.now m.used m.previous (types_from (members_left m.members)))
+by_members_left m = children_at (length m.bytes.now) (ordered (Some m.body) (member_spans m.width m.bytes.now m.used m.previous (types_from (members_left m.members))))
 
 abbrev pub walk_left : Walk → List Child
 walk_left (walks.FixedSize e) = fixed_left e

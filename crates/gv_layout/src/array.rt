@@ -2,9 +2,9 @@
 //! Of no fixed size: the bytes end with the end of each element, as a framing offset.
 ghost use Rattle.std.specs.Prelude.{◌≡◌, ◌<◌, ◌≤◌, ◌+◌, ◌*◌, ◌^◌, MatchOption, length, drop, [], ◌∷◌, Some, None};
 ghost use Rattle.gv_model.specs.Layout.{alignment, fixed_size};
-ghost use Rattle.gv_model.specs.Arrays.{element_spans};
+ghost use Rattle.gv_model.specs.Arrays.{element_spans, elements_end};
 ghost use Rattle.gv_model.specs.Maybes.{just_span};
-ghost use Rattle.gv_model.specs.Children.{children_at};
+ghost use Rattle.gv_model.specs.Children.{children_at, ordered};
 ghost use Rattle.gv_types.specs.TypeStr.{ty};
 
 use crate::offset::number;
@@ -126,19 +126,22 @@ impl<'a> FixedSize<'a> {
     }
 }
 
-/// Elements whose ends are given by framing offsets.
+/// Elements whose ends are given by framing offsets, and the end of the one before, if that and all before it are in
+/// order.
 #[derive(Clone, Copy, Debug)]
 pub(crate) struct ByOffsets<'a, 'b> {
     element: TypeStr<'a>,
     aligned_to: u8,
-    end: usize,
+    previous: Option<usize>,
     offsets: &'b [u8],
     width: usize,
     left: usize,
+    body: usize,
     len: usize,
     ghost aligned: { aligned_to ≡ alignment (ty element) },
     ghost narrow: { width ≤ 8 },
     ghost whole: { length offsets.now ≡ width * left },
+    ghost inside: { body ≤ len },
     ghost small: { len + 256 < 2 ^ 64 },
 }
 
@@ -147,7 +150,8 @@ impl<'a, 'b> ByOffsets<'a, 'b> {
 
     /// The elements of an array whose elements have no fixed size.
     pub(crate) fn of_array(element: TypeStr<'a>, bytes: &'b [u8]) -> ByOffsets<'a, 'b>
-        ensures { by_offsets_left result ≡ children_at (length bytes.entry.now) (element_spans (ty element.entry) bytes.entry.now None) }
+        ensures { by_offsets_left result
+            ≡ children_at (length bytes.entry.now) (ordered (Some (elements_end bytes.entry.now None)) (element_spans (ty element.entry) bytes.entry.now None)) }
     {
         let len = bytes.len();
         let aligned_to = alignment(element);
@@ -158,20 +162,22 @@ impl<'a, 'b> ByOffsets<'a, 'b> {
             return ByOffsets {
                 element,
                 aligned_to,
-                end: 0,
+                previous: Some(0),
                 offsets: &bytes[begin..],
                 width,
                 left,
+                body: begin,
                 len,
             };
         }
         ByOffsets {
             element,
             aligned_to,
-            end: 0,
+            previous: None,
             offsets: &[],
             width,
             left: 0,
+            body: 0,
             len,
         }
     }
@@ -190,38 +196,49 @@ impl<'a, 'b> ByOffsets<'a, 'b> {
     {
         let left = self.left.checked_sub(1)?;
         let (offset, offsets) = self.offsets.split_at(self.width);
-        let end = number(offset);
-        let from = aligned(self.end, self.aligned_to, self.len);
-        let place = Place::within(self.element, from, end, self.len);
-        let after = ByOffsets {
+        let nowhere = Place::nowhere(self.element);
+        let lost = ByOffsets {
             element: self.element,
             aligned_to: self.aligned_to,
-            end,
+            previous: None,
             offsets,
             width: self.width,
             left,
+            body: self.body,
+            len: self.len,
+        };
+        let Some(previous) = self.previous else {
+            return Some((nowhere, lost));
+        };
+        let from = aligned(previous, self.aligned_to, self.len);
+        let end = number(offset);
+        let Some(place) = Place::in_order(self.element, from, end, self.body) else {
+            return Some((nowhere, lost));
+        };
+        let after = ByOffsets {
+            element: self.element,
+            aligned_to: self.aligned_to,
+            previous: Some(end),
+            offsets,
+            width: self.width,
+            left,
+            body: self.body,
             len: self.len,
         };
         Some((place, after))
     }
 
-    /// The children after the first `i`.
+    /// The children after the first `i`, which are passed one by one: one that is out of order counts for all after it.
     pub(crate) fn skip(self, i: usize) -> ByOffsets<'a, 'b>
         ensures { by_offsets_left result ≡ drop i (by_offsets_left self.entry) }
     {
-        let passed = i.min(self.left);
-        if passed == 0 {
-            return self;
+        let mut left = self;
+        for _ in 0..i {
+            match left.split_first() {
+                Some((_, after)) => left = after,
+                None => return left,
+            }
         }
-        let start = self.width * passed;
-        ByOffsets {
-            element: self.element,
-            aligned_to: self.aligned_to,
-            end: number(&self.offsets[start - self.width..start]),
-            offsets: &self.offsets[start..],
-            width: self.width,
-            left: self.left - passed,
-            len: self.len,
-        }
+        left
     }
 }

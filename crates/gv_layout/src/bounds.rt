@@ -22,9 +22,10 @@ pub fn n_children(of: TypeStr<'_>, bytes: &[u8]) -> usize
 }
 
 /// Where child `i` of a container of this type starts and ends in the container's bytes, (0, 0) where it has no
-/// valid bounds.
+/// valid bounds or comes after one that is out of order.
 ///
-/// `i` is below the number of children. An element is found in O(1), a member along the type's text.
+/// `i` is below the number of children. An element of fixed size is found in O(1), any other along the children before
+/// it, a member along the type's text.
 pub fn member_bounds(of: TypeStr<'_>, bytes: &[u8], i: usize) -> (usize, usize)
     requires kind { ty of ≢ variant }
     requires child { i < length (cut (ty of) bytes.now) }
@@ -38,7 +39,7 @@ pub fn member_bounds(of: TypeStr<'_>, bytes: &[u8], i: usize) -> (usize, usize)
 
 /// Child `i` of a container of this type: its type, and where it lies. None where there are not so many.
 ///
-/// An element is found in O(1), a member along the type's text.
+/// An element of fixed size is found in O(1), any other along the children before it, a member along the type's text.
 pub fn place_of<'a>(of: TypeStr<'a>, bytes: &[u8], i: usize) -> Option<Place<'a>>
     requires { ty of ≢ variant }
     ensures { option_map child_of result ≡ slice_get (cut (ty of.entry) bytes.now) i }

@@ -13,5 +13,8 @@ mod tuple;
 mod walk;
 
 pub use bounds::{member_bounds, n_children, place_of, places};
+pub use offset::number;
 pub use place::{Place, Places};
-pub use size::{alignment, fixed_size, offset_width, round_up};
+pub use size::{
+    TypeInfo, alignment, fixed_size, offset_width, round_up, size_of_members, type_info,
+};

@@ -5,7 +5,7 @@ ghost use Rattle.gv_model.specs.BasicValue.{number_in};
 ghost use Rattle.gv_model.specs.Children.{framing_offset};
 
 /// The number in at most eight bytes, the lowest byte first.
-pub(crate) fn number(bytes: &[u8]) -> usize
+pub fn number(bytes: &[u8]) -> usize
     requires { length bytes.now ≤ 8 }
     ensures { result ≡ number_in bytes.now }
 {

@@ -1,6 +1,6 @@
 //! Places of children, one after the other.
-ghost use Rattle.std.specs.Prelude.{◌≡◌, Some};
-ghost use Rattle.gv_model.specs.Children.{child_at};
+ghost use Rattle.std.specs.Prelude.{◌≡◌, Some, IfSome, is_none};
+ghost use Rattle.gv_model.specs.Children.{is_out};
 ghost use Rattle.gv_types.specs.TypeStr.{ty};
 
 use crate::walk::Walk;
@@ -17,18 +17,31 @@ pub struct Place<'a> {
 impl<'a> Place<'a> {
     ghost use Rattle.gv_layout.specs.Places.{child_of};
 
-    /// A child between these places, at (0, 0) where it doesn't lie so within `len` bytes.
-    pub(crate) fn within(type_str: TypeStr<'a>, from: usize, to: usize, len: usize) -> Place<'a>
-        ensures { child_of result ≡ child_at len (ty type_str.entry, Some (from, to)) }
+    /// A child between these places, None where it is out of order in a body that ends there.
+    pub(crate) fn in_order(
+        type_str: TypeStr<'a>,
+        from: usize,
+        to: usize,
+        body: usize,
+    ) -> Option<Place<'a>>
+        ensures order { is_none result ≡ is_out (Some body) (Some (from, to)) }
+        ensures place { IfSome result (λ p. child_of p ≡ record { type = ty type_str.entry; from = from; to = to }) }
     {
-        if from <= to && to <= len {
-            Place { type_str, from, to }
+        if from <= to && to <= body {
+            Some(Place { type_str, from, to })
         } else {
-            Place {
-                type_str,
-                from: 0,
-                to: 0,
-            }
+            None
+        }
+    }
+
+    /// A child that lies nowhere, and so has no bytes.
+    pub(crate) fn nowhere(type_str: TypeStr<'a>) -> Place<'a>
+        ensures { child_of result ≡ record { type = ty type_str.entry; from = 0; to = 0 } }
+    {
+        Place {
+            type_str,
+            from: 0,
+            to: 0,
         }
     }
 }

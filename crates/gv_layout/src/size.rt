@@ -27,7 +27,7 @@ pub fn fixed_size(of: TypeStr<'_>) -> Option<usize>
 
 /// The size of each value of a tuple's or an entry's type, found out without a look at the members after the first
 /// that has no fixed size.
-pub(crate) fn size_of_members(of: TypeStr<'_>) -> Option<usize>
+pub fn size_of_members(of: TypeStr<'_>) -> Option<usize>
     ensures { result ≡ fixed_size (ty of.entry) }
 {
     for member in of.members() {
@@ -55,14 +55,14 @@ pub fn offset_width(len: usize) -> u8
 /// What the starts of a type's values are multiples of, and how many bytes each value has, or None where they
 /// differ in it.
 #[derive(Clone, Copy, Debug)]
-pub(crate) struct TypeInfo {
-    pub(crate) alignment: u8,
-    pub(crate) size: Option<usize>,
+pub struct TypeInfo {
+    pub alignment: u8,
+    pub size: Option<usize>,
 }
 
 /// The layout of a type: its alignment and its size together, so that each level's members are walked once.
 #[cycle(type_infos)]
-pub(crate) fn type_info(of: TypeStr<'_>) -> TypeInfo
+pub fn type_info(of: TypeStr<'_>) -> TypeInfo
     ensures alignment { result.alignment ≡ alignment (ty of.entry) }
     ensures size { result.size ≡ fixed_size (ty of.entry) }
 {

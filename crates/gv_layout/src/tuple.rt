@@ -2,10 +2,12 @@
 //! Each begins where the one before ends, aligned; the framing offsets occur at the end, the first one last.
 ghost use Rattle.std.specs.Prelude.{◌≡◌, ◌<◌, ◌≤◌, ◌^◌, ◌+◌, ◌*◌, ◌⊎◌, MatchOption, IfSome, IsTrue, option_map, length, drop, [], ◌∷◌};
 ghost use Rattle.gv_model.specs.Ty.{members};
-ghost use Rattle.gv_model.specs.Tuples.{tuple_spans, next_offset};
-ghost use Rattle.gv_model.specs.Children.{children_at};
+ghost use Rattle.gv_model.specs.Layout.{fixed_size};
+ghost use Rattle.gv_model.specs.Tuples.{tuple_spans, next_offset, members_end, offset_count};
+ghost use Rattle.gv_model.specs.Children.{children_at, ordered};
 ghost use Rattle.gv_types.specs.TypeStr.{ty};
 ghost use Rattle.gv_types.specs.Members.{members_left};
+ghost use Rattle.gv_layout.specs.Bodies.{placed_body};
 
 use crate::offset::framing_offset;
 use crate::place::Place;
@@ -13,8 +15,8 @@ use crate::size::{offset_width, size_of_members, type_info};
 use crate::walk::aligned;
 use gv_types::{Members, TypeStr};
 
-/// Members, of which the one before ends at `previous`, if its end is known. The last `used` framing offsets
-/// belong to members before.
+/// Members, of which the one before ends at `previous`, if its end is known and all before are in order. The last `used`
+/// framing offsets belong to members before.
 #[derive(Clone, Copy, Debug)]
 pub(crate) struct ByMembers<'a, 'b> {
     members: Members<'a>,
@@ -22,7 +24,9 @@ pub(crate) struct ByMembers<'a, 'b> {
     width: usize,
     used: usize,
     previous: Option<usize>,
+    body: usize,
     ghost narrow: { width ≤ 8 },
+    ghost inside: { body ≤ length bytes.now },
     ghost after: { width * used ≤ length bytes.now },
     ghost few: { length (members_left members) < 2 ^ 64 },
 }
@@ -32,19 +36,29 @@ impl<'a, 'b> ByMembers<'a, 'b> {
 
     /// The members of a tuple or an entry.
     pub(crate) fn of_tuple(of: TypeStr<'a>, bytes: &'b [u8]) -> ByMembers<'a, 'b>
-        ensures { by_members_left result ≡ children_at (length bytes.entry.now) (tuple_spans (ty of.entry) (members (ty of.entry)) bytes.entry.now) }
+        ensures { by_members_left result
+            ≡ children_at (length bytes.entry.now)
+            (ordered (members_end (fixed_size (ty of.entry)) (members (ty of.entry)) bytes.entry.now) (tuple_spans (ty of.entry) (members (ty of.entry)) bytes.entry.now)) }
     {
+        let members = of.members();
         let width = usize::from(offset_width(bytes.len()));
-        let previous = match size_of_members(of) {
-            Some(size) if size != bytes.len() => None,
-            _ => Some(0),
+        let Some(body) = body_of(of, bytes) else {
+            return ByMembers {
+                members,
+                bytes,
+                width,
+                used: 0,
+                previous: None,
+                body: 0,
+            };
         };
         ByMembers {
-            members: of.members(),
+            members,
             bytes,
             width,
             used: 0,
-            previous,
+            previous: Some(0),
+            body,
         }
     }
 
@@ -63,33 +77,33 @@ impl<'a, 'b> ByMembers<'a, 'b> {
         let mut members = self.members;
         let member = members.next()?;
         let is_last = members.is_empty();
-        let unknown = Place {
-            type_str: member,
-            from: 0,
-            to: 0,
-        };
+        let nowhere = Place::nowhere(member);
         let lost = ByMembers {
             members,
             bytes: self.bytes,
             width: self.width,
             used: self.used,
             previous: None,
+            body: self.body,
         };
         let Some(previous) = self.previous else {
-            return Some((unknown, lost));
+            return Some((nowhere, lost));
         };
         let info = type_info(member);
         let from = aligned(previous, info.alignment, self.bytes.len());
         let Some((to, used)) = self.end(info.size, from, is_last) else {
-            return Some((unknown, lost));
+            return Some((nowhere, lost));
         };
-        let place = Place::within(member, from, to, self.bytes.len());
+        let Some(place) = Place::in_order(member, from, to, self.body) else {
+            return Some((nowhere, lost));
+        };
         let after = ByMembers {
             members,
             bytes: self.bytes,
             width: self.width,
             used,
             previous: Some(to),
+            body: self.body,
         };
         Some((place, after))
     }
@@ -125,4 +139,41 @@ impl<'a, 'b> ByMembers<'a, 'b> {
         let end = framing_offset(self.width, self.bytes, self.used)?;
         Some((end, self.used + 1))
     }
+}
+
+/// Where the body of a tuple or an entry ends, in which its members lie. None where no member is known to lie anywhere:
+/// the bytes are not of the members' size, or fewer than their framing offsets take.
+fn body_of(of: TypeStr<'_>, bytes: &[u8]) -> Option<usize>
+    ensures { result ≡ placed_body (ty of.entry) bytes.now }
+{
+    let len = bytes.len();
+    match size_of_members(of) {
+        Some(size) if size == len => Some(len),
+        Some(_) => None,
+        None => {
+            let taken = usize::from(offset_width(len)) * offset_count(of);
+            if taken <= len {
+                Some(len - taken)
+            } else {
+                None
+            }
+        }
+    }
+}
+
+/// How many framing offsets the members have if they are not all of fixed size: one for each of no fixed size but the
+/// last.
+fn offset_count(of: TypeStr<'_>) -> usize
+    ensures count { result ≡ offset_count (members (ty of.entry)) }
+    ensures few { result ≤ 67108864 }
+{
+    let mut count = 0;
+    let mut is_open = false;
+    for member in of.members() {
+        if is_open {
+            count += 1;
+        }
+        is_open = type_info(member).size.is_none();
+    }
+    count
 }

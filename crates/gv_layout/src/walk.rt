@@ -89,7 +89,7 @@ impl<'a, 'b> Walk<'a, 'b> {
         }
     }
 
-    /// The children after the first `i`. It passes members one by one, and elements at once.
+    /// The children after the first `i`. It passes elements of a fixed size at once, and all else one by one.
     pub(crate) fn skip(self, i: usize) -> Walk<'a, 'b>
         ensures { walk_left result ≡ drop i (walk_left self.entry) }
     {

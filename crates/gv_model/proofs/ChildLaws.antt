@@ -1,5 +1,5 @@
 -- The children of a value are the values of its children.
-use Rattle.std.proofs.Common.{ℕ, zero, suc, ◌≡◌, List, [], ◌∷◌, length, Option, Some, None, Bool, true, false, cond, ◌==◌, refl, ap, ◌∙◌}
+use Rattle.std.proofs.Common.{ℕ, zero, suc, ◌≡◌, List, [], ◌∷◌, length, Option, Some, None, Bool, true, false, cond, not, nat_le, ◌&&◌, ◌==◌, refl, sym, ap, ◌∙◌}
 use Rattle.std.specs.Prelude.{map, slice_get, option_map}
 use Rattle.gv_model.specs.Ty.{Ty, Basic}
 use Rattle.gv_model.specs.Ty.Ty.{basic, variant, array, maybe, tuple, entry}
@@ -7,7 +7,8 @@ use Rattle.gv_model.specs.Ty.Basic.{string, path, signature}
 use Rattle.gv_model.specs.Layout.{basic_size}
 use Rattle.gv_model.specs.Tree.{Tree, Trees, children, tree_at, trees_len, basic_default}
 use Rattle.gv_model.specs.Tree.Trees.{none}
-use Rattle.gv_model.specs.Children.{Child, child_bytes}
+use Rattle.gv_model.specs.Children.{Child, Span, child_at, child_bytes, children_at, nowhere, ordered}
+use Rattle.gv_model.specs.Variants.{at_last_zero, variant_span}
 use Rattle.gv_model.specs.Decode.{decode, tree_with, each, cut, spans}
 use Rattle.gv_model.specs.Parts.{part_of, parts, part_trees}
 use Rattle.gv_model.specs.BasicValue.{basic_value, basic_of_size, text_or_default, text_in, bits_of, number_in}
@@ -37,7 +38,7 @@ childless k b (Some n) = go (length b == n) (bits_of k (number_in b))
     go false m = default_childless k
 
 tree_children : (f : Child → Tree) (t : Ty) (b : List ℕ) → children (tree_with f t b) ≡ each f (cut t b)
-unfolding basic_value cut spans
+unfolding basic_value cut spans ordered
 tree_children f (basic k) b = childless k b (basic_size k)
 tree_children f variant b = refl
 tree_children f (array t) b = refl
@@ -76,3 +77,24 @@ pub children_are_parts : (t : Ty) (b : List ℕ) → children (decode t b) ≡ p
 unfolding parts
 children_are_parts t b =
     ap children (decode_children t b) ∙ (tree_children (λ c. decode c.type (child_bytes b c)) t b ∙ each_part b (cut t b))
+
+-- ---- a child that is alone
+
+abbrev placed : Ty → ℕ × ℕ → Child
+placed t s = record { type = t; from = s.0; to = s.1 }
+
+-- one that is alone is read as if nothing had an order: out of order it lies nowhere
+one_stays : (n : ℕ) (t : Ty) (s : Span) → children_at n (ordered (Some n) ((t, s) ∷ [])) ≡ children_at n ((t, s) ∷ [])
+unfolding ordered
+one_stays n t None = refl
+one_stays n t (Some s) = go (nat_le s.0 s.1 && nat_le s.1 n) refl
+  where
+    go : (inside : Bool) → (nat_le s.0 s.1 && nat_le s.1 n) ≡ inside
+        → children_at n (cond (not inside) (map nowhere ((t, Some s) ∷ [])) ((t, Some s) ∷ [])) ≡ children_at n ((t, Some s) ∷ [])
+    go true e = refl
+    go false e = ap (λ (b : Bool). placed t (cond b s (0, 0)) ∷ []) (sym e)
+
+-- where the one child of a variant lies
+pub variant_cut : (b : List ℕ) → cut variant b ≡ child_at (length b) (variant_span (at_last_zero b)) ∷ []
+unfolding cut spans
+variant_cut b = one_stays (length b) (variant_span (at_last_zero b)).0 (variant_span (at_last_zero b)).1

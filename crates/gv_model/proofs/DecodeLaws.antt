@@ -1,5 +1,5 @@
 -- What `decode` gives is the tree over what it gives of each child.
-use Rattle.std.proofs.Common.{ℕ, zero, suc, ◌+◌, ◌-◌, ◌/◌, ◌%◌, ◌<◌, ◌≤◌, ◌≡◌, List, [], ◌∷◌, ◌++◌, length, drop, Option, Some, None, refl, sym, ap, ap₂, add-zero, add-suc, ◌∙◌, arith, Bool, true, false, cond, ◌==◌, ◌&&◌, nat_le, eqb-true, length-append, length-take, length-drop}
+use Rattle.std.proofs.Common.{ℕ, zero, suc, ◌+◌, ◌-◌, ◌/◌, ◌%◌, ◌<◌, ◌≤◌, ◌≡◌, List, [], ◌∷◌, ◌++◌, length, drop, Option, Some, None, refl, sym, ap, ap₂, map, add-zero, add-suc, ◌∙◌, arith, Bool, true, false, cond, ◌==◌, ◌&&◌, nat_le, eqb-true, length-append, length-take, length-drop}
 use Rattle.std.proofs.lemmas.Option.{same_Some, none-some, cond_some}
 use Rattle.gv_model.specs.Ty.{Ty, Basic, Types, spelling, spellings}
 use Rattle.gv_model.specs.Ty.Ty.{basic, variant, array, maybe, tuple, entry}
@@ -9,8 +9,9 @@ use Rattle.gv_model.specs.Layout.{fixed_size, offset_width}
 use Rattle.gv_model.specs.Tree.{Tree, default, defaults}
 use Rattle.gv_model.specs.Tree.Tree.{node}
 use Rattle.gv_model.specs.Tree.Trees.{first}
-use Rattle.gv_model.specs.Children.{Child, Span, child_bytes, children_at, child_at}
-use Rattle.gv_model.specs.Decode.{decode, decode_within, tree_with, each, cut, spans}
+use Rattle.gv_model.specs.Children.{Child, Span, child_bytes, children_at, child_at, is_out, nowhere, ordered}
+use Rattle.gv_model.specs.Decode.{decode, decode_within, tree_with, each, cut, spans, body}
+use Rattle.gv_model.specs.EarlierReading.{earlier_cut}
 use Rattle.gv_model.specs.Tuples.{tuple_spans, is_other_size, empty_spans, member_spans}
 use Rattle.gv_model.specs.Arrays.{element_spans, offset_spans, fixed_spans, numbers_in}
 use Rattle.gv_model.specs.BasicValue.{number_in}
@@ -31,12 +32,16 @@ pub each_weaker : {X : Type 0} (P Q : X → Type 0) → ((x : X) → P x → Q x
 each_weaker P Q f [] h = tt
 each_weaker P Q f (x ∷ xs) h = (f x h.0, each_weaker P Q f xs h.1)
 
+pub each_both : {X : Type 0} (P Q R : X → Type 0) → ((x : X) → P x → Q x → R x) → (xs : List X) → Each P xs → Each Q xs → Each R xs
+each_both P Q R f [] h g = tt
+each_both P Q R f (x ∷ xs) h g = (f x h.0 g.0, each_both P Q R f xs h.1 g.1)
+
 -- how much a type asks of the depth: no more than its text is long
-weight : Ty → ℕ
+pub weight : Ty → ℕ
 weight (tuple end) = 0
 weight t = length (spelling t)
 
-weight_le : (t : Ty) → weight t ≤ length (spelling t)
+pub weight_le : (t : Ty) → weight t ≤ length (spelling t)
 unfolding weight
 weight_le (tuple end) = omega arith
 weight_le _ = omega arith
@@ -105,11 +110,11 @@ members_lighter (member t ts) n h =
     (omega (arith, weight_le t), members_lighter ts n (omega arith))
 
 -- the bytes of a child are no more than those of its container
-length-bytes_of-le : (b : List ℕ) (c : Child) → length (child_bytes b c) ≤ length b
+pub length-bytes_of-le : (b : List ℕ) (c : Child) → length (child_bytes b c) ≤ length b
 length-bytes_of-le b c = omega (arith, length-take (c.to - c.from) (drop c.from b), length-drop c.from b)
 
 -- what is asked for a child is less
-abbrev IsLess : Ty → List ℕ → Child → Type 0
+abbrev pub IsLess : Ty → List ℕ → Child → Type 0
 IsLess t b c = weight c.type + length (child_bytes b c) < weight t + length b
 
 less_from_below : (t : Ty) (b : List ℕ) (xs : List (Ty × Span)) → Below (weight t) xs → Each (IsLess t b) (children_at (length b) xs)
@@ -185,18 +190,45 @@ lighter_entry : (k : Basic) (t : Ty) → AllLighter (weight (entry k t)) (member
 unfolding weight spelling
 lighter_entry k t = (omega (arith, length-append (spelling t) (125 ∷ [])), (omega (arith, weight_le t, length-append (spelling t) (125 ∷ [])), tt))
 
+-- a container asks more than each of its children, whatever those before them
+earlier_less : (t : Ty) (b : List ℕ) → Each (IsLess t b) (earlier_cut t b)
+unfolding earlier_cut spans
+earlier_less (basic k) b = tt
+earlier_less variant b = (variant_less b (at_last_zero b) (at_last_zero_parts b), tt)
+earlier_less (array t) b = less_from_below (array t) b (spans (array t) b) (of_elements (Lighter (weight (array t))) t b (fixed_size t) (lighter_array t))
+earlier_less (maybe t) b = less_from_below (maybe t) b (spans (maybe t) b) (of_just (Lighter (weight (maybe t))) t (length b) (fixed_size t) (lighter_maybe t))
+earlier_less (tuple ts) b = less_from_below (tuple ts) b (spans (tuple ts) b) (of_tuple (Lighter (weight (tuple ts))) (tuple ts) ts b (lighter_tuple ts))
+earlier_less (entry k t) b = less_from_below (entry k t) b (spans (entry k t) b) (of_tuple (Lighter (weight (entry k t))) (entry k t) (member (basic k) (member t end)) b (lighter_entry k t))
+
+-- P of a child that lies nowhere, where it is so of one that lies somewhere
+abbrev pub Stays : ℕ → (Child → Type 0) → Type 0
+Stays n P = (x : Ty × Span) → P (child_at n x) → P (child_at n (nowhere x))
+
+each_nowhere : (n : ℕ) (P : Child → Type 0) → Stays n P → (xs : List (Ty × Span)) → Each P (children_at n xs) → Each P (children_at n (map nowhere xs))
+each_nowhere n P f [] h = tt
+each_nowhere n P f (x ∷ xs) h = (f x h.0, each_nowhere n P f xs h.1)
+
+pub each_ordered : (n : ℕ) (P : Child → Type 0) → Stays n P → (e : Option ℕ) (xs : List (Ty × Span)) → Each P (children_at n xs) → Each P (children_at n (ordered e xs))
+unfolding ordered
+each_ordered n P f e [] h = tt
+each_ordered n P f e (x ∷ xs) h = go (is_out e x.1) (each_ordered n P f e xs h.1)
+  where
+    go : (c : Bool) → Each P (children_at n (ordered e xs)) → Each P (children_at n (cond c (map nowhere (x ∷ xs)) (x ∷ ordered e xs)))
+    go true rest = each_nowhere n P f (x ∷ xs) h
+    go false rest = (h.0, rest)
+
+nowhere_less : (t : Ty) (b : List ℕ) → Stays (length b) (IsLess t b)
+nowhere_less t b x h =
+    let none : length (child_bytes b (child_at (length b) (nowhere x))) ≤ 0 = length-bytes_of-to b (child_at (length b) (nowhere x)) in
+    omega arith
+
 -- a container asks more than each of its children
-container_less : (t : Ty) (b : List ℕ) → Each (IsLess t b) (cut t b)
-unfolding cut spans
-container_less (basic k) b = tt
-container_less variant b = (variant_less b (at_last_zero b) (at_last_zero_parts b), tt)
-container_less (array t) b = less_from_below (array t) b (spans (array t) b) (of_elements (Lighter (weight (array t))) t b (fixed_size t) (lighter_array t))
-container_less (maybe t) b = less_from_below (maybe t) b (spans (maybe t) b) (of_just (Lighter (weight (maybe t))) t (length b) (fixed_size t) (lighter_maybe t))
-container_less (tuple ts) b = less_from_below (tuple ts) b (spans (tuple ts) b) (of_tuple (Lighter (weight (tuple ts))) (tuple ts) ts b (lighter_tuple ts))
-container_less (entry k t) b = less_from_below (entry k t) b (spans (entry k t) b) (of_tuple (Lighter (weight (entry k t))) (entry k t) (member (basic k) (member t end)) b (lighter_entry k t))
+pub container_less : (t : Ty) (b : List ℕ) → Each (IsLess t b) (cut t b)
+unfolding cut earlier_cut
+container_less t b = each_ordered (length b) (IsLess t b) (nowhere_less t b) (body t b) (spans t b) (earlier_less t b)
 
 -- trees of children that are alike are alike
-each_same : (f g : Child → Tree) (cs : List Child) → Each (λ c. f c ≡ g c) cs → each f cs ≡ each g cs
+pub each_same : (f g : Child → Tree) (cs : List Child) → Each (λ c. f c ≡ g c) cs → each f cs ≡ each g cs
 each_same f g [] h = refl
 each_same f g (c ∷ cs) h = ap₂ first h.0 (each_same f g cs h.1)
 
@@ -208,13 +240,14 @@ tree_same f g (maybe t) b h = ap (node (maybe t)) (each_same f g (cut (maybe t) 
 tree_same f g (tuple ts) b h = ap (node (tuple ts)) (each_same f g (cut (tuple ts) b) h)
 tree_same f g (entry k t) b h = ap (node (entry k t)) (each_same f g (cut (entry k t) b) h)
 
-no_children : (c : Bool) (n : ℕ) → children_at n (cond c [] []) ≡ []
-no_children true n = refl
-no_children false n = refl
+no_children : (c : Bool) (n : ℕ) (e : Option ℕ) → children_at n (ordered e (cond c [] [])) ≡ []
+unfolding ordered
+no_children true n e = refl
+no_children false n e = refl
 
 pub cut-unit : (b : List ℕ) → cut (tuple end) b ≡ []
 unfolding cut spans empty_spans member_spans
-cut-unit b = no_children (is_other_size (fixed_size (tuple end)) (length b)) (length b)
+cut-unit b = no_children (is_other_size (fixed_size (tuple end)) (length b)) (length b) (body (tuple end) b)
 
 heavy_basic : (k : Basic) → weight (basic k) ≡ 1
 unfolding weight spelling

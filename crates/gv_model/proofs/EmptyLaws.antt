@@ -1,5 +1,5 @@
 -- No bytes read as the default at every type.
-use Rattle.std.proofs.Common.{ℕ, ◌-◌, ◌/◌, ◌%◌, ◌<◌, ◌≡◌, max, List, [], ◌∷◌, take, Option, Some, None, refl, ap, ap₂, ◌∙◌, arith, Bool, true, false, cond, ◌==◌, ne_eqb}
+use Rattle.std.proofs.Common.{ℕ, ◌-◌, ◌/◌, ◌%◌, ◌<◌, ◌≡◌, max, List, [], ◌∷◌, length, map, take, Option, Some, None, refl, sym, subst, ap, ap₂, ◌∙◌, arith, Bool, true, false, cond, ◌==◌, ne_eqb}
 use Rattle.std.proofs.Math.Seq.{drop-nil, take-nil}
 use Rattle.std.proofs.Math.Nat.{zero-div}
 use Rattle.std.proofs.lemmas.Option.{same_Some, none-some}
@@ -11,9 +11,9 @@ use Rattle.gv_model.specs.Layout.{fixed_size, basic_size, padded, round_up, offs
 use Rattle.gv_model.specs.Tree.{Trees, default, defaults, basic_default}
 use Rattle.gv_model.specs.Tree.Tree.{node}
 use Rattle.gv_model.specs.Tree.Trees.{none, first}
-use Rattle.gv_model.specs.Children.{Child, Span, child_bytes, children_at, child_at}
-use Rattle.gv_model.specs.Decode.{decode, each, cut, spans}
-use Rattle.gv_model.specs.Tuples.{tuple_spans, is_other_size, empty_spans, member_spans, next_offset, span, start_of, end_of}
+use Rattle.gv_model.specs.Children.{Child, Span, child_bytes, children_at, child_at, is_out, nowhere, ordered}
+use Rattle.gv_model.specs.Decode.{decode, each, cut, spans, body}
+use Rattle.gv_model.specs.Tuples.{tuple_spans, is_other_size, empty_spans, member_spans}
 use Rattle.gv_model.specs.Arrays.{element_spans, fixed_spans}
 use Rattle.gv_model.specs.Maybes.{just_span}
 use Rattle.gv_model.specs.Variants.{at_last_zero}
@@ -99,38 +99,67 @@ read_empty xs = each (λ c. decode c.type (child_bytes [] c)) (children_at 0 xs)
 child-nil : (c : Child) → decode c.type [] ≡ default c.type → decode c.type (child_bytes [] c) ≡ default c.type
 child-nil c h = ap (decode c.type) (nothing_of_nothing c) ∙ h
 
-members-nil : (w : ℕ) (b : List ℕ) (ts : Types) (k : ℕ) (p : Option ℕ) → AllDefault ts → read_empty (member_spans w b k p ts) ≡ defaults ts
-unfolding member_spans defaults
-members-nil w b end k p h = refl
-members-nil w b (member t ts) k p h = ap₂ first (child-nil (child_at 0 (t, span (start_of t p) (end_of w b k p t ts))) h.0) (members-nil w b ts (next_offset k (fixed_size t)) (end_of w b k p t ts) h.1)
+-- the types of spans
+abbrev pub span_types : List (Ty × Span) → Types
+span_types [] = end
+span_types (x ∷ xs) = member x.0 (span_types xs)
 
-empty-nil : (ts : Types) → AllDefault ts → read_empty (empty_spans ts) ≡ defaults ts
-unfolding empty_spans defaults
-empty-nil end h = refl
-empty-nil (member t ts) h = ap₂ first (child-nil (child_at 0 (t, None)) h.0) (empty-nil ts h.1)
+types-members : (w : ℕ) (b : List ℕ) (ts : Types) (k : ℕ) (p : Option ℕ) → span_types (member_spans w b k p ts) ≡ ts
+unfolding member_spans
+types-members w b end k p = refl
+types-members w b (member t ts) k p = ap (member t) (types-members w b ts _ _)
 
-tuple-nil : (t : Ty) (ts : Types) → AllDefault ts → read_empty (tuple_spans t ts []) ≡ defaults ts
-tuple-nil t ts h = go (is_other_size (fixed_size t) 0)
+types-empty : (ts : Types) → span_types (empty_spans ts) ≡ ts
+unfolding empty_spans
+types-empty end = refl
+types-empty (member t ts) = ap (member t) (types-empty ts)
+
+pub types-tuple : (t : Ty) (ts : Types) (b : List ℕ) → span_types (tuple_spans t ts b) ≡ ts
+types-tuple t ts b = go (is_other_size (fixed_size t) (length b))
   where
-    go : (b : Bool) → read_empty (cond b (empty_spans ts) (member_spans (offset_width 0) [] 0 (Some 0) ts)) ≡ defaults ts
-    go true = empty-nil ts h
-    go false = members-nil (offset_width 0) [] ts 0 (Some 0) h
+    go : (c : Bool) → span_types (cond c (empty_spans ts) (member_spans (offset_width (length b)) b 0 (Some 0) ts)) ≡ ts
+    go true = types-empty ts
+    go false = types-members (offset_width (length b)) b ts 0 (Some 0)
+
+types-nowhere : (xs : List (Ty × Span)) → span_types (map nowhere xs) ≡ span_types xs
+types-nowhere [] = refl
+types-nowhere (x ∷ xs) = ap (member x.0) (types-nowhere xs)
+
+pub types-ordered : (e : Option ℕ) (xs : List (Ty × Span)) → span_types (ordered e xs) ≡ span_types xs
+unfolding ordered
+types-ordered e [] = refl
+types-ordered e (x ∷ xs) = go (is_out e x.1) (types-ordered e xs)
+  where
+    go : (c : Bool) → span_types (ordered e xs) ≡ span_types xs → span_types (cond c (map nowhere (x ∷ xs)) (x ∷ ordered e xs)) ≡ member x.0 (span_types xs)
+    go true h = types-nowhere (x ∷ xs)
+    go false h = ap (member x.0) h
+
+spans-nil : (xs : List (Ty × Span)) → AllDefault (span_types xs) → read_empty xs ≡ defaults (span_types xs)
+unfolding defaults
+spans-nil [] h = refl
+spans-nil (x ∷ xs) h = ap₂ first (child-nil (child_at 0 x) h.0) (spans-nil xs h.1)
+
+tuple-nil : (t : Ty) (ts : Types) (e : Option ℕ) → AllDefault ts → read_empty (ordered e (tuple_spans t ts [])) ≡ defaults ts
+tuple-nil t ts e h =
+    let xs = ordered e (tuple_spans t ts []) in
+    let types : span_types xs ≡ ts = types-ordered e (tuple_spans t ts []) ∙ types-tuple t ts [] in
+    spans-nil xs (subst AllDefault (sym types) h) ∙ ap defaults types
 
 array_case : (t : Ty) → decode (array t) [] ≡ default (array t)
-unfolding cut spans default
-array_case t = decode_children (array t) [] ∙ ap (λ xs. node (array t) (read_empty xs)) (elements-nil t (fixed_size t))
+unfolding cut spans default ordered
+array_case t = decode_children (array t) [] ∙ ap (λ xs. node (array t) (read_empty (ordered (body (array t) []) xs))) (elements-nil t (fixed_size t))
 
 maybe_case : (t : Ty) → decode (maybe t) [] ≡ default (maybe t)
-unfolding cut spans default
-maybe_case t = decode_children (maybe t) [] ∙ ap (λ xs. node (maybe t) (read_empty xs)) (just-nil t (fixed_size t) (λ n e. fixed_size_pos t n e))
+unfolding cut spans default ordered
+maybe_case t = decode_children (maybe t) [] ∙ ap (λ xs. node (maybe t) (read_empty (ordered (body (maybe t) []) xs))) (just-nil t (fixed_size t) (λ n e. fixed_size_pos t n e))
 
 variant_case : decode variant [] ≡ default variant
-unfolding cut spans default at_last_zero
+unfolding cut spans default at_last_zero ordered
 variant_case = decode_children variant [] ∙ ap (λ v. node variant (first v none)) (decode-unit _)
 
 tuple_case : (ts : Types) → AllDefault ts → decode (tuple ts) [] ≡ default (tuple ts)
 unfolding cut spans default
-tuple_case ts h = decode_children (tuple ts) [] ∙ ap (node (tuple ts)) (tuple-nil (tuple ts) ts h)
+tuple_case ts h = decode_children (tuple ts) [] ∙ ap (node (tuple ts)) (tuple-nil (tuple ts) ts (body (tuple ts) []) h)
 
 basic_case : (k : Basic) → decode (basic k) [] ≡ default (basic k)
 unfolding default
@@ -138,7 +167,7 @@ basic_case k = decode_children (basic k) [] ∙ basic-nil k
 
 entry_case : (k : Basic) (t : Ty) → decode t [] ≡ default t → decode (entry k t) [] ≡ default (entry k t)
 unfolding cut spans default defaults
-entry_case k t h = decode_children (entry k t) [] ∙ ap (node (entry k t)) (tuple-nil (entry k t) (member (basic k) (member t end)) (basic_case k, (h, tt)))
+entry_case k t h = decode_children (entry k t) [] ∙ ap (node (entry k t)) (tuple-nil (entry k t) (member (basic k) (member t end)) (body (entry k t) []) (basic_case k, (h, tt)))
 
 mutual
   pub decode-nil : (t : Ty) → decode t [] ≡ default t

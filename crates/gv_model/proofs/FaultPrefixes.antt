@@ -1,10 +1,9 @@
 -- What the fault of tokens says of the tokens before it.
-use Rattle.std.proofs.Common.{◌≡◌, ◌≤◌, ◌<◌, ◌⊎◌, ℕ, suc, ◌+◌, Bool, true, false, cond, List, [], ◌∷◌, ◌++◌, length, take, Option, Some, None, Ok, Err, refl, sym, ap, ◌∙◌, subst, arith, nat_le, append_assoc}
+use Rattle.std.proofs.Common.{◌≡◌, ◌≤◌, ◌<◌, ◌⊎◌, ℕ, suc, ◌+◌, Bool, true, false, cond, List, [], ◌∷◌, ◌++◌, length, take, Option, Some, None, Ok, Err, refl, sym, ap, ◌∙◌, subst, arith, nat_le, append_assoc, append-nil, ◌-◌}
 use Rattle.std.proofs.Math.Seq.{take-append_seam, take-append-add}
 use Rattle.std.proofs.lemmas.List.{length-append}
 use Rattle.std.proofs.lemmas.Option.{none-some, same_Some}
 use mathlib.Core.Logic.{inl, inr}
-use Rattle.gv_model.specs.TextFault.{Cause}
 use Rattle.gv_model.specs.TextFault.Cause.{unclosed, unexpected, too_deep}
 use Rattle.gv_model.specs.Tokens.{Token, Mark}
 use Rattle.gv_model.specs.Tokens.Mark.{open_tuple, open_list, open_brace, open_box, close_tuple, close_list, close_brace, close_box, comma, colon}
@@ -14,9 +13,10 @@ use Rattle.gv_model.specs.GrammarFaults.{Stage, Want, Next, Left, NumberedFault,
 use Rattle.gv_model.specs.GrammarFaults.Stage.{list_start, list_more, tuple_start, tuple_one, tuple_two, tuple_more, brace_start, brace_first, pair_more, pair_colon, lone_end, box_end}
 use Rattle.gv_model.specs.GrammarFaults.Want.{a_value, inside}
 use Rattle.gv_model.specs.GrammarFaults.Next.{closed, goes_on, value_then, wrong}
-use Rattle.gv_model.specs.TextLaws.{after_bracket, open_brackets, BeginsWithin, BeginsTree, IsUnfinished, EndsPrefix}
+use Rattle.gv_model.specs.TextLaws.{after_bracket, open_brackets, BeginsWithin, BeginsTree, IsShallow, IsUnfinished, EndsPrefix}
 use Rattle.gv_model.proofs.LevelLimits.{fault_to, fault_128}
-use Rattle.gv_model.proofs.FirstFaults.{AfterTokens, after_tokens, after_step, prefix_begins, no_tree_begins, no_tree_at_all, no_tree_whole, Shallow, ShallowAfter, after_shallow, SameAfter, after_higher}
+use Rattle.gv_model.proofs.FirstFaults.{AfterTokens, after_tokens, after_step, StepIs, one_more, one_wrong, one_value, prefix_begins, no_tree_begins, no_tree_at_all, no_tree_whole, Shallow, ShallowAfter, after_shallow, SameAfter, after_higher}
+use Rattle.gv_model.proofs.ShallowPrefixes.{without_fault, alike_deep, apart}
 use Rattle.gv_model.proofs.FirstFaults.AfterTokens.{stays, left}
 
 -- Where a step goes wrong
@@ -56,10 +56,6 @@ step_wrong l (inside s d at) n (type_token x) = stage_wrong l d at n (type_token
 step_wrong l (inside s d at) n (word x) = stage_wrong l d at n (word x) (after_value s)
 
 -- The fault is at a token, or at the end
-
-abbrev StepIs : ℕ → List (Want ℕ) → ℕ → Token → NumberedFault → Type 0
-StepIs l [] n t f = f ≡ (unexpected, n)
-StepIs l (w ∷ ws) n t f = step l w n t ≡ Err f
 
 pub record Stopped (l n : ℕ) (ws : List (Want ℕ)) (ts : List Token) (f : NumberedFault) : Type 0 where
   pub before : List Token
@@ -131,33 +127,6 @@ found l (t ∷ ts) n (w ∷ ws) f h = go (step l w n t) refl h (λ vs g. found l
         → Stopped l n (w ∷ ws) (t ∷ ts) f ⊎ Ended l n (w ∷ ws) (t ∷ ts) f
     go (Ok vs) e g h = later vs e (h vs g)
     go (Err d) e g h = inl (stopped_here l n (w ∷ ws) t ts f (e ∙ ap Err (same_Some d f g)))
-
--- After one prefix and another
-
-abbrev after_then : ℕ → AfterTokens → List Token → AfterTokens
-after_then l (stays e) us = stays e
-after_then l (left n ws) us = after_tokens l n ws us
-
-step_then : (l : ℕ) (r : Left ℕ) (b later : AfterTokens) (us : List Token) → later ≡ after_then l b us → after_step r later ≡ after_then l (after_step r b) us
-step_then l (Ok wants) b later us h = h
-step_then l (Err e) b later us h = refl
-
-after_both : (l : ℕ) (ts us : List Token) (n : ℕ) (ws : List (Want ℕ)) → after_tokens l n ws (ts ++ us) ≡ after_then l (after_tokens l n ws ts) us
-unfolding after_tokens
-after_both l [] us n ws = refl
-after_both l (t ∷ ts) us n [] = refl
-after_both l (t ∷ ts) us n (w ∷ ws) =
-    step_then l (step l w n t) (after_tokens l (suc n) (wants_of (step l w n t) ++ ws) ts) (after_tokens l (suc n) (wants_of (step l w n t) ++ ws) (ts ++ us)) us
-    (after_both l ts us (suc n) (wants_of (step l w n t) ++ ws))
-
-one_more : (l : ℕ) (ts : List Token) (t : Token) (n m : ℕ) (ws : List (Want ℕ)) (w : Want ℕ) (vs us : List (Want ℕ)) → after_tokens l n ws ts ≡ left m (w ∷ vs) → step l w m t ≡ Ok us → after_tokens l n ws (ts ++ t ∷ []) ≡ left (suc m) (us ++ vs)
-unfolding after_tokens
-one_more l ts t n m ws w vs us h e = after_both l ts (t ∷ []) n ws ∙ (ap (λ b. after_then l b (t ∷ [])) h ∙ rw e refl)
-
-one_wrong : (l : ℕ) (ts : List Token) (t : Token) (n m : ℕ) (ws vs : List (Want ℕ)) (f : NumberedFault) → after_tokens l n ws ts ≡ left m vs → StepIs l vs m t f → after_tokens l n ws (ts ++ t ∷ []) ≡ stays f
-unfolding after_tokens
-one_wrong l ts t n m ws [] f h e = after_both l ts (t ∷ []) n ws ∙ (ap (λ b. after_then l b (t ∷ [])) h ∙ ap stays (sym e))
-one_wrong l ts t n m ws (w ∷ vs) f h e = after_both l ts (t ∷ []) n ws ∙ (ap (λ b. after_then l b (t ∷ [])) h ∙ rw e refl)
 
 -- A level more makes room for what was too deep
 
@@ -309,9 +278,6 @@ stopped_number : (l n : ℕ) (ws : List (Want ℕ)) (t : Token) (f : NumberedFau
 stopped_number l n [] t f h = inl h
 stopped_number l n (w ∷ ws) t f h = subst (λ (r : Left ℕ). GoesWrong n r) h (step_wrong l w n t)
 
-apart : (c : Cause) → c ≡ too_deep → c ≡ unexpected → ⊥
-apart c e f = cc
-
 room_after : (before : List Token) (t : Token) (ws : List (Want ℕ)) (n : ℕ) → after_tokens 128 0 (a_value 1 ∷ []) before ≡ left n ws → StepIs 128 ws n t (too_deep, n) → BeginsTree (before ++ t ∷ [])
 room_after before t [] n e h = absurd (apart too_deep refl (ap (λ (p : NumberedFault). p.0) h))
 room_after before t (w ∷ ws) n e h =
@@ -341,21 +307,26 @@ at_token ts f s = go f wrong_here (stopped_number 128 (length s.before) s.wants 
     with_it : take (suc (length s.before)) ts ≡ s.before ++ s.token ∷ []
     with_it = ap (take (suc (length s.before))) s.parts ∙ with_token s.before s.token s.after
 
-    begun : BeginsWithin 129 (take (length s.before) ts)
-    begun = subst (λ (us : List Token). BeginsWithin 129 us) (sym prefix) (prefix_begins 128 s.before (length s.before) s.wants (omega arith) so_far)
+    shallow : IsShallow ts (length s.before)
+    shallow = without_fault ts s.before (s.token ∷ s.after) (length s.before) s.wants s.parts so_far
 
     go : (g : NumberedFault) → StepIs 128 s.wants (length s.before) s.token g → StepFault (length s.before) g → EndsPrefix ts g
     go g h (inl e) =
         let h' : StepIs 128 s.wants (length s.before) s.token (unexpected, length s.before) = subst (λ (d : NumberedFault). StepIs 128 s.wants (length s.before) s.token d) e h in
         let stop = one_wrong 128 s.before s.token 0 (length s.before) (a_value 1 ∷ []) s.wants (unexpected, length s.before) so_far h' in
         let none : BeginsTree (take (suc (length s.before)) ts) → ⊥ = (λ b. no_tree_at_all 128 (s.before ++ s.token ∷ []) (length s.before) stop b.0 b.1 (b.2 ∙ ap (λ us. us ++ b.1) with_it)) in
-        subst (λ (d : NumberedFault). EndsPrefix ts d) (sym e) (inl (short, begins_any 129 (take (length s.before) ts) begun, none))
+        subst (λ (d : NumberedFault). EndsPrefix ts d) (sym e) (inl (short, shallow, none))
     go g h (inr e) =
         let h' : StepIs 128 s.wants (length s.before) s.token (too_deep, length s.before) = subst (λ (d : NumberedFault). StepIs 128 s.wants (length s.before) s.token d) e h in
         let stop = one_wrong 128 s.before s.token 0 (length s.before) (a_value 1 ∷ []) s.wants (too_deep, length s.before) so_far h' in
-        let none : BeginsWithin 128 (take (suc (length s.before)) ts) → ⊥ = (λ b. no_tree_begins 128 (s.before ++ s.token ∷ []) (too_deep, length s.before) stop b.0 b.1 b.3 (b.2 ∙ ap (λ us. us ++ b.1) with_it)) in
+        let instead = one_wrong 128 s.before one_value 0 (length s.before) (a_value 1 ∷ []) s.wants (too_deep, length s.before) so_far (alike_deep 128 s.wants (length s.before) s.token h') in
+        let but_one : take (suc (length s.before) - 1) ts ≡ s.before = (let z : suc (length s.before) - 1 ≡ length s.before = omega arith in ap (λ k. take k ts) z ∙ prefix) in
+        let none : IsShallow ts (suc (length s.before)) → ⊥ = (λ g. elim g.1 [
+          | inl b ↦ no_tree_begins 128 (s.before ++ s.token ∷ []) (too_deep, length s.before) stop b.0 b.1 b.3 (b.2 ∙ ap (λ us. us ++ b.1) with_it)
+          | inr b ↦ no_tree_begins 128 (s.before ++ one_value ∷ []) (too_deep, length s.before) instead b.0 b.1 b.3 (b.2 ∙ ap (λ us. (us ++ one_value ∷ []) ++ b.1) but_one)
+        ]) in
         let deep : BeginsTree (take (suc (length s.before)) ts) = subst (λ (us : List Token). BeginsTree us) (sym with_it) (room_after s.before s.token s.wants (length s.before) so_far h') in
-        subst (λ (d : NumberedFault). EndsPrefix ts d) (sym e) (short, begun, deep, none)
+        subst (λ (d : NumberedFault). EndsPrefix ts d) (sym e) (short, shallow, deep, none)
 
 at_the_end : (ts : List Token) (f : NumberedFault) → Ended 128 0 (a_value 1 ∷ []) ts f → EndsPrefix ts f
 at_the_end ts f s = subst (λ (g : NumberedFault). EndsPrefix ts g) (sym at_last) (go (opened (s.want ∷ s.wants)) opens (at_end (length ts) (s.want ∷ s.wants)) (end_open (length ts) (s.want ∷ s.wants)))
@@ -374,7 +345,7 @@ at_the_end ts f s = subst (λ (g : NumberedFault). EndsPrefix ts g) (sym at_last
 
     unfinished : IsUnfinished ts
     unfinished = (
-      begins_any 129 ts (prefix_begins 128 ts (length ts) (s.want ∷ s.wants) (omega arith) so_far),
+      without_fault ts ts [] (length ts) (s.want ∷ s.wants) (sym (append-nil ts)) so_far,
       no_tree_whole 128 ts (length ts) s.want s.wants so_far,
     )
 

@@ -46,6 +46,38 @@ decided l (t ∷ ts) us n (w ∷ ws) =
     one_step l (step l w n t) (after_tokens l (suc n) (wants_of (step l w n t) ++ ws) ts) (fault_to l (suc n) (wants_of (step l w n t) ++ ws) (ts ++ us)) us
     (decided l ts us (suc n) (wants_of (step l w n t) ++ ws))
 
+-- a token's fault, after these wants
+abbrev pub StepIs : ℕ → List (Want ℕ) → ℕ → Token → NumberedFault → Type 0
+StepIs l [] n t f = f ≡ (unexpected, n)
+StepIs l (w ∷ ws) n t f = step l w n t ≡ Err f
+
+-- After one prefix and another
+
+abbrev pub after_then : ℕ → AfterTokens → List Token → AfterTokens
+after_then l (stays e) us = stays e
+after_then l (left n ws) us = after_tokens l n ws us
+
+step_then : (l : ℕ) (r : Left ℕ) (b later : AfterTokens) (us : List Token) → later ≡ after_then l b us → after_step r later ≡ after_then l (after_step r b) us
+step_then l (Ok wants) b later us h = h
+step_then l (Err e) b later us h = refl
+
+pub after_both : (l : ℕ) (ts us : List Token) (n : ℕ) (ws : List (Want ℕ)) → after_tokens l n ws (ts ++ us) ≡ after_then l (after_tokens l n ws ts) us
+unfolding after_tokens
+after_both l [] us n ws = refl
+after_both l (t ∷ ts) us n [] = refl
+after_both l (t ∷ ts) us n (w ∷ ws) =
+    step_then l (step l w n t) (after_tokens l (suc n) (wants_of (step l w n t) ++ ws) ts) (after_tokens l (suc n) (wants_of (step l w n t) ++ ws) (ts ++ us)) us
+    (after_both l ts us (suc n) (wants_of (step l w n t) ++ ws))
+
+pub one_more : (l : ℕ) (ts : List Token) (t : Token) (n m : ℕ) (ws : List (Want ℕ)) (w : Want ℕ) (vs us : List (Want ℕ)) → after_tokens l n ws ts ≡ left m (w ∷ vs) → step l w m t ≡ Ok us → after_tokens l n ws (ts ++ t ∷ []) ≡ left (suc m) (us ++ vs)
+unfolding after_tokens
+one_more l ts t n m ws w vs us h e = after_both l ts (t ∷ []) n ws ∙ (ap (λ b. after_then l b (t ∷ [])) h ∙ rw e refl)
+
+pub one_wrong : (l : ℕ) (ts : List Token) (t : Token) (n m : ℕ) (ws vs : List (Want ℕ)) (f : NumberedFault) → after_tokens l n ws ts ≡ left m vs → StepIs l vs m t f → after_tokens l n ws (ts ++ t ∷ []) ≡ stays f
+unfolding after_tokens
+one_wrong l ts t n m ws [] f h e = after_both l ts (t ∷ []) n ws ∙ (ap (λ b. after_then l b (t ∷ [])) h ∙ ap stays (sym e))
+one_wrong l ts t n m ws (w ∷ vs) f h e = after_both l ts (t ∷ []) n ws ∙ (ap (λ b. after_then l b (t ∷ [])) h ∙ rw e refl)
+
 -- Under a higher limit all stays, but for what was too deep
 
 abbrev SameStep : Left ℕ → Left ℕ → Type 0
@@ -115,7 +147,7 @@ abbrev ShallowStep : ℕ → List (Want ℕ) → Left ℕ → Type 0
 ShallowStep m ws (Ok wants) = Shallow m (wants ++ ws)
 ShallowStep m ws (Err e) = Unit {0}
 
-le_of : (d l : ℕ) → nat_le d l ≡ true → d ≤ l
+pub le_of : (d l : ℕ) → nat_le d l ≡ true → d ≤ l
 le_of d l e = grind arith
 
 -- what follows a value's first token is a level deeper at most
@@ -191,7 +223,7 @@ after_shallow l (t ∷ ts) n (w ∷ ws) h = go (step l w n t) (step_shallow l w 
 
 -- What ends wants
 
-abbrev one_value : Token
+abbrev pub one_value : Token
 one_value = word nothing
 
 abbrev ending : Stage → List Token
@@ -216,7 +248,32 @@ endings (inside s d at ∷ ws) = ending s ++ endings ws
 within : (d m : ℕ) → d ≤ m → nat_le d m ≡ true
 within d m h = grind arith
 
-ended : (m : ℕ) (ws : List (Want ℕ)) (n : ℕ) → Shallow m ws → fault_to m n ws (endings ws) ≡ None
+-- a value that is wanted is within the limit, and so is each that a bracket may still want before it is closed
+abbrev pub Settled : ℕ → Want ℕ → Type 0
+Settled m (a_value d) = d ≤ m
+Settled m (inside list_start d at) = Unit {0}
+Settled m (inside tuple_start d at) = Unit {0}
+Settled m (inside brace_start d at) = Unit {0}
+Settled m (inside box_end d at) = Unit {0}
+Settled m (inside s d at) = d ≤ m
+
+abbrev pub AllSettled : ℕ → List (Want ℕ) → Type 0
+AllSettled m [] = Unit {0}
+AllSettled m (w ∷ ws) = Settled m w × AllSettled m ws
+
+pub inside_settled : (m : ℕ) (s : Stage) (d at : ℕ) → d ≤ m → Settled m (inside s d at)
+inside_settled m list_start d at h = tt
+inside_settled m tuple_start d at h = tt
+inside_settled m brace_start d at h = tt
+inside_settled m box_end d at h = tt
+inside_settled m _ d at h = h
+
+shallow_settled : (m : ℕ) (ws : List (Want ℕ)) → Shallow m ws → AllSettled m ws
+shallow_settled m [] h = tt
+shallow_settled m (a_value d ∷ ws) h = (h.0, shallow_settled m ws h.1)
+shallow_settled m (inside s d at ∷ ws) h = (inside_settled m s d at h.0, shallow_settled m ws h.1)
+
+ended : (m : ℕ) (ws : List (Want ℕ)) (n : ℕ) → AllSettled m ws → fault_to m n ws (endings ws) ≡ None
 unfolding fault_to
 ended m [] n h = refl
 ended m (a_value d ∷ ws) n h = rw (within d m h.0) (ended m ws (suc n) h.1)
@@ -233,14 +290,20 @@ ended m (inside pair_colon d at ∷ ws) n h = rw (within d m h.0) (ended m ws (s
 ended m (inside lone_end d at ∷ ws) n h = ended m ws (suc n) h.1
 ended m (inside box_end d at ∷ ws) n h = ended m ws (suc n) h.1
 
+-- a prefix that leaves settled wants begins the tokens of a tree within the limit
+pub settled_begins : (l : ℕ) (ts : List Token) (n : ℕ) (ws : List (Want ℕ)) → after_tokens l 0 (a_value 1 ∷ []) ts ≡ left n ws → AllSettled l ws
+    → (x : Syntax) × (us : List Token) × (tokens_of x ≡ ts ++ us) × (levels x ≤ l)
+settled_begins l ts n ws e h =
+    let fine = decided l ts (endings ws) 0 (a_value 1 ∷ []) ∙ (ap (λ b. Decides l b (endings ws)) e ∙ ended l ws n h) in
+    let x = whole_to l (ts ++ endings ws) fine in
+    (x.0, endings ws, x.1, x.2)
+
 -- a prefix that leaves wants begins the tokens of a tree, at most a level deeper than the limit
 pub prefix_begins : (l : ℕ) (ts : List Token) (n : ℕ) (ws : List (Want ℕ)) → 1 ≤ l → after_tokens l 0 (a_value 1 ∷ []) ts ≡ left n ws → (x : Syntax) × (us : List Token) × (tokens_of x ≡ ts ++ us) × (levels x ≤ suc l)
 prefix_begins l ts n ws pos e =
     let shallow : Shallow (suc l) ws = subst (λ b. ShallowAfter (suc l) b) e (after_shallow l ts 0 (a_value 1 ∷ []) (omega (arith, pos), tt)) in
     let same : after_tokens (suc l) 0 (a_value 1 ∷ []) ts ≡ left n ws = subst (λ b. SameAfter b (after_tokens (suc l) 0 (a_value 1 ∷ []) ts)) e (after_higher l (suc l) ts 0 (a_value 1 ∷ []) (omega arith)) in
-    let fine = decided (suc l) ts (endings ws) 0 (a_value 1 ∷ []) ∙ (ap (λ b. Decides (suc l) b (endings ws)) same ∙ ended (suc l) ws n shallow) in
-    let x = whole_to (suc l) (ts ++ endings ws) fine in
-    (x.0, endings ws, x.1, x.2)
+    settled_begins (suc l) ts n ws same (shallow_settled (suc l) ws shallow)
 
 -- a prefix with a fault begins no tree's tokens within the limit
 pub no_tree_begins : (l : ℕ) (ts : List Token) (e : NumberedFault) → after_tokens l 0 (a_value 1 ∷ []) ts ≡ stays e → (x : Syntax) (us : List Token) → levels x ≤ l → tokens_of x ≡ ts ++ us → ⊥

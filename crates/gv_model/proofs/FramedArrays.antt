@@ -58,6 +58,20 @@ chosen t w e n count b h g k =
     let number : (length b - e) / w ≡ count = ap (λ m. m / w) rest ∙ mul-div_cancel count h in
     rw (low, whole, number) refl
 
+-- the last offset is where the body ends
+pub last_number : (body : List ℕ) (e : ℕ) (es : List ℕ) → length body ≡ last_of e es → number_in (drop (length (framed body (e ∷ es)) - offset_width (length (framed body (e ∷ es)))) (framed body (e ∷ es))) ≡ length body
+unfolding framed
+last_number body e es h =
+    let w = least_width (length body) (suc (length es)) in
+    let tail = offsets w (e ∷ es) in
+    let b = body ++ tail in
+    let pos : 0 < w = least_width_pos (length body) (suc (length es)) in
+    let size : length b ≡ length body + suc (length es) * w = length-append body tail ∙ ap (λ n. length body + n) (length-offsets w (e ∷ es)) in
+    let width : offset_width (length b) ≡ w = ap offset_width (size ∙ ap (λ n. length body + n) (mul_comm (suc (length es)) w)) ∙ offset_width-least (length body) (suc (length es)) (omega arith) in
+    let last : number_in (drop (length b - w) b) ≡ length body =
+    ap number_in (drop_two body tail (length body) (length es * w) (length b - w) refl (omega arith)) ∙ (last_offset w e es pos ∙ sym h) in
+    rw width last
+
 -- an array with offsets is cut at its ends
 pub framed_read : (t : Ty) (body : List ℕ) (e : ℕ) (es : List ℕ) → length body ≡ last_of e es → element_spans t (framed body (e ∷ es)) None ≡ offset_spans t 0 (e ∷ es)
 unfolding framed

@@ -19,9 +19,13 @@ pub mod LayoutLaws
 pub mod PlacedParts
 pub mod FramedArrays
 pub mod MemberLaws
+pub mod ContainerParts
+pub mod InOrder
 pub mod RoundTrip
 pub mod NormalLaws
 pub mod WrittenLaws
+pub mod EarlierLaws
+pub mod ValueBound
 pub mod TokenLaws
 pub mod TokenSizes
 pub mod StringParts
@@ -32,7 +36,9 @@ pub mod GrammarLaws
 pub mod TextPrefixes
 pub mod FaultlessTokens
 pub mod FirstFaults
+pub mod ShallowPrefixes
 pub mod FaultPrefixes
+pub mod OnePrefix
 pub mod FaultPlaces
 pub mod TextOutcomes
 pub mod PatternMeets
@@ -43,3 +49,4 @@ pub mod AdmitsDecided
 pub mod TextValueLaws
 pub mod WorkedTokens
 pub mod WorkedTexts
+pub mod WorkedPrefixes

@@ -9,7 +9,7 @@ use Rattle.gv_model.specs.Ty.Types.{end, member}
 use Rattle.gv_model.specs.Layout.{offset_width, fixed_size, fixed_end, alignment, round_up}
 use Rattle.gv_model.specs.BasicValue.{number_in}
 use Rattle.gv_model.specs.Children.{framing_offset}
-use Rattle.gv_model.specs.Tuples.{member_spans, member_end, next_offset, span, tuple_spans}
+use Rattle.gv_model.specs.Tuples.{member_spans, member_end, next_offset, span, tuple_spans, offset_count, members_end}
 use Rattle.gv_model.specs.Parts.{Part}
 use Rattle.gv_model.specs.Encode.{number_bytes, least_width, framed, body_from, open_ends_from, start_after, end_after, zeros}
 use Rattle.gv_model.proofs.NumberBytes.{length-number_bytes, number_in-number_bytes, offset_width-least}
@@ -127,7 +127,7 @@ same_width body ends = go (reverse ends)
         let width : offset_width (length (body ++ offsets least (e ∷ es))) ≡ least = ap offset_width size ∙ offset_width-least (length body) n (omega arith) in
         ap (λ (v : ℕ). body ++ offsets v (e ∷ es)) (sym width)
 
-offset_width_pos : (n : ℕ) → 0 < n → 0 < offset_width n
+pub offset_width_pos : (n : ℕ) → 0 < n → 0 < offset_width n
 unfolding offset_width
 offset_width_pos n h = grind arith
 
@@ -168,3 +168,27 @@ fixed_tuple t xs n h e g =
     let b = body_from 0 xs ++ zeros (n - length (body_from 0 xs)) in
     let same : (length b == n) ≡ true = eq-eqb (length b) n (padded_size xs n h g) in
     rw (e, same) (members-placed (offset_width (length b)) b xs 0 0 (fixed_read (offset_width (length b)) b xs 0 0 g.0 h g.1).1)
+
+offset_count-parts : (p : ℕ) (xs : List Part) → offset_count (part_types xs) ≡ length (open_ends_from p xs)
+unfolding offset_count open_ends_from
+offset_count-parts p [] = refl
+offset_count-parts p (x ∷ []) = refl
+offset_count-parts p (x ∷ y ∷ xs) = go (fixed_size x.0) (offset_count-parts (end_after p x) (y ∷ xs))
+  where
+    go : (f : Option ℕ) → offset_count (part_types (y ∷ xs)) ≡ length (open_ends_from (end_after p x) (y ∷ xs))
+        → next_offset (offset_count (part_types (y ∷ xs))) f ≡ length (cond (is_some f) (open_ends_from (end_after p x) (y ∷ xs)) (end_after p x ∷ open_ends_from (end_after p x) (y ∷ xs)))
+    go (Some n) h = h
+    go None h = ap suc h
+
+-- the body of a tuple with offsets ends where its members do
+pub open_body : (xs : List Part) → members_end None (part_types xs) (framed (body_from 0 xs) (reverse (open_ends_from 0 xs))) ≡ Some (length (body_from 0 xs))
+open_body xs =
+    let body = body_from 0 xs in
+    let ends = open_ends_from 0 xs in
+    let b = framed body (reverse ends) in
+    let w = offset_width (length b) in
+    let total : length b ≡ length body + length ends * w = size_of_whole w b body ends (same_width body ends) (λ some. offset_width_pos (length b) (framed_wide body ends some)) in
+    let same : w * offset_count (part_types xs) ≡ length ends * w = ap (λ n. w * n) (offset_count-parts 0 xs) ∙ mul_comm w (length ends) in
+    let room : nat_le (w * offset_count (part_types xs)) (length b) ≡ true = le-leb (w * offset_count (part_types xs)) (length b) (omega arith) in
+    let place : length b - w * offset_count (part_types xs) ≡ length body = omega arith in
+    rw (room, place) refl

@@ -4,7 +4,7 @@ use Rattle.gv_model.specs.Ty.{Ty}
 use Rattle.gv_model.specs.Ty.Ty.{basic, variant, array, maybe, tuple, entry}
 use Rattle.gv_model.specs.Tree.{type_of}
 use Rattle.gv_model.specs.Tree.Tree.{node}
-use Rattle.gv_model.specs.Typed.{IsValue}
+use Rattle.gv_model.specs.Typed.{IsValue, AreValues, MayHold}
 use Rattle.gv_model.specs.Children.{Child, child_bytes}
 use Rattle.gv_model.specs.Decode.{decode, each, cut}
 use Rattle.gv_model.specs.Parts.{Part, part_of, parts}
@@ -45,11 +45,22 @@ unfolding parts
 written_from_children t b k h e =
     e ∙ (ap (packed t) (same_parts b (cut t b) h) ∙ sym (ap encode (decode_node t b k) ∙ node_encode t (each (child_value b) (cut t b))))
 
+-- what is written for a container is written of its children
+pub record IsWritten (t : Ty) (b : List ℕ) : Type 0 where
+  pub held : MayHold t (each (child_value b) (cut t b))
+  pub values : AreValues (each (child_value b) (cut t b))
+  pub whole : b ≡ packed t (encoded_parts (each (child_value b) (cut t b)))
+
+pub container_parts : (t : Ty) (b : List ℕ) → IsBytes b → IsContainer t → IsEncoded t b → IsWritten t b
+container_parts t b bytes k w =
+    let vs = each (child_value b) (cut t b) in
+    let value : IsValue (node t vs) = subst IsValue (decode_node t b k) (decode_is_value t b bytes) in
+    record { held = value.0; values = value.1; whole = w ∙ (ap encode (decode_node t b k) ∙ node_encode t vs) }
+
 pub children_written : (t : Ty) (b : List ℕ) → IsBytes b → IsContainer t → IsEncoded t b → Each (ChildWritten b) (cut t b) × (b ≡ packed t (parts t b))
 unfolding parts
 children_written t b bytes k w =
     let vs = each (child_value b) (cut t b) in
-    let value : IsValue (node t vs) = subst IsValue (decode_node t b k) (decode_is_value t b bytes) in
-    let whole : b ≡ packed t (encoded_parts vs) = w ∙ (ap encode (decode_node t b k) ∙ node_encode t vs) in
-    let same : parts t b ≡ encoded_parts vs = ap (parts t) whole ∙ node_read t vs value.0 value.1 in
-    (each_written b (cut t b) same, whole ∙ ap (packed t) (sym same))
+    let of = container_parts t b bytes k w in
+    let same : parts t b ≡ encoded_parts vs = ap (parts t) of.whole ∙ node_read t vs of.held of.values in
+    (each_written b (cut t b) same, of.whole ∙ ap (packed t) (sym same))

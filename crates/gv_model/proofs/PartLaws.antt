@@ -5,8 +5,8 @@ use Rattle.std.specs.List.{AllByRecursion}
 use Rattle.std.proofs.lemmas.Option.{same_Some, none-some, slice_get-map}
 use Rattle.gv_model.specs.Ty.{Ty}
 use Rattle.gv_model.specs.Tree.{Tree}
-use Rattle.gv_model.specs.Children.{Child, Span, child_at, children_at}
-use Rattle.gv_model.specs.Decode.{decode, cut, spans}
+use Rattle.gv_model.specs.Children.{Child, Span, child_at, children_at, ordered}
+use Rattle.gv_model.specs.Decode.{decode, cut, spans, body}
 use Rattle.gv_model.specs.Parts.{Part, part_of, part_at, parts, subtree_at}
 use Rattle.gv_model.specs.Laws.{LiesWithin}
 use Rattle.gv_model.proofs.ChildLaws.{child_of_value}
@@ -34,7 +34,7 @@ at_of_all P (y ∷ ys) (suc i) x h e = at_of_all P ys i x h.1 e
 -- each child lies within its container's bytes
 pub children_within : (t : Ty) (b : List ℕ) → AllByRecursion (LiesWithin (length b)) (cut t b)
 unfolding cut
-children_within t b = spans_within (length b) (spans t b)
+children_within t b = spans_within (length b) (ordered (body t b) (spans t b))
 
 pub child_within : (t : Ty) (b : List ℕ) (i : ℕ) (c : Child) → slice_get (cut t b) i ≡ Some c → LiesWithin (length b) c
 child_within t b i c e = at_of_all (LiesWithin (length b)) (cut t b) i c (children_within t b) e

@@ -1,10 +1,10 @@
 -- Parts that were written one after the other are read where they lie.
-use Rattle.std.proofs.Common.{ℕ, ◌+◌, ◌-◌, ◌≤◌, ◌≡◌, map, List, [], ◌∷◌, ◌++◌, length, slice_range, Some, refl, sym, ap, ap₂, ◌∙◌, arith, append_assoc, length-append}
+use Rattle.std.proofs.Common.{ℕ, zero, suc, ◌+◌, ◌-◌, ◌*◌, ◌≤◌, ◌≡◌, Option, true, nat_le, le-leb, map, List, [], ◌∷◌, ◌++◌, length, slice_range, Some, refl, sym, ap, ap₂, ◌∙◌, arith, append_assoc, length-append}
 use Rattle.std.proofs.lemmas.List.{length-replicate}
 use Rattle.gv_model.specs.Ty.{Ty}
 use Rattle.gv_model.specs.Layout.{alignment, round_up}
-use Rattle.gv_model.specs.Children.{Span, children_at, child_at}
-use Rattle.gv_model.specs.Arrays.{offset_spans}
+use Rattle.gv_model.specs.Children.{Span, children_at, child_at, ordered}
+use Rattle.gv_model.specs.Arrays.{offset_spans, fixed_spans}
 use Rattle.gv_model.specs.Parts.{Part, part_of}
 use Rattle.gv_model.specs.Encode.{zeros, start_after, end_after, body_from, ends_from}
 use Rattle.gv_model.proofs.NumberBytes.{le-round_up, slice_mid}
@@ -68,3 +68,27 @@ unfolding offset_spans ends_from
 framed-placed t p [] h = refl
 framed-placed t p (x ∷ xs) h =
     ap₂ ◌∷◌ (ap (λ (u : Ty). (u, Some (round_up (alignment u) p, end_after p x))) (sym h.0)) (framed-placed t (end_after p x) xs h.1)
+
+-- ---- parts that lie in order stay where they are
+
+pub ordered-nil : (e : Option ℕ) → ordered e [] ≡ []
+unfolding ordered
+ordered-nil e = refl
+
+pub in_order : (n : ℕ) (t : Ty) (s e : ℕ) (xs : List (Ty × Span)) → s ≤ e → e ≤ n → ordered (Some n) xs ≡ xs → ordered (Some n) ((t, Some (s, e)) ∷ xs) ≡ (t, Some (s, e)) ∷ xs
+unfolding ordered
+in_order n t s e xs h g k = let low : nat_le s e ≡ true = le-leb s e h in let high : nat_le e n ≡ true = le-leb e n g in rw (low, high) (ap (◌∷◌ (t, Some (s, e))) k)
+
+pub ordered-one : (n : ℕ) (t : Ty) (s e : ℕ) → s ≤ e → e ≤ n → ordered (Some n) ((t, Some (s, e)) ∷ []) ≡ (t, Some (s, e)) ∷ []
+ordered-one n t s e h g = in_order n t s e [] h g (ordered-nil (Some n))
+
+pub ordered-placed : (n p : ℕ) (xs : List Part) → end_from p xs ≤ n → ordered (Some n) (placed p xs) ≡ placed p xs
+ordered-placed n p [] h = ordered-nil (Some n)
+ordered-placed n p (x ∷ xs) h =
+    let after = length-body_from (end_after p x) xs in
+    in_order n x.0 (start_after p x) (end_after p x) (placed (end_after p x) xs) (omega arith) (omega arith) (ordered-placed n (end_after p x) xs h)
+
+pub ordered-fixed : (n : ℕ) (t : Ty) (size p count : ℕ) → p + count * size ≤ n → ordered (Some n) (fixed_spans t size p count) ≡ fixed_spans t size p count
+unfolding fixed_spans
+ordered-fixed n t size p zero h = ordered-nil (Some n)
+ordered-fixed n t size p (suc count) h = in_order n t p (p + size) (fixed_spans t size (p + size) count) (omega arith) (omega arith) (ordered-fixed n t size (p + size) count (omega arith))

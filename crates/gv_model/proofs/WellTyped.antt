@@ -10,31 +10,34 @@ use Rattle.gv_model.specs.Ty.Ty.{basic, variant, array, maybe, tuple, entry}
 use Rattle.gv_model.specs.Ty.Types.{end, member}
 use Rattle.gv_model.specs.Ty.Basic.{boolean, byte, int16, uint16, int32, uint32, int64, uint64, handle, double, string, path, signature}
 use Rattle.gv_model.specs.TypeText.{type_of_text, is_within_limits, seen}
-use Rattle.gv_model.specs.Layout.{fixed_size, basic_size, offset_width}
-use Rattle.gv_model.specs.Tree.{Tree, type_of, default, defaults, basic_default}
+use Rattle.gv_model.specs.Layout.{fixed_size, basic_size}
+use Rattle.gv_model.specs.Tree.{Tree, Trees, type_of, default, defaults, basic_default}
+use Rattle.gv_model.specs.Tree.Trees.{none, first}
 use Rattle.gv_model.specs.Tree.Tree.{number, text}
 use Rattle.gv_model.specs.Typed.{IsValue, AreValues, MayHold, AllOf, types_of, IsNumber, HasType}
 use Rattle.gv_model.specs.Texts.{is_text}
 use Rattle.gv_model.specs.BasicValue.{basic_value, basic_of_size, text_or_default, text_in, number_in, bits_of, truth}
-use Rattle.gv_model.specs.Children.{Child, Span, child_bytes, children_at}
+use Rattle.gv_model.specs.Children.{Child, Span, child_bytes, children_at, ordered}
 use Rattle.gv_model.specs.Arrays.{element_spans}
 use Rattle.gv_model.specs.Maybes.{just_span}
-use Rattle.gv_model.specs.Tuples.{tuple_spans, is_other_size, empty_spans, member_spans}
+use Rattle.gv_model.specs.Tuples.{tuple_spans}
 use Rattle.gv_model.specs.Variants.{variant_span, typed_span, at_last_zero}
-use Rattle.gv_model.specs.Decode.{decode, decode_within, tree_with, each, cut, spans}
+use Rattle.gv_model.specs.Decode.{decode, decode_within, tree_with, each, cut, spans, body}
+use Rattle.gv_model.specs.EarlierReading.{earlier_cut}
 use Rattle.gv_model.specs.Normal.{IsContainer}
 use Rattle.gv_model.proofs.TypeTextSound.{spelling_of_read}
 use Rattle.gv_model.proofs.DecodeLaws.{decode_children, Each, OfTypes, of_elements}
+use Rattle.gv_model.proofs.EmptyLaws.{span_types, types-tuple, types-ordered}
 
 abbrev pub IsBytes : List ℕ → Type 0
 IsBytes b = AllByRecursion (λ x. x < 256) b
 
-bytes_take : (n : ℕ) (b : List ℕ) → IsBytes b → IsBytes (take n b)
+pub bytes_take : (n : ℕ) (b : List ℕ) → IsBytes b → IsBytes (take n b)
 bytes_take zero b h = tt
 bytes_take (suc n) [] h = tt
 bytes_take (suc n) (x ∷ b) h = (h.0, bytes_take n b h.1)
 
-bytes_drop : (n : ℕ) (b : List ℕ) → IsBytes b → IsBytes (drop n b)
+pub bytes_drop : (n : ℕ) (b : List ℕ) → IsBytes b → IsBytes (drop n b)
 bytes_drop zero b h = h
 bytes_drop (suc n) [] h = tt
 bytes_drop (suc n) (x ∷ b) h = bytes_drop n b h.1
@@ -66,7 +69,7 @@ type_of_basic k b None = go (text_in b)
     go None = type_of_default k
     go (Some s) = chosen s (is_text k s)
 
-type_of_tree : (f : Child → Tree) (t : Ty) (b : List ℕ) → type_of (tree_with f t b) ≡ t
+pub type_of_tree : (f : Child → Tree) (t : Ty) (b : List ℕ) → type_of (tree_with f t b) ≡ t
 unfolding basic_value
 type_of_tree f (basic k) b = type_of_basic k b (basic_size k)
 type_of_tree f variant b = refl
@@ -78,7 +81,7 @@ type_of_tree f (entry k t) b = refl
 pub type_of-decode : (t : Ty) (b : List ℕ) → type_of (decode t b) ≡ t
 type_of-decode t b = ap type_of (decode_children t b) ∙ type_of_tree (λ c. decode c.type (child_bytes b c)) t b
 
-type_of_default_tree : (t : Ty) → type_of (default t) ≡ t
+pub type_of_default_tree : (t : Ty) → type_of (default t) ≡ t
 unfolding default
 type_of_default_tree (basic k) = type_of_default k
 type_of_default_tree variant = refl
@@ -151,7 +154,7 @@ text_value k b e = go (text_in b) refl
     go None p = default_value k
     go (Some s) p = chosen s (is_text k s) p refl
 
-basic_is_value : (k : Basic) (b : List ℕ) → IsBytes b → IsValue (basic_value k b)
+pub basic_is_value : (k : Basic) (b : List ℕ) → IsBytes b → IsValue (basic_value k b)
 unfolding basic_value
 basic_is_value boolean b h = sized_value boolean 1 b (λ e. truth_below (number_in b))
 basic_is_value byte b h = sized_value byte 1 b (λ e. below_size b 1 h e)
@@ -170,45 +173,24 @@ basic_is_value signature b h = text_value signature b refl
 -- ---- children
 
 -- each child is read as a value of its type
-abbrev Fine : (Child → Tree) → Child → Type 0
+abbrev pub Fine : (Child → Tree) → Child → Type 0
 Fine f c = (type_of (f c) ≡ c.type) × IsValue (f c)
 
-values_of_each : (f : Child → Tree) (cs : List Child) → Each (Fine f) cs → AreValues (each f cs)
+pub values_of_each : (f : Child → Tree) (cs : List Child) → Each (Fine f) cs → AreValues (each f cs)
 values_of_each f [] h = tt
 values_of_each f (c ∷ cs) h = (h.0.1, values_of_each f cs h.1)
 
 -- each child is read at its type
-abbrev AtTypes : (Child → Tree) → Type 0
+abbrev pub AtTypes : (Child → Tree) → Type 0
 AtTypes f = (c : Child) → type_of (f c) ≡ c.type
 
 all_of_each : (f : Child → Tree) (t : Ty) (n : ℕ) (xs : List (Ty × Span)) → OfTypes (λ u. u ≡ t) xs → AtTypes f → AllOf t (each f (children_at n xs))
 all_of_each f t n [] h g = tt
 all_of_each f t n (x ∷ xs) h g = (g _ ∙ h.0, all_of_each f t n xs h.1 g)
 
-abbrev span_types : List (Ty × Span) → Types
-span_types [] = end
-span_types (x ∷ xs) = member x.0 (span_types xs)
-
 types_of_each : (f : Child → Tree) (n : ℕ) (xs : List (Ty × Span)) → AtTypes f → types_of (each f (children_at n xs)) ≡ span_types xs
 types_of_each f n [] g = refl
 types_of_each f n (x ∷ xs) g = ap₂ member (g _) (types_of_each f n xs g)
-
-types-members : (w : ℕ) (b : List ℕ) (ts : Types) (k : ℕ) (p : Option ℕ) → span_types (member_spans w b k p ts) ≡ ts
-unfolding member_spans
-types-members w b end k p = refl
-types-members w b (member t ts) k p = ap (member t) (types-members w b ts _ _)
-
-types-empty : (ts : Types) → span_types (empty_spans ts) ≡ ts
-unfolding empty_spans
-types-empty end = refl
-types-empty (member t ts) = ap (member t) (types-empty ts)
-
-types-tuple : (t : Ty) (ts : Types) (b : List ℕ) → span_types (tuple_spans t ts b) ≡ ts
-types-tuple t ts b = go (is_other_size (fixed_size t) (length b))
-  where
-    go : (c : Bool) → span_types (cond c (empty_spans ts) (member_spans (offset_width (length b)) b 0 (Some 0) ts)) ≡ ts
-    go true = types-empty ts
-    go false = types-members (offset_width (length b)) b ts 0 (Some 0)
 
 just_held : (f : Child → Tree) (t : Ty) (n : ℕ) (o : Option ℕ) → AtTypes f → MayHold (maybe t) (each f (children_at n (just_span t n o)))
 just_held f t n (Some size) g = go (n == size)
@@ -236,14 +218,64 @@ variant_limits (Some p) = go (type_of_text p.1) refl
     go (Some t) e = let read = spelling_of_read p.1 t e in ap (is_within_limits t) read.0 ∙ read.1
 
 -- children that are read at their types are such as the container may have, whatever the bytes
+pub held_apart : (f : Child → Tree) (t : Ty) (b : List ℕ) → IsContainer t → AtTypes f → MayHold t (each f (earlier_cut t b))
+unfolding earlier_cut spans
+held_apart f (basic k) b h g = absurd h
+held_apart f variant b h g = subst (λ (u : Ty). is_within_limits u (spelling u) ≡ true) (sym (g _)) (variant_limits (at_last_zero b))
+held_apart f (array t) b h g = all_of_each f t (length b) (element_spans t b (fixed_size t)) (of_elements (λ u. u ≡ t) t b (fixed_size t) refl) g
+held_apart f (maybe t) b h g = just_held f t (length b) (fixed_size t) g
+held_apart f (tuple ts) b h g = types_of_each f (length b) (tuple_spans (tuple ts) ts b) g ∙ types-tuple (tuple ts) ts b
+held_apart f (entry k t) b h g = types_of_each f (length b) (tuple_spans (entry k t) (member (basic k) (member t end)) b) g ∙ types-tuple (entry k t) (member (basic k) (member t end)) b
+
+same_member : (t u : Ty) (ts us : Types) → member t ts ≡ member u us → t ≡ u
+same_member t u ts us e = cc
+
+same_members : (t u : Ty) (ts us : Types) → member t ts ≡ member u us → ts ≡ us
+same_members t u ts us e = cc
+
+all_by_types : (t : Ty) (us vs : Trees) → types_of us ≡ types_of vs → AllOf t us → AllOf t vs
+all_by_types t none none e h = tt
+all_by_types t none (first v vs) e h = absurd cc
+all_by_types t (first u us) none e h = absurd cc
+all_by_types t (first u us) (first v vs) e h =
+    (sym (same_member (type_of u) (type_of v) (types_of us) (types_of vs) e) ∙ h.0, all_by_types t us vs (same_members (type_of u) (type_of v) (types_of us) (types_of vs) e) h.1)
+
+-- the type that a container of one type has, if it has one child
+abbrev HeldOne : (Ty → Type 0) → Types → Type 0
+HeldOne P end = ⊥
+HeldOne P (member t end) = P t
+HeldOne P (member t (member u ts)) = ⊥
+
+abbrev HeldUpToOne : (Ty → Type 0) → Types → Type 0
+HeldUpToOne P end = Unit {0}
+HeldUpToOne P (member t end) = P t
+HeldUpToOne P (member t (member u ts)) = ⊥
+
+in_variant : (vs : Trees) → MayHold variant vs ≡ HeldOne (λ t. is_within_limits t (spelling t) ≡ true) (types_of vs)
+in_variant none = refl
+in_variant (first v none) = refl
+in_variant (first v (first u vs)) = refl
+
+in_maybe : (t : Ty) (vs : Trees) → MayHold (maybe t) vs ≡ HeldUpToOne (λ u. u ≡ t) (types_of vs)
+in_maybe t none = refl
+in_maybe t (first v none) = refl
+in_maybe t (first v (first u vs)) = refl
+
+-- what a container may have depends on the types alone
+held_by_types : (t : Ty) (us vs : Trees) → types_of us ≡ types_of vs → MayHold t us → MayHold t vs
+held_by_types (basic k) us vs e h = absurd h
+held_by_types variant us vs e h = subst (λ (X : Type 0). X) (in_variant us ∙ (ap (HeldOne (λ t. is_within_limits t (spelling t) ≡ true)) e ∙ sym (in_variant vs))) h
+held_by_types (array t) us vs e h = all_by_types t us vs e h
+held_by_types (maybe t) us vs e h = subst (λ (X : Type 0). X) (in_maybe t us ∙ (ap (HeldUpToOne (λ u. u ≡ t)) e ∙ sym (in_maybe t vs))) h
+held_by_types (tuple ts) us vs e h = sym e ∙ h
+held_by_types (entry k t) us vs e h = sym e ∙ h
+
 held_of_each : (f : Child → Tree) (t : Ty) (b : List ℕ) → IsContainer t → AtTypes f → MayHold t (each f (cut t b))
-unfolding cut spans
-held_of_each f (basic k) b h g = absurd h
-held_of_each f variant b h g = subst (λ (u : Ty). is_within_limits u (spelling u) ≡ true) (sym (g _)) (variant_limits (at_last_zero b))
-held_of_each f (array t) b h g = all_of_each f t (length b) (element_spans t b (fixed_size t)) (of_elements (λ u. u ≡ t) t b (fixed_size t) refl) g
-held_of_each f (maybe t) b h g = just_held f t (length b) (fixed_size t) g
-held_of_each f (tuple ts) b h g = types_of_each f (length b) (tuple_spans (tuple ts) ts b) g ∙ types-tuple (tuple ts) ts b
-held_of_each f (entry k t) b h g = types_of_each f (length b) (tuple_spans (entry k t) (member (basic k) (member t end)) b) g ∙ types-tuple (entry k t) (member (basic k) (member t end)) b
+unfolding cut earlier_cut
+held_of_each f t b h g =
+    let xs = ordered (body t b) (spans t b) in
+    held_by_types t (each f (earlier_cut t b)) (each f (cut t b))
+    (types_of_each f (length b) (spans t b) g ∙ (sym (types-ordered (body t b) (spans t b)) ∙ sym (types_of_each f (length b) xs g))) (held_apart f t b h g)
 
 pub children_held : (t : Ty) (b : List ℕ) → IsContainer t → MayHold t (each (λ c. decode c.type (child_bytes b c)) (cut t b))
 children_held t b h = held_of_each (λ c. decode c.type (child_bytes b c)) t b h (λ c. type_of-decode c.type (child_bytes b c))
@@ -259,7 +291,7 @@ tree_is_value f (entry k t) b h g fine = (held_of_each f (entry k t) b tt g, val
 mutual
   unfolding default
 
-  default_is_value : (t : Ty) → IsValue (default t)
+  pub default_is_value : (t : Ty) → IsValue (default t)
   default_is_value (basic k) = default_value k
   default_is_value variant = (unit_limits, ((refl, tt), tt))
   default_is_value (array t) = (tt, tt)
@@ -275,7 +307,7 @@ mutual
   defaults_are_values end = tt
   defaults_are_values (member t ts) = (default_is_value t, defaults_are_values ts)
 
-each_all : (f : Child → Tree) → ((c : Child) → Fine f c) → (cs : List Child) → Each (Fine f) cs
+pub each_all : (f : Child → Tree) → ((c : Child) → Fine f c) → (cs : List Child) → Each (Fine f) cs
 each_all f g [] = tt
 each_all f g (c ∷ cs) = (g c, each_all f g cs)
 

@@ -1,5 +1,5 @@
 -- Worked values: bytes, read at a type and printed.
-use Rattle.std.specs.Prelude.{◌≡◌, ℕ, List, [], ◌∷◌, ◌++◌, codes, true, refl, replicate}
+use Rattle.std.specs.Prelude.{◌≡◌, ℕ, zero, suc, ◌+◌, List, [], ◌∷◌, ◌++◌, codes, true, refl, replicate}
 use Rattle.std.specs.Str.{is_utf8, chars}
 use Rattle.std.specs.Fmt.{digits}
 use lib.Utf8.{encode as encode_char}
@@ -9,13 +9,14 @@ use Rattle.gv_model.specs.Ty.Types.{end, member}
 use Rattle.gv_model.specs.Ty.Basic.{boolean, byte, uint16, int32, uint32, int64, double, string, path, signature}
 use Rattle.gv_model.specs.TypeText.{type_of_text, seen, mark, tuple_type_before}
 use Rattle.gv_model.specs.Layout.{alignment, fixed_size, round_up, offset_width}
-use Rattle.gv_model.specs.Tree.{default}
+use Rattle.gv_model.specs.Tree.{default, nodes}
 use Rattle.gv_model.specs.Tree.Tree.{number, text, node}
 use Rattle.gv_model.specs.Tree.Trees.{none, first}
 use Rattle.gv_model.specs.Texts.{are_parts}
 use Rattle.gv_model.specs.BasicValue.{basic_value, text_in, number_in}
 use Rattle.gv_model.specs.Arrays.{numbers_in, offset_spans, fixed_spans}
-use Rattle.gv_model.specs.Tuples.{empty_spans, member_spans}
+use Rattle.gv_model.specs.Tuples.{empty_spans, member_spans, offset_count}
+use Rattle.gv_model.specs.Children.{ordered}
 use Rattle.gv_model.specs.Variants.{at_last_zero}
 use Rattle.gv_model.specs.Decode.{decode, decode_within, cut, spans}
 use Rattle.gv_model.specs.Printed.{printed, text_of, holds_double}
@@ -23,7 +24,7 @@ use Rattle.gv_model.specs.Printed.{printed, text_of, holds_double}
 -- what these computations open
 unfoldable pub computing : ℕ
 unfolding digits chars encode_char is_utf8 spelling nesting type_of_text seen mark tuple_type_before alignment fixed_size round_up offset_width default are_parts
-    basic_value text_in number_in numbers_in offset_spans fixed_spans empty_spans member_spans at_last_zero decode decode_within cut spans text_of
+    basic_value text_in number_in numbers_in offset_spans fixed_spans empty_spans member_spans offset_count ordered at_last_zero decode decode_within cut spans text_of
 computing = 0
 
 -- the text of bytes at a type
@@ -129,13 +130,32 @@ wide_offsets : decode (array (basic string)) (replicate 253 97 ++ 0 ∷ 254 ∷ 
 unfolding computing
 wide_offsets = refl
 
-overlapping_elements : shown (array (array (basic byte))) (1 ∷ 2 ∷ 3 ∷ 3 ∷ 1 ∷ 3 ∷ []) ≡ codes "[[byte 0x01, 0x02, 0x03], [], [0x02, 0x03]]"
+-- the second ends before it begins: it and the third are empty
+element_out_of_order : shown (array (array (basic byte))) (1 ∷ 2 ∷ 3 ∷ 3 ∷ 1 ∷ 3 ∷ []) ≡ codes "[[byte 0x01, 0x02, 0x03], [], []]"
 unfolding computing
-overlapping_elements = refl
+element_out_of_order = refl
 
-elements_that_reach_into_the_offsets : shown (array (array (array (basic byte)))) (0 ∷ 1 ∷ 0 ∷ 1 ∷ 4 ∷ 0 ∷ 4 ∷ []) ≡ codes "[[b'', [], b''], [], [b'', [], b'']]"
+-- the first reaches into the offsets
+element_past_the_body : shown (array (array (array (basic byte)))) (0 ∷ 1 ∷ 0 ∷ 1 ∷ 4 ∷ 0 ∷ 4 ∷ []) ≡ codes "[[b'', [], []], [], []]"
 unfolding computing
-elements_that_reach_into_the_offsets = refl
+element_past_the_body = refl
+
+-- after so many bytes, so many times more: an offset past the body, an empty element's, and the first one again
+unfoldable tower : ℕ → ℕ → List ℕ
+tower zero n = []
+tower (suc k) n = n ∷ 0 ∷ n ∷ tower k (n + 3)
+
+unfoldable arrays : ℕ → Ty → Ty
+arrays zero t = t
+arrays (suc k) t = arrays k (array t)
+
+tower_of_two : shown (arrays 3 (basic byte)) (0 ∷ tower 2 1) ≡ codes "[[b'', [], []], [], []]"
+unfolding computing tower arrays
+tower_of_two = refl
+
+tower_of_twenty : nodes (decode (arrays 21 (basic byte)) (0 ∷ tower 20 1)) ≡ 62
+unfolding computing tower arrays nodes
+tower_of_twenty = refl
 
 -- ---- maybes
 
@@ -159,10 +179,10 @@ array_of_tuples : shown (array (tuple (member (basic string) (member (basic int3
 unfolding computing
 array_of_tuples = refl
 
--- the last member ends where the offset is, the first reaches past it
-member_over_the_offset : shown (tuple (member (array (basic byte)) (member (basic string) end))) (97 ∷ 98 ∷ 0 ∷ 4 ∷ []) ≡ codes "([byte 0x61, 0x62, 0x00, 0x04], '')"
+-- the first member ends behind the offset, and the last one is empty with it
+member_past_the_body : shown (tuple (member (array (basic byte)) (member (basic string) end))) (97 ∷ 98 ∷ 0 ∷ 4 ∷ []) ≡ codes "(@ay [], '')"
 unfolding computing
-member_over_the_offset = refl
+member_past_the_body = refl
 
 padded_tuple : shown (tuple (member (maybe (basic byte)) (member variant end))) (5 ∷ 0 ∷ 0 ∷ 0 ∷ 0 ∷ 0 ∷ 0 ∷ 0 ∷ 5 ∷ 0 ∷ 0 ∷ 0 ∷ 0 ∷ 105 ∷ 1 ∷ []) ≡ codes "(@my 0x05, <5>)"
 unfolding computing

@@ -36,3 +36,8 @@ element_spans t b (Some size) = if length b % size == 0 then fixed_spans t size 
 element_spans t b None =
     let w = offset_width (length b) in
     if length b == 0 then [] else framed_from t w (number_in (drop (length b - w) b)) b
+
+-- where the elements' body ends: the offsets begin where the last one says
+abbrev pub elements_end : List ℕ → Option ℕ → ℕ
+elements_end b (Some size) = length b
+elements_end b None = number_in (drop (length b - offset_width (length b)) b)

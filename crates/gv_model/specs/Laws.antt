@@ -1,16 +1,17 @@
 -- Laws of types, of their texts and of the meaning of bytes.
-use Rattle.std.specs.Prelude.{◌≡◌, ◌≤◌, ◌<◌, ◌↔◌, ℕ, List, [], ◌++◌, length, Some, None, true, slice_get, option_map}
+use Rattle.std.specs.Prelude.{◌≡◌, ◌≤◌, ◌<◌, ◌↔◌, ℕ, ◌+◌, ◌*◌, List, [], ◌++◌, length, Some, None, true, slice_get, option_map}
 use Rattle.std.specs.List.{AllByRecursion}
 use Rattle.gv_model.specs.Ty.{Ty, spelling}
 use Rattle.gv_model.specs.TypeText.{type_of_text, is_within_limits}
 use Rattle.gv_model.specs.TypeFault.{Fault, IsFault}
-use Rattle.gv_model.specs.Tree.{Tree, default, children, tree_at, trees_len}
+use Rattle.gv_model.specs.Tree.{Tree, default, children, tree_at, trees_len, nodes}
 use Rattle.gv_model.specs.Typed.{HasType}
 use Rattle.gv_model.specs.Children.{Child, child_bytes}
 use Rattle.gv_model.specs.Decode.{decode, cut, tree_with}
 use Rattle.gv_model.specs.Parts.{Part, parts, part_at, subtree_at}
 use Rattle.gv_model.specs.Encode.{encode, packed}
-use Rattle.gv_model.specs.Normal.{IsContainer, IsPartEncoded, IsEncoded}
+use Rattle.gv_model.specs.Normal.{IsContainer, IsPartEncoded, IsEncoded, IsNormal}
+use Rattle.gv_model.specs.EarlierReading.{earlier_decode, WasNormal}
 
 -- no type's text begins another's
 abbrev pub NoTypeBeginsAnother : Type 0
@@ -74,3 +75,15 @@ WrittenReadsBack = (t : Ty) (v : Tree) → HasType v t → decode t (encode v) �
 abbrev pub ContainerIsPacked : Type 0
 ContainerIsPacked = (t : Ty) (b : List ℕ) → AllByRecursion (λ x. x < 256) b → IsContainer t
     → IsEncoded t b ↔ (AllByRecursion IsPartEncoded (parts t b) × (b ≡ packed t (parts t b)))
+
+-- n bytes at a type whose text has t bytes have at most (n + 1)(n + 2t) values in them
+abbrev pub HasFewValues : Type 0
+HasFewValues = (t : Ty) (b : List ℕ) → nodes (decode t b) ≤ (length b + 1) * (length b + 2 * length (spelling t))
+
+-- the same bytes are normal as before
+abbrev pub AsNormalAsEarlier : Type 0
+AsNormalAsEarlier = (t : Ty) (b : List ℕ) → AllByRecursion (λ x. x < 256) b → IsNormal t b ↔ WasNormal t b
+
+-- they have the same value as before
+abbrev pub NormalReadsAsEarlier : Type 0
+NormalReadsAsEarlier = (t : Ty) (b : List ℕ) → AllByRecursion (λ x. x < 256) b → IsEncoded t b → earlier_decode t b ≡ decode t b

@@ -18,6 +18,7 @@ pub mod Parts
 pub mod Entries
 pub mod Encode
 pub mod Normal
+pub mod EarlierReading
 pub mod Quoted
 pub mod Printed
 pub mod TextFault

@@ -7,7 +7,7 @@ use Rattle.std.specs.Fmt.{signed_decimal}
 use Rattle.gv_model.specs.Ty.{Ty, Basic, spelling}
 use Rattle.gv_model.specs.Ty.Ty.{basic, variant, array, maybe, tuple, entry}
 use Rattle.gv_model.specs.Ty.Basic.{boolean, byte, int16, int32, int64, handle, double, string}
-use Rattle.gv_model.specs.Tree.{Tree, Trees, nodes, depth}
+use Rattle.gv_model.specs.Tree.{Tree, Trees, depth}
 use Rattle.gv_model.specs.Tree.Tree.{number, text, node}
 use Rattle.gv_model.specs.Tree.Trees.{none, first}
 use Rattle.gv_model.specs.BasicValue.{text_in}
@@ -113,9 +113,9 @@ printed v annotated = text_of v annotated false
 
 -- ---- what is not printed
 
--- over 1,000,000 values, or deeper than 128
+-- deeper than 128
 abbrev pub is_too_large : Tree → Bool
-is_too_large v = nat_lt 1000000 (nodes v) || nat_lt 128 (depth v)
+is_too_large v = nat_lt 128 (depth v)
 
 abbrev pub is_double_type : Basic → Bool
 is_double_type double = true

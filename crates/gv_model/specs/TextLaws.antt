@@ -1,10 +1,11 @@
 -- Laws of the meaning of text.
-use Rattle.std.specs.Prelude.{◌≡◌, ◌≤◌, ◌<◌, ◌⊎◌, ℕ, suc, ◌+◌, Bool, true, false, List, [], ◌∷◌, ◌++◌, length, take, drop, Option, Some, None, Result}
+use Rattle.std.specs.Prelude.{◌≡◌, ◌≤◌, ◌<◌, ◌⊎◌, ℕ, suc, ◌+◌, ◌-◌, ◌↔◌, Bool, true, false, List, [], ◌∷◌, ◌++◌, length, take, drop, Option, Some, None, Result}
 use Rattle.gv_model.specs.TextFault.{Fault}
 use Rattle.gv_model.specs.TextFault.Cause.{unclosed, unexpected, too_deep}
 use Rattle.gv_model.specs.Tokens.{Token, Placed}
 use Rattle.gv_model.specs.Tokens.Mark.{open_tuple, close_tuple, open_list, close_list, open_brace, close_brace, open_box, close_box}
-use Rattle.gv_model.specs.Tokens.Token.{mark, string_token, byte_string}
+use Rattle.gv_model.specs.Tokens.Word.{nothing as nothing_word}
+use Rattle.gv_model.specs.Tokens.Token.{mark, string_token, byte_string, word}
 use Rattle.gv_model.specs.Characters.{is_quote}
 use Rattle.gv_model.specs.Strings.{part}
 use Rattle.gv_model.specs.Strings.StringStep.{denotes}
@@ -108,23 +109,33 @@ BeginsWithin l ts = (x : Syntax) × (us : List Token) × (tokens_of x ≡ ts ++ 
 abbrev pub BeginsTree : List Token → Type 0
 BeginsTree ts = (x : Syntax) × (us : List Token) × (tokens_of x ≡ ts ++ us)
 
--- tokens begin a syntax tree's, and are none's themselves
-abbrev pub IsUnfinished : List Token → Type 0
-IsUnfinished ts = BeginsTree ts × ((x : Syntax) → tokens_of x ≡ ts → ⊥)
+-- The first n tokens begin a syntax tree's, and each value that begins in them is at most 128 levels deep: so they begin
+-- a tree's that has no more levels, or do with `nothing` in the place of the last of them, which may be a `just` or
+-- another that wants a value a level deeper.
+abbrev pub IsShallow : List Token → ℕ → Type 0
+IsShallow ts n = BeginsTree (take n ts) × (BeginsWithin 128 (take n ts) ⊎ BeginsWithin 128 (take (n - 1) ts ++ word nothing_word ∷ []))
 
--- What a fault at a token says. Unexpected: the tokens before it begin a tree's, but none's with it; or the tokens
--- end where no bracket is open, and are unfinished. Too deep: with it they begin trees' tokens, but only of trees that
--- are too deep, while those before it begin a tree's that is at most a level too deep. Unclosed: the tokens are
--- unfinished, and it is the innermost bracket that is open.
+-- all tokens do, and they are no tree's themselves
+abbrev pub IsUnfinished : List Token → Type 0
+IsUnfinished ts = IsShallow ts (length ts) × ((x : Syntax) → tokens_of x ≡ ts → ⊥)
+
+-- What a fault says. Unexpected: the tokens before it begin a tree's and are shallow, but with it they begin none's; or
+-- the tokens end where no bracket is open, and are unfinished. Too deep: the tokens before it are shallow, and with it
+-- they begin a tree's, but are not shallow. Unclosed: the tokens are unfinished, and it is the innermost bracket that
+-- is open.
 abbrev pub EndsPrefix : List Token → NumberedFault → Type 0
-EndsPrefix ts (unexpected, n) = ((n < length ts) × BeginsTree (take n ts) × (BeginsTree (take (suc n) ts) → ⊥)) ⊎ ((n ≡ length ts) × IsUnfinished ts × (open_brackets 0 [] ts ≡ []))
-EndsPrefix ts (too_deep, n) = (n < length ts) × BeginsWithin 129 (take n ts) × BeginsTree (take (suc n) ts) × (BeginsWithin 128 (take (suc n) ts) → ⊥)
+EndsPrefix ts (unexpected, n) = ((n < length ts) × IsShallow ts n × (BeginsTree (take (suc n) ts) → ⊥)) ⊎ ((n ≡ length ts) × IsUnfinished ts × (open_brackets 0 [] ts ≡ []))
+EndsPrefix ts (too_deep, n) = (n < length ts) × IsShallow ts n × BeginsTree (take (suc n) ts) × (IsShallow ts (suc n) → ⊥)
 EndsPrefix ts (unclosed, n) = IsUnfinished ts × ((outer : List ℕ) × (open_brackets 0 [] ts ≡ n ∷ outer))
 EndsPrefix ts f = ⊥
 
--- the fault of tokens says so of them
+-- a fault is that of tokens exactly where it says so of them
 abbrev pub FaultEndsPrefix : Type 0
-FaultEndsPrefix = (ts : List Token) (f : NumberedFault) → grammar_fault ts ≡ Some f → EndsPrefix ts f
+FaultEndsPrefix = (ts : List Token) (f : NumberedFault) → (grammar_fault ts ≡ Some f) ↔ EndsPrefix ts f
+
+-- and no other fault does
+abbrev pub EndsOnePrefix : Type 0
+EndsOnePrefix = (ts : List Token) (f g : NumberedFault) → EndsPrefix ts f → EndsPrefix ts g → f ≡ g
 
 -- each text has a syntax tree or a fault
 abbrev pub EachTextParses : Type 0

@@ -54,3 +54,14 @@ abbrev pub tuple_spans : Ty → Types → List ℕ → List (Ty × Span)
 tuple_spans t ts b =
     if is_other_size (fixed_size t) (length b) then empty_spans ts
     else member_spans (offset_width (length b)) b 0 (Some 0) ts
+
+-- each member of no fixed size but the last one has an offset
+unfoldable pub offset_count : Types → ℕ
+offset_count end = 0
+offset_count (member t end) = 0
+offset_count (member t (member u ts)) = next_offset (offset_count (member u ts)) (fixed_size t)
+
+-- where the members' body ends; one of fixed size has no offsets
+abbrev pub members_end : Option ℕ → Types → List ℕ → Option ℕ
+members_end (Some size) ts b = Some (length b)
+members_end None ts b = body_end (offset_width (length b)) b (offset_count ts)

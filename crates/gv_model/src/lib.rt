@@ -6,6 +6,7 @@
 pub mod text;
 
 ghost use Rattle.gv_model.specs.Laws.{WrittenReadsBack, ContainerIsPacked, NoTypeBeginsAnother, HasTypeWhereSpelled, EmptyReadsAsDefault, ReadsAtType, IsReading, IsOnlyReading, HasChildrenOfCut, ChildIsRead, FaultsAreOfNoType, HasOneFault, ChildrenLieWithin, EveryPartIsRead};
+ghost use Rattle.gv_model.specs.Laws.{HasFewValues, AsNormalAsEarlier, NormalReadsAsEarlier};
 ghost use Rattle.gv_model.specs.Decode.{decode};
 
 /// No type's text begins another's, so a sequence of types is read in one way only.
@@ -71,4 +72,16 @@ pub fn written_reads_back()
 /// its children's.
 pub fn container_is_packed()
     ensures { ContainerIsPacked }
+{}
+
+/// Bytes have no more values in them than `(n + 1)(n + 2t)`, where there are `n` of them and the type's text has `t`.
+pub fn few_values()
+    ensures { HasFewValues }
+{}
+
+/// The bytes that are normal are those that were normal when a child was read whatever those before it, as GLib before
+/// 2.74 did, and their value is the same.
+pub fn normal_as_earlier()
+    ensures normal { AsNormalAsEarlier }
+    ensures value { NormalReadsAsEarlier }
 {}

@@ -1,6 +1,6 @@
 //! Laws of text: its tokens, its syntax tree or first fault, and the type that is chosen for a tree.
 
-ghost use Rattle.gv_model.specs.TextLaws.{EachTextLexes, HasOneLexing, StringIsParts, ByteStringIsParts, StringsArePlain, NoTreeBeginsAnother, TreesHaveNoFault, FaultlessIsTree, FaultEndsPrefix, EachTextParses, HasOneOutcome, AdmitsOrNot, IsBelowItself, IsBelowThird, IsBelowOneWay, HasOneChosen};
+ghost use Rattle.gv_model.specs.TextLaws.{EachTextLexes, HasOneLexing, StringIsParts, ByteStringIsParts, StringsArePlain, NoTreeBeginsAnother, TreesHaveNoFault, FaultlessIsTree, FaultEndsPrefix, EndsOnePrefix, EachTextParses, HasOneOutcome, AdmitsOrNot, IsBelowItself, IsBelowThird, IsBelowOneWay, HasOneChosen};
 ghost use Rattle.gv_model.specs.LeastTypes.{choice};
 ghost use Rattle.gv_model.specs.TextValues.{IsChoice};
 
@@ -33,10 +33,11 @@ pub fn faultless_where_tree()
     ensures whole { FaultlessIsTree }
 {}
 
-/// Tokens that are no tree's have their fault where the longest prefix of them ends that begins some tree's tokens,
-/// or where trees that begin so are too deep; at the end of the tokens it names the innermost open bracket.
+/// Tokens that are no tree's have their fault where the longest prefix of them ends that begins some tree's tokens
+/// and no value too deep; at the end of the tokens it names the innermost open bracket. Of no other fault is that so.
 pub fn fault_ends_prefix()
-    ensures { FaultEndsPrefix }
+    ensures prefix { FaultEndsPrefix }
+    ensures alone { EndsOnePrefix }
 {}
 
 /// Each text has a syntax tree or a first fault, and one of them alone.

@@ -1,1 +1,12 @@
-pub mod NodeCounts
+pub mod PackedParts
+pub mod Pieces
+pub mod PartSteps
+pub mod OpenElements
+pub mod FixedMembers
+pub mod OpenMembers
+pub mod OneChild
+pub mod BasicBytes
+pub mod FixedElements
+pub mod StepBounds
+pub mod Classed
+pub mod Narrow

@@ -1,2 +1,2 @@
-pub mod FaultTexts
-pub mod Counting
+pub mod InPlace
+pub mod Tables

@@ -1,11 +1,12 @@
 -- The texts of arrays: byte strings, and elements in their brackets.
-use Rattle.std.proofs.Common.{◌≡◌, ℕ, List, [], ◌∷◌, ◌++◌, Bool, true, false, ◌&&◌, Some, None, Result, MatchResult, refl, sym, ap, ◌∙◌, arith, nat_eq, ne_eqb}
+use Rattle.std.proofs.Common.{◌≡◌, ◌≤◌, ℕ, List, [], ◌∷◌, ◌++◌, Bool, true, false, ◌&&◌, Option, Some, None, IfSome, Bor, Result, MatchResult, refl, sym, ap, ◌∙◌, arith, nat_eq, ne_eqb}
+use Rattle.std.specs.Prelude.{option_map}
 use Rattle.std.proofs.lemmas.Result.{MatchResult-weaker}
 use Rattle.std.proofs.lemmas.Option.{none-some}
 use Rattle.gv_model.specs.Ty.{Ty, Basic}
 use Rattle.gv_model.specs.Ty.Ty.{basic, variant, array, maybe, tuple, entry}
 use Rattle.gv_model.specs.Ty.Basic.{byte}
-use Rattle.gv_model.specs.Tree.{Tree, Trees, children, trees_len, byte_trees}
+use Rattle.gv_model.specs.Tree.{Tree, Trees, children, trees_len, byte_trees, depth, greatest_depth}
 use Rattle.gv_model.specs.Tree.Tree.{number, text, node}
 use Rattle.gv_model.specs.Tree.Trees.{none, first}
 use Rattle.gv_model.specs.BasicValue.{text_in}
@@ -78,6 +79,24 @@ bytes_plain (x ∷ b) = bytes_plain b
 pub value_bytes_plain : (v : Tree) (b : List ℕ) → v ≡ node (array (basic byte)) (byte_trees b) → holds_double v ≡ false
 unfolding holds_double
 value_bytes_plain v b e = ap holds_double e ∙ bytes_plain b
+
+-- ---- how deep bytes lie
+
+bytes_level : (b : List ℕ) → greatest_depth (byte_trees b) ≤ 1
+unfolding byte_trees greatest_depth depth
+bytes_level [] = omega arith
+bytes_level (x ∷ b) = omega (arith, bytes_level b)
+
+some_level : (x : ℕ) (b : List ℕ) → depth (node (array (basic byte)) (byte_trees (x ∷ b))) ≡ 2
+unfolding byte_trees greatest_depth depth
+some_level x b = omega (arith, bytes_level b)
+
+-- bytes with a zero byte are not empty, so that they lie a level below their array
+pub string_levels : (v : Tree) (b : List ℕ) (o : Option (Bor (List ℕ))) → v ≡ node (array (basic byte)) (byte_trees b) → option_map (λ x. x.now) o ≡ text_in b → IfSome o (λ _. depth v ≡ 2)
+unfolding text_in
+string_levels v b None e h = tt
+string_levels v [] (Some x) e h = absurd (none-some x.now (sym h))
+string_levels v (x ∷ b) (Some y) e h = ap depth e ∙ some_level x b
 
 -- ---- as a list
 

@@ -5,6 +5,7 @@ pub mod Containers
 pub mod ContainerTexts
 pub mod ChildTexts
 pub mod ArrayTexts
+pub mod Levels
 pub mod Maybes
 pub mod Lists
 pub mod QuotedLaws

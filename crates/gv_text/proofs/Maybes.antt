@@ -1,12 +1,12 @@
 -- The texts of maybes.
-use Rattle.std.proofs.Common.{◌≡◌, ◌≤◌, ◌<◌, ℕ, List, ◌++◌, Bool, true, false, Some, None, Result, refl, sym, ap, ◌∙◌, arith, append_assoc, ◌||◌}
+use Rattle.std.proofs.Common.{◌≡◌, ◌≤◌, ◌<◌, ℕ, suc, List, ◌++◌, Bool, true, false, Some, None, Result, refl, sym, ap, ◌∙◌, arith, append_assoc, ◌||◌}
 use Rattle.std.specs.Prelude.{codes}
 use Rattle.std.proofs.lemmas.Result.{MatchResult-weaker}
 use Rattle.std.proofs.lemmas.Option.{none-some, same_Some}
 use Rattle.std.proofs.lemmas.Bool.{false≢true}
 use Rattle.gv_model.specs.Ty.{Ty}
 use Rattle.gv_model.specs.Ty.Ty.{basic, variant, array, maybe, tuple, entry}
-use Rattle.gv_model.specs.Tree.{Tree, Trees, children, tree_at, trees_len, depth}
+use Rattle.gv_model.specs.Tree.{Tree, Trees, children, tree_at, trees_len, depth, greatest_depth}
 use Rattle.gv_model.specs.Tree.Tree.{node}
 use Rattle.gv_model.specs.Tree.Trees.{none, first}
 use Rattle.gv_model.specs.Decode.{decode}
@@ -74,6 +74,13 @@ depth_of t u = omega arith
 pub just_deeper : (v u : Tree) → IsJust v u → depth u < depth v
 just_deeper v u j = omega (arith, ap depth j.is, depth_of j.of u)
 
+depth_is : (t : Ty) (u : Tree) → depth (node (maybe t) (first u none)) ≡ suc (depth u)
+unfolding depth greatest_depth
+depth_is t u = omega arith
+
+pub just_depth : (v u : Tree) → IsJust v u → depth v ≡ suc (depth u)
+just_depth v u j = ap depth j.is ∙ depth_is j.of u
+
 -- ---- Nothing
 
 node_nothing : (t : Ty) → IsNothing (node (maybe t) none)
@@ -104,6 +111,19 @@ ends_class variant b h = absurd (false≢true (sym (other_ends variant b (λ e. 
 ends_class (array t) b h = absurd (false≢true (sym (other_ends (array t) b (λ e. absurd cc)) ∙ h))
 ends_class (tuple ts) b h = absurd (false≢true (sym (other_ends (tuple ts) b (λ e. absurd cc)) ∙ h))
 ends_class (entry k t) b h = absurd (false≢true (sym (other_ends (entry k t) b (λ e. absurd cc)) ∙ h))
+
+node_level : (t : Ty) → depth (node (maybe t) none) ≡ 1
+unfolding depth greatest_depth
+node_level t = refl
+
+-- Nothing has one level
+pub nothing_level : (t : Ty) (b : List ℕ) → class_of t ≡ classes.Maybe → tree_at (children (decode t b)) 0 ≡ None → depth (decode t b) ≡ 1
+nothing_level (maybe t) b h e = rw (value_node (maybe t) b tt, no_tree (children (decode (maybe t) b)) e) (node_level t)
+nothing_level (basic k) b h e = absurd cc
+nothing_level variant b h e = absurd cc
+nothing_level (array t) b h e = absurd cc
+nothing_level (tuple ts) b h e = absurd cc
+nothing_level (entry k t) b h e = absurd cc
 
 nothing_node : (t : Ty) → text_of (node (maybe t) none) false false ≡ codes "nothing"
 unfolding text_of

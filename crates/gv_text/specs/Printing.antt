@@ -17,15 +17,15 @@ IsUnprintable v TooLarge = is_too_large v ≡ true
 IsUnprintable v DoubleText = (is_too_large v ≡ false) × (holds_double v ≡ true)
 IsUnprintable v Memory = Unit {0}
 
--- why a value within the limit of size isn't printed
+-- why a value isn't printed, but for its depth
 abbrev pub IsElementFault : Tree → PrintFault → Type 0
-IsElementFault v TooLarge = ⊥
+IsElementFault v TooLarge = Unit {0}
 IsElementFault v DoubleText = holds_double v ≡ true
 IsElementFault v Memory = Unit {0}
 
 -- the same of values
 abbrev pub AreFaultOf : Trees → PrintFault → Type 0
-AreFaultOf vs TooLarge = ⊥
+AreFaultOf vs TooLarge = Unit {0}
 AreFaultOf vs DoubleText = hold_double vs ≡ true
 AreFaultOf vs Memory = Unit {0}
 

@@ -1,6 +1,6 @@
 //! The text of a value (GLib, "GVariant Text Format"), annotated so that its type can be read back.
-ghost use Rattle.std.specs.Prelude.{◌≡◌, ◌≤◌, ◌++◌, true, false, IfOk, IfErr, MatchResult, OnOk, string_bytes};
-ghost use Rattle.gv_text.specs.declared.printing.PrintFault.TheVariants.{Memory};
+ghost use Rattle.std.specs.Prelude.{◌≡◌, ◌≤◌, ◌<◌, ◌++◌, true, false, IfOk, IfErr, MatchResult, OnOk, string_bytes};
+ghost use Rattle.gv_text.specs.declared.printing.PrintFault.TheVariants.{TooLarge, Memory};
 ghost use Rattle.gv_model.specs.Tree.{depth};
 ghost use Rattle.gv_model.specs.Printed.{printed, text_of, is_too_large, holds_double};
 ghost use Rattle.gv_view.specs.Views.{value};
@@ -29,7 +29,7 @@ use variant::push_variant;
 /// Why a value is not printed.
 #[derive(Clone, Copy, Debug, PartialEq, Eq)]
 pub enum PrintFault {
-    /// It has over 1,000,000 values, a container and each value in it, or is deeper than 128 levels.
+    /// It is more than 128 levels deep.
     TooLarge,
     /// A double is to be printed.
     DoubleText,
@@ -75,40 +75,48 @@ impl From<AllocError> for PrintFault {
 
 /// The text of the value that the view reads, annotated.
 ///
-/// It takes time linear in the bytes, in the text and, for each container in it, in the container's type.
+/// It is one walk over the values: its time is linear in the bytes, in the text and, for each container in it, in the container's
+/// type. A second walk, which writes nothing, says whether a value that holds a double is also too deep.
 pub fn print(alloc: Global, view: View<'_>) -> Result<String, PrintFault>
     ensures text { IfOk result (λ s. string_bytes s ≡ printed (value view.entry) true) }
     ensures printable { OnOk result ((is_too_large (value view.entry) ≡ false) × (holds_double (value view.entry) ≡ false)) }
     ensures fault { IfErr result (IsUnprintable (value view.entry)) }
 {
-    if view.is_too_large() {
-        return Err(PrintFault::TooLarge);
-    }
     let mut text = String::new(alloc);
-    push_value(&mut text, view, true, false)?;
-    Ok(text)
+    match push_value(&mut text, view, View::MAX_LEVELS, true, false) {
+        Ok(()) => Ok(text),
+        // A value that is too deep behind the double comes first.
+        Err(PrintFault::DoubleText) if view.is_too_large() => Err(PrintFault::TooLarge),
+        Err(fault) => Err(fault),
+    }
 }
 
-/// Writes the value that the view reads, annotated or not; `in_array` says that it is an element of an array.
+/// Writes the value that the view reads, which has no more than these levels, annotated or not; `in_array` says that it is
+/// an element of an array.
 #[cycle(values)]
 fn push_value(
     to: &mut String,
     view: View<'_>,
+    levels: u8,
     annotated: bool,
     in_array: bool,
 ) -> Result<(), PrintFault>
-    requires { depth (value view) ≤ 128 }
-    ensures { MatchResult result
+    ensures text { MatchResult result
         (λ _. (holds_double (value view.entry) ≡ false)
         × (string_bytes to.new ≡ string_bytes to.old ++ text_of (value view.entry) annotated in_array))
         (IsElementFault (value view.entry)) }
+    ensures fits { OnOk result (depth (value view.entry) ≤ levels) }
+    ensures deep { IfErr result (λ f. f ≡ TooLarge → levels < depth (value view.entry)) }
 {
+    if levels == 0 {
+        return Err(PrintFault::TooLarge);
+    }
     match view.type_str().class() {
         Class::Basic(basic) => push_basic(to, view, basic, annotated),
-        Class::Variant => push_variant(to, view),
-        Class::Array => push_array(to, view, annotated),
-        Class::Maybe => push_maybe(to, view, annotated),
-        Class::Tuple => push_tuple(to, view, annotated),
-        Class::Entry => push_entry(to, view, annotated, in_array),
+        Class::Variant => push_variant(to, view, levels),
+        Class::Array => push_array(to, view, levels, annotated),
+        Class::Maybe => push_maybe(to, view, levels, annotated),
+        Class::Tuple => push_tuple(to, view, levels, annotated),
+        Class::Entry => push_entry(to, view, levels, annotated, in_array),
     }
 }

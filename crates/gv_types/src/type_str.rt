@@ -1,7 +1,7 @@
 //! The text of one type.
 ghost use Rattle.std.specs.Prelude.{◌≡◌, ◌↔◌, ℕ, [], IfOk, IfErr, IsOk, IsTrue, option_map};
 ghost use Rattle.gv_model.specs.Ty.{Basic, Ty.basic, spelling, members, type_list};
-ghost use Rattle.gv_model.specs.TypeText.{is_type};
+ghost use Rattle.gv_model.specs.TypeText.{is_type, type_of_text};
 ghost use Rattle.gv_model.specs.TypeFault.{IsFault};
 ghost use Rattle.gv_model.specs.Lexing.{type_prefix};
 ghost use Rattle.gv_types.specs.Classes.{class_of};
@@ -51,6 +51,25 @@ impl<'a> TypeStr<'a> {
             Ok(rest) => Err(TypeFault::Trailing(text.len() - rest.len())),
             Err(stop) => Err(stop.halt.at(text.len() - stop.rest.len())),
         }
+    }
+
+    /// The type that the bytes spell, of at most 128 levels and 67,108,864 bytes, or None.
+    ///
+    /// It looks at each byte once. What is spelled is ASCII, so nothing else asks whether the bytes are UTF-8.
+    pub fn of_bytes(bytes: &'a [u8]) -> Option<TypeStr<'a>>
+        ensures { option_map ty result ≡ type_of_text bytes.entry.now }
+    {
+        if bytes.len() > TypeStr::MAX_LEN {
+            return None;
+        }
+        let Ok(rest) = after_type(bytes, TypeStr::MAX_LEVELS) else {
+            return None;
+        };
+        if !rest.is_empty() {
+            return None;
+        }
+        let text = unsafe { str::from_utf8_unchecked(bytes) };
+        Some(TypeStr { text })
     }
 
     /// The type that a prefix of a text spells, of at most 128 levels and 67,108,864 bytes, or None.

@@ -12,10 +12,11 @@ use Rattle.gv_model.specs.Tree.{byte_trees}
 use Rattle.gv_model.specs.Tree.Tree.{number, node}
 use Rattle.gv_model.specs.Tree.Trees.{first}
 use Rattle.gv_model.specs.BasicValue.{number_in}
-use Rattle.gv_model.specs.Children.{child_at, children_at, bounds}
+use Rattle.gv_model.specs.Children.{child_at, children_at, bounds, ordered}
 use Rattle.gv_model.specs.Arrays.{fixed_spans, element_spans}
 use Rattle.gv_model.specs.Decode.{decode, cut, spans, each}
 use Rattle.gv_model.proofs.DecodeLaws.{decode_children, child_value}
+use Rattle.gv_model.proofs.PlacedParts.{ordered-fixed}
 use Rattle.gv_types.specs.declared.class.BasicType.{BasicType}
 use Rattle.gv_types.specs.declared.class.BasicType.TheVariants as basics
 use Rattle.gv_types.specs.declared.class.Class.TheVariants as classes
@@ -58,7 +59,11 @@ byte_elements b =
     let even : (length b % 1 == 0) ≡ true = eq-eqb (length b % 1) 0 (omega arith) in
     rw even (ap (fixed_spans (basic byte) 1 0) (div-one (length b)))
 
-array_tree : (b : List ℕ) → decode (array (basic byte)) b ≡ node (array (basic byte)) (each (child_value b) (children_at (length b) (element_spans (basic byte) b (Some 1))))
+elements_stay : (b : List ℕ) → ordered (Some (length b)) (element_spans (basic byte) b (Some 1)) ≡ fixed_spans (basic byte) 1 0 (length b)
+elements_stay b = ap (ordered (Some (length b))) (byte_elements b) ∙ ordered-fixed (length b) (basic byte) 1 0 (length b) (omega arith)
+
+array_tree : (b : List ℕ)
+    → decode (array (basic byte)) b ≡ node (array (basic byte)) (each (child_value b) (children_at (length b) (ordered (Some (length b)) (element_spans (basic byte) b (Some 1)))))
 unfolding cut spans fixed_size
 array_tree b = decode_children (array (basic byte)) b
 
@@ -66,4 +71,4 @@ pub bytes_value : (t : Ty) (b : List ℕ) → t ≡ array (basic byte) → decod
 bytes_value t b same =
     ap (λ (u : Ty). decode u b) same
     ∙ (array_tree b
-    ∙ ap (node (array (basic byte))) (ap (λ xs. each (child_value b) (children_at (length b) xs)) (byte_elements b) ∙ trees_from b 0 (length b) (omega arith)))
+    ∙ ap (node (array (basic byte))) (ap (λ xs. each (child_value b) (children_at (length b) xs)) (elements_stay b) ∙ trees_from b 0 (length b) (omega arith)))

@@ -5,10 +5,11 @@ use Rattle.std.proofs.lemmas.Option.{slice_get_within, slice_get-get_or}
 use Rattle.gv_model.specs.Ty.{Ty}
 use Rattle.gv_model.specs.Ty.Ty.{variant}
 use Rattle.gv_model.specs.Tree.{children, trees_len, tree_at}
-use Rattle.gv_model.specs.Children.{Child, child_bytes}
-use Rattle.gv_model.specs.Decode.{decode, cut, spans}
+use Rattle.gv_model.specs.Children.{Child, child_at, child_bytes}
+use Rattle.gv_model.specs.Variants.{at_last_zero, variant_span}
+use Rattle.gv_model.specs.Decode.{decode, cut}
 use Rattle.gv_model.specs.Parts.{Part, part_of, parts}
-use Rattle.gv_model.proofs.ChildLaws.{child_of_value, children_count}
+use Rattle.gv_model.proofs.ChildLaws.{child_of_value, children_count, variant_cut}
 use Rattle.gv_view.specs.declared.view.View.{View}
 use Rattle.gv_view.specs.Views.{Lends, ShowsChild, value, shown}
 use Rattle.gv_model.specs.Laws.{LiesWithin}
@@ -46,9 +47,8 @@ lent_child t b i o h = go (slice_get (cut t b) i) refl o h
     go (Some c) at None h = absurd h
 
 past_first : (b : List ℕ) (i : ℕ) → i ≢ 0 → slice_get (cut variant b) i ≡ None
-unfolding cut spans
 past_first b zero ne = absurd (ne refl)
-past_first b (suc i) ne = refl
+past_first b (suc i) ne = ap (λ (cs : List Child). slice_get cs (suc i)) (variant_cut b)
 
 -- a variant has no other child than its first
 pub variant_alone : (t : Ty) (b : List ℕ) (i : ℕ) → t ≡ variant → i ≢ 0 → slice_get (cut t b) i ≡ None
@@ -63,8 +63,10 @@ pub lent_place : (t : Ty) (b : List ℕ) (i : ℕ) (c : Child) (v : View) → So
 lent_place t b i c v e h = subst (λ o. Lends b o (Some v)) e (shown_part b c v h)
 
 variant_part : (b : List ℕ) (v : View) → Lends b (slice_get (cut variant b) 0) (Some v) → shown v ∷ [] ≡ parts variant b
-unfolding cut spans parts
-variant_part b v h = ap₂ (λ u d. (u, d) ∷ []) h.type h.bytes
+unfolding parts
+variant_part b v h =
+    let shows : ShowsChild b (child_at (length b) (variant_span (at_last_zero b))) v = subst (λ (cs : List Child). Lends b (slice_get cs 0) (Some v)) (variant_cut b) h in
+    ap₂ (λ u d. (u, d) ∷ []) shows.type shows.bytes ∙ sym (ap (map (part_of b)) (variant_cut b))
 
 -- the one part of a variant
 pub variant_parts : (t : Ty) (b : List ℕ) (v : View) → t ≡ variant → Lends b (slice_get (cut variant b) 0) (Some v) → shown v ∷ [] ≡ parts t b

@@ -1,6 +1,6 @@
 -- Looking up a key among the entries of a dictionary.
-use Rattle.std.proofs.Common.{◌≡◌, ℕ, Bool, true, false, cond, ◌==◌, List, [], ◌∷◌, length, Option, Some, None, refl, ap, ap₂, sym, subst, ◌∙◌, inr}
-use Rattle.std.specs.Prelude.{All, MatchOption}
+use Rattle.std.proofs.Common.{◌≡◌, ℕ, Bool, true, false, cond, ◌==◌, List, [], ◌∷◌, length, Option, Some, None, refl, ap, ap₂, sym, subst, ◌∙◌, inr, arith}
+use Rattle.std.specs.Prelude.{All, MatchOption, slice_get}
 use Rattle.gv_model.specs.Ty.{Ty, Basic}
 use Rattle.gv_model.specs.Ty.Ty.{basic, variant, array, maybe, tuple, entry}
 use Rattle.gv_model.specs.Ty.Basic.{string, path, signature}
@@ -18,7 +18,7 @@ use Rattle.gv_model.proofs.Prefixes.{basic_parts}
 use Rattle.gv_model.proofs.ListLaws.{same_head, same_tail, nil_no_cons}
 use Rattle.gv_view.specs.declared.view.View.{View}
 use Rattle.gv_view.specs.Views.{shown, value, view_ty, view_bytes}
-use Rattle.gv_view.specs.Dictionaries.{IsDictionary, IsTextEntry, IsValueUnder}
+use Rattle.gv_view.specs.Dictionaries.{IsDictionary, IsTextEntry, IsValueUnder, IsFirstPart}
 use Rattle.gv_view.proofs.Lists.{All-rest}
 use Rattle.gv_view.proofs.TreeParts.{array_value, array_parts, entry_value, entry_parts}
 
@@ -144,6 +144,7 @@ found_value e v rest key (Some u) after m has h =
       has_key = has;
       value = m.entry_is.value_at ∙ ap (λ (p : Part). Some (decode p.0 p.1)) (sym same);
       type = m.entry_is.is ∙ ap (λ (p : Part). entry string p.0) (sym same);
+      lent = ap (λ (ps : List Part). slice_get ps 1) m.entry_is.members ∙ ap Some (sym same);
     }
 
 -- ---- the entries one after the other
@@ -152,6 +153,7 @@ found_value e v rest key (Some u) after m has h =
 pub record IsRest (d : Ty) (b : List ℕ) (key : List ℕ) (ps : List Part) : Type 0 where
   pub typed : All (λ (p : Part). d ≡ array p.0) ps
   pub found : (f : Option Tree) → IsFirst (part_trees ps) key f → IsLookedUp (decode d b) key f
+  pub lent : (f : Option Part) → IsFirstPart ps key f → IsFirstPart (parts d b) key f
 
 dictionary_rest : (t : Ty) (b : List ℕ) (key : List ℕ) → IsRest (array (entry string t)) b key (parts (array (entry string t)) b)
 dictionary_rest t b key =
@@ -159,10 +161,15 @@ dictionary_rest t b key =
     record {
       typed = λ k p lt. ap array (sym (array_parts (entry string t) b k p lt));
       found = λ f h. subst (λ v. IsLookedUp v key f) (sym (array_value (entry string t) b)) h;
+      lent = λ f h. h;
     }
 
 pub all_of : (d : Ty) (b : List ℕ) (key : List ℕ) (ps : List Part) → IsDictionary d → ps ≡ parts d b → IsRest d b key ps
 all_of d b key ps h e = subst (IsRest d b key) (sym e) (subst (λ c. IsRest c b key (parts c b)) (sym h.1) (dictionary_rest h.0 b key))
+
+-- the first entry's type is what the dictionary is of
+pub first_typed : (d : Ty) (e : Part) (ps rest : List Part) → All (λ (p : Part). d ≡ array p.0) ps → ps ≡ e ∷ rest → d ≡ array e.0
+first_typed d e ps rest h is = subst (λ qs. All (λ (p : Part). d ≡ array p.0) qs) is h 0 e (omega arith)
 
 -- after an entry with another key
 pub rest_of : (d : Ty) (b : List ℕ) (key : List ℕ) (ps rest : List Part) (e : View) → IsRest d b key ps → ps ≡ shown e ∷ rest → (HasKey (value e) key → ⊥) → IsRest d b key rest
@@ -170,4 +177,5 @@ rest_of d b key ps rest e h is other =
     record {
       typed = All-rest (λ (p : Part). d ≡ array p.0) ps rest (shown e) is h.typed;
       found = λ f first. h.found f (subst (λ qs. IsFirst (part_trees qs) key f) (sym is) (inr (other, first)));
+      lent = λ f first. h.lent f (subst (λ qs. IsFirstPart qs key f) (sym is) (inr (other, first)));
     }

@@ -8,7 +8,7 @@ pub mod PartLemmas
 pub mod ChildPlaces
 pub mod TreeParts
 pub mod EntryLemmas
-pub mod Counts
+pub mod Depths
 pub mod PartValues
 pub mod BasicCopies
 pub mod Copies

@@ -1,6 +1,6 @@
 -- What a variant holds, and where.
-use Rattle.std.proofs.Common.{◌≡◌, ◌≢◌, ◌<◌, ◌+◌, ◌-◌, ℕ, zero, suc, true, false, cond, ◌==◌, nat_le, List, [], ◌∷◌, ◌++◌, length, take, drop, get_or, Option, Some, None, refl, sym, ap, ◌∙◌, arith, eq-eqb, ne_eqb, eqb-true, length-append, length-drop}
-use Rattle.std.specs.Prelude.{slice_get, slice_range, option_map, option_and_then, is_some}
+use Rattle.std.proofs.Common.{◌≡◌, ◌≢◌, ◌<◌, ◌+◌, ◌-◌, ℕ, zero, suc, true, false, ◌==◌, nat_le, List, [], ◌∷◌, ◌++◌, length, take, drop, get_or, Option, Some, None, refl, sym, ap, ◌∙◌, subst, arith, eq-eqb, ne_eqb, eqb-true, length-append, length-drop}
+use Rattle.std.specs.Prelude.{slice_get, slice_range, option_map, option_and_then}
 use Rattle.std.proofs.lemmas.Option.{none-some, same_Some}
 use Rattle.std.proofs.lemmas.List.{take_all}
 use Rattle.std.proofs.Math.Seq.{take-append_seam}
@@ -9,18 +9,16 @@ use Rattle.gv_model.specs.Ty.{Ty, nesting, greatest_nesting}
 use Rattle.gv_model.specs.Ty.Ty.{variant, tuple}
 use Rattle.gv_model.specs.Ty.Types.{end}
 use Rattle.gv_model.specs.TypeText.{is_type, type_at, type_of_text, seen, mark, tuple_type_before}
-use Rattle.gv_model.specs.Children.{bounds, child_at, child_bytes}
+use Rattle.gv_model.specs.Children.{Child, bounds, child_at, child_bytes}
 use Rattle.gv_model.specs.Variants.{at_last_zero, variant_span, typed_span}
-use Rattle.gv_model.specs.Decode.{cut, spans}
+use Rattle.gv_model.specs.Decode.{cut}
 use Rattle.gv_model.specs.Parts.{Part}
 use Rattle.gv_model.proofs.DecodeLaws.{at_last_zero_parts}
-use Rattle.gv_model.proofs.TypeTextParts.{type_text_is_ascii}
 use Rattle.gv_types.specs.TypeStr.{ty}
 use Rattle.gv_view.specs.declared.view.View.{View}
 use Rattle.gv_view.specs.Views.{ShowsChild, Lends, shown}
-use Rattle.gv_view.specs.Texts.{utf8_of}
 use Rattle.gv_view.specs.Variants.{held, at_type_text}
-use Rattle.gv_view.proofs.AsciiTexts.{ascii_is_utf8}
+use Rattle.gv_model.proofs.ChildLaws.{variant_cut}
 
 -- ---- the last zero byte
 
@@ -55,22 +53,6 @@ around_zero b i last =
     let found = last_zero b i last.0.high (eqb-true (get_or b i 0) 0 last.1) (λ k gt lt e. last.0.after k (omega arith) lt (eq-eqb (get_or b k 0) 0 e)) in
     ap (λ (x : List ℕ). Some (take i b, x)) (whole ∙ ap (λ (n : ℕ). drop n b) next) ∙ sym found
 
--- ---- the type's text
-
--- what is not UTF-8 spells no type
-untyped : (w : List ℕ) → None ≡ utf8_of w → type_of_text w ≡ None
-untyped w e = go (type_of_text w) refl
-  where
-    go : (o : Option Ty) → type_of_text w ≡ o → o ≡ None
-    go None is = refl
-    go (Some t) is =
-        let utf8 = ascii_is_utf8 w (type_text_is_ascii w (ap is_some is)) in
-        absurd (none-some w (e ∙ ap (λ c. cond c (Some w) None) utf8))
-
-pub no_text_no_type : (b x w : List ℕ) → Some (x, w) ≡ at_last_zero b → None ≡ utf8_of w → None ≡ held b
-no_text_no_type b x w at e =
-    ap (option_map (λ (t : Ty). (t, x))) (sym (untyped w e)) ∙ ap (option_and_then at_type_text) at
-
 -- ---- the child
 
 -- bytes up to the last zero byte are bytes of the variant
@@ -104,8 +86,7 @@ shows_none b None v t e h = record { type = t; bytes = e }
 shows_none b (Some p) v t e h = shows_unit b (length p.0) (type_of_text p.1) p.0 v t e h
 
 lends_child : (b : List ℕ) (v : View) → ShowsChild b (child_at (length b) (variant_span (at_last_zero b))) v → Lends b (slice_get (cut variant b) 0) (Some v)
-unfolding cut spans
-lends_child b v h = h
+lends_child b v h = subst (λ (cs : List Child). Lends b (slice_get cs 0) (Some v)) (sym (variant_cut b)) h
 
 pub held_is_lent : (b : List ℕ) (v : View) → Some (shown v) ≡ held b → Lends b (slice_get (cut variant b) 0) (Some v)
 held_is_lent b v h = lends_child b v (shows_held b (at_last_zero b) v (at_last_zero_parts b) h)

@@ -3,7 +3,6 @@ pub mod Texts
 pub mod Variants
 pub mod Children
 pub mod Dictionaries
-pub mod Counting
 pub mod Copying
 pub mod FaultTexts
 pub mod Laws

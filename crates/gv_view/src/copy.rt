@@ -1,5 +1,5 @@
 //! Trees of values, made from the leaves up: a value's children are copied, and then it is made of their trees.
-ghost use Rattle.std.specs.Prelude.{◌≡◌, ◌≤◌, IfOk, IfErr};
+ghost use Rattle.std.specs.Prelude.{◌≡◌, ◌≤◌, ◌<◌, IfOk, IfErr, OnOk};
 ghost use Rattle.gv_model.specs.Ty.{Ty.basic};
 ghost use Rattle.gv_model.specs.Tree.{depth, children};
 ghost use Rattle.gv_types.specs.Classes.{basic_of};
@@ -7,25 +7,31 @@ ghost use Rattle.gv_types.specs.declared.class.Class.TheVariants as classes;
 ghost use Rattle.gv_tree.specs.Basics.{basic_tree};
 ghost use Rattle.gv_tree.specs.Nodes.{trees_of};
 ghost use Rattle.gv_tree.specs.declared.fault.TreeFault.TheVariants.{Memory};
+ghost use Rattle.gv_view.specs.declared.owned.ViewFault.TheVariants.{TooLarge};
 ghost use Rattle.gv_view.specs.Views.{view_ty, value};
 ghost use Rattle.gv_view.specs.Copying.{AreChildTrees};
 
+use crate::owned::ViewFault;
 use crate::view::View;
 use gv_tree::{Basic, Tree, TreeFault};
 use gv_types::{BasicType, Class};
 use std::alloc::Global;
 
-/// The tree of a value of no more than 128 levels. It fails only by running out of memory.
-pub(crate) fn copied(alloc: Global, view: View<'_>) -> Result<Tree, TreeFault>
-    requires { depth (value view) ≤ 128 }
+/// The tree of a value of no more than these levels, `TooLarge` exactly where it has more.
+pub(crate) fn copied(alloc: Global, view: View<'_>, levels: u8) -> Result<Tree, ViewFault>
+    requires { levels ≤ 128 }
     ensures tree { IfOk result (λ t. t ≡ value view.entry) }
-    ensures fault { IfErr result (λ f. f ≡ Memory) }
+    ensures fits { OnOk result (depth (value view.entry) ≤ levels) }
+    ensures fault { IfErr result (λ f. f ≡ TooLarge → levels < depth (value view.entry)) }
 {
+    if levels == 0 {
+        return Err(ViewFault::TooLarge);
+    }
     let mut parts = Vec::new(alloc);
     for child in view.children() {
-        parts.push(copied(alloc, child)?)?;
+        parts.push(copied(alloc, child, levels - 1)?)?;
     }
-    assembled(alloc, view, parts)
+    assembled(alloc, view, parts).map_err(|_| ViewFault::Memory)
 }
 
 /// The tree of a value with these children.

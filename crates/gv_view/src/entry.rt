@@ -1,21 +1,25 @@
 //! Looking up a key in a dictionary of strings, an array of entries: of equal keys the first one counts.
-ghost use Rattle.std.specs.Prelude.{◌≡◌, ◌↔◌, IfSome, IsTrue, MatchOption, option_map};
+ghost use Rattle.std.specs.Prelude.{◌≡◌, ◌↔◌, Some, IfSome, IsTrue, MatchOption, option_map};
 ghost use Rattle.gv_model.specs.Ty.{Ty.array, Ty.entry, Basic.string};
 ghost use Rattle.gv_model.specs.Entries.{HasKey, IsLookedUp};
 ghost use Rattle.gv_types.specs.TypeStr.{ty};
-ghost use Rattle.gv_view.specs.Dictionaries.{IsDictionary, IsTextEntry, IsValueUnder};
+ghost use Rattle.gv_model.specs.Parts.{parts};
+ghost use Rattle.gv_view.specs.Dictionaries.{IsDictionary, IsFirstPart, IsTextEntry, IsValueUnder};
 
 use crate::view::View;
 use gv_types::{BasicType, Class, TypeStr};
 
 impl<'a> View<'a> {
-    ghost use Rattle.gv_view.specs.Views.{value, view_ty};
+    ghost use Rattle.gv_view.specs.Views.{value, view_ty, view_bytes, shown};
 
-    /// The value of the first entry with this key in an `a{sT}`. None where no entry has it, and at another type.
+    /// The value of the first entry with this key in an `a{sT}`, lent as its own bytes. None where no entry has it, and at
+    /// another type.
     ///
     /// It goes over the entries once.
     pub fn entry(self, key: &str) -> Option<View<'a>>
         ensures found { IsLookedUp (value self.entry) key.now (option_map value result) }
+        ensures lends { IfSome result (λ v.
+            IsFirstPart (parts (view_ty self.entry) (view_bytes self.entry)) key.now (Some (shown v))) }
         ensures at_type { IfSome result (λ v. view_ty self.entry ≡ array (entry string (view_ty v))) }
     {
         if !is_dictionary(self.type_str) {

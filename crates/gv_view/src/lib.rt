@@ -7,7 +7,7 @@
 
 mod children;
 mod copy;
-mod count;
+mod depth;
 mod entry;
 mod number;
 mod owned;
@@ -19,5 +19,6 @@ mod view;
 pub use children::Children;
 pub use owned::ViewFault;
 pub use parts::parts_are_lent;
-pub use text::utf8_of;
+pub use text::{text_in, utf8_of};
+pub use variant::held_in_variant;
 pub use view::View;

@@ -1,4 +1,4 @@
-//! Copies of values as trees that own their parts. A value that is too large is not copied, not even in part.
+//! Copies of values as trees that own their parts. Of a value that is too large no part is left.
 ghost use Rattle.std.specs.Prelude.{◌≡◌, true, false, IfOk, IfErr, OnOk};
 ghost use Rattle.gv_model.specs.Printed.{is_too_large};
 ghost use Rattle.gv_view.specs.declared.owned.ViewFault.TheVariants.{TooLarge, Memory};
@@ -6,14 +6,14 @@ ghost use Rattle.gv_view.specs.declared.owned.ViewFault.TheVariants.{TooLarge, M
 use crate::copy::copied;
 use crate::view::View;
 use gv_tree::Tree;
-use std::alloc::{AllocError, Global};
+use std::alloc::{AllocError, AllocFailed, Global};
 use std::error::Error;
 use std::fmt;
 
 /// Why no tree is made of a value.
 #[derive(Clone, Copy, Debug, PartialEq, Eq)]
 pub enum ViewFault {
-    /// The value and the values in it are more than 1,000,000, or more than 128 levels deep.
+    /// The value is more than 128 levels deep.
     TooLarge,
     /// A growth was refused.
     Memory,
@@ -54,21 +54,26 @@ impl From<AllocError> for ViewFault {
     }
 }
 
+impl<T: Drop> From<AllocFailed<T>> for ViewFault {
+    ghost from_gives = { λ _ e. e ≡ Memory };
+
+    fn from(_error: AllocFailed<T>) -> ViewFault {
+        ViewFault::Memory
+    }
+}
+
 impl<'a> View<'a> {
     ghost use Rattle.gv_view.specs.Views.{value};
 
     /// The value as a tree that owns its parts.
     ///
-    /// A value that is too large is refused before anything is copied, and then running out of memory. It looks at no more
-    /// than 1,000,000 values.
+    /// `TooLarge` comes only where the value is more than 128 levels deep, and `Memory` where a growth is refused. It is one
+    /// walk over the values, linear in them and in the bytes of their texts.
     pub fn to_tree(self, alloc: Global) -> Result<Tree, ViewFault>
         ensures tree { IfOk result (λ t. t ≡ value self.entry) }
         ensures fits { OnOk result (is_too_large (value self.entry) ≡ false) }
         ensures fault { IfErr result (λ f. f ≡ TooLarge → is_too_large (value self.entry) ≡ true) }
     {
-        if self.is_too_large() {
-            return Err(ViewFault::TooLarge);
-        }
-        copied(alloc, self).map_err(|_| ViewFault::Memory)
+        copied(alloc, self, View::MAX_LEVELS)
     }
 }

@@ -40,7 +40,9 @@ pub(crate) fn signature_in(bytes: &[u8]) -> &str
 }
 
 /// The text before a zero byte that is the last and the only one, if it is UTF-8.
-fn text_in(bytes: &[u8]) -> Option<&str>
+///
+/// It looks at each byte once for the zero byte and once for UTF-8.
+pub fn text_in(bytes: &[u8]) -> Option<&str>
     ensures { option_map (λ s. s.now) result ≡ utf8_in bytes.now }
 {
     let end = memchr(0, bytes)?;

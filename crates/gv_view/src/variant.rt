@@ -7,7 +7,7 @@ ghost use Rattle.gv_types.specs.TypeStr.{ty};
 ghost use Rattle.gv_view.specs.Views.{shown};
 ghost use Rattle.gv_view.specs.Variants.{held};
 
-use crate::text::{around_last_zero, utf8_of};
+use crate::text::around_last_zero;
 use crate::view::View;
 use gv_types::TypeStr;
 
@@ -22,20 +22,22 @@ impl<'a> View<'a> {
         ensures lends { Lends bytes.entry.now (slice_get (cut variant bytes.entry.now) 0) (Some result) }
         ensures value { tree_at (children (decode variant bytes.entry.now)) 0 ≡ Some (value result) }
     {
-        match typed(bytes) {
+        match held_in_variant(bytes) {
             Some(held) => held,
             None => View::new(unit_type(), &[]),
         }
     }
 }
 
-/// The bytes before the last zero byte, at the type whose text comes after it.
-fn typed(bytes: &[u8]) -> Option<View<'_>>
+/// The bytes before the last zero byte, at the type whose text comes after it, or None where there is no zero byte, or no
+/// type after the last one.
+///
+/// It looks for the zero byte from the end, and at each byte of the type's text once.
+pub fn held_in_variant(bytes: &[u8]) -> Option<View<'_>>
     ensures { option_map shown result ≡ held bytes.now }
 {
     let (value, text) = around_last_zero(bytes)?;
-    let type_str = TypeStr::parse(utf8_of(text)?).ok()?;
-    Some(View::new(type_str, value))
+    Some(View::new(TypeStr::of_bytes(text)?, value))
 }
 
 /// The type `()`.

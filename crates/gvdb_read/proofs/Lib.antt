@@ -16,3 +16,4 @@ pub mod KeyTexts
 pub mod ListNumbers
 pub mod NameWalks
 pub mod AppendedBytes
+pub mod NotedLengths

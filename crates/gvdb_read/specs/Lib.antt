@@ -12,3 +12,4 @@ pub mod Ascending
 pub mod ByKey
 pub mod HashAbove
 pub mod ListNumbers
+pub mod NotedLengths

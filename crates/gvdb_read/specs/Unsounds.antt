@@ -2,7 +2,7 @@
 use Rattle.std.specs.Prelude.{ℕ, ◌<◌}
 use Rattle.dconf_model.specs.Table.{Table as Region}
 use Rattle.dconf_model.specs.Sound.{Rule as SoundRule}
-use Rattle.dconf_model.specs.Sound.{rule_number, KeepsAll}
+use Rattle.dconf_model.specs.Sound.{rule_number, Keeps, KeepsAll}
 use Rattle.dconf_model.specs.Sound.Rule.{buckets, keys, chain, hash, span, bloom, once, content, place, lists, locks}
 use Rattle.gvdb_read.specs.declared.unsound.Rule.{Rule}
 use Rattle.gvdb_read.specs.declared.unsound.Rule.TheVariants.{Buckets, Keys, Chain, Hash, Span, Bloom, Once, Content, Place, Lists, Locks}
@@ -23,3 +23,7 @@ rule_of Locks = locks
 -- the rules whose numbers are below this one are kept
 abbrev pub KeepsBelow : Region → ℕ → Type 0
 KeepsBelow t n = (rule : SoundRule) → rule_number rule < n → KeepsAll t rule
+
+-- each lower item keeps the rule
+abbrev pub KeptBefore : Region → SoundRule → ℕ → Type 0
+KeptBefore t rule i = (j : ℕ) → j < i → Keeps t rule j

@@ -4,7 +4,7 @@ ghost use Rattle.dconf_model.specs.Table.{item_count};
 ghost use Rattle.dconf_model.specs.Searchable.{IsSearchable};
 ghost use Rattle.dconf_model.specs.Sound.{IsFirstFault, IsSound, Keeps, KeepsAll, rule_number};
 ghost use Rattle.dconf_model.specs.Sound.Rule.{buckets, hash};
-ghost use Rattle.gvdb_read.specs.Unsounds.{KeepsBelow, rule_of};
+ghost use Rattle.gvdb_read.specs.Unsounds.{KeepsBelow, KeptBefore, rule_of};
 
 mod backwards;
 mod bloom;
@@ -33,9 +33,9 @@ impl Table<'_> {
     /// fails, in the order of [`Rule`], and the least item that breaks it.
     ///
     /// It takes no memory. S1, S2, S5, S6 and S8 take time in the buckets, the items and the bytes of their keys; S3
-    /// takes a step for each of the parents of each item. S4 takes time in the bytes of the keys where it is kept; else in
+    /// takes a step for each of the parents of each item, up to the first with a lower number. S4 takes time in the bytes of the keys where it is kept; else in
     /// those of the full names. S7 looks at the items of each item's bucket, and compares names where the hashes agree. S9
-    /// takes a step for each of the parents of each item, as far as their keys have 65,535 bytes. S10 takes time in the items, times the logarithm of the
+    /// takes a step for each of the parents of each item, up to one of the 256 items before it, and as far as their keys have 65,535 bytes. S10 takes time in the items, times the logarithm of the
     /// longest list, where all lists ascend by number, as our writer puts them, or by key, as dconf's does; else in the
     /// items times the lists. S11 asks S1 to S8 of the table of locks.
     pub fn check(self) -> Result<(), Unsound>
@@ -43,7 +43,7 @@ impl Table<'_> {
         ensures fault { IfErr result (λ e. IsFirstFault (region self.entry) (rule_of e.rule) e.item) }
     {
         self.check_names()?;
-        self.each_keeps(Rule::Place, |i| self.has_place(i))?;
+        self.check_places()?;
         self.check_lists()?;
         self.each_keeps(Rule::Locks, |i| self.has_locks_if_any(i))
     }
@@ -90,6 +90,19 @@ impl Table<'_> {
         self.each_keeps(Rule::Hash, |i| self.has_hash_of_name(i))
     }
 
+    /// Asks S9. Where all names are short it looks at the lengths once, and at each item and its parent. Else it looks
+    /// along the parents of each item, up to the first whose name is too long.
+    fn check_places(self) -> Result<(), Unsound>
+        requires earlier { KeepsBelow (region self) 9 }
+        ensures kept { IfOk result (λ _. KeepsBelow (region self.entry) 10) }
+        ensures fault { IfErr result (λ e. IsFirstFault (region self.entry) (rule_of e.rule) e.item) }
+    {
+        if self.names_are_short() {
+            return self.each_keeps(Rule::Place, |i| self.has_parent(i));
+        }
+        self.each_keeps(Rule::Place, |i| self.has_place(i))
+    }
+
     /// Asks S10. Where each list ascends, by number or by key, it looks at the lists once or twice, and for each item at
     /// as many numbers as the longest list has binary digits. Else it looks at each item once for each list, and compares
     /// each number of a list with its children and with the numbers before it.
@@ -107,13 +120,15 @@ impl Table<'_> {
         self.each_keeps(Rule::Lists, |i| self.has_list_if_any(i))
     }
 
-    /// Refuses a table in which an item doesn't keep the rule, at the least such item.
+    /// Refuses a table in which an item doesn't keep the rule, at the least such item. What is asked of an item may build on
+    /// it that each lower item keeps the rule.
     #[tactic(auto, using(crate::proofs::RuleOrder::least_is_not_kept, crate::proofs::RuleOrder::all_keep))]
     fn each_keeps<F: Fn(u32) -> bool>(self, rule: Rule, keeps: F) -> Result<(), Unsound>
         requires of_items { rule_of rule ≢ buckets }
         requires earlier { KeepsBelow (region self) (rule_number (rule_of rule)) }
         requires callable { (i : ℕ) → i < item_count (region self) → F.pre keeps i }
-        requires tells { (i : ℕ) (b : Bool) → F.post keeps i b → IsTrue b ↔ Keeps (region self) (rule_of rule) i }
+        requires tells { (i : ℕ) (b : Bool) → KeptBefore (region self) (rule_of rule) i → F.post keeps i b
+            → IsTrue b ↔ Keeps (region self) (rule_of rule) i }
         ensures kept { IfOk result (λ _. KeepsBelow (region self.entry) (rule_number (rule_of rule) + 1)) }
         ensures fault { IfErr result (λ e. IsFirstFault (region self.entry) (rule_of e.rule) e.item) }
         ensures not_kept { IfErr result (λ _. ¬ KeepsAll (region self.entry) (rule_of rule)) }

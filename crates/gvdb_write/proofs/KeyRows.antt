@@ -1,14 +1,19 @@
 -- The numbers of items while their keys are laid.
-use Rattle.std.proofs.Common.{ℕ, ◌≡◌, ◌<◌, ◌+◌, ◌-◌, List, [], ◌∷◌, ◌++◌, length, refl, sym, ap, ◌∙◌, subst, arith}
+use Rattle.std.proofs.Common.{ℕ, ◌≡◌, ◌<◌, ◌+◌, ◌-◌, List, [], ◌∷◌, ◌++◌, length, None, refl, sym, ap, ◌∙◌, subst, arith}
 use Rattle.std.proofs.lemmas.List.{length-drop, length_push}
 use Rattle.dconf_model.specs.Plans.{keys_end}
 use Rattle.dconf_model.proofs.PlanEnds.{keys_next, keys_grow}
 use Rattle.gvdb_read.specs.declared.format.record.ItemRecord.{ItemRecord as Numbers}
+use Rattle.gvdb_write.specs.declared.names.Content.TheVariants.{Value}
 use Rattle.gvdb_write.specs.declared.names.Named.{Named}
 use Rattle.gvdb_write.specs.Names.{named, name_at}
 use Rattle.gvdb_write.specs.PlanWords.{kind_of, entries_of}
 use Rattle.gvdb_write.specs.LayoutParts.{row, no_numbers, IsRecordOf}
 use Rattle.gvdb_write.proofs.ItemOrders.{each_more}
+
+-- what goals read where there is no item
+abbrev pub no_item : Named
+no_item = record { name = record { ref_ptr = (0, 0); now = [] }; from = 0; hash = 0; parent = None; content = Value record { ref_ptr = (0, 0); now = [] } }
 
 -- of so many items, whose keys end there
 pub record AreRowsBelow (items : List Named) (from : ℕ) (rows : List Numbers) (at n : ℕ) : Type 0 where
@@ -40,7 +45,7 @@ is_row items from at n r ends is = record {
   of_kind = is.of_kind;
 }
 
-next_end : (items : List Named) (from at next n : ℕ) → at ≡ keys_end (entries_of items) from n → next ≡ at + (length (name_at items n) - (named items n).from) → next ≡ keys_end (entries_of items) from (n + 1)
+pub next_end : (items : List Named) (from at next n : ℕ) → at ≡ keys_end (entries_of items) from n → next ≡ at + (length (name_at items n) - (named items n).from) → next ≡ keys_end (entries_of items) from (n + 1)
 next_end items from at next n ends is =
     is ∙ (ap (λ (k : ℕ). k + (length (name_at items n) - (named items n).from)) ends
     ∙ (ap (λ (k : ℕ). keys_end (entries_of items) from n + k) (sym (length-drop (named items n).from (name_at items n)))

@@ -1,14 +1,15 @@
 -- The values of both tables, laid where their rows say.
-use Rattle.std.proofs.Common.{ℕ, ◌≡◌, ◌<◌, List, [], length, get_or, fold, sym, subst}
+use Rattle.std.proofs.Common.{ℕ, ◌≡◌, ◌<◌, List, [], length, fold, sym, subst}
 use Rattle.dconf_model.specs.Table.{value_kind}
 use Rattle.dconf_model.specs.Plans.{nothing_bytes, all_values, with_new, once_each}
 use Rattle.gvdb_read.specs.declared.format.record.ItemRecord.{ItemRecord as Numbers}
-use Rattle.gvdb_write.specs.declared.layout.Pointer.{Pointer}
+use Rattle.gvdb_write.specs.declared.layout.Contents.{Contents}
 use Rattle.gvdb_write.specs.declared.table.TablePlan.{TablePlan}
-use Rattle.gvdb_write.specs.LayoutParts.{row, values_at, AreRecords, AreLocks, HasPlacedValue}
+use Rattle.gvdb_write.specs.LayoutParts.{row, values_at, AreLocks, HasPlacedValue}
 use Rattle.gvdb_write.specs.Names.{kind_at}
 use Rattle.gvdb_write.specs.PlanWords.{plan_of}
-use Rattle.gvdb_write.specs.Contents.{pointer_at, own_values, AreSet, HavePlaces, ArePointers}
+use Rattle.gvdb_write.specs.ContentPlaces.{ArePointed}
+use Rattle.gvdb_write.specs.Contents.{own_values, HavePlaces, ArePointers}
 use Rattle.gvdb_write.proofs.FoundValues.{places_stay}
 use Rattle.gvdb_write.proofs.PlacedRows.{value_placed, lock_placed}
 use Rattle.gvdb_write.proofs.PlanValues.{all_once}
@@ -27,22 +28,18 @@ moved at at' values values' value r e f has =
     subst (λ (n : ℕ). HasPlacedValue n values' value r) e (subst (λ (vs : List (List ℕ)). HasPlacedValue at vs value r) f has)
 
 -- those of the root table are added first, then those of the locks, and then all are laid
-pub are_valued : (root locks : TablePlan) (at keys lock_keys : ℕ) (root_old root_new lock_old lock_new : List Numbers) (first all : List (List ℕ))
-    (root_places lock_places : List ℕ) (pointers : List Pointer) → AreLocks locks.items.items → AreRecords root.items.items keys root_old
-    → AreRecords locks.items.items lock_keys lock_old → first ≡ fold with_new [] (own_values root.items.items)
-    → all ≡ fold with_new first (own_values locks.items.items) → HavePlaces root.items.items first root_places → HavePlaces locks.items.items all lock_places
-    → ArePointers at all pointers → AreSet root_old root_new value_kind (λ i. pointer_at pointers (get_or root_places i 0))
-    → AreSet lock_old lock_new value_kind (λ i. pointer_at pointers (get_or lock_places i 0)) → at ≡ values_at (plan_of root locks)
-    → AreValued root locks all root_new lock_new
-are_valued root locks at keys lock_keys root_old root_new lock_old lock_new first all root_places lock_places pointers are rows lock_rows of_root of_locks have lock_have laid set lock_set is =
+pub are_valued : (root locks : TablePlan) (at : ℕ) (c l : Contents) (root_rows lock_rows : List Numbers) (first all : List (List ℕ)) → AreLocks locks.items.items
+    → first ≡ fold with_new [] (own_values root.items.items) → all ≡ fold with_new first (own_values locks.items.items)
+    → HavePlaces root.items.items first c.places.now → HavePlaces locks.items.items all l.places.now
+    → ArePointers at all c.pointers.now → ArePointers at all l.pointers.now → ArePointed root.items.items c root_rows → ArePointed locks.items.items l lock_rows
+    → at ≡ values_at (plan_of root locks) → AreValued root locks all root_rows lock_rows
+are_valued root locks at c l root_rows lock_rows first all are of_root of_locks have lock_have laid lock_laid pointed lock_pointed is =
     let items = root.items.items in
     let whole : all ≡ once_each (all_values (plan_of root locks)) = all_once root locks first all are of_root of_locks in
-    let still : HavePlaces items all root_places =
-    subst (λ (vs : List (List ℕ)). HavePlaces items vs root_places) (sym of_locks) (places_stay items first root_places have (own_values locks.items.items)) in
+    let still : HavePlaces items all c.places.now =
+    subst (λ (vs : List (List ℕ)). HavePlaces items vs c.places.now) (sym of_locks) (places_stay items first c.places.now have (own_values locks.items.items)) in
     record {
       once = whole;
-      root_values = λ i l k. moved at _ all _ ((plan_of root locks).value i) (row root_new i) is whole
-          (value_placed items keys at root_old root_new all root_places pointers rows still laid set i l k);
-      lock_values = λ i l. moved at _ all _ nothing_bytes (row lock_new i) is whole
-          (lock_placed locks.items.items lock_keys at lock_old lock_new all lock_places pointers are lock_rows lock_have laid lock_set i l);
+      root_values = λ i h k. moved at _ all _ ((plan_of root locks).value i) (row root_rows i) is whole (value_placed items c at root_rows all still laid pointed i h k);
+      lock_values = λ i h. moved at _ all _ nothing_bytes (row lock_rows i) is whole (lock_placed locks.items.items l at lock_rows all are lock_have lock_laid lock_pointed i h);
     }

@@ -28,7 +28,6 @@ pub mod PlacedRows
 pub mod PlanValues
 pub mod LaidContents
 pub mod KeyRows
-pub mod SetRows
 pub mod PastEnds
 pub mod LayoutEnds
 pub mod WholeLayout
@@ -40,3 +39,5 @@ pub mod PartContents
 pub mod PartsLaid
 pub mod TablesReady
 pub mod SalvagedSteps
+pub mod HeldEntries
+pub mod KnownContents

@@ -18,7 +18,7 @@ use Rattle.std.proofs.lemmas.List.{length-map}
 use Rattle.gvdb_write.specs.Maps.{values_of, locks_of, value_entries, lock_entries}
 
 -- a list in order is its map's entries
-entries_of_sorted : {X : Type 0} (es : List (List ℕ × X)) → is_sorted (slice_cmp nat_cmp) es ≡ true → fin.entries (fin.from_entries {R = slice_cmp nat_cmp} es) ≡ es
+pub entries_of_sorted : {X : Type 0} (es : List (List ℕ × X)) → is_sorted (slice_cmp nat_cmp) es ≡ true → fin.entries (fin.from_entries {R = slice_cmp nat_cmp} es) ≡ es
 entries_of_sorted es sorted =
     let holds = subst (λ b. T b) (sym sorted) tt in
     let same = fin.same_map nat_list_cmp_total (fin.slice_cmp-IsAntisymmetric fin.nat_cmp-IsAntisymmetric) (fin.from_entries es) (fin.from_sorted es) (λ q. fin.get-from_entries nat_list_cmp_total es q ∙ sym (fin.get-from_sorted (slice_cmp nat_cmp) es q holds)) in
@@ -28,12 +28,12 @@ below_values : (k : String Global) (es : List (String Global × Vec ℕ Global))
 below_values k [] h = refl
 below_values k (e ∷ es) h = ap (λ r. is_lt r && below_all (slice_cmp nat_cmp) (string_bytes k) (value_entries es)) h.0 ∙ below_values k es h.1
 
-sorted_values : (es : List (String Global × Vec ℕ Global)) → IsStrictlySortedBy string_cmp (map (λ e. e.0) es) → is_sorted (slice_cmp nat_cmp) (value_entries es) ≡ true
+pub sorted_values : (es : List (String Global × Vec ℕ Global)) → IsStrictlySortedBy string_cmp (map (λ e. e.0) es) → is_sorted (slice_cmp nat_cmp) (value_entries es) ≡ true
 unfolding IsStrictlySortedBy
 sorted_values [] h = refl
 sorted_values (e ∷ es) h = ap (λ b. b && is_sorted (slice_cmp nat_cmp) (value_entries es)) (below_values e.0 es h.0) ∙ sorted_values es h.1
 
-paths_of_values : (es : List (String Global × Vec ℕ Global)) → map (λ p. p.0) (value_entries es) ≡ map string_bytes (map (λ e. e.0) es)
+pub paths_of_values : (es : List (String Global × Vec ℕ Global)) → map (λ p. p.0) (value_entries es) ≡ map string_bytes (map (λ e. e.0) es)
 paths_of_values [] = refl
 paths_of_values (e ∷ es) = ap (λ ps. string_bytes e.0 ∷ ps) (paths_of_values es)
 

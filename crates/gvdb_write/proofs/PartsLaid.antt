@@ -4,7 +4,7 @@ use Rattle.std.proofs.Math.ListN.{get_or-map}
 use Rattle.std.proofs.lemmas.List.{length-map}
 use Rattle.dconf_model.specs.Table.{Table as Place, Item, item, value_kind, list_kind, bytes_of, table_of}
 use Rattle.dconf_model.specs.Entries.{IsLaidOut, IsLaidList, AreLaidLocks}
-use Rattle.dconf_model.specs.Plans.{Plan, IsLaidBy}
+use Rattle.dconf_model.specs.Plans.{Plan, IsLaidBy, HaveEmptyStrings, nothing_bytes}
 use Rattle.dconf_model.specs.TableBytes.{OccursAt, ItemRecord}
 use Rattle.dconf_model.specs.TableEncoding.{IsWritten}
 use Rattle.dconf_model.proofs.HeaderBytes.{same_table, root_is, is_database}
@@ -99,18 +99,31 @@ module _ (root locks : TablePlan) (layout : Layout) (file : List ℕ) (tables : 
         locks = tables.plan.locks;
       }
 
-  -- the item `.locks` points to it
-  root_locks : (i : ℕ) → i < length root.items.items → (P.root.entry i).name ≡ codes ".locks" → AreLaidLocks (table_of Root i) P.locks
+  -- each lock's value is the empty string
+  lock_value : (some : 0 < length locks.items.items) → HaveEmptyStrings Locked
+  lock_value some j here =
+      let table = locks_table root locks layout file tables laid parts some in
+      let written = locks_written some in
+      let inside : j < length locks.items.items = subst (λ (n : ℕ). j < n) (locks_laid some).laid.counted here in
+      let placed = laid.lock_values j inside in
+      let r = row layout.locks.rows.items j in
+      let is = row_is layout.locks.rows.items j in
+      bytes_are Locked P.locks table.words locks.buckets.items (records_of layout.locks.rows.items) j nothing_bytes written tables.plan.lock_entries inside
+      (subst (λ (x : ItemRecord). OccursAt file x.start nothing_bytes) (sym is) (placed_occurs root locks layout file tables laid parts nothing_bytes r placed))
+      (subst (λ (x : ItemRecord). x.end ≡ x.start + length nothing_bytes) (sym is) (placed_ends root locks layout file tables laid parts nothing_bytes r placed))
+
+  -- ---- the item `.locks` points to it
+
+  root_locks : (i : ℕ) → i < length root.items.items → (P.root.entry i).name ≡ codes ".locks" → (0 < length locks.items.items) × (table_of Root i ≡ Locked)
   root_locks i here name =
       let kind = locks_kind tables.settings P i tables.are_settings tables.plan here name in
       let some = table_has_locks tables.settings P i tables.are_settings tables.plan here kind in
       let pointer = laid.tables i here kind some in
-      let is = row_at Root P.root parts.root_table.words root.buckets.items Rows i root_written tables.plan.entries here ∙ ap item_of_row (row_is layout.root.rows.items i) in
-      subst (λ (t : Place). AreLaidLocks t P.locks)
-      (sym
-      (same_table file (item Root i).start (locks_at P) (item Root i).end (lock_keys_at P)
-      (ap (λ (x : Item). x.start) is ∙ pointer.start_is) (ap (λ (x : Item). x.end) is ∙ pointer.end_is)))
-      (locks_laid some)
+      let is = row_at Root P.root parts.root_table.words root.buckets.items Rows i root_written tables.plan.entries here ∙ ap item_of_row (row_is layout.root.rows.items i) in (
+        some,
+        same_table file (item Root i).start (locks_at P) (item Root i).end (lock_keys_at P)
+            (ap (λ (x : Item). x.start) is ∙ pointer.start_is) (ap (λ (x : Item). x.end) is ∙ pointer.end_is),
+      )
 
   -- ---- all of it
 
@@ -122,9 +135,14 @@ module _ (root locks : TablePlan) (layout : Layout) (file : List ℕ) (tables : 
       root = tables.plan.places;
       children = tables.plan.children;
       lists = root_list;
-      locks = root_locks;
+      locks = λ i here name.
+          let points = root_locks i here name in
+          subst (λ (t : Place). AreLaidLocks t P.locks) (sym points.1) (locks_laid points.0);
     };
     values = root_value;
+    lock_values = λ i here name.
+        let points = root_locks i here name in
+        subst HaveEmptyStrings (sym points.1) (lock_value points.0);
   }
 
   pub is_file : IsFileOf root locks file

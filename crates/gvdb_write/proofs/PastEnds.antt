@@ -17,5 +17,12 @@ over_more n m Memory more over = tt
 pub past_is_over : {T : Type 0} (r : Result T WriteFault) (n m : ℕ) → (limit < n → limit < m) → IfErr r (IsPast n) → IfErr r (IsOver m)
 past_is_over r n m more past = IfErr-weaker r (IsPast n) (IsOver m) (λ e p. over_of n m e more p) past
 
+past_more : (n m : ℕ) (e : WriteFault) → (limit < n → limit < m) → IsPast n e → IsPast m e
+past_more n m TooBig more past = more past
+past_more n m Memory more past = past
+
+pub still_past : {T : Type 0} (r : Result T WriteFault) (n m : ℕ) → (limit < n → limit < m) → IfErr r (IsPast n) → IfErr r (IsPast m)
+still_past r n m more past = IfErr-weaker r (IsPast n) (IsPast m) (λ e p. past_more n m e more p) past
+
 pub still_over : {T : Type 0} (r : Result T WriteFault) (n m : ℕ) → (limit < n → limit < m) → IfErr r (IsOver n) → IfErr r (IsOver m)
 still_over r n m more over = IfErr-weaker r (IsOver n) (IsOver m) (λ e o. over_more n m e more o) over

@@ -1,15 +1,11 @@
 -- The names of a root table, path by path.
-use Rattle.std.proofs.Common.{◌≡◌, ◌≢◌, ◌<◌, ◌≤◌, ◌+◌, ◌-◌, ℕ, suc, List, [], ◌∷◌, ◌++◌, length, get_or, take, drop, Option, Some, None, true, false, is_some, Bor, option_map, sym, ap, ◌∙◌, subst, arith, ⊎_elim, codes, length-append}
+use Rattle.std.proofs.Common.{◌≡◌, ◌≢◌, ◌<◌, ◌≤◌, ◌+◌, ◌-◌, ℕ, suc, List, [], ◌∷◌, ◌++◌, length, get_or, take, drop, Some, sym, ap, ◌∙◌, subst, arith, ⊎_elim, codes, length-append}
 use Rattle.std.specs.Prelude.{IsTrue}
-use Rattle.std.specs.Option.{UnwrapsOrElse}
 use Rattle.std.specs.FinMap.{keys, get, contains_key}
 use Rattle.std.proofs.lemmas.Bool.{cases_lt}
 use Rattle.std.proofs.lemmas.List.{append_assoc, take-take, take_at, take_more, length-take-le, take-append-drop, get_or-take, get_or_append_left, get_or_push, length_push, get_or-append-add}
 use Rattle.dconf_model.specs.Table.{value_kind, list_kind, table_kind}
 use Rattle.dconf_model.specs.Settings.{Settings}
-use Rattle.dconf_model.specs.Paths.{is_key_path}
-use Rattle.dconf_path.specs.declared.path.KeyPath.{KeyPath}
-use Rattle.dconf_path.specs.Paths.{key_text}
 use Rattle.dconf_model.specs.Plans.{HasLocks, IsDirectoryOf, IsRootName}
 use Rattle.dconf_model.specs.Plans.IsRootName.{key, directory}
 use Rattle.dconf_model.proofs.NameOrder.{before_prefix}
@@ -17,7 +13,7 @@ use Rattle.dconf_model.proofs.PathLaws.{ends_in}
 use Rattle.gvdb_write.specs.declared.names.Named.{Named}
 use Rattle.gvdb_write.specs.PlanWords.{kind_of, content_bytes, no_name}
 use Rattle.gvdb_write.specs.Names.{named, name_at, kind_at, IsBefore, IsSlash, AreGood, AreRootNames, HoldValues, IsThere, IsDirectoryAt, IsBeyond, last_name, IsNewDirectory, IsAdded}
-use Rattle.gvdb_write.proofs.PathTexts.{IsText, text_of_key}
+use Rattle.gvdb_write.proofs.PathTexts.{IsText}
 use Rattle.gvdb_write.proofs.PushedNames.{kept, pushed, old_or_last, last_pushed}
 use Rattle.gvdb_write.proofs.KeysRise.{Rise, rise_rest, first_before, listed_is_kept}
 
@@ -113,13 +109,6 @@ beyond_next names last text at len result lies innermost common d before = recor
       (not_in_prefix names last text at len result i lies innermost common d s after);
 }
 
--- the path's text, and what is left when it comes first
-pub text_of_path : (path : KeyPath) (text said : List ℕ) → text ≡ said → said ≡ key_text path → IsText text
-text_of_path path text said is so = text_of_key text (subst (λ (x : List ℕ). IsTrue (is_key_path x)) (sym (is ∙ so)) path.is_of_key)
-
-pub text_is_first : (path : KeyPath) (text said : List ℕ) (left rest : List (List ℕ)) → text ≡ said → said ≡ key_text path → left ≡ key_text path ∷ rest → left ≡ text ∷ rest
-text_is_first path text said left rest is so first = first ∙ ap (λ (x : List ℕ). x ∷ rest) (sym (is ∙ so))
-
 -- the directory that the next path lies in so far
 pub record IsNextDirectory (names : List Named) (text : List ℕ) (at : ℕ) : Type 0 where
   pub lies : IsDirectoryAt names text at
@@ -137,14 +126,6 @@ next_directory s names slice at last text left rest len result so is common same
       beyond = subst (λ (x : List ℕ). IsBeyond x text (length (name_at names result))) (sym so.last_is)
           (beyond_next names last text at len result so.lies so.innermost common d before);
     }
-
--- ---- the value of the next path
-
-pub value_here : (s : Settings) (text : List ℕ) (found : Option (Bor (List ℕ))) (Default : Bor (List ℕ) → Type 0) (value : Bor (List ℕ))
-    → option_map (λ (b : Bor (List ℕ)). b.now) found ≡ get s.values text → UnwrapsOrElse found Default value → IsTrue (contains_key s.values text)
-    → get s.values text ≡ Some value.now
-value_here s text None Default value is unwraps kept = let bad : false ≡ true = ap is_some is ∙ kept in cc
-value_here s text (Some bytes) Default value is unwraps kept = sym is ∙ ap (λ (b : Bor (List ℕ)). Some b.now) (sym unwraps)
 
 -- ---- one path more
 

@@ -1,13 +1,12 @@
--- Where contents are laid, and the rows in which that is set.
-use Rattle.std.specs.Prelude.{ℕ, ◌+◌, ◌<◌, ◌≤◌, ◌≡◌, ◌≢◌, List, [], ◌∷◌, length, slice_index, slice_index_or}
+-- Where contents are laid.
+use Rattle.std.specs.Prelude.{ℕ, ◌+◌, ◌<◌, ◌≤◌, ◌≡◌, List, [], ◌∷◌, length, slice_index, slice_index_or}
 use Rattle.std.specs.List.{flat_map}
 use Rattle.dconf_model.specs.Table.{value_kind}
-use Rattle.gvdb_read.specs.declared.format.record.ItemRecord.{ItemRecord as Numbers}
 use Rattle.gvdb_write.specs.declared.layout.Pointer.{Pointer}
 use Rattle.gvdb_write.specs.declared.names.Content.{Content}
 use Rattle.gvdb_write.specs.declared.names.Content.TheVariants.{Value, List as Listed, Locks}
 use Rattle.gvdb_write.specs.declared.names.Named.{Named}
-use Rattle.gvdb_write.specs.LayoutParts.{row, value_start}
+use Rattle.gvdb_write.specs.LayoutParts.{value_start}
 use Rattle.gvdb_write.specs.Names.{named, kind_at}
 use Rattle.gvdb_write.specs.PlanWords.{content_bytes}
 use Rattle.gv_model.specs.Limits.{limit}
@@ -25,26 +24,6 @@ pointer_at pointers k = slice_index_or pointers k no_pointer
 pub record IsShort (pointer : Pointer) : Type 0 where
   pub start : pointer.start ≤ limit
   pub end : pointer.end ≤ limit
-
--- ---- rows
-
--- a row with another pointer
-abbrev pub with_pointer : Pointer → Numbers → Numbers
-with_pointer pointer r = record {
-  hash = r.hash;
-  parent = r.parent;
-  key_start = r.key_start;
-  key_size = r.key_size;
-  kind = r.kind;
-  start = pointer.start;
-  end = pointer.end;
-}
-
--- each row of a kind has a new pointer, and each other row stays
-pub record AreSet (old new : List Numbers) (kind : ℕ) (pointer : ℕ → Pointer) : Type 0 where
-  pub counted : length new ≡ length old
-  pub set : (i : ℕ) → i < length old → (row old i).kind ≡ kind → row new i ≡ with_pointer (pointer i) (row old i)
-  pub kept : (i : ℕ) → i < length old → (row old i).kind ≢ kind → row new i ≡ row old i
 
 -- ---- values
 

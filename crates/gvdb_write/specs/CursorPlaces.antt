@@ -1,16 +1,10 @@
 -- Where a table, its keys and its lists are laid, from where the cursor is.
-use Rattle.std.specs.Prelude.{ℕ, ◌+◌, ◌*◌, ◌<◌, ◌≡◌, List, length}
+use Rattle.std.specs.Prelude.{ℕ, ◌+◌, ◌*◌, List, length}
 use Rattle.gv_model.specs.Layout.{round_up}
-use Rattle.dconf_model.specs.Table.{list_kind}
 use Rattle.dconf_model.specs.Entries.{Children}
 use Rattle.dconf_model.specs.Plans.{size_of_table, keys_end}
-use Rattle.gvdb_write.specs.declared.layout.Pointer.{Pointer}
 use Rattle.gvdb_write.specs.declared.names.Named.{Named}
-use Rattle.gvdb_read.specs.declared.format.record.ItemRecord.{ItemRecord as Numbers}
-use Rattle.gvdb_write.specs.declared.table.TablePlan.{TablePlan}
-use Rattle.gvdb_write.specs.Names.{kind_at}
-use Rattle.gvdb_write.specs.PlanWords.{entries_of, children_of}
-use Rattle.gvdb_write.specs.LayoutParts.{row, HasPointer}
+use Rattle.gvdb_write.specs.PlanWords.{entries_of}
 
 -- where a table of so many items ends
 abbrev pub table_end : ℕ → ℕ → ℕ
@@ -27,13 +21,3 @@ laid_end at items = all_keys_end (table_end at (length items)) items
 -- where all lists end
 abbrev pub all_lists_end : ℕ → Children → ℕ
 all_lists_end at c = round_up 4 at + 4 * c.count
-
--- where the list of an item is, of lists that come one after another
-abbrev pub list_pointer : ℕ → Children → ℕ → Pointer
-list_pointer at c i = record { start = round_up 4 at + 4 * c.first i; end = round_up 4 at + 4 * c.first (i + 1) }
-
--- each list is where the lists before it end
-abbrev pub AreListed : TablePlan → ℕ → List Numbers → Type 0
-AreListed root at rows =
-    (i : ℕ) → i < length root.items.items → kind_at root.items.items i ≡ list_kind →
-    HasPointer (row rows i) (list_pointer at (children_of root) i).start (list_pointer at (children_of root) i).end

@@ -11,6 +11,7 @@ pub mod Values
 pub mod WrittenParts
 pub mod LayoutParts
 pub mod Contents
+pub mod ContentPlaces
 pub mod CursorPlaces
 pub mod PlannedTables
 pub mod Salvaged

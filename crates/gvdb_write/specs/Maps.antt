@@ -13,6 +13,10 @@ use Rattle.dconf_model.specs.Settings.{AtPaths, Lock, Settings}
 abbrev pub value_entries : List (String Global × Vec ℕ Global) → List (List ℕ × List ℕ)
 value_entries es = map {B = List ℕ × List ℕ} (λ e. (string_bytes e.0, e.1.items)) es
 
+-- the paths of entries
+abbrev pub paths_of : List (List ℕ × List ℕ) → List (List ℕ)
+paths_of es = map (λ e. e.0) es
+
 abbrev pub values_of : BTreeMap (String Global) (Vec ℕ Global) → AtPaths (List ℕ)
 values_of m = from_entries (value_entries m.entries)
 

@@ -1,16 +1,17 @@
 //! Where everything occurs in a database's bytes: header; root table; its keys; its lists; the table of locks and its
 //! keys; values, the root table's and then the locks', equal bytes once.
-ghost use Rattle.std.specs.Prelude.{ℕ, ◌≡◌, ◌+◌, ◌*◌, ◌/◌, ◌<◌, ◌≤◌, [], length, fold, slice_index, Some, OnOk, IfOk, IfErr};
+ghost use Rattle.std.specs.Prelude.{ℕ, ◌≡◌, ◌+◌, ◌*◌, ◌/◌, ◌<◌, ◌≤◌, length, fold, Some, OnOk, IfOk, IfErr};
 ghost use Rattle.gv_model.specs.Layout.{round_up};
-ghost use Rattle.dconf_model.specs.Table.{value_kind, list_kind, table_kind};
+ghost use Rattle.dconf_model.specs.Table.{list_kind};
 ghost use Rattle.dconf_model.specs.Entries.{EachEntry, IsRootEntry, AreChildren};
 ghost use Rattle.dconf_model.specs.Plans.{length_of, locks_end, values_end, with_new};
 ghost use Rattle.gvdb_write.specs.Limits.{limit, IsPast, IsOver};
 ghost use Rattle.gvdb_write.specs.Names.{kind_at};
 ghost use Rattle.gvdb_write.specs.PlanWords.{kind_of, entries_of, children_of, plan_of};
-ghost use Rattle.gvdb_write.specs.LayoutParts.{CanBeLaid, AreLocks, AreRecords, IsLayoutOf, row as row_at};
-ghost use Rattle.gvdb_write.specs.CursorPlaces.{table_end, all_keys_end, laid_end, all_lists_end, list_pointer, AreListed};
-ghost use Rattle.gvdb_write.specs.Contents.{pointer_at, IsShort, AreSet, own_values, HavePlaces, ArePointers};
+ghost use Rattle.gvdb_write.specs.LayoutParts.{CanBeLaid, AreLocks, AreRecords, IsLayoutOf};
+ghost use Rattle.gvdb_write.specs.CursorPlaces.{table_end, all_keys_end, laid_end, all_lists_end};
+ghost use Rattle.gvdb_write.specs.Contents.{IsShort, own_values, HavePlaces, ArePointers};
+ghost use Rattle.gvdb_write.specs.ContentPlaces.{ArePointed, CanPoint, CanPointAt, content_pointer};
 ghost use Rattle.gvdb_write.specs.Values.{bytes_of_each, ArePlaces};
 ghost use Rattle.gvdb_write.specs.declared.write_fault.WriteFault.TheVariants.{Memory};
 
@@ -99,33 +100,32 @@ fn lay_table(cursor: &mut Cursor, items: usize) -> Result<Pointer, WriteFault>
     cursor.lay(8 + 4 * bloom_words(items) + 28 * items)
 }
 
-/// Lays the keys of items, one after another. The contents aren't laid yet.
-fn lay_keys(
-    alloc: Global,
-    cursor: &mut Cursor,
-    items: &[Named<'_>],
-) -> Result<Vec<ItemRecord>, WriteFault>
-    requires items { CanBeLaid items.now }
-    requires few { length items.now ≤ limit }
-    ensures rows { IfOk result (λ rows. AreRecords items.now cursor.old.at rows.items) }
+/// Lays the keys of items, one after another.
+fn lay_keys(cursor: &mut Cursor, items: &[Named<'_>]) -> Result<(), WriteFault>
+    requires { CanBeLaid items.now }
     ensures at { OnOk result (cursor.new.at ≡ all_keys_end cursor.old.at items.now) }
-    ensures fault { IfErr result (IsOver (all_keys_end cursor.old.at items.now)) }
+    ensures fault { IfErr result (IsPast (all_keys_end cursor.old.at items.now)) }
 {
-    let mut rows = Vec::with_capacity(alloc, items.len())?;
     for named in items {
-        let size = named.name.len() - named.from;
-        let key = cursor.lay(size)?;
-        rows.push(ItemRecord {
-            hash: named.hash,
-            parent: short_parent(named.parent),
-            key_start: key.start as u32,
-            key_size: size as u16,
-            kind: kind(named.content),
-            start: 0,
-            end: 0,
-        })?;
+        cursor.lay(named.name.len() - named.from)?;
     }
-    Ok(rows)
+    Ok(())
+}
+
+/// Lays a table and its keys, which come right after it. Gives where the table is.
+fn lay_items(cursor: &mut Cursor, items: &[Named<'_>]) -> Result<Pointer, WriteFault>
+    requires { CanBeLaid items.now }
+    ensures short { IfOk result IsShort }
+    ensures start { IfOk result (λ pointer. pointer.start ≡ round_up 4 cursor.old.at) }
+    ensures end { IfOk result (λ pointer. pointer.end ≡ table_end cursor.old.at (length items.now)) }
+    ensures few { IfOk result (λ pointer. length items.now ≤ limit) }
+    ensures keys { IfOk result (λ pointer. all_keys_end pointer.end items.now ≤ limit) }
+    ensures at { OnOk result (cursor.new.at ≡ laid_end cursor.old.at items.now) }
+    ensures fault { IfErr result (IsPast (laid_end cursor.old.at items.now)) }
+{
+    let pointer = lay_table(cursor, items.len())?;
+    lay_keys(cursor, items)?;
+    Ok(pointer)
 }
 
 /// The number of a directory's item, in four bytes.
@@ -150,85 +150,36 @@ fn kind(content: Content<'_>) -> u8
     }
 }
 
-/// Lays the lists, which come one after another, since each has whole numbers.
-fn lay_lists(
-    cursor: &mut Cursor,
-    table: &TablePlan<'_>,
-    rows: &mut [ItemRecord],
-) -> Result<(), WriteFault>
-    requires children { AreChildren (entries_of table.now.items.items) (children_of table.now) }
-    requires lists { length table.now.firsts.items ≡ length table.now.items.items + 1 }
-    requires rows { length rows.old ≡ length table.now.items.items }
-    ensures lists { OnOk result (AreSet rows.old rows.new list_kind (list_pointer cursor.old.at (children_of table.now))) }
-    ensures at { OnOk result (cursor.new.at ≡ all_lists_end cursor.old.at (children_of table.now)) }
-    ensures fault { IfErr result (IsPast (all_lists_end cursor.old.at (children_of table.now))) }
+/// Lays so many numbers in lists, which come one after another, since each has whole numbers. Gives where they start.
+fn lay_lists(cursor: &mut Cursor, numbers: usize) -> Result<usize, WriteFault>
+    ensures start { IfOk result (λ start. start ≡ round_up 4 cursor.old.at) }
+    ensures within { IfOk result (λ start. start + 4 * numbers ≤ limit) }
+    ensures at { OnOk result (cursor.new.at ≡ round_up 4 cursor.old.at + 4 * numbers) }
+    ensures fault { IfErr result (IsPast (round_up 4 cursor.old.at + 4 * numbers)) }
 {
     cursor.align(4)?;
-    if table.children.len() > MAX_DATABASE_LEN / 4 {
+    if numbers > MAX_DATABASE_LEN / 4 {
         return Err(WriteFault::TooBig);
     }
-    let all = cursor.lay(4 * table.children.len())?;
-    for (number, row) in rows.iter_mut().enumerate() {
-        if row.kind == Kind::List.letter() {
-            row.start = (all.start + 4 * table.firsts[number]) as u32;
-            row.end = (all.start + 4 * table.firsts[number + 1]) as u32;
-        }
-    }
-    Ok(())
-}
-
-/// Lays the root table, its keys and its lists.
-fn lay_root(
-    alloc: Global,
-    cursor: &mut Cursor,
-    root: &TablePlan<'_>,
-) -> Result<TableRecords, WriteFault>
-    requires items { CanBeLaid root.now.items.items }
-    requires children { AreChildren (entries_of root.now.items.items) (children_of root.now) }
-    requires lists { length root.now.firsts.items ≡ length root.now.items.items + 1 }
-    ensures start { IfOk result (λ rows. rows.pointer.start ≡ round_up 4 cursor.old.at) }
-    ensures end { IfOk result (λ rows. rows.pointer.end ≡ table_end cursor.old.at (length root.now.items.items)) }
-    ensures rows { IfOk result (λ rows. AreRecords root.now.items.items (table_end cursor.old.at (length root.now.items.items)) rows.rows.items) }
-    ensures lists { IfOk result (λ rows. AreListed root.now (laid_end cursor.old.at root.now.items.items) rows.rows.items) }
-    ensures at { OnOk result (cursor.new.at ≡ all_lists_end (laid_end cursor.old.at root.now.items.items) (children_of root.now)) }
-    ensures fault { IfErr result (IsOver (all_lists_end (laid_end cursor.old.at root.now.items.items) (children_of root.now))) }
-{
-    let mut rows = TableRecords::new(alloc, cursor, root)?;
-    lay_lists(cursor, root, &mut rows.rows)?;
-    Ok(rows)
+    let all = cursor.lay(4 * numbers)?;
+    Ok(all.start)
 }
 
 /// Lays the table of locks and its keys, unless there are none.
-fn lay_locks(
-    alloc: Global,
-    cursor: &mut Cursor,
-    locks: &TablePlan<'_>,
-) -> Result<TableRecords, WriteFault>
-    requires { CanBeLaid locks.now.items.items }
-    ensures short { IfOk result (λ rows. IsShort rows.pointer) }
-    ensures start { IfOk result (λ rows. 0 < length locks.now.items.items → rows.pointer.start ≡ round_up 4 cursor.old.at) }
-    ensures end { IfOk result (λ rows. 0 < length locks.now.items.items → rows.pointer.end ≡ table_end cursor.old.at (length locks.now.items.items)) }
-    ensures rows { IfOk result (λ rows. AreRecords locks.now.items.items (table_end cursor.old.at (length locks.now.items.items)) rows.rows.items) }
-    ensures at { OnOk result (cursor.new.at ≡ locks_end (entries_of locks.now.items.items) cursor.old.at) }
-    ensures fault { IfErr result (IsOver (locks_end (entries_of locks.now.items.items) cursor.old.at)) }
+fn lay_locks(cursor: &mut Cursor, locks: &[Named<'_>]) -> Result<Pointer, WriteFault>
+    requires { CanBeLaid locks.now }
+    ensures short { IfOk result IsShort }
+    ensures start { IfOk result (λ pointer. 0 < length locks.now → pointer.start ≡ round_up 4 cursor.old.at) }
+    ensures end { IfOk result (λ pointer. 0 < length locks.now → pointer.end ≡ table_end cursor.old.at (length locks.now)) }
+    ensures few { IfOk result (λ pointer. length locks.now ≤ limit) }
+    ensures keys { IfOk result (λ pointer. all_keys_end pointer.end locks.now ≤ limit) }
+    ensures at { OnOk result (cursor.new.at ≡ locks_end (entries_of locks.now) cursor.old.at) }
+    ensures fault { IfErr result (IsPast (locks_end (entries_of locks.now) cursor.old.at)) }
 {
-    if locks.items.is_empty() {
-        return Ok(TableRecords::none(alloc));
+    if locks.is_empty() {
+        return Ok(Pointer { start: 0, end: 0 });
     }
-    TableRecords::new(alloc, cursor, locks)
-}
-
-/// Sets where the table of locks is.
-fn set_locks(pointer: Pointer, rows: &mut [ItemRecord])
-    requires { IsShort pointer }
-    ensures { AreSet rows.old rows.new table_kind (λ i. pointer) }
-{
-    for row in rows.iter_mut() {
-        if row.kind == Kind::Table.letter() {
-            row.start = pointer.start as u32;
-            row.end = pointer.end as u32;
-        }
-    }
+    lay_items(cursor, locks)
 }
 
 /// The place of the value of each item among all values; of another item, 0.
@@ -273,20 +224,71 @@ fn lay_values(
     Ok(pointers)
 }
 
-/// Sets where the values of items are.
-fn set_values(places: &[usize], pointers: &[Pointer], rows: &mut [ItemRecord])
-    requires counted { length places.now ≡ length rows.old }
-    requires within { (i : ℕ) → i < length rows.old → (row_at rows.old i).kind ≡ value_kind → slice_index places.now i < length pointers.now }
-    requires pointers { (k : ℕ) → k < length pointers.now → IsShort (pointer_at pointers.now k) }
-    ensures { AreSet rows.old rows.new value_kind (λ i. pointer_at pointers.now (slice_index places.now i)) }
-{
-    for (number, row) in rows.iter_mut().enumerate() {
-        if row.kind == Kind::Value.letter() {
-            let pointer = pointers[places[number]];
-            row.start = pointer.start as u32;
-            row.end = pointer.end as u32;
+/// Where the contents of a table's items are.
+#[derive(Clone, Copy, Debug)]
+struct Contents<'a> {
+    /// Where all lists start.
+    lists: usize,
+    /// The place of each item's first child in them.
+    firsts: &'a [usize],
+    /// Where the table of locks is.
+    table: Pointer,
+    /// The place of each item's value among all values.
+    places: &'a [usize],
+    /// Where each value is.
+    pointers: &'a [Pointer],
+}
+
+impl Contents<'_> {
+    /// Where the content of an item is.
+    fn pointer(self, number: usize, content: Content<'_>) -> Pointer
+        requires there { CanPointAt self number content }
+        requires short { IsShort (content_pointer self number content) }
+        ensures { result ≡ content_pointer self.entry number content.entry }
+    {
+        match content {
+            Content::Value(_) => self.pointers[self.places[number]],
+            Content::List => Pointer {
+                start: self.lists + 4 * self.firsts[number],
+                end: self.lists + 4 * self.firsts[number + 1],
+            },
+            Content::Locks => self.table,
         }
     }
+}
+
+/// The records of items, whose keys come one after another from there on.
+fn records(
+    alloc: Global,
+    items: &[Named<'_>],
+    keys_at: usize,
+    contents: Contents<'_>,
+) -> Result<Vec<ItemRecord>, WriteFault>
+    requires items { CanBeLaid items.now }
+    requires few { length items.now ≤ limit }
+    requires keys { all_keys_end keys_at items.now ≤ limit }
+    requires contents { CanPoint items.now contents }
+    ensures rows { IfOk result (λ rows. AreRecords items.now keys_at rows.items) }
+    ensures pointers { IfOk result (λ rows. ArePointed items.now contents.entry rows.items) }
+    ensures fault { IfErr result (λ e. e ≡ Memory) }
+{
+    let mut rows = Vec::with_capacity(alloc, items.len())?;
+    let mut key_start = keys_at;
+    for named in items {
+        let size = named.name.len() - named.from;
+        let pointer = contents.pointer(rows.len(), named.content);
+        rows.push(ItemRecord {
+            hash: named.hash,
+            parent: short_parent(named.parent),
+            key_start: key_start as u32,
+            key_size: size as u16,
+            kind: kind(named.content),
+            start: pointer.start as u32,
+            end: pointer.end as u32,
+        })?;
+        key_start += size;
+    }
+    Ok(rows)
 }
 
 /// Where everything is.
@@ -319,55 +321,37 @@ impl<'a> Layout<'a> {
         ensures fault { IfErr result (IsOver (length_of (plan_of root.now locks.now))) }
     {
         let mut cursor = Cursor { at: HEADER_LEN };
-        let mut root_rows = lay_root(alloc, &mut cursor, root)?;
-        let mut lock_rows = lay_locks(alloc, &mut cursor, locks)?;
-        // Without locks no item has their table.
-        set_locks(lock_rows.pointer, &mut root_rows.rows);
+        let root_at = lay_items(&mut cursor, &root.items)?;
+        let lists = lay_lists(&mut cursor, root.children.len())?;
+        let table = lay_locks(&mut cursor, &locks.items)?;
         let mut values = Values::new(alloc);
         let root_places = value_places(alloc, &root.items, &mut values)?;
         let lock_places = value_places(alloc, &locks.items, &mut values)?;
         let values = values.distinct;
         let pointers = lay_values(alloc, &mut cursor, &values)?;
-        set_values(&root_places, &pointers, &mut root_rows.rows);
-        set_values(&lock_places, &pointers, &mut lock_rows.rows);
+        let contents = Contents {
+            lists,
+            firsts: &root.firsts,
+            // Without locks no item has their table.
+            table,
+            places: &root_places,
+            pointers: &pointers,
+        };
+        let lock_contents = Contents {
+            places: &lock_places,
+            ..contents
+        };
         Ok(Layout {
-            root: root_rows,
-            locks: lock_rows,
+            root: TableRecords {
+                pointer: root_at,
+                rows: records(alloc, &root.items, root_at.end, contents)?,
+            },
+            locks: TableRecords {
+                pointer: table,
+                rows: records(alloc, &locks.items, table.end, lock_contents)?,
+            },
             values,
             end: cursor.at,
         })
-    }
-}
-
-impl TableRecords {
-    /// Of a table without items that is not laid.
-    fn none(alloc: Global) -> TableRecords
-        ensures rows { result.rows.items ≡ [] }
-        ensures start { result.pointer.start ≡ 0 }
-        ensures end { result.pointer.end ≡ 0 }
-    {
-        TableRecords {
-            pointer: Pointer { start: 0, end: 0 },
-            rows: Vec::new(alloc),
-        }
-    }
-
-    /// Lays a table and its keys. Its contents are laid later.
-    fn new(
-        alloc: Global,
-        cursor: &mut Cursor,
-        table: &TablePlan<'_>,
-    ) -> Result<TableRecords, WriteFault>
-        requires { CanBeLaid table.now.items.items }
-        ensures short { IfOk result (λ rows. IsShort rows.pointer) }
-        ensures start { IfOk result (λ rows. rows.pointer.start ≡ round_up 4 cursor.old.at) }
-        ensures end { IfOk result (λ rows. rows.pointer.end ≡ table_end cursor.old.at (length table.now.items.items)) }
-        ensures rows { IfOk result (λ rows. AreRecords table.now.items.items (table_end cursor.old.at (length table.now.items.items)) rows.rows.items) }
-        ensures at { OnOk result (cursor.new.at ≡ laid_end cursor.old.at table.now.items.items) }
-        ensures fault { IfErr result (IsOver (laid_end cursor.old.at table.now.items.items)) }
-    {
-        let pointer = lay_table(cursor, table.items.len())?;
-        let rows = lay_keys(alloc, cursor, &table.items)?;
-        Ok(TableRecords { pointer, rows })
     }
 }

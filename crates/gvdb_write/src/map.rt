@@ -4,7 +4,7 @@ ghost use Rattle.std.specs.FinMap.{contains_key, get, keys, len};
 ghost use Rattle.dconf_model.specs.Settings.{no_settings, with_value, with_lock};
 ghost use Rattle.dconf_path.specs.Paths.{key_text};
 ghost use Rattle.dconf_path.specs.LockPaths.{lock_text};
-ghost use Rattle.gvdb_write.specs.Maps.{AreKeyPaths, ArePaths, texts};
+ghost use Rattle.gvdb_write.specs.Maps.{AreKeyPaths, ArePaths, paths_of, texts, value_entries};
 
 use crate::fault::MapFault;
 use dconf_path::{KeyPath, LockPath};
@@ -37,7 +37,7 @@ impl Model for Map {
 }
 
 impl Map {
-    ghost use Rattle.gvdb_write.specs.PathsLeft.{keys_left, locks_left};
+    ghost use Rattle.gvdb_write.specs.PathsLeft.{AreHeld, entries_left, keys_left, locks_left};
 
     /// A map with no value and no lock. It takes no memory.
     pub fn new(alloc: Global) -> Map
@@ -119,6 +119,15 @@ impl Map {
         Keys { rest }
     }
 
+    /// The paths that have a value, each with the bytes of its value, in the order of the paths' bytes.
+    pub(crate) fn entries(&self) -> Entries<'_>
+        ensures paths { paths_of (entries_left result) ≡ keys self.now.values }
+        ensures held { AreHeld self.now.values (entries_left result) }
+    {
+        let rest = self.values.iter();
+        Entries { rest }
+    }
+
     /// The paths that are locked, in the order of their bytes.
     pub fn locks(&self) -> Locks<'_>
         ensures { locks_left result ≡ keys self.now.locks }
@@ -150,6 +159,29 @@ impl<'a> Iterator for Keys<'a> {
         let key = self.rest.next()?;
         // Each is the path of a key, so none is refused.
         KeyPath::parse(key.as_str()).ok()
+    }
+}
+
+/// The paths of a map that have a value, of those that are left, each with the bytes of its value.
+#[derive(Drop)]
+pub(crate) struct Entries<'a> {
+    rest: btree_map::Iter<'a, String, Vec<u8>>,
+    ghost are_paths: { AreKeyPaths (paths_of (value_entries rest)) },
+}
+
+impl<'a> Iterator for Entries<'a> {
+    ghost use Rattle.std.specs.Iterator.{YieldsFirstBy, item_count};
+    ghost use Rattle.gvdb_write.specs.PathsLeft.{entries_left, path_and_bytes};
+
+    type Item = (&'a str, &'a [u8]);
+
+    ghost next_gives = { YieldsFirstBy path_and_bytes entries_left };
+
+    ghost remaining = { item_count entries_left };
+
+    fn next(&mut self) -> Option<(&'a str, &'a [u8])> {
+        let (path, value) = self.rest.next()?;
+        Some((path.as_str(), value.as_slice()))
     }
 }
 

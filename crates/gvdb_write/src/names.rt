@@ -56,15 +56,10 @@ pub(crate) fn root_names<'a>(alloc: Global, map: &'a Map) -> Result<Vec<Named<'a
     let mut directory = names.len();
     names.push(top(b"/", Content::List))?;
     let mut last: &[u8] = b"/";
-    for path in map.keys() {
-        let text = path.as_str().as_bytes();
+    for (path, value) in map.entries() {
+        let text = path.as_bytes();
         directory = innermost(&names, directory, common(last, text));
-        directory = add(
-            text,
-            map.get(path).unwrap_or_default(),
-            directory,
-            &mut names,
-        )?;
+        directory = add(text, value, directory, &mut names)?;
         last = text;
     }
     Ok(names)

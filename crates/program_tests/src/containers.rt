@@ -18,17 +18,17 @@ fn prints_arrays(rt: HostRuntime) -> Result<(), Fail> {
         // The last offset is past the end.
         ("as", b"a\0\x05".as_slice(), "@as []"),
         ("as", b"".as_slice(), "@as []"),
-        // The second element ends before it starts.
+        // The second element ends before it starts, so nothing behind it is read.
         (
             "aay",
             b"\x01\x02\x03\x03\x01\x03".as_slice(),
-            "[[byte 0x01, 0x02, 0x03], [], [0x02, 0x03]]",
+            "[[byte 0x01, 0x02, 0x03], [], []]",
         ),
         // Elements that overlap.
         (
             "aaay",
             b"\0\x01\0\x01\x04\0\x04".as_slice(),
-            "[[b'', [], b''], [], [b'', [], b'']]",
+            "[[b'', [], []], [], []]",
         ),
         (
             "aau",
@@ -98,11 +98,8 @@ fn prints_tuples(rt: HostRuntime) -> Result<(), Fail> {
             b"ican\0has\0strings?\0\x04\x0d\x05".as_slice(),
             "((byte 0x69, 'can'), ['has', 'strings?'])",
         ),
-        (
-            "(ays)",
-            b"ab\0\x04".as_slice(),
-            "([byte 0x61, 0x62, 0x00, 0x04], '')",
-        ),
+        // The array ends behind the framing offset.
+        ("(ays)", b"ab\0\x04".as_slice(), "(@ay [], '')"),
         ("()", b"\0".as_slice(), "()"),
         ("()", b"".as_slice(), "()"),
         ("()", b"ab".as_slice(), "()"),

@@ -1,10 +1,10 @@
-//! `show` of values that are too many or too deep, and of those that just fit.
+//! `show` of values that are too deep, of those that just fit, and of towers.
 use crate::runs::{one_file, shown, wants_refusal, wants_text};
 use std::alloc::{AllocError, Global};
 use std::test::Fail;
 
 /// Arrays in arrays, so many levels of them, each of which has the one below as its first and its last element: the
-/// values double with each level.
+/// values would double with each level if the last were read.
 fn tower(alloc: Global, levels: usize) -> Result<Vec<u8>, AllocError> {
     let mut bytes = Vec::new(alloc);
     bytes.push(0)?;
@@ -40,21 +40,61 @@ fn nested(alloc: Global, letter: u8, variants: usize) -> Result<Vec<u8>, AllocEr
     Ok(bytes)
 }
 
+/// What is printed of a tower: its first element is the tower below, and nothing lies behind.
+fn tower_text(alloc: Global, levels: usize) -> Result<String, AllocError> {
+    let mut text = String::new(alloc);
+    for _ in 0..levels {
+        text.push('[')?;
+    }
+    text.push_str("b''")?;
+    for _ in 0..levels {
+        text.push_str(", [], []]")?;
+    }
+    Ok(text)
+}
+
+/// Tuples in variants, so many levels of them, both of whose variants would be the bytes of the level below.
+fn twins(alloc: Global, levels: usize) -> Result<Vec<u8>, AllocError> {
+    let mut bytes = Vec::new(alloc);
+    bytes.extend_from_slice(b"\x05\0y")?;
+    for _ in 0..levels {
+        let end = (bytes.len() % 256) as u8;
+        bytes.extend_from_slice(&[end, 0, end, 0, 0])?;
+        bytes.extend_from_slice(b"\0(ssvsvs)")?;
+    }
+    Ok(bytes)
+}
+
+/// What is printed of twins: the first variant is the level below, and nothing lies behind.
+fn twins_text(alloc: Global, levels: usize) -> Result<String, AllocError> {
+    let mut text = String::new(alloc);
+    for _ in 0..levels {
+        text.push_str("<('', '', ")?;
+    }
+    text.push_str("<byte 0x05>")?;
+    for _ in 0..levels {
+        text.push_str(", '', <()>, '')>")?;
+    }
+    Ok(text)
+}
+
 #[test]
-fn stops_counting_hostile_towers(rt: HostRuntime) -> Result<(), Fail> {
+fn prints_hostile_twins(rt: HostRuntime) -> Result<(), Fail> {
+    let alloc = rt.alloc();
+    let bytes = twins(alloc, 18)?;
+    assert_eq!(rt; bytes.len(), 255);
+    let printed = twins_text(alloc, 18)?;
+    wants_text(rt.alloc(), "v", &bytes, printed.as_str())
+}
+
+#[test]
+fn prints_hostile_towers(rt: HostRuntime) -> Result<(), Fail> {
     let alloc = rt.alloc();
     let bytes = tower(alloc, 20)?;
     assert_eq!(rt; bytes.len(), 61);
     let text = tower_type(alloc, 21)?;
-    wants_refusal(rt.alloc(), text.as_str(), &bytes, "TooLarge")?;
-
-    // 524,286 values.
-    let bytes = tower(alloc, 17)?;
-    let text = tower_type(alloc, 18)?;
-    let mut folder = one_file(alloc, &bytes)?;
-    let ran = shown(alloc, text.as_str(), &mut folder)?;
-    assert!(rt; ran.as_str().starts_with("0 out=[[["));
-    Ok(())
+    let printed = tower_text(alloc, 20)?;
+    wants_text(rt.alloc(), text.as_str(), &bytes, printed.as_str())
 }
 
 #[test]

@@ -133,25 +133,13 @@ fn names_its_refusals(rt: HostRuntime) -> Result<(), Fail> {
 }
 
 #[test]
-fn prints_a_million_values_at_most(rt: HostRuntime) -> Result<(), Fail> {
+fn prints_more_than_a_million_values(rt: HostRuntime) -> Result<(), Fail> {
     let alloc = rt.alloc();
     let mut bytes = Vec::new(alloc);
-    bytes.resize(999_999, 1)?;
+    bytes.resize(1_000_001, 1)?;
     let mut folder = one_file(alloc, &bytes)?;
     let text = shown(alloc, "ab", &mut folder)?;
-    assert_eq!(rt; text.len(), "0 out=[]\n err=".len() + 6 * 999_999 - 2);
-    bytes.push(1)?;
-    let mut folder = one_file(alloc, &bytes)?;
-    assert_eq!(rt;
-        shown(alloc, "ab", &mut folder)?.as_str(),
-        "1 out= err=error: TooLarge\n"
-    );
-    bytes.resize(8_000_000, 1)?;
-    let mut folder = one_file(alloc, &bytes)?;
-    assert_eq!(rt;
-        shown(alloc, "ad", &mut folder)?.as_str(),
-        "1 out= err=error: TooLarge\n"
-    );
+    assert_eq!(rt; text.len(), "0 out=[]\n err=".len() + 6 * 1_000_001 - 2);
     Ok(())
 }
 

@@ -1,15 +1,15 @@
 //! Whether bytes are normal.
 use gv_build::MAX_LEN;
-use gv_normal::{NormalFault, is_normal_plain};
+use gv_normal::is_normal_plain;
 use gv_types::TypeStr;
 use gv_view::View;
-use std::alloc::Global;
+use std::alloc::{AllocError, Global};
 use std::test::Fail;
 
 /// Whether the view's bytes are normal, which are few.
-pub(crate) fn is_normal(alloc: Global, view: View<'_>) -> Result<bool, NormalFault> {
+pub(crate) fn is_normal(alloc: Global, view: View<'_>) -> Result<bool, AllocError> {
     if view.bytes().len() > MAX_LEN {
-        return Err(NormalFault::Memory);
+        return Err(AllocError);
     }
     is_normal_plain(alloc, view)
 }
@@ -55,9 +55,7 @@ fn normal_bytes_are_told(rt: HostRuntime) -> Result<(), Fail> {
 }
 
 #[test]
-fn wide_offsets_are_not_normal_and_too_many_values_are_refused(
-    rt: HostRuntime,
-) -> Result<(), Fail> {
+fn wide_offsets_and_deep_values_are_not_normal(rt: HostRuntime) -> Result<(), Fail> {
     let mut bytes: Vec<u8> = vec![in rt.alloc(); b'x'; 253]?;
     bytes.extend_from_slice(&[0, 0xfe])?;
     let of = TypeStr::parse("as")?;
@@ -65,12 +63,15 @@ fn wide_offsets_are_not_normal_and_too_many_values_are_refused(
     bytes.push(0)?;
     assert_eq!(rt; is_normal(rt.alloc(), View::new(of, &bytes)), Ok(false));
 
-    let mut bytes: Vec<u8> = vec![in rt.alloc(); 0; 1_000_000]?;
+    // An array of bytes in 128 variants has 129 levels.
+    let mut bytes: Vec<u8> = vec![in rt.alloc(); 1; 1_000]?;
     bytes.extend_from_slice(&[0, b'a', b'y'])?;
-    for _ in 0..200 {
+    for _ in 1..126 {
         bytes.extend_from_slice(&[0, b'v'])?;
     }
-    let deep = View::new(TypeStr::parse("v")?, &bytes);
-    assert_eq!(rt; is_normal(rt.alloc(), deep), Err(NormalFault::TooLarge));
+    let of = TypeStr::parse("v")?;
+    assert_eq!(rt; is_normal(rt.alloc(), View::new(of, &bytes)), Ok(true));
+    bytes.extend_from_slice(&[0, b'v'])?;
+    assert_eq!(rt; is_normal(rt.alloc(), View::new(of, &bytes)), Ok(false));
     Ok(())
 }

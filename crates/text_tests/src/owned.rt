@@ -51,6 +51,7 @@ fn ten_thousand_strings_go_all_the_way(rt: HostRuntime) -> Result<(), Fail> {
     let bytes = serialise(alloc, &copy)?;
     let view = View::new(copy.type_text(), bytes.as_slice());
     assert_eq!(rt; is_normal(alloc, view), Ok(true));
+    assert_eq!(rt; normal_form(alloc, view)?.as_slice(), bytes.as_slice());
     assert!(rt; view.to_tree(alloc)?.equal(&tree));
     let text = print(alloc, view)?;
     if text.len() > Syntax::MAX_TEXT_LEN {

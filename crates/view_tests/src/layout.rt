@@ -1,7 +1,8 @@
 //! How types are laid out, by example: alignments and sizes, the width of framing offsets, and where the children of
 //! containers lie, also in bytes that are not in normal form.
 use gv_layout::{
-    alignment, fixed_size, member_bounds, n_children, offset_width, place_of, places, round_up,
+    alignment, fixed_size, member_bounds, n_children, number, offset_width, place_of, places,
+    round_up, size_of_members, type_info,
 };
 use gv_types::{Class, TypeStr};
 use std::alloc::Global;
@@ -11,7 +12,13 @@ use std::test::Fail;
 /// Whether values of this type have the alignment and the fixed size.
 fn is_laid_out(text: &str, aligned: u8, size: Option<usize>) -> Result<bool, Fail> {
     let of = TypeStr::parse(text)?;
-    Ok(alignment(of) == aligned && fixed_size(of) == size)
+    let info = type_info(of);
+    Ok(
+        alignment(of) == aligned
+            && fixed_size(of) == size
+            && size_of_members(of) == size
+            && (info.alignment, info.size) == (aligned, size),
+    )
 }
 
 #[test]
@@ -47,6 +54,13 @@ fn types_have_alignments_and_sizes(rt: HostRuntime) -> Result<(), Fail> {
         assert!(rt; is_laid_out(text, aligned, size)?, "at {text}");
     }
     Ok(())
+}
+
+#[test]
+fn offsets_have_their_lowest_byte_first(rt: HostRuntime) {
+    assert_eq!(rt; number(&[]), 0);
+    assert_eq!(rt; number(&[1, 2]), 513);
+    assert_eq!(rt; number(&[0, 0, 0, 1]), 16_777_216);
 }
 
 #[test]
@@ -91,10 +105,10 @@ fn children_lie_at_their_bounds(rt: HostRuntime) -> Result<(), Fail> {
             b"i\0can\0has\0strings?\0\x02\x06\x0a\x13",
             "0..2 2..6 6..10 10..19 ",
         ),
-        ("aay", &[1, 2, 3, 3, 1, 3], "0..3 0..0 1..3 "),
+        ("aay", &[1, 2, 3, 3, 1, 3], "0..3 0..0 0..0 "),
         ("aay", &[0], "0..0 "),
         ("aay", &[2], ""),
-        ("aay", &[9, 9, 0, 3, 9, 2], "0..0 0..3 0..0 0..0 "),
+        ("aay", &[9, 9, 0, 3, 9, 2], "0..0 0..0 0..0 0..0 "),
         (
             "a(si)",
             b"hi\0\0\xfe\xff\xff\xff\x03\0\0\0bye\0\xff\xff\xff\xff\x04\x09\x15",
@@ -119,9 +133,9 @@ fn children_lie_at_their_bounds(rt: HostRuntime) -> Result<(), Fail> {
             "0..2 2..4 4..6 6..8 ",
         ),
         ("{si}", b"a key\0\0\0\x02\x02\0\0\x06", "0..6 8..12 "),
-        ("(ays)", &[0x61, 0x62, 0, 4], "0..4 0..0 "),
+        ("(ays)", &[0x61, 0x62, 0, 4], "0..0 0..0 "),
         ("(ayu)", &[1, 2, 3, 4, 5, 6, 7, 8, 255], "0..0 0..0 "),
-        ("(sss)", &[1], "0..1 0..0 0..0 "),
+        ("(sss)", &[1], "0..0 0..0 0..0 "),
         ("(ss)", &[], "0..0 0..0 "),
         ("(yst)", &[1, 0, 1], "0..1 1..1 0..0 "),
     ];

@@ -1,7 +1,7 @@
 //! Views by example: what bytes are at basic types, which children they have, what a key leads to, and what a variant
 //! holds.
 use gv_types::{TypeFault, TypeStr};
-use gv_view::{View, parts_are_lent, utf8_of};
+use gv_view::{View, held_in_variant, parts_are_lent, text_in, utf8_of};
 use std::test::Fail;
 
 fn view<'a>(text: &'a str, bytes: &'a [u8]) -> Result<View<'a>, TypeFault> {
@@ -192,6 +192,15 @@ fn keys_are_looked_up(rt: HostRuntime) -> Result<(), Fail> {
 }
 
 #[test]
+fn texts_end_with_their_one_zero_byte(rt: HostRuntime) {
+    assert!(rt; text_in(b"hi\0") == Some("hi"));
+    assert!(rt; text_in(b"\0") == Some(""));
+    assert!(rt; text_in(b"hi").is_none());
+    assert!(rt; text_in(b"h\0i\0").is_none());
+    assert!(rt; text_in(b"\xff\0").is_none());
+}
+
+#[test]
 fn variants_hold_a_value(rt: HostRuntime) -> Result<(), Fail> {
     let rows: [(&[u8], Shown<'_>); 9] = [
         (&[5, 0, 0, 0, 0, b'i'], ("i", &[5, 0, 0, 0])),
@@ -209,5 +218,7 @@ fn variants_hold_a_value(rt: HostRuntime) -> Result<(), Fail> {
         assert!(rt; found, "at {bytes:?}");
     }
     assert!(rt; View::of_variant(b"\x05\0i").as_i32() == Some(0));
+    assert!(rt; held_in_variant(b"\x05\0i").and_then(|held| held.as_i32()) == Some(0));
+    assert!(rt; held_in_variant(b"\x05\0a").is_none());
     Ok(())
 }

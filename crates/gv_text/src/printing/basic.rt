@@ -1,8 +1,9 @@
 //! Values of basic types as text (GLib, "GVariant Text Format": "Numbers" and "Strings").
-ghost use Rattle.std.specs.Prelude.{◌≡◌, ◌++◌, false, MatchResult, OnOk, string_bytes};
+ghost use Rattle.std.specs.Prelude.{◌≡◌, ◌≢◌, IfErr, ◌++◌, false, MatchResult, OnOk, string_bytes};
 ghost use Rattle.gv_model.specs.Ty.{Ty.basic};
 ghost use Rattle.gv_model.specs.Printed.{word, hex_byte, text_of, holds_double};
 ghost use Rattle.gv_types.specs.Classes.{basic_of};
+ghost use Rattle.gv_text.specs.declared.printing.PrintFault.TheVariants.{TooLarge};
 ghost use Rattle.gv_view.specs.Views.{value, view_ty};
 ghost use Rattle.gv_text.specs.Printing.{IsElementFault, figures_of};
 
@@ -41,10 +42,11 @@ pub(crate) fn push_basic(
     annotated: bool,
 ) -> Result<(), PrintFault>
     requires { view_ty view ≡ basic (basic_of of) }
-    ensures { MatchResult result
+    ensures text { MatchResult result
         (λ _. (holds_double (value view.entry) ≡ false)
         × (string_bytes to.new ≡ string_bytes to.old ++ text_of (value view.entry) annotated false))
         (IsElementFault (value view.entry)) }
+    ensures shallow { IfErr result (λ f. f ≢ TooLarge) }
 {
     if annotated {
         push_word(to, of)?;
@@ -55,10 +57,11 @@ pub(crate) fn push_basic(
 /// Writes a value of a basic type without its type's word.
 fn push_figures(to: &mut String, view: View<'_>, of: BasicType) -> Result<(), PrintFault>
     requires { view_ty view ≡ basic (basic_of of) }
-    ensures { MatchResult result
+    ensures text { MatchResult result
         (λ _. (holds_double (value view.entry) ≡ false)
         × (string_bytes to.new ≡ string_bytes to.old ++ figures_of (value view.entry)))
         (IsElementFault (value view.entry)) }
+    ensures shallow { IfErr result (λ f. f ≢ TooLarge) }
 {
     match of {
         BasicType::Boolean => to.push_str(if view.as_bool().unwrap() {

@@ -1,8 +1,9 @@
 //! The children of a container as text, one after the other.
-ghost use Rattle.std.specs.Prelude.{◌≡◌, ◌<◌, ◌≤◌, ◌++◌, false, MatchResult, string_bytes};
+ghost use Rattle.std.specs.Prelude.{◌≡◌, ◌<◌, ◌≤◌, ◌++◌, false, IfErr, MatchResult, OnOk, string_bytes};
 ghost use Rattle.gv_model.specs.Tree.{children, depth};
 ghost use Rattle.gv_model.specs.Printed.{comma, joined_by, hold_double};
 ghost use Rattle.gv_model.specs.Quoted.{between};
+ghost use Rattle.gv_text.specs.declared.printing.PrintFault.TheVariants.{TooLarge};
 ghost use Rattle.gv_view.specs.Views.{value};
 ghost use Rattle.gv_text.specs.Printing.{AreFaultOf, child_texts};
 
@@ -14,21 +15,24 @@ use gv_view::View;
 pub(super) fn push_between(
     to: &mut String,
     view: View<'_>,
+    levels: u8,
     brackets: (char, char),
     annotated: bool,
     in_array: bool,
 ) -> Result<(), PrintFault>
     requires left { brackets.0 < 128 }
     requires right { brackets.1 < 128 }
-    requires shallow { depth (value view) ≤ 128 }
-    ensures { MatchResult result
+    requires some { 0 < levels }
+    ensures text { MatchResult result
         (λ _. (hold_double (children (value view.entry)) ≡ false)
         × (string_bytes to.new ≡ string_bytes to.old
         ++ between brackets.0 (joined_by comma (child_texts (children (value view.entry)) annotated in_array)) brackets.1))
         (AreFaultOf (children (value view.entry))) }
+    ensures fits { OnOk result (depth (value view.entry) ≤ levels) }
+    ensures deep { IfErr result (λ f. f ≡ TooLarge → levels < depth (value view.entry)) }
 {
     to.push(brackets.0)?;
-    push_children(to, view, ", ", annotated, in_array)?;
+    push_children(to, view, levels, ", ", annotated, in_array)?;
     to.push(brackets.1)?;
     Ok(())
 }
@@ -38,25 +42,28 @@ pub(super) fn push_between(
 pub(super) fn push_children(
     to: &mut String,
     view: View<'_>,
+    levels: u8,
     mark: &str,
     annotated: bool,
     in_array: bool,
 ) -> Result<(), PrintFault>
-    requires { depth (value view) ≤ 128 }
-    ensures { MatchResult result
+    requires { 0 < levels }
+    ensures text { MatchResult result
         (λ _. (hold_double (children (value view.entry)) ≡ false)
         × (string_bytes to.new ≡ string_bytes to.old
         ++ joined_by mark.now (child_texts (children (value view.entry)) annotated in_array)))
         (AreFaultOf (children (value view.entry))) }
+    ensures fits { OnOk result (depth (value view.entry) ≤ levels) }
+    ensures deep { IfErr result (λ f. f ≡ TooLarge → levels < depth (value view.entry)) }
 {
     let mut children = view.children();
     let Some(first) = children.next() else {
         return Ok(());
     };
-    push_value(to, first, annotated, in_array)?;
+    push_value(to, first, levels - 1, annotated, in_array)?;
     for child in children {
         to.push_str(mark)?;
-        push_value(to, child, annotated && !in_array, in_array)?;
+        push_value(to, child, levels - 1, annotated && !in_array, in_array)?;
     }
     Ok(())
 }

@@ -2,11 +2,12 @@
 //!
 //! Levels of Just around a value are not written, and those around Nothing are, each as `just `. The type that
 //! comes before an annotated maybe says the rest, so that nothing inside is annotated.
-ghost use Rattle.std.specs.Prelude.{◌≡◌, ◌<◌, ◌≤◌, ◌++◌, true, false, MatchOption, MatchResult, OnOk, string_bytes};
+ghost use Rattle.std.specs.Prelude.{◌≡◌, ◌+◌, IfOk, ◌<◌, IfErr, ◌≤◌, ◌++◌, true, false, MatchOption, MatchResult, OnOk, string_bytes};
 ghost use Rattle.gv_model.specs.Tree.{depth};
 ghost use Rattle.gv_model.specs.Printed.{text_of, holds_double, ends_in_nothing};
 ghost use Rattle.gv_types.specs.Classes.{class_of};
 ghost use Rattle.gv_types.specs.declared.class.Class.TheVariants.{Maybe};
+ghost use Rattle.gv_text.specs.declared.printing.PrintFault.TheVariants.{TooLarge};
 ghost use Rattle.gv_view.specs.Views.{value, view_ty};
 ghost use Rattle.gv_text.specs.Printing.{IsElementFault, IsNothing, IsPrintedAs};
 
@@ -18,34 +19,51 @@ use std::alloc::AllocError;
 
 /// Writes a maybe.
 #[cycle(values)]
-pub(super) fn push_maybe(to: &mut String, view: View<'_>, annotated: bool) -> Result<(), PrintFault>
+pub(super) fn push_maybe(
+    to: &mut String,
+    view: View<'_>,
+    levels: u8,
+    annotated: bool,
+) -> Result<(), PrintFault>
     requires kind { class_of (view_ty view) ≡ Maybe }
-    requires shallow { depth (value view) ≤ 128 }
-    ensures { MatchResult result
+    requires some { 0 < levels }
+    ensures text { MatchResult result
         (λ _. (holds_double (value view.entry) ≡ false)
         × (string_bytes to.new ≡ string_bytes to.old ++ text_of (value view.entry) annotated false))
         (IsElementFault (value view.entry)) }
+    ensures fits { OnOk result (depth (value view.entry) ≤ levels) }
+    ensures deep { IfErr result (λ f. f ≡ TooLarge → levels < depth (value view.entry)) }
 {
     if annotated {
         push_type_mark(to, view.type_str())?;
     }
-    match innermost(view) {
-        Some(inner) => push_value(to, inner, false, false),
+    match innermost(view, levels)? {
+        Some((inner, left)) => push_value(to, inner, left, false, false),
         None => Ok(push_nothing(to, view)?),
     }
 }
 
-/// The value inside all levels of Just, or None where they end in Nothing.
-fn innermost<'a>(view: View<'a>) -> Option<View<'a>>
-    requires { class_of (view_ty view) ≡ Maybe }
-    ensures { MatchOption result (IsNothing (value view.entry))
-        (λ inner. IsPrintedAs (value view.entry) (value inner)) }
+/// The value inside all levels of Just, with the levels that are left for it, or None where they end in Nothing.
+fn innermost<'a>(view: View<'a>, levels: u8) -> Result<Option<(View<'a>, u8)>, PrintFault>
+    requires kind { class_of (view_ty view) ≡ Maybe }
+    requires some { 0 < levels }
+    ensures inner { IfOk result (λ o. MatchOption o (IsNothing (value view.entry)) (λ r. IsPrintedAs (value view.entry) (value r.0))) }
+    ensures left { IfOk result (λ o. MatchOption o (depth (value view.entry) ≤ levels)
+        (λ r. (r.1 < levels) × (r.1 + depth (value view.entry) ≡ levels + depth (value r.0)))) }
+    ensures deep { IfErr result (λ f. (f ≡ TooLarge) × (levels < depth (value view.entry))) }
 {
-    let mut inner = view;
+    let (mut inner, mut left) = (view, levels);
     while let Class::Maybe = inner.type_str().class() {
-        inner = inner.child(0)?;
+        let Some(child) = inner.child(0) else {
+            return Ok(None);
+        };
+        left -= 1;
+        if left == 0 {
+            return Err(PrintFault::TooLarge);
+        }
+        inner = child;
     }
-    Some(inner)
+    Ok(Some((inner, left)))
 }
 
 /// Writes Nothing, and before it `just ` for each level of Just around it.

@@ -1,11 +1,12 @@
 //! Tuples and entries as text (GLib, "GVariant Text Format": "Tuples" and "Dictionaries").
 //!
 //! A tuple of one has a comma after its member. An entry that is an element of an array is written without braces.
-ghost use Rattle.std.specs.Prelude.{◌≡◌, ◌≤◌, ◌++◌, false, MatchResult, string_bytes};
+ghost use Rattle.std.specs.Prelude.{◌≡◌, ◌≤◌, IfErr, OnOk, ◌<◌, ◌++◌, false, MatchResult, string_bytes};
 ghost use Rattle.gv_model.specs.Tree.{depth};
 ghost use Rattle.gv_model.specs.Printed.{text_of, holds_double};
 ghost use Rattle.gv_types.specs.Classes.{class_of};
 ghost use Rattle.gv_types.specs.declared.class.Class.TheVariants.{Tuple, Entry};
+ghost use Rattle.gv_text.specs.declared.printing.PrintFault.TheVariants.{TooLarge};
 ghost use Rattle.gv_view.specs.Views.{value, view_ty};
 ghost use Rattle.gv_text.specs.Printing.{IsElementFault};
 
@@ -15,16 +16,23 @@ use gv_view::View;
 
 /// Writes a tuple.
 #[cycle(values)]
-pub(super) fn push_tuple(to: &mut String, view: View<'_>, annotated: bool) -> Result<(), PrintFault>
+pub(super) fn push_tuple(
+    to: &mut String,
+    view: View<'_>,
+    levels: u8,
+    annotated: bool,
+) -> Result<(), PrintFault>
     requires kind { class_of (view_ty view) ≡ Tuple }
-    requires shallow { depth (value view) ≤ 128 }
-    ensures { MatchResult result
+    requires some { 0 < levels }
+    ensures text { MatchResult result
         (λ _. (holds_double (value view.entry) ≡ false)
         × (string_bytes to.new ≡ string_bytes to.old ++ text_of (value view.entry) annotated false))
         (IsElementFault (value view.entry)) }
+    ensures fits { OnOk result (depth (value view.entry) ≤ levels) }
+    ensures deep { IfErr result (λ f. f ≡ TooLarge → levels < depth (value view.entry)) }
 {
     to.push('(')?;
-    push_children(to, view, ", ", annotated, false)?;
+    push_children(to, view, levels, ", ", annotated, false)?;
     to.push_str(if view.n_children() == 1 { ",)" } else { ")" })?;
     Ok(())
 }
@@ -34,19 +42,22 @@ pub(super) fn push_tuple(to: &mut String, view: View<'_>, annotated: bool) -> Re
 pub(super) fn push_entry(
     to: &mut String,
     view: View<'_>,
+    levels: u8,
     annotated: bool,
     in_array: bool,
 ) -> Result<(), PrintFault>
     requires kind { class_of (view_ty view) ≡ Entry }
-    requires shallow { depth (value view) ≤ 128 }
-    ensures { MatchResult result
+    requires some { 0 < levels }
+    ensures text { MatchResult result
         (λ _. (holds_double (value view.entry) ≡ false)
         × (string_bytes to.new ≡ string_bytes to.old ++ text_of (value view.entry) annotated in_array))
         (IsElementFault (value view.entry)) }
+    ensures fits { OnOk result (depth (value view.entry) ≤ levels) }
+    ensures deep { IfErr result (λ f. f ≡ TooLarge → levels < depth (value view.entry)) }
 {
     if in_array {
-        push_children(to, view, ": ", annotated, false)
+        push_children(to, view, levels, ": ", annotated, false)
     } else {
-        push_between(to, view, ('{', '}'), annotated, false)
+        push_between(to, view, levels, ('{', '}'), annotated, false)
     }
 }

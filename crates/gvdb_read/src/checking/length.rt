@@ -1,17 +1,67 @@
 //! How long full names are.
-ghost use Rattle.std.specs.Prelude.{◌≤◌, ◌<◌, ◌↔◌, ℕ, List, IsTrue, length};
+//!
+//! A fast pass notes the lengths of the names of the items that it saw last. A walk up an item's parents ends where it
+//! comes to one of these, and so a long chain of parents isn't walked again for each item of it.
+ghost use Rattle.std.specs.Prelude.{◌≡◌, ◌≤◌, ◌<◌, ◌↔◌, ℕ, List, IfSome, IsTrue, length};
 ghost use Rattle.dconf_model.specs.Table.{item_count};
-ghost use Rattle.dconf_model.specs.Names.{HasName};
+ghost use Rattle.dconf_model.specs.Names.{HasName, full_name};
+ghost use Rattle.dconf_model.specs.Searchable.{EachItem};
 ghost use Rattle.dconf_model.specs.Sound.{KeepsAll};
 ghost use Rattle.dconf_model.specs.Sound.Rule.{keys, chain};
+ghost use Rattle.gvdb_read.specs.NotedLengths.{AreNoted, HasShortName};
 
 use crate::table::Table;
 
 /// How many bytes a full name may have: as many as one item's key, whose size is a number of two bytes.
 pub const MAX_NAME_LEN: usize = u16::MAX as usize;
 
+/// Of how many items the lengths are noted.
+const NOTED: usize = 256;
+
 impl<'a> Table<'a> {
     ghost use Rattle.gvdb_read.specs.Tables.{region};
+
+    /// Whether each item's full name has at most 65,535 bytes. It looks at the keys' sizes alone, and for each item at no
+    /// more of its parents than up to one of the 256 items before it.
+    pub(super) fn names_are_short(self) -> bool
+        requires keys { KeepsAll (region self) keys }
+        requires chain { KeepsAll (region self) chain }
+        ensures { IsTrue result → EachItem (region self.entry) (HasShortName (region self.entry)) }
+    {
+        let mut noted = [0; NOTED];
+        for i in 0..self.n_items() {
+            let Some(len) = self.short_len(i, &noted) else {
+                return false;
+            };
+            noted[i as usize % NOTED] = len;
+        }
+        true
+    }
+
+    /// How many bytes item `i`'s full name has, where those of the items before it are noted. None where it has more than
+    /// 65,535.
+    fn short_len(self, i: u32, noted: &[u16]) -> Option<u16>
+        requires keys { KeepsAll (region self) keys }
+        requires chain { KeepsAll (region self) chain }
+        requires counted { i < item_count (region self) }
+        requires noted { AreNoted (region self) noted.now i }
+        ensures len { IfSome result (λ len. length (full_name (region self.entry) i) ≡ len) }
+        ensures short { IfSome result (λ len. len ≤ 65535) }
+    {
+        let mut at = i;
+        let mut left = u16::MAX;
+        loop {
+            left = left.checked_sub(self.key_size_at(at))?;
+            let Some(parent) = self.parent_at(at) else {
+                return Some(u16::MAX - left);
+            };
+            if parent < i && (i - parent) as usize <= noted.len() {
+                let above = noted[parent as usize % noted.len()];
+                return Some(u16::MAX - left.checked_sub(above)?);
+            }
+            at = parent;
+        }
+    }
 
     /// Whether item `i`'s full name has at most 65,535 bytes. It looks at the keys' sizes alone.
     pub(super) fn has_short_name(self, i: u32) -> bool

@@ -1,4 +1,4 @@
-use Rattle.std.proofs.Common.{◌≡◌, false, map, option_map, string_bytes, subst, sym, true, vec_items}
+use Rattle.std.proofs.Common.{◌≡◌, false, map, option_map, refl, string_bytes, subst, sym, true, vec_items}
 use Rattle.dconf_model.specs.Commands.{Command}
 use Rattle.dconf_model.specs.Commands.Command.{show, read, origin, check, compile, repair, list, list_locks, dump, write, load}
 use Rattle.dconf_model.specs.Outcomes.{IsOutcome}
@@ -58,6 +58,12 @@ returns-in-Check-clause-answer g c =
     let input = input_of given in
     let D : Command → Type 0 = λ k. Decides g.F.Folder.past g.F.Folder.failed c.args.folder.now c.check.new.folder 0 (λ reads. IsOutcome k reads input) c.check.result in
     (input, took given (failures_of c.args.input.now), subst (λ k. D (command_of k)) (sym c.in-Check.is) (subst (λ n. D (check n)) c.as_str-in-Check.ensures.value (c.check.ensures input)))
+
+pub returns-in-Check-clause-device : goal.returns-in-Check-clause-device
+returns-in-Check-clause-device g c = λ differ. absurd (differ refl)
+
+pub returns-in-Check-clause-input : goal.returns-in-Check-clause-input
+returns-in-Check-clause-input g c = λ none. refl
 
 pub returns-in-Check-clause-limit : goal.returns-in-Check-clause-limit
 returns-in-Check-clause-limit g c = takes_none (g.I.Read.remaining (inner_of c.args.input.now))

@@ -8,6 +8,7 @@ use Rattle.gv_types.specs.TypeStr.{ty}
 use Rattle.gv_infer.specs.Typings.{AreTyped, IsFirstChoiceFault}
 use Rattle.gv_infer.specs.Building.{IsBuilt}
 use Rattle.gv_infer.specs.Values.{IsValueFault}
+use Rattle.gv_infer.proofs.TypedContents.{built_typed}
 use Rattle.gv_infer.proofs.ValueLaws.{not_admitted, contents_fault, literal_fault, value_or_deep}
 use Rattle.gv_infer.proofs.value.value_at.Goals as goal
 
@@ -15,35 +16,34 @@ pub returns-then-not-admits-clause-fault : goal.returns-then-not-admits-clause-f
 returns-then-not-admits-clause-fault c =
     not_admitted c.args.syntax.now (ty c.args.of) (λ a. both_ways c.admits.result c.if-not-admits.true (c.admits.ensures.1 (subst (λ x. Admits x (ty c.args.of)) (sym c.root-root.ensures.root) a)))
 
-pub returns-in_err-check_contents-clause-fault : goal.returns-in_err-check_contents-clause-fault
-returns-in_err-check_contents-clause-fault c =
+pub returns-in_err-check_contents-in-Err-clause-fault : goal.returns-in_err-check_contents-in-Err-clause-fault
+returns-in_err-check_contents-in-Err-clause-fault c =
     let root = c.root-root.ensures.root in
     let fits = subst (λ x. Admits x (ty c.args.of)) root (c.admits.ensures.0 c.if-not-admits.false) in
-    let fault = subst (λ x. IsFirstChoiceFault (contents x) c.in_err-check_contents.field-0.0) root c.in_err-check_contents.ensures.fault in
+    let fault = subst (λ x. IsFirstChoiceFault (contents x) c.in_err-check_contents-in-Err.field-0.0) root c.in_err-check_contents-in-Err.ensures.fault in
     let p = err_from_is_err_and c.from_residual.result c.from_residual.ensures.1 in
-    rw (p.1, p.2) (contents_fault c.args.syntax.now (ty c.args.of) c.in_err-check_contents.field-0.0 fits fault)
+    rw (p.1, p.2) (contents_fault c.args.syntax.now (ty c.args.of) c.in_err-check_contents-in-Err.field-0.0 fits fault)
 
-pub returns-in_err-build-clause-fault : goal.returns-in_err-build-clause-fault
-returns-in_err-build-clause-fault c =
+pub returns-in_ok-check_contents-in-Err-clause-fault : goal.returns-in_ok-check_contents-in-Err-clause-fault
+returns-in_ok-check_contents-in-Err-clause-fault c =
     let root = c.root-root.ensures.root in
     let fits = subst (λ x. Admits x (ty c.args.of)) root (c.admits.ensures.0 c.if-not-admits.false) in
-    let typed = subst (λ x. AreTyped (contents x)) root c.in_ok-check_contents.ensures.typed in
-    let built = subst (λ x. IsBuilt (literal_value choice x (ty c.args.of)) (Err c.in_err-build.field-0.0)) root c.in_err-build.ensures.built in
-    let p = err_from_is_err_and c.from_residual-in_err-build.result c.from_residual-in_err-build.ensures.1 in
-    rw (p.1, p.2) (literal_fault c.args.syntax.now (ty c.args.of) c.in_err-build.field-0.0 fits typed built)
+    let typed = subst (λ x. AreTyped (contents x)) root c.in_ok-check_contents-in-Err.ensures.typed in
+    let built = subst (λ x. IsBuilt (literal_value choice x (ty c.args.of)) (Err c.in-Err.fault)) root c.in-Err.ensures.built in
+    literal_fault c.args.syntax.now (ty c.args.of) c.in-Err.fault fits typed built
 
-pub returns-clause-value : goal.returns-clause-value
-returns-clause-value c =
+pub returns-in-Ok-clause-value : goal.returns-in-Ok-clause-value
+returns-in-Ok-clause-value c =
     let root = c.root-root.ensures.root in
     let fits = subst (λ x. Admits x (ty c.args.of)) root (c.admits.ensures.0 c.if-not-admits.false) in
-    let typed = subst (λ x. AreTyped (contents x)) root c.in_ok-check_contents.ensures.typed in
-    let built = subst (λ x. IsBuilt (literal_value choice x (ty c.args.of)) (Ok c.in_ok-build.field-0)) root c.in_ok-build.ensures.built in
-    subst (λ r. IfOk r (λ v. HasValue c.args.syntax.now (ty c.args.of) (Ok v))) (sym c.ok_or.ensures.value) (value_or_deep c.args.syntax.now (ty c.args.of) c.in_ok-build.field-0 fits typed built).value
+    let built = subst (λ x. IsBuilt (literal_value choice x (ty c.args.of)) (Ok c.in-Ok.built)) root c.in-Ok.ensures.built in
+    subst (λ r. IfOk r (λ v. HasValue c.args.syntax.now (ty c.args.of) (Ok v))) (sym c.ok_or.ensures.value)
+    (value_or_deep c.args.syntax.now (ty c.args.of) c.in-Ok.built fits (built_typed c.args.syntax.now (ty c.args.of) c.in-Ok.built built) built).value
 
-pub returns-clause-fault : goal.returns-clause-fault
-returns-clause-fault c =
+pub returns-in-Ok-clause-fault : goal.returns-in-Ok-clause-fault
+returns-in-Ok-clause-fault c =
     let root = c.root-root.ensures.root in
     let fits = subst (λ x. Admits x (ty c.args.of)) root (c.admits.ensures.0 c.if-not-admits.false) in
-    let typed = subst (λ x. AreTyped (contents x)) root c.in_ok-check_contents.ensures.typed in
-    let built = subst (λ x. IsBuilt (literal_value choice x (ty c.args.of)) (Ok c.in_ok-build.field-0)) root c.in_ok-build.ensures.built in
-    subst (λ r. IfErr r (IsValueFault c.args.syntax.now (ty c.args.of))) (sym c.ok_or.ensures.value) (value_or_deep c.args.syntax.now (ty c.args.of) c.in_ok-build.field-0 fits typed built).fault
+    let built = subst (λ x. IsBuilt (literal_value choice x (ty c.args.of)) (Ok c.in-Ok.built)) root c.in-Ok.ensures.built in
+    subst (λ r. IfErr r (IsValueFault c.args.syntax.now (ty c.args.of))) (sym c.ok_or.ensures.value)
+    (value_or_deep c.args.syntax.now (ty c.args.of) c.in-Ok.built fits (built_typed c.args.syntax.now (ty c.args.of) c.in-Ok.built built) built).fault

@@ -1,5 +1,5 @@
-use Rattle.gv_model.proofs.FaultPrefixes.{fault_ends_prefix}
+use Rattle.gv_model.proofs.OnePrefix.{one_end, fault_exactly}
 use Rattle.gv_model.proofs.text.fault_ends_prefix.Goals as goal
 
 pub returns : goal.returns
-returns c = fault_ends_prefix
+returns c = record { prefix = fault_exactly; alone = one_end }

@@ -1,15 +1,19 @@
-use Rattle.std.proofs.Common.{◌≡◌, ◌++◌, ◌∷◌, [], true, false, ◌&&◌, sym, ap, ◌∙◌, arith, string_bytes}
+use Rattle.std.proofs.Common.{◌≡◌, ◌++◌, ◌∷◌, [], true, false, ◌&&◌, ℕ, Option, MatchOption, Result, Ok, Err, OnOk, sym, ap, ◌∙◌, subst, arith, string_bytes}
 use Rattle.std.proofs.lemmas.Result.{err_from_is_err_and}
 use Rattle.std.proofs.lemmas.Bool.{and_from, and_left, and_right}
 use Rattle.gv_model.specs.Tree.{children}
 use Rattle.gv_model.specs.Printed.{hold_double, is_empty, text_of, tuple_text, type_mark, when}
 use Rattle.gv_model.specs.Parts.{part_trees}
 use Rattle.gv_model.proofs.ChildLaws.{children_are_parts}
-use Rattle.gv_types.specs.Classes.{class_of}
+use Rattle.gv_types.specs.Classes.{class_of, basic_of}
+use Rattle.gv_types.proofs.ClassLaws.{basic_class}
 use Rattle.gv_types.specs.TypeStr.{element_of, ty}
 use Rattle.gv_view.specs.Views.{value, view_ty, view_bytes}
 use Rattle.gv_view.specs.Children.{children_left}
-use Rattle.gv_text.specs.Printing.{brackets_of, child_texts, rest_annotated}
+use Rattle.gv_view.proofs.Depths.{depth_children}
+use Rattle.gv_view.specs.declared.view.View.{View}
+use Rattle.gv_view.proofs.PartValues.{basic_is_leaf}
+use Rattle.gv_text.specs.Printing.{IsNothing, IsPrintedAs, brackets_of, child_texts, rest_annotated}
 use Rattle.gv_text.proofs.ContainerTexts.{
   array_no_entry,
   basic_no_entry,
@@ -30,9 +34,10 @@ use Rattle.gv_text.proofs.ContainerTexts.{
   written_as,
   written_by_children,
 }
-use Rattle.gv_text.proofs.Containers.{child_deeper, fault_of_children}
-use Rattle.gv_text.proofs.ChildTexts.{childless_text, first_fault, left_deeper, left_first, left_next, left_none, one_member, other_members, rest_of_plain, same_faults}
+use Rattle.gv_text.proofs.Containers.{fault_of_children}
+use Rattle.gv_text.proofs.ChildTexts.{childless_text, first_fault, left_first, left_next, left_none, one_member, other_members, rest_of_plain, same_faults}
 use Rattle.gv_text.proofs.ArrayTexts.{array_written, byte_string_text}
+use Rattle.gv_text.proofs.Levels.{childless_fits, first_too_deep, begin_levels, next_levels, then_too_deep, all_fit}
 use Rattle.gv_text.proofs.Maybes.{maybe_text, within_written}
 use Rattle.gv_text.proofs.printing.+values.Goals as goal
 use Rattle.gv_text.proofs.printing.+values.Goals.{
@@ -50,57 +55,57 @@ use Rattle.gv_text.proofs.printing.+values.Goals.{
 
 -- ---- push_value
 
-pub push_value-returns-in-Basic : goal.push_value-returns-in-Basic
-push_value-returns-in-Basic t c =
+pub push_value-returns-in-Basic-clause-text : goal.push_value-returns-in-Basic-clause-text
+push_value-returns-in-Basic-clause-text t c =
     let kind = c.in-Basic.ensures ∙ ap (λ s. class_of (ty s)) c.type_str.ensures in
-    written_as c.push_basic.result (value c.args.view) _ _ (string_bytes c.args.to.now) (string_bytes c.push_basic.new.to) (same_in_array (view_ty c.args.view) (view_bytes c.args.view) c.args.annotated c.args.in_array (λ e. basic_no_entry c.in-Basic.basic (kind ∙ e))) c.push_basic.ensures
+    written_as c.push_basic.result (value c.args.view) _ _ (string_bytes c.args.to.now) (string_bytes c.push_basic.new.to) (same_in_array (view_ty c.args.view) (view_bytes c.args.view) c.args.annotated c.args.in_array (λ e. basic_no_entry c.in-Basic.basic (kind ∙ e))) c.push_basic.ensures.text
 
-pub push_value-returns-in-Variant : goal.push_value-returns-in-Variant
-push_value-returns-in-Variant t c =
+pub push_value-returns-in-Variant-clause-text : goal.push_value-returns-in-Variant-clause-text
+push_value-returns-in-Variant-clause-text t c =
     let kind = sym (c.in-Variant.ensures ∙ ap (λ s. class_of (ty s)) c.type_str.ensures) in
-    written_as c.push_variant.result (value c.args.view) _ _ (string_bytes c.args.to.now) (string_bytes c.push_variant.new.to) (variant_alike (view_ty c.args.view) (view_bytes c.args.view) c.args.annotated c.args.in_array kind) c.push_variant.ensures
+    written_as c.push_variant.result (value c.args.view) _ _ (string_bytes c.args.to.now) (string_bytes c.push_variant.new.to) (variant_alike (view_ty c.args.view) (view_bytes c.args.view) c.args.annotated c.args.in_array kind) c.push_variant.ensures.text
 
-pub push_value-returns-in-Array : goal.push_value-returns-in-Array
-push_value-returns-in-Array t c =
+pub push_value-returns-in-Array-clause-text : goal.push_value-returns-in-Array-clause-text
+push_value-returns-in-Array-clause-text t c =
     let kind = c.in-Array.ensures ∙ ap (λ s. class_of (ty s)) c.type_str.ensures in
-    written_as c.push_array.result (value c.args.view) _ _ (string_bytes c.args.to.now) (string_bytes c.push_array.new.to) (same_in_array (view_ty c.args.view) (view_bytes c.args.view) c.args.annotated c.args.in_array (λ e. array_no_entry (kind ∙ e))) c.push_array.ensures
+    written_as c.push_array.result (value c.args.view) _ _ (string_bytes c.args.to.now) (string_bytes c.push_array.new.to) (same_in_array (view_ty c.args.view) (view_bytes c.args.view) c.args.annotated c.args.in_array (λ e. array_no_entry (kind ∙ e))) c.push_array.ensures.text
 
-pub push_value-returns-in-Maybe : goal.push_value-returns-in-Maybe
-push_value-returns-in-Maybe t c =
+pub push_value-returns-in-Maybe-clause-text : goal.push_value-returns-in-Maybe-clause-text
+push_value-returns-in-Maybe-clause-text t c =
     let kind = c.in-Maybe.ensures ∙ ap (λ s. class_of (ty s)) c.type_str.ensures in
-    written_as c.push_maybe.result (value c.args.view) _ _ (string_bytes c.args.to.now) (string_bytes c.push_maybe.new.to) (same_in_array (view_ty c.args.view) (view_bytes c.args.view) c.args.annotated c.args.in_array (λ e. maybe_no_entry (kind ∙ e))) c.push_maybe.ensures
+    written_as c.push_maybe.result (value c.args.view) _ _ (string_bytes c.args.to.now) (string_bytes c.push_maybe.new.to) (same_in_array (view_ty c.args.view) (view_bytes c.args.view) c.args.annotated c.args.in_array (λ e. maybe_no_entry (kind ∙ e))) c.push_maybe.ensures.text
 
-pub push_value-returns-in-Tuple : goal.push_value-returns-in-Tuple
-push_value-returns-in-Tuple t c =
+pub push_value-returns-in-Tuple-clause-text : goal.push_value-returns-in-Tuple-clause-text
+push_value-returns-in-Tuple-clause-text t c =
     let kind = c.in-Tuple.ensures ∙ ap (λ s. class_of (ty s)) c.type_str.ensures in
-    written_as c.push_tuple.result (value c.args.view) _ _ (string_bytes c.args.to.now) (string_bytes c.push_tuple.new.to) (same_in_array (view_ty c.args.view) (view_bytes c.args.view) c.args.annotated c.args.in_array (λ e. tuple_no_entry (kind ∙ e))) c.push_tuple.ensures
+    written_as c.push_tuple.result (value c.args.view) _ _ (string_bytes c.args.to.now) (string_bytes c.push_tuple.new.to) (same_in_array (view_ty c.args.view) (view_bytes c.args.view) c.args.annotated c.args.in_array (λ e. tuple_no_entry (kind ∙ e))) c.push_tuple.ensures.text
 
 -- ---- variants, tuples and entries
 
-pub variant::push_variant-returns : goal.variant::push_variant-returns
-variant::push_variant-returns t c =
+pub variant::push_variant-returns-clause-text : goal.variant::push_variant-returns-clause-text
+variant::push_variant-returns-clause-text t c =
     let of = view_ty c.args.view in
     let b = view_bytes c.args.view in
-    written_by_children c.push_between.result (value c.args.view) _ _ (string_bytes c.args.to.now) (string_bytes c.push_between.new.to) (variant_doubles of b c.requires.kind) (sym (variant_text of b true false c.requires.kind)) c.push_between.ensures
+    written_by_children c.push_between.result (value c.args.view) _ _ (string_bytes c.args.to.now) (string_bytes c.push_between.new.to) (variant_doubles of b c.requires.kind) (sym (variant_text of b true false c.requires.kind)) c.push_between.ensures.text
 
-pub tuple::push_entry-returns-else-in_array : goal.tuple::push_entry-returns-else-in_array
-tuple::push_entry-returns-else-in_array t c =
+pub tuple::push_entry-returns-else-in_array-clause-text : goal.tuple::push_entry-returns-else-in_array-clause-text
+tuple::push_entry-returns-else-in_array-clause-text t c =
     let of = view_ty c.args.view in
     let b = view_bytes c.args.view in
     written_by_children c.push_between.result (value c.args.view) _ _ (string_bytes c.args.to.now) (string_bytes c.push_between.new.to)
     (entry_doubles of b c.requires.kind) (sym (entry_alone of b c.args.annotated c.requires.kind)
-    ∙ ap (text_of (value c.args.view) c.args.annotated) (sym c.if-in_array.false)) c.push_between.ensures
+    ∙ ap (text_of (value c.args.view) c.args.annotated) (sym c.if-in_array.false)) c.push_between.ensures.text
 
-pub tuple::push_entry-returns-then-in_array : goal.tuple::push_entry-returns-then-in_array
-tuple::push_entry-returns-then-in_array t c =
+pub tuple::push_entry-returns-then-in_array-clause-text : goal.tuple::push_entry-returns-then-in_array-clause-text
+tuple::push_entry-returns-then-in_array-clause-text t c =
     let of = view_ty c.args.view in
     let b = view_bytes c.args.view in
     written_by_children c.push_children.result (value c.args.view) _ _ (string_bytes c.args.to.now) (string_bytes c.push_children.new.to)
     (entry_doubles of b c.requires.kind) (sym (entry_in_array of b c.args.annotated c.requires.kind)
-    ∙ ap (text_of (value c.args.view) c.args.annotated) (sym c.if-in_array.true)) c.push_children.ensures
+    ∙ ap (text_of (value c.args.view) c.args.annotated) (sym c.if-in_array.true)) c.push_children.ensures.text
 
-pub tuple::push_tuple-returns : goal.tuple::push_tuple-returns
-tuple::push_tuple-returns t c =
+pub tuple::push_tuple-returns-clause-text : goal.tuple::push_tuple-returns-clause-text
+tuple::push_tuple-returns-clause-text t c =
     let of = view_ty c.args.view in
     let b = view_bytes c.args.view in
     let vs = children (value c.args.view) in
@@ -110,101 +115,97 @@ tuple::push_tuple-returns t c =
     let written = string_bytes c.push_children.new.to in
     let closed = string_bytes c.push_str.new.self in
     let whole : closed ≡ old ++ tuple_text (child_texts vs c.args.annotated false) = elim c.if-n_children-eq1.branch [
-      | tuple::push_tuple-then-n_children-eq1 w ↦ one_member vs c.args.annotated old opened written closed (sym c.n_children.ensures ∙ w.if-n_children-eq1.true) opens c.in_ok-push_children.ensures.1 (c.in_ok-push_str.ensures.bytes ∙ ap (λ s. written ++ s.now) w.push_str-is)
-      | tuple::push_tuple-else-n_children-eq1 w ↦ other_members vs c.args.annotated old opened written closed (λ e. w.if-n_children-eq1.false (c.n_children.ensures ∙ e)) opens c.in_ok-push_children.ensures.1 (c.in_ok-push_str.ensures.bytes ∙ ap (λ s. written ++ s.now) w.push_str-is)
+      | tuple::push_tuple-then-n_children-eq1 w ↦ one_member vs c.args.annotated old opened written closed (sym c.n_children.ensures ∙ w.if-n_children-eq1.true) opens c.in_ok-push_children.ensures.text.1 (c.in_ok-push_str.ensures.bytes ∙ ap (λ s. written ++ s.now) w.push_str-is)
+      | tuple::push_tuple-else-n_children-eq1 w ↦ other_members vs c.args.annotated old opened written closed (λ e. w.if-n_children-eq1.false (c.n_children.ensures ∙ e)) opens c.in_ok-push_children.ensures.text.1 (c.in_ok-push_str.ensures.bytes ∙ ap (λ s. written ++ s.now) w.push_str-is)
     ] in
-    (tuple_doubles of b c.requires.kind ∙ c.in_ok-push_children.ensures.0, whole ∙ ap (λ l. old ++ l) (sym (tuple_text_of of b c.args.annotated c.requires.kind)))
+    (tuple_doubles of b c.requires.kind ∙ c.in_ok-push_children.ensures.text.0, whole ∙ ap (λ l. old ++ l) (sym (tuple_text_of of b c.args.annotated c.requires.kind)))
 
-pub tuple::push_tuple-returns-in_err-push_children : goal.tuple::push_tuple-returns-in_err-push_children
-tuple::push_tuple-returns-in_err-push_children t c =
+pub tuple::push_tuple-returns-in_err-push_children-clause-text : goal.tuple::push_tuple-returns-in_err-push_children-clause-text
+tuple::push_tuple-returns-in_err-push_children-clause-text t c =
     let p = err_from_is_err_and c.from_residual-in_err-push_children.result c.from_residual-in_err-push_children.ensures.1 in
-    rw (p.1, p.2) (fault_of_children (value c.args.view) c.in_err-push_children.field-0.0 (tuple_doubles (view_ty c.args.view) (view_bytes c.args.view) c.requires.kind) c.in_err-push_children.ensures)
+    rw (p.1, p.2) (fault_of_children (value c.args.view) c.in_err-push_children.field-0.0 (tuple_doubles (view_ty c.args.view) (view_bytes c.args.view) c.requires.kind) c.in_err-push_children.ensures.text)
 
 -- ---- children
 
-pub children::push_children-returns-in_default : goal.children::push_children-returns-in_default
-children::push_children-returns-in_default t c =
+pub children::push_children-returns-in_default-clause-text : goal.children::push_children-returns-in_default-clause-text
+children::push_children-returns-in_default-clause-text t c =
     let none = children_are_parts (view_ty c.args.view) (view_bytes c.args.view) ∙ (ap part_trees (sym c.children-children.ensures) ∙ ap part_trees c.in_default.ensures.steps.0) in
     rw none (childless_text c.args.mark.now c.args.annotated c.args.in_array (string_bytes c.args.to.now))
 
-pub children::push_children-push_value-requires : goal.children::push_children-push_value-requires
-children::push_children-push_value-requires t c =
-    let some = children_are_parts (view_ty c.args.view) (view_bytes c.args.view) ∙ (ap part_trees (sym c.children-children.ensures) ∙ ap part_trees c.in-Some.ensures.steps) in
-    let less = child_deeper (value c.args.view) (value c.in-Some.first) _ some in
-    (omega (arith, less, c.requires.1.0), omega (arith, less, c.requires.1.1))
-
-pub children::push_children-returns-in_err-push_value : goal.children::push_children-returns-in_err-push_value
-children::push_children-returns-in_err-push_value t c =
+pub children::push_children-returns-in_err-push_value-clause-text : goal.children::push_children-returns-in_err-push_value-clause-text
+children::push_children-returns-in_err-push_value-clause-text t c =
     let some = children_are_parts (view_ty c.args.view) (view_bytes c.args.view) ∙ (ap part_trees (sym c.children-children.ensures) ∙ ap part_trees c.in-Some.ensures.steps) in
     let p = err_from_is_err_and c.from_residual.result c.from_residual.ensures.1 in
-    rw (p.1, p.2, some) (first_fault (value c.in-Some.first) _ c.in_err-push_value.field-0.0 c.in_err-push_value.ensures)
+    rw (p.1, p.2, some) (first_fault (value c.in-Some.first) _ c.in_err-push_value.field-0.0 c.in_err-push_value.ensures.text)
 
 pub children::push_children-loop-child-init : goal.children::push_children-loop-child-init
 children::push_children-loop-child-init t c =
     let some = children_are_parts (view_ty c.args.view) (view_bytes c.args.view) ∙ (ap part_trees (sym c.children-children.ensures) ∙ ap part_trees c.in-Some.ensures.steps) in
-    rw (some, c.into_iter-child-iterator.ensures.into_iter_gives)
-    (left_first c.args.mark.now (value c.in-Some.first) (part_trees (children_left c.next.new.self)) c.args.annotated c.args.in_array (string_bytes c.args.to.now)
-    (string_bytes c.push_value.new.to) c.in_ok-push_value.ensures.0 c.in_ok-push_value.ensures.1)
-
-pub children::push_children-push_value-requires-in-loop-child : goal.children::push_children-push_value-requires-in-loop-child
-children::push_children-push_value-requires-in-loop-child t c =
-    let less = left_deeper (value c.args.view) (value c.in-Some-child.child) _ (ap part_trees c.in-Some-child.ensures.steps) c.loop-child.invariant in
-    (omega (arith, less, c.requires.1.0), omega (arith, less, c.requires.1.1))
+    let again = ap part_trees (ap children_left c.into_iter-child-iterator.ensures.into_iter_gives) in (
+      rw (some, c.into_iter-child-iterator.ensures.into_iter_gives)
+          (left_first c.args.mark.now (value c.in-Some.first) (part_trees (children_left c.next.new.self)) c.args.annotated c.args.in_array (string_bytes c.args.to.now)
+          (string_bytes c.push_value.new.to) c.in_ok-push_value.ensures.text.0 c.in_ok-push_value.ensures.text.1),
+      rw again (begin_levels (value c.args.view) (value c.in-Some.first) (part_trees (children_left c.next.new.self)) c.args.levels some c.requires.1.1 c.in_ok-push_value.ensures.fits),
+    )
 
 pub children::push_children-loop-child-preserved : goal.children::push_children-loop-child-preserved
 children::push_children-loop-child-preserved t c =
-    let so_far = rw (ap part_trees c.in-Some-child.ensures.steps) at c.loop-child.invariant in
+    let so_far = rw (ap part_trees c.in-Some-child.ensures.steps) at c.loop-child.invariant.0 in
     let annotate : c.if-annotated.push_value ≡ rest_annotated c.args.annotated c.args.in_array = elim c.if-annotated.branch [
       | children::push_children-then-annotated w ↦ w.push_value-is ∙ ap (λ a. rest_annotated a c.args.in_array) (sym w.if-annotated.true)
       | children::push_children-else-annotated w ↦ w.push_value-is ∙ rest_of_plain c.args.annotated c.args.in_array w.if-annotated.false
-    ] in
-    left_next c.args.mark.now (children (value c.args.view)) (value c.in-Some-child.child)
-    (part_trees (children_left c.next-in-loop-child.new.self)) c.args.annotated c.args.in_array (string_bytes c.args.to.now) (string_bytes c.loop-child.to)
-    (string_bytes c.push_str.new.self) (string_bytes c.push_value-in-loop-child.new.to) so_far c.in_ok-push_str.ensures.bytes c.in_ok-push_value-2.ensures.0
-    (c.in_ok-push_value-2.ensures.1 ∙ ap (λ a. string_bytes c.push_str.new.self ++ text_of (value c.in-Some-child.child) a c.args.in_array) annotate)
+    ] in (
+      left_next c.args.mark.now (children (value c.args.view)) (value c.in-Some-child.child)
+          (part_trees (children_left c.next-in-loop-child.new.self)) c.args.annotated c.args.in_array (string_bytes c.args.to.now) (string_bytes c.loop-child.to)
+          (string_bytes c.push_str.new.self) (string_bytes c.push_value-in-loop-child.new.to) so_far c.in_ok-push_str.ensures.bytes c.in_ok-push_value-2.ensures.text.0
+          (c.in_ok-push_value-2.ensures.text.1 ∙ ap (λ a. string_bytes c.push_str.new.self ++ text_of (value c.in-Some-child.child) a c.args.in_array) annotate),
+      next_levels (value c.args.view) (value c.in-Some-child.child) (part_trees (children_left c.next-in-loop-child.new.self)) (part_trees (children_left c.loop-child.child-iterator)) c.args.levels (ap part_trees c.in-Some-child.ensures.steps) c.requires.1.1 c.in_ok-push_value-2.ensures.fits c.loop-child.invariant.1,
+    )
 
-pub children::push_children-returns-in_err-push_value-2 : goal.children::push_children-returns-in_err-push_value-2
-children::push_children-returns-in_err-push_value-2 t c =
+pub children::push_children-returns-in_err-push_value-2-clause-text : goal.children::push_children-returns-in_err-push_value-2-clause-text
+children::push_children-returns-in_err-push_value-2-clause-text t c =
     let p = err_from_is_err_and c.from_residual-in_err-push_value-2.result c.from_residual-in_err-push_value-2.ensures.1 in
-    let fault = first_fault (value c.in-Some-child.child) (part_trees (children_left c.next-in-loop-child.new.self)) c.in_err-push_value-2.field-0.0 c.in_err-push_value-2.ensures in
-    rw (p.1, p.2) (same_faults (children (value c.args.view)) _ c.in_err-push_value-2.field-0.0 (c.loop-child.invariant.doubles ∙ ap hold_double (ap part_trees c.in-Some-child.ensures.steps)) fault)
+    let fault = first_fault (value c.in-Some-child.child) (part_trees (children_left c.next-in-loop-child.new.self)) c.in_err-push_value-2.field-0.0 c.in_err-push_value-2.ensures.text in
+    rw (p.1, p.2) (same_faults (children (value c.args.view)) _ c.in_err-push_value-2.field-0.0 (c.loop-child.invariant.0.doubles ∙ ap hold_double (ap part_trees c.in-Some-child.ensures.steps)) fault)
 
-pub children::push_children-returns : goal.children::push_children-returns
-children::push_children-returns t c =
-    let so_far = rw (ap part_trees c.in-None.ensures.steps.0) at c.loop-child.invariant in
+pub children::push_children-returns-clause-text : goal.children::push_children-returns-clause-text
+children::push_children-returns-clause-text t c =
+    let so_far = rw (ap part_trees c.in-None.ensures.steps.0) at c.loop-child.invariant.0 in
     left_none c.args.mark.now (children (value c.args.view)) c.args.annotated c.args.in_array (string_bytes c.args.to.now) (string_bytes c.loop-child.to) so_far
 
 -- ---- maybes
 
-pub maybe::push_maybe-returns-in-Some : goal.maybe::push_maybe-returns-in-Some
-maybe::push_maybe-returns-in-Some t c =
+pub maybe::push_maybe-returns-in-Some-clause-text : goal.maybe::push_maybe-returns-in-Some-clause-text
+maybe::push_maybe-returns-in-Some-clause-text t c =
     let of = view_ty c.args.view in
     let old = string_bytes c.args.to.now in
     let mid : string_bytes c.if-annotated.to ≡ old ++ when c.args.annotated (type_mark of) = elim c.if-annotated.branch [
       | maybe::push_maybe-then-annotated+in_ok-push_type_mark w ↦ ap string_bytes w.to-is ∙ wanted_mark c.args.annotated (type_mark of) old _ w.if-annotated.true (w.in_ok-push_type_mark.ensures ∙ ap (λ s. old ++ type_mark (ty s)) w.type_str.ensures)
       | maybe::push_maybe-else-annotated w ↦ ap string_bytes w.to-is ∙ unwanted_mark c.args.annotated (type_mark of) old w.if-annotated.false
     ] in
-    within_written c.push_value.result (value c.args.view) (value c.in-Some.inner) _ _ old (string_bytes c.if-annotated.to) (string_bytes c.push_value.new.to) c.in-Some.ensures (maybe_text of (view_bytes c.args.view) c.args.annotated c.requires.kind) mid c.push_value.ensures
+    let inside = subst (λ (o : Option (View × ℕ)). MatchOption o (IsNothing (value c.args.view)) (λ r. IsPrintedAs (value c.args.view) (value r.0))) c.in-Some.is c.in_ok-inner.ensures.inner in
+    within_written c.push_value.result (value c.args.view) (value c.in-Some.inner) _ _ old (string_bytes c.if-annotated.to) (string_bytes c.push_value.new.to) inside (maybe_text of (view_bytes c.args.view) c.args.annotated c.requires.kind) mid c.push_value.ensures.text
 
-pub maybe::push_maybe-returns-in_ok-push_nothing-in-None : goal.maybe::push_maybe-returns-in_ok-push_nothing-in-None
-maybe::push_maybe-returns-in_ok-push_nothing-in-None t c =
+pub maybe::push_maybe-returns-in_ok-push_nothing-in-None-clause-text : goal.maybe::push_maybe-returns-in_ok-push_nothing-in-None-clause-text
+maybe::push_maybe-returns-in_ok-push_nothing-in-None-clause-text t c =
     let of = view_ty c.args.view in
     let old = string_bytes c.args.to.now in
     let mid : string_bytes c.if-annotated.to ≡ old ++ when c.args.annotated (type_mark of) = elim c.if-annotated.branch [
       | maybe::push_maybe-then-annotated+in_ok-push_type_mark w ↦ ap string_bytes w.to-is ∙ wanted_mark c.args.annotated (type_mark of) old _ w.if-annotated.true (w.in_ok-push_type_mark.ensures ∙ ap (λ s. old ++ type_mark (ty s)) w.type_str.ensures)
       | maybe::push_maybe-else-annotated w ↦ ap string_bytes w.to-is ∙ unwanted_mark c.args.annotated (type_mark of) old w.if-annotated.false
     ] in
-    (c.in-None.ensures.plain, marked_text _ _ _ old (string_bytes c.if-annotated.to) (string_bytes c.push_nothing.new.to) (maybe_text of (view_bytes c.args.view) c.args.annotated c.requires.kind) mid c.in_ok-push_nothing-in-None.ensures)
+    let nothing = subst (λ (o : Option (View × ℕ)). MatchOption o (IsNothing (value c.args.view)) (λ r. IsPrintedAs (value c.args.view) (value r.0))) c.in-None.is c.in_ok-inner.ensures.inner in
+    (nothing.plain, marked_text _ _ _ old (string_bytes c.if-annotated.to) (string_bytes c.push_nothing.new.to) (maybe_text of (view_bytes c.args.view) c.args.annotated c.requires.kind) mid c.in_ok-push_nothing-in-None.ensures)
 
 -- ---- arrays
 
-pub array::push_array-returns-in-Some : goal.array::push_array-returns-in-Some
-array::push_array-returns-in-Some t c =
+pub array::push_array-returns-in-Some-clause-text : goal.array::push_array-returns-in-Some-clause-text
+array::push_array-returns-in-Some-clause-text t c =
     let v = value c.args.view in
     (c.in-Some.ensures.plain, c.in_ok-push_byte_string.ensures ∙ ap (λ l. string_bytes c.args.to.now ++ l) (sym (byte_string_text v c.in-Some.body.now c.args.annotated false (sym c.in-Some.ensures.text))))
 
-pub array::push_array-returns : goal.array::push_array-returns
-array::push_array-returns t c =
+pub array::push_array-returns-clause-text : goal.array::push_array-returns-clause-text
+array::push_array-returns-clause-text t c =
     let of = view_ty c.args.view in
     let vs = children (value c.args.view) in
     let old = string_bytes c.args.to.now in
@@ -220,4 +221,40 @@ array::push_array-returns t c =
     ] in
     array_written c.push_between.result of (view_bytes c.args.view) c.args.annotated c.brackets.result old (string_bytes c.if-annotated.to)
     (string_bytes c.push_between.new.to) c.requires.kind (sym c.in_default.ensures.text)
-    (c.brackets.ensures ∙ ap (λ s. brackets_of (element_of (ty s))) c.type_str-2.ensures) mid c.push_between.ensures
+    (c.brackets.ensures ∙ ap (λ s. brackets_of (element_of (ty s))) c.type_str-2.ensures) mid c.push_between.ensures.text
+
+-- ---- levels
+
+always_ok : {T E Q : Type 0} (r : Result T E) → Q → OnOk r Q
+always_ok (Ok x) q = q
+always_ok (Err e) q = tt
+
+pub push_value-returns-then-levels-eq0-clause-deep : goal.push_value-returns-then-levels-eq0-clause-deep
+push_value-returns-then-levels-eq0-clause-deep t c = λ is. omega (arith, c.if-levels-eq0.true, depth_children (value c.args.view))
+
+pub push_value-returns-in-Basic-clause-fits : goal.push_value-returns-in-Basic-clause-fits
+push_value-returns-in-Basic-clause-fits t c =
+    let class = c.in-Basic.ensures ∙ ap (λ s. class_of (ty s)) c.type_str.ensures in
+    let leaf = basic_is_leaf (view_ty c.args.view) (view_bytes c.args.view) (basic_of c.in-Basic.basic, basic_class (view_ty c.args.view) c.in-Basic.basic class) in
+    always_ok c.push_basic.result (childless_fits (value c.args.view) c.args.levels (sym leaf) (omega (arith, c.if-levels-eq0.false)))
+
+pub children::push_children-returns-in_default-clause-fits : goal.children::push_children-returns-in_default-clause-fits
+children::push_children-returns-in_default-clause-fits t c =
+    let none = children_are_parts (view_ty c.args.view) (view_bytes c.args.view) ∙ (ap part_trees (sym c.children-children.ensures) ∙ ap part_trees c.in_default.ensures.steps.0) in
+    childless_fits (value c.args.view) c.args.levels none c.requires.1.1
+
+pub children::push_children-returns-in_err-push_value-clause-deep : goal.children::push_children-returns-in_err-push_value-clause-deep
+children::push_children-returns-in_err-push_value-clause-deep t c =
+    let some = children_are_parts (view_ty c.args.view) (view_bytes c.args.view) ∙ (ap part_trees (sym c.children-children.ensures) ∙ ap part_trees c.in-Some.ensures.steps) in
+    let p = err_from_is_err_and c.from_residual.result c.from_residual.ensures.1 in
+    rw (p.1, p.2) (λ is. first_too_deep (value c.args.view) (value c.in-Some.first) (part_trees (children_left c.next.new.self)) c.args.levels some (c.in_err-push_value.ensures.deep is))
+
+pub children::push_children-returns-in_err-push_value-2-clause-deep : goal.children::push_children-returns-in_err-push_value-2-clause-deep
+children::push_children-returns-in_err-push_value-2-clause-deep t c =
+    let p = err_from_is_err_and c.from_residual-in_err-push_value-2.result c.from_residual-in_err-push_value-2.ensures.1 in
+    rw (p.1, p.2) (λ is. then_too_deep (value c.args.view) (value c.in-Some-child.child) (part_trees (children_left c.next-in-loop-child.new.self)) (part_trees (children_left c.loop-child.child-iterator)) c.args.levels
+    (ap part_trees c.in-Some-child.ensures.steps) (c.in_err-push_value-2.ensures.deep is) c.loop-child.invariant.1)
+
+pub children::push_children-returns-clause-fits : goal.children::push_children-returns-clause-fits
+children::push_children-returns-clause-fits t c =
+    all_fit (value c.args.view) (part_trees (children_left c.loop-child.child-iterator)) c.args.levels (ap part_trees c.in-None.ensures.steps.0) c.requires.1.1 c.loop-child.invariant.1

@@ -1,39 +1,41 @@
 use Rattle.std.proofs.Common.{◌+◌, ◌*◌, string_bytes}
-use Rattle.gv_model.specs.Tree.{children, depth}
+use Rattle.gv_model.specs.Tree.{children}
 use Rattle.gv_model.specs.Parts.{part_trees}
 use Rattle.gv_view.specs.Views.{value}
 use Rattle.gv_view.specs.Children.{children_left}
 use Rattle.gv_text.proofs.ChildTexts.{IsLeft}
+use Rattle.gv_text.proofs.Levels.{AreLevels}
 use Rattle.gv_text.proofs.printing.+values.Given as goal
 
--- A child is less deep than its container. At one depth a value comes before its kind, then the brackets,
--- then the children.
+-- A child has fewer levels left than its container. With as many left a value comes before its kind, then the brackets, then
+-- the children.
 
 abbrev pub decreases-push_value : goal.decreases-push_value
-decreases-push_value l = 4 * depth (value l.view) + 3
+decreases-push_value l = 4 * l.levels + 3
 
 abbrev pub decreases-array::push_array : goal.decreases-array::push_array
-decreases-array::push_array l = 4 * depth (value l.view) + 2
+decreases-array::push_array l = 4 * l.levels + 2
 
 abbrev pub decreases-maybe::push_maybe : goal.decreases-maybe::push_maybe
-decreases-maybe::push_maybe l = 4 * depth (value l.view) + 2
+decreases-maybe::push_maybe l = 4 * l.levels + 2
 
 abbrev pub decreases-tuple::push_entry : goal.decreases-tuple::push_entry
-decreases-tuple::push_entry l = 4 * depth (value l.view) + 2
+decreases-tuple::push_entry l = 4 * l.levels + 2
 
 abbrev pub decreases-tuple::push_tuple : goal.decreases-tuple::push_tuple
-decreases-tuple::push_tuple l = 4 * depth (value l.view) + 2
+decreases-tuple::push_tuple l = 4 * l.levels + 2
 
 abbrev pub decreases-variant::push_variant : goal.decreases-variant::push_variant
-decreases-variant::push_variant l = 4 * depth (value l.view) + 2
+decreases-variant::push_variant l = 4 * l.levels + 2
 
 abbrev pub decreases-children::push_between : goal.decreases-children::push_between
-decreases-children::push_between l = 4 * depth (value l.view) + 1
+decreases-children::push_between l = 4 * l.levels + 1
 
 abbrev pub decreases-children::push_children : goal.decreases-children::push_children
-decreases-children::push_children l = 4 * depth (value l.view)
+decreases-children::push_children l = 4 * l.levels
 
--- what is written so far, and the children that are left
+-- what is written so far, and the children that are left; those before have no more levels than there are
 abbrev pub invariant-children::push_children-loop-child : goal.invariant-children::push_children-loop-child
 invariant-children::push_children-loop-child l =
     IsLeft l.mark (children (value l.fn.view)) (part_trees (children_left l.child-iterator)) l.annotated l.in_array (string_bytes l.fn.to) (string_bytes l.to)
+    × AreLevels (value l.fn.view) (part_trees (children_left l.child-iterator)) l.fn.levels

@@ -1,13 +1,15 @@
 use Rattle.std.proofs.Common.{◌≡◌, ℕ, List, [], ◌∷◌, ◌++◌, codes, sym, ap, ◌∙◌, subst}
-use Rattle.std.specs.FinMap.{get, keys}
+use Rattle.std.specs.FinMap.{keys}
 use Rattle.dconf_model.specs.Settings.{Settings}
 use Rattle.dconf_model.specs.Table.{list_kind, table_kind}
 use Rattle.gvdb_write.specs.declared.names.Named.{Named}
 use Rattle.gvdb_write.specs.Names.{ArePlaced}
-use Rattle.gvdb_write.specs.PathsLeft.{keys_left}
-use Rattle.gvdb_write.specs.Maps.{AreKeyPaths, ArePaths}
+use Rattle.gvdb_write.specs.PathsLeft.{AreHeld, entries_left}
+use Rattle.gvdb_write.specs.Maps.{AreKeyPaths, ArePaths, paths_of}
+use Rattle.gvdb_write.proofs.HeldEntries.{first_path, first_is_path, first_value, rest_held}
 use Rattle.gvdb_write.proofs.KeysRise.{are_settings}
-use Rattle.gvdb_write.proofs.RootNames.{AreNamesSoFar, IsCommon, IsCommonDirectory, IsNextDirectory, some_common, text_of_path, text_is_first, next_directory, value_here, names_more}
+use Rattle.gvdb_write.proofs.PathTexts.{text_of_key}
+use Rattle.gvdb_write.proofs.RootNames.{AreNamesSoFar, IsCommon, IsCommonDirectory, IsNextDirectory, some_common, next_directory, names_more}
 use Rattle.gvdb_write.proofs.RootStart.{IsTopName, is_top, vec_counted, as_said, start_without, start_with, all_names, some_lock, no_lock}
 use Rattle.gvdb_write.proofs.names.root_names.Goals as goal
 use Rattle.gvdb_write.proofs.names.root_names.Goals.{then-is_some+in_ok-push, else-is_some}
@@ -16,8 +18,10 @@ pub loop-path-init : goal.loop-path-init
 loop-path-init c =
     let s : Settings = c.args.map.now in
     let slash : Named = c.top-2.result in
-    let paths : AreKeyPaths (keys s.values) = subst (λ (l : List (List ℕ)). AreKeyPaths l) c.keys-path-items.ensures c.keys-path-items.result.are_paths in
-    let left : keys_left c.into_iter-path-iterator.result ≡ keys s.values = ap (λ k. keys_left k) c.into_iter-path-iterator.ensures.into_iter_gives ∙ c.keys-path-items.ensures in
+    let paths : AreKeyPaths (keys s.values) = subst (λ (l : List (List ℕ)). AreKeyPaths l) c.entries-path-items.ensures.paths c.entries-path-items.result.are_paths in
+    let same = ap (λ e. entries_left e) c.into_iter-path-iterator.ensures.into_iter_gives in
+    let left : paths_of (entries_left c.into_iter-path-iterator.result) ≡ keys s.values = ap paths_of same ∙ c.entries-path-items.ensures.paths in
+    let held : AreHeld s.values (entries_left c.into_iter-path-iterator.result) = subst (λ (es : List (List ℕ × List ℕ)). AreHeld s.values es) (sym same) c.entries-path-items.ensures.held in
     let is_slash : IsTopName slash (codes "/") list_kind = is_top slash (codes "/") list_kind c.top-2.ensures.hash c.top-2.ensures.from c.top-2.ensures.entry in
     elim c.if-is_some.branch [
       | then-is_some+in_ok-push w ↦
@@ -30,6 +34,7 @@ loop-path-init c =
                 (c.len-directory.ensures ∙ vec_counted c.if-is_some.names (locks ∷ []) first) left
                 (start_with s paths slash is_slash locks (is_top locks (codes ".locks") table_kind w.top.ensures.hash w.top.ensures.from w.top.ensures.entry)
                 (some_lock s _ _ c.next.result c.locks.ensures c.next.ensures.steps (sym w.if-is_some.ensures)));
+            held = held;
           }
       | else-is_some w ↦
           let first : c.if-is_some.names.items ≡ [] = ap (λ v. v.items) w.names-is ∙ c.new-names.ensures.items in
@@ -38,6 +43,7 @@ loop-path-init c =
                 as_said s (slash ∷ []) _ 0 _ (codes "/") _ _ (c.in_ok-push-2.ensures.items ∙ ap (λ (l : List Named). l ++ slash ∷ []) first)
                 (c.len-directory.ensures ∙ vec_counted c.if-is_some.names [] first) left
                 (start_without s paths slash is_slash (no_lock s _ _ c.next.result c.locks.ensures c.next.ensures.steps (sym w.if-is_some.ensures)));
+            held = held;
           }
     ]
 
@@ -48,7 +54,8 @@ pub innermost-directory-requires-clause-some : goal.innermost-directory-requires
 innermost-directory-requires-clause-some c =
     let common : IsCommon c.loop-path.last.now c.as_bytes-text.result.now c.common.result =
     record { within = c.common.ensures.within; same = c.common.ensures.same; most = c.common.ensures.most } in
-    some_common _ _ _ common c.loop-path.invariant.so_far.first (text_of_path c.in-Some.path _ _ c.as_bytes-text.ensures.value c.as_str.ensures).first
+    let is_path = first_is_path (entries_left c.loop-path.path-iterator) (entries_left c.next-in-loop-path.new.self) c.in-Some.path.now c.in-Some.value.now c.as_bytes-text.result.now c.in-Some.ensures.steps c.as_bytes-text.ensures.value c.loop-path.path-iterator.are_paths in
+    some_common _ _ _ common c.loop-path.invariant.so_far.first (text_of_key c.as_bytes-text.result.now is_path).first
 
 next : (c : goal.After-names-in-loop-path-2-1) → IsNextDirectory c.loop-path.names.items c.as_bytes-text.result.now c.innermost-directory.result
 next c =
@@ -59,7 +66,7 @@ next c =
     record { within = d.within; list = d.list; short = d.short; prefix = d.prefix; inside = d.inside; most = d.most } in
     next_directory c.args.map.now c.loop-path.names.items c.deref.result.now c.loop-path.directory c.loop-path.last.now c.as_bytes-text.result.now _ _
     c.common.result c.innermost-directory.result c.loop-path.invariant.so_far
-    (text_is_first c.in-Some.path _ _ _ _ c.as_bytes-text.ensures.value c.as_str.ensures c.in-Some.ensures.steps) common c.deref.ensures.value inner
+    (first_path _ _ c.in-Some.path.now c.in-Some.value.now c.as_bytes-text.result.now c.in-Some.ensures.steps c.as_bytes-text.ensures.value) common c.deref.ensures.value inner
 
 pub add-requires-clause-lies : goal.add-requires-clause-lies
 add-requires-clause-lies c = (next c).lies
@@ -67,28 +74,35 @@ add-requires-clause-lies c = (next c).lies
 pub add-requires-clause-beyond : goal.add-requires-clause-beyond
 add-requires-clause-beyond c = (next c).beyond
 
+pub add-requires-clause-path : goal.add-requires-clause-path
+add-requires-clause-path c =
+    first_is_path (entries_left c.loop-path.path-iterator) (entries_left c.next-in-loop-path.new.self) c.in-Some.path.now c.in-Some.value.now c.as_bytes-text.result.now c.in-Some.ensures.steps c.as_bytes-text.ensures.value c.loop-path.path-iterator.are_paths
+
 pub loop-path-preserved : goal.loop-path-preserved
 loop-path-preserved c =
     let s : Settings = c.args.map.now in
     let text : List ℕ = c.as_bytes-text.result.now in
-    let rest : List (List ℕ) = keys_left c.next-in-loop-path.new.self in
-    let so : AreNamesSoFar s c.loop-path.names.items c.loop-path.directory c.loop-path.last.now (text ∷ rest) =
+    let left = entries_left c.loop-path.path-iterator in
+    let rest = entries_left c.next-in-loop-path.new.self in
+    let first = c.in-Some.ensures.steps in
+    let is = c.as_bytes-text.ensures.value in
+    let so : AreNamesSoFar s c.loop-path.names.items c.loop-path.directory c.loop-path.last.now (text ∷ paths_of rest) =
     subst (λ (l : List (List ℕ)). AreNamesSoFar s c.loop-path.names.items c.loop-path.directory c.loop-path.last.now l)
-    (text_is_first c.in-Some.path text _ _ rest c.as_bytes-text.ensures.value c.as_str.ensures c.in-Some.ensures.steps) c.loop-path.invariant.so_far in
-    let is : get s.values c.in-Some.path.text.now ≡ get s.values text = ap (λ (x : List ℕ). get s.values x) (sym (c.as_bytes-text.ensures.value ∙ c.as_str.ensures)) in
+    (first_path left rest c.in-Some.path.now c.in-Some.value.now text first is) c.loop-path.invariant.so_far in
     record {
       so_far =
-          names_more s c.loop-path.names.items c.add.new.names.items c.loop-path.last.now text c.unwrap_or_default.result.now rest
+          names_more s c.loop-path.names.items c.add.new.names.items c.loop-path.last.now text c.in-Some.value.now (paths_of rest)
           c.loop-path.directory c.in_ok-directory.directory so c.in_ok-directory.ensures.added
-          (value_here s text c.get.result _ c.unwrap_or_default.result (c.get.ensures ∙ is) c.unwrap_or_default.ensures)
-          (text_of_path c.in-Some.path text _ c.as_bytes-text.ensures.value c.as_str.ensures);
+          (λ _. first_value left rest c.in-Some.path.now c.in-Some.value.now text first is s.values c.loop-path.invariant.held)
+          (text_of_key text (first_is_path left rest c.in-Some.path.now c.in-Some.value.now text first is c.loop-path.path-iterator.are_paths));
+      held = rest_held left rest c.in-Some.path.now c.in-Some.value.now text first is s.values c.loop-path.invariant.held;
     }
 
 pub returns-clause-names : goal.returns-clause-names
-returns-clause-names c = all_names c.args.map.now c.loop-path.names.items c.loop-path.directory c.loop-path.last.now _ c.in-None.ensures.steps.0 c.loop-path.invariant.so_far
+returns-clause-names c = all_names c.args.map.now c.loop-path.names.items c.loop-path.directory c.loop-path.last.now _ (ap paths_of c.in-None.ensures.steps.0) c.loop-path.invariant.so_far
 
 pub returns-clause-settings : goal.returns-clause-settings
 returns-clause-settings c =
     are_settings c.args.map.now
-    (subst (λ (l : List (List ℕ)). AreKeyPaths l) c.keys-path-items.ensures c.keys-path-items.result.are_paths)
+    (subst (λ (l : List (List ℕ)). AreKeyPaths l) c.entries-path-items.ensures.paths c.entries-path-items.result.are_paths)
     (subst (λ (l : List (List ℕ)). ArePaths l) c.locks.ensures c.locks.result.are_paths)

@@ -6,4 +6,4 @@ use Rattle.gv_layout.proofs.array.ByOffsets.len.Goals as goal
 pub returns : goal.returns
 returns c =
     let self = c.args.self in
-    sym (by_offsets-length (ty self.element) self.len self.end self.width self.left self.offsets.now)
+    sym (by_offsets-length (ty self.element) self.len self.body self.width self.left self.previous self.offsets.now)

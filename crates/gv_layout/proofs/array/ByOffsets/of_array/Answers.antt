@@ -22,6 +22,7 @@ invariant_of-result c =
     record {
       aligned = c.alignment-aligned_to.ensures;
       narrow = width.narrow;
+      inside = c.if-begin-len.true;
       whole = ap length (take_rest b c.number-begin.result) ∙ (length-drop c.number-begin.result b ∙ omega (arith, c.if-width-gt0.true, c.if-len-begin-eq0.true));
       small = omega arith;
     }
@@ -36,7 +37,7 @@ returns-then-len-begin-eq0 c =
 pub invariant_of-result-2 : goal.invariant_of-result-2
 invariant_of-result-2 c =
     let width = width_is (length c.args.bytes.now) c.from-width.result c.offset_width.result c.from-width.ensures c.offset_width.ensures in
-    record { aligned = c.alignment-aligned_to.ensures; narrow = width.narrow; whole = omega arith; small = omega arith }
+    record { aligned = c.alignment-aligned_to.ensures; narrow = width.narrow; inside = omega arith; whole = omega arith; small = omega arith }
 
 pub returns : goal.returns
 unfolding offset_spans numbers_in

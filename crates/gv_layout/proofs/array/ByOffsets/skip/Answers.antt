@@ -1,19 +1,15 @@
-use Rattle.std.proofs.Common.{◌*◌, length}
-use Rattle.std.specs.Prelude.{slice_range}
-use Rattle.std.proofs.lemmas.List.{take_rest}
-use Rattle.gv_types.specs.TypeStr.{ty}
-use Rattle.gv_layout.proofs.Elements.{by_offsets-stays, by_offsets-passed}
+use Rattle.std.proofs.Common.{drop, ap, sym, ◌∙◌, arith}
+use Rattle.gv_layout.specs.Places.{child_of, by_offsets_left}
+use Rattle.gv_layout.proofs.Lists.{drop_next, drop_past}
 use Rattle.gv_layout.proofs.array.ByOffsets.skip.Goals as goal
 
-pub returns-then-passed-eq0 : goal.returns-then-passed-eq0
-returns-then-passed-eq0 c =
-    let self = c.args.self in
-    by_offsets-stays (ty self.element) self.len self.end self.width self.left c.args.i c.min-passed.result self.offsets.now c.min-passed.ensures c.if-passed-eq0.true
+pub loop-preserved : goal.loop-preserved
+loop-preserved c =
+    drop_next (by_offsets_left c.args.self) (by_offsets_left c.in-Some.after) (child_of c.in-Some.field-0-0) c.loop.counter (sym c.loop.invariant ∙ c.in-Some.ensures)
+
+pub returns-in-None : goal.returns-in-None
+returns-in-None c =
+    c.in-None.ensures ∙ drop_past (by_offsets_left c.args.self) c.loop.counter c.args.i (sym c.loop.invariant ∙ c.in-None.ensures) (omega arith)
 
 pub returns : goal.returns
-returns c =
-    let self = c.args.self in
-    let start = self.width * c.min-passed.result in
-    by_offsets-passed (ty self.element) self.len self.end self.width self.left c.args.i c.min-passed.result c.number.result
-    self.offsets.now (slice_range self.offsets.now start (length self.offsets.now)) c.min-passed.ensures c.if-passed-eq0.false
-    c.number.ensures (take_rest self.offsets.now start)
+returns c = c.loop.invariant ∙ ap (λ k. drop k (by_offsets_left c.args.self)) (omega arith)

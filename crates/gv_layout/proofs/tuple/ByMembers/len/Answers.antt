@@ -12,4 +12,4 @@ pub returns : goal.returns
 returns c =
     let self = c.args.self in
     count_from_yields_List self.members c.count.result c.count.ensures.ran (YieldsList-from_first ty members_left (members_left self.members) refl)
-    ∙ sym (members-length (length self.bytes.now) self.width self.used self.bytes.now self.previous (members_left self.members))
+    ∙ sym (members-length (length self.bytes.now) self.body self.width self.used self.bytes.now self.previous (members_left self.members))

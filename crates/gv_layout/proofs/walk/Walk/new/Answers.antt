@@ -1,6 +1,6 @@
-use Rattle.std.proofs.Common.{Some, None, sym, ◌∙◌}
+use Rattle.std.proofs.Common.{sym, ◌∙◌}
 use Rattle.gv_types.specs.TypeStr.{ty}
-use Rattle.gv_layout.proofs.Cuts.{no_children, array_class, maybe_class, cut_array, cut_maybe, cut_members}
+use Rattle.gv_layout.proofs.Cuts.{no_children, array_class, maybe_class, cut_array, cut_elements, cut_maybe, cut_members}
 use Rattle.gv_layout.proofs.walk.Walk.new.Goals as goal
 
 pub returns-in-Basic : goal.returns-in-Basic
@@ -9,12 +9,12 @@ returns-in-Basic c = c.none.ensures ∙ no_children (ty c.args.of) c.args.bytes.
 pub returns-in-Some : goal.returns-in-Some
 returns-in-Some c =
     let of = array_class ty (ty c.args.of) c.class.result c.element.result c.unwrap-element.result c.class.ensures c.in-Array.is c.element.ensures c.unwrap-element.ensures in
-    c.of_array.ensures ∙ cut_array (ty c.args.of) (ty c.unwrap-element.result) c.args.bytes.now (Some c.in-Some.size) of (sym c.in-Some.is ∙ c.fixed_size.ensures)
+    c.of_array.ensures ∙ cut_array (ty c.args.of) (ty c.unwrap-element.result) c.args.bytes.now c.in-Some.size of (sym c.in-Some.is ∙ c.fixed_size.ensures)
 
 pub returns-in-None : goal.returns-in-None
 returns-in-None c =
     let of = array_class ty (ty c.args.of) c.class.result c.element.result c.unwrap-element.result c.class.ensures c.in-Array.is c.element.ensures c.unwrap-element.ensures in
-    c.of_array-in-None.ensures ∙ cut_array (ty c.args.of) (ty c.unwrap-element.result) c.args.bytes.now None of (sym c.in-None.is ∙ c.fixed_size.ensures)
+    c.of_array-in-None.ensures ∙ cut_elements (ty c.args.of) (ty c.unwrap-element.result) c.args.bytes.now of (sym c.in-None.is ∙ c.fixed_size.ensures)
 
 pub returns-in-Maybe : goal.returns-in-Maybe
 returns-in-Maybe c =

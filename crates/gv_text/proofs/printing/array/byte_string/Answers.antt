@@ -4,7 +4,7 @@ use Rattle.std.proofs.lemmas.Bool.{false≢true}
 use Rattle.gv_model.specs.BasicValue.{text_in}
 use Rattle.gv_view.specs.Views.{value, view_ty, view_bytes}
 use Rattle.gv_text.specs.Printing.{byte_string_of}
-use Rattle.gv_text.proofs.ArrayTexts.{no_byte_string, numbers-byte_trees, value_bytes_plain}
+use Rattle.gv_text.proofs.ArrayTexts.{no_byte_string, numbers-byte_trees, string_levels, value_bytes_plain}
 use Rattle.gv_text.proofs.printing.array.byte_string.Goals as goal
 
 if_some : {X P : Type 0} (o : Option X) → P → IfSome o (λ _. P)
@@ -21,3 +21,6 @@ returns-clause-text c =
 
 pub returns-clause-plain : goal.returns-clause-plain
 returns-clause-plain c = if_some c.byte_string_body.result (value_bytes_plain (value c.args.view) c.in_ok-as_bytes.field-0.now c.in_ok-as_bytes.ensures.value)
+
+pub returns-clause-levels : goal.returns-clause-levels
+returns-clause-levels c = string_levels (value c.args.view) c.in_ok-as_bytes.field-0.now c.byte_string_body.result c.in_ok-as_bytes.ensures.value c.byte_string_body.ensures

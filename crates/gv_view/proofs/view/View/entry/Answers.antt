@@ -1,7 +1,8 @@
 use Rattle.std.proofs.Common.{rules, true, false, ◌≡◌, ap, ◌∙◌}
-use Rattle.gv_view.specs.Views.{view_ty, view_bytes}
+use Rattle.gv_model.specs.Ty.Ty.{array}
+use Rattle.gv_view.specs.Views.{view_ty, view_bytes, shown}
 use Rattle.gv_view.specs.Children.{children_left}
-use Rattle.gv_view.proofs.EntryLemmas.{none_elsewhere, all_of, rest_of}
+use Rattle.gv_view.proofs.EntryLemmas.{none_elsewhere, all_of, first_typed, rest_of}
 use Rattle.gv_view.proofs.view.View.entry.Goals as goal
 
 pub returns-then-not-is_dictionary-clause-found : goal.returns-then-not-is_dictionary-clause-found
@@ -25,3 +26,14 @@ returns-clause-found c = search rules
 
 pub returns-clause-at_type : goal.returns-clause-at_type
 returns-clause-at_type c = search rules
+
+pub returns-in-Some-value_under-clause-found : goal.returns-in-Some-value_under-clause-found
+returns-in-Some-value_under-clause-found c = search rules
+
+pub returns-in-Some-value_under-clause-lends : goal.returns-in-Some-value_under-clause-lends
+returns-in-Some-value_under-clause-lends c = search rules
+
+pub returns-in-Some-value_under-clause-at_type : goal.returns-in-Some-value_under-clause-at_type
+returns-in-Some-value_under-clause-at_type c =
+    first_typed (view_ty c.args.self) (shown c.in-Some.entry) (children_left c.loop-entry.entry-iterator) (children_left c.next.new.self) c.loop-entry.invariant.typed c.in-Some.ensures.steps
+    ∙ ap array c.in-Some-value_under.ensures.type

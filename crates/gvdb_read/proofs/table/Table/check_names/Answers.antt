@@ -16,4 +16,4 @@ moved : (r b : Bool) (P : Type 0) → b ≡ r → (IsTrue r ↔ P) → IsTrue b 
 moved r b P e h = subst (λ (x : Bool). IsTrue x ↔ P) (sym e) h
 
 pub each_keeps-requires-5-clause-tells : goal.each_keeps-requires-5-clause-tells
-each_keeps-requires-5-clause-tells c = λ i b post. search (rules, moved)
+each_keeps-requires-5-clause-tells c = λ i b kept post. search (rules, moved)

@@ -1,4 +1,4 @@
-use Rattle.std.proofs.Common.{◌≡◌, Some, None, [], arith, sym, ◌∙◌, refl, true, false}
+use Rattle.std.proofs.Common.{◌≡◌, Some, None, [], ◌∷◌, arith, sym, ◌∙◌, refl, true, false}
 use Rattle.dconf_model.specs.Table.{item}
 use Rattle.gvdb_read.specs.Tables.{region}
 use Rattle.gvdb_read.proofs.ChainSteps.{climbs_more, in_a_circle}
@@ -7,7 +7,13 @@ use Rattle.gvdb_read.proofs.table.Table.has_first_parent.Goals as goal
 pub returns-in_default : goal.returns-in_default
 returns-in_default c =
     let top : (item (region c.args.self) c.loop.at).parent ≡ None = sym c.parent_at.ensures ∙ c.in_default.is in
-    (λ _. c.loop.invariant.climbs.ahead [] top, λ _. refl)
+    λ _. (λ _. c.loop.invariant.climbs.ahead [] top, λ _. refl)
+
+-- the parents of a lower item end
+pub returns-then-parent-i : goal.returns-then-parent-i
+returns-then-parent-i c =
+    let up : (item (region c.args.self) c.loop.at).parent ≡ Some c.in-Some.parent = sym c.parent_at.ensures ∙ c.in-Some.is in
+    λ kept. let end = kept c.in-Some.parent c.if-parent-i.true in (λ _. c.loop.invariant.climbs.ahead (c.in-Some.parent ∷ end.parents) (up, end.ends), λ _. refl)
 
 pub loop-preserved : goal.loop-preserved
 loop-preserved c =
@@ -17,4 +23,4 @@ loop-preserved c =
 pub returns : goal.returns
 returns c =
     let round = in_a_circle (region c.args.self) c.args.i c.loop.at c.loop.counter c.requires.keys c.requires.counted c.loop.invariant.climbs (omega arith) in
-    (λ h. let bad : false ≡ true = h in cc, λ leads. absurd (round leads.0 leads.1))
+    λ _. (λ h. let bad : false ≡ true = h in cc, λ leads. absurd (round leads.0 leads.1))

@@ -1,142 +1,161 @@
-use Rattle.std.proofs.Common.{rules, ℕ, ◌≡◌, ◌<◌, List, [], length, get_or, Bor, refl, sym, ap, ◌∙◌, subst, arith}
-use Rattle.std.specs.Vec.{with_items}
-use Rattle.dconf_model.specs.Table.{table_kind, value_kind}
+use Rattle.std.proofs.Common.{rules, ℕ, ◌≡◌, ◌+◌, ◌*◌, ◌≤◌, List, [], length, Bor, refl, sym, ap, ◌∙◌, subst, arith}
+use Rattle.gv_model.proofs.NumberBytes.{le-round_up}
+use Rattle.gv_model.specs.Layout.{round_up}
+use Rattle.gv_model.specs.Limits.{limit}
 use Rattle.dconf_model.specs.Plans.{length_of, root_end, locks_end, values_end}
 use Rattle.gvdb_read.specs.declared.format.record.ItemRecord.{ItemRecord as Numbers}
+use Rattle.gvdb_write.specs.declared.layout.Contents.{Contents}
 use Rattle.gvdb_write.specs.declared.layout.Pointer.{Pointer}
-use Rattle.gvdb_write.specs.PlanWords.{plan_of, children_of, entries_of}
+use Rattle.gvdb_write.specs.declared.names.Named.{Named}
+use Rattle.gvdb_write.specs.PlanWords.{plan_of, entries_of}
 use Rattle.gvdb_write.specs.Values.{bytes_of_each}
-use Rattle.gvdb_write.specs.CursorPlaces.{table_end, laid_end, all_lists_end}
-use Rattle.gvdb_write.specs.Contents.{pointer_at, own_values, IsShort, AreSet}
-use Rattle.gvdb_write.proofs.LaidContents.{AreValued, are_valued}
-use Rattle.gvdb_write.proofs.LaidValues.{pointers_short}
-use Rattle.gvdb_write.proofs.LayoutEnds.{root_ends, locks_within, root_within, whole_is}
-use Rattle.gvdb_write.proofs.PastEnds.{still_over}
+use Rattle.gvdb_write.specs.CursorPlaces.{table_end, laid_end}
+use Rattle.gvdb_write.specs.LayoutParts.{AreRecords}
+use Rattle.gvdb_write.specs.ContentPlaces.{ArePointed, CanPoint}
+use Rattle.gvdb_write.specs.Contents.{own_values, HavePlaces, ArePointers}
+use Rattle.gvdb_write.proofs.FoundValues.{places_stay}
+use Rattle.gvdb_write.proofs.KnownContents.{can_point, root_lists, lock_lists, lists_end_there}
+use Rattle.gvdb_write.proofs.LaidContents.{are_valued}
+use Rattle.gvdb_write.proofs.LayoutEnds.{locks_within, root_within, whole_is}
+use Rattle.gvdb_write.proofs.PastEnds.{past_is_over, still_over}
 use Rattle.gvdb_write.proofs.PlanValues.{all_once}
-use Rattle.gvdb_write.proofs.SetRows.{set_written}
-use Rattle.gvdb_write.proofs.PointedRows.{rows_stay}
-use Rattle.gvdb_write.proofs.WholeLayout.{is_layout, has_pointer, pointer_seen, set_seen, added_seen, places_seen, pointers_seen}
+use Rattle.gvdb_write.proofs.WholeLayout.{is_layout, added_seen, places_seen, pointers_seen}
 use Rattle.gvdb_write.proofs.layout.Layout.new.Goals as goal
 
-pub returns-in_err-root_rows-clause-fault : goal.returns-in_err-root_rows-clause-fault
-returns-in_err-root_rows-clause-fault c =
+pub returns-in_err-root_at-clause-fault : goal.returns-in_err-root_at-clause-fault
+returns-in_err-root_at-clause-fault c =
     let root = c.args.root.now in
     let locks = c.args.locks.now in
-    let ends = root_ends root locks c.requires.root c.requires.entries c.requires.children c.requires.top in
+    let items : List Named = c.deref.result.now in
+    let ends = lists_end_there root locks items (laid_end 24 items) (length root.children.items) c.requires.root c.requires.entries c.requires.children c.requires.top c.deref.ensures.value refl refl in
+    let up = le-round_up 4 (laid_end 24 items) (omega arith) in
     let within = root_within root locks in
-    still_over c.from_residual.result (all_lists_end (laid_end 24 root.items.items) (children_of root)) (length_of (plan_of root locks)) (λ past. omega (arith, ends, within, past)) (search rules)
+    past_is_over c.from_residual.result (laid_end 24 items) (length_of (plan_of root locks)) (λ past. omega (arith, ends, up, within, past)) (search rules)
 
-pub returns-in_err-lock_rows-clause-fault : goal.returns-in_err-lock_rows-clause-fault
-returns-in_err-lock_rows-clause-fault c =
+pub returns-in_err-lists-clause-fault : goal.returns-in_err-lists-clause-fault
+returns-in_err-lists-clause-fault c =
     let root = c.args.root.now in
     let locks = c.args.locks.now in
-    let at = c.in_ok-root_rows.ensures.at ∙ root_ends root locks c.requires.root c.requires.entries c.requires.children c.requires.top in
-    let ends = ap (locks_end (entries_of locks.items.items)) at in
+    let ends = lists_end_there root locks c.deref.result.now c.lay_items.new.cursor.at c.len.result c.requires.root c.requires.entries c.requires.children c.requires.top
+    c.deref.ensures.value c.in_ok-root_at.ensures.at (c.len.ensures ∙ root.children.ok.0) in
+    let within = root_within root locks in
+    past_is_over c.from_residual-in_err-lists.result (round_up 4 c.lay_items.new.cursor.at + 4 * c.len.result) (length_of (plan_of root locks)) (λ past. omega (arith, ends, within, past)) (search rules)
+
+pub returns-in_err-table-clause-fault : goal.returns-in_err-table-clause-fault
+returns-in_err-table-clause-fault c =
+    let root = c.args.root.now in
+    let locks = c.args.locks.now in
+    let ends = lists_end_there root locks c.deref.result.now c.lay_items.new.cursor.at c.len.result c.requires.root c.requires.entries c.requires.children c.requires.top
+    c.deref.ensures.value c.in_ok-root_at.ensures.at (c.len.ensures ∙ root.children.ok.0) in
+    let at : locks_end (entries_of c.deref-2.result.now) c.lay_lists.new.cursor.at ≡ locks_end (entries_of locks.items.items) (root_end (plan_of root locks)) =
+    ap (λ (n : ℕ). locks_end (entries_of c.deref-2.result.now) n) (c.in_ok-lists.ensures.at ∙ ends)
+    ∙ ap (λ (items : List Named). locks_end (entries_of items) (root_end (plan_of root locks))) c.deref-2.ensures.value in
     let within = locks_within root locks in
-    still_over c.from_residual-in_err-lock_rows.result (locks_end (entries_of locks.items.items) c.lay_root.new.cursor.at) (length_of (plan_of root locks)) (λ past. omega (arith, ends, within, past)) (search rules)
+    past_is_over c.from_residual-in_err-table.result (locks_end (entries_of c.deref-2.result.now) c.lay_lists.new.cursor.at) (length_of (plan_of root locks)) (λ past. omega (arith, at, within, past))
+    (search rules)
 
 pub returns-in_err-pointers-clause-fault : goal.returns-in_err-pointers-clause-fault
 returns-in_err-pointers-clause-fault c =
     let root = c.args.root.now in
     let locks = c.args.locks.now in
-    let at = c.in_ok-root_rows.ensures.at ∙ root_ends root locks c.requires.root c.requires.entries c.requires.children c.requires.top in
-    let all : List (List ℕ) = bytes_of_each c.deref-3.result.now in
+    let at = c.in_ok-lists.ensures.at
+    ∙ lists_end_there root locks c.deref.result.now c.lay_items.new.cursor.at c.len.result c.requires.root c.requires.entries c.requires.children c.requires.top
+    c.deref.ensures.value c.in_ok-root_at.ensures.at (c.len.ensures ∙ root.children.ok.0) in
+    let lock_at = c.in_ok-table.ensures.at ∙ ap (λ (items : List Named). locks_end (entries_of items) c.lay_lists.new.cursor.at) c.deref-2.ensures.value in
+    let all : List (List ℕ) = bytes_of_each c.deref-5.result.now in
     let first : List (List ℕ) = bytes_of_each c.value_places.new.values.distinct.items in
     let last : List (List ℕ) = bytes_of_each c.value_places-2.new.values.distinct.items in
-    let once = ap bytes_of_each c.deref-3.ensures.value ∙ all_once root locks first last c.requires.nothing
-    (added_seen root.items.items c.deref.result.now _ [] first c.deref.ensures.value (ap bytes_of_each c.new-values.ensures.empty) c.in_ok-root_places.ensures.distinct)
-    (added_seen locks.items.items c.deref-2.result.now first first last c.deref-2.ensures.value refl c.in_ok-lock_places.ensures.distinct) in
-    let ends = whole_is root locks c.lay_root.new.cursor.at c.lay_locks.new.cursor.at (values_end c.lay_locks.new.cursor.at all) all at c.in_ok-lock_rows.ensures.at once refl in
+    let once = ap bytes_of_each c.deref-5.ensures.value ∙ all_once root locks first last c.requires.nothing
+    (added_seen root.items.items c.deref-3.result.now _ [] first c.deref-3.ensures.value (ap bytes_of_each c.new-values.ensures.empty) c.in_ok-root_places.ensures.distinct)
+    (added_seen locks.items.items c.deref-4.result.now first first last c.deref-4.ensures.value refl c.in_ok-lock_places.ensures.distinct) in
+    let ends = whole_is root locks c.lay_lists.new.cursor.at c.lay_locks.new.cursor.at (values_end c.lay_locks.new.cursor.at all) all at lock_at once refl in
     still_over c.from_residual-in_err-pointers.result (values_end c.lay_locks.new.cursor.at all) (length_of (plan_of root locks)) (λ past. omega (arith, ends, past)) (search rules)
 
-pub set_values-requires-clause-within : goal.set_values-requires-clause-within
-set_values-requires-clause-within c =
+-- the end of all values fits
+end_fits : (at end : ℕ) (values : List (List ℕ)) (given : List (Bor (List ℕ))) → end ≡ values_end at (bytes_of_each given) → bytes_of_each given ≡ values → end ≤ limit → values_end at values ≤ limit
+end_fits at end values given is same within = let e = is ∙ ap (values_end at) same in omega (arith, e, within)
+
+-- places and pointers as they are lent
+places_lent : (items items' : List Named) (values : List (List ℕ)) (places lent : List ℕ) → items' ≡ items → lent ≡ places → HavePlaces items' values places → HavePlaces items values lent
+places_lent items items' values places lent same is have = subst (λ (ps : List ℕ). HavePlaces items values ps) (sym is) (places_seen items items' values places same have)
+
+pointers_lent : (at : ℕ) (values values' : List (List ℕ)) (pointers lent : List Pointer) → values' ≡ values → lent ≡ pointers → ArePointers at values' pointers → ArePointers at values lent
+pointers_lent at values values' pointers lent same is are = subst (λ (ps : List Pointer). ArePointers at values ps) (sym is) (pointers_seen at values values' pointers same are)
+
+pub records-requires-clause-contents : goal.records-requires-clause-contents
+records-requires-clause-contents c =
     let root = c.args.root.now in
-    let old : List Numbers = c.in_ok-root_rows.root_rows.rows.items in
-    let keys : ℕ = table_end 24 (length root.items.items) in
+    let locks = c.args.locks.now in
+    let k : Contents = record { lists = c.in_ok-lists.lists; firsts = c.deref-6.result; table = c.in_ok-table.table; places = c.deref-7.result; pointers = c.deref-8.result } in
+    let at = c.lay_locks.new.cursor.at in
     let first : List (List ℕ) = bytes_of_each c.value_places.new.values.distinct.items in
     let all : List (List ℕ) = bytes_of_each c.value_places-2.new.values.distinct.items in
-    let set = set_written old c.deref_mut.result.now c.set_locks.new.rows c.in_ok-root_rows.root_rows.rows.len table_kind _ c.deref_mut.ensures.value (omega arith) c.set_locks.ensures in
-    let have = places_seen root.items.items c.deref.result.now first c.in_ok-root_places.root_places.items c.deref.ensures.value c.in_ok-root_places.ensures.places in
-    let laid = pointers_seen c.lay_locks.new.cursor.at all (bytes_of_each c.deref-3.result.now) c.in_ok-pointers.pointers.items (ap bytes_of_each c.deref-3.ensures.value) c.in_ok-pointers.ensures.pointers in
-    pointer_seen _ _ _ _ _ _ c.deref_mut-2.ensures.value c.deref-4.ensures.value c.deref-5.ensures.value
-    (has_pointer root.items.items keys c.lay_locks.new.cursor.at old _ _ first all (own_values c.deref-2.result.now) _ _ c.in_ok-root_rows.ensures.rows set have c.in_ok-lock_places.ensures.distinct laid)
+    let same = ap bytes_of_each c.deref-5.ensures.value in
+    let have = places_lent root.items.items c.deref-3.result.now first c.in_ok-root_places.root_places.items c.deref-7.result.now c.deref-3.ensures.value c.deref-7.ensures.value c.in_ok-root_places.ensures.places in
+    let still : HavePlaces root.items.items all c.deref-7.result.now =
+    subst (λ (vs : List (List ℕ)). HavePlaces root.items.items vs c.deref-7.result.now)
+    (sym (added_seen locks.items.items c.deref-4.result.now first first all c.deref-4.ensures.value refl c.in_ok-lock_places.ensures.distinct))
+    (places_stay root.items.items first c.deref-7.result.now have (own_values locks.items.items)) in
+    let count = c.len.ensures ∙ root.children.ok.0 in
+    let within = c.in_ok-lists.ensures.within in
+    subst (λ (items : List Named). CanPoint items k) (sym c.deref-10.ensures.value)
+    (can_point root.items.items k at all still
+    (pointers_lent at all (bytes_of_each c.deref-5.result.now) c.in_ok-pointers.pointers.items c.deref-8.result.now same c.deref-8.ensures.value c.in_ok-pointers.ensures.pointers)
+    (end_fits at c.lay_values.new.cursor.at all c.deref-5.result.now c.in_ok-pointers.ensures.at same c.lay_values.new.cursor.within)
+    (root_lists root k c.requires.children c.requires.lists c.deref-6.ensures.value (omega (arith, count, within))) c.in_ok-table.ensures.short)
 
-pub set_values-requires-clause-pointers : goal.set_values-requires-clause-pointers
-set_values-requires-clause-pointers c =
-    let end = c.in_ok-pointers.ensures.at in
-    let within = c.lay_values.new.cursor.within in
-    subst (λ (pointers : List Pointer). (k : ℕ) → k < length pointers → IsShort (pointer_at pointers k)) (sym c.deref-5.ensures.value)
-    (pointers_short c.lay_locks.new.cursor.at (bytes_of_each c.deref-3.result.now) c.in_ok-pointers.pointers.items c.in_ok-pointers.ensures.pointers (omega (arith, end, within)))
-
-pub set_values-requires-2-clause-pointers : goal.set_values-requires-2-clause-pointers
-set_values-requires-2-clause-pointers c =
-    let end = c.in_ok-pointers.ensures.at in
-    let within = c.lay_values.new.cursor.within in
-    subst (λ (pointers : List Pointer). (k : ℕ) → k < length pointers → IsShort (pointer_at pointers k)) (sym c.deref-7.ensures.value)
-    (pointers_short c.lay_locks.new.cursor.at (bytes_of_each c.deref-3.result.now) c.in_ok-pointers.pointers.items c.in_ok-pointers.ensures.pointers (omega (arith, end, within)))
-
--- ---- where all is laid
-
-abbrev first_rows : goal.After-drop-values-2 → List Numbers
-first_rows c = c.in_ok-root_rows.root_rows.rows.items
-
-abbrev then_rows : goal.After-drop-values-2 → List Numbers
-then_rows c = (with_items c.in_ok-root_rows.root_rows.rows c.set_locks.new.rows).items
-
-abbrev last_rows : goal.After-drop-values-2 → List Numbers
-last_rows c = (with_items (with_items c.in_ok-root_rows.root_rows.rows c.set_locks.new.rows) c.set_values.new.rows).items
-
-abbrev last_lock_rows : goal.After-drop-values-2 → List Numbers
-last_lock_rows c = (with_items c.in_ok-lock_rows.lock_rows.rows c.set_values-2.new.rows).items
-
-abbrev stored : goal.After-drop-values-2 → List (List ℕ)
-stored c = bytes_of_each c.value_places-2.new.values.distinct.items
-
-root_at : (c : goal.After-drop-values-2) → c.lay_root.new.cursor.at ≡ root_end (plan_of c.args.root.now c.args.locks.now)
-root_at c = c.in_ok-root_rows.ensures.at ∙ root_ends c.args.root.now c.args.locks.now c.requires.root c.requires.entries c.requires.children c.requires.top
-
-tables : (c : goal.After-drop-values-2) → AreSet (first_rows c) (then_rows c) table_kind (λ i. c.in_ok-lock_rows.lock_rows.pointer)
-tables c = set_written (first_rows c) c.deref_mut.result.now c.set_locks.new.rows c.in_ok-root_rows.root_rows.rows.len table_kind _ c.deref_mut.ensures.value (omega arith) c.set_locks.ensures
-
-abbrev pointer_of : goal.After-drop-values-2 → List ℕ → ℕ → Pointer
-pointer_of c places i = pointer_at c.in_ok-pointers.pointers.items (get_or places i 0)
-
-values : (c : goal.After-drop-values-2) → AreSet (then_rows c) (last_rows c) value_kind (pointer_of c c.in_ok-root_places.root_places.items)
-values c =
-    let count = (tables c).counted in
-    set_seen (then_rows c) (last_rows c) c.in_ok-root_places.root_places.items c.deref-4.result.now c.in_ok-pointers.pointers.items c.deref-5.result.now c.deref-4.ensures.value c.deref-5.ensures.value
-    (set_written (then_rows c) c.deref_mut-2.result.now c.set_values.new.rows c.in_ok-root_rows.root_rows.rows.len value_kind _ c.deref_mut-2.ensures.value (omega (arith, count)) c.set_values.ensures)
-
-lock_values : (c : goal.After-drop-values-2) → AreSet c.in_ok-lock_rows.lock_rows.rows.items (last_lock_rows c) value_kind (pointer_of c c.in_ok-lock_places.lock_places.items)
-lock_values c =
-    set_seen c.in_ok-lock_rows.lock_rows.rows.items (last_lock_rows c) c.in_ok-lock_places.lock_places.items c.deref-6.result.now c.in_ok-pointers.pointers.items c.deref-7.result.now c.deref-6.ensures.value c.deref-7.ensures.value
-    (set_written c.in_ok-lock_rows.lock_rows.rows.items c.deref_mut-3.result.now c.set_values-2.new.rows c.in_ok-lock_rows.lock_rows.rows.len value_kind _ c.deref_mut-3.ensures.value (omega arith) c.set_values-2.ensures)
-
-valued : (c : goal.After-drop-values-2) → AreValued c.args.root.now c.args.locks.now (stored c) (last_rows c) (last_lock_rows c)
-valued c =
+pub records-requires-2-clause-contents : goal.records-requires-2-clause-contents
+records-requires-2-clause-contents c =
     let locks = c.args.locks.now in
-    let keys : ℕ = table_end 24 (length c.args.root.now.items.items) in
-    let lock_keys : ℕ = table_end c.lay_root.new.cursor.at (length locks.items.items) in
-    let first : List (List ℕ) = bytes_of_each c.value_places.new.values.distinct.items in
-    are_valued c.args.root.now locks c.lay_locks.new.cursor.at keys lock_keys (then_rows c) (last_rows c) c.in_ok-lock_rows.lock_rows.rows.items (last_lock_rows c)
-    first (stored c) c.in_ok-root_places.root_places.items c.in_ok-lock_places.lock_places.items c.in_ok-pointers.pointers.items c.requires.nothing
-    (rows_stay c.args.root.now.items.items keys (first_rows c) (then_rows c) table_kind _ c.in_ok-root_rows.ensures.rows (tables c)) c.in_ok-lock_rows.ensures.rows
-    (added_seen c.args.root.now.items.items c.deref.result.now _ [] first c.deref.ensures.value (ap bytes_of_each c.new-values.ensures.empty) c.in_ok-root_places.ensures.distinct)
-    (added_seen locks.items.items c.deref-2.result.now first first (stored c) c.deref-2.ensures.value refl c.in_ok-lock_places.ensures.distinct)
-    (places_seen c.args.root.now.items.items c.deref.result.now first c.in_ok-root_places.root_places.items c.deref.ensures.value c.in_ok-root_places.ensures.places)
-    (places_seen locks.items.items c.deref-2.result.now (stored c) c.in_ok-lock_places.lock_places.items c.deref-2.ensures.value c.in_ok-lock_places.ensures.places)
-    (pointers_seen c.lay_locks.new.cursor.at (stored c) (bytes_of_each c.deref-3.result.now) c.in_ok-pointers.pointers.items (ap bytes_of_each c.deref-3.ensures.value) c.in_ok-pointers.ensures.pointers)
-    (values c) (lock_values c) (c.in_ok-lock_rows.ensures.at ∙ ap (locks_end (entries_of locks.items.items)) (root_at c))
+    let k : Contents = record { lists = c.in_ok-lists.lists; firsts = c.deref-6.result; table = c.in_ok-table.table; places = c.deref-9.result; pointers = c.deref-8.result } in
+    let at = c.lay_locks.new.cursor.at in
+    let all : List (List ℕ) = bytes_of_each c.value_places-2.new.values.distinct.items in
+    let same = ap bytes_of_each c.deref-5.ensures.value in
+    subst (λ (items : List Named). CanPoint items k) (sym c.deref-11.ensures.value)
+    (can_point locks.items.items k at all
+    (places_lent locks.items.items c.deref-4.result.now all c.in_ok-lock_places.lock_places.items c.deref-9.result.now c.deref-4.ensures.value c.deref-9.ensures.value c.in_ok-lock_places.ensures.places)
+    (pointers_lent at all (bytes_of_each c.deref-5.result.now) c.in_ok-pointers.pointers.items c.deref-8.result.now same c.deref-8.ensures.value c.in_ok-pointers.ensures.pointers)
+    (end_fits at c.lay_values.new.cursor.at all c.deref-5.result.now c.in_ok-pointers.ensures.at same c.lay_values.new.cursor.within)
+    (lock_lists locks.items.items k c.requires.nothing) c.in_ok-table.ensures.short)
 
 pub returns-clause-layout : goal.returns-clause-layout
 returns-clause-layout c =
     let root = c.args.root.now in
     let locks = c.args.locks.now in
-    let end = c.in_ok-pointers.ensures.at ∙ ap (λ (vs : List (Bor (List ℕ))). values_end c.lay_locks.new.cursor.at (bytes_of_each vs)) c.deref-3.ensures.value in
-    is_layout root locks _ c.lay_root.new.cursor.at (first_rows c) (then_rows c) c.in_ok-lock_rows.lock_rows.rows.items _ _ c.in_ok-root_rows.ensures.start c.in_ok-root_rows.ensures.end
-    record { are = c.in_ok-root_rows.ensures.rows; tables_set = tables c; values_set = values c }
-    c.in_ok-root_rows.ensures.lists (root_at c) record { start_is = c.in_ok-lock_rows.ensures.start; end_is = c.in_ok-lock_rows.ensures.end }
-    c.in_ok-lock_rows.ensures.rows (lock_values c) (valued c)
-    (whole_is root locks c.lay_root.new.cursor.at c.lay_locks.new.cursor.at c.lay_values.new.cursor.at (stored c) (root_at c) c.in_ok-lock_rows.ensures.at (valued c).once end)
+    let k : Contents = record { lists = c.in_ok-lists.lists; firsts = c.deref-6.result; table = c.in_ok-table.table; places = c.deref-7.result; pointers = c.deref-8.result } in
+    let l : Contents = record { lists = c.in_ok-lists.lists; firsts = c.deref-6.result; table = c.in_ok-table.table; places = c.deref-9.result; pointers = c.deref-8.result } in
+    let rows : List Numbers = c.in_ok-records.field-0.items in
+    let lock_rows : List Numbers = c.in_ok-records-2.field-0.items in
+    let at = c.lay_locks.new.cursor.at in
+    let first : List (List ℕ) = bytes_of_each c.value_places.new.values.distinct.items in
+    let all : List (List ℕ) = bytes_of_each c.value_places-2.new.values.distinct.items in
+    let same = ap bytes_of_each c.deref-5.ensures.value in
+    let root_at = c.in_ok-lists.ensures.at
+    ∙ lists_end_there root locks c.deref.result.now c.lay_items.new.cursor.at c.len.result c.requires.root c.requires.entries c.requires.children c.requires.top
+    c.deref.ensures.value c.in_ok-root_at.ensures.at (c.len.ensures ∙ root.children.ok.0) in
+    let lock_at = c.in_ok-table.ensures.at ∙ ap (λ (items : List Named). locks_end (entries_of items) c.lay_lists.new.cursor.at) c.deref-2.ensures.value in
+    let laid = pointers_lent at all (bytes_of_each c.deref-5.result.now) c.in_ok-pointers.pointers.items c.deref-8.result.now same c.deref-8.ensures.value c.in_ok-pointers.ensures.pointers in
+    let pointed = subst (λ (items : List Named). ArePointed items k rows) c.deref-10.ensures.value c.in_ok-records.ensures.pointers in
+    let lock_pointed = subst (λ (items : List Named). ArePointed items l lock_rows) c.deref-11.ensures.value c.in_ok-records-2.ensures.pointers in
+    let valued = are_valued root locks at k l rows lock_rows first all c.requires.nothing
+    (added_seen root.items.items c.deref-3.result.now _ [] first c.deref-3.ensures.value (ap bytes_of_each c.new-values.ensures.empty) c.in_ok-root_places.ensures.distinct)
+    (added_seen locks.items.items c.deref-4.result.now first first all c.deref-4.ensures.value refl c.in_ok-lock_places.ensures.distinct)
+    (places_lent root.items.items c.deref-3.result.now first c.in_ok-root_places.root_places.items c.deref-7.result.now c.deref-3.ensures.value c.deref-7.ensures.value c.in_ok-root_places.ensures.places)
+    (places_lent locks.items.items c.deref-4.result.now all c.in_ok-lock_places.lock_places.items c.deref-9.result.now c.deref-4.ensures.value c.deref-9.ensures.value c.in_ok-lock_places.ensures.places)
+    laid laid pointed lock_pointed (lock_at ∙ ap (locks_end (entries_of locks.items.items)) root_at) in
+    let some : length c.deref-2.result.now ≡ length locks.items.items = ap length c.deref-2.ensures.value in
+    is_layout root locks _ c.lay_lists.new.cursor.at k c.in_ok-root_at.ensures.start (c.in_ok-root_at.ensures.end ∙ ap (λ (items : List Named). table_end 24 (length items)) c.deref.ensures.value)
+    (subst (λ (items : List Named). AreRecords items c.in_ok-root_at.root_at.end rows) c.deref-10.ensures.value c.in_ok-records.ensures.rows) pointed
+    record {
+      lists_at = c.in_ok-lists.ensures.start ∙ ap (round_up 4) (c.in_ok-root_at.ensures.at ∙ ap (laid_end 24) c.deref.ensures.value);
+      firsts = c.deref-6.ensures.value;
+      table = refl;
+    }
+    root_at
+    record {
+      start_is = λ h. c.in_ok-table.ensures.start (omega (arith, h, some));
+      end_is = λ h. c.in_ok-table.ensures.end (omega (arith, h, some)) ∙ ap (λ (n : ℕ). table_end c.lay_lists.new.cursor.at n) some;
+    }
+    (subst (λ (items : List Named). AreRecords items c.in_ok-table.table.end lock_rows) c.deref-11.ensures.value c.in_ok-records-2.ensures.rows) valued
+    (whole_is root locks c.lay_lists.new.cursor.at at c.lay_values.new.cursor.at all root_at lock_at valued.once (c.in_ok-pointers.ensures.at ∙ ap (values_end at) same))
     c.lay_values.new.cursor.within

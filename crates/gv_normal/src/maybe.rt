@@ -1,0 +1,32 @@
+//! Maybes (GVariant Specification, "Maybes"): Nothing is no bytes. Just is the child's bytes and, where they vary in
+//! their size, a zero byte.
+ghost use Rattle.std.specs.Prelude.{◌≡◌, ◌≤◌, ◌<◌, ◌+◌, ◌^◌, ◌↔◌, suc, IsTrue, length};
+ghost use Rattle.gv_model.specs.Ty.{spelling, Ty.maybe};
+ghost use Rattle.gv_types.specs.TypeStr.{ty};
+ghost use Rattle.gv_normal.specs.InPlace.{IsNormalWithin, most_values};
+
+use crate::fixed::is_normal_fixed;
+use crate::in_place::{is_normal_open, size_of};
+use gv_types::{Steps, TypeStr};
+
+/// Whether bytes are normal at a maybe of this type, where the child has no more than so many levels.
+#[cycle(normal)]
+pub(crate) fn is_normal_maybe(
+    child: TypeStr<'_>,
+    bytes: &[u8],
+    levels: u8,
+    steps: &mut Steps,
+) -> bool
+    requires room { steps.old + most_values (length bytes.now) (suc (length (spelling (ty child)))) ≤ 2 ^ 128 }
+    ensures normal { IsTrue result ↔ IsNormalWithin (suc levels) (maybe (ty child.entry)) bytes.now }
+    ensures few { steps.new + 1 ≤ steps.old + most_values (length bytes.now) (suc (length (spelling (ty child.entry)))) }
+    ensures grows { steps.old ≤ steps.new }
+{
+    let Some((last, front)) = bytes.split_last() else {
+        return true;
+    };
+    match size_of(child) {
+        Some(size) => bytes.len() == size && is_normal_fixed(child, bytes, levels, steps),
+        None => *last == 0 && is_normal_open(child, front, levels, steps),
+    }
+}

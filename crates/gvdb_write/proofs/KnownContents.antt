@@ -1,0 +1,78 @@
+-- The content of each item is known before its record is made.
+use Rattle.std.proofs.Common.{ℕ, ◌≡◌, ◌<◌, ◌≤◌, ◌+◌, ◌*◌, List, length, get_or, refl, sym, ap, ap₂, ◌∙◌, arith}
+use Rattle.gv_model.specs.Layout.{round_up}
+use Rattle.gv_model.specs.Limits.{limit}
+use Rattle.dconf_model.specs.Table.{value_kind, list_kind}
+use Rattle.dconf_model.specs.Entries.{EachEntry, IsRootEntry, AreChildren}
+use Rattle.dconf_model.specs.Plans.{root_end, values_end}
+use Rattle.gvdb_write.specs.declared.layout.Contents.{Contents}
+use Rattle.gvdb_write.specs.declared.layout.Pointer.{Pointer}
+use Rattle.gvdb_write.specs.declared.names.Content.{Content}
+use Rattle.gvdb_write.specs.declared.names.Content.TheVariants.{Value, List as Listed, Locks}
+use Rattle.gvdb_write.specs.declared.names.Named.{Named}
+use Rattle.gvdb_write.specs.declared.table.TablePlan.{TablePlan}
+use Rattle.gvdb_write.specs.Names.{named, kind_at}
+use Rattle.gvdb_write.specs.PlanWords.{kind_of, entries_of, children_of, plan_of}
+use Rattle.gvdb_write.specs.LayoutParts.{CanBeLaid, AreLocks}
+use Rattle.gvdb_write.specs.CursorPlaces.{laid_end}
+use Rattle.gvdb_write.specs.ContentPlaces.{CanPoint, CanPointAt, content_pointer}
+use Rattle.gvdb_write.specs.Contents.{pointer_at, IsShort, HavePlaces, ArePointers}
+use Rattle.gvdb_write.proofs.LaidValues.{pointers_short}
+use Rattle.gvdb_write.proofs.LayoutEnds.{root_ends}
+
+-- ---- by the content of an item
+
+there_at : (c : Contents) (i : ℕ) (content : Content) → (kind_of content ≡ value_kind → (i < length c.places.now) × (get_or c.places.now i 0 < length c.pointers.now)) → (kind_of content ≡ list_kind → i + 1 < length c.firsts.now) → CanPointAt c i content
+there_at c i (Value bytes) value list = value refl
+there_at c i Listed value list = list refl
+there_at c i Locks value list = tt
+
+abbrev pub list_of : Contents → ℕ → Pointer
+list_of c i = record { start = c.lists + 4 * get_or c.firsts.now i 0; end = c.lists + 4 * get_or c.firsts.now (i + 1) 0 }
+
+short_at : (c : Contents) (i : ℕ) (content : Content) → (kind_of content ≡ value_kind → IsShort (pointer_at c.pointers.now (get_or c.places.now i 0))) → (kind_of content ≡ list_kind → IsShort (list_of c i)) → IsShort c.table → IsShort (content_pointer c i content)
+short_at c i (Value bytes) value list table = value refl
+short_at c i Listed value list table = list refl
+short_at c i Locks value list table = table
+
+-- the lists of items: there is one after the last, and each ends where it fits
+pub record HaveLists (items : List Named) (c : Contents) : Type 0 where
+  pub there : (i : ℕ) → i < length items → kind_at items i ≡ list_kind → i + 1 < length c.firsts.now
+  pub short : (i : ℕ) → i < length items → kind_at items i ≡ list_kind → IsShort (list_of c i)
+
+pub can_point : (items : List Named) (c : Contents) (at : ℕ) (values : List (List ℕ)) → HavePlaces items values c.places.now → ArePointers at values c.pointers.now → values_end at values ≤ limit → HaveLists items c → IsShort c.table → CanPoint items c
+can_point items c at values have laid within lists table = record {
+  there = λ i here.
+      there_at c i (named items i).content
+      (λ value. let n = have.counted in let p = have.within i here value in let m = laid.counted in (omega (arith, here, n), omega (arith, p, m)))
+      (lists.there i here);
+  short = λ i here.
+      short_at c i (named items i).content
+      (λ value. let p = have.within i here value in let m = laid.counted in pointers_short at values c.pointers.now laid within (get_or c.places.now i 0) (omega (arith, p, m)))
+      (lists.short i here) table;
+}
+
+-- ---- of the two tables
+
+pub root_lists : (root : TablePlan) (c : Contents) → AreChildren (entries_of root.items.items) (children_of root) → length root.firsts.items ≡ length root.items.items + 1 → c.firsts.now ≡ root.firsts.items → c.lists + 4 * length root.children.items ≤ limit → HaveLists root.items.items c
+root_lists root c children count firsts within =
+    let at : (j : ℕ) → j < length root.items.items + 1 → c.lists + 4 * get_or c.firsts.now j 0 ≤ limit =
+    λ j l. let w = children.firsts.within j l in let e = ap (λ (f : List ℕ). get_or f j 0) firsts in omega (arith, w, e, within) in
+    record {
+      there = λ i here list. let e = ap length firsts in omega (arith, here, e, count);
+      short = λ i here list. record { start = at i (omega (arith, here)); end = at (i + 1) (omega (arith, here)) };
+    }
+
+-- locks have none
+pub lock_lists : (items : List Named) (c : Contents) → AreLocks items → HaveLists items c
+lock_lists items c are =
+    let none : (i : ℕ) → i < length items → kind_at items i ≡ list_kind → ⊥ = λ i here list. let e = sym (are i here).0 ∙ list in omega (arith, e) in
+    record { there = λ i here list. absurd (none i here list); short = λ i here list. absurd (none i here list) }
+
+-- ---- where the lists end
+
+pub lists_end_there : (root locks : TablePlan) (items : List Named) (at count : ℕ) → CanBeLaid root.items.items → EachEntry (entries_of root.items.items) (IsRootEntry (entries_of root.items.items))
+    → AreChildren (entries_of root.items.items) (children_of root) → (i : ℕ) × (i < length root.items.items) × (kind_at root.items.items i ≡ list_kind)
+    → items ≡ root.items.items → at ≡ laid_end 24 items → count ≡ length root.children.items → round_up 4 at + 4 * count ≡ root_end (plan_of root locks)
+lists_end_there root locks items at count can entries children top same is counted =
+    ap₂ (λ (a k : ℕ). round_up 4 a + 4 * k) (is ∙ ap (laid_end 24) same) counted ∙ root_ends root locks can entries children top

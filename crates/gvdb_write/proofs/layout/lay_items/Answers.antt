@@ -1,0 +1,12 @@
+use Rattle.std.proofs.Common.{rules, length, arith}
+use Rattle.dconf_model.proofs.PlanEnds.{keys_rise}
+use Rattle.gvdb_write.specs.PlanWords.{entries_of}
+use Rattle.gvdb_write.specs.CursorPlaces.{table_end, laid_end}
+use Rattle.gvdb_write.proofs.PastEnds.{still_past}
+use Rattle.gvdb_write.proofs.layout.lay_items.Goals as goal
+
+pub returns-in_err-pointer-clause-fault : goal.returns-in_err-pointer-clause-fault
+returns-in_err-pointer-clause-fault c =
+    let items = c.args.items.now in
+    let rise = keys_rise (entries_of items) (table_end c.args.cursor.now.at (length items)) (length items) in
+    still_past c.from_residual.result (table_end c.args.cursor.now.at (length items)) (laid_end c.args.cursor.now.at items) (λ past. omega (arith, rise, past)) (search rules)
