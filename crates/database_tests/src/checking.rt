@@ -1,4 +1,5 @@
 //! Whether files by hand are sound, and else the first rule that they break and the least item that breaks it.
+use crate::slow_check::{Verdict, slow_verdict};
 use crate::vectors::Sample;
 use gvdb_read::{OpenFault, Rule, Table, hash};
 use std::alloc::Global;
@@ -12,7 +13,7 @@ fn fault_of(file: &[u8]) -> Result<Option<(Rule, Option<u32>)>, OpenFault> {
     }
 }
 
-/// Whether a file with some bytes changed has this fault.
+/// Whether a file with some bytes changed has this fault, by the slow check too.
 fn has_fault(
     alloc: Global,
     file: Sample,
@@ -20,7 +21,11 @@ fn has_fault(
     fault: Option<(Rule, Option<u32>)>,
 ) -> Result<bool, Fail> {
     let file = file.with(alloc, changes)?;
-    Ok(fault_of(&file)? == fault)
+    let verdict = match fault {
+        Some((rule, item)) => Verdict::Unsound(rule, item),
+        None => Verdict::Sound,
+    };
+    Ok(fault_of(&file)? == fault && slow_verdict(alloc, &file)? == verdict)
 }
 
 #[test]

@@ -4,6 +4,10 @@
 #[cfg(test)]
 mod checking;
 #[cfg(test)]
+mod dconf_bytes;
+#[cfg(test)]
+mod dconf_made;
+#[cfg(test)]
 mod faults;
 #[cfg(test)]
 mod finding;
@@ -17,6 +21,8 @@ mod opening;
 mod paths;
 #[cfg(test)]
 mod salvaging;
+#[cfg(test)]
+mod slow_check;
 #[cfg(test)]
 mod slow_search;
 #[cfg(test)]

@@ -5,27 +5,34 @@ use std::alloc::{AllocError, Global};
 
 /// What occurs in an item.
 #[derive(Clone, Copy)]
-struct Stored<'a> {
-    hash: u32,
-    parent: u32,
-    key: Option<&'a [u8]>,
-    kind: u8,
-    start: u32,
-    end: u32,
+pub(crate) struct Stored<'a> {
+    pub(crate) hash: u32,
+    pub(crate) parent: u32,
+    pub(crate) key: Option<&'a [u8]>,
+    pub(crate) kind: u8,
+    pub(crate) start: u32,
+    pub(crate) end: u32,
+}
+
+impl<'a> Stored<'a> {
+    /// Its key; no bytes where they don't lie in the file.
+    pub(crate) fn key(self) -> &'a [u8] {
+        self.key.unwrap_or(&[])
+    }
 }
 
 /// A table, all of it read.
 #[derive(Drop)]
-struct Slow<'a> {
-    file: &'a [u8],
+pub(crate) struct Slow<'a> {
+    pub(crate) file: &'a [u8],
     shift: u32,
     bloom: Vec<u32>,
-    buckets: Vec<u32>,
-    items: Vec<Stored<'a>>,
+    pub(crate) buckets: Vec<u32>,
+    pub(crate) items: Vec<Stored<'a>>,
 }
 
 /// The number that four bytes stand for.
-fn number(bytes: &[u8]) -> u32 {
+pub(crate) fn number(bytes: &[u8]) -> u32 {
     let mut number = 0u32;
     for byte in bytes.iter().rev() {
         number = (number << 8) | u32::from(*byte);
@@ -64,7 +71,7 @@ fn read_item<'a>(file: &'a [u8], bytes: &[u8]) -> Option<Stored<'a>> {
 
 impl<'a> Slow<'a> {
     /// The table between two places of the file, where one opens there.
-    fn between(
+    pub(crate) fn between(
         alloc: Global,
         file: &'a [u8],
         start: u32,
@@ -106,7 +113,7 @@ impl<'a> Slow<'a> {
     }
 
     /// The root table of a database.
-    fn open(alloc: Global, file: &'a [u8]) -> Result<Option<Slow<'a>>, AllocError> {
+    pub(crate) fn open(alloc: Global, file: &'a [u8]) -> Result<Option<Slow<'a>>, AllocError> {
         let Some(header) = file.get(..24) else {
             return Ok(None);
         };
@@ -120,12 +127,16 @@ impl<'a> Slow<'a> {
     }
 
     /// The item of this number.
-    fn item(&self, number: u32) -> Option<Stored<'a>> {
+    pub(crate) fn item(&self, number: u32) -> Option<Stored<'a>> {
         Some(*self.items.get(number as usize)?)
     }
 
     /// An item's full name: the keys along its parents, the last parent's first. None where it has none.
-    fn full_name(&self, alloc: Global, item: Stored<'a>) -> Result<Option<Vec<u8>>, AllocError> {
+    pub(crate) fn full_name(
+        &self,
+        alloc: Global,
+        item: Stored<'a>,
+    ) -> Result<Option<Vec<u8>>, AllocError> {
         let mut keys = Vec::new(alloc);
         let mut at = item;
         for _ in 0..self.items.len() {
@@ -149,7 +160,7 @@ impl<'a> Slow<'a> {
     }
 
     /// Whether the bloom words let a hash pass.
-    fn passes(&self, hash: u32) -> bool {
+    pub(crate) fn passes(&self, hash: u32) -> bool {
         let words = self.bloom.len();
         if words == 0 {
             return true;
@@ -162,7 +173,7 @@ impl<'a> Slow<'a> {
     }
 
     /// Whether item i lies in the span of a hash.
-    fn spans(&self, hash: u32, i: usize) -> bool {
+    pub(crate) fn spans(&self, hash: u32, i: usize) -> bool {
         let buckets = self.buckets.len();
         if buckets == 0 {
             return false;
@@ -192,7 +203,7 @@ impl<'a> Slow<'a> {
     }
 
     /// The bytes of an item, where its pointer is valid.
-    fn content(&self, item: Stored<'a>) -> Option<&'a [u8]> {
+    pub(crate) fn content(&self, item: Stored<'a>) -> Option<&'a [u8]> {
         let alignment = if item.kind == b'v' { 8 } else { 4 };
         if item.start % alignment != 0 {
             return None;

@@ -28,7 +28,7 @@ fn value(i: u32) -> [u8; 6] {
 }
 
 /// The database of keys 0 up to a number, with a lock on every third.
-fn database(alloc: Global, keys: u32) -> Result<Vec<u8>, Fail> {
+pub(crate) fn database(alloc: Global, keys: u32) -> Result<Vec<u8>, Fail> {
     let mut map = Map::new(alloc);
     for i in 0..keys {
         let path = path(alloc, i)?;
@@ -207,7 +207,7 @@ fn a_slow_search_finds_the_same_in_damaged_files(rt: HostRuntime) -> Result<(), 
 }
 
 /// The next number of Marsaglia's generator, for a seed that is not 0.
-fn next(seed: u32) -> u32 {
+pub(crate) fn next(seed: u32) -> u32 {
     let mut x = seed;
     x ^= x << 13;
     x ^= x >> 17;
