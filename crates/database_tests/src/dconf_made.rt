@@ -178,7 +178,7 @@ fn a_slow_check_says_the_same_of_damaged_files_of_dconf(rt: HostRuntime) -> Resu
     for (copy, (said, slow)) in verdicts.iter().enumerate() {
         assert!(rt; said == slow, "copy {copy}: {said:?} and {slow:?}");
     }
-    // there are no bloom words, and a name that occurs twice takes more than two bytes
+    // the file has no bloom words for S6, and S7 takes another hash, key and bucket at once
     for (rule, least) in [
         (Rule::Buckets, 100),
         (Rule::Keys, 100),
@@ -200,10 +200,10 @@ fn a_slow_check_says_the_same_of_damaged_files_that_were_written(
     rt: HostRuntime,
 ) -> Result<(), Fail> {
     let file = database(rt.alloc(), 8)?;
-    let verdicts = verdicts(rt.alloc(), &file, 492, 1000)?;
+    let verdicts = verdicts(rt.alloc(), &file, 492, 2000)?;
     for (copy, (said, slow)) in verdicts.iter().enumerate() {
         assert!(rt; said == slow, "copy {copy}: {said:?} and {slow:?}");
     }
-    assert!(rt; times_named(&verdicts, Rule::Bloom) >= 5);
+    assert!(rt; times_named(&verdicts, Rule::Bloom) >= 1);
     Ok(())
 }
