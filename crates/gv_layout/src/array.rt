@@ -89,6 +89,7 @@ impl<'a> FixedSize<'a> {
     }
 
     /// The first child, and those after it.
+    #[inline(always)]
     pub(crate) fn split_first(self) -> Option<(Place<'a>, FixedSize<'a>)>
         ensures { MatchOption result (fixed_left self.entry ≡ [])
             (λ r. fixed_left self.entry ≡ child_of r.0 ∷ fixed_left r.1) }
@@ -190,6 +191,7 @@ impl<'a, 'b> ByOffsets<'a, 'b> {
     }
 
     /// The first child, and those after it.
+    #[inline(always)]
     pub(crate) fn split_first(self) -> Option<(Place<'a>, ByOffsets<'a, 'b>)>
         ensures { MatchOption result (by_offsets_left self.entry ≡ [])
             (λ r. by_offsets_left self.entry ≡ child_of r.0 ∷ by_offsets_left r.1) }

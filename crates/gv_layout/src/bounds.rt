@@ -51,6 +51,7 @@ pub fn place_of<'a>(of: TypeStr<'a>, bytes: &[u8], i: usize) -> Option<Place<'a>
 /// The places of the children of a container of this type, in order.
 ///
 /// A step is O(1) along an array, and reads a member's type along a tuple or an entry.
+#[inline(always)]
 pub fn places<'a>(of: TypeStr<'a>, bytes: &'a [u8]) -> Places<'a>
     requires { ty of ≢ variant }
     ensures { places_left result ≡ cut (ty of.entry) bytes.entry.now }

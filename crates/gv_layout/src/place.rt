@@ -62,6 +62,7 @@ impl<'a> Iterator for Places<'a> {
 
     ghost remaining = { item_count places_left };
 
+    #[inline(always)]
     fn next(&mut self) -> Option<Place<'a>> {
         let (place, after) = self.walk.split_first()?;
         self.walk = after;

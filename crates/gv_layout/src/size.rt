@@ -62,6 +62,7 @@ pub struct TypeInfo {
 
 /// The layout of a type: its alignment and its size together, so that each level's members are walked once.
 #[cycle(type_infos)]
+#[inline(always)]
 pub fn type_info(of: TypeStr<'_>) -> TypeInfo
     ensures alignment { result.alignment ≡ alignment (ty of.entry) }
     ensures size { result.size ≡ fixed_size (ty of.entry) }
@@ -73,7 +74,7 @@ pub fn type_info(of: TypeStr<'_>) -> TypeInfo
             size: None,
         },
         Class::Array | Class::Maybe => {
-            let element = type_info(of.element().unwrap());
+            let element = element_info(of.element().unwrap());
             TypeInfo {
                 alignment: element.alignment,
                 size: None,
@@ -81,6 +82,17 @@ pub fn type_info(of: TypeStr<'_>) -> TypeInfo
         }
         Class::Tuple | Class::Entry => members_info(of),
     }
+}
+
+/// The layout of the type that an array or a maybe holds.
+///
+/// It is a function of its own since `type_info`, which so calls itself through others alone, can be inlined.
+#[cycle(type_infos)]
+fn element_info(of: TypeStr<'_>) -> TypeInfo
+    ensures alignment { result.alignment ≡ alignment (ty of.entry) }
+    ensures size { result.size ≡ fixed_size (ty of.entry) }
+{
+    type_info(of)
 }
 
 /// The layout of a basic type: a number is aligned to its size, a text not at all.

@@ -70,6 +70,7 @@ impl<'a, 'b> ByMembers<'a, 'b> {
     }
 
     /// The first child, and those after it.
+    #[inline(always)]
     pub(crate) fn split_first(self) -> Option<(Place<'a>, ByMembers<'a, 'b>)>
         ensures { MatchOption result (by_members_left self.entry ≡ [])
             (λ r. by_members_left self.entry ≡ child_of r.0 ∷ by_members_left r.1) }

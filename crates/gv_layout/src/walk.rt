@@ -36,6 +36,7 @@ impl<'a, 'b> Walk<'a, 'b> {
     ghost use Rattle.gv_layout.specs.Places.{child_of, walk_left};
 
     /// All children of a container.
+    #[inline(always)]
     pub(crate) fn new(of: TypeStr<'a>, bytes: &'b [u8]) -> Walk<'a, 'b>
         requires { ty of ≢ variant }
         ensures { walk_left result ≡ cut (ty of.entry) bytes.entry.now }
@@ -69,6 +70,7 @@ impl<'a, 'b> Walk<'a, 'b> {
     }
 
     /// The first child, and those after it.
+    #[inline(always)]
     pub(crate) fn split_first(self) -> Option<(Place<'a>, Walk<'a, 'b>)>
         ensures { MatchOption result (walk_left self.entry ≡ [])
             (λ r. walk_left self.entry ≡ child_of r.0 ∷ walk_left r.1) }

@@ -2,8 +2,9 @@
 //! in order.
 ghost use Rattle.std.specs.Prelude.{◌≡◌, ◌≤◌, ◌<◌, ◌+◌, ◌*◌, ◌^◌, ◌↔◌, IsTrue, None, length};
 ghost use Rattle.gv_model.specs.Ty.{spelling};
-ghost use Rattle.gv_model.specs.Layout.{fixed_size};
+ghost use Rattle.gv_model.specs.Layout.{basic_size, fixed_size};
 ghost use Rattle.gv_model.specs.Normal.{IsNormal};
+ghost use Rattle.gv_types.specs.Classes.{basic_of};
 ghost use Rattle.gv_types.specs.TypeStr.{ty};
 ghost use Rattle.gv_view.specs.Views.{view_ty, view_bytes};
 ghost use Rattle.gv_normal.specs.InPlace.{IsNormalWithin, most_values};
@@ -15,7 +16,7 @@ use crate::maybe::is_normal_maybe;
 use crate::tuple::are_normal_members;
 use crate::variant::is_normal_variant;
 use gv_layout::size_of_members;
-use gv_types::{Class, Steps, TypeStr};
+use gv_types::{BasicType, Class, Steps, TypeStr};
 use gv_view::View;
 
 /// The most levels that a normal value has.
@@ -83,7 +84,15 @@ pub(crate) fn size_of(of: TypeStr<'_>) -> Option<usize>
     ensures { result ≡ fixed_size (ty of.entry) }
 {
     match of.class() {
-        Class::Array | Class::Maybe => None,
-        _ => size_of_members(of),
+        Class::Basic(basic) => size_of_basic(basic),
+        Class::Tuple | Class::Entry => size_of_members(of),
+        Class::Variant | Class::Array | Class::Maybe => None,
     }
+}
+
+/// The size of each value of the basic type.
+fn size_of_basic(of: BasicType) -> Option<usize>
+    ensures { result ≡ basic_size (basic_of of) }
+{
+    of.size().map(usize::from)
 }

@@ -128,6 +128,7 @@ pub enum Class {
 
 /// The class of the types that begin with this byte, or None where none does.
 #[tactic(auto, unfolding(gv_model::specs::TypeText::mark))]
+#[inline(always)]
 pub(crate) fn class_of_letter(letter: u8) -> Option<Class>
     ensures { result ≡ class_of_mark (mark letter) }
 {

@@ -52,6 +52,7 @@ fn stopped(halt: Halt, rest: &[u8]) -> Result<&[u8], Stop<'_>>
 ///
 /// It looks at each byte once, and calls itself no deeper than the levels that are left.
 #[cycle(types)]
+#[inline(always)]
 pub(crate) fn after_type(text: &[u8], room: u8) -> Result<&[u8], Stop<'_>>
     ensures { MatchResult result
         (λ rest. BeginsWithType room text.now rest.now)
@@ -68,10 +69,22 @@ pub(crate) fn after_type(text: &[u8], room: u8) -> Result<&[u8], Stop<'_>>
     }
     match class {
         Class::Basic(_) | Class::Variant => Ok(rest),
-        Class::Array | Class::Maybe => after_type(rest, room - 1),
+        Class::Array | Class::Maybe => after_element(rest, room - 1),
         Class::Tuple => after_members(rest, room - 1),
         Class::Entry => after_entry(rest, room - 1),
     }
+}
+
+/// What follows the type that an array or a maybe holds, of at most this many levels.
+///
+/// It is a function of its own since `after_type`, which so calls itself through others alone, can be inlined.
+#[cycle(types)]
+fn after_element(text: &[u8], room: u8) -> Result<&[u8], Stop<'_>>
+    ensures { MatchResult result
+        (λ rest. BeginsWithType room text.now rest.now)
+        (λ stop. HaltsAt room text.now stop.rest.now stop.halt) }
+{
+    after_type(text, room)
 }
 
 /// What follows the tuple whose `(` comes before the text, with members of at most this many levels.

@@ -105,6 +105,7 @@ impl<'a> TypeStr<'a> {
     }
 
     /// What kind of type it is. It looks at the first byte.
+    #[inline(always)]
     pub fn class(self) -> Class
         ensures { result ≡ class_of (ty self.entry) }
     {

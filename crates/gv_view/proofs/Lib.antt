@@ -1,6 +1,7 @@
 pub mod Lists
 pub mod Numbers
 pub mod AsciiTexts
+pub mod ShortTexts
 pub mod TextLemmas
 pub mod VariantLemmas
 pub mod ByteArrays

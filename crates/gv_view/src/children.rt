@@ -69,6 +69,7 @@ impl<'a> View<'a> {
     /// The children, in order.
     ///
     /// A walk goes along a tuple's types once, where `child` at each index begins anew.
+    #[inline(always)]
     pub fn children(self) -> Children<'a>
         ensures { children_left result ≡ parts (view_ty self.entry) (view_bytes self.entry) }
     {
@@ -94,6 +95,7 @@ impl<'a> Iterator for Children<'a> {
 
     ghost remaining = { item_count children_left };
 
+    #[inline(always)]
     fn next(&mut self) -> Option<View<'a>> {
         match &mut self.walk {
             Walk::Alone(child) => child.take(),
@@ -115,6 +117,7 @@ impl<'a> Iterator for Placed<'a> {
 
     ghost remaining = { item_count placed_left };
 
+    #[inline(always)]
     fn next(&mut self) -> Option<View<'a>> {
         let place = self.places.next()?;
         Some(view_at(self.bytes, place))

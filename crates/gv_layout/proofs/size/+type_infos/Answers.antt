@@ -8,10 +8,10 @@ use Rattle.gv_layout.proofs.Sizes.{alignment-basic, alignment-variant, fixed_siz
 use Rattle.gv_layout.proofs.MemberWalk.{IsWalk, start, turned, member_deeper, member_fits, end_fits, aligned_all, placed_all}
 use Rattle.gv_layout.proofs.size.+type_infos.Goals as goal
 
-pub type_info-type_info-element-requires : goal.type_info-type_info-element-requires
-type_info-type_info-element-requires t c =
+pub type_info-element_info-element-requires : goal.type_info-element_info-element-requires
+type_info-element_info-element-requires t c =
     let over = over_some ty (ty c.args.of) c.element.result c.unwrap.result c.element.ensures c.unwrap.ensures in
-    let falls : suc (2 * nesting (ty c.unwrap.result)) < suc (2 * nesting (ty c.args.of)) = omega (arith, over.deeper) in
+    let falls : suc (suc (2 * nesting (ty c.unwrap.result))) < suc (2 * nesting (ty c.args.of)) = omega (arith, over.deeper) in
     search (rules, falls)
 
 pub type_info-returns-in-Basic-clause-alignment : goal.type_info-returns-in-Basic-clause-alignment
@@ -30,7 +30,7 @@ type_info-returns-in-Variant-clause-size t c = fixed_size-variant (ty c.args.of)
 
 pub type_info-returns-in-Array-clause-alignment : goal.type_info-returns-in-Array-clause-alignment
 type_info-returns-in-Array-clause-alignment t c =
-    c.type_info-element.ensures.alignment ∙ sym (over_some ty (ty c.args.of) c.element.result c.unwrap.result c.element.ensures c.unwrap.ensures).aligned
+    c.element_info-element.ensures.alignment ∙ sym (over_some ty (ty c.args.of) c.element.result c.unwrap.result c.element.ensures c.unwrap.ensures).aligned
 
 pub type_info-returns-in-Array-clause-size : goal.type_info-returns-in-Array-clause-size
 type_info-returns-in-Array-clause-size t c =

@@ -8,6 +8,9 @@ use Rattle.gv_layout.proofs.size.+type_infos.Given as goal
 abbrev pub decreases-type_info : goal.decreases-type_info
 decreases-type_info l = suc (2 * nesting (ty l.of))
 
+abbrev pub decreases-element_info : goal.decreases-element_info
+decreases-element_info l = suc (suc (2 * nesting (ty l.of)))
+
 abbrev pub decreases-members_info : goal.decreases-members_info
 decreases-members_info l = 2 * nesting (ty l.of)
 

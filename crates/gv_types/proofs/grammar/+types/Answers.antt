@@ -41,8 +41,8 @@ after_type-returns-in-Basic t c =
 
 pub after_type-returns-in-Array : goal.after_type-returns-in-Array
 after_type-returns-in-Array t c =
-    reading_element c.after_type.result c.args.room c.in-Some.letter.now c.in-Some-class_of_letter.class c.args.text.now c.in-Some.rest.now
-    (sym c.in-Some-class_of_letter.ensures) c.in-Array.is c.if-room-eq0.false (search (rules, c.in-Some.ensures.cases)) c.after_type.ensures
+    reading_element c.after_element.result c.args.room c.in-Some.letter.now c.in-Some-class_of_letter.class c.args.text.now c.in-Some.rest.now
+    (sym c.in-Some-class_of_letter.ensures) c.in-Array.is c.if-room-eq0.false (search (rules, c.in-Some.ensures.cases)) c.after_element.ensures
 
 pub after_type-returns-in-Tuple : goal.after_type-returns-in-Tuple
 after_type-returns-in-Tuple t c =

@@ -5,6 +5,9 @@ use Rattle.gv_types.proofs.grammar.+types.Given as goal
 abbrev pub decreases-after_members : goal.decreases-after_members
 decreases-after_members l = 2 * l.room + 1
 
+abbrev pub decreases-after_element : goal.decreases-after_element
+decreases-after_element l = 2 * l.room + 1
+
 abbrev pub decreases-after_entry : goal.decreases-after_entry
 decreases-after_entry l = 2 * l.room + 1
 
