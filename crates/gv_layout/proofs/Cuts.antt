@@ -19,8 +19,9 @@ use Rattle.gv_types.specs.declared.class.Class.{Class}
 use Rattle.gv_types.specs.declared.class.Class.TheVariants as classes
 use Rattle.gv_types.specs.Classes.{class_of}
 use Rattle.gv_types.specs.TypeStr.{element_of}
+use Rattle.gv_layout.specs.Bodies.{placed_body}
 use Rattle.gv_types.proofs.ClassLaws.{basic_class, variant_class}
-use Rattle.gv_model.proofs.EmptyLaws.{fixed_size_pos}
+use Rattle.gv_model.proofs.EmptyLaws.{elements-nil, fixed_size_pos, just-nil}
 use Rattle.gv_model.proofs.PlacedParts.{ordered-nil}
 use Rattle.gv_model.proofs.InOrder.{just_stay}
 use Rattle.gv_layout.specs.Bodies.{placed_body}
@@ -230,3 +231,25 @@ pub one_of_variant : (t : Ty) (b : List ℕ) (k : Class) → k ≡ class_of t �
 unfolding cut spans
 one_of_variant t b k e h =
     sym (as_many (length b) (Some (length b)) (variant_span (at_last_zero b) ∷ [])) ∙ ap (λ u. length (cut u b)) (sym (variant_class t (sym h ∙ e)))
+
+-- ---- no bytes
+
+pub no_just : (t : Ty) (n : ℕ) → n ≡ 0 → [] ≡ children_at n (just_span t n (fixed_size t))
+no_just t n e = sym (ap (children_at n) (ap (λ k. just_span t k (fixed_size t)) e ∙ just-nil t (fixed_size t) (fixed_size_pos t)))
+
+pub no_elements : (t u : Ty) (b : List ℕ) → t ≡ array u → length b ≡ 0 → [] ≡ cut t b
+unfolding cut spans ordered
+no_elements t u [] e h =
+    sym (ap (λ s. cut s []) e ∙ ap (λ xs. children_at 0 (ordered (Some (elements_end [] (fixed_size u))) xs)) (elements-nil u (fixed_size u)))
+no_elements t u (c ∷ b) e h = absurd (omega (arith, h))
+
+-- members without bytes have no offsets
+no_offsets : (k : ℕ) → Some 0 ≡ cond (nat_le (0 * k) 0) (Some (0 - 0 * k)) None
+no_offsets k = let z : 0 * k ≡ 0 = omega arith in rw z refl
+
+pub body_of_none : (t : Ty) (b : List ℕ) (size : Option ℕ) → size ≡ fixed_size t → None ≡ size → length b ≡ 0 → Some 0 ≡ placed_body t b
+unfolding offset_width
+body_of_none t [] size e h g =
+    let none : fixed_size t ≡ None = sym (h ∙ e) in
+    rw none (no_offsets (offset_count (members t)))
+body_of_none t (c ∷ b) size e h g = absurd (omega (arith, g))

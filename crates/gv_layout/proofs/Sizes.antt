@@ -269,3 +269,12 @@ over_element (entry k t) u e = absurd (none-some u e)
 pub over_some : {X : Type 0} (f : X → Ty) (t : Ty) (o : Option X) (x : X) → option_map f o ≡ element_of t → o ≡ Some x → IsOver t (f x)
 over_some f t None x e h = absurd (none-some x h)
 over_some f t (Some y) x e h = over_element t (f x) (sym e ∙ ap (λ z. Some (f z)) (same_Some y x h))
+
+pub no_size : (t : Ty) → (class_of t ≡ classes.Variant) ⊎ ((class_of t ≡ classes.Array) ⊎ (class_of t ≡ classes.Maybe)) → None ≡ fixed_size t
+unfolding fixed_size
+no_size variant h = refl
+no_size (array t) h = refl
+no_size (maybe t) h = refl
+no_size (basic k) h = elim h [ inl e ↦ absurd cc | inr (inl e) ↦ absurd cc | inr (inr e) ↦ absurd cc ]
+no_size (tuple ts) h = elim h [ inl e ↦ absurd cc | inr (inl e) ↦ absurd cc | inr (inr e) ↦ absurd cc ]
+no_size (entry k t) h = elim h [ inl e ↦ absurd cc | inr (inl e) ↦ absurd cc | inr (inr e) ↦ absurd cc ]

@@ -60,10 +60,13 @@ impl<'a> FixedSize<'a> {
     pub(crate) fn of_maybe(child: TypeStr<'a>, len: usize) -> FixedSize<'a>
         ensures { fixed_left result ≡ children_at len (just_span (ty child.entry) len (fixed_size (ty child.entry))) }
     {
+        if len == 0 {
+            return FixedSize::none(child);
+        }
         match fixed_size(child) {
             Some(size) if size == len => FixedSize::one(child, len, len),
-            None if len > 0 => FixedSize::one(child, len - 1, len),
-            _ => FixedSize::none(child),
+            None => FixedSize::one(child, len - 1, len),
+            Some(_) => FixedSize::none(child),
         }
     }
 

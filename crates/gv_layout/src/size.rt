@@ -16,26 +16,38 @@ pub fn alignment(of: TypeStr<'_>) -> u8
     type_info(of).alignment
 }
 
-/// The number of bytes of each value of this type, or None where values differ in it.
+/// The number of bytes of each value of this type, or None where they differ in it.
 ///
-/// It walks the type's text once for each level that the type nests.
+/// It walks the members of a tuple or an entry as far as to the first that has no fixed size, and no other type's text.
 pub fn fixed_size(of: TypeStr<'_>) -> Option<usize>
     ensures { result ≡ fixed_size (ty of.entry) }
 {
-    type_info(of).size
+    match of.class() {
+        Class::Tuple | Class::Entry => size_of_members(of),
+        _ => size_without_members(of),
+    }
 }
 
-/// The size of each value of a tuple's or an entry's type, found out without a look at the members after the first
-/// that has no fixed size.
-pub fn size_of_members(of: TypeStr<'_>) -> Option<usize>
+/// The size of each value of a tuple's or an entry's type.
+fn size_of_members(of: TypeStr<'_>) -> Option<usize>
     ensures { result ≡ fixed_size (ty of.entry) }
 {
     for member in of.members() {
-        if type_info(member).size.is_none() {
+        if size_without_members(member).is_none() {
             return None;
         }
     }
-    fixed_size(of)
+    type_info(of).size
+}
+
+/// The size of each value of a type, found at once unless it has members.
+pub(crate) fn size_without_members(of: TypeStr<'_>) -> Option<usize>
+    ensures { result ≡ fixed_size (ty of.entry) }
+{
+    match of.class() {
+        Class::Variant | Class::Array | Class::Maybe => None,
+        _ => type_info(of).size,
+    }
 }
 
 /// The width in bytes of each framing offset of a container of this many bytes: 0, 1, 2, 4 or 8.

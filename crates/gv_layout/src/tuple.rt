@@ -11,8 +11,8 @@ ghost use Rattle.gv_layout.specs.Bodies.{placed_body};
 
 use crate::offset::framing_offset;
 use crate::place::Place;
-use crate::size::{offset_width, size_of_members, type_info};
-use crate::walk::aligned;
+use crate::size::{fixed_size, offset_width, size_without_members};
+use crate::walk::begun;
 use gv_types::{Members, TypeStr};
 
 /// Members, of which the one before ends at `previous`, if its end is known and all before are in order. The last `used`
@@ -90,9 +90,8 @@ impl<'a, 'b> ByMembers<'a, 'b> {
         let Some(previous) = self.previous else {
             return Some((nowhere, lost));
         };
-        let info = type_info(member);
-        let from = aligned(previous, info.alignment, self.bytes.len());
-        let Some((to, used)) = self.end(info.size, from, is_last) else {
+        let (from, size) = begun(member, previous, self.bytes);
+        let Some((to, used)) = self.end(size, from, is_last) else {
             return Some((nowhere, lost));
         };
         let Some(place) = Place::in_order(member, from, to, self.body) else {
@@ -148,9 +147,10 @@ fn body_of(of: TypeStr<'_>, bytes: &[u8]) -> Option<usize>
     ensures { result ≡ placed_body (ty of.entry) bytes.now }
 {
     let len = bytes.len();
-    match size_of_members(of) {
+    match fixed_size(of) {
         Some(size) if size == len => Some(len),
         Some(_) => None,
+        None if len == 0 => Some(0),
         None => {
             let taken = usize::from(offset_width(len)) * offset_count(of);
             if taken <= len {
@@ -174,7 +174,7 @@ fn offset_count(of: TypeStr<'_>) -> usize
         if is_open {
             count += 1;
         }
-        is_open = type_info(member).size.is_none();
+        is_open = size_without_members(member).is_none();
     }
     count
 }

@@ -1,14 +1,14 @@
 //! Walks along the children of a container: of one size, by framing offsets, or along the members.
 ghost use Rattle.std.specs.Prelude.{◌≡◌, ◌≢◌, ◌≤◌, ◌<◌, ◌+◌, ◌^◌, MatchOption, length, drop, [], ◌∷◌};
 ghost use Rattle.gv_model.specs.Ty.{Ty.variant};
-ghost use Rattle.gv_model.specs.Layout.{round_up};
+ghost use Rattle.gv_model.specs.Layout.{alignment, fixed_size, round_up};
 ghost use Rattle.gv_model.specs.Decode.{cut};
 ghost use Rattle.gv_types.specs.TypeStr.{ty};
 ghost use Rattle.gv_layout.specs.Places.{clamp};
 
 use crate::array::{ByOffsets, FixedSize};
 use crate::place::Place;
-use crate::size::{fixed_size, round_up};
+use crate::size::{fixed_size, round_up, type_info};
 use crate::tuple::ByMembers;
 use gv_types::{Class, TypeStr};
 
@@ -19,6 +19,20 @@ pub(crate) fn aligned(from: usize, alignment: u8, len: usize) -> usize
     ensures { clamp len result ≡ clamp len (round_up alignment from) }
 {
     round_up(from.min(len + 1), alignment)
+}
+
+/// Where a member begins, if the one before ends at `previous`, and its size, or None where it has none.
+///
+/// Its whole type is walked only where it has to be aligned: at 0 any type is.
+pub(crate) fn begun(member: TypeStr<'_>, previous: usize, bytes: &[u8]) -> (usize, Option<usize>)
+    ensures from { clamp (length bytes.now) result.0 ≡ clamp (length bytes.now) (round_up (alignment (ty member.entry)) previous) }
+    ensures size { result.1 ≡ fixed_size (ty member.entry) }
+{
+    if previous == 0 {
+        return (0, fixed_size(member));
+    }
+    let info = type_info(member);
+    (aligned(previous, info.alignment, bytes.len()), info.size)
 }
 
 /// The children of a container that are left.
@@ -45,6 +59,9 @@ impl<'a, 'b> Walk<'a, 'b> {
             Class::Basic(_) | Class::Variant => Walk::FixedSize(FixedSize::none(of)),
             Class::Array => {
                 let element = of.element().unwrap();
+                if bytes.is_empty() {
+                    return Walk::FixedSize(FixedSize::none(element));
+                }
                 match fixed_size(element) {
                     Some(size) => Walk::FixedSize(FixedSize::of_array(element, size, bytes)),
                     None => Walk::ByOffsets(ByOffsets::of_array(element, bytes)),

@@ -2,9 +2,8 @@
 //! in order.
 ghost use Rattle.std.specs.Prelude.{◌≡◌, ◌≤◌, ◌<◌, ◌+◌, ◌*◌, ◌^◌, ◌↔◌, IsTrue, None, length};
 ghost use Rattle.gv_model.specs.Ty.{spelling};
-ghost use Rattle.gv_model.specs.Layout.{basic_size, fixed_size};
+ghost use Rattle.gv_model.specs.Layout.{fixed_size};
 ghost use Rattle.gv_model.specs.Normal.{IsNormal};
-ghost use Rattle.gv_types.specs.Classes.{basic_of};
 ghost use Rattle.gv_types.specs.TypeStr.{ty};
 ghost use Rattle.gv_view.specs.Views.{view_ty, view_bytes};
 ghost use Rattle.gv_normal.specs.InPlace.{IsNormalWithin, most_values};
@@ -15,8 +14,8 @@ use crate::fixed::is_normal_fixed;
 use crate::maybe::is_normal_maybe;
 use crate::tuple::are_normal_members;
 use crate::variant::is_normal_variant;
-use gv_layout::size_of_members;
-use gv_types::{BasicType, Class, Steps, TypeStr};
+use gv_layout::fixed_size;
+use gv_types::{Class, Steps, TypeStr};
 use gv_view::View;
 
 /// The most levels that a normal value has.
@@ -51,7 +50,7 @@ pub(crate) fn is_normal_within(of: TypeStr<'_>, bytes: &[u8], levels: u8, steps:
     ensures few { steps.new ≤ steps.old + most_values (length bytes.now) (length (spelling (ty of.entry))) }
     ensures grows { steps.old ≤ steps.new }
 {
-    match size_of(of) {
+    match fixed_size(of) {
         Some(size) => bytes.len() == size && is_normal_fixed(of, bytes, levels, steps),
         None => is_normal_open(of, bytes, levels, steps),
     }
@@ -77,22 +76,4 @@ pub(crate) fn is_normal_open(of: TypeStr<'_>, bytes: &[u8], levels: u8, steps: &
         Class::Maybe => is_normal_maybe(of.element().unwrap(), bytes, below, steps),
         Class::Tuple | Class::Entry => are_normal_members(of, bytes, below, steps),
     }
-}
-
-/// The size of each value of the type, found without a walk along what an array or a maybe holds.
-pub(crate) fn size_of(of: TypeStr<'_>) -> Option<usize>
-    ensures { result ≡ fixed_size (ty of.entry) }
-{
-    match of.class() {
-        Class::Basic(basic) => size_of_basic(basic),
-        Class::Tuple | Class::Entry => size_of_members(of),
-        Class::Variant | Class::Array | Class::Maybe => None,
-    }
-}
-
-/// The size of each value of the basic type.
-fn size_of_basic(of: BasicType) -> Option<usize>
-    ensures { result ≡ basic_size (basic_of of) }
-{
-    of.size().map(usize::from)
 }

@@ -6,7 +6,8 @@ ghost use Rattle.gv_types.specs.TypeStr.{ty};
 ghost use Rattle.gv_normal.specs.InPlace.{IsNormalWithin, most_values};
 
 use crate::fixed::is_normal_fixed;
-use crate::in_place::{is_normal_open, size_of};
+use crate::in_place::is_normal_open;
+use gv_layout::fixed_size;
 use gv_types::{Steps, TypeStr};
 
 /// Whether bytes are normal at a maybe of this type, where the child has no more than so many levels.
@@ -25,7 +26,7 @@ pub(crate) fn is_normal_maybe(
     let Some((last, front)) = bytes.split_last() else {
         return true;
     };
-    match size_of(child) {
+    match fixed_size(child) {
         Some(size) => bytes.len() == size && is_normal_fixed(child, bytes, levels, steps),
         None => *last == 0 && is_normal_open(child, front, levels, steps),
     }

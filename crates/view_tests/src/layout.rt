@@ -2,7 +2,7 @@
 //! containers lie, also in bytes that are not in normal form.
 use gv_layout::{
     alignment, fixed_size, member_bounds, n_children, number, offset_width, place_of, places,
-    round_up, size_of_members, type_info,
+    round_up, type_info,
 };
 use gv_types::{Class, TypeStr};
 use std::alloc::Global;
@@ -16,7 +16,6 @@ fn is_laid_out(text: &str, aligned: u8, size: Option<usize>) -> Result<bool, Fai
     Ok(
         alignment(of) == aligned
             && fixed_size(of) == size
-            && size_of_members(of) == size
             && (info.alignment, info.size) == (aligned, size),
     )
 }

@@ -284,16 +284,16 @@ pub maybe::is_normal_maybe-returns-then-bytes-size-clause-normal : goal.maybe::i
 maybe::is_normal_maybe-returns-then-bytes-size-clause-normal t c =
     let b = c.args.bytes.now in
     let bytes = are_bytes b c.type_inv.bytes in
-    let law = fixed_just c.args.levels c.in-Some-size_of.size (ty c.args.child) b bytes (omega (arith, c.in-Some.ensures.cases.1)) (sym c.in-Some-size_of.ensures) in
+    let law = fixed_just c.args.levels c.in-Some-fixed_size.size (ty c.args.child) b bytes (omega (arith, c.in-Some.ensures.cases.1)) (sym c.in-Some-fixed_size.ensures) in
     (λ h. law.0 (c.is_normal_fixed.ensures.normal.0 h), λ n. c.is_normal_fixed.ensures.normal.1 (law.1 n))
 
 pub maybe::is_normal_maybe-returns-else-bytes-size-clause-normal : goal.maybe::is_normal_maybe-returns-else-bytes-size-clause-normal
 maybe::is_normal_maybe-returns-else-bytes-size-clause-normal t c =
     let b = c.args.bytes.now in
     let bytes = are_bytes b c.type_inv.bytes in
-    let law = fixed_just c.args.levels c.in-Some-size_of.size (ty c.args.child) b bytes (omega (arith, c.in-Some.ensures.cases.1)) (sym c.in-Some-size_of.ensures) in
-    let size : IsNormalWithin (suc c.args.levels) (maybe (ty c.args.child)) b → length b ≡ c.in-Some-size_of.size = λ n. subst (λ (o : Option ℕ). HasSize o (ty c.args.child, b)) (sym c.in-Some-size_of.ensures) (normal_size c.args.levels (ty c.args.child) b bytes (law.1 n)) in
-    (λ h. absurd (c.if-bytes-size.false (eqb-true (length b) c.in-Some-size_of.size h)), λ n. absurd (c.if-bytes-size.false (size n)))
+    let law = fixed_just c.args.levels c.in-Some-fixed_size.size (ty c.args.child) b bytes (omega (arith, c.in-Some.ensures.cases.1)) (sym c.in-Some-fixed_size.ensures) in
+    let size : IsNormalWithin (suc c.args.levels) (maybe (ty c.args.child)) b → length b ≡ c.in-Some-fixed_size.size = λ n. subst (λ (o : Option ℕ). HasSize o (ty c.args.child, b)) (sym c.in-Some-fixed_size.ensures) (normal_size c.args.levels (ty c.args.child) b bytes (law.1 n)) in
+    (λ h. absurd (c.if-bytes-size.false (eqb-true (length b) c.in-Some-fixed_size.size h)), λ n. absurd (c.if-bytes-size.false (size n)))
 
 pub maybe::is_normal_maybe-returns-then-last-eq0-clause-normal : goal.maybe::is_normal_maybe-returns-then-last-eq0-clause-normal
 maybe::is_normal_maybe-returns-then-last-eq0-clause-normal t c =

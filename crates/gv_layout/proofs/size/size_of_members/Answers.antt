@@ -17,8 +17,8 @@ pub returns-then-is_none : goal.returns-then-is_none
 returns-then-is_none c =
     let t = ty c.args.of in
     let left = subst (λ (ts : List Ty). IsUnsizedBy t (types_from ts)) c.in-Some.ensures.steps c.loop-member.invariant in
-    let none = none_if c.type_info.result.size (c.is_none.ensures ∙ ap not c.if-is_none.true) in
-    sym (unsized_first t (ty c.in-Some.member) (types_from (members_left c.next.new.self)) left (sym c.type_info.ensures.size ∙ none))
+    let none = none_if c.size_without_members.result (c.is_none.ensures ∙ ap not c.if-is_none.true) in
+    sym (unsized_first t (ty c.in-Some.member) (types_from (members_left c.next.new.self)) left (sym c.size_without_members.ensures ∙ none))
 
 pub loop-member-preserved : goal.loop-member-preserved
 loop-member-preserved c =

@@ -19,21 +19,18 @@ returns-in_default c =
     lost_next (length self.bytes.now) self.body self.width self.used self.bytes.now self.previous (ty c.in_ok-member.member)
     (members_left c.next.new.self) (members_left self.members) (child_of c.nowhere-nowhere.result) c.in_ok-member.ensures.steps c.in_default.is c.nowhere-nowhere.ensures
 
-pub aligned-from-requires-clause-some : goal.aligned-from-requires-clause-some
-aligned-from-requires-clause-some c = omega (arith, c.type_info-info.ensures.alignment, alignment_pos (ty c.in_ok-member.member))
-
 pub returns-in_default-end : goal.returns-in_default-end
 returns-in_default-end c =
     let self = c.args.self in
     let n = length self.bytes.now in
     let xs = members_left c.next.new.self in
-    unknown_next n self.body self.width self.used c.in-Some.previous c.aligned-from.result self.bytes.now self.previous (ty c.in_ok-member.member)
+    unknown_next n self.body self.width self.used c.in-Some.previous c.begun-from.result.0 self.bytes.now self.previous (ty c.in_ok-member.member)
     xs (members_left self.members) (child_of c.nowhere-nowhere.result) c.in_ok-member.ensures.steps c.in-Some.is
-    (c.aligned-from.ensures ∙ ap (λ a. clamp n (round_up a c.in-Some.previous)) c.type_info-info.ensures.alignment)
+    c.begun-from.ensures.from
     (c.in_default-end.ensures.end
-    ∙ (ap (λ o. option_map (clamp n) (end_by self.width self.bytes.now self.used c.aligned-from.result o c.is_empty-is_last.result)) c.type_info-info.ensures.size
+    ∙ (ap (λ o. option_map (clamp n) (end_by self.width self.bytes.now self.used c.begun-from.result.0 o c.is_empty-is_last.result)) c.begun-from.ensures.size
     ∙ ap (option_map (clamp n)) (end_by-member_end c.is_empty-is_last.result xs c.is_empty-is_last.ensures
-    self.width self.used c.aligned-from.result self.bytes.now (fixed_size (ty c.in_ok-member.member)))))
+    self.width self.used c.begun-from.result.0 self.bytes.now (fixed_size (ty c.in_ok-member.member)))))
     c.nowhere-nowhere.ensures
 
 pub returns-in_default-in_order : goal.returns-in_default-in_order
@@ -42,13 +39,13 @@ returns-in_default-in_order c =
     let n = length self.bytes.now in
     let t = ty c.in_ok-member.member in
     let xs = members_left c.next.new.self in
-    out_next n self.body self.width self.used c.in-Some.previous c.aligned-from.result c.in-Some-end.to self.bytes.now self.previous t
+    out_next n self.body self.width self.used c.in-Some.previous c.begun-from.result.0 c.in-Some-end.to self.bytes.now self.previous t
     xs (members_left self.members) (child_of c.nowhere-nowhere.result) self.inside c.in_ok-member.ensures.steps c.in-Some.is
-    (c.aligned-from.ensures ∙ ap (λ a. clamp n (round_up a c.in-Some.previous)) c.type_info-info.ensures.alignment)
+    c.begun-from.ensures.from
     (c.in-Some-end.ensures.end
-    ∙ (ap (λ o. option_map (clamp n) (end_by self.width self.bytes.now self.used c.aligned-from.result o c.is_empty-is_last.result)) c.type_info-info.ensures.size
+    ∙ (ap (λ o. option_map (clamp n) (end_by self.width self.bytes.now self.used c.begun-from.result.0 o c.is_empty-is_last.result)) c.begun-from.ensures.size
     ∙ ap (option_map (clamp n)) (end_by-member_end c.is_empty-is_last.result xs c.is_empty-is_last.ensures
-    self.width self.used c.aligned-from.result self.bytes.now (fixed_size t))))
+    self.width self.used c.begun-from.result.0 self.bytes.now (fixed_size t))))
     c.in_default-in_order.ensures.order c.nowhere-nowhere.ensures
 
 pub returns : goal.returns
@@ -57,13 +54,13 @@ returns c =
     let n = length self.bytes.now in
     let t = ty c.in_ok-member.member in
     let xs = members_left c.next.new.self in
-    known_next n self.body self.width self.used c.in-Some-end.used c.in-Some.previous c.aligned-from.result c.in-Some-end.to self.bytes.now self.previous t
+    known_next n self.body self.width self.used c.in-Some-end.used c.in-Some.previous c.begun-from.result.0 c.in-Some-end.to self.bytes.now self.previous t
     xs (members_left self.members) (child_of c.in-Some-in_order.place) self.inside c.in_ok-member.ensures.steps c.in-Some.is
-    (c.aligned-from.ensures ∙ ap (λ a. clamp n (round_up a c.in-Some.previous)) c.type_info-info.ensures.alignment)
+    c.begun-from.ensures.from
     (c.in-Some-end.ensures.end
-    ∙ (ap (λ o. option_map (clamp n) (end_by self.width self.bytes.now self.used c.aligned-from.result o c.is_empty-is_last.result)) c.type_info-info.ensures.size
+    ∙ (ap (λ o. option_map (clamp n) (end_by self.width self.bytes.now self.used c.begun-from.result.0 o c.is_empty-is_last.result)) c.begun-from.ensures.size
     ∙ ap (option_map (clamp n)) (end_by-member_end c.is_empty-is_last.result xs c.is_empty-is_last.ensures
-    self.width self.used c.aligned-from.result self.bytes.now (fixed_size t))))
-    (counted c.is_empty-is_last.result xs self.used c.in-Some-end.used c.type_info-info.result.size (fixed_size t)
-    c.is_empty-is_last.ensures c.type_info-info.ensures.size c.in-Some-end.ensures.used)
+    self.width self.used c.begun-from.result.0 self.bytes.now (fixed_size t))))
+    (counted c.is_empty-is_last.result xs self.used c.in-Some-end.used c.begun-from.result.1 (fixed_size t)
+    c.is_empty-is_last.ensures c.begun-from.ensures.size c.in-Some-end.ensures.used)
     c.in-Some-in_order.ensures.order c.in-Some-in_order.ensures.place

@@ -1,10 +1,15 @@
-use Rattle.std.proofs.Common.{sym, ◌∙◌}
+use Rattle.std.proofs.Common.{sym, ◌∙◌, eqb-true}
 use Rattle.gv_types.specs.TypeStr.{ty}
-use Rattle.gv_layout.proofs.Cuts.{no_children, array_class, maybe_class, cut_array, cut_elements, cut_maybe, cut_members}
+use Rattle.gv_layout.proofs.Cuts.{no_children, array_class, maybe_class, cut_array, cut_elements, cut_maybe, cut_members, no_elements}
 use Rattle.gv_layout.proofs.walk.Walk.new.Goals as goal
 
 pub returns-in-Basic : goal.returns-in-Basic
 returns-in-Basic c = c.none.ensures ∙ no_children (ty c.args.of) c.args.bytes.now c.class.result c.class.ensures c.in-Basic.is c.requires
+
+pub returns-then-is_empty : goal.returns-then-is_empty
+returns-then-is_empty c =
+    let of = array_class ty (ty c.args.of) c.class.result c.element.result c.unwrap-element.result c.class.ensures c.in-Array.is c.element.ensures c.unwrap-element.ensures in
+    c.none-then-is_empty.ensures ∙ no_elements (ty c.args.of) (ty c.unwrap-element.result) c.args.bytes.now of (eqb-true _ _ (sym c.if-is_empty.ensures))
 
 pub returns-in-Some : goal.returns-in-Some
 returns-in-Some c =
