@@ -12,15 +12,6 @@ use Rattle.gv_model.specs.Normal.{IsEncoded}
 use Rattle.gv_normal.specs.InPlace.{IsNormalWithin, HasMembers}
 use Rattle.gv_normal.proofs.BasicBytes.{basic_within}
 
-pub arrays_vary : (t : Ty) → (class_of t ≡ classes.Array) ⊎ (class_of t ≡ classes.Maybe) → None ≡ fixed_size t
-unfolding fixed_size
-arrays_vary (array t) h = refl
-arrays_vary (maybe t) h = refl
-arrays_vary (basic k) h = elim h [ inl e ↦ absurd cc | inr e ↦ absurd cc ]
-arrays_vary variant h = refl
-arrays_vary (tuple ts) h = elim h [ inl e ↦ absurd cc | inr e ↦ absurd cc ]
-arrays_vary (entry k t) h = elim h [ inl e ↦ absurd cc | inr e ↦ absurd cc ]
-
 pub fixed_members : (t : Ty) (n : ℕ) → ((k : BasicType) → class_of t ≡ classes.Basic k → ⊥) → fixed_size t ≡ Some n → HasMembers t
 unfolding fixed_size
 fixed_members (basic k) n h e = absurd (h (basic_type k) refl)
