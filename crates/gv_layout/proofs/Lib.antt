@@ -1,4 +1,5 @@
 pub mod Lists
+pub mod OpenTypes
 pub mod Sizes
 pub mod MemberWalk
 pub mod Numbers

@@ -98,41 +98,6 @@ of_members (array t) c e (inr h) = absurd cc
 of_members (maybe t) c e (inl h) = absurd cc
 of_members (maybe t) c e (inr h) = absurd cc
 
--- a member without a fixed size leaves its tuple or entry without one
-abbrev pub AreUnsized : Types → Type 0
-AreUnsized ts = (q : ℕ) → fixed_end ts q ≡ None
-
--- where the members in rest alone tell that a type has no fixed size
-abbrev pub IsUnsizedBy : Ty → Types → Type 0
-IsUnsizedBy t rest = AreUnsized rest → fixed_size t ≡ None
-
-unsized_padded : (t : Ty) → IsOfMembers t → IsUnsizedBy t (members t)
-unsized_padded t of h = of.sized ∙ ap (padded (greatest_alignment (members t))) (h 0)
-
-no_members_unsized : AreUnsized end → ⊥
-unfolding fixed_end
-no_members_unsized h = none-some 0 (sym (h 0))
-
-pub unsized_by_members : (t : Ty) → IsUnsizedBy t (members t)
-unsized_by_members (tuple ts) = unsized_padded (tuple ts) (of_tuple ts)
-unsized_by_members (entry k t) = unsized_padded (entry k t) (of_entry k t)
-unsized_by_members (basic k) = λ h. absurd (no_members_unsized h)
-unsized_by_members variant = λ h. absurd (no_members_unsized h)
-unsized_by_members (array t) = λ h. absurd (no_members_unsized h)
-unsized_by_members (maybe t) = λ h. absurd (no_members_unsized h)
-
-pub unsized_first : (t u : Ty) (rest : Types) → IsUnsizedBy t (member u rest) → fixed_size u ≡ None → fixed_size t ≡ None
-unfolding fixed_end
-unsized_first t u rest h e = h (λ q. ap (option_and_then (λ s. fixed_end rest (round_up (alignment u) q + s))) e)
-
-pub unsized_after : (t u : Ty) (rest : Types) → IsUnsizedBy t (member u rest) → IsUnsizedBy t rest
-unfolding fixed_end
-unsized_after t u rest h g = h (λ q. go q (fixed_size u))
-  where
-    go : (q : ℕ) (o : Option ℕ) → option_and_then (λ s. fixed_end rest (round_up (alignment u) q + s)) o ≡ None
-    go q None = refl
-    go q (Some s) = g (round_up (alignment u) q + s)
-
 -- ---- how large sizes get: each byte of a type's text stands for at most 16 bytes
 
 abbrev pub IsSmall : Ty → Type 0
@@ -269,12 +234,3 @@ over_element (entry k t) u e = absurd (none-some u e)
 pub over_some : {X : Type 0} (f : X → Ty) (t : Ty) (o : Option X) (x : X) → option_map f o ≡ element_of t → o ≡ Some x → IsOver t (f x)
 over_some f t None x e h = absurd (none-some x h)
 over_some f t (Some y) x e h = over_element t (f x) (sym e ∙ ap (λ z. Some (f z)) (same_Some y x h))
-
-pub no_size : (t : Ty) → (class_of t ≡ classes.Variant) ⊎ ((class_of t ≡ classes.Array) ⊎ (class_of t ≡ classes.Maybe)) → None ≡ fixed_size t
-unfolding fixed_size
-no_size variant h = refl
-no_size (array t) h = refl
-no_size (maybe t) h = refl
-no_size (basic k) h = elim h [ inl e ↦ absurd cc | inr (inl e) ↦ absurd cc | inr (inr e) ↦ absurd cc ]
-no_size (tuple ts) h = elim h [ inl e ↦ absurd cc | inr (inl e) ↦ absurd cc | inr (inr e) ↦ absurd cc ]
-no_size (entry k t) h = elim h [ inl e ↦ absurd cc | inr (inl e) ↦ absurd cc | inr (inr e) ↦ absurd cc ]

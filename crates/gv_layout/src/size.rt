@@ -1,9 +1,11 @@
 //! Alignments and sizes of types (GVariant Specification, "Alignment", "Fixed Size", "Framing Offsets").
 ghost use Rattle.std.specs.Prelude.{◌≡◌, ◌<◌, ◌≤◌, ◌+◌, ◌^◌, IfSome, option_and_then, option_map};
+ghost use Rattle.std.specs.List.{list_any};
 ghost use Rattle.gv_model.specs.Ty.{members};
 ghost use Rattle.gv_model.specs.Layout.{basic_size, or_one, alignment, greatest_alignment, fixed_size, fixed_end, padded, round_up, offset_width};
 ghost use Rattle.gv_types.specs.Classes.{basic_of};
 ghost use Rattle.gv_types.specs.TypeStr.{ty};
+ghost use Rattle.gv_layout.specs.OpenLetters.{is_open_letter};
 
 use gv_types::{BasicType, Class, TypeStr};
 
@@ -18,36 +20,29 @@ pub fn alignment(of: TypeStr<'_>) -> u8
 
 /// The number of bytes of each value of this type, or None where they differ in it.
 ///
-/// It walks the members of a tuple or an entry as far as to the first that has no fixed size, and no other type's text.
+/// It looks at the letters of the type's text, as far as to the first of a type that has no fixed size. Where there is none
+/// it walks the text once for each level that the type nests.
 pub fn fixed_size(of: TypeStr<'_>) -> Option<usize>
     ensures { result ≡ fixed_size (ty of.entry) }
 {
-    match of.class() {
-        Class::Tuple | Class::Entry => size_of_members(of),
-        _ => size_without_members(of),
-    }
-}
-
-/// The size of each value of a tuple's or an entry's type.
-fn size_of_members(of: TypeStr<'_>) -> Option<usize>
-    ensures { result ≡ fixed_size (ty of.entry) }
-{
-    for member in of.members() {
-        if size_without_members(member).is_none() {
-            return None;
-        }
+    if has_open_letter(of.as_str().as_bytes()) {
+        return None;
     }
     type_info(of).size
 }
 
-/// The size of each value of a type, found at once unless it has members.
-pub(crate) fn size_without_members(of: TypeStr<'_>) -> Option<usize>
-    ensures { result ≡ fixed_size (ty of.entry) }
+/// Whether a letter of the text is of a type that has no fixed size.
+fn has_open_letter(text: &[u8]) -> bool
+    ensures { result ≡ list_any is_open_letter text.now }
 {
-    match of.class() {
-        Class::Variant | Class::Array | Class::Maybe => None,
-        _ => type_info(of).size,
-    }
+    text.iter().any(|letter| is_open_letter(*letter))
+}
+
+/// Whether types that begin with this letter have no fixed size.
+fn is_open_letter(letter: u8) -> bool
+    ensures { result ≡ is_open_letter letter }
+{
+    matches!(letter, b'a' | b'g' | b'm' | b'o' | b's' | b'v')
 }
 
 /// The width in bytes of each framing offset of a container of this many bytes: 0, 1, 2, 4 or 8.

@@ -11,7 +11,7 @@ ghost use Rattle.gv_layout.specs.Bodies.{placed_body};
 
 use crate::offset::framing_offset;
 use crate::place::Place;
-use crate::size::{fixed_size, offset_width, size_without_members};
+use crate::size::{fixed_size, offset_width};
 use crate::walk::begun;
 use gv_types::{Members, TypeStr};
 
@@ -174,7 +174,7 @@ fn offset_count(of: TypeStr<'_>) -> usize
         if is_open {
             count += 1;
         }
-        is_open = size_without_members(member).is_none();
+        is_open = fixed_size(member).is_none();
     }
     count
 }

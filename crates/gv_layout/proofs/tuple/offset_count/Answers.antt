@@ -20,12 +20,12 @@ overflow_add-count c =
 pub loop-member-preserved : goal.loop-member-preserved
 loop-member-preserved c =
     count_step c.loop-member.count c.if-is_open.count c.loop-member.is_open c.is_none-is_open.result (ty c.in-Some.member)
-    (members_left c.next.new.self) (members_left c.loop-member.member-iterator) c.size_without_members.result (offset_count (members (ty c.args.of))) c.in-Some.ensures.steps
+    (members_left c.next.new.self) (members_left c.loop-member.member-iterator) c.fixed_size.result (offset_count (members (ty c.args.of))) c.in-Some.ensures.steps
     (elim c.if-is_open.branch [
       | then-is_open w ↦ counted_open c.loop-member.count c.if-is_open.count c.loop-member.is_open w.if-is_open.true w.count-is
       | else-is_open w ↦ counted_shut c.loop-member.count c.if-is_open.count c.loop-member.is_open w.if-is_open.false w.count-is
     ])
-    c.is_none-is_open.ensures c.size_without_members.ensures c.loop-member.invariant
+    c.is_none-is_open.ensures c.fixed_size.ensures c.loop-member.invariant
 
 pub returns-clause-few : goal.returns-clause-few
 returns-clause-few c =
