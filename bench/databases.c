@@ -2,22 +2,38 @@
  *
  *   databases size KEYS          how many bytes the database has
  *   databases CASE KEYS          one call that callgrind leaves out, and then one that it counts
+ *   databases gvdb-CASE KEYS     the same by GLib's gvdb, on the same bytes and by the same paths
  *
- * The keys are counted out, so that each run measures the same bytes.
+ * The keys are counted out, so that each run measures the same bytes. GLib keeps gvdb to itself: its static library has it, and no header names it.
  */
+#include <glib.h>
 #include <stdbool.h>
 #include <stdint.h>
 #include <stdio.h>
 #include <stdlib.h>
 #include <string.h>
+#include <unistd.h>
 #include <valgrind/callgrind.h>
 
 typedef const uint8_t *bytes_at;
 
+bool dconf_bench_open(bytes_at file, size_t file_len);
 bool dconf_bench_find(bytes_at file, size_t file_len, bytes_at name, size_t name_len, size_t *len);
 bool dconf_bench_check(bytes_at file, size_t file_len, bool *sound);
 bool dconf_bench_database(bytes_at paths, size_t paths_len, uint8_t *room, size_t room_len, size_t *len);
 bool dconf_bench_map(bytes_at paths, size_t paths_len);
+
+typedef struct GvdbTable GvdbTable;
+typedef struct GvdbItem GvdbItem;
+
+GvdbTable *gvdb_table_new_from_bytes(GBytes *bytes, gboolean trusted, GError **error);
+void gvdb_table_free(GvdbTable *table);
+GVariant *gvdb_table_get_value(GvdbTable *table, const char *key);
+GHashTable *gvdb_hash_table_new(GHashTable *parent, const char *key);
+GvdbItem *gvdb_hash_table_insert(GHashTable *table, const char *key);
+void gvdb_item_set_value(GvdbItem *item, GVariant *value);
+void gvdb_item_set_parent(GvdbItem *item, GvdbItem *parent);
+gboolean gvdb_table_write_contents(GHashTable *table, const char *file, gboolean byteswap, GError **error);
 
 /* The longest path that is made here, with its zero byte; and a safe bound of what a path takes in the file: its value,
  * its key and the items, numbers and names of itself and two directories. */
@@ -28,6 +44,9 @@ typedef struct {
     uint8_t *paths, *file;
     size_t paths_len, file_room, file_len;
     char there[LONGEST], missing[LONGEST];
+    /* What gvdb reads: the same bytes, and a table of them that is open. */
+    GBytes *bytes;
+    GvdbTable *table;
 } Input;
 
 /* Directories of up to 16 keys in directories of up to 16 of them: a lookup then walks two parents, as it mostly does
@@ -58,6 +77,10 @@ static Input input_of(size_t keys) {
 
 /* Each case says whether it found what it must, so that no wrong answer is measured. */
 
+static bool open_file(Input *in) {
+    return dconf_bench_open(in->file, in->file_len);
+}
+
 static bool find(const Input *in, const char *name) {
     size_t len = 0;
     bool found = dconf_bench_find(in->file, in->file_len, (bytes_at)name, strlen(name), &len);
@@ -86,10 +109,113 @@ static bool map_and_write(Input *in) {
         && in->file_len <= in->file_room;
 }
 
+/* dconf reads without trust in the file, too. */
+static GvdbTable *gvdb_opened(const Input *in) {
+    return gvdb_table_new_from_bytes(in->bytes, FALSE, NULL);
+}
+
+static bool gvdb_open(Input *in) {
+    GvdbTable *table = gvdb_opened(in);
+    gvdb_table_free(table);
+    return table != NULL;
+}
+
+/* Whether a name's value is a text of so many bytes, with its zero byte. */
+static bool gvdb_has(GvdbTable *table, const char *name) {
+    GVariant *value = gvdb_table_get_value(table, name);
+    if (value == NULL)
+        return false;
+    bool is_it = g_variant_get_size(value) == strlen(name) + 1;
+    g_variant_unref(value);
+    return is_it;
+}
+
+static bool gvdb_there(Input *in) {
+    GvdbTable *table = gvdb_opened(in);
+    bool found = gvdb_has(table, in->there);
+    gvdb_table_free(table);
+    return found;
+}
+
+static bool gvdb_missing(Input *in) {
+    GvdbTable *table = gvdb_opened(in);
+    bool found = gvdb_has(table, in->missing);
+    gvdb_table_free(table);
+    return !found;
+}
+
+static bool gvdb_there_open(Input *in) {
+    return gvdb_has(in->table, in->there);
+}
+
+static bool gvdb_missing_open(Input *in) {
+    return !gvdb_has(in->table, in->missing);
+}
+
+/* The directory that a name lies in, which is made where it isn't there, as dconf does it. */
+static GvdbItem *gvdb_directory(GHashTable *table, const char *name) {
+    size_t len = strlen(name);
+    do
+        len--;
+    while (len > 0 && name[len - 1] != '/');
+    if (len == 0)
+        return NULL;
+    char *directory = g_strndup(name, len);
+    GvdbItem *item = g_hash_table_lookup(table, directory);
+    if (item == NULL) {
+        item = gvdb_hash_table_insert(table, directory);
+        GvdbItem *above = gvdb_directory(table, directory);
+        if (above != NULL)
+            gvdb_item_set_parent(item, above);
+    }
+    g_free(directory);
+    return item;
+}
+
+static GHashTable *gvdb_map_of(const Input *in) {
+    GHashTable *table = gvdb_hash_table_new(NULL, NULL);
+    const char *end = (const char *)in->paths + in->paths_len;
+    for (const char *path = (const char *)in->paths; path < end; path += strlen(path) + 1) {
+        GvdbItem *item = gvdb_hash_table_insert(table, path);
+        gvdb_item_set_parent(item, gvdb_directory(table, path));
+        gvdb_item_set_value(item, g_variant_new_string(path));
+    }
+    return table;
+}
+
+static bool gvdb_map(Input *in) {
+    g_hash_table_unref(gvdb_map_of(in));
+    return true;
+}
+
+/* gvdb hands its bytes to nothing but a file. */
+static bool gvdb_map_and_write(Input *in) {
+    char name[LONGEST];
+    snprintf(name, sizeof name, "/tmp/bench-gvdb-%d", getpid());
+    GHashTable *table = gvdb_map_of(in);
+    bool written = gvdb_table_write_contents(table, name, FALSE, NULL);
+    g_hash_table_unref(table);
+    return written && remove(name) == 0;
+}
+
 static const struct {
     const char *name;
     bool (*run)(Input *in);
-} CASES[] = {{"there", find_there}, {"missing", find_missing}, {"check", check}, {"map", map}, {"write", map_and_write}};
+} CASES[] = {
+    {"open", open_file},
+    {"there", find_there},
+    {"missing", find_missing},
+    {"check", check},
+    {"map", map},
+    {"write", map_and_write},
+    {"gvdb-open", gvdb_open},
+    {"gvdb-there", gvdb_there},
+    {"gvdb-missing", gvdb_missing},
+    {"gvdb-there-open", gvdb_there_open},
+    {"gvdb-missing-open", gvdb_missing_open},
+    {"gvdb-map", gvdb_map},
+    {"gvdb-write", gvdb_map_and_write},
+};
 
 /* The first call is left out: it has the cost of first uses, such as those of the loader and of the allocator. */
 static int count(bool (*run)(Input *in), Input *in) {
@@ -110,6 +236,8 @@ int main(int argc, char **argv) {
         printf("%zu\n", in.file_len);
         return 0;
     }
+    in.bytes = g_bytes_new_static(in.file, in.file_len);
+    in.table = gvdb_opened(&in);
     for (size_t i = 0; i < sizeof CASES / sizeof *CASES; i++)
         if (strcmp(argv[1], CASES[i].name) == 0)
             return count(CASES[i].run, &in);

@@ -29,6 +29,8 @@ fn values_and_locks_are_where_they_were_put(rt: HostRuntime) -> Result<(), Fail>
     assert!(rt; map.get(path) == Some(FIVE) && map.get(other) == None && !map.is_locked(lock));
     map.insert(path, &[])?;
     assert!(rt; map.get(path) == Some([].as_slice()) && !map.is_locked(lock));
+    map.insert_owned(path, FIVE.to_vec(rt.alloc())?)?;
+    assert!(rt; map.get(path) == Some(FIVE) && map.key_count() == 1);
     let map = fives(rt.alloc(), &[], &["/a/k", "/a/k"])?;
     assert!(rt; map.get(path) == None && map.is_locked(lock));
     assert!(rt;

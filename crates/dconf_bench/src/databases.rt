@@ -17,6 +17,14 @@ use std::alloc::Global;
 /// What comes after a text in a `v` that holds it: the zero byte that ends it, and the text of its type.
 const TYPE: &[u8] = b"\0\0s";
 
+/// Opens a database. False where the bytes are none.
+#[unsafe(no_mangle)]
+pub extern "C" fn dconf_bench_open(file: &[u8]) -> bool
+    ensures { IsTrue result ↔ IsDatabase file.now }
+{
+    Table::open(file).is_ok()
+}
+
 /// How many bytes the value of this name has. False where there is no such database, name or value.
 #[unsafe(no_mangle)]
 pub extern "C" fn dconf_bench_find(file: &[u8], name: &[u8], len: &mut usize) -> bool
@@ -101,8 +109,8 @@ fn map_of(alloc: Global, paths: &[u8]) -> Option<Map>
 fn add(alloc: Global, path: &str, map: &mut Map) -> Option<()>
     ensures { IfSome result (λ _. map.new ≡ with_value map.old path.now (text_value path.now)) }
 {
-    let mut value = path.as_bytes().to_vec(alloc).ok()?;
+    let mut value = Vec::with_capacity(alloc, path.len() + TYPE.len()).ok()?;
+    value.extend_from_slice(path.as_bytes()).ok()?;
     value.extend_from_slice(TYPE).ok()?;
-    map.insert(KeyPath::parse(path).ok()?, value.as_slice())
-        .ok()
+    map.insert_owned(KeyPath::parse(path).ok()?, value).ok()
 }

@@ -245,6 +245,7 @@ mod tests {
     use super::*;
     use crate::databases::{
         dconf_bench_check, dconf_bench_database, dconf_bench_find, dconf_bench_map,
+        dconf_bench_open,
     };
     use std::test::Fail;
 
@@ -285,6 +286,7 @@ mod tests {
         assert!(rt; dconf_bench_map(alloc, b"/a/k\0/b\0"));
         assert!(rt; dconf_bench_database(alloc, b"/a/k\0/b\0", &mut room, &mut len));
         let file = room.get(..len).unwrap_or(&[]);
+        assert!(rt; dconf_bench_open(file));
         assert!(rt; dconf_bench_find(file, b"/a/k", &mut len));
         assert_eq!(rt; len, 5);
         let mut sound = false;

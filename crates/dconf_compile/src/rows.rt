@@ -24,7 +24,7 @@ pub(crate) fn add_row(alloc: Global, row: &Row<'_>, settings: &mut Map) -> Resul
     match KeyPath::parse(&path) {
         Ok(path) => {
             let value = stored(alloc, row.text)?;
-            settings.insert(path, &value)?;
+            settings.insert_owned(path, value)?;
             Ok(())
         }
         // The rules of keyfiles leave no other fault.

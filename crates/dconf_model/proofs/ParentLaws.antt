@@ -34,7 +34,7 @@ later_chain t i q (p ∷ ps) h e =
 not_own_parent : (t : Table) (i : ℕ) (ps : List ℕ) → LeadsUp t i ps → list_any (eqb i) ps ≡ false
 not_own_parent t i ps h = false_from_ne_true _ (λ e. let r = later_chain t i i ps h e in let same : length ps ≡ length r.0 = ap (λ (l : List ℕ). length l) (one_chain t i ps r.0 h r.2) in omega (arith, r.1, same))
 
-all_other : (i : ℕ) (ps : List ℕ) → list_any (eqb i) ps ≡ false → AllByRecursion (λ y. eqb i y ≡ false) ps
+pub all_other : (i : ℕ) (ps : List ℕ) → list_any (eqb i) ps ≡ false → AllByRecursion (λ y. eqb i y ≡ false) ps
 all_other i [] e = tt
 all_other i (p ∷ ps) e =
     by_bool (eqb i p) (AllByRecursion (λ y. eqb i y ≡ false) (p ∷ ps))

@@ -1,7 +1,9 @@
 pub mod Lists
 pub mod OpenTypes
+pub mod AlignedTypes
 pub mod Sizes
 pub mod MemberWalk
+pub mod InfoSteps
 pub mod Numbers
 pub mod Widths
 pub mod Alike

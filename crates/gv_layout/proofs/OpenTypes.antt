@@ -25,7 +25,7 @@ open_basic string = refl
 open_basic path = refl
 open_basic signature = refl
 
-or_nothing : (b : Bool) → (b || false) ≡ b
+pub or_nothing : (b : Bool) → (b || false) ≡ b
 or_nothing true = refl
 or_nothing false = refl
 

@@ -3,7 +3,7 @@ use Rattle.std.proofs.Common.{◌≡◌, ◌⊎◌, inl, inr, ℕ, ◌+◌, ◌-
 use Rattle.std.specs.Prelude.{option_map, option_and_then, max}
 use Rattle.std.proofs.Math.Nat.{div-mul-le_self, lt-div-mul-add}
 use Rattle.std.proofs.lemmas.Option.{same_Some, none-some}
-use Rattle.gv_model.specs.Ty.{Ty, Types, Basic, nesting, spelling, spellings, members}
+use Rattle.gv_model.specs.Ty.{Ty, Types, Basic, spelling, spellings, members}
 use Rattle.gv_model.specs.Ty.Ty.{basic, variant, array, maybe, tuple, entry}
 use Rattle.gv_model.specs.Ty.Types.{end, member}
 use Rattle.gv_model.specs.Layout.{basic_size, alignment, greatest_alignment, fixed_size, fixed_end, padded, round_up, or_one}
@@ -14,7 +14,6 @@ use Rattle.gv_types.specs.declared.class.BasicType.{BasicType}
 use Rattle.gv_types.specs.declared.class.Class.{Class}
 use Rattle.gv_types.specs.declared.class.Class.TheVariants as classes
 use Rattle.gv_types.specs.Classes.{class_of, basic_of}
-use Rattle.gv_types.specs.TypeStr.{element_of}
 use Rattle.gv_types.proofs.ClassLaws.{basic_class}
 
 -- ---- alignments
@@ -198,39 +197,17 @@ pub alignment-basic : (t : Ty) (b : BasicType) → classes.Basic b ≡ class_of 
 unfolding alignment
 alignment-basic t b e = ap alignment (basic_class t b e)
 
-pub alignment-variant : (t : Ty) → classes.Variant ≡ class_of t → alignment t ≡ 8
-unfolding alignment
-alignment-variant variant e = refl
-alignment-variant (basic k) e = absurd cc
-alignment-variant (array t) e = absurd cc
-alignment-variant (maybe t) e = absurd cc
-alignment-variant (tuple ts) e = absurd cc
-alignment-variant (entry k t) e = absurd cc
-
-pub fixed_size-variant : (t : Ty) → classes.Variant ≡ class_of t → None ≡ fixed_size t
-fixed_size-variant variant e = sym no_size-variant
-fixed_size-variant (basic k) e = absurd cc
-fixed_size-variant (array t) e = absurd cc
-fixed_size-variant (maybe t) e = absurd cc
-fixed_size-variant (tuple ts) e = absurd cc
-fixed_size-variant (entry k t) e = absurd cc
-
--- an array or a maybe is aligned as its element is, nests deeper, and has no fixed size
-pub record IsOver (t u : Ty) : Type 0 where
-  pub aligned : alignment t ≡ alignment u
-  pub deeper : nesting u < nesting t
-  pub varies : None ≡ fixed_size t
-
-pub over_element : (t u : Ty) → element_of t ≡ Some u → IsOver t u
-unfolding alignment nesting fixed_size
-over_element (array v) u e = let same : v ≡ u = same_Some v u e in record { aligned = ap alignment same; deeper = omega (arith, ap nesting same); varies = refl }
-over_element (maybe v) u e = let same : v ≡ u = same_Some v u e in record { aligned = ap alignment same; deeper = omega (arith, ap nesting same); varies = refl }
-over_element (basic k) u e = absurd (none-some u e)
-over_element variant u e = absurd (none-some u e)
-over_element (tuple ts) u e = absurd (none-some u e)
-over_element (entry k t) u e = absurd (none-some u e)
-
--- the element that the code finds is that of the type
-pub over_some : {X : Type 0} (f : X → Ty) (t : Ty) (o : Option X) (x : X) → option_map f o ≡ element_of t → o ≡ Some x → IsOver t (f x)
-over_some f t None x e h = absurd (none-some x h)
-over_some f t (Some y) x e h = over_element t (f x) (sym e ∙ ap (λ z. Some (f z)) (same_Some y x h))
+-- a type of these classes has no fixed size
+pub no_size : (t : Ty) (c : Class) → c ≡ class_of t → (c ≡ classes.Variant) ⊎ ((c ≡ classes.Array) ⊎ (c ≡ classes.Maybe)) → fixed_size t ≡ None
+no_size variant c e h = no_size-variant
+no_size (array t) c e h = no_size-array t
+no_size (maybe t) c e h = no_size-maybe t
+no_size (basic k) c e (inl h) = absurd cc
+no_size (basic k) c e (inr (inl h)) = absurd cc
+no_size (basic k) c e (inr (inr h)) = absurd cc
+no_size (tuple ts) c e (inl h) = absurd cc
+no_size (tuple ts) c e (inr (inl h)) = absurd cc
+no_size (tuple ts) c e (inr (inr h)) = absurd cc
+no_size (entry k t) c e (inl h) = absurd cc
+no_size (entry k t) c e (inr (inl h)) = absurd cc
+no_size (entry k t) c e (inr (inr h)) = absurd cc

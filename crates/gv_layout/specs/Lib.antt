@@ -1,3 +1,5 @@
+pub mod AlignedLetters
 pub mod Bodies
 pub mod OpenLetters
 pub mod Places
+pub mod TypesAt

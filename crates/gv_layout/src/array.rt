@@ -65,7 +65,7 @@ impl<'a> FixedSize<'a> {
         }
         match fixed_size(child) {
             Some(size) if size == len => FixedSize::one(child, len, len),
-            None => FixedSize::one(child, len - 1, len),
+            None => FixedSize::one(child.as_open(), len - 1, len),
             Some(_) => FixedSize::none(child),
         }
     }

@@ -1,30 +1,67 @@
 //! Alignments and sizes of types (GVariant Specification, "Alignment", "Fixed Size", "Framing Offsets").
-ghost use Rattle.std.specs.Prelude.{◌≡◌, ◌<◌, ◌≤◌, ◌+◌, ◌^◌, IfSome, option_and_then, option_map};
+ghost use Rattle.std.specs.Prelude.{◌≡◌, ◌<◌, ◌≤◌, ◌+◌, ◌^◌, None, IfSome, length, drop, option_and_then, option_map};
 ghost use Rattle.std.specs.List.{list_any};
 ghost use Rattle.gv_model.specs.Ty.{members};
 ghost use Rattle.gv_model.specs.Layout.{basic_size, or_one, alignment, greatest_alignment, fixed_size, fixed_end, padded, round_up, offset_width};
-ghost use Rattle.gv_types.specs.Classes.{basic_of};
+ghost use Rattle.gv_model.specs.TypeText.{seen};
+ghost use Rattle.gv_types.specs.Classes.{basic_of, class_of};
+ghost use Rattle.gv_types.specs.declared.class.Class.TheVariants.{Tuple, Entry};
+ghost use Rattle.gv_types.specs.Fronts.{BeginsFront, front};
 ghost use Rattle.gv_types.specs.TypeStr.{ty};
+ghost use Rattle.gv_layout.specs.TypesAt.{IsInfoAt};
 ghost use Rattle.gv_layout.specs.OpenLetters.{is_open_letter};
+ghost use Rattle.gv_layout.specs.AlignedLetters.{letter_alignment, is_aligned_letter};
 
 use gv_types::{BasicType, Class, TypeStr};
 
 /// The number of bytes that the start of a value of this type is a multiple of: 1, 2, 4 or 8.
 ///
-/// It walks the type's text once for each level that the type nests.
+/// It is the greatest of the letters' in the type's text, which is looked at three times at most.
 pub fn alignment(of: TypeStr<'_>) -> u8
     ensures { result ≡ alignment (ty of.entry) }
 {
-    type_info(of).alignment
+    let text = of.as_str().as_bytes();
+    if has_aligned_letter(text, 8) {
+        return 8;
+    }
+    if has_aligned_letter(text, 4) {
+        return 4;
+    }
+    if has_aligned_letter(text, 2) {
+        return 2;
+    }
+    1
+}
+
+/// Whether a letter of the text is of a type that is aligned to so many bytes, or to more.
+fn has_aligned_letter(text: &[u8], to: u8) -> bool
+    ensures { result ≡ list_any (is_aligned_letter to) text.now }
+{
+    text.iter().any(|letter| letter_alignment(*letter) >= to)
+}
+
+/// What the starts of values of a letter's type are multiples of, 1 at a bracket, `a` and `m`.
+fn letter_alignment(letter: u8) -> u8
+    ensures { result ≡ letter_alignment letter }
+{
+    match letter {
+        b'd' | b't' | b'v' | b'x' => 8,
+        b'h' | b'i' | b'u' => 4,
+        b'n' | b'q' => 2,
+        _ => 1,
+    }
 }
 
 /// The number of bytes of each value of this type, or None where they differ in it.
 ///
-/// It looks at the letters of the type's text, as far as to the first of a type that has no fixed size. Where there is none
-/// it walks the text once for each level that the type nests.
+/// It looks at the letters of the type's text, as far as to the first of a type that has no fixed size, and at none where the
+/// type is known to have none. Where there is none it walks the text once more.
 pub fn fixed_size(of: TypeStr<'_>) -> Option<usize>
     ensures { result ≡ fixed_size (ty of.entry) }
 {
+    if of.is_known_open() {
+        return None;
+    }
     if has_open_letter(of.as_str().as_bytes()) {
         return None;
     }
@@ -67,8 +104,9 @@ pub struct TypeInfo {
     pub size: Option<usize>,
 }
 
-/// The layout of a type: its alignment and its size together, so that each level's members are walked once.
-#[cycle(type_infos)]
+/// The layout of a type: its alignment and its size together.
+///
+/// Of a type that has no fixed size it looks at the letters alone. Of any other it walks the text once more.
 #[inline(always)]
 pub fn type_info(of: TypeStr<'_>) -> TypeInfo
     ensures alignment { result.alignment ≡ alignment (ty of.entry) }
@@ -76,30 +114,22 @@ pub fn type_info(of: TypeStr<'_>) -> TypeInfo
 {
     match of.class() {
         Class::Basic(basic) => basic_info(basic),
-        Class::Variant => TypeInfo {
-            alignment: 8,
-            size: None,
-        },
-        Class::Array | Class::Maybe => {
-            let element = element_info(of.element().unwrap());
-            TypeInfo {
-                alignment: element.alignment,
-                size: None,
-            }
-        }
-        Class::Tuple | Class::Entry => members_info(of),
+        Class::Variant | Class::Array | Class::Maybe => open_info(of),
+        Class::Tuple | Class::Entry if has_open_letter(of.as_str().as_bytes()) => open_info(of),
+        Class::Tuple | Class::Entry => info_at(of.as_str().as_bytes()).info,
     }
 }
 
-/// The layout of the type that an array or a maybe holds.
-///
-/// It is a function of its own since `type_info`, which so calls itself through others alone, can be inlined.
-#[cycle(type_infos)]
-fn element_info(of: TypeStr<'_>) -> TypeInfo
+/// The layout of a type that has no fixed size.
+fn open_info(of: TypeStr<'_>) -> TypeInfo
+    requires { fixed_size (ty of) ≡ None }
     ensures alignment { result.alignment ≡ alignment (ty of.entry) }
-    ensures size { result.size ≡ fixed_size (ty of.entry) }
+    ensures size { result.size ≡ None }
 {
-    type_info(of)
+    TypeInfo {
+        alignment: alignment(of),
+        size: None,
+    }
 }
 
 /// The layout of a basic type: a number is aligned to its size, a text not at all.
@@ -114,23 +144,83 @@ fn basic_info(of: BasicType) -> TypeInfo
     }
 }
 
-/// The layout of a type's members one after the other, as a tuple or an entry holds them.
-#[cycle(type_infos)]
-fn members_info(of: TypeStr<'_>) -> TypeInfo
-    ensures alignment { result.alignment ≡ greatest_alignment (members (ty of.entry)) }
-    ensures size { result.size ≡ padded (greatest_alignment (members (ty of.entry))) (fixed_end (members (ty of.entry)) 0) }
+/// The layout of the type at the start of a text, and the text after the type.
+#[derive(Clone, Copy, Debug)]
+struct InfoAt<'a> {
+    info: TypeInfo,
+    rest: &'a [u8],
+}
+
+/// The layout of the type at the start of a text. It looks at each byte of the type once.
+#[cycle(infos)]
+fn info_at(text: &[u8]) -> InfoAt<'_>
+    requires { BeginsFront text.now }
+    ensures { IsInfoAt text.entry.now result.info.alignment result.info.size result.rest.now }
 {
+    match Class::of_letter(text[0]).unwrap() {
+        Class::Basic(basic) => InfoAt {
+            info: basic_info(basic),
+            rest: behind(text),
+        },
+        Class::Variant | Class::Array | Class::Maybe => {
+            let (of, rest) = TypeStr::split_prefix(text).unwrap();
+            InfoAt {
+                info: open_info(of),
+                rest,
+            }
+        }
+        Class::Tuple => tuple_at(text),
+        Class::Entry => entry_at(text),
+    }
+}
+
+/// The layout of the tuple at the start of a text: that of its members one after the other.
+#[cycle(infos)]
+fn tuple_at(text: &[u8]) -> InfoAt<'_>
+    requires front { BeginsFront text.now }
+    requires kind { class_of (front (seen text.now)) ≡ Tuple }
+    ensures { IsInfoAt text.entry.now result.info.alignment result.info.size result.rest.now }
+{
+    let mut rest = behind(text);
     let mut alignment: u8 = 1;
     let mut end = Some(0);
-    for member in of.members() {
-        let info = type_info(member);
-        alignment = alignment.max(info.alignment);
-        end = end_after(end, info);
+    while rest[0] != b')' {
+        let member = info_at(rest);
+        alignment = alignment.max(member.info.alignment);
+        end = end_after(end, member.info);
+        rest = member.rest;
     }
-    TypeInfo {
-        alignment,
-        size: padded(end, alignment),
+    let size = padded(end, alignment);
+    InfoAt {
+        info: TypeInfo { alignment, size },
+        rest: behind(rest),
     }
+}
+
+/// The layout of the entry at the start of a text: that of its key and its value one after the other.
+#[cycle(infos)]
+fn entry_at(text: &[u8]) -> InfoAt<'_>
+    requires front { BeginsFront text.now }
+    requires kind { class_of (front (seen text.now)) ≡ Entry }
+    ensures { IsInfoAt text.entry.now result.info.alignment result.info.size result.rest.now }
+{
+    let key = info_at(behind(text));
+    let value = info_at(key.rest);
+    let alignment = key.info.alignment.max(value.info.alignment);
+    let key_end = end_after(Some(0), key.info);
+    let size = padded(end_after(key_end, value.info), alignment);
+    InfoAt {
+        info: TypeInfo { alignment, size },
+        rest: behind(value.rest),
+    }
+}
+
+/// The text after its first letter.
+fn behind(text: &[u8]) -> &[u8]
+    requires { 0 < length text.now }
+    ensures { result.now ≡ drop 1 text.entry.now }
+{
+    &text[1..]
 }
 
 /// Where a member ends that comes after one that ends there, if both ends are known.
@@ -150,6 +240,19 @@ fn padded(end: Option<usize>, alignment: u8) -> Option<usize>
     ensures { result ≡ padded alignment end }
 {
     Some(round_up(end?, alignment).max(1))
+}
+
+/// Where a value of this type begins that comes behind so many bytes: the first place from there on that is aligned for it.
+///
+/// At 0 any type is, so there it looks at no byte of the type's text.
+pub fn place_behind(end: usize, of: TypeStr<'_>) -> usize
+    requires fits { end + 8 < 2 ^ 64 }
+    ensures { result ≡ round_up (alignment (ty of.entry)) end }
+{
+    if end == 0 {
+        return 0;
+    }
+    round_up(end, alignment(of))
 }
 
 /// The first multiple of an alignment from a place on.

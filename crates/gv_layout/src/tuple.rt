@@ -12,7 +12,7 @@ ghost use Rattle.gv_layout.specs.Bodies.{placed_body};
 use crate::offset::framing_offset;
 use crate::place::Place;
 use crate::size::{fixed_size, offset_width};
-use crate::walk::begun;
+use crate::walk::begin;
 use gv_types::{Members, TypeStr};
 
 /// Members, of which the one before ends at `previous`, if its end is known and all before are in order. The last `used`
@@ -90,7 +90,8 @@ impl<'a, 'b> ByMembers<'a, 'b> {
         let Some(previous) = self.previous else {
             return Some((nowhere, lost));
         };
-        let (from, size) = begun(member, previous, self.bytes);
+        let from = begin(member, previous, self.bytes);
+        let (member, size) = sized(member);
         let Some((to, used)) = self.end(size, from, is_last) else {
             return Some((nowhere, lost));
         };
@@ -138,6 +139,17 @@ impl<'a, 'b> ByMembers<'a, 'b> {
         }
         let end = framing_offset(self.width, self.bytes, self.used)?;
         Some((end, self.used + 1))
+    }
+}
+
+/// The type and its size, or None where it has none, and the type is known to have none from then on.
+fn sized(of: TypeStr<'_>) -> (TypeStr<'_>, Option<usize>)
+    ensures same { ty result.0 ≡ ty of.entry }
+    ensures size { result.1 ≡ fixed_size (ty of.entry) }
+{
+    match fixed_size(of) {
+        Some(size) => (of, Some(size)),
+        None => (of.as_open(), None),
     }
 }
 

@@ -8,7 +8,7 @@ ghost use Rattle.gv_layout.specs.Places.{clamp};
 
 use crate::array::{ByOffsets, FixedSize};
 use crate::place::Place;
-use crate::size::{fixed_size, round_up, type_info};
+use crate::size::{fixed_size, place_behind, round_up};
 use crate::tuple::ByMembers;
 use gv_types::{Class, TypeStr};
 
@@ -21,18 +21,11 @@ pub(crate) fn aligned(from: usize, alignment: u8, len: usize) -> usize
     round_up(from.min(len + 1), alignment)
 }
 
-/// Where a member begins, if the one before ends at `previous`, and its size, or None where it has none.
-///
-/// Its whole type is walked only where it has to be aligned: at 0 any type is.
-pub(crate) fn begun(member: TypeStr<'_>, previous: usize, bytes: &[u8]) -> (usize, Option<usize>)
-    ensures from { clamp (length bytes.now) result.0 ≡ clamp (length bytes.now) (round_up (alignment (ty member.entry)) previous) }
-    ensures size { result.1 ≡ fixed_size (ty member.entry) }
+/// Where a member begins, if the one before ends at `previous`, where all places past the end of the bytes are alike.
+pub(crate) fn begin(member: TypeStr<'_>, previous: usize, bytes: &[u8]) -> usize
+    ensures { clamp (length bytes.now) result ≡ clamp (length bytes.now) (round_up (alignment (ty member.entry)) previous) }
 {
-    if previous == 0 {
-        return (0, fixed_size(member));
-    }
-    let info = type_info(member);
-    (aligned(previous, info.alignment, bytes.len()), info.size)
+    place_behind(previous.min(bytes.len() + 1), member)
 }
 
 /// The children of a container that are left.
@@ -64,7 +57,7 @@ impl<'a, 'b> Walk<'a, 'b> {
                 }
                 match fixed_size(element) {
                     Some(size) => Walk::FixedSize(FixedSize::of_array(element, size, bytes)),
-                    None => Walk::ByOffsets(ByOffsets::of_array(element, bytes)),
+                    None => Walk::ByOffsets(ByOffsets::of_array(element.as_open(), bytes)),
                 }
             }
             Class::Maybe => Walk::FixedSize(FixedSize::of_maybe(

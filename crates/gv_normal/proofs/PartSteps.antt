@@ -1,5 +1,5 @@
 -- One part of a body: it lies behind what comes before exactly where it is written there.
-use Rattle.std.proofs.Common.{ℕ, ◌+◌, ◌-◌, ◌≤◌, ◌≡◌, List, ◌∷◌, ◌++◌, length, slice_range, refl, sym, ap, ap₂, ◌∙◌, arith, append_assoc, length-append}
+use Rattle.std.proofs.Common.{ℕ, ◌+◌, ◌-◌, ◌<◌, ◌≤◌, ◌≡◌, List, ◌∷◌, ◌++◌, length, slice_range, refl, sym, ap, ap₂, ◌∙◌, arith, append_assoc, length-append}
 use Rattle.gv_model.specs.Ty.{Ty}
 use Rattle.gv_model.specs.Layout.{alignment, round_up}
 use Rattle.gv_model.specs.Parts.{Part}
@@ -7,8 +7,15 @@ use Rattle.gv_model.specs.Encode.{zeros, start_after, end_after, body_from}
 use Rattle.gv_model.proofs.NumberBytes.{slice_mid, le-round_up}
 use Rattle.gv_model.proofs.LayoutLaws.{alignment_pos}
 use Rattle.gv_model.proofs.PlacedParts.{le-start_after, length-zeros}
+use Rattle.gv_layout.proofs.Sizes.{alignment_most, round_up_near}
 use Rattle.gv_normal.specs.InPlace.{LiesBehind}
 use Rattle.gv_normal.proofs.Pieces.{pieces, length-piece}
+
+-- where a part begins that is aligned behind others
+pub begins_behind : (t : Ty) (p s : ℕ) → s ≡ round_up (alignment t) p → (p ≤ s) × (s < p + 8)
+begins_behind t p s e =
+    let near = round_up_near (alignment t) p (alignment_pos t) in
+    (omega (arith, e, near.0), omega (arith, e, near.1, alignment_most t))
 
 pub ends_there : (b : List ℕ) (t : Ty) (p e : ℕ) → LiesBehind b p (round_up (alignment t) p) e → end_after p (t, slice_range b (round_up (alignment t) p) e) ≡ e
 ends_there b t p e h = omega (arith, length-piece b (round_up (alignment t) p) e h.within, h.rises)

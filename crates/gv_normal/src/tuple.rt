@@ -10,7 +10,7 @@ ghost use Rattle.gv_normal.specs.Tables.{member_place};
 use crate::fixed::is_normal_fixed;
 use crate::in_place::is_normal_open;
 use crate::padding::{is_narrow, lies_behind};
-use gv_layout::{number, offset_width, round_up, type_info};
+use gv_layout::{fixed_size, number, offset_width, place_behind};
 use gv_types::{Steps, TypeStr};
 
 /// Whether the members of a tuple or an entry are normal, and no deeper than so many levels, and lie as they are
@@ -35,16 +35,16 @@ pub(crate) fn are_normal_members(
     // Where the offsets begin that were read.
     let mut tail = bytes.len();
     while let Some(member) = members.next() {
-        let layout = type_info(member);
-        let from = round_up(end, layout.alignment);
+        let size = fixed_size(member);
+        let from = place_behind(end, member);
         let is_last = members.is_empty();
-        let Some((to, before)) = member_place(bytes, width, tail, from, layout.size, is_last) else {
+        let Some((to, before)) = member_place(bytes, width, tail, from, size, is_last) else {
             return false;
         };
         if !lies_behind(bytes, end, from, to) {
             return false;
         }
-        if !is_normal_member(member, layout.size, &bytes[from..to], levels, steps) {
+        if !is_normal_member(member, size, &bytes[from..to], levels, steps) {
             return false;
         }
         end = to;

@@ -45,7 +45,7 @@ deeper (number k n) = omega arith
 deeper (text k s) = omega arith
 deeper (node t vs) = omega arith
 
-first_deep : (u : Tree) (vs : Trees) → depth u ≤ greatest_depth (first u vs)
+pub first_deep : (u : Tree) (vs : Trees) → depth u ≤ greatest_depth (first u vs)
 unfolding depth
 first_deep u vs = omega arith
 

@@ -21,3 +21,4 @@ pub mod SequenceLaws
 pub mod ParseStepLaws
 pub mod BracketLaws
 pub mod NumberedFaults
+mod DefaultTexts

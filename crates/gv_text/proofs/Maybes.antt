@@ -20,7 +20,7 @@ use Rattle.gv_text.proofs.Containers.{one_or_none, value_node}
 use Rattle.gv_text.proofs.ContainerTexts.{IsWritten, marked_text}
 use Rattle.gv_text.proofs.Figures.{of_basic}
 
-or_none : (a : Bool) → (a || false) ≡ a
+pub or_none : (a : Bool) → (a || false) ≡ a
 or_none true = refl
 or_none false = refl
 

@@ -12,3 +12,4 @@ pub mod SyntaxFalls
 pub mod Parsed
 pub mod Expectations
 pub mod ParseSteps
+pub mod Defaults

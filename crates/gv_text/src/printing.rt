@@ -9,6 +9,7 @@ ghost use Rattle.gv_text.specs.Printing.{IsUnprintable, IsElementFault};
 mod array;
 mod basic;
 mod children;
+mod default;
 mod maybe;
 mod quoted;
 mod tuple;
@@ -17,6 +18,7 @@ mod variant;
 
 use array::push_array;
 use basic::push_basic;
+use default::push_default;
 use gv_types::Class;
 use gv_view::View;
 use maybe::push_maybe;
@@ -110,6 +112,10 @@ fn push_value(
 {
     if levels == 0 {
         return Err(PrintFault::TooLarge);
+    }
+    // What has no bytes is told by its type alone.
+    if view.bytes().is_empty() {
+        return push_default(to, view.type_str(), levels, annotated, in_array);
     }
     match view.type_str().class() {
         Class::Basic(basic) => push_basic(to, view, basic, annotated),

@@ -10,3 +10,5 @@ pub mod Parts
 pub mod PathLaws
 pub mod PrefixTypes
 pub mod NestingLaws
+pub mod Splits
+pub mod Fronts

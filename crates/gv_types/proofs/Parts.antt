@@ -1,18 +1,21 @@
 -- The parts of a type's text are texts of its parts.
-use Rattle.std.proofs.Common.{ℕ, ◌≡◌, ◌≤◌, ◌-◌, List, [], ◌∷◌, ◌++◌, length, take, drop, Some, true, refl, sym, ap, ◌∙◌, subst, arith, length-append, append-nil, length-drop, ◌⊎◌, inl, inr}
-use Rattle.std.specs.Prelude.{slice_range}
+use Rattle.std.proofs.Common.{ℕ, ◌≡◌, ◌<◌, ◌≤◌, ◌+◌, ◌-◌, List, Option, None, [], ◌∷◌, ◌++◌, length, take, drop, Some, true, refl, sym, ap, ◌∙◌, subst, arith, length-append, append-nil, length-drop, ◌⊎◌, inl, inr}
+use Rattle.std.specs.Prelude.{slice_range, option_and_then}
 use Rattle.std.proofs.Math.Seq.{take-append_seam}
 use Rattle.std.proofs.lemmas.List.{length-take}
 use Rattle.std.proofs.lemmas.Option.{same_Some, none-some}
 use Rattle.gv_model.specs.Ty.{Ty, Types, Basic, letter, spelling, spellings, nesting, greatest_nesting, members, type_list}
 use Rattle.gv_model.specs.Ty.Ty.{basic, variant, array, maybe, tuple, entry}
-use Rattle.gv_model.specs.TypeText.{seen, is_type, type_at}
+use Rattle.gv_model.specs.Ty.Types.{end, member}
+use Rattle.gv_model.specs.Layout.{alignment, greatest_alignment, fixed_size, fixed_end, padded, round_up}
+use Rattle.gv_types.specs.LoneTuples.{lone_tuples, IsLoneMember}
+use Rattle.gv_model.specs.TypeText.{seen, is_type, type_at, is_within_limits}
 use Rattle.gv_model.specs.Texts.{are_types}
 use Rattle.gv_model.proofs.TypeTextParts.{spelling-type_at, limits_down, text_of_type, IsTextOfType}
 use Rattle.gv_model.proofs.TypeTextLaws.{limits_of}
 use Rattle.gv_types.specs.declared.class.Class.{Class}
 use Rattle.gv_types.specs.declared.class.Class.TheVariants as classes
-use Rattle.gv_types.specs.Classes.{class_of}
+use Rattle.gv_types.specs.Classes.{class_of, AreBracketed}
 use Rattle.gv_types.specs.TypeStr.{element_of, key_of}
 use Rattle.gv_types.specs.Members.{types_in}
 use Rattle.gv_types.proofs.TypeLists.{types_in_spellings, members_are_types}
@@ -123,9 +126,6 @@ entry_members k t = record {
   shorter = omega (arith, ap length (entry_text k t), length-append (letter k ∷ spelling t) (125 ∷ []));
 }
 
-abbrev pub AreBracketed : Class → Type 0
-AreBracketed c = (c ≡ classes.Tuple) ⊎ (c ≡ classes.Entry)
-
 members_of : (t : Ty) → AreBracketed (class_of t) → HasMembers (spelling t) t
 members_of (tuple ts) h = tuple_members ts
 members_of (entry k t) h = entry_members k t
@@ -138,8 +138,8 @@ members_of (array t) (inr e) = absurd cc
 members_of (maybe t) (inl e) = absurd cc
 members_of (maybe t) (inr e) = absurd cc
 
-pub has_members : (w : List ℕ) (c : Class) → is_type w ≡ true → c ≡ class_of (type_at w) → AreBracketed c → HasMembers w (type_at w)
-has_members w c h e b = subst (λ (v : List ℕ). HasMembers v (type_at w)) (spelling-type_at w h).0 (members_of (type_at w) (subst AreBracketed e b))
+pub has_members : (w : List ℕ) → is_type w ≡ true → AreBracketed (class_of (type_at w)) → HasMembers w (type_at w)
+has_members w h b = subst (λ (v : List ℕ). HasMembers v (type_at w)) (spelling-type_at w h).0 (members_of (type_at w) b)
 
 -- the text between the brackets is read as the members
 pub record IsTextOfMembers (t : Ty) (w : List ℕ) : Type 0 where
@@ -155,6 +155,47 @@ text_of_members w h m =
     let within = limits_of (type_at w) w (spelling-type_at w h).1 in
     let is = spelled_members (members (type_at w)) (slice_range w 1 (length w - 1)) (sym m.spelled) (omega (arith, m.nested, within.0)) (omega (arith, m.shorter, within.1)) in
     record { are = is.0; listed = is.1 }
+
+-- where the tuple is known to be some of one member, one in another, the text is that of its member
+pub record IsTextOfMember (n : ℕ) (t : Ty) (w : List ℕ) : Type 0 where
+  pub alone : IsLoneMember n w
+  pub inherits : fixed_size t ≡ None → fixed_size (type_at w) ≡ None
+
+no_padded : (a : ℕ) (o : Option ℕ) → padded a o ≡ None → o ≡ None
+no_padded a None h = refl
+no_padded a (Some p) h = absurd (none-some _ (sym h))
+
+no_end : (t : Ty) → fixed_end (member t end) 0 ≡ None → fixed_size t ≡ None
+unfolding fixed_end
+no_end t h = go (fixed_size t) h
+  where
+    go : (o : Option ℕ) → option_and_then (λ s. fixed_end end (round_up (alignment t) 0 + s)) o ≡ None → o ≡ None
+    go None e = refl
+    go (Some s) e = absurd (none-some _ (sym e))
+
+member_inherits : (t : Ty) → fixed_size (tuple (member t end)) ≡ None → fixed_size t ≡ None
+unfolding fixed_size
+member_inherits t h = no_end t (no_padded (greatest_alignment (member t end)) (fixed_end (member t end) 0) h)
+
+member_text : (n : ℕ) (u : Ty) (v w : List ℕ) → 0 < n → n ≤ lone_tuples u → HasMembers v u → is_within_limits u v ≡ true → slice_range v 1 (length v - 1) ≡ w → IsTextOfMember n u w
+unfolding lone_tuples spelling greatest_nesting
+member_text n (tuple (member t end)) v w h few m within e =
+    let spelled : spelling t ≡ w = sym (append-nil (spelling t)) ∙ (sym m.spelled ∙ e) in
+    let is = text_of_type t w spelled (limits_down (tuple (member t end)) t v w (omega (arith, m.nested)) (omega (arith, ap length spelled, m.shorter, length-append (spelling t) [])) within) in
+    record {
+      alone = record { spells = is.checked; few = omega (arith, few, ap lone_tuples is.type) };
+      inherits = λ none. ap fixed_size is.type ∙ member_inherits t none;
+    }
+member_text n (basic k) v w h few m within e = absurd (omega arith)
+member_text n variant v w h few m within e = absurd (omega arith)
+member_text n (array t) v w h few m within e = absurd (omega arith)
+member_text n (maybe t) v w h few m within e = absurd (omega arith)
+member_text n (tuple end) v w h few m within e = absurd (omega arith)
+member_text n (tuple (member t (member u ts))) v w h few m within e = absurd (omega arith)
+member_text n (entry k t) v w h few m within e = absurd (omega arith)
+
+pub text_of_member : (n : ℕ) (w : List ℕ) → is_type w ≡ true → n ≤ lone_tuples (type_at w) → HasMembers w (type_at w) → 0 < n → IsTextOfMember n (type_at w) (slice_range w 1 (length w - 1))
+text_of_member n w h few m some = member_text n (type_at w) w (slice_range w 1 (length w - 1)) some few m (spelling-type_at w h).1 refl
 
 -- a type of another class has no members
 no_members : (t : Ty) → (class_of t ≡ classes.Tuple → ⊥) → (class_of t ≡ classes.Entry → ⊥) → type_list (members t) ≡ []

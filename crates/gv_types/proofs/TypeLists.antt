@@ -1,5 +1,5 @@
 -- Texts of types that are one after the other.
-use Rattle.std.proofs.Common.{ℕ, ◌≡◌, ◌≤◌, ◌<◌, ◌+◌, ◌-◌, List, [], ◌∷◌, length, take, drop, true, false, Bool, ◌&&◌, eqb, eqb-true, refl, sym, ap, ap₂, ◌∙◌, subst, arith, length-append}
+use Rattle.std.proofs.Common.{ℕ, ◌≡◌, ◌≤◌, ◌<◌, ◌+◌, ◌-◌, List, [], ◌∷◌, length, take, drop, append-nil, true, false, Bool, ◌&&◌, eqb, eqb-true, refl, sym, ap, ap₂, ◌∙◌, subst, arith, length-append}
 use Rattle.std.specs.Prelude.{◌↔◌, IsTrue}
 use Rattle.std.proofs.lemmas.Bool.{eqb-false, and_parts, and_from, false≢true}
 use Rattle.std.specs.Str.{IsAscii}
@@ -14,7 +14,7 @@ use Rattle.gv_model.specs.TypeText.Seen.{nothing, type, tuple_end, entry_end, wr
 use Rattle.gv_model.specs.Texts.{are_types}
 use Rattle.gv_model.proofs.TypeTextLaws.{seen-spelling, within_limits, limits_of}
 use Rattle.gv_model.proofs.TypeTextSound.{Shows, seen_shows}
-use Rattle.gv_model.proofs.TypeTextParts.{spelling_is_ascii, text_of_type}
+use Rattle.gv_model.proofs.TypeTextParts.{spelling-type_at, spelling_is_ascii, text_of_type}
 use Rattle.gv_model.proofs.ListLaws.{nil_no_cons}
 use Rattle.gv_model.proofs.Prefixes.{spelling-positive}
 use Rattle.gv_types.specs.declared.grammar.Halt.{Halt}
@@ -136,30 +136,39 @@ end_is_types [] h = refl
 end_is_types (c ∷ w) h = absurd (omega (arith, eqb-true (length (c ∷ w)) 0 h))
 
 -- a text of types, cut after the type at its start
-pub record IsCutAfterFirst (w prefix back : List ℕ) : Type 0 where
+pub record IsCutAfterFirst (w prefix back : List ℕ) (t : Ty) : Type 0 where
   pub checked : is_type prefix ≡ true
+  pub type : type_at prefix ≡ t
   pub are : are_types (seen back) ≡ true
   pub listed : types_in (seen w) ≡ type_at prefix ∷ types_in (seen back)
 
-read_prefix : (w rest : List ℕ) (r : BeginsWithType 128 w rest) → take (length w - length rest) w ≡ spelling r.type
+pub read_prefix : (w rest : List ℕ) (r : BeginsWithType 128 w rest) → take (length w - length rest) w ≡ spelling r.type
 read_prefix w rest r =
     let n : length w - length rest ≡ length (spelling r.type) = omega (arith, length_read w rest r) in
     ap (λ i. take i w) n ∙ (ap (take (length (spelling r.type))) r.whole ∙ take-append_seam (spelling r.type) rest)
 
-read_back : (w rest : List ℕ) (r : BeginsWithType 128 w rest) → drop (length w - length rest) w ≡ rest
+pub read_back : (w rest : List ℕ) (r : BeginsWithType 128 w rest) → drop (length w - length rest) w ≡ rest
 read_back w rest r =
     let n : length w - length rest ≡ length (spelling r.type) = omega (arith, length_read w rest r) in
     ap (λ i. drop i w) n ∙ (ap (drop (length (spelling r.type))) r.whole ∙ drop-append_seam (spelling r.type) rest)
 
-cut : (w rest prefix back : List ℕ) (r : BeginsWithType 128 w rest) → are_types (seen w) ≡ true → prefix ≡ spelling r.type → back ≡ rest → IsCutAfterFirst w prefix back
+cut : (w rest prefix back : List ℕ) (r : BeginsWithType 128 w rest) → are_types (seen w) ≡ true → prefix ≡ spelling r.type → back ≡ rest → IsCutAfterFirst w prefix back r.type
 cut w rest prefix back r e f b =
     let both_are : is_within_limits r.type (spelling r.type) && are_types (seen rest) ≡ true = sym (read_types w rest r) ∙ e in
     let is = text_of_type r.type prefix (sym f) (subst (λ (v : List ℕ). is_within_limits r.type v ≡ true) (sym f) (and_parts (is_within_limits r.type (spelling r.type)) (are_types (seen rest)) both_are).0) in
     record {
       checked = is.checked;
+      type = is.type;
       are = ap (λ v. are_types (seen v)) b ∙ (and_parts (is_within_limits r.type (spelling r.type)) (are_types (seen rest)) both_are).1;
       listed = ap types_in (seen_read w rest r) ∙ ap₂ (λ t v. t ∷ types_in (seen v)) (sym is.type) (sym b);
     }
 
-pub cut_after_first : (w rest prefix back : List ℕ) → are_types (seen w) ≡ true → BeginsWithType 128 w rest → prefix ≡ take (length w - length rest) w → back ≡ drop (length w - length rest) w → IsCutAfterFirst w prefix back
+pub cut_after_first : (w rest prefix back : List ℕ) → are_types (seen w) ≡ true → (r : BeginsWithType 128 w rest) → prefix ≡ take (length w - length rest) w → back ≡ drop (length w - length rest) w → IsCutAfterFirst w prefix back r.type
 cut_after_first w rest prefix back e r f b = cut w rest prefix back r e (f ∙ read_prefix w rest r) (b ∙ read_back w rest r)
+
+-- ---- a text of one type
+
+pub one_type_left : (w : List ℕ) → is_type w ≡ true → types_in (seen w) ≡ type_at w ∷ []
+one_type_left w h =
+    let whole = (spelling-type_at w h).0 in
+    ap types_in (ap seen (sym whole ∙ sym (append-nil (spelling (type_at w)))) ∙ seen-spelling (type_at w) []) ∙ ap (λ us. type_at w ∷ us) (in_no_text [] refl)

@@ -1,5 +1,5 @@
 -- What the first letter of a type says.
-use Rattle.std.specs.Prelude.{Option, Some, None}
+use Rattle.std.specs.Prelude.{◌≡◌, ◌⊎◌, Option, Some, None}
 use Rattle.gv_model.specs.Ty.{Ty, Basic}
 use Rattle.gv_model.specs.Ty.Ty.{basic, variant, array, maybe, tuple, entry}
 use Rattle.gv_model.specs.Ty.Basic.{boolean, byte, int16, uint16, int32, uint32, int64, uint64, handle, double, string, path, signature}
@@ -49,6 +49,10 @@ class_of (array t) = classes.Array
 class_of (maybe t) = classes.Maybe
 class_of (tuple ts) = classes.Tuple
 class_of (entry k t) = classes.Entry
+
+-- the class of a type whose text lies between brackets
+abbrev pub AreBracketed : Class → Type 0
+AreBracketed c = (c ≡ classes.Tuple) ⊎ (c ≡ classes.Entry)
 
 -- the class of the types that begin with a byte
 abbrev pub class_of_mark : TypeMark → Option Class

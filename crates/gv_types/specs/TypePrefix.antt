@@ -3,6 +3,7 @@ use Rattle.std.specs.Prelude.{◌≡◌, ◌≢◌, ◌≤◌, ℕ, List, [], �
 use Rattle.gv_model.specs.Ty.{Ty, spelling, nesting}
 use Rattle.gv_model.specs.TypeFault.{Prefix, prefix_text, prefix_nesting, open_types, next, BeginsType, IsKey, IsBadChar, IsKeyNotBasic}
 use Rattle.gv_model.specs.TypeFault.Expected.{key}
+use Rattle.gv_types.specs.LoneTuples.{lone_tuples}
 use Rattle.gv_types.specs.declared.grammar.Halt.{Halt}
 use Rattle.gv_types.specs.declared.grammar.Halt.TheVariants.{Unclosed, BadChar, KeyNotBasic, TooDeep}
 
@@ -11,6 +12,11 @@ pub record BeginsWithType (room : ℕ) (text rest : List ℕ) : Type 0 where
   pub type : Ty
   pub whole : text ≡ spelling type ++ rest
   pub within : nesting type ≤ room
+
+-- the same, of a type that is so many tuples of one member, one in another
+pub record ReadsType (room : ℕ) (text rest : List ℕ) (lone : ℕ) : Type 0 where
+  pub begins : BeginsWithType room text rest
+  pub counted : lone ≡ lone_tuples begins.type
 
 -- why a type of at most this many levels doesn't go on so after a prefix
 abbrev pub HaltsAfter : ℕ → Prefix → List ℕ → Halt → Type 0

@@ -1,6 +1,6 @@
 //! Reading a type at the start of a text (GVariant Specification, "Type Strings").
 ghost use Rattle.std.specs.Prelude.{◌≡◌, suc, ◌∷◌, MatchResult};
-ghost use Rattle.gv_types.specs.TypePrefix.{BeginsWithType, HaltsAt, IsNotClosed};
+ghost use Rattle.gv_types.specs.TypePrefix.{BeginsWithType, ReadsType, HaltsAt, IsNotClosed};
 
 use crate::class::{Class, class_of_letter};
 use crate::fault::TypeFault;
@@ -41,21 +41,38 @@ pub(crate) struct Stop<'a> {
     pub(crate) rest: &'a [u8],
 }
 
+/// A type that was read: what follows it, and how many tuples of one member it is, one in another.
+#[derive(Clone, Copy, Debug)]
+pub(crate) struct Reading<'a> {
+    pub(crate) rest: &'a [u8],
+    pub(crate) lone: u8,
+}
+
 /// Reading stops at once.
-fn stopped(halt: Halt, rest: &[u8]) -> Result<&[u8], Stop<'_>>
+fn stopped(halt: Halt, rest: &[u8]) -> Result<Reading<'_>, Stop<'_>>
     ensures { MatchResult result (λ _. ⊥) (λ stop. (stop.halt ≡ halt) × (stop.rest.now ≡ rest.now)) }
 {
     Err(Stop { halt, rest })
 }
 
 /// What follows the type at the start of the text, of at most this many levels.
+pub(crate) fn after_type(text: &[u8], room: u8) -> Result<&[u8], Stop<'_>>
+    ensures { MatchResult result
+        (λ rest. BeginsWithType room text.now rest.now)
+        (λ stop. HaltsAt room text.now stop.rest.now stop.halt) }
+{
+    let read = read_type(text, room)?;
+    Ok(read.rest)
+}
+
+/// Reads the type at the start of the text, of at most this many levels.
 ///
 /// It looks at each byte once, and calls itself no deeper than the levels that are left.
 #[cycle(types)]
 #[inline(always)]
-pub(crate) fn after_type(text: &[u8], room: u8) -> Result<&[u8], Stop<'_>>
+pub(crate) fn read_type(text: &[u8], room: u8) -> Result<Reading<'_>, Stop<'_>>
     ensures { MatchResult result
-        (λ rest. BeginsWithType room text.now rest.now)
+        (λ read. ReadsType room text.now read.rest.now read.lone)
         (λ stop. HaltsAt room text.now stop.rest.now stop.halt) }
 {
     let Some((letter, rest)) = text.split_first() else {
@@ -68,49 +85,59 @@ pub(crate) fn after_type(text: &[u8], room: u8) -> Result<&[u8], Stop<'_>>
         return stopped(Halt::TooDeep, text);
     }
     match class {
-        Class::Basic(_) | Class::Variant => Ok(rest),
-        Class::Array | Class::Maybe => after_element(rest, room - 1),
-        Class::Tuple => after_members(rest, room - 1),
-        Class::Entry => after_entry(rest, room - 1),
+        Class::Basic(_) | Class::Variant => Ok(Reading { rest, lone: 0 }),
+        Class::Array | Class::Maybe => read_element(rest, room - 1),
+        Class::Tuple => read_members(rest, room - 1),
+        Class::Entry => read_entry(rest, room - 1),
     }
 }
 
-/// What follows the type that an array or a maybe holds, of at most this many levels.
-///
-/// It is a function of its own since `after_type`, which so calls itself through others alone, can be inlined.
+/// Reads the type that an array or a maybe holds, of at most this many levels. No tuple is counted.
 #[cycle(types)]
-fn after_element(text: &[u8], room: u8) -> Result<&[u8], Stop<'_>>
+fn read_element(text: &[u8], room: u8) -> Result<Reading<'_>, Stop<'_>>
     ensures { MatchResult result
-        (λ rest. BeginsWithType room text.now rest.now)
+        (λ read. BeginsWithType room text.now read.rest.now × (read.lone ≡ 0))
         (λ stop. HaltsAt room text.now stop.rest.now stop.halt) }
 {
-    after_type(text, room)
+    let element = read_type(text, room)?;
+    Ok(Reading {
+        rest: element.rest,
+        lone: 0,
+    })
 }
 
-/// What follows the tuple whose `(` comes before the text, with members of at most this many levels.
+/// Reads the tuple whose `(` comes before the text, with members of at most this many levels.
 #[cycle(types)]
-fn after_members(text: &[u8], room: u8) -> Result<&[u8], Stop<'_>>
+fn read_members(text: &[u8], room: u8) -> Result<Reading<'_>, Stop<'_>>
     ensures { MatchResult result
-        (λ rest. BeginsWithType (suc room) (40 ∷ text.now) rest.now)
+        (λ read. ReadsType (suc room) (40 ∷ text.now) read.rest.now read.lone)
         (λ stop. HaltsAt (suc room) (40 ∷ text.now) stop.rest.now stop.halt) }
 {
     let mut rest = text;
+    let mut lone: u8 = 0;
     loop {
         let Some((letter, others)) = rest.split_first() else {
             return stopped(Halt::Unclosed, rest);
         };
         if *letter == b')' {
-            return Ok(others);
+            return Ok(Reading { rest: others, lone });
         }
-        rest = after_type(rest, room)?;
+        let member = read_type(rest, room)?;
+        // Nothing is read yet before the first member.
+        lone = if rest.len() == text.len() {
+            member.lone + 1
+        } else {
+            0
+        };
+        rest = member.rest;
     }
 }
 
-/// What follows the entry whose `{` comes before the text, with a key and a value of at most this many levels.
+/// Reads the entry whose `{` comes before the text, with a key and a value of at most this many levels.
 #[cycle(types)]
-fn after_entry(text: &[u8], room: u8) -> Result<&[u8], Stop<'_>>
+fn read_entry(text: &[u8], room: u8) -> Result<Reading<'_>, Stop<'_>>
     ensures { MatchResult result
-        (λ rest. BeginsWithType (suc room) (123 ∷ text.now) rest.now)
+        (λ read. ReadsType (suc room) (123 ∷ text.now) read.rest.now read.lone)
         (λ stop. HaltsAt (suc room) (123 ∷ text.now) stop.rest.now stop.halt) }
 {
     let Some((letter, rest)) = text.split_first() else {
@@ -125,18 +152,19 @@ fn after_entry(text: &[u8], room: u8) -> Result<&[u8], Stop<'_>>
     if room == 0 {
         return stopped(Halt::TooDeep, text);
     }
-    after_close(after_type(rest, room)?)
+    let value = read_type(rest, room)?;
+    read_close(value.rest)
 }
 
-/// What follows the bracket that closes an entry.
-fn after_close(text: &[u8]) -> Result<&[u8], Stop<'_>>
+/// Reads the bracket that closes an entry.
+fn read_close(text: &[u8]) -> Result<Reading<'_>, Stop<'_>>
     ensures { MatchResult result
-        (λ rest. text.now ≡ 125 ∷ rest.now)
+        (λ read. (text.now ≡ 125 ∷ read.rest.now) × (read.lone ≡ 0))
         (λ stop. (stop.rest.now ≡ text.now) × IsNotClosed text.now stop.halt) }
 {
     match text.split_first() {
         None => stopped(Halt::Unclosed, text),
-        Some((b'}', rest)) => Ok(rest),
+        Some((b'}', rest)) => Ok(Reading { rest, lone: 0 }),
         Some(_) => stopped(Halt::BadChar, text),
     }
 }

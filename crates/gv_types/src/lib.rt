@@ -6,6 +6,7 @@
 
 mod class;
 mod fault;
+mod front;
 mod grammar;
 mod members;
 mod object_path;

@@ -1,20 +1,40 @@
 //! The members of a tuple or an entry, one after the other.
-ghost use Rattle.std.specs.Prelude.{◌≡◌, ◌↔◌, IsTrue, []};
+ghost use Rattle.std.specs.Prelude.{◌≡◌, ◌<◌, ◌↔◌, IsTrue, None, []};
+ghost use Rattle.gv_model.specs.Layout.{fixed_size};
 ghost use Rattle.gv_model.specs.Texts.{are_types};
-ghost use Rattle.gv_model.specs.TypeText.{seen};
+ghost use Rattle.gv_model.specs.TypeText.{seen, type_at};
+ghost use Rattle.gv_types.specs.LoneTuples.{IsLoneMember};
 
-use crate::grammar::after_type;
+use crate::grammar::read_type;
 use crate::type_str::TypeStr;
 
 /// The types of the members of a tuple or an entry that are left, in order.
+///
+/// Where the tuple is known to be so many of one member, one in another, the rest is that of its member, and nothing has to
+/// be read to find its end.
 #[derive(Clone, Copy, Debug)]
 pub struct Members<'a> {
     pub(crate) rest: &'a str,
+    pub(crate) lone: u8,
+    pub(crate) known_open: bool,
     ghost are_types: { IsTrue (are_types (seen rest.now)) },
+    ghost alone: { 0 < lone → IsLoneMember lone rest.now },
+    ghost open: { 0 < lone → IsTrue known_open → fixed_size (type_at rest.now) ≡ None },
 }
 
-impl Members<'_> {
+impl<'a> Members<'a> {
     ghost use Rattle.gv_types.specs.Members.{members_left};
+
+    /// No members.
+    pub(crate) fn none() -> Members<'a>
+        ensures { members_left result ≡ [] }
+    {
+        Members {
+            rest: "",
+            lone: 0,
+            known_open: false,
+        }
+    }
 
     /// Whether no member is left.
     pub fn is_empty(&self) -> bool
@@ -36,13 +56,26 @@ impl<'a> Iterator for Members<'a> {
     ghost remaining = { item_count members_left };
 
     fn next(&mut self) -> Option<TypeStr<'a>> {
-        let after = match after_type(self.rest.as_bytes(), TypeStr::MAX_LEVELS) {
-            Ok(after) => after,
+        if self.lone > 0 {
+            let member = TypeStr {
+                text: self.rest,
+                lone: self.lone - 1,
+                known_open: self.known_open,
+            };
+            *self = Members::none();
+            return Some(member);
+        }
+        let read = match read_type(self.rest.as_bytes(), TypeStr::MAX_LEVELS) {
+            Ok(read) => read,
             // Types alone occur in the text, so reading stops only at its end.
             Err(_) => return None,
         };
-        let (text, rest) = self.rest.split_at(self.rest.len() - after.len());
+        let (text, rest) = self.rest.split_at(self.rest.len() - read.rest.len());
         self.rest = rest;
-        Some(TypeStr { text })
+        Some(TypeStr {
+            text,
+            lone: read.lone,
+            known_open: false,
+        })
     }
 }

@@ -1,10 +1,12 @@
 //! The text of one type.
-ghost use Rattle.std.specs.Prelude.{◌≡◌, ◌↔◌, ℕ, [], IfOk, IfErr, IsOk, IsTrue, option_map};
+ghost use Rattle.std.specs.Prelude.{◌≡◌, ◌≤◌, ◌↔◌, ℕ, [], None, true, IfOk, IfErr, IsOk, IsTrue, option_map};
 ghost use Rattle.gv_model.specs.Ty.{Basic, Ty.basic, spelling, members, type_list};
-ghost use Rattle.gv_model.specs.TypeText.{is_type, type_of_text};
+ghost use Rattle.gv_model.specs.Layout.{fixed_size};
+ghost use Rattle.gv_model.specs.TypeText.{is_type, type_at, type_of_text};
 ghost use Rattle.gv_model.specs.TypeFault.{IsFault};
 ghost use Rattle.gv_model.specs.Lexing.{type_prefix};
-ghost use Rattle.gv_types.specs.Classes.{class_of};
+ghost use Rattle.gv_types.specs.Classes.{class_of, AreBracketed};
+ghost use Rattle.gv_types.specs.LoneTuples.{lone_tuples};
 ghost use Rattle.gv_types.specs.TypeFaults.{type_fault_of};
 
 use crate::class::{BasicType, Class, class_of_letter};
@@ -16,7 +18,13 @@ use crate::members::Members;
 #[derive(Clone, Copy, Debug)]
 pub struct TypeStr<'a> {
     pub(crate) text: &'a str,
+    /// Of how many tuples of one member, one in another, the type is known to be.
+    pub(crate) lone: u8,
+    /// Whether the type is known to have no fixed size.
+    pub(crate) known_open: bool,
     ghost spells_type: { IsTrue (is_type text.now) },
+    ghost alone: { lone ≤ lone_tuples (type_at text.now) },
+    ghost open: { IsTrue known_open → fixed_size (type_at text.now) ≡ None },
 }
 
 impl TypeStr<'_> {
@@ -28,7 +36,7 @@ impl TypeStr<'_> {
 }
 
 impl<'a> TypeStr<'a> {
-    ghost use Rattle.gv_types.specs.TypeStr.{text_of, ty, element_of, key_of};
+    ghost use Rattle.gv_types.specs.TypeStr.{text_of, ty, element_of, key_of, is_known_open};
     ghost use Rattle.gv_types.specs.Members.{members_left};
 
     /// Takes a text that is one type, of at most 128 levels and 67,108,864 bytes.
@@ -47,7 +55,7 @@ impl<'a> TypeStr<'a> {
             return Err(TypeFault::Empty);
         }
         match after_type(text.as_bytes(), TypeStr::MAX_LEVELS) {
-            Ok([]) => Ok(TypeStr { text }),
+            Ok([]) => Ok(TypeStr::of_checked(text)),
             Ok(rest) => Err(TypeFault::Trailing(text.len() - rest.len())),
             Err(stop) => Err(stop.halt.at(text.len() - stop.rest.len())),
         }
@@ -69,7 +77,7 @@ impl<'a> TypeStr<'a> {
             return None;
         }
         let text = unsafe { str::from_utf8_unchecked(bytes) };
-        Some(TypeStr { text })
+        Some(TypeStr::of_checked(text))
     }
 
     /// The type that a prefix of a text spells, of at most 128 levels and 67,108,864 bytes, or None.
@@ -85,7 +93,7 @@ impl<'a> TypeStr<'a> {
         if len > TypeStr::MAX_LEN {
             return None;
         }
-        Some(TypeStr { text: &text[..len] })
+        Some(TypeStr::of_checked(&text[..len]))
     }
 
     /// Takes a text that is known to be one type. It looks at no byte.
@@ -93,7 +101,33 @@ impl<'a> TypeStr<'a> {
         requires { IsTrue (is_type text.now) }
         ensures { text_of result ≡ text.entry.now }
     {
-        TypeStr { text }
+        TypeStr {
+            text,
+            lone: 0,
+            known_open: false,
+        }
+    }
+
+    /// The same type, of which is known from now on that it has no fixed size, as gv_layout finds it. It looks at no byte.
+    pub fn as_open(self) -> TypeStr<'a>
+        requires { fixed_size (ty self) ≡ None }
+        ensures text { text_of result ≡ text_of self.entry }
+        ensures known { is_known_open result ≡ true }
+    {
+        TypeStr {
+            text: self.text,
+            lone: self.lone,
+            known_open: true,
+        }
+    }
+
+    /// Whether the type is known to have no fixed size: it came from `as_open`, or is the one member of a tuple that did.
+    /// It looks at no byte.
+    pub fn is_known_open(self) -> bool
+        ensures known { result ≡ is_known_open self.entry }
+        ensures open { IsTrue result → fixed_size (ty self.entry) ≡ None }
+    {
+        self.known_open
     }
 
     /// The text itself. It looks at no byte.
@@ -124,9 +158,7 @@ impl<'a> TypeStr<'a> {
         ensures { option_map ty result ≡ element_of (ty self.entry) }
     {
         match self.class() {
-            Class::Array | Class::Maybe => Some(TypeStr {
-                text: &self.text[1..],
-            }),
+            Class::Array | Class::Maybe => Some(TypeStr::of_checked(&self.text[1..])),
             _ => None,
         }
     }
@@ -136,9 +168,7 @@ impl<'a> TypeStr<'a> {
         ensures { option_map ty result ≡ key_of (ty self.entry) }
     {
         match self.class() {
-            Class::Entry => Some(TypeStr {
-                text: &self.text[1..2],
-            }),
+            Class::Entry => Some(TypeStr::of_checked(&self.text[1..2])),
             _ => None,
         }
     }
@@ -150,10 +180,20 @@ impl<'a> TypeStr<'a> {
         ensures { members_left result ≡ type_list (members (ty self.entry)) }
     {
         match self.class() {
-            Class::Tuple | Class::Entry => Members {
-                rest: &self.text[1..self.text.len() - 1],
-            },
-            _ => Members { rest: "" },
+            Class::Tuple | Class::Entry => self.between_brackets(),
+            _ => Members::none(),
+        }
+    }
+
+    /// The types of the members of a tuple or an entry, whose text lies between brackets.
+    fn between_brackets(self) -> Members<'a>
+        requires { AreBracketed (class_of (ty self)) }
+        ensures { members_left result ≡ type_list (members (ty self.entry)) }
+    {
+        Members {
+            rest: &self.text[1..self.text.len() - 1],
+            lone: self.lone,
+            known_open: self.known_open,
         }
     }
 }

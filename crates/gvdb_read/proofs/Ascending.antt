@@ -2,10 +2,8 @@
 use Rattle.std.proofs.Common.{ℕ, zero, suc, ◌+◌, ◌-◌, ◌<◌, ◌≡◌, refl, sym, subst, arith, inl, inr}
 use Rattle.std.proofs.lemmas.Bool.{cases_order}
 use Rattle.dconf_model.specs.Table.{Table}
-use Rattle.dconf_model.specs.Searchable.{EachItem}
-use Rattle.dconf_model.specs.Sound.{KeepsAll, list_length, listed}
-use Rattle.dconf_model.specs.Sound.Rule.{lists}
-use Rattle.gvdb_read.specs.Ascending.{Ascends, HasAscendingListIfAny, IsListedIfChild}
+use Rattle.dconf_model.specs.Sound.{list_length, listed}
+use Rattle.gvdb_read.specs.Ascending.{Ascends}
 
 rises_by : (t : Table) (i : ℕ) → Ascends t i → (d k m : ℕ) → m ≡ k + 1 + d → m < list_length t i → listed t i k < listed t i m
 rises_by t i up zero k m e inside =
@@ -29,14 +27,3 @@ occurs_once t i k m up k_inside m_inside same = elim (cases_order k m) [
     | inr after ↦ absurd (omega (arith, same, rises t i m k up after k_inside))
   ]
 ]
-
--- where each list ascends and each item is in its parent's list, the rule on lists is kept
-pub lists_kept : (t : Table) → EachItem t (HasAscendingListIfAny t) → EachItem t (IsListedIfChild t) → KeepsAll t lists
-lists_kept t ascending is_listed i counted of_kind =
-    let list = ascending i counted of_kind in
-    record {
-      children_alone = list.children_alone;
-      each_child = λ j child. is_listed j child.0 i child.1;
-      once = λ k m k_inside m_inside same. occurs_once t i k m list.ascends k_inside m_inside same;
-      empty_at_root = list.empty_at_root;
-    }

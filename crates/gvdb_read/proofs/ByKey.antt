@@ -6,11 +6,8 @@ use Rattle.std.specs.Ordering.{nat_cmp, ordering_reverse, is_lt}
 use Rattle.std.proofs.lemmas.Bool.{cases_order}
 use Rattle.gv_model.specs.BasicValue.{number_in}
 use Rattle.dconf_model.specs.Table.{Table}
-use Rattle.dconf_model.specs.Searchable.{EachItem}
-use Rattle.dconf_model.specs.Sound.{KeepsAll, list_length, listed}
-use Rattle.dconf_model.specs.Sound.Rule.{lists}
-use Rattle.gvdb_read.specs.Ascending.{IsListedIfChild}
-use Rattle.gvdb_read.specs.ByKey.{HasListByKeyIfAny, KeysRise, has_lower_key, key_or_none}
+use Rattle.dconf_model.specs.Sound.{list_length, listed}
+use Rattle.gvdb_read.specs.ByKey.{KeysRise, has_lower_key, key_or_none}
 use Rattle.gvdb_read.specs.ListNumbers.{AreNumbers}
 use Rattle.dconf_model.proofs.RisingTexts.{less_of}
 
@@ -42,7 +39,7 @@ others_there t i k m up lt inside same =
     let own = key_or_none t (listed t i m) in
     turned (slice_cmp nat_cmp own own) (nat_list_cmp_total.antisymm own own) (subst (λ (n : ℕ). IsTrue (has_lower_key t n (listed t i m))) same below)
 
-occurs_once : (t : Table) (i k m : ℕ) → KeysRise t i → k < list_length t i → m < list_length t i → listed t i k ≡ listed t i m → k ≡ m
+pub occurs_once : (t : Table) (i k m : ℕ) → KeysRise t i → k < list_length t i → m < list_length t i → listed t i k ≡ listed t i m → k ≡ m
 occurs_once t i k m up k_inside m_inside same = elim (cases_order k m) [
   | inl e ↦ e
   | inr rest ↦ elim rest [
@@ -71,14 +68,3 @@ rises_by_key_where_sorted t i numbers false are some = (
       let bad : false ≡ true = some.2 [] ∙ ap₂ (has_lower_key t) first second ∙ up k (omega (arith, some.1, are.len)) in
       cc,
 )
-
--- where the keys of each list rise and each item is in its parent's list, the rule on lists is kept
-pub lists_kept_by_key : (t : Table) → EachItem t (HasListByKeyIfAny t) → EachItem t (IsListedIfChild t) → KeepsAll t lists
-lists_kept_by_key t by_key is_listed i counted of_kind =
-    let list = by_key i counted of_kind in
-    record {
-      children_alone = list.children_alone;
-      each_child = λ j child. is_listed j child.0 i child.1;
-      once = λ k m k_inside m_inside same. occurs_once t i k m list.keys_rise k_inside m_inside same;
-      empty_at_root = list.empty_at_root;
-    }

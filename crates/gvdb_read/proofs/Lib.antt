@@ -8,7 +8,10 @@ pub mod BackwardSteps
 pub mod NameChecks
 pub mod Ascending
 pub mod ByKey
+pub mod CountedLists
 pub mod HashAbove
+pub mod HashFours
+pub mod RecordRules
 pub mod Places
 pub mod ListWalks
 pub mod Below

@@ -18,7 +18,8 @@ use Rattle.dconf_model.specs.Table.{Table, item, HasBytes, bytes_of}
 use Rattle.dconf_model.specs.Sound.{list_length, listed}
 use Rattle.gvdb_read.specs.Ascending.{Ascends, IsListed}
 use Rattle.gvdb_read.specs.ListNumbers.{AreNumbers, IsFirstAt, Occurs}
-use Rattle.gvdb_read.proofs.ListWalks.{IsOnce, all_once, first_if_once}
+use Rattle.gvdb_read.specs.Counted.{IsOnce}
+use Rattle.gvdb_read.proofs.ListWalks.{all_once, first_if_once}
 
 -- ---- cutting them out
 
@@ -115,28 +116,3 @@ rises_where_sorted t i numbers false are some = (
   λ h. let bad : false ≡ true = h in cc,
   λ up. absurd (omega (arith, ltb-false _ _ (sym (some.2 [])), are.each some.0 [] (omega (arith, some.1)), are.each (some.0 + 1) [] some.1, up some.0 (omega (arith, some.1, are.len)))),
 )
-
--- ---- halving
-
-compared : (x y : ℕ) (o : Ordering) → nat_cmp x y ≡ o → MatchOrdering o (x < y) (x ≡ y) (y < x)
-compared x y o e = subst (λ (r : Ordering). MatchOrdering r (x < y) (x ≡ y) (y < x)) e (ranks x y)
-
-pub found_by_halving : (t : Table) (i j : ℕ) (numbers : List (List ℕ)) (r : Result ℕ ℕ) → AreNumbers t i numbers → Ascends t i → IsSearchInRange r (length numbers) → IsBinarySearchResult (λ y. nat_cmp (number_in y) j) numbers r → IsTrue (is_ok r) ↔ IsListed t i j
-found_by_halving t i j numbers (Ok k) are up inside found = (
-  λ _. (k, omega (arith, inside, are.len), sym (are.each k [] inside) ∙ compared _ j Equal (found [])),
-  λ _. refl,
-)
-found_by_halving t i j numbers (Err place) are up inside split =
-    let rising = searchable_from_sorted nat_cmp_total number_in numbers j (λ k d low high.
-    let below : number_in (get_or numbers k d) < number_in (get_or numbers (k + 1) d) = omega (arith, are.each k d (omega arith), are.each (k + 1) d high, up k (omega (arith, high, are.len))) in
-    ap is_lt (sym (nat_cmp_is _ _ Greater below))) in
-    let parts = split rising in (
-      λ h. let bad : false ≡ true = h in cc,
-      λ l.
-          let there : l.0 < length numbers = omega (arith, l.1, are.len) in
-          let is = are.each l.0 [] there in
-          elim (cases_lt l.0 place) [
-            | inl before ↦ absurd (omega (arith, is, l.2, compared _ j Less (parts.0 l.0 [] (omega arith) before)))
-            | inr after ↦ absurd (omega (arith, is, l.2, compared _ j Greater (parts.1 l.0 [] after there)))
-          ],
-    )

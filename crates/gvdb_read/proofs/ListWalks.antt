@@ -3,10 +3,7 @@ use Rattle.std.proofs.Common.{ℕ, ◌<◌, ◌≤◌, ◌≡◌, ◌≢◌, sym
 use Rattle.std.proofs.lemmas.Bool.{cases_order}
 use Rattle.dconf_model.specs.Table.{Table}
 use Rattle.dconf_model.specs.Sound.{list_length, listed}
-
--- no number occurs twice
-abbrev pub IsOnce : Table → ℕ → Type 0
-IsOnce t i = (k m : ℕ) → k < list_length t i → m < list_length t i → listed t i k ≡ listed t i m → k ≡ m
+use Rattle.gvdb_read.specs.Counted.{IsOnce}
 
 pub all_once : (t : Table) (i n : ℕ) → list_length t i ≤ n → ((m k : ℕ) → m < n → k < m → listed t i k ≢ listed t i m) → IsOnce t i
 all_once t i n all firsts k m k_inside m_inside same = elim (cases_order k m) [

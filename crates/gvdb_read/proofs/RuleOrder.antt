@@ -1,5 +1,5 @@
 -- The rules in their order: what is kept so far, and the first that isn't.
-use Rattle.std.proofs.Common.{◌≡◌, ◌≢◌, ◌<◌, ◌↔◌, ℕ, Some, ◌+◌, refl, sym, subst, arith, true, false, inl, inr}
+use Rattle.std.proofs.Common.{◌≡◌, ◌≢◌, ◌<◌, ◌↔◌, ℕ, Some, ◌+◌, refl, sym, subst, arith, Bool, IsTrue, true, false, inl, inr}
 use Rattle.std.proofs.lemmas.Bool.{cases_order}
 use Rattle.std.specs.Prelude.{IfOk, IfErr, IsOk, Result, Ok, Err}
 use Rattle.dconf_model.specs.Table.{Table}
@@ -63,6 +63,10 @@ searchable t kept = record {
 pub searchable_where_ok : {T : Type 0} (t : Table) (r : Result T Unsound) → IfOk r (λ _. KeepsBelow t 9) → IfErr r (λ _. ¬ IsSearchable t) → IsOk r ↔ IsSearchable t
 searchable_where_ok t (Ok x) kept fault = (λ _. searchable t kept, λ _. refl)
 searchable_where_ok t (Err e) kept fault = (λ h. let bad : false ≡ true = h in cc, λ s. absurd (fault s))
+
+-- an answer that is handed on
+pub moved : (r b : Bool) (P : Type 0) → b ≡ r → (IsTrue r ↔ P) → IsTrue b ↔ P
+moved r b P e h = subst (λ (x : Bool). IsTrue x ↔ P) (sym e) h
 
 -- where the rules before one are kept, and that one too
 pub one_more : (t : Table) (rule : Rule) → KeepsBelow t (rule_number rule) → KeepsAll t rule → KeepsBelow t (rule_number rule + 1)

@@ -10,6 +10,8 @@ pub mod Joined
 pub mod Backwards
 pub mod Ascending
 pub mod ByKey
+pub mod Counted
 pub mod HashAbove
+pub mod Records
 pub mod ListNumbers
 pub mod NotedLengths

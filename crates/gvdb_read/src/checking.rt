@@ -1,7 +1,8 @@
 //! Whether a database is sound: the rules are asked one by one, in their order.
 ghost use Rattle.std.specs.Prelude.{◌≢◌, ◌+◌, ◌<◌, ◌↔◌, ℕ, Bool, IfErr, IfOk, IsTrue};
 ghost use Rattle.dconf_model.specs.Table.{item_count};
-ghost use Rattle.dconf_model.specs.Searchable.{IsSearchable};
+ghost use Rattle.dconf_model.specs.Searchable.{EachItem, IsSearchable};
+ghost use Rattle.gvdb_read.specs.Records.{RecordKeeps};
 ghost use Rattle.dconf_model.specs.Sound.{IsFirstFault, IsSound, Keeps, KeepsAll, rule_number};
 ghost use Rattle.dconf_model.specs.Sound.Rule.{buckets, hash};
 ghost use Rattle.gvdb_read.specs.Unsounds.{KeepsBelow, KeptBefore, rule_of};
@@ -17,9 +18,11 @@ mod keys;
 mod length;
 mod lists;
 mod lists_by_key;
+mod lists_counted;
 mod locks;
 mod once;
 mod place;
+mod records;
 mod span;
 
 use crate::table::Table;
@@ -35,8 +38,8 @@ impl Table<'_> {
     /// It takes no memory. S1, S2, S5, S6 and S8 take time in the buckets, the items and the bytes of their keys; S3
     /// takes a step for each of the parents of each item, up to the first with a lower number. S4 takes time in the bytes of the keys where it is kept; else in
     /// those of the full names. S7 looks at the items of each item's bucket, and compares names where the hashes agree. S9
-    /// takes a step for each of the parents of each item, up to one of the 256 items before it, and as far as their keys have 65,535 bytes. S10 takes time in the items, times the logarithm of the
-    /// longest list, where all lists ascend by number, as our writer puts them, or by key, as dconf's does; else in the
+    /// takes a step for each of the parents of each item, up to one of the 256 items before it, and as far as their keys have 65,535 bytes. S10 takes time in the items
+    /// and the bytes of their keys where all lists ascend by number, as our writer puts them, or by key, as dconf's does; else in the
     /// items times the lists. S11 asks S1 to S8 of the table of locks.
     pub fn check(self) -> Result<(), Unsound>
         ensures sound { IfOk result (λ _. IsSound (region self.entry)) }
@@ -55,7 +58,8 @@ impl Table<'_> {
         self.check_names().is_ok()
     }
 
-    /// Asks S1 to S8, the rules by which each item can be found by its name.
+    /// Asks S1 to S8, the rules by which each item can be found by its name. Where all items keep those that an item's record
+    /// tells, each record is read once for them. Else they are asked one by one, so that the first that fails is found.
     fn check_names(self) -> Result<(), Unsound>
         ensures kept { IfOk result (λ _. KeepsBelow (region self.entry) 9) }
         ensures fault { IfErr result (λ e. IsFirstFault (region self.entry) (rule_of e.rule) e.item) }
@@ -67,6 +71,32 @@ impl Table<'_> {
                 item: None,
             });
         }
+        if self.records_keep() {
+            return self.check_chains_and_names();
+        }
+        self.check_names_in_order()
+    }
+
+    /// Asks S3 and S7, of a table in which each item keeps S2, S5, S6 and S8, and its hash goes on from its parent's.
+    fn check_chains_and_names(self) -> Result<(), Unsound>
+        requires earlier { KeepsBelow (region self) 2 }
+        requires records { EachItem (region self) (RecordKeeps (region self)) }
+        ensures kept { IfOk result (λ _. KeepsBelow (region self.entry) 9) }
+        ensures fault { IfErr result (λ e. IsFirstFault (region self.entry) (rule_of e.rule) e.item) }
+        ensures not_searchable { IfErr result (λ _. ¬ IsSearchable (region self.entry)) }
+    {
+        self.each_keeps(Rule::Chain, |i| self.has_end(i))?;
+        self.each_keeps(Rule::Once, |i| self.is_only_named(i))?;
+        Ok(())
+    }
+
+    /// Asks S2 to S8, one by one.
+    fn check_names_in_order(self) -> Result<(), Unsound>
+        requires earlier { KeepsBelow (region self) 2 }
+        ensures kept { IfOk result (λ _. KeepsBelow (region self.entry) 9) }
+        ensures fault { IfErr result (λ e. IsFirstFault (region self.entry) (rule_of e.rule) e.item) }
+        ensures not_searchable { IfErr result (λ _. ¬ IsSearchable (region self.entry)) }
+    {
         self.each_keeps(Rule::Keys, |i| self.has_good_key(i))?;
         self.each_keeps(Rule::Chain, |i| self.has_end(i))?;
         self.check_hashes()?;
@@ -103,18 +133,15 @@ impl Table<'_> {
         self.each_keeps(Rule::Place, |i| self.has_place(i))
     }
 
-    /// Asks S10. Where each list ascends, by number or by key, it looks at the lists once or twice, and for each item at
-    /// as many numbers as the longest list has binary digits. Else it looks at each item once for each list, and compares
+    /// Asks S10. Where each list ascends, by number or by key, and all of them together hold as many numbers as they should, it
+    /// looks at each item and at each number once. Else it looks at each item once for each list, and compares
     /// each number of a list with its children and with the numbers before it.
     fn check_lists(self) -> Result<(), Unsound>
         requires earlier { KeepsBelow (region self) 10 }
         ensures kept { IfOk result (λ _. KeepsBelow (region self.entry) 11) }
         ensures fault { IfErr result (λ e. IsFirstFault (region self.entry) (rule_of e.rule) e.item) }
     {
-        if self.lists_ascend() && self.each_is_listed() {
-            return Ok(());
-        }
-        if self.lists_go_by_key() && self.each_is_found_by_key() {
+        if self.lists_hold_all() {
             return Ok(());
         }
         self.each_keeps(Rule::Lists, |i| self.has_list_if_any(i))

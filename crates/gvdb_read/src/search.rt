@@ -75,6 +75,7 @@ impl<'a> Table<'a> {
 
     /// Whether the bloom words don't rule the hash out.
     #[tactic(auto, using(std::proofs::lemmas::Nat::bit_set_by_shift))]
+    #[inline(always)]
     pub(crate) fn passes_bloom(self, hash: u32) -> bool
         ensures { IsTrue result ↔ PassesBloom (region self.entry) hash }
     {
@@ -87,6 +88,7 @@ impl<'a> Table<'a> {
     }
 
     /// Where the items of a hash's bucket start and end.
+    #[inline(always)]
     pub(crate) fn span(self, hash: u32) -> (u32, u32)
         ensures first { result.0 ≡ span_start (region self.entry) hash }
         ensures end { result.1 ≡ span_end (region self.entry) hash }
@@ -107,6 +109,7 @@ impl<'a> Table<'a> {
     }
 
     /// The number of a bucket's first item.
+    #[inline(always)]
     pub(crate) fn bucket(self, k: u32) -> u32
         requires { k < bucket_count (region self) }
         ensures { result ≡ bucket (region self.entry) k }
@@ -116,6 +119,7 @@ impl<'a> Table<'a> {
     }
 
     /// Whether item `i` has this hash, name and kind. Where the hash is another it looks at nothing else.
+    #[inline(always)]
     fn is_wanted(self, i: u32, hash: u32, name: &[u8], kind: Kind, steps: &mut Steps) -> bool
         requires counted { i < item_count (region self) }
         requires room { steps.old + length name.now + 1 < 2 ^ 128 }

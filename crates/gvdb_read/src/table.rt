@@ -123,6 +123,7 @@ impl<'a> Table<'a> {
     }
 
     /// The numbers of item `i`.
+    #[inline(always)]
     pub(crate) fn stored(self, i: u32) -> ItemRecord
         requires { i < item_count (region self) }
         ensures { item_of result ≡ item (region self.entry) i }
@@ -131,6 +132,7 @@ impl<'a> Table<'a> {
     }
 
     /// An item's key. None where its bytes don't lie in the file.
+    #[inline(always)]
     pub(crate) fn key_of(self, stored: ItemRecord) -> Option<&'a [u8]>
         ensures lent { IfSome result (λ key. IsKeyInside self.entry.file.now (item_of stored)
             × (key.now ≡ key_at self.entry.file.now (item_of stored))) }
@@ -151,6 +153,7 @@ impl<'a> Table<'a> {
     }
 
     /// What an item points to. None where the pointer isn't valid.
+    #[inline(always)]
     pub(crate) fn pointed(self, stored: ItemRecord) -> Option<&'a [u8]>
         ensures lent { IfSome result (λ bytes. IsPointer self.entry.file.now (item_of stored)
             × (bytes.now ≡ content_at self.entry.file.now (item_of stored))) }

@@ -66,6 +66,19 @@ impl Map {
         Ok(())
     }
 
+    /// Sets the bytes of the value at a path, in the place of those that it had, and keeps them where they are.
+    ///
+    /// `Memory` comes where a growth is refused, and then the map stays as it was. It copies the path, and compares as
+    /// many paths as the map is deep.
+    pub fn insert_owned(&mut self, path: KeyPath<'_>, value: Vec<u8>) -> Result<(), MapFault>
+        ensures ok { OnOk result (self.new ≡ with_value self.old (key_text path.entry) value.items) }
+        ensures err { OnErr result (self.new ≡ self.old) }
+    {
+        let text = String::from_str(self.alloc, path.as_str())?;
+        self.values.insert(text, value)?;
+        Ok(())
+    }
+
     /// Locks the path of a key, whether or not it has a value, or that of a directory.
     ///
     /// `Memory` comes where a growth is refused, and then the map stays as it was. It copies the path, and compares

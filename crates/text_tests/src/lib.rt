@@ -5,6 +5,8 @@
 #[cfg(test)]
 mod bytes;
 #[cfg(test)]
+mod defaults;
+#[cfg(test)]
 mod in_place;
 #[cfg(test)]
 mod normal;

@@ -1,8 +1,8 @@
 //! How types are laid out, by example: alignments and sizes, the width of framing offsets, and where the children of
 //! containers lie, also in bytes that are not in normal form.
 use gv_layout::{
-    alignment, fixed_size, member_bounds, n_children, number, offset_width, place_of, places,
-    round_up, type_info,
+    alignment, fixed_size, member_bounds, n_children, number, offset_width, place_behind, place_of,
+    places, round_up, type_info,
 };
 use gv_types::{Class, TypeStr};
 use std::alloc::Global;
@@ -51,6 +51,23 @@ fn types_have_alignments_and_sizes(rt: HostRuntime) -> Result<(), Fail> {
         ("{sv}", 8, None),
     ] {
         assert!(rt; is_laid_out(text, aligned, size)?, "at {text}");
+    }
+    Ok(())
+}
+
+#[test]
+fn values_begin_behind_others(rt: HostRuntime) -> Result<(), Fail> {
+    for (end, text, place) in [
+        (0, "v", 0),
+        (1, "u", 4),
+        (4, "u", 4),
+        (5, "(yq)", 6),
+        (3, "as", 3),
+        (1, "a(sx)", 8),
+        (9, "{sv}", 16),
+    ] {
+        let found = place_behind(end, TypeStr::parse(text)?);
+        assert!(rt; found == place, "{text} behind {end}");
     }
     Ok(())
 }

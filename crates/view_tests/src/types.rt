@@ -101,6 +101,53 @@ fn containers_have_parts(rt: HostRuntime) -> Result<(), Fail> {
     Ok(())
 }
 
+/// The texts of a type's members, a space after each, then those of the first member's, and so on.
+fn descent(alloc: Global, text: &str) -> Result<String, Fail> {
+    let mut found = String::new(alloc);
+    let mut of = TypeStr::parse(text)?;
+    for _ in 0..6 {
+        for member in of.members() {
+            write!(found, "{} ", member.as_str())?;
+        }
+        match of.members().next() {
+            Some(member) => of = member,
+            None => break,
+        }
+    }
+    Ok(found)
+}
+
+#[test]
+fn tuples_of_one_member_lie_in_one_another(rt: HostRuntime) -> Result<(), Fail> {
+    for (text, members) in [
+        ("(s)", "s "),
+        ("(((s)))", "((s)) (s) s "),
+        ("(((())))", "((())) (()) () "),
+        ("(((sy)))", "((sy)) (sy) s y "),
+        ("(((s)y))", "((s)y) (s) y s "),
+        ("(y((s)))", "y ((s)) "),
+        ("(((s)(y)))", "((s)(y)) (s) (y) s "),
+        ("((a((s))))", "(a((s))) a((s)) "),
+        ("(((v){sv}))", "((v){sv}) (v) {sv} v "),
+    ] {
+        let found = descent(rt.alloc(), text)?;
+        assert!(rt; found.as_str() == members, "at {text}");
+    }
+    Ok(())
+}
+
+#[test]
+fn a_member_inherits_what_is_known(rt: HostRuntime) -> Result<(), Fail> {
+    let pair = TypeStr::parse("(((as))y)")?;
+    let first = pair.members().next().unwrap_or(pair);
+    let open = first.as_open();
+    assert!(rt; open.is_known_open() && open.as_str() == "((as))");
+    let known = open.members().next().map(TypeStr::is_known_open);
+    let unknown = first.members().next().map(TypeStr::is_known_open);
+    assert!(rt; (known, unknown) == (Some(true), Some(false)));
+    Ok(())
+}
+
 /// The fault of a text that opens so many times with the same letter.
 fn fault_of(
     alloc: Global,

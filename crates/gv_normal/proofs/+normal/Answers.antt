@@ -14,11 +14,12 @@ use Rattle.gv_model.specs.Encode.{least_width}
 use Rattle.gv_types.specs.TypeStr.{ty}
 use Rattle.gv_types.specs.Members.{members_left}
 use Rattle.gv_types.proofs.ClassLaws.{basic_class}
-use Rattle.gv_layout.proofs.Sizes.{alignment_most, fixed_size_most, fixed_size-basic}
+use Rattle.gv_layout.proofs.Sizes.{fixed_size_most, fixed_size-basic}
 use Rattle.gv_layout.proofs.Widths.{width_is}
 use Rattle.gv_normal.specs.InPlace.{IsNormalWithin, most_values}
 use Rattle.gv_normal.specs.Tables.{member_place}
 use Rattle.gv_normal.proofs.Pieces.{are_bytes, length-piece, short_from, no_bytes}
+use Rattle.gv_normal.proofs.PartSteps.{begins_behind}
 use Rattle.gv_normal.proofs.PackedParts.{some_level, normal_size}
 use Rattle.gv_normal.proofs.FixedMembers.{never, told, if_some}
 use Rattle.gv_normal.proofs.FixedElements.{normal_chunks, numbers_told, no_numbers}
@@ -328,19 +329,15 @@ tuple::are_normal_members-loop-member-init t c =
       },
     )
 
-pub tuple::are_normal_members-round_up-from-requires-clause-aligned : goal.tuple::are_normal_members-round_up-from-requires-clause-aligned
-tuple::are_normal_members-round_up-from-requires-clause-aligned t c =
-    omega (arith, c.type_info-layout.ensures.alignment, alignment_pos (ty c.in-Some.member))
-
 pub tuple::are_normal_members-member_place-requires-clause-narrow : goal.tuple::are_normal_members-member_place-requires-clause-narrow
 tuple::are_normal_members-member_place-requires-clause-narrow t c =
     (width_is _ c.from-width.result c.offset_width.result c.from-width.ensures c.offset_width.ensures).narrow
 
 pub tuple::are_normal_members-member_place-requires-clause-small : goal.tuple::are_normal_members-member_place-requires-clause-small
 tuple::are_normal_members-member_place-requires-clause-small t c =
-    if_some (λ n. c.round_up-from.result + n < 18446744073709551616) c.type_info-layout.result.size
-    (λ n e. let small = fixed_size_most c.in-Some.member.text.now n c.in-Some.member.spells_type (sym c.type_info-layout.ensures.size ∙ e) in
-    omega (arith, small, c.round_up-from.ensures.near, c.type_info-layout.ensures.alignment, alignment_most (ty c.in-Some.member), c.loop-member.invariant.2.within))
+    if_some (λ n. c.place_behind-from.result + n < 18446744073709551616) c.fixed_size-size.result
+    (λ n e. let small = fixed_size_most c.in-Some.member.text.now n c.in-Some.member.spells_type (sym c.fixed_size-size.ensures ∙ e) in
+    omega (arith, small, (begins_behind (ty c.in-Some.member) c.loop-member.end c.place_behind-from.result c.place_behind-from.ensures).1, c.loop-member.invariant.2.within))
 
 pub tuple::are_normal_members-returns-in_default-member_place-clause-normal : goal.tuple::are_normal_members-returns-in_default-member_place-clause-normal
 tuple::are_normal_members-returns-in_default-member_place-clause-normal t c =
@@ -348,10 +345,10 @@ tuple::are_normal_members-returns-in_default-member_place-clause-normal t c =
     let inv = c.loop-member.invariant.2 in
     let law = open_iff c.args.levels (ty c.args.of) b (are_bytes b c.type_inv.bytes) c.requires.kind c.requires.open in
     let wide = c.from-width.ensures ∙ c.offset_width.ensures in
-    let from_is = c.round_up-from.ensures.rounded ∙ ap (λ a. round_up a c.loop-member.end) c.type_info-layout.ensures.alignment in
-    let at = member_place c.from-width.result b c.loop-member.tail c.round_up-from.result c.type_info-layout.result.size c.is_empty-is_last.result in
-    let place = place_turn _ c.args.levels b (offset_width (length b)) c.from-width.result c.loop-member.tail c.loop-member.end c.round_up-from.result (ty c.in-Some.member) _ (members_left c.next.new.self) c.type_info-layout.result.size c.is_empty-is_last.result
-    c.in-Some.ensures.steps inv.same wide c.type_info-layout.ensures.size from_is c.is_empty-is_last.ensures in
+    let from_is = c.place_behind-from.ensures in
+    let at = member_place c.from-width.result b c.loop-member.tail c.place_behind-from.result c.fixed_size-size.result c.is_empty-is_last.result in
+    let place = place_turn _ c.args.levels b (offset_width (length b)) c.from-width.result c.loop-member.tail c.loop-member.end c.place_behind-from.result (ty c.in-Some.member) _ (members_left c.next.new.self) c.fixed_size-size.result c.is_empty-is_last.result
+    c.in-Some.ensures.steps inv.same wide c.fixed_size-size.ensures from_is c.is_empty-is_last.ensures in
     never (λ n. no_place _ c.args.levels b c.loop-member.end (ty c.in-Some.member) _ at (sym c.member_place.ensures ∙ c.in_default-member_place.is) place (law.1 n))
 
 pub tuple::are_normal_members-returns-in_default-member_place-clause-few : goal.tuple::are_normal_members-returns-in_default-member_place-clause-few
@@ -360,18 +357,22 @@ tuple::are_normal_members-returns-in_default-member_place-clause-few t c =
     let all = all_members (length (spellings (members (ty c.args.of))) - length (spellings (types_from (members_left c.loop-member.members)))) (length (spelling (ty c.args.of))) (length c.args.bytes.now) c.loop-member.end (omega (arith, members_spelled (ty c.args.of) c.requires.kind)) inv.within in
     omega (arith, inv.few, all)
 
+pub tuple::are_normal_members-lies_behind-requires : goal.tuple::are_normal_members-lies_behind-requires
+tuple::are_normal_members-lies_behind-requires t c =
+    (begins_behind (ty c.in-Some.member) c.loop-member.end c.place_behind-from.result c.place_behind-from.ensures).0
+
 pub tuple::are_normal_members-returns-then-not-lies_behind-clause-normal : goal.tuple::are_normal_members-returns-then-not-lies_behind-clause-normal
 tuple::are_normal_members-returns-then-not-lies_behind-clause-normal t c =
     let b = c.args.bytes.now in
     let inv = c.loop-member.invariant.2 in
     let law = open_iff c.args.levels (ty c.args.of) b (are_bytes b c.type_inv.bytes) c.requires.kind c.requires.open in
     let wide = c.from-width.ensures ∙ c.offset_width.ensures in
-    let from_is = c.round_up-from.ensures.rounded ∙ ap (λ a. round_up a c.loop-member.end) c.type_info-layout.ensures.alignment in
-    let at = member_place c.from-width.result b c.loop-member.tail c.round_up-from.result c.type_info-layout.result.size c.is_empty-is_last.result in
-    let place = place_turn _ c.args.levels b (offset_width (length b)) c.from-width.result c.loop-member.tail c.loop-member.end c.round_up-from.result (ty c.in-Some.member) _ (members_left c.next.new.self) c.type_info-layout.result.size c.is_empty-is_last.result
-    c.in-Some.ensures.steps inv.same wide c.type_info-layout.ensures.size from_is c.is_empty-is_last.ensures in
+    let from_is = c.place_behind-from.ensures in
+    let at = member_place c.from-width.result b c.loop-member.tail c.place_behind-from.result c.fixed_size-size.result c.is_empty-is_last.result in
+    let place = place_turn _ c.args.levels b (offset_width (length b)) c.from-width.result c.loop-member.tail c.loop-member.end c.place_behind-from.result (ty c.in-Some.member) _ (members_left c.next.new.self) c.fixed_size-size.result c.is_empty-is_last.result
+    c.in-Some.ensures.steps inv.same wide c.fixed_size-size.ensures from_is c.is_empty-is_last.ensures in
     let is = sym c.member_place.ensures ∙ c.in-Some-member_place.is in
-    let turn = member_turn _ c.args.levels b (offset_width (length b)) c.loop-member.end c.round_up-from.result c.in-Some-member_place.to c.in-Some-member_place.before (ty c.in-Some.member) (members_left c.next.new.self) at is from_is place in
+    let turn = member_turn _ c.args.levels b (offset_width (length b)) c.loop-member.end c.place_behind-from.result c.in-Some-member_place.to c.in-Some-member_place.before (ty c.in-Some.member) (members_left c.next.new.self) at is from_is place in
     never (λ n. told c.lies_behind.ensures c.if-not-lies_behind.true (turn.1 (law.1 n)).0.0)
 
 pub tuple::are_normal_members-returns-then-not-lies_behind-clause-few : goal.tuple::are_normal_members-returns-then-not-lies_behind-clause-few
@@ -386,27 +387,27 @@ tuple::are_normal_members-is_normal_member-requires t c =
     let inv = c.loop-member.invariant.2 in
     let law = open_iff c.args.levels (ty c.args.of) b (are_bytes b c.type_inv.bytes) c.requires.kind c.requires.open in
     let wide = c.from-width.ensures ∙ c.offset_width.ensures in
-    let from_is = c.round_up-from.ensures.rounded ∙ ap (λ a. round_up a c.loop-member.end) c.type_info-layout.ensures.alignment in
-    let at = member_place c.from-width.result b c.loop-member.tail c.round_up-from.result c.type_info-layout.result.size c.is_empty-is_last.result in
-    let place = place_turn _ c.args.levels b (offset_width (length b)) c.from-width.result c.loop-member.tail c.loop-member.end c.round_up-from.result (ty c.in-Some.member) _ (members_left c.next.new.self) c.type_info-layout.result.size c.is_empty-is_last.result
-    c.in-Some.ensures.steps inv.same wide c.type_info-layout.ensures.size from_is c.is_empty-is_last.ensures in
+    let from_is = c.place_behind-from.ensures in
+    let at = member_place c.from-width.result b c.loop-member.tail c.place_behind-from.result c.fixed_size-size.result c.is_empty-is_last.result in
+    let place = place_turn _ c.args.levels b (offset_width (length b)) c.from-width.result c.loop-member.tail c.loop-member.end c.place_behind-from.result (ty c.in-Some.member) _ (members_left c.next.new.self) c.fixed_size-size.result c.is_empty-is_last.result
+    c.in-Some.ensures.steps inv.same wide c.fixed_size-size.ensures from_is c.is_empty-is_last.ensures in
     let is = sym c.member_place.ensures ∙ c.in-Some-member_place.is in
-    let turn = member_turn _ c.args.levels b (offset_width (length b)) c.loop-member.end c.round_up-from.result c.in-Some-member_place.to c.in-Some-member_place.before (ty c.in-Some.member) (members_left c.next.new.self) at is from_is place in
+    let turn = member_turn _ c.args.levels b (offset_width (length b)) c.loop-member.end c.place_behind-from.result c.in-Some-member_place.to c.in-Some-member_place.before (ty c.in-Some.member) (members_left c.next.new.self) at is from_is place in
     let lies = c.lies_behind.ensures.0 c.if-not-lies_behind.false in
     let all_text = length (spellings (members (ty c.args.of))) in
     let left_text = length (spellings (types_from (members_left c.loop-member.members))) in
     let next_text = length (spellings (types_from (members_left c.next.new.self))) in
     let own_text = length (spelling (ty c.in-Some.member)) in
     let texts : left_text ≡ own_text + next_text = ap (λ ts. length (spellings (types_from ts))) c.in-Some.ensures.steps ∙ spelled_first (ty c.in-Some.member) (members_left c.next.new.self) in
-    let part = slice_range c.args.bytes.now c.round_up-from.result c.in-Some-member_place.to in
-    let long = length-piece c.args.bytes.now c.round_up-from.result c.in-Some-member_place.to lies.within in
-    let small = bound_grows (length part) (c.in-Some-member_place.to - c.round_up-from.result) own_text (omega (arith, long)) in
-    let grow = member_steps (all_text - left_text) own_text c.loop-member.end c.round_up-from.result c.in-Some-member_place.to (most_values (length part) own_text) c.round_up-from.ensures.near.0 lies.rises small in
+    let part = slice_range c.args.bytes.now c.place_behind-from.result c.in-Some-member_place.to in
+    let long = length-piece c.args.bytes.now c.place_behind-from.result c.in-Some-member_place.to lies.within in
+    let small = bound_grows (length part) (c.in-Some-member_place.to - c.place_behind-from.result) own_text (omega (arith, long)) in
+    let grow = member_steps (all_text - left_text) own_text c.loop-member.end c.place_behind-from.result c.in-Some-member_place.to (most_values (length part) own_text) (begins_behind (ty c.in-Some.member) c.loop-member.end c.place_behind-from.result c.place_behind-from.ensures).0 lies.rises small in
     let moved : in_members (own_text + (all_text - left_text)) c.in-Some-member_place.to ≡ in_members (all_text - next_text) c.in-Some-member_place.to = ap (λ a. in_members a c.in-Some-member_place.to) (let sum : own_text + (all_text - left_text) ≡ all_text - next_text = omega (arith, texts, c.loop-member.invariant.2.left) in sum) in
     let all = all_members (all_text - next_text) (length (spelling (ty c.args.of))) (length c.args.bytes.now) c.in-Some-member_place.to (omega (arith, members_spelled (ty c.args.of) c.requires.kind)) lies.within in
     let falls : 4 * c.args.levels + 1 < 4 * c.args.levels + 3 = omega arith in
-    let fits = if_some (λ n. length part ≡ n) c.type_info-layout.result.size (λ n e. let to_is = sized_place c.from-width.result b c.loop-member.tail c.round_up-from.result c.in-Some-member_place.to c.in-Some-member_place.before n c.type_info-layout.result.size c.is_empty-is_last.result is e in omega (arith, to_is, long)) in
-    (search (rules, falls), (sym c.type_info-layout.ensures.size, (fits, omega (arith, inv.few, grow, moved, all, c.requires.room))))
+    let fits = if_some (λ n. length part ≡ n) c.fixed_size-size.result (λ n e. let to_is = sized_place c.from-width.result b c.loop-member.tail c.place_behind-from.result c.in-Some-member_place.to c.in-Some-member_place.before n c.fixed_size-size.result c.is_empty-is_last.result is e in omega (arith, to_is, long)) in
+    (search (rules, falls), (sym c.fixed_size-size.ensures, (fits, omega (arith, inv.few, grow, moved, all, c.requires.room))))
 
 pub tuple::are_normal_members-returns-then-not-is_normal_member-clause-normal : goal.tuple::are_normal_members-returns-then-not-is_normal_member-clause-normal
 tuple::are_normal_members-returns-then-not-is_normal_member-clause-normal t c =
@@ -414,12 +415,12 @@ tuple::are_normal_members-returns-then-not-is_normal_member-clause-normal t c =
     let inv = c.loop-member.invariant.2 in
     let law = open_iff c.args.levels (ty c.args.of) b (are_bytes b c.type_inv.bytes) c.requires.kind c.requires.open in
     let wide = c.from-width.ensures ∙ c.offset_width.ensures in
-    let from_is = c.round_up-from.ensures.rounded ∙ ap (λ a. round_up a c.loop-member.end) c.type_info-layout.ensures.alignment in
-    let at = member_place c.from-width.result b c.loop-member.tail c.round_up-from.result c.type_info-layout.result.size c.is_empty-is_last.result in
-    let place = place_turn _ c.args.levels b (offset_width (length b)) c.from-width.result c.loop-member.tail c.loop-member.end c.round_up-from.result (ty c.in-Some.member) _ (members_left c.next.new.self) c.type_info-layout.result.size c.is_empty-is_last.result
-    c.in-Some.ensures.steps inv.same wide c.type_info-layout.ensures.size from_is c.is_empty-is_last.ensures in
+    let from_is = c.place_behind-from.ensures in
+    let at = member_place c.from-width.result b c.loop-member.tail c.place_behind-from.result c.fixed_size-size.result c.is_empty-is_last.result in
+    let place = place_turn _ c.args.levels b (offset_width (length b)) c.from-width.result c.loop-member.tail c.loop-member.end c.place_behind-from.result (ty c.in-Some.member) _ (members_left c.next.new.self) c.fixed_size-size.result c.is_empty-is_last.result
+    c.in-Some.ensures.steps inv.same wide c.fixed_size-size.ensures from_is c.is_empty-is_last.ensures in
     let is = sym c.member_place.ensures ∙ c.in-Some-member_place.is in
-    let turn = member_turn _ c.args.levels b (offset_width (length b)) c.loop-member.end c.round_up-from.result c.in-Some-member_place.to c.in-Some-member_place.before (ty c.in-Some.member) (members_left c.next.new.self) at is from_is place in
+    let turn = member_turn _ c.args.levels b (offset_width (length b)) c.loop-member.end c.place_behind-from.result c.in-Some-member_place.to c.in-Some-member_place.before (ty c.in-Some.member) (members_left c.next.new.self) at is from_is place in
     never (λ n. told c.is_normal_member.ensures.normal c.if-not-is_normal_member.true (turn.1 (law.1 n)).0.1)
 
 pub tuple::are_normal_members-returns-then-not-is_normal_member-clause-few : goal.tuple::are_normal_members-returns-then-not-is_normal_member-clause-few
@@ -430,10 +431,10 @@ tuple::are_normal_members-returns-then-not-is_normal_member-clause-few t c =
     let next_text = length (spellings (types_from (members_left c.next.new.self))) in
     let own_text = length (spelling (ty c.in-Some.member)) in
     let texts : left_text ≡ own_text + next_text = ap (λ ts. length (spellings (types_from ts))) c.in-Some.ensures.steps ∙ spelled_first (ty c.in-Some.member) (members_left c.next.new.self) in
-    let part = slice_range c.args.bytes.now c.round_up-from.result c.in-Some-member_place.to in
-    let long = length-piece c.args.bytes.now c.round_up-from.result c.in-Some-member_place.to lies.within in
-    let small = bound_grows (length part) (c.in-Some-member_place.to - c.round_up-from.result) own_text (omega (arith, long)) in
-    let grow = member_steps (all_text - left_text) own_text c.loop-member.end c.round_up-from.result c.in-Some-member_place.to (most_values (length part) own_text) c.round_up-from.ensures.near.0 lies.rises small in
+    let part = slice_range c.args.bytes.now c.place_behind-from.result c.in-Some-member_place.to in
+    let long = length-piece c.args.bytes.now c.place_behind-from.result c.in-Some-member_place.to lies.within in
+    let small = bound_grows (length part) (c.in-Some-member_place.to - c.place_behind-from.result) own_text (omega (arith, long)) in
+    let grow = member_steps (all_text - left_text) own_text c.loop-member.end c.place_behind-from.result c.in-Some-member_place.to (most_values (length part) own_text) (begins_behind (ty c.in-Some.member) c.loop-member.end c.place_behind-from.result c.place_behind-from.ensures).0 lies.rises small in
     let moved : in_members (own_text + (all_text - left_text)) c.in-Some-member_place.to ≡ in_members (all_text - next_text) c.in-Some-member_place.to = ap (λ a. in_members a c.in-Some-member_place.to) (let sum : own_text + (all_text - left_text) ≡ all_text - next_text = omega (arith, texts, c.loop-member.invariant.2.left) in sum) in
     let all = all_members (all_text - next_text) (length (spelling (ty c.args.of))) (length c.args.bytes.now) c.in-Some-member_place.to (omega (arith, members_spelled (ty c.args.of) c.requires.kind)) lies.within in
     omega (arith, c.loop-member.invariant.2.few, c.is_normal_member.ensures.few, grow, moved, all)
@@ -444,26 +445,26 @@ tuple::are_normal_members-loop-member-preserved t c =
     let inv = c.loop-member.invariant.2 in
     let law = open_iff c.args.levels (ty c.args.of) b (are_bytes b c.type_inv.bytes) c.requires.kind c.requires.open in
     let wide = c.from-width.ensures ∙ c.offset_width.ensures in
-    let from_is = c.round_up-from.ensures.rounded ∙ ap (λ a. round_up a c.loop-member.end) c.type_info-layout.ensures.alignment in
-    let at = member_place c.from-width.result b c.loop-member.tail c.round_up-from.result c.type_info-layout.result.size c.is_empty-is_last.result in
-    let place = place_turn _ c.args.levels b (offset_width (length b)) c.from-width.result c.loop-member.tail c.loop-member.end c.round_up-from.result (ty c.in-Some.member) _ (members_left c.next.new.self) c.type_info-layout.result.size c.is_empty-is_last.result
-    c.in-Some.ensures.steps inv.same wide c.type_info-layout.ensures.size from_is c.is_empty-is_last.ensures in
+    let from_is = c.place_behind-from.ensures in
+    let at = member_place c.from-width.result b c.loop-member.tail c.place_behind-from.result c.fixed_size-size.result c.is_empty-is_last.result in
+    let place = place_turn _ c.args.levels b (offset_width (length b)) c.from-width.result c.loop-member.tail c.loop-member.end c.place_behind-from.result (ty c.in-Some.member) _ (members_left c.next.new.self) c.fixed_size-size.result c.is_empty-is_last.result
+    c.in-Some.ensures.steps inv.same wide c.fixed_size-size.ensures from_is c.is_empty-is_last.ensures in
     let is = sym c.member_place.ensures ∙ c.in-Some-member_place.is in
-    let turn = member_turn _ c.args.levels b (offset_width (length b)) c.loop-member.end c.round_up-from.result c.in-Some-member_place.to c.in-Some-member_place.before (ty c.in-Some.member) (members_left c.next.new.self) at is from_is place in
+    let turn = member_turn _ c.args.levels b (offset_width (length b)) c.loop-member.end c.place_behind-from.result c.in-Some-member_place.to c.in-Some-member_place.before (ty c.in-Some.member) (members_left c.next.new.self) at is from_is place in
     let lies = c.lies_behind.ensures.0 c.if-not-lies_behind.false in
     let all_text = length (spellings (members (ty c.args.of))) in
     let left_text = length (spellings (types_from (members_left c.loop-member.members))) in
     let next_text = length (spellings (types_from (members_left c.next.new.self))) in
     let own_text = length (spelling (ty c.in-Some.member)) in
     let texts : left_text ≡ own_text + next_text = ap (λ ts. length (spellings (types_from ts))) c.in-Some.ensures.steps ∙ spelled_first (ty c.in-Some.member) (members_left c.next.new.self) in
-    let part = slice_range c.args.bytes.now c.round_up-from.result c.in-Some-member_place.to in
-    let long = length-piece c.args.bytes.now c.round_up-from.result c.in-Some-member_place.to lies.within in
-    let small = bound_grows (length part) (c.in-Some-member_place.to - c.round_up-from.result) own_text (omega (arith, long)) in
-    let grow = member_steps (all_text - left_text) own_text c.loop-member.end c.round_up-from.result c.in-Some-member_place.to (most_values (length part) own_text) c.round_up-from.ensures.near.0 lies.rises small in
+    let part = slice_range c.args.bytes.now c.place_behind-from.result c.in-Some-member_place.to in
+    let long = length-piece c.args.bytes.now c.place_behind-from.result c.in-Some-member_place.to lies.within in
+    let small = bound_grows (length part) (c.in-Some-member_place.to - c.place_behind-from.result) own_text (omega (arith, long)) in
+    let grow = member_steps (all_text - left_text) own_text c.loop-member.end c.place_behind-from.result c.in-Some-member_place.to (most_values (length part) own_text) (begins_behind (ty c.in-Some.member) c.loop-member.end c.place_behind-from.result c.place_behind-from.ensures).0 lies.rises small in
     let moved : in_members (own_text + (all_text - left_text)) c.in-Some-member_place.to ≡ in_members (all_text - next_text) c.in-Some-member_place.to = ap (λ a. in_members a c.in-Some-member_place.to) (let sum : own_text + (all_text - left_text) ≡ all_text - next_text = omega (arith, texts, c.loop-member.invariant.2.left) in sum) in
     let all = all_members (all_text - next_text) (length (spelling (ty c.args.of))) (length c.args.bytes.now) c.in-Some-member_place.to (omega (arith, members_spelled (ty c.args.of) c.requires.kind)) lies.within in
-    let behind = place_within c.from-width.result b c.loop-member.tail c.round_up-from.result c.in-Some-member_place.to c.in-Some-member_place.before c.type_info-layout.result.size c.is_empty-is_last.result is in
-    let whole = place_whole c.from-width.result (length b) b c.loop-member.tail c.round_up-from.result c.in-Some-member_place.to c.in-Some-member_place.before c.type_info-layout.result.size c.is_empty-is_last.result is (subst (λ w. AreWhole w (length b) c.loop-member.tail) (sym wide) inv.whole) in (
+    let behind = place_within c.from-width.result b c.loop-member.tail c.place_behind-from.result c.in-Some-member_place.to c.in-Some-member_place.before c.fixed_size-size.result c.is_empty-is_last.result is in
+    let whole = place_whole c.from-width.result (length b) b c.loop-member.tail c.place_behind-from.result c.in-Some-member_place.to c.in-Some-member_place.before c.fixed_size-size.result c.is_empty-is_last.result is (subst (λ w. AreWhole w (length b) c.loop-member.tail) (sym wide) inv.whole) in (
       tt,
       tt,
       record {

@@ -79,7 +79,7 @@ fn is_empty(view: View<'_>) -> bool
 }
 
 /// The brackets around the elements of an array of this type.
-fn brackets(of: TypeStr<'_>) -> (char, char)
+pub(super) fn brackets(of: TypeStr<'_>) -> (char, char)
     ensures { result ≡ brackets_of (element_of (ty of.entry)) }
 {
     match of.element() {

@@ -14,7 +14,7 @@ use gv_view::View;
 use std::alloc::AllocError;
 
 /// Writes the word before a value of this type that is annotated, if it has one.
-fn push_word(to: &mut String, of: BasicType) -> Result<(), AllocError>
+pub(super) fn push_word(to: &mut String, of: BasicType) -> Result<(), AllocError>
     ensures { OnOk result (string_bytes to.new ≡ string_bytes to.old ++ word (basic_of of)) }
 {
     match of {

@@ -10,6 +10,7 @@ impl Table<'_> {
     ghost use Rattle.gvdb_read.specs.Tables.{region};
 
     /// Whether item `i` keeps the rule. It doesn't look at what the item points to.
+    #[inline(always)]
     pub(super) fn has_content(self, i: u32) -> bool
         requires { i < item_count (region self) }
         ensures { IsTrue result ↔ HasContent (region self.entry) i }

@@ -4,7 +4,7 @@
 //! each is, each is that of its full name.
 ghost use Rattle.std.specs.Prelude.{◌≡◌, ◌<◌, ◌↔◌, IsTrue};
 ghost use Rattle.dconf_model.specs.Table.{item, item_count};
-ghost use Rattle.dconf_model.specs.Searchable.{EachItem};
+ghost use Rattle.dconf_model.specs.Searchable.{EachItem, HasGoodKey};
 ghost use Rattle.dconf_model.specs.Sound.{KeepsAll};
 ghost use Rattle.dconf_model.specs.Sound.Rule.{keys};
 ghost use Rattle.gvdb_read.specs.HashAbove.{GoesOn, hash_above};
@@ -29,8 +29,9 @@ impl Table<'_> {
     }
 
     /// Whether item `i`'s hash goes on from its parent's.
-    fn hash_goes_on(self, i: u32) -> bool
-        requires keys { KeepsAll (region self) keys }
+    #[inline(always)]
+    pub(super) fn hash_goes_on(self, i: u32) -> bool
+        requires good { HasGoodKey (region self) i }
         requires counted { i < item_count (region self) }
         ensures { IsTrue result ↔ GoesOn (region self.entry) i }
     {
@@ -38,8 +39,9 @@ impl Table<'_> {
     }
 
     /// The hash of item `i`'s parent, or that of no bytes.
+    #[inline(always)]
     fn hash_above(self, i: u32) -> u32
-        requires keys { KeepsAll (region self) keys }
+        requires good { HasGoodKey (region self) i }
         requires counted { i < item_count (region self) }
         ensures { result ≡ hash_above (region self.entry) (item (region self.entry) i).parent }
     {

@@ -1,15 +1,11 @@
 //! S10: a list holds exactly the items whose parent it is, once each; it is empty only at `/`.
 //!
-//! Our writer puts the children of a list in the order of the items. So a fast pass looks whether each list ascends and
-//! each item is found in its parent's list by halving. Where that fails a second one goes by the keys (lists_by_key.rt),
-//! and where that fails too a slow pass asks list by list.
+//! It is asked list by list where the fast pass (lists_counted.rt) doesn't say that all are right.
 ghost use Rattle.std.specs.Prelude.{◌≡◌, ◌<◌, ◌↔◌, ℕ, IsTrue, codes, length};
 ghost use Rattle.dconf_model.specs.Table.{HasBytes, item_count};
 ghost use Rattle.dconf_model.specs.Names.{HasName};
-ghost use Rattle.dconf_model.specs.Searchable.{EachItem};
-ghost use Rattle.dconf_model.specs.Sound.{HasListIfAny, IsChild, KeepsAll, ListsChildren, list_length, listed};
-ghost use Rattle.dconf_model.specs.Sound.Rule.{keys, content, place};
-ghost use Rattle.gvdb_read.specs.Ascending.{Ascends, HasAscendingListIfAny, IsAscending, IsListed, IsListedIfChild};
+ghost use Rattle.dconf_model.specs.Sound.{HasListIfAny, IsChild, ListsChildren, list_length, listed};
+ghost use Rattle.gvdb_read.specs.Ascending.{Ascends, IsListed};
 ghost use Rattle.gvdb_read.specs.ListNumbers.{AreNumbers, IsFirstAt, Occurs};
 
 use crate::format::{Kind, NUMBER_LEN, number};
@@ -18,92 +14,6 @@ use gv_types::Steps;
 
 impl<'a> Table<'a> {
     ghost use Rattle.gvdb_read.specs.Tables.{region};
-
-    // ---- the fast pass
-
-    /// Whether each list holds children of its item alone, in ascending order, and is empty only at `/`.
-    pub(super) fn lists_ascend(self) -> bool
-        requires content { KeepsAll (region self) content }
-        ensures { IsTrue result ↔ EachItem (region self.entry) (HasAscendingListIfAny (region self.entry)) }
-    {
-        for i in 0..self.n_items() {
-            if !self.has_ascending_list_if_any(i) {
-                return false;
-            }
-        }
-        true
-    }
-
-    /// Whether the item is no list, or one that ascends.
-    fn has_ascending_list_if_any(self, i: u32) -> bool
-        requires counted { i < item_count (region self) }
-        requires valid { HasBytes (region self) i }
-        ensures { IsTrue result ↔ HasAscendingListIfAny (region self.entry) i }
-    {
-        !self.has_kind(i, Kind::List) || self.has_ascending_list(i)
-    }
-
-    /// Whether the list holds children of its item alone, in ascending order, and is empty only at `/`.
-    fn has_ascending_list(self, i: u32) -> bool
-        requires counted { i < item_count (region self) }
-        requires valid { HasBytes (region self) i }
-        ensures { IsTrue result ↔ IsAscending (region self.entry) i }
-    {
-        self.lists_children_alone(i) && self.ascends(i) && self.is_empty_at_root_alone(i)
-    }
-
-    /// Whether the numbers in the list rise.
-    fn ascends(self, i: u32) -> bool
-        requires counted { i < item_count (region self) }
-        requires valid { HasBytes (region self) i }
-        ensures { IsTrue result ↔ Ascends (region self.entry) i }
-    {
-        self.numbers(i)
-            .is_sorted_by(|left, right| number(left) < number(right))
-    }
-
-    /// Whether each item with a parent is in its parent's list.
-    pub(super) fn each_is_listed(self) -> bool
-        requires keys { KeepsAll (region self) keys }
-        requires content { KeepsAll (region self) content }
-        requires place { KeepsAll (region self) place }
-        requires ascending { EachItem (region self) (HasAscendingListIfAny (region self)) }
-        ensures { IsTrue result ↔ EachItem (region self.entry) (IsListedIfChild (region self.entry)) }
-    {
-        for j in 0..self.n_items() {
-            if !self.is_listed_if_child(j) {
-                return false;
-            }
-        }
-        true
-    }
-
-    /// Whether the item has no parent, or is in its parent's list.
-    fn is_listed_if_child(self, j: u32) -> bool
-        requires keys { KeepsAll (region self) keys }
-        requires content { KeepsAll (region self) content }
-        requires place { KeepsAll (region self) place }
-        requires ascending { EachItem (region self) (HasAscendingListIfAny (region self)) }
-        requires counted { j < item_count (region self) }
-        ensures { IsTrue result ↔ IsListedIfChild (region self.entry) j }
-    {
-        match self.parent_at(j) {
-            Some(parent) => self.is_found_by_halving(parent, j),
-            None => true,
-        }
-    }
-
-    /// Whether the number is in a list that ascends.
-    fn is_found_by_halving(self, i: u32, item: u32) -> bool
-        requires counted { i < item_count (region self) }
-        requires valid { HasBytes (region self) i }
-        requires ascends { Ascends (region self) i }
-        ensures { IsTrue result ↔ IsListed (region self.entry) i item }
-    {
-        self.numbers(i).binary_search_by_key(&item, number).is_ok()
-    }
-
-    // ---- the slow pass
 
     /// Whether item `i` keeps the rule.
     pub(super) fn has_list_if_any(self, i: u32) -> bool
@@ -175,6 +85,16 @@ impl<'a> Table<'a> {
 
     // ---- one list
 
+    /// Whether the numbers in the list rise.
+    pub(super) fn ascends(self, i: u32) -> bool
+        requires counted { i < item_count (region self) }
+        requires valid { HasBytes (region self) i }
+        ensures { IsTrue result ↔ Ascends (region self.entry) i }
+    {
+        self.numbers(i)
+            .is_sorted_by(|left, right| number(left) < number(right))
+    }
+
     /// Whether the list has numbers, or is that of `/`.
     pub(super) fn is_empty_at_root_alone(self, i: u32) -> bool
         requires counted { i < item_count (region self) }
@@ -186,6 +106,7 @@ impl<'a> Table<'a> {
     }
 
     /// Whether this is the number of an item whose parent is item `i`.
+    #[inline(always)]
     fn is_child(self, i: u32, number: u32) -> bool
         ensures { IsTrue result ↔ IsChild (region self.entry) i number }
     {
@@ -193,6 +114,7 @@ impl<'a> Table<'a> {
     }
 
     /// The numbers in the list, each as its four bytes.
+    #[inline(always)]
     pub(super) fn numbers(self, i: u32) -> &'a [[u8; NUMBER_LEN]]
         requires counted { i < item_count (region self) }
         requires valid { HasBytes (region self) i }

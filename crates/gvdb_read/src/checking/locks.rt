@@ -13,9 +13,18 @@ use gv_types::Steps;
 impl<'a> Table<'a> {
     ghost use Rattle.gvdb_read.specs.Tables.{region};
 
-    /// Whether item `i` keeps the rule. It looks at no more than the last seven bytes of the item's name, and checks the
-    /// table of locks where it comes upon it.
+    /// Whether item `i` keeps the rule. Of an item that is no table it looks at the kind alone, of one that is at no more
+    /// than the last seven bytes of its name. It checks the table of locks where it comes upon it.
     pub(super) fn has_locks_if_any(self, i: u32) -> bool
+        requires place { KeepsAll (region self) place }
+        requires counted { i < item_count (region self) }
+        ensures { IsTrue result ↔ HasLocksIfAny (region self.entry) i }
+    {
+        !self.has_kind(i, Kind::Table) || self.has_locks_if_named(i)
+    }
+
+    /// The same, without a look at the kind.
+    fn has_locks_if_named(self, i: u32) -> bool
         requires place { KeepsAll (region self) place }
         ensures { IsTrue result ↔ HasLocksIfAny (region self.entry) i }
     {

@@ -13,6 +13,7 @@ impl<'a> Table<'a> {
 
     /// Whether no lower item has the full name of item `i`. One that has it has the same hash, and so it is in the
     /// same bucket.
+    #[inline(always)]
     pub(super) fn is_only_named(self, i: u32) -> bool
         requires keys { KeepsAll (region self) keys }
         requires chain { KeepsAll (region self) chain }
@@ -31,6 +32,7 @@ impl<'a> Table<'a> {
     }
 
     /// Whether items `i` and `j` have the same full name. Where their hashes differ, the names do.
+    #[inline(always)]
     fn has_name_of(self, i: u32, j: u32) -> bool
         requires keys { KeepsAll (region self) keys }
         requires chain { KeepsAll (region self) chain }

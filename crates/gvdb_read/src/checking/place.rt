@@ -2,6 +2,7 @@
 //! list; full names are short.
 ghost use Rattle.std.specs.Prelude.{◌≡◌, ◌<◌, ◌⊎◌, ◌↔◌, Contains, IsTrue, codes};
 ghost use Rattle.dconf_model.specs.Table.{item, item_count, key, list_kind, table_kind, value_kind};
+ghost use Rattle.dconf_model.specs.Searchable.{HasGoodKey};
 ghost use Rattle.dconf_model.specs.Sound.{HasPlace, IsDirectoryPart, KeepsAll, HasParent};
 ghost use Rattle.dconf_model.specs.Sound.Rule.{keys, chain};
 
@@ -23,6 +24,7 @@ impl<'a> Table<'a> {
     }
 
     /// Whether item `i` is where an item of its kind and key may occur.
+    #[inline(always)]
     pub(super) fn has_parent(self, i: u32) -> bool
         requires keys { KeepsAll (region self) keys }
         requires counted { i < item_count (region self) }
@@ -37,8 +39,9 @@ impl<'a> Table<'a> {
     }
 
     /// The key of an item. It is empty where the key's bytes don't lie in the file, which the rule on keys excludes.
+    #[inline(always)]
     pub(super) fn key(self, i: u32) -> &'a [u8]
-        requires keys { KeepsAll (region self) keys }
+        requires good { HasGoodKey (region self) i }
         requires counted { i < item_count (region self) }
         ensures { result.now ≡ key (region self.entry) i }
     {
@@ -47,6 +50,7 @@ impl<'a> Table<'a> {
 }
 
 /// Whether this is the kind and the key of `/`, or of the table of locks.
+#[inline(always)]
 fn is_top(kind: u8, key: &[u8]) -> bool
     ensures { IsTrue result ↔ ((kind ≡ list_kind) × (key.now ≡ codes "/")
         ⊎ (kind ≡ table_kind) × (key.now ≡ codes ".locks")) }
@@ -56,6 +60,7 @@ fn is_top(kind: u8, key: &[u8]) -> bool
 }
 
 /// Whether this is the kind and the last part of the path of a key, or of a directory.
+#[inline(always)]
 fn is_part(kind: u8, key: &[u8]) -> bool
     ensures { IsTrue result ↔ ((kind ≡ value_kind) × ¬ Contains key.now 47
         ⊎ (kind ≡ list_kind) × IsDirectoryPart key.now) }
@@ -65,6 +70,7 @@ fn is_part(kind: u8, key: &[u8]) -> bool
 }
 
 /// Whether the key has one slash, at its end and not alone.
+#[inline(always)]
 fn is_directory_part(key: &[u8]) -> bool
     ensures { IsTrue result ↔ IsDirectoryPart key.now }
 {

@@ -9,6 +9,7 @@ impl Table<'_> {
     ghost use Rattle.gvdb_read.specs.Tables.{region};
 
     /// Whether item `i` keeps the rule. It looks at the item and at its bucket.
+    #[inline(always)]
     pub(super) fn is_in_span(self, i: u32) -> bool
         requires { i < item_count (region self) }
         ensures { IsTrue result ↔ IsInSpan (region self.entry) i }

@@ -13,8 +13,29 @@ pub fn hash(name: &[u8]) -> u32
 }
 
 /// The hash of some bytes and of those after them, of the hash of the first. So a name's hash goes on from its
-/// directory's. It looks at each byte once.
+/// directory's. It looks at each byte once, and takes them by fours where it can: that is fewer steps.
 pub(crate) fn hash_on(hash: u32, bytes: &[u8]) -> u32
+    ensures { result ≡ fold hash_step hash bytes.now }
+{
+    let (fours, rest) = bytes.as_chunks();
+    hash_one_by_one(hash_by_fours(hash, fours), rest)
+}
+
+/// The same, of groups of four bytes.
+#[inline(always)]
+fn hash_by_fours(hash: u32, fours: &[[u8; 4]]) -> u32
+    ensures { result ≡ fold (fold hash_step) hash fours.now }
+{
+    let mut hash = hash;
+    for four in fours {
+        hash = hash_with_four(hash, four);
+    }
+    hash
+}
+
+/// The same, byte by byte.
+#[inline(always)]
+fn hash_one_by_one(hash: u32, bytes: &[u8]) -> u32
     ensures { result ≡ fold hash_step hash bytes.now }
 {
     let mut hash = hash;
@@ -22,6 +43,18 @@ pub(crate) fn hash_on(hash: u32, bytes: &[u8]) -> u32
         hash = hash_with(hash, *byte);
     }
     hash
+}
+
+/// The hash of some bytes and four more: each counts 33 times as much as the one after it.
+#[inline(always)]
+fn hash_with_four(hash: u32, four: &[u8; 4]) -> u32
+    ensures { result ≡ fold hash_step hash four.now }
+{
+    hash.wrapping_mul(1_185_921)
+        .wrapping_add(signed(four[0]).wrapping_mul(35_937))
+        .wrapping_add(signed(four[1]).wrapping_mul(1_089))
+        .wrapping_add(signed(four[2]).wrapping_mul(33))
+        .wrapping_add(signed(four[3]))
 }
 
 /// The hash of some bytes and one more, of the hash of those. So the hashes of a name's directories come on the way.
@@ -37,9 +70,5 @@ pub fn hash_with(hash: u32, byte: u8) -> u32
 pub(crate) fn signed(byte: u8) -> u32
     ensures { (hash : ℕ) → hash_step hash byte ≡ (hash * 33 + result) % 2 ^ 32 }
 {
-    if byte < 128 {
-        u32::from(byte)
-    } else {
-        u32::from(byte) + 0xffff_ff00
-    }
+    i32::from(byte.cast_signed()).cast_unsigned()
 }

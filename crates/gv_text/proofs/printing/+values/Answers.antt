@@ -37,6 +37,7 @@ use Rattle.gv_text.proofs.ContainerTexts.{
 use Rattle.gv_text.proofs.Containers.{fault_of_children}
 use Rattle.gv_text.proofs.ChildTexts.{childless_text, first_fault, left_first, left_next, left_none, one_member, other_members, rest_of_plain, same_faults}
 use Rattle.gv_text.proofs.ArrayTexts.{array_written, byte_string_text}
+use Rattle.gv_text.proofs.DefaultTexts.{empty_deep, empty_fits, empty_value, empty_written}
 use Rattle.gv_text.proofs.Levels.{childless_fits, first_too_deep, begin_levels, next_levels, then_too_deep, all_fit}
 use Rattle.gv_text.proofs.Maybes.{maybe_text, within_written}
 use Rattle.gv_text.proofs.printing.+values.Goals as goal
@@ -55,29 +56,44 @@ use Rattle.gv_text.proofs.printing.+values.Goals.{
 
 -- ---- push_value
 
+pub push_value-returns-then-is_empty-clause-text : goal.push_value-returns-then-is_empty-clause-text
+push_value-returns-then-is_empty-clause-text t c =
+    let none = empty_value (view_ty c.args.view) (view_bytes c.args.view) (rw c.bytes.ensures at (sym c.is_empty.ensures ∙ c.if-is_empty.true)) in
+    empty_written c.push_default.result (view_ty c.args.view) (value c.args.view) c.args.levels c.args.annotated c.args.in_array (string_bytes c.args.to.now) (string_bytes c.push_default.new.to) none (rw c.type_str.ensures at c.push_default.ensures)
+
+pub push_value-returns-then-is_empty-clause-fits : goal.push_value-returns-then-is_empty-clause-fits
+push_value-returns-then-is_empty-clause-fits t c =
+    let none = empty_value (view_ty c.args.view) (view_bytes c.args.view) (rw c.bytes.ensures at (sym c.is_empty.ensures ∙ c.if-is_empty.true)) in
+    empty_fits c.push_default.result (view_ty c.args.view) (value c.args.view) c.args.levels c.args.annotated c.args.in_array (string_bytes c.args.to.now) (string_bytes c.push_default.new.to) none (rw c.type_str.ensures at c.push_default.ensures)
+
+pub push_value-returns-then-is_empty-clause-deep : goal.push_value-returns-then-is_empty-clause-deep
+push_value-returns-then-is_empty-clause-deep t c =
+    let none = empty_value (view_ty c.args.view) (view_bytes c.args.view) (rw c.bytes.ensures at (sym c.is_empty.ensures ∙ c.if-is_empty.true)) in
+    empty_deep c.push_default.result (view_ty c.args.view) (value c.args.view) c.args.levels c.args.annotated c.args.in_array (string_bytes c.args.to.now) (string_bytes c.push_default.new.to) none (rw c.type_str.ensures at c.push_default.ensures)
+
 pub push_value-returns-in-Basic-clause-text : goal.push_value-returns-in-Basic-clause-text
 push_value-returns-in-Basic-clause-text t c =
-    let kind = c.in-Basic.ensures ∙ ap (λ s. class_of (ty s)) c.type_str.ensures in
+    let kind = c.in-Basic.ensures ∙ ap (λ s. class_of (ty s)) c.type_str-2.ensures in
     written_as c.push_basic.result (value c.args.view) _ _ (string_bytes c.args.to.now) (string_bytes c.push_basic.new.to) (same_in_array (view_ty c.args.view) (view_bytes c.args.view) c.args.annotated c.args.in_array (λ e. basic_no_entry c.in-Basic.basic (kind ∙ e))) c.push_basic.ensures.text
 
 pub push_value-returns-in-Variant-clause-text : goal.push_value-returns-in-Variant-clause-text
 push_value-returns-in-Variant-clause-text t c =
-    let kind = sym (c.in-Variant.ensures ∙ ap (λ s. class_of (ty s)) c.type_str.ensures) in
+    let kind = sym (c.in-Variant.ensures ∙ ap (λ s. class_of (ty s)) c.type_str-2.ensures) in
     written_as c.push_variant.result (value c.args.view) _ _ (string_bytes c.args.to.now) (string_bytes c.push_variant.new.to) (variant_alike (view_ty c.args.view) (view_bytes c.args.view) c.args.annotated c.args.in_array kind) c.push_variant.ensures.text
 
 pub push_value-returns-in-Array-clause-text : goal.push_value-returns-in-Array-clause-text
 push_value-returns-in-Array-clause-text t c =
-    let kind = c.in-Array.ensures ∙ ap (λ s. class_of (ty s)) c.type_str.ensures in
+    let kind = c.in-Array.ensures ∙ ap (λ s. class_of (ty s)) c.type_str-2.ensures in
     written_as c.push_array.result (value c.args.view) _ _ (string_bytes c.args.to.now) (string_bytes c.push_array.new.to) (same_in_array (view_ty c.args.view) (view_bytes c.args.view) c.args.annotated c.args.in_array (λ e. array_no_entry (kind ∙ e))) c.push_array.ensures.text
 
 pub push_value-returns-in-Maybe-clause-text : goal.push_value-returns-in-Maybe-clause-text
 push_value-returns-in-Maybe-clause-text t c =
-    let kind = c.in-Maybe.ensures ∙ ap (λ s. class_of (ty s)) c.type_str.ensures in
+    let kind = c.in-Maybe.ensures ∙ ap (λ s. class_of (ty s)) c.type_str-2.ensures in
     written_as c.push_maybe.result (value c.args.view) _ _ (string_bytes c.args.to.now) (string_bytes c.push_maybe.new.to) (same_in_array (view_ty c.args.view) (view_bytes c.args.view) c.args.annotated c.args.in_array (λ e. maybe_no_entry (kind ∙ e))) c.push_maybe.ensures.text
 
 pub push_value-returns-in-Tuple-clause-text : goal.push_value-returns-in-Tuple-clause-text
 push_value-returns-in-Tuple-clause-text t c =
-    let kind = c.in-Tuple.ensures ∙ ap (λ s. class_of (ty s)) c.type_str.ensures in
+    let kind = c.in-Tuple.ensures ∙ ap (λ s. class_of (ty s)) c.type_str-2.ensures in
     written_as c.push_tuple.result (value c.args.view) _ _ (string_bytes c.args.to.now) (string_bytes c.push_tuple.new.to) (same_in_array (view_ty c.args.view) (view_bytes c.args.view) c.args.annotated c.args.in_array (λ e. tuple_no_entry (kind ∙ e))) c.push_tuple.ensures.text
 
 -- ---- variants, tuples and entries
@@ -234,7 +250,7 @@ push_value-returns-then-levels-eq0-clause-deep t c = λ is. omega (arith, c.if-l
 
 pub push_value-returns-in-Basic-clause-fits : goal.push_value-returns-in-Basic-clause-fits
 push_value-returns-in-Basic-clause-fits t c =
-    let class = c.in-Basic.ensures ∙ ap (λ s. class_of (ty s)) c.type_str.ensures in
+    let class = c.in-Basic.ensures ∙ ap (λ s. class_of (ty s)) c.type_str-2.ensures in
     let leaf = basic_is_leaf (view_ty c.args.view) (view_bytes c.args.view) (basic_of c.in-Basic.basic, basic_class (view_ty c.args.view) c.in-Basic.basic class) in
     always_ok c.push_basic.result (childless_fits (value c.args.view) c.args.levels (sym leaf) (omega (arith, c.if-levels-eq0.false)))
 

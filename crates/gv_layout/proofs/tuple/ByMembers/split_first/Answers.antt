@@ -1,7 +1,7 @@
-use Rattle.std.proofs.Common.{arith, length, ap, ◌∙◌}
+use Rattle.std.proofs.Common.{length, ap, ◌∙◌}
 use Rattle.std.specs.Prelude.{option_map}
-use Rattle.gv_model.specs.Layout.{fixed_size, round_up}
-use Rattle.gv_model.proofs.LayoutLaws.{alignment_pos}
+use Rattle.gv_model.specs.Layout.{fixed_size}
+use Rattle.gv_model.specs.Ty.{Ty}
 use Rattle.gv_types.specs.TypeStr.{ty}
 use Rattle.gv_types.specs.Members.{members_left}
 use Rattle.gv_layout.specs.Places.{child_of, clamp, end_by}
@@ -24,13 +24,13 @@ returns-in_default-end c =
     let self = c.args.self in
     let n = length self.bytes.now in
     let xs = members_left c.next.new.self in
-    unknown_next n self.body self.width self.used c.in-Some.previous c.begun-from.result.0 self.bytes.now self.previous (ty c.in_ok-member.member)
+    unknown_next n self.body self.width self.used c.in-Some.previous c.begin-from.result self.bytes.now self.previous (ty c.in_ok-member.member)
     xs (members_left self.members) (child_of c.nowhere-nowhere.result) c.in_ok-member.ensures.steps c.in-Some.is
-    c.begun-from.ensures.from
+    c.begin-from.ensures
     (c.in_default-end.ensures.end
-    ∙ (ap (λ o. option_map (clamp n) (end_by self.width self.bytes.now self.used c.begun-from.result.0 o c.is_empty-is_last.result)) c.begun-from.ensures.size
+    ∙ (ap (λ o. option_map (clamp n) (end_by self.width self.bytes.now self.used c.begin-from.result o c.is_empty-is_last.result)) c.sized-size.ensures.size
     ∙ ap (option_map (clamp n)) (end_by-member_end c.is_empty-is_last.result xs c.is_empty-is_last.ensures
-    self.width self.used c.begun-from.result.0 self.bytes.now (fixed_size (ty c.in_ok-member.member)))))
+    self.width self.used c.begin-from.result self.bytes.now (fixed_size (ty c.in_ok-member.member)))))
     c.nowhere-nowhere.ensures
 
 pub returns-in_default-in_order : goal.returns-in_default-in_order
@@ -39,13 +39,13 @@ returns-in_default-in_order c =
     let n = length self.bytes.now in
     let t = ty c.in_ok-member.member in
     let xs = members_left c.next.new.self in
-    out_next n self.body self.width self.used c.in-Some.previous c.begun-from.result.0 c.in-Some-end.to self.bytes.now self.previous t
+    out_next n self.body self.width self.used c.in-Some.previous c.begin-from.result c.in-Some-end.to self.bytes.now self.previous t
     xs (members_left self.members) (child_of c.nowhere-nowhere.result) self.inside c.in_ok-member.ensures.steps c.in-Some.is
-    c.begun-from.ensures.from
+    c.begin-from.ensures
     (c.in-Some-end.ensures.end
-    ∙ (ap (λ o. option_map (clamp n) (end_by self.width self.bytes.now self.used c.begun-from.result.0 o c.is_empty-is_last.result)) c.begun-from.ensures.size
+    ∙ (ap (λ o. option_map (clamp n) (end_by self.width self.bytes.now self.used c.begin-from.result o c.is_empty-is_last.result)) c.sized-size.ensures.size
     ∙ ap (option_map (clamp n)) (end_by-member_end c.is_empty-is_last.result xs c.is_empty-is_last.ensures
-    self.width self.used c.begun-from.result.0 self.bytes.now (fixed_size t))))
+    self.width self.used c.begin-from.result self.bytes.now (fixed_size t))))
     c.in_default-in_order.ensures.order c.nowhere-nowhere.ensures
 
 pub returns : goal.returns
@@ -54,13 +54,14 @@ returns c =
     let n = length self.bytes.now in
     let t = ty c.in_ok-member.member in
     let xs = members_left c.next.new.self in
-    known_next n self.body self.width self.used c.in-Some-end.used c.in-Some.previous c.begun-from.result.0 c.in-Some-end.to self.bytes.now self.previous t
+    known_next n self.body self.width self.used c.in-Some-end.used c.in-Some.previous c.begin-from.result c.in-Some-end.to self.bytes.now self.previous t
     xs (members_left self.members) (child_of c.in-Some-in_order.place) self.inside c.in_ok-member.ensures.steps c.in-Some.is
-    c.begun-from.ensures.from
+    c.begin-from.ensures
     (c.in-Some-end.ensures.end
-    ∙ (ap (λ o. option_map (clamp n) (end_by self.width self.bytes.now self.used c.begun-from.result.0 o c.is_empty-is_last.result)) c.begun-from.ensures.size
+    ∙ (ap (λ o. option_map (clamp n) (end_by self.width self.bytes.now self.used c.begin-from.result o c.is_empty-is_last.result)) c.sized-size.ensures.size
     ∙ ap (option_map (clamp n)) (end_by-member_end c.is_empty-is_last.result xs c.is_empty-is_last.ensures
-    self.width self.used c.begun-from.result.0 self.bytes.now (fixed_size t))))
-    (counted c.is_empty-is_last.result xs self.used c.in-Some-end.used c.begun-from.result.1 (fixed_size t)
-    c.is_empty-is_last.ensures c.begun-from.ensures.size c.in-Some-end.ensures.used)
-    c.in-Some-in_order.ensures.order c.in-Some-in_order.ensures.place
+    self.width self.used c.begin-from.result self.bytes.now (fixed_size t))))
+    (counted c.is_empty-is_last.result xs self.used c.in-Some-end.used c.sized-size.result.1 (fixed_size t)
+    c.is_empty-is_last.ensures c.sized-size.ensures.size c.in-Some-end.ensures.used)
+    c.in-Some-in_order.ensures.order
+    (c.in-Some-in_order.ensures.place ∙ ap (λ (u : Ty). record { type = u; from = c.begin-from.result; to = c.in-Some-end.to }) c.sized-size.ensures.same)

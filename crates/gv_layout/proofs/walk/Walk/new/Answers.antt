@@ -1,4 +1,7 @@
-use Rattle.std.proofs.Common.{sym, ◌∙◌, eqb-true}
+use Rattle.std.proofs.Common.{length, Some, None, sym, ap, ◌∙◌, eqb-true}
+use Rattle.gv_model.specs.TypeText.{type_at}
+use Rattle.gv_model.specs.Arrays.{element_spans, elements_end}
+use Rattle.gv_model.specs.Children.{children_at, ordered}
 use Rattle.gv_types.specs.TypeStr.{ty}
 use Rattle.gv_layout.proofs.Cuts.{no_children, array_class, maybe_class, cut_array, cut_elements, cut_maybe, cut_members, no_elements}
 use Rattle.gv_layout.proofs.walk.Walk.new.Goals as goal
@@ -19,7 +22,10 @@ returns-in-Some c =
 pub returns-in-None : goal.returns-in-None
 returns-in-None c =
     let of = array_class ty (ty c.args.of) c.class.result c.element.result c.unwrap-element.result c.class.ensures c.in-Array.is c.element.ensures c.unwrap-element.ensures in
-    c.of_array-in-None.ensures ∙ cut_elements (ty c.args.of) (ty c.unwrap-element.result) c.args.bytes.now of (sym c.in-None.is ∙ c.fixed_size.ensures)
+    let n = length c.args.bytes.now in
+    c.of_array-in-None.ensures
+    ∙ (ap (λ t. children_at n (ordered (Some (elements_end c.args.bytes.now None)) (element_spans t c.args.bytes.now None))) (ap type_at c.as_open.ensures.text)
+    ∙ cut_elements (ty c.args.of) (ty c.unwrap-element.result) c.args.bytes.now of (sym c.in-None.is ∙ c.fixed_size.ensures))
 
 pub returns-in-Maybe : goal.returns-in-Maybe
 returns-in-Maybe c =

@@ -17,14 +17,14 @@ range-requires-clause-end_boundary c =
     let k = has_key w c.args.self.spells_type (sym c.class.ensures ∙ c.in-Entry.is) in
     IsCharBoundary-from_ascii w 2 (type_text_is_ascii w c.args.self.spells_type) k.some
 
-pub invariant_of-result : goal.invariant_of-result
-invariant_of-result c =
+pub of_checked-requires : goal.of_checked-requires
+of_checked-requires c =
     let w = c.args.self.text.now in
     let k = has_key w c.args.self.spells_type (sym c.class.ensures ∙ c.in-Entry.is) in
-    record { spells_type = rw c.range.ensures.value (text_of_key w c.args.self.spells_type k).checked }
+    rw c.range.ensures.value (text_of_key w c.args.self.spells_type k).checked
 
 pub returns-in-Entry : goal.returns-in-Entry
 returns-in-Entry c =
     let w = c.args.self.text.now in
     let k = has_key w c.args.self.spells_type (sym c.class.ensures ∙ c.in-Entry.is) in
-    ap (λ v. Some (type_at v)) c.range.ensures.value ∙ (ap Some (text_of_key w c.args.self.spells_type k).type ∙ sym k.is)
+    ap (λ v. Some (type_at v)) (c.of_checked.ensures ∙ c.range.ensures.value) ∙ (ap Some (text_of_key w c.args.self.spells_type k).type ∙ sym k.is)

@@ -1,4 +1,5 @@
-use Rattle.std.proofs.Common.{sym, arith, eqb-true}
+use Rattle.std.proofs.Common.{sym, arith, eqb-true, Some, ap, ◌∙◌}
+use Rattle.gv_model.specs.TypeText.{type_at}
 use Rattle.std.proofs.lemmas.Bool.Decides.{nat_tests}
 use Rattle.gv_types.proofs.Whole.{no_type_read, no_type_goes_on, no_type_stops, read_whole, too_long, whole_is_utf8, whole_type}
 use Rattle.gv_types.proofs.type_str.TypeStr.of_bytes.Goals as goal
@@ -17,12 +18,12 @@ from_utf8_unchecked-text-requires c =
     let none = eqb-true _ _ (sym c.if-not-is_empty.ensures) in
     whole_is_utf8 c.args.bytes.now c.in-Ok.rest.now c.in-Ok.ensures (omega (arith, none))
 
-pub invariant_of-result : goal.invariant_of-result
-invariant_of-result c =
+pub of_checked-requires : goal.of_checked-requires
+of_checked-requires c =
     let none = eqb-true _ _ (sym c.if-not-is_empty.ensures) in
-    record { spells_type = rw c.from_utf8_unchecked-text.ensures (read_whole c.args.bytes.now c.in-Ok.rest.now c.in-Ok.ensures (omega (arith, none)) (omega (arith, c.if-bytes-gt-MAX_LEN.false))) }
+    rw c.from_utf8_unchecked-text.ensures (read_whole c.args.bytes.now c.in-Ok.rest.now c.in-Ok.ensures (omega (arith, none)) (omega (arith, c.if-bytes-gt-MAX_LEN.false)))
 
 pub returns : goal.returns
 returns c =
     let none = eqb-true _ _ (sym c.if-not-is_empty.ensures) in
-    rw c.from_utf8_unchecked-text.ensures (whole_type c.args.bytes.now c.in-Ok.rest.now c.in-Ok.ensures (omega (arith, none)) (omega (arith, c.if-bytes-gt-MAX_LEN.false)))
+    ap (λ v. Some (type_at v)) (c.of_checked.ensures ∙ c.from_utf8_unchecked-text.ensures) ∙ whole_type c.args.bytes.now c.in-Ok.rest.now c.in-Ok.ensures (omega (arith, none)) (omega (arith, c.if-bytes-gt-MAX_LEN.false))

@@ -9,10 +9,10 @@ returns-then-text-gt-MAX_LEN-clause-accepts c = no_type c.args.text.now (too_lon
 pub returns-then-is_empty-clause-accepts : goal.returns-then-is_empty-clause-accepts
 returns-then-is_empty-clause-accepts c = no_type c.args.text.now (no_empty_type c.args.text.now (eqb-true _ _ (sym c.if-is_empty.ensures)))
 
-pub invariant_of-result : goal.invariant_of-result
-invariant_of-result c =
+pub of_checked-requires : goal.of_checked-requires
+of_checked-requires c =
     let e = rw c.as_bytes.ensures.value at c.in-Ok-empty.ensures in
-    record { spells_type = read_whole c.args.text.now c.in-Ok-empty.field-0.now e c.in-Ok-empty.len_below (omega (arith, c.if-text-gt-MAX_LEN.false)) }
+    read_whole c.args.text.now c.in-Ok-empty.field-0.now e c.in-Ok-empty.len_below (omega (arith, c.if-text-gt-MAX_LEN.false))
 
 pub returns-in-Ok-clause-accepts : goal.returns-in-Ok-clause-accepts
 returns-in-Ok-clause-accepts c =

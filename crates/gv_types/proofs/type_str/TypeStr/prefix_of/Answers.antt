@@ -1,4 +1,5 @@
-use Rattle.std.proofs.Common.{rules}
+use Rattle.std.proofs.Common.{rules, Some, ap, ◌∙◌}
+use Rattle.gv_model.specs.TypeText.{type_at}
 use Rattle.gv_types.proofs.PrefixTypes.{halted_prefix, too_long_prefix, prefix_is_read, cut_after}
 use Rattle.gv_types.proofs.type_str.TypeStr.prefix_of.Goals as goal
 
@@ -18,14 +19,14 @@ range-requires-clause-end_boundary c =
     let prefix = prefix_is_read c.args.text.now c.in-Ok.rest.now read c.if-len-gt-MAX_LEN.false in
     cut_after c.args.text.now _ c.utf8.text prefix
 
-pub invariant_of-result : goal.invariant_of-result
-invariant_of-result c =
+pub of_checked-requires : goal.of_checked-requires
+of_checked-requires c =
     let read = rw c.as_bytes.ensures.value at c.in-Ok.ensures in
     let prefix = prefix_is_read c.args.text.now c.in-Ok.rest.now read c.if-len-gt-MAX_LEN.false in
-    record { spells_type = rw c.range.ensures.value prefix.checked }
+    rw c.range.ensures.value prefix.checked
 
 pub returns : goal.returns
 returns c =
     let read = rw c.as_bytes.ensures.value at c.in-Ok.ensures in
     let prefix = prefix_is_read c.args.text.now c.in-Ok.rest.now read c.if-len-gt-MAX_LEN.false in
-    rw c.range.ensures.value prefix.found
+    ap (λ v. Some (type_at v)) (c.of_checked.ensures ∙ c.range.ensures.value) ∙ prefix.found

@@ -1,6 +1,14 @@
-use Rattle.std.proofs.Common.{arith}
-use Rattle.std.proofs.lemmas.Grind.{common_steps}
+use Rattle.std.proofs.Common.{ℕ, ◌/◌, ◌*◌, ◌≡◌, ◌∙◌, length, drop, ap, ap₂, arith}
+use Rattle.std.specs.Prelude.{fold}
+use Rattle.dconf_model.specs.Bytes.{hash_step}
+use Rattle.gvdb_read.proofs.HashFours.{by_fours}
 use Rattle.gvdb_read.proofs.format.hashing.hash_on.Goals as goal
 
-pub loop-byte-preserved : goal.loop-byte-preserved
-loop-byte-preserved c = grind (arith, common_steps)
+pub returns : goal.returns
+returns c =
+    let bytes = c.args.bytes.now in
+    let count = length bytes / 4 in
+    let fours = c.hash_by_fours.ensures ∙ ap (fold (fold hash_step) c.args.hash) c.as_chunks.ensures.front in
+    let turned : count * 4 ≡ 4 * count = omega arith in
+    let rest = c.as_chunks.ensures.back ∙ ap (λ (n : ℕ). drop n bytes) turned in
+    c.hash_one_by_one.ensures ∙ (ap₂ (fold hash_step) fours rest ∙ by_fours count c.args.hash bytes)

@@ -1,0 +1,10 @@
+-- The layout of the type at the start of a text, and what follows the type.
+use Rattle.std.specs.Prelude.{◌≡◌, ℕ, List, Option}
+use Rattle.gv_model.specs.Layout.{alignment, fixed_size}
+use Rattle.gv_model.specs.TypeText.{seen}
+use Rattle.gv_types.specs.Fronts.{front, IsAfterFront}
+
+pub record IsInfoAt (text : List ℕ) (aligned : ℕ) (size : Option ℕ) (rest : List ℕ) : Type 0 where
+  pub aligned_is : aligned ≡ alignment (front (seen text))
+  pub size_is : size ≡ fixed_size (front (seen text))
+  pub after : IsAfterFront text rest

@@ -1,0 +1,38 @@
+-- What writing a value of no bytes answers.
+use Rattle.std.specs.Prelude.{◌≡◌, ◌≤◌, ◌<◌, ◌++◌, ◌⊎◌, ℕ, List, Bool, true, false}
+use Rattle.gv_model.specs.Ty.{Ty}
+use Rattle.gv_model.specs.TypeText.{seen}
+use Rattle.gv_model.specs.Tree.{Tree, children, default, depth}
+use Rattle.gv_model.specs.Printed.{Text, joined_by, text_of, holds_double}
+use Rattle.gv_types.specs.Classes.{class_of}
+use Rattle.gv_types.specs.declared.class.Class.TheVariants as classes
+use Rattle.gv_types.specs.Fronts.{front}
+use Rattle.gv_text.specs.declared.printing.PrintFault.{PrintFault}
+use Rattle.gv_text.specs.declared.printing.PrintFault.TheVariants.{TooLarge, DoubleText, Memory}
+use Rattle.gv_text.specs.Printing.{child_texts}
+
+-- the default of the type at the start of a text
+abbrev pub default_in : List ℕ → Tree
+default_in text = default (front (seen text))
+
+-- a type whose default has nothing in it
+abbrev pub IsEmptied : Ty → Type 0
+IsEmptied t = (class_of t ≡ classes.Array) ⊎ (class_of t ≡ classes.Maybe)
+
+-- the value has no more than these levels and no double, and its text is what came to the old one
+pub record Writes (v : Tree) (levels : ℕ) (annotated in_array : Bool) (old new : Text) : Type 0 where
+  pub plain : holds_double v ≡ false
+  pub text : new ≡ old ++ text_of v annotated in_array
+  pub fits : depth v ≤ levels
+
+-- the same of an entry's parts with a mark between them
+pub record WritesJoined (v : Tree) (levels : ℕ) (mark : Text) (annotated : Bool) (old new : Text) : Type 0 where
+  pub plain : holds_double v ≡ false
+  pub text : new ≡ old ++ joined_by mark (child_texts (children v) annotated false)
+  pub fits : depth v ≤ levels
+
+-- why it isn't written
+abbrev pub IsLevelFault : Tree → ℕ → PrintFault → Type 0
+IsLevelFault v levels TooLarge = levels < depth v
+IsLevelFault v levels DoubleText = holds_double v ≡ true
+IsLevelFault v levels Memory = Unit {0}

@@ -1,0 +1,248 @@
+//! Values of no bytes as text. They are the defaults of their types (GVariant Specification, "Handling Non-Normal
+//! Serialised Data"): 0, false, '', '/' for an object path, no element, Nothing, defaults in a tuple, `<()>` for a variant.
+//!
+//! A default is told by its type alone, so it is written in one walk along the letters of the type's text.
+ghost use Rattle.std.specs.Prelude.{◌≡◌, ◌<◌, ◌++◌, true, false, length, drop, OnOk, MatchOption, MatchResult, string_bytes};
+ghost use Rattle.gv_model.specs.Ty.{Ty.variant};
+ghost use Rattle.gv_model.specs.TypeText.{seen};
+ghost use Rattle.gv_model.specs.Tree.{basic_default, default};
+ghost use Rattle.gv_model.specs.Printed.{text_of, holds_double};
+ghost use Rattle.gv_types.specs.Classes.{basic_of, class_of};
+ghost use Rattle.gv_types.specs.TypeStr.{ty};
+ghost use Rattle.gv_types.specs.Fronts.{front, BeginsFront, IsAfterFront};
+ghost use Rattle.gv_types.specs.declared.class.Class.TheVariants.{Tuple, Entry};
+ghost use Rattle.gv_text.specs.declared.printing.PrintFault.TheVariants.{TooLarge, Memory};
+ghost use Rattle.gv_text.specs.Printing.{IsElementFault, figures_of};
+ghost use Rattle.gv_text.specs.Defaults.{default_in, IsEmptied, IsLevelFault, Writes, WritesJoined};
+
+use super::PrintFault;
+use super::array::brackets;
+use super::basic::push_word;
+use super::type_mark::push_type_mark;
+use gv_types::{BasicType, Class, TypeStr};
+use std::alloc::AllocError;
+
+/// Writes the default of a type, which has no more than these levels.
+pub(super) fn push_default(
+    to: &mut String,
+    of: TypeStr<'_>,
+    levels: u8,
+    annotated: bool,
+    in_array: bool,
+) -> Result<(), PrintFault>
+    requires { 0 < levels }
+    ensures { MatchResult result
+        (λ _. Writes (default (ty of.entry)) levels annotated in_array (string_bytes to.old) (string_bytes to.new))
+        (IsLevelFault (default (ty of.entry)) levels) }
+{
+    match of.class() {
+        Class::Array | Class::Maybe => push_emptied(to, of, annotated)?,
+        _ => {
+            push_front(to, of.as_str().as_bytes(), levels, annotated, in_array)?;
+        }
+    }
+    Ok(())
+}
+
+/// Writes the default of the type at the start of the text, and answers what comes after the type.
+#[cycle(defaults)]
+fn push_front<'a>(
+    to: &mut String,
+    text: &'a [u8],
+    levels: u8,
+    annotated: bool,
+    in_array: bool,
+) -> Result<&'a [u8], PrintFault>
+    requires { BeginsFront text.now }
+    ensures { MatchResult result
+        (λ rest. IsAfterFront text.entry.now rest.now
+        × Writes (default_in text.entry.now) levels annotated in_array (string_bytes to.old) (string_bytes to.new))
+        (IsLevelFault (default_in text.entry.now) levels) }
+{
+    if levels == 0 {
+        return Err(PrintFault::TooLarge);
+    }
+    match Class::of_letter(text[0]).unwrap() {
+        Class::Basic(of) => {
+            push_basic_default(to, of, annotated)?;
+            Ok(after_letter(text))
+        }
+        Class::Variant => {
+            push_variant_default(to, levels)?;
+            Ok(after_letter(text))
+        }
+        Class::Array | Class::Maybe => push_emptied_front(to, text, annotated),
+        Class::Tuple => push_tuple_default(to, text, levels, annotated),
+        Class::Entry => push_entry_default(to, text, levels, annotated, in_array),
+    }
+}
+
+/// The text after its first letter.
+fn after_letter(text: &[u8]) -> &[u8]
+    requires { 0 < length text.now }
+    ensures { result.now ≡ drop 1 text.entry.now }
+{
+    &text[1..]
+}
+
+/// Writes the default of the tuple at the start of the text, and answers what comes after the tuple.
+#[cycle(defaults)]
+fn push_tuple_default<'a>(
+    to: &mut String,
+    text: &'a [u8],
+    levels: u8,
+    annotated: bool,
+) -> Result<&'a [u8], PrintFault>
+    requires front { BeginsFront text.now }
+    requires kind { class_of (front (seen text.now)) ≡ Tuple }
+    requires some { 0 < levels }
+    ensures { MatchResult result
+        (λ rest. IsAfterFront text.entry.now rest.now
+        × Writes (default_in text.entry.now) levels annotated false (string_bytes to.old) (string_bytes to.new))
+        (IsLevelFault (default_in text.entry.now) levels) }
+{
+    to.push('(')?;
+    let inside = after_letter(text);
+    if inside[0] == b')' {
+        to.push(')')?;
+        return Ok(after_letter(inside));
+    }
+    let mut rest = push_front(to, inside, levels - 1, annotated, false)?;
+    if rest[0] == b')' {
+        to.push_str(",)")?;
+        return Ok(after_letter(rest));
+    }
+    while rest[0] != b')' {
+        to.push_str(", ")?;
+        rest = push_front(to, rest, levels - 1, annotated, false)?;
+    }
+    to.push(')')?;
+    Ok(after_letter(rest))
+}
+
+/// Writes the default of the entry at the start of the text, and answers what comes after the entry.
+#[cycle(defaults)]
+fn push_entry_default<'a>(
+    to: &mut String,
+    text: &'a [u8],
+    levels: u8,
+    annotated: bool,
+    in_array: bool,
+) -> Result<&'a [u8], PrintFault>
+    requires front { BeginsFront text.now }
+    requires kind { class_of (front (seen text.now)) ≡ Entry }
+    requires some { 0 < levels }
+    ensures { MatchResult result
+        (λ rest. IsAfterFront text.entry.now rest.now
+        × Writes (default_in text.entry.now) levels annotated in_array (string_bytes to.old) (string_bytes to.new))
+        (IsLevelFault (default_in text.entry.now) levels) }
+{
+    if in_array {
+        return push_pair(to, text, levels, ": ", annotated);
+    }
+    to.push('{')?;
+    let rest = push_pair(to, text, levels, ", ", annotated)?;
+    to.push('}')?;
+    Ok(rest)
+}
+
+/// Writes the default key and value of the entry at the start of the text, with `mark` between them, and answers what
+/// comes after the entry.
+#[cycle(defaults)]
+fn push_pair<'a>(
+    to: &mut String,
+    text: &'a [u8],
+    levels: u8,
+    mark: &str,
+    annotated: bool,
+) -> Result<&'a [u8], PrintFault>
+    requires front { BeginsFront text.now }
+    requires kind { class_of (front (seen text.now)) ≡ Entry }
+    requires some { 0 < levels }
+    ensures { MatchResult result
+        (λ rest. IsAfterFront text.entry.now rest.now
+        × WritesJoined (default_in text.entry.now) levels mark.now annotated (string_bytes to.old) (string_bytes to.new))
+        (IsLevelFault (default_in text.entry.now) levels) }
+{
+    let value = push_front(to, after_letter(text), levels - 1, annotated, false)?;
+    to.push_str(mark)?;
+    let rest = push_front(to, value, levels - 1, annotated, false)?;
+    Ok(after_letter(rest))
+}
+
+/// Writes the default of the array or maybe at the start of the text, and answers what comes after its type.
+fn push_emptied_front<'a>(
+    to: &mut String,
+    text: &'a [u8],
+    annotated: bool,
+) -> Result<&'a [u8], PrintFault>
+    requires front { BeginsFront text.now }
+    requires kind { IsEmptied (front (seen text.now)) }
+    ensures { MatchResult result
+        (λ rest. IsAfterFront text.entry.now rest.now
+        × (string_bytes to.new ≡ string_bytes to.old ++ text_of (default_in text.entry.now) annotated false))
+        (λ f. f ≡ Memory) }
+{
+    let (of, rest) = TypeStr::split_prefix(text).unwrap();
+    push_emptied(to, of, annotated)?;
+    Ok(rest)
+}
+
+/// Writes an array without elements, or Nothing, after its type if it is annotated.
+fn push_emptied(to: &mut String, of: TypeStr<'_>, annotated: bool) -> Result<(), AllocError>
+    requires { IsEmptied (ty of) }
+    ensures { OnOk result (string_bytes to.new ≡ string_bytes to.old ++ text_of (default (ty of.entry)) annotated false) }
+{
+    if annotated {
+        push_type_mark(to, of)?;
+    }
+    if let Class::Maybe = of.class() {
+        return to.push_str("nothing");
+    }
+    let (left, right) = brackets(of);
+    to.push(left)?;
+    to.push(right)
+}
+
+/// Writes the default of a variant, which has two levels.
+fn push_variant_default(to: &mut String, levels: u8) -> Result<(), PrintFault>
+    ensures { MatchResult result
+        (λ _. Writes (default variant) levels true false (string_bytes to.old) (string_bytes to.new))
+        (IsLevelFault (default variant) levels) }
+{
+    if levels < 2 {
+        return Err(PrintFault::TooLarge);
+    }
+    Ok(to.push_str("<()>")?)
+}
+
+/// Writes the default of a basic type, after the type's word if it is annotated.
+fn push_basic_default(to: &mut String, of: BasicType, annotated: bool) -> Result<(), PrintFault>
+    ensures { MatchResult result
+        (λ _. (holds_double (basic_default (basic_of of)) ≡ false)
+        × (string_bytes to.new ≡ string_bytes to.old ++ text_of (basic_default (basic_of of)) annotated false))
+        (λ f. (f ≡ TooLarge → ⊥) × IsElementFault (basic_default (basic_of of)) f) }
+{
+    let Some(figures) = default_figures(of) else {
+        return Err(PrintFault::DoubleText);
+    };
+    if annotated {
+        push_word(to, of)?;
+    }
+    Ok(to.push_str(figures)?)
+}
+
+/// The text of a basic type's default, or None for a double.
+fn default_figures(of: BasicType) -> Option<&'static str>
+    ensures { MatchOption result (holds_double (basic_default (basic_of of)) ≡ true)
+        (λ s. (holds_double (basic_default (basic_of of)) ≡ false) × (s.now ≡ figures_of (basic_default (basic_of of)))) }
+{
+    match of {
+        BasicType::Boolean => Some("false"),
+        BasicType::Byte => Some("0x00"),
+        BasicType::Text | BasicType::Signature => Some("''"),
+        BasicType::ObjectPath => Some("'/'"),
+        BasicType::Double => None,
+        _ => Some("0"),
+    }
+}

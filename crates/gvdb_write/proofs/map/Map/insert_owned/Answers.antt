@@ -1,0 +1,24 @@
+use Rattle.dconf_path.specs.Paths.{key_text}
+use Rattle.std.proofs.Common.{◌≡◌, ◌∙◌, ap, refl, rules, List, ℕ}
+use Rattle.std.specs.String.{string_bytes}
+use Rattle.dconf_model.specs.Settings.{Settings, AtPaths, with_value}
+use Rattle.gvdb_write.specs.Maps.{locks_of}
+use Rattle.gvdb_write.proofs.Read.{inserted}
+use Rattle.gvdb_write.proofs.KeyPaths.{kept_where_inserted}
+use Rattle.gvdb_write.proofs.map.Map.insert_owned.Goals as goal
+
+pub invariant_of-self-2 : goal.invariant_of-self-2
+invariant_of-self-2 c =
+    let path = key_text c.args.path in
+    let named : string_bytes c.in_ok-text.text ≡ path = search rules in
+    let e = inserted c.self.inside.values c.insert.new.self c.in_ok-text.text c.args.value path c.args.value.items c.in_ok-insert.ensures.updates named refl in
+    kept_where_inserted c.self.inside.values c.insert.new.self c.self.inside.locks path c.args.value.items c.self.invariant c.args.path.is_of_key e
+
+pub returns-clause-ok : goal.returns-clause-ok
+returns-clause-ok c =
+    let named : string_bytes c.in_ok-text.text ≡ (key_text c.args.path) = search rules in
+    let e = inserted c.self.inside.values c.insert.new.self c.in_ok-text.text c.args.value (key_text c.args.path) c.args.value.items c.in_ok-insert.ensures.updates named refl in
+    ap (λ (v : AtPaths (List ℕ)). record { values = v; locks = locks_of c.self.inside.locks }) e ∙ ap (λ (s : Settings). with_value s (key_text c.args.path) c.args.value.items) c.self.view_is
+
+pub returns-clause-err : goal.returns-clause-err
+returns-clause-err c = search rules
