@@ -81,10 +81,24 @@ static bool open_file(Input *in) {
     return dconf_bench_open(in->file, in->file_len);
 }
 
-static bool find(const Input *in, const char *name) {
+static bool find_in(bytes_at file, size_t file_len, const char *name) {
     size_t len = 0;
-    bool found = dconf_bench_find(in->file, in->file_len, (bytes_at)name, strlen(name), &len);
+    bool found = dconf_bench_find(file, file_len, (bytes_at)name, strlen(name), &len);
     return found && len == strlen(name) + 1;
+}
+
+static bool find(const Input *in, const char *name) {
+    return find_in(in->file, in->file_len, name);
+}
+
+/* What is left of opening, and of looking up, where there is no file: the call from C, and the test that the name is UTF-8. */
+
+static bool open_nothing(Input *in) {
+    return !dconf_bench_open(in->file, 0);
+}
+
+static bool find_in_nothing(Input *in) {
+    return !find_in(in->file, 0, in->there);
 }
 
 static bool find_there(Input *in) {
@@ -202,6 +216,8 @@ static const struct {
     const char *name;
     bool (*run)(Input *in);
 } CASES[] = {
+    {"nothing", open_nothing},
+    {"name", find_in_nothing},
     {"open", open_file},
     {"there", find_there},
     {"missing", find_missing},

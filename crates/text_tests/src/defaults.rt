@@ -108,8 +108,10 @@ fn nested_in_variants(
     tuples: usize,
     within: &str,
 ) -> Result<Result<String, PrintFault>, Fail> {
-    let (opening, closing) = ("(".repeat(alloc, tuples)?, ")".repeat(alloc, tuples)?);
-    let bytes = format!(in alloc; "\0{opening}{within}{closing}\0v")?;
+    let mut of = "(".repeat(alloc, tuples)?;
+    of.push_str(within)?;
+    of.push_str(&")".repeat(alloc, tuples)?)?;
+    let bytes = format!(in alloc; "\0{of}\0v")?;
     Ok(print(alloc, View::new(TypeStr::parse("v")?, bytes.as_bytes())))
 }
 
