@@ -54,18 +54,20 @@ fn letter_alignment(letter: u8) -> u8
 
 /// The number of bytes of each value of this type, or None where they differ in it.
 ///
-/// It looks at the letters of the type's text, as far as to the first of a type that has no fixed size, and at none where the
-/// type is known to have none. Where there is none it walks the text once more.
+/// It looks at the first letter of the type's text. Of a tuple or an entry that is not known to have none it looks at the letters
+/// as far as to the first of a type that has none, and where there is none it walks the text once more.
 pub fn fixed_size(of: TypeStr<'_>) -> Option<usize>
     ensures { result ≡ fixed_size (ty of.entry) }
 {
     if of.is_known_open() {
         return None;
     }
-    if has_open_letter(of.as_str().as_bytes()) {
-        return None;
+    match of.class() {
+        Class::Basic(basic) => basic_info(basic).size,
+        Class::Variant | Class::Array | Class::Maybe => None,
+        Class::Tuple | Class::Entry if has_open_letter(of.as_str().as_bytes()) => None,
+        Class::Tuple | Class::Entry => info_at(of.as_str().as_bytes()).info.size,
     }
-    type_info(of).size
 }
 
 /// Whether a letter of the text is of a type that has no fixed size.

@@ -57,7 +57,10 @@ impl<'a, 'b> Walk<'a, 'b> {
                 }
                 match fixed_size(element) {
                     Some(size) => Walk::FixedSize(FixedSize::of_array(element, size, bytes)),
-                    None => Walk::ByOffsets(ByOffsets::of_array(element.as_open(), bytes)),
+                    None => Walk::ByOffsets(ByOffsets::of_array(
+                        element.as_open().as_read(),
+                        bytes,
+                    )),
                 }
             }
             Class::Maybe => Walk::FixedSize(FixedSize::of_maybe(

@@ -3,6 +3,7 @@ pub mod ClassLaws
 pub mod Firsts
 pub mod MemberLaws
 pub mod TypeSteps
+mod LetterRuns
 pub mod Stops
 pub mod Whole
 pub mod TypeLists

@@ -1,5 +1,5 @@
 -- The type at the start of bytes, cut off from what follows it.
-use Rattle.std.proofs.Common.{ℕ, ◌-◌, ◌≤◌, ◌≡◌, List, [], ◌++◌, Option, Some, None, true, refl, sym, ap, ◌∙◌, subst, arith, length, take, drop}
+use Rattle.std.proofs.Common.{ℕ, ◌-◌, ◌≤◌, ◌≡◌, List, [], ◌++◌, Option, Some, None, true, refl, sym, ap, ◌∙◌, subst, arith, length, take, drop, append-nil}
 use Rattle.std.specs.Prelude.{IsSome, option_map}
 use Rattle.std.proofs.lemmas.Option.{none-some}
 use Rattle.std.specs.Str.{IsUtf8}
@@ -7,9 +7,10 @@ use Rattle.std.proofs.lemmas.Str.{IsUtf8-from_ascii}
 use Rattle.gv_model.specs.Ty.{spelling}
 use Rattle.gv_model.specs.TypeText.{is_type, type_at}
 use Rattle.gv_model.specs.Lexing.{type_prefix}
-use Rattle.gv_model.proofs.TypeTextLaws.{within_limits}
-use Rattle.gv_model.proofs.TypeTextParts.{text_of_type, spelling_is_ascii}
-use Rattle.gv_types.specs.TypePrefix.{BeginsWithType}
+use Rattle.gv_model.proofs.TypeTextLaws.{within_limits, one_reading}
+use Rattle.gv_model.proofs.TypeTextParts.{text_of_type, spelling_is_ascii, spelling-type_at}
+use Rattle.gv_types.specs.TypePrefix.{BeginsWithType, ReadsType}
+use Rattle.gv_types.specs.LoneTuples.{lone_tuples}
 use Rattle.gv_types.proofs.PrefixTypes.{one_type_prefix}
 use Rattle.gv_types.proofs.TypeLists.{read_prefix, read_back}
 
@@ -39,3 +40,9 @@ split text rest prefix back r f b short =
 pub some_from_map : {X Y : Type 0} (f : X → Y) (o : Option X) (y : Y) → option_map f o ≡ Some y → IsSome o
 some_from_map f None y h = absurd (none-some y h)
 some_from_map f (Some x) y h = refl
+
+-- what reading a type's own text counts
+pub lone_of_read : (w rest : List ℕ) (n : ℕ) → is_type w ≡ true → ReadsType 128 w rest n → n ≤ lone_tuples (type_at w)
+lone_of_read w rest n e r =
+    let same = one_reading (type_at w) r.begins.type [] rest (append-nil (spelling (type_at w)) ∙ ((spelling-type_at w e).0 ∙ r.begins.whole)) in
+    omega (arith, r.counted, ap lone_tuples same.0)

@@ -1,5 +1,5 @@
 -- What the first letter of a type says.
-use Rattle.std.specs.Prelude.{◌≡◌, ◌⊎◌, Option, Some, None}
+use Rattle.std.specs.Prelude.{◌≡◌, ◌⊎◌, Bool, true, false, Option, Some, None}
 use Rattle.gv_model.specs.Ty.{Ty, Basic}
 use Rattle.gv_model.specs.Ty.Ty.{basic, variant, array, maybe, tuple, entry}
 use Rattle.gv_model.specs.Ty.Basic.{boolean, byte, int16, uint16, int32, uint32, int64, uint64, handle, double, string, path, signature}
@@ -63,3 +63,9 @@ class_of_mark of_maybe = Some classes.Maybe
 class_of_mark open_tuple = Some classes.Tuple
 class_of_mark open_entry = Some classes.Entry
 class_of_mark _ = None
+
+-- whether a byte is the text of a type
+abbrev pub is_single_mark : TypeMark → Bool
+is_single_mark (letter k) = true
+is_single_mark of_variant = true
+is_single_mark _ = false

@@ -1,8 +1,10 @@
 -- Reading a type at the start of a text: the type, or where and why reading stops.
-use Rattle.std.specs.Prelude.{◌≡◌, ◌≢◌, ◌≤◌, ℕ, List, [], ◌∷◌, ◌++◌}
+use Rattle.std.specs.Prelude.{◌≡◌, ◌≢◌, ◌≤◌, ℕ, List, [], ◌∷◌, ◌++◌, if◌then◌else◌}
 use Rattle.gv_model.specs.Ty.{Ty, spelling, nesting}
 use Rattle.gv_model.specs.TypeFault.{Prefix, prefix_text, prefix_nesting, open_types, next, BeginsType, IsKey, IsBadChar, IsKeyNotBasic}
 use Rattle.gv_model.specs.TypeFault.Expected.{key}
+use Rattle.gv_model.specs.TypeText.{mark}
+use Rattle.gv_types.specs.Classes.{is_single_mark}
 use Rattle.gv_types.specs.LoneTuples.{lone_tuples}
 use Rattle.gv_types.specs.declared.grammar.Halt.{Halt}
 use Rattle.gv_types.specs.declared.grammar.Halt.TheVariants.{Unclosed, BadChar, KeyNotBasic, TooDeep}
@@ -17,6 +19,11 @@ pub record BeginsWithType (room : ℕ) (text rest : List ℕ) : Type 0 where
 pub record ReadsType (room : ℕ) (text rest : List ℕ) (lone : ℕ) : Type 0 where
   pub begins : BeginsWithType room text rest
   pub counted : lone ≡ lone_tuples begins.type
+
+-- what follows the types of one letter that a text begins with
+unfoldable pub after_letters : List ℕ → List ℕ
+after_letters [] = []
+after_letters (b ∷ rest) = if is_single_mark (mark b) then after_letters rest else b ∷ rest
 
 -- why a type of at most this many levels doesn't go on so after a prefix
 abbrev pub HaltsAfter : ℕ → Prefix → List ℕ → Halt → Type 0

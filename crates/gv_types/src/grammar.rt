@@ -1,9 +1,12 @@
 //! Reading a type at the start of a text (GVariant Specification, "Type Strings").
-ghost use Rattle.std.specs.Prelude.{◌≡◌, suc, ◌∷◌, MatchResult};
-ghost use Rattle.gv_types.specs.TypePrefix.{BeginsWithType, ReadsType, HaltsAt, IsNotClosed};
+ghost use Rattle.std.specs.Prelude.{◌≡◌, ◌↔◌, IsTrue, suc, ◌∷◌, MatchResult};
+ghost use Rattle.gv_model.specs.TypeText.{mark};
+ghost use Rattle.gv_types.specs.Classes.{is_single_mark};
+ghost use Rattle.gv_types.specs.TypePrefix.{BeginsWithType, ReadsType, HaltsAt, IsNotClosed, after_letters};
 
 use crate::class::{Class, class_of_letter};
 use crate::fault::TypeFault;
+use crate::type_str::TypeStr;
 
 /// Why reading a type stops.
 #[derive(Clone, Copy, Debug, PartialEq, Eq)]
@@ -123,14 +126,59 @@ fn read_members(text: &[u8], room: u8) -> Result<Reading<'_>, Stop<'_>>
             return Ok(Reading { rest: others, lone });
         }
         let member = read_type(rest, room)?;
-        // Nothing is read yet before the first member.
-        lone = if rest.len() == text.len() {
+        let others = after_letters(member.rest);
+        lone = if is_alone(text.len(), rest.len(), member.rest.len(), others.len()) {
             member.lone + 1
         } else {
             0
         };
-        rest = member.rest;
+        rest = others;
     }
+}
+
+/// Whether nothing is read before a member, and nothing behind it: the bytes left are as many as at first before it, and as
+/// many as behind it at last.
+fn is_alone(at_first: usize, before: usize, behind: usize, at_last: usize) -> bool
+    ensures { IsTrue result ↔ (before ≡ at_first) × (at_last ≡ behind) }
+{
+    before == at_first && at_last == behind
+}
+
+/// What follows the types of one letter that the text begins with, of which a tuple may have very many.
+fn after_letters(text: &[u8]) -> &[u8]
+    ensures { result.now ≡ after_letters text.entry.now }
+{
+    let mut rest = text;
+    loop {
+        match rest.split_first() {
+            Some((letter, others)) if is_single(*letter) => rest = others,
+            _ => return rest,
+        }
+    }
+}
+
+/// Reads the type at the start of the text, which most often has one letter.
+#[inline(always)]
+pub(crate) fn read_member(text: &[u8]) -> Result<Reading<'_>, Stop<'_>>
+    ensures { MatchResult result
+        (λ read. ReadsType 128 text.now read.rest.now read.lone)
+        (λ stop. HaltsAt 128 text.now stop.rest.now stop.halt) }
+{
+    match text.split_first() {
+        Some((letter, rest)) if is_single(*letter) => Ok(Reading { rest, lone: 0 }),
+        _ => read_type(text, TypeStr::MAX_LEVELS),
+    }
+}
+
+/// Whether this byte is the text of a type.
+#[inline(always)]
+fn is_single(letter: u8) -> bool
+    ensures { result ≡ is_single_mark (mark letter) }
+{
+    matches!(
+        class_of_letter(letter),
+        Some(Class::Basic(_) | Class::Variant)
+    )
 }
 
 /// Reads the entry whose `{` comes before the text, with a key and a value of at most this many levels.

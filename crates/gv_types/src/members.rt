@@ -5,7 +5,7 @@ ghost use Rattle.gv_model.specs.Texts.{are_types};
 ghost use Rattle.gv_model.specs.TypeText.{seen, type_at};
 ghost use Rattle.gv_types.specs.LoneTuples.{IsLoneMember};
 
-use crate::grammar::read_type;
+use crate::grammar::read_member;
 use crate::type_str::TypeStr;
 
 /// The types of the members of a tuple or an entry that are left, in order.
@@ -65,7 +65,7 @@ impl<'a> Iterator for Members<'a> {
             *self = Members::none();
             return Some(member);
         }
-        let read = match read_type(self.rest.as_bytes(), TypeStr::MAX_LEVELS) {
+        let read = match read_member(self.rest.as_bytes()) {
             Ok(read) => read,
             // Types alone occur in the text, so reading stops only at its end.
             Err(_) => return None,

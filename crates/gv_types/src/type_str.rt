@@ -11,7 +11,7 @@ ghost use Rattle.gv_types.specs.TypeFaults.{type_fault_of};
 
 use crate::class::{BasicType, Class, class_of_letter};
 use crate::fault::TypeFault;
-use crate::grammar::after_type;
+use crate::grammar::{after_type, read_type};
 use crate::members::Members;
 
 /// The text of one type, lent from where it was found.
@@ -128,6 +128,29 @@ impl<'a> TypeStr<'a> {
         ensures open { IsTrue result → fixed_size (ty self.entry) ≡ None }
     {
         self.known_open
+    }
+
+    /// The same type, of which is known from now on how many tuples of one member it is, one in another.
+    ///
+    /// It looks at each byte of a tuple's text once, and of any other type at the first.
+    pub fn as_read(self) -> TypeStr<'a>
+        ensures text { text_of result ≡ text_of self.entry }
+        ensures known { is_known_open result ≡ is_known_open self.entry }
+    {
+        let text = self.text.as_bytes();
+        if text[0] != b'(' {
+            return self;
+        }
+        // The text is a type's, so it is read.
+        let Ok(read) = read_type(text, TypeStr::MAX_LEVELS) else {
+            return self;
+        };
+        let known_open = self.known_open;
+        TypeStr {
+            text: self.text,
+            lone: read.lone,
+            known_open,
+        }
     }
 
     /// The text itself. It looks at no byte.

@@ -103,9 +103,9 @@ fn containers_have_parts(rt: HostRuntime) -> Result<(), Fail> {
 }
 
 /// The texts of a type's members, a space after each, then those of the first member's, and so on.
-fn descent(alloc: Global, text: &str) -> Result<String, Fail> {
+fn descent(alloc: Global, outermost: TypeStr<'_>) -> Result<String, Fail> {
     let mut found = String::new(alloc);
-    let mut of = TypeStr::parse(text)?;
+    let mut of = outermost;
     for _ in 0..6 {
         for member in of.members() {
             write!(found, "{} ", member.as_str())?;
@@ -131,8 +131,12 @@ fn tuples_of_one_member_lie_in_one_another(rt: HostRuntime) -> Result<(), Fail> 
         ("((a((s))))", "(a((s))) a((s)) "),
         ("(((v){sv}))", "((v){sv}) (v) {sv} v "),
     ] {
-        let found = descent(rt.alloc(), text)?;
+        let of = TypeStr::parse(text)?;
+        let found = descent(rt.alloc(), of)?;
         assert!(rt; found.as_str() == members, "at {text}");
+        assert!(rt; of.as_read().as_str() == text);
+        let read = descent(rt.alloc(), of.as_read())?;
+        assert!(rt; read.as_str() == members, "at {text}, which was read");
     }
     Ok(())
 }
@@ -146,6 +150,7 @@ fn a_member_inherits_what_is_known(rt: HostRuntime) -> Result<(), Fail> {
         Some(_) => first,
     };
     assert!(rt; open.is_known_open() && open.as_str() == "((as))");
+    assert!(rt; open.as_read().is_known_open() && !first.as_read().is_known_open());
     let known = open.members().next().map(TypeStr::is_known_open);
     let unknown = first.members().next().map(TypeStr::is_known_open);
     assert!(rt; (known, unknown) == (Some(true), Some(false)));

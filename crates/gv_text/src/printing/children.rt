@@ -1,6 +1,6 @@
 //! The children of a container as text, one after the other.
-ghost use Rattle.std.specs.Prelude.{◌≡◌, ◌<◌, ◌≤◌, ◌++◌, false, IfErr, MatchResult, OnOk, string_bytes};
-ghost use Rattle.gv_model.specs.Tree.{children, depth};
+ghost use Rattle.std.specs.Prelude.{◌≡◌, ◌↔◌, ◌<◌, ◌≤◌, ◌++◌, false, IsTrue, IfOk, IfErr, MatchResult, OnOk, string_bytes};
+ghost use Rattle.gv_model.specs.Tree.{children, depth, trees_len};
 ghost use Rattle.gv_model.specs.Printed.{comma, joined_by, hold_double};
 ghost use Rattle.gv_model.specs.Quoted.{between};
 ghost use Rattle.gv_text.specs.declared.printing.PrintFault.TheVariants.{TooLarge};
@@ -37,7 +37,8 @@ pub(super) fn push_between(
     Ok(())
 }
 
-/// Writes a value's children with `mark` between them. Of elements of an array only the first is annotated.
+/// Writes a value's children with `mark` between them, and answers whether there is one alone. Of elements of an array only the
+/// first is annotated.
 #[cycle(values)]
 pub(super) fn push_children(
     to: &mut String,
@@ -46,24 +47,27 @@ pub(super) fn push_children(
     mark: &str,
     annotated: bool,
     in_array: bool,
-) -> Result<(), PrintFault>
+) -> Result<bool, PrintFault>
     requires { 0 < levels }
     ensures text { MatchResult result
         (λ _. (hold_double (children (value view.entry)) ≡ false)
         × (string_bytes to.new ≡ string_bytes to.old
         ++ joined_by mark.now (child_texts (children (value view.entry)) annotated in_array)))
         (AreFaultOf (children (value view.entry))) }
+    ensures alone { IfOk result (λ alone. IsTrue alone ↔ (trees_len (children (value view.entry)) ≡ 1)) }
     ensures fits { OnOk result (depth (value view.entry) ≤ levels) }
     ensures deep { IfErr result (λ f. f ≡ TooLarge → levels < depth (value view.entry)) }
 {
     let mut children = view.children();
     let Some(first) = children.next() else {
-        return Ok(());
+        return Ok(false);
     };
     push_value(to, first, levels - 1, annotated, in_array)?;
+    let mut alone = true;
     for child in children {
+        alone = false;
         to.push_str(mark)?;
         push_value(to, child, levels - 1, annotated && !in_array, in_array)?;
     }
-    Ok(())
+    Ok(alone)
 }

@@ -36,6 +36,7 @@ pub(super) fn push_default(
         (IsLevelFault (default (ty of.entry)) levels) }
 {
     match of.class() {
+        Class::Basic(basic) => push_basic_default(to, basic, annotated)?,
         Class::Array | Class::Maybe => push_emptied(to, of, annotated)?,
         _ => {
             push_front(to, of.as_str().as_bytes(), levels, annotated, in_array)?;

@@ -32,8 +32,8 @@ pub(super) fn push_tuple(
     ensures deep { IfErr result (λ f. f ≡ TooLarge → levels < depth (value view.entry)) }
 {
     to.push('(')?;
-    push_children(to, view, levels, ", ", annotated, false)?;
-    to.push_str(if view.n_children() == 1 { ",)" } else { ")" })?;
+    let alone = push_children(to, view, levels, ", ", annotated, false)?;
+    to.push_str(if alone { ",)" } else { ")" })?;
     Ok(())
 }
 
@@ -55,9 +55,9 @@ pub(super) fn push_entry(
     ensures fits { OnOk result (depth (value view.entry) ≤ levels) }
     ensures deep { IfErr result (λ f. f ≡ TooLarge → levels < depth (value view.entry)) }
 {
-    if in_array {
-        push_children(to, view, levels, ": ", annotated, false)
-    } else {
-        push_between(to, view, levels, ('{', '}'), annotated, false)
+    if !in_array {
+        return push_between(to, view, levels, ('{', '}'), annotated, false);
     }
+    push_children(to, view, levels, ": ", annotated, false)?;
+    Ok(())
 }

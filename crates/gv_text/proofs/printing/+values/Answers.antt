@@ -1,6 +1,6 @@
 use Rattle.std.proofs.Common.{◌≡◌, ◌++◌, ◌∷◌, [], true, false, ◌&&◌, ℕ, Option, MatchOption, Result, Ok, Err, OnOk, sym, ap, ◌∙◌, subst, arith, string_bytes}
 use Rattle.std.proofs.lemmas.Result.{err_from_is_err_and}
-use Rattle.std.proofs.lemmas.Bool.{and_from, and_left, and_right}
+use Rattle.std.proofs.lemmas.Bool.{and_from, and_left, and_right, false≢true}
 use Rattle.gv_model.specs.Tree.{children}
 use Rattle.gv_model.specs.Printed.{hold_double, is_empty, text_of, tuple_text, type_mark, when}
 use Rattle.gv_model.specs.Parts.{part_trees}
@@ -36,14 +36,15 @@ use Rattle.gv_text.proofs.ContainerTexts.{
 }
 use Rattle.gv_text.proofs.Containers.{fault_of_children}
 use Rattle.gv_text.proofs.ChildTexts.{childless_text, first_fault, left_first, left_next, left_none, one_member, other_members, rest_of_plain, same_faults}
+use Rattle.gv_text.proofs.ChildCounts.{alone_first, alone_last, alone_next, alone_none}
 use Rattle.gv_text.proofs.ArrayTexts.{array_written, byte_string_text}
 use Rattle.gv_text.proofs.DefaultTexts.{empty_deep, empty_fits, empty_value, empty_written}
 use Rattle.gv_text.proofs.Levels.{childless_fits, first_too_deep, begin_levels, next_levels, then_too_deep, all_fit}
 use Rattle.gv_text.proofs.Maybes.{maybe_text, within_written}
 use Rattle.gv_text.proofs.printing.+values.Goals as goal
 use Rattle.gv_text.proofs.printing.+values.Goals.{
-  tuple::push_tuple-then-n_children-eq1,
-  tuple::push_tuple-else-n_children-eq1,
+  tuple::push_tuple-then-alone,
+  tuple::push_tuple-else-alone,
   children::push_children-then-annotated,
   children::push_children-else-annotated,
   maybe::push_maybe-then-annotated+in_ok-push_type_mark,
@@ -104,21 +105,28 @@ variant::push_variant-returns-clause-text t c =
     let b = view_bytes c.args.view in
     written_by_children c.push_between.result (value c.args.view) _ _ (string_bytes c.args.to.now) (string_bytes c.push_between.new.to) (variant_doubles of b c.requires.kind) (sym (variant_text of b true false c.requires.kind)) c.push_between.ensures.text
 
-pub tuple::push_entry-returns-else-in_array-clause-text : goal.tuple::push_entry-returns-else-in_array-clause-text
-tuple::push_entry-returns-else-in_array-clause-text t c =
+pub tuple::push_entry-returns-then-not-in_array-clause-text : goal.tuple::push_entry-returns-then-not-in_array-clause-text
+tuple::push_entry-returns-then-not-in_array-clause-text t c =
     let of = view_ty c.args.view in
     let b = view_bytes c.args.view in
     written_by_children c.push_between.result (value c.args.view) _ _ (string_bytes c.args.to.now) (string_bytes c.push_between.new.to)
     (entry_doubles of b c.requires.kind) (sym (entry_alone of b c.args.annotated c.requires.kind)
-    ∙ ap (text_of (value c.args.view) c.args.annotated) (sym c.if-in_array.false)) c.push_between.ensures.text
+    ∙ ap (text_of (value c.args.view) c.args.annotated) (sym c.if-not-in_array.true)) c.push_between.ensures.text
 
-pub tuple::push_entry-returns-then-in_array-clause-text : goal.tuple::push_entry-returns-then-in_array-clause-text
-tuple::push_entry-returns-then-in_array-clause-text t c =
+pub tuple::push_entry-returns-clause-text : goal.tuple::push_entry-returns-clause-text
+tuple::push_entry-returns-clause-text t c =
     let of = view_ty c.args.view in
-    let b = view_bytes c.args.view in
-    written_by_children c.push_children.result (value c.args.view) _ _ (string_bytes c.args.to.now) (string_bytes c.push_children.new.to)
-    (entry_doubles of b c.requires.kind) (sym (entry_in_array of b c.args.annotated c.requires.kind)
-    ∙ ap (text_of (value c.args.view) c.args.annotated) (sym c.if-in_array.true)) c.push_children.ensures.text
+    let b = view_bytes c.args.view in (
+      entry_doubles of b c.requires.kind ∙ c.in_ok-push_children.ensures.text.0,
+      c.in_ok-push_children.ensures.text.1
+          ∙ ap (λ l. string_bytes c.args.to.now ++ l) (sym (entry_in_array of b c.args.annotated c.requires.kind)
+          ∙ ap (text_of (value c.args.view) c.args.annotated) (sym c.if-not-in_array.false)),
+    )
+
+pub tuple::push_entry-returns-in_err-push_children-clause-text : goal.tuple::push_entry-returns-in_err-push_children-clause-text
+tuple::push_entry-returns-in_err-push_children-clause-text t c =
+    let p = err_from_is_err_and c.from_residual.result c.from_residual.ensures.1 in
+    rw (p.1, p.2) (fault_of_children (value c.args.view) c.in_err-push_children.field-0.0 (entry_doubles (view_ty c.args.view) (view_bytes c.args.view) c.requires.kind) c.in_err-push_children.ensures.text)
 
 pub tuple::push_tuple-returns-clause-text : goal.tuple::push_tuple-returns-clause-text
 tuple::push_tuple-returns-clause-text t c =
@@ -130,16 +138,16 @@ tuple::push_tuple-returns-clause-text t c =
     let opens : opened ≡ old ++ 40 ∷ [] = c.in_ok-push.ensures.bytes ∙ ap (λ l. old ++ l) (c.in_ok-push.ensures.ascii (omega arith)) in
     let written = string_bytes c.push_children.new.to in
     let closed = string_bytes c.push_str.new.self in
-    let whole : closed ≡ old ++ tuple_text (child_texts vs c.args.annotated false) = elim c.if-n_children-eq1.branch [
-      | tuple::push_tuple-then-n_children-eq1 w ↦ one_member vs c.args.annotated old opened written closed (sym c.n_children.ensures ∙ w.if-n_children-eq1.true) opens c.in_ok-push_children.ensures.text.1 (c.in_ok-push_str.ensures.bytes ∙ ap (λ s. written ++ s.now) w.push_str-is)
-      | tuple::push_tuple-else-n_children-eq1 w ↦ other_members vs c.args.annotated old opened written closed (λ e. w.if-n_children-eq1.false (c.n_children.ensures ∙ e)) opens c.in_ok-push_children.ensures.text.1 (c.in_ok-push_str.ensures.bytes ∙ ap (λ s. written ++ s.now) w.push_str-is)
+    let whole : closed ≡ old ++ tuple_text (child_texts vs c.args.annotated false) = elim c.if-alone.branch [
+      | tuple::push_tuple-then-alone w ↦ one_member vs c.args.annotated old opened written closed (c.in_ok-alone.ensures.alone.0 w.if-alone.true) opens c.in_ok-alone.ensures.text.1 (c.in_ok-push_str.ensures.bytes ∙ ap (λ s. written ++ s.now) w.push_str-is)
+      | tuple::push_tuple-else-alone w ↦ other_members vs c.args.annotated old opened written closed (λ e. false≢true (sym w.if-alone.false ∙ c.in_ok-alone.ensures.alone.1 e)) opens c.in_ok-alone.ensures.text.1 (c.in_ok-push_str.ensures.bytes ∙ ap (λ s. written ++ s.now) w.push_str-is)
     ] in
-    (tuple_doubles of b c.requires.kind ∙ c.in_ok-push_children.ensures.text.0, whole ∙ ap (λ l. old ++ l) (sym (tuple_text_of of b c.args.annotated c.requires.kind)))
+    (tuple_doubles of b c.requires.kind ∙ c.in_ok-alone.ensures.text.0, whole ∙ ap (λ l. old ++ l) (sym (tuple_text_of of b c.args.annotated c.requires.kind)))
 
-pub tuple::push_tuple-returns-in_err-push_children-clause-text : goal.tuple::push_tuple-returns-in_err-push_children-clause-text
-tuple::push_tuple-returns-in_err-push_children-clause-text t c =
-    let p = err_from_is_err_and c.from_residual-in_err-push_children.result c.from_residual-in_err-push_children.ensures.1 in
-    rw (p.1, p.2) (fault_of_children (value c.args.view) c.in_err-push_children.field-0.0 (tuple_doubles (view_ty c.args.view) (view_bytes c.args.view) c.requires.kind) c.in_err-push_children.ensures.text)
+pub tuple::push_tuple-returns-in_err-alone-clause-text : goal.tuple::push_tuple-returns-in_err-alone-clause-text
+tuple::push_tuple-returns-in_err-alone-clause-text t c =
+    let p = err_from_is_err_and c.from_residual-in_err-alone.result c.from_residual-in_err-alone.ensures.1 in
+    rw (p.1, p.2) (fault_of_children (value c.args.view) c.in_err-alone.field-0.0 (tuple_doubles (view_ty c.args.view) (view_bytes c.args.view) c.requires.kind) c.in_err-alone.ensures.text)
 
 -- ---- children
 
@@ -161,6 +169,7 @@ children::push_children-loop-child-init t c =
       rw (some, c.into_iter-child-iterator.ensures.into_iter_gives)
           (left_first c.args.mark.now (value c.in-Some.first) (part_trees (children_left c.next.new.self)) c.args.annotated c.args.in_array (string_bytes c.args.to.now)
           (string_bytes c.push_value.new.to) c.in_ok-push_value.ensures.text.0 c.in_ok-push_value.ensures.text.1),
+      rw again (alone_first (children (value c.args.view)) (part_trees (children_left c.next.new.self)) (value c.in-Some.first) some),
       rw again (begin_levels (value c.args.view) (value c.in-Some.first) (part_trees (children_left c.next.new.self)) c.args.levels some c.requires.1.1 c.in_ok-push_value.ensures.fits),
     )
 
@@ -175,7 +184,8 @@ children::push_children-loop-child-preserved t c =
           (part_trees (children_left c.next-in-loop-child.new.self)) c.args.annotated c.args.in_array (string_bytes c.args.to.now) (string_bytes c.loop-child.to)
           (string_bytes c.push_str.new.self) (string_bytes c.push_value-in-loop-child.new.to) so_far c.in_ok-push_str.ensures.bytes c.in_ok-push_value-2.ensures.text.0
           (c.in_ok-push_value-2.ensures.text.1 ∙ ap (λ a. string_bytes c.push_str.new.self ++ text_of (value c.in-Some-child.child) a c.args.in_array) annotate),
-      next_levels (value c.args.view) (value c.in-Some-child.child) (part_trees (children_left c.next-in-loop-child.new.self)) (part_trees (children_left c.loop-child.child-iterator)) c.args.levels (ap part_trees c.in-Some-child.ensures.steps) c.requires.1.1 c.in_ok-push_value-2.ensures.fits c.loop-child.invariant.1,
+      alone_next c.loop-child.alone (children (value c.args.view)) (part_trees (children_left c.loop-child.child-iterator)) (part_trees (children_left c.next-in-loop-child.new.self)) (value c.in-Some-child.child) (ap part_trees c.in-Some-child.ensures.steps) c.loop-child.invariant.1,
+      next_levels (value c.args.view) (value c.in-Some-child.child) (part_trees (children_left c.next-in-loop-child.new.self)) (part_trees (children_left c.loop-child.child-iterator)) c.args.levels (ap part_trees c.in-Some-child.ensures.steps) c.requires.1.1 c.in_ok-push_value-2.ensures.fits c.loop-child.invariant.2,
     )
 
 pub children::push_children-returns-in_err-push_value-2-clause-text : goal.children::push_children-returns-in_err-push_value-2-clause-text
@@ -269,8 +279,19 @@ pub children::push_children-returns-in_err-push_value-2-clause-deep : goal.child
 children::push_children-returns-in_err-push_value-2-clause-deep t c =
     let p = err_from_is_err_and c.from_residual-in_err-push_value-2.result c.from_residual-in_err-push_value-2.ensures.1 in
     rw (p.1, p.2) (λ is. then_too_deep (value c.args.view) (value c.in-Some-child.child) (part_trees (children_left c.next-in-loop-child.new.self)) (part_trees (children_left c.loop-child.child-iterator)) c.args.levels
-    (ap part_trees c.in-Some-child.ensures.steps) (c.in_err-push_value-2.ensures.deep is) c.loop-child.invariant.1)
+    (ap part_trees c.in-Some-child.ensures.steps) (c.in_err-push_value-2.ensures.deep is) c.loop-child.invariant.2)
 
 pub children::push_children-returns-clause-fits : goal.children::push_children-returns-clause-fits
 children::push_children-returns-clause-fits t c =
-    all_fit (value c.args.view) (part_trees (children_left c.loop-child.child-iterator)) c.args.levels (ap part_trees c.in-None.ensures.steps.0) c.requires.1.1 c.loop-child.invariant.1
+    all_fit (value c.args.view) (part_trees (children_left c.loop-child.child-iterator)) c.args.levels (ap part_trees c.in-None.ensures.steps.0) c.requires.1.1 c.loop-child.invariant.2
+
+-- ---- one child alone
+
+pub children::push_children-returns-in_default-clause-alone : goal.children::push_children-returns-in_default-clause-alone
+children::push_children-returns-in_default-clause-alone t c =
+    let none = children_are_parts (view_ty c.args.view) (view_bytes c.args.view) ∙ (ap part_trees (sym c.children-children.ensures) ∙ ap part_trees c.in_default.ensures.steps.0) in
+    alone_none (children (value c.args.view)) none
+
+pub children::push_children-returns-clause-alone : goal.children::push_children-returns-clause-alone
+children::push_children-returns-clause-alone t c =
+    alone_last c.loop-child.alone (children (value c.args.view)) (part_trees (children_left c.loop-child.child-iterator)) (ap part_trees c.in-None.ensures.steps.0) c.loop-child.invariant.1

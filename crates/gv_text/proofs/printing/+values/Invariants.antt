@@ -4,6 +4,7 @@ use Rattle.gv_model.specs.Parts.{part_trees}
 use Rattle.gv_view.specs.Views.{value}
 use Rattle.gv_view.specs.Children.{children_left}
 use Rattle.gv_text.proofs.ChildTexts.{IsLeft}
+use Rattle.gv_text.proofs.ChildCounts.{IsAlone}
 use Rattle.gv_text.proofs.Levels.{AreLevels}
 use Rattle.gv_text.proofs.printing.+values.Given as goal
 
@@ -38,4 +39,5 @@ decreases-children::push_children l = 4 * l.levels
 abbrev pub invariant-children::push_children-loop-child : goal.invariant-children::push_children-loop-child
 invariant-children::push_children-loop-child l =
     IsLeft l.mark (children (value l.fn.view)) (part_trees (children_left l.child-iterator)) l.annotated l.in_array (string_bytes l.fn.to) (string_bytes l.to)
+    × IsAlone l.alone (children (value l.fn.view)) (part_trees (children_left l.child-iterator))
     × AreLevels (value l.fn.view) (part_trees (children_left l.child-iterator)) l.fn.levels

@@ -1,14 +1,15 @@
-use Rattle.std.proofs.Common.{rules, ◌≡◌, ◌≢◌, ◌⊎◌, inl, inr, ◌+◌, length, ◌∷◌, suc, Some, None, sym, arith}
+use Rattle.std.proofs.Common.{rules, ◌≡◌, inl, inr, length, ◌∷◌, suc, Some, None, refl, sym, ap, ◌∙◌, arith}
+use Rattle.std.proofs.lemmas.Bool.{false≢true}
 use Rattle.std.proofs.lemmas.List.{nil_from_length}
 use Rattle.gv_model.specs.TypeText.{mark}
 use Rattle.gv_types.specs.Classes.{class_of_mark}
 use Rattle.gv_types.specs.declared.grammar.Halt.TheVariants.{Unclosed, BadChar, KeyNotBasic, TooDeep}
 use Rattle.gv_types.proofs.Firsts.{begins_none, begins_some, is_key, is_no_key}
-use Rattle.gv_types.proofs.MemberLaws.{none_read, one_read, lone_fits, counted_if}
+use Rattle.gv_types.proofs.LetterRuns.{letters_shorter, more_read}
+use Rattle.gv_types.proofs.MemberLaws.{none_read, lone_fits}
 use Rattle.gv_types.proofs.TypeSteps.{stopped_there, stops_at_end, stops_at_bad, stops_at_deep, reads_single, reading_element, reading_tuple, reading_entry, reads_tuple, stops_in_tuple, stops_at_member, reads_shorter, no_key, key_bad, key_not_basic, key_too_deep, stops_at_value}
 use Rattle.gv_types.proofs.TypeSteps.{stopped_as, reading_close}
 use Rattle.gv_types.proofs.grammar.+types.Goals as goal
-use Rattle.gv_types.proofs.grammar.+types.Goals.{read_members-then-rest-text, read_members-else-rest-text}
 
 pub read_type-returns-in_default : goal.read_type-returns-in_default
 read_type-returns-in_default t c =
@@ -76,24 +77,39 @@ read_members-returns-in_err-member t c =
     (stops_at_member c.args.room c.in-Some.letter.now c.args.text.now c.loop-letter.rest.now c.in-Some.others.now stop.rest.now stop.halt
     c.loop-letter.invariant.members (search (rules, c.in-Some.ensures.cases)) c.if-letter-eq41.false c.in_err-member.ensures)
 
+pub read_members-loop-letter-smaller-then-is_alone : goal.read_members-loop-letter-smaller-then-is_alone
+read_members-loop-letter-smaller-then-is_alone t c =
+    let shorter = reads_shorter c.args.room c.loop-letter.rest.now c.in_ok-member.member.rest.now c.in_ok-member.ensures.begins in
+    omega (arith, shorter, letters_shorter c.in_ok-member.member.rest.now, ap length c.after_letters-others.ensures)
+
 pub read_members-loop-letter-smaller : goal.read_members-loop-letter-smaller
 read_members-loop-letter-smaller t c =
-    reads_shorter c.args.room c.loop-letter.rest.now c.in_ok-member.member.rest.now c.in_ok-member.ensures.begins
+    let shorter = reads_shorter c.args.room c.loop-letter.rest.now c.in_ok-member.member.rest.now c.in_ok-member.ensures.begins in
+    omega (arith, shorter, letters_shorter c.in_ok-member.member.rest.now, ap length c.after_letters-others.ensures)
 
 pub read_members-overflow_add-lone : goal.read_members-overflow_add-lone
 read_members-overflow_add-lone t c =
     let few = lone_fits c.args.room c.loop-letter.rest.now c.in_ok-member.member.rest.now c.in_ok-member.member.lone c.in_ok-member.ensures in
     omega (arith, few, c.ranges.room.fits)
 
+pub read_members-loop-letter-preserved-then-is_alone : goal.read_members-loop-letter-preserved-then-is_alone
+read_members-loop-letter-preserved-then-is_alone t c =
+    let rest = c.loop-letter.rest.now in
+    let next = c.in_ok-member.member.rest.now in
+    let others = c.after_letters-others.ensures in
+    let few = lone_fits c.args.room rest next c.in_ok-member.member.lone c.in_ok-member.ensures in
+    let is = c.is_alone.ensures.0 c.if-is_alone.true in
+    rw others (more_read c.args.room c.args.text.now rest next c.loop-letter.lone c.in_ok-member.member.lone _ c.loop-letter.invariant c.in_ok-member.ensures (λ none. omega (arith, few, none))
+    (inl (is.0, sym (ap length others) ∙ is.1, refl)))
+
 pub read_members-loop-letter-preserved : goal.read_members-loop-letter-preserved
 read_members-loop-letter-preserved t c =
     let rest = c.loop-letter.rest.now in
-    let is : (length rest ≡ length c.args.text.now) × (c.if-rest-text.lone ≡ c.in_ok-member.member.lone + 1) ⊎ (length rest ≢ length c.args.text.now) × (c.if-rest-text.lone ≡ 0) = elim c.if-rest-text.branch [
-      | read_members-then-rest-text w ↦ inl (w.if-rest-text.true, w.lone-is)
-      | read_members-else-rest-text w ↦ inr (w.if-rest-text.false, w.lone-is)
-    ] in
-    one_read c.args.room c.args.text.now rest c.in_ok-member.member.rest.now c.loop-letter.lone c.in_ok-member.member.lone c.if-rest-text.lone c.loop-letter.invariant c.in_ok-member.ensures
-    (counted_if rest c.args.text.now c.in_ok-member.member.lone c.if-rest-text.lone is)
+    let next = c.in_ok-member.member.rest.now in
+    let others = c.after_letters-others.ensures in
+    let few = lone_fits c.args.room rest next c.in_ok-member.member.lone c.in_ok-member.ensures in
+    rw others (more_read c.args.room c.args.text.now rest next c.loop-letter.lone c.in_ok-member.member.lone 0 c.loop-letter.invariant c.in_ok-member.ensures (λ none. omega (arith, few, none))
+    (inr ((λ first last. false≢true (sym c.if-is_alone.false ∙ c.is_alone.ensures.1 (first, ap length others ∙ last))), refl)))
 
 pub read_entry-returns-in_default : goal.read_entry-returns-in_default
 read_entry-returns-in_default t c =

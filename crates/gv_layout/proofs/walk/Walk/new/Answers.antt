@@ -24,7 +24,7 @@ returns-in-None c =
     let of = array_class ty (ty c.args.of) c.class.result c.element.result c.unwrap-element.result c.class.ensures c.in-Array.is c.element.ensures c.unwrap-element.ensures in
     let n = length c.args.bytes.now in
     c.of_array-in-None.ensures
-    ∙ (ap (λ t. children_at n (ordered (Some (elements_end c.args.bytes.now None)) (element_spans t c.args.bytes.now None))) (ap type_at c.as_open.ensures.text)
+    ∙ (ap (λ t. children_at n (ordered (Some (elements_end c.args.bytes.now None)) (element_spans t c.args.bytes.now None))) (ap type_at (c.as_read.ensures.text ∙ c.as_open.ensures.text))
     ∙ cut_elements (ty c.args.of) (ty c.unwrap-element.result) c.args.bytes.now of (sym c.in-None.is ∙ c.fixed_size.ensures))
 
 pub returns-in-Maybe : goal.returns-in-Maybe
