@@ -32,6 +32,7 @@ use Rattle.gv_text.specs.declared.printing.PrintFault.TheVariants.{TooLarge, Dou
 use Rattle.gv_text.specs.Defaults.{default_in, IsEmptied, IsLevelFault, Writes, WritesJoined}
 use Rattle.gv_text.proofs.Maybes.{or_none}
 use Rattle.gv_text.proofs.Containers.{child_deeper, first_deep}
+use Rattle.gv_text.proofs.ContainerTexts.{marked_text}
 use Rattle.gv_text.proofs.ChildTexts.{IsLeft, between_written, left_first, left_next, left_none, one_member, other_members}
 use Rattle.gv_text.proofs.Levels.{AreLevels, begin_levels, next_levels, all_fit}
 use Rattle.gv_view.proofs.Depths.{depth_children}
@@ -181,10 +182,6 @@ brackets_text (tuple ts) annotated (inl e) h = absurd cc
 brackets_text (tuple ts) annotated (inr e) h = absurd cc
 brackets_text (entry k t) annotated (inl e) h = absurd cc
 brackets_text (entry k t) annotated (inr e) h = absurd cc
-
-pub marked_then : (s r mark old mid new : Text) → r ≡ mark ++ s → mid ≡ old ++ mark → new ≡ mid ++ s → new ≡ old ++ r
-marked_then s r mark old mid new is marks wrote =
-    wrote ∙ (ap (λ (l : Text). l ++ s) marks ∙ (append_assoc old mark s ∙ ap (λ (l : Text). old ++ l) (sym is)))
 
 pub two_marks : (left right : ℕ) (mid opened new : Text) → opened ≡ mid ++ left ∷ [] → new ≡ opened ++ right ∷ [] → new ≡ mid ++ left ∷ right ∷ []
 two_marks left right mid opened new opens closes = closes ∙ (ap (λ (l : Text). l ++ right ∷ []) opens ∙ append_assoc mid (left ∷ []) (right ∷ []))
@@ -472,12 +469,12 @@ braced_written w p levels annotated old opened now new opens j closes =
 -- ---- what the code wrote
 
 pub finished : {X E : Type 0} (r : Result X E) (s t mark old mid new : Text) → t ≡ mark ++ s → mid ≡ old ++ mark → new ≡ cond (is_ok r) (mid ++ s) mid → OnOk r (new ≡ old ++ t)
-finished (Ok x) s t mark old mid new is marks wrote = marked_then s t mark old mid new is marks wrote
+finished (Ok x) s t mark old mid new is marks wrote = marked_text s t mark old mid new is marks wrote
 finished (Err x) s t mark old mid new is marks wrote = tt
 
 pub brackets_finished : {X E : Type 0} (r : Result X E) (q : ℕ × ℕ) (right t mark old mid opened new : Text) → opened ≡ mid ++ q.0 ∷ [] → right ≡ q.1 ∷ [] → t ≡ mark ++ q.0 ∷ q.1 ∷ [] → mid ≡ old ++ mark → new ≡ cond (is_ok r) (opened ++ right) opened → OnOk r (new ≡ old ++ t)
 brackets_finished (Ok x) q right t mark old mid opened new opens last is marks wrote =
-    marked_then (q.0 ∷ q.1 ∷ []) t mark old mid new is marks (two_marks q.0 q.1 mid opened new opens (wrote ∙ ap (λ (l : Text). opened ++ l) last))
+    marked_text (q.0 ∷ q.1 ∷ []) t mark old mid new is marks (two_marks q.0 q.1 mid opened new opens (wrote ∙ ap (λ (l : Text). opened ++ l) last))
 brackets_finished (Err x) q right t mark old mid opened new opens last is marks wrote = tt
 
 low : (e : Option Ty) → ((brackets_of e).0 < 128) × ((brackets_of e).1 < 128)
