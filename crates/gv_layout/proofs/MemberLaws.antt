@@ -23,6 +23,14 @@ unfolding ordered member_spans empty_spans
 lost n w k b e end = refl
 lost n w k b e (member t ts) = ap (λ cs. child t 0 0 ∷ cs) (lost n w (next_offset k (fixed_size t)) b e ts)
 
+empty_alike : (n : ℕ) (ts : Types) → children_at n (empty_spans ts) ≡ children_at 0 (empty_spans ts)
+unfolding empty_spans
+empty_alike n end = refl
+empty_alike n (member t ts) = ap (λ cs. child t 0 0 ∷ cs) (empty_alike n ts)
+
+pub lost_members : (n w k m : ℕ) (b : List ℕ) (p : Option ℕ) (ts : Types) → None ≡ p → children_at n (ordered (Some m) (member_spans w b k p ts)) ≡ children_at 0 (empty_spans ts)
+lost_members n w k m b p ts e = rw (sym e) (lost n w k b (Some m) ts ∙ empty_alike n ts)
+
 pub empty_stay : (n : ℕ) (e : Option ℕ) (ts : Types) → children_at n (ordered e (empty_spans ts)) ≡ children_at n (empty_spans ts)
 unfolding ordered empty_spans
 empty_stay n e end = refl

@@ -3,7 +3,7 @@ use Rattle.std.specs.Prelude.{ℕ, ◌+◌, min, Bool, true, false, List, map, l
 use Rattle.gv_model.specs.Ty.{Ty, types_from}
 use Rattle.gv_model.specs.Children.{Child, Span, children_at, framing_offset, ordered, nowhere}
 use Rattle.gv_model.specs.Arrays.{fixed_spans, offset_spans, numbers_in}
-use Rattle.gv_model.specs.Tuples.{member_spans, body_end}
+use Rattle.gv_model.specs.Tuples.{member_spans, empty_spans, body_end}
 use Rattle.gv_types.specs.TypeStr.{ty}
 use Rattle.gv_types.specs.Members.{members_left}
 use Rattle.gv_layout.specs.declared.array.FixedSize.{FixedSize}
@@ -52,3 +52,20 @@ walk_left (walks.ByMembers m) = by_members_left m
 
 abbrev pub places_left : Places → List Child
 places_left p = walk_left p.walk
+
+-- ---- members of which none lies anywhere, since one before them was out of order
+
+abbrev pub lost_after : Option ℕ → List Ty → Option (List Ty)
+lost_after None ts = Some ts
+lost_after (Some p) ts = None
+
+abbrev pub lost_in : Walk → Option (List Ty)
+lost_in (walks.ByMembers m) = lost_after m.previous (members_left m.members)
+lost_in _ = None
+
+abbrev pub lost_left : Places → Option (List Ty)
+lost_left p = lost_in p.walk
+
+-- they have no bytes
+abbrev pub lie_nowhere : List Ty → List Child
+lie_nowhere ts = children_at 0 (empty_spans (types_from ts))

@@ -1,10 +1,10 @@
 //! Places of children, one after the other.
-ghost use Rattle.std.specs.Prelude.{◌≡◌, Some, IfSome, is_none};
+ghost use Rattle.std.specs.Prelude.{◌≡◌, Some, IfSome, is_none, option_map};
 ghost use Rattle.gv_model.specs.Children.{is_out};
 ghost use Rattle.gv_types.specs.TypeStr.{ty};
 
 use crate::walk::Walk;
-use gv_types::TypeStr;
+use gv_types::{Members, TypeStr};
 
 /// A child of a container: its type, and where its bytes start and end in the container's.
 #[derive(Clone, Copy, Debug)]
@@ -50,6 +50,24 @@ impl<'a> Place<'a> {
 #[derive(Clone, Copy, Debug)]
 pub struct Places<'a> {
     pub(crate) walk: Walk<'a, 'a>,
+}
+
+impl<'a> Places<'a> {
+    ghost use Rattle.gv_types.specs.Members.{members_left};
+    ghost use Rattle.gv_layout.specs.Places.{lie_nowhere, lost_left, places_left};
+
+    /// The types of the children that are left, if they are members, and one before them was out of order: they lie nowhere, and
+    /// all are defaults. None else. It looks at no byte.
+    #[inline(always)]
+    pub fn lost(&self) -> Option<Members<'a>>
+        ensures types { option_map members_left result ≡ lost_left self.now }
+        ensures nowhere { IfSome result (λ ms. places_left self.now ≡ lie_nowhere (members_left ms)) }
+    {
+        match &self.walk {
+            Walk::ByMembers(by_members) => by_members.lost(),
+            _ => None,
+        }
+    }
 }
 
 impl<'a> Iterator for Places<'a> {

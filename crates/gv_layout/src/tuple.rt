@@ -32,7 +32,7 @@ pub(crate) struct ByMembers<'a, 'b> {
 }
 
 impl<'a, 'b> ByMembers<'a, 'b> {
-    ghost use Rattle.gv_layout.specs.Places.{child_of, clamp, end_by, by_members_left};
+    ghost use Rattle.gv_layout.specs.Places.{child_of, clamp, end_by, by_members_left, lie_nowhere, lost_after};
 
     /// The members of a tuple or an entry.
     pub(crate) fn of_tuple(of: TypeStr<'a>, bytes: &'b [u8]) -> ByMembers<'a, 'b>
@@ -67,6 +67,18 @@ impl<'a, 'b> ByMembers<'a, 'b> {
         ensures { result ≡ length (by_members_left self.entry) }
     {
         self.members.count()
+    }
+
+    /// The types of the children that are left, if one before them was out of order, so that none of them lies anywhere.
+    #[inline(always)]
+    pub(crate) fn lost(&self) -> Option<Members<'a>>
+        ensures types { option_map members_left result ≡ lost_after self.now.previous (members_left self.now.members) }
+        ensures nowhere { IfSome result (λ ms. by_members_left self.now ≡ lie_nowhere (members_left ms)) }
+    {
+        match self.previous {
+            Some(_) => None,
+            None => Some(self.members),
+        }
     }
 
     /// The first child, and those after it.

@@ -7,13 +7,8 @@ use Rattle.gv_model.specs.Quoted.{between}
 use Rattle.gv_model.specs.Printed.{Text, comma, holds_double, hold_double, joined_by, text_of, texts, tuple_text}
 use Rattle.gv_text.specs.declared.printing.PrintFault.{PrintFault}
 use Rattle.gv_text.specs.declared.printing.PrintFault.TheVariants.{TooLarge, DoubleText, Memory}
-use Rattle.gv_text.specs.Printing.{AreFaultOf, IsElementFault, child_texts, rest_annotated}
+use Rattle.gv_text.specs.Printing.{AreFaultOf, IsElementFault, child_texts, following, rest_annotated}
 use Rattle.gv_text.proofs.Containers.{deeper}
-
--- the texts after the first, each after the mark
-abbrev pub following : Text → List Text → Text
-following mark [] = []
-following mark (s ∷ ss) = mark ++ (s ++ following mark ss)
 
 joined_first : (mark s : Text) (ss : List Text) → joined_by mark (s ∷ ss) ≡ s ++ following mark ss
 joined_first mark s [] = sym (append-nil s)
@@ -33,7 +28,7 @@ pub record IsLeft (mark : Text) (vs left : Trees) (annotated in_array : Bool) (s
   pub doubles : hold_double vs ≡ hold_double left
   pub depth : greatest_depth left ≤ greatest_depth vs
 
-plain_first : (v : Tree) (vs : Trees) → holds_double v ≡ false → hold_double (first v vs) ≡ hold_double vs
+pub plain_first : (v : Tree) (vs : Trees) → holds_double v ≡ false → hold_double (first v vs) ≡ hold_double vs
 unfolding holds_double
 plain_first v vs h = ap (λ b. b || hold_double vs) h
 

@@ -13,7 +13,7 @@ no_depth : greatest_depth none ≡ 0
 unfolding greatest_depth
 no_depth = refl
 
-first_depth : (u : Tree) (vs : Trees) → greatest_depth (first u vs) ≡ max (depth u) (greatest_depth vs)
+pub first_depth : (u : Tree) (vs : Trees) → greatest_depth (first u vs) ≡ max (depth u) (greatest_depth vs)
 unfolding greatest_depth
 first_depth u vs = refl
 

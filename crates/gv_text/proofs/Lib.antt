@@ -23,3 +23,4 @@ pub mod ParseStepLaws
 pub mod BracketLaws
 pub mod NumberedFaults
 mod DefaultTexts
+mod Behind

@@ -1,15 +1,17 @@
 -- What writing a value of no bytes answers.
 use Rattle.std.specs.Prelude.{◌≡◌, ◌≤◌, ◌<◌, ◌++◌, ◌⊎◌, ℕ, List, Bool, true, false}
-use Rattle.gv_model.specs.Ty.{Ty}
+use Rattle.gv_model.specs.Ty.{Ty, types_from}
 use Rattle.gv_model.specs.TypeText.{seen}
-use Rattle.gv_model.specs.Tree.{Tree, children, default, depth}
-use Rattle.gv_model.specs.Printed.{Text, joined_by, text_of, holds_double}
+use Rattle.gv_model.specs.Tree.{Tree, Trees, children, default, defaults, depth, greatest_depth}
+use Rattle.gv_model.specs.Printed.{Text, joined_by, text_of, texts, holds_double, hold_double}
 use Rattle.gv_types.specs.Classes.{class_of}
 use Rattle.gv_types.specs.declared.class.Class.TheVariants as classes
 use Rattle.gv_types.specs.Fronts.{front}
+use Rattle.gv_types.specs.declared.members.Members.{Members}
+use Rattle.gv_types.specs.Members.{members_left}
 use Rattle.gv_text.specs.declared.printing.PrintFault.{PrintFault}
 use Rattle.gv_text.specs.declared.printing.PrintFault.TheVariants.{TooLarge, DoubleText, Memory}
-use Rattle.gv_text.specs.Printing.{child_texts}
+use Rattle.gv_text.specs.Printing.{child_texts, following}
 
 -- the default of the type at the start of a text
 abbrev pub default_in : List ℕ → Tree
@@ -36,3 +38,19 @@ abbrev pub IsLevelFault : Tree → ℕ → PrintFault → Type 0
 IsLevelFault v levels TooLarge = levels < depth v
 IsLevelFault v levels DoubleText = holds_double v ≡ true
 IsLevelFault v levels Memory = Unit {0}
+
+-- the defaults of members that are left
+abbrev pub defaults_left : Members → Trees
+defaults_left ms = defaults (types_from (members_left ms))
+
+-- the same of values one after the other, each after the mark
+pub record WriteBehind (vs : Trees) (levels : ℕ) (mark : Text) (annotated in_array : Bool) (old new : Text) : Type 0 where
+  pub plain : hold_double vs ≡ false
+  pub text : new ≡ old ++ following mark (texts vs annotated annotated in_array)
+  pub fits : greatest_depth vs ≤ levels
+
+-- why they aren't written
+abbrev pub AreLevelFault : Trees → ℕ → PrintFault → Type 0
+AreLevelFault vs levels TooLarge = levels < greatest_depth vs
+AreLevelFault vs levels DoubleText = hold_double vs ≡ true
+AreLevelFault vs levels Memory = Unit {0}

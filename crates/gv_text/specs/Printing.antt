@@ -1,5 +1,5 @@
 -- What printing answers.
-use Rattle.std.specs.Prelude.{◌≡◌, ◌<◌, ℕ, List, [], Option, Some, None, Bool, true, false, nat_le, ◌==◌, ◌&&◌, ◌||◌, not}
+use Rattle.std.specs.Prelude.{◌≡◌, ◌<◌, ℕ, List, [], ◌∷◌, ◌++◌, Option, Some, None, Bool, true, false, nat_le, ◌==◌, ◌&&◌, ◌||◌, not}
 use Rattle.gv_model.specs.Ty.{Ty}
 use Rattle.gv_model.specs.Ty.Ty.{basic, array, entry}
 use Rattle.gv_model.specs.Ty.Basic.{byte}
@@ -45,6 +45,11 @@ rest_annotated annotated false = annotated
 -- the texts of children, of elements of an array or of others
 abbrev pub child_texts : Trees → Bool → Bool → List Text
 child_texts vs annotated in_array = texts vs annotated (rest_annotated annotated in_array) in_array
+
+-- texts one after the other, each after the mark
+abbrev pub following : Text → List Text → Text
+following mark [] = []
+following mark (s ∷ ss) = mark ++ (s ++ following mark ss)
 
 -- ---- arrays
 

@@ -11,5 +11,6 @@ pub mod TreeParts
 pub mod EntryLemmas
 pub mod Depths
 pub mod PartValues
+mod LostParts
 pub mod BasicCopies
 pub mod Copies

@@ -1,7 +1,8 @@
 -- The children of a value that a walk has still to give.
 use Rattle.std.specs.Prelude.{List, [], ◌∷◌, map, Option, Some, None}
 use Rattle.gv_model.specs.Parts.{Part, part_of}
-use Rattle.gv_layout.specs.Places.{places_left}
+use Rattle.gv_model.specs.Ty.{Ty}
+use Rattle.gv_layout.specs.Places.{places_left, lost_left}
 use Rattle.gv_view.specs.declared.children.Children.{Children}
 use Rattle.gv_view.specs.declared.children.Placed.{Placed}
 use Rattle.gv_view.specs.declared.children.Walk.{Walk}
@@ -25,3 +26,11 @@ parts_left (walks.Placed p) = placed_left p
 -- each as its type and its bytes
 abbrev pub children_left : Children → List Part
 children_left c = parts_left c.walk
+
+-- the types of members of which none lies anywhere, since one before them was out of order
+abbrev pub lost_parts : Walk → Option (List Ty)
+lost_parts (walks.Placed p) = lost_left p.places
+lost_parts (walks.Alone v) = None
+
+abbrev pub lost_children : Children → Option (List Ty)
+lost_children c = lost_parts c.walk

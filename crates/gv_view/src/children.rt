@@ -1,7 +1,8 @@
 //! The children of a value: how many there are, the one at an index, and all of them in order. A variant has one
 //! child, whose type occurs in its bytes; any other container's children lie at places in its bytes.
-ghost use Rattle.std.specs.Prelude.{◌≡◌, ◌↔◌, ◌<◌, All, IsSome, length, option_map, slice_get};
-ghost use Rattle.gv_model.specs.Tree.{children, trees_len, tree_at};
+ghost use Rattle.std.specs.Prelude.{◌≡◌, ◌↔◌, ◌<◌, All, IfSome, IsSome, length, option_map, slice_get};
+ghost use Rattle.gv_model.specs.Tree.{children, trees_len, tree_at, defaults};
+ghost use Rattle.gv_model.specs.Ty.{types_from};
 ghost use Rattle.gv_model.specs.Decode.{cut};
 ghost use Rattle.gv_model.specs.Parts.{part_of, parts};
 ghost use Rattle.gv_layout.specs.Places.{child_of, places_left};
@@ -10,7 +11,7 @@ ghost use Rattle.gv_model.specs.Laws.{LiesWithin};
 
 use crate::view::View;
 use gv_layout::{Place, Places};
-use gv_types::Class;
+use gv_types::{Class, Members};
 use std::iter::FusedIterator;
 
 /// The children of a value that are left, in order.
@@ -81,6 +82,25 @@ impl<'a> View<'a> {
             }),
         };
         Children { walk }
+    }
+}
+
+impl<'a> Children<'a> {
+    ghost use Rattle.gv_model.specs.Parts.{part_trees};
+    ghost use Rattle.gv_types.specs.Members.{members_left};
+    ghost use Rattle.gv_view.specs.Children.{children_left, lost_children};
+
+    /// The types of the children that are left, if they are members and one before them was out of order: none of them has
+    /// bytes, and all are defaults. None else. It looks at no byte.
+    #[inline(always)]
+    pub fn lost(&self) -> Option<Members<'a>>
+        ensures types { option_map members_left result ≡ lost_children self.now }
+        ensures defaults { IfSome result (λ ms. part_trees (children_left self.now) ≡ defaults (types_from (members_left ms))) }
+    {
+        match &self.walk {
+            Walk::Placed(placed) => placed.places.lost(),
+            Walk::Alone(_) => None,
+        }
     }
 }
 

@@ -194,3 +194,14 @@ fn places_have_types_and_bounds(rt: HostRuntime) -> Result<(), Fail> {
     assert!(rt; n_children(TypeStr::parse("v")?, &[]) == 1);
     Ok(())
 }
+
+#[test]
+fn members_behind_one_out_of_order_lie_nowhere(rt: HostRuntime) -> Result<(), Fail> {
+    let mut left = places(TypeStr::parse("(ysas)")?, b"\x05\xff\xff");
+    left.next();
+    assert!(rt; left.lost().is_none());
+    left.next();
+    let lost = left.lost().and_then(|mut types| types.next());
+    assert!(rt; lost.map(TypeStr::as_str) == Some("as"));
+    Ok(())
+}

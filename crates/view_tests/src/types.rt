@@ -134,7 +134,6 @@ fn tuples_of_one_member_lie_in_one_another(rt: HostRuntime) -> Result<(), Fail> 
         let of = TypeStr::parse(text)?;
         let found = descent(rt.alloc(), of)?;
         assert!(rt; found.as_str() == members, "at {text}");
-        assert!(rt; of.as_read().as_str() == text);
         let read = descent(rt.alloc(), of.as_read())?;
         assert!(rt; read.as_str() == members, "at {text}, which was read");
     }
@@ -150,7 +149,8 @@ fn a_member_inherits_what_is_known(rt: HostRuntime) -> Result<(), Fail> {
         Some(_) => first,
     };
     assert!(rt; open.is_known_open() && open.as_str() == "((as))");
-    assert!(rt; open.as_read().is_known_open() && !first.as_read().is_known_open());
+    let read = open.as_read();
+    assert!(rt; read.is_known_open() && read.as_str() == "((as))");
     let known = open.members().next().map(TypeStr::is_known_open);
     let unknown = first.members().next().map(TypeStr::is_known_open);
     assert!(rt; (known, unknown) == (Some(true), Some(false)));

@@ -222,3 +222,14 @@ fn variants_hold_a_value(rt: HostRuntime) -> Result<(), Fail> {
     assert!(rt; held_in_variant(b"\x05\0a").is_none());
     Ok(())
 }
+
+#[test]
+fn members_behind_one_out_of_order_are_lost(rt: HostRuntime) -> Result<(), Fail> {
+    let mut children = View::new(TypeStr::parse("(ysas)")?, b"\x05\xff\xff").children();
+    children.next();
+    assert!(rt; children.lost().is_none());
+    children.next();
+    let lost = children.lost().and_then(|mut left| left.next());
+    assert!(rt; lost.map(TypeStr::as_str) == Some("as"));
+    Ok(())
+}

@@ -7,6 +7,7 @@ ghost use Rattle.gv_text.specs.declared.printing.PrintFault.TheVariants.{TooLarg
 ghost use Rattle.gv_view.specs.Views.{value};
 ghost use Rattle.gv_text.specs.Printing.{AreFaultOf, child_texts};
 
+use super::default::push_behind;
 use super::{PrintFault, push_value};
 use gv_view::View;
 
@@ -63,11 +64,16 @@ pub(super) fn push_children(
         return Ok(false);
     };
     push_value(to, first, levels - 1, annotated, in_array)?;
+    let later = annotated && !in_array;
     let mut alone = true;
-    for child in children {
+    while let Some(child) = children.next() {
         alone = false;
         to.push_str(mark)?;
-        push_value(to, child, levels - 1, annotated && !in_array, in_array)?;
+        push_value(to, child, levels - 1, later, in_array)?;
+        if let Some(lost) = children.lost() {
+            push_behind(to, lost, levels - 1, mark, later, in_array)?;
+            return Ok(false);
+        }
     }
     Ok(alone)
 }

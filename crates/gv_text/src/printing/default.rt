@@ -13,13 +13,13 @@ ghost use Rattle.gv_types.specs.Fronts.{front, BeginsFront, IsAfterFront};
 ghost use Rattle.gv_types.specs.declared.class.Class.TheVariants.{Tuple, Entry};
 ghost use Rattle.gv_text.specs.declared.printing.PrintFault.TheVariants.{TooLarge, Memory};
 ghost use Rattle.gv_text.specs.Printing.{IsElementFault, figures_of};
-ghost use Rattle.gv_text.specs.Defaults.{default_in, IsEmptied, IsLevelFault, Writes, WritesJoined};
+ghost use Rattle.gv_text.specs.Defaults.{default_in, defaults_left, AreLevelFault, IsEmptied, IsLevelFault, WriteBehind, Writes, WritesJoined};
 
 use super::PrintFault;
 use super::array::brackets;
 use super::basic::push_word;
 use super::type_mark::push_type_mark;
-use gv_types::{BasicType, Class, TypeStr};
+use gv_types::{BasicType, Class, Members, TypeStr};
 use std::alloc::AllocError;
 
 /// Writes the default of a type, which has no more than these levels.
@@ -41,6 +41,29 @@ pub(super) fn push_default(
         _ => {
             push_front(to, of.as_str().as_bytes(), levels, annotated, in_array)?;
         }
+    }
+    Ok(())
+}
+
+/// Writes the defaults of the members that are left, each after the mark.
+pub(super) fn push_behind(
+    to: &mut String,
+    members: Members<'_>,
+    levels: u8,
+    mark: &str,
+    annotated: bool,
+    in_array: bool,
+) -> Result<(), PrintFault>
+    ensures { MatchResult result
+        (λ _. WriteBehind (defaults_left members.entry) levels mark.now annotated in_array (string_bytes to.old) (string_bytes to.new))
+        (AreLevelFault (defaults_left members.entry) levels) }
+{
+    for member in members {
+        if levels == 0 {
+            return Err(PrintFault::TooLarge);
+        }
+        to.push_str(mark)?;
+        push_default(to, member, levels, annotated, in_array)?;
     }
     Ok(())
 }

@@ -1,4 +1,4 @@
-use Rattle.std.proofs.Common.{◌≡◌, ◌++◌, ◌∷◌, [], true, false, ◌&&◌, ℕ, Option, MatchOption, Result, Ok, Err, OnOk, sym, ap, ◌∙◌, subst, arith, string_bytes}
+use Rattle.std.proofs.Common.{◌≡◌, ◌++◌, ◌∷◌, [], true, false, ◌&&◌, ◌-◌, ℕ, Option, MatchOption, Result, Ok, Err, OnOk, sym, ap, ◌∙◌, subst, arith, string_bytes}
 use Rattle.std.proofs.lemmas.Result.{err_from_is_err_and}
 use Rattle.std.proofs.lemmas.Bool.{and_from, and_left, and_right, false≢true}
 use Rattle.gv_model.specs.Tree.{children}
@@ -37,6 +37,8 @@ use Rattle.gv_text.proofs.ContainerTexts.{
 use Rattle.gv_text.proofs.Containers.{fault_of_children}
 use Rattle.gv_text.proofs.ChildTexts.{childless_text, first_fault, left_first, left_next, left_none, one_member, other_members, rest_of_plain, same_faults}
 use Rattle.gv_text.proofs.ChildCounts.{alone_first, alone_last, alone_next, alone_none}
+use Rattle.gv_text.specs.Defaults.{defaults_left}
+use Rattle.gv_text.proofs.Behind.{not_alone, rest_faults, rest_fits, rest_too_deep, rest_written}
 use Rattle.gv_text.proofs.ArrayTexts.{array_written, byte_string_text}
 use Rattle.gv_text.proofs.DefaultTexts.{empty_deep, empty_fits, empty_value, empty_written}
 use Rattle.gv_text.proofs.Levels.{childless_fits, first_too_deep, begin_levels, next_levels, then_too_deep, all_fit}
@@ -164,40 +166,86 @@ children::push_children-returns-in_err-push_value-clause-text t c =
 
 pub children::push_children-loop-child-init : goal.children::push_children-loop-child-init
 children::push_children-loop-child-init t c =
-    let some = children_are_parts (view_ty c.args.view) (view_bytes c.args.view) ∙ (ap part_trees (sym c.children-children.ensures) ∙ ap part_trees c.in-Some.ensures.steps) in
-    let again = ap part_trees (ap children_left c.into_iter-child-iterator.ensures.into_iter_gives) in (
-      rw (some, c.into_iter-child-iterator.ensures.into_iter_gives)
+    let some = children_are_parts (view_ty c.args.view) (view_bytes c.args.view) ∙ (ap part_trees (sym c.children-children.ensures) ∙ ap part_trees c.in-Some.ensures.steps) in (
+      rw some
           (left_first c.args.mark.now (value c.in-Some.first) (part_trees (children_left c.next.new.self)) c.args.annotated c.args.in_array (string_bytes c.args.to.now)
           (string_bytes c.push_value.new.to) c.in_ok-push_value.ensures.text.0 c.in_ok-push_value.ensures.text.1),
-      rw again (alone_first (children (value c.args.view)) (part_trees (children_left c.next.new.self)) (value c.in-Some.first) some),
-      rw again (begin_levels (value c.args.view) (value c.in-Some.first) (part_trees (children_left c.next.new.self)) c.args.levels some c.requires.1.1 c.in_ok-push_value.ensures.fits),
+      alone_first (children (value c.args.view)) (part_trees (children_left c.next.new.self)) (value c.in-Some.first) some,
+      begin_levels (value c.args.view) (value c.in-Some.first) (part_trees (children_left c.next.new.self)) c.args.levels some c.requires.1.1 c.in_ok-push_value.ensures.fits,
     )
 
+-- the children behind the first are annotated where the first is, but in an array
 pub children::push_children-loop-child-preserved : goal.children::push_children-loop-child-preserved
 children::push_children-loop-child-preserved t c =
-    let so_far = rw (ap part_trees c.in-Some-child.ensures.steps) at c.loop-child.invariant.0 in
-    let annotate : c.if-annotated.push_value ≡ rest_annotated c.args.annotated c.args.in_array = elim c.if-annotated.branch [
-      | children::push_children-then-annotated w ↦ w.push_value-is ∙ ap (λ a. rest_annotated a c.args.in_array) (sym w.if-annotated.true)
-      | children::push_children-else-annotated w ↦ w.push_value-is ∙ rest_of_plain c.args.annotated c.args.in_array w.if-annotated.false
+    let one = ap part_trees c.in-Some-next.ensures.steps in
+    let so_far = rw one at c.loop-child.invariant.0 in
+    let annotate : c.if-annotated.later ≡ rest_annotated c.args.annotated c.args.in_array = elim c.if-annotated.branch [
+      | children::push_children-then-annotated w ↦ w.later-is ∙ ap (λ a. rest_annotated a c.args.in_array) (sym w.if-annotated.true)
+      | children::push_children-else-annotated w ↦ w.later-is ∙ rest_of_plain c.args.annotated c.args.in_array w.if-annotated.false
     ] in (
-      left_next c.args.mark.now (children (value c.args.view)) (value c.in-Some-child.child)
+      left_next c.args.mark.now (children (value c.args.view)) (value c.in-Some-next.child)
           (part_trees (children_left c.next-in-loop-child.new.self)) c.args.annotated c.args.in_array (string_bytes c.args.to.now) (string_bytes c.loop-child.to)
-          (string_bytes c.push_str.new.self) (string_bytes c.push_value-in-loop-child.new.to) so_far c.in_ok-push_str.ensures.bytes c.in_ok-push_value-2.ensures.text.0
-          (c.in_ok-push_value-2.ensures.text.1 ∙ ap (λ a. string_bytes c.push_str.new.self ++ text_of (value c.in-Some-child.child) a c.args.in_array) annotate),
-      alone_next c.loop-child.alone (children (value c.args.view)) (part_trees (children_left c.loop-child.child-iterator)) (part_trees (children_left c.next-in-loop-child.new.self)) (value c.in-Some-child.child) (ap part_trees c.in-Some-child.ensures.steps) c.loop-child.invariant.1,
-      next_levels (value c.args.view) (value c.in-Some-child.child) (part_trees (children_left c.next-in-loop-child.new.self)) (part_trees (children_left c.loop-child.child-iterator)) c.args.levels (ap part_trees c.in-Some-child.ensures.steps) c.requires.1.1 c.in_ok-push_value-2.ensures.fits c.loop-child.invariant.2,
+          (string_bytes c.push_str.new.self) (string_bytes c.push_value-in-Some-next.new.to) so_far c.in_ok-push_str.ensures.bytes c.in_ok-push_value-2.ensures.text.0
+          (c.in_ok-push_value-2.ensures.text.1 ∙ ap (λ a. string_bytes c.push_str.new.self ++ text_of (value c.in-Some-next.child) a c.args.in_array) annotate),
+      alone_next c.loop-child.alone (children (value c.args.view)) (part_trees (children_left c.loop-child.children)) (part_trees (children_left c.next-in-loop-child.new.self)) (value c.in-Some-next.child) one c.loop-child.invariant.1,
+      next_levels (value c.args.view) (value c.in-Some-next.child) (part_trees (children_left c.next-in-loop-child.new.self)) (part_trees (children_left c.loop-child.children)) c.args.levels one c.requires.1.1 c.in_ok-push_value-2.ensures.fits c.loop-child.invariant.2,
     )
 
 pub children::push_children-returns-in_err-push_value-2-clause-text : goal.children::push_children-returns-in_err-push_value-2-clause-text
 children::push_children-returns-in_err-push_value-2-clause-text t c =
     let p = err_from_is_err_and c.from_residual-in_err-push_value-2.result c.from_residual-in_err-push_value-2.ensures.1 in
-    let fault = first_fault (value c.in-Some-child.child) (part_trees (children_left c.next-in-loop-child.new.self)) c.in_err-push_value-2.field-0.0 c.in_err-push_value-2.ensures.text in
-    rw (p.1, p.2) (same_faults (children (value c.args.view)) _ c.in_err-push_value-2.field-0.0 (c.loop-child.invariant.0.doubles ∙ ap hold_double (ap part_trees c.in-Some-child.ensures.steps)) fault)
+    let fault = first_fault (value c.in-Some-next.child) (part_trees (children_left c.next-in-loop-child.new.self)) c.in_err-push_value-2.field-0.0 c.in_err-push_value-2.ensures.text in
+    rw (p.1, p.2) (same_faults (children (value c.args.view)) _ c.in_err-push_value-2.field-0.0 (c.loop-child.invariant.0.doubles ∙ ap hold_double (ap part_trees c.in-Some-next.ensures.steps)) fault)
 
 pub children::push_children-returns-clause-text : goal.children::push_children-returns-clause-text
 children::push_children-returns-clause-text t c =
-    let so_far = rw (ap part_trees c.in-None.ensures.steps.0) at c.loop-child.invariant.0 in
+    let so_far = rw (ap part_trees c.in_default-next.ensures.steps.0) at c.loop-child.invariant.0 in
     left_none c.args.mark.now (children (value c.args.view)) c.args.annotated c.args.in_array (string_bytes c.args.to.now) (string_bytes c.loop-child.to) so_far
+
+-- ---- members that lie nowhere
+
+pub children::push_children-returns-in-Some-lost-clause-text : goal.children::push_children-returns-in-Some-lost-clause-text
+children::push_children-returns-in-Some-lost-clause-text t c =
+    let annotate : c.if-annotated.later ≡ rest_annotated c.args.annotated c.args.in_array = elim c.if-annotated.branch [
+      | children::push_children-then-annotated w ↦ w.later-is ∙ ap (λ a. rest_annotated a c.args.in_array) (sym w.if-annotated.true)
+      | children::push_children-else-annotated w ↦ w.later-is ∙ rest_of_plain c.args.annotated c.args.in_array w.if-annotated.false
+    ] in
+    rest_written c.args.mark.now (children (value c.args.view)) (part_trees (children_left c.next-in-loop-child.new.self)) (defaults_left c.in-Some-lost.lost) (c.args.levels - 1) c.args.annotated c.args.in_array c.if-annotated.later (string_bytes c.args.to.now) (string_bytes c.push_value-in-Some-next.new.to) (string_bytes c.push_behind.new.to)
+    (left_next c.args.mark.now (children (value c.args.view)) (value c.in-Some-next.child)
+    (part_trees (children_left c.next-in-loop-child.new.self)) c.args.annotated c.args.in_array (string_bytes c.args.to.now) (string_bytes c.loop-child.to)
+    (string_bytes c.push_str.new.self) (string_bytes c.push_value-in-Some-next.new.to) (rw (ap part_trees c.in-Some-next.ensures.steps) at c.loop-child.invariant.0) c.in_ok-push_str.ensures.bytes c.in_ok-push_value-2.ensures.text.0
+    (c.in_ok-push_value-2.ensures.text.1 ∙ ap (λ a. string_bytes c.push_str.new.self ++ text_of (value c.in-Some-next.child) a c.args.in_array) annotate))
+    c.in-Some-lost.ensures.defaults annotate c.in_ok-push_behind.ensures
+
+pub children::push_children-returns-in_err-push_behind-clause-text : goal.children::push_children-returns-in_err-push_behind-clause-text
+children::push_children-returns-in_err-push_behind-clause-text t c =
+    let annotate : c.if-annotated.later ≡ rest_annotated c.args.annotated c.args.in_array = elim c.if-annotated.branch [
+      | children::push_children-then-annotated w ↦ w.later-is ∙ ap (λ a. rest_annotated a c.args.in_array) (sym w.if-annotated.true)
+      | children::push_children-else-annotated w ↦ w.later-is ∙ rest_of_plain c.args.annotated c.args.in_array w.if-annotated.false
+    ] in
+    let p = err_from_is_err_and c.from_residual-in_err-push_behind.result c.from_residual-in_err-push_behind.ensures.1 in
+    rw (p.1, p.2) (rest_faults c.args.mark.now (children (value c.args.view)) (part_trees (children_left c.next-in-loop-child.new.self)) (defaults_left c.in-Some-lost.lost) (c.args.levels - 1) c.args.annotated c.args.in_array (string_bytes c.args.to.now) (string_bytes c.push_value-in-Some-next.new.to) c.in_err-push_behind.field-0.0
+    (left_next c.args.mark.now (children (value c.args.view)) (value c.in-Some-next.child)
+    (part_trees (children_left c.next-in-loop-child.new.self)) c.args.annotated c.args.in_array (string_bytes c.args.to.now) (string_bytes c.loop-child.to)
+    (string_bytes c.push_str.new.self) (string_bytes c.push_value-in-Some-next.new.to) (rw (ap part_trees c.in-Some-next.ensures.steps) at c.loop-child.invariant.0) c.in_ok-push_str.ensures.bytes c.in_ok-push_value-2.ensures.text.0
+    (c.in_ok-push_value-2.ensures.text.1 ∙ ap (λ a. string_bytes c.push_str.new.self ++ text_of (value c.in-Some-next.child) a c.args.in_array) annotate))
+    c.in-Some-lost.ensures.defaults c.in_err-push_behind.ensures)
+
+pub children::push_children-returns-in-Some-lost-clause-alone : goal.children::push_children-returns-in-Some-lost-clause-alone
+children::push_children-returns-in-Some-lost-clause-alone t c =
+    not_alone (children (value c.args.view)) (part_trees (children_left c.next-in-loop-child.new.self))
+    (alone_next c.loop-child.alone (children (value c.args.view)) (part_trees (children_left c.loop-child.children)) (part_trees (children_left c.next-in-loop-child.new.self)) (value c.in-Some-next.child) (ap part_trees c.in-Some-next.ensures.steps) c.loop-child.invariant.1)
+
+pub children::push_children-returns-in-Some-lost-clause-fits : goal.children::push_children-returns-in-Some-lost-clause-fits
+children::push_children-returns-in-Some-lost-clause-fits t c =
+    rest_fits (value c.args.view) (part_trees (children_left c.next-in-loop-child.new.self)) (defaults_left c.in-Some-lost.lost) c.args.levels
+    (next_levels (value c.args.view) (value c.in-Some-next.child) (part_trees (children_left c.next-in-loop-child.new.self)) (part_trees (children_left c.loop-child.children)) c.args.levels (ap part_trees c.in-Some-next.ensures.steps) c.requires.1.1 c.in_ok-push_value-2.ensures.fits c.loop-child.invariant.2) c.in-Some-lost.ensures.defaults c.requires.1.1 c.in_ok-push_behind.ensures.fits
+
+pub children::push_children-returns-in_err-push_behind-clause-deep : goal.children::push_children-returns-in_err-push_behind-clause-deep
+children::push_children-returns-in_err-push_behind-clause-deep t c =
+    let p = err_from_is_err_and c.from_residual-in_err-push_behind.result c.from_residual-in_err-push_behind.ensures.1 in
+    rw (p.1, p.2) (rest_too_deep (value c.args.view) (part_trees (children_left c.next-in-loop-child.new.self)) (defaults_left c.in-Some-lost.lost) c.args.levels c.in_err-push_behind.field-0.0
+    (next_levels (value c.args.view) (value c.in-Some-next.child) (part_trees (children_left c.next-in-loop-child.new.self)) (part_trees (children_left c.loop-child.children)) c.args.levels (ap part_trees c.in-Some-next.ensures.steps) c.requires.1.1 c.in_ok-push_value-2.ensures.fits c.loop-child.invariant.2) c.in-Some-lost.ensures.defaults c.in_err-push_behind.ensures)
 
 -- ---- maybes
 
@@ -278,12 +326,12 @@ children::push_children-returns-in_err-push_value-clause-deep t c =
 pub children::push_children-returns-in_err-push_value-2-clause-deep : goal.children::push_children-returns-in_err-push_value-2-clause-deep
 children::push_children-returns-in_err-push_value-2-clause-deep t c =
     let p = err_from_is_err_and c.from_residual-in_err-push_value-2.result c.from_residual-in_err-push_value-2.ensures.1 in
-    rw (p.1, p.2) (λ is. then_too_deep (value c.args.view) (value c.in-Some-child.child) (part_trees (children_left c.next-in-loop-child.new.self)) (part_trees (children_left c.loop-child.child-iterator)) c.args.levels
-    (ap part_trees c.in-Some-child.ensures.steps) (c.in_err-push_value-2.ensures.deep is) c.loop-child.invariant.2)
+    rw (p.1, p.2) (λ is. then_too_deep (value c.args.view) (value c.in-Some-next.child) (part_trees (children_left c.next-in-loop-child.new.self)) (part_trees (children_left c.loop-child.children)) c.args.levels
+    (ap part_trees c.in-Some-next.ensures.steps) (c.in_err-push_value-2.ensures.deep is) c.loop-child.invariant.2)
 
 pub children::push_children-returns-clause-fits : goal.children::push_children-returns-clause-fits
 children::push_children-returns-clause-fits t c =
-    all_fit (value c.args.view) (part_trees (children_left c.loop-child.child-iterator)) c.args.levels (ap part_trees c.in-None.ensures.steps.0) c.requires.1.1 c.loop-child.invariant.2
+    all_fit (value c.args.view) (part_trees (children_left c.loop-child.children)) c.args.levels (ap part_trees c.in_default-next.ensures.steps.0) c.requires.1.1 c.loop-child.invariant.2
 
 -- ---- one child alone
 
@@ -294,4 +342,4 @@ children::push_children-returns-in_default-clause-alone t c =
 
 pub children::push_children-returns-clause-alone : goal.children::push_children-returns-clause-alone
 children::push_children-returns-clause-alone t c =
-    alone_last c.loop-child.alone (children (value c.args.view)) (part_trees (children_left c.loop-child.child-iterator)) (ap part_trees c.in-None.ensures.steps.0) c.loop-child.invariant.1
+    alone_last c.loop-child.alone (children (value c.args.view)) (part_trees (children_left c.loop-child.children)) (ap part_trees c.in_default-next.ensures.steps.0) c.loop-child.invariant.1

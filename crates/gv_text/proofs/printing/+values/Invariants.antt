@@ -38,6 +38,6 @@ decreases-children::push_children l = 4 * l.levels
 -- what is written so far, and the children that are left; those before have no more levels than there are
 abbrev pub invariant-children::push_children-loop-child : goal.invariant-children::push_children-loop-child
 invariant-children::push_children-loop-child l =
-    IsLeft l.mark (children (value l.fn.view)) (part_trees (children_left l.child-iterator)) l.annotated l.in_array (string_bytes l.fn.to) (string_bytes l.to)
-    × IsAlone l.alone (children (value l.fn.view)) (part_trees (children_left l.child-iterator))
-    × AreLevels (value l.fn.view) (part_trees (children_left l.child-iterator)) l.fn.levels
+    IsLeft l.mark (children (value l.fn.view)) (part_trees (children_left l.children)) l.annotated l.in_array (string_bytes l.fn.to) (string_bytes l.to)
+    × IsAlone l.alone (children (value l.fn.view)) (part_trees (children_left l.children))
+    × AreLevels (value l.fn.view) (part_trees (children_left l.children)) l.fn.levels

@@ -1,0 +1,110 @@
+-- Defaults of members one after the other, each after the mark.
+use Rattle.std.proofs.Common.{◌≡◌, ◌≤◌, ◌<◌, ◌-◌, ℕ, max, List, [], ◌∷◌, ◌++◌, Bool, true, false, refl, sym, ap, ◌∙◌, arith, append_assoc, append-nil}
+use Rattle.std.specs.Prelude.{◌↔◌, IsTrue}
+use Rattle.std.proofs.lemmas.Bool.{false≢true}
+use Rattle.gv_model.specs.Ty.{Ty, types_from}
+use Rattle.gv_model.specs.Tree.{Tree, Trees, default, defaults, depth, greatest_depth, trees_len}
+use Rattle.gv_model.specs.Tree.Trees.{none, first}
+use Rattle.gv_model.specs.Printed.{Text, joined_by, holds_double, hold_double, text_of, texts}
+use Rattle.gv_text.specs.declared.printing.PrintFault.{PrintFault}
+use Rattle.gv_text.specs.declared.printing.PrintFault.TheVariants.{TooLarge, DoubleText, Memory}
+use Rattle.gv_text.specs.Printing.{AreFaultOf, child_texts, following, rest_annotated}
+use Rattle.gv_text.specs.Defaults.{AreLevelFault, IsLevelFault, WriteBehind, Writes}
+use Rattle.gv_text.proofs.ChildCounts.{IsAlone}
+use Rattle.gv_text.proofs.ChildTexts.{IsLeft, first_fault, plain_first}
+use Rattle.gv_text.proofs.Levels.{AreLevels, first_depth}
+use Rattle.gv_view.proofs.Depths.{depth_children}
+
+abbrev pub behind : Text → Trees → Bool → Bool → Text
+behind mark vs annotated in_array = following mark (texts vs annotated annotated in_array)
+
+-- Of the values vs, which go behind `start`, these are left. So far `now` is written.
+pub record AreLeft (mark : Text) (vs left : Trees) (levels : ℕ) (annotated in_array : Bool) (start now : Text) : Type 0 where
+  pub texts : now ++ behind mark left annotated in_array ≡ start ++ behind mark vs annotated in_array
+  pub doubles : hold_double vs ≡ hold_double left
+  pub known : greatest_depth vs ≤ max levels (greatest_depth left)
+  pub deeper : greatest_depth left ≤ greatest_depth vs
+
+pub all_left : (mark : Text) (vs : Trees) (levels : ℕ) (annotated in_array : Bool) (start : Text) → AreLeft mark vs vs levels annotated in_array start start
+all_left mark vs levels annotated in_array start = record { texts = refl; doubles = refl; known = omega arith; deeper = omega arith }
+
+texts_first : (u : Tree) (vs : Trees) (annotated in_array : Bool) → texts (first u vs) annotated annotated in_array ≡ text_of u annotated in_array ∷ texts vs annotated annotated in_array
+unfolding text_of
+texts_first u vs annotated in_array = refl
+
+pub one_less : (mark : Text) (vs us left : Trees) (u : Tree) (levels : ℕ) (annotated in_array : Bool) (start now mid new : Text) → us ≡ first u left → AreLeft mark vs us levels annotated in_array start now
+    → mid ≡ now ++ mark → Writes u levels annotated in_array mid new → AreLeft mark vs left levels annotated in_array start new
+one_less mark vs us left u levels annotated in_array start now mid new is was marks wrote =
+    let s = text_of u annotated in_array in
+    let more = behind mark left annotated in_array in
+    let depths = ap greatest_depth is ∙ first_depth u left in
+    record {
+      texts = ap (λ (l : Text). l ++ more) (wrote.text ∙ ap (λ (l : Text). l ++ s) marks)
+          ∙ (append_assoc (now ++ mark) s more ∙ (append_assoc now mark (s ++ more)
+          ∙ (ap (λ (l : Text). now ++ l) (ap (following mark) (sym (texts_first u left annotated in_array)) ∙ ap (λ (ws : Trees). behind mark ws annotated in_array) (sym is)) ∙ was.texts)));
+      doubles = was.doubles ∙ (ap hold_double is ∙ plain_first u left wrote.plain);
+      known = omega (arith, was.known, depths, wrote.fits);
+      deeper = omega (arith, was.deeper, depths);
+    }
+
+nothing_behind : (mark : Text) (annotated in_array : Bool) → behind mark none annotated in_array ≡ []
+unfolding text_of
+nothing_behind mark annotated in_array = refl
+
+no_doubles : hold_double none ≡ false
+unfolding holds_double
+no_doubles = refl
+
+no_depth : greatest_depth none ≡ 0
+unfolding greatest_depth
+no_depth = refl
+
+pub all_written : (mark : Text) (vs us : Trees) (levels : ℕ) (annotated in_array : Bool) (start now : Text) → us ≡ none → AreLeft mark vs us levels annotated in_array start now → WriteBehind vs levels mark annotated in_array start now
+all_written mark vs us levels annotated in_array start now is was = record {
+  plain = was.doubles ∙ (ap hold_double is ∙ no_doubles);
+  text = sym (append-nil now) ∙ (ap (λ (l : Text). now ++ l) (sym (ap (λ (ws : Trees). behind mark ws annotated in_array) is ∙ nothing_behind mark annotated in_array)) ∙ was.texts);
+  fits = omega (arith, was.known, ap greatest_depth is ∙ no_depth);
+}
+
+pub fault_behind : (mark : Text) (vs us left : Trees) (u : Tree) (levels : ℕ) (annotated in_array : Bool) (start now : Text) (f : PrintFault) → us ≡ first u left → AreLeft mark vs us levels annotated in_array start now
+    → IsLevelFault u levels f → AreLevelFault vs levels f
+fault_behind mark vs us left u levels annotated in_array start now TooLarge is was h = omega (arith, h, was.deeper, ap greatest_depth is ∙ first_depth u left)
+fault_behind mark vs us left u levels annotated in_array start now DoubleText is was h = was.doubles ∙ (ap hold_double is ∙ first_fault u left DoubleText h)
+fault_behind mark vs us left u levels annotated in_array start now Memory is was h = tt
+
+pub no_levels : (mark : Text) (vs us left : Trees) (u : Tree) (levels : ℕ) (annotated in_array : Bool) (start now : Text) → levels ≡ 0 → us ≡ first u left → AreLeft mark vs us levels annotated in_array start now → levels < greatest_depth vs
+no_levels mark vs us left u levels annotated in_array start now few is was = omega (arith, few, was.deeper, ap greatest_depth is ∙ first_depth u left, depth_children u)
+
+pub types_first : (t : Ty) (ts us : List Ty) → us ≡ t ∷ ts → defaults (types_from us) ≡ first (default t) (defaults (types_from ts))
+unfolding default
+types_first t ts us e = ap (λ (ws : List Ty). defaults (types_from ws)) e
+
+pub types_none : (us : List Ty) → us ≡ [] → defaults (types_from us) ≡ none
+unfolding default
+types_none us e = ap (λ (ws : List Ty). defaults (types_from ws)) e
+
+-- ---- the children that are left are such members
+
+pub rest_written : (mark : Text) (vs left ds : Trees) (levels : ℕ) (annotated in_array later : Bool) (start now new : Text) → IsLeft mark vs left annotated in_array start now → left ≡ ds → later ≡ rest_annotated annotated in_array
+    → WriteBehind ds levels mark later in_array now new → (hold_double vs ≡ false) × (new ≡ start ++ joined_by mark (child_texts vs annotated in_array))
+rest_written mark vs left ds levels annotated in_array later start now new was is same wrote = (
+  was.doubles ∙ (ap hold_double is ∙ wrote.plain),
+  wrote.text ∙ (ap (λ (ws : Trees). now ++ behind mark ws later in_array) (sym is) ∙ (ap (λ (a : Bool). now ++ behind mark left a in_array) same ∙ was.texts)),
+)
+
+pub rest_faults : (mark : Text) (vs left ds : Trees) (levels : ℕ) (annotated in_array : Bool) (start now : Text) (f : PrintFault) → IsLeft mark vs left annotated in_array start now → left ≡ ds → AreLevelFault ds levels f → AreFaultOf vs f
+rest_faults mark vs left ds levels annotated in_array start now TooLarge was is h = tt
+rest_faults mark vs left ds levels annotated in_array start now DoubleText was is h = was.doubles ∙ (ap hold_double is ∙ h)
+rest_faults mark vs left ds levels annotated in_array start now Memory was is h = tt
+
+pub rest_fits : (v : Tree) (left ds : Trees) (levels : ℕ) → AreLevels v left levels → left ≡ ds → 0 < levels → greatest_depth ds ≤ levels - 1 → depth v ≤ levels
+rest_fits v left ds levels are is some h = omega (arith, are.known, ap greatest_depth is, some, h)
+
+pub rest_too_deep : (v : Tree) (left ds : Trees) (levels : ℕ) (f : PrintFault) → AreLevels v left levels → left ≡ ds → AreLevelFault ds (levels - 1) f → f ≡ TooLarge → levels < depth v
+rest_too_deep v left ds levels TooLarge are is h e = omega (arith, are.deeper, ap greatest_depth is, h)
+rest_too_deep v left ds levels DoubleText are is h e = absurd cc
+rest_too_deep v left ds levels Memory are is h e = absurd cc
+
+-- two or more children are not one alone
+pub not_alone : (vs left : Trees) → IsAlone false vs left → IsTrue false ↔ (trees_len vs ≡ 1)
+not_alone vs left h = ((λ is. absurd (false≢true is)), (λ one. absurd (omega (arith, h, one))))
