@@ -5,14 +5,14 @@ use Rattle.std.proofs.lemmas.Bool.{false≢true}
 use Rattle.gv_model.specs.Ty.{Ty, types_from}
 use Rattle.gv_model.specs.Tree.{Tree, Trees, default, defaults, depth, greatest_depth, trees_len}
 use Rattle.gv_model.specs.Tree.Trees.{none, first}
-use Rattle.gv_model.specs.Printed.{Text, joined_by, holds_double, hold_double, text_of, texts}
+use Rattle.gv_model.specs.Printed.{Text, joined_by, hold_double, text_of, texts}
 use Rattle.gv_text.specs.declared.printing.PrintFault.{PrintFault}
 use Rattle.gv_text.specs.declared.printing.PrintFault.TheVariants.{TooLarge, DoubleText, Memory}
 use Rattle.gv_text.specs.Printing.{AreFaultOf, child_texts, following, rest_annotated}
 use Rattle.gv_text.specs.Defaults.{AreLevelFault, IsLevelFault, WriteBehind, Writes}
 use Rattle.gv_text.proofs.ChildCounts.{IsAlone}
-use Rattle.gv_text.proofs.ChildTexts.{IsLeft, first_fault, plain_first}
-use Rattle.gv_text.proofs.Levels.{AreLevels, first_depth}
+use Rattle.gv_text.proofs.ChildTexts.{IsLeft, first_fault, no_doubles, plain_first}
+use Rattle.gv_text.proofs.Levels.{AreLevels, first_depth, no_depth}
 use Rattle.gv_view.proofs.Depths.{depth_children}
 
 abbrev pub behind : Text → Trees → Bool → Bool → Text
@@ -50,14 +50,6 @@ one_less mark vs us left u levels annotated in_array start now mid new is was ma
 nothing_behind : (mark : Text) (annotated in_array : Bool) → behind mark none annotated in_array ≡ []
 unfolding text_of
 nothing_behind mark annotated in_array = refl
-
-no_doubles : hold_double none ≡ false
-unfolding holds_double
-no_doubles = refl
-
-no_depth : greatest_depth none ≡ 0
-unfolding greatest_depth
-no_depth = refl
 
 pub all_written : (mark : Text) (vs us : Trees) (levels : ℕ) (annotated in_array : Bool) (start now : Text) → us ≡ none → AreLeft mark vs us levels annotated in_array start now → WriteBehind vs levels mark annotated in_array start now
 all_written mark vs us levels annotated in_array start now is was = record {

@@ -69,7 +69,7 @@ no_texts : (mark : Text) (annotated in_array : Bool) → following mark (rest_te
 unfolding text_of
 no_texts mark annotated in_array = refl
 
-no_doubles : hold_double none ≡ false
+pub no_doubles : hold_double none ≡ false
 unfolding holds_double
 no_doubles = refl
 

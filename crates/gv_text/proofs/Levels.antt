@@ -9,7 +9,7 @@ pub record AreLevels (v : Tree) (left : Trees) (levels : ℕ) : Type 0 where
   pub deeper : greatest_depth left < depth v
   pub known : depth v ≤ max levels (suc (greatest_depth left))
 
-no_depth : greatest_depth none ≡ 0
+pub no_depth : greatest_depth none ≡ 0
 unfolding greatest_depth
 no_depth = refl
 

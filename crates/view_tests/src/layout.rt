@@ -197,7 +197,9 @@ fn places_have_types_and_bounds(rt: HostRuntime) -> Result<(), Fail> {
 
 #[test]
 fn members_behind_one_out_of_order_lie_nowhere(rt: HostRuntime) -> Result<(), Fail> {
-    let mut left = places(TypeStr::parse("(ysas)")?, b"\x05\xff\xff");
+    let of = TypeStr::parse("(ysas)")?;
+    assert!(rt; of.class() != Class::Variant);
+    let mut left = places(of, b"\x05\xff\xff");
     left.next();
     assert!(rt; left.lost().is_none());
     left.next();
