@@ -11,7 +11,7 @@ use gv_types::{Class, TypeStr};
 
 /// How many children a value of this type has that is read from these bytes.
 ///
-/// Members are counted along the type's text; all else is O(1).
+/// Members are counted along the type's text, and of elements without a fixed size the type's text is read; all else is O(1).
 pub fn n_children(of: TypeStr<'_>, bytes: &[u8]) -> usize
     ensures { result ≡ length (cut (ty of.entry) bytes.now) }
 {
