@@ -29,7 +29,7 @@ use Rattle.gv_types.specs.Fronts.{after, after_close, front, types_inside, Begin
 use Rattle.gv_types.proofs.Fronts.{HasInside, HasMember, HasPair, inside_end, inside_front, inside_more, inside_next, inside_types, key_type, value_type}
 use Rattle.gv_text.specs.declared.printing.PrintFault.{PrintFault}
 use Rattle.gv_text.specs.declared.printing.PrintFault.TheVariants.{TooLarge, DoubleText, Memory}
-use Rattle.gv_text.specs.Defaults.{default_in, IsEmptied, IsLevelFault, Writes, WritesJoined}
+use Rattle.gv_text.specs.Defaults.{default_in, AreFigures, IsEmptied, IsLevelFault, Writes, WritesJoined}
 use Rattle.gv_text.proofs.Maybes.{or_none}
 use Rattle.gv_text.proofs.Containers.{child_deeper, first_deep}
 use Rattle.gv_text.proofs.ContainerTexts.{marked_text}
@@ -39,32 +39,28 @@ use Rattle.gv_view.proofs.Depths.{depth_children}
 
 -- ---- basic types
 
--- the figures of a default that is no double
-abbrev pub AreFigures : BasicType → Text → Type 0
-AreFigures b s = (holds_double (basic_default (basic_of b)) ≡ false) × (s ≡ figures_of (basic_default (basic_of b)))
-
-pub false_figures : (b : BasicType) → b ≡ basics.Boolean → AreFigures b (codes "false")
+pub false_figures : (b : BasicType) → b ≡ basics.Boolean → AreFigures (basic_of b) (codes "false") (codes ", false")
 unfolding holds_double
-false_figures b e = rw e (refl, refl)
+false_figures b e = rw e (record { plain = refl; are = refl; joined = refl })
 
-pub byte_figures : (b : BasicType) → b ≡ basics.Byte → AreFigures b (codes "0x00")
+pub byte_figures : (b : BasicType) → b ≡ basics.Byte → AreFigures (basic_of b) (codes "0x00") (codes ", 0x00")
 unfolding holds_double
-byte_figures b e = rw e (refl, refl)
+byte_figures b e = rw e (record { plain = refl; are = refl; joined = refl })
 
-pub text_figures : (b : BasicType) → (b ≡ basics.Text) ⊎ (b ≡ basics.Signature) → AreFigures b (codes "''")
+pub text_figures : (b : BasicType) → (b ≡ basics.Text) ⊎ (b ≡ basics.Signature) → AreFigures (basic_of b) (codes "''") (codes ", ''")
 unfolding holds_double chars
-text_figures b (inl e) = rw e (refl, refl)
-text_figures b (inr e) = rw e (refl, refl)
+text_figures b (inl e) = rw e (record { plain = refl; are = refl; joined = refl })
+text_figures b (inr e) = rw e (record { plain = refl; are = refl; joined = refl })
 
-pub path_figures : (b : BasicType) → b ≡ basics.ObjectPath → AreFigures b (codes "'/'")
+pub path_figures : (b : BasicType) → b ≡ basics.ObjectPath → AreFigures (basic_of b) (codes "'/'") (codes ", '/'")
 unfolding holds_double chars encode_char
-path_figures b e = rw e (refl, refl)
+path_figures b e = rw e (record { plain = refl; are = refl; joined = refl })
 
 pub double_default : (b : BasicType) → b ≡ basics.Double → holds_double (basic_default (basic_of b)) ≡ true
 unfolding holds_double
 double_default b e = rw e refl
 
-pub zero_figures : (b : BasicType) → (b ≡ basics.Boolean → ⊥) → (b ≡ basics.Byte → ⊥) → (b ≡ basics.Text → ⊥) → (b ≡ basics.Signature → ⊥) → (b ≡ basics.ObjectPath → ⊥) → (b ≡ basics.Double → ⊥) → AreFigures b (codes "0")
+pub zero_figures : (b : BasicType) → (b ≡ basics.Boolean → ⊥) → (b ≡ basics.Byte → ⊥) → (b ≡ basics.Text → ⊥) → (b ≡ basics.Signature → ⊥) → (b ≡ basics.ObjectPath → ⊥) → (b ≡ basics.Double → ⊥) → AreFigures (basic_of b) (codes "0") (codes ", 0")
 unfolding holds_double digits
 zero_figures basics.Boolean h1 h2 h3 h4 h5 h6 = absurd (h1 refl)
 zero_figures basics.Byte h1 h2 h3 h4 h5 h6 = absurd (h2 refl)
@@ -72,13 +68,13 @@ zero_figures basics.Text h1 h2 h3 h4 h5 h6 = absurd (h3 refl)
 zero_figures basics.Signature h1 h2 h3 h4 h5 h6 = absurd (h4 refl)
 zero_figures basics.ObjectPath h1 h2 h3 h4 h5 h6 = absurd (h5 refl)
 zero_figures basics.Double h1 h2 h3 h4 h5 h6 = absurd (h6 refl)
-zero_figures basics.Int16 h1 h2 h3 h4 h5 h6 = (refl, refl)
-zero_figures basics.Uint16 h1 h2 h3 h4 h5 h6 = (refl, refl)
-zero_figures basics.Int32 h1 h2 h3 h4 h5 h6 = (refl, refl)
-zero_figures basics.Uint32 h1 h2 h3 h4 h5 h6 = (refl, refl)
-zero_figures basics.Int64 h1 h2 h3 h4 h5 h6 = (refl, refl)
-zero_figures basics.Uint64 h1 h2 h3 h4 h5 h6 = (refl, refl)
-zero_figures basics.Handle h1 h2 h3 h4 h5 h6 = (refl, refl)
+zero_figures basics.Int16 h1 h2 h3 h4 h5 h6 = record { plain = refl; are = refl; joined = refl }
+zero_figures basics.Uint16 h1 h2 h3 h4 h5 h6 = record { plain = refl; are = refl; joined = refl }
+zero_figures basics.Int32 h1 h2 h3 h4 h5 h6 = record { plain = refl; are = refl; joined = refl }
+zero_figures basics.Uint32 h1 h2 h3 h4 h5 h6 = record { plain = refl; are = refl; joined = refl }
+zero_figures basics.Int64 h1 h2 h3 h4 h5 h6 = record { plain = refl; are = refl; joined = refl }
+zero_figures basics.Uint64 h1 h2 h3 h4 h5 h6 = record { plain = refl; are = refl; joined = refl }
+zero_figures basics.Handle h1 h2 h3 h4 h5 h6 = record { plain = refl; are = refl; joined = refl }
 
 basic_text : (k : Basic) (annotated in_array : Bool) → text_of (basic_default k) annotated in_array ≡ when annotated (word k) ++ figures_of (basic_default k)
 unfolding text_of
@@ -91,6 +87,10 @@ basic_text _ annotated in_array = refl
 pub basic_written : (k : Basic) (annotated : Bool) (s old mid new : Text) → s ≡ figures_of (basic_default k) → mid ≡ old ++ when annotated (word k) → new ≡ mid ++ s → new ≡ old ++ text_of (basic_default k) annotated false
 basic_written k annotated s old mid new is marks wrote =
     wrote ∙ (ap (λ (l : Text). l ++ s) marks ∙ (append_assoc old (when annotated (word k)) s ∙ (ap (λ (l : Text). old ++ (when annotated (word k) ++ l)) is ∙ ap (λ (l : Text). old ++ l) (sym (basic_text k annotated false)))))
+
+pub behind_written : (k : Basic) (alone behind old new : Text) → AreFigures k alone behind → new ≡ old ++ behind → new ≡ (old ++ comma) ++ text_of (basic_default k) false false
+behind_written k alone behind old new are wrote =
+    wrote ∙ (ap (λ (l : Text). old ++ l) (are.joined ∙ ap (λ (l : Text). comma ++ l) (are.are ∙ sym (basic_text k false false))) ∙ sym (append_assoc old comma (text_of (basic_default k) false false)))
 
 basic_level : (k : Basic) → depth (basic_default k) ≡ 1
 unfolding depth

@@ -1,9 +1,9 @@
 -- What writing a value of no bytes answers.
 use Rattle.std.specs.Prelude.{◌≡◌, ◌≤◌, ◌<◌, ◌++◌, ◌⊎◌, ℕ, List, Bool, true, false}
-use Rattle.gv_model.specs.Ty.{Ty, types_from}
+use Rattle.gv_model.specs.Ty.{Basic, Ty, types_from}
 use Rattle.gv_model.specs.TypeText.{seen}
-use Rattle.gv_model.specs.Tree.{Tree, Trees, children, default, defaults, depth, greatest_depth}
-use Rattle.gv_model.specs.Printed.{Text, joined_by, text_of, texts, holds_double, hold_double}
+use Rattle.gv_model.specs.Tree.{Tree, Trees, basic_default, children, default, defaults, depth, greatest_depth}
+use Rattle.gv_model.specs.Printed.{Text, comma, joined_by, text_of, texts, holds_double, hold_double}
 use Rattle.gv_types.specs.Classes.{class_of}
 use Rattle.gv_types.specs.declared.class.Class.TheVariants as classes
 use Rattle.gv_types.specs.Fronts.{front}
@@ -11,11 +11,17 @@ use Rattle.gv_types.specs.declared.members.Members.{Members}
 use Rattle.gv_types.specs.Members.{members_left}
 use Rattle.gv_text.specs.declared.printing.PrintFault.{PrintFault}
 use Rattle.gv_text.specs.declared.printing.PrintFault.TheVariants.{TooLarge, DoubleText, Memory}
-use Rattle.gv_text.specs.Printing.{child_texts, following}
+use Rattle.gv_text.specs.Printing.{child_texts, figures_of, following}
 
 -- the default of the type at the start of a text
 abbrev pub default_in : List ℕ → Tree
 default_in text = default (front (seen text))
+
+-- the default is no double, and these are its text without annotation by itself and behind a comma
+pub record AreFigures (k : Basic) (alone behind : Text) : Type 0 where
+  pub plain : holds_double (basic_default k) ≡ false
+  pub are : alone ≡ figures_of (basic_default k)
+  pub joined : behind ≡ comma ++ alone
 
 -- a type whose default has nothing in it
 abbrev pub IsEmptied : Ty → Type 0

@@ -6,14 +6,14 @@ ghost use Rattle.std.specs.Prelude.{◌≡◌, ◌<◌, ◌++◌, true, false, l
 ghost use Rattle.gv_model.specs.Ty.{Ty.variant};
 ghost use Rattle.gv_model.specs.TypeText.{seen};
 ghost use Rattle.gv_model.specs.Tree.{basic_default, default};
-ghost use Rattle.gv_model.specs.Printed.{text_of, holds_double};
+ghost use Rattle.gv_model.specs.Printed.{comma, text_of, holds_double};
 ghost use Rattle.gv_types.specs.Classes.{basic_of, class_of};
 ghost use Rattle.gv_types.specs.TypeStr.{ty};
 ghost use Rattle.gv_types.specs.Fronts.{front, BeginsFront, IsAfterFront};
 ghost use Rattle.gv_types.specs.declared.class.Class.TheVariants.{Tuple, Entry};
 ghost use Rattle.gv_text.specs.declared.printing.PrintFault.TheVariants.{TooLarge, Memory};
-ghost use Rattle.gv_text.specs.Printing.{IsElementFault, figures_of};
-ghost use Rattle.gv_text.specs.Defaults.{default_in, defaults_left, AreLevelFault, IsEmptied, IsLevelFault, WriteBehind, Writes, WritesJoined};
+ghost use Rattle.gv_text.specs.Printing.{IsElementFault};
+ghost use Rattle.gv_text.specs.Defaults.{default_in, defaults_left, AreFigures, AreLevelFault, IsEmptied, IsLevelFault, WriteBehind, Writes, WritesJoined};
 
 use super::PrintFault;
 use super::array::brackets;
@@ -62,10 +62,33 @@ pub(super) fn push_behind(
         if levels == 0 {
             return Err(PrintFault::TooLarge);
         }
-        to.push_str(mark)?;
-        push_default(to, member, levels, annotated, in_array)?;
+        push_marked_default(to, member, levels, mark, annotated, in_array)?;
     }
     Ok(())
+}
+
+/// Writes the mark and then the default of a type, which has no more than these levels.
+#[inline(always)]
+fn push_marked_default(
+    to: &mut String,
+    of: TypeStr<'_>,
+    levels: u8,
+    mark: &str,
+    annotated: bool,
+    in_array: bool,
+) -> Result<(), PrintFault>
+    requires { 0 < levels }
+    ensures { MatchResult result
+        (λ _. Writes (default (ty of.entry)) levels annotated in_array (string_bytes to.old ++ mark.now) (string_bytes to.new))
+        (IsLevelFault (default (ty of.entry)) levels) }
+{
+    match of.class() {
+        Class::Basic(basic) if !annotated && mark == ", " => push_basic_behind(to, basic),
+        _ => {
+            to.push_str(mark)?;
+            push_default(to, of, levels, annotated, in_array)
+        }
+    }
 }
 
 /// Writes the default of the type at the start of the text, and answers what comes after the type.
@@ -137,11 +160,37 @@ fn push_tuple_default<'a>(
         return Ok(after_letter(rest));
     }
     while rest[0] != b')' {
-        to.push_str(", ")?;
-        rest = push_front(to, rest, levels - 1, annotated, false)?;
+        rest = push_next(to, rest, levels - 1, annotated)?;
     }
     to.push(')')?;
     Ok(after_letter(rest))
+}
+
+/// Writes a comma and then the default of the type at the start of the text, and answers what comes after the type.
+#[cycle(defaults)]
+#[inline(always)]
+fn push_next<'a>(
+    to: &mut String,
+    text: &'a [u8],
+    levels: u8,
+    annotated: bool,
+) -> Result<&'a [u8], PrintFault>
+    requires { BeginsFront text.now }
+    ensures { MatchResult result
+        (λ rest. IsAfterFront text.entry.now rest.now
+        × Writes (default_in text.entry.now) levels annotated false (string_bytes to.old ++ comma) (string_bytes to.new))
+        (IsLevelFault (default_in text.entry.now) levels) }
+{
+    match Class::of_letter(text[0]).unwrap() {
+        Class::Basic(of) if !annotated && levels > 0 => {
+            push_basic_behind(to, of)?;
+            Ok(after_letter(text))
+        }
+        _ => {
+            to.push_str(", ")?;
+            push_front(to, text, levels, annotated, false)
+        }
+    }
 }
 
 /// Writes the default of the entry at the start of the text, and answers what comes after the entry.
@@ -247,7 +296,7 @@ fn push_basic_default(to: &mut String, of: BasicType, annotated: bool) -> Result
         × (string_bytes to.new ≡ string_bytes to.old ++ text_of (basic_default (basic_of of)) annotated false))
         (λ f. (f ≡ TooLarge → ⊥) × IsElementFault (basic_default (basic_of of)) f) }
 {
-    let Some(figures) = default_figures(of) else {
+    let Some((figures, _)) = default_figures(of) else {
         return Err(PrintFault::DoubleText);
     };
     if annotated {
@@ -256,17 +305,31 @@ fn push_basic_default(to: &mut String, of: BasicType, annotated: bool) -> Result
     Ok(to.push_str(figures)?)
 }
 
-/// The text of a basic type's default, or None for a double.
-fn default_figures(of: BasicType) -> Option<&'static str>
-    ensures { MatchOption result (holds_double (basic_default (basic_of of)) ≡ true)
-        (λ s. (holds_double (basic_default (basic_of of)) ≡ false) × (s.now ≡ figures_of (basic_default (basic_of of)))) }
+/// Writes a comma and then the default of a basic type, in one piece.
+#[inline(always)]
+fn push_basic_behind(to: &mut String, of: BasicType) -> Result<(), PrintFault>
+    ensures { MatchResult result
+        (λ _. (holds_double (basic_default (basic_of of)) ≡ false)
+        × (string_bytes to.new ≡ (string_bytes to.old ++ comma) ++ text_of (basic_default (basic_of of)) false false))
+        (λ f. (f ≡ TooLarge → ⊥) × IsElementFault (basic_default (basic_of of)) f) }
+{
+    let Some((_, behind)) = default_figures(of) else {
+        return Err(PrintFault::DoubleText);
+    };
+    Ok(to.push_str(behind)?)
+}
+
+/// The text of a basic type's default, by itself and behind a comma, or None for a double.
+#[inline(always)]
+fn default_figures(of: BasicType) -> Option<(&'static str, &'static str)>
+    ensures { MatchOption result (holds_double (basic_default (basic_of of)) ≡ true) (λ r. AreFigures (basic_of of) r.0.now r.1.now) }
 {
     match of {
-        BasicType::Boolean => Some("false"),
-        BasicType::Byte => Some("0x00"),
-        BasicType::Text | BasicType::Signature => Some("''"),
-        BasicType::ObjectPath => Some("'/'"),
+        BasicType::Boolean => Some(("false", ", false")),
+        BasicType::Byte => Some(("0x00", ", 0x00")),
+        BasicType::Text | BasicType::Signature => Some(("''", ", ''")),
+        BasicType::ObjectPath => Some(("'/'", ", '/'")),
         BasicType::Double => None,
-        _ => Some("0"),
+        _ => Some(("0", ", 0")),
     }
 }

@@ -1,7 +1,8 @@
-use Rattle.std.proofs.Common.{◌++◌, ◌∷◌, [], drop, sym, ap, ◌∙◌, arith, rules, refl, string_bytes, ◌+◌, ◌*◌, ◌-◌, ◌<◌}
+use Rattle.std.proofs.Common.{◌++◌, ◌∷◌, [], drop, sym, ap, ◌∙◌, arith, rules, refl, string_bytes, false, ◌+◌, ◌*◌, ◌-◌, ◌<◌}
 use Rattle.std.proofs.lemmas.Option.{same_Some}
 use Rattle.std.proofs.lemmas.Result.{MatchResult-weaker, err_from_is_err_and}
 use Rattle.gv_model.specs.TypeText.{seen}
+use Rattle.gv_model.specs.Printed.{comma}
 use Rattle.gv_types.specs.Classes.{basic_of}
 use Rattle.gv_types.specs.Fronts.{front}
 use Rattle.gv_types.proofs.Fronts.{front_some, front_class, basic_front, variant_front, tuple_front, entry_front, inside_some, inside_front, inside_next, key_front, value_front, entry_closed}
@@ -251,9 +252,9 @@ push_tuple_default-returns-then-rest-eq41 t c =
 pub push_tuple_default-bounds-rest-0-in-loop-rest : goal.push_tuple_default-bounds-rest-0-in-loop-rest
 push_tuple_default-bounds-rest-0-in-loop-rest t c = inside_some c.loop-rest.rest.now c.loop-rest.invariant.begins
 
-pub push_tuple_default-push_front-requires-in-loop-rest : goal.push_tuple_default-push_front-requires-in-loop-rest
-push_tuple_default-push_front-requires-in-loop-rest t c =
-    let falls : 3 * (c.args.levels - 1) + 2 < 3 * c.args.levels + 1 = omega (arith, c.requires.some) in
+pub push_tuple_default-push_next-requires : goal.push_tuple_default-push_next-requires
+push_tuple_default-push_next-requires t c =
+    let falls : 3 * (c.args.levels - 1) + 3 < 3 * c.args.levels + 1 = omega (arith, c.requires.some) in
     (search (rules, falls), inside_front c.loop-rest.rest.now c.loop-rest.invariant.begins c.loop-rest-test.true)
 
 pub push_tuple_default-returns-in_err-rest-2 : goal.push_tuple_default-returns-in_err-rest-2
@@ -265,8 +266,9 @@ push_tuple_default-returns-in_err-rest-2 t c =
 
 pub push_tuple_default-loop-rest-preserved : goal.push_tuple_default-loop-rest-preserved
 push_tuple_default-loop-rest-preserved t c =
-    next_part c.args.text.now c.loop-rest.rest.now c.in_ok-rest-2.rest.now c.args.levels c.args.annotated (string_bytes c.args.to.now ++ 40 ∷ []) (string_bytes c.loop-rest.to) (string_bytes c.push_str-in-loop-rest.new.self)
-    (string_bytes c.push_front-in-loop-rest.new.to) c.requires.some c.loop-rest.invariant c.loop-rest-test.true c.in_ok-rest-2.ensures.0 c.in_ok-push_str-2.ensures.bytes c.in_ok-rest-2.ensures.1
+    let now = string_bytes c.loop-rest.to in
+    next_part c.args.text.now c.loop-rest.rest.now c.in_ok-rest-2.rest.now c.args.levels c.args.annotated (string_bytes c.args.to.now ++ 40 ∷ []) now (now ++ comma)
+    (string_bytes c.push_next.new.to) c.requires.some c.loop-rest.invariant c.loop-rest-test.true c.in_ok-rest-2.ensures.0 refl c.in_ok-rest-2.ensures.1
 
 pub push_tuple_default-returns : goal.push_tuple_default-returns
 push_tuple_default-returns t c =
@@ -280,3 +282,29 @@ push_tuple_default-returns t c =
     rw c.after_letter-2.ensures (tuple_written w c.loop-rest.rest.now h c.args.levels c.args.annotated old (old ++ 40 ∷ []) now (string_bytes c.push-2.new.self) c.requires.some
     (several w c.in_ok-rest.rest.now h c.args.levels c.args.annotated old now begun read.0 c.if-rest-eq41.false more) c.loop-rest.invariant c.loop-rest-test.false refl
     (c.in_ok-push-3.ensures.bytes ∙ ap (λ l. now ++ l) (c.in_ok-push-3.ensures.ascii (omega arith))))
+
+-- ---- what comes behind a comma
+
+pub push_next-bounds-text-0 : goal.push_next-bounds-text-0
+push_next-bounds-text-0 t c = front_some c.args.text.now c.requires
+
+pub push_next-unwrap-requires : goal.push_next-unwrap-requires
+push_next-unwrap-requires t c = rw (c.of_letter.ensures ∙ front_class c.args.text.now c.requires) refl
+
+pub push_next-after_letter-requires : goal.push_next-after_letter-requires
+push_next-after_letter-requires t c = front_some c.args.text.now c.requires
+
+pub push_next-returns-in_err-push_basic_behind-in-Basic : goal.push_next-returns-in_err-push_basic_behind-in-Basic
+push_next-returns-in_err-push_basic_behind-in-Basic t c =
+    let w = c.args.text.now in
+    let class = same_Some _ _ (sym (front_class w c.requires) ∙ (sym c.of_letter.ensures ∙ c.unwrap.ensures)) ∙ c.in-Basic.is in
+    let one = basic_front w c.in-Basic.of c.requires class in
+    let p = err_from_is_err_and c.from_residual.result c.from_residual.ensures.1 in
+    rw (p.1, p.2) (basic_fault (front (seen w)) (basic_of c.in-Basic.of) c.args.levels c.in_err-push_basic_behind-in-Basic.field-0.0 one.type c.in_err-push_basic_behind-in-Basic.ensures.0 c.in_err-push_basic_behind-in-Basic.ensures.1)
+
+pub push_next-returns-in_ok-push_basic_behind-in-Basic : goal.push_next-returns-in_ok-push_basic_behind-in-Basic
+push_next-returns-in_ok-push_basic_behind-in-Basic t c =
+    let w = c.args.text.now in
+    let class = same_Some _ _ (sym (front_class w c.requires) ∙ (sym c.of_letter.ensures ∙ c.unwrap.ensures)) ∙ c.in-Basic.is in
+    let one = basic_front w c.in-Basic.of c.requires class in
+    (rw c.after_letter.ensures one.after, rw c.if-not-annotated.true (basic_writes (front (seen w)) (basic_of c.in-Basic.of) c.args.levels false false (string_bytes c.args.to.now ++ comma) (string_bytes c.push_basic_behind.new.to) one.type (omega (arith, c.if-levels-gt0.true)) c.in_ok-push_basic_behind-in-Basic.ensures))

@@ -2,7 +2,10 @@ use Rattle.std.proofs.Common.{◌+◌, ◌*◌, ◌++◌, ◌∷◌, [], length,
 use Rattle.gv_text.proofs.DefaultTexts.{IsTuplePart}
 use Rattle.gv_text.proofs.printing.default.+defaults.Given as goal
 
--- A member has fewer levels left than its container. With as many left a value comes before its kind, then its parts.
+-- A member has fewer levels left than its container. With as many left a value behind a comma comes first, then a value, its kind and its parts.
+
+abbrev pub decreases-push_next : goal.decreases-push_next
+decreases-push_next l = 3 * l.levels + 3
 
 abbrev pub decreases-push_front : goal.decreases-push_front
 decreases-push_front l = 3 * l.levels + 2

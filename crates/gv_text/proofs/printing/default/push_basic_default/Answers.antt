@@ -2,7 +2,8 @@ use Rattle.std.proofs.Common.{◌≡◌, ◌++◌, string_bytes, ap, ◌∙◌}
 use Rattle.gv_model.specs.Printed.{when, word}
 use Rattle.gv_types.specs.Classes.{basic_of}
 use Rattle.gv_text.proofs.ContainerTexts.{wanted_mark, unwanted_mark}
-use Rattle.gv_text.proofs.DefaultTexts.{AreFigures, basic_written}
+use Rattle.gv_text.specs.Defaults.{AreFigures}
+use Rattle.gv_text.proofs.DefaultTexts.{basic_written}
 use Rattle.gv_text.proofs.printing.default.push_basic_default.Goals as goal
 use Rattle.gv_text.proofs.printing.default.push_basic_default.Goals.{then-annotated+in_ok-push_word, else-annotated}
 
@@ -14,5 +15,5 @@ returns c =
       | then-annotated+in_ok-push_word w ↦ ap string_bytes w.to-is ∙ wanted_mark c.args.annotated (word k) old _ w.if-annotated.true w.in_ok-push_word.ensures
       | else-annotated w ↦ ap string_bytes w.to-is ∙ unwanted_mark c.args.annotated (word k) old w.if-annotated.false
     ] in
-    let are : AreFigures c.args.of c.in-Some.figures.now = c.in-Some.ensures in
-    (are.0, basic_written k c.args.annotated c.in-Some.figures.now old (string_bytes c.if-annotated.to) (string_bytes c.push_str.new.self) are.1 mid c.in_ok-push_str.ensures.bytes)
+    let are = c.in-Some.ensures in
+    (are.plain, basic_written k c.args.annotated c.in-Some.figures.now old (string_bytes c.if-annotated.to) (string_bytes c.push_str.new.self) are.are mid c.in_ok-push_str.ensures.bytes)

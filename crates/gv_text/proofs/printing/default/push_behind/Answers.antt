@@ -1,4 +1,4 @@
-use Rattle.std.proofs.Common.{string_bytes}
+use Rattle.std.proofs.Common.{string_bytes, ◌++◌, refl}
 use Rattle.std.proofs.lemmas.Result.{err_from_is_err_and}
 use Rattle.gv_model.specs.Tree.{default}
 use Rattle.gv_types.specs.TypeStr.{ty}
@@ -17,14 +17,15 @@ returns-then-levels-eq0 c =
 
 pub loop-member-preserved : goal.loop-member-preserved
 loop-member-preserved c =
-    one_less c.args.mark.now (defaults_left c.args.members) (defaults_left c.loop-member.member-iterator) (defaults_left c.next.new.self) (default (ty c.in-Some.member)) c.args.levels c.args.annotated c.args.in_array (string_bytes c.args.to.now) (string_bytes c.loop-member.to)
-    (string_bytes c.push_str.new.self) (string_bytes c.push_default.new.to) (types_first (ty c.in-Some.member) (members_left c.next.new.self) (members_left c.loop-member.member-iterator) c.in-Some.ensures.steps) c.loop-member.invariant c.in_ok-push_str.ensures.bytes c.in_ok-push_default.ensures
+    let now = string_bytes c.loop-member.to in
+    one_less c.args.mark.now (defaults_left c.args.members) (defaults_left c.loop-member.member-iterator) (defaults_left c.next.new.self) (default (ty c.in-Some.member)) c.args.levels c.args.annotated c.args.in_array (string_bytes c.args.to.now) now (now ++ c.args.mark.now)
+    (string_bytes c.push_marked_default.new.to) (types_first (ty c.in-Some.member) (members_left c.next.new.self) (members_left c.loop-member.member-iterator) c.in-Some.ensures.steps) c.loop-member.invariant refl c.in_ok-push_marked_default.ensures
 
-pub returns-in_err-push_default : goal.returns-in_err-push_default
-returns-in_err-push_default c =
-    let e = err_from_is_err_and c.from_residual-in_err-push_default.result c.from_residual-in_err-push_default.ensures.1 in
+pub returns-in_err-push_marked_default : goal.returns-in_err-push_marked_default
+returns-in_err-push_marked_default c =
+    let e = err_from_is_err_and c.from_residual.result c.from_residual.ensures.1 in
     rw (e.1, e.2) (fault_behind c.args.mark.now (defaults_left c.args.members) (defaults_left c.loop-member.member-iterator) (defaults_left c.next.new.self) (default (ty c.in-Some.member)) c.args.levels c.args.annotated c.args.in_array (string_bytes c.args.to.now) (string_bytes c.loop-member.to)
-    c.in_err-push_default.field-0.0 (types_first (ty c.in-Some.member) (members_left c.next.new.self) (members_left c.loop-member.member-iterator) c.in-Some.ensures.steps) c.loop-member.invariant c.in_err-push_default.ensures)
+    c.in_err-push_marked_default.field-0.0 (types_first (ty c.in-Some.member) (members_left c.next.new.self) (members_left c.loop-member.member-iterator) c.in-Some.ensures.steps) c.loop-member.invariant c.in_err-push_marked_default.ensures)
 
 pub returns : goal.returns
 returns c =
