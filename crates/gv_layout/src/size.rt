@@ -56,6 +56,7 @@ fn letter_alignment(letter: u8) -> u8
 ///
 /// It looks at the first letter of the type's text. Of a tuple or an entry that is not known to have none it looks at the letters
 /// as far as to the first of a type that has none, and where there is none it walks the text once more.
+#[inline(always)]
 pub fn fixed_size(of: TypeStr<'_>) -> Option<usize>
     ensures { result ≡ fixed_size (ty of.entry) }
 {

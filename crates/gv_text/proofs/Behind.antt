@@ -9,21 +9,11 @@ use Rattle.gv_model.specs.Printed.{Text, joined_by, hold_double, text_of, texts}
 use Rattle.gv_text.specs.declared.printing.PrintFault.{PrintFault}
 use Rattle.gv_text.specs.declared.printing.PrintFault.TheVariants.{TooLarge, DoubleText, Memory}
 use Rattle.gv_text.specs.Printing.{AreFaultOf, child_texts, following, rest_annotated}
-use Rattle.gv_text.specs.Defaults.{AreLevelFault, IsLevelFault, WriteBehind, Writes}
+use Rattle.gv_text.specs.Defaults.{behind, AreLeft, AreLevelFault, IsLevelFault, WriteBehind, Writes}
 use Rattle.gv_text.proofs.ChildCounts.{IsAlone}
 use Rattle.gv_text.proofs.ChildTexts.{IsLeft, first_fault, no_doubles, plain_first}
 use Rattle.gv_text.proofs.Levels.{AreLevels, first_depth, no_depth}
 use Rattle.gv_view.proofs.Depths.{depth_children}
-
-abbrev pub behind : Text → Trees → Bool → Bool → Text
-behind mark vs annotated in_array = following mark (texts vs annotated annotated in_array)
-
--- Of the values vs, which go behind `start`, these are left. So far `now` is written.
-pub record AreLeft (mark : Text) (vs left : Trees) (levels : ℕ) (annotated in_array : Bool) (start now : Text) : Type 0 where
-  pub texts : now ++ behind mark left annotated in_array ≡ start ++ behind mark vs annotated in_array
-  pub doubles : hold_double vs ≡ hold_double left
-  pub known : greatest_depth vs ≤ max levels (greatest_depth left)
-  pub deeper : greatest_depth left ≤ greatest_depth vs
 
 pub all_left : (mark : Text) (vs : Trees) (levels : ℕ) (annotated in_array : Bool) (start : Text) → AreLeft mark vs vs levels annotated in_array start start
 all_left mark vs levels annotated in_array start = record { texts = refl; doubles = refl; known = omega arith; deeper = omega arith }
@@ -46,6 +36,22 @@ one_less mark vs us left u levels annotated in_array start now mid new is was ma
       known = omega (arith, was.known, depths, wrote.fits);
       deeper = omega (arith, was.deeper, depths);
     }
+
+-- what is left of what was left
+pub then_left : (mark : Text) (vs us left : Trees) (levels : ℕ) (annotated in_array : Bool) (start now new : Text) → AreLeft mark vs us levels annotated in_array start now → AreLeft mark us left levels annotated in_array now new
+    → AreLeft mark vs left levels annotated in_array start new
+then_left mark vs us left levels annotated in_array start now new a b = record {
+  texts = b.texts ∙ a.texts;
+  doubles = a.doubles ∙ b.doubles;
+  known = omega (arith, a.known, b.known);
+  deeper = omega (arith, a.deeper, b.deeper);
+}
+
+-- a fault of what is left is one of all
+pub fault_left : (mark : Text) (vs left : Trees) (levels : ℕ) (annotated in_array : Bool) (start now : Text) (f : PrintFault) → AreLeft mark vs left levels annotated in_array start now → AreLevelFault left levels f → AreLevelFault vs levels f
+fault_left mark vs left levels annotated in_array start now TooLarge was h = omega (arith, h, was.deeper)
+fault_left mark vs left levels annotated in_array start now DoubleText was h = was.doubles ∙ h
+fault_left mark vs left levels annotated in_array start now Memory was h = tt
 
 nothing_behind : (mark : Text) (annotated in_array : Bool) → behind mark none annotated in_array ≡ []
 unfolding text_of

@@ -18,10 +18,6 @@ joined_first mark s (r ∷ ss) = ap (λ (l : Text). s ++ (mark ++ l)) (joined_fi
 abbrev pub rest_texts : Trees → Bool → Bool → List Text
 rest_texts vs annotated in_array = texts vs (rest_annotated annotated in_array) (rest_annotated annotated in_array) in_array
 
-pub rest_of_plain : (annotated in_array : Bool) → annotated ≡ false → annotated ≡ rest_annotated annotated in_array
-rest_of_plain annotated true h = h
-rest_of_plain annotated false h = refl
-
 -- Of the children vs, whose text goes after `start`, these are left. So far `now` is written.
 pub record IsLeft (mark : Text) (vs left : Trees) (annotated in_array : Bool) (start now : Text) : Type 0 where
   pub texts : now ++ following mark (rest_texts left annotated in_array) ≡ start ++ joined_by mark (child_texts vs annotated in_array)

@@ -24,3 +24,4 @@ pub mod BracketLaws
 pub mod NumberedFaults
 mod DefaultTexts
 mod Behind
+mod Copies

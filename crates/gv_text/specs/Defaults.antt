@@ -1,5 +1,5 @@
 -- What writing a value of no bytes answers.
-use Rattle.std.specs.Prelude.{◌≡◌, ◌≤◌, ◌<◌, ◌++◌, ◌⊎◌, ℕ, List, Bool, true, false}
+use Rattle.std.specs.Prelude.{◌≡◌, ◌≤◌, ◌<◌, ◌++◌, ◌⊎◌, ℕ, max, List, Bool, true, false}
 use Rattle.gv_model.specs.Ty.{Basic, Ty, types_from}
 use Rattle.gv_model.specs.TypeText.{seen}
 use Rattle.gv_model.specs.Tree.{Tree, Trees, basic_default, children, default, defaults, depth, greatest_depth}
@@ -60,3 +60,14 @@ abbrev pub AreLevelFault : Trees → ℕ → PrintFault → Type 0
 AreLevelFault vs levels TooLarge = levels < greatest_depth vs
 AreLevelFault vs levels DoubleText = hold_double vs ≡ true
 AreLevelFault vs levels Memory = Unit {0}
+
+-- the texts of values one after the other, each after the mark
+abbrev pub behind : Text → Trees → Bool → Bool → Text
+behind mark vs annotated in_array = following mark (texts vs annotated annotated in_array)
+
+-- Of the values vs, which go behind `start`, these are left. So far `now` is written.
+pub record AreLeft (mark : Text) (vs left : Trees) (levels : ℕ) (annotated in_array : Bool) (start now : Text) : Type 0 where
+  pub texts : now ++ behind mark left annotated in_array ≡ start ++ behind mark vs annotated in_array
+  pub doubles : hold_double vs ≡ hold_double left
+  pub known : greatest_depth vs ≤ max levels (greatest_depth left)
+  pub deeper : greatest_depth left ≤ greatest_depth vs

@@ -1,13 +1,13 @@
 -- What printing answers.
-use Rattle.std.specs.Prelude.{◌≡◌, ◌<◌, ℕ, List, [], ◌∷◌, ◌++◌, Option, Some, None, Bool, true, false, nat_le, ◌==◌, ◌&&◌, ◌||◌, not}
+use Rattle.std.specs.Prelude.{◌≡◌, ◌<◌, ◌≤◌, ◌+◌, length, get_or, ℕ, List, [], ◌∷◌, ◌++◌, Option, Some, None, Bool, true, false, nat_le, ◌==◌, ◌&&◌, ◌||◌, not}
 use Rattle.gv_model.specs.Ty.{Ty}
 use Rattle.gv_model.specs.Ty.Ty.{basic, array, entry}
 use Rattle.gv_model.specs.Ty.Basic.{byte}
-use Rattle.gv_model.specs.Tree.{Tree, Trees, depth}
+use Rattle.gv_model.specs.Tree.{Tree, Trees, default, depth}
 use Rattle.gv_model.specs.Tree.Tree.{number, text, node}
 use Rattle.gv_model.specs.BasicValue.{text_in}
 use Rattle.gv_model.specs.Quoted.{quoted}
-use Rattle.gv_model.specs.Printed.{Text, ends_in_nothing, figures, holds_double, hold_double, is_too_large, numbers, text_of, texts}
+use Rattle.gv_model.specs.Printed.{Text, comma, ends_in_nothing, figures, holds_double, hold_double, is_too_large, numbers, text_of, texts}
 use Rattle.gv_text.specs.declared.printing.PrintFault.{PrintFault}
 use Rattle.gv_text.specs.declared.printing.PrintFault.TheVariants.{TooLarge, DoubleText, Memory}
 
@@ -62,6 +62,18 @@ brackets_of _ = (91, 93)
 abbrev pub byte_string_of : Tree → Option (List ℕ)
 byte_string_of (node (array (basic byte)) vs) = text_in (numbers vs)
 byte_string_of _ = None
+
+-- In what is written so far the text of an element without bytes, behind its comma, stands from start to end, and a comma or nothing
+-- comes after it. Such an element, of this type, is no double and has no more than these levels.
+pub record IsNoted (t : Ty) (levels start end : ℕ) (now : Text) : Type 0 where
+  pub before : Text
+  pub after : Text
+  pub is : now ≡ before ++ ((comma ++ text_of (default t) false true) ++ after)
+  pub begins : start ≡ length before
+  pub ends : end ≡ start + length (comma ++ text_of (default t) false true)
+  pub parted : 0 < length after → get_or after 0 0 ≡ 44
+  pub plain : holds_double (default t) ≡ false
+  pub fits : depth (default t) ≤ levels
 
 -- ---- maybes
 

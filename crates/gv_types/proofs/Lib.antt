@@ -13,3 +13,4 @@ pub mod PrefixTypes
 pub mod NestingLaws
 pub mod Splits
 pub mod Fronts
+mod BasicMembers

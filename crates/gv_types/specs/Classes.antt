@@ -55,6 +55,11 @@ abbrev pub AreBracketed : Class → Type 0
 AreBracketed c = (c ≡ classes.Tuple) ⊎ (c ≡ classes.Entry)
 
 -- the class of the types that begin with a byte
+-- the basic type, where the class is one's
+abbrev pub basic_in : Option Class → Option BasicType
+basic_in (Some (classes.Basic b)) = Some b
+basic_in _ = None
+
 abbrev pub class_of_mark : TypeMark → Option Class
 class_of_mark (letter k) = Some (classes.Basic (basic_type k))
 class_of_mark of_variant = Some classes.Variant

@@ -5,7 +5,7 @@ ghost use Rattle.gv_model.specs.TypeText.{mark};
 ghost use Rattle.gv_model.specs.Layout.{basic_size};
 ghost use Rattle.gv_model.specs.Words.{keyword};
 ghost use Rattle.gv_model.specs.Patterns.{is_number, is_textual};
-ghost use Rattle.gv_types.specs.Classes.{basic_of, class_of_mark};
+ghost use Rattle.gv_types.specs.Classes.{basic_in, basic_of, class_of_mark};
 
 /// A type that holds no other.
 #[derive(Clone, Copy, Debug, PartialEq, Eq)]
@@ -154,4 +154,15 @@ pub(crate) fn class_of_letter(letter: u8) -> Option<Class>
         _ => return None,
     };
     Some(Class::Basic(basic))
+}
+
+/// The basic type whose text is this byte, or None where there is none.
+#[inline(always)]
+pub(crate) fn basic_type_of(letter: u8) -> Option<BasicType>
+    ensures { result ≡ basic_in (class_of_mark (mark letter)) }
+{
+    match class_of_letter(letter) {
+        Some(Class::Basic(of)) => Some(of),
+        _ => None,
+    }
 }

@@ -1,10 +1,13 @@
 //! The members of a tuple or an entry, one after the other.
-ghost use Rattle.std.specs.Prelude.{◌≡◌, ◌<◌, ◌↔◌, IsTrue, None, []};
+ghost use Rattle.std.specs.Prelude.{◌≡◌, ◌<◌, ◌↔◌, ◌∷◌, IfNone, IfSome, IsTrue, None, [], false};
+ghost use Rattle.gv_model.specs.Ty.{Ty.basic};
 ghost use Rattle.gv_model.specs.Layout.{fixed_size};
 ghost use Rattle.gv_model.specs.Texts.{are_types};
 ghost use Rattle.gv_model.specs.TypeText.{seen, type_at};
+ghost use Rattle.gv_types.specs.Classes.{basic_of};
 ghost use Rattle.gv_types.specs.LoneTuples.{IsLoneMember};
 
+use crate::class::{BasicType, basic_type_of};
 use crate::grammar::read_member;
 use crate::type_str::TypeStr;
 
@@ -23,7 +26,7 @@ pub struct Members<'a> {
 }
 
 impl<'a> Members<'a> {
-    ghost use Rattle.gv_types.specs.Members.{members_left};
+    ghost use Rattle.gv_types.specs.Members.{begins_with_basic, members_left};
 
     /// No members.
     pub(crate) fn none() -> Members<'a>
@@ -34,6 +37,23 @@ impl<'a> Members<'a> {
             lone: 0,
             known_open: false,
         }
+    }
+
+    /// Takes the next member, if it is of a basic type. Else none is taken. It looks at one letter.
+    #[inline(always)]
+    pub fn next_basic(&mut self) -> Option<BasicType>
+        ensures taken { IfSome result (λ of. members_left self.old ≡ basic (basic_of of) ∷ members_left self.new) }
+        ensures left { IfNone result (members_left self.new ≡ members_left self.old) }
+        ensures other { IfNone result (begins_with_basic (members_left self.old) ≡ false) }
+    {
+        let (letter, _) = self.rest.as_bytes().split_first()?;
+        let of = basic_type_of(*letter)?;
+        *self = Members {
+            rest: &self.rest[1..],
+            lone: 0,
+            known_open: false,
+        };
+        Some(of)
     }
 
     /// Whether no member is left.
@@ -55,6 +75,7 @@ impl<'a> Iterator for Members<'a> {
 
     ghost remaining = { item_count members_left };
 
+    #[inline(always)]
     fn next(&mut self) -> Option<TypeStr<'a>> {
         if self.lone > 0 {
             let member = TypeStr {

@@ -28,11 +28,12 @@ pub record AreAlike (in_array empty_fits : Bool) (levels : ℕ) (left : List Par
   pub alike : IsTrue in_array → All (HasType element) left
   pub fits : IsTrue empty_fits → All (FitsEmpty levels) left
 
-element_in : Ty → Ty
+-- the type of an array's elements
+pub element_in : Ty → Ty
 element_in (array t) = t
 element_in t = t
 
-in_array : (t : Ty) (b : List ℕ) → class_of t ≡ classes.Array → All (HasType (element_in t)) (parts t b)
+pub in_array : (t : Ty) (b : List ℕ) → class_of t ≡ classes.Array → All (HasType (element_in t)) (parts t b)
 unfolding element_in
 in_array (array t) b is = array_parts t b
 in_array (basic k) b is = absurd cc

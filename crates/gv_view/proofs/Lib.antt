@@ -12,6 +12,6 @@ pub mod EntryLemmas
 pub mod Depths
 pub mod PartValues
 mod LostParts
-mod Alike
+pub mod Alike
 pub mod BasicCopies
 pub mod Copies

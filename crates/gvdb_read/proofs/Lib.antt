@@ -20,3 +20,4 @@ pub mod ListNumbers
 pub mod NameWalks
 pub mod AppendedBytes
 pub mod NotedLengths
+pub mod NamesRise

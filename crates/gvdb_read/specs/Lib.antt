@@ -15,3 +15,4 @@ pub mod HashAbove
 pub mod Records
 pub mod ListNumbers
 pub mod NotedLengths
+pub mod NamesRise

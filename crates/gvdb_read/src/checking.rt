@@ -4,7 +4,7 @@ ghost use Rattle.dconf_model.specs.Table.{item_count};
 ghost use Rattle.dconf_model.specs.Searchable.{EachItem, IsSearchable};
 ghost use Rattle.gvdb_read.specs.Records.{RecordKeeps};
 ghost use Rattle.dconf_model.specs.Sound.{IsFirstFault, IsSound, Keeps, KeepsAll, rule_number};
-ghost use Rattle.dconf_model.specs.Sound.Rule.{buckets, hash};
+ghost use Rattle.dconf_model.specs.Sound.Rule.{buckets, hash, once};
 ghost use Rattle.gvdb_read.specs.Unsounds.{KeepsBelow, KeptBefore, rule_of};
 
 mod backwards;
@@ -20,6 +20,7 @@ mod lists;
 mod lists_by_key;
 mod lists_counted;
 mod locks;
+mod names_rise;
 mod once;
 mod place;
 mod records;
@@ -37,7 +38,8 @@ impl Table<'_> {
     ///
     /// It takes no memory. S1, S2, S5, S6 and S8 take time in the buckets, the items and the bytes of their keys; S3
     /// takes a step for each of the parents of each item, up to the first with a lower number. S4 takes time in the bytes of the keys where it is kept; else in
-    /// those of the full names. S7 looks at the items of each item's bucket, and compares names where the hashes agree. S9
+    /// those of the full names. S7 compares each name with the one before it where all names of each bucket rise, as our writer puts them; else it
+    /// looks at the items of each item's bucket, and compares names where the hashes agree. S9
     /// takes a step for each of the parents of each item, up to one of the 256 items before it, and as far as their keys have 65,535 bytes. S10 takes time in the items
     /// and the bytes of their keys where all lists ascend by number, as our writer puts them, or by key, as dconf's does; else in the
     /// items times the lists. S11 asks S1 to S8 of the table of locks.
@@ -86,8 +88,22 @@ impl Table<'_> {
         ensures not_searchable { IfErr result (λ _. ¬ IsSearchable (region self.entry)) }
     {
         self.each_keeps(Rule::Chain, |i| self.has_end(i))?;
-        self.each_keeps(Rule::Once, |i| self.is_only_named(i))?;
+        self.check_once()?;
         Ok(())
+    }
+
+    /// Asks S7. Where buckets are long, and the items come in their order, and in each bucket in that of their names, it compares each
+    /// name with the one before it. Else it looks at the items of each item's bucket.
+    fn check_once(self) -> Result<(), Unsound>
+        requires earlier { KeepsBelow (region self) 7 }
+        ensures kept { IfOk result (λ _. KeepsBelow (region self.entry) 8) }
+        ensures fault { IfErr result (λ e. IsFirstFault (region self.entry) (rule_of e.rule) e.item) }
+        ensures not_kept { IfErr result (λ _. ¬ KeepsAll (region self.entry) once) }
+    {
+        if self.names_rise() {
+            return Ok(());
+        }
+        self.each_keeps(Rule::Once, |i| self.is_only_named(i))
     }
 
     /// Asks S2 to S8, one by one.

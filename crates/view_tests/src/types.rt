@@ -102,6 +102,34 @@ fn containers_have_parts(rt: HostRuntime) -> Result<(), Fail> {
     Ok(())
 }
 
+/// Whether the members of basic types that come first have these letters, and so many members are left behind them.
+fn takes_basics(alloc: Global, text: &str, letters: &str, left: usize) -> Result<bool, Fail> {
+    let mut members = TypeStr::parse(text)?.members();
+    let mut found = String::new(alloc);
+    for _ in 0..text.len() {
+        if let Some(of) = members.next_basic() {
+            found.push_str(of.letter())?;
+        }
+    }
+    Ok(found.as_str() == letters && members.count() == left)
+}
+
+#[test]
+fn members_of_basic_types_are_taken(rt: HostRuntime) -> Result<(), Fail> {
+    for (text, letters, left) in [
+        ("()", "", 0),
+        ("(ay)", "", 1),
+        ("((i))", "", 1),
+        ("{gv}", "g", 1),
+        ("(ybs(i)d)", "ybs", 2),
+        ("(nqiuxthdog)", "nqiuxthdog", 0),
+    ] {
+        let found = takes_basics(rt.alloc(), text, letters, left)?;
+        assert!(rt; found, "at {text}");
+    }
+    Ok(())
+}
+
 /// The texts of a type's members, a space after each, then those of the first member's, and so on.
 fn descent(alloc: Global, outermost: TypeStr<'_>) -> Result<String, Fail> {
     let mut found = String::new(alloc);

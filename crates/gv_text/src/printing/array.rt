@@ -2,21 +2,24 @@
 //!
 //! Bytes whose only zero byte is the last are a byte string. Entries occur in braces, other elements in square
 //! brackets. Only the first element is annotated, and an array that has none is itself.
-ghost use Rattle.std.specs.Prelude.{◌≡◌, ◌≤◌, IfErr, OnOk, ◌<◌, ◌++◌, false, IfSome, MatchResult, option_map, string_bytes};
+//!
+//! The elements have one type, so those without bytes are alike. A file can have millions of them, each with a long text. From
+//! the second element on that text is written once, and then copied.
+ghost use Rattle.std.specs.Prelude.{◌≡◌, ◌≤◌, IfErr, IfOk, OnOk, ◌<◌, ◌++◌, true, false, IfSome, MatchResult, option_map, string_bytes};
 ghost use Rattle.gv_model.specs.Tree.{children, depth};
 ghost use Rattle.gv_model.specs.BasicValue.{text_in};
-ghost use Rattle.gv_model.specs.Printed.{text_of, holds_double, is_empty};
+ghost use Rattle.gv_model.specs.Printed.{text_of, comma, joined_by, hold_double, holds_double, is_empty};
+ghost use Rattle.gv_model.specs.Quoted.{between};
 ghost use Rattle.gv_types.specs.Classes.{class_of};
 ghost use Rattle.gv_types.specs.TypeStr.{ty, element_of};
 ghost use Rattle.gv_types.specs.declared.class.Class.TheVariants.{Array};
 ghost use Rattle.gv_text.specs.declared.printing.PrintFault.TheVariants.{TooLarge};
 ghost use Rattle.gv_view.specs.Views.{value, view_ty};
-ghost use Rattle.gv_text.specs.Printing.{IsElementFault, brackets_of, byte_string_of};
+ghost use Rattle.gv_text.specs.Printing.{AreFaultOf, IsElementFault, IsNoted, brackets_of, byte_string_of, child_texts};
 
-use super::PrintFault;
-use super::children::push_between;
 use super::quoted::push_byte_string;
 use super::type_mark::push_type_mark;
+use super::{PrintFault, push_value};
 use gv_types::{Class, TypeStr};
 use gv_view::View;
 
@@ -47,7 +50,100 @@ pub(super) fn push_array(
     if annotated && is_empty(view) {
         push_type_mark(to, view.type_str())?;
     }
-    push_between(to, view, levels, brackets(view.type_str()), annotated, true)
+    push_list(to, view, levels, brackets(view.type_str()), annotated)
+}
+
+/// Writes an array's elements with commas between them, in brackets.
+#[cycle(values)]
+fn push_list(
+    to: &mut String,
+    view: View<'_>,
+    levels: u8,
+    brackets: (char, char),
+    annotated: bool,
+) -> Result<(), PrintFault>
+    requires kind { class_of (view_ty view) ≡ Array }
+    requires left { brackets.0 < 128 }
+    requires right { brackets.1 < 128 }
+    requires some { 0 < levels }
+    ensures text { MatchResult result
+        (λ _. (hold_double (children (value view.entry)) ≡ false)
+        × (string_bytes to.new ≡ string_bytes to.old
+        ++ between brackets.0 (joined_by comma (child_texts (children (value view.entry)) annotated true)) brackets.1))
+        (AreFaultOf (children (value view.entry))) }
+    ensures fits { OnOk result (depth (value view.entry) ≤ levels) }
+    ensures deep { IfErr result (λ f. f ≡ TooLarge → levels < depth (value view.entry)) }
+{
+    to.push(brackets.0)?;
+    push_elements(to, view, levels, annotated)?;
+    to.push(brackets.1)?;
+    Ok(())
+}
+
+/// Writes an array's elements with commas between them, the first of them annotated or not.
+#[cycle(values)]
+fn push_elements(
+    to: &mut String,
+    view: View<'_>,
+    levels: u8,
+    annotated: bool,
+) -> Result<(), PrintFault>
+    requires kind { class_of (view_ty view) ≡ Array }
+    requires some { 0 < levels }
+    ensures text { MatchResult result
+        (λ _. (hold_double (children (value view.entry)) ≡ false)
+        × (string_bytes to.new ≡ string_bytes to.old
+        ++ joined_by comma (child_texts (children (value view.entry)) annotated true)))
+        (AreFaultOf (children (value view.entry))) }
+    ensures fits { OnOk result (depth (value view.entry) ≤ levels) }
+    ensures deep { IfErr result (λ f. f ≡ TooLarge → levels < depth (value view.entry)) }
+{
+    let mut children = view.children();
+    let Some(first) = children.next() else {
+        return Ok(());
+    };
+    push_value(to, first, levels - 1, annotated, true)?;
+    let mut noted = None;
+    while let Some(child) = children.next() {
+        noted = push_element(to, child, levels - 1, noted)?;
+    }
+    Ok(())
+}
+
+/// Writes a comma and an element that is not annotated, and answers where these stand for an element without bytes, from start
+/// to end. Where that is already noted, an element without bytes is copied from there.
+#[cycle(values)]
+#[inline(always)]
+fn push_element(
+    to: &mut String,
+    child: View<'_>,
+    levels: u8,
+    noted: Option<(usize, usize)>,
+) -> Result<Option<(usize, usize)>, PrintFault>
+    requires { IfSome noted (λ r. IsNoted (view_ty child) levels r.0 r.1 (string_bytes to.now)) }
+    ensures text { MatchResult result
+        (λ _. (holds_double (value child.entry) ≡ false)
+        × (string_bytes to.new ≡ (string_bytes to.old ++ comma) ++ text_of (value child.entry) false true))
+        (IsElementFault (value child.entry)) }
+    ensures fits { OnOk result (depth (value child.entry) ≤ levels) }
+    ensures deep { IfErr result (λ f. f ≡ TooLarge → levels < depth (value child.entry)) }
+    ensures noted { IfOk result (λ n. IfSome n (λ r. IsNoted (view_ty child.entry) levels r.0 r.1 (string_bytes to.new))) }
+{
+    let is_empty = child.bytes().is_empty();
+    if is_empty {
+        if let Some((start, end)) = noted {
+            to.extend_from_within(start..end)?;
+            return Ok(noted);
+        }
+    }
+    let start = to.len();
+    to.push_str(", ")?;
+    push_value(to, child, levels, false, true)?;
+    Ok(if is_empty {
+        Some((start, to.len()))
+    } else {
+        noted
+    })
 }
 
 /// The bytes of a byte string before its zero byte, or None for any other value.

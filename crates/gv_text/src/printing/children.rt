@@ -1,4 +1,4 @@
-//! The children of a container as text, one after the other.
+//! The children of a container as text, one after the other; the elements of an array are in `array`.
 ghost use Rattle.std.specs.Prelude.{◌≡◌, ◌↔◌, ◌<◌, ◌≤◌, ◌++◌, false, IsTrue, IfOk, IfErr, MatchResult, OnOk, string_bytes};
 ghost use Rattle.gv_model.specs.Tree.{children, depth, trees_len};
 ghost use Rattle.gv_model.specs.Printed.{comma, joined_by, hold_double};
@@ -19,7 +19,6 @@ pub(super) fn push_between(
     levels: u8,
     brackets: (char, char),
     annotated: bool,
-    in_array: bool,
 ) -> Result<(), PrintFault>
     requires left { brackets.0 < 128 }
     requires right { brackets.1 < 128 }
@@ -27,19 +26,18 @@ pub(super) fn push_between(
     ensures text { MatchResult result
         (λ _. (hold_double (children (value view.entry)) ≡ false)
         × (string_bytes to.new ≡ string_bytes to.old
-        ++ between brackets.0 (joined_by comma (child_texts (children (value view.entry)) annotated in_array)) brackets.1))
+        ++ between brackets.0 (joined_by comma (child_texts (children (value view.entry)) annotated false)) brackets.1))
         (AreFaultOf (children (value view.entry))) }
     ensures fits { OnOk result (depth (value view.entry) ≤ levels) }
     ensures deep { IfErr result (λ f. f ≡ TooLarge → levels < depth (value view.entry)) }
 {
     to.push(brackets.0)?;
-    push_children(to, view, levels, ", ", annotated, in_array)?;
+    push_children(to, view, levels, ", ", annotated)?;
     to.push(brackets.1)?;
     Ok(())
 }
 
-/// Writes a value's children with `mark` between them, and answers whether there is one alone. Of elements of an array only the
-/// first is annotated.
+/// Writes a value's children with `mark` between them, and answers whether there is one alone.
 #[cycle(values)]
 pub(super) fn push_children(
     to: &mut String,
@@ -47,13 +45,12 @@ pub(super) fn push_children(
     levels: u8,
     mark: &str,
     annotated: bool,
-    in_array: bool,
 ) -> Result<bool, PrintFault>
     requires { 0 < levels }
     ensures text { MatchResult result
         (λ _. (hold_double (children (value view.entry)) ≡ false)
         × (string_bytes to.new ≡ string_bytes to.old
-        ++ joined_by mark.now (child_texts (children (value view.entry)) annotated in_array)))
+        ++ joined_by mark.now (child_texts (children (value view.entry)) annotated false)))
         (AreFaultOf (children (value view.entry))) }
     ensures alone { IfOk result (λ alone. IsTrue alone ↔ (trees_len (children (value view.entry)) ≡ 1)) }
     ensures fits { OnOk result (depth (value view.entry) ≤ levels) }
@@ -63,15 +60,14 @@ pub(super) fn push_children(
     let Some(first) = children.next() else {
         return Ok(false);
     };
-    push_value(to, first, levels - 1, annotated, in_array)?;
-    let later = annotated && !in_array;
+    push_value(to, first, levels - 1, annotated, false)?;
     let mut alone = true;
     while let Some(child) = children.next() {
         alone = false;
         to.push_str(mark)?;
-        push_value(to, child, levels - 1, later, in_array)?;
+        push_value(to, child, levels - 1, annotated, false)?;
         if let Some(lost) = children.lost() {
-            push_behind(to, lost, levels - 1, mark, later, in_array)?;
+            push_behind(to, lost, levels - 1, mark, annotated, false)?;
             return Ok(false);
         }
     }

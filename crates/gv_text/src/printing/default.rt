@@ -2,18 +2,19 @@
 //! Serialised Data"): 0, false, '', '/' for an object path, no element, Nothing, defaults in a tuple, `<()>` for a variant.
 //!
 //! A default is told by its type alone, so it is written in one walk along the letters of the type's text.
-ghost use Rattle.std.specs.Prelude.{◌≡◌, ◌<◌, ◌++◌, true, false, length, drop, OnOk, MatchOption, MatchResult, string_bytes};
+ghost use Rattle.std.specs.Prelude.{◌≡◌, ◌≤◌, ◌<◌, ◌++◌, Bool, true, false, length, drop, OnOk, MatchOption, MatchResult, string_bytes};
 ghost use Rattle.gv_model.specs.Ty.{Ty.variant};
 ghost use Rattle.gv_model.specs.TypeText.{seen};
 ghost use Rattle.gv_model.specs.Tree.{basic_default, default};
 ghost use Rattle.gv_model.specs.Printed.{comma, text_of, holds_double};
 ghost use Rattle.gv_types.specs.Classes.{basic_of, class_of};
 ghost use Rattle.gv_types.specs.TypeStr.{ty};
+ghost use Rattle.gv_types.specs.Members.{members_left};
 ghost use Rattle.gv_types.specs.Fronts.{front, BeginsFront, IsAfterFront};
 ghost use Rattle.gv_types.specs.declared.class.Class.TheVariants.{Tuple, Entry};
 ghost use Rattle.gv_text.specs.declared.printing.PrintFault.TheVariants.{TooLarge, Memory};
 ghost use Rattle.gv_text.specs.Printing.{IsElementFault};
-ghost use Rattle.gv_text.specs.Defaults.{default_in, defaults_left, AreFigures, AreLevelFault, IsEmptied, IsLevelFault, WriteBehind, Writes, WritesJoined};
+ghost use Rattle.gv_text.specs.Defaults.{default_in, defaults_left, AreFigures, AreLeft, AreLevelFault, IsEmptied, IsLevelFault, WriteBehind, Writes, WritesJoined};
 
 use super::PrintFault;
 use super::array::brackets;
@@ -58,37 +59,40 @@ pub(super) fn push_behind(
         (λ _. WriteBehind (defaults_left members.entry) levels mark.now annotated in_array (string_bytes to.old) (string_bytes to.new))
         (AreLevelFault (defaults_left members.entry) levels) }
 {
-    for member in members {
+    let mut left = members;
+    push_basics(to, &mut left, levels, mark, annotated)?;
+    while let Some(member) = left.next() {
         if levels == 0 {
             return Err(PrintFault::TooLarge);
         }
-        push_marked_default(to, member, levels, mark, annotated, in_array)?;
+        to.push_str(mark)?;
+        push_default(to, member, levels, annotated, in_array)?;
+        push_basics(to, &mut left, levels, mark, annotated)?;
     }
     Ok(())
 }
 
-/// Writes the mark and then the default of a type, which has no more than these levels.
-#[inline(always)]
-fn push_marked_default(
+/// Writes the defaults of the members of basic types that come next, each after the mark. It leaves them where the mark is no
+/// comma, and where they are annotated.
+fn push_basics(
     to: &mut String,
-    of: TypeStr<'_>,
+    members: &mut Members<'_>,
     levels: u8,
     mark: &str,
     annotated: bool,
-    in_array: bool,
 ) -> Result<(), PrintFault>
-    requires { 0 < levels }
-    ensures { MatchResult result
-        (λ _. Writes (default (ty of.entry)) levels annotated in_array (string_bytes to.old ++ mark.now) (string_bytes to.new))
-        (IsLevelFault (default (ty of.entry)) levels) }
+    ensures written { MatchResult result
+        (λ _. (in_array : Bool) → AreLeft mark.now (defaults_left members.old) (defaults_left members.new) levels annotated in_array (string_bytes to.old) (string_bytes to.new))
+        (AreLevelFault (defaults_left members.old) levels) }
+    ensures fewer { length (members_left members.new) ≤ length (members_left members.old) }
 {
-    match of.class() {
-        Class::Basic(basic) if !annotated && mark == ", " => push_basic_behind(to, basic),
-        _ => {
-            to.push_str(mark)?;
-            push_default(to, of, levels, annotated, in_array)
-        }
+    if annotated || levels == 0 || mark != ", " {
+        return Ok(());
     }
+    while let Some(of) = members.next_basic() {
+        push_basic_behind(to, of)?;
+    }
+    Ok(())
 }
 
 /// Writes the default of the type at the start of the text, and answers what comes after the type.

@@ -32,7 +32,7 @@ pub(super) fn push_tuple(
     ensures deep { IfErr result (λ f. f ≡ TooLarge → levels < depth (value view.entry)) }
 {
     to.push('(')?;
-    let alone = push_children(to, view, levels, ", ", annotated, false)?;
+    let alone = push_children(to, view, levels, ", ", annotated)?;
     to.push_str(if alone { ",)" } else { ")" })?;
     Ok(())
 }
@@ -56,8 +56,8 @@ pub(super) fn push_entry(
     ensures deep { IfErr result (λ f. f ≡ TooLarge → levels < depth (value view.entry)) }
 {
     if !in_array {
-        return push_between(to, view, levels, ('{', '}'), annotated, false);
+        return push_between(to, view, levels, ('{', '}'), annotated);
     }
-    push_children(to, view, levels, ": ", annotated, false)?;
+    push_children(to, view, levels, ": ", annotated)?;
     Ok(())
 }

@@ -24,5 +24,5 @@ pub(super) fn push_variant(to: &mut String, view: View<'_>, levels: u8) -> Resul
     ensures fits { OnOk result (depth (value view.entry) ≤ levels) }
     ensures deep { IfErr result (λ f. f ≡ TooLarge → levels < depth (value view.entry)) }
 {
-    push_between(to, view, levels, ('<', '>'), true, false)
+    push_between(to, view, levels, ('<', '>'), true)
 }

@@ -1,19 +1,19 @@
-use Rattle.std.proofs.Common.{◌≡◌, ◌++◌, ◌∷◌, [], true, false, ◌&&◌, ◌-◌, ℕ, Option, MatchOption, Result, Ok, Err, OnOk, sym, ap, ◌∙◌, subst, arith, string_bytes}
+use Rattle.std.proofs.Common.{◌≡◌, ◌++◌, ◌∷◌, [], true, false, ◌&&◌, ◌-◌, ℕ, Option, MatchOption, Result, Ok, Err, OnOk, IfSome, length, string_len, rules, refl, sym, ap, ◌∙◌, subst, arith, string_bytes}
 use Rattle.std.proofs.lemmas.Result.{err_from_is_err_and}
 use Rattle.std.proofs.lemmas.Bool.{and_from, and_left, and_right, false≢true}
-use Rattle.gv_model.specs.Tree.{children}
-use Rattle.gv_model.specs.Printed.{hold_double, is_empty, text_of, tuple_text, type_mark, when}
+use Rattle.gv_model.specs.Tree.{children, depth}
+use Rattle.gv_model.specs.Printed.{comma, hold_double, holds_double, is_empty, text_of, tuple_text, type_mark, when}
 use Rattle.gv_model.specs.Parts.{part_trees}
 use Rattle.gv_model.proofs.ChildLaws.{children_are_parts}
 use Rattle.gv_types.specs.Classes.{class_of, basic_of}
 use Rattle.gv_types.proofs.ClassLaws.{basic_class}
 use Rattle.gv_types.specs.TypeStr.{element_of, ty}
-use Rattle.gv_view.specs.Views.{value, view_ty, view_bytes}
+use Rattle.gv_view.specs.Views.{value, shown, view_ty, view_bytes}
 use Rattle.gv_view.specs.Children.{children_left}
 use Rattle.gv_view.proofs.Depths.{depth_children}
 use Rattle.gv_view.specs.declared.view.View.{View}
 use Rattle.gv_view.proofs.PartValues.{basic_is_leaf}
-use Rattle.gv_text.specs.Printing.{IsNothing, IsPrintedAs, brackets_of, child_texts, rest_annotated}
+use Rattle.gv_text.specs.Printing.{IsNoted, IsNothing, IsPrintedAs, brackets_of, child_texts}
 use Rattle.gv_text.proofs.ContainerTexts.{
   array_no_entry,
   basic_no_entry,
@@ -35,20 +35,19 @@ use Rattle.gv_text.proofs.ContainerTexts.{
   written_by_children,
 }
 use Rattle.gv_text.proofs.Containers.{fault_of_children}
-use Rattle.gv_text.proofs.ChildTexts.{childless_text, first_fault, left_first, left_next, left_none, one_member, other_members, rest_of_plain, same_faults}
+use Rattle.gv_text.proofs.ChildTexts.{childless_text, first_fault, left_first, left_next, left_none, one_member, other_members, same_faults}
 use Rattle.gv_text.proofs.ChildCounts.{alone_first, alone_last, alone_next, alone_none}
 use Rattle.gv_text.specs.Defaults.{defaults_left}
 use Rattle.gv_text.proofs.Behind.{not_alone, rest_faults, rest_fits, rest_too_deep, rest_written}
 use Rattle.gv_text.proofs.ArrayTexts.{array_written, byte_string_text}
 use Rattle.gv_text.proofs.DefaultTexts.{empty_deep, empty_fits, empty_value, empty_written}
 use Rattle.gv_text.proofs.Levels.{childless_fits, first_too_deep, begin_levels, next_levels, then_too_deep, all_fit}
+use Rattle.gv_text.proofs.Copies.{copied_text, next_noted, none_noted, noted_here, noted_type}
 use Rattle.gv_text.proofs.Maybes.{maybe_text, within_written}
 use Rattle.gv_text.proofs.printing.+values.Goals as goal
 use Rattle.gv_text.proofs.printing.+values.Goals.{
   tuple::push_tuple-then-alone,
   tuple::push_tuple-else-alone,
-  children::push_children-then-annotated,
-  children::push_children-else-annotated,
   maybe::push_maybe-then-annotated+in_ok-push_type_mark,
   maybe::push_maybe-else-annotated,
   array::push_array-then-annotated+then-is_empty+in_ok-push_type_mark,
@@ -156,7 +155,7 @@ tuple::push_tuple-returns-in_err-alone-clause-text t c =
 pub children::push_children-returns-in_default-clause-text : goal.children::push_children-returns-in_default-clause-text
 children::push_children-returns-in_default-clause-text t c =
     let none = children_are_parts (view_ty c.args.view) (view_bytes c.args.view) ∙ (ap part_trees (sym c.children-children.ensures) ∙ ap part_trees c.in_default.ensures.steps.0) in
-    rw none (childless_text c.args.mark.now c.args.annotated c.args.in_array (string_bytes c.args.to.now))
+    rw none (childless_text c.args.mark.now c.args.annotated false (string_bytes c.args.to.now))
 
 pub children::push_children-returns-in_err-push_value-clause-text : goal.children::push_children-returns-in_err-push_value-clause-text
 children::push_children-returns-in_err-push_value-clause-text t c =
@@ -168,25 +167,21 @@ pub children::push_children-loop-child-init : goal.children::push_children-loop-
 children::push_children-loop-child-init t c =
     let some = children_are_parts (view_ty c.args.view) (view_bytes c.args.view) ∙ (ap part_trees (sym c.children-children.ensures) ∙ ap part_trees c.in-Some.ensures.steps) in (
       rw some
-          (left_first c.args.mark.now (value c.in-Some.first) (part_trees (children_left c.next.new.self)) c.args.annotated c.args.in_array (string_bytes c.args.to.now)
+          (left_first c.args.mark.now (value c.in-Some.first) (part_trees (children_left c.next.new.self)) c.args.annotated false (string_bytes c.args.to.now)
           (string_bytes c.push_value.new.to) c.in_ok-push_value.ensures.text.0 c.in_ok-push_value.ensures.text.1),
       alone_first (children (value c.args.view)) (part_trees (children_left c.next.new.self)) (value c.in-Some.first) some,
       begin_levels (value c.args.view) (value c.in-Some.first) (part_trees (children_left c.next.new.self)) c.args.levels some c.requires.1.1 c.in_ok-push_value.ensures.fits,
     )
 
--- the children behind the first are annotated where the first is, but in an array
+-- the children behind the first are annotated where the first is
 pub children::push_children-loop-child-preserved : goal.children::push_children-loop-child-preserved
 children::push_children-loop-child-preserved t c =
     let one = ap part_trees c.in-Some-next.ensures.steps in
-    let so_far = rw one at c.loop-child.invariant.0 in
-    let annotate : c.if-annotated.later ≡ rest_annotated c.args.annotated c.args.in_array = elim c.if-annotated.branch [
-      | children::push_children-then-annotated w ↦ w.later-is ∙ ap (λ a. rest_annotated a c.args.in_array) (sym w.if-annotated.true)
-      | children::push_children-else-annotated w ↦ w.later-is ∙ rest_of_plain c.args.annotated c.args.in_array w.if-annotated.false
-    ] in (
+    let so_far = rw one at c.loop-child.invariant.0 in (
       left_next c.args.mark.now (children (value c.args.view)) (value c.in-Some-next.child)
-          (part_trees (children_left c.next-in-loop-child.new.self)) c.args.annotated c.args.in_array (string_bytes c.args.to.now) (string_bytes c.loop-child.to)
+          (part_trees (children_left c.next-in-loop-child.new.self)) c.args.annotated false (string_bytes c.args.to.now) (string_bytes c.loop-child.to)
           (string_bytes c.push_str.new.self) (string_bytes c.push_value-in-Some-next.new.to) so_far c.in_ok-push_str.ensures.bytes c.in_ok-push_value-2.ensures.text.0
-          (c.in_ok-push_value-2.ensures.text.1 ∙ ap (λ a. string_bytes c.push_str.new.self ++ text_of (value c.in-Some-next.child) a c.args.in_array) annotate),
+          c.in_ok-push_value-2.ensures.text.1,
       alone_next c.loop-child.alone (children (value c.args.view)) (part_trees (children_left c.loop-child.children)) (part_trees (children_left c.next-in-loop-child.new.self)) (value c.in-Some-next.child) one c.loop-child.invariant.1,
       next_levels (value c.args.view) (value c.in-Some-next.child) (part_trees (children_left c.next-in-loop-child.new.self)) (part_trees (children_left c.loop-child.children)) c.args.levels one c.requires.1.1 c.in_ok-push_value-2.ensures.fits c.loop-child.invariant.2,
     )
@@ -200,35 +195,27 @@ children::push_children-returns-in_err-push_value-2-clause-text t c =
 pub children::push_children-returns-clause-text : goal.children::push_children-returns-clause-text
 children::push_children-returns-clause-text t c =
     let so_far = rw (ap part_trees c.in_default-next.ensures.steps.0) at c.loop-child.invariant.0 in
-    left_none c.args.mark.now (children (value c.args.view)) c.args.annotated c.args.in_array (string_bytes c.args.to.now) (string_bytes c.loop-child.to) so_far
+    left_none c.args.mark.now (children (value c.args.view)) c.args.annotated false (string_bytes c.args.to.now) (string_bytes c.loop-child.to) so_far
 
 -- ---- members that lie nowhere
 
 pub children::push_children-returns-in-Some-lost-clause-text : goal.children::push_children-returns-in-Some-lost-clause-text
 children::push_children-returns-in-Some-lost-clause-text t c =
-    let annotate : c.if-annotated.later ≡ rest_annotated c.args.annotated c.args.in_array = elim c.if-annotated.branch [
-      | children::push_children-then-annotated w ↦ w.later-is ∙ ap (λ a. rest_annotated a c.args.in_array) (sym w.if-annotated.true)
-      | children::push_children-else-annotated w ↦ w.later-is ∙ rest_of_plain c.args.annotated c.args.in_array w.if-annotated.false
-    ] in
-    rest_written c.args.mark.now (children (value c.args.view)) (part_trees (children_left c.next-in-loop-child.new.self)) (defaults_left c.in-Some-lost.lost) (c.args.levels - 1) c.args.annotated c.args.in_array c.if-annotated.later (string_bytes c.args.to.now) (string_bytes c.push_value-in-Some-next.new.to) (string_bytes c.push_behind.new.to)
+    rest_written c.args.mark.now (children (value c.args.view)) (part_trees (children_left c.next-in-loop-child.new.self)) (defaults_left c.in-Some-lost.lost) (c.args.levels - 1) c.args.annotated false c.args.annotated (string_bytes c.args.to.now) (string_bytes c.push_value-in-Some-next.new.to) (string_bytes c.push_behind.new.to)
     (left_next c.args.mark.now (children (value c.args.view)) (value c.in-Some-next.child)
-    (part_trees (children_left c.next-in-loop-child.new.self)) c.args.annotated c.args.in_array (string_bytes c.args.to.now) (string_bytes c.loop-child.to)
+    (part_trees (children_left c.next-in-loop-child.new.self)) c.args.annotated false (string_bytes c.args.to.now) (string_bytes c.loop-child.to)
     (string_bytes c.push_str.new.self) (string_bytes c.push_value-in-Some-next.new.to) (rw (ap part_trees c.in-Some-next.ensures.steps) at c.loop-child.invariant.0) c.in_ok-push_str.ensures.bytes c.in_ok-push_value-2.ensures.text.0
-    (c.in_ok-push_value-2.ensures.text.1 ∙ ap (λ a. string_bytes c.push_str.new.self ++ text_of (value c.in-Some-next.child) a c.args.in_array) annotate))
-    c.in-Some-lost.ensures.defaults annotate c.in_ok-push_behind.ensures
+    c.in_ok-push_value-2.ensures.text.1)
+    c.in-Some-lost.ensures.defaults refl c.in_ok-push_behind.ensures
 
 pub children::push_children-returns-in_err-push_behind-clause-text : goal.children::push_children-returns-in_err-push_behind-clause-text
 children::push_children-returns-in_err-push_behind-clause-text t c =
-    let annotate : c.if-annotated.later ≡ rest_annotated c.args.annotated c.args.in_array = elim c.if-annotated.branch [
-      | children::push_children-then-annotated w ↦ w.later-is ∙ ap (λ a. rest_annotated a c.args.in_array) (sym w.if-annotated.true)
-      | children::push_children-else-annotated w ↦ w.later-is ∙ rest_of_plain c.args.annotated c.args.in_array w.if-annotated.false
-    ] in
     let p = err_from_is_err_and c.from_residual-in_err-push_behind.result c.from_residual-in_err-push_behind.ensures.1 in
-    rw (p.1, p.2) (rest_faults c.args.mark.now (children (value c.args.view)) (part_trees (children_left c.next-in-loop-child.new.self)) (defaults_left c.in-Some-lost.lost) (c.args.levels - 1) c.args.annotated c.args.in_array (string_bytes c.args.to.now) (string_bytes c.push_value-in-Some-next.new.to) c.in_err-push_behind.field-0.0
+    rw (p.1, p.2) (rest_faults c.args.mark.now (children (value c.args.view)) (part_trees (children_left c.next-in-loop-child.new.self)) (defaults_left c.in-Some-lost.lost) (c.args.levels - 1) c.args.annotated false (string_bytes c.args.to.now) (string_bytes c.push_value-in-Some-next.new.to) c.in_err-push_behind.field-0.0
     (left_next c.args.mark.now (children (value c.args.view)) (value c.in-Some-next.child)
-    (part_trees (children_left c.next-in-loop-child.new.self)) c.args.annotated c.args.in_array (string_bytes c.args.to.now) (string_bytes c.loop-child.to)
+    (part_trees (children_left c.next-in-loop-child.new.self)) c.args.annotated false (string_bytes c.args.to.now) (string_bytes c.loop-child.to)
     (string_bytes c.push_str.new.self) (string_bytes c.push_value-in-Some-next.new.to) (rw (ap part_trees c.in-Some-next.ensures.steps) at c.loop-child.invariant.0) c.in_ok-push_str.ensures.bytes c.in_ok-push_value-2.ensures.text.0
-    (c.in_ok-push_value-2.ensures.text.1 ∙ ap (λ a. string_bytes c.push_str.new.self ++ text_of (value c.in-Some-next.child) a c.args.in_array) annotate))
+    c.in_ok-push_value-2.ensures.text.1)
     c.in-Some-lost.ensures.defaults c.in_err-push_behind.ensures)
 
 pub children::push_children-returns-in-Some-lost-clause-alone : goal.children::push_children-returns-in-Some-lost-clause-alone
@@ -293,9 +280,113 @@ array::push_array-returns-clause-text t c =
         | array::push_array-else-annotated-via-else-annotated u ↦ and_left c.args.annotated (is_empty vs) u.if-annotated.false
       ])
     ] in
-    array_written c.push_between.result of (view_bytes c.args.view) c.args.annotated c.brackets.result old (string_bytes c.if-annotated.to)
-    (string_bytes c.push_between.new.to) c.requires.kind (sym c.in_default.ensures.text)
-    (c.brackets.ensures ∙ ap (λ s. brackets_of (element_of (ty s))) c.type_str-2.ensures) mid c.push_between.ensures.text
+    array_written c.push_list.result of (view_bytes c.args.view) c.args.annotated c.brackets.result old (string_bytes c.if-annotated.to)
+    (string_bytes c.push_list.new.to) c.requires.kind (sym c.in_default.ensures.text)
+    (c.brackets.ensures ∙ ap (λ s. brackets_of (element_of (ty s))) c.type_str-2.ensures) mid c.push_list.ensures.text
+
+-- ---- elements of an array
+
+pub array::push_elements-returns-in_default-clause-text : goal.array::push_elements-returns-in_default-clause-text
+array::push_elements-returns-in_default-clause-text t c =
+    let none = children_are_parts (view_ty c.args.view) (view_bytes c.args.view) ∙ (ap part_trees (sym c.children-children.ensures) ∙ ap part_trees c.in_default.ensures.steps.0) in
+    rw none (childless_text comma c.args.annotated true (string_bytes c.args.to.now))
+
+pub array::push_elements-returns-in_default-clause-fits : goal.array::push_elements-returns-in_default-clause-fits
+array::push_elements-returns-in_default-clause-fits t c =
+    let none = children_are_parts (view_ty c.args.view) (view_bytes c.args.view) ∙ (ap part_trees (sym c.children-children.ensures) ∙ ap part_trees c.in_default.ensures.steps.0) in
+    childless_fits (value c.args.view) c.args.levels none c.requires.some
+
+pub array::push_elements-returns-in_err-push_value-clause-text : goal.array::push_elements-returns-in_err-push_value-clause-text
+array::push_elements-returns-in_err-push_value-clause-text t c =
+    let some = children_are_parts (view_ty c.args.view) (view_bytes c.args.view) ∙ (ap part_trees (sym c.children-children.ensures) ∙ ap part_trees c.in-Some.ensures.steps) in
+    let p = err_from_is_err_and c.from_residual.result c.from_residual.ensures.1 in
+    rw (p.1, p.2, some) (first_fault (value c.in-Some.first) _ c.in_err-push_value.field-0.0 c.in_err-push_value.ensures.text)
+
+pub array::push_elements-returns-in_err-push_value-clause-deep : goal.array::push_elements-returns-in_err-push_value-clause-deep
+array::push_elements-returns-in_err-push_value-clause-deep t c =
+    let some = children_are_parts (view_ty c.args.view) (view_bytes c.args.view) ∙ (ap part_trees (sym c.children-children.ensures) ∙ ap part_trees c.in-Some.ensures.steps) in
+    let p = err_from_is_err_and c.from_residual.result c.from_residual.ensures.1 in
+    rw (p.1, p.2) (λ is. first_too_deep (value c.args.view) (value c.in-Some.first) (part_trees (children_left c.next.new.self)) c.args.levels some (c.in_err-push_value.ensures.deep is))
+
+pub array::push_elements-loop-child-init : goal.array::push_elements-loop-child-init
+array::push_elements-loop-child-init t c =
+    let whole = children_are_parts (view_ty c.args.view) (view_bytes c.args.view) in
+    let some = whole ∙ (ap part_trees (sym c.children-children.ensures) ∙ ap part_trees c.in-Some.ensures.steps) in
+    let left = children_left c.next.new.self in (
+      rw some
+          (left_first comma (value c.in-Some.first) (part_trees left) c.args.annotated true (string_bytes c.args.to.now)
+          (string_bytes c.push_value.new.to) c.in_ok-push_value.ensures.text.0 c.in_ok-push_value.ensures.text.1),
+      begin_levels (value c.args.view) (value c.in-Some.first) (part_trees left) c.args.levels some c.requires.some c.in_ok-push_value.ensures.fits,
+      none_noted (view_ty c.args.view) (view_bytes c.args.view) (shown c.in-Some.first) left _ (c.args.levels - 1) (string_bytes c.push_value.new.to) c.requires.kind c.children-children.ensures c.in-Some.ensures.steps,
+    )
+
+pub array::push_elements-push_element-requires : goal.array::push_elements-push_element-requires
+array::push_elements-push_element-requires t c = (
+  omega (arith, c.requires.some),
+  noted_type (shown c.in-Some-next.child) (children_left c.next-in-loop-child.new.self) (children_left c.loop-child.children) c.loop-child.noted (c.args.levels - 1) (string_bytes c.loop-child.to) c.in-Some-next.ensures.steps c.loop-child.invariant.2,
+)
+
+pub array::push_elements-loop-child-preserved : goal.array::push_elements-loop-child-preserved
+array::push_elements-loop-child-preserved t c =
+    let one = ap part_trees c.in-Some-next.ensures.steps in
+    let u = value c.in-Some-next.child in
+    let left = children_left c.next-in-loop-child.new.self in
+    let now = string_bytes c.loop-child.to in
+    let new = string_bytes c.push_element.new.to in (
+      left_next comma (children (value c.args.view)) u (part_trees left) c.args.annotated true (string_bytes c.args.to.now) now
+          (now ++ comma) new (rw one at c.loop-child.invariant.0) refl c.in_ok-noted.ensures.text.0 c.in_ok-noted.ensures.text.1,
+      next_levels (value c.args.view) u (part_trees left) (part_trees (children_left c.loop-child.children)) c.args.levels one c.requires.some c.in_ok-noted.ensures.fits c.loop-child.invariant.1,
+      next_noted (shown c.in-Some-next.child) left (children_left c.loop-child.children) c.loop-child.noted c.in_ok-noted.noted (c.args.levels - 1) now new c.in-Some-next.ensures.steps c.loop-child.invariant.2 c.in_ok-noted.ensures.noted,
+    )
+
+pub array::push_elements-returns-in_err-noted-clause-text : goal.array::push_elements-returns-in_err-noted-clause-text
+array::push_elements-returns-in_err-noted-clause-text t c =
+    let p = err_from_is_err_and c.from_residual-in_err-noted.result c.from_residual-in_err-noted.ensures.1 in
+    let fault = first_fault (value c.in-Some-next.child) (part_trees (children_left c.next-in-loop-child.new.self)) c.in_err-noted.field-0.0 c.in_err-noted.ensures.text in
+    rw (p.1, p.2) (same_faults (children (value c.args.view)) _ c.in_err-noted.field-0.0 (c.loop-child.invariant.0.doubles ∙ ap hold_double (ap part_trees c.in-Some-next.ensures.steps)) fault)
+
+pub array::push_elements-returns-in_err-noted-clause-deep : goal.array::push_elements-returns-in_err-noted-clause-deep
+array::push_elements-returns-in_err-noted-clause-deep t c =
+    let p = err_from_is_err_and c.from_residual-in_err-noted.result c.from_residual-in_err-noted.ensures.1 in
+    rw (p.1, p.2) (λ is. then_too_deep (value c.args.view) (value c.in-Some-next.child) (part_trees (children_left c.next-in-loop-child.new.self)) (part_trees (children_left c.loop-child.children)) c.args.levels
+    (ap part_trees c.in-Some-next.ensures.steps) (c.in_err-noted.ensures.deep is) c.loop-child.invariant.1)
+
+pub array::push_elements-returns-clause-text : goal.array::push_elements-returns-clause-text
+array::push_elements-returns-clause-text t c =
+    left_none comma (children (value c.args.view)) c.args.annotated true (string_bytes c.args.to.now) (string_bytes c.loop-child.to) (rw (ap part_trees c.in_default-next.ensures.steps.0) at c.loop-child.invariant.0)
+
+pub array::push_elements-returns-clause-fits : goal.array::push_elements-returns-clause-fits
+array::push_elements-returns-clause-fits t c =
+    all_fit (value c.args.view) (part_trees (children_left c.loop-child.children)) c.args.levels (ap part_trees c.in_default-next.ensures.steps.0) c.requires.some c.loop-child.invariant.1
+
+-- ---- an element behind a comma
+
+pub array::push_element-returns-in-Some-clause-text : goal.array::push_element-returns-in-Some-clause-text
+array::push_element-returns-in-Some-clause-text t c =
+    let of = view_ty c.args.child in
+    let none = empty_value of (view_bytes c.args.child) (rw c.bytes.ensures at (sym c.is_empty-is_empty.ensures ∙ c.if-is_empty.true)) in
+    let is = subst (λ o. IfSome o (λ r. IsNoted of c.args.levels r.0 r.1 (string_bytes c.args.to.now))) c.in-Some.is c.requires in (
+      ap holds_double none ∙ is.plain,
+      copied_text of c.args.levels _ _ (string_bytes c.args.to.now) (string_bytes c.extend_from_within.new.self) is c.in_ok-extend_from_within.ensures.bytes ∙ ap (λ u. (string_bytes c.args.to.now ++ comma) ++ text_of u false true) (sym none),
+    )
+
+pub array::push_element-returns-in-Some-clause-fits : goal.array::push_element-returns-in-Some-clause-fits
+array::push_element-returns-in-Some-clause-fits t c =
+    let of = view_ty c.args.child in
+    let none = empty_value of (view_bytes c.args.child) (rw c.bytes.ensures at (sym c.is_empty-is_empty.ensures ∙ c.if-is_empty.true)) in
+    let is = subst (λ o. IfSome o (λ r. IsNoted of c.args.levels r.0 r.1 (string_bytes c.args.to.now))) c.in-Some.is c.requires in
+    omega (arith, ap depth none, is.fits)
+
+pub array::push_element-returns-then-is_empty-2-clause-noted : goal.array::push_element-returns-then-is_empty-2-clause-noted
+array::push_element-returns-then-is_empty-2-clause-noted t c =
+    let of = view_ty c.args.child in
+    let none = empty_value of (view_bytes c.args.child) (rw c.bytes.ensures at (sym c.is_empty-is_empty.ensures ∙ c.if-is_empty-2.true)) in
+    let old = string_bytes c.args.to.now in
+    let text : string_bytes c.push_value.new.to ≡ (old ++ comma) ++ text_of (value c.args.child) false true = c.in_ok-push_value.ensures.text.1 ∙ ap (λ l. l ++ text_of (value c.args.child) false true) c.in_ok-push_str.ensures.bytes in
+    let first : length (string_bytes c.args.to.now) ≡ string_len c.args.to.now = search rules in
+    let last : length (string_bytes c.push_value.new.to) ≡ string_len c.push_value.new.to = search rules in
+    noted_here of c.args.levels c.len-start.result c.len.result old (string_bytes c.push_value.new.to) (ap holds_double (sym none) ∙ c.in_ok-push_value.ensures.text.0) (omega (arith, ap depth none, c.in_ok-push_value.ensures.fits)) (c.len-start.ensures ∙ sym first) (c.len.ensures ∙ sym last)
+    (text ∙ ap (λ u. (old ++ comma) ++ text_of u false true) none)
 
 -- ---- levels
 

@@ -1,0 +1,21 @@
+-- proofs/table/Table/check_once/Answers.antt
+use Rattle.std.proofs.Common.{rules, arith}
+use Rattle.dconf_model.specs.Sound.{KeepsAll}
+use Rattle.dconf_model.specs.Sound.Rule.{keys, chain, hash, span, once}
+use Rattle.gvdb_read.specs.Tables.{region}
+use Rattle.gvdb_read.proofs.RuleOrder.{moved, one_more}
+use Rattle.gvdb_read.proofs.table.Table.check_once.Goals as goal
+
+pub returns-then-names_rise-clause-kept : goal.returns-then-names_rise-clause-kept
+returns-then-names_rise-clause-kept c = one_more (region c.args.self) once c.requires.earlier (c.names_rise.ensures c.if-names_rise.true)
+
+pub each_keeps-requires-clause-callable : goal.each_keeps-requires-clause-callable
+each_keeps-requires-clause-callable c =
+    let good : KeepsAll (region c.args.self) keys = c.requires.earlier keys (omega arith) in
+    let ends : KeepsAll (region c.args.self) chain = c.requires.earlier chain (omega arith) in
+    let hashed : KeepsAll (region c.args.self) hash = c.requires.earlier hash (omega arith) in
+    let spans : KeepsAll (region c.args.self) span = c.requires.earlier span (omega arith) in
+    λ i counted. search rules
+
+pub each_keeps-requires-clause-tells : goal.each_keeps-requires-clause-tells
+each_keeps-requires-clause-tells c = λ i b kept post. search (rules, moved)
