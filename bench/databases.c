@@ -19,6 +19,7 @@ typedef const uint8_t *bytes_at;
 
 bool dconf_bench_open(bytes_at file, size_t file_len);
 bool dconf_bench_find(bytes_at file, size_t file_len, bytes_at name, size_t name_len, size_t *len);
+bool dconf_bench_find_bytes(bytes_at file, size_t file_len, bytes_at name, size_t name_len, size_t *len);
 bool dconf_bench_check(bytes_at file, size_t file_len, bool *sound);
 bool dconf_bench_database(bytes_at paths, size_t paths_len, uint8_t *room, size_t room_len, size_t *len);
 bool dconf_bench_map(bytes_at paths, size_t paths_len);
@@ -28,6 +29,7 @@ typedef struct GvdbItem GvdbItem;
 
 GvdbTable *gvdb_table_new_from_bytes(GBytes *bytes, gboolean trusted, GError **error);
 void gvdb_table_free(GvdbTable *table);
+gboolean gvdb_table_has_value(GvdbTable *table, const char *key);
 GVariant *gvdb_table_get_value(GvdbTable *table, const char *key);
 GHashTable *gvdb_hash_table_new(GHashTable *parent, const char *key);
 GvdbItem *gvdb_hash_table_insert(GHashTable *table, const char *key);
@@ -105,6 +107,13 @@ static bool find_there(Input *in) {
     return find(in, in->there);
 }
 
+/* What is stored is the text with its zero byte, a zero byte and the text of its type. */
+static bool find_bytes(Input *in) {
+    size_t len = 0;
+    bool found = dconf_bench_find_bytes(in->file, in->file_len, (bytes_at)in->there, strlen(in->there), &len);
+    return found && len == strlen(in->there) + 3;
+}
+
 static bool find_missing(Input *in) {
     return !find(in, in->missing);
 }
@@ -160,6 +169,10 @@ static bool gvdb_missing(Input *in) {
 
 static bool gvdb_there_open(Input *in) {
     return gvdb_has(in->table, in->there);
+}
+
+static bool gvdb_has_open(Input *in) {
+    return gvdb_table_has_value(in->table, in->there);
 }
 
 static bool gvdb_missing_open(Input *in) {
@@ -220,6 +233,7 @@ static const struct {
     {"name", find_in_nothing},
     {"open", open_file},
     {"there", find_there},
+    {"bytes", find_bytes},
     {"missing", find_missing},
     {"check", check},
     {"map", map},
@@ -228,6 +242,7 @@ static const struct {
     {"gvdb-there", gvdb_there},
     {"gvdb-missing", gvdb_missing},
     {"gvdb-there-open", gvdb_there_open},
+    {"gvdb-has-open", gvdb_has_open},
     {"gvdb-missing-open", gvdb_missing_open},
     {"gvdb-map", gvdb_map},
     {"gvdb-write", gvdb_map_and_write},

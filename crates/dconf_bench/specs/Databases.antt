@@ -3,7 +3,7 @@ use Rattle.std.specs.Prelude.{◌≡◌, ℕ, List, [], ◌∷◌, ◌++◌, len
 use Rattle.std.specs.List.{flat_map}
 use Rattle.gv_view.specs.declared.view.View.{View}
 use Rattle.gv_view.specs.Views.{view_bytes}
-use Rattle.gvdb_read.specs.Lookups.{IsViewOf}
+use Rattle.gvdb_read.specs.Lookups.{IsValueOf, IsViewOf}
 use Rattle.dconf_model.specs.Table.{Table}
 use Rattle.dconf_model.specs.Opening.{IsDatabase, root_of}
 use Rattle.dconf_model.specs.Sound.{IsSound}
@@ -13,6 +13,10 @@ use Rattle.dconf_model.specs.Plans.{HoldsValues}
 -- the value that is found has so many bytes
 abbrev pub IsFoundWith : Table → List ℕ → ℕ → Type 0
 IsFoundWith t name n = (view : View) × IsViewOf t name view × (n ≡ length (view_bytes view))
+
+-- so many bytes are stored at the name
+abbrev pub IsStoredWith : Table → List ℕ → ℕ → Type 0
+IsStoredWith t name n = (bytes : List ℕ) × IsValueOf t name bytes × (n ≡ length bytes)
 
 -- the bytes of a `v` that holds a text
 abbrev pub text_value : List ℕ → List ℕ

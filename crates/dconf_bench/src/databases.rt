@@ -5,7 +5,7 @@ ghost use Rattle.dconf_model.specs.Search.{Finds};
 ghost use Rattle.dconf_model.specs.Opening.{IsDatabase, root_of};
 ghost use Rattle.dconf_model.specs.Sound.{IsSound};
 ghost use Rattle.dconf_model.specs.Settings.{Settings, with_value};
-ghost use Rattle.dconf_bench.specs.Databases.{IsFoundWith, AreOfPaths, IsDatabaseOf, text_value};
+ghost use Rattle.dconf_bench.specs.Databases.{IsFoundWith, IsStoredWith, AreOfPaths, IsDatabaseOf, text_value};
 ghost use Rattle.dconf_bench.specs.Rooms.{HandsOut};
 
 use crate::given::{hand_out, text_of};
@@ -41,6 +41,28 @@ pub extern "C" fn dconf_bench_find(file: &[u8], name: &[u8], len: &mut usize) ->
     match table.find(name) {
         Some(value) => {
             *len = value.bytes().len();
+            true
+        }
+        None => false,
+    }
+}
+
+/// How many bytes are stored at this name: its value, a zero byte and the text of its type. False where there is no such database, name or value.
+#[unsafe(no_mangle)]
+pub extern "C" fn dconf_bench_find_bytes(file: &[u8], name: &[u8], len: &mut usize) -> bool
+    ensures found { IsTrue result → IsDatabase file.now × IsStoredWith (root_of file.now) name.now len.new }
+    ensures missing { result ≡ false → IsDatabase file.now → IsUtf8 name.now
+        → Finds (root_of file.now) name.now value_kind None }
+{
+    let Some(name) = text_of(name) else {
+        return false;
+    };
+    let Ok(table) = Table::open(file) else {
+        return false;
+    };
+    match table.find_bytes(name) {
+        Some(bytes) => {
+            *len = bytes.len();
             true
         }
         None => false,

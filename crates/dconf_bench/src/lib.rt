@@ -244,8 +244,8 @@ pub extern "C" fn dconf_bench_read_written(
 mod tests {
     use super::*;
     use crate::databases::{
-        dconf_bench_check, dconf_bench_database, dconf_bench_find, dconf_bench_map,
-        dconf_bench_open,
+        dconf_bench_check, dconf_bench_database, dconf_bench_find, dconf_bench_find_bytes,
+        dconf_bench_map, dconf_bench_open,
     };
     use std::test::Fail;
 
@@ -289,6 +289,8 @@ mod tests {
         assert!(rt; dconf_bench_open(file));
         assert!(rt; dconf_bench_find(file, b"/a/k", &mut len));
         assert_eq!(rt; len, 5);
+        assert!(rt; dconf_bench_find_bytes(file, b"/a/k", &mut len));
+        assert_eq!(rt; len, 7);
         let mut sound = false;
         assert!(rt; dconf_bench_check(file, &mut sound));
         assert!(rt; sound);
