@@ -86,7 +86,6 @@ impl<'a> Table<'a> {
     }
 
     /// The bytes of the value of this name.
-    #[inline(always)]
     fn bytes_counted(self, name: &str, steps: &mut Steps) -> Option<&'a [u8]>
         requires { PassesBloom (region self) (hash_of name.now)
             → steps.old + span_size (region self) (hash_of name.now) * (length name.now + 1) < 2 ^ 128 }
