@@ -38,7 +38,8 @@ impl Table<'_> {
     ///
     /// It takes no memory. S1, S2, S5, S6 and S8 take time in the buckets, the items and the bytes of their keys; S3
     /// takes a step for each of the parents of each item, up to the first with a lower number. S4 takes time in the bytes of the keys where it is kept; else in
-    /// those of the full names. S7 compares each name with the one before it where all names of each bucket rise, as our writer puts them; else it
+    /// those of the full names. Where there are more than 16 items a bucket, S7 compares each name
+    /// with the one before it, and is done where all names of each bucket rise, as our writer puts them; else it
     /// looks at the items of each item's bucket, and compares names where the hashes agree. S9
     /// takes a step for each of the parents of each item, up to one of the 256 items before it, and as far as their keys have 65,535 bytes. S10 takes time in the items
     /// and the bytes of their keys where all lists ascend by number, as our writer puts them, or by key, as dconf's does; else in the
