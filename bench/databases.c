@@ -46,6 +46,8 @@ typedef struct {
     uint8_t *paths, *file;
     size_t paths_len, file_room, file_len;
     char there[LONGEST], missing[LONGEST];
+    /* How long they are, which no run measures: ours is given it, and what gvdb does to find it out is gvdb's. */
+    size_t there_len, missing_len;
     /* What gvdb reads: the same bytes, and a table of them that is open. */
     GBytes *bytes;
     GvdbTable *table;
@@ -72,8 +74,8 @@ static Input input_of(size_t keys) {
     for (size_t i = 0; i < keys; i++)
         in.paths_len += put_path((char *)in.paths + in.paths_len, "key", i) + 1;
     /* One in the middle; and one beside it in the same directory, which no key has. */
-    put_path(in.there, "key", keys / 2);
-    put_path(in.missing, "kei", keys / 2);
+    in.there_len = put_path(in.there, "key", keys / 2);
+    in.missing_len = put_path(in.missing, "kei", keys / 2);
     return in;
 }
 
@@ -83,14 +85,17 @@ static bool open_file(Input *in) {
     return dconf_bench_open(in->file, in->file_len);
 }
 
-static bool find_in(bytes_at file, size_t file_len, const char *name) {
+static bool find_in(bytes_at file, size_t file_len, const char *name, size_t name_len) {
     size_t len = 0;
-    bool found = dconf_bench_find(file, file_len, (bytes_at)name, strlen(name), &len);
-    return found && len == strlen(name) + 1;
+    bool found = dconf_bench_find(file, file_len, (bytes_at)name, name_len, &len);
+    return found && len == name_len + 1;
 }
 
-static bool find(const Input *in, const char *name) {
-    return find_in(in->file, in->file_len, name);
+/* What is stored is the text with its zero byte, a zero byte and the text of its type. */
+static bool find_bytes_in(bytes_at file, size_t file_len, const char *name, size_t name_len) {
+    size_t len = 0;
+    bool found = dconf_bench_find_bytes(file, file_len, (bytes_at)name, name_len, &len);
+    return found && len == name_len + 3;
 }
 
 /* What is left of opening, and of looking up, where there is no file: the call from C, and the test that the name is UTF-8. */
@@ -100,22 +105,23 @@ static bool open_nothing(Input *in) {
 }
 
 static bool find_in_nothing(Input *in) {
-    return !find_in(in->file, 0, in->there);
+    return !find_in(in->file, 0, in->there, in->there_len);
+}
+
+static bool find_bytes_in_nothing(Input *in) {
+    return !find_bytes_in(in->file, 0, in->there, in->there_len);
 }
 
 static bool find_there(Input *in) {
-    return find(in, in->there);
+    return find_in(in->file, in->file_len, in->there, in->there_len);
 }
 
-/* What is stored is the text with its zero byte, a zero byte and the text of its type. */
 static bool find_bytes(Input *in) {
-    size_t len = 0;
-    bool found = dconf_bench_find_bytes(in->file, in->file_len, (bytes_at)in->there, strlen(in->there), &len);
-    return found && len == strlen(in->there) + 3;
+    return find_bytes_in(in->file, in->file_len, in->there, in->there_len);
 }
 
 static bool find_missing(Input *in) {
-    return !find(in, in->missing);
+    return !find_in(in->file, in->file_len, in->missing, in->missing_len);
 }
 
 static bool check(Input *in) {
@@ -144,31 +150,31 @@ static bool gvdb_open(Input *in) {
 }
 
 /* Whether a name's value is a text of so many bytes, with its zero byte. */
-static bool gvdb_has(GvdbTable *table, const char *name) {
+static bool gvdb_has(GvdbTable *table, const char *name, size_t name_len) {
     GVariant *value = gvdb_table_get_value(table, name);
     if (value == NULL)
         return false;
-    bool is_it = g_variant_get_size(value) == strlen(name) + 1;
+    bool is_it = g_variant_get_size(value) == name_len + 1;
     g_variant_unref(value);
     return is_it;
 }
 
 static bool gvdb_there(Input *in) {
     GvdbTable *table = gvdb_opened(in);
-    bool found = gvdb_has(table, in->there);
+    bool found = gvdb_has(table, in->there, in->there_len);
     gvdb_table_free(table);
     return found;
 }
 
 static bool gvdb_missing(Input *in) {
     GvdbTable *table = gvdb_opened(in);
-    bool found = gvdb_has(table, in->missing);
+    bool found = gvdb_has(table, in->missing, in->missing_len);
     gvdb_table_free(table);
     return !found;
 }
 
 static bool gvdb_there_open(Input *in) {
-    return gvdb_has(in->table, in->there);
+    return gvdb_has(in->table, in->there, in->there_len);
 }
 
 static bool gvdb_has_open(Input *in) {
@@ -176,7 +182,7 @@ static bool gvdb_has_open(Input *in) {
 }
 
 static bool gvdb_missing_open(Input *in) {
-    return !gvdb_has(in->table, in->missing);
+    return !gvdb_has(in->table, in->missing, in->missing_len);
 }
 
 /* The directory that a name lies in, which is made where it isn't there, as dconf does it. */
@@ -231,6 +237,7 @@ static const struct {
 } CASES[] = {
     {"nothing", open_nothing},
     {"name", find_in_nothing},
+    {"bytes-name", find_bytes_in_nothing},
     {"open", open_file},
     {"there", find_there},
     {"bytes", find_bytes},

@@ -1,5 +1,5 @@
 -- Defaults of members one after the other, each after the mark.
-use Rattle.std.proofs.Common.{◌≡◌, ◌≤◌, ◌<◌, ◌-◌, ℕ, max, List, [], ◌∷◌, ◌++◌, Bool, true, false, refl, sym, ap, ◌∙◌, arith, append_assoc, append-nil}
+use Rattle.std.proofs.Common.{◌≡◌, ◌≤◌, ◌<◌, ◌-◌, ℕ, List, [], ◌∷◌, ◌++◌, Bool, false, refl, sym, ap, ◌∙◌, arith, append_assoc, append-nil}
 use Rattle.std.specs.Prelude.{◌↔◌, IsTrue}
 use Rattle.std.proofs.lemmas.Bool.{false≢true}
 use Rattle.gv_model.specs.Ty.{Ty, types_from}
@@ -15,32 +15,32 @@ use Rattle.gv_text.proofs.ChildTexts.{IsLeft, first_fault, no_doubles, plain_fir
 use Rattle.gv_text.proofs.Levels.{AreLevels, first_depth, no_depth}
 use Rattle.gv_view.proofs.Depths.{depth_children}
 
-pub all_left : (mark : Text) (vs : Trees) (levels : ℕ) (annotated in_array : Bool) (start : Text) → AreLeft mark vs vs levels annotated in_array start start
-all_left mark vs levels annotated in_array start = record { texts = refl; doubles = refl; known = omega arith; deeper = omega arith }
+pub all_left : (mark : Text) (vs : Trees) (levels : ℕ) (annotated : Bool) (start : Text) → AreLeft mark vs vs levels annotated start start
+all_left mark vs levels annotated start = record { texts = refl; doubles = refl; known = omega arith; deeper = omega arith }
 
-texts_first : (u : Tree) (vs : Trees) (annotated in_array : Bool) → texts (first u vs) annotated annotated in_array ≡ text_of u annotated in_array ∷ texts vs annotated annotated in_array
+texts_first : (u : Tree) (vs : Trees) (annotated : Bool) → texts (first u vs) annotated annotated false ≡ text_of u annotated false ∷ texts vs annotated annotated false
 unfolding text_of
-texts_first u vs annotated in_array = refl
+texts_first u vs annotated = refl
 
-pub one_less : (mark : Text) (vs us left : Trees) (u : Tree) (levels : ℕ) (annotated in_array : Bool) (start now mid new : Text) → us ≡ first u left → AreLeft mark vs us levels annotated in_array start now
-    → mid ≡ now ++ mark → Writes u levels annotated in_array mid new → AreLeft mark vs left levels annotated in_array start new
-one_less mark vs us left u levels annotated in_array start now mid new is was marks wrote =
-    let s = text_of u annotated in_array in
-    let more = behind mark left annotated in_array in
+pub one_less : (mark : Text) (vs us left : Trees) (u : Tree) (levels : ℕ) (annotated : Bool) (start now mid new : Text) → us ≡ first u left → AreLeft mark vs us levels annotated start now
+    → mid ≡ now ++ mark → Writes u levels annotated false mid new → AreLeft mark vs left levels annotated start new
+one_less mark vs us left u levels annotated start now mid new is was marks wrote =
+    let s = text_of u annotated false in
+    let more = behind mark left annotated in
     let depths = ap greatest_depth is ∙ first_depth u left in
     record {
       texts = ap (λ (l : Text). l ++ more) (wrote.text ∙ ap (λ (l : Text). l ++ s) marks)
           ∙ (append_assoc (now ++ mark) s more ∙ (append_assoc now mark (s ++ more)
-          ∙ (ap (λ (l : Text). now ++ l) (ap (following mark) (sym (texts_first u left annotated in_array)) ∙ ap (λ (ws : Trees). behind mark ws annotated in_array) (sym is)) ∙ was.texts)));
+          ∙ (ap (λ (l : Text). now ++ l) (ap (following mark) (sym (texts_first u left annotated)) ∙ ap (λ (ws : Trees). behind mark ws annotated) (sym is)) ∙ was.texts)));
       doubles = was.doubles ∙ (ap hold_double is ∙ plain_first u left wrote.plain);
       known = omega (arith, was.known, depths, wrote.fits);
       deeper = omega (arith, was.deeper, depths);
     }
 
 -- what is left of what was left
-pub then_left : (mark : Text) (vs us left : Trees) (levels : ℕ) (annotated in_array : Bool) (start now new : Text) → AreLeft mark vs us levels annotated in_array start now → AreLeft mark us left levels annotated in_array now new
-    → AreLeft mark vs left levels annotated in_array start new
-then_left mark vs us left levels annotated in_array start now new a b = record {
+pub then_left : (mark : Text) (vs us left : Trees) (levels : ℕ) (annotated : Bool) (start now new : Text) → AreLeft mark vs us levels annotated start now → AreLeft mark us left levels annotated now new
+    → AreLeft mark vs left levels annotated start new
+then_left mark vs us left levels annotated start now new a b = record {
   texts = b.texts ∙ a.texts;
   doubles = a.doubles ∙ b.doubles;
   known = omega (arith, a.known, b.known);
@@ -48,30 +48,30 @@ then_left mark vs us left levels annotated in_array start now new a b = record {
 }
 
 -- a fault of what is left is one of all
-pub fault_left : (mark : Text) (vs left : Trees) (levels : ℕ) (annotated in_array : Bool) (start now : Text) (f : PrintFault) → AreLeft mark vs left levels annotated in_array start now → AreLevelFault left levels f → AreLevelFault vs levels f
-fault_left mark vs left levels annotated in_array start now TooLarge was h = omega (arith, h, was.deeper)
-fault_left mark vs left levels annotated in_array start now DoubleText was h = was.doubles ∙ h
-fault_left mark vs left levels annotated in_array start now Memory was h = tt
+pub fault_left : (mark : Text) (vs left : Trees) (levels : ℕ) (annotated : Bool) (start now : Text) (f : PrintFault) → AreLeft mark vs left levels annotated start now → AreLevelFault left levels f → AreLevelFault vs levels f
+fault_left mark vs left levels annotated start now TooLarge was h = omega (arith, h, was.deeper)
+fault_left mark vs left levels annotated start now DoubleText was h = was.doubles ∙ h
+fault_left mark vs left levels annotated start now Memory was h = tt
 
-nothing_behind : (mark : Text) (annotated in_array : Bool) → behind mark none annotated in_array ≡ []
+nothing_behind : (mark : Text) (annotated : Bool) → behind mark none annotated ≡ []
 unfolding text_of
-nothing_behind mark annotated in_array = refl
+nothing_behind mark annotated = refl
 
-pub all_written : (mark : Text) (vs us : Trees) (levels : ℕ) (annotated in_array : Bool) (start now : Text) → us ≡ none → AreLeft mark vs us levels annotated in_array start now → WriteBehind vs levels mark annotated in_array start now
-all_written mark vs us levels annotated in_array start now is was = record {
+pub all_written : (mark : Text) (vs us : Trees) (levels : ℕ) (annotated : Bool) (start now : Text) → us ≡ none → AreLeft mark vs us levels annotated start now → WriteBehind vs levels mark annotated start now
+all_written mark vs us levels annotated start now is was = record {
   plain = was.doubles ∙ (ap hold_double is ∙ no_doubles);
-  text = sym (append-nil now) ∙ (ap (λ (l : Text). now ++ l) (sym (ap (λ (ws : Trees). behind mark ws annotated in_array) is ∙ nothing_behind mark annotated in_array)) ∙ was.texts);
+  text = sym (append-nil now) ∙ (ap (λ (l : Text). now ++ l) (sym (ap (λ (ws : Trees). behind mark ws annotated) is ∙ nothing_behind mark annotated)) ∙ was.texts);
   fits = omega (arith, was.known, ap greatest_depth is ∙ no_depth);
 }
 
-pub fault_behind : (mark : Text) (vs us left : Trees) (u : Tree) (levels : ℕ) (annotated in_array : Bool) (start now : Text) (f : PrintFault) → us ≡ first u left → AreLeft mark vs us levels annotated in_array start now
+pub fault_behind : (mark : Text) (vs us left : Trees) (u : Tree) (levels : ℕ) (annotated : Bool) (start now : Text) (f : PrintFault) → us ≡ first u left → AreLeft mark vs us levels annotated start now
     → IsLevelFault u levels f → AreLevelFault vs levels f
-fault_behind mark vs us left u levels annotated in_array start now TooLarge is was h = omega (arith, h, was.deeper, ap greatest_depth is ∙ first_depth u left)
-fault_behind mark vs us left u levels annotated in_array start now DoubleText is was h = was.doubles ∙ (ap hold_double is ∙ first_fault u left DoubleText h)
-fault_behind mark vs us left u levels annotated in_array start now Memory is was h = tt
+fault_behind mark vs us left u levels annotated start now TooLarge is was h = omega (arith, h, was.deeper, ap greatest_depth is ∙ first_depth u left)
+fault_behind mark vs us left u levels annotated start now DoubleText is was h = was.doubles ∙ (ap hold_double is ∙ first_fault u left DoubleText h)
+fault_behind mark vs us left u levels annotated start now Memory is was h = tt
 
-pub no_levels : (mark : Text) (vs us left : Trees) (u : Tree) (levels : ℕ) (annotated in_array : Bool) (start now : Text) → levels ≡ 0 → us ≡ first u left → AreLeft mark vs us levels annotated in_array start now → levels < greatest_depth vs
-no_levels mark vs us left u levels annotated in_array start now few is was = omega (arith, few, was.deeper, ap greatest_depth is ∙ first_depth u left, depth_children u)
+pub no_levels : (mark : Text) (vs us left : Trees) (u : Tree) (levels : ℕ) (annotated : Bool) (start now : Text) → levels ≡ 0 → us ≡ first u left → AreLeft mark vs us levels annotated start now → levels < greatest_depth vs
+no_levels mark vs us left u levels annotated start now few is was = omega (arith, few, was.deeper, ap greatest_depth is ∙ first_depth u left, depth_children u)
 
 pub types_first : (t : Ty) (ts us : List Ty) → us ≡ t ∷ ts → defaults (types_from us) ≡ first (default t) (defaults (types_from ts))
 unfolding default
@@ -83,17 +83,17 @@ types_none us e = ap (λ (ws : List Ty). defaults (types_from ws)) e
 
 -- ---- the children that are left are such members
 
-pub rest_written : (mark : Text) (vs left ds : Trees) (levels : ℕ) (annotated in_array later : Bool) (start now new : Text) → IsLeft mark vs left annotated in_array start now → left ≡ ds → later ≡ rest_annotated annotated in_array
-    → WriteBehind ds levels mark later in_array now new → (hold_double vs ≡ false) × (new ≡ start ++ joined_by mark (child_texts vs annotated in_array))
-rest_written mark vs left ds levels annotated in_array later start now new was is same wrote = (
+pub rest_written : (mark : Text) (vs left ds : Trees) (levels : ℕ) (annotated later : Bool) (start now new : Text) → IsLeft mark vs left annotated false start now → left ≡ ds → later ≡ rest_annotated annotated false
+    → WriteBehind ds levels mark later now new → (hold_double vs ≡ false) × (new ≡ start ++ joined_by mark (child_texts vs annotated false))
+rest_written mark vs left ds levels annotated later start now new was is same wrote = (
   was.doubles ∙ (ap hold_double is ∙ wrote.plain),
-  wrote.text ∙ (ap (λ (ws : Trees). now ++ behind mark ws later in_array) (sym is) ∙ (ap (λ (a : Bool). now ++ behind mark left a in_array) same ∙ was.texts)),
+  wrote.text ∙ (ap (λ (ws : Trees). now ++ behind mark ws later) (sym is) ∙ (ap (λ (a : Bool). now ++ behind mark left a) same ∙ was.texts)),
 )
 
-pub rest_faults : (mark : Text) (vs left ds : Trees) (levels : ℕ) (annotated in_array : Bool) (start now : Text) (f : PrintFault) → IsLeft mark vs left annotated in_array start now → left ≡ ds → AreLevelFault ds levels f → AreFaultOf vs f
-rest_faults mark vs left ds levels annotated in_array start now TooLarge was is h = tt
-rest_faults mark vs left ds levels annotated in_array start now DoubleText was is h = was.doubles ∙ (ap hold_double is ∙ h)
-rest_faults mark vs left ds levels annotated in_array start now Memory was is h = tt
+pub rest_faults : (mark : Text) (vs left ds : Trees) (levels : ℕ) (annotated : Bool) (start now : Text) (f : PrintFault) → IsLeft mark vs left annotated false start now → left ≡ ds → AreLevelFault ds levels f → AreFaultOf vs f
+rest_faults mark vs left ds levels annotated start now TooLarge was is h = tt
+rest_faults mark vs left ds levels annotated start now DoubleText was is h = was.doubles ∙ (ap hold_double is ∙ h)
+rest_faults mark vs left ds levels annotated start now Memory was is h = tt
 
 pub rest_fits : (v : Tree) (left ds : Trees) (levels : ℕ) → AreLevels v left levels → left ≡ ds → 0 < levels → greatest_depth ds ≤ levels - 1 → depth v ≤ levels
 rest_fits v left ds levels are is some h = omega (arith, are.known, ap greatest_depth is, some, h)

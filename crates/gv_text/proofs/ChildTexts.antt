@@ -1,5 +1,5 @@
 -- The texts of a container's children, one after the other.
-use Rattle.std.proofs.Common.{◌≡◌, ◌<◌, ◌≤◌, ℕ, suc, List, [], ◌∷◌, ◌++◌, Bool, true, false, ◌||◌, length, refl, sym, ap, ◌∙◌, arith, append_assoc, append-nil}
+use Rattle.std.proofs.Common.{◌≡◌, ◌<◌, ◌≤◌, ℕ, suc, List, [], ◌∷◌, ◌++◌, Bool, false, ◌||◌, length, refl, sym, ap, ◌∙◌, arith, append_assoc, append-nil}
 use Rattle.std.proofs.lemmas.Bool.{or_left}
 use Rattle.gv_model.specs.Tree.{Tree, Trees, children, trees_len, depth, greatest_depth}
 use Rattle.gv_model.specs.Tree.Trees.{none, first}

@@ -1,7 +1,6 @@
 -- The elements of an array that have no bytes have one text. Where it stands it can be copied from.
-use Rattle.std.proofs.Common.{◌≡◌, ◌<◌, ◌≤◌, ◌+◌, ℕ, List, [], ◌∷◌, ◌++◌, Option, None, IfSome, true, false, length, get_or, slice_range, refl, sym, ap, ap₂, ◌∙◌, subst, arith, append_assoc, append-nil}
+use Rattle.std.proofs.Common.{◌≡◌, ◌≤◌, ◌+◌, ℕ, List, [], ◌∷◌, ◌++◌, Option, None, IfSome, true, false, length, slice_range, sym, ap, ◌∙◌, subst, arith, append_assoc, append-nil}
 use Rattle.std.specs.Prelude.{All}
-use Rattle.std.specs.String.Boundary.{IsSplitPoint}
 use Rattle.std.proofs.lemmas.List.{length-append}
 use Rattle.std.proofs.lemmas.List.Elements.{All-head, All-tail}
 use Rattle.gv_model.specs.Ty.{Ty}
@@ -63,57 +62,9 @@ noted_here t levels start end old new plain fits begins ends wrote =
       fits = fits;
     }
 
-comma_first : (xs s : Text) → (0 < length xs → get_or xs 0 0 ≡ 44) → 0 < length (xs ++ (comma ++ s)) → get_or (xs ++ (comma ++ s)) 0 0 ≡ 44
-comma_first [] s h more = refl
-comma_first (x ∷ xs) s h more = h (omega arith)
-
--- an element more changes nothing of it
-pub still_noted : (t : Ty) (levels start end : ℕ) (old new s : Text) → new ≡ (old ++ comma) ++ s → IsNoted t levels start end old → IsNoted t levels start end new
-still_noted t levels start end old new s wrote was = record {
-  before = was.before;
-  after = was.after ++ (comma ++ s);
-  is = wrote ∙ (append_assoc old comma s ∙ (ap (λ (l : Text). l ++ (comma ++ s)) was.is
-      ∙ (append_assoc was.before (piece t ++ was.after) (comma ++ s) ∙ ap (λ (l : Text). was.before ++ l) (append_assoc (piece t) was.after (comma ++ s)))));
-  begins = was.begins;
-  ends = was.ends;
-  parted = comma_first was.after s was.parted;
-  plain = was.plain;
-  fits = was.fits;
-}
-
 -- what is copied is a comma and the text
 pub copied_text : (t : Ty) (levels start end : ℕ) (old new : Text) → IsNoted t levels start end old → new ≡ old ++ slice_range old start end → new ≡ (old ++ comma) ++ text_of (default t) false true
 copied_text t levels start end old new was wrote =
     wrote ∙ (ap (λ (l : Text). old ++ l) (ap (λ (l : Text). slice_range l start end) was.is
     ∙ slice_mid was.before (piece t) was.after start end (sym was.begins) (omega (arith, was.ends)))
     ∙ sym (append_assoc old comma (text_of (default t) false true)))
-
--- ---- where it can be cut
-
-head_after : (xs ys : Text) (d : ℕ) → get_or (xs ++ ys) (length xs) d ≡ get_or ys 0 d
-head_after [] ys d = refl
-head_after (x ∷ xs) ys d = head_after xs ys d
-
-pub noted_length : (t : Ty) (levels start end : ℕ) (now : Text) → IsNoted t levels start end now → (start ≤ end) × (end ≤ length now)
-noted_length t levels start end now was =
-    let whole = ap length was.is ∙ (length-append was.before (piece t ++ was.after) ∙ ap (λ n. length was.before + n) (length-append (piece t) was.after)) in
-    (omega (arith, was.ends), omega (arith, was.begins, was.ends, whole))
-
-pub cut_at_start : (t : Ty) (levels start end : ℕ) (now : Text) → IsNoted t levels start end now → IsSplitPoint now start
-cut_at_start t levels start end now was =
-    let bounds = noted_length t levels start end now was in
-    let first : get_or now start 0 ≡ 44 = ap₂ (λ (l : Text) n. get_or l n 0) was.is was.begins ∙ head_after was.before (piece t ++ was.after) 0 in
-    (omega (arith, bounds.0, bounds.1), λ some less high. absurd (omega (arith, first, high)))
-
-pub cut_at_end : (t : Ty) (levels start end : ℕ) (now : Text) → IsNoted t levels start end now → IsSplitPoint now end
-cut_at_end t levels start end now was =
-    let bounds = noted_length t levels start end now was in
-    let front = was.before ++ piece t in
-    let is : now ≡ front ++ was.after = was.is ∙ sym (append_assoc was.before (piece t) was.after) in
-    let place : end ≡ length front = was.ends ∙ (ap (λ n. n + length (piece t)) was.begins ∙ sym (length-append was.before (piece t))) in
-    let size = ap length is ∙ length-append front was.after in (
-      bounds.1,
-      λ some less high.
-          let next : get_or now end 0 ≡ 44 = ap₂ (λ (l : Text) n. get_or l n 0) is place ∙ (head_after front was.after 0 ∙ was.parted (omega (arith, less, place, size))) in
-          absurd (omega (arith, next, high)),
-    )

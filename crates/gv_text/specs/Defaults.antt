@@ -50,9 +50,9 @@ abbrev pub defaults_left : Members → Trees
 defaults_left ms = defaults (types_from (members_left ms))
 
 -- the same of values one after the other, each after the mark
-pub record WriteBehind (vs : Trees) (levels : ℕ) (mark : Text) (annotated in_array : Bool) (old new : Text) : Type 0 where
+pub record WriteBehind (vs : Trees) (levels : ℕ) (mark : Text) (annotated : Bool) (old new : Text) : Type 0 where
   pub plain : hold_double vs ≡ false
-  pub text : new ≡ old ++ following mark (texts vs annotated annotated in_array)
+  pub text : new ≡ old ++ following mark (texts vs annotated annotated false)
   pub fits : greatest_depth vs ≤ levels
 
 -- why they aren't written
@@ -62,12 +62,12 @@ AreLevelFault vs levels DoubleText = hold_double vs ≡ true
 AreLevelFault vs levels Memory = Unit {0}
 
 -- the texts of values one after the other, each after the mark
-abbrev pub behind : Text → Trees → Bool → Bool → Text
-behind mark vs annotated in_array = following mark (texts vs annotated annotated in_array)
+abbrev pub behind : Text → Trees → Bool → Text
+behind mark vs annotated = following mark (texts vs annotated annotated false)
 
 -- Of the values vs, which go behind `start`, these are left. So far `now` is written.
-pub record AreLeft (mark : Text) (vs left : Trees) (levels : ℕ) (annotated in_array : Bool) (start now : Text) : Type 0 where
-  pub texts : now ++ behind mark left annotated in_array ≡ start ++ behind mark vs annotated in_array
+pub record AreLeft (mark : Text) (vs left : Trees) (levels : ℕ) (annotated : Bool) (start now : Text) : Type 0 where
+  pub texts : now ++ behind mark left annotated ≡ start ++ behind mark vs annotated
   pub doubles : hold_double vs ≡ hold_double left
   pub known : greatest_depth vs ≤ max levels (greatest_depth left)
   pub deeper : greatest_depth left ≤ greatest_depth vs

@@ -1,5 +1,5 @@
 -- What holds of each tree.
-use Rattle.std.specs.Prelude.{◌≡◌, ◌≤◌, Option, Some, None}
+use Rattle.std.specs.Prelude.{◌≤◌, Option, Some, None}
 use Rattle.gv_model.specs.Ty.{Ty}
 use Rattle.gv_model.specs.Ty.Ty.{basic, entry}
 use Rattle.gv_model.specs.TypeText.{IsWithinLimits}

@@ -1,14 +1,13 @@
 -- A member of a basic type at the start of a text.
-use Rattle.std.proofs.Common.{◌≡◌, ℕ, List, [], ◌∷◌, Option, Some, None, true, false, refl, sym, ap, ◌∙◌}
+use Rattle.std.proofs.Common.{◌≡◌, ℕ, List, [], ◌∷◌, Some, None, true, false, refl, sym, ap, ◌∙◌}
 use Rattle.std.proofs.lemmas.Bool.{and_parts}
-use Rattle.gv_model.specs.Ty.{Basic, Ty, spelling}
+use Rattle.gv_model.specs.Ty.{Ty, spelling}
 use Rattle.gv_model.specs.Ty.Ty.{basic, variant, array, maybe, tuple, entry}
 use Rattle.gv_model.specs.Texts.{are_types}
 use Rattle.gv_model.specs.TypeText.{Seen, is_within_limits, TypeMark, mark, mark_before, seen, array_before, maybe_before, entry_before, member_before, tuple_type_before}
 use Rattle.gv_model.specs.TypeText.Seen.{type, nothing, tuple_end, entry_end, wrong}
 use Rattle.gv_model.specs.TypeText.TypeMark.{letter, of_variant, of_array, of_maybe, open_tuple, close_tuple, open_entry, close_entry, other}
 use Rattle.gv_types.specs.declared.class.BasicType.{BasicType}
-use Rattle.gv_types.specs.declared.class.Class.{Class}
 use Rattle.gv_types.specs.declared.class.Class.TheVariants as classes
 use Rattle.gv_types.specs.Classes.{basic_in, basic_of, class_of_mark}
 use Rattle.gv_types.specs.Members.{begins_with_basic, types_in}

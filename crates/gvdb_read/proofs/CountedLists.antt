@@ -1,14 +1,14 @@
 -- Lists that together hold as many numbers as there are items with a parent: no child is missing.
 use Rattle.std.proofs.Common.{ℕ, zero, suc, ◌+◌, ◌<◌, ◌≤◌, ◌≡◌, ◌⊎◌, ◌||◌, Bool, true, false, List, [], ◌∷◌, length, Option, Some, None, refl, sym, ◌∙◌, ap, subst, arith, inl, inr, eqb}
 use Rattle.std.specs.Prelude.{◌==◌}
-use Rattle.std.specs.List.{IsDistinct, AllByRecursion, list_any}
+use Rattle.std.specs.List.{IsDistinct, list_any}
 use Rattle.std.proofs.lemmas.Map.Steps.{length-le_from_distinct_below}
 use Rattle.std.proofs.lemmas.Bool.{eqb-true, false_from_ne_true}
 use Rattle.std.proofs.lemmas.Option.{none-some, same_Some}
 use Rattle.dconf_model.proofs.ParentLaws.{all_other}
 use Rattle.dconf_model.specs.Table.{Table, item, item_count, list_kind}
 use Rattle.dconf_model.specs.Searchable.{EachItem}
-use Rattle.dconf_model.specs.Sound.{IsChild, KeepsAll, list_length, listed}
+use Rattle.dconf_model.specs.Sound.{KeepsAll, list_length, listed}
 use Rattle.dconf_model.specs.Sound.Rule.{lists}
 use Rattle.dconf_model.proofs.ParentLaws.{by_bool}
 use Rattle.gvdb_read.specs.Ascending.{IsListed}

@@ -1,17 +1,11 @@
 -- The numbers of a list, cut out as its four bytes each: what walks and searches of them tell.
-use Rattle.std.proofs.Common.{ℕ, zero, suc, ◌+◌, ◌-◌, ◌*◌, ◌/◌, ◌<◌, ◌≡◌, ◌↔◌, Bool, true, false, IsTrue, List, length, get_or, take, drop, Result, Ok, Err, refl, sym, ◌∙◌, ap, subst, arith, length-take, length-drop, ltb-true, ltb-false, inl, inr, [], Ordering, Less, Equal, Greater}
-use Rattle.std.specs.Prelude.{slice_range, is_ok, nat_lt}
+use Rattle.std.proofs.Common.{ℕ, zero, suc, ◌+◌, ◌-◌, ◌*◌, ◌/◌, ◌<◌, ◌≡◌, ◌↔◌, Bool, true, false, IsTrue, List, length, get_or, take, drop, refl, sym, ◌∙◌, ap, subst, arith, length-take, length-drop, ltb-true, ltb-false, []}
+use Rattle.std.specs.Prelude.{slice_range, nat_lt}
 use Rattle.std.specs.Bool.{MatchBool}
 use Rattle.std.specs.List.{AllWithin, HoldsAt, IsAllAdjacentAnswer, range_with_len}
-use Rattle.std.specs.List.Sorted.{IsBinarySearchResult, IsSearchInRange}
-use Rattle.std.specs.Ordering.{MatchOrdering, nat_cmp, is_lt}
 use Rattle.std.specs.Simd.{first_chunks}
-use Rattle.std.proofs.lemmas.Bool.{cases_lt}
-use Rattle.std.proofs.lemmas.Cmp.{nat_cmp_total}
 use Rattle.std.proofs.lemmas.List.{drop-take, drop-drop, get_or-take, take-take}
 use Rattle.std.proofs.lemmas.List.FromFn.{get_or-range_with_len, length-range_with_len}
-use Rattle.std.proofs.lemmas.List.Sorted.{searchable_from_sorted}
-use Rattle.std.specs.Cmp.{ranks, nat_cmp_is}
 use Rattle.gv_model.specs.BasicValue.{number_in}
 use Rattle.dconf_model.specs.Bytes.{u32_at}
 use Rattle.dconf_model.specs.Table.{Table, item, HasBytes, bytes_of}

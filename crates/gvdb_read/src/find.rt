@@ -28,6 +28,7 @@ impl<'a> Table<'a> {
     }
 
     /// The bytes of the value of this name, which are a variant's. None exactly where `find` is.
+    #[inline(always)]
     pub fn find_bytes(self, name: &str) -> Option<&'a [u8]>
         ensures found { IfSome result (λ bytes. IsValueOf (region self.entry) name.now bytes.now) }
         ensures none { IfNone result (Finds (region self.entry) name.now value_kind None) }
@@ -86,6 +87,7 @@ impl<'a> Table<'a> {
     }
 
     /// The bytes of the value of this name.
+    #[inline(always)]
     fn bytes_counted(self, name: &str, steps: &mut Steps) -> Option<&'a [u8]>
         requires { PassesBloom (region self) (hash_of name.now)
             → steps.old + span_size (region self) (hash_of name.now) * (length name.now + 1) < 2 ^ 128 }

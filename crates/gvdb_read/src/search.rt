@@ -16,6 +16,7 @@ impl<'a> Table<'a> {
 
     /// The least item of the span with this hash, name and kind, whatever it points to. Each item that is looked at
     /// along a chain of parents is a step.
+    #[inline(always)]
     pub(crate) fn find_item(self, name: &[u8], kind: Kind, steps: &mut Steps) -> Option<u32>
         requires { PassesBloom (region self) (hash_of name.now)
             → steps.old + span_size (region self) (hash_of name.now) * (length name.now + 1) < 2 ^ 128 }
@@ -30,6 +31,7 @@ impl<'a> Table<'a> {
     }
 
     /// As `find_item`, of a name whose hash is known.
+    #[inline(always)]
     pub(crate) fn find_hashed(
         self,
         hash: u32,
@@ -54,6 +56,7 @@ impl<'a> Table<'a> {
     }
 
     /// As `find_hashed`, where the bloom words don't rule the hash out.
+    #[inline(always)]
     fn find_in_span(self, hash: u32, name: &[u8], kind: Kind, steps: &mut Steps) -> Option<u32>
         requires hash_is { hash ≡ hash_of name.now }
         requires passes { PassesBloom (region self) (hash_of name.now) }
@@ -132,6 +135,7 @@ impl<'a> Table<'a> {
 
     /// Whether item `i` has this full name. It is compared from its end, key by key up the parents; each item with a
     /// parent takes at least one byte of it, so that it ends where parents go round in a circle.
+    #[inline(always)]
     pub(crate) fn is_named(self, i: u32, name: &[u8], steps: &mut Steps) -> bool
         requires { steps.old + length name.now + 1 < 2 ^ 128 }
         ensures named { IsTrue result ↔ HasName (region self.entry) i name.now }

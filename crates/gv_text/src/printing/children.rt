@@ -67,7 +67,7 @@ pub(super) fn push_children(
         to.push_str(mark)?;
         push_value(to, child, levels - 1, annotated, false)?;
         if let Some(lost) = children.lost() {
-            push_behind(to, lost, levels - 1, mark, annotated, false)?;
+            push_behind(to, lost, levels - 1, mark, annotated)?;
             return Ok(false);
         }
     }

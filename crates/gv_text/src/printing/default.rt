@@ -2,7 +2,7 @@
 //! Serialised Data"): 0, false, '', '/' for an object path, no element, Nothing, defaults in a tuple, `<()>` for a variant.
 //!
 //! A default is told by its type alone, so it is written in one walk along the letters of the type's text.
-ghost use Rattle.std.specs.Prelude.{◌≡◌, ◌≤◌, ◌<◌, ◌++◌, Bool, true, false, length, drop, OnOk, MatchOption, MatchResult, string_bytes};
+ghost use Rattle.std.specs.Prelude.{◌≡◌, ◌≤◌, ◌<◌, ◌++◌, true, false, length, drop, OnOk, MatchOption, MatchResult, string_bytes};
 ghost use Rattle.gv_model.specs.Ty.{Ty.variant};
 ghost use Rattle.gv_model.specs.TypeText.{seen};
 ghost use Rattle.gv_model.specs.Tree.{basic_default, default};
@@ -53,10 +53,9 @@ pub(super) fn push_behind(
     levels: u8,
     mark: &str,
     annotated: bool,
-    in_array: bool,
 ) -> Result<(), PrintFault>
     ensures { MatchResult result
-        (λ _. WriteBehind (defaults_left members.entry) levels mark.now annotated in_array (string_bytes to.old) (string_bytes to.new))
+        (λ _. WriteBehind (defaults_left members.entry) levels mark.now annotated (string_bytes to.old) (string_bytes to.new))
         (AreLevelFault (defaults_left members.entry) levels) }
 {
     let mut left = members;
@@ -66,7 +65,7 @@ pub(super) fn push_behind(
             return Err(PrintFault::TooLarge);
         }
         to.push_str(mark)?;
-        push_default(to, member, levels, annotated, in_array)?;
+        push_default(to, member, levels, annotated, false)?;
         push_basics(to, &mut left, levels, mark, annotated)?;
     }
     Ok(())
@@ -82,7 +81,7 @@ fn push_basics(
     annotated: bool,
 ) -> Result<(), PrintFault>
     ensures written { MatchResult result
-        (λ _. (in_array : Bool) → AreLeft mark.now (defaults_left members.old) (defaults_left members.new) levels annotated in_array (string_bytes to.old) (string_bytes to.new))
+        (λ _. AreLeft mark.now (defaults_left members.old) (defaults_left members.new) levels annotated (string_bytes to.old) (string_bytes to.new))
         (AreLevelFault (defaults_left members.old) levels) }
     ensures fewer { length (members_left members.new) ≤ length (members_left members.old) }
 {

@@ -201,7 +201,7 @@ children::push_children-returns-clause-text t c =
 
 pub children::push_children-returns-in-Some-lost-clause-text : goal.children::push_children-returns-in-Some-lost-clause-text
 children::push_children-returns-in-Some-lost-clause-text t c =
-    rest_written c.args.mark.now (children (value c.args.view)) (part_trees (children_left c.next-in-loop-child.new.self)) (defaults_left c.in-Some-lost.lost) (c.args.levels - 1) c.args.annotated false c.args.annotated (string_bytes c.args.to.now) (string_bytes c.push_value-in-Some-next.new.to) (string_bytes c.push_behind.new.to)
+    rest_written c.args.mark.now (children (value c.args.view)) (part_trees (children_left c.next-in-loop-child.new.self)) (defaults_left c.in-Some-lost.lost) (c.args.levels - 1) c.args.annotated c.args.annotated (string_bytes c.args.to.now) (string_bytes c.push_value-in-Some-next.new.to) (string_bytes c.push_behind.new.to)
     (left_next c.args.mark.now (children (value c.args.view)) (value c.in-Some-next.child)
     (part_trees (children_left c.next-in-loop-child.new.self)) c.args.annotated false (string_bytes c.args.to.now) (string_bytes c.loop-child.to)
     (string_bytes c.push_str.new.self) (string_bytes c.push_value-in-Some-next.new.to) (rw (ap part_trees c.in-Some-next.ensures.steps) at c.loop-child.invariant.0) c.in_ok-push_str.ensures.bytes c.in_ok-push_value-2.ensures.text.0
@@ -211,7 +211,7 @@ children::push_children-returns-in-Some-lost-clause-text t c =
 pub children::push_children-returns-in_err-push_behind-clause-text : goal.children::push_children-returns-in_err-push_behind-clause-text
 children::push_children-returns-in_err-push_behind-clause-text t c =
     let p = err_from_is_err_and c.from_residual-in_err-push_behind.result c.from_residual-in_err-push_behind.ensures.1 in
-    rw (p.1, p.2) (rest_faults c.args.mark.now (children (value c.args.view)) (part_trees (children_left c.next-in-loop-child.new.self)) (defaults_left c.in-Some-lost.lost) (c.args.levels - 1) c.args.annotated false (string_bytes c.args.to.now) (string_bytes c.push_value-in-Some-next.new.to) c.in_err-push_behind.field-0.0
+    rw (p.1, p.2) (rest_faults c.args.mark.now (children (value c.args.view)) (part_trees (children_left c.next-in-loop-child.new.self)) (defaults_left c.in-Some-lost.lost) (c.args.levels - 1) c.args.annotated (string_bytes c.args.to.now) (string_bytes c.push_value-in-Some-next.new.to) c.in_err-push_behind.field-0.0
     (left_next c.args.mark.now (children (value c.args.view)) (value c.in-Some-next.child)
     (part_trees (children_left c.next-in-loop-child.new.self)) c.args.annotated false (string_bytes c.args.to.now) (string_bytes c.loop-child.to)
     (string_bytes c.push_str.new.self) (string_bytes c.push_value-in-Some-next.new.to) (rw (ap part_trees c.in-Some-next.ensures.steps) at c.loop-child.invariant.0) c.in_ok-push_str.ensures.bytes c.in_ok-push_value-2.ensures.text.0

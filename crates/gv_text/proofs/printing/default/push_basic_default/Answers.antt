@@ -2,7 +2,6 @@ use Rattle.std.proofs.Common.{◌≡◌, ◌++◌, string_bytes, ap, ◌∙◌}
 use Rattle.gv_model.specs.Printed.{when, word}
 use Rattle.gv_types.specs.Classes.{basic_of}
 use Rattle.gv_text.proofs.ContainerTexts.{wanted_mark, unwanted_mark}
-use Rattle.gv_text.specs.Defaults.{AreFigures}
 use Rattle.gv_text.proofs.DefaultTexts.{basic_written}
 use Rattle.gv_text.proofs.printing.default.push_basic_default.Goals as goal
 use Rattle.gv_text.proofs.printing.default.push_basic_default.Goals.{then-annotated+in_ok-push_word, else-annotated}

@@ -1,4 +1,4 @@
-use Rattle.std.proofs.Common.{◌≡◌, ◌≤◌, ◌++◌, Bool, true, false, List, refl, sym, ap, subst, length, arith, rules, string_bytes}
+use Rattle.std.proofs.Common.{◌≡◌, ◌++◌, false, List, refl, sym, ap, subst, length, arith, rules, string_bytes}
 use Rattle.std.proofs.lemmas.Result.{err_from_is_err_and}
 use Rattle.std.proofs.lemmas.Slice.Eq.{bytes_eq-Decides}
 use Rattle.gv_model.specs.Ty.{Ty, types_from}
@@ -21,8 +21,8 @@ loop-of-preserved c =
     let plain : c.args.annotated ≡ false = c.if-annotated.false in
     let next = types_first (basic k) (members_left c.next_basic.new.self) (members_left c.loop-of.members) c.in-Some.ensures.taken in
     let fewer = ap length c.in-Some.ensures.taken in (
-      λ (i : Bool). one_less c.args.mark.now (defaults_left c.args.members.now) (defaults_left c.loop-of.members) (defaults_left c.next_basic.new.self) (default (basic k)) c.args.levels c.args.annotated i (string_bytes c.args.to.now)
-          now (now ++ c.args.mark.now) new next (c.loop-of.invariant.0 i) refl (rw (mark, plain) (basic_writes (basic k) k c.args.levels false i (now ++ comma) new refl (omega (arith, c.if-levels-eq0.false)) c.in_ok-push_basic_behind.ensures)),
+      one_less c.args.mark.now (defaults_left c.args.members.now) (defaults_left c.loop-of.members) (defaults_left c.next_basic.new.self) (default (basic k)) c.args.levels c.args.annotated (string_bytes c.args.to.now)
+          now (now ++ c.args.mark.now) new next c.loop-of.invariant.0 refl (rw (mark, plain) (basic_writes (basic k) k c.args.levels false false (now ++ comma) new refl (omega (arith, c.if-levels-eq0.false)) c.in_ok-push_basic_behind.ensures)),
       omega (arith, fewer, c.loop-of.invariant.1),
     )
 
@@ -31,9 +31,9 @@ returns-in_err-push_basic_behind-clause-written c =
     let k = basic_of c.in-Some.of in
     let next = types_first (basic k) (members_left c.next_basic.new.self) (members_left c.loop-of.members) c.in-Some.ensures.taken in
     let e = err_from_is_err_and c.from_residual.result c.from_residual.ensures.1 in
-    rw (e.1, e.2) (fault_behind c.args.mark.now (defaults_left c.args.members.now) (defaults_left c.loop-of.members) (defaults_left c.next_basic.new.self) (default (basic k)) c.args.levels c.args.annotated true (string_bytes c.args.to.now) (string_bytes c.loop-of.to)
-    c.in_err-push_basic_behind.field-0.0 next (c.loop-of.invariant.0 true) (basic_fault (basic k) k c.args.levels c.in_err-push_basic_behind.field-0.0 refl c.in_err-push_basic_behind.ensures.0 c.in_err-push_basic_behind.ensures.1))
+    rw (e.1, e.2) (fault_behind c.args.mark.now (defaults_left c.args.members.now) (defaults_left c.loop-of.members) (defaults_left c.next_basic.new.self) (default (basic k)) c.args.levels c.args.annotated (string_bytes c.args.to.now) (string_bytes c.loop-of.to)
+    c.in_err-push_basic_behind.field-0.0 next c.loop-of.invariant.0 (basic_fault (basic k) k c.args.levels c.in_err-push_basic_behind.field-0.0 refl c.in_err-push_basic_behind.ensures.0 c.in_err-push_basic_behind.ensures.1))
 
 pub returns-clause-written : goal.returns-clause-written
-returns-clause-written c = λ (i : Bool).
-    subst (λ (us : List Ty). AreLeft c.args.mark.now (defaults_left c.args.members.now) (defaults (types_from us)) c.args.levels c.args.annotated i (string_bytes c.args.to.now) (string_bytes c.loop-of.to)) (sym c.in_default.ensures.left) (c.loop-of.invariant.0 i)
+returns-clause-written c =
+    subst (λ (us : List Ty). AreLeft c.args.mark.now (defaults_left c.args.members.now) (defaults (types_from us)) c.args.levels c.args.annotated (string_bytes c.args.to.now) (string_bytes c.loop-of.to)) (sym c.in_default.ensures.left) c.loop-of.invariant.0
