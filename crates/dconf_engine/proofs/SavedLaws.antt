@@ -4,9 +4,7 @@ use Rattle.std.specs.List.{list_any}
 use Rattle.std.specs.Option.{unwrap_or}
 use Rattle.std.specs.Str.{bytes_eq}
 use Rattle.std.specs.Cmp.Lexicographic.{slice_cmp}
-use Rattle.std.specs.Ordering.{nat_cmp, is_lt, is_eq}
-use Rattle.std.specs.declared.cmp.Ordering.{Ordering}
-use Rattle.std.specs.declared.cmp.Ordering.TheVariants.{Less, Equal, Greater}
+use Rattle.std.specs.Ordering.{nat_cmp, is_lt}
 use Rattle.std.specs.FinMap as fin
 use Rattle.std.specs.FinMap.{get, contains_key, entries, empty, find}
 use Rattle.std.specs.FinMap.Entries.{is_sorted, below_all}
@@ -25,6 +23,7 @@ use Rattle.dconf_engine.specs.Unsaved.{Unsaved, with_changes}
 use Rattle.dconf_engine.specs.Saved.{set_if, and_unchanged, with_unchanged, with_sets}
 use Rattle.gvdb_write.proofs.KeysRise.{from_true}
 use Rattle.gvdb_write.proofs.Read.{same_path as tie}
+use Rattle.gvdb_write.proofs.HeldEntries.{less_is_other}
 use Rattle.dconf_model.proofs.DatabaseLaws.{at_paths}
 use Rattle.dconf_engine.proofs.UnsavedLaws.{get_changed}
 
@@ -62,16 +61,11 @@ get_set_if s p None q = both (bytes_eq p q)
     both true = refl
     both false = refl
 
-is_less : (r : Ordering) → is_lt r ≡ true → is_eq r ≡ false
-is_less Less h = refl
-is_less Equal h = absurd cc
-is_less Greater h = absurd cc
-
 pub find_below : (q : List ℕ) (cs : List (List ℕ × Option (List ℕ))) → below_all (slice_cmp nat_cmp) q cs ≡ true → find (slice_cmp nat_cmp) q cs ≡ None
 find_below q [] h = refl
 find_below q (c ∷ cs) h =
     let parts = and_parts (is_lt (slice_cmp nat_cmp q c.0)) (below_all (slice_cmp nat_cmp) q cs) h in
-    ap (λ b. cond b (Some c.1) (find (slice_cmp nat_cmp) q cs)) (is_less (slice_cmp nat_cmp q c.0) parts.0) ∙ find_below q cs parts.1
+    ap (λ b. cond b (Some c.1) (find (slice_cmp nat_cmp) q cs)) (less_is_other (slice_cmp nat_cmp q c.0) parts.0) ∙ find_below q cs parts.1
 
 get_sets : (cs : List (List ℕ × Option (List ℕ))) (s : Settings) (q : List ℕ) → is_sorted (slice_cmp nat_cmp) cs ≡ true →
     get (with_sets cs s).values q ≡ set_or (find (slice_cmp nat_cmp) q cs) (get s.values q)

@@ -1,6 +1,6 @@
 -- The value of a text is its meaning.
 use Rattle.std.specs.Prelude.{◌≡◌, ℕ, List, [], ◌∷◌, length, Option, Some, None, Result, Ok, Err, refl}
-use Rattle.std.proofs.Common.{inl, inr, subst, sym, ap, ◌∙◌, append-nil}
+use Rattle.std.proofs.Common.{inl, inr, sym, ap, ◌∙◌, append-nil}
 use Rattle.gv_model.specs.Ty.{Ty}
 use Rattle.gv_model.specs.Tree.{Tree}
 use Rattle.gv_model.specs.Syntax.{Syntax}
@@ -12,8 +12,7 @@ use Rattle.gv_model.specs.Grammar.{tokens_of}
 use Rattle.gv_model.specs.GrammarFaults.{NumberedFault, grammar_fault}
 use Rattle.gv_model.specs.Parsing.{IsTree, HasFault, IsParseFault, kinds}
 use Rattle.gv_model.specs.TreeReading.{read, one_tree}
-use Rattle.gv_model.specs.Admits.{Admits}
-use Rattle.gv_model.specs.Chosen.{Choice, Chooses}
+use Rattle.gv_model.specs.Chosen.{Choice}
 use Rattle.gv_model.specs.Chosen.Choice.{is, no_common_type, ambiguous}
 use Rattle.gv_model.specs.LeastTypes.{choice}
 use Rattle.gv_model.specs.Literals.{ValueFault}
@@ -28,7 +27,7 @@ use Rattle.gv_model.proofs.RoundTrip.{round_trip}
 use Rattle.gv_model.proofs.TokenLaws.{lexed_right, one_lexing}
 use Rattle.gv_model.proofs.GrammarLaws.{read_of, no_fault}
 use Rattle.gv_model.proofs.FaultlessTokens.{whole}
-use Rattle.gv_model.proofs.PatternLaws.{choice_right}
+use Rattle.gv_model.proofs.PatternLaws.{admits_chosen, choice_right}
 use Rattle.gv_model.proofs.TypeOrder.{one_choice}
 use Rattle.dconf_model.specs.Causes.{SettingsCause}
 use Rattle.dconf_model.specs.Causes.SettingsCause.{text_fault, value_fault}
@@ -56,9 +55,6 @@ pub last_is : (choose : Syntax → Choice) (xs : List Syntax) (c : Choice) (t : 
 last_is choose [] c t e = (e, refl)
 last_is choose (x ∷ xs) c t e = after_one choose x xs c t e (last_is choose xs c t)
 
-pub admitted : (x : Syntax) (t : Ty) → choice x ≡ is t → Admits x t
-admitted x t e = (subst (Chooses x) e (choice_right x)).among.admits
-
 -- ---- from syntax to a value
 
 by_type : (s : List ℕ) (x : Syntax) → IsTree s x → (t : Ty) → type_of_syntax x ≡ is t → (r : Result Tree ValueFault) → within_depth (literal_value choice x t) ≡ r → IsMeaning s (or_value_fault r)
@@ -76,7 +72,7 @@ by_type s x tree t e r same = go r same
       choose = choice;
       chosen = choice_right;
       fits = λ a. rw ends.1 (sym same);
-      unfit = λ not_admitted. absurd (not_admitted (admitted x t ends.0));
+      unfit = λ not_admitted. absurd (not_admitted (admits_chosen x t ends.0));
     }
 
     go : (r : Result Tree ValueFault) → within_depth (literal_value choice x t) ≡ r → IsMeaning s (or_value_fault r)
@@ -128,7 +124,7 @@ unfolding value_of type_of_syntax
 of_value x t r c h =
     let typed : type_of_syntax x ≡ is t = sym (of_choice x (is t) c) in
     let ends = last_is choice (contents x) (choice x) t typed in
-    let fits = h.fits (admitted x t ends.0) in
+    let fits = h.fits (admits_chosen x t ends.0) in
     rw typed (sym (fits ∙ ap (λ f. chosen_or (λ u. within_depth (literal_value f x t)) (first_choice f (contents x) (is t))) (same_choice h.choose h.chosen)
     ∙ ap (chosen_or (λ u. within_depth (literal_value choice x t))) ends.1))
 

@@ -28,7 +28,8 @@ use Rattle.gv_model.specs.TextValues.{literal_value, at_maybes, at_basic, at_arr
 use Rattle.gv_model.specs.LeastTypes.{choice}
 use Rattle.gv_model.proofs.PatternLaws.{choice_right}
 use Rattle.dconf_model.specs.Stores.{IsLimitedValue}
-use Rattle.dconf_model.proofs.ValueLaws.{last_is, admitted}
+use Rattle.gv_model.proofs.PatternLaws.{admits_chosen}
+use Rattle.dconf_model.proofs.ValueLaws.{last_is}
 
 abbrev Good : Result Tree ValueFault → Ty → Type 0
 Good (Ok v) t = (type_of v ≡ t) × IsValue v
@@ -311,7 +312,7 @@ good_is_whole x v h fits g = go (type_of_syntax x) refl g
     go : (c : Choice) → type_of_syntax x ≡ c → Gives (chosen_or (λ t. within_depth (literal_value choice x t)) c) v → IsLimitedValue v
     go (is t) same g =
         let ends = last_is choice (contents x) (choice x) t same in
-        let good = within_good t (literal_value choice x t) v (value_good choice choice_right x t (admitted x t ends.0) h) g in
+        let good = within_good t (literal_value choice x t) v (value_good choice choice_right x t (admits_chosen x t ends.0) h) g in
         (good.1, subst IsWithinLimits (sym good.0) (fits t ends.0))
     go no_common_type same g = absurd (no_value no_common v g)
     go ambiguous same g = absurd (no_value not_clear v g)

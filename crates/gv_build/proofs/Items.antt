@@ -3,9 +3,7 @@ use Rattle.std.proofs.Common.{ℕ, zero, suc, ◌+◌, ◌<◌, ◌≤◌, ◌�
 use Rattle.std.proofs.Math.ListN.{get_or}
 use Rattle.std.proofs.lemmas.List.{drop_more}
 use Rattle.gv_model.specs.Tree.{Tree, Trees, nodes, nodes_of}
-use Rattle.gv_model.specs.Tree.Tree.{node}
 use Rattle.gv_model.specs.Tree.Trees.{none, first}
-use Rattle.gv_model.specs.Ty.{Ty}
 use Rattle.gv_model.specs.Parts.{Part}
 use Rattle.gv_model.proofs.RoundTrip.{parts_none, parts_first}
 use Rattle.gv_tree.specs.Nodes.{trees_of}
@@ -38,10 +36,6 @@ some_left [] last = (own_part last, parts_of [], parts_first last none)
 some_left (v ∷ vs) last = (own_part v, parts_of (vs ++ last ∷ []), parts_first v (trees_of (vs ++ last ∷ [])))
 
 -- sizes
-
-pub nodes_node : (t : Ty) (vs : Trees) → nodes (node t vs) ≡ suc (nodes_of vs)
-unfolding nodes
-nodes_node t vs = refl
 
 nodes_none : nodes_of none ≡ 0
 unfolding nodes

@@ -21,7 +21,8 @@ use Rattle.gv_infer.specs.declared.value_fault.ValueFault.TheVariants as faults
 use Rattle.gv_infer.specs.declared.fault.TypingFault.{TypingFault}
 use Rattle.gv_infer.proofs.ContentLaws.{typed_whole, fault_inside}
 use Rattle.gv_infer.proofs.ValueLaws.{built_value, deep_fault, literal_fault}
-use Rattle.gv_infer.proofs.TypedContents.{built_typed, admits_chosen}
+use Rattle.gv_infer.proofs.TypedContents.{built_typed}
+use Rattle.gv_model.proofs.PatternLaws.{admits_chosen}
 use Rattle.gv_infer.proofs.MadeTrees.{fault_as}
 
 -- the fault of a step is that of the whole

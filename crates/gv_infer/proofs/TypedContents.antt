@@ -9,13 +9,11 @@ use Rattle.gv_model.specs.Syntax.{Syntax, Syntaxes, Pairs}
 use Rattle.gv_model.specs.Syntax.Syntax.{truth, integer, quoted, bytes, list, tuple_of, dictionary, lone, boxed, just, nothing, at_type, keyword}
 use Rattle.gv_model.specs.Syntax.Syntaxes.{none, first}
 use Rattle.gv_model.specs.Syntax.Pairs.{no_pair, pair}
-use Rattle.gv_model.specs.Admits.{Admits}
-use Rattle.gv_model.specs.Chosen.{Choice, Chooses}
+use Rattle.gv_model.specs.Chosen.{Choice}
 use Rattle.gv_model.specs.Chosen.Choice.{is, no_common_type, ambiguous}
 use Rattle.gv_model.specs.LeastTypes.{choice}
 use Rattle.gv_model.specs.Literals.{ValueFault as TheFault}
 use Rattle.gv_model.specs.TextValues.{with_first, in_node, only_one, at_maybes, at_array, at_variant, at_tuple, at_entry, at_maybe, chosen_or, literal_value, elements, members_of, entries, contents, all_contents, pairs_contents}
-use Rattle.gv_model.proofs.PatternLaws.{choice_right}
 use Rattle.gv_infer.specs.Typings.{AreTyped}
 use Rattle.gv_infer.specs.Building.{IsBuilt}
 use Rattle.gv_infer.proofs.ContentLaws.{none_typed, typed_append, typed_one}
@@ -126,7 +124,3 @@ mutual
 
 pub built_typed : (x : Syntax) (t : Ty) (built : Option Tree) → IsBuilt (literal_value choice x t) (Ok built) → AreTyped (contents x)
 built_typed x t built h = given_typed x t (subst Gives (sym h.1) tt)
-
--- syntax admits the type that is chosen for it
-pub admits_chosen : (x : Syntax) (t : Ty) → choice x ≡ is t → Admits x t
-admits_chosen x t e = (subst (Chooses x) e (choice_right x)).among.admits

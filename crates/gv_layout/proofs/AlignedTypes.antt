@@ -4,13 +4,13 @@ use Rattle.std.specs.Prelude.{nat_le}
 use Rattle.std.specs.List.{list_any}
 use Rattle.std.proofs.lemmas.List.Folds.{list_any-append}
 use Rattle.std.proofs.lemmas.Bool.Decides.{nat_tests}
+use Rattle.std.proofs.Math.Bool.{or-false}
 use Rattle.gv_model.specs.Ty.{Ty, Types, Basic, letter, spelling, spellings}
 use Rattle.gv_model.specs.Ty.Ty.{basic, variant, array, maybe, tuple, entry}
 use Rattle.gv_model.specs.Ty.Types.{end, member}
 use Rattle.gv_model.specs.Ty.Basic.{boolean, byte, int16, uint16, int32, uint32, int64, uint64, handle, double, string, path, signature}
 use Rattle.gv_model.specs.Layout.{alignment, greatest_alignment, basic_size, or_one}
 use Rattle.gv_layout.specs.AlignedLetters.{letter_alignment, is_aligned_letter}
-use Rattle.gv_layout.proofs.OpenTypes.{or_nothing}
 
 of_letter : (k : Basic) → letter_alignment (letter k) ≡ or_one (basic_size k)
 of_letter boolean = refl
@@ -37,7 +37,7 @@ of_greater n a b = grind (arith, nat_tests)
 unaligned : (n : ℕ) (xs : List ℕ) (c : ℕ) → 2 ≤ n → letter_alignment c ≡ 1 → list_any (is_aligned_letter n) (xs ++ c ∷ []) ≡ list_any (is_aligned_letter n) xs
 unaligned n xs c h e =
     list_any-append (is_aligned_letter n) xs (c ∷ [])
-    ∙ (ap (λ b. list_any (is_aligned_letter n) xs || (b || false)) (ap (nat_le n) e ∙ not_one n h) ∙ or_nothing (list_any (is_aligned_letter n) xs))
+    ∙ (ap (λ b. list_any (is_aligned_letter n) xs || (b || false)) (ap (nat_le n) e ∙ not_one n h) ∙ or-false (list_any (is_aligned_letter n) xs))
 
 -- and one in front
 after_unaligned : (n : ℕ) (xs : List ℕ) (c : ℕ) → 2 ≤ n → letter_alignment c ≡ 1 → list_any (is_aligned_letter n) (c ∷ xs) ≡ list_any (is_aligned_letter n) xs
@@ -47,8 +47,8 @@ mutual
   unfolding spelling spellings alignment greatest_alignment
 
   pub aligned_type : (n : ℕ) → 2 ≤ n → (t : Ty) → list_any (is_aligned_letter n) (spelling t) ≡ nat_le n (alignment t)
-  aligned_type n h (basic k) = or_nothing (is_aligned_letter n (letter k)) ∙ ap (nat_le n) (of_letter k)
-  aligned_type n h variant = or_nothing (nat_le n 8)
+  aligned_type n h (basic k) = or-false (is_aligned_letter n (letter k)) ∙ ap (nat_le n) (of_letter k)
+  aligned_type n h variant = or-false (nat_le n 8)
   aligned_type n h (array t) = after_unaligned n (spelling t) 97 h refl ∙ aligned_type n h t
   aligned_type n h (maybe t) = after_unaligned n (spelling t) 109 h refl ∙ aligned_type n h t
   aligned_type n h (tuple ts) = after_unaligned n (spellings ts ++ 41 ∷ []) 40 h refl ∙ (unaligned n (spellings ts) 41 h refl ∙ aligned_types n h ts)

@@ -1,8 +1,9 @@
 -- A type has no fixed size exactly where a letter of its text is one of a type without one.
-use Rattle.std.proofs.Common.{◌≡◌, ℕ, ◌+◌, Bool, true, false, ◌||◌, List, [], ◌∷◌, ◌++◌, max, Option, Some, None, refl, sym, ap, ◌∙◌}
+use Rattle.std.proofs.Common.{◌≡◌, ℕ, ◌+◌, true, false, ◌||◌, List, [], ◌∷◌, ◌++◌, max, Option, Some, None, refl, sym, ap, ◌∙◌}
 use Rattle.std.specs.Prelude.{is_none, option_and_then, option_map}
 use Rattle.std.specs.List.{list_any}
 use Rattle.std.proofs.lemmas.List.Folds.{list_any-append}
+use Rattle.std.proofs.Math.Bool.{or-false}
 use Rattle.gv_model.specs.Ty.{Ty, Types, Basic, letter, spelling, spellings}
 use Rattle.gv_model.specs.Ty.Ty.{basic, variant, array, maybe, tuple, entry}
 use Rattle.gv_model.specs.Ty.Types.{end, member}
@@ -25,13 +26,9 @@ open_basic string = refl
 open_basic path = refl
 open_basic signature = refl
 
-pub or_nothing : (b : Bool) → (b || false) ≡ b
-or_nothing true = refl
-or_nothing false = refl
-
 -- a letter behind, which is none of those
 closed : (xs : List ℕ) (c : ℕ) → is_open_letter c ≡ false → list_any is_open_letter (xs ++ c ∷ []) ≡ list_any is_open_letter xs
-closed xs c h = list_any-append is_open_letter xs (c ∷ []) ∙ (ap (λ b. list_any is_open_letter xs || (b || false)) h ∙ or_nothing (list_any is_open_letter xs))
+closed xs c h = list_any-append is_open_letter xs (c ∷ []) ∙ (ap (λ b. list_any is_open_letter xs || (b || false)) h ∙ or-false (list_any is_open_letter xs))
 
 none_padded : (a : ℕ) (o : Option ℕ) → is_none (padded a o) ≡ is_none o
 none_padded a None = refl
@@ -52,7 +49,7 @@ mutual
   unfolding spelling spellings fixed_size fixed_end
 
   pub open_type : (t : Ty) → list_any is_open_letter (spelling t) ≡ is_none (fixed_size t)
-  open_type (basic k) = or_nothing (is_open_letter (letter k)) ∙ open_basic k
+  open_type (basic k) = or-false (is_open_letter (letter k)) ∙ open_basic k
   open_type variant = refl
   open_type (array t) = refl
   open_type (maybe t) = refl

@@ -50,7 +50,7 @@ padded_pos a (Some p) n e = let same : max 1 (round_up a p) ≡ n = same_Some _ 
 size_pos : (m n : ℕ) → 0 < m → Some m ≡ Some n → 0 < n
 size_pos m n h e = let same : m ≡ n = same_Some _ _ e in omega arith
 
-basic_size_pos : (k : Basic) (n : ℕ) → basic_size k ≡ Some n → 0 < n
+pub basic_size_pos : (k : Basic) (n : ℕ) → basic_size k ≡ Some n → 0 < n
 basic_size_pos boolean n e = size_pos 1 n (omega arith) e
 basic_size_pos byte n e = size_pos 1 n (omega arith) e
 basic_size_pos int16 n e = size_pos 2 n (omega arith) e

@@ -251,3 +251,7 @@ chosen_from x (many t) h = go (nat_le (nesting t) 128) refl
 pub choice_right : (x : Syntax) → Chooses x (choice x)
 unfolding choice
 choice_right x = chosen_from x (least_in (pattern x)) (least_right (pattern x))
+
+-- syntax admits the type that is chosen for it
+pub admits_chosen : (x : Syntax) (t : Ty) → choice x ≡ is t → Admits x t
+admits_chosen x t e = (subst (Chooses x) e (choice_right x)).among.admits

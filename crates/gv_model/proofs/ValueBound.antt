@@ -21,15 +21,12 @@ use Rattle.gv_model.specs.Maybes.{just_span}
 use Rattle.gv_model.specs.Tuples.{offset_count, members_end, member_spans, empty_spans, tuple_spans, is_other_size, end_of, span, next_offset}
 use Rattle.gv_model.specs.Variants.{variant_span, typed_span, at_last_zero}
 use Rattle.gv_model.specs.Decode.{decode, each, cut, spans, body}
+use Rattle.gv_model.specs.Laws.{most_values as bound}
 use Rattle.gv_model.proofs.TypeTextSound.{spelling_of_read}
 use Rattle.gv_model.proofs.DecodeLaws.{length-bytes_of-le, at_last_zero_parts, decode_children, Each, each_weaker, container_less, IsLess, weight, child_value}
 use Rattle.gv_model.proofs.EmptyLaws.{decode-unit, span_types, types-ordered, types-tuple}
 use Rattle.gv_model.proofs.NumberBytes.{le-round_up}
 use Rattle.gv_model.proofs.LayoutLaws.{alignment_pos}
-
--- the bound for n bytes at a type of t bytes
-abbrev pub bound : ℕ → ℕ → ℕ
-bound n t = (n + 1) * (n + 2 * t)
 
 pub bound_grows : (m n t : ℕ) → m ≤ n → bound m t ≤ bound n t
 bound_grows m n t h = let both : m + 2 * t ≤ n + 2 * t = omega arith in let one : m + 1 ≤ n + 1 = omega arith in mul-le-mul one both
@@ -217,7 +214,7 @@ unfolding nodes spelling
 small_sum b n [] h = omega arith
 small_sum b n (x ∷ xs) h = omega (arith, h.0 (child_bytes b (child_at n x)), small_sum b n xs h.1, length-append (spelling x.0) (spellings (span_types xs)))
 
-node_nodes : (t : Ty) (vs : Trees) → nodes (node t vs) ≡ suc (nodes_of vs)
+pub node_nodes : (t : Ty) (vs : Trees) → nodes (node t vs) ≡ suc (nodes_of vs)
 unfolding nodes
 node_nodes t vs = refl
 
@@ -338,7 +335,7 @@ unfolding offset_spans
 length-offset_spans t p [] = refl
 length-offset_spans t p (e ∷ ends) = ap suc (length-offset_spans t e ends)
 
-length-numbers : (w count : ℕ) (b : List ℕ) → length (numbers_in w count b) ≡ count
+pub length-numbers : (w count : ℕ) (b : List ℕ) → length (numbers_in w count b) ≡ count
 unfolding numbers_in
 length-numbers w zero b = refl
 length-numbers w (suc count) b = ap suc (length-numbers w count (drop w b))
@@ -484,7 +481,7 @@ type_just t n None = go (n == 0)
     go true = tt
     go false = (refl, tt)
 
-length_just : (t : Ty) (n : ℕ) (f : Option ℕ) → length (just_span t n f) ≤ 1
+pub length_just : (t : Ty) (n : ℕ) (f : Option ℕ) → length (just_span t n f) ≤ 1
 length_just t n (Some s) = length_spans_if (n == s) ((t, Some (0, n)) ∷ [])
 length_just t n None = go (n == 0)
   where
@@ -545,11 +542,11 @@ spelled_variant : length (spelling variant) ≡ 1
 unfolding spelling
 spelled_variant = refl
 
-spelled_array : (t : Ty) → length (spelling (array t)) ≡ suc (length (spelling t))
+pub spelled_array : (t : Ty) → length (spelling (array t)) ≡ suc (length (spelling t))
 unfolding spelling
 spelled_array t = refl
 
-spelled_maybe : (t : Ty) → length (spelling (maybe t)) ≡ suc (length (spelling t))
+pub spelled_maybe : (t : Ty) → length (spelling (maybe t)) ≡ suc (length (spelling t))
 unfolding spelling
 spelled_maybe t = refl
 

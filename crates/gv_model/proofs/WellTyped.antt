@@ -227,10 +227,10 @@ held_apart f (maybe t) b h g = just_held f t (length b) (fixed_size t) g
 held_apart f (tuple ts) b h g = types_of_each f (length b) (tuple_spans (tuple ts) ts b) g ∙ types-tuple (tuple ts) ts b
 held_apart f (entry k t) b h g = types_of_each f (length b) (tuple_spans (entry k t) (member (basic k) (member t end)) b) g ∙ types-tuple (entry k t) (member (basic k) (member t end)) b
 
-same_member : (t u : Ty) (ts us : Types) → member t ts ≡ member u us → t ≡ u
+pub same_member : (t u : Ty) (ts us : Types) → member t ts ≡ member u us → t ≡ u
 same_member t u ts us e = cc
 
-same_members : (t u : Ty) (ts us : Types) → member t ts ≡ member u us → ts ≡ us
+pub same_members : (t u : Ty) (ts us : Types) → member t ts ≡ member u us → ts ≡ us
 same_members t u ts us e = cc
 
 all_by_types : (t : Ty) (us vs : Trees) → types_of us ≡ types_of vs → AllOf t us → AllOf t vs

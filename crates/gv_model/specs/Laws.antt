@@ -76,9 +76,13 @@ abbrev pub ContainerIsPacked : Type 0
 ContainerIsPacked = (t : Ty) (b : List ℕ) → AllByRecursion (λ x. x < 256) b → IsContainer t
     → IsEncoded t b ↔ (AllByRecursion IsPartEncoded (parts t b) × (b ≡ packed t (parts t b)))
 
+-- how many values n bytes have at the most at a type of t bytes
+abbrev pub most_values : ℕ → ℕ → ℕ
+most_values n t = (n + 1) * (n + 2 * t)
+
 -- n bytes at a type whose text has t bytes have at most (n + 1)(n + 2t) values in them
 abbrev pub HasFewValues : Type 0
-HasFewValues = (t : Ty) (b : List ℕ) → nodes (decode t b) ≤ (length b + 1) * (length b + 2 * length (spelling t))
+HasFewValues = (t : Ty) (b : List ℕ) → nodes (decode t b) ≤ most_values (length b) (length (spelling t))
 
 -- the same bytes are normal as before
 abbrev pub AsNormalAsEarlier : Type 0

@@ -1,5 +1,5 @@
 -- Basic bytes that are written so.
-use Rattle.std.proofs.Common.{ℕ, suc, ◌<◌, ◌≤◌, ◌≡◌, ◌≢◌, ◌↔◌, ◌+◌, ◌*◌, Bool, true, false, cond, ◌==◌, List, [], ◌∷◌, ◌++◌, length, Option, Some, None, refl, sym, ap, ap₂, ◌∙◌, subst, arith, eq-eqb, eqb-true, IsTrue, nat_le, get_or, le-leb}
+use Rattle.std.proofs.Common.{ℕ, suc, ◌≤◌, ◌≡◌, ◌≢◌, ◌↔◌, ◌+◌, ◌*◌, Bool, true, false, cond, ◌==◌, List, [], ◌∷◌, ◌++◌, length, Option, Some, None, refl, sym, ap, ap₂, ◌∙◌, subst, arith, eqb-true, IsTrue, nat_le, get_or, le-leb}
 use Rattle.std.specs.Prelude.{option_map, option_and_then}
 use Rattle.std.proofs.lemmas.Option.{none-some, same_Some, cond_some}
 use Rattle.std.specs.Str.{is_utf8}
@@ -17,12 +17,14 @@ use Rattle.gv_model.specs.Encode.{encode, number_bytes}
 use Rattle.gv_model.specs.Normal.{IsEncoded}
 use Rattle.gv_model.proofs.DecodeLaws.{decode_children}
 use Rattle.gv_model.proofs.WellTyped.{IsBytes}
+use Rattle.gv_model.proofs.EmptyLaws.{basic_size_pos}
 use Rattle.gv_view.specs.Texts.{utf8_of, utf8_in}
 use Rattle.gv_types.specs.Classes.{basic_of, basic_type}
 use Rattle.gv_types.specs.declared.class.BasicType.{BasicType}
 use Rattle.gv_types.specs.declared.class.BasicType.TheVariants as basics
-use Rattle.gv_view.proofs.TextLemmas.{found_is_utf8}
+use Rattle.gv_view.proofs.TextLemmas.{found_is_utf8, allowed}
 use Rattle.gv_view.proofs.AsciiTexts.{ascii_is_utf8, path_is_utf8, signature_is_utf8}
+use Rattle.gv_view.proofs.Numbers.{whole_number}
 use Rattle.gv_normal.specs.InPlace.{IsNormalWithin}
 use Rattle.gv_normal.proofs.Pieces.{number_back}
 
@@ -54,35 +56,16 @@ basic_within d k b = (λ h. h.written, λ h. record { written = h; shallow = ome
 
 -- ---- numbers
 
-number_read : (k : Basic) (b : List ℕ) (n : ℕ) → basic_size k ≡ Some n → length b ≡ n → decode (basic k) b ≡ number k (bits_of k (number_in b))
-unfolding basic_value
-number_read k b n e h = let same : (length b == n) ≡ true = eq-eqb (length b) n h in decode_children (basic k) b ∙ (ap (basic_of_size k b) e ∙ rw same refl)
-
 number_encoded : (k : Basic) (n m : ℕ) → basic_size k ≡ Some n → encode (number k m) ≡ number_bytes n m
 unfolding encode
 number_encoded k n m e = ap (λ (f : Option ℕ). number_bytes (or_one f) m) e
 
 encoded_number : (k : Basic) (b : List ℕ) (n : ℕ) → basic_size k ≡ Some n → length b ≡ n → encode (decode (basic k) b) ≡ number_bytes n (bits_of k (number_in b))
-encoded_number k b n e h = ap encode (number_read k b n e h) ∙ number_encoded k n (bits_of k (number_in b)) e
-
-size_pos : (k : Basic) (n : ℕ) → basic_size k ≡ Some n → 0 < n
-size_pos boolean n e = omega (arith, same_Some 1 n e)
-size_pos byte n e = omega (arith, same_Some 1 n e)
-size_pos int16 n e = omega (arith, same_Some 2 n e)
-size_pos uint16 n e = omega (arith, same_Some 2 n e)
-size_pos int32 n e = omega (arith, same_Some 4 n e)
-size_pos uint32 n e = omega (arith, same_Some 4 n e)
-size_pos handle n e = omega (arith, same_Some 4 n e)
-size_pos int64 n e = omega (arith, same_Some 8 n e)
-size_pos uint64 n e = omega (arith, same_Some 8 n e)
-size_pos double n e = omega (arith, same_Some 8 n e)
-size_pos string n e = absurd (none-some n e)
-size_pos path n e = absurd (none-some n e)
-size_pos signature n e = absurd (none-some n e)
+encoded_number k b n e h = ap encode (whole_number k b n e h) ∙ number_encoded k n (bits_of k (number_in b)) e
 
 -- all bytes of a number are as they are written, but for a boolean's
 pub number_normal : (k : Basic) (b : List ℕ) (n : ℕ) → IsBytes b → basic_size k ≡ Some n → length b ≡ n → bits_of k (number_in b) ≡ number_in b → IsEncoded (basic k) b
-number_normal k b n bytes e h same = sym (encoded_number k b n e h ∙ (ap (number_bytes n) same ∙ number_back n b (size_pos k n e) h bytes))
+number_normal k b n bytes e h same = sym (encoded_number k b n e h ∙ (ap (number_bytes n) same ∙ number_back n b (basic_size_pos k n e) h bytes))
 
 pub other_bits : (k : Basic) → k ≢ boolean → (n : ℕ) → bits_of k n ≡ n
 other_bits boolean h n = absurd (h refl)
@@ -136,9 +119,6 @@ text_bytes (c ∷ d ∷ cs) s h = go (c == 0) h (text_bytes (d ∷ cs))
 text_read : (k : Basic) (b : List ℕ) → basic_size k ≡ None → decode (basic k) b ≡ text_or_default k (text_in b)
 unfolding basic_value
 text_read k b e = decode_children (basic k) b ∙ ap (basic_of_size k b) e
-
-allowed : (k : Basic) (s : List ℕ) → is_text k s ≡ true → text_or_default k (Some s) ≡ text k s
-allowed k s e = rw e refl
 
 text_written : (k : Basic) (s : List ℕ) → encode (text k s) ≡ s ++ 0 ∷ []
 unfolding encode

@@ -3,7 +3,8 @@ use Rattle.std.proofs.Common.{ℕ, suc, ◌+◌, ◌<◌, ◌≤◌, ◌≡◌, 
 use Rattle.std.specs.Prelude.{option_map, option_and_then}
 use Rattle.std.proofs.lemmas.List.{take_at, drop_at}
 use Rattle.gv_model.proofs.ListLaws.{same_head}
-use Rattle.gv_model.proofs.ValueBound.{bound, variant_total}
+use Rattle.gv_model.specs.Laws.{most_values as bound}
+use Rattle.gv_model.proofs.ValueBound.{variant_total}
 use Rattle.std.proofs.lemmas.Option.{none-some, same_Some, option_and_then_some}
 use Rattle.gv_model.specs.Ty.{Ty, spelling}
 use Rattle.gv_model.specs.Ty.Ty.{variant, maybe}

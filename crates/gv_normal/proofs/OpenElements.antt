@@ -16,10 +16,11 @@ use Rattle.gv_model.proofs.PlacedParts.{OneType, length-body_from}
 use Rattle.gv_model.proofs.FramedArrays.{offsets, last_of, last_end, last_number, numbers_in-offsets, length-offsets, least_width_pos}
 use Rattle.gv_model.proofs.MemberLaws.{offset_width_pos}
 use Rattle.gv_model.proofs.NumberBytes.{offset_width-least}
+use Rattle.gv_model.proofs.ValueBound.{length-numbers}
 use Rattle.gv_normal.specs.InPlace.{IsNormalWithin, LiesBehind}
 use Rattle.gv_normal.specs.Tables.{HasTable, offset_number}
 use Rattle.gv_normal.proofs.PackedParts.{AreNormal, AreOfBytes, normal_of_parts, parts_of_normal, one_type_held, held_one_type}
-use Rattle.gv_normal.proofs.Pieces.{offsets_back, length-numbers, numbers_at, numbers_end, bytes_piece, no_piece}
+use Rattle.gv_normal.proofs.Pieces.{offsets_back, numbers_at, numbers_end, bytes_piece, no_piece}
 use Rattle.gv_normal.proofs.PartSteps.{joined_there, ends_there, written_behind}
 
 -- elements with these ends fill what is left of a body from p on, and are normal
@@ -65,7 +66,7 @@ elements_there d t body front p (x ∷ xs) h g k whole =
 
 -- ---- the table
 
-framed_is : (body es : List ℕ) → framed body es ≡ body ++ offsets (least_width (length body) (length es)) es
+pub framed_is : (body es : List ℕ) → framed body es ≡ body ++ offsets (least_width (length body) (length es)) es
 unfolding framed
 framed_is body es = refl
 

@@ -25,6 +25,7 @@ use Rattle.gv_normal.proofs.PackedParts.{AreNormal, AreOfBytes, normal_of_parts,
 use Rattle.gv_normal.proofs.Pieces.{bytes_piece, no_piece, front_and_back, length-piece, number_back}
 use Rattle.gv_normal.proofs.PartSteps.{IsWrittenBehind, joined_there, ends_there, written_behind}
 use Rattle.gv_normal.proofs.FixedMembers.{packed_members, held_members, members_held, with_members}
+use Rattle.gv_normal.proofs.OpenElements.{framed_is}
 
 abbrev pub is_end : Types → Bool
 is_end end = true
@@ -268,10 +269,6 @@ open_there d b front after w q p (x ∷ xs) g h k room whole wide narrow =
         regroup f z x r = simp append_assoc
 
 -- ---- the whole
-
-framed_is : (body es : List ℕ) → framed body es ≡ body ++ offsets (least_width (length body) (length es)) es
-unfolding framed
-framed_is body es = refl
 
 -- without offsets their width doesn't matter
 same_offsets : (v w : ℕ) (xs : List ℕ) → (0 < length xs → v ≡ w) → offsets v xs ≡ offsets w xs

@@ -54,11 +54,6 @@ offsets_back w (suc count) c h g k =
     (offsets_back w count (drop w c) h (omega (arith, g, length-drop w c)) (bytes_drop w c k))
     ∙ take-append-drop w c
 
-pub length-numbers : (w count : ℕ) (b : List ℕ) → length (numbers_in w count b) ≡ count
-unfolding numbers_in
-length-numbers w zero b = refl
-length-numbers w (suc count) b = ap suc (length-numbers w count (drop w b))
-
 pub numbers_at : (w count : ℕ) (c : List ℕ) (i : ℕ) → i < count → drop i (numbers_in w count c) ≡ number_in (take w (drop (i * w) c)) ∷ drop (suc i) (numbers_in w count c)
 unfolding numbers_in
 numbers_at w zero c i h = absurd (omega arith)

@@ -1,11 +1,12 @@
 -- How many values a walk along a container has looked at.
-use Rattle.std.proofs.Common.{ℕ, suc, ◌+◌, ◌-◌, ◌*◌, ◌≤◌, ◌≡◌, List, [], ◌∷◌, length, Option, Some, None, refl, sym, ap, ◌∙◌, arith, length-append, mul-le-mul}
+use Rattle.std.proofs.Common.{ℕ, suc, ◌+◌, ◌-◌, ◌*◌, ◌≤◌, ◌≡◌, List, [], ◌∷◌, length, Option, Some, None, sym, ap, ◌∙◌, arith, length-append, mul-le-mul}
 use Rattle.std.specs.Prelude.{option_map}
 use Rattle.std.proofs.lemmas.Option.{none-some, same_Some}
 use Rattle.gv_types.specs.TypeStr.{element_of}
 use Rattle.gv_model.specs.Ty.{Ty, spelling, spellings, members, types_from}
 use Rattle.gv_model.specs.Ty.Ty.{basic, variant, array, maybe, tuple, entry}
-use Rattle.gv_model.proofs.ValueBound.{bound, array_step, array_total, tuple_step, tuple_total}
+use Rattle.gv_model.specs.Laws.{most_values as bound}
+use Rattle.gv_model.proofs.ValueBound.{array_step, array_total, tuple_step, tuple_total, spelled_array, spelled_maybe}
 use Rattle.gv_normal.specs.InPlace.{HasMembers}
 
 -- i elements of t bytes of type text in the first p bytes
@@ -77,14 +78,6 @@ bound_more n s t h = let more : n + 2 * s ≤ n + 2 * t = omega arith in let sam
 pub some_values : (n t : ℕ) → 1 ≤ t → 2 ≤ bound n t
 some_values n t h = omega (arith, bound_more n 1 t h)
 
-array_spelled : (t : Ty) → length (spelling (array t)) ≡ suc (length (spelling t))
-unfolding spelling
-array_spelled t = refl
-
-maybe_spelled : (t : Ty) → length (spelling (maybe t)) ≡ suc (length (spelling t))
-unfolding spelling
-maybe_spelled t = refl
-
 pub spelled_over : {X : Type 0} (f : X → Ty) (t : Ty) (o : Option X) (x : X) → option_map f o ≡ element_of t → o ≡ Some x → length (spelling t) ≡ suc (length (spelling (f x)))
 spelled_over f t None x e h = absurd (none-some x h)
 spelled_over f t (Some y) x e h = over t (f x) (sym e ∙ ap (λ z. Some (f z)) (same_Some y x h))
@@ -93,8 +86,8 @@ spelled_over f t (Some y) x e h = over t (f x) (sym e ∙ ap (λ z. Some (f z)) 
     same u v e = ap (λ (w : Ty). suc (length (spelling w))) (same_Some u v e)
 
     over : (t u : Ty) → element_of t ≡ Some u → length (spelling t) ≡ suc (length (spelling u))
-    over (array v) u e = array_spelled v ∙ same v u e
-    over (maybe v) u e = maybe_spelled v ∙ same v u e
+    over (array v) u e = spelled_array v ∙ same v u e
+    over (maybe v) u e = spelled_maybe v ∙ same v u e
     over (basic k) u e = absurd (none-some u e)
     over variant u e = absurd (none-some u e)
     over (tuple ts) u e = absurd (none-some u e)

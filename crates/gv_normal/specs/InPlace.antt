@@ -1,5 +1,5 @@
 -- What a test in place finds out of bytes, and how many values it looks at.
-use Rattle.std.specs.Prelude.{◌≡◌, ◌≤◌, ℕ, ◌+◌, ◌-◌, ◌*◌, List, length, slice_range, All}
+use Rattle.std.specs.Prelude.{◌≡◌, ◌≤◌, ℕ, ◌-◌, List, length, slice_range, All}
 use Rattle.gv_model.specs.Ty.{Ty, Basic}
 use Rattle.gv_model.specs.Ty.Ty.{tuple, entry}
 use Rattle.gv_model.specs.Ty.Basic.{boolean}
@@ -12,10 +12,6 @@ use Rattle.gv_model.specs.Normal.{IsEncoded}
 pub record IsNormalWithin (d : ℕ) (t : Ty) (b : List ℕ) : Type 0 where
   pub written : IsEncoded t b
   pub shallow : depth (decode t b) ≤ d
-
--- how many values n bytes have at most at a type of t bytes
-abbrev pub most_values : ℕ → ℕ → ℕ
-most_values n t = (n + 1) * (n + 2 * t)
 
 -- a part lies from s to e in a body, and the bytes before it, from p on, are zero
 pub record LiesBehind (body : List ℕ) (p s e : ℕ) : Type 0 where

@@ -6,7 +6,8 @@ ghost use Rattle.gv_model.specs.Layout.{alignment, fixed_size};
 ghost use Rattle.gv_model.specs.Arrays.{elements_end};
 ghost use Rattle.gv_types.specs.Classes.{basic_of};
 ghost use Rattle.gv_types.specs.TypeStr.{ty};
-ghost use Rattle.gv_normal.specs.InPlace.{IsNormalWithin, AreNormalNumbers, most_values};
+ghost use Rattle.gv_normal.specs.InPlace.{IsNormalWithin, AreNormalNumbers};
+ghost use Rattle.gv_model.specs.Laws.{most_values};
 ghost use Rattle.gv_normal.specs.Tables.{HasTable};
 
 use crate::fixed::is_normal_fixed;

@@ -6,7 +6,8 @@ ghost use Rattle.gv_model.specs.Layout.{fixed_size};
 ghost use Rattle.gv_model.specs.Normal.{IsNormal};
 ghost use Rattle.gv_types.specs.TypeStr.{ty};
 ghost use Rattle.gv_view.specs.Views.{view_ty, view_bytes};
-ghost use Rattle.gv_normal.specs.InPlace.{IsNormalWithin, most_values};
+ghost use Rattle.gv_normal.specs.InPlace.{IsNormalWithin};
+ghost use Rattle.gv_model.specs.Laws.{most_values};
 
 use crate::array::is_normal_array;
 use crate::basic::is_normal_text;

@@ -3,7 +3,8 @@
 ghost use Rattle.std.specs.Prelude.{◌≡◌, ◌≤◌, ◌<◌, ◌+◌, ◌^◌, ◌↔◌, suc, IsTrue, length};
 ghost use Rattle.gv_model.specs.Ty.{spelling, Ty.maybe};
 ghost use Rattle.gv_types.specs.TypeStr.{ty};
-ghost use Rattle.gv_normal.specs.InPlace.{IsNormalWithin, most_values};
+ghost use Rattle.gv_normal.specs.InPlace.{IsNormalWithin};
+ghost use Rattle.gv_model.specs.Laws.{most_values};
 
 use crate::fixed::is_normal_fixed;
 use crate::in_place::is_normal_open;

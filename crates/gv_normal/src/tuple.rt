@@ -4,7 +4,8 @@ ghost use Rattle.std.specs.Prelude.{◌≡◌, ◌≤◌, ◌<◌, ◌+◌, ◌^
 ghost use Rattle.gv_model.specs.Ty.{spelling};
 ghost use Rattle.gv_model.specs.Layout.{fixed_size};
 ghost use Rattle.gv_types.specs.TypeStr.{ty};
-ghost use Rattle.gv_normal.specs.InPlace.{IsNormalWithin, HasMembers, most_values};
+ghost use Rattle.gv_normal.specs.InPlace.{IsNormalWithin, HasMembers};
+ghost use Rattle.gv_model.specs.Laws.{most_values};
 ghost use Rattle.gv_normal.specs.Tables.{member_place};
 
 use crate::fixed::is_normal_fixed;

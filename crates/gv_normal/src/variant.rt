@@ -1,7 +1,8 @@
 //! Variants (GVariant Specification, "Variants"): the child's bytes, a zero byte, and the child's type text.
 ghost use Rattle.std.specs.Prelude.{◌≡◌, ◌≤◌, ◌<◌, ◌+◌, ◌^◌, ◌↔◌, suc, IsTrue, length};
 ghost use Rattle.gv_model.specs.Ty.{Ty.variant};
-ghost use Rattle.gv_normal.specs.InPlace.{IsNormalWithin, most_values};
+ghost use Rattle.gv_normal.specs.InPlace.{IsNormalWithin};
+ghost use Rattle.gv_model.specs.Laws.{most_values};
 
 use crate::in_place::is_normal_within;
 use gv_types::Steps;

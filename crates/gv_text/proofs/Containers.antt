@@ -1,5 +1,5 @@
 -- The value of a container's bytes: a node over the values of its children.
-use Rattle.std.proofs.Common.{◌≡◌, ◌<◌, ◌≤◌, ℕ, List, [], ◌∷◌, length, Option, Some, None, Bool, true, false, cond, ◌==◌, refl, sym, ap, ◌∙◌, arith}
+use Rattle.std.proofs.Common.{◌≡◌, ◌<◌, ◌≤◌, ℕ, List, [], ◌∷◌, length, Option, Some, Bool, true, false, cond, refl, sym, ap, ◌∙◌, arith}
 use Rattle.gv_model.specs.Ty.{Ty}
 use Rattle.gv_model.specs.Ty.Ty.{maybe}
 use Rattle.gv_model.specs.Layout.{fixed_size}
@@ -8,10 +8,9 @@ use Rattle.gv_model.specs.Tree.Tree.{number, text, node}
 use Rattle.gv_model.specs.Tree.Trees.{first}
 use Rattle.gv_model.specs.Children.{Span, children_at, ordered}
 use Rattle.gv_model.specs.Decode.{decode, cut, spans}
-use Rattle.gv_model.specs.Maybes.{just_span}
 use Rattle.gv_model.specs.Printed.{holds_double, hold_double}
 use Rattle.gv_model.proofs.ChildLaws.{children_count}
-use Rattle.gv_model.proofs.ValueBound.{length-ordered}
+use Rattle.gv_model.proofs.ValueBound.{length-ordered, length_just}
 use Rattle.gv_model.proofs.NormalLaws.{decode_node}
 use Rattle.gv_model.specs.Normal.{IsContainer}
 use Rattle.gv_text.specs.declared.printing.PrintFault.{PrintFault}
@@ -63,16 +62,12 @@ few_if : (c : Bool) (xs ys : List (Ty × Span)) → length xs ≤ 1 → length y
 few_if true xs ys h g = h
 few_if false xs ys h g = g
 
-few_just : (t : Ty) (n : ℕ) (size : Option ℕ) → length (just_span t n size) ≤ 1
-few_just t n (Some size) = few_if (n == size) _ _ (omega arith) (omega arith)
-few_just t n None = few_if (n == 0) _ _ (omega arith) (omega arith)
-
 few_ordered : (e : Option ℕ) (n : ℕ) (xs : List (Ty × Span)) → length xs ≤ 1 → length (children_at n (ordered e xs)) ≤ 1
 few_ordered e n xs h = few_map n (ordered e xs) (omega (arith, length-ordered e xs, h))
 
 few_cut : (t : Ty) (b : List ℕ) → length (cut (maybe t) b) ≤ 1
 unfolding cut spans
-few_cut t b = few_ordered (Some (length b)) (length b) (spans (maybe t) b) (few_just t (length b) (fixed_size t))
+few_cut t b = few_ordered (Some (length b)) (length b) (spans (maybe t) b) (length_just t (length b) (fixed_size t))
 
 pub one_or_none : (t : Ty) (b : List ℕ) → trees_len (children (decode (maybe t) b)) ≤ 1
 one_or_none t b = omega (arith, children_count (maybe t) b, few_cut t b)

@@ -8,6 +8,7 @@ use lib.Utf8.{encode as encode_char}
 use Rattle.std.specs.Prelude.{codes, is_ok, IfErr}
 use Rattle.std.specs.Str.{chars}
 use Rattle.std.proofs.lemmas.Bool.{or_left, or_right}
+use Rattle.std.proofs.Math.Bool.{or-false}
 use Rattle.gv_model.specs.Ty.{Ty, Types, Basic}
 use Rattle.gv_model.specs.Ty.Ty.{basic, variant, array, maybe, tuple, entry}
 use Rattle.gv_model.specs.Ty.Types.{end, member}
@@ -30,7 +31,6 @@ use Rattle.gv_types.proofs.Fronts.{HasInside, HasMember, HasPair, inside_end, in
 use Rattle.gv_text.specs.declared.printing.PrintFault.{PrintFault}
 use Rattle.gv_text.specs.declared.printing.PrintFault.TheVariants.{TooLarge, DoubleText, Memory}
 use Rattle.gv_text.specs.Defaults.{default_in, AreFigures, IsEmptied, IsLevelFault, Writes, WritesJoined}
-use Rattle.gv_text.proofs.Maybes.{or_none}
 use Rattle.gv_text.proofs.Containers.{child_deeper, first_deep}
 use Rattle.gv_text.proofs.ContainerTexts.{marked_text}
 use Rattle.gv_text.proofs.ChildTexts.{IsLeft, between_written, left_first, left_next, left_none, one_member, other_members}
@@ -402,7 +402,7 @@ pub record ArePair (w value : List ℕ) (v : Tree) : Type 0 where
 pair_node : (t : Ty) (a b : Tree) → (holds_double (node t (first a (first b none))) ≡ holds_double a || holds_double b) × ((depth a < depth (node t (first a (first b none)))) × ((depth b < depth (node t (first a (first b none))))
     × ((n : ℕ) → depth a ≤ n - 1 → depth b ≤ n - 1 → 0 < n → depth (node t (first a (first b none))) ≤ n)))
 unfolding holds_double depth
-pair_node t a b = (ap (λ c. holds_double a || c) (or_none (holds_double b)), (omega arith, (omega arith, λ n h g some. omega (arith, h, g, some))))
+pair_node t a b = (ap (λ c. holds_double a || c) (or-false (holds_double b)), (omega arith, (omega arith, λ n h g some. omega (arith, h, g, some))))
 
 entry_node : (k : Basic) (t : Ty) → default (entry k t) ≡ node (entry k t) (first (default (basic k)) (first (default t) none))
 unfolding default

@@ -1,9 +1,10 @@
 -- The texts of maybes.
-use Rattle.std.proofs.Common.{◌≡◌, ◌≤◌, ◌<◌, ℕ, suc, List, ◌++◌, Bool, true, false, Some, None, Result, refl, sym, ap, ◌∙◌, arith, append_assoc, ◌||◌}
+use Rattle.std.proofs.Common.{◌≡◌, ◌≤◌, ◌<◌, ℕ, suc, List, ◌++◌, Bool, true, false, Some, None, Result, refl, sym, ap, ◌∙◌, arith, append_assoc}
 use Rattle.std.specs.Prelude.{codes}
 use Rattle.std.proofs.lemmas.Result.{MatchResult-weaker}
 use Rattle.std.proofs.lemmas.Option.{none-some, same_Some}
 use Rattle.std.proofs.lemmas.Bool.{false≢true}
+use Rattle.std.proofs.Math.Bool.{or-false}
 use Rattle.gv_model.specs.Ty.{Ty}
 use Rattle.gv_model.specs.Ty.Ty.{basic, variant, array, maybe, tuple, entry}
 use Rattle.gv_model.specs.Tree.{Tree, Trees, children, tree_at, trees_len, depth, greatest_depth}
@@ -19,10 +20,6 @@ use Rattle.gv_text.specs.Printing.{IsElementFault, IsNothing, IsPrintedAs}
 use Rattle.gv_text.proofs.Containers.{one_or_none, value_node}
 use Rattle.gv_text.proofs.ContainerTexts.{IsWritten, marked_text}
 use Rattle.gv_text.proofs.Figures.{of_basic}
-
-pub or_none : (a : Bool) → (a || false) ≡ a
-or_none true = refl
-or_none false = refl
 
 no_tree : (vs : Trees) → tree_at vs 0 ≡ None → vs ≡ none
 unfolding tree_at
@@ -62,7 +59,7 @@ just_ends v u j = ap ends_in_nothing j.is
 
 double_of : (t : Ty) (u : Tree) → holds_double (node (maybe t) (first u none)) ≡ holds_double u
 unfolding holds_double
-double_of t u = or_none (holds_double u)
+double_of t u = or-false (holds_double u)
 
 pub just_double : (v u : Tree) → IsJust v u → holds_double v ≡ holds_double u
 just_double v u j = ap holds_double j.is ∙ double_of j.of u

@@ -20,7 +20,7 @@ use Rattle.gv_types.proofs.Stops.{no_type_where_stopped}
 abbrev pub HasNoTypePrefix : List ℕ → Type 0
 HasNoTypePrefix text = (t : Ty) (x : List ℕ) → text ≡ spelling t ++ x → nesting t ≤ 128 → length (spelling t) ≤ 67108864 → ⊥
 
-unless_some : {A : Type 0} (r : Option A) → ((t : A) → r ≡ Some t → ⊥) → r ≡ None
+pub unless_some : {A : Type 0} (r : Option A) → ((t : A) → r ≡ Some t → ⊥) → r ≡ None
 unless_some None h = refl
 unless_some (Some t) h = absurd (h t refl)
 

@@ -15,6 +15,7 @@ use Rattle.gv_model.proofs.Prefixes.{spelling-positive}
 use Rattle.gv_types.specs.declared.grammar.Halt.{Halt}
 use Rattle.gv_types.specs.TypePrefix.{BeginsWithType, HaltsAt}
 use Rattle.gv_types.proofs.Stops.{no_type_where_stopped}
+use Rattle.gv_types.proofs.PrefixTypes.{unless_some}
 
 -- a text that is read to its end is a type's
 pub read_whole : (text rest : List ℕ) → BeginsWithType 128 text rest → length rest < 1 → length text ≤ 67108864 → is_type text ≡ true
@@ -36,12 +37,8 @@ whole_type text [] r end l = some_type (type_of_text text) (read_whole text [] r
 
 -- ---- no type's text
 
-none_unless : {X : Type 0} (o : Option X) → ((x : X) → o ≡ Some x → ⊥) → o ≡ None
-none_unless None h = refl
-none_unless (Some x) h = absurd (h x refl)
-
 pub no_type_read : (text : List ℕ) → (is_type text ≡ true → ⊥) → None ≡ type_of_text text
-no_type_read text h = sym (none_unless (type_of_text text) (λ t e. h (ap is_some e)))
+no_type_read text h = sym (unless_some (type_of_text text) (λ t e. h (ap is_some e)))
 
 pub no_type : (text : List ℕ) → (is_type text ≡ true → ⊥) → (false ≡ true) ↔ IsTrue (is_type text)
 no_type text h = (λ e. absurd (false≢true e), λ is. absurd (h is))

@@ -1,5 +1,5 @@
 -- Trees made of the children of a value.
-use Rattle.std.proofs.Common.{◌≡◌, ◌≤◌, ◌<◌, ◌-◌, ℕ, true, List, [], ◌∷◌, length, Option, Some, None, refl, sym, ap, ap₂, ◌∙◌, subst, arith, inl, inr}
+use Rattle.std.proofs.Common.{◌≡◌, ◌≤◌, ◌<◌, ◌-◌, ℕ, true, List, [], ◌∷◌, length, Option, Some, None, Result, Ok, Err, OnOk, refl, sym, ap, ap₂, ◌∙◌, subst, arith, inl, inr}
 use Rattle.std.specs.Prelude.{IsSome, slice_index_or, unwrap_or, option_map, take}
 use Rattle.std.proofs.lemmas.Option.{same_Some}
 use Rattle.gv_model.specs.Ty.{Ty, Basic, Types, spelling, nesting}
@@ -13,7 +13,7 @@ use Rattle.gv_model.specs.Typed.{MayHold, AllOf, types_of}
 use Rattle.gv_model.specs.Decode.{decode}
 use Rattle.gv_model.proofs.TypeTextSound.{spelling_of_read}
 use Rattle.gv_model.specs.Normal.{IsContainer}
-use Rattle.gv_model.proofs.WellTyped.{children_held, unit_limits}
+use Rattle.gv_model.proofs.WellTyped.{children_held, unit_limits, same_member, same_members}
 use Rattle.gv_model.proofs.NormalLaws.{decode_node}
 use Rattle.gv_types.specs.declared.type_str.TypeStr.{TypeStr}
 use Rattle.gv_types.specs.TypeStr.{element_of, ty}
@@ -30,6 +30,11 @@ use Rattle.gv_tree.proofs.ListLaws.{none_other}
 use Rattle.gv_view.specs.declared.view.View.{View}
 use Rattle.gv_view.specs.Views.{type_str_of, view_ty, view_bytes, value}
 use Rattle.gv_view.specs.Copying.{AreChildTrees}
+
+-- what holds of no answer holds of one
+pub always_ok : {T E Q : Type 0} (r : Result T E) → Q → OnOk r Q
+always_ok (Ok x) q = q
+always_ok (Err e) q = tt
 
 -- ---- classes of containers
 
@@ -199,17 +204,11 @@ pub record IsPair (k : Basic) (u : Ty) (xs : List Tree) : Type 0 where
   pub key_type : type_of key ≡ basic k
   pub value_type : type_of value ≡ u
 
-member_type : (t u : Ty) (ts us : Types) → member t ts ≡ member u us → t ≡ u
-member_type t u ts us e = cc
-
-member_rest : (t u : Ty) (ts us : Types) → member t ts ≡ member u us → ts ≡ us
-member_rest t u ts us e = cc
-
 two_held : (k : Basic) (u : Ty) (xs : List Tree) → types_of (trees_of xs) ≡ member (basic k) (member u end) → IsPair k u xs
 two_held k u [] e = absurd cc
-two_held k u (x ∷ []) e = let f = member_rest _ _ _ _ e in absurd cc
-two_held k u (x ∷ y ∷ []) e = record { key = x; value = y; are = refl; key_type = member_type _ _ _ _ e; value_type = member_type _ _ _ _ (member_rest _ _ _ _ e) }
-two_held k u (x ∷ y ∷ z ∷ xs) e = let f = member_rest _ _ _ _ (member_rest _ _ _ _ e) in absurd cc
+two_held k u (x ∷ []) e = let f = same_members _ _ _ _ e in absurd cc
+two_held k u (x ∷ y ∷ []) e = record { key = x; value = y; are = refl; key_type = same_member _ _ _ _ e; value_type = same_member _ _ _ _ (same_members _ _ _ _ e) }
+two_held k u (x ∷ y ∷ z ∷ xs) e = let f = same_members _ _ _ _ (same_members _ _ _ _ e) in absurd cc
 
 -- an entry has a key and a value
 pub record IsEntry (v : View) (xs : List Tree) : Type 0 where

@@ -1,12 +1,17 @@
--- The lengths of full names, and those that are noted of the items before one.
-use Rattle.std.specs.Prelude.{ℕ, ◌+◌, ◌%◌, ◌≤◌, ◌<◌, ◌≡◌, List, length, slice_index}
+-- The lengths of full names, and those that are noted.
+use Rattle.std.specs.Prelude.{ℕ, ◌≤◌, ◌≡◌, List, length, All, Option, Some, None}
 use Rattle.dconf_model.specs.Table.{Table}
 use Rattle.dconf_model.specs.Names.{HasName, full_name}
+use Rattle.gvdb_read.specs.declared.checking.length.NotedLen.{NotedLen}
 
 -- each full name of item i has at most 65,535 bytes
 abbrev pub HasShortName : Table → ℕ → Type 0
 HasShortName t i = (name : List ℕ) → HasName t i name → length name ≤ 65535
 
--- the places take turns: of the items before item i, the last have their lengths there, as many as there are places
-abbrev pub AreNoted : Table → List ℕ → ℕ → Type 0
-AreNoted t noted i = (j : ℕ) → j < i → i ≤ j + length noted → slice_index noted (j % length noted) ≡ length (full_name t j)
+-- what is noted is the length of an item's name
+abbrev pub IsNoted : Table → Option NotedLen → Type 0
+IsNoted t None = Unit {0}
+IsNoted t (Some known) = length (full_name t known.item) ≡ known.len
+
+abbrev pub AreNoted : Table → List (Option NotedLen) → Type 0
+AreNoted t noted = All (IsNoted t) noted

@@ -41,7 +41,8 @@ impl Table<'_> {
     /// those of the full names. Where there are more than 16 items a bucket, S7 compares each name
     /// with the one before it, and is done where all names of each bucket rise, as our writer puts them; else it
     /// looks at the items of each item's bucket, and compares names where the hashes agree. S9
-    /// takes a step for each of the parents of each item, up to one of the 256 items before it, and as far as their keys have 65,535 bytes. S10 takes time in the items
+    /// takes a step for each of the parents of each item, up to one whose name's length is noted, of which there are 256, and as far as their keys have 65,535
+    /// bytes. S10 takes time in the items
     /// and the bytes of their keys where all lists ascend by number, as our writer puts them, or by key, as dconf's does; else in the
     /// items times the lists. S11 asks S1 to S8 of the table of locks.
     pub fn check(self) -> Result<(), Unsound>

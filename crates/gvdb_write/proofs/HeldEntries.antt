@@ -32,7 +32,7 @@ below_at path [] k below l = absurd (omega (arith, l))
 below_at path (e ∷ es) zero below l = (and_parts _ _ below).0
 below_at path (e ∷ es) (suc k) below l = below_at path es k (and_parts _ _ below).1 (omega (arith, l))
 
-less_is_other : (o : Ordering) → is_lt o ≡ true → is_eq o ≡ false
+pub less_is_other : (o : Ordering) → is_lt o ≡ true → is_eq o ≡ false
 less_is_other Less e = refl
 less_is_other Equal e = absurd (true≢false (sym e))
 less_is_other Greater e = absurd (true≢false (sym e))

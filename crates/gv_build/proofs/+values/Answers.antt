@@ -4,11 +4,12 @@ use Rattle.gv_model.specs.Layout.{fixed_size}
 use Rattle.gv_model.specs.Tree.{nodes, nodes_of, type_of}
 use Rattle.gv_model.specs.Encode.{encode, body_from, ends_from}
 use Rattle.gv_model.proofs.LayoutLaws.{alignment_pos}
+use Rattle.gv_model.proofs.ValueBound.{node_nodes}
 use Rattle.gv_types.specs.TypeStr.{ty}
 use Rattle.gv_tree.specs.Nodes.{trees_of}
 use Rattle.gv_build.specs.Writing.{parts_of, own_part, open_end, just_end, tuple_end, placed_bytes}
 use Rattle.gv_build.proofs.Outcomes.{stops_over, wrote_same, over_same, over_in_whole, wrote_as, lengths_of}
-use Rattle.gv_build.proofs.Items.{parts_here, parts_here_before, none_left, last_left, some_left, item_le, nodes_node, nodes_one, nodes_last}
+use Rattle.gv_build.proofs.Items.{parts_here, parts_here_before, none_left, last_left, some_left, item_le, nodes_one, nodes_last}
 use Rattle.gv_build.proofs.Steps.{MembersSoFar}
 use Rattle.gv_build.proofs.Places.{AtMost, at_most_more, placed_part, framed_next, members_next}
 use Rattle.gv_build.proofs.Wholes.{joined_next, joined_part, joined_end, framed_end, framed_long, tuple_long, members_end, at_most-reverse, two_parts, refill_turned}
@@ -88,7 +89,7 @@ pub tree::write_tree-write_tree-requires : goal.tree::write_tree-write_tree-requ
 tree::write_tree-write_tree-requires t c =
     let child = c.in-Maybe-Some.child.now in
     let shape = rw c.in-Maybe-Some.field-0-is at c.in-Maybe-Some.ensures.shape in
-    let size = ap nodes shape ∙ nodes_node _ _ in
+    let size = ap nodes shape ∙ node_nodes _ _ in
     let one = nodes_one child in
     search rules
 
@@ -101,24 +102,24 @@ tree::write_tree-returns-in_err-write_tree-in-Maybe-Some-clause-fault t c =
 
 pub tree::write_tree-write_array-requires : goal.tree::write_tree-write_array-requires
 tree::write_tree-write_array-requires t c =
-    let size = ap nodes c.in-Array.ensures.shape.1 ∙ nodes_node _ _ in
+    let size = ap nodes c.in-Array.ensures.shape.1 ∙ node_nodes _ _ in
     search rules
 
 pub tree::write_tree-write_tuple-requires : goal.tree::write_tree-write_tuple-requires
 tree::write_tree-write_tuple-requires t c =
-    let size = ap nodes c.in-Tuple.ensures.shape ∙ nodes_node _ _ in
+    let size = ap nodes c.in-Tuple.ensures.shape ∙ node_nodes _ _ in
     search rules
 
 pub tree::write_tree-write_members-requires : goal.tree::write_tree-write_members-requires
 tree::write_tree-write_members-requires t c =
-    let size = ap nodes c.in-Entry.ensures.shape.1 ∙ nodes_node _ _ in
+    let size = ap nodes c.in-Entry.ensures.shape.1 ∙ node_nodes _ _ in
     let parts = ap (λ us. nodes_of (trees_of (us ++ c.in-Entry.value.now ∷ []))) c.from_ref.ensures.value in
     search rules
 
 pub tree::write_tree-write_tree-requires-in-Variant : goal.tree::write_tree-write_tree-requires-in-Variant
 tree::write_tree-write_tree-requires-in-Variant t c =
     let child = c.in-Variant.child.now in
-    let size = ap nodes c.in-Variant.ensures.shape ∙ nodes_node _ _ in
+    let size = ap nodes c.in-Variant.ensures.shape ∙ node_nodes _ _ in
     let one = nodes_one child in
     search rules
 

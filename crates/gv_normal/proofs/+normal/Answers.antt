@@ -16,7 +16,8 @@ use Rattle.gv_types.specs.Members.{members_left}
 use Rattle.gv_types.proofs.ClassLaws.{basic_class}
 use Rattle.gv_layout.proofs.Sizes.{fixed_size_most, fixed_size-basic}
 use Rattle.gv_layout.proofs.Widths.{width_is}
-use Rattle.gv_normal.specs.InPlace.{IsNormalWithin, most_values}
+use Rattle.gv_normal.specs.InPlace.{IsNormalWithin}
+use Rattle.gv_model.specs.Laws.{most_values}
 use Rattle.gv_normal.specs.Tables.{member_place}
 use Rattle.gv_normal.proofs.Pieces.{are_bytes, length-piece, short_from, no_bytes}
 use Rattle.gv_normal.proofs.PartSteps.{begins_behind}

@@ -1,8 +1,8 @@
 //! How long full names are.
 //!
 //! Where each item has few parents, each chain of them is walked. Else a pass notes the lengths of the names of the items
-//! that it saw last. A walk up an item's parents ends where it comes to one of these, and so a long chain of parents isn't
-//! walked again for each item of it.
+//! that it saw last, and of their parents. A walk up an item's parents ends where it comes to one of these, and so a long
+//! chain of parents isn't walked again for each item of it, nor for each item below it.
 ghost use Rattle.std.specs.Prelude.{◌≡◌, ◌≤◌, ◌<◌, ◌↔◌, ℕ, List, IfSome, IsTrue, length};
 ghost use Rattle.dconf_model.specs.Table.{item_count};
 ghost use Rattle.dconf_model.specs.Names.{HasName, full_name};
@@ -19,15 +19,22 @@ pub const MAX_NAME_LEN: usize = u16::MAX as usize;
 /// Of how many items a walk looks at the keys' sizes where nothing is noted: more than a path has parts in practice.
 const FEW: u32 = 64;
 
-/// Of how many items the lengths are noted.
+/// Of how many items the lengths are noted. An item's number tells its place, and there the last one counts.
 const NOTED: usize = 256;
+
+/// An item, and how many bytes its full name has.
+#[derive(Clone, Copy)]
+struct NotedLen {
+    item: u32,
+    len: u16,
+}
 
 impl<'a> Table<'a> {
     ghost use Rattle.gvdb_read.specs.Tables.{region};
 
     /// Whether each item's full name has at most 65,535 bytes. It looks at the keys' sizes alone, and for each item at its
-    /// parents, 64 items in all. Where that isn't enough, it looks at no more of its parents than up to one of the 256
-    /// items before it.
+    /// parents, 64 items in all. Where that isn't enough, it looks at no more of its parents than up to one whose length is
+    /// noted.
     pub(super) fn names_are_short(self) -> bool
         requires keys { KeepsAll (region self) keys }
         requires chain { KeepsAll (region self) chain }
@@ -74,44 +81,60 @@ impl<'a> Table<'a> {
     }
 
     /// Whether each item's full name has at most 65,535 bytes. For each item it looks at no more of its parents than up to
-    /// one of the 256 items before it.
+    /// one whose length is noted, and then notes its own and its parent's.
     fn noted_names_are_short(self) -> bool
         requires keys { KeepsAll (region self) keys }
         requires chain { KeepsAll (region self) chain }
         ensures { IsTrue result → EachItem (region self.entry) (HasShortName (region self.entry)) }
     {
-        let mut noted = [0; NOTED];
+        let mut noted = [None; NOTED];
         for i in 0..self.n_items() {
             let Some(len) = self.short_len(i, &noted) else {
                 return false;
             };
-            noted[i as usize % NOTED] = len;
+            noted[i as usize % NOTED] = Some(NotedLen { item: i, len });
+            if let Some(parent) = self.parent_at(i) {
+                let len = len - self.key_size_at(i);
+                noted[parent as usize % NOTED] = Some(NotedLen { item: parent, len });
+            }
         }
         true
     }
 
-    /// How many bytes item `i`'s full name has, where those of the items before it are noted. None where it has more than
-    /// 65,535.
-    fn short_len(self, i: u32, noted: &[u16]) -> Option<u16>
+    /// How many bytes item `i`'s full name has. None where it has more than 65,535.
+    fn short_len(self, i: u32, noted: &[Option<NotedLen>]) -> Option<u16>
         requires keys { KeepsAll (region self) keys }
         requires chain { KeepsAll (region self) chain }
         requires counted { i < item_count (region self) }
-        requires noted { AreNoted (region self) noted.now i }
+        requires places { 0 < length noted.now }
+        requires noted { AreNoted (region self) noted.now }
         ensures len { IfSome result (λ len. length (full_name (region self.entry) i) ≡ len) }
         ensures short { IfSome result (λ len. len ≤ 65535) }
     {
         let mut at = i;
         let mut left = u16::MAX;
         loop {
+            if let Some(len) = self.noted_len(at, noted) {
+                return Some(u16::MAX - left.checked_sub(len)?);
+            }
             left = left.checked_sub(self.key_size_at(at))?;
             let Some(parent) = self.parent_at(at) else {
                 return Some(u16::MAX - left);
             };
-            if parent < i && (i - parent) as usize <= noted.len() {
-                let above = noted[parent as usize % noted.len()];
-                return Some(u16::MAX - left.checked_sub(above)?);
-            }
             at = parent;
+        }
+    }
+
+    /// How many bytes item `i`'s full name has, if that is noted.
+    fn noted_len(self, i: u32, noted: &[Option<NotedLen>]) -> Option<u16>
+        requires places { 0 < length noted.now }
+        requires noted { AreNoted (region self) noted.now }
+        ensures { IfSome result (λ len. length (full_name (region self.entry) i) ≡ len) }
+    {
+        let found = noted[i as usize % noted.len()];
+        match found {
+            Some(known) if known.item == i => Some(known.len),
+            _ => None,
         }
     }
 

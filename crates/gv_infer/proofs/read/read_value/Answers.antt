@@ -9,7 +9,7 @@ use Rattle.gv_infer.specs.Building.{IsBuilt}
 use Rattle.gv_infer.specs.Reads.{Reads, IsReadFault}
 use Rattle.gv_infer.specs.Typings.{AreTyped, IsTypingFault, IsFirstChoiceFault}
 use Rattle.gv_infer.specs.declared.read_fault.ReadFault.TheVariants.{Text, Typing}
-use Rattle.gv_infer.proofs.TypedContents.{admits_chosen}
+use Rattle.gv_model.proofs.PatternLaws.{admits_chosen}
 use Rattle.gv_infer.proofs.ReadLaws.{stops, read_or_deep, read_literal_fault, read_content_fault}
 use Rattle.gv_infer.proofs.read.read_value.Goals as goal
 

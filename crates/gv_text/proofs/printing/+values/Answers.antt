@@ -1,4 +1,4 @@
-use Rattle.std.proofs.Common.{◌≡◌, ◌++◌, ◌∷◌, [], true, false, ◌&&◌, ◌-◌, ℕ, Option, MatchOption, Result, Ok, Err, OnOk, IfSome, length, string_len, rules, refl, sym, ap, ◌∙◌, subst, arith, string_bytes}
+use Rattle.std.proofs.Common.{◌≡◌, ◌++◌, ◌∷◌, [], true, false, ◌&&◌, ◌-◌, ℕ, Option, MatchOption, IfSome, length, string_len, rules, refl, sym, ap, ◌∙◌, subst, arith, string_bytes}
 use Rattle.std.proofs.lemmas.Result.{err_from_is_err_and}
 use Rattle.std.proofs.lemmas.Bool.{and_from, and_left, and_right, false≢true}
 use Rattle.gv_model.specs.Tree.{children, depth}
@@ -13,6 +13,7 @@ use Rattle.gv_view.specs.Children.{children_left}
 use Rattle.gv_view.proofs.Depths.{depth_children}
 use Rattle.gv_view.specs.declared.view.View.{View}
 use Rattle.gv_view.proofs.PartValues.{basic_is_leaf}
+use Rattle.gv_view.proofs.Copies.{always_ok}
 use Rattle.gv_text.specs.Printing.{IsNoted, IsNothing, IsPrintedAs, brackets_of, child_texts}
 use Rattle.gv_text.proofs.ContainerTexts.{
   array_no_entry,
@@ -389,10 +390,6 @@ array::push_element-returns-then-is_empty-2-clause-noted t c =
     (text ∙ ap (λ u. (old ++ comma) ++ text_of u false true) none)
 
 -- ---- levels
-
-always_ok : {T E Q : Type 0} (r : Result T E) → Q → OnOk r Q
-always_ok (Ok x) q = q
-always_ok (Err e) q = tt
 
 pub push_value-returns-then-levels-eq0-clause-deep : goal.push_value-returns-then-levels-eq0-clause-deep
 push_value-returns-then-levels-eq0-clause-deep t c = λ is. omega (arith, c.if-levels-eq0.true, depth_children (value c.args.view))

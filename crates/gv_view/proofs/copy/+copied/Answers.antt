@@ -1,5 +1,5 @@
 use Rattle.std.proofs.Common.{◌≤◌, ◌-◌, ◌++◌, ap, ◌∙◌, arith, rules}
-use Rattle.std.specs.Prelude.{map, OnOk, Result, Ok, Err}
+use Rattle.std.specs.Prelude.{map}
 use Rattle.std.proofs.lemmas.Result.{err_from_is_err_and}
 use Rattle.gv_model.specs.Tree.{depth, children}
 use Rattle.gv_tree.specs.Nodes.{trees_of}
@@ -8,6 +8,7 @@ use Rattle.gv_view.specs.Children.{children_left}
 use Rattle.gv_view.proofs.Depths.{depth_children}
 use Rattle.gv_view.proofs.PartValues.{part_value, all_listed, all_lower, whole_depth, first_lower, first_depth, fitting, one_more}
 use Rattle.gv_view.proofs.copy.+copied.Goals as goal
+use Rattle.gv_view.proofs.Copies.{always_ok}
 
 pub returns-then-levels-eq0-clause-fault : goal.returns-then-levels-eq0-clause-fault
 returns-then-levels-eq0-clause-fault t c = λ h. omega (arith, c.if-levels-eq0.true, depth_children (value c.args.view))
@@ -40,10 +41,6 @@ loop-child-preserved t c =
 
 pub assembled-requires-clause-levels : goal.assembled-requires-clause-levels
 assembled-requires-clause-levels t c = omega (arith, fitting c.args.levels (depth (value c.args.view)) (children_left c.loop-child.child-iterator) c.if-levels-eq0.false c.in-None.ensures.steps.0 c.loop-child.invariant.3, c.requires)
-
-always_ok : {T E Q : Type 0} (r : Result T E) → Q → OnOk r Q
-always_ok (Ok x) q = q
-always_ok (Err e) q = tt
 
 pub returns-clause-fits : goal.returns-clause-fits
 returns-clause-fits t c =
