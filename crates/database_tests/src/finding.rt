@@ -2,9 +2,18 @@
 use crate::vectors::Sample;
 use gv_types::Steps;
 use gv_view::View;
-use gvdb_read::{OpenFault, Table, hash};
+use gvdb_read::{OpenFault, Table, hash, hash_with};
 use std::alloc::Global;
 use std::test::Fail;
+
+/// The hash of a name, byte by byte.
+fn hash_one_by_one(name: &[u8]) -> u32 {
+    let mut found = hash(&[]);
+    for byte in name {
+        found = hash_with(found, *byte);
+    }
+    found
+}
 
 #[test]
 fn takes_bytes_as_signed_numbers(rt: HostRuntime) {
@@ -14,7 +23,11 @@ fn takes_bytes_as_signed_numbers(rt: HostRuntime) {
         ("/k", 5861567),
         ("\u{e9}", 5857809),
     ] {
-        assert!(rt; hash(name.as_bytes()) == expected, "at {name}");
+        let bytes = name.as_bytes();
+        assert!(rt;
+            hash(bytes) == expected && hash_one_by_one(bytes) == expected,
+            "at {name}"
+        );
     }
 }
 
@@ -44,7 +57,9 @@ fn holds_k_alone(file: Sample) -> Result<bool, OpenFault> {
         }
     }
     Ok(
-        has_bytes(table, "/k", Some(&[5, 0, 0, 0, 0, b'i']))
+        (0..table.n_items()).any(|i| table.has_name(i, "/k"))
+            && !table.has_name(0, "/j")
+            && has_bytes(table, "/k", Some(&[5, 0, 0, 0, 0, b'i']))
             && table.find("/k").and_then(View::as_i32) == Some(5)
             && root_names(table) == Some((K, None))
             && table.list("/k").is_none()

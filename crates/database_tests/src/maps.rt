@@ -32,7 +32,7 @@ fn values_and_locks_are_where_they_were_put(rt: HostRuntime) -> Result<(), Fail>
     map.insert_owned(path, FIVE.to_vec(rt.alloc())?)?;
     assert!(rt; map.get(path) == Some(FIVE) && map.key_count() == 1);
     let map = fives(rt.alloc(), &[], &["/a/k", "/a/k"])?;
-    assert!(rt; map.get(path) == None && map.is_locked(lock));
+    assert!(rt; map.get(path) == None && map.is_locked(lock) && map.lock_count() == 1);
     assert!(rt;
         !map.is_locked(LockPath::parse("/a/kk")?) && !map.is_locked(LockPath::parse("/a/")?)
     );

@@ -1,6 +1,7 @@
 //! Lock files and profiles by example.
 use dconf_path::{
-    DatabaseKind, KeyPath, LockPath, LocksFault, PathFault, read_locks, read_profile,
+    DatabaseKind, KeyPath, LockPath, LocksFault, PathFault, TextFault, read_locks, read_profile,
+    settings_text,
 };
 use std::alloc::Global;
 use std::fmt::Write;
@@ -121,4 +122,25 @@ fn a_profile_lists_databases(rt: HostRuntime) -> Result<(), Fail> {
     let most = "system-db:a\n# c\n".repeat(rt.alloc(), 64)?;
     assert!(rt; read_profile(rt.alloc(), &most)?.databases().len() == 64);
     Ok(())
+}
+
+/// The line at which bytes are no text; 0 where they are one, and are lent.
+fn line_at_fault(bytes: &[u8]) -> Option<usize> {
+    match settings_text(bytes) {
+        Ok(text) if text.as_bytes() == bytes => Some(0),
+        Err(TextFault::NotUtf8(line)) => Some(line),
+        _ => None,
+    }
+}
+
+#[test]
+fn a_text_of_settings_is_utf8(rt: HostRuntime) {
+    for (bytes, line) in [
+        (b"".as_slice(), 0),
+        (b"[a]\nk='\xc3\xa9'\n", 0),
+        (b"\xff", 1),
+        (b"[a]\nk='\xc3'\n", 2),
+    ] {
+        assert!(rt; line_at_fault(bytes) == Some(line), "at {bytes:?}");
+    }
 }

@@ -49,7 +49,8 @@ fn writes_into_memory(rt: HostRuntime) -> Result<(), Fail> {
     let mut out = Counted::new(Vec::new(rt.alloc()));
     out.put(b"au ")?;
     out.put(b"[1]\n")?;
-    assert!(rt; out.get_ref().as_slice() == b"au [1]\n".as_slice());
+    assert_eq!(rt; out.write_once(b"!")?, 1);
+    assert!(rt; out.get_ref().as_slice() == b"au [1]\n!".as_slice());
     assert_eq!(rt; out.failures(), 0);
     Ok(())
 }

@@ -1,7 +1,9 @@
 //! Types by example: what each kind is made of, where a text that is no type is at fault, and which texts are
 //! object paths and signatures.
 use gv_layout::fixed_size;
-use gv_types::{BasicType, Class, Steps, TypeFault, TypeStr, is_object_path, is_signature};
+use gv_types::{
+    BasicType, Class, Members, Steps, TypeFault, TypeStr, is_object_path, is_signature,
+};
 use std::alloc::Global;
 use std::fmt::Write;
 use std::test::Fail;
@@ -68,7 +70,8 @@ fn has_parts(
             && of.class() == class
             && of.element().map(TypeStr::as_str) == element
             && of.key().map(TypeStr::as_str) == key
-            && of.members().is_empty() == members.is_empty()
+            && Members::is_empty(&of.members()) == members.is_empty()
+            && TypeStr::of_bytes(text.as_bytes()).map(TypeStr::as_str) == Some(text)
             && found.as_str() == members,
     )
 }
