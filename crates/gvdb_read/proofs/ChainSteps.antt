@@ -33,3 +33,7 @@ in_a_circle t i at n good counted climbs all ps leads =
     let r = climbs.after ps leads in
     let few = few_steps t i ps good counted leads in
     omega (arith, few, all, r.2)
+
+-- the parents of an item's parent end where its own do
+pub goes_on : (t : Table) (i p : ℕ) (ps : List ℕ) → (item t i).parent ≡ Some p → LeadsUp t i ps → (qs : List ℕ) × LeadsUp t p qs
+goes_on t i p ps up leads = let r = above t i p 0 (length ps) ps up leads (omega arith) in (r.0, r.1)

@@ -1,5 +1,5 @@
 -- Lengths of full names along a walk up the parents, and those that are noted.
-use Rattle.std.proofs.Common.{◌≡◌, ◌<◌, ◌≤◌, ◌+◌, ℕ, List, length, Some, None, ap, arith, length-append}
+use Rattle.std.proofs.Common.{◌≡◌, ◌<◌, ◌≤◌, ◌+◌, ℕ, length, Some, None, ap, arith, length-append}
 use Rattle.dconf_model.specs.Table.{Table, item, item_count, key}
 use Rattle.dconf_model.specs.Names.{full_name}
 use Rattle.dconf_model.specs.Searchable.{EachItem}

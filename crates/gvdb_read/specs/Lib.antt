@@ -14,5 +14,6 @@ pub mod Counted
 pub mod HashAbove
 pub mod Records
 pub mod ListNumbers
+pub mod NotedEnds
 pub mod NotedLengths
 pub mod NamesRise

@@ -4,7 +4,7 @@ ghost use Rattle.dconf_model.specs.Table.{item_count};
 ghost use Rattle.dconf_model.specs.Searchable.{EachItem, IsSearchable};
 ghost use Rattle.gvdb_read.specs.Records.{RecordKeeps};
 ghost use Rattle.dconf_model.specs.Sound.{IsFirstFault, IsSound, Keeps, KeepsAll, rule_number};
-ghost use Rattle.dconf_model.specs.Sound.Rule.{buckets, hash, once};
+ghost use Rattle.dconf_model.specs.Sound.Rule.{buckets, chain, hash, once};
 ghost use Rattle.gvdb_read.specs.Unsounds.{KeepsBelow, KeptBefore, rule_of};
 
 mod backwards;
@@ -37,7 +37,7 @@ impl Table<'_> {
     /// fails, in the order of [`Rule`], and the least item that breaks it.
     ///
     /// It takes no memory. S1, S2, S5, S6 and S8 take time in the buckets, the items and the bytes of their keys; S3
-    /// takes a step for each of the parents of each item, up to the first with a lower number. S4 takes time in the bytes of the keys where it is kept; else in
+    /// takes a step for each of the parents of each item, up to the first with a lower number or one that is noted, of which there are 256. S4 takes time in the bytes of the keys where it is kept; else in
     /// those of the full names. Where there are more than 16 items a bucket, S7 compares each name
     /// with the one before it, and is done where all names of each bucket rise, as our writer puts them; else it
     /// looks at the items of each item's bucket, and compares names where the hashes agree. S9
@@ -89,9 +89,23 @@ impl Table<'_> {
         ensures fault { IfErr result (λ e. IsFirstFault (region self.entry) (rule_of e.rule) e.item) }
         ensures not_searchable { IfErr result (λ _. ¬ IsSearchable (region self.entry)) }
     {
-        self.each_keeps(Rule::Chain, |i| self.has_end(i))?;
+        self.check_chains()?;
         self.check_once()?;
         Ok(())
+    }
+
+    /// Asks S3. Where a fast pass sees that all items keep it, that is all. Else it walks along the parents of each item, up to
+    /// the first with a lower number.
+    fn check_chains(self) -> Result<(), Unsound>
+        requires earlier { KeepsBelow (region self) 3 }
+        ensures kept { IfOk result (λ _. KeepsBelow (region self.entry) 4) }
+        ensures fault { IfErr result (λ e. IsFirstFault (region self.entry) (rule_of e.rule) e.item) }
+        ensures not_kept { IfErr result (λ _. ¬ KeepsAll (region self.entry) chain) }
+    {
+        if self.chains_end() {
+            return Ok(());
+        }
+        self.each_keeps(Rule::Chain, |i| self.has_end(i))
     }
 
     /// Asks S7. Where buckets are long, and the items come in their order, and in each bucket in that of their names, it compares each
@@ -116,7 +130,7 @@ impl Table<'_> {
         ensures not_searchable { IfErr result (λ _. ¬ IsSearchable (region self.entry)) }
     {
         self.each_keeps(Rule::Keys, |i| self.has_good_key(i))?;
-        self.each_keeps(Rule::Chain, |i| self.has_end(i))?;
+        self.check_chains()?;
         self.check_hashes()?;
         self.each_keeps(Rule::Span, |i| self.is_in_span(i))?;
         self.each_keeps(Rule::Bloom, |i| self.is_in_bloom(i))?;
