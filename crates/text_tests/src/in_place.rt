@@ -97,21 +97,24 @@ fn counted(view: View<'_>) -> Option<(bool, u128)> {
 
 /// A byte, and then offsets that each lead back to the beginning.
 #[test]
-fn a_tower_takes_few_steps(rt: HostRuntime) -> Result<(), Fail> {
+fn a_tower_takes_few_steps_and_has_few_values(rt: HostRuntime) -> Result<(), Fail> {
     let mut bytes: Vec<u8> = vec![in rt.alloc(); 0]?;
     let mut text = String::from_str(rt.alloc(), "a")?;
-    bytes.push(0)?;
     for i in 0..20_u8 {
         let len = 1 + 3 * i;
         bytes.extend_from_slice(&[len, 0, len])?;
         text.push('a')?;
     }
     text.push('y')?;
-    let told = counted(View::new(TypeStr::parse(&text)?, &bytes));
+    assert_eq!(rt; bytes.len(), 61);
+    let view = View::new(TypeStr::parse(&text)?, &bytes);
+    let told = counted(view);
     assert!(rt;
         matches!(told, Some((false, steps)) if steps <= 6510),
         "{told:?}"
     );
+    assert!(rt; !is_normal_by_plain(rt.alloc(), view)?);
+    assert_eq!(rt; view.to_tree(rt.alloc())?.nodes(), 62);
     Ok(())
 }
 
