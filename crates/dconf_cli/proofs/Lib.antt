@@ -1,8 +1,4 @@
-pub mod Filled
-pub mod Subcommands
-pub mod Lines
 pub mod Puts
-pub mod Stops
 pub mod Leaving
 pub mod Decisions
 pub mod ManyFiles

@@ -1,8 +1,5 @@
 pub mod Streams
 pub mod Counted
-pub mod CommandLine
-pub mod Asked
-pub mod Commands
 pub mod Answers
 pub mod Readings
 pub mod StoreReads

@@ -4,16 +4,16 @@ ghost use Rattle.dconf_model.specs.Folders.{Event};
 ghost use Rattle.dconf_model.specs.Outcomes.{Output};
 ghost use Rattle.dconf_model.specs.Reads.{Input};
 ghost use Rattle.dconf_model.specs.Runs.{Ran, RanCalmly};
-ghost use Rattle.dconf_cli.specs.Commands.{command_of};
+ghost use Rattle.dconf_command.specs.Commands.{command_of};
 ghost use Rattle.dconf_cli.specs.Counted.{Leaves, failures_of, inner_of};
 ghost use Rattle.dconf_cli.specs.Inputs.{ConsumesText};
 ghost use Rattle.dconf_cli.specs.Runs.{KeepsFiles, RanAnywhere, Took, reads_input};
 ghost use Rattle.dconf_cli.specs.Streams.{NoneFailed};
 
-use crate::asked::Command;
 use crate::commands::answered;
 use crate::counted::Counted;
 use crate::giving::give;
+use dconf_command::Command;
 use dconf_disk::Folder;
 use std::alloc::Global;
 use std::io::{Read, Write};

@@ -1,12 +1,13 @@
 //! The current folder of the host.
-ghost use Rattle.std.specs.Prelude.{◌≡◌, ◌≢◌, ◌<◌, ◌≤◌, ◌↔◌, None, Ok, Err, IfSome, IfOk, IfErr, IsOk, IsTrue, IsErrOf, IsErrAnd, OnErr, length};
+ghost use Rattle.std.specs.Prelude.{◌≡◌, ◌≢◌, ◌<◌, ◌≤◌, ◌↔◌, None, Ok, Err, IfSome, IfOk, IfErr, IsOk, IsTrue, IsErrOf, IsErrAnd, OnErr, true, false, length};
 ghost use Rattle.std.specs.IoError.{error_kind};
 ghost use Rattle.dconf_disk.specs.Failures.{HasCause};
 ghost use Rattle.dconf_disk.specs.StdFolders.{folder_of};
 
+use crate::modes::{keep_mode, open_new};
 use crate::{Folder, FolderFault, LARGEST_FILE};
 use std::alloc::Global;
-use std::fs::{File, OpenFile, OpenOptions};
+use std::fs::{OpenFile, OpenOptions};
 use std::io::{ErrorKind, Read, Write};
 use std::path::Path;
 use std::rt::Files;
@@ -16,21 +17,42 @@ use std::{fs, io};
 ///
 /// A name may lead into another folder, by the host's rules for a path. `sync_folder` syncs the current folder; a rename into
 /// another one syncs that one itself, so its `Device` may come when the file has its name already. `create` removes a file of
-/// that name first. Each call is a few calls of the host; `read` asks for the file's length, and takes that much memory once.
+/// that name first. A file that `replace` puts in the place of another has its permission bits, and is at no time open to
+/// more users than it; a new one has those of 0666 that the process's umask leaves. Each call is a few calls of the host;
+/// `read` asks for the file's length, and takes that much memory once.
 #[derive(Drop)]
 pub struct StdFolder<R> {
     rt: R,
     failures: u64,
+    can_write: bool,
 }
 
 impl<R: Files> StdFolder<R> {
-    ghost use Rattle.dconf_disk.specs.StdFolders.{failures_of};
+    ghost use Rattle.dconf_disk.specs.StdFolders.{failures_of, can_write};
 
     /// The current folder, with no failure yet. It asks nothing of the host, so it can't fail.
     pub fn new(rt: R) -> StdFolder<R>
-        ensures { failures_of result ≡ 0 }
+        ensures failures { failures_of result ≡ 0 }
+        ensures writes { can_write result ≡ true }
     {
-        StdFolder { rt, failures: 0 }
+        StdFolder {
+            rt,
+            failures: 0,
+            can_write: true,
+        }
+    }
+
+    /// The current folder, in which no file can be made or renamed: each such call is a fault of the device, and asks nothing
+    /// of the host. It has no failure yet, and can't fail.
+    pub fn read_only(rt: R) -> StdFolder<R>
+        ensures failures { failures_of result ≡ 0 }
+        ensures writes { can_write result ≡ false }
+    {
+        StdFolder {
+            rt,
+            failures: 0,
+            can_write: false,
+        }
     }
 
     /// The answer of a call, whose fault is counted.
@@ -63,7 +85,11 @@ impl<R: Files> Folder for StdFolder<R> {
     }
 
     fn create(&mut self, name: &str) -> Result<(), FolderFault> {
-        let answer = written(make_new(&self.rt, name));
+        let answer = if self.can_write {
+            written(make_new(&self.rt, name))
+        } else {
+            Err(FolderFault::Device)
+        };
         self.counted(answer)
     }
 
@@ -78,7 +104,11 @@ impl<R: Files> Folder for StdFolder<R> {
     }
 
     fn rename(&mut self, from: &str, to: &str) -> Result<(), FolderFault> {
-        let answer = written(rename_to(&self.rt, from, to));
+        let answer = if self.can_write {
+            written(rename_to(&self.rt, from, to))
+        } else {
+            Err(FolderFault::Device)
+        };
         self.counted(answer)
     }
 
@@ -94,7 +124,7 @@ fn make_new<R: Files>(rt: &R, name: &str) -> io::Result<()> {
         Err(error) if error.kind() != ErrorKind::NotFound => return Err(error),
         _ => {}
     }
-    let _file = File::create_new(rt, name)?;
+    let _file = open_new(rt, name)?;
     Ok(())
 }
 
@@ -110,6 +140,7 @@ fn sync_at<R: Files>(rt: &R, name: &str) -> io::Result<()> {
 
 // `sync_folder` syncs the current folder alone, so the names of any other are synced here.
 fn rename_to<R: Files>(rt: &R, from: &str, to: &str) -> io::Result<()> {
+    keep_mode(rt, from, to)?;
     fs::rename(rt, from, to)?;
     match folder_of(to) {
         "." => Ok(()),
@@ -117,8 +148,8 @@ fn rename_to<R: Files>(rt: &R, from: &str, to: &str) -> io::Result<()> {
     }
 }
 
-// The folder that a name stands in.
-fn folder_of(name: &str) -> &str
+/// The folder that a name stands in, lent from the name: `a` of `a/x`, `/` of `/x`, and `.` of `x` (POSIX, `dirname`).
+pub fn folder_of(name: &str) -> &str
     ensures { result.now ≡ folder_of name.now }
 {
     match Path::new(name).parent() {

@@ -3,9 +3,10 @@
 //! A [`Folder`] is known by what was done to it: its contracts speak of the list of those events, and the definitions of what a
 //! name stands for, and of what a crash may leave, are dconf_model's. [`MemoryFolder`] is that list, with a device that fails
 //! when it is told to, and crashes. [`StdFolder`] is the current folder of the host. [`replace`] works in any folder: it writes
-//! the new file whole, under a name of its own, before that takes the name of the old one.
+//! the new file whole, under a name of its own, before that takes the name of the old one. That name is the same for all, so
+//! several programs take turns: a [`FolderLock`] is one program's turn to replace files in a folder of the host.
 //!
-//! No call stops the program or runs without end. A fault is a [`FolderFault`]: of the device, which the folder counts, of a
+//! No call stops the program or runs without end; [`FolderLock::take`] waits for its turn, for ten seconds at most. A fault is a [`FolderFault`]: of the device, which the folder counts, of a
 //! file of more than [`LARGEST_FILE`] bytes, or of memory.
 //!
 //! A read holds a file's bytes once. On the host no other call copies any. A `MemoryFolder` is for tests: it keeps each byte that
@@ -21,11 +22,14 @@ mod crash;
 mod fault;
 mod folder;
 mod host;
+mod lock;
 mod memory;
+mod modes;
 mod replacing;
 
 pub use fault::FolderFault;
 pub use folder::{Folder, LARGEST_FILE};
-pub use host::StdFolder;
+pub use host::{StdFolder, folder_of};
+pub use lock::{FolderLock, LockFault};
 pub use memory::MemoryFolder;
 pub use replacing::replace;

@@ -1,11 +1,15 @@
-//! The program `dconfdb`: the words, the streams and the current folder, handed to dconf_cli.
+//! The program `dconfdb`: the words, the streams and the current folder, handed to dconf_cli, when it is this program's turn.
 #![tactic(auto)]
 
-use dconf_cli::{Counted, command, run};
-use dconf_disk::StdFolder;
+use dconf_cli::{Counted, run};
+use dconf_command::{Command, Replaced, command, user_file};
+use dconf_disk::{Folder, FolderLock, LockFault, StdFolder, folder_of};
 use std::env;
 use std::io::ErrorKind;
 use std::process::ExitCode;
+
+/// The status of a command that is refused.
+const REFUSED: u8 = 1;
 
 /// The status of wrong arguments, and of running out of memory while they are read.
 const USAGE: u8 = 2;
@@ -32,17 +36,7 @@ fn main(rt: HostRuntime) -> ExitCode {
         return ExitCode::from(USAGE);
     };
     match command(alloc, &words) {
-        Ok(asked) => {
-            let Ok(host) = rt.clone() else {
-                let _ = rt.eprintln("error: Memory");
-                return ExitCode::from(USAGE);
-            };
-            let mut folder = StdFolder::new(host);
-            let mut input = Counted::new(rt.stdin());
-            let mut out = Counted::new(rt.stdout());
-            let mut err = Counted::new(rt.stderr());
-            ExitCode::from(run(alloc, asked, &mut folder, &mut input, &mut out, &mut err))
-        }
+        Ok(asked) => ExitCode::from(run_in_turn(&rt, asked)),
         Err(error) => {
             let printed = error.print(&rt);
             if error.use_stderr() {
@@ -54,4 +48,55 @@ fn main(rt: HostRuntime) -> ExitCode {
             }
         }
     }
+}
+
+/// Runs the command. One that replaces a file holds the lock on the file's folder from before its first read until it ends.
+fn run_in_turn(rt: &HostRuntime, asked: Command) -> u8 {
+    let Some(replaced) = asked.replaced() else {
+        return run_on(rt, asked, StdFolder::read_only(rt));
+    };
+    let folder = match replaced {
+        Replaced::File(name) => folder_of(name),
+        Replaced::UserOf(_) => ".",
+    };
+    match FolderLock::take(rt, folder) {
+        Ok(_lock) => run_on(rt, asked, StdFolder::new(rt)),
+        Err(LockFault::Busy) => refuse_busy(rt, replaced),
+        // Without the lock nothing may be replaced, but what else is wrong is said first.
+        Err(LockFault::Device(_)) => run_on(rt, asked, StdFolder::read_only(rt)),
+    }
+}
+
+/// Runs the command on a folder and the streams of the process.
+fn run_on(rt: &HostRuntime, asked: Command, folder: StdFolder<&HostRuntime>) -> u8 {
+    let mut folder = folder;
+    let mut input = Counted::new(rt.stdin());
+    let mut out = Counted::new(rt.stdout());
+    let mut err = Counted::new(rt.stderr());
+    run(
+        rt.alloc(),
+        asked,
+        &mut folder,
+        &mut input,
+        &mut out,
+        &mut err,
+    )
+}
+
+/// Says on err which file others have been replacing all the time.
+fn refuse_busy(rt: &HostRuntime, replaced: Replaced<'_>) -> u8 {
+    let alloc = rt.alloc();
+    let name = match replaced {
+        Replaced::File(name) => String::from_str(alloc, name),
+        Replaced::UserOf(profile) => {
+            let found = StdFolder::read_only(rt).read(alloc, profile);
+            let bytes = found.ok().flatten().unwrap_or(Vec::new(alloc));
+            user_file(alloc, profile, &bytes)
+        }
+    };
+    let _ = match name {
+        Ok(name) => eprintln!(rt; "error: Busy {name}"),
+        Err(_) => rt.eprintln("error: Memory"),
+    };
+    REFUSED
 }

@@ -2,7 +2,7 @@
 ghost use Rattle.dconf_model.specs.Commands.Command.{reset as reset_of_key, reset_below as reset_of_directory};
 ghost use Rattle.dconf_model.specs.Outcomes.{IsOutcome};
 ghost use Rattle.dconf_model.specs.Reads.{Input};
-ghost use Rattle.dconf_cli.specs.Commands.{resetting};
+ghost use Rattle.dconf_command.specs.Commands.{resetting};
 ghost use Rattle.dconf_cli.specs.Readings.{Decides};
 
 use crate::answer::{Answer, refused};

@@ -2,7 +2,7 @@ use Rattle.std.proofs.Common.{◌≡◌, false, map, option_map, refl, string_by
 use Rattle.dconf_model.specs.Commands.{Command}
 use Rattle.dconf_model.specs.Commands.Command.{show, read, origin, check, compile, repair, list, list_locks, dump, write, load}
 use Rattle.dconf_model.specs.Outcomes.{IsOutcome}
-use Rattle.dconf_cli.specs.Commands.{command_of, resetting}
+use Rattle.dconf_command.specs.Commands.{command_of, resetting}
 use Rattle.dconf_cli.specs.Counted.{failures_of, inner_of}
 use Rattle.dconf_cli.specs.Readings.{Decides}
 use Rattle.dconf_cli.specs.Runs.{reads_input}

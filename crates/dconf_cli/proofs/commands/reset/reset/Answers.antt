@@ -1,6 +1,6 @@
 use Rattle.std.proofs.Common.{Bool, subst, sym}
 use Rattle.dconf_model.specs.Outcomes.{IsOutcome}
-use Rattle.dconf_cli.specs.Commands.{resetting}
+use Rattle.dconf_command.specs.Commands.{resetting}
 use Rattle.dconf_cli.specs.Readings.{Decides}
 use Rattle.dconf_cli.proofs.commands.reset.reset.Goals as goal
 

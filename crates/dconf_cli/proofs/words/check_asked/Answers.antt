@@ -1,5 +1,0 @@
-use Rattle.dconf_cli.proofs.Subcommands.{asks_to_check}
-use Rattle.dconf_cli.proofs.words.check_asked.Goals as goal
-
-pub returns : goal.returns
-returns c = λ words named. asks_to_check words _ _ named c.in_ok-value.ensures

@@ -1,5 +1,0 @@
-use Rattle.dconf_cli.proofs.Subcommands.{asks_to_compile}
-use Rattle.dconf_cli.proofs.words.compile_asked.Goals as goal
-
-pub returns : goal.returns
-returns c = λ words named. asks_to_compile words _ _ _ _ named c.in_ok-value.ensures c.in_ok-value_if_any.ensures c.in_ok-values.ensures

@@ -1,5 +1,0 @@
-use Rattle.dconf_cli.proofs.Subcommands.{asks_for_origin}
-use Rattle.dconf_cli.proofs.words.origin_asked.Goals as goal
-
-pub returns : goal.returns
-returns c = λ words named. asks_for_origin words _ _ _ named c.in_ok-value.ensures c.in_ok-profile_value.ensures

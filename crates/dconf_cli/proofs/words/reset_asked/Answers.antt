@@ -1,5 +1,0 @@
-use Rattle.dconf_cli.proofs.Subcommands.{asks_to_reset}
-use Rattle.dconf_cli.proofs.words.reset_asked.Goals as goal
-
-pub returns : goal.returns
-returns c = λ words named. asks_to_reset words _ _ _ _ named c.is_given.ensures c.in_ok-value.ensures c.in_ok-profile_value.ensures

@@ -1,5 +1,0 @@
-use Rattle.dconf_cli.proofs.Subcommands.{asks_to_show}
-use Rattle.dconf_cli.proofs.words.show_asked.Goals as goal
-
-pub returns : goal.returns
-returns c = λ words named. asks_to_show words _ _ _ named c.in_ok-value.ensures c.in_ok-value-2.ensures

@@ -1,5 +1,0 @@
-use Rattle.dconf_cli.proofs.Subcommands.{asks_to_write}
-use Rattle.dconf_cli.proofs.words.write_asked.Goals as goal
-
-pub returns : goal.returns
-returns c = λ words named. asks_to_write words _ _ _ _ named c.in_ok-value.ensures c.in_ok-value-2.ensures c.in_ok-profile_value.ensures

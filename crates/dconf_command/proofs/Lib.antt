@@ -1,0 +1,4 @@
+pub mod Filled
+pub mod Subcommands
+pub mod Lines
+pub mod Stops

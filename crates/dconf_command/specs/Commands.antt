@@ -1,0 +1,25 @@
+-- The model's command of ours.
+use Rattle.std.specs.Prelude.{ℕ, Bool, true, false, List, map, option_map, string_bytes, vec_items}
+use Rattle.dconf_model.specs.Commands.{Command as Asked}
+use Rattle.dconf_model.specs.Commands.Command.{show, read, list, list_locks, write, reset, reset_below, load, dump, origin, check, compile, repair}
+use Rattle.dconf_command.specs.declared.asked.Command.{Command}
+use Rattle.dconf_command.specs.declared.asked.Command.TheVariants.{Show, Read, List as ListIt, ListLocks, Write, Reset, Load, Dump, Origin, Check, Compile, Repair}
+
+-- of all keys below a directory, or of a key
+abbrev pub resetting : Bool → List ℕ → List ℕ → Asked
+resetting true path profile = reset_below path profile
+resetting false path profile = reset path profile
+
+abbrev pub command_of : Command → Asked
+command_of (Show type_text file) = show (string_bytes type_text) (string_bytes file)
+command_of (Read default key profile) = read default (string_bytes key) (string_bytes profile)
+command_of (Origin key profile) = origin (string_bytes key) (string_bytes profile)
+command_of (ListIt directory profile) = list (string_bytes directory) (string_bytes profile)
+command_of (ListLocks directory profile) = list_locks (string_bytes directory) (string_bytes profile)
+command_of (Dump directory profile) = dump (string_bytes directory) (string_bytes profile)
+command_of (Check file) = check (string_bytes file)
+command_of (Compile out locks keyfiles) = compile (string_bytes out) (option_map string_bytes locks) (map string_bytes (vec_items keyfiles))
+command_of (Repair file out) = repair (string_bytes file) (string_bytes out)
+command_of (Write key value profile) = write (string_bytes key) (string_bytes value) (string_bytes profile)
+command_of (Reset force path profile) = resetting force (string_bytes path) (string_bytes profile)
+command_of (Load force directory profile) = load force (string_bytes directory) (string_bytes profile)

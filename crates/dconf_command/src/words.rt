@@ -1,0 +1,272 @@
+//! The words of a command line: the command that they ask for, by what clap gives its arguments.
+ghost use Rattle.std.specs.Prelude.{◌≡◌, [], codes, List, IfOk, Some, map, option_map, string_bytes, unwrap_or, vec_items};
+ghost use Rattle.clap.specs.Words.{FailsBy, Text, fault_of, first_value, found_of, matched_of, raw_values};
+ghost use Rattle.dconf_command.specs.Asked.{AreOf, HasValue, IsAskedBy, IsParsedBy, is_set, profile_file};
+ghost use Rattle.dconf_command.specs.CommandLine.{command_line};
+
+use crate::asked::Command;
+use crate::command_line::dconfdb;
+use clap::ArgMatches;
+use std::alloc::{AllocError, Global};
+
+/// The command that the words ask for, where the first word is the program's name and a word after
+/// `--` is a value even if it starts with `-`.
+///
+/// An error is clap's own: its `Display` is the text for the user, and its `exit_code` the status.
+/// It is a fault in the words, a request for help or the version, or `OutOfMemory`.
+///
+/// It costs a few short lists for clap, and a copy of the words in the answer.
+pub fn command(alloc: Global, words: &[String]) -> Result<Command, clap::Error>
+    ensures asked { IfOk result (IsAskedBy (map string_bytes words.now)) }
+    ensures faults { FailsBy (fault_of command_line (map string_bytes words.now)) result }
+{
+    let matches = parsed(alloc, words)?;
+    Ok(asked(alloc, &matches)?)
+}
+
+// What clap gives the arguments.
+fn parsed<'a>(alloc: Global, words: &'a [String]) -> Result<ArgMatches<'a>, clap::Error>
+    ensures ok { IfOk result (IsParsedBy (map string_bytes words.now)) }
+    ensures err { FailsBy (fault_of command_line (map string_bytes words.now)) result }
+{
+    dconfdb(alloc)?.try_get_matches_from(words)
+}
+
+// The command that was named, with its values.
+fn asked(alloc: Global, matches: &ArgMatches<'_>) -> Result<Command, AllocError>
+    requires { (words : List Text) × IsParsedBy words matches.now }
+    ensures { IfOk result (λ command. (words : List Text) → IsParsedBy words matches.now → IsAskedBy words command) }
+{
+    if let Some(check) = matches.subcommand_matches("check") {
+        return check_asked(alloc, check);
+    }
+    if let Some(compile) = matches.subcommand_matches("compile") {
+        return compile_asked(alloc, compile);
+    }
+    if let Some(read) = matches.subcommand_matches("read") {
+        return read_asked(alloc, read);
+    }
+    if let Some(origin) = matches.subcommand_matches("origin") {
+        return origin_asked(alloc, origin);
+    }
+    if let Some(repair) = matches.subcommand_matches("repair") {
+        return repair_asked(alloc, repair);
+    }
+    if let Some(list) = matches.subcommand_matches("list") {
+        return list_asked(alloc, list);
+    }
+    if let Some(list_locks) = matches.subcommand_matches("list-locks") {
+        return list_locks_asked(alloc, list_locks);
+    }
+    if let Some(dump) = matches.subcommand_matches("dump") {
+        return dump_asked(alloc, dump);
+    }
+    if let Some(write) = matches.subcommand_matches("write") {
+        return write_asked(alloc, write);
+    }
+    if let Some(reset) = matches.subcommand_matches("reset") {
+        return reset_asked(alloc, reset);
+    }
+    if let Some(load) = matches.subcommand_matches("load") {
+        return load_asked(alloc, load);
+    }
+    show_asked(alloc, matches.subcommand_matches("show").unwrap())
+}
+
+// `check FILE`.
+fn check_asked(alloc: Global, check: &ArgMatches<'_>) -> Result<Command, AllocError>
+    requires { HasValue check.now (codes "FILE") }
+    ensures { IfOk result (λ command. (words : List Text) → AreOf words (codes "check") check.now → IsAskedBy words command) }
+{
+    Ok(Command::Check {
+        file: value(alloc, check, "FILE")?,
+    })
+}
+
+// `compile OUT [--locks FILE] [KEYFILE..]`.
+fn compile_asked(alloc: Global, compile: &ArgMatches<'_>) -> Result<Command, AllocError>
+    requires { HasValue compile.now (codes "OUT") }
+    ensures { IfOk result (λ command. (words : List Text) → AreOf words (codes "compile") compile.now → IsAskedBy words command) }
+{
+    Ok(Command::Compile {
+        out: value(alloc, compile, "OUT")?,
+        locks: value_if_any(alloc, compile, "locks")?,
+        keyfiles: values(alloc, compile, "KEYFILE")?,
+    })
+}
+
+// `read [-d] [-p FILE] KEY`.
+fn read_asked(alloc: Global, read: &ArgMatches<'_>) -> Result<Command, AllocError>
+    requires { HasValue read.now (codes "KEY") }
+    ensures { IfOk result (λ command. (words : List Text) → AreOf words (codes "read") read.now → IsAskedBy words command) }
+{
+    Ok(Command::Read {
+        default: is_given(read, "default"),
+        key: value(alloc, read, "KEY")?,
+        profile: profile_value(alloc, read)?,
+    })
+}
+
+// `origin [-p FILE] KEY`.
+fn origin_asked(alloc: Global, origin: &ArgMatches<'_>) -> Result<Command, AllocError>
+    requires { HasValue origin.now (codes "KEY") }
+    ensures { IfOk result (λ command. (words : List Text) → AreOf words (codes "origin") origin.now → IsAskedBy words command) }
+{
+    Ok(Command::Origin {
+        key: value(alloc, origin, "KEY")?,
+        profile: profile_value(alloc, origin)?,
+    })
+}
+
+// `repair FILE OUT`.
+fn repair_asked(alloc: Global, repair: &ArgMatches<'_>) -> Result<Command, AllocError>
+    requires file { HasValue repair.now (codes "FILE") }
+    requires out { HasValue repair.now (codes "OUT") }
+    ensures { IfOk result (λ command. (words : List Text) → AreOf words (codes "repair") repair.now → IsAskedBy words command) }
+{
+    Ok(Command::Repair {
+        file: value(alloc, repair, "FILE")?,
+        out: value(alloc, repair, "OUT")?,
+    })
+}
+
+// `list [-p FILE] DIR`.
+fn list_asked(alloc: Global, list: &ArgMatches<'_>) -> Result<Command, AllocError>
+    requires { HasValue list.now (codes "DIR") }
+    ensures { IfOk result (λ command. (words : List Text) → AreOf words (codes "list") list.now → IsAskedBy words command) }
+{
+    Ok(Command::List {
+        directory: value(alloc, list, "DIR")?,
+        profile: profile_value(alloc, list)?,
+    })
+}
+
+// `list-locks [-p FILE] DIR`.
+fn list_locks_asked(alloc: Global, list_locks: &ArgMatches<'_>) -> Result<Command, AllocError>
+    requires { HasValue list_locks.now (codes "DIR") }
+    ensures { IfOk result (λ command. (words : List Text) → AreOf words (codes "list-locks") list_locks.now → IsAskedBy words command) }
+{
+    Ok(Command::ListLocks {
+        directory: value(alloc, list_locks, "DIR")?,
+        profile: profile_value(alloc, list_locks)?,
+    })
+}
+
+// `dump [-p FILE] DIR`.
+fn dump_asked(alloc: Global, dump: &ArgMatches<'_>) -> Result<Command, AllocError>
+    requires { HasValue dump.now (codes "DIR") }
+    ensures { IfOk result (λ command. (words : List Text) → AreOf words (codes "dump") dump.now → IsAskedBy words command) }
+{
+    Ok(Command::Dump {
+        directory: value(alloc, dump, "DIR")?,
+        profile: profile_value(alloc, dump)?,
+    })
+}
+
+// `write [-p FILE] KEY VALUE`.
+fn write_asked(alloc: Global, write: &ArgMatches<'_>) -> Result<Command, AllocError>
+    requires key { HasValue write.now (codes "KEY") }
+    requires value { HasValue write.now (codes "VALUE") }
+    ensures { IfOk result (λ command. (words : List Text) → AreOf words (codes "write") write.now → IsAskedBy words command) }
+{
+    Ok(Command::Write {
+        key: value(alloc, write, "KEY")?,
+        value: value(alloc, write, "VALUE")?,
+        profile: profile_value(alloc, write)?,
+    })
+}
+
+// `reset [-f] [-p FILE] PATH`.
+fn reset_asked(alloc: Global, reset: &ArgMatches<'_>) -> Result<Command, AllocError>
+    requires { HasValue reset.now (codes "PATH") }
+    ensures { IfOk result (λ command. (words : List Text) → AreOf words (codes "reset") reset.now → IsAskedBy words command) }
+{
+    Ok(Command::Reset {
+        force: is_given(reset, "force"),
+        path: value(alloc, reset, "PATH")?,
+        profile: profile_value(alloc, reset)?,
+    })
+}
+
+// `load [-f] [-p FILE] DIR`.
+fn load_asked(alloc: Global, load: &ArgMatches<'_>) -> Result<Command, AllocError>
+    requires { HasValue load.now (codes "DIR") }
+    ensures { IfOk result (λ command. (words : List Text) → AreOf words (codes "load") load.now → IsAskedBy words command) }
+{
+    Ok(Command::Load {
+        force: is_given(load, "force"),
+        directory: value(alloc, load, "DIR")?,
+        profile: profile_value(alloc, load)?,
+    })
+}
+
+// `show TYPE FILE`.
+fn show_asked(alloc: Global, show: &ArgMatches<'_>) -> Result<Command, AllocError>
+    requires type_text { HasValue show.now (codes "TYPE") }
+    requires file { HasValue show.now (codes "FILE") }
+    ensures { IfOk result (λ command. (words : List Text) → AreOf words (codes "show") show.now → IsAskedBy words command) }
+{
+    Ok(Command::Show {
+        type_text: value(alloc, show, "TYPE")?,
+        file: value(alloc, show, "FILE")?,
+    })
+}
+
+// The value of an argument that has one.
+fn value(alloc: Global, matches: &ArgMatches<'_>, id: &str) -> Result<String, AllocError>
+    requires { HasValue matches.now id.now }
+    ensures { IfOk result (λ text.
+        first_value (found_of matches.now) id.now ≡ Some (string_bytes text)) }
+{
+    String::from_str(alloc, matches.get_str(id).unwrap())
+}
+
+// The value of an argument that may be left out.
+fn value_if_any(
+    alloc: Global,
+    matches: &ArgMatches<'_>,
+    id: &str,
+) -> Result<Option<String>, AllocError>
+    ensures { IfOk result (λ text. option_map string_bytes text ≡ first_value (found_of matches.now) id.now) }
+{
+    match matches.get_str(id) {
+        Some(text) => Ok(Some(String::from_str(alloc, text)?)),
+        None => Ok(None),
+    }
+}
+
+// Whether a flag is among the words.
+fn is_given(matches: &ArgMatches<'_>, id: &str) -> bool
+    ensures { result ≡ is_set (first_value (found_of matches.now) id.now) }
+{
+    match matches.get_str(id) {
+        Some(text) => text == "true",
+        None => false,
+    }
+}
+
+// The name of the profile's file.
+fn profile_value(alloc: Global, matches: &ArgMatches<'_>) -> Result<String, AllocError>
+    ensures { IfOk result (λ text. string_bytes text ≡ profile_file (first_value (found_of matches.now) (codes "profile"))) }
+{
+    String::from_str(alloc, matches.get_str("profile").unwrap_or("profile"))
+}
+
+// The values of an argument that may have several, or none.
+fn values(alloc: Global, matches: &ArgMatches<'_>, id: &str) -> Result<Vec<String>, AllocError>
+    ensures { IfOk result (λ texts. map string_bytes (vec_items texts)
+        ≡ unwrap_or (option_map raw_values (matched_of (found_of matches.now) id.now)) []) }
+{
+    copies(alloc, matches.get_strs(id).unwrap_or(&[]))
+}
+
+// A copy of each text.
+fn copies(alloc: Global, texts: &[&str]) -> Result<Vec<String>, AllocError>
+    ensures { IfOk result (λ copies. map string_bytes (vec_items copies) ≡ map (λ text. text.now) texts.now) }
+{
+    let mut copies = Vec::new(alloc);
+    for text in texts {
+        copies.push(String::from_str(alloc, text)?)?;
+    }
+    Ok(copies)
+}
