@@ -1,93 +1,73 @@
-//! `compile` over a folder in memory: what it makes, and the line for each kind of fault.
-use crate::runs::{compiled, folder_of, kept};
-use std::alloc::Global;
+//! `compile`: what it makes, and the line for each kind of fault.
+use crate::script::{folder_of, have_lengths, runs};
 use std::test::Fail;
 
-/// Two keyfiles, the later one handed in first.
-const LATER: &str = "[a]\nk=2\n";
+const FILES: [(&str, &str); 13] = [
+    ("10-b", "[a]\nk=2\n"),
+    ("00-a", "[a]\nk=1\nj=3\n[/]\nr='x'\n"),
+    ("one", "[/]\nk=5\n"),
+    ("equal", "[/]\na=5\nb=5\n"),
+    ("locks", "/a/k\n# c\n/a/\n"),
+    ("own", "[/]\nk=5\n"),
+    ("00-token", "[a]\nk=oops\n"),
+    ("20-line", "[a]\nnonsense\n"),
+    ("double", "[a]\nk=1.5\n"),
+    ("name", "[a]\nk[de]=1\n"),
+    ("none", "k=1\n"),
+    ("group", "[/a]\n"),
+    ("lock", "/a//\n"),
+];
 
-const FIRST: &str = "[a]\nk=1\nj=3\n[/]\nr='x'\n";
+// The later keyfile is handed in first. Equal values are stored once. The last database is its own keyfile.
+const MADE: &str = "
+$ compile layers 10-b 00-a => 0
+$ check layers => 0
+sound
+$ compile small one => 0
+$ check small => 0
+sound
+$ compile once equal => 0
+$ check once => 0
+sound
+$ compile --locks locks locked one => 0
+$ check locked => 0
+sound
+$ compile own own => 0
+$ check own => 0
+sound
+";
 
-/// Compiles the files, of which `locks` is the lock file. An error says that this isn't what is left.
-fn wants(alloc: Global, files: &[(&str, &str)], wanted: &str) -> Result<(), Fail> {
-    let mut folder = folder_of(alloc, files)?;
-    let left = compiled(alloc, files, &mut folder)?;
-    let kept = kept(alloc, &mut folder)?;
-    let ran = format!(in alloc; "{left}{kept}")?;
-    if ran.as_str() == wanted {
-        Ok(())
-    } else {
-        Err(Fail::from(ran))
-    }
-}
+const FAULTS: &str = "
+$ compile out 10-b 00-token => 1
+! error: 00-token:2: BadToken at 0..4
+$ compile out 20-line 00-a => 1
+! error: 20-line:2: BadLine
+$ compile out double => 1
+! error: double:2: DoubleText at 0..3
+$ compile out name => 1
+! error: name:2: BadKeyName
+$ compile out none => 1
+! error: none:1: NoGroup
+$ compile out group => 1
+! error: group:1: BadGroup
+$ compile --locks lock out 00-a => 1
+! error: lock:1: LockNotKey
+$ check out => 1
+! error: NoFile out
+";
 
 #[test]
-fn makes_databases(rt: HostRuntime) -> Result<(), Fail> {
-    let rows = [
-        (
-            [("10-b", LATER), ("00-a", FIRST)].as_slice(),
-            "0 out= err=220 bytes, sound\n",
-        ),
-        (
-            [("f", "[/]\nk=5\n")].as_slice(),
-            "0 out= err=110 bytes, sound\n",
-        ),
-        // Equal values are stored once.
-        (
-            [("f", "[/]\na=5\nb=5\n")].as_slice(),
-            "0 out= err=142 bytes, sound\n",
-        ),
-        // Locks of a key and of a directory.
-        (
-            [("f", "[/]\nk=5\n"), ("locks", "/a/k\n# c\n/a/\n")].as_slice(),
-            "0 out= err=219 bytes, sound\n",
-        ),
-        // The database is one of its own keyfiles.
-        (
-            [("out.db", "[/]\nk=5\n")].as_slice(),
-            "0 out= err=110 bytes, sound\n",
-        ),
+fn makes_a_database_or_names_the_first_fault(rt: HostRuntime) -> Result<(), Fail> {
+    let alloc = rt.alloc();
+    let mut folder = folder_of(alloc, &FILES)?;
+    runs(alloc, MADE, &mut folder)?;
+    let lengths = [
+        ("layers", 220),
+        ("small", 110),
+        ("once", 142),
+        ("locked", 219),
+        ("own", 110),
     ];
-    for (files, wanted) in rows {
-        wants(rt.alloc(), files, wanted)?;
-    }
-    Ok(())
-}
-
-#[test]
-fn names_the_first_fault(rt: HostRuntime) -> Result<(), Fail> {
-    let rows = [
-        (
-            [("10-b", LATER), ("00-a", "[a]\nk=oops\n")].as_slice(),
-            "1 out= err=error: 00-a:2: BadToken at 0..4\n",
-        ),
-        (
-            [("20-c", "[a]\nnonsense\n"), ("00-a", FIRST)].as_slice(),
-            "1 out= err=error: 20-c:2: BadLine\n",
-        ),
-        (
-            [("f", "[a]\nk=1.5\n")].as_slice(),
-            "1 out= err=error: f:2: DoubleText at 0..3\n",
-        ),
-        (
-            [("f", "[a]\nk[de]=1\n")].as_slice(),
-            "1 out= err=error: f:2: BadKeyName\n",
-        ),
-        (
-            [("f", "k=1\n")].as_slice(),
-            "1 out= err=error: f:1: NoGroup\n",
-        ),
-        (
-            [("f", "[/a]\n")].as_slice(),
-            "1 out= err=error: f:1: BadGroup\n",
-        ),
-        (
-            [("f", FIRST), ("locks", "/a//\n")].as_slice(),
-            "1 out= err=error: locks:1: LockNotKey\n",
-        ),
-    ];
-    for (files, wanted) in rows {
-        wants(rt.alloc(), files, wanted)?;
-    }
-    Ok(())
+    have_lengths(alloc, &mut folder, &lengths)?;
+    runs(alloc, FAULTS, &mut folder)
 }

@@ -13,11 +13,13 @@ mod containers;
 #[cfg(test)]
 mod counted;
 #[cfg(test)]
+mod deep;
+#[cfg(test)]
 mod failing;
 #[cfg(test)]
 mod input;
 #[cfg(test)]
-mod limits;
+mod layers;
 #[cfg(test)]
 mod listing;
 #[cfg(test)]
@@ -25,7 +27,9 @@ mod loading;
 #[cfg(test)]
 mod repairing;
 #[cfg(test)]
-mod runs;
+mod sample;
+#[cfg(test)]
+mod script;
 #[cfg(test)]
 mod settings;
 #[cfg(test)]

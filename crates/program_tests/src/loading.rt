@@ -1,317 +1,386 @@
-//! `load` over a folder in memory: what it leaves in it, which refusal comes first, and the line for each kind of fault.
-use crate::changes::{DEEP, DONE, ran, ran_on, two_layers, wants_all, wants_on};
-use crate::input::marked;
-use crate::runs::folder_of;
-use dconf_cli::Counted;
+//! `load`: what it leaves, and which refusal comes first.
+use crate::layers::{DEEP, two_layers};
+use crate::script::{bytes_of, folder_of, leaves_on, runs};
+use crate::streams::{Source, Streams};
 use dconf_disk::{Folder, MemoryFolder};
 use std::alloc::Global;
 use std::io::ErrorKind;
 use std::test::Fail;
 
-/// Runs lines in their order, each on its input and before its wanted outcome.
-fn wants_rows(
-    alloc: Global,
-    rows: &[(&str, &str, &str)],
-    folder: &mut MemoryFolder,
-) -> Result<(), Fail> {
-    for (line, text, wanted) in rows {
-        wants_on(alloc, line, text, wanted, folder)?;
-    }
-    Ok(())
-}
+// Of several locked rows the first is named.
+const REFUSED_ROWS: &str = "
+$ load /
+[a]
+j=3
+k=4
+=> 1
+! error: Locked /a/k
+$ load /
+[b/c]
+x=3
+[a]
+k=4
+=> 1
+! error: Locked /b/c/x
+$ load /a/
+[/]
+k=4
+=> 1
+! error: Locked /a/k
+";
 
-/// The bytes of the user's database.
-fn user_file(alloc: Global, folder: &mut MemoryFolder) -> Result<Vec<u8>, Fail> {
-    match folder.read(alloc, "me.user") {
-        Ok(Some(bytes)) => Ok(bytes),
-        _ => Err(Fail::from("me.user is missing")),
-    }
-}
+// The locked rows are left out.
+const FORCED_ROWS: &str = "
+$ load -f /
+[b]
+x=3
+[a]
+j=3
+k=4
+=> 0
+$ read /a/j => 0
+3
+$ read -p own /a/j => 0
+3
+$ read -p own /a/k => 0
+1
+$ read -p own /b/x => 0
+$ check me.user => 0
+sound
+";
 
 #[test]
 fn a_locked_row_refuses_all_rows(rt: HostRuntime) -> Result<(), Fail> {
     let alloc = rt.alloc();
     let mut folder = two_layers(alloc, "/a/k\n/b/\n")?;
-    let before = user_file(alloc, &mut folder)?;
-    let refused = [
-        (
-            "dconfdb load /",
-            "[a]\nj=3\nk=4\n",
-            "1 out= err=error: Locked /a/k\n",
-        ),
-        // Of several the first row is named.
-        (
-            "dconfdb load /",
-            "[b/c]\nx=3\n[a]\nk=4\n",
-            "1 out= err=error: Locked /b/c/x\n",
-        ),
-        (
-            "dconfdb load /a/",
-            "[/]\nk=4\n",
-            "1 out= err=error: Locked /a/k\n",
-        ),
-    ];
-    wants_rows(alloc, &refused, &mut folder)?;
-    assert!(rt; user_file(alloc, &mut folder)?.as_slice() == before.as_slice());
-    let forced = [
-        ("dconfdb load -f /", "[b]\nx=3\n[a]\nj=3\nk=4\n", DONE),
-        ("dconfdb read /a/j", "", "0 out=3\n err="),
-        ("dconfdb read -p own /a/j", "", "0 out=3\n err="),
-        // The locked rows were left out.
-        ("dconfdb read -p own /a/k", "", "0 out=1\n err="),
-        ("dconfdb read -p own /b/x", "", DONE),
-        ("dconfdb check me.user", "", "0 out=sound\n err="),
-    ];
-    wants_rows(alloc, &forced, &mut folder)
+    let before = bytes_of(alloc, &mut folder, "me.user")?;
+    runs(alloc, REFUSED_ROWS, &mut folder)?;
+    let after = bytes_of(alloc, &mut folder, "me.user")?;
+    assert!(rt; before.as_slice() == after.as_slice());
+    runs(alloc, FORCED_ROWS, &mut folder)
 }
+
+// What `dump` printed is loaded below another directory, and what no row names is kept.
+const DUMPED: &str = "
+$ load /
+[/]
+x='hi'
+[a/b]
+k=uint32 5
+=> 0
+$ dump / => 0
+[/]
+x='hi'
+
+[a/b]
+k=uint32 5
+$ dump /a/ => 0
+[b]
+k=uint32 5
+$ load /z/
+[b]
+k=uint32 5
+=> 0
+$ read /z/b/k => 0
+uint32 5
+$ read /a/b/k => 0
+uint32 5
+$ read /x => 0
+'hi'
+$ check me.user => 0
+sound
+";
+
+// Of rows of one path the last counts.
+const NO_ROWS: &str = "
+$ load / => 0
+$ load -f /a/
+# none
+
+[b]
+=> 0
+$ read -p own /a/k => 0
+1
+$ load /
+[a]
+k=7
+[b]
+k=8
+[a]
+k=9
+=> 0
+$ read /a/k => 0
+9
+";
+
+// There is no file of the user's, and then one without keys.
+const NO_KEYS: &str = "
+$ check me.user => 1
+! error: NoFile me.user
+$ load / -p empty => 1
+! error: NotWritable
+$ load / => 0
+$ check me.user => 0
+sound
+$ list / => 0
+";
 
 #[test]
-fn loads_what_dump_printed(rt: HostRuntime) -> Result<(), Fail> {
+fn loads_what_dump_printed_or_nothing(rt: HostRuntime) -> Result<(), Fail> {
     let alloc = rt.alloc();
-    let mut folder = folder_of(alloc, &[("profile", "user-db:me\n")])?;
-    let rows = [
-        ("dconfdb load /", "[/]\nx='hi'\n[a/b]\nk=uint32 5\n", DONE),
-        (
-            "dconfdb dump /",
-            "",
-            "0 out=[/]\nx='hi'\n\n[a/b]\nk=uint32 5\n err=",
-        ),
-        ("dconfdb dump /a/", "", "0 out=[b]\nk=uint32 5\n err="),
-    ];
-    wants_rows(alloc, &rows, &mut folder)?;
-    let dumped = ran(alloc, "dconfdb dump /a/", &mut folder)?;
-    let text = dumped
-        .as_str()
-        .trim_start_matches("0 out=")
-        .trim_end_matches(" err=");
-    wants_on(alloc, "dconfdb load /z/", text, DONE, &mut folder)?;
-    let lines = [
-        ("dconfdb read /z/b/k", "0 out=uint32 5\n err="),
-        // What no row names is kept.
-        ("dconfdb read /a/b/k", "0 out=uint32 5\n err="),
-        ("dconfdb read /x", "0 out='hi'\n err="),
-        ("dconfdb check me.user", "0 out=sound\n err="),
-    ];
-    wants_all(alloc, &lines, &mut folder)
+    let files = [("profile", "user-db:me\n"), ("empty", "")];
+    runs(alloc, DUMPED, &mut folder_of(alloc, &files)?)?;
+    runs(alloc, NO_ROWS, &mut two_layers(alloc, "")?)?;
+    runs(alloc, NO_KEYS, &mut folder_of(alloc, &files)?)
 }
 
-#[test]
-fn saves_where_nothing_changes(rt: HostRuntime) -> Result<(), Fail> {
-    let alloc = rt.alloc();
-    let kept = [
-        ("dconfdb load /", "", DONE),
-        ("dconfdb load -f /a/", "# none\n\n[b]\n", DONE),
-        ("dconfdb read -p own /a/k", "", "0 out=1\n err="),
-        // Of rows of one path the last counts.
-        ("dconfdb load /", "[a]\nk=7\n[b]\nk=8\n[a]\nk=9\n", DONE),
-        ("dconfdb read /a/k", "", "0 out=9\n err="),
-    ];
-    wants_rows(alloc, &kept, &mut two_layers(alloc, "")?)?;
-    // There is no file of the user's, and then one without keys.
-    let mut folder = folder_of(alloc, &[("profile", "user-db:me\n"), ("empty", "")])?;
-    let saved = [
-        (
-            "dconfdb check me.user",
-            "",
-            "1 out= err=error: NoFile me.user\n",
-        ),
-        (
-            "dconfdb load / -p empty",
-            "",
-            "1 out= err=error: NotWritable\n",
-        ),
-        ("dconfdb load /", "", DONE),
-        ("dconfdb check me.user", "", "0 out=sound\n err="),
-        ("dconfdb list /", "", DONE),
-    ];
-    wants_rows(alloc, &saved, &mut folder)
-}
+// All lines come before any value.
+const BAD_LINES: &str = "
+$ load /
+k=1
+=> 1
+! error: input:1: NoGroup
+$ load /
+[/a]
+=> 1
+! error: input:1: BadGroup
+$ load /
+#
+[a//b]
+k=1
+=> 1
+! error: input:2: BadGroup
+$ load /
+[a]
+k[de]=1
+=> 1
+! error: input:2: BadKeyName
+$ load /
+[a]
 
-#[test]
-fn names_the_line_of_the_input(rt: HostRuntime) -> Result<(), Fail> {
-    let alloc = rt.alloc();
-    let mut folder = two_layers(alloc, "/a/k\n")?;
-    let rows = [
-        ("k=1\n", "1 out= err=error: input:1: NoGroup\n"),
-        ("[/a]\n", "1 out= err=error: input:1: BadGroup\n"),
-        ("#\n[a//b]\nk=1\n", "1 out= err=error: input:2: BadGroup\n"),
-        ("[a]\nk[de]=1\n", "1 out= err=error: input:2: BadKeyName\n"),
-        ("[a]\n\na/b=1\n", "1 out= err=error: input:3: BadKeyName\n"),
-        (
-            "[a]\nk=oops\n",
-            "1 out= err=error: input:2: BadToken at 0..4\n",
-        ),
-        (
-            "[a]\nj=1\n\nk=1.5\n",
-            "1 out= err=error: input:4: DoubleText at 0..3\n",
-        ),
-        ("[a]\nk=[]\n", "1 out= err=error: input:2: Ambiguous\n"),
-        // All lines come before any value.
-        (
-            "[a]\nk=oops\nnonsense\n",
-            "1 out= err=error: input:3: BadLine\n",
-        ),
-    ];
-    for (text, wanted) in rows {
-        wants_on(alloc, "dconfdb load /", text, wanted, &mut folder)?;
-    }
-    let mut bytes = Counted::new(b"[a]\nk='\xff'\n".as_slice());
-    let left = ran_on(alloc, "dconfdb load /", &mut folder, &mut bytes)?;
-    assert_eq!(rt; left.as_str(), "1 out= err=error: input:2: NotUtf8\n");
-    Ok(())
-}
+a/b=1
+=> 1
+! error: input:3: BadKeyName
+$ load /
+[a]
+k=oops
+=> 1
+! error: input:2: BadToken at 0..4
+$ load /
+[a]
+j=1
 
-#[test]
-fn names_a_path_that_is_too_long(rt: HostRuntime) -> Result<(), Fail> {
-    let alloc = rt.alloc();
-    let mut text = String::from_str(alloc, "[/]\n")?;
-    for _ in 0..65_532 {
-        text.push('k')?;
-    }
-    text.push_str("=1\n")?;
-    // It is short enough below `/a/`, and one letter too long below `/aa/`.
-    let rows = [
-        ("dconfdb load /a/", text.as_str(), DONE),
-        (
-            "dconfdb load /aa/",
-            text.as_str(),
-            "1 out= err=error: input:2: TooLong\n",
-        ),
-    ];
-    wants_rows(alloc, &rows, &mut two_layers(alloc, "")?)
-}
+k=1.5
+=> 1
+! error: input:4: DoubleText at 0..3
+$ load /
+[a]
+k=[]
+=> 1
+! error: input:2: Ambiguous
+$ load /
+[a]
+k=oops
+nonsense
+=> 1
+! error: input:3: BadLine
+";
 
-#[test]
-fn an_input_that_fails_or_never_ends(rt: HostRuntime) -> Result<(), Fail> {
-    let alloc = rt.alloc();
-    let mut folder = two_layers(alloc, "")?;
-    let before = user_file(alloc, &mut folder)?;
-    // The reads of this comment are of 4,096 bytes, of 4 and of none.
-    for k in 1..4 {
-        let mut input = marked(4100, k, ErrorKind::Other);
-        let left = ran_on(alloc, "dconfdb load /", &mut folder, &mut input)?;
-        assert_eq!(rt; left.as_str(), "1 out= err=error: Device input\n");
-        assert_eq!(rt; input.failures(), 1);
-    }
-    let mut endless = marked(usize::MAX, 0, ErrorKind::Other);
-    let left = ran_on(alloc, "dconfdb load /", &mut folder, &mut endless)?;
-    assert_eq!(rt; left.as_str(), "1 out= err=error: input:0: TooBig\n");
-    assert_eq!(rt; endless.get_ref().left, usize::MAX - 16_777_217);
-    assert!(rt; user_file(alloc, &mut folder)?.as_slice() == before.as_slice());
-
-    let mut calm = marked(4100, 4, ErrorKind::Other);
-    let left = ran_on(alloc, "dconfdb load /", &mut folder, &mut calm)?;
-    assert_eq!(rt; left.as_str(), DONE);
-    assert_eq!(rt; calm.failures(), 0);
-    Ok(())
-}
-
-#[test]
-fn looks_at_the_input_before_any_file(rt: HostRuntime) -> Result<(), Fail> {
-    let alloc = rt.alloc();
-    let mut folder = two_layers(alloc, "/a/k\n")?;
-    folder.fail_at(1);
-    // The directory is refused before the input is read.
-    let lines = [
-        ("dconfdb load a/", "1 out= err=error: NotAbsolute\n"),
-        ("dconfdb load /a", "1 out= err=error: NoEndSlash\n"),
-        ("dconfdb load -f //", "1 out= err=error: DoubleSlash\n"),
-    ];
-    for (line, wanted) in lines {
-        let mut input = Counted::new(b"oops".as_slice());
-        let left = ran_on(alloc, line, &mut folder, &mut input)?;
-        assert_eq!(rt; left.as_str(), wanted);
-        assert_eq!(rt; input.get_ref().len(), 4);
-    }
-    let bad_line = "1 out= err=error: input:2: BadLine\n";
-    wants_on(
-        alloc,
-        "dconfdb load /",
-        "[a]\noops\n",
-        bad_line,
-        &mut folder,
-    )?;
-    let mut failing = marked(1, 1, ErrorKind::Interrupted);
-    let left = ran_on(alloc, "dconfdb load /", &mut folder, &mut failing)?;
-    assert_eq!(rt; left.as_str(), "1 out= err=error: Device input\n");
-    // So far no call of the folder was made.
-    assert_eq!(rt; folder.failures(), 0);
-    let profile = "1 out= err=error: Device profile\n";
-    wants_on(alloc, "dconfdb load /", "[a]\nj=1\n", profile, &mut folder)
-}
+// A layer that can't be written comes before a lock, and also without one.
+const BAD_LAYERS: &str = "
+$ load / -p none
+[a]
+k=4
+=> 1
+! error: NoFile none
+$ load / -p worse
+[a]
+k=4
+=> 1
+! error: worse:2: BadLine
+$ load / -p late
+[a]
+k=4
+=> 1
+! error: BadDatabase 0: Short
+$ load / -p cut
+[a]
+k=4
+=> 1
+! error: BadDatabase 1: Short
+$ load / -p theirs
+[a]
+k=4
+=> 1
+! error: NotWritable
+$ load -f / -p theirs
+[a]
+k=4
+=> 1
+! error: NotWritable
+$ load /
+[a]
+k=4
+=> 1
+! error: Locked /a/k
+";
 
 #[test]
 fn names_the_first_refusal_of_rows(rt: HostRuntime) -> Result<(), Fail> {
     let alloc = rt.alloc();
     let mut folder = two_layers(alloc, "/a/k\n")?;
-    let lines = [
-        ("dconfdb load / -p none", "1 out= err=error: NoFile none\n"),
-        (
-            "dconfdb load / -p worse",
-            "1 out= err=error: worse:2: BadLine\n",
-        ),
-        (
-            "dconfdb load / -p late",
-            "1 out= err=error: BadDatabase 0: Short\n",
-        ),
-        (
-            "dconfdb load / -p cut",
-            "1 out= err=error: BadDatabase 1: Short\n",
-        ),
-        // A layer that can't be written comes before a lock, and also without one.
-        (
-            "dconfdb load / -p theirs",
-            "1 out= err=error: NotWritable\n",
-        ),
-        (
-            "dconfdb load -f / -p theirs",
-            "1 out= err=error: NotWritable\n",
-        ),
-        ("dconfdb load /", "1 out= err=error: Locked /a/k\n"),
-    ];
-    for (line, wanted) in lines {
-        wants_on(alloc, line, "[a]\nk=4\n", wanted, &mut folder)?;
-    }
+    runs(alloc, BAD_LINES, &mut folder)?;
+    let bytes = Source::bytes(b"[a]\nk='\xff'\n");
+    let mut streams = Streams::calm(alloc, bytes);
+    let wanted = "1\n! error: input:2: NotUtf8\n";
+    leaves_on(alloc, "load /", &mut folder, &mut streams, wanted)?;
+    runs(alloc, BAD_LAYERS, &mut folder)?;
     // All databases are read before one is opened.
     folder.fail_at(3);
-    let device = "1 out= err=error: Device site.db\n";
-    wants_on(alloc, "dconfdb load / -p late", "", device, &mut folder)
+    let device = "$ load / -p late => 1\n! error: Device site.db\n";
+    runs(alloc, device, &mut folder)
+}
+
+// `@` stands for a value that is too deep. A row that a later one replaces counts too, and a locked row that is left out doesn't.
+const TOO_DEEP: &str = "
+$ load / -p cut
+[a]
+j=@
+j=3
+=> 1
+! error: BadDatabase 1: Short
+$ load /
+[a]
+j=@
+k=3
+=> 1
+! error: Locked /a/k
+$ load /
+[a]
+j=@
+j=3
+=> 1
+! error: TooLarge
+$ load -f /
+[a]
+j=@
+k=3
+=> 1
+! error: TooLarge
+$ read /a/j => 0
+$ load -f /
+[a]
+j=3
+k=@
+=> 0
+$ read /a/j => 0
+3
+";
+
+// `@` stands for a name that just fits below `/a/`, and has one letter too many below `/aa/`.
+const TOO_LONG: &str = "
+$ load /a/
+[/]
+@=1
+=> 0
+$ load /aa/
+[/]
+@=1
+=> 1
+! error: input:2: TooLong
+";
+
+/// The text with another for each `@`.
+fn with(alloc: Global, text: &str, other: &str) -> Result<String, Fail> {
+    let mut whole = String::new(alloc);
+    for part in text.split('@') {
+        if !whole.is_empty() {
+            whole.push_str(other)?;
+        }
+        whole.push_str(part)?;
+    }
+    Ok(whole)
 }
 
 #[test]
 fn rows_that_are_too_large(rt: HostRuntime) -> Result<(), Fail> {
     let alloc = rt.alloc();
-    let deep = DEEP.trim_start_matches("dconfdb write /a/k ");
-    let locked = format!(in alloc; "[a]\nj=3\nk={deep}\n")?;
-    let free = format!(in alloc; "[a]\nj={deep}\nj=3\n")?;
-    let both = format!(in alloc; "[a]\nj={deep}\nk=3\n")?;
-    let rows = [
-        (
-            "dconfdb load / -p cut",
-            free.as_str(),
-            "1 out= err=error: BadDatabase 1: Short\n",
-        ),
-        // A lock comes first.
-        (
-            "dconfdb load /",
-            both.as_str(),
-            "1 out= err=error: Locked /a/k\n",
-        ),
-        // A row that a later one replaces counts too.
-        (
-            "dconfdb load /",
-            free.as_str(),
-            "1 out= err=error: TooLarge\n",
-        ),
-        (
-            "dconfdb load -f /",
-            both.as_str(),
-            "1 out= err=error: TooLarge\n",
-        ),
-        ("dconfdb read /a/j", "", DONE),
-        // A locked row that is left out doesn't.
-        ("dconfdb load -f /", locked.as_str(), DONE),
-        ("dconfdb read /a/j", "", "0 out=3\n err="),
-    ];
-    wants_rows(alloc, &rows, &mut two_layers(alloc, "/a/k\n")?)
+    let deep = with(alloc, TOO_DEEP, DEEP)?;
+    runs(alloc, &deep, &mut two_layers(alloc, "/a/k\n")?)?;
+    let long = with(alloc, TOO_LONG, &"k".repeat(alloc, 65_532)?)?;
+    runs(alloc, &long, &mut two_layers(alloc, "")?)
+}
+
+/// The words, how many `#` the input has, which read fails, and how many `#` are left; then what the run leaves.
+type OnMarks<'a> = (&'a str, usize, usize, usize, &'a str);
+
+/// Runs each row, whose input then has failed so often. An error names the first that leaves something else.
+fn each_on_marks(
+    alloc: Global,
+    rows: &[OnMarks<'_>],
+    kind: ErrorKind,
+    failures: u64,
+    folder: &mut MemoryFolder,
+) -> Result<(), Fail> {
+    for (words, marks, fails_in, left, wanted) in rows {
+        let source = Source::marks(*marks, *fails_in, kind);
+        let mut streams = Streams::calm(alloc, source);
+        leaves_on(alloc, words, folder, &mut streams, wanted)?;
+        let input = &streams.input;
+        if input.get_ref().marks != *left || input.failures() != failures {
+            return Err(Fail::new(format!(in alloc; "the input of {words}")?));
+        }
+    }
+    Ok(())
+}
+
+// The reads of this comment are of 4,096 bytes, of 4 and of none.
+const FAILING: [OnMarks<'_>; 4] = [
+    ("load /", 4100, 1, 4100, "1\n! error: Device input\n"),
+    ("load /", 4100, 2, 4, "1\n! error: Device input\n"),
+    ("load /", 4100, 3, 0, "1\n! error: Device input\n"),
+    ("load /", 1, 1, 1, "1\n! error: Device input\n"),
+];
+
+// The directory is refused before the input is read, which is read no further than shows that it is too long.
+const REFUSED: [OnMarks<'_>; 4] = [
+    ("load a/", 4, 0, 4, "1\n! error: NotAbsolute\n"),
+    ("load /a", 4, 0, 4, "1\n! error: NoEndSlash\n"),
+    ("load -f //", 4, 0, 4, "1\n! error: DoubleSlash\n"),
+    (
+        "load /",
+        usize::MAX,
+        0,
+        usize::MAX - 16_777_217,
+        "1\n! error: input:0: TooBig\n",
+    ),
+];
+
+const BAD_LINE: &str = "
+$ load /
+[a]
+oops
+=> 1
+! error: input:2: BadLine
+";
+
+#[test]
+fn looks_at_the_input_before_any_file(rt: HostRuntime) -> Result<(), Fail> {
+    let alloc = rt.alloc();
+    let mut folder = two_layers(alloc, "/a/k\n")?;
+    let before = bytes_of(alloc, &mut folder, "me.user")?;
+    folder.fail_at(1);
+    for kind in [ErrorKind::Other, ErrorKind::Interrupted] {
+        each_on_marks(alloc, &FAILING, kind, 1, &mut folder)?;
+    }
+    each_on_marks(alloc, &REFUSED, ErrorKind::Other, 0, &mut folder)?;
+    runs(alloc, BAD_LINE, &mut folder)?;
+    // So far no call of the folder was made.
+    assert_eq!(rt; folder.failures(), 0);
+    let device = "$ load /\n[a]\nj=1\n=> 1\n! error: Device profile\n";
+    runs(alloc, device, &mut folder)?;
+    let after = bytes_of(alloc, &mut folder, "me.user")?;
+    assert!(rt; before.as_slice() == after.as_slice());
+    let calm = [("load /", 4100, 4, 0, "0\n")];
+    each_on_marks(alloc, &calm, ErrorKind::Other, 0, &mut folder)
 }

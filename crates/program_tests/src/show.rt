@@ -1,213 +1,108 @@
-//! `show TYPE FILE` over a folder in memory.
-use crate::runs::{asked, one_file, shown, wants_refusal, wants_text};
-use crate::streams::{Broken, Refusing, Slow};
-use dconf_cli::{Counted, command, run};
-use dconf_disk::{Folder, FolderFault, MemoryFolder};
-use std::io::ErrorKind;
+//! `show` of basic values and of arrays of them.
+use crate::script::{is_left, left_by, put};
+use crate::streams::{Source, Streams};
+use dconf_cli::Command;
+use dconf_disk::MemoryFolder;
+use std::alloc::Global;
 use std::test::Fail;
+
+/// Runs `show` of these bytes at this type. An error says that it leaves something else.
+pub(crate) fn shows(
+    alloc: Global,
+    type_text: &str,
+    bytes: &[u8],
+    wanted: &str,
+) -> Result<(), Fail> {
+    let mut folder = MemoryFolder::new(alloc);
+    put(&mut folder, "f", bytes)?;
+    let asked = Command::Show {
+        type_text: String::from_str(alloc, type_text)?,
+        file: String::from_str(alloc, "f")?,
+    };
+    let mut streams = Streams::calm(alloc, Source::bytes(b""));
+    let left = left_by(alloc, asked, &mut folder, &mut streams)?;
+    is_left(alloc, type_text, &left, wanted)
+}
+
+/// Runs `show` of these bytes at this type. An error says that it doesn't print this text.
+pub(crate) fn prints(alloc: Global, type_text: &str, bytes: &[u8], text: &str) -> Result<(), Fail> {
+    let wanted = format!(in alloc; "0\n{text}\n")?;
+    shows(alloc, type_text, bytes, &wanted)
+}
 
 #[test]
 fn prints_values(rt: HostRuntime) -> Result<(), Fail> {
-    let cases = [
-        ("au", b"\x01\0\0\0\x02\0\0\0".as_slice(), "[uint32 1, 2]"),
-        ("au", b"\x01\0\0\0\x02\0\0".as_slice(), "@au []"),
-        ("au", b"".as_slice(), "@au []"),
-        ("q", b"\x05".as_slice(), "uint16 0"),
-        ("s", b"".as_slice(), "''"),
-        ("s", b"it's\t\0".as_slice(), "\"it's\\t\""),
-        ("s", b"a\\'\"\0".as_slice(), "\"a\\\\'\\\"\""),
-        ("s", b"\x01\x7f\0".as_slice(), "'\\u0001\\u007f'"),
-        (
-            "s",
-            b"\xc2\x9f\xc2\xa0\xc3\xa9\0".as_slice(),
-            "'\\u009f\u{a0}é'",
-        ),
-        (
-            "s",
-            b"\x07\x08\n\x0b\x0c\r\0".as_slice(),
-            "'\\a\\b\\n\\v\\f\\r'",
-        ),
-        ("s", b"\xff\0".as_slice(), "''"),
-        ("i", b"\xff\xff\xff\xff".as_slice(), "-1"),
-        ("ab", b"\x01\0".as_slice(), "[true, false]"),
-        ("ai", b"\xff\xff\xff\xff\x02\0\0\0".as_slice(), "[-1, 2]"),
-        ("an", b"\x01\0\xff\xff".as_slice(), "[int16 1, -1]"),
-        ("ay", b"a\0".as_slice(), "b'a'"),
-        ("ay", b"\0".as_slice(), "b''"),
-        ("ay", b"a'\x80\n\0".as_slice(), "b\"a'\\200\\n\""),
-        ("ay", b"a\0b\0".as_slice(), "[byte 0x61, 0x00, 0x62, 0x00]"),
-        ("ay", b"".as_slice(), "@ay []"),
-        ("ad", b"".as_slice(), "@ad []"),
+    let cases: [(&str, &[u8], &str); 21] = [
+        ("au", b"\x01\0\0\0\x02\0\0\0", "[uint32 1, 2]"),
+        ("au", b"\x01\0\0\0\x02\0\0", "@au []"),
+        ("au", b"", "@au []"),
+        ("q", b"\x05", "uint16 0"),
+        ("s", b"", "''"),
+        ("s", b"it's\t\0", "\"it's\\t\""),
+        ("s", b"a\\'\"\0", "\"a\\\\'\\\"\""),
+        ("s", b"\x01\x7f\0", "'\\u0001\\u007f'"),
+        ("s", b"\xc2\x9f\xc2\xa0\xc3\xa9\0", "'\\u009f\u{a0}é'"),
+        ("s", b"\x07\x08\n\x0b\x0c\r\0", "'\\a\\b\\n\\v\\f\\r'"),
+        ("s", b"\xff\0", "''"),
+        ("i", b"\xff\xff\xff\xff", "-1"),
+        ("ab", b"\x01\0", "[true, false]"),
+        ("ai", b"\xff\xff\xff\xff\x02\0\0\0", "[-1, 2]"),
+        ("an", b"\x01\0\xff\xff", "[int16 1, -1]"),
+        ("ay", b"a\0", "b'a'"),
+        ("ay", b"\0", "b''"),
+        ("ay", b"a'\x80\n\0", "b\"a'\\200\\n\""),
+        ("ay", b"a\0b\0", "[byte 0x61, 0x00, 0x62, 0x00]"),
+        ("ay", b"", "@ay []"),
+        ("ad", b"", "@ad []"),
     ];
     for (type_text, bytes, text) in cases {
-        wants_text(rt.alloc(), type_text, bytes, text)?;
+        prints(rt.alloc(), type_text, bytes, text)?;
     }
     Ok(())
 }
 
 #[test]
 fn prints_extremes(rt: HostRuntime) -> Result<(), Fail> {
-    let cases = [
-        ("b", b"\0".as_slice(), "false"),
-        ("b", b"\x01".as_slice(), "true"),
-        ("b", b"\x05".as_slice(), "true"),
-        ("b", b"\xff".as_slice(), "true"),
-        ("y", b"\0".as_slice(), "byte 0x00"),
-        ("y", b"\xff".as_slice(), "byte 0xff"),
-        ("n", b"\0\x80".as_slice(), "int16 -32768"),
-        ("n", b"\xff\x7f".as_slice(), "int16 32767"),
-        ("q", b"\0\0".as_slice(), "uint16 0"),
-        ("q", b"\xff\xff".as_slice(), "uint16 65535"),
-        ("i", b"\0\0\0\x80".as_slice(), "-2147483648"),
-        ("i", b"\xff\xff\xff\x7f".as_slice(), "2147483647"),
-        ("u", b"\0\0\0\0".as_slice(), "uint32 0"),
-        ("u", b"\xff\xff\xff\xff".as_slice(), "uint32 4294967295"),
-        ("h", b"\0\0\0\x80".as_slice(), "handle -2147483648"),
-        ("h", b"\xff\xff\xff\x7f".as_slice(), "handle 2147483647"),
+    let cases: [(&str, &[u8], &str); 28] = [
+        ("b", b"\0", "false"),
+        ("b", b"\x01", "true"),
+        ("b", b"\x05", "true"),
+        ("b", b"\xff", "true"),
+        ("y", b"\0", "byte 0x00"),
+        ("y", b"\xff", "byte 0xff"),
+        ("n", b"\0\x80", "int16 -32768"),
+        ("n", b"\xff\x7f", "int16 32767"),
+        ("q", b"\0\0", "uint16 0"),
+        ("q", b"\xff\xff", "uint16 65535"),
+        ("i", b"\0\0\0\x80", "-2147483648"),
+        ("i", b"\xff\xff\xff\x7f", "2147483647"),
+        ("u", b"\0\0\0\0", "uint32 0"),
+        ("u", b"\xff\xff\xff\xff", "uint32 4294967295"),
+        ("h", b"\0\0\0\x80", "handle -2147483648"),
+        ("h", b"\xff\xff\xff\x7f", "handle 2147483647"),
+        ("x", b"\0\0\0\0\0\0\0\x80", "int64 -9223372036854775808"),
         (
             "x",
-            b"\0\0\0\0\0\0\0\x80".as_slice(),
-            "int64 -9223372036854775808",
-        ),
-        (
-            "x",
-            b"\xff\xff\xff\xff\xff\xff\xff\x7f".as_slice(),
+            b"\xff\xff\xff\xff\xff\xff\xff\x7f",
             "int64 9223372036854775807",
         ),
-        ("t", b"\0\0\0\0\0\0\0\0".as_slice(), "uint64 0"),
+        ("t", b"\0\0\0\0\0\0\0\0", "uint64 0"),
         (
             "t",
-            b"\xff\xff\xff\xff\xff\xff\xff\xff".as_slice(),
+            b"\xff\xff\xff\xff\xff\xff\xff\xff",
             "uint64 18446744073709551615",
         ),
-        ("s", b"\0".as_slice(), "''"),
-        ("s", b"\xf4\x8f\xbf\xbf\0".as_slice(), "'\u{10ffff}'"),
-        ("o", b"/\0".as_slice(), "objectpath '/'"),
-        ("o", b"/a/b_9\0".as_slice(), "objectpath '/a/b_9'"),
-        ("o", b"/a/\0".as_slice(), "objectpath '/'"),
-        ("g", b"\0".as_slice(), "signature ''"),
-        ("g", b"a{sv}(ii)\0".as_slice(), "signature 'a{sv}(ii)'"),
-        ("g", b"mi\0".as_slice(), "signature ''"),
+        ("s", b"\0", "''"),
+        ("s", b"\xf4\x8f\xbf\xbf\0", "'\u{10ffff}'"),
+        ("o", b"/\0", "objectpath '/'"),
+        ("o", b"/a/b_9\0", "objectpath '/a/b_9'"),
+        ("o", b"/a/\0", "objectpath '/'"),
+        ("g", b"\0", "signature ''"),
+        ("g", b"a{sv}(ii)\0", "signature 'a{sv}(ii)'"),
+        ("g", b"mi\0", "signature ''"),
     ];
     for (type_text, bytes, text) in cases {
-        wants_text(rt.alloc(), type_text, bytes, text)?;
+        prints(rt.alloc(), type_text, bytes, text)?;
     }
-    Ok(())
-}
-
-#[test]
-fn names_its_refusals(rt: HostRuntime) -> Result<(), Fail> {
-    let alloc = rt.alloc();
-    for type_text in ["d", "ad", "(id)", "md"] {
-        wants_refusal(rt.alloc(), type_text, &[0; 8], "DoubleText")?;
-    }
-    let mut empty = MemoryFolder::new(alloc);
-    assert_eq!(rt;
-        shown(alloc, "q", &mut empty)?.as_str(),
-        "1 out= err=error: NoFile f\n"
-    );
-    assert_eq!(rt;
-        shown(alloc, "(i", &mut empty)?.as_str(),
-        "1 out= err=error: Unclosed at 2\n"
-    );
-    let mut failing = one_file(alloc, &[0; 8])?;
-    failing.fail_at(1);
-    assert_eq!(rt;
-        shown(alloc, "q", &mut failing)?.as_str(),
-        "1 out= err=error: Device f\n"
-    );
-    assert_eq!(rt; failing.failures(), 1);
-    let mut large = Refusing {
-        fault: Some(FolderFault::TooBig),
-    };
-    assert_eq!(rt;
-        shown(alloc, "q", &mut large)?.as_str(),
-        "1 out= err=error: TooBig\n"
-    );
-    let mut full = Refusing { fault: None };
-    assert_eq!(rt;
-        shown(alloc, "q", &mut full)?.as_str(),
-        "1 out= err=error: Memory\n"
-    );
-    Ok(())
-}
-
-#[test]
-fn prints_more_than_a_million_values(rt: HostRuntime) -> Result<(), Fail> {
-    let alloc = rt.alloc();
-    let mut bytes = Vec::new(alloc);
-    bytes.resize(1_000_001, 1)?;
-    let mut folder = one_file(alloc, &bytes)?;
-    let text = shown(alloc, "ab", &mut folder)?;
-    assert_eq!(rt; text.len(), "0 out=[]\n err=".len() + 6 * 1_000_001 - 2);
-    Ok(())
-}
-
-#[test]
-fn minds_its_streams(rt: HostRuntime) -> Result<(), Fail> {
-    let alloc = rt.alloc();
-    let mut folder = one_file(alloc, b"\x01\0\0\0\x02\0\0\0")?;
-    let mut input = Counted::new(b"".as_slice());
-
-    let mut slow = Counted::new(Slow {
-        taken: Vec::new(alloc),
-    });
-    let mut err = Counted::new(Vec::new(alloc));
-    let command = asked(alloc, "au", "f")?;
-    let status = run(alloc, command, &mut folder, &mut input, &mut slow, &mut err);
-    assert_eq!(rt; status, 0);
-    assert!(rt; slow.get_ref().taken.as_slice() == b"[uint32 1, 2]\n".as_slice());
-
-    for kind in [
-        Some(ErrorKind::Interrupted),
-        Some(ErrorKind::BrokenPipe),
-        None,
-    ] {
-        let mut broken = Counted::new(Broken { kind });
-        let command = asked(alloc, "au", "f")?;
-        let status = run(
-            alloc,
-            command,
-            &mut folder,
-            &mut input,
-            &mut broken,
-            &mut err,
-        );
-        assert!(rt; status == 1 && broken.failures() == 1);
-        assert!(rt; err.get_ref().is_empty());
-
-        let mut out = Counted::new(Vec::new(alloc));
-        let mut broken = Counted::new(Broken { kind });
-        let command = asked(alloc, "au", "g")?;
-        let status = run(
-            alloc,
-            command,
-            &mut folder,
-            &mut input,
-            &mut out,
-            &mut broken,
-        );
-        assert!(rt; status == 1 && broken.failures() == 1);
-        assert!(rt; out.get_ref().is_empty() && out.failures() == 0);
-    }
-    Ok(())
-}
-
-#[test]
-fn runs_the_words(rt: HostRuntime) -> Result<(), Fail> {
-    let alloc = rt.alloc();
-    let mut words = Vec::new(alloc);
-    for word in ["dconfdb", "show", "au", "f"] {
-        words.push(String::from_str(alloc, word)?)?;
-    }
-    let mut folder = one_file(alloc, b"\x01\0\0\0\x02\0\0\0")?;
-    let mut input = Counted::new(b"".as_slice());
-    let mut out = Counted::new(Vec::new(alloc));
-    let mut err = Counted::new(Vec::new(alloc));
-    let asked = command(alloc, &words)?;
-    let status = run(alloc, asked, &mut folder, &mut input, &mut out, &mut err);
-    assert_eq!(rt; status, 0);
-    assert!(rt; out.get_ref().as_slice() == b"[uint32 1, 2]\n".as_slice());
-    assert!(rt; err.get_ref().is_empty());
     Ok(())
 }

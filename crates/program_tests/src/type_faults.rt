@@ -1,63 +1,88 @@
-//! `show` at texts that are no type: the first fault and its place.
-use crate::runs::wants_refusal;
+//! `show` where nothing is printed: a text that is no type, with the first fault and its place, a double, and a file that isn't there.
+use crate::deep::around;
+use crate::script::{folder_of, runs};
+use crate::show::shows;
 use std::test::Fail;
+
+const FAULTS: &str = "
+$ show  f => 1
+! error: Empty at 0
+$ show r f => 1
+! error: BadChar at 0
+$ show a* f => 1
+! error: BadChar at 1
+$ show (i} f => 1
+! error: BadChar at 2
+$ show {iii f => 1
+! error: BadChar at 3
+$ show {} f => 1
+! error: BadChar at 1
+$ show a\u{e9} f => 1
+! error: BadChar at 1
+$ show a{vs} f => 1
+! error: KeyNotBasic at 2
+$ show (v{as} f => 1
+! error: KeyNotBasic at 3
+$ show {( f => 1
+! error: KeyNotBasic at 1
+$ show (i f => 1
+! error: Unclosed at 2
+$ show a{s f => 1
+! error: Unclosed at 3
+$ show a{sv f => 1
+! error: Unclosed at 4
+$ show a f => 1
+! error: Unclosed at 1
+$ show ii f => 1
+! error: Trailing at 1
+$ show a{sv}i f => 1
+! error: Trailing at 5
+$ show i) f => 1
+! error: Trailing at 1
+";
+
+const REFUSED: &str = "
+$ show d zeros => 1
+! error: DoubleText
+$ show ad zeros => 1
+! error: DoubleText
+$ show (id) zeros => 1
+! error: DoubleText
+$ show md zeros => 1
+! error: DoubleText
+$ show q g => 1
+! error: NoFile g
+$ show au g => 1
+! error: NoFile g
+$ show (i g => 1
+! error: Unclosed at 2
+";
 
 #[test]
 fn names_the_first_fault(rt: HostRuntime) -> Result<(), Fail> {
-    let cases = [
-        ("", "Empty at 0"),
-        ("r", "BadChar at 0"),
-        ("a*", "BadChar at 1"),
-        ("(i}", "BadChar at 2"),
-        ("{iii", "BadChar at 3"),
-        ("{}", "BadChar at 1"),
-        ("a\u{e9}", "BadChar at 1"),
-        ("a{vs}", "KeyNotBasic at 2"),
-        ("(v{as}", "KeyNotBasic at 3"),
-        ("{(", "KeyNotBasic at 1"),
-        ("(i", "Unclosed at 2"),
-        ("a{s", "Unclosed at 3"),
-        ("a{sv", "Unclosed at 4"),
-        ("a", "Unclosed at 1"),
-        ("ii", "Trailing at 1"),
-        ("a{sv}i", "Trailing at 5"),
-        ("i)", "Trailing at 1"),
-    ];
-    for (type_text, why) in cases {
-        wants_refusal(rt.alloc(), type_text, &[], why)?;
-    }
-    Ok(())
+    let alloc = rt.alloc();
+    let mut folder = folder_of(alloc, &[("f", ""), ("zeros", "\0\0\0\0\0\0\0\0")])?;
+    runs(alloc, FAULTS, &mut folder)?;
+    runs(alloc, REFUSED, &mut folder)
 }
 
 #[test]
 fn minds_the_limits_of_types(rt: HostRuntime) -> Result<(), Fail> {
     let alloc = rt.alloc();
-    let mut text = String::new(alloc);
-    for _ in 0..128 {
-        text.push('a')?;
+    let long = "r".repeat(alloc, 65_536)?;
+    let long = long.as_str();
+    let rows = [
+        ("a", "", 128, "1\n! error: Unclosed at 128\n"),
+        ("a", "i", 128, "1\n! error: TooDeep at 128\n"),
+        // A key is a level too.
+        ("(", "{s", 127, "1\n! error: TooDeep at 128\n"),
+        // The length is looked at before all else.
+        (long, "", 1024, "1\n! error: BadChar at 0\n"),
+        (long, "r", 1024, "1\n! error: TooLong\n"),
+    ];
+    for (open, middle, times, wanted) in rows {
+        let text = around(alloc, open, middle, "", times)?;
+        shows(alloc, &text, b"", wanted)?;
     }
-    wants_refusal(rt.alloc(), text.as_str(), &[], "Unclosed at 128")?;
-    text.push('i')?;
-    wants_refusal(rt.alloc(), text.as_str(), &[], "TooDeep at 128")?;
-
-    // A key is a level too.
-    let mut deep = String::new(alloc);
-    for _ in 0..127 {
-        deep.push('(')?;
-    }
-    deep.push_str("{s")?;
-    wants_refusal(rt.alloc(), deep.as_str(), &[], "TooDeep at 128")?;
-
-    // The length is looked at before all else.
-    let mut long = String::new(alloc);
-    for _ in 0..1024 {
-        long.push_str("rrrrrrrrrrrrrrrrrrrrrrrrrrrrrrrrrrrrrrrrrrrrrrrrrrrrrrrrrrrrrrrr")?;
-    }
-    let mut longer = String::new(alloc);
-    for _ in 0..1024 {
-        longer.push_str(long.as_str())?;
-    }
-    wants_refusal(rt.alloc(), longer.as_str(), &[], "BadChar at 0")?;
-    longer.push('r')?;
-    wants_refusal(rt.alloc(), longer.as_str(), &[], "TooLong")
+    Ok(())
 }

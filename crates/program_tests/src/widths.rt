@@ -1,104 +1,54 @@
-//! `show` where the width of framing offsets changes: containers of 253 to 256 and of 65,535 and 65,536 bytes.
-use crate::runs::{one_file, shown, wants_text};
-use std::alloc::{AllocError, Global};
+//! `show` where the width of framing offsets changes: containers of 253 to 257 and of 65,535 to 65,537 bytes.
+use crate::show::prints;
+use std::alloc::Global;
 use std::test::Fail;
 
-/// So many letters and a zero byte.
-fn letters(alloc: Global, count: usize) -> Result<Vec<u8>, AllocError> {
+/// A type, and the bytes of its value: so many letters, a zero byte, the rest, and the offset where the letters and their zero byte end, of so
+/// many bytes; how many that are in all, and what is printed. There `x` stands for the letters.
+type OfLetters<'a> = (&'a str, usize, &'a [u8], u32, usize, usize, &'a str);
+
+/// Shows the value. An error says that it has another length, or that something else is printed.
+fn prints_letters(alloc: Global, row: OfLetters<'_>) -> Result<(), Fail> {
+    let (type_text, letters, rest, offset, width, length, text) = row;
+    let word = "x".repeat(alloc, letters)?;
     let mut bytes = Vec::new(alloc);
-    bytes.resize(count, b'x')?;
+    bytes.extend_from_slice(word.as_bytes())?;
     bytes.push(0)?;
-    Ok(bytes)
-}
-
-/// Adds a framing offset.
-fn push_offset(bytes: &mut Vec<u8>, offset: usize, width: usize) -> Result<(), AllocError> {
-    let mut rest = offset;
-    for _ in 0..width {
-        bytes.push((rest % 256) as u8)?;
-        rest /= 256;
+    bytes.extend_from_slice(rest)?;
+    bytes.extend_from_slice(offset.to_le_bytes().get(..width).unwrap_or(b""))?;
+    if bytes.len() != length {
+        return Err(Fail::new("a value of another length"));
     }
-    Ok(())
-}
-
-/// A text of so many letters in quotes.
-fn quoted(alloc: Global, count: usize) -> Result<String, AllocError> {
-    let mut text = String::new(alloc);
-    text.push('\'')?;
-    for _ in 0..count {
-        text.push('x')?;
-    }
-    text.push('\'')?;
-    Ok(text)
-}
-
-#[test]
-fn reads_arrays_of_one_string(rt: HostRuntime) -> Result<(), Fail> {
-    let alloc = rt.alloc();
-    let cases = [
-        (253, 1),
-        (254, 1),
-        (255, 1),
-        (256, 2),
-        (257, 2),
-        (65_535, 2),
-        (65_536, 4),
-        (65_537, 4),
-    ];
-    for (total, width) in cases {
-        let count = total - width - 1;
-        let mut bytes = letters(alloc, count)?;
-        push_offset(&mut bytes, count + 1, width)?;
-        assert_eq!(rt; bytes.len(), total);
-        let inner = quoted(alloc, count)?;
-        let text = format!(in alloc; "[{inner}]")?;
-        wants_text(rt.alloc(), "as", &bytes, text.as_str())?;
-    }
-    Ok(())
-}
-
-#[test]
-fn reads_tuples_of_two_strings(rt: HostRuntime) -> Result<(), Fail> {
-    let alloc = rt.alloc();
-    let cases = [
-        (253, 1),
-        (254, 1),
-        (255, 1),
-        (256, 2),
-        (65_535, 2),
-        (65_536, 4),
-    ];
-    for (total, width) in cases {
-        let count = total - width - 3;
-        let mut bytes = letters(alloc, count)?;
-        bytes.push(b'b')?;
-        bytes.push(0)?;
-        push_offset(&mut bytes, count + 1, width)?;
-        assert_eq!(rt; bytes.len(), total);
-        let inner = quoted(alloc, count)?;
-        let text = format!(in alloc; "({inner}, 'b')")?;
-        wants_text(rt.alloc(), "(ss)", &bytes, text.as_str())?;
-    }
-    Ok(())
+    let Some((before, behind)) = text.split_once('x') else {
+        return prints(alloc, type_text, &bytes, text);
+    };
+    let printed = format!(in alloc; "{before}{word}{behind}")?;
+    prints(alloc, type_text, &bytes, &printed)
 }
 
 #[test]
 fn takes_the_width_of_the_whole(rt: HostRuntime) -> Result<(), Fail> {
-    let alloc = rt.alloc();
-    // 253 letters, their zero byte and an offset that is wider than it had to be.
-    let mut wide = letters(alloc, 253)?;
-    push_offset(&mut wide, 254, 2)?;
-    let inner = quoted(alloc, 253)?;
-    let text = format!(in alloc; "[{inner}]")?;
-    wants_text(rt.alloc(), "as", &wide, text.as_str())?;
-
-    // 256 bytes whose offset takes one byte: its two last bytes are an offset past the end.
-    let mut narrow = letters(alloc, 254)?;
-    push_offset(&mut narrow, 255, 1)?;
-    let mut folder = one_file(alloc, &narrow)?;
-    assert_eq!(rt;
-        shown(alloc, "as", &mut folder)?.as_str(),
-        "0 out=@as []\n err="
-    );
+    let rows: [OfLetters<'_>; 15] = [
+        ("as", 251, b"", 252, 1, 253, "['x']"),
+        ("as", 252, b"", 253, 1, 254, "['x']"),
+        ("as", 253, b"", 254, 1, 255, "['x']"),
+        // The offset would fit one byte.
+        ("as", 253, b"", 254, 2, 256, "['x']"),
+        // The two last bytes are an offset past the end.
+        ("as", 254, b"", 255, 1, 256, "@as []"),
+        ("as", 254, b"", 255, 2, 257, "['x']"),
+        ("as", 65_532, b"", 65_533, 2, 65_535, "['x']"),
+        ("as", 65_531, b"", 65_532, 4, 65_536, "['x']"),
+        ("as", 65_532, b"", 65_533, 4, 65_537, "['x']"),
+        ("(ss)", 249, b"b\0", 250, 1, 253, "('x', 'b')"),
+        ("(ss)", 250, b"b\0", 251, 1, 254, "('x', 'b')"),
+        ("(ss)", 251, b"b\0", 252, 1, 255, "('x', 'b')"),
+        ("(ss)", 251, b"b\0", 252, 2, 256, "('x', 'b')"),
+        ("(ss)", 65_530, b"b\0", 65_531, 2, 65_535, "('x', 'b')"),
+        ("(ss)", 65_529, b"b\0", 65_530, 4, 65_536, "('x', 'b')"),
+    ];
+    for row in rows {
+        prints_letters(rt.alloc(), row)?;
+    }
     Ok(())
 }

@@ -1,324 +1,180 @@
 //! The words of a command line.
-use clap::error::ErrorKind;
-use dconf_cli::{Command, command};
-use std::alloc::{AllocError, Global};
+use crate::script::{is_left, words_of};
+use dconf_command::{command, user_file};
+use std::alloc::Global;
 use std::test::Fail;
 
-fn texts(alloc: Global, words: &[&str]) -> Result<Vec<String>, AllocError> {
-    let mut texts = Vec::new(alloc);
-    for word in words {
-        texts.push(String::from_str(alloc, word)?)?;
-    }
-    Ok(texts)
-}
-
-#[test]
-fn reads_show(rt: HostRuntime) -> Result<(), Fail> {
-    let alloc = rt.alloc();
-    let lines = [
-        ["dconfdb", "show", "au", "two"].as_slice(),
-        ["dconfdb", "show", "--", "au", "two"].as_slice(),
-    ];
-    for line in lines {
-        let words = texts(alloc, line)?;
-        assert!(rt; shows(&command(alloc, &words)?, "au", "two"));
-    }
-    let words = texts(alloc, &["dconfdb", "show", "s", "--", "-x"])?;
-    assert!(rt; shows(&command(alloc, &words)?, "s", "-x"));
-    Ok(())
-}
-
-/// Whether it is `show` of this type and this file.
-fn shows(asked: &Command, wanted_type: &str, wanted_file: &str) -> bool {
-    match asked {
-        Command::Show { type_text, file } => {
-            type_text.as_str() == wanted_type && file.as_str() == wanted_file
-        }
-        _ => false,
-    }
-}
-
-/// Whether it is `check` of this file.
-fn checks(asked: &Command, wanted_file: &str) -> bool {
-    match asked {
-        Command::Check { file } => file.as_str() == wanted_file,
-        _ => false,
-    }
-}
-
-#[test]
-fn reads_check(rt: HostRuntime) -> Result<(), Fail> {
-    let alloc = rt.alloc();
-    let words = texts(alloc, &["dconfdb", "check", "site.db"])?;
-    assert!(rt; checks(&command(alloc, &words)?, "site.db"));
-    let words = texts(alloc, &["dconfdb", "check", "--", "-x"])?;
-    assert!(rt; checks(&command(alloc, &words)?, "-x"));
-    Ok(())
-}
-
-/// Whether it is `read` with or without `-d`, of this key and by this profile.
-fn reads(asked: &Command, wanted_default: bool, wanted_key: &str, wanted_profile: &str) -> bool {
-    match asked {
-        Command::Read {
-            default,
-            key,
-            profile,
-        } => {
-            *default == wanted_default
-                && key.as_str() == wanted_key
-                && profile.as_str() == wanted_profile
-        }
-        _ => false,
-    }
-}
-
-#[test]
-fn reads_read(rt: HostRuntime) -> Result<(), Fail> {
-    let alloc = rt.alloc();
-    let lines = [
-        (["dconfdb", "read", "/k"].as_slice(), false, "profile"),
-        (["dconfdb", "read", "-d", "/k"].as_slice(), true, "profile"),
-        (["dconfdb", "read", "-p", "x", "/k"].as_slice(), false, "x"),
-        (["dconfdb", "read", "/k", "-dp", "x"].as_slice(), true, "x"),
-    ];
-    for (line, default, profile) in lines {
-        let words = texts(alloc, line)?;
-        assert!(rt; reads(&command(alloc, &words)?, default, "/k", profile));
-    }
-    Ok(())
-}
-
-#[test]
-fn reads_compile(rt: HostRuntime) -> Result<(), Fail> {
-    let alloc = rt.alloc();
-    let lines = [
-        (
-            ["dconfdb", "compile", "o"].as_slice(),
-            "Compile { out: \"o\", locks: None, keyfiles: [] }",
-        ),
-        (
-            ["dconfdb", "compile", "o", "b", "a", "b"].as_slice(),
-            "Compile { out: \"o\", locks: None, keyfiles: [\"b\", \"a\", \"b\"] }",
-        ),
-        (
-            ["dconfdb", "compile", "--locks", "l", "o", "a"].as_slice(),
-            "Compile { out: \"o\", locks: Some(\"l\"), keyfiles: [\"a\"] }",
-        ),
-        (
-            ["dconfdb", "compile", "o", "a", "--locks=l", "b"].as_slice(),
-            "Compile { out: \"o\", locks: Some(\"l\"), keyfiles: [\"a\", \"b\"] }",
-        ),
-        (
-            ["dconfdb", "compile", "o", "--", "--locks", "-x"].as_slice(),
-            "Compile { out: \"o\", locks: None, keyfiles: [\"--locks\", \"-x\"] }",
-        ),
-    ];
-    for (line, wanted) in lines {
-        let words = texts(alloc, line)?;
-        let asked = command(alloc, &words)?;
-        let shown = format!(in alloc; "{asked:?}")?;
-        assert!(rt; shown.as_str() == wanted, "{shown}");
-    }
-    Ok(())
-}
-
-#[test]
-fn reads_repair(rt: HostRuntime) -> Result<(), Fail> {
-    let alloc = rt.alloc();
-    let lines = [
-        (
-            ["dconfdb", "repair", "a", "b"].as_slice(),
-            "Repair { file: \"a\", out: \"b\" }",
-        ),
-        (
-            ["dconfdb", "repair", "--", "-a", "-b"].as_slice(),
-            "Repair { file: \"-a\", out: \"-b\" }",
-        ),
-    ];
-    for (line, wanted) in lines {
-        let words = texts(alloc, line)?;
-        let asked = command(alloc, &words)?;
-        let shown = format!(in alloc; "{asked:?}")?;
-        assert!(rt; shown.as_str() == wanted, "{shown}");
-    }
-    Ok(())
-}
-
-#[test]
-fn reads_load(rt: HostRuntime) -> Result<(), Fail> {
-    let alloc = rt.alloc();
-    let lines = [
-        (
-            ["dconfdb", "load", "/a/"].as_slice(),
-            "Load { force: false, directory: \"/a/\", profile: \"profile\" }",
-        ),
-        (
-            ["dconfdb", "load", "-f", "/a/"].as_slice(),
-            "Load { force: true, directory: \"/a/\", profile: \"profile\" }",
-        ),
-        (
-            ["dconfdb", "load", "-p", "x", "/a/"].as_slice(),
-            "Load { force: false, directory: \"/a/\", profile: \"x\" }",
-        ),
-        (
-            ["dconfdb", "load", "/a/", "-fp", "x"].as_slice(),
-            "Load { force: true, directory: \"/a/\", profile: \"x\" }",
-        ),
-        (
-            ["dconfdb", "load", "--", "-f"].as_slice(),
-            "Load { force: false, directory: \"-f\", profile: \"profile\" }",
-        ),
-    ];
-    for (line, wanted) in lines {
-        let words = texts(alloc, line)?;
-        let asked = command(alloc, &words)?;
-        let shown = format!(in alloc; "{asked:?}")?;
-        assert!(rt; shown.as_str() == wanted, "{shown}");
-    }
-    // Without a directory it is refused.
-    let words = texts(alloc, &["dconfdb", "load", "-f"])?;
+/// What comes of the words of a line: the command, or the error's kind and exit code.
+fn outcome(alloc: Global, line: &str) -> Result<String, Fail> {
+    let words = words_of(alloc, line)?;
     match command(alloc, &words) {
-        Ok(_) => assert!(rt; false, "taken"),
-        Err(error) => assert_eq!(rt; error.exit_code(), 2),
+        Ok(asked) => Ok(format!(in alloc; "{asked:?}")?),
+        Err(error) => {
+            let kind = error.kind();
+            let code = error.exit_code();
+            Ok(format!(in alloc; "{kind:?} {code}")?)
+        }
+    }
+}
+
+/// What the command of a line replaces.
+fn replaced(alloc: Global, line: &str) -> Result<String, Fail> {
+    let words = words_of(alloc, line)?;
+    match command(alloc, &words) {
+        Ok(asked) => {
+            let replaced = asked.replaced();
+            Ok(format!(in alloc; "{replaced:?}")?)
+        }
+        Err(_) => Ok(String::new(alloc)),
+    }
+}
+
+/// What is printed of an error, and nothing of a command.
+fn message(alloc: Global, line: &str) -> Result<String, Fail> {
+    let words = words_of(alloc, line)?;
+    match command(alloc, &words) {
+        Ok(_) => Ok(String::new(alloc)),
+        Err(error) => Ok(format!(in alloc; "{error}")?),
+    }
+}
+
+const ASKED: &str = r#"
+show au two => Show { type_text: "au", file: "two" }
+show -- au two => Show { type_text: "au", file: "two" }
+show s -- -x => Show { type_text: "s", file: "-x" }
+check site.db => Check { file: "site.db" }
+check -- -x => Check { file: "-x" }
+read /k => Read { default: false, key: "/k", profile: "profile" }
+read -d /k => Read { default: true, key: "/k", profile: "profile" }
+read -p x /k => Read { default: false, key: "/k", profile: "x" }
+read /k -dp x => Read { default: true, key: "/k", profile: "x" }
+compile o => Compile { out: "o", locks: None, keyfiles: [] }
+compile o b a b => Compile { out: "o", locks: None, keyfiles: ["b", "a", "b"] }
+compile --locks l o a => Compile { out: "o", locks: Some("l"), keyfiles: ["a"] }
+compile o a --locks=l b => Compile { out: "o", locks: Some("l"), keyfiles: ["a", "b"] }
+compile o -- --locks -x => Compile { out: "o", locks: None, keyfiles: ["--locks", "-x"] }
+repair a b => Repair { file: "a", out: "b" }
+repair -- -a -b => Repair { file: "-a", out: "-b" }
+load /a/ => Load { force: false, directory: "/a/", profile: "profile" }
+load -f /a/ => Load { force: true, directory: "/a/", profile: "profile" }
+load -p x /a/ => Load { force: false, directory: "/a/", profile: "x" }
+load /a/ -fp x => Load { force: true, directory: "/a/", profile: "x" }
+load -- -f => Load { force: false, directory: "-f", profile: "profile" }
+"#;
+
+const REFUSED: &str = "
+ => MissingSubcommand 2
+shoe au two => InvalidSubcommand 2
+show au => MissingRequiredArgument 2
+show au two three => UnknownArgument 2
+show au -x => UnknownArgument 2
+check => MissingRequiredArgument 2
+check one two => UnknownArgument 2
+compile => MissingRequiredArgument 2
+compile o --locks => InvalidValue 2
+compile o --locks a --locks b => ArgumentConflict 2
+repair f => MissingRequiredArgument 2
+repair a b c => UnknownArgument 2
+load => MissingRequiredArgument 2
+load -f => MissingRequiredArgument 2
+load -f -p x => MissingRequiredArgument 2
+load /a/ /b/ => UnknownArgument 2
+help => DisplayHelp 0
+help show => DisplayHelp 0
+help shoe => InvalidSubcommand 2
+--help => DisplayHelp 0
+show --help => DisplayHelp 0
+--version => DisplayVersion 0
+";
+
+const REPLACED: &str = r#"
+show au two => None
+check site.db => None
+read -p x /k => None
+origin /k => None
+list / => None
+list-locks / => None
+dump / => None
+compile a/site.db k => Some(File("a/site.db"))
+repair bad.db fixed.db => Some(File("fixed.db"))
+write /k 5 => Some(UserOf("profile"))
+write -p x /k 5 => Some(UserOf("x"))
+reset /k => Some(UserOf("profile"))
+reset -f -p x / => Some(UserOf("x"))
+load -p x / => Some(UserOf("x"))
+load -f / => Some(UserOf("profile"))
+"#;
+
+const HELP: &str = "
+--help => Prints the bytes of FILE, read as a value
+--help => Says whether FILE is a sound database
+--help => Sets the user's values of the keys below DIR
+check --help => Usage: dconfdb check <FILE>
+compile --help => Usage: dconfdb compile [OPTIONS] <OUT> [KEYFILE]...
+show --help => Usage: dconfdb show <TYPE> <FILE>
+help show => Usage: dconfdb show <TYPE> <FILE>
+load --help => Usage: dconfdb load [OPTIONS] <DIR>
+--version => dconfdb 0.1.0
+";
+
+/// An error has the first line of which something else comes: the outcome of its words, or what they replace.
+fn each_gives(alloc: Global, lines: &str, asks_replaced: bool) -> Result<(), Fail> {
+    for line in lines.split('\n') {
+        if let Some((words, wanted)) = line.split_once(" => ") {
+            let got = if asks_replaced {
+                replaced(alloc, words)?
+            } else {
+                outcome(alloc, words)?
+            };
+            is_left(alloc, words, &got, wanted)?;
+        } else if !line.is_empty() {
+            return Err(Fail::new("a line without an outcome"));
+        }
+    }
+    Ok(())
+}
+
+/// An error has the first line whose message has no such part.
+fn each_says(alloc: Global, lines: &str) -> Result<(), Fail> {
+    for line in lines.split('\n') {
+        if let Some((words, part)) = line.split_once(" => ") {
+            let said = message(alloc, words)?;
+            if !said.contains(part) {
+                return Err(Fail::new(format!(in alloc; "{words} => {said}")?));
+            }
+        } else if !line.is_empty() {
+            return Err(Fail::new("a line without its part"));
+        }
     }
     Ok(())
 }
 
 #[test]
-fn refuses_other_words(rt: HostRuntime) -> Result<(), Fail> {
-    let alloc = rt.alloc();
-    let lines = [
-        (["dconfdb"].as_slice(), ErrorKind::MissingSubcommand),
-        (
-            ["dconfdb", "shoe", "au", "two"].as_slice(),
-            ErrorKind::InvalidSubcommand,
-        ),
-        (
-            ["dconfdb", "show", "au"].as_slice(),
-            ErrorKind::MissingRequiredArgument,
-        ),
-        (
-            ["dconfdb", "show", "au", "two", "three"].as_slice(),
-            ErrorKind::UnknownArgument,
-        ),
-        (
-            ["dconfdb", "show", "au", "-x"].as_slice(),
-            ErrorKind::UnknownArgument,
-        ),
-        (
-            ["dconfdb", "check"].as_slice(),
-            ErrorKind::MissingRequiredArgument,
-        ),
-        (
-            ["dconfdb", "check", "one", "two"].as_slice(),
-            ErrorKind::UnknownArgument,
-        ),
-        (
-            ["dconfdb", "compile"].as_slice(),
-            ErrorKind::MissingRequiredArgument,
-        ),
-        (
-            ["dconfdb", "compile", "o", "--locks"].as_slice(),
-            ErrorKind::InvalidValue,
-        ),
-        (
-            ["dconfdb", "compile", "o", "--locks", "a", "--locks", "b"].as_slice(),
-            ErrorKind::ArgumentConflict,
-        ),
-        (
-            ["dconfdb", "repair", "f"].as_slice(),
-            ErrorKind::MissingRequiredArgument,
-        ),
-        (
-            ["dconfdb", "repair", "a", "b", "c"].as_slice(),
-            ErrorKind::UnknownArgument,
-        ),
-        (
-            ["dconfdb", "load"].as_slice(),
-            ErrorKind::MissingRequiredArgument,
-        ),
-        (
-            ["dconfdb", "load", "-f", "-p", "x"].as_slice(),
-            ErrorKind::MissingRequiredArgument,
-        ),
-        (
-            ["dconfdb", "load", "/a/", "/b/"].as_slice(),
-            ErrorKind::UnknownArgument,
-        ),
-        (["dconfdb", "help"].as_slice(), ErrorKind::DisplayHelp),
-        (
-            ["dconfdb", "help", "show"].as_slice(),
-            ErrorKind::DisplayHelp,
-        ),
-        (
-            ["dconfdb", "help", "shoe"].as_slice(),
-            ErrorKind::InvalidSubcommand,
-        ),
-        (["dconfdb", "--help"].as_slice(), ErrorKind::DisplayHelp),
-        (
-            ["dconfdb", "show", "--help"].as_slice(),
-            ErrorKind::DisplayHelp,
-        ),
-        (
-            ["dconfdb", "--version"].as_slice(),
-            ErrorKind::DisplayVersion,
-        ),
+fn reads_words_or_refuses_them(rt: HostRuntime) -> Result<(), Fail> {
+    each_gives(rt.alloc(), ASKED, false)?;
+    each_gives(rt.alloc(), REFUSED, false)?;
+    each_gives(rt.alloc(), REPLACED, true)
+}
+
+#[test]
+fn names_the_users_file(rt: HostRuntime) -> Result<(), Fail> {
+    let rows = [
+        ("user-db:me\nsystem-db:site\n", "me.user"),
+        ("# first\n\t user-db:a.b # the user's\r\n", "a.b.user"),
+        ("system-db:site\n", "the profile"),
+        ("system-db:site\nuser-db:me\n", "the profile"),
+        ("user-db:me\nnonsense\n", "the profile"),
+        ("", "the profile"),
+        ("service-db:x", "the profile"),
     ];
-    for (line, kind) in lines {
-        let words = texts(alloc, line)?;
-        match command(alloc, &words) {
-            Ok(_) => assert!(rt; false, "taken"),
-            Err(error) => assert!(rt; error.kind() == kind, "{error}"),
-        }
+    for (text, wanted) in rows {
+        let name = user_file(rt.alloc(), "the profile", text.as_bytes())?;
+        assert!(rt; name.as_str() == wanted, "{text}: {name}");
     }
     Ok(())
 }
 
 #[test]
 fn shows_help(rt: HostRuntime) -> Result<(), Fail> {
-    let alloc = rt.alloc();
-    let lines = [
-        (
-            ["dconfdb", "--help"].as_slice(),
-            "Prints the bytes of FILE, read as a value",
-        ),
-        (
-            ["dconfdb", "--help"].as_slice(),
-            "Says whether FILE is a sound database",
-        ),
-        (
-            ["dconfdb", "check", "--help"].as_slice(),
-            "Usage: dconfdb check <FILE>",
-        ),
-        (
-            ["dconfdb", "compile", "--help"].as_slice(),
-            "Usage: dconfdb compile [OPTIONS] <OUT> [KEYFILE]...",
-        ),
-        (
-            ["dconfdb", "show", "--help"].as_slice(),
-            "Usage: dconfdb show <TYPE> <FILE>",
-        ),
-        (
-            ["dconfdb", "help", "show"].as_slice(),
-            "Usage: dconfdb show <TYPE> <FILE>",
-        ),
-        (
-            ["dconfdb", "--help"].as_slice(),
-            "Sets the user's values of the keys below DIR",
-        ),
-        (
-            ["dconfdb", "load", "--help"].as_slice(),
-            "Usage: dconfdb load [OPTIONS] <DIR>",
-        ),
-        (["dconfdb", "--version"].as_slice(), "dconfdb 0.1.0"),
-    ];
-    for (line, part) in lines {
-        let words = texts(alloc, line)?;
-        let shown = match command(alloc, &words) {
-            Ok(_) => String::new(alloc),
-            Err(error) => format!(in alloc; "{error}")?,
-        };
-        assert!(rt; shown.contains(part), "{shown}");
-    }
-    Ok(())
+    each_says(rt.alloc(), HELP)
 }
