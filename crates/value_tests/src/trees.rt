@@ -198,3 +198,36 @@ fn trees_are_equal_where_types_and_bits_are(rt: HostRuntime) -> Result<(), Fail>
     );
     Ok(())
 }
+
+#[test]
+fn each_basic_is_written_by_its_bytes(rt: HostRuntime) -> Result<(), Fail> {
+    let alloc = rt.alloc();
+    let rows: [(Basic, &str, &[u8]); 9] = [
+        (Basic::Bool(true), "b", &[1]),
+        (Basic::Byte(0xfe), "y", &[0xfe]),
+        (Basic::Int16(-2), "n", &[0xfe, 0xff]),
+        (Basic::Uint16(0x1234), "q", &[0x34, 0x12]),
+        (Basic::Int32(-2), "i", &[0xfe, 0xff, 0xff, 0xff]),
+        (Basic::Uint32(0x1234_5678), "u", &[0x78, 0x56, 0x34, 0x12]),
+        (
+            Basic::Int64(-2),
+            "x",
+            &[0xfe, 0xff, 0xff, 0xff, 0xff, 0xff, 0xff, 0xff],
+        ),
+        (
+            Basic::Uint64(0x0102_0304_0506_0708),
+            "t",
+            &[8, 7, 6, 5, 4, 3, 2, 1],
+        ),
+        (Basic::HandleNo(7), "h", &[7, 0, 0, 0]),
+    ];
+    for (value, of, bytes) in rows {
+        let tree = Tree::basic(alloc, value)?;
+        let written = serialise(alloc, &tree)?;
+        assert!(rt;
+            tree.type_text().as_str() == of && written.as_slice() == bytes,
+            "{of}: {written:?}"
+        );
+    }
+    Ok(())
+}
