@@ -224,7 +224,12 @@ fn each_writes(
         };
         let mut streams = Streams::new(alloc, Source::bytes(b""), out, err);
         leaves_on(alloc, words, folder, &mut streams, wanted)?;
-        if streams.out.failures() + streams.err.failures() != *failures {
+        if streams
+            .out
+            .failures()
+            .saturating_add(streams.err.failures())
+            != *failures
+        {
             return Err(Fail::new(format!(in alloc; "the failures of {words}")?));
         }
     }

@@ -1,7 +1,0 @@
-//! Layers of settings: what is seen through the databases of a profile, and how it is changed.
-mod changing;
-mod engines;
-mod keeping;
-mod listing;
-mod seeing;
-mod store;
