@@ -1,5 +1,5 @@
 -- Writing bytes piece by piece.
-use Rattle.std.proofs.Common.{◌≡◌, ◌+◌, ◌-◌, ℕ, List, length, take, drop, sym, ap, subst, ◌∙◌, Option, arith, length-drop, take-add}
+use Rattle.std.proofs.Common.{◌≡◌, ◌+◌, ◌-◌, ℕ, List, [], length, take, drop, sym, ap, subst, ◌∙◌, Option, arith, length-drop, take-add}
 use Rattle.std.proofs.lemmas.List.{drop-drop, take_all}
 use Rattle.std.proofs.KnownBytes.{Appends-trans}
 use Rattle.std.specs.Io.KnownBytes.{Appends}
@@ -21,3 +21,11 @@ HasPut-more old mid new bytes rest n h more =
       left = whole ∙ ap (drop n) h.left ∙ drop-drop n h.n bytes;
       grown = subst (Appends old new) (sym (take-add h.n n bytes)) (Appends-trans old mid new (take h.n bytes) (take n (drop h.n bytes)) h.grown after);
     }
+
+-- of nothing there is no rest
+pub HasPut-none : (old new : Option (List ℕ)) (bytes rest : List ℕ) → HasPut old new bytes rest → bytes ≡ [] → length rest ≡ 0
+HasPut-none old new bytes rest h e =
+    let left = ap length h.left in
+    let dropped = length-drop h.n bytes in
+    let none = ap length e in
+    omega (arith, left, dropped, none)

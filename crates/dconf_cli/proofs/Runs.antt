@@ -20,7 +20,7 @@ use Rattle.dconf_cli.specs.declared.answer.Answer.TheVariants as answers
 use Rattle.dconf_cli.specs.Answers.{RefusesFor, outcome_of}
 use Rattle.dconf_cli.specs.Endings.{Ends, EndsBy}
 use Rattle.dconf_cli.specs.Readings.{AllRead, AreOf, Decides, Gave, Reading, Tells}
-use Rattle.dconf_cli.specs.Runs.{IsFormed, IsOwn, KeepsFiles, NamesFile, RanAnywhere, Took}
+use Rattle.dconf_cli.specs.Runs.{IsFormed, IsOwn, KeepsFiles, NamesFile, RanAnywhere, SaysLostInput, Took}
 use Rattle.dconf_cli.specs.Streams.{NoneFailed}
 use Rattle.dconf_cli.proofs.Leaving.{not_rose}
 
@@ -346,3 +346,7 @@ module _ {F : Type 0} (past : F → List Event → Type 0) (failures : F → ℕ
       go (inl same) = same.1
       go (inr other) =
           lost (refusal_says past failures command input mid new output (outcome_of answer) (device_text (codes "input")) (says other.1) e)
+
+  -- of an input that failed the output says so
+  pub says_lost_input : RefusesFor answer (device_text (codes "input")) → SaysLostInput output
+  says_lost_input says = refusal_says past failures command input mid new output (outcome_of answer) (device_text (codes "input")) says e

@@ -1,5 +1,5 @@
 -- What a counted stream shows.
-use Rattle.std.specs.Prelude.{◌≡◌, ◌≢◌, ◌⊎◌, ◌≤◌, ℕ, List, Option}
+use Rattle.std.specs.Prelude.{◌≡◌, ◌≢◌, ◌⊎◌, ◌≤◌, ℕ, List, [], Option}
 use Rattle.std.specs.Io.KnownBytes.{Appends}
 use Rattle.dconf_model.specs.Outcomes.{Output}
 use Rattle.dconf_cli.specs.declared.counted.Counted.{Counted}
@@ -19,10 +19,10 @@ Unfailed old new = NoneFailed (failures_of old) (failures_of new)
 abbrev pub Grew : {S : Type 0} → (S → Option (List ℕ)) → Counted S → Counted S → List ℕ → Type 0
 Grew contents old new bytes = Appends (contents (inner_of old)) (contents (inner_of new)) bytes
 
--- the text is on out, with status 0; or a write failed, with status 1
-abbrev pub Prints : {S : Type 0} → (S → Option (List ℕ)) → Counted S → Counted S → List ℕ → ℕ → Type 0
-Prints contents old new text status =
-    ((status ≡ 0) × Grew contents old new text × (failures_of new ≡ failures_of old)) ⊎ ((status ≡ 1) × (failures_of new ≡ one_more (failures_of old)))
+-- the text is on out, with status 0; or a write failed, with status 1. Of no text nothing is written
+pub record Prints {S : Type 0} (contents : S → Option (List ℕ)) (old new : Counted S) (text : List ℕ) (status : ℕ) : Type 0 where
+  pub ends : ((status ≡ 0) × Grew contents old new text × (failures_of new ≡ failures_of old)) ⊎ ((status ≡ 1) × (failures_of new ≡ one_more (failures_of old)))
+  pub nothing : text ≡ [] → (status ≡ 0) × (new ≡ old)
 
 -- What a run leaves on out and err, and its status, of the output that it gives. A failed write to err changes no status.
 pub record Leaves {O E : Type 0} (contents : O → Option (List ℕ)) (err_contents : E → Option (List ℕ)) (out_old out_new : Counted O)
@@ -34,5 +34,7 @@ pub record Leaves {O E : Type 0} (contents : O → Option (List ℕ)) (err_conte
   pub lost : failures_of out_new ≢ failures_of out_old → (status ≡ 1) × (err_new ≡ err_old)
   -- however it went
   pub refused : output.status ≡ 1 → (status ≡ 1) × (out_new ≡ out_old)
+  -- of no text nothing is written to out, so that no failure of it changes the status
+  pub silent : output.out ≡ [] → (status ≡ output.status) × (out_new ≡ out_old)
   pub done : status ≡ 0 → (output.status ≡ 0) × (failures_of out_new ≡ failures_of out_old)
   pub within : status ≤ 1

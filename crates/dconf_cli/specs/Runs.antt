@@ -1,5 +1,5 @@
 -- What a run of a command does, by what is known of its folder and its input.
-use Rattle.std.specs.Prelude.{◌≡◌, ◌≢◌, ◌⊎◌, ℕ, Bool, true, false, List, [], Option, IfSome, take}
+use Rattle.std.specs.Prelude.{◌≡◌, ◌≢◌, ◌⊎◌, ℕ, Bool, true, false, List, [], Option, IfSome, codes, take}
 use Rattle.dconf_model.specs.Folders.{Event, read_content}
 use Rattle.dconf_model.specs.FaultTexts.{device_text}
 use Rattle.dconf_model.specs.Replacing.{MaybeReplaced}
@@ -15,6 +15,10 @@ use Rattle.dconf_cli.specs.Streams.{one_more}
 pub record Took (remaining : Option (List ℕ)) (failures_old failures_new : ℕ) (i : Input) : Type 0 where
   pub whole : i.fails ≡ false → IfSome remaining (λ xs. i.bytes ≡ xs)
   pub part : i.fails ≡ true → IfSome remaining (λ xs. (n : ℕ) × (i.bytes ≡ take n xs)) × (failures_new ≡ one_more failures_old)
+
+-- the line for an input that failed, or the one for memory
+abbrev pub SaysLostInput : Output → Type 0
+SaysLostInput output = (output ≡ refused_output (device_text (codes "input"))) ⊎ NoMemory output
 
 -- whether a command reads its input
 abbrev pub reads_input : Command → Bool

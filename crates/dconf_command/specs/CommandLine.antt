@@ -77,8 +77,23 @@ dconfdb_line = record (new_app (codes "dconfdb")) {
   };
 }
 
+-- a line with `show`, `check` and `compile`
+abbrev pub with_files : App → App
+with_files line = with_subcommand (with_subcommand (with_subcommand line show_line.top) check_line.top) compile_line.top
+
+-- with `read`, `origin` and `repair`
+abbrev pub with_keys : App → App
+with_keys line = with_subcommand (with_subcommand (with_subcommand line read_line.top) origin_line.top) repair_line.top
+
+-- with `list`, `list-locks` and `dump`
+abbrev pub with_directories : App → App
+with_directories line =
+    with_subcommand (with_subcommand (with_subcommand line (directory_line (codes "list")).top) (directory_line (codes "list-locks")).top)
+    (directory_line (codes "dump")).top
+
+-- with `write`, `reset` and `load`
+abbrev pub with_changes : App → App
+with_changes line = with_subcommand (with_subcommand (with_subcommand line write_line.top) reset_line.top) load_line.top
+
 abbrev pub command_line : App
-command_line =
-    with_subcommand (with_subcommand (with_subcommand (with_subcommand (with_subcommand (with_subcommand (with_subcommand (with_subcommand (with_subcommand (with_subcommand (with_subcommand (with_subcommand dconfdb_line
-    show_line.top) check_line.top) compile_line.top) read_line.top) origin_line.top) repair_line.top)
-    (directory_line (codes "list")).top) (directory_line (codes "list-locks")).top) (directory_line (codes "dump")).top) write_line.top) reset_line.top) load_line.top
+command_line = with_changes (with_directories (with_keys (with_files dconfdb_line)))

@@ -1,7 +1,7 @@
 //! The command line of `dconfdb`, by clap's builder.
 ghost use Rattle.std.specs.Prelude.{◌≡◌, codes, false, IfOk};
 ghost use Rattle.clap.specs.Words.{app_of, rule_of};
-ghost use Rattle.dconf_command.specs.CommandLine.{check_line, command_line, compile_line, default_flag, directory_line, force_flag, further_words, load_line, locks_option, origin_line, profile_option, read_line, repair_line, required_word, reset_line, show_line, write_line};
+ghost use Rattle.dconf_command.specs.CommandLine.{check_line, command_line, compile_line, default_flag, directory_line, force_flag, further_words, load_line, locks_option, origin_line, profile_option, read_line, repair_line, required_word, reset_line, show_line, with_changes, with_directories, with_files, with_keys, write_line};
 
 use crate::help;
 use clap::{Arg, ArgAction};
@@ -11,23 +11,56 @@ use std::alloc::{AllocError, Global};
 pub(crate) fn dconfdb<'a>(alloc: Global) -> Result<clap::Command<'a>, AllocError>
     ensures { IfOk result (λ c. app_of c ≡ command_line) }
 {
-    clap::Command::new(alloc, "dconfdb")
+    let line = clap::Command::new(alloc, "dconfdb")
         .about(
             "A settings store in the manner of dconf: reads, changes, makes and checks its databases",
         )
         .after_long_help(help::PROGRAM)
         .version("0.1.0")
-        .subcommand_required(true)
-        .subcommand(show(alloc)?)?
+        .subcommand_required(true);
+    let line = with_files(alloc, line)?;
+    let line = with_keys(alloc, line)?;
+    let line = with_directories(alloc, line)?;
+    with_changes(alloc, line)
+}
+
+// Twelve commands in one function are ten times the proof of three.
+
+// The line with `show`, `check` and `compile`.
+fn with_files<'a>(alloc: Global, line: clap::Command<'a>) -> Result<clap::Command<'a>, AllocError>
+    ensures { IfOk result (λ c. app_of c ≡ with_files (app_of line.entry)) }
+{
+    line.subcommand(show(alloc)?)?
         .subcommand(check(alloc)?)?
-        .subcommand(compile(alloc)?)?
-        .subcommand(read(alloc)?)?
+        .subcommand(compile(alloc)?)
+}
+
+// The line with `read`, `origin` and `repair`.
+fn with_keys<'a>(alloc: Global, line: clap::Command<'a>) -> Result<clap::Command<'a>, AllocError>
+    ensures { IfOk result (λ c. app_of c ≡ with_keys (app_of line.entry)) }
+{
+    line.subcommand(read(alloc)?)?
         .subcommand(origin(alloc)?)?
-        .subcommand(repair(alloc)?)?
-        .subcommand(list(alloc)?)?
+        .subcommand(repair(alloc)?)
+}
+
+// The line with `list`, `list-locks` and `dump`.
+fn with_directories<'a>(
+    alloc: Global,
+    line: clap::Command<'a>,
+) -> Result<clap::Command<'a>, AllocError>
+    ensures { IfOk result (λ c. app_of c ≡ with_directories (app_of line.entry)) }
+{
+    line.subcommand(list(alloc)?)?
         .subcommand(list_locks(alloc)?)?
-        .subcommand(dump(alloc)?)?
-        .subcommand(write(alloc)?)?
+        .subcommand(dump(alloc)?)
+}
+
+// The line with `write`, `reset` and `load`.
+fn with_changes<'a>(alloc: Global, line: clap::Command<'a>) -> Result<clap::Command<'a>, AllocError>
+    ensures { IfOk result (λ c. app_of c ≡ with_changes (app_of line.entry)) }
+{
+    line.subcommand(write(alloc)?)?
         .subcommand(reset(alloc)?)?
         .subcommand(load(alloc)?)
 }

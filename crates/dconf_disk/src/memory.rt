@@ -1,7 +1,7 @@
 //! A folder in memory, whose device fails when it is told to.
 ghost use Rattle.std.specs.Prelude.{◌≡◌, ◌⊎◌, ◌≤◌, ◌-◌, ◌↔◌, [], ◌∷◌, true, List, None, IfOk, IfSome, IsSome, OnOk, OnErr, IsErrOf, option_map, length};
 ghost use Rattle.dconf_model.specs.Folders.{Event, read_content};
-ghost use Rattle.dconf_model.specs.Folders.Event.{touch};
+ghost use Rattle.dconf_model.specs.Folders.Event.{rename, touch};
 ghost use Rattle.dconf_model.specs.Reads.{IsOverSize};
 ghost use Rattle.dconf_disk.specs.Failures.{HasCause, failed_by};
 ghost use Rattle.dconf_disk.specs.MemoryFolders.{event_of, events_of, IsPast, failures_of, failing_call};
@@ -105,6 +105,18 @@ impl MemoryFolder {
         }
     }
 
+    /// Notes a rename that was done though it failed, if there is memory for it.
+    #[tactic(auto, using(crate::proofs::CallLemmas::events_of_push))]
+    fn rename_though_it_failed(&mut self, from: &str, to: &str)
+        ensures events { (events_of self.new.calls.items ≡ rename from.now to.now ∷ events_of self.old.calls.items) ⊎ (events_of self.new.calls.items ≡ events_of self.old.calls.items) }
+        ensures failures { self.new.failures ≡ self.old.failures }
+        ensures failing { self.new.fails_in ≡ self.old.fails_in }
+    {
+        if let Some(call) = rename_call(self.alloc, from, to) {
+            let _noted = self.calls.push(call).is_ok();
+        }
+    }
+
     fn is_there(&self, name: &str) -> bool
         ensures { result ≡ true → (es : List Event) → IsPast self.now es → read_content es name.now ≡ None → ⊥ }
     {
@@ -172,11 +184,16 @@ impl Folder for MemoryFolder {
         noted
     }
 
+    /// One that fails is done all the same, so that a crash leaves either.
     fn rename(&mut self, from: &str, to: &str) -> Result<(), FolderFault> {
         if !self.is_there(from) {
             return self.note(None);
         }
-        self.note(rename_call(self.alloc, from, to))
+        let noted = self.note(rename_call(self.alloc, from, to));
+        if noted.is_err() {
+            self.rename_though_it_failed(from, to);
+        }
+        noted
     }
 
     fn sync_folder(&mut self) -> Result<(), FolderFault> {

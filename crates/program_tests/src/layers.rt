@@ -32,11 +32,12 @@ pub(crate) fn two_layers(alloc: Global, locks: &str) -> Result<MemoryFolder, Fai
     put(&mut folder, "bad.db", PLAIN.get(..23).unwrap_or(&PLAIN))?;
     runs(alloc, MADE, &mut folder)?;
     settle(&mut folder, &files)?;
+    settle(&mut folder, &[("bad.db", "")])?;
     Ok(folder)
 }
 
 /// Syncs these files and the folder, so that a crash leaves them.
-fn settle(folder: &mut MemoryFolder, files: &[(&str, &str)]) -> Result<(), Fail> {
+pub(crate) fn settle(folder: &mut MemoryFolder, files: &[(&str, &str)]) -> Result<(), Fail> {
     for (name, _) in files {
         folder.sync(name)?;
     }

@@ -13,6 +13,8 @@ mod containers;
 #[cfg(test)]
 mod counted;
 #[cfg(test)]
+mod crashes;
+#[cfg(test)]
 mod deep;
 #[cfg(test)]
 mod failing;
@@ -35,6 +37,8 @@ mod settings;
 #[cfg(test)]
 mod show;
 #[cfg(test)]
+mod stores;
+#[cfg(test)]
 mod streams;
 #[cfg(test)]
 mod type_faults;
@@ -42,3 +46,5 @@ mod type_faults;
 mod widths;
 #[cfg(test)]
 mod words;
+#[cfg(test)]
+mod writes;

@@ -25,33 +25,51 @@ fn changed(alloc: Global, length: usize, changes: &[(usize, u8)]) -> Result<Vec<
     Ok(file)
 }
 
-/// A folder with the database `site.db`, and with others that differ from it: of how many of its bytes, and which of them are others.
+/// The name of a file, of how many bytes of the database it is, and which of them are others.
+type Sample<'a> = (&'a str, usize, &'a [(usize, u8)]);
+
+const SAMPLES: [Sample<'_>; 14] = [
+    ("site.db", 102, &[]),
+    // The value is 1.
+    ("me.user", 102, &[(96, 1)]),
+    // Bloom words are none, and the shift is 5.
+    ("shift", 102, &[(27, 0x28)]),
+    // A table without items.
+    ("empty", 32, &[(20, 0x20), (27, 0x28), (28, 0)]),
+    // The bucket begins after the first item.
+    ("bucket", 102, &[(32, 1)]),
+    // Each of the two items is the other's parent.
+    ("circle", 102, &[(40, 1), (41, 0), (42, 0), (43, 0)]),
+    // Another hash.
+    ("hash", 102, &[(60, 0xbe)]),
+    // The value is cut off.
+    ("cut", 101, &[]),
+    ("none", 0, &[]),
+    ("bad.db", 23, &[]),
+    ("signature", 102, &[(0, 0x67)]),
+    ("version", 102, &[(8, 0x01)]),
+    ("root", 102, &[(16, 0x19)]),
+    ("table", 102, &[(20, 0x53)]),
+];
+
+/// Puts the sample of this name into the folder.
+pub(crate) fn put_sample(
+    alloc: Global,
+    folder: &mut MemoryFolder,
+    wanted: &str,
+) -> Result<(), Fail> {
+    for (name, length, changes) in SAMPLES {
+        if name == wanted {
+            put(folder, name, &changed(alloc, length, changes)?)?;
+        }
+    }
+    Ok(())
+}
+
+/// A folder with the database `site.db`, and with others that differ from it.
 pub(crate) fn samples(alloc: Global) -> Result<MemoryFolder, Fail> {
-    let files: [(&str, usize, &[(usize, u8)]); 14] = [
-        ("site.db", 102, &[]),
-        // The value is 1.
-        ("me.user", 102, &[(96, 1)]),
-        // Bloom words are none, and the shift is 5.
-        ("shift", 102, &[(27, 0x28)]),
-        // A table without items.
-        ("empty", 32, &[(20, 0x20), (27, 0x28), (28, 0)]),
-        // The bucket begins after the first item.
-        ("bucket", 102, &[(32, 1)]),
-        // Each of the two items is the other's parent.
-        ("circle", 102, &[(40, 1), (41, 0), (42, 0), (43, 0)]),
-        // Another hash.
-        ("hash", 102, &[(60, 0xbe)]),
-        // The value is cut off.
-        ("cut", 101, &[]),
-        ("none", 0, &[]),
-        ("bad.db", 23, &[]),
-        ("signature", 102, &[(0, 0x67)]),
-        ("version", 102, &[(8, 0x01)]),
-        ("root", 102, &[(16, 0x19)]),
-        ("table", 102, &[(20, 0x53)]),
-    ];
     let mut folder = MemoryFolder::new(alloc);
-    for (name, length, changes) in files {
+    for (name, length, changes) in SAMPLES {
         put(&mut folder, name, &changed(alloc, length, changes)?)?;
     }
     Ok(folder)

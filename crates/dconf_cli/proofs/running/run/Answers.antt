@@ -1,4 +1,4 @@
-use Rattle.dconf_cli.proofs.Runs.{ran, ran_anywhere, ran_calmly, zero_keeps, zero_keeps_input}
+use Rattle.dconf_cli.proofs.Runs.{ran, ran_anywhere, ran_calmly, says_lost_input, zero_keeps, zero_keeps_input}
 use Rattle.dconf_cli.proofs.running.run.Goals as goal
 
 pub returns-clause-calm : goal.returns-clause-calm
@@ -29,6 +29,16 @@ returns-clause-anywhere g c =
             c.answered-answer.new.folder c.give.new.folder c.answered-answer.result end.0 a.2 end.1,
         end.2,
       ),
+    )
+
+pub returns-clause-lost_input : goal.returns-clause-lost_input
+returns-clause-lost_input g c = λ failed.
+    let end = c.give.ensures in (
+      end.0,
+      says_lost_input g.F.Folder.past g.F.Folder.failed _ c.answered-answer.ensures.answer.0 c.args.folder.now
+          c.answered-answer.new.folder c.give.new.folder c.answered-answer.result end.0 c.answered-answer.ensures.answer.2 end.1
+          (c.answered-answer.ensures.device failed),
+      end.2,
     )
 
 pub returns-clause-zero : goal.returns-clause-zero

@@ -1,11 +1,14 @@
 use Rattle.std.proofs.Common.{◌∙◌, arith, rules}
-use Rattle.dconf_cli.proofs.Puts.{HasPut-more}
+use Rattle.dconf_cli.proofs.Puts.{HasPut-more, HasPut-none}
 use Rattle.dconf_cli.proofs.counted.Counted.put.Goals as goal
 
 pub loop-rest-preserved : goal.loop-rest-preserved
 loop-rest-preserved g c =
-    let i = c.loop-rest.invariant in
-    (c.in_ok-n.ensures.took (omega arith) ∙ i.0, HasPut-more _ _ _ c.args.bytes.now c.loop-rest.rest.now c.in_ok-n.n i.1 c.in_ok-n.ensures.bytes)
+    let i = c.loop-rest.invariant in (
+      c.in_ok-n.ensures.took (omega arith) ∙ i.0,
+      HasPut-more _ _ _ c.args.bytes.now c.loop-rest.rest.now c.in_ok-n.n i.1 c.in_ok-n.ensures.bytes,
+      λ e. let none = HasPut-none _ _ _ _ i.1 e in let some = c.in_ok-n.ensures.bound in absurd (omega (arith, none, some)),
+    )
 
 pub returns-then-n-eq0-clause-written : goal.returns-then-n-eq0-clause-written
 returns-then-n-eq0-clause-written g c = search rules

@@ -1,0 +1,161 @@
+//! Databases that `write` made: what is found in them is compared with the map and with a slow search.
+use super::maps::{FIVE, fives};
+use super::salvaging::{kept, text_of};
+use super::slow_search::agree;
+use dconf_path::{KeyPath, LockPath};
+use gv_view::View;
+use gvdb_read::Table;
+use gvdb_write::{Map, write};
+use std::alloc::Global;
+use std::test::Fail;
+
+/// The path of key number i: every fifth in the root, the others in directories up to three deep.
+fn path(alloc: Global, i: u32) -> Result<String, Fail> {
+    let text = match i % 5 {
+        0 => format!(in alloc; "/k{i}")?,
+        1 => format!(in alloc; "/a/k{i}")?,
+        2 => format!(in alloc; "/a/b{}/k{i}", i % 3)?,
+        3 => format!(in alloc; "/c{}/d/k{i}", i % 7)?,
+        _ => format!(in alloc; "/a/b0/é/k{i}")?,
+    };
+    Ok(text)
+}
+
+/// A number as a serialised `v` of type `u`.
+fn value(i: u32) -> [u8; 6] {
+    let [a, b, c, d] = i.to_le_bytes();
+    [a, b, c, d, 0, b'u']
+}
+
+/// The database of keys 0 up to a number, with a lock on every third.
+pub(crate) fn database(alloc: Global, keys: u32) -> Result<Vec<u8>, Fail> {
+    let mut map = Map::new(alloc);
+    for i in 0..keys {
+        let path = path(alloc, i)?;
+        map.insert(KeyPath::parse(&path)?, &value(i))?;
+        if i % 3 == 0 {
+            map.lock(LockPath::parse(&path)?)?;
+        }
+    }
+    Ok(write(alloc, &map)?)
+}
+
+/// Names that are in such a database, and names that are not.
+pub(crate) fn names(alloc: Global, keys: u32) -> Result<Vec<String>, Fail> {
+    let mut names = Vec::new(alloc);
+    for name in [
+        "",
+        "/",
+        "/a",
+        "/a/",
+        "/a/b0/",
+        "/a/b0/é/",
+        "/c3/d/",
+        "k0",
+        ".locks",
+    ] {
+        names.push(String::from_str(alloc, name)?)?;
+    }
+    for i in 0..keys.saturating_add(4) {
+        names.push(path(alloc, i)?)?;
+    }
+    Ok(names)
+}
+
+/// Whether each key of a database of so many, and no other, is found in a file, and each third is locked.
+fn has_each_key(alloc: Global, file: &[u8], keys: u32) -> Result<bool, Fail> {
+    let table = Table::open(file)?;
+    let locks = table.table(".locks");
+    for i in 0..keys.saturating_add(20) {
+        let path = path(alloc, i)?;
+        let wanted = if i < keys { Some(i) } else { None };
+        let is_locked = matches!(locks, Some(locks) if locks.has(&path));
+        if table.find(&path).and_then(View::as_u32) != wanted
+            || is_locked != (i < keys && i % 3 == 0)
+        {
+            return Ok(false);
+        }
+    }
+    Ok(table.check().is_ok())
+}
+
+#[test]
+fn each_key_is_found_and_no_other_as_by_a_slow_search(rt: HostRuntime) -> Result<(), Fail> {
+    let alloc = rt.alloc();
+    for keys in (0..24).chain([50, 200]) {
+        let file = database(alloc, keys)?;
+        let found = has_each_key(alloc, &file, keys)? && agree(alloc, &file, &names(alloc, keys)?)?;
+        assert!(rt; found, "{keys} keys");
+    }
+    Ok(())
+}
+
+/// Whether each of these paths is found, worth 5, and each of these locks, and `/` is listed, empty where there is no path.
+fn holds(table: Table<'_>, paths: &[&str], locks: &[&str]) -> bool {
+    let are_found = paths
+        .iter()
+        .all(|path| table.find_bytes(path) == Some(FIVE));
+    let are_locked = locks.iter().all(
+        |lock| matches!(table.table(".locks"), Some(locks) if locks.has(lock)),
+    );
+    let is_listed = match table.list("/") {
+        Some(mut names) => names.next().is_none() == paths.is_empty(),
+        None => false,
+    };
+    are_found && are_locked && is_listed
+}
+
+/// The words of a text.
+fn words_of(alloc: Global, text: &str) -> Result<Vec<&str>, Fail> {
+    let mut words = Vec::new(alloc);
+    for word in text.split_terminator(' ') {
+        words.push(word)?;
+    }
+    Ok(words)
+}
+
+/// Whether a map of the paths that these words are, each worth 5, and of locks is this text, also once it was written, to so many bytes, and salvaged.
+fn is_written(
+    alloc: Global,
+    (paths, locks): (&str, &str),
+    len: Option<usize>,
+    text: &str,
+) -> Result<bool, Fail> {
+    let paths = words_of(alloc, paths)?;
+    let locks = words_of(alloc, locks)?;
+    let map = fives(alloc, &paths, &locks)?;
+    let file = write(alloc, &map)?;
+    let table = Table::open(&file)?;
+    Ok(
+        table.check().is_ok()
+            && holds(table, &paths, &locks)
+            && file.len() == len.unwrap_or(file.len())
+            && text_of(alloc, &map)?.as_str() == text
+            && kept(alloc, &file)?.as_str() == text,
+    )
+}
+
+#[test]
+fn maps_are_written_and_read_back(rt: HostRuntime) -> Result<(), Fail> {
+    let alloc = rt.alloc();
+    for (paths, locks, len, text) in [
+        ("", "", Some(68), ""),
+        ("/k", "", Some(110), "/k=Some(5) "),
+        ("/a/k", "/a/k", Some(227), "/a/k=Some(5) lock /a/k "),
+        ("/a/k", "/a/", None, "/a/k=Some(5) lock /a/ "),
+        // equal values are stored once
+        ("/a /b", "", Some(142), "/a=Some(5) /b=Some(5) "),
+        // paths come in the order of their bytes
+        (
+            "/b /a/é /a- /a/z /B /a/b/c",
+            "/z /a/k /a/ /a",
+            None,
+            "/B=Some(5) /a-=Some(5) /a/b/c=Some(5) /a/z=Some(5) /a/é=Some(5) /b=Some(5) lock /a lock /a/ lock /a/k lock /z ",
+        ),
+    ] {
+        assert!(rt; is_written(alloc, (paths, locks), len, text)?, "{text}");
+    }
+    let shared = write(alloc, &fives(alloc, &["/a", "/b"], &[])?)?;
+    assert!(rt; shared.get(136..142) == Some(FIVE));
+    Ok(())
+}

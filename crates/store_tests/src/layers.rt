@@ -1,0 +1,8 @@
+//! Layers of settings: what is seen through the databases of a profile, and how it is changed.
+mod changing;
+mod engines;
+mod keeping;
+mod listing;
+mod many;
+mod seeing;
+mod store;

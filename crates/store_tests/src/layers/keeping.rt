@@ -1,0 +1,44 @@
+//! What a save keeps of the user's file, byte for byte.
+use super::engines::opened;
+use dconf_path::{KeyPath, read_profile};
+use gv_tree::{Basic, Tree};
+use gvdb_read::Table;
+use gvdb_write::{Map, write};
+use std::alloc::Global;
+use std::test::Fail;
+
+/// Whether these bytes of a variant are kept at `/a/k`, where a key beside it is set and the database is saved.
+fn keeps(alloc: Global, bytes: &[u8]) -> Result<bool, Fail> {
+    let profile = read_profile(alloc, "user-db:me")?;
+    let mut map = Map::new(alloc);
+    map.insert(KeyPath::parse("/a/k")?, bytes)?;
+    let user = write(alloc, &map)?;
+    let mut engine = opened(alloc, &profile, &[Some(user.as_slice())])??;
+    let value = Tree::basic(alloc, Basic::Int32(7))?;
+    engine.write(KeyPath::parse("/a/j")?, &value)?;
+    let file = engine.save()?;
+    let table = Table::open(&file)?;
+    Ok(table.find_bytes("/a/k") == Some(bytes) && table.has("/a/j"))
+}
+
+#[test]
+fn a_save_keeps_the_bytes_of_other_values(rt: HostRuntime) -> Result<(), Fail> {
+    let rows: [(&str, &[u8]); 9] = [
+        ("a text that is no UTF-8", b"a\xff\0\0s"),
+        ("a text without its zero byte", b"a\0s"),
+        ("a boolean that is not normal", b"\x05\0b"),
+        ("a number of a byte too many", b"\x05\0\0\0\0\0i"),
+        (
+            "padding that is not zero",
+            b"\x01\xff\xff\xff\x02\0\0\0\0(yi)",
+        ),
+        ("a double", b"\x01\x02\x03\x04\x05\x06\xf8\x7f\0d"),
+        ("no type", b"junk"),
+        ("a type that is none", b"\x01\0q}"),
+        ("no bytes", b""),
+    ];
+    for (what, bytes) in rows {
+        assert!(rt; keeps(rt.alloc(), bytes)?, "{what}");
+    }
+    Ok(())
+}

@@ -1,0 +1,11 @@
+//! Tests of a store's parts: texts of settings, databases, the layers of a profile, folders of files. There is no other code here.
+#![tactic(auto)]
+
+#[cfg(test)]
+mod databases;
+#[cfg(test)]
+mod folders;
+#[cfg(test)]
+mod layers;
+#[cfg(test)]
+mod texts;
