@@ -26,6 +26,15 @@ impl Failing {
         }
     }
 
+    /// How many writes a text takes.
+    fn writes_of(self, text: &str) -> usize {
+        let last = self.most.saturating_sub(1);
+        text.len()
+            .saturating_add(last)
+            .checked_div(self.most)
+            .unwrap_or(0)
+    }
+
     /// The part of a text that is written before the k-th write fails.
     fn before(self, k: usize, text: &str) -> &str {
         text.get(..self.most.saturating_mul(k.saturating_sub(1)))
@@ -96,7 +105,7 @@ fn leaves_with(
 fn each_to_out(alloc: Global, folder: &mut MemoryFolder, failing: Failing) -> Result<(), Fail> {
     let calm = failing.at(0);
     for (words, text) in TEXTS {
-        let writes = text.len().div_ceil(failing.most);
+        let writes = failing.writes_of(text);
         for k in 1..=writes {
             let left = format!(in alloc; "1\n{}", failing.before(k, text))?;
             leaves_with(alloc, words, folder, (failing.at(k), calm), (&left, 1))?;
@@ -112,7 +121,7 @@ fn each_to_out(alloc: Global, folder: &mut MemoryFolder, failing: Failing) -> Re
 fn each_to_err(alloc: Global, folder: &mut MemoryFolder, failing: Failing) -> Result<(), Fail> {
     let calm = failing.at(0);
     for (words, line) in LINES {
-        let writes = line.len().div_ceil(failing.most);
+        let writes = failing.writes_of(line);
         leaves_with(alloc, words, folder, (calm, failing.at(1)), ("1\n", 1))?;
         for k in 2..=writes {
             let left = format!(in alloc; "1\n! {}", failing.before(k, line))?;
