@@ -1,5 +1,5 @@
 -- Types by their class.
-use Rattle.std.proofs.Common.{◌≡◌, ◌⊎◌, inl, inr, ℕ, suc, ◌↔◌, IsTrue, Bool, List, Option, Some, refl, sym, ap, subst}
+use Rattle.std.proofs.Common.{◌≡◌, ◌⊎◌, inl, inr, ℕ, suc, ◌↔◌, IsTrue, Bool, List, Option, Some, refl, sym, ap, subst, ◌∙◌}
 use Rattle.std.proofs.lemmas.Option.{none-some, same_Some}
 use Rattle.gv_model.specs.Ty.{Ty}
 use Rattle.gv_model.specs.Ty.Ty.{basic, variant, array, maybe, tuple, entry}
@@ -9,8 +9,10 @@ use Rattle.gv_types.specs.TypeStr.{element_of}
 use Rattle.gv_types.specs.declared.class.Class.TheVariants as classes
 use Rattle.gv_types.specs.declared.class.BasicType.{BasicType}
 use Rattle.gv_model.specs.Normal.{IsEncoded}
+use Rattle.gv_model.specs.Tree.{nodes}
+use Rattle.gv_model.specs.Decode.{decode}
 use Rattle.gv_normal.specs.InPlace.{IsNormalWithin, HasMembers}
-use Rattle.gv_normal.proofs.BasicBytes.{basic_within}
+use Rattle.gv_normal.proofs.BasicBytes.{basic_within, nodes_basic}
 
 pub fixed_members : (t : Ty) (n : ℕ) → ((k : BasicType) → class_of t ≡ classes.Basic k → ⊥) → fixed_size t ≡ Some n → HasMembers t
 unfolding fixed_size
@@ -50,3 +52,7 @@ pub basic_here : (d n : ℕ) (t : Ty) (k : BasicType) (b : List ℕ) (r : Bool) 
 basic_here d n t k b r is low h =
     let law = basic_within d (basic_of k) b in
     subst (λ (m : ℕ). IsTrue r ↔ IsNormalWithin m t b) (sym low) (subst (λ (u : Ty). IsTrue r ↔ IsNormalWithin (suc d) u b) (sym is) (λ g. law.1 (h.0 g), λ g. h.1 (law.0 g)))
+
+-- and its one value
+pub basic_values : (t : Ty) (k : BasicType) (b : List ℕ) → t ≡ basic (basic_of k) → nodes (decode t b) ≡ 1
+basic_values t k b is = ap (λ (u : Ty). nodes (decode u b)) is ∙ nodes_basic (basic_of k) b

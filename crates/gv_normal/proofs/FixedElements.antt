@@ -1,11 +1,13 @@
 -- An array of elements of a fixed size is normal exactly where they are, one after the other.
-use Rattle.std.proofs.Common.{ℕ, zero, suc, ◌+◌, ◌-◌, ◌*◌, ◌/◌, ◌%◌, ◌<◌, ◌≤◌, ◌≡◌, ◌≢◌, ◌↔◌, IsTrue, Bool, List, [], ◌∷◌, ◌++◌, length, take, drop, slice_range, Option, Some, refl, sym, ap, ◌∙◌, subst, arith, length-drop, div-add-mod'}
+use Rattle.std.proofs.Common.{ℕ, zero, suc, ◌+◌, ◌-◌, ◌*◌, ◌/◌, ◌%◌, ◌<◌, ◌≤◌, ◌≡◌, ◌≢◌, ◌↔◌, IsTrue, Bool, List, [], ◌∷◌, ◌++◌, length, take, drop, slice_range, Option, Some, refl, sym, ap, ap₂, ◌∙◌, subst, arith, length-drop, div-add-mod'}
 use Rattle.std.proofs.Math.Nat.{mul-mod_left, mul-div_cancel}
 use Rattle.std.proofs.lemmas.List.{take_at, drop_at, take-append-drop, length-take-le, drop-drop}
 use Rattle.std.specs.Prelude.{All}
 use Rattle.std.proofs.lemmas.List.Elements.{All-nil, All-cons, All-head, All-tail}
 use Rattle.gv_model.specs.Ty.{Ty, Basic}
 use Rattle.gv_model.specs.Ty.Ty.{basic, array}
+use Rattle.gv_model.specs.Tree.{nodes}
+use Rattle.gv_model.specs.Decode.{decode}
 use Rattle.gv_model.specs.Ty.Basic.{boolean, byte, int16, uint16, int32, uint32, int64, uint64, handle, double, string, path, signature}
 use Rattle.gv_model.specs.Layout.{fixed_size, basic_size}
 use Rattle.gv_model.specs.BasicValue.{number_in}
@@ -19,23 +21,29 @@ use Rattle.gv_model.proofs.WellTyped.{IsBytes, bytes_take, bytes_drop}
 use Rattle.gv_normal.specs.InPlace.{IsNormalWithin, AreNormalNumbers}
 use Rattle.gv_types.specs.Classes.{basic_of}
 use Rattle.gv_types.specs.declared.class.BasicType.{BasicType}
-use Rattle.gv_normal.proofs.PackedParts.{AreNormal, AreOfBytes, normal_of_parts, parts_of_normal, one_type_held, held_one_type, sizes_of_parts, some_level}
-use Rattle.gv_normal.proofs.BasicBytes.{basic_within, number_normal, other_bits, boolean_normal}
+use Rattle.gv_normal.proofs.PackedParts.{AreNormal, AreOfBytes, PackedOf, values_of, packed_values, normal_of_parts, parts_of_normal, one_type_held, held_one_type, sizes_of_parts, some_level}
+use Rattle.gv_normal.proofs.BasicBytes.{basic_within, nodes_basic, number_normal, other_bits, boolean_normal}
 
 -- so many elements of n bytes each
 abbrev pub AreChunks : ℕ → Ty → ℕ → ℕ → List ℕ → Type 0
 AreChunks d t n zero b = Unit {0}
 AreChunks d t n (suc k) b = IsNormalWithin d t (take n b) × AreChunks d t n k (drop n b)
 
-pub record HasChunks (d : ℕ) (t : Ty) (b : List ℕ) : Type 0 where
+-- how many values are in them
+abbrev pub chunk_values : Ty → ℕ → ℕ → List ℕ → ℕ
+chunk_values t n zero b = 0
+chunk_values t n (suc k) b = nodes (decode t (take n b)) + chunk_values t n k (drop n b)
+
+pub record HasChunks (d : ℕ) (t : Ty) (n k : ℕ) (b : List ℕ) : Type 0 where
   pub parts : List Part
   pub one : OneType t parts
   pub normal : AreNormal d parts
   pub bytes : AreOfBytes parts
   pub joined : joined_parts parts ≡ b
+  pub values : values_of parts ≡ chunk_values t n k b
 
-chunks_back : (d : ℕ) (t : Ty) (n k : ℕ) (b : List ℕ) → IsBytes b → length b ≡ k * n → AreChunks d t n k b → HasChunks d t b
-chunks_back d t n zero [] bytes e h = record { parts = []; one = tt; normal = tt; bytes = tt; joined = refl }
+chunks_back : (d : ℕ) (t : Ty) (n k : ℕ) (b : List ℕ) → IsBytes b → length b ≡ k * n → AreChunks d t n k b → HasChunks d t n k b
+chunks_back d t n zero [] bytes e h = record { parts = []; one = tt; normal = tt; bytes = tt; joined = refl; values = refl }
 chunks_back d t n zero (x ∷ b) bytes e h = absurd (omega (arith, e))
 chunks_back d t n (suc k) b bytes e h =
     let r = chunks_back d t n k (drop n b) (bytes_drop n b bytes) (omega (arith, length-drop n b, e)) h.1 in
@@ -45,6 +53,7 @@ chunks_back d t n (suc k) b bytes e h =
       normal = (h.0, r.normal);
       bytes = (bytes_take n b bytes, r.bytes);
       joined = ap (λ (c : List ℕ). take n b ++ c) r.joined ∙ take-append-drop n b;
+      values = ap (λ (m : ℕ). nodes (decode t (take n b)) + m) r.values;
     }
 
 chunks_there : (d : ℕ) (t : Ty) (n : ℕ) (xs : List Part) → fixed_size t ≡ Some n → OneType t xs → HaveSizes xs → AreNormal d xs → AreChunks d t n (length xs) (joined_parts xs)
@@ -60,12 +69,29 @@ packed_fixed : (t : Ty) (n : ℕ) (xs : List Part) → fixed_size t ≡ Some n �
 unfolding packed
 packed_fixed t n xs e = ap (array_bytes xs) e
 
-pub chunks_normal : (d : ℕ) (t : Ty) (n : ℕ) (b : List ℕ) → IsBytes b → fixed_size t ≡ Some n → length b % n ≡ 0 → AreChunks d t n (length b / n) b → IsNormalWithin (suc d) (array t) b
-chunks_normal d t n b bytes e even h =
+-- what whole chunks pack
+record ArePackedBy (d : ℕ) (t : Ty) (n : ℕ) (b : List ℕ) : Type 0 where
+  pub parts : List Part
+  pub packed : PackedOf d (array t) b parts
+  pub values : values_of parts ≡ chunk_values t n (length b / n) b
+
+chunks_packed : (d : ℕ) (t : Ty) (n : ℕ) (b : List ℕ) → IsBytes b → fixed_size t ≡ Some n → length b % n ≡ 0 → AreChunks d t n (length b / n) b → ArePackedBy d t n b
+chunks_packed d t n b bytes e even h =
     let whole : length b ≡ (length b / n) * n = omega (arith, even, div-add-mod' (length b) n) in
     let r = chunks_back d t n (length b / n) b bytes whole h in
-    normal_of_parts d (array t) b r.parts
-    (record { held = held_one_type t r.parts r.one; normal = r.normal; bytes = r.bytes; whole = sym (packed_fixed t n r.parts e ∙ r.joined) })
+    record {
+      parts = r.parts;
+      packed = record { held = held_one_type t r.parts r.one; normal = r.normal; bytes = r.bytes; whole = sym (packed_fixed t n r.parts e ∙ r.joined) };
+      values = r.values;
+    }
+
+pub chunks_normal : (d : ℕ) (t : Ty) (n : ℕ) (b : List ℕ) → IsBytes b → fixed_size t ≡ Some n → length b % n ≡ 0 → AreChunks d t n (length b / n) b → IsNormalWithin (suc d) (array t) b
+chunks_normal d t n b bytes e even h = let p = chunks_packed d t n b bytes e even h in normal_of_parts d (array t) b p.parts p.packed
+
+pub chunks_values : (d : ℕ) (t : Ty) (n : ℕ) (b : List ℕ) → IsBytes b → fixed_size t ≡ Some n → length b % n ≡ 0 → AreChunks d t n (length b / n) b
+    → nodes (decode (array t) b) ≡ suc (chunk_values t n (length b / n) b)
+chunks_values d t n b bytes e even h =
+    let p = chunks_packed d t n b bytes e even h in packed_values d (array t) b p.parts p.packed ∙ ap (λ (m : ℕ). suc m) p.values
 
 pub record IsEven (d : ℕ) (t : Ty) (n : ℕ) (b : List ℕ) : Type 0 where
   pub even : length b % n ≡ 0
@@ -101,7 +127,31 @@ chunks_done W d t n k i b le h =
     let none : k - i ≡ 0 = omega arith in
     (subst (λ (m : ℕ). AreChunks d t n m (drop (i * n) b) ↔ W) none h).0 tt
 
+-- how many values are in element i and those after it
+pub chunk_turn_values : (t : Ty) (n k i : ℕ) (b : List ℕ) → i < k
+    → chunk_values t n (k - i) (drop (i * n) b) ≡ nodes (decode t (slice_range b (i * n) (i * n + n))) + chunk_values t n (k - (i + 1)) (drop ((i + 1) * n) b)
+chunk_turn_values t n k i b less =
+    let more : k - i ≡ suc (k - (i + 1)) = omega arith in
+    let place : i * n + n ≡ (i + 1) * n = omega arith in
+    let size : n ≡ i * n + n - i * n = omega arith in
+    ap (λ (m : ℕ). chunk_values t n m (drop (i * n) b)) more
+    ∙ ap₂ (λ (m : ℕ) (c : List ℕ). nodes (decode t (take m (drop (i * n) b))) + chunk_values t n (k - (i + 1)) c) size (drop-drop n (i * n) b ∙ ap (λ (m : ℕ). drop m b) place)
+
+pub no_chunk_values : (t : Ty) (n k i : ℕ) (b : List ℕ) → k ≤ i → chunk_values t n (k - i) (drop (i * n) b) ≡ 0
+no_chunk_values t n k i b le = ap (λ (m : ℕ). chunk_values t n m (drop (i * n) b)) (let none : k - i ≡ 0 = omega arith in none)
+
 -- ---- numbers
+
+-- each is one value
+number_values : (k : Basic) (n count : ℕ) (b : List ℕ) → chunk_values (basic k) n count b ≡ count
+number_values k n zero b = refl
+number_values k n (suc count) b = omega (arith, nodes_basic k (take n b), number_values k n count (drop n b))
+
+-- an array of so many numbers has one value more
+pub numbers_values : (d n : ℕ) (t : Ty) (k : BasicType) (b : List ℕ) → IsBytes b → t ≡ basic (basic_of k) → fixed_size t ≡ Some n → IsNormalWithin (suc d) (array t) b → nodes (decode (array t) b) ≡ suc (length b / n)
+numbers_values d n t k b bytes is e h =
+    let r = normal_chunks d t n b bytes e h in
+    chunks_values d t n b bytes e r.even r.chunks ∙ ap (λ (m : ℕ). suc m) (ap (λ (u : Ty). chunk_values u n (length b / n) b) is ∙ number_values (basic_of k) n (length b / n) b)
 
 pub no_levels : (t : Ty) (n k : ℕ) (b : List ℕ) → 0 < k → AreChunks 0 t n k b → ⊥
 no_levels t n zero b some h = absurd (omega (arith, some))

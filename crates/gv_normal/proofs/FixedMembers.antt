@@ -9,6 +9,8 @@ use Rattle.gv_model.specs.Ty.Ty.{basic, variant, array, maybe, tuple, entry}
 use Rattle.gv_model.specs.Ty.Types.{end, member}
 use Rattle.gv_model.specs.Layout.{alignment, fixed_size, fixed_end, round_up}
 use Rattle.gv_model.specs.Typed.{MayHold}
+use Rattle.gv_model.specs.Tree.{nodes}
+use Rattle.gv_model.specs.Decode.{decode}
 use Rattle.gv_model.specs.Parts.{Part, parts, part_trees}
 use Rattle.gv_model.specs.Encode.{packed, tuple_bytes, body_from, zeros, start_after, end_after}
 use Rattle.gv_model.specs.Normal.{IsContainer}
@@ -19,7 +21,7 @@ use Rattle.gv_model.proofs.MemberLaws.{part_types, HasSize, HaveSizes}
 use Rattle.gv_model.proofs.ContainerParts.{Holds, tuple_holds, entry_holds}
 use Rattle.gv_model.proofs.PlacedParts.{length-zeros}
 use Rattle.gv_normal.specs.InPlace.{IsNormalWithin, LiesBehind, HasMembers}
-use Rattle.gv_normal.proofs.PackedParts.{AreNormal, AreOfBytes, normal_of_parts, parts_of_normal, types_of_parts, sizes_of_parts}
+use Rattle.gv_normal.proofs.PackedParts.{AreNormal, AreOfBytes, PackedOf, values_of, packed_values, normal_of_parts, parts_of_normal, types_of_parts, sizes_of_parts}
 use Rattle.gv_normal.proofs.Pieces.{bytes_piece, no_piece, front_and_back, length-piece}
 use Rattle.gv_normal.proofs.PartSteps.{joined_there, written_behind}
 
@@ -76,6 +78,15 @@ abbrev pub AreFixedFrom : ℕ → List ℕ → ℕ → Types → Type 0
 AreFixedFrom d b p end = drop p b ≡ zeros (length b - p)
 AreFixedFrom d b p (member t ts) = IsFixedAt d b p t (λ e. AreFixedFrom d b e ts) (fixed_size t)
 
+-- how many values are in them
+abbrev pub values_at : List ℕ → ℕ → Ty → (ℕ → ℕ) → Option ℕ → ℕ
+values_at b p t rest None = 0
+values_at b p t rest (Some s) = nodes (decode t (slice_range b (round_up (alignment t) p) (round_up (alignment t) p + s))) + rest (round_up (alignment t) p + s)
+
+abbrev pub fixed_values : List ℕ → ℕ → Types → ℕ
+fixed_values b p end = 0
+fixed_values b p (member t ts) = values_at b p t (λ e. fixed_values b e ts) (fixed_size t)
+
 -- parts that are packed from p on
 pub record HasFixed (d : ℕ) (b : List ℕ) (p : ℕ) (ts : Types) : Type 0 where
   pub parts : List Part
@@ -87,18 +98,19 @@ pub record HasFixed (d : ℕ) (b : List ℕ) (p : ℕ) (ts : Types) : Type 0 whe
   pub high : last ≤ length b
   pub body : body_from p parts ≡ slice_range b p last
   pub rest : drop last b ≡ zeros (length b - last)
+  pub values : values_of parts ≡ fixed_values b p ts
 
 pub fixed_back : (d : ℕ) (b : List ℕ) → IsBytes b → (ts : Types) (p : ℕ) → p ≤ length b → AreFixedFrom d b p ts → HasFixed d b p ts
 unfolding body_from
-fixed_back d b bytes end p le h = record { parts = []; types = refl; normal = tt; bytes = tt; last = p; low = omega arith; high = le; body = sym (no_piece b p); rest = h }
-fixed_back d b bytes (member t ts) p le h = go (fixed_size t) h (λ q. fixed_back d b bytes ts q)
+fixed_back d b bytes end p le h = record { parts = []; types = refl; normal = tt; bytes = tt; last = p; low = omega arith; high = le; body = sym (no_piece b p); rest = h; values = refl }
+fixed_back d b bytes (member t ts) p le h = go (fixed_size t) refl h (λ q. fixed_back d b bytes ts q)
   where
     s : ℕ
     s = round_up (alignment t) p
 
-    go : (f : Option ℕ) → IsFixedAt d b p t (λ e. AreFixedFrom d b e ts) f → ((q : ℕ) → q ≤ length b → AreFixedFrom d b q ts → HasFixed d b q ts) → HasFixed d b p (member t ts)
-    go None k rest = absurd k
-    go (Some n) k rest =
+    go : (f : Option ℕ) → fixed_size t ≡ f → IsFixedAt d b p t (λ e. AreFixedFrom d b e ts) f → ((q : ℕ) → q ≤ length b → AreFixedFrom d b q ts → HasFixed d b q ts) → HasFixed d b p (member t ts)
+    go None is k rest = absurd k
+    go (Some n) is k rest =
         let lies = k.0.0 in
         let r = rest (s + n) lies.within k.1 in
         let low = le-round_up (alignment t) p (alignment_pos t) in
@@ -112,6 +124,7 @@ fixed_back d b bytes (member t ts) p le h = go (fixed_size t) h (λ q. fixed_bac
           high = r.high;
           body = joined_there b t p (s + n) r.last r.parts lies r.low r.body;
           rest = r.rest;
+          values = ap (λ (m : ℕ). nodes (decode t (slice_range b s (s + n))) + m) r.values ∙ sym (ap (values_at b p t (λ e. fixed_values b e ts)) is);
         }
 
 abbrev AllFixed : List Part → Type 0
@@ -148,18 +161,33 @@ fixed_there d b front tail p (x ∷ xs) f g h k whole zero =
 
 -- ---- the whole
 
-pub fixed_normal : (d : ℕ) (t : Ty) (b : List ℕ) → IsBytes b → HasMembers t → fixed_size t ≡ Some (length b) → AreFixedFrom d b 0 (members t) → IsNormalWithin (suc d) t b
-fixed_normal d t b bytes k fixed h =
+-- what fixed members pack
+record IsPackedBy (d : ℕ) (t : Ty) (b : List ℕ) : Type 0 where
+  pub parts : List Part
+  pub packed : PackedOf d t b parts
+  pub values : values_of parts ≡ fixed_values b 0 (members t)
+
+fixed_packed : (d : ℕ) (t : Ty) (b : List ℕ) → IsBytes b → HasMembers t → fixed_size t ≡ Some (length b) → AreFixedFrom d b 0 (members t) → IsPackedBy d t b
+fixed_packed d t b bytes k fixed h =
     let r = fixed_back d b bytes (members t) 0 (omega arith) h in
     let long : length (body_from 0 r.parts) ≡ r.last = ap length r.body ∙ (length-piece b 0 r.last r.high ∙ omega arith) in
     let tail : zeros (length b - length (body_from 0 r.parts)) ≡ drop r.last b = ap (λ (n : ℕ). zeros (length b - n)) long ∙ sym r.rest in
-    normal_of_parts d t b r.parts
-    (record {
-      held = held_members t r.parts k r.types;
-      normal = r.normal;
-      bytes = r.bytes;
-      whole = sym (packed_members t r.parts k ∙ (ap (tuple_bytes r.parts) fixed ∙ (ap₂ ◌++◌ r.body tail ∙ front_and_back b r.last)));
-    })
+    record {
+      parts = r.parts;
+      packed = record {
+        held = held_members t r.parts k r.types;
+        normal = r.normal;
+        bytes = r.bytes;
+        whole = sym (packed_members t r.parts k ∙ (ap (tuple_bytes r.parts) fixed ∙ (ap₂ ◌++◌ r.body tail ∙ front_and_back b r.last)));
+      };
+      values = r.values;
+    }
+
+pub fixed_normal : (d : ℕ) (t : Ty) (b : List ℕ) → IsBytes b → HasMembers t → fixed_size t ≡ Some (length b) → AreFixedFrom d b 0 (members t) → IsNormalWithin (suc d) t b
+fixed_normal d t b bytes k fixed h = let p = fixed_packed d t b bytes k fixed h in normal_of_parts d t b p.parts p.packed
+
+pub fixed_count : (d : ℕ) (t : Ty) (b : List ℕ) → IsBytes b → HasMembers t → fixed_size t ≡ Some (length b) → AreFixedFrom d b 0 (members t) → nodes (decode t b) ≡ suc (fixed_values b 0 (members t))
+fixed_count d t b bytes k fixed h = let p = fixed_packed d t b bytes k fixed h in packed_values d t b p.parts p.packed ∙ ap (λ (n : ℕ). suc n) p.values
 
 pub normal_fixed : (d : ℕ) (t : Ty) (b : List ℕ) → IsBytes b → HasMembers t → fixed_size t ≡ Some (length b) → IsNormalWithin (suc d) t b → AreFixedFrom d b 0 (members t)
 normal_fixed d t b bytes k fixed h =
@@ -191,6 +219,14 @@ fixed_turn W d b p from s u left rest steps h e is =
     let one : IsFixedAt d b p u (λ q. AreFixedFrom d b q (types_from rest)) (fixed_size u) ↔ W = subst (λ (ts : List Ty). AreFixedFrom d b p (types_from ts) ↔ W) steps h in
     let two = subst (λ (o : Option ℕ). IsFixedAt d b p u (λ q. AreFixedFrom d b q (types_from rest)) o ↔ W) e one in
     subst (λ (r : ℕ). ((LiesBehind b p r (r + s) × IsNormalWithin d u (slice_range b r (r + s))) × AreFixedFrom d b (r + s) (types_from rest)) ↔ W) (sym is) two
+
+-- and how many values there are in it and behind it
+pub fixed_turn_values : (b : List ℕ) (p from s : ℕ) (u : Ty) (left rest : List Ty) → left ≡ u ∷ rest → fixed_size u ≡ Some s → from ≡ round_up (alignment u) p
+    → fixed_values b p (types_from left) ≡ nodes (decode u (slice_range b from (from + s))) + fixed_values b (from + s) (types_from rest)
+fixed_turn_values b p from s u left rest steps e is =
+    ap (λ (ts : List Ty). fixed_values b p (types_from ts)) steps
+    ∙ (ap (values_at b p u (λ q. fixed_values b q (types_from rest))) e
+    ∙ ap (λ (r : ℕ). nodes (decode u (slice_range b r (r + s))) + fixed_values b (r + s) (types_from rest)) (sym is))
 
 pub fixed_none : (W : Type 0) (d : ℕ) (b : List ℕ) (p : ℕ) (u : Ty) (left rest : List Ty) → left ≡ u ∷ rest → (AreFixedFrom d b p (types_from left) ↔ W) → fixed_size u ≡ None → W → ⊥
 fixed_none W d b p u left rest steps h e w =

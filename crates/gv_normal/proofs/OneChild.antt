@@ -9,6 +9,8 @@ use Rattle.std.proofs.lemmas.Option.{none-some, same_Some, option_and_then_some}
 use Rattle.gv_model.specs.Ty.{Ty, spelling}
 use Rattle.gv_model.specs.Ty.Ty.{variant, maybe}
 use Rattle.gv_model.specs.TypeText.{type_of_text, is_within_limits}
+use Rattle.gv_model.specs.Tree.{nodes}
+use Rattle.gv_model.specs.Decode.{decode}
 use Rattle.gv_model.specs.Layout.{fixed_size}
 use Rattle.gv_model.specs.Variants.{at_last_zero}
 use Rattle.gv_model.specs.Parts.{Part, parts}
@@ -20,7 +22,7 @@ use Rattle.gv_model.proofs.TypeTextSound.{spelling_of_read}
 use Rattle.gv_model.proofs.WellTyped.{IsBytes, type_of-decode}
 use Rattle.gv_view.specs.Variants.{held, at_type_text}
 use Rattle.gv_normal.specs.InPlace.{IsNormalWithin}
-use Rattle.gv_normal.proofs.PackedParts.{PackedOf, normal_of_parts, parts_of_normal}
+use Rattle.gv_normal.proofs.PackedParts.{PackedOf, packed_values, normal_of_parts, parts_of_normal}
 use Rattle.gv_normal.proofs.Pieces.{bytes_front}
 
 -- ---- variants
@@ -62,16 +64,21 @@ is_held b p e = option_and_then_some at_type_text (at_last_zero b) p e (λ q fou
           limits = subst (λ (w : List ℕ). is_within_limits t w ≡ true) (sym read.0) read.1;
         })
 
-pub held_normal : (d : ℕ) (b : List ℕ) (p : Part) → IsBytes b → held b ≡ Some p → IsNormalWithin d p.0 p.1 → IsNormalWithin (suc d) variant b
-held_normal d b p bytes e h =
+held_packed : (d : ℕ) (b : List ℕ) (p : Part) → IsBytes b → held b ≡ Some p → IsNormalWithin d p.0 p.1 → PackedOf d variant b (p ∷ [])
+held_packed d b p bytes e h =
     let is = is_held b p e in
-    normal_of_parts d variant b (p ∷ [])
-    (record {
+    record {
       held = subst (λ (t : Ty). is_within_limits t (spelling t) ≡ true) (sym (type_of-decode p.0 p.1)) is.limits;
       normal = (h, tt);
       bytes = (bytes_front p.1 (0 ∷ spelling p.0) (subst IsBytes is.whole bytes), tt);
       whole = is.whole ∙ sym (packed_variant p);
-    })
+    }
+
+pub held_normal : (d : ℕ) (b : List ℕ) (p : Part) → IsBytes b → held b ≡ Some p → IsNormalWithin d p.0 p.1 → IsNormalWithin (suc d) variant b
+held_normal d b p bytes e h = normal_of_parts d variant b (p ∷ []) (held_packed d b p bytes e h)
+
+pub held_values : (d : ℕ) (b : List ℕ) (t : Ty) (x : List ℕ) → IsBytes b → Some (t, x) ≡ held b → IsNormalWithin d t x → nodes (decode variant b) ≡ nodes (decode t x) + 1
+held_values d b t x bytes e h = let n = packed_values d variant b ((t, x) ∷ []) (held_packed d b (t, x) bytes (sym e) h) in omega (arith, n)
 
 -- ---- maybes
 
@@ -83,12 +90,23 @@ packed_nothing : (t : Ty) → packed (maybe t) [] ≡ []
 unfolding packed
 packed_nothing t = refl
 
+nothing_packed : (d : ℕ) (t : Ty) → PackedOf d (maybe t) [] []
+nothing_packed d t = record { held = tt; normal = tt; bytes = tt; whole = sym (packed_nothing t) }
+
 pub nothing_normal : (d : ℕ) (t : Ty) → IsNormalWithin (suc d) (maybe t) []
-nothing_normal d t = normal_of_parts d (maybe t) [] [] (record { held = tt; normal = tt; bytes = tt; whole = sym (packed_nothing t) })
+nothing_normal d t = normal_of_parts d (maybe t) [] [] (nothing_packed d t)
+
+pub nothing_values : (t : Ty) → nodes (decode (maybe t) []) ≡ 1
+nothing_values t = packed_values 0 (maybe t) [] [] (nothing_packed 0 t)
+
+just_packed : (d : ℕ) (t : Ty) (x b : List ℕ) → IsBytes x → b ≡ just_bytes x (fixed_size t) → IsNormalWithin d t x → PackedOf d (maybe t) b ((t, x) ∷ [])
+just_packed d t x b bytes whole h = record { held = type_of-decode t x; normal = (h, tt); bytes = (bytes, tt); whole = whole ∙ sym (packed_just t (t, x)) }
 
 pub just_normal : (d : ℕ) (t : Ty) (x b : List ℕ) → IsBytes x → b ≡ just_bytes x (fixed_size t) → IsNormalWithin d t x → IsNormalWithin (suc d) (maybe t) b
-just_normal d t x b bytes whole h =
-    normal_of_parts d (maybe t) b ((t, x) ∷ []) (record { held = type_of-decode t x; normal = (h, tt); bytes = (bytes, tt); whole = whole ∙ sym (packed_just t (t, x)) })
+just_normal d t x b bytes whole h = normal_of_parts d (maybe t) b ((t, x) ∷ []) (just_packed d t x b bytes whole h)
+
+just_values : (d : ℕ) (t : Ty) (x b : List ℕ) → IsBytes x → b ≡ just_bytes x (fixed_size t) → IsNormalWithin d t x → nodes (decode (maybe t) b) ≡ nodes (decode t x) + 1
+just_values d t x b bytes whole h = let n = packed_values d (maybe t) b ((t, x) ∷ []) (just_packed d t x b bytes whole h) in omega (arith, n)
 
 -- what Just is made of
 pub record IsJustOf (d : ℕ) (t : Ty) (b x : List ℕ) : Type 0 where
@@ -127,6 +145,14 @@ fixed_just d n t b bytes some e = (
   λ h. just_normal d t b b bytes (sym (ap (just_bytes b) e)) h,
   λ h. let r = normal_just d t b bytes some h in subst (IsNormalWithin d t) (sym (r.1.whole ∙ ap (just_bytes r.0) e)) r.1.normal,
 )
+
+pub fixed_just_values : (d n : ℕ) (t : Ty) (b : List ℕ) → IsBytes b → fixed_size t ≡ Some n → IsNormalWithin d t b → nodes (decode (maybe t) b) ≡ nodes (decode t b) + 1
+fixed_just_values d n t b bytes e h = just_values d t b b bytes (sym (ap (just_bytes b) e)) h
+
+pub open_just_values : (d : ℕ) (t : Ty) (b x : List ℕ) (c : ℕ) → IsBytes b → b ≡ x ++ c ∷ [] → fixed_size t ≡ None → c ≡ 0 → IsNormalWithin d t x → nodes (decode (maybe t) b) ≡ nodes (decode t x) + 1
+open_just_values d t b x c bytes whole e zero h =
+    let is : b ≡ x ++ 0 ∷ [] = whole ∙ ap (λ (y : ℕ). x ++ y ∷ []) zero in
+    just_values d t x b (bytes_front x (0 ∷ []) (subst IsBytes is bytes)) (is ∙ sym (ap (just_bytes x) e)) h
 
 pub open_just : (d : ℕ) (t : Ty) (b x : List ℕ) (c : ℕ) → IsBytes b → b ≡ x ++ c ∷ [] → fixed_size t ≡ None → c ≡ 0 → (IsNormalWithin d t x ↔ IsNormalWithin (suc d) (maybe t) b)
 open_just d t b x c bytes whole e zero =

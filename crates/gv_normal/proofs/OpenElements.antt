@@ -5,6 +5,8 @@ use Rattle.std.proofs.Math.Seq.{drop-append_seam, take-append_seam}
 use Rattle.std.proofs.lemmas.List.{length-take-le, take-append-drop}
 use Rattle.gv_model.specs.Ty.{Ty}
 use Rattle.gv_model.specs.Ty.Ty.{array}
+use Rattle.gv_model.specs.Tree.{nodes}
+use Rattle.gv_model.specs.Decode.{decode}
 use Rattle.gv_model.specs.Layout.{alignment, fixed_size, round_up, offset_width}
 use Rattle.gv_model.specs.BasicValue.{number_in}
 use Rattle.gv_model.specs.Arrays.{numbers_in, elements_end}
@@ -19,7 +21,7 @@ use Rattle.gv_model.proofs.NumberBytes.{offset_width-least}
 use Rattle.gv_model.proofs.ValueBound.{length-numbers}
 use Rattle.gv_normal.specs.InPlace.{IsNormalWithin, LiesBehind}
 use Rattle.gv_normal.specs.Tables.{HasTable, offset_number}
-use Rattle.gv_normal.proofs.PackedParts.{AreNormal, AreOfBytes, normal_of_parts, parts_of_normal, one_type_held, held_one_type}
+use Rattle.gv_normal.proofs.PackedParts.{AreNormal, AreOfBytes, PackedOf, values_of, packed_values, normal_of_parts, parts_of_normal, one_type_held, held_one_type}
 use Rattle.gv_normal.proofs.Pieces.{offsets_back, numbers_at, numbers_end, bytes_piece, no_piece}
 use Rattle.gv_normal.proofs.PartSteps.{joined_there, ends_there, written_behind}
 
@@ -29,6 +31,11 @@ AreNormalFrom d t body p [] = p ≡ length body
 AreNormalFrom d t body p (e ∷ es) =
     (LiesBehind body p (round_up (alignment t) p) e × IsNormalWithin d t (slice_range body (round_up (alignment t) p) e)) × AreNormalFrom d t body e es
 
+-- how many values are in them
+abbrev pub values_from : Ty → List ℕ → ℕ → List ℕ → ℕ
+values_from t body p [] = 0
+values_from t body p (e ∷ es) = nodes (decode t (slice_range body (round_up (alignment t) p) e)) + values_from t body e es
+
 -- parts that are packed in the body from p on, and end there
 pub record HasElements (d : ℕ) (t : Ty) (body : List ℕ) (p : ℕ) (es : List ℕ) : Type 0 where
   pub parts : List Part
@@ -37,10 +44,11 @@ pub record HasElements (d : ℕ) (t : Ty) (body : List ℕ) (p : ℕ) (es : List
   pub bytes : AreOfBytes parts
   pub joined : body_from p parts ≡ slice_range body p (length body)
   pub ends : ends_from p parts ≡ es
+  pub values : values_of parts ≡ values_from t body p es
 
 pub elements_back : (d : ℕ) (t : Ty) (body : List ℕ) → IsBytes body → (p : ℕ) (es : List ℕ) → AreNormalFrom d t body p es → HasElements d t body p es
 unfolding body_from ends_from
-elements_back d t body bytes p [] h = record { parts = []; one = tt; normal = tt; bytes = tt; joined = sym (ap (slice_range body p) (sym h) ∙ no_piece body p); ends = refl }
+elements_back d t body bytes p [] h = record { parts = []; one = tt; normal = tt; bytes = tt; joined = sym (ap (slice_range body p) (sym h) ∙ no_piece body p); ends = refl; values = refl }
 elements_back d t body bytes p (e ∷ es) h =
     let r = elements_back d t body bytes e es h.1 in
     let s = round_up (alignment t) p in
@@ -52,6 +60,7 @@ elements_back d t body bytes p (e ∷ es) h =
       bytes = (bytes_piece body s e bytes, r.bytes);
       joined = joined_there body t p e (length body) r.parts h.0.0 h.0.0.within r.joined;
       ends = ap₂ ◌∷◌ end_is (ap (λ (n : ℕ). ends_from n r.parts) end_is ∙ r.ends);
+      values = ap (λ (n : ℕ). nodes (decode t (slice_range body s e)) + n) r.values;
     }
 
 pub elements_there : (d : ℕ) (t : Ty) (body front : List ℕ) (p : ℕ) (xs : List Part) → OneType t xs → AreNormal d xs → length front ≡ p → body ≡ front ++ body_from p xs → AreNormalFrom d t body p (ends_from p xs)
@@ -80,8 +89,14 @@ table b = numbers_in (offset_width (length b)) (offset_number b) (drop (elements
 whole_table : (b : List ℕ) → HasTable b → offset_number b * offset_width (length b) ≡ length b - elements_end b None
 whole_table b h = omega (arith, h.whole, div-add-mod' (length b - elements_end b None) (offset_width (length b)))
 
-pub table_back : (d : ℕ) (t : Ty) (b : List ℕ) → IsBytes b → fixed_size t ≡ None → HasTable b → AreNormalFrom d t (take (elements_end b None) b) 0 (table b) → IsNormalWithin (suc d) (array t) b
-table_back d t b bytes varies h g =
+-- what a whole table packs
+record IsPackedBy (d : ℕ) (t : Ty) (b : List ℕ) : Type 0 where
+  pub parts : List Part
+  pub packed : PackedOf d (array t) b parts
+  pub values : values_of parts ≡ values_from t (take (elements_end b None) b) 0 (table b)
+
+table_packed : (d : ℕ) (t : Ty) (b : List ℕ) → IsBytes b → fixed_size t ≡ None → HasTable b → AreNormalFrom d t (take (elements_end b None) b) 0 (table b) → IsPackedBy d t b
+table_packed d t b bytes varies h g =
     let e = elements_end b None in
     let w = offset_width (length b) in
     let count = offset_number b in
@@ -96,13 +111,24 @@ table_back d t b bytes varies h g =
     let many : length (ends_from 0 r.parts) ≡ count = ap length r.ends ∙ length-numbers w count c in
     let narrow : least_width (length (body_from 0 r.parts)) (length (ends_from 0 r.parts)) ≡ w = ap₂ least_width (ap length body ∙ long) many ∙ h.narrow in
     let tail : offsets (least_width (length (body_from 0 r.parts)) (length (ends_from 0 r.parts))) (ends_from 0 r.parts) ≡ c = ap₂ offsets narrow r.ends ∙ offsets_back w count c pos size (bytes_drop e b bytes) in
-    normal_of_parts d (array t) b r.parts
-    (record {
-      held = held_one_type t r.parts r.one;
-      normal = r.normal;
-      bytes = r.bytes;
-      whole = sym (packed_open t r.parts varies ∙ (framed_is (body_from 0 r.parts) (ends_from 0 r.parts) ∙ (ap₂ ◌++◌ body tail ∙ take-append-drop e b)));
-    })
+    record {
+      parts = r.parts;
+      packed = record {
+        held = held_one_type t r.parts r.one;
+        normal = r.normal;
+        bytes = r.bytes;
+        whole = sym (packed_open t r.parts varies ∙ (framed_is (body_from 0 r.parts) (ends_from 0 r.parts) ∙ (ap₂ ◌++◌ body tail ∙ take-append-drop e b)));
+      };
+      values = r.values;
+    }
+
+pub table_back : (d : ℕ) (t : Ty) (b : List ℕ) → IsBytes b → fixed_size t ≡ None → HasTable b → AreNormalFrom d t (take (elements_end b None) b) 0 (table b) → IsNormalWithin (suc d) (array t) b
+table_back d t b bytes varies h g = let p = table_packed d t b bytes varies h g in normal_of_parts d (array t) b p.parts p.packed
+
+pub table_values : (d : ℕ) (t : Ty) (b : List ℕ) → IsBytes b → fixed_size t ≡ None → HasTable b → AreNormalFrom d t (take (elements_end b None) b) 0 (table b)
+    → nodes (decode (array t) b) ≡ suc (values_from t (take (elements_end b None) b) 0 (table b))
+table_values d t b bytes varies h g =
+    let p = table_packed d t b bytes varies h g in packed_values d (array t) b p.parts p.packed ∙ ap (λ (n : ℕ). suc n) p.values
 
 -- what a written table is
 pub record IsTableOf (d : ℕ) (t : Ty) (b : List ℕ) : Type 0 where
@@ -158,14 +184,31 @@ nothing_packed t = go (fixed_size t)
     go None = sym nothing_framed
     go (Some n) = refl
 
+empty_packed : (d : ℕ) (t : Ty) → PackedOf d (array t) [] []
+empty_packed d t = record { held = tt; normal = tt; bytes = tt; whole = nothing_packed t }
+
 -- no bytes are the empty array
 pub empty_array : (d : ℕ) (t : Ty) → IsNormalWithin (suc d) (array t) []
-empty_array d t = normal_of_parts d (array t) [] [] (record { held = tt; normal = tt; bytes = tt; whole = nothing_packed t })
+empty_array d t = normal_of_parts d (array t) [] [] (empty_packed d t)
+
+pub empty_array_values : (t : Ty) → nodes (decode (array t) []) ≡ 1
+empty_array_values t = packed_values 0 (array t) [] [] (empty_packed 0 t)
 
 -- ---- a walk along the table
 
 pub table_iff : (d : ℕ) (t : Ty) (b : List ℕ) → IsBytes b → fixed_size t ≡ None → HasTable b → (AreNormalFrom d t (take (elements_end b None) b) 0 (table b) ↔ IsNormalWithin (suc d) (array t) b)
 table_iff d t b bytes varies h = (table_back d t b bytes varies h, λ n. (table_there d t b bytes (omega (arith, h.within)) varies n).elements)
+
+-- the next end, as it is read
+next_end : (b c : List ℕ) (i to w : ℕ) → w ≡ offset_width (length b) → c ≡ drop (elements_end b None) b → i < offset_number b
+    → to ≡ number_in (take (i * w + w - i * w) (drop (i * w) c)) → drop i (table b) ≡ to ∷ drop (i + 1) (table b)
+next_end b c i to w wide c_is less to_is =
+    let ow = offset_width (length b) in
+    let size : i * w + w - i * w ≡ w = omega arith in
+    let read : to ≡ number_in (take ow (drop (i * ow) (drop (elements_end b None) b))) =
+    to_is ∙ (ap (λ (n : ℕ). number_in (take n (drop (i * w) c))) size ∙ ap₂ (λ (v : ℕ) (x : List ℕ). number_in (take v (drop (i * v) x))) wide c_is) in
+    let after : suc i ≡ i + 1 = omega arith in
+    numbers_at ow (offset_number b) (drop (elements_end b None) b) i less ∙ ap₂ (λ (x j : ℕ). x ∷ drop j (table b)) (sym read) after
 
 -- the next element, where what is left decides
 pub element_turn : (W : Type 0) (d : ℕ) (t : Ty) (b c body : List ℕ) (i p from to w : ℕ) → w ≡ offset_width (length b) → c ≡ drop (elements_end b None) b → body ≡ take (elements_end b None) b → i < offset_number b
@@ -173,20 +216,30 @@ pub element_turn : (W : Type 0) (d : ℕ) (t : Ty) (b c body : List ℕ) (i p fr
     → (((LiesBehind body p from to × IsNormalWithin d t (slice_range body from to)) × AreNormalFrom d t (take (elements_end b None) b) to (drop (i + 1) (table b))) ↔ W)
 element_turn W d t b c body i p from to w wide c_is body_is less to_is from_is h =
     let front = take (elements_end b None) b in
-    let ow = offset_width (length b) in
-    let size : i * w + w - i * w ≡ w = omega arith in
-    let read : to ≡ number_in (take ow (drop (i * ow) (drop (elements_end b None) b))) =
-    to_is ∙ (ap (λ (n : ℕ). number_in (take n (drop (i * w) c))) size ∙ ap₂ (λ (v : ℕ) (x : List ℕ). number_in (take v (drop (i * v) x))) wide c_is) in
-    let after : suc i ≡ i + 1 = omega arith in
-    let next : drop i (table b) ≡ to ∷ drop (i + 1) (table b) =
-    numbers_at ow (offset_number b) (drop (elements_end b None) b) i less ∙ ap₂ (λ (x j : ℕ). x ∷ drop j (table b)) (sym read) after in
+    let next = next_end b c i to w wide c_is less to_is in
     let one = subst (λ (ys : List ℕ). AreNormalFrom d t front p ys ↔ W) next h in
     let two = subst (λ (s : ℕ). ((LiesBehind front p s to × IsNormalWithin d t (slice_range front s to)) × AreNormalFrom d t front to (drop (i + 1) (table b))) ↔ W) (sym from_is) one in
     subst (λ (x : List ℕ). ((LiesBehind x p from to × IsNormalWithin d t (slice_range x from to)) × AreNormalFrom d t front to (drop (i + 1) (table b))) ↔ W) (sym body_is) two
 
+-- and how many values it has
+pub element_values : (t : Ty) (b c body : List ℕ) (i p from to w : ℕ) → w ≡ offset_width (length b) → c ≡ drop (elements_end b None) b → body ≡ take (elements_end b None) b → i < offset_number b
+    → to ≡ number_in (take (i * w + w - i * w) (drop (i * w) c)) → from ≡ round_up (alignment t) p
+    → values_from t (take (elements_end b None) b) p (drop i (table b)) ≡ nodes (decode t (slice_range body from to)) + values_from t (take (elements_end b None) b) to (drop (i + 1) (table b))
+element_values t b c body i p from to w wide c_is body_is less to_is from_is =
+    let front = take (elements_end b None) b in
+    let rest = values_from t front to (drop (i + 1) (table b)) in
+    ap (values_from t front p) (next_end b c i to w wide c_is less to_is)
+    ∙ ap₂ (λ (x : List ℕ) (s : ℕ). nodes (decode t (slice_range x s to)) + rest) (sym body_is) (sym from_is)
+
+no_more : (b : List ℕ) (i : ℕ) → offset_number b ≡ i → drop i (table b) ≡ []
+no_more b i is = ap (λ (n : ℕ). drop n (table b)) (sym is) ∙ numbers_end (offset_width (length b)) (offset_number b) (drop (elements_end b None) b)
+
+pub no_more_values : (t : Ty) (b : List ℕ) (i p : ℕ) → offset_number b ≡ i → values_from t (take (elements_end b None) b) p (drop i (table b)) ≡ 0
+no_more_values t b i p is = ap (values_from t (take (elements_end b None) b) p) (no_more b i is)
+
 pub elements_done : (W : Type 0) (d : ℕ) (t : Ty) (b : List ℕ) (i p : ℕ) → HasTable b → offset_number b ≡ i → (AreNormalFrom d t (take (elements_end b None) b) p (drop i (table b)) ↔ W) → ((p ≡ elements_end b None) ↔ W)
 elements_done W d t b i p has is h =
-    let none : drop i (table b) ≡ [] = ap (λ (n : ℕ). drop n (table b)) (sym is) ∙ numbers_end (offset_width (length b)) (offset_number b) (drop (elements_end b None) b) in
+    let none = no_more b i is in
     let one = subst (λ (ys : List ℕ). AreNormalFrom d t (take (elements_end b None) b) p ys ↔ W) none h in
     subst (λ (n : ℕ). (p ≡ n) ↔ W) (length-take-le (elements_end b None) b (omega (arith, has.within))) one
 

@@ -8,6 +8,8 @@ use Rattle.std.proofs.lemmas.Option.{none-some, same_Some}
 use Rattle.std.specs.Prelude.{is_some}
 use Rattle.gv_model.specs.Ty.{Ty, Types, members, types_from}
 use Rattle.gv_model.specs.Ty.Types.{end, member}
+use Rattle.gv_model.specs.Tree.{nodes}
+use Rattle.gv_model.specs.Decode.{decode}
 use Rattle.gv_model.specs.Layout.{alignment, fixed_size, round_up, offset_width}
 use Rattle.gv_model.specs.BasicValue.{number_in}
 use Rattle.gv_model.specs.Parts.{Part, parts}
@@ -21,7 +23,7 @@ use Rattle.gv_model.proofs.MemberLaws.{part_types, HasSize, HaveSizes}
 use Rattle.gv_model.proofs.FramedArrays.{offsets, length-offsets, least_width_pos}
 use Rattle.gv_normal.specs.InPlace.{IsNormalWithin, LiesBehind, HasMembers}
 use Rattle.gv_normal.specs.Tables.{member_place}
-use Rattle.gv_normal.proofs.PackedParts.{AreNormal, AreOfBytes, normal_of_parts, parts_of_normal, sizes_of_parts}
+use Rattle.gv_normal.proofs.PackedParts.{AreNormal, AreOfBytes, PackedOf, values_of, packed_values, normal_of_parts, parts_of_normal, sizes_of_parts}
 use Rattle.gv_normal.proofs.Pieces.{bytes_piece, no_piece, front_and_back, length-piece, number_back}
 use Rattle.gv_normal.proofs.PartSteps.{IsWrittenBehind, joined_there, ends_there, written_behind}
 use Rattle.gv_normal.proofs.FixedMembers.{packed_members, held_members, members_held, with_members}
@@ -46,6 +48,15 @@ abbrev pub AreOpenFrom : ℕ → List ℕ → ℕ → ℕ → ℕ → Types → 
 AreOpenFrom d b w q p end = IsFull b w q p
 AreOpenFrom d b w q p (member t ts) =
     IsOpenAt d b p t (λ e r. AreOpenFrom d b w r e ts) (member_place w b q (round_up (alignment t) p) (fixed_size t) (is_end ts))
+
+-- how many values are in them
+abbrev pub values_at : List ℕ → ℕ → Ty → (ℕ → ℕ → ℕ) → Option (ℕ × ℕ) → ℕ
+values_at b p t rest None = 0
+values_at b p t rest (Some q) = nodes (decode t (slice_range b (round_up (alignment t) p) q.0)) + rest q.0 q.1
+
+abbrev pub open_values : List ℕ → ℕ → ℕ → ℕ → Types → ℕ
+open_values b w q p end = 0
+open_values b w q p (member t ts) = values_at b p t (λ e r. open_values b w r e ts) (member_place w b q (round_up (alignment t) p) (fixed_size t) (is_end ts))
 
 -- the ends with that of a first member
 abbrev ends_with : Option ℕ → Bool → ℕ → List ℕ → List ℕ
@@ -85,6 +96,7 @@ pub record HasOpen (d : ℕ) (b : List ℕ) (w q p : ℕ) (ts : Types) : Type 0 
   pub tail : offsets w (reverse (open_ends_from p parts)) ++ drop q b ≡ drop last b
   pub narrow : last < length b → least_width last ((length b - last) / w) ≡ w
   pub wide : 0 < length (open_ends_from p parts) → 0 < w
+  pub values : values_of parts ≡ open_values b w q p ts
 
 -- an offset that is read stands there
 offset_back : (w : ℕ) (b : List ℕ) (q : ℕ) → IsBytes b → 0 < w → w ≤ q → q ≤ length b → number_bytes w (number_in (take w (drop (q - w) b))) ++ drop q b ≡ drop (q - w) b
@@ -98,8 +110,9 @@ offset_back w b q bytes pos room le =
 one_part : (d : ℕ) (b : List ℕ) (w q q' p e : ℕ) (t : Ty) (ts : Types) → IsBytes b → LiesBehind b p (round_up (alignment t) p) e → IsNormalWithin d t (slice_range b (round_up (alignment t) p) e) → (r : HasOpen d b w q' e ts)
     → offsets w (reverse (ends_with (fixed_size t) (is_end ts) e (open_ends_from e r.parts))) ++ drop q b ≡ offsets w (reverse (open_ends_from e r.parts)) ++ drop q' b
     → (0 < length (ends_with (fixed_size t) (is_end ts) e (open_ends_from e r.parts)) → 0 < w)
+    → member_place w b q (round_up (alignment t) p) (fixed_size t) (is_end ts) ≡ Some (e, q')
     → HasOpen d b w q p (member t ts)
-one_part d b w q q' p e t ts bytes lies normal r same wide =
+one_part d b w q q' p e t ts bytes lies normal r same wide place =
     let s = round_up (alignment t) p in
     let x : Part = (t, slice_range b s e) in
     let low = le-round_up (alignment t) p (alignment_pos t) in
@@ -118,6 +131,7 @@ one_part d b w q q' p e t ts bytes lies normal r same wide =
       tail = ap (λ (es : List ℕ). offsets w (reverse es) ++ drop q b) ends ∙ (same ∙ r.tail);
       narrow = r.narrow;
       wide = λ some. wide (omega (arith, some, ap length ends));
+      values = ap (λ (n : ℕ). nodes (decode t (slice_range b s e)) + n) r.values ∙ sym (ap (values_at b p t (λ e r. open_values b w r e ts)) place);
     }
 
 pub open_back : (d : ℕ) (b : List ℕ) (w : ℕ) → IsBytes b → (ts : Types) (q p : ℕ) → q ≤ length b → AreOpenFrom d b w q p ts → HasOpen d b w q p ts
@@ -134,6 +148,7 @@ open_back d b w bytes end q p le h = record {
   tail = ap (λ (n : ℕ). drop n b) (sym h.full);
   narrow = λ k. ap (λ (n : ℕ). least_width p ((length b - n) / w)) h.full ∙ h.narrow (omega (arith, h.full, k));
   wide = λ some. absurd (omega (arith, some));
+  values = refl;
 }
 open_back d b w bytes (member t ts) q p le h = go (fixed_size t) refl (is_end ts) refl h (λ r e. open_back d b w bytes ts r e)
   where
@@ -151,10 +166,12 @@ open_back d b w bytes (member t ts) q p le h = go (fixed_size t) refl (is_end ts
         let r = rest q (s + n) le k.1 in
         one_part d b w q q p (s + n) t ts bytes k.0.0 k.0.1 r (ap (λ (f : Option ℕ). offsets w (reverse (ends_with f (is_end ts) (s + n) (open_ends_from (s + n) r.parts))) ++ drop q b) e)
         (λ some. r.wide (omega (arith, some, ap (λ (f : Option ℕ). length (ends_with f (is_end ts) (s + n) (open_ends_from (s + n) r.parts))) e)))
+        (ap₂ (member_place w b q s) e m)
     go None e true m k rest =
         let r = rest q q le k.1 in
         one_part d b w q q p q t ts bytes k.0.0 k.0.1 r (ap₂ (λ (f : Option ℕ) (l : Bool). offsets w (reverse (ends_with f l q (open_ends_from q r.parts))) ++ drop q b) e m)
         (λ some. r.wide (omega (arith, some, ap₂ (λ (f : Option ℕ) (l : Bool). length (ends_with f l q (open_ends_from q r.parts))) e m)))
+        (ap₂ (member_place w b q s) e m)
     go None e false m k rest = read (nat_lt 0 w && nat_le w q) refl k
       where
         n : ℕ
@@ -171,6 +188,7 @@ open_back d b w bytes (member t ts) q p le h = go (fixed_size t) refl (is_end ts
             ∙ (append_assoc (offsets w (reverse es)) (number_bytes w n) (drop q b)
             ∙ ap (λ (ys : List ℕ). offsets w (reverse es) ++ ys) (offset_back w b q bytes (grind (arith, z)) (grind (arith, z)) le))))
             (λ some. grind (arith, z))
+            (ap₂ (member_place w b q s) e m ∙ ap (λ (c : Bool). cond c (Some (n, q - w)) None) z)
 
 -- ---- members that were written
 
@@ -278,8 +296,14 @@ same_offsets v w (x ∷ xs) f = ap (λ (u : ℕ). offsets u (x ∷ xs)) (f (omeg
 packed_open : (t : Ty) (xs : List Part) → HasMembers t → fixed_size t ≡ None → packed t xs ≡ framed (body_from 0 xs) (reverse (open_ends_from 0 xs))
 packed_open t xs k varies = packed_members t xs k ∙ ap (tuple_bytes xs) varies
 
-pub open_normal : (d : ℕ) (t : Ty) (b : List ℕ) → IsBytes b → HasMembers t → fixed_size t ≡ None → AreOpenFrom d b (offset_width (length b)) (length b) 0 (members t) → IsNormalWithin (suc d) t b
-open_normal d t b bytes k varies h =
+-- what such members pack
+record IsPackedBy (d : ℕ) (t : Ty) (b : List ℕ) : Type 0 where
+  pub parts : List Part
+  pub packed : PackedOf d t b parts
+  pub values : values_of parts ≡ open_values b (offset_width (length b)) (length b) 0 (members t)
+
+open_packed : (d : ℕ) (t : Ty) (b : List ℕ) → IsBytes b → HasMembers t → fixed_size t ≡ None → AreOpenFrom d b (offset_width (length b)) (length b) 0 (members t) → IsPackedBy d t b
+open_packed d t b bytes k varies h =
     let w = offset_width (length b) in
     let r = open_back d b w bytes (members t) (length b) 0 (omega arith) h in
     let es = reverse (open_ends_from 0 r.parts) in
@@ -288,19 +312,29 @@ open_normal d t b bytes k varies h =
     let tail : offsets w es ≡ drop r.last b = sym (append-nil (offsets w es)) ∙ (ap (λ (ys : List ℕ). offsets w es ++ ys) (sym (drop-length b)) ∙ r.tail) in
     let total : length es * w ≡ length b - r.last = sym (length-offsets w es) ∙ (ap length tail ∙ length-drop r.last b) in
     let narrow : 0 < length es → least_width (length body) (length es) ≡ w = λ some. widths w (length es) r.last (length body) (r.wide (omega (arith, some, length-reverse (open_ends_from 0 r.parts)))) some total r.narrow long in
-    normal_of_parts d t b r.parts
-    (record {
-      held = held_members t r.parts k r.types;
-      normal = r.normal;
-      bytes = r.bytes;
-      whole = sym (packed_open t r.parts k varies ∙ (framed_is body es ∙ (ap₂ ◌++◌ r.joined (same_offsets (least_width (length body) (length es)) w es narrow ∙ tail) ∙ front_and_back b r.last)));
-    })
+    record {
+      parts = r.parts;
+      packed = record {
+        held = held_members t r.parts k r.types;
+        normal = r.normal;
+        bytes = r.bytes;
+        whole = sym (packed_open t r.parts k varies ∙ (framed_is body es ∙ (ap₂ ◌++◌ r.joined (same_offsets (least_width (length body) (length es)) w es narrow ∙ tail) ∙ front_and_back b r.last)));
+      };
+      values = r.values;
+    }
   where
     widths : (w n last m : ℕ) → 0 < w → 0 < n → n * w ≡ length b - last → (last < length b → least_width last ((length b - last) / w) ≡ w) → m ≡ last → least_width m n ≡ w
     widths w n last m pos some total narrow is =
         let room : 1 * 1 ≤ n * w = mul-le-mul some pos in
         let count : (length b - last) / w ≡ n = ap (λ (x : ℕ). x / w) (sym total) ∙ mul-div_cancel n pos in
         ap₂ least_width is (sym count) ∙ narrow (omega (arith, room, total))
+
+pub open_normal : (d : ℕ) (t : Ty) (b : List ℕ) → IsBytes b → HasMembers t → fixed_size t ≡ None → AreOpenFrom d b (offset_width (length b)) (length b) 0 (members t) → IsNormalWithin (suc d) t b
+open_normal d t b bytes k varies h = let p = open_packed d t b bytes k varies h in normal_of_parts d t b p.parts p.packed
+
+pub open_count : (d : ℕ) (t : Ty) (b : List ℕ) → IsBytes b → HasMembers t → fixed_size t ≡ None → AreOpenFrom d b (offset_width (length b)) (length b) 0 (members t)
+    → nodes (decode t b) ≡ suc (open_values b (offset_width (length b)) (length b) 0 (members t))
+open_count d t b bytes k varies h = let p = open_packed d t b bytes k varies h in packed_values d t b p.parts p.packed ∙ ap (λ (n : ℕ). suc n) p.values
 
 pub normal_open : (d : ℕ) (t : Ty) (b : List ℕ) → IsBytes b → HasMembers t → fixed_size t ≡ None → IsNormalWithin (suc d) t b → AreOpenFrom d b (offset_width (length b)) (length b) 0 (members t)
 normal_open d t b bytes k varies h =
@@ -355,6 +389,18 @@ pub member_turn : (W : Type 0) (d : ℕ) (b : List ℕ) (w p from to r : ℕ) (u
 member_turn W d b w p from to r u rest o is from_is h =
     let one = subst (λ (x : Option (ℕ × ℕ)). IsOpenAt d b p u (λ e q. AreOpenFrom d b w q e (types_from rest)) x ↔ W) is h in
     subst (λ (s : ℕ). ((LiesBehind b p s to × IsNormalWithin d u (slice_range b s to)) × AreOpenFrom d b w r to (types_from rest)) ↔ W) (sym from_is) one
+
+-- how many values there are in the next member and behind it
+pub member_values : (b : List ℕ) (w v q p from to r : ℕ) (u : Ty) (left rest : List Ty) (size : Option ℕ) (last : Bool) → left ≡ u ∷ rest
+    → v ≡ w → size ≡ fixed_size u → from ≡ round_up (alignment u) p → ((IsTrue last → rest ≡ []) × (rest ≡ [] → IsTrue last)) → member_place v b q from size last ≡ Some (to, r)
+    → open_values b w q p (types_from left) ≡ nodes (decode u (slice_range b from to)) + open_values b w r to (types_from rest)
+member_values b w v q p from to r u left rest size last steps wide size_is from_is ends place =
+    let Rest : ℕ → ℕ → ℕ = λ e j. open_values b w j e (types_from rest) in
+    let here : member_place w b q (round_up (alignment u) p) (fixed_size u) (is_end (types_from rest)) ≡ Some (to, r) =
+    ap₂ (λ (x s : ℕ). member_place x b q s (fixed_size u) (is_end (types_from rest))) (sym wide) (sym from_is)
+    ∙ (ap₂ (member_place v b q from) (sym size_is) (sym (last_is_end rest last ends)) ∙ place) in
+    ap (λ (ts : List Ty). open_values b w q p (types_from ts)) steps
+    ∙ (ap (values_at b p u Rest) here ∙ ap (λ (s : ℕ). nodes (decode u (slice_range b s to)) + open_values b w r to (types_from rest)) (sym from_is))
 
 pub no_place : (W : Type 0) (d : ℕ) (b : List ℕ) (p : ℕ) (u : Ty) (Rest : ℕ → ℕ → Type 0) (o : Option (ℕ × ℕ)) → o ≡ None → (IsOpenAt d b p u Rest o ↔ W) → W → ⊥
 no_place W d b p u Rest o is h w = (subst (λ (x : Option (ℕ × ℕ)). IsOpenAt d b p u Rest x ↔ W) is h).1 w

@@ -1,9 +1,9 @@
 -- A container's bytes are normal exactly where they are packed of parts that are, each of a level less.
-use Rattle.std.proofs.Common.{ℕ, suc, ◌≤◌, ◌≡◌, map, List, [], ◌∷◌, refl, sym, ap, ap₂, ◌∙◌, subst, arith}
+use Rattle.std.proofs.Common.{ℕ, suc, ◌+◌, ◌≤◌, ◌≡◌, map, List, [], ◌∷◌, refl, sym, ap, ap₂, ◌∙◌, subst, arith}
 use Rattle.std.specs.List.{AllByRecursion}
 use Rattle.gv_model.specs.Ty.{Ty, Types}
 use Rattle.gv_model.specs.Layout.{fixed_size}
-use Rattle.gv_model.specs.Tree.{Tree, Trees, type_of, depth, greatest_depth}
+use Rattle.gv_model.specs.Tree.{Tree, Trees, type_of, depth, greatest_depth, nodes, nodes_of}
 use Rattle.gv_model.specs.Tree.Tree.{number, text, node}
 use Rattle.gv_model.specs.Typed.{AreValues, MayHold, AllOf, types_of}
 use Rattle.gv_model.specs.Children.{Child}
@@ -15,6 +15,7 @@ use Rattle.gv_model.proofs.ChildLaws.{each_part}
 use Rattle.gv_model.proofs.MemberLaws.{part_types, HasSize, HaveSizes}
 use Rattle.gv_model.proofs.NormalLaws.{decode_node}
 use Rattle.gv_model.proofs.PlacedParts.{OneType}
+use Rattle.gv_model.proofs.ValueBound.{node_nodes}
 use Rattle.gv_model.proofs.RoundTrip.{round_trip, node_encode, parts_none, parts_first, sizes_of_values}
 use Rattle.gv_model.proofs.WellTyped.{IsBytes, bytes_of_bytes, type_of-decode, decode_is_value, children_held}
 use Rattle.gv_model.proofs.WrittenLaws.{container_written}
@@ -53,15 +54,33 @@ depth_node : (t : Ty) (vs : Trees) → depth (node t vs) ≡ suc (greatest_depth
 unfolding depth greatest_depth
 depth_node t vs = refl
 
+encoded_of_parts : (d : ℕ) (t : Ty) (b : List ℕ) (ps : List Part) → PackedOf d t b ps → b ≡ encode (node t (part_trees ps))
+encoded_of_parts d t b ps h = h.whole ∙ (ap (packed t) (sym (same_parts d ps h.normal)) ∙ sym (node_encode t (part_trees ps)))
+
+tree_of_packed : (d : ℕ) (t : Ty) (b : List ℕ) (ps : List Part) → PackedOf d t b ps → decode t b ≡ node t (part_trees ps)
+tree_of_packed d t b ps h =
+    ap (decode t) (encoded_of_parts d t b ps h) ∙ round_trip t (node t (part_trees ps)) (record { type = refl; value = (h.held, part_values ps h.bytes) })
+
 pub normal_of_parts : (d : ℕ) (t : Ty) (b : List ℕ) (ps : List Part) → PackedOf d t b ps → IsNormalWithin (suc d) t b
 normal_of_parts d t b ps h =
-    let vs = part_trees ps in
-    let encoded : b ≡ encode (node t vs) = h.whole ∙ (ap (packed t) (sym (same_parts d ps h.normal)) ∙ sym (node_encode t vs)) in
-    let read : decode t b ≡ node t vs = ap (decode t) encoded ∙ round_trip t (node t vs) (record { type = refl; value = (h.held, part_values ps h.bytes) }) in
+    let read = tree_of_packed d t b ps h in
     record {
-      written = encoded ∙ ap encode (sym read);
-      shallow = omega (arith, ap depth read, depth_node t vs, deepest d ps h.normal);
+      written = encoded_of_parts d t b ps h ∙ ap encode (sym read);
+      shallow = omega (arith, ap depth read, depth_node t (part_trees ps), deepest d ps h.normal);
     }
+
+-- how many values there are in some parts
+abbrev pub values_of : List Part → ℕ
+values_of [] = 0
+values_of (p ∷ ps) = nodes (decode p.0 p.1) + values_of ps
+
+trees_values : (ps : List Part) → nodes_of (part_trees ps) ≡ values_of ps
+unfolding nodes
+trees_values [] = refl
+trees_values (p ∷ ps) = ap (λ n. nodes (decode p.0 p.1) + n) (trees_values ps)
+
+pub packed_values : (d : ℕ) (t : Ty) (b : List ℕ) (ps : List Part) → PackedOf d t b ps → nodes (decode t b) ≡ suc (values_of ps)
+packed_values d t b ps h = ap nodes (tree_of_packed d t b ps h) ∙ (node_nodes t (part_trees ps) ∙ ap (λ n. suc n) (trees_values ps))
 
 -- ---- and the other way round
 

@@ -9,6 +9,8 @@ ghost use Rattle.gv_types.specs.TypeStr.{ty};
 ghost use Rattle.gv_normal.specs.InPlace.{IsNormalWithin, AreNormalNumbers};
 ghost use Rattle.gv_model.specs.Laws.{most_values};
 ghost use Rattle.gv_normal.specs.Tables.{HasTable};
+ghost use Rattle.gv_model.specs.Tree.{nodes};
+ghost use Rattle.gv_model.specs.Decode.{decode};
 
 use crate::fixed::is_normal_fixed;
 use crate::in_place::is_normal_open;
@@ -18,7 +20,7 @@ use gv_types::{BasicType, Class, Steps, TypeStr};
 
 /// Whether bytes are normal at an array of this type, whose elements have no more than so many levels.
 ///
-/// Of numbers it looks at the bytes of booleans alone.
+/// Of numbers it looks at the bytes of booleans alone, and counts a step for each.
 #[cycle(normal)]
 pub(crate) fn is_normal_array(
     element: TypeStr<'_>,
@@ -29,6 +31,7 @@ pub(crate) fn is_normal_array(
     requires room { steps.old + most_values (length bytes.now) (suc (length (spelling (ty element)))) ≤ 2 ^ 128 }
     ensures normal { IsTrue result ↔ IsNormalWithin (suc levels) (array (ty element.entry)) bytes.now }
     ensures few { steps.new + 1 ≤ steps.old + most_values (length bytes.now) (suc (length (spelling (ty element.entry)))) }
+    ensures exact { IsTrue result → steps.new + 1 ≡ steps.old + nodes (decode (array (ty element.entry)) bytes.now) }
     ensures grows { steps.old ≤ steps.new }
 {
     if bytes.is_empty() {
@@ -42,15 +45,20 @@ pub(crate) fn is_normal_array(
         return false;
     }
     match element.class() {
-        Class::Basic(of) => levels > 0 && are_normal_numbers(of, bytes),
+        Class::Basic(of) => levels > 0 && are_normal_numbers(of, bytes, bytes.len() / size, steps),
         _ => are_normal_fixed_elements(element, size, bytes, levels, steps),
     }
 }
 
-/// Whether the bytes of numbers are normal in an array: booleans are 0 or 1.
-fn are_normal_numbers(of: BasicType, bytes: &[u8]) -> bool
-    ensures { IsTrue result ↔ AreNormalNumbers (basic_of of) bytes.now }
+/// Whether the bytes of so many numbers are normal in an array: booleans are 0 or 1.
+fn are_normal_numbers(of: BasicType, bytes: &[u8], count: usize, steps: &mut Steps) -> bool
+    requires room { steps.old + count < 2 ^ 128 }
+    ensures normal { IsTrue result ↔ AreNormalNumbers (basic_of of) bytes.now }
+    ensures counts { steps.new ≡ steps.old + count }
 {
+    for _ in 0..count {
+        steps.tick();
+    }
     match of {
         BasicType::Boolean => bytes.iter().all(|byte| *byte <= 1),
         _ => true,
@@ -70,6 +78,7 @@ fn are_normal_fixed_elements(
     requires room { steps.old + most_values (length bytes.now) (suc (length (spelling (ty element)))) ≤ 2 ^ 128 }
     ensures normal { IsTrue result ↔ IsNormalWithin (suc levels) (array (ty element.entry)) bytes.now }
     ensures few { steps.new + 1 ≤ steps.old + most_values (length bytes.now) (suc (length (spelling (ty element.entry)))) }
+    ensures exact { IsTrue result → steps.new + 1 ≡ steps.old + nodes (decode (array (ty element.entry)) bytes.now) }
     ensures grows { steps.old ≤ steps.new }
 {
     for i in 0..bytes.len() / size {
@@ -96,6 +105,7 @@ fn are_normal_elements(
     requires room { steps.old + most_values (length bytes.now) (suc (length (spelling (ty element)))) ≤ 2 ^ 128 }
     ensures normal { IsTrue result ↔ IsNormalWithin (suc levels) (array (ty element.entry)) bytes.now }
     ensures few { steps.new + 1 ≤ steps.old + most_values (length bytes.now) (suc (length (spelling (ty element.entry)))) }
+    ensures exact { IsTrue result → steps.new + 1 ≡ steps.old + nodes (decode (array (ty element.entry)) bytes.now) }
     ensures grows { steps.old ≤ steps.new }
 {
     let Some(begin) = table_begin(bytes) else {

@@ -4,6 +4,8 @@ ghost use Rattle.gv_model.specs.Ty.{spelling};
 ghost use Rattle.gv_model.specs.Layout.{fixed_size};
 ghost use Rattle.gv_types.specs.TypeStr.{ty};
 ghost use Rattle.gv_normal.specs.InPlace.{IsNormalWithin, HasMembers};
+ghost use Rattle.gv_model.specs.Tree.{nodes};
+ghost use Rattle.gv_model.specs.Decode.{decode};
 
 use crate::basic::is_normal_number;
 use crate::padding::{are_zero, lies_behind};
@@ -17,6 +19,7 @@ pub(crate) fn is_normal_fixed(of: TypeStr<'_>, bytes: &[u8], levels: u8, steps: 
     requires room { steps.old + length (spelling (ty of)) < 2 ^ 128 }
     ensures normal { IsTrue result ↔ IsNormalWithin levels (ty of.entry) bytes.now }
     ensures few { steps.new ≤ steps.old + length (spelling (ty of.entry)) }
+    ensures exact { IsTrue result → steps.new ≡ steps.old + nodes (decode (ty of.entry) bytes.now) }
     ensures grows { steps.old ≤ steps.new }
 {
     steps.tick();
@@ -38,6 +41,7 @@ fn are_normal_fixed(of: TypeStr<'_>, bytes: &[u8], levels: u8, steps: &mut Steps
     requires room { steps.old + length (spelling (ty of)) ≤ 2 ^ 128 }
     ensures normal { IsTrue result ↔ IsNormalWithin (suc levels) (ty of.entry) bytes.now }
     ensures few { steps.new + 1 ≤ steps.old + length (spelling (ty of.entry)) }
+    ensures exact { IsTrue result → steps.new + 1 ≡ steps.old + nodes (decode (ty of.entry) bytes.now) }
     ensures grows { steps.old ≤ steps.new }
 {
     let mut end = 0;

@@ -8,6 +8,8 @@ ghost use Rattle.gv_types.specs.TypeStr.{ty};
 ghost use Rattle.gv_view.specs.Views.{view_ty, view_bytes};
 ghost use Rattle.gv_normal.specs.InPlace.{IsNormalWithin};
 ghost use Rattle.gv_model.specs.Laws.{most_values};
+ghost use Rattle.gv_model.specs.Tree.{nodes};
+ghost use Rattle.gv_model.specs.Decode.{decode};
 
 use crate::array::is_normal_array;
 use crate::basic::is_normal_text;
@@ -31,13 +33,14 @@ pub fn is_normal(view: View<'_>) -> bool
     is_normal_counted(view, &mut Steps::new())
 }
 
-/// As `is_normal`, and counts a step for each value that is looked at, but for the numbers of an array, which are looked
-/// at as one. Of `n` bytes at a type of `t` bytes it takes at most `(n + 1)(n + 2t)` steps.
+/// As `is_normal`, and counts a step for each value that is looked at, and for each number of an array. Where the bytes are normal
+/// these are all values in it. Of `n` bytes at a type of `t` bytes it takes at most `(n + 1)(n + 2t)` steps.
 pub fn is_normal_counted(view: View<'_>, steps: &mut Steps) -> bool
     requires { steps.old + (length (view_bytes view) + 1) * (length (view_bytes view) + 2 * length (spelling (view_ty view))) < 2 ^ 128 }
     ensures normal { IsTrue result ↔ IsNormal (view_ty view.entry) (view_bytes view.entry) }
     ensures few { steps.new ≤ steps.old
         + (length (view_bytes view.entry) + 1) * (length (view_bytes view.entry) + 2 * length (spelling (view_ty view.entry))) }
+    ensures exact { IsTrue result → steps.new ≡ steps.old + nodes (decode (view_ty view.entry) (view_bytes view.entry)) }
     ensures grows { steps.old ≤ steps.new }
 {
     is_normal_within(view.type_str(), view.bytes(), MAX_LEVELS, steps)
@@ -49,6 +52,7 @@ pub(crate) fn is_normal_within(of: TypeStr<'_>, bytes: &[u8], levels: u8, steps:
     requires room { steps.old + most_values (length bytes.now) (length (spelling (ty of))) < 2 ^ 128 }
     ensures normal { IsTrue result ↔ IsNormalWithin levels (ty of.entry) bytes.now }
     ensures few { steps.new ≤ steps.old + most_values (length bytes.now) (length (spelling (ty of.entry))) }
+    ensures exact { IsTrue result → steps.new ≡ steps.old + nodes (decode (ty of.entry) bytes.now) }
     ensures grows { steps.old ≤ steps.new }
 {
     match fixed_size(of) {
@@ -64,6 +68,7 @@ pub(crate) fn is_normal_open(of: TypeStr<'_>, bytes: &[u8], levels: u8, steps: &
     requires room { steps.old + most_values (length bytes.now) (length (spelling (ty of))) < 2 ^ 128 }
     ensures normal { IsTrue result ↔ IsNormalWithin levels (ty of.entry) bytes.now }
     ensures few { steps.new ≤ steps.old + most_values (length bytes.now) (length (spelling (ty of.entry))) }
+    ensures exact { IsTrue result → steps.new ≡ steps.old + nodes (decode (ty of.entry) bytes.now) }
     ensures grows { steps.old ≤ steps.new }
 {
     steps.tick();

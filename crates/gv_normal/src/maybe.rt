@@ -5,6 +5,8 @@ ghost use Rattle.gv_model.specs.Ty.{spelling, Ty.maybe};
 ghost use Rattle.gv_types.specs.TypeStr.{ty};
 ghost use Rattle.gv_normal.specs.InPlace.{IsNormalWithin};
 ghost use Rattle.gv_model.specs.Laws.{most_values};
+ghost use Rattle.gv_model.specs.Tree.{nodes};
+ghost use Rattle.gv_model.specs.Decode.{decode};
 
 use crate::fixed::is_normal_fixed;
 use crate::in_place::is_normal_open;
@@ -22,6 +24,7 @@ pub(crate) fn is_normal_maybe(
     requires room { steps.old + most_values (length bytes.now) (suc (length (spelling (ty child)))) ≤ 2 ^ 128 }
     ensures normal { IsTrue result ↔ IsNormalWithin (suc levels) (maybe (ty child.entry)) bytes.now }
     ensures few { steps.new + 1 ≤ steps.old + most_values (length bytes.now) (suc (length (spelling (ty child.entry)))) }
+    ensures exact { IsTrue result → steps.new + 1 ≡ steps.old + nodes (decode (maybe (ty child.entry)) bytes.now) }
     ensures grows { steps.old ≤ steps.new }
 {
     let Some((last, front)) = bytes.split_last() else {

@@ -7,6 +7,8 @@ ghost use Rattle.gv_types.specs.TypeStr.{ty};
 ghost use Rattle.gv_normal.specs.InPlace.{IsNormalWithin, HasMembers};
 ghost use Rattle.gv_model.specs.Laws.{most_values};
 ghost use Rattle.gv_normal.specs.Tables.{member_place};
+ghost use Rattle.gv_model.specs.Tree.{nodes};
+ghost use Rattle.gv_model.specs.Decode.{decode};
 
 use crate::fixed::is_normal_fixed;
 use crate::in_place::is_normal_open;
@@ -28,6 +30,7 @@ pub(crate) fn are_normal_members(
     requires room { steps.old + most_values (length bytes.now) (length (spelling (ty of))) ≤ 2 ^ 128 }
     ensures normal { IsTrue result ↔ IsNormalWithin (suc levels) (ty of.entry) bytes.now }
     ensures few { steps.new + 1 ≤ steps.old + most_values (length bytes.now) (length (spelling (ty of.entry))) }
+    ensures exact { IsTrue result → steps.new + 1 ≡ steps.old + nodes (decode (ty of.entry) bytes.now) }
     ensures grows { steps.old ≤ steps.new }
 {
     let width = usize::from(offset_width(bytes.len()));
@@ -68,6 +71,7 @@ fn is_normal_member(
     requires room { steps.old + most_values (length bytes.now) (length (spelling (ty member))) < 2 ^ 128 }
     ensures normal { IsTrue result ↔ IsNormalWithin levels (ty member.entry) bytes.now }
     ensures few { steps.new ≤ steps.old + most_values (length bytes.now) (length (spelling (ty member.entry))) }
+    ensures exact { IsTrue result → steps.new ≡ steps.old + nodes (decode (ty member.entry) bytes.now) }
     ensures grows { steps.old ≤ steps.new }
 {
     match size {

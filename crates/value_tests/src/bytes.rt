@@ -110,6 +110,9 @@ fn normal_bytes_are_read_written_and_printed(rt: HostRuntime) -> Result<(), Fail
         let shown = is_shown(rt.alloc(), found, text)?;
         assert!(rt; shown && has_form(rt.alloc(), found, bytes)?, "{text}");
     }
+    // The word of the maybe's type comes of the other element.
+    let maybes = serialise(rt.alloc(), &value(rt.alloc(), "[1, nothing]")?)?;
+    assert!(rt; maybes.as_slice() == [1, 0, 0, 0, 4, 4].as_slice());
     Ok(())
 }
 

@@ -49,10 +49,29 @@ fn numbers(alloc: Global, count: u32) -> Result<String, Fail> {
     Ok(text)
 }
 
+/// The number of bytes of the strings that so many repetitions of a part make, between a first quote and a last.
+fn size_of_strings(alloc: Global, part: &str, times: usize) -> Result<Option<usize>, Fail> {
+    let parts = part.repeat(alloc, times)?;
+    let text = format!(in alloc; "['{parts}']")?;
+    size_of(alloc, text.as_str(), "as")
+}
+
+/// How many bytes the text's value takes as a serialised `v`.
+fn stored_len(alloc: Global, text: &str) -> Result<usize, Fail> {
+    Ok(variant_bytes(alloc, &value(alloc, text)?)?.len())
+}
+
+/// How many values an array of so many bytes has.
+fn values_of_bytes(alloc: Global, count: usize) -> Result<u64, Fail> {
+    let bytes: Vec<u8> = vec![in alloc; 1; count]?;
+    let many = View::new(TypeStr::parse("ay")?, &bytes);
+    Ok(many.to_tree(alloc)?.nodes())
+}
+
 #[test]
 fn long_values_go_all_the_way(rt: HostRuntime) -> Result<(), Fail> {
     let alloc = rt.alloc();
-    // What lies between the first quote and the last; the last two are 127 and 128 empty strings.
+    // The last two are 127 and 128 empty strings.
     for (part, times, size) in [
         ("a", 253, 255),
         ("a", 254, 257),
@@ -61,20 +80,14 @@ fn long_values_go_all_the_way(rt: HostRuntime) -> Result<(), Fail> {
         ("', '", 126, 254),
         ("', '", 127, 384),
     ] {
-        let parts = part.repeat(alloc, times)?;
-        let text = format!(in alloc; "['{parts}']")?;
-        let found = size_of(alloc, text.as_str(), "as")?;
+        let found = size_of_strings(alloc, part, times)?;
         assert!(rt; found == Some(size), "{part} {times} times");
     }
-    // The numbers have 38,890 digits, and each string a zero byte and an offset of four bytes.
+    // The numbers have 38,890 digits, and each string a zero byte and an offset of four bytes; as a `v` there is a zero byte and the type behind it.
     let text = numbers(alloc, 10_000)?;
     assert!(rt; size_of(alloc, text.as_str(), "as")? == Some(88_890));
-    // A zero byte and the type behind it.
-    let stored = variant_bytes(alloc, &value(alloc, text.as_str())?)?;
-    assert_eq!(rt; stored.len(), 88_893);
-    let ones: Vec<u8> = vec![in alloc; 1; 1_000_001]?;
-    let many = View::new(TypeStr::parse("ay")?, &ones);
-    assert_eq!(rt; many.to_tree(alloc)?.nodes(), 1_000_002);
+    assert_eq!(rt; stored_len(alloc, text.as_str())?, 88_893);
+    assert_eq!(rt; values_of_bytes(alloc, 1_000_001)?, 1_000_002);
     Ok(())
 }
 
@@ -155,5 +168,8 @@ fn wide_offsets_and_what_is_too_deep_are_not_normal(rt: HostRuntime) -> Result<(
         let told = has_levels(alloc, of, &bytes, normal, levels)?;
         assert!(rt; told, "{of} of {start:?}, {part:?} {times} times");
     }
+    // The second row's.
+    let wide = repeated(alloc, &[], b"x", 253, &[0, 0xfe, 0])?;
+    assert_eq!(rt; wide.len(), 256);
     Ok(())
 }

@@ -51,6 +51,30 @@ fn a_tower_takes_few_steps_and_has_few_values(rt: HostRuntime) -> Result<(), Fai
     Ok(())
 }
 
+#[test]
+fn each_value_that_is_looked_at_is_a_step(rt: HostRuntime) -> Result<(), Fail> {
+    let rows: [(&str, &[u8], u128); 9] = [
+        ("as", b"i\0can\0has\0strings?\0\x02\x06\x0a\x13", 5),
+        ("((ys)as)", b"ican\0has\0strings?\0\x04\x0d\x05", 7),
+        (
+            "a(si)",
+            b"hi\0\0\xfe\xff\xff\xff\x03\0\0\0bye\0\xff\xff\xff\xff\x04\x09\x15",
+            7,
+        ),
+        ("s", b"\0", 1),
+        ("b", b"\x01", 1),
+        ("ab", b"\x01\0\x01", 4),
+        ("ai", &[5, 0, 0, 0, 6, 0, 0, 0], 3),
+        ("(yay)", b"\x01\x02\x03", 5),
+        ("v", b"\x05\0\0\0\0i", 2),
+    ];
+    for (of, bytes, steps) in rows {
+        let told = counted(View::new(TypeStr::parse(of)?, bytes));
+        assert!(rt; told == Some((true, steps)), "{of}: {told:?}");
+    }
+    Ok(())
+}
+
 /// The next number of Marsaglia's generator, for a seed that is not 0.
 fn next(seed: u32) -> u32 {
     let mut x = seed;

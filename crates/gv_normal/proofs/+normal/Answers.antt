@@ -18,17 +18,19 @@ use Rattle.gv_layout.proofs.Sizes.{fixed_size_most, fixed_size-basic}
 use Rattle.gv_layout.proofs.Widths.{width_is}
 use Rattle.gv_normal.specs.InPlace.{IsNormalWithin}
 use Rattle.gv_model.specs.Laws.{most_values}
-use Rattle.gv_normal.specs.Tables.{member_place}
+use Rattle.gv_normal.specs.Tables.{member_place, offset_number}
+use Rattle.gv_model.specs.Tree.{nodes}
+use Rattle.gv_model.specs.Decode.{decode}
 use Rattle.gv_normal.proofs.Pieces.{are_bytes, length-piece, short_from, no_bytes}
 use Rattle.gv_normal.proofs.PartSteps.{begins_behind}
 use Rattle.gv_normal.proofs.PackedParts.{some_level, normal_size}
 use Rattle.gv_normal.proofs.FixedMembers.{never, told, if_some}
-use Rattle.gv_normal.proofs.FixedElements.{normal_chunks, numbers_told, no_numbers}
-use Rattle.gv_normal.proofs.OpenElements.{table_there, table_iff, element_turn, elements_done, offsets_fit, counted, empty_array}
-use Rattle.gv_normal.proofs.OpenMembers.{AreOpenFrom, open_iff, place_turn, member_turn, no_place, members_done, place_within, sized_place, AreWhole, place_whole, has_offsets}
-use Rattle.gv_normal.proofs.OneChild.{nothing_normal, variant_iff, no_variant, variant_few, fixed_just, open_just, other_last}
+use Rattle.gv_normal.proofs.FixedElements.{normal_chunks, numbers_told, numbers_values, no_numbers}
+use Rattle.gv_normal.proofs.OpenElements.{table_there, table_iff, table_values, element_turn, element_values, elements_done, no_more_values, offsets_fit, counted, empty_array, empty_array_values}
+use Rattle.gv_normal.proofs.OpenMembers.{AreOpenFrom, open_count, open_iff, open_values, member_values, place_turn, member_turn, no_place, members_done, place_within, sized_place, AreWhole, place_whole, has_offsets}
+use Rattle.gv_normal.proofs.OneChild.{fixed_just_values, held_values, nothing_values, open_just_values, nothing_normal, variant_iff, no_variant, variant_few, fixed_just, open_just, other_last}
 use Rattle.gv_normal.proofs.StepBounds.{element_steps, all_elements, in_members, member_steps, all_members, members_spelled, spelled_first, spelled_some, spelled_over, some_values, bound_more}
-use Rattle.gv_normal.proofs.Classed.{basic_here}
+use Rattle.gv_normal.proofs.Classed.{basic_here, basic_values}
 use Rattle.gv_normal.proofs.+normal.Goals as goal
 
 pub array::are_normal_elements-returns-in_default-clause-normal : goal.array::are_normal_elements-returns-in_default-clause-normal
@@ -154,6 +156,9 @@ array::are_normal_elements-loop-i-preserved t c =
       within = omega (arith, lies.within, ends);
       few = omega (arith, c.loop-i.invariant.few, c.is_normal_open.ensures.few, grow);
       grows = omega (arith, c.loop-i.invariant.grows, c.is_normal_open.ensures.grows);
+      exact =
+          let values = element_values t' b c.split_at.result.1.now body c.loop-i.i c.loop-i.end c.round_up-from.result c.number-to.result c.from-width.result wide back front (omega (arith, c.loop-i-test.true, count)) c.number-to.ensures from_is in
+          omega (arith, c.loop-i.invariant.exact, c.is_normal_open.ensures.exact c.if-not-is_normal_open.false, values);
     }
 
 pub array::are_normal_elements-returns-clause-normal : goal.array::are_normal_elements-returns-clause-normal
@@ -170,6 +175,22 @@ array::are_normal_elements-returns-clause-normal t c =
     let done = elements_done _ c.args.levels t' b c.loop-i.i c.loop-i.end has (omega (arith, c.loop-i.invariant.passed, c.loop-i-test.false, count)) c.loop-i.invariant.same in
     (λ h. law.0 (done.0 (eqb-true c.loop-i.end c.in-Some.begin h ∙ c.in-Some.ensures.0)), λ n. eq-eqb c.loop-i.end c.in-Some.begin (done.1 (law.1 n) ∙ sym c.in-Some.ensures.0))
 
+pub array::are_normal_elements-returns-clause-exact : goal.array::are_normal_elements-returns-clause-exact
+array::are_normal_elements-returns-clause-exact t c = λ h.
+    let b = c.args.bytes.now in
+    let t' = ty c.args.element in
+    let bytes = are_bytes b c.type_inv.bytes in
+    let has = c.in-Some.ensures.1 in
+    let wide = c.from-width.ensures ∙ c.offset_width.ensures in
+    let back = c.split_at.ensures.back ∙ ap (λ n. drop n b) c.in-Some.ensures.0 in
+    let count = counted b c.split_at.result.1.now c.from-width.result wide back in
+    let at_end : offset_number b ≡ c.loop-i.i = omega (arith, c.loop-i.invariant.passed, c.loop-i-test.false, count) in
+    let done = elements_done _ c.args.levels t' b c.loop-i.i c.loop-i.end has at_end c.loop-i.invariant.same in
+    let all = done.0 (eqb-true c.loop-i.end c.in-Some.begin h ∙ c.in-Some.ensures.0) in
+    let none = no_more_values t' b c.loop-i.i c.loop-i.end at_end in
+    let total = table_values c.args.levels t' b bytes c.requires.open has all in
+    omega (arith, c.loop-i.invariant.exact, none, total)
+
 pub array::are_normal_elements-returns-clause-few : goal.array::are_normal_elements-returns-clause-few
 array::are_normal_elements-returns-clause-few t c =
     let b = c.args.bytes.now in
@@ -183,6 +204,23 @@ array::is_normal_array-returns-then-is_empty-clause-normal t c =
     let none : length b ≡ 0 = grind (arith, c.is_empty.ensures, c.if-is_empty.true) in
     let n = subst (IsNormalWithin (suc c.args.levels) (array (ty c.args.element))) (sym (no_bytes b none)) (empty_array c.args.levels (ty c.args.element)) in
     (λ h. n, λ h. refl)
+
+pub array::is_normal_array-returns-then-is_empty-clause-exact : goal.array::is_normal_array-returns-then-is_empty-clause-exact
+array::is_normal_array-returns-then-is_empty-clause-exact t c = λ h.
+    let b = c.args.bytes.now in
+    let none : length b ≡ 0 = grind (arith, c.is_empty.ensures, c.if-is_empty.true) in
+    let one = ap (λ x. nodes (decode (array (ty c.args.element)) x)) (no_bytes b none) ∙ empty_array_values (ty c.args.element) in
+    omega (arith, one)
+
+pub array::is_normal_array-returns-then-levels-gt0-clause-exact : goal.array::is_normal_array-returns-then-levels-gt0-clause-exact
+array::is_normal_array-returns-then-levels-gt0-clause-exact t c = λ h.
+    let b = c.args.bytes.now in
+    let e = ty c.args.element in
+    let bytes = are_bytes b c.type_inv.bytes in
+    let size = sym c.type_info-layout.ensures.size ∙ c.in-Some.is in
+    let is = basic_class e c.in-Basic.of c.in-Basic.ensures in
+    let normal = (numbers_told (c.args.levels - 1) c.args.levels e c.in-Basic.of c.in-Some.size b c.are_normal_numbers.result bytes is (omega (arith, c.if-levels-gt0.true)) size c.if-bytes-size-ne0.false c.are_normal_numbers.ensures.normal).0 h in
+    omega (arith, c.are_normal_numbers.ensures.counts, numbers_values c.args.levels c.in-Some.size e c.in-Basic.of b bytes is size normal)
 
 pub array::is_normal_array-nonzero_rem-bytes : goal.array::is_normal_array-nonzero_rem-bytes
 array::is_normal_array-nonzero_rem-bytes t c =
@@ -199,7 +237,7 @@ array::is_normal_array-returns-then-levels-gt0-clause-normal t c =
     let b = c.args.bytes.now in
     let size = sym c.type_info-layout.ensures.size ∙ c.in-Some.is in
     numbers_told (c.args.levels - 1) c.args.levels (ty c.args.element) c.in-Basic.of c.in-Some.size b c.are_normal_numbers.result (are_bytes b c.type_inv.bytes)
-    (basic_class (ty c.args.element) c.in-Basic.of c.in-Basic.ensures) (omega (arith, c.if-levels-gt0.true)) size c.if-bytes-size-ne0.false c.are_normal_numbers.ensures
+    (basic_class (ty c.args.element) c.in-Basic.of c.in-Basic.ensures) (omega (arith, c.if-levels-gt0.true)) size c.if-bytes-size-ne0.false c.are_normal_numbers.ensures.normal
 
 pub array::is_normal_array-returns-else-levels-gt0-clause-normal : goal.array::is_normal_array-returns-else-levels-gt0-clause-normal
 array::is_normal_array-returns-else-levels-gt0-clause-normal t c =
@@ -250,6 +288,11 @@ pub in_place::is_normal_open-returns-in-Basic-clause-normal : goal.in_place::is_
 in_place::is_normal_open-returns-in-Basic-clause-normal t c =
     basic_here c.in-Some.below c.args.levels (ty c.args.of) c.in-Basic.basic c.args.bytes.now c.is_normal_text.result (basic_class (ty c.args.of) c.in-Basic.basic c.in-Basic.ensures) (omega (arith, c.in-Some.ensures.0, c.in-Some.ensures.1)) c.is_normal_text.ensures
 
+pub in_place::is_normal_open-returns-in-Basic-clause-exact : goal.in_place::is_normal_open-returns-in-Basic-clause-exact
+in_place::is_normal_open-returns-in-Basic-clause-exact t c = λ h.
+    let one = basic_values (ty c.args.of) c.in-Basic.basic c.args.bytes.now (basic_class (ty c.args.of) c.in-Basic.basic c.in-Basic.ensures) in
+    omega (arith, c.tick.ensures, one)
+
 pub in_place::is_normal_open-returns-in-Basic-clause-few : goal.in_place::is_normal_open-returns-in-Basic-clause-few
 in_place::is_normal_open-returns-in-Basic-clause-few t c =
     omega (arith, c.tick.ensures, some_values (length c.args.bytes.now) (length (spelling (ty c.args.of))) (spelled_some (ty c.args.of)))
@@ -281,6 +324,24 @@ maybe::is_normal_maybe-returns-in_default-clause-normal t c =
     let b = c.args.bytes.now in
     let n = subst (IsNormalWithin (suc c.args.levels) (maybe (ty c.args.child))) (sym (no_bytes b c.in_default.ensures.cases)) (nothing_normal c.args.levels (ty c.args.child)) in
     (λ h. n, λ h. refl)
+
+pub maybe::is_normal_maybe-returns-in_default-clause-exact : goal.maybe::is_normal_maybe-returns-in_default-clause-exact
+maybe::is_normal_maybe-returns-in_default-clause-exact t c = λ h.
+    let b = c.args.bytes.now in
+    let one = ap (λ x. nodes (decode (maybe (ty c.args.child)) x)) (no_bytes b c.in_default.ensures.cases) ∙ nothing_values (ty c.args.child) in
+    omega (arith, one)
+
+pub maybe::is_normal_maybe-returns-then-bytes-size-clause-exact : goal.maybe::is_normal_maybe-returns-then-bytes-size-clause-exact
+maybe::is_normal_maybe-returns-then-bytes-size-clause-exact t c = λ h.
+    let b = c.args.bytes.now in
+    let values = fixed_just_values c.args.levels c.in-Some-fixed_size.size (ty c.args.child) b (are_bytes b c.type_inv.bytes) (sym c.in-Some-fixed_size.ensures) (c.is_normal_fixed.ensures.normal.0 h) in
+    omega (arith, c.is_normal_fixed.ensures.exact h, values)
+
+pub maybe::is_normal_maybe-returns-then-last-eq0-clause-exact : goal.maybe::is_normal_maybe-returns-then-last-eq0-clause-exact
+maybe::is_normal_maybe-returns-then-last-eq0-clause-exact t c = λ h.
+    let b = c.args.bytes.now in
+    let values = open_just_values c.args.levels (ty c.args.child) b c.in-Some.front.now c.in-Some.last.now (are_bytes b c.type_inv.bytes) c.in-Some.ensures.cases.0 (sym c.in-None.ensures) c.if-last-eq0.true (c.is_normal_open.ensures.normal.0 h) in
+    omega (arith, c.is_normal_open.ensures.exact h, values)
 
 pub maybe::is_normal_maybe-returns-then-bytes-size-clause-normal : goal.maybe::is_normal_maybe-returns-then-bytes-size-clause-normal
 maybe::is_normal_maybe-returns-then-bytes-size-clause-normal t c =
@@ -327,6 +388,7 @@ tuple::are_normal_members-loop-member-init t c =
         left = omega (arith, ap (λ ts. length (spellings ts)) same);
         few = omega arith;
         grows = omega arith;
+        exact = omega (arith, ap (open_values c.args.bytes.now (offset_width n) n 0) same);
       },
     )
 
@@ -476,6 +538,10 @@ tuple::are_normal_members-loop-member-preserved t c =
         left = omega (arith, texts, inv.left);
         few = omega (arith, inv.few, c.is_normal_member.ensures.few, grow, moved);
         grows = omega (arith, inv.grows, c.is_normal_member.ensures.grows);
+        exact =
+            let values = member_values b (offset_width (length b)) c.from-width.result c.loop-member.tail c.loop-member.end c.place_behind-from.result c.in-Some-member_place.to c.in-Some-member_place.before (ty c.in-Some.member) _ (members_left c.next.new.self) c.fixed_size-size.result c.is_empty-is_last.result
+            c.in-Some.ensures.steps wide c.fixed_size-size.ensures from_is c.is_empty-is_last.ensures is in
+            omega (arith, inv.exact, c.is_normal_member.ensures.exact c.if-not-is_normal_member.false, values);
       },
     )
 
@@ -514,6 +580,17 @@ tuple::are_normal_members-returns-then-tail-bytes-clause-normal t c =
     let n = law.0 (done.0 (record { full = c.if-end-tail.true; narrow = λ less. absurd (omega (arith, less, c.if-tail-bytes.true)) })) in
     (λ h. n, λ h. eq-eqb c.loop-member.tail (length b) c.if-tail-bytes.true)
 
+pub tuple::are_normal_members-returns-then-tail-bytes-clause-exact : goal.tuple::are_normal_members-returns-then-tail-bytes-clause-exact
+tuple::are_normal_members-returns-then-tail-bytes-clause-exact t c = λ h.
+    let b = c.args.bytes.now in
+    let inv = c.loop-member.invariant.2 in
+    let wide = c.from-width.ensures ∙ c.offset_width.ensures in
+    let done = members_done _ c.args.levels b (offset_width (length b)) c.loop-member.tail c.loop-member.end _ c.in_default.ensures.steps.0 inv.same in
+    let lie = done.0 (record { full = c.if-end-tail.true; narrow = λ less. absurd (omega (arith, less, c.if-tail-bytes.true)) }) in
+    let total = open_count c.args.levels (ty c.args.of) b (are_bytes b c.type_inv.bytes) c.requires.kind c.requires.open lie in
+    let none = ap (λ ts. open_values b (offset_width (length b)) c.loop-member.tail c.loop-member.end (types_from ts)) c.in_default.ensures.steps.0 in
+    omega (arith, inv.exact, total, none)
+
 pub tuple::are_normal_members-returns-then-tail-bytes-clause-few : goal.tuple::are_normal_members-returns-then-tail-bytes-clause-few
 tuple::are_normal_members-returns-then-tail-bytes-clause-few t c =
     let inv = c.loop-member.invariant.2 in
@@ -532,6 +609,18 @@ tuple::are_normal_members-returns-else-tail-bytes-clause-normal t c =
       λ h. law.0 (done.0 (record { full = c.if-end-tail.true; narrow = λ more. subst least wide (c.is_narrow.ensures.0 h) })),
       λ n. c.is_narrow.ensures.1 (subst least (sym wide) ((done.1 (law.1 n)).narrow less)),
     )
+
+pub tuple::are_normal_members-returns-else-tail-bytes-clause-exact : goal.tuple::are_normal_members-returns-else-tail-bytes-clause-exact
+tuple::are_normal_members-returns-else-tail-bytes-clause-exact t c = λ h.
+    let b = c.args.bytes.now in
+    let inv = c.loop-member.invariant.2 in
+    let wide = c.from-width.ensures ∙ c.offset_width.ensures in
+    let done = members_done _ c.args.levels b (offset_width (length b)) c.loop-member.tail c.loop-member.end _ c.in_default.ensures.steps.0 inv.same in
+    let least : ℕ → Type 0 = λ w. least_width c.loop-member.end ((length b - c.loop-member.tail) / w) ≡ w in
+    let lie = done.0 (record { full = c.if-end-tail.true; narrow = λ more. subst least wide (c.is_narrow.ensures.0 h) }) in
+    let total = open_count c.args.levels (ty c.args.of) b (are_bytes b c.type_inv.bytes) c.requires.kind c.requires.open lie in
+    let none = ap (λ ts. open_values b (offset_width (length b)) c.loop-member.tail c.loop-member.end (types_from ts)) c.in_default.ensures.steps.0 in
+    omega (arith, inv.exact, total, none)
 
 pub tuple::are_normal_members-returns-else-tail-bytes-clause-few : goal.tuple::are_normal_members-returns-else-tail-bytes-clause-few
 tuple::are_normal_members-returns-else-tail-bytes-clause-few t c =
@@ -566,6 +655,13 @@ variant::is_normal_variant-returns-in-Some-clause-normal t c =
     let here = ap₂ (λ (t : Ty) (x : List ℕ). let p : Ty × List ℕ = (t, x) in Some p) (ap ty c.type_str.ensures) c.bytes.ensures ∙ c.in-Some.ensures in
     let law = variant_iff c.args.levels b (ty c.type_str.result) c.bytes.result.now (are_bytes b c.type_inv.bytes) here in
     (λ h. law.0 (c.is_normal_within.ensures.normal.0 h), λ n. c.is_normal_within.ensures.normal.1 (law.1 n))
+
+pub variant::is_normal_variant-returns-in-Some-clause-exact : goal.variant::is_normal_variant-returns-in-Some-clause-exact
+variant::is_normal_variant-returns-in-Some-clause-exact t c = λ h.
+    let b = c.args.bytes.now in
+    let here = ap₂ (λ (t : Ty) (x : List ℕ). let p : Ty × List ℕ = (t, x) in Some p) (ap ty c.type_str.ensures) c.bytes.ensures ∙ c.in-Some.ensures in
+    let values = held_values c.args.levels b (ty c.type_str.result) c.bytes.result.now (are_bytes b c.type_inv.bytes) here (c.is_normal_within.ensures.normal.0 h) in
+    omega (arith, c.is_normal_within.ensures.exact h, values)
 
 pub variant::is_normal_variant-returns-in-Some-clause-few : goal.variant::is_normal_variant-returns-in-Some-clause-few
 variant::is_normal_variant-returns-in-Some-clause-few t c =

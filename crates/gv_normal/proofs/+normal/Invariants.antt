@@ -1,12 +1,12 @@
-use Rattle.std.proofs.Common.{◌≤◌, ◌+◌, ◌-◌, ◌*◌, ◌↔◌, length, take, drop, None}
+use Rattle.std.proofs.Common.{◌≡◌, ◌≤◌, ◌+◌, ◌-◌, ◌*◌, ◌↔◌, length, take, drop, None}
 use Rattle.gv_model.specs.Ty.{spelling, spellings, members, types_from}
 use Rattle.gv_model.specs.Layout.{offset_width}
 use Rattle.gv_model.specs.Arrays.{elements_end}
 use Rattle.gv_types.specs.TypeStr.{ty}
 use Rattle.gv_types.specs.Members.{members_left}
 use Rattle.gv_normal.specs.Tables.{offset_number}
-use Rattle.gv_normal.proofs.OpenElements.{AreNormalFrom, table}
-use Rattle.gv_normal.proofs.OpenMembers.{AreOpenFrom, AreWhole}
+use Rattle.gv_normal.proofs.OpenElements.{AreNormalFrom, table, values_from}
+use Rattle.gv_normal.proofs.OpenMembers.{AreOpenFrom, AreWhole, open_values}
 use Rattle.gv_normal.proofs.StepBounds.{in_elements, in_members}
 use Rattle.gv_normal.proofs.+normal.Given as goal
 
@@ -44,6 +44,8 @@ invariant-array::are_normal_elements-loop-i l = record {
   within : l.end ≤ elements_end l.fn.bytes None;
   few : l.steps ≤ l.fn.steps + in_elements (length (spelling (ty l.fn.element))) l.end l.i;
   grows : l.fn.steps ≤ l.steps;
+  exact : l.steps + values_from (ty l.fn.element) (take (elements_end l.fn.bytes None) l.fn.bytes) l.end (drop l.i (table l.fn.bytes))
+      ≡ l.fn.steps + values_from (ty l.fn.element) (take (elements_end l.fn.bytes None) l.fn.bytes) 0 (table l.fn.bytes);
 }
 
 abbrev pub invariant-tuple::are_normal_members-loop-member :
@@ -60,4 +62,6 @@ invariant-tuple::are_normal_members-loop-member l =
       left : length (spellings (types_from (members_left l.members))) ≤ length (spellings (members (ty l.fn.of)));
       few : l.steps ≤ l.fn.steps + in_members (length (spellings (members (ty l.fn.of))) - length (spellings (types_from (members_left l.members)))) l.end;
       grows : l.fn.steps ≤ l.steps;
+      exact : l.steps + open_values l.fn.bytes (offset_width (length l.fn.bytes)) l.tail l.end (types_from (members_left l.members))
+          ≡ l.fn.steps + open_values l.fn.bytes (offset_width (length l.fn.bytes)) (length l.fn.bytes) 0 (members (ty l.fn.of));
     }

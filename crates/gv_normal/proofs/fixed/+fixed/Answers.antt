@@ -9,12 +9,12 @@ use Rattle.gv_types.specs.TypeStr.{ty}
 use Rattle.gv_types.specs.Members.{members_left}
 use Rattle.gv_normal.specs.InPlace.{IsNormalWithin}
 use Rattle.gv_normal.proofs.Pieces.{are_bytes, length-piece}
-use Rattle.gv_normal.proofs.Classed.{fixed_members, basic_here}
+use Rattle.gv_normal.proofs.Classed.{fixed_members, basic_here, basic_values}
 use Rattle.gv_types.proofs.ClassLaws.{basic_class}
 use Rattle.gv_model.specs.Encode.{zeros}
 use Rattle.gv_normal.proofs.PackedParts.{some_level}
 use Rattle.gv_normal.proofs.StepBounds.{members_spelled, spelled_first, spelled_some}
-use Rattle.gv_normal.proofs.FixedMembers.{AreFixedFrom, never, told, fixed_iff, fixed_turn, fixed_none, fixed_done}
+use Rattle.gv_normal.proofs.FixedMembers.{AreFixedFrom, never, told, fixed_count, fixed_iff, fixed_turn_values, fixed_values, fixed_turn, fixed_none, fixed_done}
 use Rattle.gv_normal.proofs.fixed.+fixed.Goals as goal
 
 pub are_normal_fixed-loop-member-init : goal.are_normal_fixed-loop-member-init
@@ -26,6 +26,7 @@ are_normal_fixed-loop-member-init t c =
       within = omega arith;
       few = omega (arith, ap (λ ts. length (spellings ts)) same);
       grows = omega arith;
+      exact = omega (arith, ap (fixed_values c.args.bytes.now 0) same);
     }
 
 pub are_normal_fixed-round_up-from-requires-clause-aligned :
@@ -96,6 +97,10 @@ are_normal_fixed-loop-member-preserved t c =
       within = lies.within;
       few = omega (arith, c.loop-member.invariant.few, c.is_normal_fixed.ensures.few, ap (λ ts. length (spellings (types_from ts))) c.in-Some.ensures.steps, spelled_first (ty c.in-Some.member) (members_left c.next.new.self));
       grows = omega (arith, c.loop-member.invariant.grows, c.is_normal_fixed.ensures.grows);
+      exact =
+          let size = sym c.type_info-layout.ensures.size ∙ c.in-Some-size.is in
+          let values = fixed_turn_values c.args.bytes.now c.loop-member.end c.round_up-from.result c.in-Some-size.size (ty c.in-Some.member) _ _ c.in-Some.ensures.steps size from_is in
+          omega (arith, c.loop-member.invariant.exact, c.is_normal_fixed.ensures.exact c.if-not-is_normal_fixed.false, values);
     }
 
 pub are_normal_fixed-returns-clause-normal : goal.are_normal_fixed-returns-clause-normal
@@ -107,6 +112,18 @@ are_normal_fixed-returns-clause-normal t c =
     let all : take (length left - c.loop-member.end) (drop c.loop-member.end left) ≡ drop c.loop-member.end left = ap (λ n. take n (drop c.loop-member.end left)) (sym size) ∙ take-length (drop c.loop-member.end left) in
     let same : length (take (length left - c.loop-member.end) (drop c.loop-member.end left)) ≡ length left - c.loop-member.end = ap length all ∙ size in
     (λ h. law.0 (done.0 (sym all ∙ (c.are_zero.ensures.0 h ∙ ap zeros same))), λ n. c.are_zero.ensures.1 (all ∙ (done.1 (law.1 n) ∙ ap zeros (sym same))))
+
+pub are_normal_fixed-returns-clause-exact : goal.are_normal_fixed-returns-clause-exact
+are_normal_fixed-returns-clause-exact t c = λ h.
+    let b = c.args.bytes.now in
+    let done = fixed_done _ c.args.levels b c.loop-member.end _ c.in-None.ensures.steps.0 c.loop-member.invariant.same in
+    let size : length (drop c.loop-member.end b) ≡ length b - c.loop-member.end = length-drop c.loop-member.end b in
+    let all : take (length b - c.loop-member.end) (drop c.loop-member.end b) ≡ drop c.loop-member.end b = ap (λ n. take n (drop c.loop-member.end b)) (sym size) ∙ take-length (drop c.loop-member.end b) in
+    let same : length (take (length b - c.loop-member.end) (drop c.loop-member.end b)) ≡ length b - c.loop-member.end = ap length all ∙ size in
+    let lie = done.0 (sym all ∙ (c.are_zero.ensures.0 h ∙ ap zeros same)) in
+    let total = fixed_count c.args.levels (ty c.args.of) b (are_bytes b c.type_inv.bytes) c.requires.kind c.requires.size lie in
+    let none = ap (λ ts. fixed_values b c.loop-member.end (types_from ts)) c.in-None.ensures.steps.0 in
+    omega (arith, c.loop-member.invariant.exact, total, none)
 
 pub are_normal_fixed-returns-clause-few : goal.are_normal_fixed-returns-clause-few
 are_normal_fixed-returns-clause-few t c = omega (arith, c.loop-member.invariant.few, members_spelled (ty c.args.of) c.requires.kind)
@@ -141,3 +158,8 @@ is_normal_fixed-returns-in-Basic-clause-normal t c =
 
 pub is_normal_fixed-returns-in-Basic-clause-few : goal.is_normal_fixed-returns-in-Basic-clause-few
 is_normal_fixed-returns-in-Basic-clause-few t c = omega (arith, c.tick.ensures, spelled_some (ty c.args.of))
+
+pub is_normal_fixed-returns-in-Basic-clause-exact : goal.is_normal_fixed-returns-in-Basic-clause-exact
+is_normal_fixed-returns-in-Basic-clause-exact t c = λ h.
+    let one = basic_values (ty c.args.of) c.in-Basic.basic c.args.bytes.now (basic_class (ty c.args.of) c.in-Basic.basic c.in-Basic.ensures) in
+    omega (arith, c.tick.ensures, one)

@@ -1,8 +1,8 @@
-use Rattle.std.proofs.Common.{◌≤◌, ◌+◌, ◌*◌, ◌↔◌, suc, length}
+use Rattle.std.proofs.Common.{◌≡◌, ◌≤◌, ◌+◌, ◌*◌, ◌↔◌, suc, length}
 use Rattle.gv_model.specs.Ty.{spellings, members, types_from}
 use Rattle.gv_types.specs.TypeStr.{ty}
 use Rattle.gv_types.specs.Members.{members_left}
-use Rattle.gv_normal.proofs.FixedMembers.{AreFixedFrom}
+use Rattle.gv_normal.proofs.FixedMembers.{AreFixedFrom, fixed_values}
 use Rattle.gv_normal.proofs.fixed.+fixed.Given as goal
 
 abbrev pub decreases-is_normal_fixed : goal.decreases-is_normal_fixed
@@ -18,4 +18,5 @@ invariant-are_normal_fixed-loop-member l = record {
   within : l.end ≤ length l.fn.bytes;
   few : l.steps + length (spellings (types_from (members_left l.member-iterator))) ≤ l.fn.steps + length (spellings (members (ty l.fn.of)));
   grows : l.fn.steps ≤ l.steps;
+  exact : l.steps + fixed_values l.fn.bytes l.end (types_from (members_left l.member-iterator)) ≡ l.fn.steps + fixed_values l.fn.bytes 0 (members (ty l.fn.of));
 }
