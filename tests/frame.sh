@@ -1,24 +1,24 @@
 # What the scripts here that are written for bash have in common. Each begins with `. "$(dirname "$0")/frame.sh"`, and then has
-#   $name, $top    its name, and the top of the repository
+#   $script, $top  its name, and the top of the repository
 #   $work          a folder of its own, which is removed at the end
 #   needs TOOL PACKAGE     ends with 77 where there is no such tool, and says in which of Debian's packages it is
 #   finds_program          has the program in $DCONFDB: the one that the variable names, else ./dconfdb, which is built where it isn't
 #   fail WORDS..           says what is not as it should be, and goes on
 #   verdict WORDS..        the last line; it ends with 0, or with 1 where something failed
 set -u
-name=${0##*/}
+script=${0##*/}
 top=$(cd "$(dirname "$0")/.." && pwd)
 failed=0
 work=$(mktemp -d) || exit 1
 trap 'rm -rf "$work"' EXIT
 
 fail() {
-    echo "$name: $*"
+    echo "$script: $*"
     failed=1
 }
 needs() {
     command -v "$1" > /dev/null && return
-    echo "$name: skipped, since there is no $1 (Debian's package $2)"
+    echo "$script: skipped, since there is no $1 (Debian's package $2)"
     exit 77
 }
 finds_program() {
@@ -31,6 +31,6 @@ finds_program() {
 }
 verdict() {
     [ "$failed" = 0 ] || set -- "$@; SOME FAILED"
-    echo "$name: $*"
+    echo "$script: $*"
     exit "$failed"
 }
