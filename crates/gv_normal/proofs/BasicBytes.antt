@@ -7,7 +7,7 @@ use Rattle.gv_model.specs.Ty.{Basic}
 use Rattle.gv_model.specs.Ty.Ty.{basic}
 use Rattle.gv_model.specs.Ty.Basic.{boolean, byte, int16, uint16, int32, uint32, int64, uint64, handle, double, string, path, signature}
 use Rattle.gv_model.specs.Layout.{basic_size, or_one}
-use Rattle.gv_model.specs.Tree.{Tree, depth, nodes, basic_default}
+use Rattle.gv_model.specs.Tree.{Tree, depth, basic_default}
 use Rattle.gv_model.specs.Tree.Tree.{number, text}
 use Rattle.gv_model.specs.Texts.{is_text}
 use Rattle.gv_model.specs.TypeText.{seen}
@@ -47,28 +47,6 @@ depth_basic k b = ap depth (decode_children (basic k) b) ∙ sized (basic_size k
     of_text (Some s) = pick (is_text k s) (text k s) refl
 
     sized : (f : Option ℕ) → depth (basic_of_size k b f) ≡ 1
-    sized None = of_text (text_in b)
-    sized (Some n) = pick (length b == n) (number k (bits_of k (number_in b))) refl
-
-pub nodes_basic : (k : Basic) (b : List ℕ) → nodes (decode (basic k) b) ≡ 1
-unfolding basic_value nodes
-nodes_basic k b = ap nodes (decode_children (basic k) b) ∙ sized (basic_size k)
-  where
-    default_nodes : (k : Basic) → nodes (basic_default k) ≡ 1
-    default_nodes string = refl
-    default_nodes path = refl
-    default_nodes signature = refl
-    default_nodes _ = refl
-
-    pick : (c : Bool) (v : Tree) → nodes v ≡ 1 → nodes (cond c v (basic_default k)) ≡ 1
-    pick true v h = h
-    pick false v h = default_nodes k
-
-    of_text : (o : Option (List ℕ)) → nodes (text_or_default k o) ≡ 1
-    of_text None = default_nodes k
-    of_text (Some s) = pick (is_text k s) (text k s) refl
-
-    sized : (f : Option ℕ) → nodes (basic_of_size k b f) ≡ 1
     sized None = of_text (text_in b)
     sized (Some n) = pick (length b == n) (number k (bits_of k (number_in b))) refl
 

@@ -12,7 +12,9 @@ use Rattle.gv_model.specs.Normal.{IsEncoded}
 use Rattle.gv_model.specs.Tree.{nodes}
 use Rattle.gv_model.specs.Decode.{decode}
 use Rattle.gv_normal.specs.InPlace.{IsNormalWithin, HasMembers}
-use Rattle.gv_normal.proofs.BasicBytes.{basic_within, nodes_basic}
+use Rattle.gv_model.proofs.WellTyped.{IsBytes}
+use Rattle.gv_normal.proofs.BasicBytes.{basic_within}
+use Rattle.gv_normal.proofs.PackedParts.{basic_value_is_one}
 
 pub fixed_members : (t : Ty) (n : ℕ) → ((k : BasicType) → class_of t ≡ classes.Basic k → ⊥) → fixed_size t ≡ Some n → HasMembers t
 unfolding fixed_size
@@ -54,5 +56,5 @@ basic_here d n t k b r is low h =
     subst (λ (m : ℕ). IsTrue r ↔ IsNormalWithin m t b) (sym low) (subst (λ (u : Ty). IsTrue r ↔ IsNormalWithin (suc d) u b) (sym is) (λ g. law.1 (h.0 g), λ g. h.1 (law.0 g)))
 
 -- and its one value
-pub basic_values : (t : Ty) (k : BasicType) (b : List ℕ) → t ≡ basic (basic_of k) → nodes (decode t b) ≡ 1
-basic_values t k b is = ap (λ (u : Ty). nodes (decode u b)) is ∙ nodes_basic (basic_of k) b
+pub basic_values : (t : Ty) (k : BasicType) (b : List ℕ) → IsBytes b → t ≡ basic (basic_of k) → nodes (decode t b) ≡ 1
+basic_values t k b bytes is = ap (λ (u : Ty). nodes (decode u b)) is ∙ basic_value_is_one (basic_of k) b bytes

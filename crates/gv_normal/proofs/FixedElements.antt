@@ -21,8 +21,8 @@ use Rattle.gv_model.proofs.WellTyped.{IsBytes, bytes_take, bytes_drop}
 use Rattle.gv_normal.specs.InPlace.{IsNormalWithin, AreNormalNumbers}
 use Rattle.gv_types.specs.Classes.{basic_of}
 use Rattle.gv_types.specs.declared.class.BasicType.{BasicType}
-use Rattle.gv_normal.proofs.PackedParts.{AreNormal, AreOfBytes, PackedOf, values_of, packed_values, normal_of_parts, parts_of_normal, one_type_held, held_one_type, sizes_of_parts, some_level}
-use Rattle.gv_normal.proofs.BasicBytes.{basic_within, nodes_basic, number_normal, other_bits, boolean_normal}
+use Rattle.gv_normal.proofs.PackedParts.{AreNormal, AreOfBytes, PackedOf, basic_value_is_one, values_of, packed_values, normal_of_parts, parts_of_normal, one_type_held, held_one_type, sizes_of_parts, some_level}
+use Rattle.gv_normal.proofs.BasicBytes.{basic_within, number_normal, other_bits, boolean_normal}
 
 -- so many elements of n bytes each
 abbrev pub AreChunks : ℕ → Ty → ℕ → ℕ → List ℕ → Type 0
@@ -143,15 +143,15 @@ no_chunk_values t n k i b le = ap (λ (m : ℕ). chunk_values t n m (drop (i * n
 -- ---- numbers
 
 -- each is one value
-number_values : (k : Basic) (n count : ℕ) (b : List ℕ) → chunk_values (basic k) n count b ≡ count
-number_values k n zero b = refl
-number_values k n (suc count) b = omega (arith, nodes_basic k (take n b), number_values k n count (drop n b))
+number_values : (k : Basic) (n count : ℕ) (b : List ℕ) → IsBytes b → chunk_values (basic k) n count b ≡ count
+number_values k n zero b bytes = refl
+number_values k n (suc count) b bytes = omega (arith, basic_value_is_one k (take n b) (bytes_take n b bytes), number_values k n count (drop n b) (bytes_drop n b bytes))
 
 -- an array of so many numbers has one value more
 pub numbers_values : (d n : ℕ) (t : Ty) (k : BasicType) (b : List ℕ) → IsBytes b → t ≡ basic (basic_of k) → fixed_size t ≡ Some n → IsNormalWithin (suc d) (array t) b → nodes (decode (array t) b) ≡ suc (length b / n)
 numbers_values d n t k b bytes is e h =
     let r = normal_chunks d t n b bytes e h in
-    chunks_values d t n b bytes e r.even r.chunks ∙ ap (λ (m : ℕ). suc m) (ap (λ (u : Ty). chunk_values u n (length b / n) b) is ∙ number_values (basic_of k) n (length b / n) b)
+    chunks_values d t n b bytes e r.even r.chunks ∙ ap (λ (m : ℕ). suc m) (ap (λ (u : Ty). chunk_values u n (length b / n) b) is ∙ number_values (basic_of k) n (length b / n) b bytes)
 
 pub no_levels : (t : Ty) (n k : ℕ) (b : List ℕ) → 0 < k → AreChunks 0 t n k b → ⊥
 no_levels t n zero b some h = absurd (omega (arith, some))

@@ -1,11 +1,12 @@
 -- A container's bytes are normal exactly where they are packed of parts that are, each of a level less.
 use Rattle.std.proofs.Common.{ℕ, suc, ◌+◌, ◌≤◌, ◌≡◌, map, List, [], ◌∷◌, refl, sym, ap, ap₂, ◌∙◌, subst, arith}
 use Rattle.std.specs.List.{AllByRecursion}
-use Rattle.gv_model.specs.Ty.{Ty, Types}
+use Rattle.gv_model.specs.Ty.{Ty, Types, Basic}
+use Rattle.gv_model.specs.Ty.Ty.{basic}
 use Rattle.gv_model.specs.Layout.{fixed_size}
 use Rattle.gv_model.specs.Tree.{Tree, Trees, type_of, depth, greatest_depth, nodes, nodes_of}
 use Rattle.gv_model.specs.Tree.Tree.{number, text, node}
-use Rattle.gv_model.specs.Typed.{AreValues, MayHold, AllOf, types_of}
+use Rattle.gv_model.specs.Typed.{AreValues, IsValue, MayHold, AllOf, types_of}
 use Rattle.gv_model.specs.Children.{Child}
 use Rattle.gv_model.specs.Decode.{decode, cut}
 use Rattle.gv_model.specs.Parts.{Part, part_of, parts, part_trees}
@@ -68,6 +69,16 @@ normal_of_parts d t b ps h =
       written = encoded_of_parts d t b ps h ∙ ap encode (sym read);
       shallow = omega (arith, ap depth read, depth_node t (part_trees ps), deepest d ps h.normal);
     }
+
+-- a tree of a basic type has no parts
+one_value : (v : Tree) (k : Basic) → type_of v ≡ basic k → IsValue v → nodes v ≡ 1
+unfolding nodes
+one_value (number j n) k e h = refl
+one_value (text j s) k e h = refl
+one_value (node t vs) k e h = absurd (subst (λ (u : Ty). MayHold u vs) e h.0)
+
+pub basic_value_is_one : (k : Basic) (b : List ℕ) → IsBytes b → nodes (decode (basic k) b) ≡ 1
+basic_value_is_one k b bytes = one_value (decode (basic k) b) k (type_of-decode (basic k) b) (decode_is_value (basic k) b bytes)
 
 -- how many values there are in some parts
 abbrev pub values_of : List Part → ℕ

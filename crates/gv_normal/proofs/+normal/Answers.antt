@@ -290,7 +290,7 @@ in_place::is_normal_open-returns-in-Basic-clause-normal t c =
 
 pub in_place::is_normal_open-returns-in-Basic-clause-exact : goal.in_place::is_normal_open-returns-in-Basic-clause-exact
 in_place::is_normal_open-returns-in-Basic-clause-exact t c = λ h.
-    let one = basic_values (ty c.args.of) c.in-Basic.basic c.args.bytes.now (basic_class (ty c.args.of) c.in-Basic.basic c.in-Basic.ensures) in
+    let one = basic_values (ty c.args.of) c.in-Basic.basic c.args.bytes.now (are_bytes c.args.bytes.now c.type_inv.bytes) (basic_class (ty c.args.of) c.in-Basic.basic c.in-Basic.ensures) in
     omega (arith, c.tick.ensures, one)
 
 pub in_place::is_normal_open-returns-in-Basic-clause-few : goal.in_place::is_normal_open-returns-in-Basic-clause-few

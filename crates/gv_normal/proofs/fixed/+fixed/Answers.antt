@@ -161,5 +161,5 @@ is_normal_fixed-returns-in-Basic-clause-few t c = omega (arith, c.tick.ensures, 
 
 pub is_normal_fixed-returns-in-Basic-clause-exact : goal.is_normal_fixed-returns-in-Basic-clause-exact
 is_normal_fixed-returns-in-Basic-clause-exact t c = λ h.
-    let one = basic_values (ty c.args.of) c.in-Basic.basic c.args.bytes.now (basic_class (ty c.args.of) c.in-Basic.basic c.in-Basic.ensures) in
+    let one = basic_values (ty c.args.of) c.in-Basic.basic c.args.bytes.now (are_bytes c.args.bytes.now c.type_inv.bytes) (basic_class (ty c.args.of) c.in-Basic.basic c.in-Basic.ensures) in
     omega (arith, c.tick.ensures, one)
