@@ -29,7 +29,7 @@ HoldAll (g ∷ gs) (s ∷ ss) = Holds g s × HoldAll gs ss
 HoldAll _ _ = ⊥
 
 -- what was made of a compilation is what its file says
-made : (c : Compilation) → IsCompilation c → (s : Settings) → Says c.file s → AreGiven c.gives s
+pub made : (c : Compilation) → IsCompilation c → (s : Settings) → Says c.file s → AreGiven c.gives s
 made c h s says =
     let by : IsMadeOfGiven (Ok c.gives) (first_file (taken c.files)) (Ok c.file) =
     subst (λ (r : Result Given FileFault). IsMadeOfGiven r (first_file (taken c.files)) (Ok c.file)) h.given_is h.compiled in
@@ -75,7 +75,7 @@ value_after i s ss path = go (get s.values path)
     go (Some bytes) = first_there (held_value bytes) (value_from_layers (i + 1) ss path) (is_held bytes)
 
 -- a compiled layer's value is the last row's
-value_held : (g : Given) (s : Settings) (path : List ℕ) → Holds g s → option_and_then held_value (get s.values path) ≡ last_value g.values path
+pub value_held : (g : Given) (s : Settings) (path : List ℕ) → Holds g s → option_and_then held_value (get s.values path) ≡ last_value g.values path
 value_held g s path h = ap (option_and_then held_value) (h.given.values path) ∙ held_of_stored (last_value g.values path) (last_whole g.values path h.whole)
 
 pub same_first : (i : ℕ) (gs : List Given) (ss : List Settings) (path : List ℕ) → HoldAll gs ss → value_from_layers i ss path ≡ first_given gs path

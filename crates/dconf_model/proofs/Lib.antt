@@ -78,3 +78,11 @@ pub mod PathPrefixes
 pub mod WalkedKeys
 pub mod WalkedSettings
 pub mod LayerPaths
+pub mod ReopenLaws
+pub mod StandingLaws
+pub mod StandingListings
+pub mod ProgramLaws
+pub mod RunChanges
+pub mod SurvivalLaws
+pub mod WorkedFolder
+pub mod SoundGiven

@@ -16,11 +16,11 @@ use Rattle.dconf_model.specs.Sources.File.{keyfile, lock_file}
 use Rattle.dconf_model.proofs.PathMaps.{eq_turned, key_in, same_test, no_truth}
 use Rattle.dconf_model.proofs.SameBytes.{same_path}
 
-any_path : (f : List ℕ → Bool) (locks : List LockLine) → list_any f (map (λ lock. lock.path) locks) ≡ list_any (λ lock. f lock.path) locks
+pub any_path : (f : List ℕ → Bool) (locks : List LockLine) → list_any f (map (λ lock. lock.path) locks) ≡ list_any (λ lock. f lock.path) locks
 any_path f [] = refl
 any_path f (lock ∷ locks) = ap (λ b. f lock.path || b) (any_path f locks)
 
-turned : (p : List ℕ) (locks : List LockLine) → list_any (λ lock. bytes_eq lock.path p) locks ≡ list_any (bytes_eq p) (map (λ lock. lock.path) locks)
+pub turned : (p : List ℕ) (locks : List LockLine) → list_any (λ lock. bytes_eq lock.path p) locks ≡ list_any (bytes_eq p) (map (λ lock. lock.path) locks)
 turned p [] = refl
 turned p (lock ∷ locks) = ap (λ b. b || list_any (λ lock. bytes_eq lock.path p) locks) (eq_turned lock.path p) ∙ ap (λ b. bytes_eq p lock.path || b) (turned p locks)
 

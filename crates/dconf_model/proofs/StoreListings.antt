@@ -26,10 +26,10 @@ use Rattle.dconf_model.proofs.Listings.{listing_has, listing_from, part_of_path,
 
 -- ---- paths of layers
 
-key_of : {X : Type 0} (m : AtPaths X) (p : List ℕ) → is_some (get m p) ≡ true → Contains (keys m) p
+pub key_of : {X : Type 0} (m : AtPaths X) (p : List ℕ) → is_some (get m p) ≡ true → Contains (keys m) p
 key_of m p e = Contains-from_any same_path p (keys m) (sym (key_in m p) ∙ e)
 
-of_key : {X : Type 0} (m : AtPaths X) (p : List ℕ) → Contains (keys m) p → is_some (get m p) ≡ true
+pub of_key : {X : Type 0} (m : AtPaths X) (p : List ℕ) → Contains (keys m) p → is_some (get m p) ≡ true
 of_key m p h = key_in m p ∙ list_any-from_Contains (decided bytes_eq bytes_eq-Decides) p (keys m) h
 
 some_stored : (o : Option Tree) → is_some (option_map stored o) ≡ is_some o
@@ -40,7 +40,7 @@ some_stored (Some v) = refl
 has_given : (g : Given) (s : Settings) (p : List ℕ) → Holds g s → is_some (get s.values p) ≡ is_some (last_value g.values p)
 has_given g s p h = ap is_some (h.given.values p) ∙ some_stored (last_value g.values p)
 
-or_cases : (a b : Bool) → (a || b) ≡ true → (a ≡ true) ⊎ (b ≡ true)
+pub or_cases : (a b : Bool) → (a || b) ≡ true → (a ≡ true) ⊎ (b ≡ true)
 or_cases true b e = inl refl
 or_cases false b e = inr e
 

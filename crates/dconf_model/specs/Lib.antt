@@ -38,3 +38,6 @@ pub mod Runs
 pub mod Stores
 pub mod Sessions
 pub mod Walks
+pub mod Reopened
+pub mod Programs
+pub mod Survivals
