@@ -86,3 +86,7 @@ pub mod RunChanges
 pub mod SurvivalLaws
 pub mod WorkedFolder
 pub mod SoundGiven
+pub mod AsciiParts
+pub mod StringTexts
+pub mod TypeWeights
+pub mod WholeTexts

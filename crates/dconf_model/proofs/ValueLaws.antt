@@ -138,7 +138,7 @@ of_none x ValueFault.bad_signature c = absurd c
 of_none x ValueFault.double_text c = absurd c
 of_none x ValueFault.too_deep c = absurd c
 
-with_tree : (s : List ℕ) (x : Syntax) → IsTree s x → value_of_text s ≡ or_value_fault (value_of x)
+pub with_tree : (s : List ℕ) (x : Syntax) → IsTree s x → value_of_text s ≡ or_value_fault (value_of x)
 unfolding value_of_text
 with_tree s x tree =
     let one = one_lexing 0 s (lexed 0 0 s).0 tree.placed (lexed 0 0 s).1 None (lexed_right 0 0 s) tree.lexes in

@@ -79,7 +79,7 @@ bytes_good : (s : List ℕ) → AllByRecursion (λ c. c < 256) s → (t : Ty) �
 bytes_good s h t e = subst (λ (t : Ty). Good (at_array (λ u. Ok (byte_string_trees s)) t) t) (sym e) (refl, bytes_trees_good s h)
 
 -- a text without a zero byte, in UTF-8
-abbrev IsGoodText : List ℕ → Type 0
+abbrev pub IsGoodText : List ℕ → Type 0
 IsGoodText s = AllByRecursion (λ c. 0 < c) s × (is_utf8 s ≡ true)
 
 if_good : (k : Basic) (s : List ℕ) (e : ValueFault) (b : Bool) → (b ≡ true → IsTextOf k s) → Good (cond b (Ok (text k s)) (Err e)) (basic k)

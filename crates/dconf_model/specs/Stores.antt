@@ -1,10 +1,10 @@
 -- What a store gives for each path, in one statement: compiled databases, opened by a profile, then changed, are read as
 -- keyfiles, changes, locks and the order of the profile say. dconf(7). It speaks of rows and words alone; maps, layers and
 -- files are what it is about.
-use Rattle.std.specs.Prelude.{◌≡◌, ◌⊎◌, ◌↔◌, ℕ, ◌+◌, ◌-◌, Bool, true, List, [], ◌∷◌, ◌++◌, drop, map, fold, Option, Some, None, Ok, if◌then◌else◌, ◌==◌, IsTrue, is_some, Contains, option_and_then}
+use Rattle.std.specs.Prelude.{◌≡◌, ◌≤◌, ◌⊎◌, length, ◌↔◌, ℕ, ◌+◌, ◌-◌, Bool, true, List, [], ◌∷◌, ◌++◌, drop, map, fold, Option, Some, None, Ok, if◌then◌else◌, ◌==◌, IsTrue, is_some, Contains, option_and_then}
 use Rattle.std.specs.List.{list_any, AllByRecursion}
 use Rattle.std.specs.Option.{option_or}
-use Rattle.std.specs.Str.{bytes_eq}
+use Rattle.std.specs.Str.{bytes_eq, is_utf8}
 use Rattle.std.specs.FinMap.{get}
 use Rattle.gv_model.specs.TypeText.{IsWithinLimits}
 use Rattle.gv_model.specs.Typed.{IsValue}
@@ -13,7 +13,8 @@ use Rattle.dconf_model.specs.Paths.{is_key_path, is_directory_path}
 use Rattle.dconf_model.specs.SoundLaws.{first_part}
 use Rattle.dconf_model.specs.Settings.{Settings}
 use Rattle.dconf_model.specs.Locks.{covers, is_below}
-use Rattle.dconf_model.specs.Values.{held_value}
+use Rattle.dconf_model.specs.Lines.{longest_text}
+use Rattle.dconf_model.specs.Values.{held_value, value_of_text}
 use Rattle.dconf_model.specs.Sources.{Source, Given, given, last_value}
 use Rattle.dconf_model.specs.Databases.{IsCompiled, IsLayer, AreLayers}
 use Rattle.dconf_model.specs.Layers.{Layers, visible, child_names, later_or}
@@ -79,6 +80,10 @@ is_given databases path = list_any (λ g. is_some (last_value g.values path)) da
 -- a value of its type, with a type text within the limits: each owned tree is
 abbrev pub IsLimitedValue : Tree → Type 0
 IsLimitedValue v = IsValue v × IsWithinLimits (type_of v)
+
+-- law: so is the value of each text of UTF-8 that is not too long to be read
+abbrev pub TextsAreWhole : Type 0
+TextsAreWhole = (s : List ℕ) (v : Tree) → is_utf8 s ≡ true → length s ≤ longest_text → value_of_text s ≡ Ok v → IsLimitedValue v
 
 -- keyfiles and lock files, what they give, and a file that was compiled of them
 pub record Compilation : Type 0 where

@@ -23,7 +23,7 @@ ghost use Rattle.dconf_model.specs.Databases.{SaysWhatIsInIt, SaysSettings, Says
 ghost use Rattle.dconf_model.specs.Survivals.{RunIsStep, StoppedIsStep, KeptAreSaid};
 ghost use Rattle.dconf_model.specs.Programs.{ReadPrints, ListPrints, ChangesAreKept, ProgramGives};
 ghost use Rattle.dconf_model.specs.Reopened.{ReopenedIsSame, MissingGivesNothing, CompiledGives, SoundGives, EachValueIsKept, EachListingIsKept};
-ghost use Rattle.dconf_model.specs.Stores.{EachValueIsGiven, EachListingIsExact};
+ghost use Rattle.dconf_model.specs.Stores.{TextsAreWhole, EachValueIsGiven, EachListingIsExact};
 ghost use Rattle.dconf_model.specs.Walks.{LayersHaveKeyPaths, WalkFindsEachKey, WalkEnds, WalkHasEachSetting};
 
 /// A search in any table finds rows alone, and one thing only.
@@ -105,6 +105,11 @@ pub fn a_map_has_one_length()
 pub fn a_text_has_its_value()
     ensures is { TextHasItsValue }
     ensures alone { HasOneMeaning }
+{}
+
+/// The value of a text of UTF-8 is a value of its type, whose text is within the limits.
+pub fn each_text_is_whole()
+    ensures { TextsAreWhole }
 {}
 
 /// The bytes that are stored for a value hold it.
