@@ -90,3 +90,4 @@ pub mod AsciiParts
 pub mod StringTexts
 pub mod TypeWeights
 pub mod WholeTexts
+pub mod WholeRows

@@ -1,3 +1,4 @@
+use Rattle.dconf_model.proofs.WholeRows.{given_whole}
 use Rattle.dconf_model.proofs.WholeTexts.{texts_are_whole}
 use Rattle.dconf_model.proofs.each_text_is_whole.Goals as goal
 
