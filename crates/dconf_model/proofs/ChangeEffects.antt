@@ -14,7 +14,7 @@ use Rattle.dconf_model.specs.Sources.{Assigned, last_value}
 use Rattle.dconf_model.specs.Layers.{Layers, greatest_from, locks_path}
 use Rattle.dconf_model.specs.Changes.{Change, Refusal, Values, with_all, changed, apply, run, or_as_before, load_all, set_all, all_storable, first_locked, unless_locked, paths_of}
 use Rattle.dconf_model.specs.Changes.Change.{set_value, reset_value, reset_below_directory, load_values}
-use Rattle.dconf_model.specs.Stores.{sets_if, saying_of, heard, user_value, AreAccepted, IsLimitedValue, IsWholeChange}
+use Rattle.dconf_model.specs.Stores.{sets_if, saying_of, heard, IsLimitedValue, IsWholeChange}
 use Rattle.dconf_model.specs.Stores.Saying.{silent, unset, sets}
 use Rattle.dconf_model.proofs.PathMaps.{get_removed, get_retained}
 use Rattle.dconf_model.proofs.SameBytes.{same_path}
@@ -62,7 +62,7 @@ set_effect later rows path m unlocked whole = record {
 -- ---- one change
 
 -- the layers after it, and what they have at each path
-abbrev Stepped : Settings → List Settings → Layers → Change → Type 0
+abbrev pub Stepped : Settings → List Settings → Layers → Change → Type 0
 Stepped s later new change =
     (values : Values) × (new ≡ store (with_values s values) later)
     × ((path : List ℕ) → HasEffect later path s.values values (heard (value_at s.values path) (saying_of path change)))
@@ -192,39 +192,9 @@ below_step s later directory new e =
     all_stay path true = refl
     all_stay path false = refl
 
-step : (s : Settings) (later : List Settings) (change : Change) (new : Layers) → IsWholeChange change →
+pub step_of : (s : Settings) (later : List Settings) (change : Change) (new : Layers) → IsWholeChange change →
     Gives (apply (store s later) change) new → Stepped s later new change
-step s later (set_value p v) new whole e = write_step s later p v new whole e
-step s later (reset_value p) new whole e = reset_step s later p new e
-step s later (reset_below_directory directory) new whole e = below_step s later directory new e
-step s later (load_values rows force) new whole e = load_step s later rows force new whole e
-
--- ---- all changes
-
-abbrev pub AreRun : Settings → List Settings → List Change → Type 0
-AreRun s later changes =
-    (values : Values) × (run (store s later) changes ≡ store (with_values s values) later)
-    × ((path : List ℕ) → HasEffect later path s.values values (user_value path (value_at s.values path) changes))
-
--- the effect of a change, and then of more
-both_effects : (later : List Settings) (path : List ℕ) (old middle new : Values) (change : Change) (changes : List Change) →
-    HasEffect later path old middle (heard (value_at old path) (saying_of path change)) →
-    HasEffect later path middle new (user_value path (value_at middle path) changes) →
-    HasEffect later path old new (user_value path (value_at old path) (change ∷ changes))
-both_effects later path old middle new change changes h k = record {
-  free = λ f. k.free f ∙ ap (λ o. user_value path o changes) (h.free f);
-  kept = λ f. k.kept f ∙ h.kept f;
-}
-
-pub all_run : (s : Settings) (later : List Settings) (changes : List Change) → AllByRecursion IsWholeChange changes →
-    AreAccepted (store s later) changes → AreRun s later changes
-all_run s later [] whole accepted = (s.values, refl, λ path. record { free = λ _. refl; kept = λ _. refl })
-all_run s later (change ∷ changes) whole accepted =
-    let one = step s later change accepted.0 whole.0 accepted.1 in
-    let s' : Settings = with_values s one.0 in
-    let rest = all_run s' later changes whole.1 (subst (λ l. AreAccepted l changes) one.1 accepted.2) in (
-      rest.0,
-      ap (λ r. run (or_as_before (store s later) r) changes) accepted.1 ∙ (ap (λ l. run l changes) one.1 ∙ rest.1),
-      λ path.
-          both_effects later path s.values one.0 rest.0 change changes (one.2 path) (rest.2 path),
-    )
+step_of s later (set_value p v) new whole e = write_step s later p v new whole e
+step_of s later (reset_value p) new whole e = reset_step s later p new e
+step_of s later (reset_below_directory directory) new whole e = below_step s later directory new e
+step_of s later (load_values rows force) new whole e = load_step s later rows force new whole e

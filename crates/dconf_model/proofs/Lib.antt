@@ -43,7 +43,6 @@ pub mod WorkedKeyfiles
 pub mod WorkedSources
 pub mod WorkedLayers
 pub mod WorkedOutcomes
-pub mod WorkedStores
 pub mod SameBytes
 pub mod FolderLaws
 pub mod RunLaws
@@ -60,7 +59,6 @@ pub mod StoreValues
 pub mod Listings
 pub mod StoreListings
 pub mod ListingOrder
-pub mod WorkedStore
 pub mod WholeValues
 pub mod OrderLaws
 pub mod OneSortedList
@@ -79,15 +77,10 @@ pub mod WalkedKeys
 pub mod WalkedSettings
 pub mod LayerPaths
 pub mod ReopenLaws
-pub mod StandingLaws
-pub mod StandingListings
-pub mod ProgramLaws
-pub mod RunChanges
-pub mod SurvivalLaws
-pub mod WorkedFolder
 pub mod SoundGiven
 pub mod AsciiParts
 pub mod StringTexts
 pub mod TypeWeights
 pub mod WholeTexts
 pub mod WholeRows
+pub mod EmptyStores

@@ -14,7 +14,7 @@ use Rattle.dconf_model.specs.Changes.{saved}
 use Rattle.dconf_model.specs.Reopened.{ReopenedIsSame}
 use Rattle.dconf_model.proofs.PathMaps.{no_truth}
 use Rattle.dconf_model.proofs.DatabaseLaws.{says_one_thing, written_says_settings}
-use Rattle.dconf_model.proofs.StoreValues.{one_layer}
+use Rattle.dconf_model.proofs.DatabasesGiven.{one_layer}
 
 -- databases have one list of layers
 pub one_list : (items : List MaybeBytes) (ss ts : List Settings) → AreLayers items ss → AreLayers items ts → ss ≡ ts

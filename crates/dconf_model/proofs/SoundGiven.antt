@@ -6,12 +6,13 @@ use Rattle.std.specs.Option.{option_or}
 use Rattle.std.specs.Str.{bytes_eq}
 use Rattle.std.specs.FinMap.{get, keys}
 use Rattle.gv_model.specs.Tree.{Tree}
+use Rattle.dconf_model.specs.Settings.{Settings}
 use Rattle.dconf_model.specs.Values.{held_value}
 use Rattle.dconf_model.specs.Locks.{LockLine}
-use Rattle.dconf_model.specs.Sources.{Assigned}
+use Rattle.dconf_model.specs.Sources.{Assigned, Given}
 use Rattle.dconf_model.specs.Databases.{settings_in}
 use Rattle.dconf_model.specs.Changes.{Values}
-use Rattle.dconf_model.specs.Reopened.{SoundGives}
+use Rattle.dconf_model.specs.Stores.{GivesRows, SoundGives}
 use Rattle.dconf_model.proofs.SameBytes.{same_path}
 use Rattle.dconf_model.proofs.PathMaps.{key_in, eq_turned}
 use Rattle.dconf_model.proofs.LastValues.{last_from, last_step}
@@ -71,14 +72,19 @@ locks_at : (p : List ℕ) (ks : List (List ℕ)) → list_any (bytes_eq p) ks �
 locks_at p [] = refl
 locks_at p (k ∷ ks) = ap (λ b. b || list_any (bytes_eq p) ks) (eq_turned p k) ∙ ap (λ b. bytes_eq k p || b) (locks_at p ks)
 
-pub sound_gives : SoundGives
-sound_gives file database sound =
-    let s = settings_in file in
-    (record { values = rows_at s.values (keys s.values); locks = map (λ k. record { path = k; line = 0 }) (keys s.locks) },
-    (s, (database, sound, says_what_is_in_it file database sound), record {
+-- settings give rows and locks
+pub gives_some : (s : Settings) → (g : Given) × GivesRows s g
+gives_some s =
+    (record { values = rows_at s.values (keys s.values); locks = map (λ k. record { path = k; line = 0 }) (keys s.locks) }, record {
       values = λ path.
           where_there (get s.values path)
           ∙ (ap (λ b. cond b (option_or (value_at s.values path) None) None) (key_in s.values path)
           ∙ sym (rows_from None s.values (keys s.values) path));
       locks = λ path. key_in s.locks path ∙ locks_at path (keys s.locks);
-    }))
+    })
+
+pub sound_gives : SoundGives
+sound_gives file database sound =
+    let s = settings_in file in
+    let some = gives_some s in
+    (some.0, (s, (database, sound, says_what_is_in_it file database sound), some.1))

@@ -24,10 +24,6 @@ pub turned : (p : List ℕ) (locks : List LockLine) → list_any (λ lock. bytes
 turned p [] = refl
 turned p (lock ∷ locks) = ap (λ b. b || list_any (λ lock. bytes_eq lock.path p) locks) (eq_turned lock.path p) ∙ ap (λ b. bytes_eq p lock.path || b) (turned p locks)
 
-pub same_locks : (g : Given) (s : Settings) → AreGiven g s → (f : List ℕ → Bool) → list_any f (keys s.locks) ≡ list_any (λ lock. f lock.path) g.locks
-same_locks g s h f =
-    same_test f (keys s.locks) (map (λ lock. lock.path) g.locks) (λ p. sym (key_in s.locks p) ∙ (h.locks p ∙ turned p g.locks)) ∙ any_path f g.locks
-
 -- ---- they are paths
 
 abbrev ArePaths : List LockLine → Type 0

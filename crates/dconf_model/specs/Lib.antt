@@ -39,5 +39,3 @@ pub mod Stores
 pub mod Sessions
 pub mod Walks
 pub mod Reopened
-pub mod Programs
-pub mod Survivals

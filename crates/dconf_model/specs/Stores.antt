@@ -1,24 +1,26 @@
--- What a store gives for each path, in one statement: compiled databases, opened by a profile, then changed, are read as
--- keyfiles, changes, locks and the order of the profile say. dconf(7). It speaks of rows and words alone; maps, layers and
--- files are what it is about.
-use Rattle.std.specs.Prelude.{◌≡◌, ◌≤◌, ◌⊎◌, length, ◌↔◌, ℕ, ◌+◌, ◌-◌, Bool, true, List, [], ◌∷◌, ◌++◌, drop, map, fold, Option, Some, None, Ok, if◌then◌else◌, ◌==◌, IsTrue, is_some, Contains, option_and_then}
+-- What a store gives for each path, in one statement: databases that are opened by a profile, then changed, saved and opened
+-- again, are read as keyfiles, changes, locks and the order of the profile say. dconf(7). A database may be missing, compiled
+-- here, or any sound file. It speaks of rows and words alone; maps, layers and files are what it is about.
+use Rattle.std.specs.Prelude.{◌≡◌, ◌≤◌, length, ◌⊎◌, ◌↔◌, ℕ, ◌+◌, ◌-◌, Bool, true, List, [], ◌∷◌, ◌++◌, drop, fold, Option, Some, None, Ok, if◌then◌else◌, ◌==◌, IsTrue, is_some, Contains, option_and_then}
 use Rattle.std.specs.List.{list_any, AllByRecursion}
 use Rattle.std.specs.Option.{option_or}
 use Rattle.std.specs.Str.{bytes_eq, is_utf8}
-use Rattle.std.specs.FinMap.{get}
+use Rattle.std.specs.FinMap.{get, contains_key}
 use Rattle.gv_model.specs.TypeText.{IsWithinLimits}
 use Rattle.gv_model.specs.Typed.{IsValue}
 use Rattle.gv_model.specs.Tree.{Tree, type_of}
-use Rattle.dconf_model.specs.Paths.{is_key_path, is_directory_path}
+use Rattle.dconf_model.specs.Bytes.{MaybeBytes}
 use Rattle.dconf_model.specs.SoundLaws.{first_part}
+use Rattle.dconf_model.specs.Opening.{IsDatabase, root_of}
+use Rattle.dconf_model.specs.Sound.{IsSound}
 use Rattle.dconf_model.specs.Settings.{Settings}
-use Rattle.dconf_model.specs.Locks.{covers, is_below}
 use Rattle.dconf_model.specs.Lines.{longest_text}
+use Rattle.dconf_model.specs.Locks.{covers, is_below}
 use Rattle.dconf_model.specs.Values.{held_value, value_of_text}
 use Rattle.dconf_model.specs.Sources.{Source, Given, given, last_value}
-use Rattle.dconf_model.specs.Databases.{IsCompiled, IsLayer, AreLayers}
-use Rattle.dconf_model.specs.Layers.{Layers, visible, child_names, later_or}
-use Rattle.dconf_model.specs.Changes.{Change, apply, run}
+use Rattle.dconf_model.specs.Databases.{IsCompiled, IsDatabaseOf, IsLayer, AreLayers}
+use Rattle.dconf_model.specs.Layers.{Layers, visible, child_names, locks_below, later_or}
+use Rattle.dconf_model.specs.Changes.{Change, apply, saved}
 use Rattle.dconf_model.specs.Changes.Change.{set_value, reset_value, reset_below_directory, load_values}
 
 -- ---- what the sources say of a path
@@ -58,24 +60,53 @@ heard before silent = before
 heard before unset = None
 heard before (sets v) = Some v
 
--- the user's value after changes: the last that was said of the path, or what it was
-abbrev pub user_value : List ℕ → Option Tree → List Change → Option Tree
-user_value path start changes = fold (λ before change. heard before (saying_of path change)) start changes
+-- what the first database says of each path; its locks never count
+abbrev pub OwnValues : Type 0
+OwnValues = List ℕ → Option Tree
 
--- the value of a path: where it is not locked, the user's or else the first that is given; where it is, the first that is
--- given from its lock's database on
+-- The same after a change: where no lock of a later database covers the path, as the change says, and else as before
+abbrev pub own_changed : List Given → OwnValues → Change → OwnValues
+own_changed databases own change path =
+    if level_given 1 databases path == 0 then heard (own path) (saying_of path change) else own path
+
+abbrev pub own_after : List Given → OwnValues → List Change → OwnValues
+own_after databases own changes = fold (own_changed databases) own changes
+
+-- The value of a path, by the first database's own and what the others give: where it is not locked, its own or else the
+-- first that is given; where it is, the first that is given from its lock's database on
 abbrev pub value_from : ℕ → List ℕ → Option Tree → List Given → Option Tree
-value_from level path user databases =
-    if level == 0 then option_or user (first_given databases path) else first_given (drop (level - 1) databases) path
+value_from level path own databases =
+    if level == 0 then option_or own (first_given databases path) else first_given (drop (level - 1) databases) path
 
 abbrev pub value_given : List ℕ → Option Tree → List Given → Option Tree
-value_given path user databases = value_from (level_given 1 databases path) path user databases
+value_given path own databases = value_from (level_given 1 databases path) path own databases
+
+-- the number of the database that gives it, the first one's being 0
+abbrev pub first_number : ℕ → List Given → List ℕ → Option ℕ
+first_number from [] path = None
+first_number from (g ∷ more) path = if is_some (last_value g.values path) then Some from else first_number (from + 1) more path
+
+abbrev pub number_from : ℕ → List ℕ → Option Tree → List Given → Option ℕ
+number_from level path own databases =
+    if level == 0 then (if is_some own then Some 0 else first_number 1 databases path)
+    else first_number level (drop (level - 1) databases) path
+
+abbrev pub number_given : List ℕ → Option Tree → List Given → Option ℕ
+number_given path own databases = number_from (level_given 1 databases path) path own databases
 
 -- some keyfile's row has the path
 abbrev pub is_given : List Given → List ℕ → Bool
 is_given databases path = list_any (λ g. is_some (last_value g.values path)) databases
 
--- ---- the store
+-- a lock file's line is the path
+abbrev pub is_lock_given : List Given → List ℕ → Bool
+is_lock_given databases path = list_any (λ g. list_any (λ lock. bytes_eq lock.path path) g.locks) databases
+
+-- a path that a database has, the first or another: a listing names it, locked or not
+abbrev pub IsNamed : OwnValues → List Given → List ℕ → Type 0
+IsNamed own databases path = IsTrue (is_given databases path) ⊎ IsTrue (is_some (own path))
+
+-- ---- whole values
 
 -- a value of its type, with a type text within the limits: each owned tree is
 abbrev pub IsLimitedValue : Tree → Type 0
@@ -85,68 +116,105 @@ IsLimitedValue v = IsValue v × IsWithinLimits (type_of v)
 abbrev pub TextsAreWhole : Type 0
 TextsAreWhole = (s : List ℕ) (v : Tree) → is_utf8 s ≡ true → length s ≤ longest_text → value_of_text s ≡ Ok v → IsLimitedValue v
 
--- keyfiles and lock files, what they give, and a file that was compiled of them
-pub record Compilation : Type 0 where
-  pub files : List Source
-  pub locks : List Source
-  pub gives : Given
-  pub file : List ℕ
-
-pub record IsCompilation (c : Compilation) : Type 0 where
-  pub given_is : given c.files c.locks ≡ Ok c.gives
-  pub whole : AllByRecursion (λ row. IsLimitedValue row.value) c.gives.values
-  pub compiled : IsCompiled c.files c.locks (Ok c.file)
-
--- each is accepted
-abbrev pub AreAccepted : Layers → List Change → Type 0
-AreAccepted l [] = Unit {0}
-AreAccepted l (change ∷ more) = (new : Layers) × (apply l change ≡ Ok new) × AreAccepted new more
-
 abbrev pub IsWholeChange : Change → Type 0
 IsWholeChange (set_value path v) = IsLimitedValue v
 IsWholeChange (reset_value path) = Unit {0}
 IsWholeChange (reset_below_directory directory) = Unit {0}
 IsWholeChange (load_values rows force) = AllByRecursion (λ row. IsLimitedValue row.value) rows
 
--- a user's database or none, and after it the compiled ones, were opened, and then changed
-pub record IsStore (user : Option (List ℕ)) (databases : List Compilation) (changes : List Change) (l : Layers) : Type 0 where
-  pub opened : Layers
-  pub compiled : AllByRecursion IsCompilation databases
-  pub layers : AreLayers (user ∷ map (λ c. Some c.file) databases) opened.layers
-  pub writable : opened.written ≡ true
-  pub whole : AllByRecursion IsWholeChange changes
-  pub accepted : AreAccepted opened changes
-  pub changed : l ≡ run opened changes
+-- ---- what a database gives
 
--- the user's value in a file
-abbrev pub IsUserStart : Option (List ℕ) → List ℕ → Option Tree → Type 0
-IsUserStart user path v = (s : Settings) × IsLayer user s × (v ≡ option_and_then held_value (get s.values path))
+-- at each path the value of its last row, and the locks
+pub record GivesRows (s : Settings) (g : Given) : Type 0 where
+  pub values : (path : List ℕ) → option_and_then held_value (get s.values path) ≡ last_value g.values path
+  pub locks : (path : List ℕ) → contains_key s.locks path ≡ list_any (λ lock. bytes_eq lock.path path) g.locks
 
--- ---- each value, each listing
+abbrev pub AllGive : List Settings → List Given → Type 0
+AllGive [] [] = Unit {0}
+AllGive (s ∷ ss) (g ∷ gs) = GivesRows s g × AllGive ss gs
+AllGive _ _ = ⊥
 
-abbrev pub givens : List Compilation → List Given
-givens databases = map (λ c. c.gives) databases
+-- the bytes of a database, or none
+abbrev pub FileGives : MaybeBytes → Given → Type 0
+FileGives item g = (s : Settings) × IsLayer item s × GivesRows s g
 
+abbrev pub FilesGive : List MaybeBytes → List Given → Type 0
+FilesGive [] [] = Unit {0}
+FilesGive (item ∷ items) (g ∷ gs) = FileGives item g × FilesGive items gs
+FilesGive _ _ = ⊥
+
+abbrev pub nothing_given : Given
+nothing_given = record { values = []; locks = [] }
+
+-- laws: a missing database gives nothing, a compiled one what its keyfiles and lock files give, and any sound file something
+abbrev pub MissingGivesNothing : Type 0
+MissingGivesNothing = FileGives None nothing_given
+
+abbrev pub CompiledGives : Type 0
+CompiledGives =
+    (files locks : List Source) (g : Given) (file : List ℕ) → given files locks ≡ Ok g → IsCompiled files locks (Ok file) →
+    FileGives (Some file) g
+
+abbrev pub SoundGives : Type 0
+SoundGives = (file : List ℕ) → IsDatabase file → IsSound (root_of file) → (g : Given) × FileGives (Some file) g
+
+-- ---- the store as it stands
+
+-- The first layer has its own values, and the others are those of their files, which give so.
+pub record Stands (others : List MaybeBytes) (own : OwnValues) (gs : List Given) (l : Layers) : Type 0 where
+  pub first : Settings
+  pub later : List Settings
+  pub layers : l.layers ≡ first ∷ later
+  pub others_are : AreLayers others later
+  pub gives : AllGive later gs
+  pub own_is : (path : List ℕ) → option_and_then held_value (get first.values path) ≡ own path
+
+-- ---- what is done to a store
+
+pub data Deed : Type 0 where
+  changed : Change → Deed
+  -- saved as this file, which is opened in its place
+  reopened : List ℕ → Deed
+
+-- the change is accepted
+abbrev pub Does : List MaybeBytes → Layers → Deed → Layers → Type 0
+Does others l (changed change) m = IsWholeChange change × (apply l change ≡ Ok m)
+Does others l (reopened file) m = IsDatabaseOf (saved l.layers) file × AreLayers (Some file ∷ others) m.layers × (m.written ≡ l.written)
+
+abbrev pub Did : List MaybeBytes → Layers → List Deed → Layers → Type 0
+Did others l [] m = m ≡ l
+Did others l (deed ∷ more) m = (mid : Layers) × Does others l deed mid × Did others mid more m
+
+abbrev pub changes_of : List Deed → List Change
+changes_of [] = []
+changes_of (changed change ∷ more) = change ∷ changes_of more
+changes_of (reopened file ∷ more) = changes_of more
+
+-- databases, the first of which may be the user's
+pub record IsOpenedStore (first : MaybeBytes) (others : List MaybeBytes) (g : Given) (gs : List Given) (l : Layers) : Type 0 where
+  pub layers : AreLayers (first ∷ others) l.layers
+  pub gives : FilesGive (first ∷ others) (g ∷ gs)
+
+-- laws: after any deeds, each path has the value that rows, changes, locks and the order of the databases give it, and each
+-- listing names exactly the children that they give
 abbrev pub EachValueIsGiven : Type 0
 EachValueIsGiven =
-    (user : Option (List ℕ)) (databases : List Compilation) (changes : List Change) (l : Layers) (path : List ℕ) (start : Option Tree) →
-    IsStore user databases changes l → IsTrue (is_key_path path) → IsUserStart user path start →
-    visible l path ≡ value_given path (user_value path start changes) (givens databases)
+    (first : MaybeBytes) (others : List MaybeBytes) (g : Given) (gs : List Given) (opened l : Layers) (deeds : List Deed) (path : List ℕ) →
+    IsOpenedStore first others g gs opened → Did others opened deeds l →
+    visible l path ≡ value_given path (own_after gs (last_value g.values) (changes_of deeds) path) gs
 
--- what is kept of the user's at a path: a lock keeps it as it was
-abbrev pub user_keeps : List ℕ → Option Tree → List Change → List Given → Option Tree
-user_keeps path start changes databases = if level_given 1 databases path == 0 then user_value path start changes else start
-
--- a path that some keyfile gives, or that the user has, locked or not
-abbrev pub IsInStore : Option (List ℕ) → List Compilation → List Change → List ℕ → Type 0
-IsInStore user databases changes path =
-    IsTrue (is_given (givens databases) path)
-    ⊎ ((start : Option Tree) × IsUserStart user path start × IsTrue (is_some (user_keeps path start changes (givens databases))))
-
--- a listing names the first parts of the paths that any database has, and no others
 abbrev pub EachListingIsExact : Type 0
 EachListingIsExact =
-    (user : Option (List ℕ)) (databases : List Compilation) (changes : List Change) (l : Layers) (directory part : List ℕ) →
-    IsStore user databases changes l → IsTrue (is_directory_path directory) →
+    (first : MaybeBytes) (others : List MaybeBytes) (g : Given) (gs : List Given) (opened l : Layers) (deeds : List Deed) (directory part : List ℕ) →
+    IsOpenedStore first others g gs opened → Did others opened deeds l →
     Contains (child_names l directory) part
-    ↔ ((rest : List ℕ) × IsInStore user databases changes (directory ++ rest) × (part ≡ first_part rest))
+    ↔ ((rest : List ℕ) × IsNamed (own_after gs (last_value g.values) (changes_of deeds)) gs (directory ++ rest) × (part ≡ first_part rest))
+
+-- law: a store without databases has nothing, and is not changed
+pub record HasNothing (l : Layers) : Type 0 where
+  pub values : (path : List ℕ) → visible l path ≡ None
+  pub children : (directory : List ℕ) → child_names l directory ≡ []
+  pub locks : (directory : List ℕ) → locks_below l directory ≡ []
+
+abbrev pub EmptyHasNothing : Type 0
+EmptyHasNothing = (l : Layers) → AreLayers [] l.layers → HasNothing l

@@ -20,10 +20,8 @@ ghost use Rattle.std.specs.Prelude.{ℕ, List};
 ghost use Rattle.dconf_model.specs.Order.{OrderIsStable, ListingIsOnceEach};
 ghost use Rattle.dconf_model.specs.Keyfiles.{DumpReadsBack, DumpHasEachSetting, DumpIsInOrder};
 ghost use Rattle.dconf_model.specs.Databases.{SaysWhatIsInIt, SaysSettings, SaysOneThing, WrittenSaysSettings};
-ghost use Rattle.dconf_model.specs.Survivals.{RunIsStep, StoppedIsStep, KeptAreSaid};
-ghost use Rattle.dconf_model.specs.Programs.{ReadPrints, ListPrints, ChangesAreKept, ProgramGives};
-ghost use Rattle.dconf_model.specs.Reopened.{ReopenedIsSame, MissingGivesNothing, CompiledGives, SoundGives, EachValueIsKept, EachListingIsKept};
-ghost use Rattle.dconf_model.specs.Stores.{TextsAreWhole, EachValueIsGiven, EachListingIsExact};
+ghost use Rattle.dconf_model.specs.Reopened.{ReopenedIsSame};
+ghost use Rattle.dconf_model.specs.Stores.{TextsAreWhole, MissingGivesNothing, CompiledGives, SoundGives, EachValueIsGiven, EachListingIsExact, EmptyHasNothing};
 ghost use Rattle.dconf_model.specs.Walks.{LayersHaveKeyPaths, WalkFindsEachKey, WalkEnds, WalkHasEachSetting};
 
 /// A search in any table finds rows alone, and one thing only.
@@ -153,35 +151,19 @@ pub fn a_listing_is_in_order()
 pub fn a_store_gives_what_was_written()
     ensures values { EachValueIsGiven }
     ensures listings { EachListingIsExact }
+    ensures none { EmptyHasNothing }
+{}
+
+/// A missing database gives nothing, one that was compiled what its keyfiles and lock files give, and any sound one something.
+pub fn a_database_gives_rows()
+    ensures missing { MissingGivesNothing }
+    ensures compiled { CompiledGives }
+    ensures sound { SoundGives }
 {}
 
 /// A store whose first database was saved and opened again, with the others as they were, is seen as before.
 pub fn a_saved_store_is_seen_again()
-    ensures same { ReopenedIsSame }
-{}
-
-/// What stands in a store is seen, whatever kind its databases are of.
-pub fn a_kept_store_gives_what_was_written()
-    ensures missing { MissingGivesNothing }
-    ensures compiled { CompiledGives }
-    ensures sound { SoundGives }
-    ensures values { EachValueIsKept }
-    ensures listings { EachListingIsKept }
-{}
-
-/// Runs over one folder print what its keyfiles, its locks and the changes give.
-pub fn a_program_gives_what_was_written()
-    ensures reads { ReadPrints }
-    ensures lists { ListPrints }
-    ensures changes { ChangesAreKept }
-    ensures whole { ProgramGives }
-{}
-
-/// A run of a command that changes the user's database is a step of its history.
-pub fn a_run_is_a_step()
-    ensures step { RunIsStep }
-    ensures stopped { StoppedIsStep }
-    ensures kept { KeptAreSaid }
+    ensures { ReopenedIsSame }
 {}
 
 /// A list put in order by its names has the same things, rising, and those of one name in the order that they had.

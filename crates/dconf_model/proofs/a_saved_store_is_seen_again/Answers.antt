@@ -2,4 +2,4 @@ use Rattle.dconf_model.proofs.ReopenLaws.{reopened_is_same}
 use Rattle.dconf_model.proofs.a_saved_store_is_seen_again.Goals as goal
 
 pub returns : goal.returns
-returns c = record { same = reopened_is_same }
+returns c = reopened_is_same
