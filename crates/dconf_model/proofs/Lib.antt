@@ -84,3 +84,5 @@ pub mod TypeWeights
 pub mod WholeTexts
 pub mod WholeRows
 pub mod EmptyStores
+pub mod WorkedStores
+pub mod WorkedStore
