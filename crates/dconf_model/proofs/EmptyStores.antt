@@ -6,7 +6,7 @@ use Rattle.dconf_model.specs.Databases.{AreLayers}
 use Rattle.dconf_model.specs.Layers.{Layers, visible, child_names, locks_below}
 use Rattle.dconf_model.specs.Stores.{HasNothing, EmptyHasNothing}
 
-no_layers : (ls : List Settings) → AreLayers [] ls → ls ≡ []
+pub no_layers : (ls : List Settings) → AreLayers [] ls → ls ≡ []
 no_layers [] h = refl
 no_layers (s ∷ ss) h = absurd h
 

@@ -3,8 +3,8 @@ use Rattle.std.specs.Prelude.{◌≡◌, ◌⊎◌, ℕ, List, [], ◌∷◌, le
 use Rattle.std.proofs.Common.{inl, inr, subst}
 use Rattle.dconf_model.specs.Bytes.{MaybeBytes}
 use Rattle.dconf_model.specs.Folders.{Event, MayLeave, read_content}
-use Rattle.dconf_model.specs.Histories.{Ending, MayRun, Step, History, Kept, NothingIsLost}
-use Rattle.dconf_model.specs.Histories.Ending.{done, refused, faulted, stopped}
+use Rattle.dconf_model.proofs.Histories.{Ending, MayRun, Step, History, Kept, IsNeverLost}
+use Rattle.dconf_model.proofs.Histories.Ending.{done, refused, faulted, stopped}
 use Rattle.dconf_model.proofs.FolderLaws.{seen_may, counts_now, longer}
 
 module _ {Command : Type 0} (may : MaybeBytes → Command → MaybeBytes → Type 0) (name : List ℕ) where
@@ -40,8 +40,8 @@ module _ {Command : Type 0} (may : MaybeBytes → Command → MaybeBytes → Typ
   from_all old new [] c history m = (c, subst (λ es. MayLeave es name c) history m, ([], refl, refl))
   from_all old new (step ∷ more) c history m = one_more step.1 old history.0 step.0 more c history.1 (from_all history.0 new more c history.2 m)
 
-pub nothing_is_lost : {Command : Type 0} (may : MaybeBytes → Command → MaybeBytes → Type 0) → NothingIsLost may
-nothing_is_lost may name old new steps c settled history m =
+pub never_lost : {Command : Type 0} (may : MaybeBytes → Command → MaybeBytes → Type 0) → IsNeverLost may
+never_lost may name old new steps c settled history m =
     let all = from_all may name old new steps c history m in
     let same : all.0 ≡ read_content old name = settled all.0 all.1 in
     (all.2.0, all.2.1, subst (λ first. MayRun may first all.2.0 c) same all.2.2)

@@ -86,3 +86,12 @@ pub mod WholeRows
 pub mod EmptyStores
 pub mod WorkedStores
 pub mod WorkedStore
+pub mod StandingPrints
+pub mod ProgramLaws
+pub mod ReadingRuns
+pub mod RunChanges
+pub mod CompiledFolders
+pub mod Histories
+pub mod SurvivalLaws
+pub mod EmptyFolders
+pub mod WorkedFolder

@@ -34,7 +34,7 @@ pub or_cases : (a b : Bool) → (a || b) ≡ true → (a ≡ true) ⊎ (b ≡ tr
 or_cases true b e = inl refl
 or_cases false b e = inr e
 
-given_path : (ss : List Settings) (gs : List Given) (p : List ℕ) → AllGive ss gs → Contains (all_paths ss) p → is_given gs p ≡ true
+pub given_path : (ss : List Settings) (gs : List Given) (p : List ℕ) → AllGive ss gs → Contains (all_paths ss) p → is_given gs p ≡ true
 given_path [] [] p h k = absurd (none_of_none p k)
 given_path [] (g ∷ gs) p h k = absurd h
 given_path (s ∷ ss) [] p h k = absurd h
@@ -44,7 +44,7 @@ given_path (s ∷ ss) (g ∷ gs) p h k =
       | inr later ↦ or_right (is_some (last_value g.values p)) (is_given gs p) (given_path ss gs p h.1 later)
     ]
 
-path_given : (ss : List Settings) (gs : List Given) (p : List ℕ) → AllGive ss gs → is_given gs p ≡ true → Contains (all_paths ss) p
+pub path_given : (ss : List Settings) (gs : List Given) (p : List ℕ) → AllGive ss gs → is_given gs p ≡ true → Contains (all_paths ss) p
 path_given ss [] p h e = absurd (no_truth e)
 path_given [] (g ∷ gs) p h e = absurd h
 path_given (s ∷ ss) (g ∷ gs) p h e =
@@ -61,7 +61,7 @@ module _ (others : List MaybeBytes) (own : OwnValues) (gs : List Given) (l : Lay
         | inr later ↦ inl (given_path h.later gs p h.gives later)
       ]
 
-  listed : (p : List ℕ) → IsNamed own gs p → Contains (all_paths (h.first ∷ h.later)) p
+  pub listed : (p : List ℕ) → IsNamed own gs p → Contains (all_paths (h.first ∷ h.later)) p
   listed p (inl given) = Contains-append_right (keys h.first.values) (all_paths h.later) p (path_given h.later gs p h.gives given)
   listed p (inr there) = Contains-append_left (keys h.first.values) (all_paths h.later) p
       (key_of h.first.values p (sym (held_there (get h.first.values p)) ∙ (ap is_some (h.own_is p) ∙ there)))

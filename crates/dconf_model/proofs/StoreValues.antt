@@ -1,4 +1,5 @@
--- The value of a path in a store is the one that rows, changes, locks and the order of its databases give.
+-- The value of a path in a store is the one that rows, changes, locks and the order of its
+-- databases give.
 use Rattle.std.specs.Prelude.{◌≡◌, ◌-◌, ◌==◌, ℕ, zero, suc, Bool, true, false, nat_lt, List, [], ◌∷◌, ◌++◌, drop, Option, Some, None, Result, Ok, Err, cond, refl, fold, is_some, option_and_then}
 use Rattle.std.proofs.Common.{ap, sym, ◌∙◌, subst, ne_eqb, arith}
 use Rattle.std.specs.Option.{option_or}

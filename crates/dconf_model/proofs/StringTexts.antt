@@ -131,7 +131,8 @@ high_parts quote (b ∷ bs) (p ∷ ps) after ys l h parts e =
       fewer = omega (arith, rest.fewer);
     }
 
--- What a step stands for is a text, and so is what follows it; or it is the first byte of a character that goes on.
+-- What a step stands for is a text, and so is what follows it; or it is the first byte of a
+-- character that goes on.
 abbrev GoesOn : List ℕ → List ℕ → ℕ → Type 0
 GoesOn xs s n = (d : ℕ) × (s ≡ d ∷ []) × (128 ≤ d) × IsUtf8 (d ∷ drop n xs)
 

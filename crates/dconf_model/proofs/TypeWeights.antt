@@ -1,4 +1,5 @@
--- How long the text of the least type of a syntax is: no longer than four times what the syntax takes in a text.
+-- How long the text of the least type of a syntax is: no longer than four times what the syntax
+-- takes in a text.
 use Rattle.std.proofs.Common.{◌≡◌, ℕ, suc, ◌+◌, ◌*◌, ◌≤◌, Bool, true, false, cond, List, [], ◌∷◌, ◌++◌, length, nat_le, arith, length-append, leb-true, subst, refl, ap}
 use Rattle.gv_model.specs.Ty.{Ty, Types, Basic, spelling, spellings, nesting}
 use Rattle.gv_model.specs.Ty.Ty.{basic, variant, array, maybe, tuple, entry}

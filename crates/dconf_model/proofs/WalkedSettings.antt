@@ -15,7 +15,7 @@ use Rattle.dconf_model.proofs.RisingTexts.{listing_rises, kept_rise, one_rises, 
 
 -- ---- of the paths with a value alone
 
-both_tests : (a b : Bool) → cond a b false ≡ true → (a ≡ true) × (b ≡ true)
+pub both_tests : (a b : Bool) → cond a b false ≡ true → (a ≡ true) × (b ≡ true)
 both_tests true b e = (refl, e)
 both_tests false b e = absurd (no_truth e)
 

@@ -1,4 +1,5 @@
--- The values that keyfiles give are values of their types: each text of a row is UTF-8, and not too long.
+-- The values that keyfiles give are values of their types: each text of a row is UTF-8, and not
+-- too long.
 use Rattle.std.specs.Prelude.{◌≡◌, ◌⊎◌, ◌≤◌, ◌<◌, ℕ, zero, suc, ◌+◌, ◌-◌, Bool, true, false, cond, not, nat_lt, ◌==◌, ◌&&◌, ◌||◌, List, [], ◌∷◌, ◌++◌, length, take, drop, codes, Option, Some, None, Result, Ok, Err, refl}
 use Rattle.std.specs.List.{AllByRecursion, slice_split, onto_first, position_or_len, after_first, prefix_len, suffix_len}
 use Rattle.std.specs.Str.{IsUtf8, is_utf8}

@@ -29,13 +29,13 @@ pub mod Layers
 pub mod Changes
 pub mod Folders
 pub mod Replacing
-pub mod Histories
 pub mod Salvaging
 pub mod Commands
 pub mod Reads
 pub mod Outcomes
 pub mod Runs
 pub mod Stores
-pub mod Sessions
 pub mod Walks
 pub mod Reopened
+pub mod Programs
+pub mod Survivals

@@ -1,6 +1,7 @@
--- What a store gives for each path, in one statement: databases that are opened by a profile, then changed, saved and opened
--- again, are read as keyfiles, changes, locks and the order of the profile say. dconf(7). A database may be missing, compiled
--- here, or any sound file. It speaks of rows and words alone; maps, layers and files are what it is about.
+-- What a store gives for each path, in one statement: databases that are opened by a profile,
+-- then changed, saved and opened again, are read as keyfiles, changes, locks and the order of the
+-- profile say. dconf(7). A database may be missing, compiled here, or any sound file. It speaks
+-- of rows and words alone; maps, layers and files are what it is about.
 use Rattle.std.specs.Prelude.{◌≡◌, ◌≤◌, length, ◌⊎◌, ◌↔◌, ℕ, ◌+◌, ◌-◌, Bool, true, List, [], ◌∷◌, ◌++◌, drop, fold, Option, Some, None, Ok, if◌then◌else◌, ◌==◌, IsTrue, is_some, Contains, option_and_then}
 use Rattle.std.specs.List.{list_any, AllByRecursion}
 use Rattle.std.specs.Option.{option_or}
@@ -64,7 +65,8 @@ heard before (sets v) = Some v
 abbrev pub OwnValues : Type 0
 OwnValues = List ℕ → Option Tree
 
--- The same after a change: where no lock of a later database covers the path, as the change says, and else as before
+-- The same after a change: where no lock of a later database covers the path, as the change says,
+-- and else as before
 abbrev pub own_changed : List Given → OwnValues → Change → OwnValues
 own_changed databases own change path =
     if level_given 1 databases path == 0 then heard (own path) (saying_of path change) else own path
@@ -72,8 +74,9 @@ own_changed databases own change path =
 abbrev pub own_after : List Given → OwnValues → List Change → OwnValues
 own_after databases own changes = fold (own_changed databases) own changes
 
--- The value of a path, by the first database's own and what the others give: where it is not locked, its own or else the
--- first that is given; where it is, the first that is given from its lock's database on
+-- The value of a path, by the first database's own and what the others give: where it is not
+-- locked, its own or else the first that is given; where it is, the first that is given from its
+-- lock's database on
 abbrev pub value_from : ℕ → List ℕ → Option Tree → List Given → Option Tree
 value_from level path own databases =
     if level == 0 then option_or own (first_given databases path) else first_given (drop (level - 1) databases) path
@@ -146,7 +149,8 @@ FilesGive _ _ = ⊥
 abbrev pub nothing_given : Given
 nothing_given = record { values = []; locks = [] }
 
--- laws: a missing database gives nothing, a compiled one what its keyfiles and lock files give, and any sound file something
+-- laws: a missing database gives nothing, a compiled one what its keyfiles and lock files give,
+-- and any sound file something
 abbrev pub MissingGivesNothing : Type 0
 MissingGivesNothing = FileGives None nothing_given
 
@@ -195,8 +199,8 @@ pub record IsOpenedStore (first : MaybeBytes) (others : List MaybeBytes) (g : Gi
   pub layers : AreLayers (first ∷ others) l.layers
   pub gives : FilesGive (first ∷ others) (g ∷ gs)
 
--- laws: after any deeds, each path has the value that rows, changes, locks and the order of the databases give it, and each
--- listing names exactly the children that they give
+-- laws: after any deeds, each path has the value that rows, changes, locks and the order of the
+-- databases give it, and each listing names exactly the children that they give
 abbrev pub EachValueIsGiven : Type 0
 EachValueIsGiven =
     (first : MaybeBytes) (others : List MaybeBytes) (g : Given) (gs : List Given) (opened l : Layers) (deeds : List Deed) (path : List ℕ) →

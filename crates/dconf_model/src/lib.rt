@@ -1,9 +1,11 @@
 //! What a settings store means: definitions in specs/, and their laws as functions with empty bodies, whose contracts are
 //! the laws. There is no program code here: nothing is computed when the functions are called, and nothing fails.
 //!
-//! The definitions go from the bytes of a database (Bytes to Plans) to the texts of settings (Causes to Sources), then to
-//! databases as layers and their changes (Databases to Changes), to folders, crashes and what is left after them (Folders to
-//! Histories), and to the program: its commands, what each makes of what it reads, and how it ends (Commands to Sessions).
+//! The definitions go from the bytes of a database (Bytes to Plans) to the texts of settings
+//! (Causes to Sources), then to databases as layers and their changes (Databases to Changes), to
+//! folders and crashes (Folders and Replacing), and to the program: its commands, what each makes
+//! of what it reads, and how it ends (Commands to Runs). What is given by all of that together is
+//! said last: by a store (Stores, Reopened), and by runs one after another (Programs, Survivals).
 #![tactic(auto)]
 
 ghost use Rattle.dconf_model.specs.Paths.{KeysAreFaultless, DirectoriesAreFaultless};
@@ -15,11 +17,12 @@ ghost use Rattle.dconf_model.specs.Laws.{FindsRowsAlone, FindsOneThing, HasOneIt
 ghost use Rattle.dconf_model.specs.Values.{TextHasItsValue, HasOneMeaning, StoredIsHeld};
 ghost use Rattle.dconf_model.specs.Changes.{RunsInParts};
 ghost use Rattle.dconf_model.specs.Runs.{CalmRuns, RunsAreCrashSafe};
-ghost use Rattle.dconf_model.specs.Sessions.{UserFileSurvives};
+ghost use Rattle.dconf_model.specs.Survivals.{NothingIsLost, NextRunFindsAll};
 ghost use Rattle.std.specs.Prelude.{ℕ, List};
 ghost use Rattle.dconf_model.specs.Order.{OrderIsStable, ListingIsOnceEach};
 ghost use Rattle.dconf_model.specs.Keyfiles.{DumpReadsBack, DumpHasEachSetting, DumpIsInOrder};
 ghost use Rattle.dconf_model.specs.Databases.{SaysWhatIsInIt, SaysSettings, SaysOneThing, WrittenSaysSettings};
+ghost use Rattle.dconf_model.specs.Programs.{GivenStands, NoFileGivesNothing, CompileGives, CompileSteps, QuestionsAreAnswered, EmptyPrintsNothing, ChangesAreKept, ProgramGives};
 ghost use Rattle.dconf_model.specs.Reopened.{ReopenedIsSame};
 ghost use Rattle.dconf_model.specs.Stores.{TextsAreWhole, MissingGivesNothing, CompiledGives, SoundGives, EachValueIsGiven, EachListingIsExact, EmptyHasNothing};
 ghost use Rattle.dconf_model.specs.Walks.{LayersHaveKeyPaths, WalkFindsEachKey, WalkEnds, WalkHasEachSetting};
@@ -127,9 +130,12 @@ pub fn runs_are_whole()
     ensures crash { RunsAreCrashSafe }
 {}
 
-/// Nothing that was done is lost, whatever crashes come in between, and nothing is half done.
+/// Nothing that was done is lost, whatever crashes come in between, and nothing is half done: the
+/// user's file says what the commands make that answered 0, and some of those that were stopped
+/// or at fault, in order. A run after them finds it so.
 pub fn nothing_is_lost()
-    ensures { UserFileSurvives }
+    ensures left { NothingIsLost }
+    ensures found { NextRunFindsAll }
 {}
 
 /// A sound database says the settings that are computed from its items: values at the paths of keys, and locks at paths. A
@@ -154,16 +160,35 @@ pub fn a_store_gives_what_was_written()
     ensures none { EmptyHasNothing }
 {}
 
-/// A missing database gives nothing, one that was compiled what its keyfiles and lock files give, and any sound one something.
+/// A missing database gives nothing, one that was compiled what its keyfiles and lock files give,
+/// and any sound one something.
 pub fn a_database_gives_rows()
     ensures missing { MissingGivesNothing }
     ensures compiled { CompiledGives }
     ensures sound { SoundGives }
 {}
 
-/// A store whose first database was saved and opened again, with the others as they were, is seen as before.
+/// A store whose first database was saved and opened again, with the others as they were, is seen
+/// as before.
 pub fn a_saved_store_is_seen_again()
     ensures { ReopenedIsSame }
+{}
+
+/// A folder whose databases give rows stands, and a run of `compile` makes a database give what
+/// its keyfiles and lock files give, before other runs or between them.
+pub fn a_compiled_folder_stands()
+    ensures stands { GivenStands }
+    ensures missing { NoFileGivesNothing }
+    ensures compiles { CompileGives }
+    ensures steps { CompileSteps }
+{}
+
+/// A run that reads the store prints what its databases give.
+pub fn a_program_gives_what_was_written()
+    ensures answers { QuestionsAreAnswered }
+    ensures none { EmptyPrintsNothing }
+    ensures changes { ChangesAreKept }
+    ensures whole { ProgramGives }
 {}
 
 /// A list put in order by its names has the same things, rising, and those of one name in the order that they had.

@@ -1,6 +1,5 @@
-use Rattle.dconf_model.proofs.HistoryLaws.{nothing_is_lost}
-use Rattle.dconf_model.specs.Sessions.{MayLeaveUser}
+use Rattle.dconf_model.proofs.SurvivalLaws.{nothing_is_lost, next_run_finds_all}
 use Rattle.dconf_model.proofs.nothing_is_lost.Goals as goal
 
 pub returns : goal.returns
-returns c = λ content name. nothing_is_lost (MayLeaveUser content name)
+returns c = record { left = nothing_is_lost; found = next_run_finds_all }

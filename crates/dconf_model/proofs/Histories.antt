@@ -1,4 +1,5 @@
--- Histories: runs of commands that change one file, some of them stopped by a crash.
+-- Histories: commands that change one file, some of them stopped by a crash, whatever they make
+-- of it.
 use Rattle.std.specs.Prelude.{ℕ, ◌≡◌, ◌⊎◌, List, [], ◌∷◌, length}
 use Rattle.dconf_model.specs.Bytes.{MaybeBytes}
 use Rattle.dconf_model.specs.Folders.{Event, MayLeave, MayHaveLeft, IsSettled, Grows, read_content}
@@ -53,8 +54,8 @@ Kept [] all = all ≡ []
 Kept (step ∷ more) all = KeptBy step.1 step.0 (Kept more) all
 
 -- Whatever a crash may leave in the end is what the commands made that were done, and some that were not, in order.
-abbrev pub NothingIsLost : {Command : Type 0} → (MaybeBytes → Command → MaybeBytes → Type 0) → Type 0
-NothingIsLost {Command} may =
+abbrev pub IsNeverLost : {Command : Type 0} → (MaybeBytes → Command → MaybeBytes → Type 0) → Type 0
+IsNeverLost {Command} may =
     (name : List ℕ) (old new : List Event) (steps : List (Command × Ending)) (c : MaybeBytes) →
     IsSettled old name (read_content old name) → History may name old steps new → MayLeave new name c →
     (kept : List Command) × Kept steps kept × MayRun may (read_content old name) kept c
