@@ -12,7 +12,7 @@ use Rattle.dconf_model.specs.Locks.{is_below}
 use Rattle.dconf_model.specs.Values.{stored, held_value}
 use Rattle.dconf_model.specs.Sources.{Assigned, last_value}
 use Rattle.dconf_model.specs.Layers.{Layers, greatest_from, locks_path}
-use Rattle.dconf_model.specs.Changes.{Change, Refusal, Values, with_all, changed, apply, run, or_as_before, load_all, set_all, all_storable, first_locked, unless_locked, paths_of}
+use Rattle.dconf_model.specs.Changes.{Change, Refusal, Values, with_all, changed, apply, or_as_before, load_all, set_all, all_storable, first_locked, unless_locked, paths_of}
 use Rattle.dconf_model.specs.Changes.Change.{set_value, reset_value, reset_below_directory, load_values}
 use Rattle.dconf_model.specs.Stores.{sets_if, saying_of, heard, IsLimitedValue, IsWholeChange}
 use Rattle.dconf_model.specs.Stores.Saying.{silent, unset, sets}

@@ -1,29 +1,25 @@
 -- A folder whose files give rows stands, and a run of `compile` carries that on.
-use Rattle.std.specs.Prelude.{◌≡◌, ◌≢◌, ◌⊎◌, ◌+◌, ◌≤◌, ℕ, Bool, true, false, cond, nat_lt, length, codes, List, [], ◌∷◌, ◌++◌, Option, Some, None, Result, Ok, Err, refl, option_to_list, option_and_then}
+use Rattle.std.specs.Prelude.{◌≡◌, ◌≢◌, ◌⊎◌, ◌+◌, ℕ, Bool, true, false, cond, nat_lt, length, codes, List, [], ◌∷◌, Option, Some, None, Result, Ok, Err, refl, option_to_list}
 use Rattle.std.proofs.Common.{ap, sym, ◌∙◌, subst, inl, inr}
 use Rattle.std.specs.List.{AllByRecursion}
 use Rattle.std.specs.Str.{bytes_eq}
-use Rattle.std.specs.FinMap.{get}
 use Rattle.std.specs.Cmp.Lexicographic.{bytes_decides}
 use Rattle.std.proofs.lemmas.Bool.{true≢false}
 use Rattle.dconf_model.specs.Bytes.{MaybeBytes, longest_file}
 use Rattle.dconf_model.specs.Settings.{Settings}
-use Rattle.dconf_model.specs.Values.{held_value}
 use Rattle.dconf_model.specs.FaultTexts.{no_file_text, line_fault_text}
 use Rattle.dconf_model.specs.Folders.{Event, read_content}
 use Rattle.dconf_model.specs.Replacing.{new_name, Replaced}
-use Rattle.dconf_model.specs.Profiles.{Database, database_file, is_written, profile_of}
-use Rattle.dconf_model.specs.Reads.{FileRead, Content, Input, ReadResults, read_of, steady}
-use Rattle.dconf_model.specs.Reads.FileRead.{no_file, holds, over_size}
+use Rattle.dconf_model.specs.Profiles.{Database, database_file, is_written}
+use Rattle.dconf_model.specs.Reads.{Content, read_of, steady}
+use Rattle.dconf_model.specs.Reads.FileRead.{holds, over_size}
 use Rattle.dconf_model.specs.Sources.{Source, Given, FileFault, given, last_value, taken, first_file}
-use Rattle.dconf_model.specs.Databases.{IsLayer, AreLayers, IsCompiled, IsMadeOfGiven}
-use Rattle.dconf_model.specs.Layers.{Layers}
-use Rattle.dconf_model.specs.Outcomes.{Gives, Outcome, Output, WithFile, WithFiles, OrNoRead, Compiles, compile_output, refused, changing, file_name}
-use Rattle.dconf_model.specs.Runs.{RanCalmly, Did}
+use Rattle.dconf_model.specs.Databases.{AreLayers, IsCompiled, IsMadeOfGiven}
+use Rattle.dconf_model.specs.Outcomes.{Gives, Outcome, Output, WithFiles, OrNoRead, Compiles, compile_output, changing, file_name}
+use Rattle.dconf_model.specs.Runs.{Did}
 use Rattle.dconf_model.specs.Runs.RunEnding.{as_meant}
-use Rattle.dconf_model.specs.Stores.{OwnValues, GivesRows, AllGive, FileGives, Stands, nothing_given}
-use Rattle.dconf_model.specs.Programs.{found, AreRead, FolderStands, NameGives, NamesGive, GivenStands, NoFileGivesNothing, IsApart, AreSources, SourcesGive, Compiled, CompileGives, own_compiled, given_compiled, CompileSteps}
-use Rattle.dconf_model.proofs.SameBytes.{same_or_not}
+use Rattle.dconf_model.specs.Stores.{OwnValues, AllGive}
+use Rattle.dconf_model.specs.Programs.{AreRead, FolderStands, NameGives, NamesGive, GivenStands, NoFileGivesNothing, AreSources, Compiled, CompileGives, given_compiled, CompileSteps}
 use Rattle.dconf_model.proofs.DatabasesGiven.{missing_gives_nothing, compiled_gives}
 use Rattle.dconf_model.proofs.SoundGiven.{gives_some}
 use Rattle.dconf_model.proofs.ProgramLaws.{Refuses}

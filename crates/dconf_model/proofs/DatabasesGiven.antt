@@ -1,6 +1,6 @@
 -- What opened databases give: their levels, their first values and the numbers of their databases
 -- are those of rows and locks.
-use Rattle.std.specs.Prelude.{◌≡◌, ℕ, zero, suc, ◌+◌, ◌||◌, Bool, true, List, [], ◌∷◌, map, drop, Option, Some, None, Result, Ok, cond, refl, option_map, option_and_then, is_some}
+use Rattle.std.specs.Prelude.{◌≡◌, ℕ, zero, suc, ◌+◌, Bool, true, List, [], ◌∷◌, map, drop, Option, Some, None, Result, Ok, cond, refl, option_map, option_and_then, is_some}
 use Rattle.std.proofs.Common.{ap, sym, ◌∙◌, subst}
 use Rattle.std.specs.List.{list_any}
 use Rattle.std.specs.Option.{option_or}

@@ -1,6 +1,6 @@
 -- Where the profile names no database, nothing is printed.
-use Rattle.std.specs.Prelude.{◌≡◌, ◌⊎◌, ℕ, Bool, true, false, cond, List, [], ◌∷◌, Option, Some, None, Result, Ok, refl}
-use Rattle.std.proofs.Common.{ap, sym, ◌∙◌, subst, inl, inr}
+use Rattle.std.specs.Prelude.{◌≡◌, ℕ, true, false, List, [], Option, None, Result, Ok, refl}
+use Rattle.std.proofs.Common.{ap, ◌∙◌, subst, inl, inr}
 use Rattle.dconf_model.specs.Paths.{PathFault, key_fault, directory_fault}
 use Rattle.dconf_model.specs.Lines.{LineFault}
 use Rattle.dconf_model.specs.Folders.{Event, read_content}
@@ -9,11 +9,8 @@ use Rattle.dconf_model.specs.Commands.Command.{show, read, list, list_locks, wri
 use Rattle.dconf_model.specs.Profiles.{Database, profile_of, is_written}
 use Rattle.dconf_model.specs.Reads.{Input, read_of, steady}
 use Rattle.dconf_model.specs.Reads.FileRead.{holds}
-use Rattle.dconf_model.specs.Settings.{Settings}
-use Rattle.dconf_model.specs.Databases.{AreLayers}
 use Rattle.dconf_model.specs.Layers.{Layers, visible, without_user, child_names, locks_below, paths_below, origin as origin_of}
 use Rattle.dconf_model.specs.Outcomes.{Gives, Outcome, Output, IsOutcome, UnlessFault, WithStore, WithDatabases, WithLayers, OrNoRead, OrLine, done, done_output, shown_if_any, lines_text, dump_of, settings_at, origin_text}
-use Rattle.dconf_model.specs.Runs.{RanCalmly}
 use Rattle.dconf_model.specs.Programs.{IsQuestion, EmptyPrintsNothing}
 use Rattle.dconf_model.proofs.EmptyStores.{no_layers}
 

@@ -1,10 +1,10 @@
 -- A store without databases has nothing.
-use Rattle.std.specs.Prelude.{◌≡◌, List, [], ◌∷◌, None, refl}
+use Rattle.std.specs.Prelude.{◌≡◌, List, [], ◌∷◌, refl}
 use Rattle.std.proofs.Common.{ap}
 use Rattle.dconf_model.specs.Settings.{Settings}
 use Rattle.dconf_model.specs.Databases.{AreLayers}
 use Rattle.dconf_model.specs.Layers.{Layers, visible, child_names, locks_below}
-use Rattle.dconf_model.specs.Stores.{HasNothing, EmptyHasNothing}
+use Rattle.dconf_model.specs.Stores.{EmptyHasNothing}
 
 pub no_layers : (ls : List Settings) → AreLayers [] ls → ls ≡ []
 no_layers [] h = refl

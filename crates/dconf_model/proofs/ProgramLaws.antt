@@ -1,10 +1,6 @@
 -- What runs over one folder print.
-use Rattle.std.specs.Prelude.{◌≡◌, ◌⊎◌, ◌+◌, ℕ, zero, suc, Bool, true, false, cond, List, [], ◌∷◌, ◌++◌, drop, Option, Some, None, Result, Ok, Err, refl, filter, is_some, Contains, IsTrue, option_and_then}
+use Rattle.std.specs.Prelude.{◌≡◌, ◌⊎◌, ◌+◌, ℕ, zero, suc, true, false, cond, List, [], ◌∷◌, drop, Option, Some, None, Result, filter}
 use Rattle.std.proofs.Common.{ap, sym, ◌∙◌, subst, inl, inr}
-use Rattle.std.specs.FinMap.{empty, get, get-empty, keys}
-use Rattle.std.specs.Cmp.Lexicographic.{slice_cmp}
-use Rattle.std.specs.Ordering.{nat_cmp}
-use Rattle.gv_model.specs.Tree.{Tree}
 use Rattle.dconf_model.specs.Bytes.{MaybeBytes}
 use Rattle.dconf_model.specs.Paths.{PathFault, key_fault, directory_fault}
 use Rattle.dconf_model.specs.Lines.{LineFault}
@@ -14,21 +10,17 @@ use Rattle.dconf_model.specs.Opening.{root_of}
 use Rattle.dconf_model.specs.Commands.{Command}
 use Rattle.dconf_model.specs.Commands.Command.{show, read, list, list_locks, write, reset, reset_below, dump, load, origin, compile, check, repair}
 use Rattle.dconf_model.specs.Profiles.{Database, database_file, is_written, profile_of}
-use Rattle.dconf_model.specs.Reads.{FileRead, Content, Input, ReadResults, steady, read_of}
-use Rattle.dconf_model.specs.Reads.FileRead.{holds}
+use Rattle.dconf_model.specs.Reads.{Content, Input, ReadResults, steady}
 use Rattle.dconf_model.specs.Settings.{Settings}
 use Rattle.dconf_model.specs.Sources.{Given}
-use Rattle.dconf_model.specs.Values.{held_value}
 use Rattle.dconf_model.specs.Databases.{Verdict, IsLayer, AreLayers, IsBad, IsFirstBad}
 use Rattle.dconf_model.specs.Databases.Verdict.{no_database, sound, unsound}
-use Rattle.dconf_model.specs.Layers.{Layers, visible, without_user, emptied, child_names, locks_below, all_locks, paths_below, parts_below, all_paths, has_value, visible_bytes, origin as origin_of}
-use Rattle.dconf_model.specs.Keyfiles.{Setting}
-use Rattle.dconf_model.specs.Order.{listing}
-use Rattle.dconf_model.specs.Outcomes.{Gives, Outcome, Output, WithStore, WithDatabases, WithLayers, OrNoDatabase, OrNoRead, OrLine, UnlessFault, IsOutcome, shown_if_any, done, done_output, lines_text, refused, dump_of, settings_at, with_value_if_any, origin_text}
+use Rattle.dconf_model.specs.Layers.{Layers, visible, without_user, child_names, locks_below, all_locks, paths_below, parts_below, all_paths, has_value, origin as origin_of}
+use Rattle.dconf_model.specs.Outcomes.{Gives, Outcome, Output, WithStore, WithDatabases, WithLayers, OrNoDatabase, OrNoRead, OrLine, UnlessFault, IsOutcome, shown_if_any, done, done_output, lines_text, refused, dump_of, settings_at, origin_text}
 use Rattle.dconf_model.specs.FaultTexts.{device_text}
-use Rattle.dconf_model.specs.Runs.{RanCalmly, ReadsFrom}
-use Rattle.dconf_model.specs.Stores.{OwnValues, Stands, GivesRows, AllGive, IsNamed, is_given, is_lock_given, first_given, value_given, value_from, level_given, number_given}
-use Rattle.dconf_model.specs.Programs.{FolderStands, AreRead, found, Prints, IsQuestion, NamesPrinted, LocksPrinted, SettingsPrinted, settings_given, own_or_none, QuestionsAreAnswered}
+use Rattle.dconf_model.specs.Runs.{ReadsFrom}
+use Rattle.dconf_model.specs.Stores.{OwnValues}
+use Rattle.dconf_model.specs.Programs.{FolderStands, AreRead, found, Prints, IsQuestion, QuestionsAreAnswered}
 use Rattle.dconf_model.proofs.OpenLaws as opens
 use Rattle.dconf_model.proofs.SoundLaws.{sound_has_no_fault}
 use Rattle.dconf_model.proofs.ReopenLaws.{one_list}

@@ -1,6 +1,6 @@
 -- A command that only reads leaves its folder as it was.
-use Rattle.std.specs.Prelude.{◌≡◌, ◌⊎◌, ◌+◌, ◌++◌, ◌∷◌, ℕ, Bool, true, false, cond, codes, List, [], Option, Some, None, Result, Ok, Err, refl}
-use Rattle.std.proofs.Common.{ap, sym, ◌∙◌, subst, inl, inr}
+use Rattle.std.specs.Prelude.{◌≡◌, ◌+◌, ◌∷◌, ℕ, Bool, cond, List, [], Option, Some, None, Result, Ok, Err, refl}
+use Rattle.std.proofs.Common.{ap, ◌∙◌, subst, inl, inr}
 use Rattle.gv_model.specs.Ty.{Ty}
 use Rattle.gv_model.specs.TypeText.{type_of_text}
 use Rattle.gv_model.specs.Tree.{Tree}
@@ -8,8 +8,6 @@ use Rattle.gv_model.specs.Decode.{decode}
 use Rattle.dconf_model.specs.Bytes.{MaybeBytes}
 use Rattle.dconf_model.specs.Paths.{PathFault, key_fault, directory_fault}
 use Rattle.dconf_model.specs.Lines.{LineFault}
-use Rattle.dconf_model.specs.Opening.{OpenFault}
-use Rattle.dconf_model.specs.Sound.{Rule}
 use Rattle.dconf_model.specs.Keyfiles.{Setting, RowFault, dumped}
 use Rattle.dconf_model.specs.Databases.{Verdict}
 use Rattle.dconf_model.specs.Databases.Verdict.{no_database, sound, unsound}
@@ -20,7 +18,7 @@ use Rattle.dconf_model.specs.Commands.Command.{show, read, list, list_locks, wri
 use Rattle.dconf_model.specs.Profiles.{Database, database_file, is_written, profile_of}
 use Rattle.dconf_model.specs.Reads.{FileRead, ReadResults, Input, steady}
 use Rattle.dconf_model.specs.Reads.FileRead.{no_file, holds, over_size, failed}
-use Rattle.dconf_model.specs.Outcomes.{Gives, Outcome, Output, Replacement, IsOutcome, UnlessFault, WithType, WithFile, OrNoRead, OrNoDatabase, OrLine, WithDatabases, WithLayers, WithStore, Checks, check_output, shown_outcome, shown_if_any, printed_or, print_fault, done, lines_text, dump_of, dump_output, settings_at, origin_text}
+use Rattle.dconf_model.specs.Outcomes.{Gives, Outcome, Output, IsOutcome, UnlessFault, WithType, WithFile, OrNoRead, OrNoDatabase, OrLine, WithDatabases, WithLayers, WithStore, Checks, check_output, shown_outcome, shown_if_any, printed_or, print_fault, done, lines_text, dump_of, dump_output, settings_at, origin_text}
 use Rattle.dconf_model.specs.Runs.{RanCalmly, Did}
 use Rattle.dconf_model.specs.Runs.RunEnding.{as_meant}
 use Rattle.dconf_model.specs.Programs.{OnlyReads}

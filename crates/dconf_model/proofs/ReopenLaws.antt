@@ -1,5 +1,5 @@
 -- A store that was saved and opened again is seen as before.
-use Rattle.std.specs.Prelude.{◌≡◌, ℕ, zero, suc, false, true, List, [], ◌∷◌, drop, Option, Some, None, refl, is_some, option_map, option_and_then}
+use Rattle.std.specs.Prelude.{◌≡◌, ℕ, zero, suc, List, [], ◌∷◌, drop, Option, Some, refl, is_some, option_map, option_and_then}
 use Rattle.std.proofs.Common.{ap, sym, ◌∙◌, subst}
 use Rattle.std.specs.FinMap.{empty, get-empty}
 use Rattle.std.specs.Cmp.Lexicographic.{slice_cmp}

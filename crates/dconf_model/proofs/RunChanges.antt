@@ -1,6 +1,6 @@
 -- Runs that change the first database carry on what their folder gives, and those that only read
 -- leave it.
-use Rattle.std.specs.Prelude.{◌≡◌, ◌≤◌, ◌⊎◌, ℕ, zero, suc, Bool, true, false, nat_lt, codes, length, List, [], ◌∷◌, ◌++◌, Option, Some, None, Result, Ok, Err, cond, is_some, refl}
+use Rattle.std.specs.Prelude.{◌≡◌, ◌≤◌, ◌⊎◌, ℕ, zero, suc, Bool, true, false, nat_lt, codes, length, List, [], ◌∷◌, Option, Some, None, Result, Ok, Err, cond, is_some, refl}
 use Rattle.std.proofs.Common.{ap, sym, ◌∙◌, subst, inl, inr, arith}
 use Rattle.std.specs.List.{AllByRecursion}
 use Rattle.std.specs.Str.{is_utf8}
@@ -20,7 +20,7 @@ use Rattle.dconf_model.specs.Replacing.{Replaced}
 use Rattle.dconf_model.specs.Commands.{Command}
 use Rattle.dconf_model.specs.Commands.Command.{show, read, list, list_locks, write, reset, reset_below, dump, load, origin, compile, check, repair}
 use Rattle.dconf_model.specs.Profiles.{Database, database_file, user_file}
-use Rattle.dconf_model.specs.Reads.{FileRead, ReadResults, Input, read_of, steady}
+use Rattle.dconf_model.specs.Reads.{ReadResults, Input, read_of, steady}
 use Rattle.dconf_model.specs.Reads.FileRead.{holds, over_size}
 use Rattle.dconf_model.specs.Settings.{Settings}
 use Rattle.dconf_model.specs.Sources.{Given, Assigned, loaded}
@@ -29,11 +29,11 @@ use Rattle.dconf_model.specs.Databases.{IsLayer, AreLayers, IsDatabaseOf}
 use Rattle.dconf_model.specs.Layers.{Layers}
 use Rattle.dconf_model.specs.Changes.{Change, Refusal, apply, saved, paths_of}
 use Rattle.dconf_model.specs.Changes.Change.{set_value, reset_value, reset_below_directory, load_values}
-use Rattle.dconf_model.specs.Outcomes.{Gives, Outcome, Output, IsOutcome, Changes, Saves, UnlessFault, UnlessLost, OrCause, OrLine, refused, changing, refusal_text, value_of_word, is_lost}
+use Rattle.dconf_model.specs.Outcomes.{Gives, Outcome, Output, IsOutcome, Changes, Saves, UnlessFault, UnlessLost, OrCause, OrLine, changing, refusal_text, value_of_word, is_lost}
 use Rattle.dconf_model.specs.Runs.{RanCalmly, Did}
 use Rattle.dconf_model.specs.Runs.RunEnding.{as_meant}
 use Rattle.dconf_model.specs.Stores.{IsWholeChange, OwnValues, own_changed, own_after, Stands}
-use Rattle.dconf_model.specs.Programs.{FolderStands, AreRead, IsApart, AreApart, IsChangeOf, OnlyReads, AreOf, asked_change, value_change, rows_change, if_done, Run, RanInTurn, changes_made, ChangesAreKept, ProgramGives}
+use Rattle.dconf_model.specs.Programs.{FolderStands, AreRead, IsApart, AreApart, IsChangeOf, OnlyReads, asked_change, value_change, rows_change, if_done, changes_made, ChangesAreKept, ProgramGives}
 use Rattle.dconf_model.proofs.PathMaps.{no_truth}
 use Rattle.dconf_model.proofs.DatabaseLaws.{written_says_settings}
 use Rattle.dconf_model.proofs.WholeRows.{loaded_whole}

@@ -3,7 +3,7 @@ use Rattle.std.specs.Prelude.{◌≡◌, ℕ, ◌+◌, Bool, true, false, ◌||�
 use Rattle.std.proofs.Common.{ap, sym, ◌∙◌, subst}
 use Rattle.std.specs.List.{list_any, AllByRecursion, enumerate_from}
 use Rattle.std.specs.Str.{bytes_eq}
-use Rattle.std.specs.FinMap.{keys, contains_key}
+use Rattle.std.specs.FinMap.{contains_key}
 use Rattle.dconf_model.specs.Paths.{is_path, starts_with_slash}
 use Rattle.dconf_model.specs.Settings.{Settings}
 use Rattle.dconf_model.proofs.ParentLaws.{by_bool}
@@ -13,7 +13,7 @@ use Rattle.dconf_model.specs.Lines.LineReading.{nothing, found, wrong}
 use Rattle.dconf_model.specs.Locks.{LockLine, lock_line, locks_in}
 use Rattle.dconf_model.specs.Sources.{Source, File, FileFault, Given, given, and_locks, and_more, in_files, AreGiven, Assigned, compiled, taken}
 use Rattle.dconf_model.specs.Sources.File.{keyfile, lock_file}
-use Rattle.dconf_model.proofs.PathMaps.{eq_turned, key_in, same_test, no_truth}
+use Rattle.dconf_model.proofs.PathMaps.{eq_turned, no_truth}
 use Rattle.dconf_model.proofs.SameBytes.{same_path}
 
 pub any_path : (f : List ℕ → Bool) (locks : List LockLine) → list_any f (map (λ lock. lock.path) locks) ≡ list_any (λ lock. f lock.path) locks

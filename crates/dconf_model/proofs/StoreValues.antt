@@ -1,6 +1,6 @@
 -- The value of a path in a store is the one that rows, changes, locks and the order of its
 -- databases give.
-use Rattle.std.specs.Prelude.{◌≡◌, ◌-◌, ◌==◌, ℕ, zero, suc, Bool, true, false, nat_lt, List, [], ◌∷◌, ◌++◌, drop, Option, Some, None, Result, Ok, Err, cond, refl, fold, is_some, option_and_then}
+use Rattle.std.specs.Prelude.{◌≡◌, ◌-◌, ◌==◌, ℕ, zero, suc, Bool, true, false, nat_lt, List, [], ◌∷◌, ◌++◌, drop, Option, Some, Result, Ok, Err, cond, refl, is_some, option_and_then}
 use Rattle.std.proofs.Common.{ap, sym, ◌∙◌, subst, ne_eqb, arith}
 use Rattle.std.specs.Option.{option_or}
 use Rattle.std.specs.FinMap.{get}
@@ -13,7 +13,7 @@ use Rattle.dconf_model.specs.Databases.{AreLayers, IsDatabaseOf}
 use Rattle.dconf_model.specs.Layers.{Layers, visible, origin, first_from, greatest_from, locks_path}
 use Rattle.dconf_model.specs.Changes.{Change, Refusal, apply, change_written, saved}
 use Rattle.dconf_model.specs.Changes.Refusal.{not_writable}
-use Rattle.dconf_model.specs.Stores.{IsWholeChange, OwnValues, own_changed, own_after, first_given, first_number, level_given, value_given, value_from, number_given, number_from, heard, Saying, saying_of, AllGive, Stands, Deed, Does, Did, changes_of, IsOpenedStore, EachValueIsGiven}
+use Rattle.dconf_model.specs.Stores.{IsWholeChange, OwnValues, own_changed, own_after, first_given, first_number, level_given, value_given, value_from, number_given, number_from, heard, Saying, saying_of, AllGive, Stands, Deed, Did, changes_of, IsOpenedStore, EachValueIsGiven}
 use Rattle.dconf_model.specs.Stores.Deed.{changed, reopened}
 use Rattle.dconf_model.proofs.DatabasesGiven.{level_gives, first_gives, number_gives, dropped_give, value_from_layers, value_before, number_of, number_before, files_give}
 use Rattle.dconf_model.proofs.ChangeEffects.{store, with_values, value_at, step_of}

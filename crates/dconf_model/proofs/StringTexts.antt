@@ -1,15 +1,15 @@
 -- The strings in a text of UTF-8 are UTF-8, and its byte strings are bytes.
-use Rattle.std.specs.Prelude.{◌≡◌, ◌⊎◌, ◌<◌, ◌≤◌, ℕ, zero, suc, ◌+◌, ◌-◌, ◌/◌, ◌%◌, Bool, true, false, cond, nat_lt, ◌==◌, ◌&&◌, ◌||◌, List, [], ◌∷◌, ◌++◌, length, drop, Option, Some, None, refl, encode_utf8}
+use Rattle.std.specs.Prelude.{◌≡◌, ◌⊎◌, ◌<◌, ◌≤◌, ℕ, zero, suc, ◌+◌, ◌/◌, Bool, true, false, cond, nat_lt, ◌==◌, ◌&&◌, List, [], ◌∷◌, ◌++◌, length, drop, Option, Some, None, refl, encode_utf8}
 use Rattle.std.specs.List.{AllByRecursion}
 use Rattle.std.specs.Str.{IsUtf8}
 use lib.Utf8.{scalar, scalars, encode as encode_char, encodes, next}
-use Rattle.std.proofs.Common.{sym, ap, subst, ◌∙◌, inl, inr, arith, get_or, append-nil, append_assoc, ltb-true, ltb-false, ne_eqb, drop_at}
-use Rattle.std.proofs.lemmas.Bool.{and_parts, cases_lt, eqb-true, eqb-false, lt-ltb, le-ltb}
+use Rattle.std.proofs.Common.{sym, ap, subst, ◌∙◌, inl, inr, arith, get_or, append-nil, append_assoc, ltb-true, ne_eqb, drop_at}
+use Rattle.std.proofs.lemmas.Bool.{and_parts, cases_lt, eqb-true}
 use Rattle.std.proofs.lemmas.Str.{IsUtf8-append, IsUtf8-nil, IsUtf8-encode, IsUtf8-from_ascii}
-use Rattle.gv_model.specs.Characters.{is_digit_of, prefix_of, is_quote}
+use Rattle.gv_model.specs.Characters.{is_digit_of, prefix_of}
 use Rattle.gv_model.specs.Numerals.{number_after}
 use Rattle.gv_model.specs.TextFault.Cause.{bad_token, bad_escape}
-use Rattle.gv_model.specs.Strings.{StringStep, part, escape_in, escape, byte_escape, octal_escape, number_escape, letter_or_self, letter_meaning, at_most, is_scalar}
+use Rattle.gv_model.specs.Strings.{StringStep, part, escape_in, escape, octal_escape, number_escape, letter_or_self, letter_meaning, at_most, is_scalar}
 use Rattle.gv_model.specs.Strings.StringStep.{denotes, closes, faulty}
 use Rattle.gv_model.specs.TextLaws.{StringPart, meant, written, AreParts}
 use Rattle.gv_model.proofs.StringParts.{choose}

@@ -1,7 +1,7 @@
 -- What is left of the user's database by runs: each is a step of a history, and what a history
 -- keeps is what is said.
-use Rattle.std.specs.Prelude.{◌≡◌, ◌⊎◌, ℕ, zero, suc, List, [], ◌∷◌, ◌++◌, length, codes, Option, Some, None, Result, Ok, refl, nat_lt, Bool, cond, true, false, option_and_then}
-use Rattle.std.proofs.Common.{ap, sym, ◌∙◌, subst, inl, inr, arith}
+use Rattle.std.specs.Prelude.{◌≡◌, ◌⊎◌, ℕ, List, [], ◌∷◌, ◌++◌, length, Some, None, Ok, refl, nat_lt, Bool, cond, true, false, option_and_then}
+use Rattle.std.proofs.Common.{ap, sym, ◌∙◌, subst, inl, inr}
 use Rattle.std.specs.List.{AllByRecursion}
 use Rattle.std.specs.FinMap.{get}
 use Rattle.dconf_model.specs.Bytes.{MaybeBytes, longest_file}
@@ -9,10 +9,10 @@ use Rattle.dconf_model.specs.FaultTexts.{device_text}
 use Rattle.dconf_model.specs.Settings.{Settings, no_settings}
 use Rattle.dconf_model.specs.Values.{held_value}
 use Rattle.dconf_model.specs.Folders.{Event, MayLeave, MayHaveLeft, IsSettled, Grows, read_content}
-use Rattle.dconf_model.specs.Replacing.{MayReplace, ReadsWhole, Replaced, MaybeReplaced, new_name}
+use Rattle.dconf_model.specs.Replacing.{MayReplace, ReadsWhole, Replaced, MaybeReplaced}
 use Rattle.dconf_model.specs.Commands.{Command}
 use Rattle.dconf_model.specs.Profiles.{Database, database_file, user_file, is_written, profile_of}
-use Rattle.dconf_model.specs.Reads.{FileRead, Input, ReadResults, read_of}
+use Rattle.dconf_model.specs.Reads.{FileRead, Input, read_of}
 use Rattle.dconf_model.specs.Reads.FileRead.{no_file, holds, over_size}
 use Rattle.dconf_model.specs.Sources.{Given}
 use Rattle.dconf_model.specs.Databases.{IsLayer, AreLayers, IsDatabaseOf}
@@ -23,16 +23,16 @@ use Rattle.dconf_model.specs.Runs.{Ran, RunEnding, Did, AnswersIn, output_of}
 use Rattle.dconf_model.specs.Runs.RunEnding.{as_meant, device}
 use Rattle.dconf_model.specs.Stores.{IsWholeChange, OwnValues, own_changed, own_after, AllGive, Stands}
 use Rattle.dconf_model.specs.Programs.{FolderStands, AreRead, IsApart, AreApart, IsChangeOf, found, asked_change}
-use Rattle.dconf_model.specs.Survivals.{RunEnd, Attempt, CrashedSince, CameTo, CameInTurn, Asked, IsFirst, IsKeptBy, AreKept, asked_changes, AreSettled, FileHolds, NothingIsLost, NextRunFindsAll}
+use Rattle.dconf_model.specs.Survivals.{RunEnd, Attempt, CrashedSince, CameTo, CameInTurn, Asked, IsFirst, IsKeptBy, AreKept, asked_changes, AreSettled, NothingIsLost, NextRunFindsAll}
 use Rattle.dconf_model.specs.Survivals.RunEnd.{ended, stopped as crashed}
 use Rattle.dconf_model.proofs.Histories.{Ending, Step, History, Kept, KeptBy, MayRun, IsWholeAtAnyMoment}
 use Rattle.dconf_model.proofs.Histories.Ending.{done, refused, faulted, stopped}
 use Rattle.dconf_model.proofs.HistoryLaws.{never_lost}
 use Rattle.dconf_model.proofs.FolderLaws.{unchanged, counts_now, longer, seen_may}
 use Rattle.dconf_model.proofs.ReopenLaws.{one_list}
-use Rattle.dconf_model.proofs.StoreValues.{after_change, own_joined}
+use Rattle.dconf_model.proofs.StoreValues.{after_change}
 use Rattle.dconf_model.proofs.ProgramLaws.{Refuses, store_if_read}
-use Rattle.dconf_model.proofs.RunChanges.{Makes, comes_to, changing_of, asked_whole, reads_kept, read_back, saved_again, not_less}
+use Rattle.dconf_model.proofs.RunChanges.{Makes, comes_to, changing_of, asked_whole, reads_kept, read_back, saved_again}
 
 -- ---- files that can be read
 

@@ -1,18 +1,18 @@
 -- The values that keyfiles give are values of their types: each text of a row is UTF-8, and not
 -- too long.
-use Rattle.std.specs.Prelude.{◌≡◌, ◌⊎◌, ◌≤◌, ◌<◌, ℕ, zero, suc, ◌+◌, ◌-◌, Bool, true, false, cond, not, nat_lt, ◌==◌, ◌&&◌, ◌||◌, List, [], ◌∷◌, ◌++◌, length, take, drop, codes, Option, Some, None, Result, Ok, Err, refl}
+use Rattle.std.specs.Prelude.{◌≡◌, ◌⊎◌, ◌≤◌, ℕ, suc, ◌+◌, ◌-◌, Bool, true, false, cond, not, nat_lt, ◌==◌, List, [], ◌∷◌, ◌++◌, length, drop, codes, Option, Some, None, Result, Ok, Err, refl}
 use Rattle.std.specs.List.{AllByRecursion, slice_split, onto_first, position_or_len, after_first, prefix_len, suffix_len}
 use Rattle.std.specs.Str.{IsUtf8, is_utf8}
-use Rattle.std.proofs.Common.{sym, ap, subst, ◌∙◌, inl, inr, arith, append-nil, append_assoc}
-use Rattle.std.proofs.lemmas.Bool.{eqb-true, ltb-false, cases_Bool, or_cases}
+use Rattle.std.proofs.Common.{sym, ap, subst, inl, inr, arith, append-nil, append_assoc}
+use Rattle.std.proofs.lemmas.Bool.{eqb-true, ltb-false}
 use Rattle.std.proofs.lemmas.List.{length-append, length-drop, length-take}
 use Rattle.std.proofs.lemmas.Str.{IsUtf8-nil, IsUtf8-from_is_utf8}
 use Rattle.gv_model.specs.Tree.{Tree}
 use Rattle.dconf_model.specs.Causes.{SettingsCause}
 use Rattle.dconf_model.specs.Causes.SettingsCause.{bad_line as not_a_row, bad_key_name, not_utf8, path_fault, too_large}
-use Rattle.dconf_model.specs.Lines.{LineReading, LineFault, put_first, with_first_found, read_after, read_lines, read_file, unless_fault, bad_line, lines_of, without_empty_end, without_start, without_end, is_space, is_line_blank, longest_text}
+use Rattle.dconf_model.specs.Lines.{LineReading, LineFault, put_first, read_after, read_lines, read_file, unless_fault, bad_line, lines_of, without_empty_end, without_start, without_end, is_space, is_line_blank, longest_text}
 use Rattle.dconf_model.specs.Lines.LineReading.{nothing, found, wrong}
-use Rattle.dconf_model.specs.Keyfiles.{Row, rows_of, LineKind, line_kind, line_read, entry_in, row_if, row_of, or_bad_group, without_blanks, is_equals, group_in, last_group, is_key, path_of}
+use Rattle.dconf_model.specs.Keyfiles.{Row, rows_of, LineKind, line_kind, line_read, entry_in, row_of, or_bad_group, without_blanks, is_equals, group_in, last_group, is_key, path_of}
 use Rattle.dconf_model.specs.Keyfiles.LineKind.{empty, bracket, entry}
 use Rattle.dconf_model.specs.Values.{value_of_text, if_storable, is_storable}
 use Rattle.dconf_model.specs.Paths.{is_short}

@@ -1,12 +1,11 @@
 -- The value of a text of UTF-8 within the limit is a value of its type, which is within the limits.
-use Rattle.std.specs.Prelude.{◌≡◌, ◌≤◌, ◌<◌, ℕ, zero, suc, ◌+◌, ◌-◌, Bool, true, false, ◌==◌, List, [], ◌∷◌, ◌++◌, length, take, drop, Option, Some, None, Result, Ok, Err, refl}
+use Rattle.std.specs.Prelude.{◌≡◌, ◌≤◌, ◌<◌, ℕ, ◌+◌, ◌-◌, true, false, ◌==◌, List, [], ◌∷◌, ◌++◌, length, take, drop, Option, None, Result, Ok, Err, refl}
 use Rattle.std.specs.List.{AllByRecursion}
-use Rattle.std.specs.Str.{IsUtf8, is_utf8}
-use Rattle.std.proofs.Common.{sym, ap, subst, ◌∙◌, inl, inr, arith, append_assoc}
-use Rattle.std.proofs.lemmas.Bool.{or_parts, eqb-true, eqb-false, cases_Bool}
+use Rattle.std.specs.Str.{IsUtf8}
+use Rattle.std.proofs.Common.{sym, ap, subst, ◌∙◌, arith, append_assoc}
+use Rattle.std.proofs.lemmas.Bool.{or_parts, eqb-false}
 use Rattle.std.proofs.lemmas.List.{take-append-drop}
 use Rattle.std.proofs.lemmas.Str.{is_utf8-from_IsUtf8, IsUtf8-from_is_utf8}
-use Rattle.gv_model.specs.Ty.{Ty}
 use Rattle.gv_model.specs.Tree.{Tree}
 use Rattle.gv_model.specs.Texts.{has_zero_byte}
 use Rattle.gv_model.specs.TextFault.{Fault}
@@ -22,7 +21,7 @@ use Rattle.gv_model.specs.Syntax.{Syntax, Syntaxes, Pairs}
 use Rattle.gv_model.specs.Syntax.Syntax.{truth, integer, quoted, bytes, list, tuple_of, dictionary, lone, boxed, just, nothing, at_type, keyword}
 use Rattle.gv_model.specs.Syntax.Syntaxes.{none, first}
 use Rattle.gv_model.specs.Syntax.Pairs.{no_pair, pair}
-use Rattle.gv_model.specs.TextLaws.{written, meant}
+use Rattle.gv_model.specs.TextLaws.{written}
 use Rattle.gv_model.specs.LeastTypes.{choice}
 use Rattle.gv_model.specs.Literals.{ValueFault}
 use Rattle.gv_model.specs.TextValues.{value_of}
@@ -30,14 +29,13 @@ use Rattle.gv_model.proofs.StringParts.{string_parts, byte_string_parts}
 use Rattle.gv_model.proofs.PlainTextLaws.{tree_is_plain}
 use Rattle.gv_model.proofs.TokenSizes.{tokens_fit}
 use Rattle.dconf_model.specs.Causes.{SettingsCause}
-use Rattle.dconf_model.specs.Causes.SettingsCause.{value_fault}
 use Rattle.dconf_model.specs.Values.{value_of_text, or_value_fault, IsMeaning}
 use Rattle.dconf_model.specs.Stores.{IsLimitedValue, TextsAreWhole}
 use Rattle.dconf_model.proofs.AsciiParts.{utf8_beside}
 use Rattle.dconf_model.proofs.StringTexts.{string_text, string_bytes, AreBytes, text_bytes, bytes_later}
 use Rattle.dconf_model.proofs.TypeWeights.{choice_within, syntaxes_bytes, pairs_bytes, list_bytes, tuple_bytes, dictionary_bytes, entry_bytes, box_bytes}
 use Rattle.dconf_model.proofs.ValueLaws.{text_has_its_value, with_tree}
-use Rattle.dconf_model.proofs.WholeValues.{IsGood, AreGood, PairsGood, IsGoodText, good_is_whole}
+use Rattle.dconf_model.proofs.WholeValues.{IsGood, AreGood, PairsGood, good_is_whole}
 
 -- ---- the tokens of a text
 

@@ -1,5 +1,5 @@
 -- A worked folder: its profile names the user's database, which isn't there yet.
-use Rattle.std.specs.Prelude.{◌≡◌, ℕ, List, [], ◌∷◌, Some, None, codes, refl, cond}
+use Rattle.std.specs.Prelude.{[], Some, None, codes, refl, cond}
 use Rattle.std.specs.Str.{bytes_eq, is_utf8, chars}
 use Rattle.std.specs.Str.Lossy.{utf8_valid_len}
 use lib.Utf8.{encode as encode_char}

@@ -1,4 +1,3 @@
-use Rattle.dconf_model.proofs.WholeRows.{given_whole}
 use Rattle.dconf_model.proofs.WholeTexts.{texts_are_whole}
 use Rattle.dconf_model.proofs.each_text_is_whole.Goals as goal
 
