@@ -8,6 +8,7 @@ pub mod TwoPrefixes
 pub mod TypeFaultLaws
 pub mod OneFault
 pub mod DecodeLaws
+pub mod EarlierChildren
 pub mod EmptyLaws
 pub mod ChildLaws
 pub mod PartLaws
@@ -47,6 +48,16 @@ pub mod PatternLaws
 pub mod TypeOrder
 pub mod AdmitsDecided
 pub mod TextValueLaws
+pub mod PrintedSyntax
+pub mod PrintedLevels
+pub mod PrintedAdmits
+pub mod PrintedValues
+pub mod PrintedReads
+pub mod PrintedMarks
+pub mod PrintedNumbers
+pub mod PrintedStrings
+pub mod PrintedTokens
+pub mod PrintedReadBack
 pub mod WorkedTokens
 pub mod WorkedTexts
 pub mod WorkedPrefixes
