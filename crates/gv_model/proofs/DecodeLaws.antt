@@ -90,7 +90,7 @@ unfolding member_spans
 of_members P w b end k p h = tt
 of_members P w b (member t ts) k p h = (h.0, of_members P w b ts _ _ h.1)
 
-of_tuple : (P : Ty → Type 0) (t : Ty) (ts : Types) (b : List ℕ) → OfMembers P ts → OfTypes P (tuple_spans t ts b)
+pub of_tuple : (P : Ty → Type 0) (t : Ty) (ts : Types) (b : List ℕ) → OfMembers P ts → OfTypes P (tuple_spans t ts b)
 of_tuple P t ts b h = of_if P (is_other_size (fixed_size t) (length b)) _ _ (of_empty P ts h) (of_members P (offset_width (length b)) b ts 0 (Some 0) h)
 
 abbrev Lighter : ℕ → Ty → Type 0

@@ -13,6 +13,7 @@ pub mod EmptyLaws
 pub mod ChildLaws
 pub mod PartLaws
 pub mod WellTyped
+pub mod LimitedTypes
 pub mod WorkedValues
 pub mod WorkedFaults
 pub mod NumberBytes

@@ -16,7 +16,7 @@ use Rattle.gv_model.specs.Lexing.{token_at, type_prefix, or_else, type_placed}
 use Rattle.gv_model.specs.Printed.{word as word_text, type_mark}
 use Rattle.gv_model.proofs.TypeTextLaws.{type_of_text-spelling, one_reading, within_limits}
 use Rattle.gv_model.proofs.TypeTextSound.{spelling_of_read}
-use Rattle.gv_model.proofs.PrintedSyntax.{IsLimited}
+use Rattle.gv_model.proofs.LimitedTypes.{IsLimited}
 use Rattle.gv_model.proofs.PrintedReads.{Free, Reads, free_none, mark_free, word_free, token_reads, free_free, free_blank, token_free, no_word}
 
 pub free_open_tuple : Free (40 ∷ []) (mark open_tuple ∷ [])

@@ -1,9 +1,9 @@
 -- What is printed is read back.
-use Rattle.std.proofs.Common.{◌≡◌, ◌≤◌, ℕ, true, false, List, [], ◌∷◌, length, Option, None, Result, Ok, refl, sym, ap, ◌∙◌, subst, arith, append-nil}
+use Rattle.std.proofs.Common.{◌≡◌, ◌≤◌, ℕ, true, false, List, [], Option, None, Result, Ok, refl, sym, ap, ◌∙◌, subst, arith, append-nil}
 use Rattle.std.specs.Prelude.{nat_le, ◌↔◌}
 use Rattle.std.proofs.lemmas.Bool.{or_parts, le-leb}
 use Rattle.std.proofs.lemmas.List.{length-append}
-use Rattle.gv_model.specs.Ty.{Ty, Types, Basic, members, spelling, spellings, nesting, greatest_nesting}
+use Rattle.gv_model.specs.Ty.{Ty, Basic, spelling, spellings, nesting}
 use Rattle.gv_model.specs.Ty.Ty.{basic, variant, array, maybe, tuple, entry}
 use Rattle.gv_model.specs.Ty.Basic.{string, path, signature}
 use Rattle.gv_model.specs.TypeText.{IsWithinLimits}
@@ -30,7 +30,8 @@ use Rattle.gv_model.specs.PrintedLaws.{ReadsBack}
 use Rattle.gv_model.proofs.TokenLaws.{lexed_right}
 use Rattle.gv_model.proofs.TypeTextLaws.{limits_of}
 use Rattle.gv_model.proofs.PatternLaws.{choice_right}
-use Rattle.gv_model.proofs.PrintedSyntax.{syntax_of, IsLimited, Printable, ArePrintable}
+use Rattle.gv_model.proofs.LimitedTypes.{IsLimited, AreLimited, in_array, in_maybe, in_tuple, in_entry}
+use Rattle.gv_model.proofs.PrintedSyntax.{syntax_of, Printable, ArePrintable}
 use Rattle.gv_model.proofs.PrintedLevels.{levels_of}
 use Rattle.gv_model.proofs.PrintedAdmits.{admits_of, chosen_of}
 use Rattle.gv_model.proofs.PrintedValues.{last_choice, chosen_for, contents_of, gives_of}
@@ -47,34 +48,12 @@ of_one_type : (t : Ty) (vs : Trees) → IsLimited t → AllOf t vs → AllLimite
 of_one_type t no_tree l e = tt
 of_one_type t (first_tree v vs) l e = (subst IsLimited (sym e.0) l, of_one_type t vs l e.1)
 
-record AreLimited (ts : Types) : Type 0 where
-  shallow : greatest_nesting ts ≤ 128
-  short : length (spellings ts) ≤ 67108864
-
 of_members : (vs : Trees) → AreLimited (types_of vs) → AllLimited vs
 unfolding nesting spelling
 of_members no_tree l = tt
 of_members (first_tree v vs) l =
     let a = l.shallow in let b = l.short in let n = length-append (spelling (type_of v)) (spellings (types_of vs)) in
     (record { shallow = omega arith; short = omega arith }, of_members vs (record { shallow = omega arith; short = omega arith }))
-
-in_array : (t : Ty) → IsLimited (array t) → IsLimited t
-unfolding nesting spelling
-in_array t l = let a = l.shallow in let b = l.short in record { shallow = omega arith; short = omega arith }
-
-in_maybe : (t : Ty) → IsLimited (maybe t) → IsLimited t
-unfolding nesting spelling
-in_maybe t l = let a = l.shallow in let b = l.short in record { shallow = omega arith; short = omega arith }
-
-in_tuple : (ts : Types) → IsLimited (tuple ts) → AreLimited ts
-unfolding nesting spelling
-in_tuple ts l = let a = l.shallow in let b = l.short in let n = length-append (spellings ts) (41 ∷ []) in record { shallow = omega arith; short = omega arith }
-
-in_entry : (k : Basic) (t : Ty) → IsLimited (entry k t) → AreLimited (members (entry k t))
-unfolding nesting spelling
-in_entry k t l =
-    let a = l.shallow in let b = l.short in let n = length-append (spelling t) (125 ∷ []) in let m = length-append (spelling t) [] in
-    record { shallow = omega arith; short = omega arith }
 
 children_limited : (t : Ty) (vs : Trees) → MayHold t vs → IsLimited t → AllLimited vs
 children_limited (basic k) vs h l = absurd h

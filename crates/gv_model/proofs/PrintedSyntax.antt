@@ -1,8 +1,8 @@
 -- The syntax that a value's printed text is of.
-use Rattle.std.proofs.Common.{◌≡◌, ◌≤◌, ℕ, suc, Bool, true, false, List, Option, Some, None}
-use Rattle.std.specs.Prelude.{◌==◌, ◌&&◌, if◌then◌else◌, length, ℤ, pos, negsuc}
+use Rattle.std.proofs.Common.{◌≡◌, ℕ, suc, Bool, true, false, List, Option, Some, None}
+use Rattle.std.specs.Prelude.{◌==◌, ◌&&◌, if◌then◌else◌, ℤ, pos, negsuc}
 use Rattle.std.specs.Int.{cast_signed, w16, w32, w64}
-use Rattle.gv_model.specs.Ty.{Ty, Basic, spelling, nesting}
+use Rattle.gv_model.specs.Ty.{Ty, Basic}
 use Rattle.gv_model.specs.Ty.Ty.{basic, variant, array, maybe, tuple, entry}
 use Rattle.gv_model.specs.Ty.Basic.{boolean, byte, int16, int32, int64, handle, double, string}
 use Rattle.gv_model.specs.Tree.{Tree, Trees}
@@ -16,6 +16,7 @@ use Rattle.gv_model.specs.Syntax.{Syntax, Syntaxes, Pairs}
 use Rattle.gv_model.specs.Syntax.Syntax.{truth, integer, quoted, bytes, list, tuple_of, dictionary, lone, boxed, just, nothing, at_type, keyword}
 use Rattle.gv_model.specs.Syntax.Syntaxes.{none, first}
 use Rattle.gv_model.specs.Syntax.Pairs.{no_pair, pair}
+use Rattle.gv_model.proofs.LimitedTypes.{IsLimited}
 
 -- with what an annotation puts before it
 abbrev pub marked : Bool → (Syntax → Syntax) → Syntax → Syntax
@@ -89,11 +90,6 @@ unfoldable mutual
   pub syntaxes_of : Trees → Bool → Bool → Syntaxes
   syntaxes_of no_tree annotated rest = none
   syntaxes_of (first_tree v vs) annotated rest = first (syntax_of v annotated) (syntaxes_of vs rest rest)
-
--- a type that may be written after `@`
-pub record IsLimited (t : Ty) : Type 0 where
-  pub shallow : nesting t ≤ 128
-  pub short : length (spelling t) ≤ 67108864
 
 -- a value that has a text, in all its parts
 abbrev mutual

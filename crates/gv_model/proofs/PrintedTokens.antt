@@ -32,7 +32,8 @@ use Rattle.gv_model.specs.Syntax.Syntax.{quoted, list, tuple_of, lone, nothing, 
 use Rattle.gv_model.specs.Syntax.Syntaxes.{none, first}
 use Rattle.gv_model.specs.Grammar.{tokens_of, commas, pairs_tokens}
 use Rattle.gv_model.proofs.TypeTextSound.{Shows, seen_shows}
-use Rattle.gv_model.proofs.PrintedSyntax.{marked, with_word, figures_syntax, pairs_from, bytes_or_list, list_syntax, with_just, entry_syntax, syntax_of, syntaxes_of, IsLimited, Printable, ArePrintable}
+use Rattle.gv_model.proofs.PrintedSyntax.{marked, with_word, figures_syntax, pairs_from, bytes_or_list, list_syntax, with_just, entry_syntax, syntax_of, syntaxes_of, Printable, ArePrintable}
+use Rattle.gv_model.proofs.LimitedTypes.{IsLimited}
 use Rattle.gv_model.proofs.PrintedAdmits.{IsLone, entry_lone}
 use Rattle.gv_model.proofs.PrintedReads.{goes_on, Free, Reads, from_free, free_none, free_free, free_reads, reads_free, reads_reads}
 use Rattle.gv_model.proofs.PrintedMarks.{free_open_tuple, free_close_tuple, free_open_list, free_close_list, free_open_brace, free_close_brace, free_open_box, free_close_box, free_comma, free_colon, free_tuple_end, word_tokens, free_word, free_just, reads_nothing, free_type}
