@@ -273,8 +273,9 @@ lightest (entry k t) h = absurd (omega (arith, heavy_entry k t))
 
 -- ---- readings that go down to a depth
 
--- One of them, `at`: from the first level on it is the tree over what it gives of the children, each read down to one level
--- less. Each child asks less than its container, so that some depth is enough.
+-- One of them, `at`: from the first level on it is the tree over what it gives of the children,
+-- each read down to one level less. Each child asks less than its container, so that some depth is
+-- enough.
 pub record Descent : Type 0 where
   pub tree : (Child → Tree) → Ty → List ℕ → Tree
   pub parts : Ty → List ℕ → List Child
@@ -320,7 +321,8 @@ children_in_full d t b =
     ∙ (d.step n t b
     ∙ same_tree d (λ c. d.at n c.type (child_bytes b c)) (λ c. in_full d c.type (child_bytes b c)) t b (λ c less. in_full_at d n c.type (child_bytes b c) (omega arith)))
 
--- any function that gives of each container the tree over what it gives of the children gives the same
+-- any function gives the same that gives of each container the tree over what it gives of the
+-- children
 only_within : (d : Descent) (f : Ty → List ℕ → Tree) → ((t : Ty) (b : List ℕ) → f t b ≡ d.tree (λ c. f c.type (child_bytes b c)) t b) → (n : ℕ) (t : Ty) (b : List ℕ) → weight t + length b ≤ n → f t b ≡ d.at (suc n) t b
 only_within d f e zero t b h = e t b ∙ (same_tree d (λ c. f c.type (child_bytes b c)) (λ c. d.at 0 c.type (child_bytes b c)) t b (λ c less. absurd (omega arith)) ∙ sym (d.step 0 t b))
 only_within d f e (suc n) t b h =

@@ -1,4 +1,5 @@
--- The types that a type within the limits is made of are within them, too, and so are those of a value's children.
+-- The types that a type within the limits is made of are within them, too; so are those of a
+-- value's children.
 use Rattle.std.proofs.Common.{ℕ, zero, suc, ◌≤◌, ◌≡◌, List, [], ◌∷◌, length, Some, arith, subst}
 use Rattle.std.specs.Prelude.{slice_get}
 use Rattle.std.proofs.lemmas.List.{length-append}

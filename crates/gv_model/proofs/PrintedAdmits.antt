@@ -1,4 +1,5 @@
--- A printed value's syntax admits the value's type. Where it is annotated, every type that it admits is above that one.
+-- A printed value's syntax admits the value's type. Where it is annotated, every type that it
+-- admits is above that one.
 use Rattle.std.proofs.Common.{◌≡◌, ◌≤◌, ℕ, Bool, true, false, cond, List, Option, Some, None, refl, sym, subst}
 use Rattle.std.proofs.lemmas.Bool.{true≢false}
 use mathlib.Core.Logic.{inl}

@@ -80,8 +80,8 @@ pub fn few_values()
     ensures { HasFewValues }
 {}
 
-/// The value that a container's bytes had as GLib before 2.74 read them is the tree over the values that its children's
-/// bytes had, and no other function from types and bytes to trees reads so.
+/// As GLib before 2.74 read, the value of a container's bytes is the tree over the values of its
+/// children's bytes, and no other function from types and bytes to trees reads so.
 pub fn one_earlier_reading()
     ensures reads { IsEarlierReading earlier_decode }
     ensures alone { IsOnlyEarlierReading }

@@ -70,8 +70,9 @@ pub fn joining_chooses()
     ensures { IsChoice choice }
 {}
 
-/// What is printed is read back, where a value's type is within the limits, and the value holds no double and is at
-/// most 127 deep: its text parses, the type that is chosen for the text is the value's, and its value there is that value.
+/// What is printed for a value is read back: the text parses, the type that is chosen for it is the
+/// value's, and its value at that type is that value. So it is of each value whose type is within
+/// the limits, that holds no double and is at most 127 deep.
 pub fn printed_reads_back()
     ensures { PrintedReadsBack }
 {}
