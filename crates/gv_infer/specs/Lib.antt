@@ -14,5 +14,6 @@ pub mod ValueFaults
 pub mod BareTypes
 pub mod Leaves
 pub mod Reads
+pub mod PrintedTexts
 pub mod TypingValues
 pub mod Within

@@ -14,6 +14,7 @@ mod fault;
 mod least;
 mod literal;
 mod pattern;
+mod printed;
 mod read;
 mod read_fault;
 mod typing;
@@ -21,6 +22,7 @@ mod value;
 mod value_fault;
 
 pub use fault::TypingFault;
+pub use printed::printed_is_read;
 pub use read::read_value;
 pub use read_fault::ReadFault;
 pub use typing::type_of;

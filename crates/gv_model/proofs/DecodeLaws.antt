@@ -1,5 +1,5 @@
 -- What `decode` gives is the tree over what it gives of each child.
-use Rattle.std.proofs.Common.{ℕ, zero, suc, ◌+◌, ◌-◌, ◌/◌, ◌%◌, ◌<◌, ◌≤◌, ◌≡◌, List, [], ◌∷◌, ◌++◌, length, drop, Option, Some, None, refl, sym, ap, ap₂, map, add-zero, add-suc, ◌∙◌, arith, Bool, true, false, cond, ◌==◌, ◌&&◌, nat_le, eqb-true, length-append, length-take, length-drop}
+use Rattle.std.proofs.Common.{ℕ, zero, suc, ◌+◌, ◌-◌, ◌/◌, ◌%◌, ◌<◌, ◌≤◌, ◌≡◌, List, [], ◌∷◌, ◌++◌, length, drop, Option, Some, None, refl, sym, ap, ap₂, subst, map, add-zero, add-suc, ◌∙◌, arith, Bool, true, false, cond, ◌==◌, ◌&&◌, nat_le, eqb-true, length-append, length-take, length-drop}
 use Rattle.std.proofs.lemmas.Option.{same_Some, none-some, cond_some}
 use Rattle.gv_model.specs.Ty.{Ty, Basic, Types, spelling, spellings}
 use Rattle.gv_model.specs.Ty.Ty.{basic, variant, array, maybe, tuple, entry}
@@ -90,7 +90,7 @@ unfolding member_spans
 of_members P w b end k p h = tt
 of_members P w b (member t ts) k p h = (h.0, of_members P w b ts _ _ h.1)
 
-of_tuple : (P : Ty → Type 0) (t : Ty) (ts : Types) (b : List ℕ) → OfMembers P ts → OfTypes P (tuple_spans t ts b)
+pub of_tuple : (P : Ty → Type 0) (t : Ty) (ts : Types) (b : List ℕ) → OfMembers P ts → OfTypes P (tuple_spans t ts b)
 of_tuple P t ts b h = of_if P (is_other_size (fixed_size t) (length b)) _ _ (of_empty P ts h) (of_members P (offset_width (length b)) b ts 0 (Some 0) h)
 
 abbrev Lighter : ℕ → Ty → Type 0
@@ -191,7 +191,7 @@ unfolding weight spelling
 lighter_entry k t = (omega (arith, length-append (spelling t) (125 ∷ [])), (omega (arith, weight_le t, length-append (spelling t) (125 ∷ [])), tt))
 
 -- a container asks more than each of its children, whatever those before them
-earlier_less : (t : Ty) (b : List ℕ) → Each (IsLess t b) (earlier_cut t b)
+pub earlier_less : (t : Ty) (b : List ℕ) → Each (IsLess t b) (earlier_cut t b)
 unfolding earlier_cut spans
 earlier_less (basic k) b = tt
 earlier_less variant b = (variant_less b (at_last_zero b) (at_last_zero_parts b), tt)
@@ -262,61 +262,95 @@ unfolding weight spelling
 heavy_tuple t ts = omega arith
 
 -- what asks for nothing is the tuple of none
-least_depth : (t : Ty) (b : List ℕ) → weight t + length b ≤ 0 → decode_within 1 t b ≡ decode_within 0 t b
-unfolding decode_within default defaults
-least_depth (basic k) b h = absurd (omega (arith, heavy_basic k))
-least_depth variant b h = absurd (omega (arith, weight_variant))
-least_depth (array t) b h = absurd (omega (arith, lighter_array t))
-least_depth (maybe t) b h = absurd (omega (arith, lighter_maybe t))
-least_depth (tuple end) b h = ap (λ cs. node (tuple end) (each (λ c. decode_within 0 c.type (child_bytes b c)) cs)) (cut-unit b)
-least_depth (tuple (member t ts)) b h = absurd (omega (arith, heavy_tuple t ts))
-least_depth (entry k t) b h = absurd (omega (arith, heavy_entry k t))
+lightest : (t : Ty) → weight t ≤ 0 → t ≡ tuple end
+lightest (basic k) h = absurd (omega (arith, heavy_basic k))
+lightest variant h = absurd (omega (arith, weight_variant))
+lightest (array t) h = absurd (omega (arith, lighter_array t))
+lightest (maybe t) h = absurd (omega (arith, lighter_maybe t))
+lightest (tuple end) h = refl
+lightest (tuple (member t ts)) h = absurd (omega (arith, heavy_tuple t ts))
+lightest (entry k t) h = absurd (omega (arith, heavy_entry k t))
+
+-- ---- readings that go down to a depth
+
+-- One of them, `at`: from the first level on it is the tree over what it gives of the children,
+-- each read down to one level less. Each child asks less than its container, so that some depth is
+-- enough.
+pub record Descent : Type 0 where
+  pub tree : (Child → Tree) → Ty → List ℕ → Tree
+  pub parts : Ty → List ℕ → List Child
+  pub at : ℕ → Ty → List ℕ → Tree
+  pub step : (n : ℕ) (t : Ty) (b : List ℕ) → at (suc n) t b ≡ tree (λ c. at n c.type (child_bytes b c)) t b
+  pub alike : (f g : Child → Tree) (t : Ty) (b : List ℕ) → Each (λ c. f c ≡ g c) (parts t b) → tree f t b ≡ tree g t b
+  pub less : (t : Ty) (b : List ℕ) → Each (IsLess t b) (parts t b)
+  pub least : (b : List ℕ) → at 1 (tuple end) b ≡ at 0 (tuple end) b
+
+-- two functions give the same tree, where they are alike of each child that asks less
+same_tree : (d : Descent) (f g : Child → Tree) (t : Ty) (b : List ℕ) → ((c : Child) → IsLess t b c → f c ≡ g c) → d.tree f t b ≡ d.tree g t b
+same_tree d f g t b h = d.alike f g t b (each_weaker (IsLess t b) (λ c. f c ≡ g c) h (d.parts t b) (d.less t b))
+
+-- one more level changes nothing once the depth is enough
+enough : (d : Descent) (n : ℕ) (t : Ty) (b : List ℕ) → weight t + length b ≤ n → d.at (suc n) t b ≡ d.at n t b
+enough d zero t b h = subst (λ (u : Ty). d.at 1 u b ≡ d.at 0 u b) (sym (lightest t (omega arith))) (d.least b)
+enough d (suc n) t b h =
+    d.step (suc n) t b
+    ∙ (same_tree d (λ c. d.at (suc n) c.type (child_bytes b c)) (λ c. d.at n c.type (child_bytes b c)) t b (λ c less. enough d n c.type (child_bytes b c) (omega arith))
+    ∙ sym (d.step n t b))
+
+-- nor do more
+more_depth : (d : Descent) (k n : ℕ) (t : Ty) (b : List ℕ) → weight t + length b ≤ n → d.at (n + k) t b ≡ d.at n t b
+more_depth d zero n t b h = ap (λ m. d.at m t b) (add-zero n)
+more_depth d (suc k) n t b h = ap (λ m. d.at m t b) (add-suc n k) ∙ (enough d (n + k) t b (omega arith) ∙ more_depth d k n t b h)
+
+any_depth : (d : Descent) (m n : ℕ) (t : Ty) (b : List ℕ) → weight t + length b ≤ m → m ≤ n → d.at n t b ≡ d.at m t b
+any_depth d m n t b h g = let whole : m + (n - m) ≡ n = omega arith in ap (λ k. d.at k t b) (sym whole) ∙ more_depth d (n - m) m t b h
+
+-- what it gives down to a depth that is enough
+abbrev pub in_full : Descent → Ty → List ℕ → Tree
+in_full d t b = d.at (length (spelling t) + length b) t b
+
+in_full_at : (d : Descent) (n : ℕ) (t : Ty) (b : List ℕ) → weight t + length b ≤ n → d.at n t b ≡ in_full d t b
+in_full_at d n t b h =
+    let m = weight t + length b in
+    any_depth d m n t b (omega arith) h ∙ sym (any_depth d m (length (spelling t) + length b) t b (omega arith) (omega (arith, weight_le t)))
+
+pub children_in_full : (d : Descent) (t : Ty) (b : List ℕ) → in_full d t b ≡ d.tree (λ c. in_full d c.type (child_bytes b c)) t b
+children_in_full d t b =
+    let n = weight t + length b in
+    sym (in_full_at d (suc n) t b (omega arith))
+    ∙ (d.step n t b
+    ∙ same_tree d (λ c. d.at n c.type (child_bytes b c)) (λ c. in_full d c.type (child_bytes b c)) t b (λ c less. in_full_at d n c.type (child_bytes b c) (omega arith)))
+
+-- any function gives the same that gives of each container the tree over what it gives of the
+-- children
+only_within : (d : Descent) (f : Ty → List ℕ → Tree) → ((t : Ty) (b : List ℕ) → f t b ≡ d.tree (λ c. f c.type (child_bytes b c)) t b) → (n : ℕ) (t : Ty) (b : List ℕ) → weight t + length b ≤ n → f t b ≡ d.at (suc n) t b
+only_within d f e zero t b h = e t b ∙ (same_tree d (λ c. f c.type (child_bytes b c)) (λ c. d.at 0 c.type (child_bytes b c)) t b (λ c less. absurd (omega arith)) ∙ sym (d.step 0 t b))
+only_within d f e (suc n) t b h =
+    e t b
+    ∙ (same_tree d (λ c. f c.type (child_bytes b c)) (λ c. d.at (suc n) c.type (child_bytes b c)) t b (λ c less. only_within d f e n c.type (child_bytes b c) (omega arith))
+    ∙ sym (d.step (suc n) t b))
+
+pub only_in_full : (d : Descent) (f : Ty → List ℕ → Tree) → ((t : Ty) (b : List ℕ) → f t b ≡ d.tree (λ c. f c.type (child_bytes b c)) t b) → (t : Ty) (b : List ℕ) → f t b ≡ in_full d t b
+only_in_full d f e t b = only_within d f e (weight t + length b) t b (omega arith) ∙ in_full_at d (suc (weight t + length b)) t b (omega arith)
+
+-- ---- `decode` is one of them
 
 decode_step : (n : ℕ) (t : Ty) (b : List ℕ) → decode_within (suc n) t b ≡ tree_with (λ c. decode_within n c.type (child_bytes b c)) t b
 unfolding decode_within
 decode_step n t b = refl
 
--- one more level changes nothing once the depth is enough
-enough : (n : ℕ) (t : Ty) (b : List ℕ) → weight t + length b ≤ n → decode_within (suc n) t b ≡ decode_within n t b
-enough zero t b h = least_depth t b h
-enough (suc n) t b h =
-    decode_step (suc n) t b
-    ∙ (tree_same (λ c. decode_within (suc n) c.type (child_bytes b c)) (λ c. decode_within n c.type (child_bytes b c)) t b
-    (each_weaker (IsLess t b) (λ c. decode_within (suc n) c.type (child_bytes b c) ≡ decode_within n c.type (child_bytes b c)) (λ c less. enough n c.type (child_bytes b c) (omega arith)) (cut t b) (container_less t b))
-    ∙ sym (decode_step n t b))
+least_depth : (b : List ℕ) → decode_within 1 (tuple end) b ≡ decode_within 0 (tuple end) b
+unfolding decode_within default defaults
+least_depth b = ap (λ cs. node (tuple end) (each (λ c. decode_within 0 c.type (child_bytes b c)) cs)) (cut-unit b)
 
--- nor do more
-more_depth : (k n : ℕ) (t : Ty) (b : List ℕ) → weight t + length b ≤ n → decode_within (n + k) t b ≡ decode_within n t b
-more_depth zero n t b h = ap (λ m. decode_within m t b) (add-zero n)
-more_depth (suc k) n t b h = ap (λ m. decode_within m t b) (add-suc n k) ∙ (enough (n + k) t b (omega arith) ∙ more_depth k n t b h)
-
-any_depth : (m n : ℕ) (t : Ty) (b : List ℕ) → weight t + length b ≤ m → m ≤ n → decode_within n t b ≡ decode_within m t b
-any_depth m n t b h g = let whole : m + (n - m) ≡ n = omega arith in ap (λ k. decode_within k t b) (sym whole) ∙ more_depth (n - m) m t b h
-
-decode_at : (n : ℕ) (t : Ty) (b : List ℕ) → weight t + length b ≤ n → decode_within n t b ≡ decode t b
-unfolding decode
-decode_at n t b h =
-    let m = weight t + length b in
-    any_depth m n t b (omega arith) h ∙ sym (any_depth m (length (spelling t) + length b) t b (omega arith) (omega (arith, weight_le t)))
+abbrev decoding : Descent
+decoding = record { tree = tree_with; parts = cut; at = decode_within; step = decode_step; alike = tree_same; less = container_less; least = least_depth }
 
 -- The value of bytes is the tree over the values of its children.
 pub decode_children : (t : Ty) (b : List ℕ) → decode t b ≡ tree_with (λ c. decode c.type (child_bytes b c)) t b
-decode_children t b =
-    let n = weight t + length b in
-    sym (decode_at (suc n) t b (omega arith))
-    ∙ (decode_step n t b
-    ∙ tree_same (λ c. decode_within n c.type (child_bytes b c)) (λ c. decode c.type (child_bytes b c)) t b
-    (each_weaker (IsLess t b) (λ c. decode_within n c.type (child_bytes b c) ≡ decode c.type (child_bytes b c)) (λ c less. decode_at n c.type (child_bytes b c) (omega arith)) (cut t b) (container_less t b)))
-
--- any reading that gives of each container the tree over what it gives of the children is `decode`
-reading_within : (f : Ty → List ℕ → Tree) → ((t : Ty) (b : List ℕ) → f t b ≡ tree_with (λ c. f c.type (child_bytes b c)) t b) → (n : ℕ) (t : Ty) (b : List ℕ) → weight t + length b ≤ n → f t b ≡ decode_within (suc n) t b
-unfolding decode_within
-reading_within f e zero t b h =
-    e t b ∙ tree_same (λ c. f c.type (child_bytes b c)) (λ c. decode_within 0 c.type (child_bytes b c)) t b (each_weaker (IsLess t b) (λ c. f c.type (child_bytes b c) ≡ decode_within 0 c.type (child_bytes b c)) (λ c less. absurd (omega arith)) (cut t b) (container_less t b))
-reading_within f e (suc n) t b h =
-    e t b ∙ tree_same (λ c. f c.type (child_bytes b c)) (λ c. decode_within (suc n) c.type (child_bytes b c)) t b
-    (each_weaker (IsLess t b) (λ c. f c.type (child_bytes b c) ≡ decode_within (suc n) c.type (child_bytes b c))
-    (λ c less. reading_within f e n c.type (child_bytes b c) (omega arith)) (cut t b) (container_less t b))
+unfolding decode
+decode_children t b = children_in_full decoding t b
 
 pub only_reading : (f : Ty → List ℕ → Tree) → ((t : Ty) (b : List ℕ) → f t b ≡ tree_with (λ c. f c.type (child_bytes b c)) t b) → (t : Ty) (b : List ℕ) → f t b ≡ decode t b
-only_reading f e t b = reading_within f e (weight t + length b) t b (omega arith) ∙ decode_at (suc (weight t + length b)) t b (omega arith)
+unfolding decode
+only_reading f e t b = only_in_full decoding f e t b

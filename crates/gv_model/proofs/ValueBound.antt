@@ -198,7 +198,7 @@ sized_node k b None = go (text_in b)
     go None = default_node k
     go (Some s) = chosen s (is_text k s)
 
-basic_node : (k : Basic) (b : List ℕ) → nodes (decode (basic k) b) ≡ 1
+pub basic_node : (k : Basic) (b : List ℕ) → nodes (decode (basic k) b) ≡ 1
 unfolding basic_value
 basic_node k b = ap nodes (decode_children (basic k) b) ∙ sized_node k b (basic_size k)
 

@@ -209,7 +209,7 @@ unfolding spelling nesting
 unit_limits = refl
 
 -- the type of a variant's child is within the limits
-variant_limits : (o : Option (List ℕ × List ℕ)) → is_within_limits (variant_span o).0 (spelling (variant_span o).0) ≡ true
+pub variant_limits : (o : Option (List ℕ × List ℕ)) → is_within_limits (variant_span o).0 (spelling (variant_span o).0) ≡ true
 variant_limits None = unit_limits
 variant_limits (Some p) = go (type_of_text p.1) refl
   where

@@ -23,6 +23,8 @@ unfoldable pub earlier_within : ℕ → Ty → List ℕ → Tree
 earlier_within zero t b = default t
 earlier_within (suc n) t b = earlier_tree_with (λ c. earlier_within n c.type (child_bytes b c)) t b
 
+-- The value of bytes at a type. The law that it is the tree over the values of its children, and
+-- the only such function, doesn't speak of a depth.
 unfoldable pub earlier_decode : Ty → List ℕ → Tree
 earlier_decode t b = earlier_within (length (spelling t) + length b) t b
 

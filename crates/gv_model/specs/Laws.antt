@@ -11,7 +11,7 @@ use Rattle.gv_model.specs.Decode.{decode, cut, tree_with}
 use Rattle.gv_model.specs.Parts.{Part, parts, part_at, subtree_at}
 use Rattle.gv_model.specs.Encode.{encode, packed}
 use Rattle.gv_model.specs.Normal.{IsContainer, IsPartEncoded, IsEncoded, IsNormal}
-use Rattle.gv_model.specs.EarlierReading.{earlier_decode, WasNormal}
+use Rattle.gv_model.specs.EarlierReading.{earlier_tree_with, earlier_decode, WasNormal}
 
 -- no type's text begins another's
 abbrev pub NoTypeBeginsAnother : Type 0
@@ -83,6 +83,14 @@ most_values n t = (n + 1) * (n + 2 * t)
 -- n bytes at a type whose text has t bytes have at most (n + 1)(n + 2t) values in them
 abbrev pub HasFewValues : Type 0
 HasFewValues = (t : Ty) (b : List ℕ) → nodes (decode t b) ≤ most_values (length b) (length (spelling t))
+
+-- f gives of each value the tree over what it gives of its children, each by its own bounds
+abbrev pub IsEarlierReading : (Ty → List ℕ → Tree) → Type 0
+IsEarlierReading f = (t : Ty) (b : List ℕ) → f t b ≡ earlier_tree_with (λ c. f c.type (child_bytes b c)) t b
+
+-- `earlier_decode` is the one such reading
+abbrev pub IsOnlyEarlierReading : Type 0
+IsOnlyEarlierReading = (f : Ty → List ℕ → Tree) → IsEarlierReading f → (t : Ty) (b : List ℕ) → f t b ≡ earlier_decode t b
 
 -- the same bytes are normal as before
 abbrev pub AsNormalAsEarlier : Type 0

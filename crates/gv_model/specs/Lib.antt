@@ -44,4 +44,5 @@ pub mod Literals
 pub mod TextValues
 pub mod Laws
 pub mod TextLaws
+pub mod PrintedLaws
 pub mod FaultTexts

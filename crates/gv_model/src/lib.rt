@@ -6,8 +6,9 @@
 pub mod text;
 
 ghost use Rattle.gv_model.specs.Laws.{WrittenReadsBack, ContainerIsPacked, NoTypeBeginsAnother, HasTypeWhereSpelled, EmptyReadsAsDefault, ReadsAtType, IsReading, IsOnlyReading, HasChildrenOfCut, ChildIsRead, FaultsAreOfNoType, HasOneFault, ChildrenLieWithin, EveryPartIsRead};
-ghost use Rattle.gv_model.specs.Laws.{HasFewValues, AsNormalAsEarlier, NormalReadsAsEarlier};
+ghost use Rattle.gv_model.specs.Laws.{HasFewValues, IsEarlierReading, IsOnlyEarlierReading, AsNormalAsEarlier, NormalReadsAsEarlier};
 ghost use Rattle.gv_model.specs.Decode.{decode};
+ghost use Rattle.gv_model.specs.EarlierReading.{earlier_decode};
 
 /// No type's text begins another's, so a sequence of types is read in one way only.
 pub fn no_type_begins_another()
@@ -77,6 +78,13 @@ pub fn container_is_packed()
 /// Bytes have no more values in them than `(n + 1)(n + 2t)`, where there are `n` of them and the type's text has `t`.
 pub fn few_values()
     ensures { HasFewValues }
+{}
+
+/// As GLib before 2.74 read, the value of a container's bytes is the tree over the values of its
+/// children's bytes, and no other function from types and bytes to trees reads so.
+pub fn one_earlier_reading()
+    ensures reads { IsEarlierReading earlier_decode }
+    ensures alone { IsOnlyEarlierReading }
 {}
 
 /// The bytes that are normal are those that were normal when a child was read whatever those before it, as GLib before

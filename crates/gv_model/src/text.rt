@@ -1,6 +1,7 @@
 //! Laws of text: its tokens, its syntax tree or first fault, and the type that is chosen for a tree.
 
 ghost use Rattle.gv_model.specs.TextLaws.{EachTextLexes, HasOneLexing, StringIsParts, ByteStringIsParts, StringsArePlain, NoTreeBeginsAnother, TreesHaveNoFault, FaultlessIsTree, FaultEndsPrefix, EndsOnePrefix, EachTextParses, HasOneOutcome, AdmitsOrNot, IsBelowItself, IsBelowThird, IsBelowOneWay, HasOneChosen};
+ghost use Rattle.gv_model.specs.PrintedLaws.{PrintedReadsBack};
 ghost use Rattle.gv_model.specs.LeastTypes.{choice};
 ghost use Rattle.gv_model.specs.TextValues.{IsChoice};
 
@@ -67,4 +68,11 @@ pub fn one_chosen_type()
 /// or to why there is none.
 pub fn joining_chooses()
     ensures { IsChoice choice }
+{}
+
+/// What is printed for a value is read back: the text parses, the type that is chosen for it is the
+/// value's, and its value at that type is that value. So it is of each value whose type is within
+/// the limits, that holds no double and is at most 127 deep.
+pub fn printed_reads_back()
+    ensures { PrintedReadsBack }
 {}

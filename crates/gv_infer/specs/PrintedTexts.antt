@@ -1,0 +1,32 @@
+-- The law of reading what is printed.
+use Rattle.std.specs.Prelude.{◌≡◌, ◌≤◌, ◌↔◌, ℕ, true, false, List, Result, Ok}
+use Rattle.gv_model.specs.Ty.{Ty}
+use Rattle.gv_model.specs.TypeText.{IsWithinLimits}
+use Rattle.gv_model.specs.Tree.{Tree, depth}
+use Rattle.gv_model.specs.Typed.{HasType}
+use Rattle.gv_model.specs.Printed.{printed, holds_double}
+use Rattle.gv_model.specs.Literals.{ValueFault as TheFault}
+use Rattle.gv_text.specs.declared.fault.TextFault.TheVariants as texts
+use Rattle.gv_infer.specs.declared.fault.TypingFault.TheVariants as types
+use Rattle.gv_infer.specs.declared.value_fault.ValueFault.TheVariants as values
+use Rattle.gv_infer.specs.declared.read_fault.ReadFault.{ReadFault}
+use Rattle.gv_infer.specs.declared.read_fault.ReadFault.TheVariants.{Text, Typing, Value}
+use Rattle.gv_infer.specs.Reads.{Reads, IsReadFault}
+
+-- a growth was refused, and the text is not at fault
+abbrev pub IsWantOfMemory : ReadFault → Type 0
+IsWantOfMemory (Text e) = e ≡ texts.Memory
+IsWantOfMemory (Typing e) = e ≡ types.Memory
+IsWantOfMemory (Value e) = e ≡ values.Memory
+
+-- What `read_value` promises of the text comes to v. `value`: what the text reads as is v, and no
+-- other value and no fault. `fault`: no fault that it may have is one of the text, so that only want
+-- of memory is left.
+pub record IsReadAs (text : List ℕ) (v : Tree) : Type 0 where
+  pub value : (r : Result Tree TheFault) → Reads text r ↔ (r ≡ Ok v)
+  pub fault : (e : ReadFault) → IsReadFault text e → IsWantOfMemory e
+
+-- what is printed for a value is read as that value, where its type is within the limits, it holds
+-- no double and is at most 127 deep
+abbrev pub PrintedIsRead : Type 0
+PrintedIsRead = (t : Ty) (v : Tree) → HasType v t → IsWithinLimits t → holds_double v ≡ false → depth v ≤ 127 → IsReadAs (printed v true) v
