@@ -1,5 +1,6 @@
 //! The bytes of values as they are stored.
 ghost use Rattle.std.specs.Prelude.{◌≡◌, true, false, IfOk, IfErr, IfSome, OnOk};
+ghost use Rattle.gv_tree.specs.Wholes.{IsWhole};
 ghost use Rattle.dconf_model.specs.Changes.{Refusal.too_large};
 ghost use Rattle.dconf_model.specs.Values.{stored, is_storable};
 ghost use Rattle.dconf_engine.specs.ChangeFaults.{refusal_of};
@@ -14,6 +15,7 @@ use std::alloc::Global;
 /// `TooLarge` comes exactly where it may not be stored, and `Memory` where a growth is refused. It writes each byte once.
 pub(crate) fn stored_bytes(alloc: Global, value: &Tree) -> Result<Vec<u8>, ChangeFault>
     ensures bytes { IfOk result (λ bytes. bytes.items ≡ stored value.now) }
+    ensures whole { OnOk result (IsWhole value.now) }
     ensures storable { OnOk result (is_storable value.now ≡ true) }
     ensures fault { IfErr result (λ e. IfSome (refusal_of e) (λ r. (r ≡ too_large) × (is_storable value.now ≡ false))) }
 {

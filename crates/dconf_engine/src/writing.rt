@@ -1,5 +1,6 @@
 //! Changes of the first layer.
 ghost use Rattle.std.specs.Prelude.{◌≡◌, true, false, Ok, Err, Some, None, OnOk, OnErr, IfOk, IfErr, IfSome};
+ghost use Rattle.gv_tree.specs.Wholes.{IsWhole};
 ghost use Rattle.dconf_path.specs.Paths.{key_text, directory_text};
 ghost use Rattle.dconf_model.specs.Changes.{apply, Change.set_value, Change.reset_value, Change.load_values, Change.reset_below_directory, first_locked, paths_of, all_storable, Refusal.too_large};
 ghost use Rattle.dconf_engine.specs.ChangeFaults.{refusal_of, Refuses, path_refusal, rows_refusal};
@@ -21,6 +22,7 @@ impl<'a> Engine<'a> {
     /// are levels of unsaved changes.
     pub fn write(&mut self, path: KeyPath<'_>, value: &Tree) -> Result<(), ChangeFault>
         ensures ok { OnOk result (apply self.old (set_value (key_text path.entry) value.now) ≡ Ok self.new) }
+        ensures whole { OnOk result (IsWhole value.now) }
         ensures fault { IfErr result (Refuses (apply self.old (set_value (key_text path.entry) value.now))) }
         ensures err { OnErr result (self.new ≡ self.old) }
     {

@@ -1,0 +1,51 @@
+-- Changes that are made one after the other, up to one that is refused.
+use Rattle.std.specs.Prelude.{◌≡◌, ◌<◌, ◌+◌, ℕ, List, [], ◌∷◌, ◌++◌, length, map, take, Some, Ok, Err, slice_get, option_map, refl}
+use Rattle.std.proofs.Common.{◌∙◌, ap, sym, subst, get_or}
+use Rattle.std.proofs.lemmas.List.{map-append, map_more, take-map}
+use Rattle.std.proofs.lemmas.Option.{slice_get-map, slice_get-get_or}
+use Rattle.dconf_model.specs.Layers.{Layers}
+use Rattle.dconf_model.specs.Changes.{Change as Asked, Refusal, apply}
+use Rattle.dconf_model.specs.Changes.Refusal.{not_writable, locked, too_large}
+use Rattle.dconf_model.specs.Stores.{Did, IsWholeChange}
+use Rattle.dconf_model.specs.Stores.Deed.{changed}
+use Rattle.dconf_engine.specs.declared.change_fault.ChangeFault.{ChangeFault}
+use Rattle.dconf_engine.specs.declared.change_fault.ChangeFault.TheVariants.{NotWritable, Locked, TooLarge, Memory}
+use Rattle.dconf_engine.specs.ChangeFaults.{Refuses}
+use Rattle.dconf_store.specs.declared.change.Change.{Change}
+use Rattle.dconf_store.specs.Changes.{asked_of, change_of}
+use Rattle.dconf_store.specs.Faults.{IsRefused, IsRefusedAt, store_fault_of}
+use Rattle.dconf_store.specs.Seen.{HaveChanged}
+use Rattle.dconf_store.proofs.SeenLaws.{did_then}
+
+one_more : (cs : List Change) (i : ℕ) (d : Change) → i < length cs → take (i + 1) (asked_of cs) ≡ take i (asked_of cs) ++ change_of (get_or cs i d) ∷ []
+one_more cs i d h =
+    take-map change_of (i + 1) cs
+    ∙ (map_more change_of cs i d h ∙ ap (λ asked. asked ++ change_of (get_or cs i d) ∷ []) (sym (take-map change_of i cs)))
+
+made_then : (l m n : Layers) (asked : List Asked) (a : Asked) → HaveChanged l asked m → IsWholeChange a → apply m a ≡ Ok n → HaveChanged l (asked ++ a ∷ []) n
+made_then l m n asked a made whole e others =
+    subst (λ deeds. Did others l deeds n) (sym (map-append changed asked (a ∷ [])))
+    (did_then others l m n (map changed asked) (changed a) (made others) (whole, e))
+
+pub next_is_made : (l m n : Layers) (cs : List Change) (i : ℕ) (x : Change) → i < length cs → x ≡ get_or cs i x → HaveChanged l (take i (asked_of cs)) m →
+    IsWholeChange (change_of x) → apply m (change_of x) ≡ Ok n → HaveChanged l (take (i + 1) (asked_of cs)) n
+next_is_made l m n cs i x h is made whole e =
+    subst (λ asked. HaveChanged l asked n) (sym (one_more cs i x h))
+    (subst (λ y. HaveChanged l (take i (asked_of cs) ++ change_of y ∷ []) n) is (made_then l m n (take i (asked_of cs)) (change_of x) made whole e))
+
+by : (l m : Layers) (asked : List Asked) (i : ℕ) (a : Asked) (r : Refusal) → HaveChanged l (take i asked) m → slice_get asked i ≡ Some a →
+    apply m a ≡ Err r → IsRefused l asked i r
+by l m asked i a r made at e = record { reached = m; before = made; change = a; is = at; refused = e }
+
+refused_as : (l m : Layers) (asked : List Asked) (i : ℕ) (a : Asked) (fault : ChangeFault) → HaveChanged l (take i asked) m → slice_get asked i ≡ Some a →
+    Refuses (apply m a) fault → IsRefusedAt l asked (store_fault_of i fault)
+refused_as l m asked i a NotWritable made at e = (not_writable, refl, by l m asked i a not_writable made at e)
+refused_as l m asked i a (Locked row) made at e = (locked row, refl, by l m asked i a (locked row) made at e)
+refused_as l m asked i a TooLarge made at e = (too_large, refl, by l m asked i a too_large made at e)
+refused_as l m asked i a Memory made at e = tt
+
+pub next_is_refused : (l m : Layers) (cs : List Change) (i : ℕ) (x : Change) (fault : ChangeFault) → i < length cs → x ≡ get_or cs i x →
+    HaveChanged l (take i (asked_of cs)) m → Refuses (apply m (change_of x)) fault → IsRefusedAt l (asked_of cs) (store_fault_of i fault)
+next_is_refused l m cs i x fault h is made e =
+    refused_as l m (asked_of cs) i (change_of x) fault made
+    (slice_get-map change_of cs i ∙ (ap (option_map change_of) (slice_get-get_or cs i x h) ∙ ap (λ y. Some (change_of y)) (sym is))) e

@@ -1,0 +1,5 @@
+pub mod SeenLaws
+pub mod NeverBad
+pub mod Writable
+pub mod ChangesMade
+pub mod ReplacedFiles

@@ -1,0 +1,4 @@
+pub mod Changes
+pub mod Faults
+pub mod Files
+pub mod Seen

@@ -1,0 +1,40 @@
+-- What a store has become, and what is seen of it.
+use Rattle.std.specs.Prelude.{◌≡◌, ◌↔◌, ℕ, Bool, List, ◌∷◌, ◌++◌, Option, map, Contains}
+use Rattle.gv_model.specs.Tree.{Tree}
+use Rattle.dconf_model.specs.Bytes.{MaybeBytes}
+use Rattle.dconf_model.specs.Databases.{AreLayers, IsDatabaseOf}
+use Rattle.dconf_model.specs.Layers.{Layers}
+use Rattle.dconf_model.specs.Changes.{Change, saved}
+use Rattle.dconf_model.specs.SoundLaws.{first_part}
+use Rattle.dconf_model.specs.Sources.{Given, last_value}
+use Rattle.dconf_model.specs.Stores.{Did, FilesGive, IsNamed, own_after, value_given}
+use Rattle.dconf_model.specs.Stores.Deed.{changed}
+
+-- the layers of these files
+pub record AreOpened (files : List MaybeBytes) (written : Bool) (l : Layers) : Type 0 where
+  pub layers : AreLayers files l.layers
+  pub writable : l.written ≡ written
+
+-- each change is accepted in turn
+abbrev pub HaveChanged : Layers → List Change → Layers → Type 0
+HaveChanged l changes m = (others : List MaybeBytes) → Did others l (map changed changes) m
+
+-- the layers of these files after these changes
+abbrev pub AreChanged : List MaybeBytes → Bool → List Change → Layers → Type 0
+AreChanged files written changes m = (l : Layers) × AreOpened files written l × HaveChanged l changes m
+
+-- the bytes that are saved of them
+abbrev pub IsSavedAfter : List MaybeBytes → Bool → List Change → List ℕ → Type 0
+IsSavedAfter files written changes file = (l : Layers) × AreChanged files written changes l × IsDatabaseOf (saved l.layers) file
+
+-- the value of a path is what the rows and locks of its databases, the changes and the order of the databases give
+abbrev pub IsValueAfter : List MaybeBytes → List Change → List ℕ → Option Tree → Type 0
+IsValueAfter files changes path v =
+    (g : Given) (gs : List Given) → FilesGive files (g ∷ gs) →
+    v ≡ value_given path (own_after gs (last_value g.values) changes path) gs
+
+-- the names are the first parts of the paths below the directory that the rows and the changes name, and no others
+abbrev pub AreChildrenAfter : List MaybeBytes → List Change → List ℕ → List (List ℕ) → Type 0
+AreChildrenAfter files changes directory names =
+    (g : Given) (gs : List Given) → FilesGive files (g ∷ gs) → (part : List ℕ) →
+    Contains names part ↔ ((rest : List ℕ) × IsNamed (own_after gs (last_value g.values) changes) gs (directory ++ rest) × (part ≡ first_part rest))
