@@ -28,4 +28,6 @@ mod typing;
 #[cfg(test)]
 mod values;
 #[cfg(test)]
+mod view_table;
+#[cfg(test)]
 mod views;
