@@ -1,4 +1,5 @@
-//! Values and their bytes: of each kind, and where the bytes are not the ones that are written for their value.
+//! Values and their bytes: of each kind, and where the bytes are not the ones that are written for
+//! their value.
 use crate::normal::both_tell;
 use crate::printing::printed;
 use crate::samples::value;
@@ -110,7 +111,8 @@ fn normal_bytes_are_read_written_and_printed(rt: HostRuntime) -> Result<(), Fail
     )
 }
 
-/// Each eight bytes are a double. An offset past the end, or past the offsets, and a byte of padding that is not zero are among these.
+/// Each eight bytes are a double. An offset past the end, or past the offsets, and a byte of
+/// padding that is not zero are among these.
 #[test]
 fn other_bytes_have_a_normal_form(rt: HostRuntime) -> Result<(), Fail> {
     AskedOfView::Form.each_gives(

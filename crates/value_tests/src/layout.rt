@@ -1,5 +1,5 @@
-//! How types are laid out, by example: alignments and sizes, the width of framing offsets, and where the children of
-//! containers lie, also in bytes that are not in normal form.
+//! How types are laid out, by example: alignments and sizes, the width of framing offsets, and
+//! where the children of containers lie, also in bytes that are not in normal form.
 use crate::table::Asked;
 use crate::view_table::AskedOfView;
 use gv_layout::{
@@ -12,7 +12,8 @@ use std::alloc::Global;
 use std::fmt::Write;
 use std::test::Fail;
 
-/// Of `u behind 1`, the alignment and the size of `u`, and the place of its value behind another's end.
+/// Of `u behind 1`, the alignment and the size of `u`, and the place of its value behind another's
+/// end.
 pub(crate) fn laid_out(alloc: Global, text: &str) -> Result<String, Fail> {
     let Some((of, end)) = text.split_once(" behind ") else {
         return Err(Fail::new("a line without an end"));
@@ -66,7 +67,8 @@ fn types_have_alignments_and_sizes(rt: HostRuntime) -> Result<(), Fail> {
     )
 }
 
-/// The number that the view's bytes are, the lowest first, and the width of offsets in so many bytes.
+/// The number that the view's bytes are, the lowest first, and the width of offsets in so many
+/// bytes.
 pub(crate) fn width(alloc: Global, view: View<'_>) -> Result<String, Fail> {
     let bytes = view.bytes();
     if bytes.len() > 8 {
@@ -114,23 +116,37 @@ fn agreed<'a>(view: View<'a>, i: usize, walked: Option<Place<'a>>) -> Option<Pla
     }
 }
 
-/// The children's bounds and types in order, as `0..4 u;4..8 u;`, where all calls say the same of a child; of a variant their number.
-pub(crate) fn children(alloc: Global, view: View<'_>) -> Result<String, Fail> {
+/// Pushes the children's bounds and types in order, where all calls say the same of a child.
+fn push_places(to: &mut String, view: View<'_>) -> Result<(), Fail> {
     let (of, bytes) = (view.type_str(), view.bytes());
-    let count = n_children(of, bytes);
     if of.class() == Class::Variant {
-        return Ok(format!(in alloc; "{count}")?);
+        return Ok(());
     }
-    let mut found = String::new(alloc);
     let mut walk = places(of, bytes);
-    for i in 0..count {
-        if let Some(Place { type_str, from, to }) = agreed(view, i, walk.next()) {
-            write!(found, "{from}..{to} {};", type_str.as_str())?;
+    for i in 0..n_children(of, bytes) {
+        if let Some(
+            Place {
+                type_str,
+                from,
+                to: end,
+            },
+        ) = agreed(view, i, walk.next())
+        {
+            write!(to, "{from}..{end} {};", type_str.as_str())?;
         }
     }
-    if walk.next().is_some() {
-        return Err(Fail::new("a walk to more children"));
+    if walk.next().is_none() {
+        Ok(())
+    } else {
+        Err(Fail::new("a walk to more children"))
     }
+}
+
+/// The number of a view's children, and their bounds and types in order, as `2:0..4 u;4..8 u;`.
+pub(crate) fn children(alloc: Global, view: View<'_>) -> Result<String, Fail> {
+    let count = n_children(view.type_str(), view.bytes());
+    let mut found = format!(in alloc; "{count}:")?;
+    push_places(&mut found, view)?;
     Ok(found)
 }
 
@@ -139,32 +155,33 @@ fn children_lie_at_their_bounds(rt: HostRuntime) -> Result<(), Fail> {
     AskedOfView::Places.each_gives(
         rt.alloc(),
         r"
-        u 'abcd' |
-        au 01 00 00 00 02 00 00 00 | 0..4 u;4..8 u;
-        au 01 00 00 00 02 00 00 |
-        as 'i' 00 'can' 00 'has' 00 'strings?' 00 02 06 0a 13 | 0..2 s;2..6 s;6..10 s;10..19 s;
-        aay 01 02 03 03 01 03 | 0..3 ay;0..0 ay;0..0 ay;
-        aay 00 | 0..0 ay;
-        aay 02 |
-        aay 09 09 00 03 09 02 | 0..0 ay;0..0 ay;0..0 ay;0..0 ay;
-        a(si) 'hi' 00 00 fe ff ff ff 03 00 00 00 'bye' 00 ff ff ff ff 04 09 15 | 0..9 (si);12..21 (si);
-        mu 01 00 00 00 | 0..4 u;
-        mu 01 00 00 00 00 |
-        ms 'hi' 00 00 | 0..3 s;
-        ms 07 | 0..0 s;
-        ms |
-        () 00 |
-        (yu) 01 00 00 00 02 00 00 00 | 0..1 y;4..8 u;
-        (yu) 01 00 00 00 02 00 00 | 0..0 y;0..0 u;
-        ((ys)as) 'ican' 00 'has' 00 'strings?' 00 04 0d 05 | 0..5 (ys);5..20 as;
-        (ssss) 'a' 00 'b' 00 'c' 00 'd' 00 06 04 02 | 0..2 s;2..4 s;4..6 s;6..8 s;
-        {si} 'a' 20 'key' 00 00 00 02 02 00 00 06 | 0..6 s;8..12 i;
-        (ays) 61 62 00 04 | 0..0 ay;0..0 s;
-        (ayu) 01 02 03 04 05 06 07 08 ff | 0..0 ay;0..0 u;
-        (sss) 01 | 0..0 s;0..0 s;0..0 s;
-        (ss) | 0..0 s;0..0 s;
-        (yst) 01 00 01 | 0..1 y;1..1 s;0..0 t;
-        (ysa{sv}) 01 'a' 00 03 | 0..1 y;1..3 s;0..0 a{sv};
+        v | 1:
+        u 'abcd' | 0:
+        au 01 00 00 00 02 00 00 00 | 2:0..4 u;4..8 u;
+        au 01 00 00 00 02 00 00 | 0:
+        as 'i' 00 'can' 00 'has' 00 'strings?' 00 02 06 0a 13 | 4:0..2 s;2..6 s;6..10 s;10..19 s;
+        aay 01 02 03 03 01 03 | 3:0..3 ay;0..0 ay;0..0 ay;
+        aay 00 | 1:0..0 ay;
+        aay 02 | 0:
+        aay 09 09 00 03 09 02 | 4:0..0 ay;0..0 ay;0..0 ay;0..0 ay;
+        a(si) 'hi' 00 00 fe ff ff ff 03 00 00 00 'bye' 00 ff ff ff ff 04 09 15 | 2:0..9 (si);12..21 (si);
+        mu 01 00 00 00 | 1:0..4 u;
+        mu 01 00 00 00 00 | 0:
+        ms 'hi' 00 00 | 1:0..3 s;
+        ms 07 | 1:0..0 s;
+        ms | 0:
+        () 00 | 0:
+        (yu) 01 00 00 00 02 00 00 00 | 2:0..1 y;4..8 u;
+        (yu) 01 00 00 00 02 00 00 | 2:0..0 y;0..0 u;
+        ((ys)as) 'ican' 00 'has' 00 'strings?' 00 04 0d 05 | 2:0..5 (ys);5..20 as;
+        (ssss) 'a' 00 'b' 00 'c' 00 'd' 00 06 04 02 | 4:0..2 s;2..4 s;4..6 s;6..8 s;
+        {si} 'a' 20 'key' 00 00 00 02 02 00 00 06 | 2:0..6 s;8..12 i;
+        (ays) 61 62 00 04 | 2:0..0 ay;0..0 s;
+        (ayu) 01 02 03 04 05 06 07 08 ff | 2:0..0 ay;0..0 u;
+        (sss) 01 | 3:0..0 s;0..0 s;0..0 s;
+        (ss) | 2:0..0 s;0..0 s;
+        (yst) 01 00 01 | 3:0..1 y;1..1 s;0..0 t;
+        (ysa{sv}) 01 'a' 00 03 | 3:0..1 y;1..3 s;0..0 a{sv};
     ",
     )
 }
@@ -175,10 +192,10 @@ fn wide_offsets_are_read(rt: HostRuntime) -> Result<(), Fail> {
     AskedOfView::Places.each_gives(
         rt.alloc(),
         r"
-        aay ~254×00 ~fe | 0..254 ay;
-        aay ~254×00 ~fe 00 | 0..254 ay;
-        aay ~65533×00 ~fd ff | 0..65533 ay;
-        aay ~65532×00 ~fc ff 00 00 | 0..65532 ay;
+        aay ~254×00 ~fe | 1:0..254 ay;
+        aay ~254×00 ~fe 00 | 1:0..254 ay;
+        aay ~65533×00 ~fd ff | 1:0..65533 ay;
+        aay ~65532×00 ~fc ff 00 00 | 1:0..65532 ay;
     ",
     )
 }

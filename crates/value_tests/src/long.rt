@@ -27,7 +27,8 @@ fn is_valued(alloc: Global, syntax: &Syntax, tree: &Tree) -> Result<bool, Fail> 
     Ok(value_at(alloc, syntax, tree.type_text())?.equal(tree))
 }
 
-/// Whether the text is read in steps too: its tokens, its syntax, and the type and the value of that.
+/// Whether the text is read in steps too: its tokens, its syntax, and the type and the value of
+/// that.
 fn is_read_in_steps(alloc: Global, text: &str, tree: &Tree) -> Result<bool, Fail> {
     if text.len() > Syntax::MAX_TEXT_LEN {
         return Err(Fail::new("a text too long to be read"));
@@ -44,7 +45,8 @@ fn goes(alloc: Global, text: &str, view: View<'_>) -> Result<bool, Fail> {
     Ok(is_shown(alloc, view, text)? && has_form(alloc, view, view.bytes())?)
 }
 
-/// The number of bytes of a tree that goes all the way: it is read from the text, written, read back and printed.
+/// The number of bytes of a tree that goes all the way: it is read from the text, written, read
+/// back and printed.
 fn size_of_tree(alloc: Global, text: &str, tree: &Tree) -> Result<usize, Fail> {
     let bytes = serialise(alloc, tree)?;
     if goes(alloc, text, View::new(tree.type_text(), bytes.as_slice()))? {
@@ -115,7 +117,8 @@ fn values_of_bytes(alloc: Global, count: usize) -> Result<u64, Fail> {
 /// The last two lines are 127 and 128 empty strings.
 #[test]
 fn long_values_go_all_the_way(rt: HostRuntime) -> Result<(), Fail> {
-    // The numbers have 38,890 digits, and each string a zero byte and an offset of four bytes; as a `v` there is a zero byte and the type behind it.
+    // The numbers have 38,890 digits, and each string a zero byte and an offset of four bytes; as a
+    // `v` there is a zero byte and the type behind it.
     let sizes = sizes_of_numbers(rt.alloc(), 10_000)?;
     let values = values_of_bytes(rt.alloc(), 1_000_001)?;
     assert!(rt; (sizes, values) == ((88_890, 88_893), 1_000_002));

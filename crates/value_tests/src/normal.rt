@@ -1,4 +1,5 @@
-//! Two tests of whether bytes are normal, the plain one and the one in place: how long it takes, and that they agree.
+//! Two tests of whether bytes are normal, the plain one and the one in place: how long it takes,
+//! and that they agree.
 use crate::view_table::AskedOfView;
 use gv_build::{BuildFault, MAX_LEN, normal_form};
 use gv_normal::{is_normal, is_normal_counted, is_normal_plain};
@@ -119,18 +120,41 @@ fn agree_on_value(alloc: Global, of: TypeStr<'_>, bytes: &[u8]) -> Result<bool, 
     }
 }
 
-/// Whether the two tests agree where one byte of what is written for a value is changed to each of four others.
+/// Whether the two tests agree where this byte is changed to another, which is taken back.
+fn agree_on_change(
+    alloc: Global,
+    of: TypeStr<'_>,
+    bytes: &mut [u8],
+    i: usize,
+    other: u8,
+) -> Result<bool, Fail> {
+    if i >= bytes.len() {
+        return Ok(true);
+    }
+    let byte = bytes[i];
+    bytes[i] = other;
+    let view = View::new(of, bytes);
+    let agreed = both_tell(alloc, view, is_normal(view))?;
+    bytes[i] = byte;
+    Ok(agreed)
+}
+
+/// Whether the two tests agree where this byte is changed to each of four others.
+fn agree_at(alloc: Global, of: TypeStr<'_>, bytes: &mut [u8], i: usize) -> Result<bool, Fail> {
+    for other in [0, 1, 2, 255] {
+        if !agree_on_change(alloc, of, bytes, i, other)? {
+            return Ok(false);
+        }
+    }
+    Ok(true)
+}
+
+/// Whether the two tests agree where one byte of what is written for a value is changed.
 fn agree_on_changes(alloc: Global, of: TypeStr<'_>, bytes: &[u8]) -> Result<bool, Fail> {
     let mut changed = normal_form(alloc, View::new(of, bytes))?;
     for i in 0..changed.len() {
-        for other in [0, 1, 2, 255] {
-            let byte = changed[i];
-            changed[i] = other;
-            let view = View::new(of, &changed);
-            if !both_tell(alloc, view, is_normal(view))? {
-                return Ok(false);
-            }
-            changed[i] = byte;
+        if !agree_at(alloc, of, &mut changed, i)? {
+            return Ok(false);
         }
     }
     Ok(true)

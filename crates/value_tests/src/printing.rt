@@ -35,8 +35,8 @@ pub(crate) fn attempt(alloc: Global, view: View<'_>) -> Result<String, Fail> {
     }
 }
 
-/// Of two elements that both end at the start, the second one is not annotated. Members behind one that ends past the bytes, and offsets
-/// past the end, are among these. Each byte but zero is true.
+/// Of two elements that both end at the start, the second one is not annotated. Members behind one
+/// that ends past the bytes, and offsets past the end, are among these. Each byte but zero is true.
 #[test]
 fn what_lies_nowhere_is_printed_as_its_default(rt: HostRuntime) -> Result<(), Fail> {
     AskedOfView::Printed.each_gives(
@@ -93,7 +93,8 @@ fn what_lies_nowhere_is_printed_as_its_default(rt: HostRuntime) -> Result<(), Fa
     )
 }
 
-/// A variant is two levels, other types of one letter and what is empty are one, and an entry of these is two.
+/// A variant is two levels, other types of one letter and what is empty are one, and an entry of
+/// these is two.
 #[test]
 fn doubles_and_what_has_129_levels_are_not_printed(rt: HostRuntime) -> Result<(), Fail> {
     AskedOfView::Attempt.each_gives(

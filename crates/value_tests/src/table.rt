@@ -1,4 +1,5 @@
-//! Tables of texts: a line has a text, a bar, and what comes of the text. In it `~3×ab~` stands for `ababab`.
+//! Tables of texts: a line has a text, a bar, and what comes of the text. In the text and in what
+//! comes of it `~3×ab~` stands for `ababab`.
 use crate::samples::spelt_out;
 use crate::view_table::AskedOfView;
 use crate::{layout, long, syntax, tokens, trees, types, typing, values, views};
@@ -93,7 +94,8 @@ impl Asked {
         }
     }
 
-    /// An error says that something else comes of the text of a line. Blanks at a line's start are dropped.
+    /// An error says that something else comes of the text of a line. Blanks at a line's start are
+    /// dropped.
     pub(crate) fn each_gives(self, alloc: Global, lines: &str) -> Result<(), Fail> {
         self.each_part_gives(alloc, '\n', lines)
     }

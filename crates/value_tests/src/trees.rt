@@ -7,14 +7,17 @@ use gv_types::{Class, TypeStr};
 use std::alloc::Global;
 use std::test::Fail;
 
-/// The type of a tree, its levels and its values; or why there is none.
+/// The type of a tree, its levels and its values.
+fn told(alloc: Global, tree: &Tree) -> Result<String, Fail> {
+    let (levels, values) = (tree.depth(), tree.nodes());
+    let of = tree.type_text().as_str();
+    Ok(format!(in alloc; "{of} {levels} {values}")?)
+}
+
+/// What a tree tells, or why there is none.
 fn outcome(alloc: Global, made: Result<Tree, TreeFault>) -> Result<String, Fail> {
     match made {
-        Ok(tree) => {
-            let (levels, values) = (tree.depth(), tree.nodes());
-            let of = tree.type_text().as_str();
-            Ok(format!(in alloc; "{of} {levels} {values}")?)
-        }
+        Ok(tree) => told(alloc, &tree),
         Err(fault) => Ok(format!(in alloc; "{fault}")?),
     }
 }
@@ -37,7 +40,8 @@ fn entry_or_variant(alloc: Global, mut children: Vec<Tree>) -> Result<String, Fa
     }
 }
 
-/// A container that begins with this letter. Its element, if it has one, is at the start of the other text.
+/// A container that begins with this letter. Its element, if it has one, is at the start of the
+/// other text.
 fn made(alloc: Global, letter: &str, of: &str, mut children: Vec<Tree>) -> Result<String, Fail> {
     match (letter, TypeStr::prefix_of(of)) {
         ("a", Some(of)) => outcome(alloc, Tree::array(alloc, of, children)),
@@ -47,7 +51,8 @@ fn made(alloc: Global, letter: &str, of: &str, mut children: Vec<Tree>) -> Resul
     }
 }
 
-/// The container of a letter and an element's type, as `as` or `(`, whose parts are the values of the words after it.
+/// The container of a letter and an element's type, as `as` or `(`, whose parts are the values of
+/// the words after it.
 pub(crate) fn container(alloc: Global, text: &str) -> Result<String, Fail> {
     let (word, words) = text.split_once(' ').unwrap_or((text, ""));
     let Some((letter, of)) = word.split_at_checked(1) else {
@@ -104,28 +109,37 @@ fn containers_nest_128_levels(rt: HostRuntime) -> Result<(), Fail> {
     )
 }
 
+/// The bits of the double 1.
+const ONE: [u8; 8] = [0, 0, 0, 0, 0, 0, 0xf0, 0x3f];
+
 /// The basic value of a letter that is a number.
-fn number(letter: &str, text: &str) -> Result<Basic, Fail> {
-    Ok(match letter {
-        "b" => Basic::Bool(text == "true"),
-        "y" => Basic::Byte(text.parse()?),
-        "n" => Basic::Int16(text.parse()?),
-        "q" => Basic::Uint16(text.parse()?),
-        "i" => Basic::Int32(text.parse()?),
-        "u" => Basic::Uint32(text.parse()?),
-        "x" => Basic::Int64(text.parse()?),
-        "t" => Basic::Uint64(text.parse()?),
-        _ => Basic::HandleNo(text.parse()?),
-    })
+fn number(letter: &str, text: &str) -> Option<Basic> {
+    match letter {
+        "b" => Some(Basic::Bool(text == "true")),
+        "y" => text.parse().ok().map(Basic::Byte),
+        "n" => text.parse().ok().map(Basic::Int16),
+        "q" => text.parse().ok().map(Basic::Uint16),
+        "i" => text.parse().ok().map(Basic::Int32),
+        "u" => text.parse().ok().map(Basic::Uint32),
+        "x" => text.parse().ok().map(Basic::Int64),
+        "t" => text.parse().ok().map(Basic::Uint64),
+        "h" => text.parse().ok().map(Basic::HandleNo),
+        "d" if text == "1" => Some(Basic::DoubleBits(ONE)),
+        _ => None,
+    }
 }
 
 /// The basic value of a letter, which is a number or this text.
 fn basic_value(alloc: Global, letter: &str, text: &str) -> Result<Basic, Fail> {
+    if let Some(value) = number(letter, text) {
+        return Ok(value);
+    }
+    let text = String::from_str(alloc, text)?;
     match letter {
-        "s" => Ok(Basic::Text(String::from_str(alloc, text)?)),
-        "o" => Ok(Basic::ObjectPath(String::from_str(alloc, text)?)),
-        "g" => Ok(Basic::Signature(String::from_str(alloc, text)?)),
-        _ => number(letter, text),
+        "s" => Ok(Basic::Text(text)),
+        "o" => Ok(Basic::ObjectPath(text)),
+        "g" => Ok(Basic::Signature(text)),
+        _ => Err(Fail::new("no basic value")),
     }
 }
 
@@ -221,29 +235,44 @@ fn are_equal(alloc: Global, one: &Tree, other: &Tree) -> Result<bool, Fail> {
     }
 }
 
+/// Whether a tree is equal to the one of a text.
+fn is_equal_to(alloc: Global, one: &Tree, other: &str) -> Result<bool, Fail> {
+    let other = tree_of(alloc, other)?;
+    are_equal(alloc, one, &other)
+}
+
+/// Whether the trees of two texts are equal.
+fn are_texts_equal(alloc: Global, one: &str, other: &str) -> Result<bool, Fail> {
+    let one = tree_of(alloc, one)?;
+    is_equal_to(alloc, &one, other)
+}
+
 /// Whether the trees of two texts, with ` and ` between them, are equal.
 pub(crate) fn compared(alloc: Global, line: &str) -> Result<String, Fail> {
     let Some((one, other)) = line.split_once(" and ") else {
         return Err(Fail::new("one tree alone"));
     };
-    let one = tree_of(alloc, one)?;
-    let equal = are_equal(alloc, &one, &tree_of(alloc, other)?)?;
+    let equal = are_texts_equal(alloc, one, other)?;
     Ok(format!(in alloc; "{equal}")?)
 }
 
-/// Whether the double 1 is written as its bits, and read from them.
-fn double_is_read(alloc: Global) -> Result<bool, Fail> {
-    let double = Tree::basic(alloc, Basic::DoubleBits([0, 0, 0, 0, 0, 0, 0xf0, 0x3f]))?;
-    let read = view("d", b"\0\0\0\0\0\0\xf0\x3f")?.to_tree(alloc)?;
-    let bytes = serialise(alloc, &double)?;
-    Ok(bytes.as_slice() == b"\0\0\0\0\0\0\xf0\x3f".as_slice() && read.equal(&double))
+/// Whether the tree is the double 1.
+fn is_double_one(alloc: Global, tree: &Tree) -> Result<bool, Fail> {
+    let double = Tree::basic(alloc, Basic::DoubleBits(ONE))?;
+    Ok(tree.equal(&double))
 }
 
-/// A double that is no number, the zero with a sign, and arrays and maybes without a child, which are equal where their types are, are
-/// among these.
+/// Whether the tree of a text is the double 1.
+fn is_text_of_one(alloc: Global, text: &str) -> Result<bool, Fail> {
+    let tree = tree_of(alloc, text)?;
+    is_double_one(alloc, &tree)
+}
+
+/// A double that is no number, the zero with a sign, and arrays and maybes without a child, which
+/// are equal where their types are, are among these.
 #[test]
 fn trees_are_equal_where_types_and_bits_are(rt: HostRuntime) -> Result<(), Fail> {
-    let read = double_is_read(rt.alloc())?;
+    let read = is_text_of_one(rt.alloc(), "d 00 00 00 00 00 00 f0 3f")?;
     assert!(rt; read);
     Asked::Equal.each_gives(
         rt.alloc(),
@@ -278,6 +307,7 @@ fn each_basic_is_written_by_its_bytes(rt: HostRuntime) -> Result<(), Fail> {
         x -2 | x 1 1 [254, 255, 255, 255, 255, 255, 255, 255]
         t 72623859790382856 | t 1 1 [8, 7, 6, 5, 4, 3, 2, 1]
         h 7 | h 1 1 [7, 0, 0, 0]
+        d 1 | d 1 1 [0, 0, 0, 0, 0, 0, 240, 63]
     ",
     )
 }

@@ -1,5 +1,5 @@
-//! Types by example: what each kind is made of, where a text that is no type is at fault, and which texts are
-//! object paths and signatures.
+//! Types by example: what each kind is made of, where a text that is no type is at fault, and which
+//! texts are object paths and signatures.
 use crate::table::Asked;
 use gv_layout::fixed_size;
 use gv_text::TypeText;
@@ -58,7 +58,8 @@ fn push_members(to: &mut String, of: TypeStr<'_>) -> Result<(), Fail> {
     Ok(())
 }
 
-/// Pushes the texts of a type's members, a space before each, then those of the first member's, and so on.
+/// Pushes the texts of a type's members, a space before each, then those of the first member's, and
+/// so on.
 fn push_descent(to: &mut String, outermost: TypeStr<'_>) -> Result<(), Fail> {
     let mut of = outermost;
     for _ in 0..6 {
@@ -71,7 +72,8 @@ fn push_descent(to: &mut String, outermost: TypeStr<'_>) -> Result<(), Fail> {
     Ok(())
 }
 
-/// Pushes the letters of the members of basic types that come first, and then the texts of the members that are left, a space before each.
+/// Pushes the letters of the members of basic types that come first, and then the texts of the
+/// members that are left, a space before each.
 fn push_basics_and_others(to: &mut String, of: TypeStr<'_>) -> Result<(), Fail> {
     let mut members = of.members();
     for _ in 0..of.as_str().len() {
@@ -101,7 +103,8 @@ fn is_container(of: TypeStr<'_>, text: &str) -> bool {
         && Members::is_empty(&members) == of.members().next().is_none()
 }
 
-/// The class of a type, its element and its key; after a colon the members and those in them; after another the members once more.
+/// The class of a type, its element and its key; after a colon the members and those in them; after
+/// another the members once more.
 fn parts_of(alloc: Global, of: TypeStr<'_>) -> Result<String, Fail> {
     let class = of.class();
     let element = of.element().map(TypeStr::as_str).unwrap_or("-");
@@ -188,7 +191,8 @@ fn split(bytes: &[u8]) -> Option<(&str, usize)> {
     TypeStr::split_prefix(bytes).map(|(of, rest)| (of.as_str(), rest.len()))
 }
 
-/// The type at the start of the text, which is cut from it and from its bytes, and how many bytes follow it.
+/// The type at the start of the text, which is cut from it and from its bytes, and how many bytes
+/// follow it.
 pub(crate) fn prefix(alloc: Global, text: &str) -> Result<String, Fail> {
     let cut = TypeStr::prefix_of(text).map(TypeStr::as_str);
     match (cut, split(text.as_bytes())) {

@@ -1,4 +1,5 @@
-//! Tables of views: a line has a type, the bytes, a bar, and what comes of the view. The bytes are texts in quotes and hexadecimal digits.
+//! Tables of views: a line has a type, the bytes, a bar, and what comes of the view. The bytes are
+//! texts in quotes and hexadecimal digits.
 use crate::samples::{bytes_of, view};
 use crate::table::Asked;
 use crate::{bytes, layout, long, normal, printing, views};

@@ -1,5 +1,5 @@
-//! Views by example: what bytes are at basic types, which children they have, what a key leads to, and what a variant
-//! holds.
+//! Views by example: what bytes are at basic types, which children they have, what a key leads to,
+//! and what a variant holds.
 use crate::samples::{bytes_of, view};
 use crate::table::Asked;
 use crate::view_table::AskedOfView;
