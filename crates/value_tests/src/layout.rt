@@ -1,197 +1,201 @@
-//! How types are laid out, by example: alignments and sizes, the width of framing offsets, and where the children of
-//! containers lie, also in bytes that are not in normal form.
+//! How types are laid out, by example: alignments and sizes, the width of framing offsets, and
+//! where the children of containers lie, also in bytes that are not in normal form.
+use crate::table::Asked;
+use crate::view_table::AskedOfView;
 use gv_layout::{
-    alignment, fixed_size, member_bounds, n_children, number, offset_width, place_behind, place_of,
-    places, round_up, type_info,
+    Place, alignment, fixed_size, member_bounds, n_children, number, offset_width, place_behind,
+    place_of, places, round_up, type_info,
 };
 use gv_types::{Class, TypeStr};
+use gv_view::View;
 use std::alloc::Global;
 use std::fmt::Write;
 use std::test::Fail;
 
-/// Whether values of this type have the alignment and the fixed size, and begin at this place behind another's end.
-fn is_laid_out(
-    text: &str,
-    aligned: u8,
-    size: Option<usize>,
-    end: u8,
-    place: usize,
-) -> Result<bool, Fail> {
-    let of = TypeStr::parse(text)?;
-    let info = type_info(of);
-    Ok(
-        alignment(of) == aligned
-            && fixed_size(of) == size
-            && (info.alignment, info.size) == (aligned, size)
-            && place_behind(usize::from(end), of) == place,
-    )
+/// Of `u behind 1`, the alignment and the size of `u`, and the place of its value behind another's
+/// end.
+pub(crate) fn laid_out(alloc: Global, text: &str) -> Result<String, Fail> {
+    let Some((of, end)) = text.split_once(" behind ") else {
+        return Err(Fail::new("a line without an end"));
+    };
+    let of = TypeStr::parse(of)?;
+    let end: u8 = end.parse()?;
+    let (aligned, size, info) = (alignment(of), fixed_size(of), type_info(of));
+    if (info.alignment, info.size) != (aligned, size) {
+        return Err(Fail::new("two calls differ"));
+    }
+    let place = place_behind(usize::from(end), of);
+    Ok(format!(in alloc; "{aligned} {size:?} {place}")?)
 }
 
 #[test]
 fn types_have_alignments_and_sizes(rt: HostRuntime) -> Result<(), Fail> {
-    for (text, aligned, size, end, place) in [
-        ("b", 1, Some(1), 7, 7),
-        ("n", 2, Some(2), 7, 8),
-        ("u", 4, Some(4), 1, 4),
-        ("u", 4, Some(4), 4, 4),
-        ("h", 4, Some(4), 5, 8),
-        ("d", 8, Some(8), 8, 8),
-        ("s", 1, None, 9, 9),
-        ("v", 8, None, 0, 0),
-        ("as", 1, None, 3, 3),
-        ("ay", 1, None, 0, 0),
-        ("a(yx)", 8, None, 3, 8),
-        ("a(sx)", 8, None, 1, 8),
-        ("mmx", 8, None, 17, 24),
-        ("()", 1, Some(1), 3, 3),
-        ("(y)", 1, Some(1), 5, 5),
-        ("(yq)", 2, Some(4), 5, 6),
-        ("(yu)", 4, Some(8), 2, 4),
-        ("(uy)", 4, Some(8), 3, 4),
-        ("(yyyyy)", 1, Some(5), 2, 2),
-        ("(nqiuxthd)", 8, Some(48), 6, 8),
-        ("(sx)", 8, None, 12, 16),
-        ("(ymu)", 4, None, 6, 8),
-        ("(())", 1, Some(1), 7, 7),
-        ("((yq)u)", 4, Some(8), 9, 12),
-        ("(y(yq)y)", 2, Some(8), 3, 4),
-        ("(y(ys)u)", 4, None, 10, 12),
-        ("{yx}", 8, Some(16), 4, 8),
-        ("{y()}", 1, Some(2), 11, 11),
-        ("{y(yu)}", 4, Some(12), 13, 16),
-        ("{sv}", 8, None, 9, 16),
-    ] {
-        let found = is_laid_out(text, aligned, size, end, place)?;
-        assert!(rt; found, "{text} behind {end}");
-    }
-    Ok(())
+    Asked::Layout.each_gives(
+        rt.alloc(),
+        r"
+        b behind 7 | 1 Some(1) 7
+        n behind 7 | 2 Some(2) 8
+        u behind 1 | 4 Some(4) 4
+        u behind 4 | 4 Some(4) 4
+        h behind 5 | 4 Some(4) 8
+        d behind 8 | 8 Some(8) 8
+        s behind 9 | 1 None 9
+        v behind 0 | 8 None 0
+        as behind 3 | 1 None 3
+        ay behind 0 | 1 None 0
+        a(yx) behind 3 | 8 None 8
+        a(sx) behind 1 | 8 None 8
+        mmx behind 17 | 8 None 24
+        () behind 3 | 1 Some(1) 3
+        (y) behind 5 | 1 Some(1) 5
+        (yq) behind 5 | 2 Some(4) 6
+        (yu) behind 2 | 4 Some(8) 4
+        (uy) behind 3 | 4 Some(8) 4
+        (yyyyy) behind 2 | 1 Some(5) 2
+        (nqiuxthd) behind 6 | 8 Some(48) 8
+        (sx) behind 12 | 8 None 16
+        (ymu) behind 6 | 4 None 8
+        (()) behind 7 | 1 Some(1) 7
+        ((yq)u) behind 9 | 4 Some(8) 12
+        (y(yq)y) behind 3 | 2 Some(8) 4
+        (y(ys)u) behind 10 | 4 None 12
+        {yx} behind 4 | 8 Some(16) 8
+        {y()} behind 11 | 1 Some(2) 11
+        {y(yu)} behind 13 | 4 Some(12) 16
+        {sv} behind 9 | 8 None 16
+    ",
+    )
 }
 
-/// Whether the offsets of a container of this length have this width, and the bytes are its length, the lowest first.
-fn is_counted(len: usize, width: u8, bytes: &[u8]) -> bool {
-    bytes.len() <= 8 && number(bytes) == len && offset_width(len) == width
+/// The number that the view's bytes are, the lowest first, and the width of offsets in so many
+/// bytes.
+pub(crate) fn width(alloc: Global, view: View<'_>) -> Result<String, Fail> {
+    let bytes = view.bytes();
+    if bytes.len() > 8 {
+        return Err(Fail::new("a number of more than eight bytes"));
+    }
+    let len = number(bytes);
+    let width = offset_width(len);
+    Ok(format!(in alloc; "{len} {width}")?)
 }
 
 #[test]
-fn offsets_widen_with_the_container(rt: HostRuntime) {
-    let rows: [(usize, u8, &[u8]); 10] = [
-        (0, 0, &[]),
-        (1, 1, &[1]),
-        (255, 1, &[255]),
-        (256, 2, &[0, 1]),
-        (513, 2, &[1, 2]),
-        (65_535, 2, &[255, 255]),
-        (65_536, 4, &[0, 0, 1, 0]),
-        (16_777_216, 4, &[0, 0, 0, 1]),
-        (4_294_967_295, 4, &[255, 255, 255, 255]),
-        (4_294_967_296, 8, &[0, 0, 0, 0, 1, 0, 0, 0]),
-    ];
-    for (len, width, bytes) in rows {
-        assert!(rt; is_counted(len, width, bytes), "at {len}");
-    }
+fn offsets_widen_with_the_container(rt: HostRuntime) -> Result<(), Fail> {
     let rounded = (round_up(9, 8), round_up(8, 8), round_up(7, 1));
     assert!(rt; rounded == (16, 8, 7));
+    AskedOfView::Width.each_gives(
+        rt.alloc(),
+        r"
+        ay | 0 0
+        ay 01 | 1 1
+        ay ff | 255 1
+        ay 00 01 | 256 2
+        ay 01 02 | 513 2
+        ay ff ff | 65535 2
+        ay 00 00 01 00 | 65536 4
+        ay 00 00 00 01 | 16777216 4
+        ay ff ff ff ff | 4294967295 4
+        ay 00 00 00 00 01 00 00 00 | 4294967296 8
+    ",
+    )
 }
 
-/// The children's bounds and types in order, as `0..4 u 4..8 u `, where all calls say the same of a child.
-fn children(alloc: Global, text: &str, bytes: &[u8]) -> Result<String, Fail> {
-    let of = TypeStr::parse(text)?;
-    let mut found = String::new(alloc);
+/// The place that a walk gives for a child, where all calls say the same of it.
+fn agreed<'a>(view: View<'a>, i: usize, walked: Option<Place<'a>>) -> Option<Place<'a>> {
+    let (of, bytes) = (view.type_str(), view.bytes());
+    if of.class() == Class::Variant || i >= n_children(of, bytes) {
+        return None;
+    }
+    let bounds = member_bounds(of, bytes, i);
+    let place = place_of(of, bytes, i)?;
+    let walked = walked.map(|place| (place.from, place.to));
+    if walked == Some(bounds) && (place.from, place.to) == bounds {
+        Some(place)
+    } else {
+        None
+    }
+}
+
+/// Pushes the children's bounds and types in order, where all calls say the same of a child.
+fn push_places(to: &mut String, view: View<'_>) -> Result<(), Fail> {
+    let (of, bytes) = (view.type_str(), view.bytes());
     if of.class() == Class::Variant {
-        return Ok(found);
+        return Ok(());
     }
     let mut walk = places(of, bytes);
     for i in 0..n_children(of, bytes) {
-        let bounds = member_bounds(of, bytes, i);
-        let walked = walk.next().map(|place| (place.from, place.to));
-        if let Some(place) = place_of(of, bytes, i) {
-            if walked == Some(bounds) && (place.from, place.to) == bounds {
-                write!(
-                    found,
-                    "{}..{} {} ",
-                    place.from,
-                    place.to,
-                    place.type_str.as_str()
-                )?;
-            }
+        if let Some(
+            Place {
+                type_str,
+                from,
+                to: end,
+            },
+        ) = agreed(view, i, walk.next())
+        {
+            write!(to, "{from}..{end} {};", type_str.as_str())?;
         }
     }
-    if walk.next().is_some() {
-        found.push_str("and more")?;
+    if walk.next().is_none() {
+        Ok(())
+    } else {
+        Err(Fail::new("a walk to more children"))
     }
+}
+
+/// The number of a view's children, and their bounds and types in order, as `2:0..4 u;4..8 u;`.
+pub(crate) fn children(alloc: Global, view: View<'_>) -> Result<String, Fail> {
+    let count = n_children(view.type_str(), view.bytes());
+    let mut found = format!(in alloc; "{count}:")?;
+    push_places(&mut found, view)?;
     Ok(found)
 }
 
 #[test]
 fn children_lie_at_their_bounds(rt: HostRuntime) -> Result<(), Fail> {
-    let rows: [(&str, &[u8], &str); 26] = [
-        ("u", b"abcd", ""),
-        ("au", &[1, 0, 0, 0, 2, 0, 0, 0], "0..4 u 4..8 u "),
-        ("au", &[1, 0, 0, 0, 2, 0, 0], ""),
-        (
-            "as",
-            b"i\0can\0has\0strings?\0\x02\x06\x0a\x13",
-            "0..2 s 2..6 s 6..10 s 10..19 s ",
-        ),
-        ("aay", &[1, 2, 3, 3, 1, 3], "0..3 ay 0..0 ay 0..0 ay "),
-        ("aay", &[0], "0..0 ay "),
-        ("aay", &[2], ""),
-        (
-            "aay",
-            &[9, 9, 0, 3, 9, 2],
-            "0..0 ay 0..0 ay 0..0 ay 0..0 ay ",
-        ),
-        (
-            "a(si)",
-            b"hi\0\0\xfe\xff\xff\xff\x03\0\0\0bye\0\xff\xff\xff\xff\x04\x09\x15",
-            "0..9 (si) 12..21 (si) ",
-        ),
-        ("mu", &[1, 0, 0, 0], "0..4 u "),
-        ("mu", &[1, 0, 0, 0, 0], ""),
-        ("ms", b"hi\0\0", "0..3 s "),
-        ("ms", &[7], "0..0 s "),
-        ("ms", &[], ""),
-        ("()", &[0], ""),
-        ("(yu)", &[1, 0, 0, 0, 2, 0, 0, 0], "0..1 y 4..8 u "),
-        ("(yu)", &[1, 0, 0, 0, 2, 0, 0], "0..0 y 0..0 u "),
-        (
-            "((ys)as)",
-            b"ican\0has\0strings?\0\x04\x0d\x05",
-            "0..5 (ys) 5..20 as ",
-        ),
-        (
-            "(ssss)",
-            b"a\0b\0c\0d\0\x06\x04\x02",
-            "0..2 s 2..4 s 4..6 s 6..8 s ",
-        ),
-        ("{si}", b"a key\0\0\0\x02\x02\0\0\x06", "0..6 s 8..12 i "),
-        ("(ays)", &[0x61, 0x62, 0, 4], "0..0 ay 0..0 s "),
-        ("(ayu)", &[1, 2, 3, 4, 5, 6, 7, 8, 255], "0..0 ay 0..0 u "),
-        ("(sss)", &[1], "0..0 s 0..0 s 0..0 s "),
-        ("(ss)", &[], "0..0 s 0..0 s "),
-        ("(yst)", &[1, 0, 1], "0..1 y 1..1 s 0..0 t "),
-        ("(ysa{sv})", b"\x01a\0\x03", "0..1 y 1..3 s 0..0 a{sv} "),
-    ];
-    for (text, bytes, expected) in rows {
-        let found = children(rt.alloc(), text, bytes)?;
-        assert!(rt; found.as_str() == expected, "{text} at {bytes:?}");
-    }
-    assert!(rt; n_children(TypeStr::parse("v")?, &[]) == 1);
-    Ok(())
+    AskedOfView::Places.each_gives(
+        rt.alloc(),
+        r"
+        v | 1:
+        u 'abcd' | 0:
+        au 01 00 00 00 02 00 00 00 | 2:0..4 u;4..8 u;
+        au 01 00 00 00 02 00 00 | 0:
+        as 'i' 00 'can' 00 'has' 00 'strings?' 00 02 06 0a 13 | 4:0..2 s;2..6 s;6..10 s;10..19 s;
+        aay 01 02 03 03 01 03 | 3:0..3 ay;0..0 ay;0..0 ay;
+        aay 00 | 1:0..0 ay;
+        aay 02 | 0:
+        aay 09 09 00 03 09 02 | 4:0..0 ay;0..0 ay;0..0 ay;0..0 ay;
+        a(si) 'hi' 00 00 fe ff ff ff 03 00 00 00 'bye' 00 ff ff ff ff 04 09 15 | 2:0..9 (si);12..21 (si);
+        mu 01 00 00 00 | 1:0..4 u;
+        mu 01 00 00 00 00 | 0:
+        ms 'hi' 00 00 | 1:0..3 s;
+        ms 07 | 1:0..0 s;
+        ms | 0:
+        () 00 | 0:
+        (yu) 01 00 00 00 02 00 00 00 | 2:0..1 y;4..8 u;
+        (yu) 01 00 00 00 02 00 00 | 2:0..0 y;0..0 u;
+        ((ys)as) 'ican' 00 'has' 00 'strings?' 00 04 0d 05 | 2:0..5 (ys);5..20 as;
+        (ssss) 'a' 00 'b' 00 'c' 00 'd' 00 06 04 02 | 4:0..2 s;2..4 s;4..6 s;6..8 s;
+        {si} 'a' 20 'key' 00 00 00 02 02 00 00 06 | 2:0..6 s;8..12 i;
+        (ays) 61 62 00 04 | 2:0..0 ay;0..0 s;
+        (ayu) 01 02 03 04 05 06 07 08 ff | 2:0..0 ay;0..0 u;
+        (sss) 01 | 3:0..0 s;0..0 s;0..0 s;
+        (ss) | 2:0..0 s;0..0 s;
+        (yst) 01 00 01 | 3:0..1 y;1..1 s;0..0 t;
+        (ysa{sv}) 01 'a' 00 03 | 3:0..1 y;1..3 s;0..0 a{sv};
+    ",
+    )
 }
 
-/// Whether a container that ends in one framing offset of this width has one child, up to the offset.
-fn holds_one(alloc: Global, end: u32, width: usize) -> Result<bool, Fail> {
-    let mut bytes: Vec<u8> = vec![in alloc; 0; usize::try_from(end)?]?;
-    bytes.extend_from_slice(end.to_le_bytes().get(..width).unwrap_or(&[]))?;
-    let child = format!(in alloc; "0..{end} ay ")?;
-    Ok(children(alloc, "aay", &bytes)?.as_str() == child.as_str())
-}
-
+/// A container that ends in one framing offset has one child, up to the offset.
 #[test]
 fn wide_offsets_are_read(rt: HostRuntime) -> Result<(), Fail> {
-    for (end, width) in [(254, 1), (254, 2), (65_533, 2), (65_532, 4)] {
-        assert!(rt; holds_one(rt.alloc(), end, width)?, "{end}, {width}");
-    }
-    Ok(())
+    AskedOfView::Places.each_gives(
+        rt.alloc(),
+        r"
+        aay ~254×00 ~fe | 1:0..254 ay;
+        aay ~254×00 ~fe 00 | 1:0..254 ay;
+        aay ~65533×00 ~fd ff | 1:0..65533 ay;
+        aay ~65532×00 ~fc ff 00 00 | 1:0..65532 ay;
+    ",
+    )
 }

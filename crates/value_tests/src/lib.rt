@@ -1,4 +1,5 @@
-//! Tests of types, of how values are laid out, of views and trees, and of texts and values. There is no other code here.
+//! Tests of types, of how values are laid out, of views and trees, and of texts and values. There
+//! is no other code here.
 #![tactic(auto)]
 
 #[cfg(test)]
@@ -27,5 +28,7 @@ mod types;
 mod typing;
 #[cfg(test)]
 mod values;
+#[cfg(test)]
+mod view_table;
 #[cfg(test)]
 mod views;

@@ -1,5 +1,8 @@
-//! Tables of texts: a line has a text, a bar between blanks, and what comes of the text.
-use crate::{syntax, tokens, typing, values};
+//! Tables of texts: a line has a text, a bar, and what comes of the text. In the text and in what
+//! comes of it `~3×ab~` stands for `ababab`.
+use crate::samples::spelt_out;
+use crate::view_table::AskedOfView;
+use crate::{layout, long, syntax, tokens, trees, types, typing, values, views};
 use std::alloc::Global;
 use std::test::Fail;
 
@@ -16,6 +19,32 @@ pub(crate) enum Asked {
     ValueAt,
     /// The type, and the value at it.
     Value,
+    /// Of a text, ` at ` and its type: how many bytes the value has.
+    Size,
+    /// The bytes of the value as a serialised `v`.
+    Stored,
+    /// Of a letter, and a value after it: the basic tree.
+    Basic,
+    /// Of a container's letter, an element's type and the texts of the parts: the tree.
+    Container,
+    /// Of two views with ` and ` between them: whether their trees are equal.
+    Equal,
+    /// Of a view, ` ?` and a key: the number that the key leads to.
+    Key,
+    /// Of a type, ` behind ` and a place: the alignment, the size and the place of a value.
+    Layout,
+    /// What the letter's basic type is.
+    Spelling,
+    /// What the container type's parts are.
+    Parts,
+    /// The type at the start, and how many bytes follow it.
+    Prefix,
+    /// Whether it is a type, or what is at fault.
+    Fault,
+    /// Whether it is an object path, and whether it is a signature.
+    Names,
+    /// What is asked of a view: the first word is its type, and the others are its bytes.
+    View(AskedOfView),
 }
 
 impl Asked {
@@ -27,6 +56,19 @@ impl Asked {
             Asked::Type => typing::shown(alloc, text),
             Asked::ValueAt => values::shown_at(alloc, text),
             Asked::Value => values::shown(alloc, text),
+            Asked::Size => long::size(alloc, text),
+            Asked::Stored => long::stored(alloc, text),
+            Asked::Basic => trees::basic(alloc, text),
+            Asked::Container => trees::container(alloc, text),
+            Asked::Equal => trees::compared(alloc, text),
+            Asked::Key => views::keyed(alloc, text),
+            Asked::Layout => layout::laid_out(alloc, text),
+            Asked::Spelling => types::spelling(alloc, text),
+            Asked::Parts => types::parts(alloc, text),
+            Asked::Prefix => types::prefix(alloc, text),
+            Asked::Fault => types::fault(alloc, text),
+            Asked::Names => types::names(alloc, text),
+            Asked::View(asked) => asked.outcome(alloc, text),
         }
     }
 
@@ -40,24 +82,32 @@ impl Asked {
         }
     }
 
-    /// An error says that something else comes of the text of a line. Blanks at a line's start are dropped.
-    pub(crate) fn each_gives(self, alloc: Global, lines: &str) -> Result<(), Fail> {
-        let mut rest = lines;
-        for _ in 0..lines.len() {
-            let Some((line, more)) = rest.split_once('\n') else {
-                break;
-            };
-            if let Some((text, wanted)) = line.trim_start().split_once(" | ") {
-                self.gives(alloc, text, wanted)?;
-            } else if !line.is_empty() {
-                return Err(Fail::new("a line without a bar"));
+    /// An error says that something else comes of the text of a line.
+    fn line_gives(self, alloc: Global, line: &str) -> Result<(), Fail> {
+        let line = spelt_out(alloc, line)?;
+        match line.split_once('|') {
+            Some((text, wanted)) => {
+                let text = text.strip_suffix(' ').unwrap_or(text);
+                self.gives(alloc, text, wanted.trim_start())
             }
-            rest = more;
+            None => Err(Fail::new("a line without a bar")),
         }
-        if rest.trim_start().is_empty() {
-            Ok(())
-        } else {
-            Err(Fail::new("lines that were not read"))
+    }
+
+    /// An error says that something else comes of the text of a line. Blanks at a line's start are
+    /// dropped.
+    pub(crate) fn each_gives(self, alloc: Global, lines: &str) -> Result<(), Fail> {
+        self.each_part_gives(alloc, '\n', lines)
+    }
+
+    /// The same of lines that end with another character.
+    pub(crate) fn each_part_gives(self, alloc: Global, end: char, lines: &str) -> Result<(), Fail> {
+        for line in lines.split(end) {
+            let line = line.trim_start();
+            if !line.is_empty() {
+                self.line_gives(alloc, line)?;
+            }
         }
+        Ok(())
     }
 }

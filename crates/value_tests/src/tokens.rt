@@ -1,5 +1,4 @@
 //! The tokens of short texts, and their first faults.
-use crate::samples::nested;
 use crate::table::Asked;
 use gv_text::{Token, TokenKind, tokens};
 use std::alloc::Global;
@@ -166,59 +165,49 @@ fn tokens_are_cut_from_texts(rt: HostRuntime) -> Result<(), Fail> {
     )
 }
 
+/// Blanks that a line begins with stand in `~1×..~`.
 #[test]
 fn blanks_escapes_and_control_characters_are_read(rt: HostRuntime) -> Result<(), Fail> {
-    let alloc = rt.alloc();
-    let deepest = nested(alloc, 127, "a", "s", "")?;
-    let shown = format!(in alloc; "@{deepest} 0..129;")?;
-    let deepest = format!(in alloc; "@{deepest}")?;
-    let deeper = nested(alloc, 128, "a", "s", "")?;
-    let deeper = format!(in alloc; "@{deeper}")?;
-    for (asked, text, wanted) in [
-        (Asked::Syntax, "", "Unexpected at 0..0"),
-        (Asked::Tokens, "", ""),
-        (Asked::Tokens, " \t\n\r\u{c}", ""),
-        (
-            Asked::Tokens,
-            " just\ttrue ",
-            "Just 1..5;Truth(true) 6..10;",
-        ),
-        (Asked::Tokens, "\r\n1", "1 2..3;"),
-        (Asked::Tokens, "\u{b}1", "BadToken at 0..1"),
-        (Asked::Tokens, "1\u{b}", "BadToken at 1..2"),
-        (Asked::Tokens, "\u{a0}1", "BadToken at 0..2"),
-        (Asked::Tokens, "1\u{a0}", "BadToken at 1..3"),
-        (Asked::Tokens, "\u{10ffff}", "BadToken at 0..4"),
-        (Asked::Tokens, "\0", "BadToken at 0..1"),
-        (Asked::Tokens, "'a\n\tb'", "Text a\n\tb 0..6;"),
-        (
-            Asked::Tokens,
-            "'\u{e9}\u{10ffff}x'",
-            "Text \u{e9}\u{10ffff}x 0..9;",
-        ),
-        (Asked::Tokens, r"'\U0010ffff'", "Text \u{10ffff} 0..12;"),
-        (
-            Asked::Tokens,
-            r"'\a\b\f\n\r\t\v'",
-            "Text \u{7}\u{8}\u{c}\n\r\t\u{b} 0..16;",
-        ),
-        (Asked::Tokens, "'a\\\nb'", "Text ab 0..6;"),
-        (Asked::Tokens, " 'a\"", "Unclosed at 1..2"),
-        (Asked::Tokens, "'a\0'", "BadToken at 2..3"),
-        (Asked::Tokens, "'\\\0'", "BadToken at 2..3"),
-        (Asked::Tokens, "'a\\\0'", "BadToken at 3..4"),
-        (Asked::Tokens, "'\\u12\0'", "BadEscape at 1..5"),
-        (Asked::Tokens, "b'a\\\nb'", "Bytes [97, 98] 0..7;"),
-        (Asked::Tokens, "b'\0'", "BadToken at 2..3"),
-        (Asked::Tokens, "b'\\\0'", "BadToken at 3..4"),
-        (Asked::Tokens, deepest.as_str(), shown.as_str()),
-        (Asked::Tokens, deeper.as_str(), "BadToken at 0..1"),
-        (Asked::Value, "'a\\\nb'", "s 'ab'"),
-        (Asked::Value, "'a\nb\t'", r"s 'a\nb\t'"),
-        (Asked::Value, "b'a\\\nb'", "ay b'ab'"),
-        (Asked::Value, " \t\n\r\u{c}1 ", "i 1"),
-    ] {
-        asked.gives(alloc, text, wanted)?;
-    }
-    Ok(())
+    Asked::Syntax.each_gives(rt.alloc(), "| Unexpected at 0..0")?;
+    Asked::Tokens.each_part_gives(
+        rt.alloc(),
+        '§',
+        "
+        |§
+        ~1× \t\n\r\u{c}~ |§
+        ~1× just\ttrue ~ | Just 1..5;Truth(true) 6..10;§
+        ~1×\r\n~1 | 1 2..3;§
+        ~1×\u{b}~1 | BadToken at 0..1§
+        1\u{b} | BadToken at 1..2§
+        ~1×\u{a0}~1 | BadToken at 0..2§
+        1\u{a0} | BadToken at 1..3§
+        \u{10ffff} | BadToken at 0..4§
+        \0 | BadToken at 0..1§
+        'a\n\tb' | Text a\n\tb 0..6;§
+        '\u{e9}\u{10ffff}x' | Text \u{e9}\u{10ffff}x 0..9;§
+        '\\U0010ffff' | Text \u{10ffff} 0..12;§
+        '\\a\\b\\f\\n\\r\\t\\v' | Text \u{7}\u{8}\u{c}\n\r\t\u{b} 0..16;§
+        'a\\\nb' | Text ab 0..6;§
+        ~1× ~'a\" | Unclosed at 1..2§
+        'a\0' | BadToken at 2..3§
+        '\\\0' | BadToken at 2..3§
+        'a\\\0' | BadToken at 3..4§
+        '\\u12\0' | BadEscape at 1..5§
+        b'a\\\nb' | Bytes [97, 98] 0..7;§
+        b'\0' | BadToken at 2..3§
+        b'\\\0' | BadToken at 3..4§
+        @~127×a~s | @~127×a~s 0..129;§
+        @~128×a~s | BadToken at 0..1§
+    ",
+    )?;
+    Asked::Value.each_part_gives(
+        rt.alloc(),
+        '§',
+        "
+        'a\\\nb' | s 'ab'§
+        'a\nb\t' | s 'a\\nb\\t'§
+        b'a\\\nb' | ay b'ab'§
+        ~1× \t\n\r\u{c}~1  | i 1§
+    ",
+    )
 }

@@ -1,41 +1,64 @@
 //! Trees by example: each constructor, each of its refusals, and what trees tell of themselves.
-use crate::samples::{nested, value, view};
-use crate::views::Shown;
+use crate::samples::{bytes_of, spelt_out, value, view};
+use crate::table::Asked;
 use gv_build::serialise;
 use gv_tree::{Basic, Shape, Tree, TreeFault};
-use gv_types::{BasicType, Class, TypeStr};
+use gv_types::{Class, TypeStr};
 use std::alloc::Global;
 use std::test::Fail;
 
-/// The type of a tree, its levels and its values; or why there is none.
+/// The type of a tree, its levels and its values.
+fn told(alloc: Global, tree: &Tree) -> Result<String, Fail> {
+    let (levels, values) = (tree.depth(), tree.nodes());
+    let of = tree.type_text().as_str();
+    Ok(format!(in alloc; "{of} {levels} {values}")?)
+}
+
+/// What a tree tells, or why there is none.
 fn outcome(alloc: Global, made: Result<Tree, TreeFault>) -> Result<String, Fail> {
     match made {
-        Ok(tree) => {
-            let (levels, values) = (tree.depth(), tree.nodes());
-            let of = tree.type_text().as_str();
-            Ok(format!(in alloc; "{of} {levels} {values}")?)
-        }
+        Ok(tree) => told(alloc, &tree),
         Err(fault) => Ok(format!(in alloc; "{fault}")?),
     }
 }
 
-/// A container of this class, whose element has this type. Its parts are the values of the words of a text.
-fn container(alloc: Global, class: Class, of: &str, parts: &str) -> Result<String, Fail> {
-    let mut children = Vec::new(alloc);
-    for part in parts.split_terminator(' ') {
-        children.push(value(alloc, part)?)?;
+/// The values of a text's words.
+fn values_of(alloc: Global, words: &str) -> Result<Vec<Tree>, Fail> {
+    let mut values = Vec::new(alloc);
+    for word in words.split_terminator(' ') {
+        values.push(value(alloc, word)?)?;
     }
-    let made = match class {
-        Class::Array => Tree::array(alloc, TypeStr::parse(of)?, children),
-        Class::Maybe => Tree::maybe(alloc, TypeStr::parse(of)?, children.pop()),
-        Class::Tuple => Tree::tuple(alloc, children),
-        _ => match (children.pop(), children.pop()) {
-            (Some(held), Some(key)) => Tree::entry(alloc, key, held),
-            (Some(held), None) => Tree::variant(alloc, held),
-            _ => return Err(Fail::new("no parts")),
-        },
+    Ok(values)
+}
+
+/// An entry of two children, or a variant of one.
+fn entry_or_variant(alloc: Global, mut children: Vec<Tree>) -> Result<String, Fail> {
+    match (children.pop(), children.pop()) {
+        (Some(held), Some(key)) => outcome(alloc, Tree::entry(alloc, key, held)),
+        (Some(held), None) => outcome(alloc, Tree::variant(alloc, held)),
+        _ => Err(Fail::new("no parts")),
+    }
+}
+
+/// A container that begins with this letter. Its element, if it has one, is at the start of the
+/// other text.
+fn made(alloc: Global, letter: &str, of: &str, mut children: Vec<Tree>) -> Result<String, Fail> {
+    match (letter, TypeStr::prefix_of(of)) {
+        ("a", Some(of)) => outcome(alloc, Tree::array(alloc, of, children)),
+        ("m", Some(of)) => outcome(alloc, Tree::maybe(alloc, of, children.pop())),
+        ("(", None) => outcome(alloc, Tree::tuple(alloc, children)),
+        _ => entry_or_variant(alloc, children),
+    }
+}
+
+/// The container of a letter and an element's type, as `as` or `(`, whose parts are the values of
+/// the words after it.
+pub(crate) fn container(alloc: Global, text: &str) -> Result<String, Fail> {
+    let (word, words) = text.split_once(' ').unwrap_or((text, ""));
+    let Some((letter, of)) = word.split_at_checked(1) else {
+        return Err(Fail::new("no container"));
     };
-    outcome(alloc, made)
+    made(alloc, letter, of, values_of(alloc, words)?)
 }
 
 /// Whether the tree is a variant of an entry of a text and the number 5.
@@ -51,88 +74,117 @@ fn holds_five(tree: &Tree) -> bool {
 
 #[test]
 fn containers_are_made_or_refused(rt: HostRuntime) -> Result<(), Fail> {
-    let alloc = rt.alloc();
-    for (class, of, parts, wanted) in [
-        (Class::Maybe, "a{sv}", "", "ma{sv} 1 1"),
-        (Class::Maybe, "i", "5", "mi 2 2"),
-        (Class::Array, "s", "'a' 'bc'", "as 2 3"),
-        (Class::Array, "a{sv}", "", "aa{sv} 1 1"),
-        (Class::Tuple, "", "'hi' 5", "(si) 2 3"),
-        (Class::Tuple, "", "", "() 1 1"),
-        (Class::Entry, "", "'hi' 5", "{si} 2 3"),
-        (Class::Variant, "", "('hi',5)", "v 3 4"),
-        (Class::Array, "i", "5 'a'", "WrongType at 1"),
-        (Class::Maybe, "i", "'a'", "WrongType at 0"),
-        (Class::Entry, "", "<5> 5", "KeyNotBasic"),
-    ] {
-        let found = container(alloc, class, of, parts)?;
-        assert!(rt; found.as_str() == wanted, "{of} of {parts}");
-    }
-    let tree = value(alloc, "<{'hi', 5}>")?;
-    assert!(rt; holds_five(&tree));
-    Ok(())
-}
-
-/// Whether such a container is refused since it is too deep.
-fn is_too_deep(alloc: Global, class: Class, of: &str, parts: &str) -> Result<bool, Fail> {
-    Ok(container(alloc, class, of, parts)?.as_str() == "TooDeep")
+    let five = holds_five(&value(rt.alloc(), "<{'hi', 5}>")?);
+    assert!(rt; five);
+    Asked::Container.each_gives(
+        rt.alloc(),
+        r"
+        ma{sv} | ma{sv} 1 1
+        mi 5 | mi 2 2
+        as 'a' 'bc' | as 2 3
+        aa{sv} | aa{sv} 1 1
+        ( 'hi' 5 | (si) 2 3
+        ( | () 1 1
+        { 'hi' 5 | {si} 2 3
+        v ('hi',5) | v 3 4
+        ai 5 'a' | WrongType at 1
+        mi 'a' | WrongType at 0
+        { <5> 5 | KeyNotBasic
+    ",
+    )
 }
 
 #[test]
 fn containers_nest_128_levels(rt: HostRuntime) -> Result<(), Fail> {
-    let alloc = rt.alloc();
-    let deep = nested(alloc, 126, "<", "5", ">")?;
-    assert!(rt; container(alloc, Class::Variant, "", &deep)?.as_str() == "v 128 128");
-    let deepest = nested(alloc, 127, "<", "5", ">")?;
-    assert!(rt;
-        is_too_deep(alloc, Class::Variant, "", &deepest)?
-            && is_too_deep(alloc, Class::Tuple, "", &deepest)?
-    );
-    let pair = format!(in alloc; "5 {deepest}")?;
-    assert!(rt; is_too_deep(alloc, Class::Entry, "", &pair)?);
-    let arrays = nested(alloc, 127, "a", "i", "")?;
-    assert!(rt;
-        is_too_deep(alloc, Class::Array, &arrays, "")?
-            && is_too_deep(alloc, Class::Maybe, &arrays, "")?
-    );
-    Ok(())
+    Asked::Container.each_gives(
+        rt.alloc(),
+        r"
+        v ~126×<~5~126×>~ | v 128 128
+        v ~127×<~5~127×>~ | TooDeep
+        ( ~127×<~5~127×>~ | TooDeep
+        { 5 ~127×<~5~127×>~ | TooDeep
+        a~127×a~i | TooDeep
+        m~127×a~i | TooDeep
+    ",
+    )
 }
 
-/// A basic value of a text, or the number 5.
-fn basic(alloc: Global, of: BasicType, text: &str) -> Result<String, Fail> {
+/// The bits of the double 1.
+const ONE: [u8; 8] = [0, 0, 0, 0, 0, 0, 0xf0, 0x3f];
+
+/// The basic value of a letter that is a number.
+fn number(letter: &str, text: &str) -> Option<Basic> {
+    match letter {
+        "b" => Some(Basic::Bool(text == "true")),
+        "y" => text.parse().ok().map(Basic::Byte),
+        "n" => text.parse().ok().map(Basic::Int16),
+        "q" => text.parse().ok().map(Basic::Uint16),
+        "i" => text.parse().ok().map(Basic::Int32),
+        "u" => text.parse().ok().map(Basic::Uint32),
+        "x" => text.parse().ok().map(Basic::Int64),
+        "t" => text.parse().ok().map(Basic::Uint64),
+        "h" => text.parse().ok().map(Basic::HandleNo),
+        "d" if text == "1" => Some(Basic::DoubleBits(ONE)),
+        _ => None,
+    }
+}
+
+/// The basic value of a letter, which is a number or this text.
+fn basic_value(alloc: Global, letter: &str, text: &str) -> Result<Basic, Fail> {
+    if let Some(value) = number(letter, text) {
+        return Ok(value);
+    }
     let text = String::from_str(alloc, text)?;
-    let value = match of {
-        BasicType::ObjectPath => Basic::ObjectPath(text),
-        BasicType::Signature => Basic::Signature(text),
-        BasicType::Text => Basic::Text(text),
-        _ => Basic::Int32(5),
-    };
-    outcome(alloc, Tree::basic(alloc, value))
+    match letter {
+        "s" => Ok(Basic::Text(text)),
+        "o" => Ok(Basic::ObjectPath(text)),
+        "g" => Ok(Basic::Signature(text)),
+        _ => Err(Fail::new("no basic value")),
+    }
+}
+
+/// The type of a tree, its levels, its values and its bytes.
+fn written(alloc: Global, tree: &Tree) -> Result<String, Fail> {
+    let bytes = serialise(alloc, tree)?;
+    let (levels, values) = (tree.depth(), tree.nodes());
+    let of = tree.type_text().as_str();
+    Ok(format!(in alloc; "{of} {levels} {values} {bytes:?}")?)
+}
+
+/// The basic tree of a letter and the value after it; or why there is none.
+pub(crate) fn basic(alloc: Global, text: &str) -> Result<String, Fail> {
+    let (letter, text) = text.split_once(' ').unwrap_or((text, ""));
+    match Tree::basic(alloc, basic_value(alloc, letter, text)?) {
+        Ok(tree) => written(alloc, &tree),
+        Err(fault) => Ok(format!(in alloc; "{fault}")?),
+    }
+}
+
+/// Whether this is said of a fault.
+fn is_said(alloc: Global, fault: TreeFault, text: &str) -> Result<bool, Fail> {
+    Ok(format!(in alloc; "{fault}")?.as_str() == text)
 }
 
 #[test]
 fn basic_values_are_made_or_refused(rt: HostRuntime) -> Result<(), Fail> {
-    let alloc = rt.alloc();
-    for (of, text, wanted) in [
-        (BasicType::Int32, "", "i 1 1"),
-        (BasicType::Text, "a", "s 1 1"),
-        (BasicType::Text, "a\0", "HasNul"),
-        (BasicType::Text, "", "s 1 1"),
-        (BasicType::ObjectPath, "a", "BadObjectPath"),
-        (BasicType::ObjectPath, "a\0", "HasNul"),
-        (BasicType::ObjectPath, "/a", "o 1 1"),
-        (BasicType::Signature, "a{vs}", "BadSignature"),
-        (BasicType::Signature, "a\0", "HasNul"),
-        (BasicType::Signature, "a{sv}i", "g 1 1"),
-    ] {
-        let found = basic(alloc, of, text)?;
-        assert!(rt; found.as_str() == wanted, "{text}");
-    }
-    let wrong = outcome(alloc, Err(TreeFault::WrongType(12)))?;
-    assert!(rt; wrong.as_str() == "WrongType at 12");
-    let refused = outcome(alloc, Err(TreeFault::Memory))?;
-    assert!(rt; refused.as_str() == "Memory");
-    Ok(())
+    let wrong = is_said(rt.alloc(), TreeFault::WrongType(12), "WrongType at 12")?;
+    let refused = is_said(rt.alloc(), TreeFault::Memory, "Memory")?;
+    assert!(rt; wrong && refused);
+    Asked::Basic.each_gives(
+        rt.alloc(),
+        "
+        i 5 | i 1 1 [5, 0, 0, 0]
+        s a | s 1 1 [97, 0]
+        s a\0 | HasNul
+        s | s 1 1 [0]
+        o a | BadObjectPath
+        o a\0 | HasNul
+        o /a | o 1 1 [47, 97, 0]
+        g a{vs} | BadSignature
+        g a\0 | HasNul
+        g a{sv}i | g 1 1 [97, 123, 115, 118, 125, 105, 0]
+    ",
+    )
 }
 
 /// The tuple of a tree and its copy.
@@ -141,107 +193,121 @@ fn doubled(alloc: Global, tree: Tree) -> Result<Tree, TreeFault> {
     Tree::tuple(alloc, Vec::from_array(alloc, [tree, copy])?)
 }
 
+/// The tree, doubled so many times.
+fn doubled_often(alloc: Global, times: u32, first: Tree) -> Result<Tree, TreeFault> {
+    let mut tree = first;
+    for _ in 0..times {
+        tree = doubled(alloc, tree)?;
+    }
+    Ok(tree)
+}
+
+/// What comes of ten doublings of a tree of 65,536 bytes of type text.
+fn too_large(alloc: Global) -> Result<String, Fail> {
+    let text = spelt_out(alloc, "(~65533×y~)")?;
+    let tree = Tree::maybe(alloc, TypeStr::parse(text.as_str())?, None)?;
+    let tree = doubled_often(alloc, 9, tree)?;
+    outcome(alloc, doubled(alloc, tree))
+}
+
 /// A tree whose type text has 65,536 bytes is doubled until the text has more than 67,108,864.
 #[test]
 fn too_large_types_are_refused(rt: HostRuntime) -> Result<(), Fail> {
-    let alloc = rt.alloc();
-    let mut text = String::from_str(alloc, "(")?;
-    text.push_str(&"y".repeat(alloc, 65_533)?)?;
-    text.push(')')?;
-    let mut tree = Tree::maybe(alloc, TypeStr::parse(&text)?, None)?;
-    for _ in 0..9 {
-        tree = doubled(alloc, tree)?;
-    }
-    let refused = outcome(alloc, doubled(alloc, tree))?;
+    let refused = too_large(rt.alloc())?;
     assert!(rt; refused.as_str() == "TooLarge");
     Ok(())
 }
 
-/// Whether the values of these bytes are equal or not, either way, and the first is equal to its copy.
-fn compares(alloc: Global, one: Shown<'_>, other: Shown<'_>, equal: bool) -> Result<bool, Fail> {
-    let one = view(one.0, one.1)?.to_tree(alloc)?;
-    let other = view(other.0, other.1)?.to_tree(alloc)?;
-    Ok(one.equal(&other) == equal && other.equal(&one) == equal && one.try_copy(alloc)?.equal(&one))
+/// The tree of a type and of the words of its bytes.
+fn tree_of(alloc: Global, text: &str) -> Result<Tree, Fail> {
+    let (of, words) = text.split_once(' ').unwrap_or((text, ""));
+    let bytes = bytes_of(alloc, words)?;
+    Ok(view(of, bytes.as_slice())?.to_tree(alloc)?)
 }
 
+/// Whether two trees are equal. Either way it is the same, and the first is equal to its copy.
+fn are_equal(alloc: Global, one: &Tree, other: &Tree) -> Result<bool, Fail> {
+    let equal = one.equal(other);
+    if other.equal(one) == equal && one.try_copy(alloc)?.equal(one) {
+        Ok(equal)
+    } else {
+        Err(Fail::new("a copy that is not equal"))
+    }
+}
+
+/// Whether a tree is equal to the one of a text.
+fn is_equal_to(alloc: Global, one: &Tree, other: &str) -> Result<bool, Fail> {
+    let other = tree_of(alloc, other)?;
+    are_equal(alloc, one, &other)
+}
+
+/// Whether the trees of two texts are equal.
+fn are_texts_equal(alloc: Global, one: &str, other: &str) -> Result<bool, Fail> {
+    let one = tree_of(alloc, one)?;
+    is_equal_to(alloc, &one, other)
+}
+
+/// Whether the trees of two texts, with ` and ` between them, are equal.
+pub(crate) fn compared(alloc: Global, line: &str) -> Result<String, Fail> {
+    let Some((one, other)) = line.split_once(" and ") else {
+        return Err(Fail::new("one tree alone"));
+    };
+    let equal = are_texts_equal(alloc, one, other)?;
+    Ok(format!(in alloc; "{equal}")?)
+}
+
+/// Whether the tree is the double 1.
+fn is_double_one(alloc: Global, tree: &Tree) -> Result<bool, Fail> {
+    let double = Tree::basic(alloc, Basic::DoubleBits(ONE))?;
+    Ok(tree.equal(&double))
+}
+
+/// Whether the tree of a text is the double 1.
+fn is_text_of_one(alloc: Global, text: &str) -> Result<bool, Fail> {
+    let tree = tree_of(alloc, text)?;
+    is_double_one(alloc, &tree)
+}
+
+/// A double that is no number, the zero with a sign, and arrays and maybes without a child, which
+/// are equal where their types are, are among these.
 #[test]
 fn trees_are_equal_where_types_and_bits_are(rt: HostRuntime) -> Result<(), Fail> {
-    let alloc = rt.alloc();
-    let rows: [(Shown<'_>, Shown<'_>, bool); 12] = [
-        // A double that is no number.
-        (
-            ("d", &[1, 0, 0, 0, 0, 0, 240, 127]),
-            ("d", &[1, 0, 0, 0, 0, 0, 240, 127]),
-            true,
-        ),
-        // The zero with a sign.
-        (("d", &[0; 8]), ("d", &[0, 0, 0, 0, 0, 0, 0, 128]), false),
-        (("i", &[5, 0, 0, 0]), ("i", &[6, 0, 0, 0]), false),
-        (("i", &[5, 0, 0, 0]), ("u", &[5, 0, 0, 0]), false),
-        (("i", &[5, 0, 0, 0]), ("v", b"\x05\0\0\0\0i"), false),
-        (("s", b"a\0"), ("s", b"b\0"), false),
-        // Arrays and maybes without a child are equal where their types are.
-        (("ai", &[]), ("ai", &[]), true),
-        (("ai", &[]), ("au", &[]), false),
-        (("mi", &[0, 0, 0, 0]), ("mi", &[]), false),
-        (("as", b"a\0bc\0\x02\x05"), ("as", b"a\0bc\0\x02\x05"), true),
-        (
-            ("(si)", b"hi\0\0\x05\0\0\0\x03"),
-            ("(si)", b"hi\0\0\x05\0\0\0\x03"),
-            true,
-        ),
-        (
-            ("(myv)", b"\x05\0\0\0\0\0\0\0\x05\0\0\0\0i\x01"),
-            ("(myv)", b"\x05\0\0\0\0\0\0\0\x05\0\0\0\0i\x01"),
-            true,
-        ),
-    ];
-    for (one, other, equal) in rows {
-        assert!(rt;
-            compares(alloc, one, other, equal)?,
-            "{one:?} and {other:?}"
-        );
-    }
-    let bits = [0, 0, 0, 0, 0, 0, 0xf0, 0x3f];
-    let double = Tree::basic(alloc, Basic::DoubleBits([0, 0, 0, 0, 0, 0, 0xf0, 0x3f]))?;
-    assert!(rt; serialise(alloc, &double)?.as_slice() == bits.as_slice());
-    assert!(rt;
-        view("d", b"\0\0\0\0\0\0\xf0\x3f")?
-            .to_tree(alloc)?
-            .equal(&double)
-    );
-    Ok(())
+    let read = is_text_of_one(rt.alloc(), "d 00 00 00 00 00 00 f0 3f")?;
+    assert!(rt; read);
+    Asked::Equal.each_gives(
+        rt.alloc(),
+        r"
+        d 01 00 00 00 00 00 f0 7f and d 01 00 00 00 00 00 f0 7f | true
+        d 00 00 00 00 00 00 00 00 and d 00 00 00 00 00 00 00 80 | false
+        i 05 00 00 00 and i 06 00 00 00 | false
+        i 05 00 00 00 and u 05 00 00 00 | false
+        i 05 00 00 00 and v 05 00 00 00 00 'i' | false
+        s 'a' 00 and s 'b' 00 | false
+        ai and ai | true
+        ai and au | false
+        mi 00 00 00 00 and mi | false
+        as 'a' 00 'bc' 00 02 05 and as 'a' 00 'bc' 00 02 05 | true
+        (si) 'hi' 00 00 05 00 00 00 03 and (si) 'hi' 00 00 05 00 00 00 03 | true
+        (myv) 05 00 00 00 00 00 00 00 05 00 00 00 00 'i' 01 and (myv) 05 00 00 00 00 00 00 00 05 00 00 00 00 'i' 01 | true
+    ",
+    )
 }
 
 #[test]
 fn each_basic_is_written_by_its_bytes(rt: HostRuntime) -> Result<(), Fail> {
-    let alloc = rt.alloc();
-    let rows: [(Basic, &str, &[u8]); 9] = [
-        (Basic::Bool(true), "b", &[1]),
-        (Basic::Byte(0xfe), "y", &[0xfe]),
-        (Basic::Int16(-2), "n", &[0xfe, 0xff]),
-        (Basic::Uint16(0x1234), "q", &[0x34, 0x12]),
-        (Basic::Int32(-2), "i", &[0xfe, 0xff, 0xff, 0xff]),
-        (Basic::Uint32(0x1234_5678), "u", &[0x78, 0x56, 0x34, 0x12]),
-        (
-            Basic::Int64(-2),
-            "x",
-            &[0xfe, 0xff, 0xff, 0xff, 0xff, 0xff, 0xff, 0xff],
-        ),
-        (
-            Basic::Uint64(0x0102_0304_0506_0708),
-            "t",
-            &[8, 7, 6, 5, 4, 3, 2, 1],
-        ),
-        (Basic::HandleNo(7), "h", &[7, 0, 0, 0]),
-    ];
-    for (value, of, bytes) in rows {
-        let tree = Tree::basic(alloc, value)?;
-        let written = serialise(alloc, &tree)?;
-        assert!(rt;
-            tree.type_text().as_str() == of && written.as_slice() == bytes,
-            "{of}: {written:?}"
-        );
-    }
-    Ok(())
+    Asked::Basic.each_gives(
+        rt.alloc(),
+        r"
+        b true | b 1 1 [1]
+        y 254 | y 1 1 [254]
+        n -2 | n 1 1 [254, 255]
+        q 4660 | q 1 1 [52, 18]
+        i -2 | i 1 1 [254, 255, 255, 255]
+        u 305419896 | u 1 1 [120, 86, 52, 18]
+        x -2 | x 1 1 [254, 255, 255, 255, 255, 255, 255, 255]
+        t 72623859790382856 | t 1 1 [8, 7, 6, 5, 4, 3, 2, 1]
+        h 7 | h 1 1 [7, 0, 0, 0]
+        d 1 | d 1 1 [0, 0, 0, 0, 0, 0, 240, 63]
+    ",
+    )
 }

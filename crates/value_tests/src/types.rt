@@ -1,191 +1,172 @@
-//! Types by example: what each kind is made of, where a text that is no type is at fault, and which texts are
-//! object paths and signatures.
+//! Types by example: what each kind is made of, where a text that is no type is at fault, and which
+//! texts are object paths and signatures.
+use crate::table::Asked;
 use gv_layout::fixed_size;
 use gv_text::TypeText;
-use gv_types::{BasicType, Class, Members, TypeFault, TypeStr, is_object_path, is_signature};
+use gv_types::{Class, Members, TypeStr, is_object_path, is_signature};
 use std::alloc::Global;
 use std::fmt::Write;
 use std::test::Fail;
 
-/// Whether this basic type has the letter, the word and the size.
-fn is_spelt(of: BasicType, letter: &str, keyword: &str, size: Option<u8>) -> Result<bool, Fail> {
+/// Whether the type is of a class that begins with the first letter of its text.
+fn begins_its_class(of: TypeStr<'_>) -> bool {
+    let first = of.as_str().as_bytes().first().copied();
+    first.and_then(Class::of_letter) == Some(of.class())
+}
+
+/// The basic type of a letter, its word and its size, and whether it is a number, and a text.
+pub(crate) fn spelling(alloc: Global, letter: &str) -> Result<String, Fail> {
     let found = TypeStr::parse(letter)?;
-    let first = letter.as_bytes().first().copied();
-    Ok(
-        found.class() == Class::Basic(of)
-            && first.and_then(Class::of_letter) == Some(found.class())
-            && found.is_basic()
-            && found.as_str() == of.letter()
-            && of.keyword() == keyword
-            && of.size() == size,
-    )
+    let Class::Basic(of) = found.class() else {
+        return Err(Fail::new("a type that is not basic"));
+    };
+    if !begins_its_class(found) || !found.is_basic() || of.letter() != letter {
+        return Err(Fail::new("two calls differ"));
+    }
+    let (keyword, size) = (of.keyword(), of.size());
+    let (is_number, is_text) = (of.is_number(), of.is_text());
+    Ok(format!(in alloc; "{of:?} {keyword} {size:?} {is_number} {is_text}")?)
 }
 
 #[test]
 fn basic_types_have_letters_and_words(rt: HostRuntime) -> Result<(), Fail> {
-    for (of, letter, keyword, size, is_number, is_text) in [
-        (BasicType::Boolean, "b", "boolean", Some(1), false, false),
-        (BasicType::Byte, "y", "byte", Some(1), true, false),
-        (BasicType::Int16, "n", "int16", Some(2), true, false),
-        (BasicType::Uint16, "q", "uint16", Some(2), true, false),
-        (BasicType::Int32, "i", "int32", Some(4), true, false),
-        (BasicType::Uint32, "u", "uint32", Some(4), true, false),
-        (BasicType::Int64, "x", "int64", Some(8), true, false),
-        (BasicType::Uint64, "t", "uint64", Some(8), true, false),
-        (BasicType::Handle, "h", "handle", Some(4), true, false),
-        (BasicType::Double, "d", "double", Some(8), true, false),
-        (BasicType::Text, "s", "string", None, false, true),
-        (BasicType::ObjectPath, "o", "objectpath", None, false, true),
-        (BasicType::Signature, "g", "signature", None, false, true),
-    ] {
-        let spelt = is_spelt(of, letter, keyword, size)?;
-        assert!(rt;
-            spelt && of.is_number() == is_number && of.is_text() == is_text,
-            "at {letter}"
-        );
+    Asked::Spelling.each_gives(
+        rt.alloc(),
+        r"
+        b | Boolean boolean Some(1) false false
+        y | Byte byte Some(1) true false
+        n | Int16 int16 Some(2) true false
+        q | Uint16 uint16 Some(2) true false
+        i | Int32 int32 Some(4) true false
+        u | Uint32 uint32 Some(4) true false
+        x | Int64 int64 Some(8) true false
+        t | Uint64 uint64 Some(8) true false
+        h | Handle handle Some(4) true false
+        d | Double double Some(8) true false
+        s | Text string None false true
+        o | ObjectPath objectpath None false true
+        g | Signature signature None false true
+    ",
+    )
+}
+
+/// Pushes the texts of a type's members, a space before each.
+fn push_members(to: &mut String, of: TypeStr<'_>) -> Result<(), Fail> {
+    for member in of.members() {
+        write!(to, " {}", member.as_str())?;
     }
     Ok(())
 }
 
-/// The texts of a type's members, a space after each, then those of the first member's, and so on.
-fn descent(alloc: Global, outermost: TypeStr<'_>) -> Result<String, Fail> {
-    let mut found = String::new(alloc);
+/// Pushes the texts of a type's members, a space before each, then those of the first member's, and
+/// so on.
+fn push_descent(to: &mut String, outermost: TypeStr<'_>) -> Result<(), Fail> {
     let mut of = outermost;
     for _ in 0..6 {
-        for member in of.members() {
-            write!(found, "{} ", member.as_str())?;
-        }
+        push_members(to, of)?;
         match of.members().next() {
             Some(member) => of = member,
             None => break,
         }
     }
-    Ok(found)
+    Ok(())
 }
 
-/// The letters of the members of basic types that come first, and then the texts of the members that are left, a space before each.
-fn basics_and_others(alloc: Global, of: TypeStr<'_>) -> Result<String, Fail> {
+/// Pushes the letters of the members of basic types that come first, and then the texts of the
+/// members that are left, a space before each.
+fn push_basics_and_others(to: &mut String, of: TypeStr<'_>) -> Result<(), Fail> {
     let mut members = of.members();
-    let mut found = String::new(alloc);
     for _ in 0..of.as_str().len() {
         if let Some(of) = members.next_basic() {
-            found.push_str(of.letter())?;
+            to.push_str(of.letter())?;
         }
     }
     for member in members {
-        write!(found, " {}", member.as_str())?;
+        write!(to, " {}", member.as_str())?;
     }
+    Ok(())
+}
+
+/// Whether the copy of a type's text is the text.
+fn is_copied(alloc: Global, of: TypeStr<'_>) -> Result<bool, Fail> {
+    let copy = TypeText::copy(alloc, of)?;
+    Ok(copy.as_type().as_str() == of.as_str())
+}
+
+/// Whether all calls say of a container type that it has this text, and whether there are members.
+fn is_container(of: TypeStr<'_>, text: &str) -> bool {
+    let members = of.members();
+    !of.is_basic()
+        && of.as_str() == text
+        && begins_its_class(of)
+        && TypeStr::of_bytes(text.as_bytes()).map(TypeStr::as_str) == Some(text)
+        && Members::is_empty(&members) == of.members().next().is_none()
+}
+
+/// The class of a type, its element and its key; after a colon the members and those in them; after
+/// another the members once more.
+fn parts_of(alloc: Global, of: TypeStr<'_>) -> Result<String, Fail> {
+    let class = of.class();
+    let element = of.element().map(TypeStr::as_str).unwrap_or("-");
+    let key = of.key().map(TypeStr::as_str).unwrap_or("-");
+    let mut found = format!(in alloc; "{class:?} {element} {key}:")?;
+    push_descent(&mut found, of)?;
+    found.push(':')?;
+    push_basics_and_others(&mut found, of)?;
     Ok(found)
 }
 
-/// Whether the type of this text is a container of this class that has this element or key.
-fn holds(text: &str, class: Class, element_or_key: Option<&str>) -> Result<bool, Fail> {
+/// The parts of a container type, which it also has where it was read.
+pub(crate) fn parts(alloc: Global, text: &str) -> Result<String, Fail> {
     let of = TypeStr::parse(text)?;
-    let (element, key) = match class {
-        Class::Entry => (None, element_or_key),
-        _ => (element_or_key, None),
-    };
-    let first = text.as_bytes().first().copied();
-    Ok(
-        !of.is_basic()
-            && of.as_str() == text
-            && of.class() == class
-            && first.and_then(Class::of_letter) == Some(class)
-            && of.element().map(TypeStr::as_str) == element
-            && of.key().map(TypeStr::as_str) == key
-            && TypeStr::of_bytes(text.as_bytes()).map(TypeStr::as_str) == Some(text),
-    )
+    if !is_container(of, text) || !is_copied(alloc, of)? {
+        return Err(Fail::new("two calls differ"));
+    }
+    let found = parts_of(alloc, of)?;
+    if parts_of(alloc, of.as_read())?.as_str() == found.as_str() {
+        Ok(found)
+    } else {
+        Err(Fail::new("other parts where it was read"))
+    }
 }
 
-/// Whether the type of this text has these members, also where it was read, and these that are basic and come first.
-fn has_members(alloc: Global, text: &str, members: &str, basics: &str) -> Result<bool, Fail> {
-    let of = TypeStr::parse(text)?;
-    Ok(
-        Members::is_empty(&of.members()) == members.is_empty()
-            && descent(alloc, of)?.as_str() == members
-            && descent(alloc, of.as_read())?.as_str() == members
-            && basics_and_others(alloc, of)?.as_str() == basics
-            && TypeText::copy(alloc, of)?.as_type().as_str() == text,
-    )
-}
-
+/// Tuples of one member, which lie in one another, are the last of these.
 #[test]
 fn containers_have_parts(rt: HostRuntime) -> Result<(), Fail> {
-    for (text, class, element_or_key, members, basics) in [
-        ("v", Class::Variant, None, "", ""),
-        ("as", Class::Array, Some("s"), "", ""),
-        ("aay", Class::Array, Some("ay"), "", ""),
-        ("a{sv}", Class::Array, Some("{sv}"), "", ""),
-        ("aa{sv}", Class::Array, Some("a{sv}"), "", ""),
-        ("mv", Class::Maybe, Some("v"), "", ""),
-        ("m(ii)", Class::Maybe, Some("(ii)"), "", ""),
-        ("()", Class::Tuple, None, "", ""),
-        ("(())", Class::Tuple, None, "() ", " ()"),
-        ("(ii)", Class::Tuple, None, "i i ", "ii"),
-        ("(ay)", Class::Tuple, None, "ay ", " ay"),
-        ("((i)(sv))", Class::Tuple, None, "(i) (sv) i ", " (i) (sv)"),
-        (
-            "(a{ya(dx)}mmn()q)",
-            Class::Tuple,
-            None,
-            "a{ya(dx)} mmn () q ",
-            " a{ya(dx)} mmn () q",
-        ),
-        ("(ybs(i)d)", Class::Tuple, None, "y b s (i) d ", "ybs (i) d"),
-        (
-            "(nqiuxthdog)",
-            Class::Tuple,
-            None,
-            "n q i u x t h d o g ",
-            "nqiuxthdog",
-        ),
-        ("{sv}", Class::Entry, Some("s"), "s v ", "s v"),
-        ("{gv}", Class::Entry, Some("g"), "g v ", "g v"),
-        ("{s(ybv)}", Class::Entry, Some("s"), "s (ybv) ", "s (ybv)"),
-        ("{g{oh}}", Class::Entry, Some("g"), "g {oh} ", "g {oh}"),
-        // Tuples of one member lie in one another.
-        ("(s)", Class::Tuple, None, "s ", "s"),
-        ("((i))", Class::Tuple, None, "(i) i ", " (i)"),
-        ("(((s)))", Class::Tuple, None, "((s)) (s) s ", " ((s))"),
-        ("(((())))", Class::Tuple, None, "((())) (()) () ", " ((()))"),
-        (
-            "(((sy)))",
-            Class::Tuple,
-            None,
-            "((sy)) (sy) s y ",
-            " ((sy))",
-        ),
-        ("(((s)y))", Class::Tuple, None, "((s)y) (s) y s ", " ((s)y)"),
-        ("(y((s)))", Class::Tuple, None, "y ((s)) ", "y ((s))"),
-        (
-            "(((s)(y)))",
-            Class::Tuple,
-            None,
-            "((s)(y)) (s) (y) s ",
-            " ((s)(y))",
-        ),
-        (
-            "((a((s))))",
-            Class::Tuple,
-            None,
-            "(a((s))) a((s)) ",
-            " (a((s)))",
-        ),
-        (
-            "(((v){sv}))",
-            Class::Tuple,
-            None,
-            "((v){sv}) (v) {sv} v ",
-            " ((v){sv})",
-        ),
-    ] {
-        let held = holds(text, class, element_or_key)?;
-        assert!(rt;
-            held && has_members(rt.alloc(), text, members, basics)?,
-            "at {text}"
-        );
-    }
-    Ok(())
+    Asked::Parts.each_gives(
+        rt.alloc(),
+        r"
+        v | Variant - -::
+        as | Array s -::
+        aay | Array ay -::
+        a{sv} | Array {sv} -::
+        aa{sv} | Array a{sv} -::
+        mv | Maybe v -::
+        m(ii) | Maybe (ii) -::
+        () | Tuple - -::
+        (()) | Tuple - -: (): ()
+        (ii) | Tuple - -: i i:ii
+        (ay) | Tuple - -: ay: ay
+        ((i)(sv)) | Tuple - -: (i) (sv) i: (i) (sv)
+        (a{ya(dx)}mmn()q) | Tuple - -: a{ya(dx)} mmn () q: a{ya(dx)} mmn () q
+        (ybs(i)d) | Tuple - -: y b s (i) d:ybs (i) d
+        (nqiuxthdog) | Tuple - -: n q i u x t h d o g:nqiuxthdog
+        {sv} | Entry - s: s v:s v
+        {gv} | Entry - g: g v:g v
+        {s(ybv)} | Entry - s: s (ybv):s (ybv)
+        {g{oh}} | Entry - g: g {oh}:g {oh}
+        (s) | Tuple - -: s:s
+        ((i)) | Tuple - -: (i) i: (i)
+        (((s))) | Tuple - -: ((s)) (s) s: ((s))
+        (((()))) | Tuple - -: ((())) (()) (): ((()))
+        (((sy))) | Tuple - -: ((sy)) (sy) s y: ((sy))
+        (((s)y)) | Tuple - -: ((s)y) (s) y s: ((s)y)
+        (y((s))) | Tuple - -: y ((s)):y ((s))
+        (((s)(y))) | Tuple - -: ((s)(y)) (s) (y) s: ((s)(y))
+        ((a((s)))) | Tuple - -: (a((s))) a((s)): (a((s)))
+        (((v){sv})) | Tuple - -: ((v){sv}) (v) {sv} v: ((v){sv})
+    ",
+    )
 }
 
 #[test]
@@ -205,114 +186,110 @@ fn a_member_inherits_what_is_known(rt: HostRuntime) -> Result<(), Fail> {
     Ok(())
 }
 
-/// A type at the start, and how many bytes follow it.
-type Start<'a> = Option<(&'a str, usize)>;
-
-/// The type at the start of the bytes.
-fn split(bytes: &[u8]) -> Start<'_> {
+/// The type at the start of the bytes, and how many bytes follow it.
+fn split(bytes: &[u8]) -> Option<(&str, usize)> {
     TypeStr::split_prefix(bytes).map(|(of, rest)| (of.as_str(), rest.len()))
 }
 
-/// Whether this type is cut from the text, and from its bytes.
-fn begins(text: &str, start: Start<'_>) -> bool {
+/// The type at the start of the text, which is cut from it and from its bytes, and how many bytes
+/// follow it.
+pub(crate) fn prefix(alloc: Global, text: &str) -> Result<String, Fail> {
     let cut = TypeStr::prefix_of(text).map(TypeStr::as_str);
-    let same = match start {
-        Some((of, _)) => cut == Some(of),
-        None => cut.is_none(),
-    };
-    same && split(text.as_bytes()) == start
+    match (cut, split(text.as_bytes())) {
+        (Some(cut), Some((of, rest))) if cut == of => Ok(format!(in alloc; "{of} {rest}")?),
+        (None, None) => Ok(String::from_str(alloc, "none")?),
+        _ => Err(Fail::new("two calls differ")),
+    }
 }
 
 #[test]
-fn the_type_at_the_start_is_split_off(rt: HostRuntime) {
-    for (text, start) in [
-        ("s", Some(("s", 0))),
-        ("i", Some(("i", 0))),
-        ("a{sv}i", Some(("a{sv}", 1))),
-        ("a{sv}{}", Some(("a{sv}", 2))),
-        ("ayb'x'", Some(("ay", 4))),
-        ("(ss)(", Some(("(ss)", 1))),
-        ("", None),
-        (" i", None),
-        ("(s", None),
-        ("{vs}", None),
-    ] {
-        assert!(rt; begins(text, start), "at {text}");
-    }
+fn the_type_at_the_start_is_split_off(rt: HostRuntime) -> Result<(), Fail> {
     assert!(rt; split(b"a{sv}i\xff") == Some(("a{sv}", 2)));
     assert!(rt; Class::of_letter(b')').is_none() && Class::of_letter(b'r').is_none());
+    Asked::Prefix.each_gives(
+        rt.alloc(),
+        r"
+        s | s 0
+        i | i 0
+        a{sv}i | a{sv} 1
+        a{sv}{} | a{sv} 2
+        ayb'x' | ay 4
+        (ss)( | (ss) 1
+        | none
+        ~1× ~i | none
+        (s | none
+        {vs} | none
+    ",
+    )
 }
 
-/// The fault of a text that opens so many times with the same letter.
-fn fault_of(
-    alloc: Global,
-    opening: &str,
-    times: usize,
-    rest: &str,
-) -> Result<Option<TypeFault>, Fail> {
-    let mut text = opening.repeat(alloc, times)?;
-    text.push_str(rest)?;
-    Ok(TypeStr::parse(&text).err())
+/// Whether the text is a type, or its fault.
+pub(crate) fn fault(alloc: Global, text: &str) -> Result<String, Fail> {
+    match TypeStr::parse(text) {
+        Ok(_) => Ok(String::from_str(alloc, "a type")?),
+        Err(fault) => Ok(format!(in alloc; "{fault:?}")?),
+    }
 }
 
 #[test]
 fn the_first_fault_is_named(rt: HostRuntime) -> Result<(), Fail> {
-    for (opening, times, rest, fault) in [
-        ("", 0, "", Some(TypeFault::Empty)),
-        ("", 0, "r", Some(TypeFault::BadChar(0))),
-        ("", 0, "aé", Some(TypeFault::BadChar(1))),
-        ("", 0, "{}", Some(TypeFault::BadChar(1))),
-        ("", 0, "{iii", Some(TypeFault::BadChar(3))),
-        ("", 0, "a{vs}", Some(TypeFault::KeyNotBasic(2))),
-        ("", 0, "{(", Some(TypeFault::KeyNotBasic(1))),
-        ("", 0, "m", Some(TypeFault::Unclosed(1))),
-        ("", 0, "(i", Some(TypeFault::Unclosed(2))),
-        ("", 0, "{sv", Some(TypeFault::Unclosed(3))),
-        ("", 0, "ii", Some(TypeFault::Trailing(1))),
-        ("", 0, "a{sv}i", Some(TypeFault::Trailing(5))),
-        ("a", 127, "i", None),
-        ("a", 128, "", Some(TypeFault::Unclosed(128))),
-        ("a", 128, "*", Some(TypeFault::BadChar(128))),
-        ("a", 128, "i", Some(TypeFault::TooDeep(128))),
-        ("(", 128, "", Some(TypeFault::Unclosed(128))),
-        ("(", 129, "", Some(TypeFault::TooDeep(128))),
-        ("a", 126, "{sv}", None),
-        ("a", 127, "{vs}", Some(TypeFault::KeyNotBasic(128))),
-        ("a", 127, "{sv}", Some(TypeFault::TooDeep(128))),
-    ] {
-        let found = fault_of(rt.alloc(), opening, times, rest)?;
-        assert!(rt; found == fault, "{opening} {times} times, {rest}");
-    }
-    Ok(())
+    Asked::Fault.each_gives(
+        rt.alloc(),
+        r"
+        | Empty
+        r | BadChar(0)
+        aé | BadChar(1)
+        {} | BadChar(1)
+        {iii | BadChar(3)
+        a{vs} | KeyNotBasic(2)
+        {( | KeyNotBasic(1)
+        m | Unclosed(1)
+        (i | Unclosed(2)
+        {sv | Unclosed(3)
+        ii | Trailing(1)
+        a{sv}i | Trailing(5)
+        ~127×a~i | a type
+        ~128×a~ | Unclosed(128)
+        ~128×a~* | BadChar(128)
+        ~128×a~i | TooDeep(128)
+        ~128×(~ | Unclosed(128)
+        ~129×(~ | TooDeep(128)
+        ~126×a~{sv} | a type
+        ~127×a~{vs} | KeyNotBasic(128)
+        ~127×a~{sv} | TooDeep(128)
+    ",
+    )
+}
+
+/// Whether the text is an object path, and whether it is a signature.
+pub(crate) fn names(alloc: Global, text: &str) -> Result<String, Fail> {
+    let (path, signature) = (is_object_path(text), is_signature(text));
+    Ok(format!(in alloc; "{path} {signature}")?)
 }
 
 #[test]
 fn object_paths_and_signatures(rt: HostRuntime) -> Result<(), Fail> {
-    let levels = "a".repeat(rt.alloc(), 127)?;
-    let deepest = format!(in rt.alloc(); "{levels}i{levels}i")?;
-    let deeper = format!(in rt.alloc(); "i{levels}ai")?;
-    for (text, path, signature) in [
-        ("/", true, false),
-        ("/a/b_9", true, false),
-        ("/org/freedesktop/DBus", true, false),
-        ("a/b", false, false),
-        ("/a/", false, false),
-        ("//a", false, false),
-        ("/a-b", false, false),
-        ("/é", false, false),
-        ("/a\0", false, false),
-        ("", false, true),
-        ("ia{sv}(ii)", false, true),
-        ("v{yv}", false, true),
-        ("mi", false, false),
-        ("i)", false, false),
-        ("ia", false, false),
-        ("a{vs}", false, false),
-        (deepest.as_str(), false, true),
-        (deeper.as_str(), false, false),
-    ] {
-        let found = is_object_path(text) == path && is_signature(text) == signature;
-        assert!(rt; found, "at {text}");
-    }
-    Ok(())
+    Asked::Names.each_gives(
+        rt.alloc(),
+        "
+        / | true false
+        /a/b_9 | true false
+        /org/freedesktop/DBus | true false
+        a/b | false false
+        /a/ | false false
+        //a | false false
+        /a-b | false false
+        /é | false false
+        /a\0 | false false
+        | false true
+        ia{sv}(ii) | false true
+        v{yv} | false true
+        mi | false false
+        i) | false false
+        ia | false false
+        a{vs} | false false
+        ~127×a~i~127×a~i | false true
+        i~127×a~ai | false false
+    ",
+    )
 }

@@ -1,5 +1,5 @@
 //! The values of short texts, printed; and their faults.
-use crate::samples::nested;
+use crate::samples::spelt_out;
 use crate::table::Asked;
 use gv_build::serialise;
 use gv_infer::{read_value, value_at};
@@ -226,34 +226,34 @@ fn texts_have_values_of_the_least_type(rt: HostRuntime) -> Result<(), Fail> {
     )
 }
 
+/// A dictionary is one level of syntax, and two of a type. The last text is as long as one may be.
 #[test]
 fn a_level_is_a_sign_or_word_and_128_are_the_most(rt: HostRuntime) -> Result<(), Fail> {
-    let blanks = Syntax::MAX_TEXT_LEN - 1;
-    for (times, start, middle, end, wanted) in [
-        (129, "[", "", "", "TooDeep at 128..129"),
-        (126, "<", "@mmi 1", ">", "TooDeep"),
-        (127, "[", "", "]", "Ambiguous"),
-        (128, "[", "", "]", "NoCommonType"),
-        (129, "[", "", "]", "TooDeep at 128..129"),
-        (128, "[", "1", "]", "TooDeep at 128..129"),
-        (128, "[", "nothing", "]", "TooDeep at 128..135"),
-        (128, "[", "", "", "Unclosed at 127..128"),
-        (128, "[", ",", "", "Unexpected at 128..129"),
-        (127, "@i ", "1", "", "i 1"),
-        (128, "@i ", "1", "", "TooDeep at 384..385"),
-        (127, "int32 ", "1", "", "i 1"),
-        (128, "int32 ", "1", "", "TooDeep at 768..769"),
-        (127, "just ", "nothing", "", "NoCommonType"),
-        (128, "just ", "1", "", "TooDeep at 640..641"),
-        (128, "<", "1", ">", "TooDeep at 128..129"),
-        (128, "(", "1", ",)", "TooDeep at 128..129"),
-        (128, "{1: ", "2", "}", "TooDeep at 509..510"),
-        // A dictionary is one level of syntax, and two of a type.
-        (126, "[", "{1: 2}", "]", "NoCommonType"),
-        (blanks, " ", "5", "", "i 5"),
-    ] {
-        let text = nested(rt.alloc(), times, start, middle, end)?;
-        Asked::Value.gives(rt.alloc(), text.as_str(), wanted)?;
-    }
-    Ok(())
+    assert_eq!(rt; Syntax::MAX_TEXT_LEN, 16_777_216);
+    Asked::Value.each_gives(
+        rt.alloc(),
+        r"
+        ~129×[~ | TooDeep at 128..129
+        ~126×<~@mmi 1~126×>~ | TooDeep
+        ~127×[~~127×]~ | Ambiguous
+        ~128×[~~128×]~ | NoCommonType
+        ~129×[~~129×]~ | TooDeep at 128..129
+        ~128×[~1~128×]~ | TooDeep at 128..129
+        ~128×[~nothing~128×]~ | TooDeep at 128..135
+        ~128×[~ | Unclosed at 127..128
+        ~128×[~, | Unexpected at 128..129
+        ~127×@i ~1 | i 1
+        ~128×@i ~1 | TooDeep at 384..385
+        ~127×int32 ~1 | i 1
+        ~128×int32 ~1 | TooDeep at 768..769
+        ~127×just ~nothing | NoCommonType
+        ~128×just ~1 | TooDeep at 640..641
+        ~128×<~1~128×>~ | TooDeep at 128..129
+        ~128×(~1~128×,)~ | TooDeep at 128..129
+        ~128×{1: ~2~128×}~ | TooDeep at 509..510
+        ~126×[~{1: 2}~126×]~ | NoCommonType
+    ",
+    )?;
+    let longest = spelt_out(rt.alloc(), "~16777215× ~5")?;
+    Asked::Value.gives(rt.alloc(), longest.as_str(), "i 5")
 }
