@@ -1,6 +1,8 @@
 //! Layers of settings: what is seen through the databases of a profile, and how it is changed.
+mod calls;
 mod changing;
 mod engines;
+mod files;
 mod keeping;
 mod listing;
 mod many;

@@ -8,4 +8,6 @@ mod folders;
 #[cfg(test)]
 mod layers;
 #[cfg(test)]
+mod rows;
+#[cfg(test)]
 mod texts;

@@ -6,7 +6,7 @@ use super::slow_search::agree;
 use super::verdicts::{Verdict, verdict_of};
 use super::written::{database, names};
 use gvdb_read::Rule;
-use std::alloc::Global;
+use std::alloc::{AllocError, Global};
 use std::test::Fail;
 
 /// How each copy of a file is damaged.
@@ -83,6 +83,32 @@ fn set_some(file: &mut [u8], table_size: Option<u16>, seed: u32) -> u32 {
     seed
 }
 
+/// Damages the copy of this number. Gives the generator's next number.
+fn damage_copy(file: &mut [u8], damage: Damage, copy: usize, seed: u32) -> u32 {
+    match damage {
+        Damage::EachByte => {
+            change_one(file, copy);
+            seed
+        }
+        Damage::InTable(size) => set_some(file, Some(size), seed),
+        Damage::Anywhere => set_some(file, None, seed),
+    }
+}
+
+/// What is said of a copy.
+fn said_of(
+    alloc: Global,
+    file: &[u8],
+    damage: Damage,
+    names: &[String],
+) -> Result<Said, AllocError> {
+    let verdict = verdict_of(file);
+    match damage {
+        Damage::InTable(_) => Ok((verdict, slow_verdict(alloc, file)?, true)),
+        _ => Ok((verdict, verdict, agree(alloc, file, names)?)),
+    }
+}
+
 /// What is said of each damaged copy of a file.
 fn said_of_copies(alloc: Global, whole: &[u8], damage: Damage) -> Result<Vec<Said>, Fail> {
     let names = names(alloc, 8)?;
@@ -94,16 +120,8 @@ fn said_of_copies(alloc: Global, whole: &[u8], damage: Damage) -> Result<Vec<Sai
     };
     for copy in 0..copies {
         let mut file = whole.to_vec(alloc)?;
-        match damage {
-            Damage::EachByte => change_one(&mut file, copy),
-            Damage::InTable(size) => seed = set_some(&mut file, Some(size), seed),
-            Damage::Anywhere => seed = set_some(&mut file, None, seed),
-        }
-        let verdict = verdict_of(&file);
-        said.push(match damage {
-            Damage::InTable(_) => (verdict, slow_verdict(alloc, &file)?, true),
-            _ => (verdict, verdict, agree(alloc, &file, &names)?),
-        })?;
+        seed = damage_copy(&mut file, damage, copy, seed);
+        said.push(said_of(alloc, &file, damage, &names)?)?;
     }
     Ok(said)
 }
@@ -129,31 +147,28 @@ fn first_other(said: &[Said], rules: &[(Rule, usize)]) -> Option<usize> {
     }
 }
 
+/// The rules that copies of the real dconf's file break, and how often at least. It has no bloom
+/// words for S6, and S7 takes another hash, key and bucket at once.
+const OF_SITE: [(Rule, usize); 9] = [
+    (Rule::Buckets, 100),
+    (Rule::Keys, 100),
+    (Rule::Chain, 5),
+    (Rule::Hash, 100),
+    (Rule::Span, 5),
+    (Rule::Content, 100),
+    (Rule::Place, 1),
+    (Rule::Lists, 20),
+    (Rule::Locks, 5),
+];
+
 #[test]
 fn a_slow_check_says_the_same_of_damaged_files(rt: HostRuntime) -> Result<(), Fail> {
     let alloc = rt.alloc();
+    let said = said_of_copies(alloc, site(), Damage::InTable(736))?;
+    assert_eq!(rt; first_other(&said, &OF_SITE), None);
     let written = database(alloc, 8)?;
-    // the real dconf's file has no bloom words for S6, and S7 takes another hash, key and bucket at once
-    let of_site = [
-        (Rule::Buckets, 100),
-        (Rule::Keys, 100),
-        (Rule::Chain, 5),
-        (Rule::Hash, 100),
-        (Rule::Span, 5),
-        (Rule::Content, 100),
-        (Rule::Place, 1),
-        (Rule::Lists, 20),
-        (Rule::Locks, 5),
-    ];
-    let rows: [(&[u8], u16, &[(Rule, usize)]); 2] = [
-        (site(), 736, &of_site),
-        (&written, 492, &[(Rule::Bloom, 1)]),
-    ];
-    for (whole, table_size, rules) in rows {
-        let said = said_of_copies(alloc, whole, Damage::InTable(table_size))?;
-        let other = first_other(&said, rules);
-        assert!(rt; other == None, "a table of {table_size} bytes: {other:?}");
-    }
+    let said = said_of_copies(alloc, &written, Damage::InTable(492))?;
+    assert_eq!(rt; first_other(&said, &[(Rule::Bloom, 1)]), None);
     Ok(())
 }
 

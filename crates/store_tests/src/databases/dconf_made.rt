@@ -1,120 +1,95 @@
 //! A database that the real dconf made: it is sound and reads as what was put in.
 use super::dconf_bytes::site;
+use super::finding::names_shown;
+use crate::rows::hold;
 use gv_view::View;
 use gvdb_read::Table;
 use std::alloc::Global;
 use std::test::Fail;
 
-/// Whether a name has this value, the bytes of a variant, and this list, of which each name has a blank before it.
-fn reads_as(
-    alloc: Global,
-    table: Table<'_>,
-    name: &str,
-    value: Option<&[u8]>,
-    list: &[u8],
-) -> Result<bool, Fail> {
-    let mut text = Vec::new(alloc);
-    if let Some(names) = table.list(name) {
-        for name in names {
-            text.push(b' ')?;
-            text.extend_from_slice(name)?;
-        }
+/// The value of a name, the bytes of a variant, and its list.
+fn value_and_names(alloc: Global, asked: &str) -> Result<String, Fail> {
+    let table = Table::open(site())?;
+    let value = table.find_bytes(asked);
+    if table.find(asked).is_some() != value.is_some() {
+        return Err(Fail::new("no value is found"));
     }
-    Ok(
-        table.find_bytes(name) == value
-            && table.find(name).is_some() == value.is_some()
-            && text.as_slice() == list,
-    )
+    let names = names_shown(alloc, table, asked)?;
+    Ok(format!(in alloc; " {value:?}{names}")?)
 }
+
+const NAMES: &str = "
+/top => Some([5, 0, 0, 0, 0, 105]) none
+/a/as => Some([120, 0, 121, 122, 0, 2, 5, 0, 97, 115]) none
+/a/b => Some([1, 0, 98]) none
+/a/dict => Some([107, 0, 0, 0, 1, 0, 0, 0, 2, 9, 0, 97, 123, 115, 105, 125]) none
+/a/empty => Some([0, 0, 115]) none
+/a/n => Some([249, 255, 0, 110]) none
+/a/s => Some([116, 101, 120, 116, 0, 0, 115]) none
+/a/u => Some([7, 0, 0, 0, 0, 117]) none
+/a/v => Some([105, 110, 0, 0, 115, 0, 118]) none
+/a/x => Some([255, 255, 255, 255, 255, 255, 255, 255, 0, 120]) none
+/a/sub/k0 => Some([0, 0, 0, 0, 0, 105]) none
+/a/sub/k1 => Some([1, 0, 0, 0, 0, 105]) none
+/a/sub/k2 => Some([2, 0, 0, 0, 0, 105]) none
+/a/sub/k3 => Some([3, 0, 0, 0, 0, 105]) none
+/a/sub/k4 => Some([4, 0, 0, 0, 0, 105]) none
+/b/c/d => Some([0, 0, 0, 0, 0, 0, 248, 63, 0, 100]) none
+/b/c/m => Some([106, 117, 115, 116, 0, 0, 0, 109, 115]) none
+/b/c/t => Some([1, 0, 0, 0, 97, 0, 0, 40, 105, 115, 41]) none
+/b/c/y => Some([5, 0, 121]) none
+/b/c/yy => Some([1, 2, 0, 97, 121]) none
+/ => None a/ b/ top
+/a/ => None as b dict empty n s sub/ u v x
+/a/sub/ => None k0 k1 k2 k3 k4
+/b/ => None c/
+/b/c/ => None d m t y yy
+ => None none
+/a => None none
+/a/t => None none
+/a/sub/k5 => None none
+/k0 => None none
+k0 => None none
+/top/ => None none
+.locks => None none
+/c/ => None none
+";
 
 #[test]
 fn a_file_of_dconf_has_its_keys_and_lists(rt: HostRuntime) -> Result<(), Fail> {
-    let table = Table::open(site())?;
-    let rows: [(&str, Option<&[u8]>, &[u8]); 34] = [
-        ("/top", Some(b"\x05\0\0\0\0i"), b""),
-        ("/a/as", Some(b"x\0yz\0\x02\x05\0as"), b""),
-        ("/a/b", Some(b"\x01\0b"), b""),
-        ("/a/dict", Some(b"k\0\0\0\x01\0\0\0\x02\x09\0a{si}"), b""),
-        ("/a/empty", Some(b"\0\0s"), b""),
-        ("/a/n", Some(b"\xf9\xff\0n"), b""),
-        ("/a/s", Some(b"text\0\0s"), b""),
-        ("/a/u", Some(b"\x07\0\0\0\0u"), b""),
-        ("/a/v", Some(b"in\0\0s\0v"), b""),
-        ("/a/x", Some(b"\xff\xff\xff\xff\xff\xff\xff\xff\0x"), b""),
-        ("/a/sub/k0", Some(b"\0\0\0\0\0i"), b""),
-        ("/a/sub/k1", Some(b"\x01\0\0\0\0i"), b""),
-        ("/a/sub/k2", Some(b"\x02\0\0\0\0i"), b""),
-        ("/a/sub/k3", Some(b"\x03\0\0\0\0i"), b""),
-        ("/a/sub/k4", Some(b"\x04\0\0\0\0i"), b""),
-        ("/b/c/d", Some(b"\0\0\0\0\0\0\xf8\x3f\0d"), b""),
-        ("/b/c/m", Some(b"just\0\0\0ms"), b""),
-        ("/b/c/t", Some(b"\x01\0\0\0a\0\0(is)"), b""),
-        ("/b/c/y", Some(b"\x05\0y"), b""),
-        ("/b/c/yy", Some(b"\x01\x02\0ay"), b""),
-        ("/", None, b" a/ b/ top"),
-        ("/a/", None, b" as b dict empty n s sub/ u v x"),
-        ("/a/sub/", None, b" k0 k1 k2 k3 k4"),
-        ("/b/", None, b" c/"),
-        ("/b/c/", None, b" d m t y yy"),
-        ("", None, b""),
-        ("/a", None, b""),
-        ("/a/t", None, b""),
-        ("/a/sub/k5", None, b""),
-        ("/k0", None, b""),
-        ("k0", None, b""),
-        ("/top/", None, b""),
-        (".locks", None, b""),
-        ("/c/", None, b""),
-    ];
-    for (name, value, list) in rows {
-        assert!(rt; reads_as(rt.alloc(), table, name, value, list)?, "{name}");
-    }
-    Ok(())
+    hold(rt.alloc(), NAMES, '\n', self::value_and_names)
 }
 
-/// A value of a basic type.
-#[derive(Clone, Copy)]
-enum Value<'a> {
-    Bool(bool),
-    U8(u8),
-    I16(i16),
-    I32(i32),
-    U32(u32),
-    I64(i64),
-    Str(&'a str),
+/// A value as one of each basic type.
+fn value_shown(alloc: Global, value: View<'_>) -> Result<String, Fail> {
+    let (b, y, n) = (value.as_bool(), value.as_u8(), value.as_i16());
+    let (i, u, x) = (value.as_i32(), value.as_u32(), value.as_i64());
+    Ok(format!(in alloc; " {b:?} {y:?} {n:?} {i:?} {u:?} {x:?} {:?}", value.as_str())?)
 }
 
-/// Whether a value reads as this.
-fn is_value(found: Option<View<'_>>, value: Value<'_>) -> bool {
-    let Some(view) = found else {
-        return false;
-    };
-    match value {
-        Value::Bool(value) => view.as_bool() == Some(value),
-        Value::U8(value) => view.as_u8() == Some(value),
-        Value::I16(value) => view.as_i16() == Some(value),
-        Value::I32(value) => view.as_i32() == Some(value),
-        Value::U32(value) => view.as_u32() == Some(value),
-        Value::I64(value) => view.as_i64() == Some(value),
-        Value::Str(value) => view.as_str() == Some(value),
+/// The value of a name, as one of each basic type.
+fn values(alloc: Global, asked: &str) -> Result<String, Fail> {
+    match Table::open(site())?.find(asked) {
+        Some(value) => value_shown(alloc, value),
+        None => Err(Fail::new("no value is found")),
     }
 }
+
+const VALUES: &str = "
+/a/b => Some(true) None None None None None None
+/b/c/y => None Some(5) None None None None None
+/a/n => None None Some(-7) None None None None
+/top => None None None Some(5) None None None
+/a/u => None None None None Some(7) None None
+/a/x => None None None None None Some(-1) None
+/a/s => None None None None None None Some(\"text\")
+";
 
 #[test]
 fn a_file_of_dconf_is_sound_and_reads_as_what_was_put_in(rt: HostRuntime) -> Result<(), Fail> {
     let table = Table::open(site())?;
     assert!(rt; table.check().is_ok());
-    for (name, value) in [
-        ("/top", Value::I32(5)),
-        ("/a/b", Value::Bool(true)),
-        ("/a/n", Value::I16(-7)),
-        ("/a/s", Value::Str("text")),
-        ("/a/u", Value::U32(7)),
-        ("/a/x", Value::I64(-1)),
-        ("/b/c/y", Value::U8(5)),
-    ] {
-        assert!(rt; is_value(table.find(name), value), "{name}");
-    }
+    hold(rt.alloc(), VALUES, '\n', self::values)?;
     let Some(locks) = table.table(".locks") else {
         return Err(Fail::new("no table of locks"));
     };

@@ -1,8 +1,9 @@
 //! Looking up names in files by hand.
-use super::samples::Sample;
+use super::samples::{file_of, sample};
+use crate::rows::hold;
 use gv_types::Steps;
 use gv_view::View;
-use gvdb_read::{OpenFault, Table, hash, hash_with};
+use gvdb_read::{Table, hash, hash_with};
 use std::alloc::Global;
 use std::test::Fail;
 
@@ -38,33 +39,34 @@ fn has_bytes(table: Table<'_>, name: &str, bytes: Option<&[u8]>) -> bool {
         && table.has(name) == bytes.is_some()
 }
 
-/// The first two names in the list of `/`.
-fn root_names(table: Table<'_>) -> Option<(Option<&[u8]>, Option<&[u8]>)> {
-    let mut names = table.list("/")?;
-    let first = names.next();
-    Some((first, names.next()))
+/// The names in a list, each with a blank before it; `none` where there is no list.
+pub(crate) fn names_shown(alloc: Global, table: Table<'_>, name: &str) -> Result<String, Fail> {
+    let mut text = String::new(alloc);
+    let Some(names) = table.list(name) else {
+        text.push_str(" none")?;
+        return Ok(text);
+    };
+    for name in names {
+        text.push(' ')?;
+        text.push_str(str::from_utf8(name)?)?;
+    }
+    Ok(text)
 }
 
-/// The only name in the list of `/`.
-const K: Option<&[u8]> = Some(b"k");
-
-/// Whether `/k` is in a file, worth 5, `k` is in the list of `/`, and nothing else is in either.
-fn holds_k_alone(file: Sample) -> Result<bool, OpenFault> {
-    let table = Table::open(file.bytes())?;
+/// Whether `/k` is in a table, worth 5, and no value has another of these names.
+fn holds_k_alone(table: Table<'_>) -> bool {
     for name in ["", "/", "k", "/j", "/k/", "//k", ".locks"] {
         if !has_bytes(table, name, None) {
-            return Ok(false);
+            return false;
         }
     }
-    Ok(
-        (0..table.n_items()).any(|i| table.has_name(i, "/k"))
-            && !table.has_name(0, "/j")
-            && has_bytes(table, "/k", Some(&[5, 0, 0, 0, 0, b'i']))
-            && table.find("/k").and_then(View::as_i32) == Some(5)
-            && root_names(table) == Some((K, None))
-            && table.list("/k").is_none()
-            && table.list("").is_none(),
-    )
+    (0..table.n_items()).any(|i| table.has_name(i, "/k"))
+        && !table.has_name(0, "/j")
+        && has_bytes(table, "/k", Some(&[5, 0, 0, 0, 0, b'i']))
+        && table.find("/k").and_then(View::as_i32) == Some(5)
+        && table.list("/k").is_none()
+        && table.list("").is_none()
+        && table.table("/").is_none()
 }
 
 /// The text at `/k` in the table `.locks`.
@@ -72,96 +74,60 @@ fn lock_value(table: Table<'_>) -> Option<&str> {
     table.table(".locks")?.find("/k")?.as_str()
 }
 
+/// What a file has of locks and in the list of `/`, where it holds `/k` alone.
+fn file_shown(alloc: Global, asked: &str) -> Result<String, Fail> {
+    let table = Table::open(sample(asked)?)?;
+    if !holds_k_alone(table) {
+        return Err(Fail::new("the file holds something else"));
+    }
+    let names = names_shown(alloc, table, "/")?;
+    Ok(format!(in alloc; " {:?}{names}", lock_value(table))?)
+}
+
+const FILES: &str = "
+plain => None k
+buckets => None k
+locked => Some(\"\") k
+";
+
 #[test]
 fn finds_values_lists_and_locks(rt: HostRuntime) -> Result<(), Fail> {
-    for (file, lock) in [
-        (Sample::Plain, None),
-        (Sample::Buckets, None),
-        (Sample::Locked, Some("")),
-    ] {
-        let table = Table::open(file.bytes())?;
-        assert!(rt;
-            holds_k_alone(file)? && lock_value(table) == lock && table.table("/").is_none()
-        );
-    }
-    Ok(())
+    hold(rt.alloc(), FILES, '\n', self::file_shown)
 }
 
-/// The first two names in a list; None where there is no list.
-type Names<'a> = Option<(Option<&'a [u8]>, Option<&'a [u8]>)>;
-
-/// Whether a search in a file with some bytes changed finds this number, in so many steps at most, and the list of `/` has these names.
-fn finds(
-    alloc: Global,
-    (file, changes): (Sample, &[(usize, u8)]),
-    name: &str,
-    (number, most): (Option<i32>, u128),
-    names: Names<'_>,
-) -> Result<bool, Fail> {
-    let file = file.with(alloc, changes)?;
+/// What a search for a name finds in a file, with its steps counted and without, whether it took so
+/// many at most, and the names in the list of `/`.
+fn searched(alloc: Global, asked: &str) -> Result<String, Fail> {
+    let (file, rest) = asked.split_once("; ").unwrap_or((asked, ""));
+    let (name, most) = rest.split_once("; ").unwrap_or((rest, ""));
+    let most: u128 = most.parse()?;
+    let file = file_of(alloc, file)?;
     let table = Table::open(&file)?;
     let mut steps = Steps::new();
-    let found = table.find_counted(name, &mut steps);
-    Ok(
-        found.and_then(View::as_i32) == number
-            && table.find(name).and_then(View::as_i32) == number
-            && steps.count() <= most
-            && root_names(table) == names,
-    )
+    let counted = table.find_counted(name, &mut steps).and_then(View::as_i32);
+    let found = table.find(name).and_then(View::as_i32);
+    let ended = steps.count() <= most;
+    let names = names_shown(alloc, table, "/")?;
+    Ok(format!(in alloc; " {counted:?} {found:?} {ended}{names}")?)
 }
 
-/// A search: in a file with changes, for a name; its number, the most steps, and the list of `/`.
-type Search<'a> = (
-    Sample,
-    &'a [(usize, u8)],
-    &'a str,
-    Option<i32>,
-    u128,
-    Names<'a>,
-);
+const SEARCHES: &str = "
+plain; /k; 6 => Some(5) Some(5) true k
+buckets; /k; 3 => Some(5) Some(5) true k
+buckets; /j; 0 => None None true k
+-- no bloom words, and a shift; no items either
+plain 27=40; /k; 6 => Some(5) Some(5) true k
+32 27=40 20=32 28=0; /k; 0 => None None true none
+-- each of the two items is the other's parent
+plain 40=1 41=0 42=0 43=0; /k; 6 => None None true none
+-- a file that ends before its last value does, and another hash
+101; /k; 6 => None None true k
+plain 60=190; /k; 6 => None None true k
+-- a list of no item
+plain 88=2; /k; 6 => Some(5) Some(5) true
+";
 
 #[test]
 fn searches_end_in_bare_and_damaged_files_too(rt: HostRuntime) -> Result<(), Fail> {
-    let k = Some((K, None));
-    let rows: [Search<'_>; 9] = [
-        (Sample::Plain, &[], "/k", Some(5), 6, k),
-        (Sample::Buckets, &[], "/k", Some(5), 3, k),
-        (Sample::Buckets, &[], "/j", None, 0, k),
-        // no bloom words, and a shift; no items either
-        (Sample::Plain, &[(27, 0x28)], "/k", Some(5), 6, k),
-        (
-            Sample::First(32),
-            &[(27, 0x28), (20, 0x20), (28, 0)],
-            "/k",
-            None,
-            0,
-            None,
-        ),
-        // each of the two items is the other's parent
-        (
-            Sample::Plain,
-            &[(40, 1), (41, 0), (42, 0), (43, 0)],
-            "/k",
-            None,
-            6,
-            None,
-        ),
-        // a file that ends before its last value does, and another hash
-        (Sample::First(101), &[], "/k", None, 6, k),
-        (Sample::Plain, &[(60, 0xbe)], "/k", None, 6, k),
-        // a list of no item
-        (
-            Sample::Plain,
-            &[(88, 2)],
-            "/k",
-            Some(5),
-            6,
-            Some((None, None)),
-        ),
-    ];
-    for (file, changes, name, number, most, names) in rows {
-        let found = finds(rt.alloc(), (file, changes), name, (number, most), names)?;
-        assert!(rt; found, "{name} with {changes:?} within {most} steps");
-    }
-    Ok(())
+    hold(rt.alloc(), SEARCHES, '\n', self::searched)
 }

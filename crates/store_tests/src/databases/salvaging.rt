@@ -1,5 +1,6 @@
 //! What is salvaged of files by hand with some bytes set, as a text.
-use super::samples::Sample;
+use super::samples::file_of;
+use crate::rows::hold;
 use gvdb_write::{Map, salvage};
 use std::alloc::Global;
 use std::fmt::Write;
@@ -10,10 +11,10 @@ pub(crate) fn text_of(alloc: Global, map: &Map) -> Result<String, Fail> {
     let mut text = String::new(alloc);
     for path in map.keys() {
         let first = map.get(path).and_then(|value| value.first().copied());
-        write!(text, "{}={first:?} ", path.as_str())?;
+        write!(text, " {}={first:?}", path.as_str())?;
     }
     for path in map.locks() {
-        write!(text, "lock {} ", path.as_str())?;
+        write!(text, " lock {}", path.as_str())?;
     }
     Ok(text)
 }
@@ -22,64 +23,39 @@ pub(crate) fn text_of(alloc: Global, map: &Map) -> Result<String, Fail> {
 pub(crate) fn kept(alloc: Global, file: &[u8]) -> Result<String, Fail> {
     match salvage(alloc, file) {
         Ok(map) => text_of(alloc, &map),
-        Err(fault) => Ok(format!(in alloc; "{fault}")?),
+        Err(fault) => Ok(format!(in alloc; " {fault}")?),
     }
 }
 
+fn salvaged(alloc: Global, asked: &str) -> Result<String, Fail> {
+    kept(alloc, &file_of(alloc, asked)?)
+}
+
+// 76, 118 and 120 are the kinds `L` and `v`, and none.
+const ROWS: &str = "
+-- a file that is no database, and one that ends before its last value does
+23 => Short
+83 => BadRoot
+101 =>
+plain => /k=Some(5)
+-- another hash; a circle of parents; a kind that is none; a pointer past the file
+plain 60=190 => /k=Some(5)
+plain 40=1 41=0 42=0 43=0 =>
+plain 74=120 =>
+plain 80=200 =>
+-- a name that is no text
+plain 85=255 =>
+-- two items `/k`; and the first of them with a pointer that isn't valid
+plain 48=2 50=118 64=255 65=255 66=255 67=255 68=84 72=2 => /k=Some(1)
+plain 48=2 50=118 52=89 64=255 65=255 66=255 67=255 68=84 72=2 => /k=Some(5)
+-- the lock's pointer isn't valid; the lock is of another kind; its table is a list
+locked => /k=Some(5) lock /k
+locked 148=169 => /k=Some(5) lock /k
+locked 146=76 => /k=Some(5)
+locked 50=76 => /k=Some(5)
+";
+
 #[test]
 fn keeps_what_has_a_name_and_a_place(rt: HostRuntime) -> Result<(), Fail> {
-    let rows: [(Sample, &[(usize, u8)], &str); 15] = [
-        // a file that is no database, and one that ends before its last value does
-        (Sample::First(23), &[], "Short"),
-        (Sample::First(83), &[], "BadRoot"),
-        (Sample::First(101), &[], ""),
-        (Sample::Plain, &[], "/k=Some(5) "),
-        // another hash; a circle of parents; a kind that is none; a pointer past the file
-        (Sample::Plain, &[(60, 0xbe)], "/k=Some(5) "),
-        (Sample::Plain, &[(40, 1), (41, 0), (42, 0), (43, 0)], ""),
-        (Sample::Plain, &[(74, b'x')], ""),
-        (Sample::Plain, &[(80, 200)], ""),
-        // a name that is no text
-        (Sample::Plain, &[(85, 0xff)], ""),
-        // two items `/k`; and the first of them with a pointer that isn't valid
-        (
-            Sample::Plain,
-            &[
-                (48, 2),
-                (50, b'v'),
-                (64, 255),
-                (65, 255),
-                (66, 255),
-                (67, 255),
-                (68, 84),
-                (72, 2),
-            ],
-            "/k=Some(1) ",
-        ),
-        (
-            Sample::Plain,
-            &[
-                (48, 2),
-                (50, b'v'),
-                (52, 89),
-                (64, 255),
-                (65, 255),
-                (66, 255),
-                (67, 255),
-                (68, 84),
-                (72, 2),
-            ],
-            "/k=Some(5) ",
-        ),
-        // the lock's pointer isn't valid; the lock is of another kind; its table is a list
-        (Sample::Locked, &[], "/k=Some(5) lock /k "),
-        (Sample::Locked, &[(148, 169)], "/k=Some(5) lock /k "),
-        (Sample::Locked, &[(146, b'L')], "/k=Some(5) "),
-        (Sample::Locked, &[(50, b'L')], "/k=Some(5) "),
-    ];
-    for (sample, changes, text) in rows {
-        let file = sample.with(rt.alloc(), changes)?;
-        assert!(rt; kept(rt.alloc(), &file)?.as_str() == text, "{changes:?}");
-    }
-    Ok(())
+    hold(rt.alloc(), ROWS, '\n', self::salvaged)
 }

@@ -1,5 +1,6 @@
 //! Files by hand: a header, a table and its items, keys, a list, values, in this order.
-use std::alloc::{AllocError, Global};
+use std::alloc::Global;
+use std::test::Fail;
 
 /// The key `/k`, worth 5, in a table of one bucket and no bloom words.
 const PLAIN: &[u8] = &[
@@ -51,48 +52,37 @@ const DOTTED: &[u8] = &[
     107, 0, 0, 5, 0, 0, 0, 0, 105, 0, 0, 0, 0, 115, 0, 0, 0, 0, 0, 0, 0, 0, 0, 107, 47, 0, 0,
 ];
 
-/// Which of the files by hand.
-#[derive(Clone, Copy)]
-pub(crate) enum Sample {
-    /// The key `/k`, worth 5.
-    Plain,
-    /// The same with buckets and a bloom word.
-    Buckets,
-    /// The same with a lock.
-    Locked,
-    /// The same with a lock, and a list of two numbers.
-    Listed,
-    /// The same with `/.` in place of the lock.
-    Dotted,
-    /// So many bytes of the plain one.
-    First(usize),
+/// The file of this name: `plain` has the key `/k`, worth 5; `buckets` is the same with buckets and
+/// a bloom word, `locked` with a lock, `listed` with a lock and a list of two numbers, and `dotted`
+/// with `/.` in place of the lock. A number is so many bytes of the plain one.
+pub(crate) fn sample(name: &str) -> Result<&'static [u8], Fail> {
+    match name {
+        "plain" => Ok(PLAIN),
+        "buckets" => Ok(BUCKETS),
+        "locked" => Ok(LOCKED),
+        "listed" => Ok(LISTED),
+        "dotted" => Ok(DOTTED),
+        _ => Ok(PLAIN.get(..name.parse()?).unwrap_or(&[])),
+    }
 }
 
-impl Sample {
-    /// The file's bytes.
-    pub(crate) fn bytes(self) -> &'static [u8] {
-        match self {
-            Sample::Plain => PLAIN,
-            Sample::Buckets => BUCKETS,
-            Sample::Locked => LOCKED,
-            Sample::Listed => LISTED,
-            Sample::Dotted => DOTTED,
-            Sample::First(len) => PLAIN.get(..len).unwrap_or(&[]),
-        }
+/// Sets a byte, as `32=1` says.
+fn set(file: &mut [u8], change: &str) -> Result<(), Fail> {
+    let (at, byte) = change.split_once('=').unwrap_or((change, ""));
+    let at: usize = at.parse()?;
+    match file.get_mut(at) {
+        Some(there) => *there = byte.parse()?,
+        None => return Err(Fail::new("a byte past the end")),
     }
+    Ok(())
+}
 
-    /// A copy of the file with some bytes set.
-    pub(crate) fn with(
-        self,
-        alloc: Global,
-        changes: &[(usize, u8)],
-    ) -> Result<Vec<u8>, AllocError> {
-        let mut file = self.bytes().to_vec(alloc)?;
-        for (at, byte) in changes {
-            if *at < file.len() {
-                file[*at] = *byte;
-            }
-        }
-        Ok(file)
+/// A copy of the file of this name, and of the bytes that are set in it: `plain 32=1 36=190`.
+pub(crate) fn file_of(alloc: Global, text: &str) -> Result<Vec<u8>, Fail> {
+    let (name, changes) = text.split_once(' ').unwrap_or((text, ""));
+    let mut file = sample(name)?.to_vec(alloc)?;
+    for change in changes.split_terminator(' ') {
+        set(&mut file, change)?;
     }
+    Ok(file)
 }

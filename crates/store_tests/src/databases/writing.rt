@@ -1,6 +1,6 @@
 //! Databases by example, byte for byte.
 use super::maps::{FIVE, fives};
-use super::samples::Sample;
+use super::samples::{file_of, sample};
 use dconf_path::{KeyPath, LockPath};
 use gvdb_write::{Map, salvage, write};
 use std::alloc::Global;
@@ -19,7 +19,7 @@ fn digest(bytes: &[u8]) -> u32 {
 /// Nested directories, locks and shared values.
 fn nested(alloc: Global) -> Result<Map, Fail> {
     let values: [&[u8]; 4] = [FIVE, &[], &[0, 0, b's'], b"hello\0\0s"];
-    let mut map = fives(alloc, &[], &["/org/k", "/q", "/a/b/x"])?;
+    let mut map = fives(alloc, "", "/org/k /q /a/b/x")?;
     let paths = [
         "/a/b/c/d",
         "/a/b/c/e",
@@ -58,13 +58,13 @@ fn many(alloc: Global) -> Result<Map, Fail> {
 #[test]
 fn writes_byte_for_byte_what_a_second_writer_does(rt: HostRuntime) -> Result<(), Fail> {
     let alloc = rt.alloc();
-    let one = write(alloc, &fives(alloc, &["/k"], &[])?)?;
-    assert!(rt; one.as_slice() == Sample::Buckets.bytes());
+    let one = write(alloc, &fives(alloc, "/k", "")?)?;
+    assert!(rt; one.as_slice() == sample("buckets")?);
     let nested = write(alloc, &nested(alloc)?)?;
     assert!(rt; nested.len() == 1067 && digest(&nested) == 4_065_451_339);
     let many = write(alloc, &many(alloc)?)?;
     assert!(rt; many.len() == 3147 && digest(&many) == 1_198_000_973);
-    let salvaged = salvage(alloc, &Sample::Plain.with(alloc, &[(60, 0xbe)])?)?;
-    assert!(rt; write(alloc, &salvaged)?.as_slice() == Sample::Buckets.bytes());
+    let salvaged = salvage(alloc, &file_of(alloc, "plain 60=190")?)?;
+    assert!(rt; write(alloc, &salvaged)?.as_slice() == sample("buckets")?);
     Ok(())
 }

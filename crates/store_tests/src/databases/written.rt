@@ -2,6 +2,7 @@
 use super::maps::{FIVE, fives};
 use super::salvaging::{kept, text_of};
 use super::slow_search::agree;
+use crate::rows::hold;
 use dconf_path::{KeyPath, LockPath};
 use gv_view::View;
 use gvdb_read::Table;
@@ -91,11 +92,11 @@ fn each_key_is_found_and_no_other_as_by_a_slow_search(rt: HostRuntime) -> Result
 }
 
 /// Whether each of these paths is found, worth 5, and each of these locks, and `/` is listed, empty where there is no path.
-fn holds(table: Table<'_>, paths: &[&str], locks: &[&str]) -> bool {
+fn holds(table: Table<'_>, paths: &str, locks: &str) -> bool {
     let are_found = paths
-        .iter()
+        .split_terminator(' ')
         .all(|path| table.find_bytes(path) == Some(FIVE));
-    let are_locked = locks.iter().all(
+    let are_locked = locks.split_terminator(' ').all(
         |lock| matches!(table.table(".locks"), Some(locks) if locks.has(lock)),
     );
     let is_listed = match table.list("/") {
@@ -105,57 +106,53 @@ fn holds(table: Table<'_>, paths: &[&str], locks: &[&str]) -> bool {
     are_found && are_locked && is_listed
 }
 
-/// The words of a text.
-fn words_of(alloc: Global, text: &str) -> Result<Vec<&str>, Fail> {
-    let mut words = Vec::new(alloc);
-    for word in text.split_terminator(' ') {
-        words.push(word)?;
-    }
-    Ok(words)
-}
-
-/// Whether a map of the paths that these words are, each worth 5, and of locks is this text, also once it was written, to so many bytes, and salvaged.
+/// Whether a file is a sound database of these paths and locks, has so many bytes, and is salvaged
+/// as this text.
 fn is_written(
     alloc: Global,
+    file: &[u8],
     (paths, locks): (&str, &str),
-    len: Option<usize>,
-    text: &str,
+    (len, text): (&str, &str),
 ) -> Result<bool, Fail> {
-    let paths = words_of(alloc, paths)?;
-    let locks = words_of(alloc, locks)?;
-    let map = fives(alloc, &paths, &locks)?;
-    let file = write(alloc, &map)?;
-    let table = Table::open(&file)?;
+    let table = Table::open(file)?;
     Ok(
         table.check().is_ok()
-            && holds(table, &paths, &locks)
-            && file.len() == len.unwrap_or(file.len())
-            && text_of(alloc, &map)?.as_str() == text
-            && kept(alloc, &file)?.as_str() == text,
+            && holds(table, paths, locks)
+            && (len == "any" || file.len() == len.parse()?)
+            && kept(alloc, file)?.as_str() == text,
     )
 }
+
+/// A map of paths, each worth 5, and of locks, which is written to so many bytes.
+fn written_map(alloc: Global, asked: &str) -> Result<String, Fail> {
+    let (paths, rest) = asked.split_once("; ").unwrap_or((asked, ""));
+    let (locks, len) = rest.split_once("; ").unwrap_or((rest, ""));
+    let map = fives(alloc, paths, locks)?;
+    let text = text_of(alloc, &map)?;
+    let file = write(alloc, &map)?;
+    if is_written(alloc, &file, (paths, locks), (len, &text))? {
+        Ok(text)
+    } else {
+        Err(Fail::new("the map is not written so"))
+    }
+}
+
+const MAPS: &str = "
+; ; 68 =>
+/k; ; 110 => /k=Some(5)
+/a/k; /a/k; 227 => /a/k=Some(5) lock /a/k
+/a/k; /a/; any => /a/k=Some(5) lock /a/
+-- equal values are stored once
+/a /b; ; 142 => /a=Some(5) /b=Some(5)
+-- paths come in the order of their bytes
+/b /a/é /a- /a/z /B /a/b/c; /z /a/k /a/ /a; any => /B=Some(5) /a-=Some(5) /a/b/c=Some(5) /a/z=Some(5) /a/é=Some(5) /b=Some(5) lock /a lock /a/ lock /a/k lock /z
+";
 
 #[test]
 fn maps_are_written_and_read_back(rt: HostRuntime) -> Result<(), Fail> {
     let alloc = rt.alloc();
-    for (paths, locks, len, text) in [
-        ("", "", Some(68), ""),
-        ("/k", "", Some(110), "/k=Some(5) "),
-        ("/a/k", "/a/k", Some(227), "/a/k=Some(5) lock /a/k "),
-        ("/a/k", "/a/", None, "/a/k=Some(5) lock /a/ "),
-        // equal values are stored once
-        ("/a /b", "", Some(142), "/a=Some(5) /b=Some(5) "),
-        // paths come in the order of their bytes
-        (
-            "/b /a/é /a- /a/z /B /a/b/c",
-            "/z /a/k /a/ /a",
-            None,
-            "/B=Some(5) /a-=Some(5) /a/b/c=Some(5) /a/z=Some(5) /a/é=Some(5) /b=Some(5) lock /a lock /a/ lock /a/k lock /z ",
-        ),
-    ] {
-        assert!(rt; is_written(alloc, (paths, locks), len, text)?, "{text}");
-    }
-    let shared = write(alloc, &fives(alloc, &["/a", "/b"], &[])?)?;
+    hold(alloc, MAPS, '\n', self::written_map)?;
+    let shared = write(alloc, &fives(alloc, "/a /b", "")?)?;
     assert!(rt; shared.get(136..142) == Some(FIVE));
     Ok(())
 }

@@ -1,17 +1,27 @@
 //! What a crash after some calls may leave. A folder in memory has each outcome under a number.
-use super::steps::{Answer, Step, answered};
+use super::steps::answered;
+use crate::rows::hold;
 use dconf_disk::MemoryFolder;
 use std::alloc::Global;
 use std::test::Fail;
 
-/// A read, and how it may be answered.
-type Look<'a> = (Step<'a>, Answer);
+/// The calls of a name.
+fn calls_of(name: &str) -> &'static str {
+    match name {
+        "replaced" => {
+            "replace me.user old, create me.user.new, append me.user.new new, sync me.user.new, rename me.user.new me.user, settle"
+        }
+        "unsynced" => "create me.user, append me.user abc, settle",
+        "renamed" => "create a, append a x, sync a, settle, rename a b",
+        _ => "",
+    }
+}
 
 /// The outcome of this number, after the first calls of some. None where one of them failed.
-fn crashed(alloc: Global, steps: &[Step<'_>], calls: usize, outcome: u64) -> Option<MemoryFolder> {
+fn crashed(alloc: Global, calls: &str, count: usize, outcome: u64) -> Option<MemoryFolder> {
     let mut folder = MemoryFolder::new(alloc);
-    for step in steps.iter().take(calls) {
-        if answered(alloc, &mut folder, *step) != Answer::Done {
+    for call in calls.split(", ").take(count) {
+        if answered(alloc, &mut folder, call) != "done" {
             return None;
         }
     }
@@ -21,97 +31,66 @@ fn crashed(alloc: Global, steps: &[Step<'_>], calls: usize, outcome: u64) -> Opt
     }
 }
 
-/// Which of four cases are seen in so many outcomes of a crash after the first calls of some: no read is answered so, the second alone is, the
-/// first alone is, both are. None where a call failed.
+/// Whether a look, the answer of a call, is so.
+fn is_so(alloc: Global, folder: &mut MemoryFolder, look: &str) -> bool {
+    let (wanted, call) = look.split_once(' ').unwrap_or((look, ""));
+    answered(alloc, folder, call) == wanted
+}
+
+/// Which of four cases are seen in so many outcomes of a crash after the first calls of some:
+/// neither look is so, the second alone is, the first alone is, both are. None where a call failed.
 fn cases(
     alloc: Global,
-    (steps, calls): (&[Step<'_>], usize),
+    (calls, count): (&str, usize),
     outcomes: u64,
-    looks: [Look<'_>; 2],
+    (first, second): (&str, &str),
 ) -> Option<[bool; 4]> {
     let mut seen = [false; 4];
-    let [first, second] = looks;
     for outcome in 0..outcomes {
-        let mut folder = crashed(alloc, steps, calls, outcome)?;
-        let is_first = answered(alloc, &mut folder, first.0) == first.1;
-        let is_second = answered(alloc, &mut folder, second.0) == second.1;
+        let mut folder = crashed(alloc, calls, count, outcome)?;
+        let is_first = is_so(alloc, &mut folder, first);
+        let is_second = is_so(alloc, &mut folder, second);
         seen[usize::from(is_first) * 2 + usize::from(is_second)] = true;
     }
     Some(seen)
 }
 
-/// The file of the replacements.
-const NAME: &str = "me.user";
-
-/// Twice that the file has these bytes.
-fn both_have(bytes: &[u8]) -> [Look<'_>; 2] {
-    [(Step::Read(NAME, bytes), Answer::Done); 2]
+/// Which cases are seen of two looks, after so many of the calls of a name, in so many outcomes.
+fn crash_cases(alloc: Global, asked: &str) -> Result<String, Fail> {
+    let (calls, looks) = asked.split_once(": ").unwrap_or((asked, ""));
+    let (name, rest) = calls.split_once(' ').unwrap_or((calls, ""));
+    let (count, outcomes) = rest.split_once(' ').unwrap_or((rest, ""));
+    let calls = (calls_of(name), count.parse()?);
+    let looks = looks.split_once("; ").unwrap_or((looks, ""));
+    match cases(alloc, calls, outcomes.parse()?, looks) {
+        Some(seen) => Ok(format!(in alloc; " {:?}", seen.as_slice())?),
+        None => Err(Fail::new("a call failed")),
+    }
 }
+
+const ROWS: &str = "
+-- up to the sync of the new file it is the old one
+-- once the folder is synced it is the new one; in between, either
+replaced 1 400: done read me.user old; done read me.user new => [false, false, true, false]
+replaced 2 400: done read me.user old; done read me.user new => [false, false, true, false]
+replaced 3 400: done read me.user old; done read me.user new => [false, false, true, false]
+replaced 4 400: done read me.user old; done read me.user new => [false, false, true, false]
+replaced 5 400: done read me.user old; done read me.user new => [false, true, true, false]
+replaced 6 400: done read me.user old; done read me.user new => [false, true, false, false]
+-- unsynced bytes may be any
+unsynced 3 2000: done read me.user; done read me.user => [true, false, false, true]
+unsynced 3 2000: done read me.user a; done read me.user a => [true, false, false, true]
+unsynced 3 2000: done read me.user ab; done read me.user ab => [true, false, false, true]
+unsynced 3 2000: done read me.user abc; done read me.user abc => [true, false, false, true]
+unsynced 3 2000: done read me.user \0; done read me.user \0 => [true, false, false, true]
+unsynced 3 2000: done read me.user ff; done read me.user ff => [true, false, false, true]
+-- each name is old or new, after a rename
+renamed 5 16: done read a x; done read b x => [true, true, true, true]
+-- a file that no sync of the folder saw may be gone
+renamed 3 16: missing read a x; done read a x => [false, true, true, false]
+";
 
 #[test]
 fn a_crash_leaves_what_was_synced_and_may_change_the_rest(rt: HostRuntime) -> Result<(), Fail> {
-    let new_name = "me.user.new";
-    let replaced = [
-        Step::Replace(NAME, b"old"),
-        Step::Create(new_name),
-        Step::Append(new_name, b"new"),
-        Step::Sync(new_name),
-        Step::Rename(new_name, NAME),
-        Step::SyncFolder,
-    ];
-    let unsynced = [
-        Step::Create(NAME),
-        Step::Append(NAME, b"abc"),
-        Step::SyncFolder,
-    ];
-    let renamed = [
-        Step::Create("a"),
-        Step::Append("a", b"x"),
-        Step::Sync("a"),
-        Step::SyncFolder,
-        Step::Rename("a", "b"),
-    ];
-    let has = (Step::Read("a", b"x"), Answer::Done);
-    let old_or_new = [
-        (Step::Read(NAME, b"old"), Answer::Done),
-        (Step::Read(NAME, b"new"), Answer::Done),
-    ];
-    let some = [true, false, false, true];
-    let rows: [(&[Step<'_>], usize, u64, [Look<'_>; 2], [bool; 4]); 14] = [
-        // up to the sync of the new file it is the old one; once the folder is synced, the new one; in between, either
-        (&replaced, 1, 400, old_or_new, [false, false, true, false]),
-        (&replaced, 2, 400, old_or_new, [false, false, true, false]),
-        (&replaced, 3, 400, old_or_new, [false, false, true, false]),
-        (&replaced, 4, 400, old_or_new, [false, false, true, false]),
-        (&replaced, 5, 400, old_or_new, [false, true, true, false]),
-        (&replaced, 6, 400, old_or_new, [false, true, false, false]),
-        // unsynced bytes may be any
-        (&unsynced, 3, 2000, both_have(b""), some),
-        (&unsynced, 3, 2000, both_have(b"a"), some),
-        (&unsynced, 3, 2000, both_have(b"ab"), some),
-        (&unsynced, 3, 2000, both_have(b"abc"), some),
-        (&unsynced, 3, 2000, both_have(b"\0"), some),
-        (&unsynced, 3, 2000, both_have(b"\xff"), some),
-        // each name is old or new, after a rename
-        (
-            &renamed,
-            5,
-            16,
-            [has, (Step::Read("b", b"x"), Answer::Done)],
-            [true; 4],
-        ),
-        // a file that no sync of the folder saw may be gone
-        (
-            &renamed,
-            3,
-            16,
-            [(Step::Read("a", b"x"), Answer::Missing), has],
-            [false, true, true, false],
-        ),
-    ];
-    for (i, (steps, calls, outcomes, looks, wanted)) in rows.iter().enumerate() {
-        let found = cases(rt.alloc(), (*steps, *calls), *outcomes, *looks);
-        assert!(rt; found == Some(*wanted), "row {i}");
-    }
-    Ok(())
+    hold(rt.alloc(), ROWS, '\n', self::crash_cases)
 }

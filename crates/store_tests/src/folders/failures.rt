@@ -1,65 +1,66 @@
 //! A folder in memory: files that grow, and what a replacement leaves where each of its calls fails once.
-use super::steps::{Answer, Step, first_wrong};
+use super::steps::{answered, calls};
+use crate::rows::hold;
 use dconf_disk::{Folder, MemoryFolder};
 use std::alloc::Global;
+use std::test::Fail;
 
-const NAME: &str = "me.user";
-
-/// Whether a replacement whose call of this number fails is answered so, the read after it so, and the file has these bytes then.
-fn leaves(alloc: Global, call: u64, replaced: Answer, read: Answer, bytes: &[u8]) -> bool {
-    let mut folder = MemoryFolder::new(alloc);
-    if first_wrong(
-        alloc,
-        &mut folder,
-        &[(Step::Replace(NAME, b"old"), Answer::Done)],
-    ) != None
-    {
-        return false;
+/// The text of a file, or why it can't be read.
+fn text_of(alloc: Global, folder: &mut MemoryFolder, name: &str) -> Result<String, Fail> {
+    match folder.read(alloc, name) {
+        Ok(Some(bytes)) => Ok(String::from_utf8(bytes)?),
+        Ok(None) => Ok(String::from_str(alloc, "missing")?),
+        Err(fault) => Ok(format!(in alloc; "{fault:?}")?),
     }
-    folder.fail_at(call);
-    let failing = [
-        (Step::Replace(NAME, b"new"), replaced),
-        (Step::Read(NAME, bytes), read),
-    ];
-    let after = [
-        (Step::Read(NAME, bytes), Answer::Done),
-        (Step::Replace(NAME, b""), Answer::Done),
-        (Step::Read(NAME, b""), Answer::Done),
-    ];
-    first_wrong(alloc, &mut folder, &failing) == None
-        && folder.failures() == u64::from(call > 0)
-        && first_wrong(alloc, &mut folder, &after) == None
 }
 
+const AFTER: &str = "
+replace me.user => done
+read me.user => done
+";
+
+/// How a replacement of `old` by `new` is answered whose call of this number fails, and the read
+/// after it; how many calls failed then, and what the file has.
+fn replaced_so(alloc: Global, asked: &str) -> Result<String, Fail> {
+    let name = "me.user";
+    let mut folder = MemoryFolder::new(alloc);
+    calls(alloc, &mut folder, "replace me.user old => done\n")?;
+    folder.fail_at(asked.parse()?);
+    let replaced = answered(alloc, &mut folder, "replace me.user new");
+    let first = text_of(alloc, &mut folder, name)?;
+    let failures = folder.failures();
+    let second = text_of(alloc, &mut folder, name)?;
+    calls(alloc, &mut folder, AFTER)?;
+    Ok(format!(in alloc; " {replaced} {first} {failures} {second}")?)
+}
+
+// The fourth is the rename, which is done though it fails; the fifth is the sync of the folder. The
+// sixth is the first one after the replacement.
+const ROWS: &str = "
+0 => done new 0 new
+1 => device old 1 old
+2 => device old 1 old
+3 => device old 1 old
+4 => device new 1 new
+5 => device new 1 new
+6 => done Device 1 new
+";
+
+const GROWN: &str = "
+read me.user => missing
+create me.user => done
+append me.user one  => done
+append me.user two => done
+read me.user one two => done
+sync me.user => done
+settle => done
+create me.user => done
+read me.user => done
+";
+
 #[test]
-fn files_grow_and_each_call_fails_once(rt: HostRuntime) {
-    let mut folder = MemoryFolder::new(rt.alloc());
-    let grown = [
-        (Step::Read(NAME, b""), Answer::Missing),
-        (Step::Create(NAME), Answer::Done),
-        (Step::Append(NAME, b"one "), Answer::Done),
-        (Step::Append(NAME, b"two"), Answer::Done),
-        (Step::Read(NAME, b"one two"), Answer::Done),
-        (Step::Sync(NAME), Answer::Done),
-        (Step::SyncFolder, Answer::Done),
-        (Step::Create(NAME), Answer::Done),
-        (Step::Read(NAME, b""), Answer::Done),
-    ];
-    assert_eq!(rt; first_wrong(rt.alloc(), &mut folder, &grown), None);
-    // The fourth is the rename, which is done though it fails; the fifth is the sync of the folder. The sixth is the first one after the replacement.
-    let rows: [(u64, Answer, Answer, &[u8]); 7] = [
-        (0, Answer::Done, Answer::Done, b"new"),
-        (1, Answer::Device, Answer::Done, b"old"),
-        (2, Answer::Device, Answer::Done, b"old"),
-        (3, Answer::Device, Answer::Done, b"old"),
-        (4, Answer::Device, Answer::Done, b"new"),
-        (5, Answer::Device, Answer::Done, b"new"),
-        (6, Answer::Done, Answer::Device, b"new"),
-    ];
-    for (call, replaced, read, bytes) in rows {
-        assert!(rt;
-            leaves(rt.alloc(), call, replaced, read, bytes),
-            "call {call}"
-        );
-    }
+fn files_grow_and_each_call_fails_once(rt: HostRuntime) -> Result<(), Fail> {
+    let alloc = rt.alloc();
+    calls(alloc, &mut MemoryFolder::new(alloc), GROWN)?;
+    hold(alloc, ROWS, '\n', self::replaced_so)
 }

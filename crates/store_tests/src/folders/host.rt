@@ -1,5 +1,5 @@
 //! The host's folder: files of some size, none, empty ones, and what is no file.
-use super::steps::{Answer, Step, first_wrong};
+use super::steps::calls;
 use dconf_disk::{Folder, FolderLock, StdFolder, folder_of, replace};
 use std::alloc::Global;
 use std::fs;
@@ -10,21 +10,18 @@ use std::test::Fail;
 /// Three million bytes, more than a read of the host gives at once.
 const MANY: usize = 3_000_000;
 
-/// The first step that is answered otherwise, of those that replace a file, first by many bytes and then by none.
-fn first_wrong_of_replacing(
+/// Whether a file has these bytes once it is replaced.
+fn is_replaced(
     alloc: Global,
     folder: &mut StdFolder<HostRuntime>,
     name: &str,
     bytes: &[u8],
-) -> Option<usize> {
-    let steps = [
-        (Step::Replace(name, b"old"), Answer::Done),
-        (Step::Replace(name, bytes), Answer::Done),
-        (Step::Read(name, bytes), Answer::Done),
-        (Step::Replace(name, b""), Answer::Done),
-        (Step::Read(name, b""), Answer::Done),
-    ];
-    first_wrong(alloc, folder, &steps)
+) -> Result<bool, Fail> {
+    replace(alloc, folder, name, bytes)?;
+    match folder.read(alloc, name)? {
+        Some(found) => Ok(found.as_slice() == bytes),
+        None => Ok(false),
+    }
 }
 
 #[test]
@@ -36,92 +33,90 @@ fn files_are_replaced(rt: HostRuntime) -> Result<(), Fail> {
     }
     let name = "store_tests_replaced";
     let mut folder = StdFolder::new(rt);
-    let wrong = first_wrong_of_replacing(alloc, &mut folder, name, &bytes);
-    assert_eq!(rt; wrong, None);
-    let gone = [(Step::Read("store_tests_replaced.new", b""), Answer::Missing)];
-    assert_eq!(rt; first_wrong(alloc, &mut folder, &gone), None);
+    let held = is_replaced(alloc, &mut folder, name, b"old")?
+        && is_replaced(alloc, &mut folder, name, &bytes)?
+        && is_replaced(alloc, &mut folder, name, b"")?;
+    assert!(rt; held);
+    calls(
+        alloc,
+        &mut folder,
+        "read store_tests_replaced.new => missing\n",
+    )?;
     assert_eq!(rt; folder.failures(), 0);
     fs::remove_file(&rt, name)?;
     Ok(())
 }
 
+const RENAMED: &str = "
+create store_tests_first => done
+append store_tests_first one  => done
+append store_tests_first two => done
+sync store_tests_first => done
+rename store_tests_first store_tests_folder/second => done
+settle => done
+read store_tests_first => missing
+read store_tests_folder/second one two => done
+create store_tests_folder/second => done
+read store_tests_folder/second => done
+create store_tests_linked => done
+append store_tests_linked old => done
+";
+
+// One file of two names, as a crash in the middle of a rename might leave it.
+const LINKED: &str = "
+create store_tests_linked.new => done
+read store_tests_linked old => done
+";
+
 #[test]
 fn files_are_renamed_and_made_anew(rt: HostRuntime) -> Result<(), Fail> {
     let alloc = rt.alloc();
     let mut folder = StdFolder::new(rt);
-    let first = "store_tests_first";
-    let second = "store_tests_folder/second";
-    let steps = [
-        (Step::Create(first), Answer::Done),
-        (Step::Append(first, b"one "), Answer::Done),
-        (Step::Append(first, b"two"), Answer::Done),
-        (Step::Sync(first), Answer::Done),
-        (Step::Rename(first, second), Answer::Done),
-        (Step::SyncFolder, Answer::Done),
-        (Step::Read(first, b""), Answer::Missing),
-        (Step::Read(second, b"one two"), Answer::Done),
-        (Step::Create(second), Answer::Done),
-        (Step::Read(second, b""), Answer::Done),
-        (Step::Create("store_tests_linked"), Answer::Done),
-        (Step::Append("store_tests_linked", b"old"), Answer::Done),
-    ];
     fs::create_dir(&rt, "store_tests_folder")?;
-    assert_eq!(rt; first_wrong(alloc, &mut folder, &steps), None);
-    // One file of two names, as a crash in the middle of a rename might leave it.
-    let linked = [
-        (Step::Create("store_tests_linked.new"), Answer::Done),
-        (Step::Read("store_tests_linked", b"old"), Answer::Done),
-    ];
+    calls(alloc, &mut folder, RENAMED)?;
     fs::hard_link(&rt, "store_tests_linked", "store_tests_linked.new")?;
-    assert_eq!(rt; first_wrong(alloc, &mut folder, &linked), None);
+    calls(alloc, &mut folder, LINKED)?;
     assert_eq!(rt; folder.failures(), 0);
-    for name in [second, "store_tests_linked", "store_tests_linked.new"] {
+    for name in [
+        "store_tests_folder/second",
+        "store_tests_linked",
+        "store_tests_linked.new",
+    ] {
         fs::remove_file(&rt, name)?;
     }
     fs::remove_dir(&rt, "store_tests_folder")?;
     Ok(())
 }
 
+// The last says that it is empty, and isn't.
+const CALM: &str = "
+read /no/such/file => missing
+read /dev/null => done
+read /proc/self/comm => other
+";
+
+// A folder opens, and its reading fails; a path through a plain file does not open.
+const UNREADABLE: &str = "
+read / => device
+read /proc/self/comm/x => device
+";
+
+const FAILING: &str = "
+append /no/such/file x => device
+sync /no/such/file => device
+rename /no/such/file store_tests_no => device
+create /no/such/file => device
+";
+
 #[test]
-fn what_is_no_file_is_missing_or_a_failure(rt: HostRuntime) {
+fn what_is_no_file_is_missing_or_a_failure(rt: HostRuntime) -> Result<(), Fail> {
     let alloc = rt.alloc();
-    let name = "/no/such/file";
     let mut folder = StdFolder::new(rt);
-    let rows: [(&[(Step<'_>, Answer)], u64); 3] = [
-        // the last says that it is empty, and isn't
-        (
-            &[
-                (Step::Read(name, b""), Answer::Missing),
-                (Step::Read("/dev/null", b""), Answer::Done),
-                (Step::Read("/proc/self/comm", b""), Answer::Other),
-            ],
-            0,
-        ),
-        // a folder opens, and its reading fails; a path through a plain file does not open
-        (
-            &[
-                (Step::Read("/", b""), Answer::Device),
-                (Step::Read("/proc/self/comm/x", b""), Answer::Device),
-            ],
-            2,
-        ),
-        (
-            &[
-                (Step::Append(name, b"x"), Answer::Device),
-                (Step::Sync(name), Answer::Device),
-                (Step::Rename(name, "store_tests_no"), Answer::Device),
-                (Step::Create(name), Answer::Device),
-            ],
-            6,
-        ),
-    ];
-    for (steps, failures) in rows {
-        let wrong = first_wrong(alloc, &mut folder, steps);
-        assert!(rt;
-            wrong == None && folder.failures() == failures,
-            "step {wrong:?} of those with {failures} failures"
-        );
+    for (lines, failures) in [(CALM, 0), (UNREADABLE, 2), (FAILING, 6)] {
+        calls(alloc, &mut folder, lines)?;
+        assert_eq!(rt; folder.failures(), failures);
     }
+    Ok(())
 }
 
 #[test]
@@ -140,20 +135,20 @@ fn a_replaced_file_keeps_its_permission_bits(rt: HostRuntime) -> Result<(), Fail
     Ok(())
 }
 
+const READ_ONLY: &str = "
+create store_tests_unmade => device
+rename /dev/null store_tests_unmade => device
+replace store_tests_unmade x => device
+read store_tests_unmade => missing
+read /dev/null => done
+";
+
 #[test]
-fn who_only_reads_makes_no_file(rt: HostRuntime) {
-    let alloc = rt.alloc();
-    let name = "store_tests_unmade";
-    let steps = [
-        (Step::Create(name), Answer::Device),
-        (Step::Rename("/dev/null", name), Answer::Device),
-        (Step::Replace(name, b"x"), Answer::Device),
-        (Step::Read(name, b""), Answer::Missing),
-        (Step::Read("/dev/null", b""), Answer::Done),
-    ];
+fn who_only_reads_makes_no_file(rt: HostRuntime) -> Result<(), Fail> {
     let mut folder = StdFolder::read_only(rt);
-    assert_eq!(rt; first_wrong(alloc, &mut folder, &steps), None);
+    calls(rt.alloc(), &mut folder, READ_ONLY)?;
     assert_eq!(rt; folder.failures(), 3);
+    Ok(())
 }
 
 #[test]

@@ -1,78 +1,65 @@
-//! Calls of a folder as data, and how each is answered.
+//! Calls of a folder as lines of a text, and how each is answered.
+use crate::rows::{cut, is_found};
 use dconf_disk::{Folder, FolderFault, replace};
 use std::alloc::Global;
+use std::test::Fail;
 
-/// A call of a folder.
-#[derive(Clone, Copy)]
-pub(crate) enum Step<'a> {
-    /// Makes an empty file.
-    Create(&'a str),
-    /// Adds bytes to a file.
-    Append(&'a str, &'a [u8]),
-    /// Syncs a file.
-    Sync(&'a str),
-    /// Gives a file another name.
-    Rename(&'a str, &'a str),
-    /// Syncs the folder.
-    SyncFolder,
-    /// Replaces a file by one of these bytes.
-    Replace(&'a str, &'a [u8]),
-    /// Reads a file, which is to have these bytes.
-    Read(&'a str, &'a [u8]),
+/// The bytes of a word; `ff` is the byte 255.
+fn bytes_of(word: &str) -> &[u8] {
+    match word {
+        "ff" => b"\xff",
+        _ => word.as_bytes(),
+    }
 }
 
-/// How a call is answered.
-#[derive(Clone, Copy, PartialEq, Eq)]
-pub(crate) enum Answer {
-    /// It is done; what was read is what it is to be.
-    Done,
-    /// There is no file to be read.
-    Missing,
-    /// Other bytes were read.
-    Other,
-    /// The device failed.
-    Device,
-    /// It failed otherwise.
-    Fault,
-}
-
-/// The answer of a call that reads nothing.
-fn answer_of(answer: Result<(), FolderFault>) -> Answer {
+/// The answer of a call that reads nothing: it is done, the device failed, or it failed otherwise.
+fn answer_of(answer: Result<(), FolderFault>) -> &'static str {
     match answer {
-        Ok(()) => Answer::Done,
-        Err(FolderFault::Device) => Answer::Device,
-        Err(_) => Answer::Fault,
+        Ok(()) => "done",
+        Err(FolderFault::Device) => "device",
+        Err(_) => "fault",
     }
 }
 
-/// The answer of a call.
-pub(crate) fn answered<F: Folder>(alloc: Global, folder: &mut F, step: Step<'_>) -> Answer {
-    match step {
-        Step::Create(name) => answer_of(folder.create(name)),
-        Step::Append(name, bytes) => answer_of(folder.append(name, bytes)),
-        Step::Sync(name) => answer_of(folder.sync(name)),
-        Step::Rename(from, to) => answer_of(folder.rename(from, to)),
-        Step::SyncFolder => answer_of(folder.sync_folder()),
-        Step::Replace(name, bytes) => answer_of(replace(alloc, folder, name, bytes)),
-        Step::Read(name, bytes) => match folder.read(alloc, name) {
-            Ok(Some(found)) if found.as_slice() == bytes => Answer::Done,
-            Ok(Some(_)) => Answer::Other,
-            Ok(None) => Answer::Missing,
-            Err(fault) => answer_of(Err(fault)),
-        },
-    }
-}
-
-/// The number of the first step, counted from 0, that is not answered so.
-pub(crate) fn first_wrong<F: Folder>(
+/// The answer of a read: it is done if a file has these bytes; else it has others, or there is no
+/// file, or it failed.
+fn answer_of_read<F: Folder>(
     alloc: Global,
     folder: &mut F,
-    steps: &[(Step<'_>, Answer)],
-) -> Option<usize> {
-    for (i, (step, wanted)) in steps.iter().enumerate() {
-        if answered(alloc, folder, *step) != *wanted {
-            return Some(i);
+    name: &str,
+    bytes: &[u8],
+) -> &'static str {
+    match folder.read(alloc, name) {
+        Ok(Some(found)) if found.as_slice() == bytes => "done",
+        Ok(Some(_)) => "other",
+        Ok(None) => "missing",
+        Err(fault) => answer_of(Err(fault)),
+    }
+}
+
+/// The answer of a call: a word, the name of a file, and bytes or another name.
+pub(crate) fn answered<F: Folder>(alloc: Global, folder: &mut F, call: &str) -> &'static str {
+    let (word, rest) = call.split_once(' ').unwrap_or((call, ""));
+    let (name, other) = rest.split_once(' ').unwrap_or((rest, ""));
+    match word {
+        "create" => answer_of(folder.create(name)),
+        "append" => answer_of(folder.append(name, other.as_bytes())),
+        "sync" => answer_of(folder.sync(name)),
+        "rename" => answer_of(folder.rename(name, other)),
+        "settle" => answer_of(folder.sync_folder()),
+        "replace" => answer_of(replace(alloc, folder, name, other.as_bytes())),
+        "read" => answer_of_read(alloc, folder, name, bytes_of(other)),
+        _ => "no call",
+    }
+}
+
+/// Makes the calls of lines. An error names the first that is answered otherwise.
+pub(crate) fn calls<F: Folder>(alloc: Global, folder: &mut F, lines: &str) -> Result<(), Fail> {
+    for line in lines.split_terminator('\n') {
+        if !line.is_empty() {
+            let (call, wanted) = cut(line)?;
+            is_found(alloc, call, answered(alloc, folder, call), wanted.trim())?;
         }
     }
-    None
+    Ok(())
 }

@@ -1,22 +1,23 @@
 //! What a save keeps of the user's file, byte for byte.
-use super::engines::opened;
+use super::engines::saved;
 use dconf_path::{KeyPath, read_profile};
-use gv_tree::{Basic, Tree};
 use gvdb_read::Table;
 use gvdb_write::{Map, write};
 use std::alloc::Global;
 use std::test::Fail;
 
-/// Whether these bytes of a variant are kept at `/a/k`, where a key beside it is set and the database is saved.
-fn keeps(alloc: Global, bytes: &[u8]) -> Result<bool, Fail> {
-    let profile = read_profile(alloc, "user-db:me")?;
+/// The database in which these bytes of a variant are at `/a/k`.
+fn user(alloc: Global, bytes: &[u8]) -> Result<Vec<u8>, Fail> {
     let mut map = Map::new(alloc);
     map.insert(KeyPath::parse("/a/k")?, bytes)?;
-    let user = write(alloc, &map)?;
-    let mut engine = opened(alloc, &profile, &[Some(user.as_slice())])??;
-    let value = Tree::basic(alloc, Basic::Int32(7))?;
-    engine.write(KeyPath::parse("/a/j")?, &value)?;
-    let file = engine.save()?;
+    Ok(write(alloc, &map)?)
+}
+
+/// Whether these bytes are kept there, where a key beside it is set and the database is saved.
+fn keeps(alloc: Global, bytes: &[u8]) -> Result<bool, Fail> {
+    let profile = read_profile(alloc, "user-db:me")?;
+    let files = [user(alloc, bytes)?];
+    let file = saved(alloc, &profile, &files, ("write /a/j 7 =>", false))?;
     let table = Table::open(&file)?;
     Ok(table.find_bytes("/a/k") == Some(bytes) && table.has("/a/j"))
 }

@@ -1,5 +1,5 @@
 //! One store from its keyfiles on: they are compiled, opened after a user's database, and changed.
-use super::engines::{Change, Look, is_seen};
+use super::engines::stores;
 use dconf_compile::{LineStop, RowsBelow, Source, compile, value_of_text};
 use dconf_path::DirPath;
 use gv_tree::Tree;
@@ -9,7 +9,7 @@ use std::alloc::Global;
 use std::test::Fail;
 
 /// The database of two keyfiles, the later name handed in first, and a lock.
-fn site(alloc: Global) -> Result<Vec<u8>, Fail> {
+pub(super) fn site(alloc: Global) -> Result<Vec<u8>, Fail> {
     let files = [
         Source {
             name: "10-b",
@@ -30,56 +30,41 @@ fn site(alloc: Global) -> Result<Vec<u8>, Fail> {
     }
 }
 
+// The later name and the later line win.
+const STORES: &str = "
+$ user-db:me
+system-db:site
+: ;@;
+list / => a/ r
+list /a/ => j k
+key /a/k => Some(2) Some(2) Some(1) false true
+key /a/j => Some(3) Some(3) Some(1) true true
+key /new => None None None false true
+$ user-db:me
+system-db:site
+: ;@;
+write /a/k 7 =>
+key /a/k => Some(7) Some(2) Some(0) false true
+$ user-db:me
+system-db:site
+: ;@;
+write /a/j 7 => Locked Locked(0)
+key /a/j => Some(3) Some(3) Some(1) true true
+$ user-db:me
+system-db:site
+: ;@;
+write /new 7 =>
+key /new => Some(7) None Some(0) false true
+";
+
 #[test]
 fn a_store_goes_all_the_way(rt: HostRuntime) -> Result<(), Fail> {
-    let alloc = rt.alloc();
-    let site = site(alloc)?;
+    let site = site(rt.alloc())?;
     let table = Table::open(&site)?;
-    assert!(rt; table.find("/a/k").and_then(View::as_i32) == Some(2));
-    assert!(rt; table.find("/a/j").and_then(View::as_i32) == Some(3));
-    let files = [None, Some(site)];
-    let rows: [(&[Change<'_>], &str, Look<'_>, &str); 8] = [
-        // the later name and the later line win
-        (&[], "", Look::List("/"), "a/ r "),
-        (&[], "", Look::List("/a/"), "j k "),
-        (
-            &[],
-            "",
-            Look::Key("/a/k"),
-            "Some(2) Some(2) Some(1) false true",
-        ),
-        (
-            &[Change::Write(("/a/k", 7, 1))],
-            "",
-            Look::Key("/a/k"),
-            "Some(7) Some(2) Some(0) false true",
-        ),
-        (
-            &[],
-            "",
-            Look::Key("/a/j"),
-            "Some(3) Some(3) Some(1) true true",
-        ),
-        (
-            &[Change::Write(("/a/j", 7, 1))],
-            "Locked Locked(0)",
-            Look::Key("/a/j"),
-            "Some(3) Some(3) Some(1) true true",
-        ),
-        (&[], "", Look::Key("/new"), "None None None false true"),
-        (
-            &[Change::Write(("/new", 7, 1))],
-            "",
-            Look::Key("/new"),
-            "Some(7) None Some(0) false true",
-        ),
-    ];
-    for (changes, refused, look, wanted) in rows {
-        let profile = "user-db:me\nsystem-db:site";
-        let found = is_seen(alloc, (profile, &files), (changes, refused), (look, wanted))?;
-        assert!(rt; found, "{wanted}");
-    }
-    Ok(())
+    let k = table.find("/a/k").and_then(View::as_i32);
+    let j = table.find("/a/j").and_then(View::as_i32);
+    assert_eq!(rt; (k, j), (Some(2), Some(3)));
+    stores(rt.alloc(), STORES)
 }
 
 /// The path of the one row of a keyfile below a directory, and whether its value is this one.

@@ -4,76 +4,92 @@ ghost use Rattle.std.specs.List.{starts_with};
 ghost use Rattle.dconf_path.specs.Paths.{directory_text, key_text};
 ghost use Rattle.keyfile_core.specs.DumpRows.{AreBelow};
 
+use crate::rows::hold;
 use dconf_path::{DirPath, KeyPath};
-use keyfile_core::{KeyfileCause, KeyfileFault, Row, RowsCause, RowsFault, read, write_rows};
+use keyfile_core::{KeyfileCause, KeyfileFault, read, write_rows};
 use std::alloc::Global;
+use std::fmt::Write;
 use std::test::Fail;
 
-/// Whether a keyfile has these rows, or this line and cause of its first fault.
-fn is_read(alloc: Global, file: &[u8], wanted: Result<&[Row<'_>], (usize, KeyfileCause)>) -> bool {
-    match (read(alloc, file), wanted) {
-        (Ok(found), Ok(rows)) => found.as_slice() == rows,
-        (Err(KeyfileFault::Refused { line, cause }), Err(fault)) => (line, cause) == fault,
-        _ => false,
+/// The rows of a keyfile, or its first fault.
+fn rows_read(alloc: Global, asked: &str) -> Result<String, Fail> {
+    let (_, file) = asked.split_once(':').unwrap_or(("", asked));
+    let mut text = String::new(alloc);
+    match read(alloc, file.as_bytes()) {
+        Ok(rows) => {
+            for row in &rows {
+                write!(
+                    text,
+                    " {} [{}] {}={};",
+                    row.line, row.group, row.key, row.text
+                )?;
+            }
+        }
+        Err(fault) => write!(text, " {fault:?}")?,
+    }
+    Ok(text)
+}
+
+const FILES: &str = "
+file:# comment €\r
+[a]
+k=1.5\r
+\t k\t=\t'#'\x20
+
+[ b /c]
+é==
+[/]
+r='x' => 3 [a] k=1.5; 4 [a] k='#'; 7 [ b /c] é==; 9 [/] r='x';$
+file: =>$
+file:[a]
+#k=\0
+\r =>$
+file:[a]
+k[de]=1 => Refused { line: 2, cause: BadKeyName }$
+file:[a]
+b/c=1 => Refused { line: 2, cause: BadKeyName }$
+file:[a]
+=1 => Refused { line: 2, cause: BadKeyName }$
+file:[a]
+k\r=1
+k => Refused { line: 2, cause: BadKeyName }$
+file:k=1
+[ => Refused { line: 1, cause: NoGroup }$
+file:=1 => Refused { line: 1, cause: NoGroup }$
+file:
+[/a] => Refused { line: 2, cause: BadGroup }$
+file:[a//b] => Refused { line: 1, cause: BadGroup }$
+file:[a\0] => Refused { line: 1, cause: BadGroup }$
+file:[ => Refused { line: 1, cause: BadGroup }$
+file:[] => Refused { line: 1, cause: BadGroup }$
+file:[a]
+[b]c => Refused { line: 2, cause: BadGroup }$
+file:nonsense
+[/a] => Refused { line: 1, cause: BadLine }$
+file:[a]
+k=\0 => Refused { line: 2, cause: BadLine }$
+file:\r# c => Refused { line: 1, cause: BadLine }$";
+
+/// Whether the first fault of a keyfile is a byte in this line that is no part of a character.
+fn is_no_text(alloc: Global, file: &[u8], line: usize) -> bool {
+    let cause = KeyfileCause::NotUtf8;
+    match read(alloc, file) {
+        Ok(_) => false,
+        Err(fault) => fault == KeyfileFault::Refused { line, cause },
     }
 }
 
 #[test]
 fn a_keyfile_has_rows_or_a_first_fault(rt: HostRuntime) -> Result<(), Fail> {
-    let file =
-        b"# comment \xe2\x82\xac\r\n[a]\nk=1.5\r\n\t k\t=\t'#' \n\n[ b /c]\n\xc3\xa9==\n[/]\nr='x'";
-    let found = [
-        Row {
-            line: 3,
-            group: "a",
-            key: "k",
-            text: "1.5",
-        },
-        Row {
-            line: 4,
-            group: "a",
-            key: "k",
-            text: "'#'",
-        },
-        Row {
-            line: 7,
-            group: " b /c",
-            key: "é",
-            text: "=",
-        },
-        Row {
-            line: 9,
-            group: "/",
-            key: "r",
-            text: "'x'",
-        },
+    hold(rt.alloc(), FILES, '$', self::rows_read)?;
+    let rows: [(&[u8], usize); 4] = [
+        (b"k=1\n#\xff\n", 2),
+        (b"[\xe2\x82]", 1),
+        (b"[a]\n\nk\xff=1", 3),
+        (b"[a]\nk=\xed\xa0\x80", 2),
     ];
-    let rows: [(&[u8], Result<&[Row<'_>], (usize, KeyfileCause)>); 22] = [
-        (file, Ok(&found)),
-        (b"", Ok(&[])),
-        (b"[a]\n#k=\0\n\r", Ok(&[])),
-        (b"[a]\nk[de]=1", Err((2, KeyfileCause::BadKeyName))),
-        (b"[a]\nb/c=1", Err((2, KeyfileCause::BadKeyName))),
-        (b"[a]\n=1", Err((2, KeyfileCause::BadKeyName))),
-        (b"[a]\nk\r=1\nk", Err((2, KeyfileCause::BadKeyName))),
-        (b"k=1\n[", Err((1, KeyfileCause::NoGroup))),
-        (b"=1", Err((1, KeyfileCause::NoGroup))),
-        (b"\n[/a]", Err((2, KeyfileCause::BadGroup))),
-        (b"[a//b]", Err((1, KeyfileCause::BadGroup))),
-        (b"[a\0]", Err((1, KeyfileCause::BadGroup))),
-        (b"[", Err((1, KeyfileCause::BadGroup))),
-        (b"[]", Err((1, KeyfileCause::BadGroup))),
-        (b"[a]\n[b]c", Err((2, KeyfileCause::BadGroup))),
-        (b"nonsense\n[/a]", Err((1, KeyfileCause::BadLine))),
-        (b"[a]\nk=\0", Err((2, KeyfileCause::BadLine))),
-        (b"\r# c", Err((1, KeyfileCause::BadLine))),
-        (b"k=1\n#\xff\n", Err((2, KeyfileCause::NotUtf8))),
-        (b"[\xe2\x82]", Err((1, KeyfileCause::NotUtf8))),
-        (b"[a]\n\nk\xff=1", Err((3, KeyfileCause::NotUtf8))),
-        (b"[a]\nk=\xed\xa0\x80", Err((2, KeyfileCause::NotUtf8))),
-    ];
-    for (file, wanted) in rows {
-        assert!(rt; is_read(rt.alloc(), file, wanted), "{file:?}");
+    for (file, line) in rows {
+        assert!(rt; is_no_text(rt.alloc(), file, line), "{file:?}");
     }
     Ok(())
 }
@@ -96,59 +112,55 @@ fn are_below(settings: &[(KeyPath<'_>, String)], directory: DirPath<'_>) -> bool
         .all(|setting| is_below(setting.0, directory))
 }
 
-/// Whether two settings are written so below a directory, or have this fault.
-fn is_written(
+/// The settings of a text, in which ` = ` is between a path and the text of its value: those below
+/// a directory.
+fn settings_of<'a>(
     alloc: Global,
-    settings: [(&str, &str); 2],
+    text: &'a str,
     directory: &str,
-    wanted: Result<&str, RowsFault>,
-) -> Result<bool, Fail> {
-    let mut rows = Vec::new(alloc);
-    for (path, text) in settings {
+) -> Result<Vec<(KeyPath<'a>, String)>, Fail> {
+    let mut settings = Vec::new(alloc);
+    for setting in text.split_terminator(", ") {
+        let (path, value) = setting.split_once(" = ").unwrap_or((setting, ""));
         if path.starts_with(directory) {
-            rows.push((KeyPath::parse(path)?, String::from_str(alloc, text)?))?;
+            settings.push((KeyPath::parse(path)?, String::from_str(alloc, value)?))?;
         }
     }
+    Ok(settings)
+}
+
+/// How the settings of a text are written below a directory, or why they aren't.
+fn settings_written(alloc: Global, asked: &str) -> Result<String, Fail> {
+    let (directory, text) = asked.split_once(": ").unwrap_or((asked, ""));
+    let settings = settings_of(alloc, text, directory)?;
     let directory = DirPath::parse(directory)?;
-    if !are_below(&rows, directory) {
-        return Ok(false);
+    if !are_below(&settings, directory) {
+        return Err(Fail::new("a setting of another directory"));
     }
-    match (write_rows(alloc, &rows, directory), wanted) {
-        (Ok(found), Ok(text)) => Ok(found.as_str() == text),
-        (Err(found), Err(fault)) => Ok(found == fault),
-        _ => Ok(false),
+    match write_rows(alloc, &settings, directory) {
+        Ok(text) => Ok(format!(in alloc; "\n{text}")?),
+        Err(fault) => Ok(format!(in alloc; " {fault:?}")?),
     }
 }
 
+const SETTINGS: &str = "
+/: /x = 'hi', /a/b/k = uint32 5 =>
+[/]
+x='hi'
+
+[a/b]
+k=uint32 5
+$
+/a/: /x = 'hi', /a/b/k = uint32 5 =>
+[b]
+k=uint32 5
+$
+/k/: /x = 'hi', /a/b/k = uint32 5 =>
+$
+/: /x = , /a=b =  => Refused { row: 1, cause: BadKeyName }$
+/: /x = , /[/k =  => Refused { row: 1, cause: BadGroup }$";
+
 #[test]
 fn settings_are_written_by_groups_and_keys(rt: HostRuntime) -> Result<(), Fail> {
-    let settings = [("/x", "'hi'"), ("/a/b/k", "uint32 5")];
-    let root = "[/]\nx='hi'\n\n[a/b]\nk=uint32 5\n";
-    for (settings, directory, wanted) in [
-        (settings, "/", Ok(root)),
-        (settings, "/a/", Ok("[b]\nk=uint32 5\n")),
-        (settings, "/k/", Ok("")),
-        (
-            [("/x", ""), ("/a=b", "")],
-            "/",
-            Err(RowsFault::Refused {
-                row: 1,
-                cause: RowsCause::BadKeyName,
-            }),
-        ),
-        (
-            [("/x", ""), ("/[/k", "")],
-            "/",
-            Err(RowsFault::Refused {
-                row: 1,
-                cause: RowsCause::BadGroup,
-            }),
-        ),
-    ] {
-        assert!(rt;
-            is_written(rt.alloc(), settings, directory, wanted)?,
-            "{directory}"
-        );
-    }
-    Ok(())
+    hold(rt.alloc(), SETTINGS, '$', self::settings_written)
 }

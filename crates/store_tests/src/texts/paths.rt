@@ -1,72 +1,81 @@
 //! The paths of keys, of directories and of locks.
-use dconf_path::{DirPath, KeyPath, LockPath, PathFault};
+use crate::rows::hold;
+use dconf_path::{DirPath, KeyPath, LockPath};
+use std::alloc::Global;
+use std::test::Fail;
 
-/// Whether a text is the path of a key, or has this fault as one, and the same of a directory.
-pub(crate) fn is_path(
-    text: &str,
-    as_key: Option<PathFault>,
-    as_directory: Option<PathFault>,
-) -> bool {
-    let key = match KeyPath::parse(text) {
-        Ok(path) => as_key == None && path.as_str() == text,
-        Err(found) => as_key == Some(found),
-    };
-    let directory = match DirPath::parse(text) {
-        Ok(path) => as_directory == None && path.as_str() == text,
-        Err(found) => as_directory == Some(found),
-    };
-    key && directory
+/// What a text is as the path of a key: whether it is its own text, or its fault.
+fn key_shown(alloc: Global, text: &str) -> Result<String, Fail> {
+    match KeyPath::parse(text) {
+        Ok(path) => Ok(format!(in alloc; "{}", path.as_str() == text)?),
+        Err(fault) => Ok(format!(in alloc; "{fault:?}")?),
+    }
 }
 
-#[test]
-fn tells_keys_and_directories(rt: HostRuntime) {
-    let no_key = Some(PathFault::EndsInSlash);
-    let no_directory = Some(PathFault::NoEndSlash);
-    let relative = Some(PathFault::NotAbsolute);
-    let nul = Some(PathFault::HasNul);
-    let double = Some(PathFault::DoubleSlash);
-    for (text, as_key, as_directory) in [
-        ("/k", None, no_directory),
-        ("/a", None, no_directory),
-        ("/a/k", None, no_directory),
-        ("/org/gnome/desktop/cursor-size", None, no_directory),
-        ("/a b/ü", None, no_directory),
-        ("/./..", None, no_directory),
-        ("/", no_key, None),
-        ("/a/", no_key, None),
-        ("/org/gnome/", no_key, None),
-        ("", relative, relative),
-        ("a/", relative, relative),
-        ("a/k", relative, relative),
-        ("a//\0/", relative, relative),
-        ("/a//k\0", nul, nul),
-        ("/\0a//k", nul, nul),
-        ("/a\0//", nul, nul),
-        ("/a//k", double, double),
-        ("//", double, double),
-        ("/a//", double, double),
-    ] {
-        assert!(rt; is_path(text, as_key, as_directory), "at {text}");
+/// What it is as the path of a directory.
+fn directory_shown(alloc: Global, text: &str) -> Result<String, Fail> {
+    match DirPath::parse(text) {
+        Ok(path) => Ok(format!(in alloc; "{}", path.as_str() == text)?),
+        Err(fault) => Ok(format!(in alloc; "{fault:?}")?),
     }
+}
+
+/// What a text is as the path of a key, and of a directory.
+pub(crate) fn path_read(alloc: Global, asked: &str) -> Result<String, Fail> {
+    let key = key_shown(alloc, asked)?;
+    let directory = directory_shown(alloc, asked)?;
+    Ok(format!(in alloc; " {key} {directory}")?)
+}
+
+const PATHS: &str = "
+/k => true NoEndSlash
+/a => true NoEndSlash
+/a/k => true NoEndSlash
+/org/gnome/desktop/cursor-size => true NoEndSlash
+/a b/ü => true NoEndSlash
+/./.. => true NoEndSlash
+/ => EndsInSlash true
+/a/ => EndsInSlash true
+/org/gnome/ => EndsInSlash true
+ => NotAbsolute NotAbsolute
+a/ => NotAbsolute NotAbsolute
+a/k => NotAbsolute NotAbsolute
+a//\0/ => NotAbsolute NotAbsolute
+/a//k\0 => HasNul HasNul
+/\0a//k => HasNul HasNul
+/a\0// => HasNul HasNul
+/a//k => DoubleSlash DoubleSlash
+// => DoubleSlash DoubleSlash
+/a// => DoubleSlash DoubleSlash
+";
+
+#[test]
+fn tells_keys_and_directories(rt: HostRuntime) -> Result<(), Fail> {
+    hold(rt.alloc(), PATHS, '\n', self::path_read)
 }
 
 /// Whether a lock covers a key.
-fn covers(lock: &str, key: &str) -> Result<bool, PathFault> {
-    Ok(LockPath::parse(lock)?.covers(KeyPath::parse(key)?))
+fn covered(alloc: Global, asked: &str) -> Result<String, Fail> {
+    let (lock, key) = asked.split_once(' ').unwrap_or((asked, ""));
+    let key = KeyPath::parse(key)?;
+    match LockPath::parse(lock) {
+        Ok(lock) => Ok(format!(in alloc; " {}", lock.covers(key))?),
+        Err(fault) => Ok(format!(in alloc; " {fault:?}")?),
+    }
 }
 
+const LOCKS: &str = "
+/a/k /a/k => true
+/a/k /a/kk => false
+/a/ /a/b/k => true
+/a/ /ab => false
+/ /q => true
+a// /q => NotAbsolute
+/\0// /q => HasNul
+/a// /q => DoubleSlash
+";
+
 #[test]
-fn a_lock_covers_its_key_or_what_is_below(rt: HostRuntime) {
-    for (lock, key, covered) in [
-        ("/a/k", "/a/k", Ok(true)),
-        ("/a/k", "/a/kk", Ok(false)),
-        ("/a/", "/a/b/k", Ok(true)),
-        ("/a/", "/ab", Ok(false)),
-        ("/", "/q", Ok(true)),
-        ("a//", "/q", Err(PathFault::NotAbsolute)),
-        ("/\0//", "/q", Err(PathFault::HasNul)),
-        ("/a//", "/q", Err(PathFault::DoubleSlash)),
-    ] {
-        assert!(rt; covers(lock, key) == covered, "{lock} and {key}");
-    }
+fn a_lock_covers_its_key_or_what_is_below(rt: HostRuntime) -> Result<(), Fail> {
+    hold(rt.alloc(), LOCKS, '\n', self::covered)
 }
