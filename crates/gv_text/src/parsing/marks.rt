@@ -47,7 +47,7 @@ pub(crate) fn expect(rest: &mut IntoIter<Token>, mark: Mark, opened: Span) -> Re
     Ok(())
 }
 
-/// Takes a `,` or that other mark, in a bracket that was opened there, and says whether it was a `,`.
+/// Takes a `,` or that other mark, in a bracket that was opened there: whether it was a `,`.
 pub(crate) fn more_follow(
     rest: &mut IntoIter<Token>,
     other: Mark,

@@ -48,7 +48,8 @@ fn boxed(
     Ok(Box::new(alloc, value)?)
 }
 
-/// The value at the start of the tokens, which is so deep, in the bracket that was opened there, and the mark after it.
+/// The value at the start of the tokens, which is so deep, in a bracket that was opened there. It
+/// takes the mark after it, too.
 #[cycle(parsing)]
 pub(crate) fn value_before(
     alloc: Global,

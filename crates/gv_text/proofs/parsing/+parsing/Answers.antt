@@ -99,7 +99,7 @@ braces::braces-returns-in_err-key-clause-fault t c =
 
 -- src/parsing/braces.rt
 pub braces::braces-returns-in_err-more_follow-clause-fault : goal.braces::braces-returns-in_err-more_follow-clause-fault
-braces::braces-returns-in_err-more_follow-clause-fault t c = 
+braces::braces-returns-in_err-more_follow-clause-fault t c =
     let p = err_from_is_err_and c.from_residual-in_err-more_follow.result c.from_residual-in_err-more_follow.ensures.1 in
     rw (p.1, p.2) (stops_after (inside brace_start c.args.depth c.args.opened ∷ []) (inside brace_first c.args.depth c.args.opened ∷ []) (left c.args.rest.now)
     (left c.value_from.new.rest) _ (HoldsFirst.reaches (holds_first brace_start brace_first close_brace c.args.depth c.args.opened _ _ _ _ _ brace_opens c.in_ok-first.ensures
@@ -127,7 +127,7 @@ braces::braces-returns-then-branch-clause-fault t c = if_err c.entry_of.result (
 
 -- src/parsing/braces.rt
 pub braces::braces-returns-in_err-pairs-clause-fault : goal.braces::braces-returns-in_err-pairs-clause-fault
-braces::braces-returns-in_err-pairs-clause-fault t c = 
+braces::braces-returns-in_err-pairs-clause-fault t c =
     let p = err_from_is_err_and c.from_residual-in_err-pairs.result c.from_residual-in_err-pairs.ensures.1 in
     rw (p.1, p.2) (stops_after (inside brace_start c.args.depth c.args.opened ∷ []) (a_value c.args.depth ∷ inside pair_more c.args.depth c.args.opened ∷ [])
     (left c.args.rest.now) (left c.more_follow.new.rest) _ (pairs_reached c.args.depth c.args.opened _ _ _ _
@@ -148,7 +148,7 @@ braces::entry_of-boxed_before-requires t c = (omega (arith, c.requires), (c.requ
 
 -- src/parsing/braces.rt
 pub braces::entry_of-returns-in_err-value-clause-fault : goal.braces::entry_of-returns-in_err-value-clause-fault
-braces::entry_of-returns-in_err-value-clause-fault t c = 
+braces::entry_of-returns-in_err-value-clause-fault t c =
     let p = err_from_is_err_and c.from_residual-in_err-value.result c.from_residual-in_err-value.ensures.1 in
     rw (p.1, p.2) c.in_err-value.ensures.fault
 
@@ -183,7 +183,7 @@ braces::pairs-value_before-requires t c = (omega (arith, c.requires), (c.require
 
 -- src/parsing/braces.rt
 pub braces::pairs-returns-in_err-key-clause-fault : goal.braces::pairs-returns-in_err-key-clause-fault
-braces::pairs-returns-in_err-key-clause-fault t c = 
+braces::pairs-returns-in_err-key-clause-fault t c =
     let p = err_from_is_err_and c.from_residual-in_err-key.result c.from_residual-in_err-key.ensures.1 in
     rw (p.1, p.2) (stops_after (a_value c.args.depth ∷ inside pair_more c.args.depth c.args.opened ∷ [])
     (a_value c.args.depth ∷ inside pair_colon c.args.depth c.args.opened ∷ []) (left c.args.rest.now) (left c.more_follow.new.rest) _
@@ -196,7 +196,7 @@ braces::pairs-push_pair-requires-in-loop-pairs t c = (omega (arith, c.requires),
 
 -- src/parsing/braces.rt
 pub braces::pairs-returns-in_err-push_pair-2-clause-fault : goal.braces::pairs-returns-in_err-push_pair-2-clause-fault
-braces::pairs-returns-in_err-push_pair-2-clause-fault t c = 
+braces::pairs-returns-in_err-push_pair-2-clause-fault t c =
     let p = err_from_is_err_and c.from_residual-in_err-push_pair-2.result c.from_residual-in_err-push_pair-2.ensures.1 in
     let k = c.in_ok-key.ensures.value in
     rw (p.1, p.2) (stops_after (a_value c.args.depth ∷ inside pair_more c.args.depth c.args.opened ∷ [])
@@ -206,14 +206,14 @@ braces::pairs-returns-in_err-push_pair-2-clause-fault t c =
 
 -- src/parsing/braces.rt
 pub braces::pairs-loop-pairs-smaller : goal.braces::pairs-loop-pairs-smaller
-braces::pairs-loop-pairs-smaller t c = 
+braces::pairs-loop-pairs-smaller t c =
     let k = c.in_ok-key.ensures.value in
     let h = c.in_ok-push_pair-2.ensures.pair in
     shorter _ _ _ _ _ _ _ c.args.depth (took_comma close_brace c.args.opened (left c.loop-pairs.rest) (left c.more_follow.new.rest) _ c.if-branch.true c.in_ok-more_follow.ensures) k.value k.taken h.read
 
 -- src/parsing/braces.rt
 pub braces::pairs-loop-pairs-preserved : goal.braces::pairs-loop-pairs-preserved
-braces::pairs-loop-pairs-preserved t c = 
+braces::pairs-loop-pairs-preserved t c =
     let k = c.in_ok-key.ensures.value in
     let h = c.in_ok-push_pair-2.ensures.pair in
     pair_more_read _ _ _ _ _ _ _ _ _ _ _ _ _ c.loop-pairs.invariant (took_comma close_brace c.args.opened (left c.loop-pairs.rest) (left c.more_follow.new.rest) _ c.if-branch.true c.in_ok-more_follow.ensures) k.value k.taken h.read h.joined
@@ -228,7 +228,7 @@ braces::push_pair-value-requires t c = (omega (arith, c.requires), omega (arith,
 
 -- src/parsing/braces.rt
 pub braces::push_pair-returns-in_err-value-clause-fault : goal.braces::push_pair-returns-in_err-value-clause-fault
-braces::push_pair-returns-in_err-value-clause-fault t c = 
+braces::push_pair-returns-in_err-value-clause-fault t c =
     let p = err_from_is_err_and c.from_residual.result c.from_residual.ensures.1 in
     rw (p.1, p.2) (carried_in _ _ (a_value c.args.depth ∷ inside pair_more c.args.depth c.args.opened ∷ []) (a_value c.args.depth ∷ []) (left c.args.rest.now)
     (left c.args.rest.now) c.in_err-value.ensures.fault (λ e more. (inside pair_more c.args.depth c.args.opened ∷ more, refl, sym c.refused.ensures)))
@@ -281,7 +281,7 @@ sequence::members-returns-in_err-first-clause-fault t c =
 -- src/parsing/sequence.rt:42:9
 pub sequence::members-returns-then-is_mark-clause-members :
     goal.sequence::members-returns-then-is_mark-clause-members
-sequence::members-returns-then-is_mark-clause-members t c = rw c.new-members.ensures.items (no_members _ _ _ _ c.requires (record { first = c.in_ok-first.first; tokens = c.in_ok-first.ensures; kind = c.is_mark.ensures.0 c.if-is_mark.true }))
+sequence::members-returns-then-is_mark-clause-members t c = rw c.new.ensures.items (no_members _ _ _ _ c.requires (record { first = c.in_ok-first.first; tokens = c.in_ok-first.ensures; kind = c.is_mark.ensures.0 c.if-is_mark.true }))
 
 -- src/parsing/sequence.rt:44:18
 pub sequence::members-value_from-requires : goal.sequence::members-value_from-requires
@@ -534,13 +534,13 @@ value::after_mark-boxed_before-requires t c = (omega (arith, c.requires.depth), 
 
 -- src/parsing/value.rt
 pub value::after_mark-returns-in_err-inner-in-OpenVariant-clause-fault : goal.value::after_mark-returns-in_err-inner-in-OpenVariant-clause-fault
-value::after_mark-returns-in_err-inner-in-OpenVariant-clause-fault t c = 
+value::after_mark-returns-in_err-inner-in-OpenVariant-clause-fault t c =
     let p = err_from_is_err_and c.from_residual-in_err-inner-in-OpenVariant.result c.from_residual-in_err-inner-in-OpenVariant.ensures.1 in
     rw (p.1, p.2) (rw c.in-OpenVariant.is (rw add-one at c.in_err-inner-in-OpenVariant.ensures.fault))
 
 -- src/parsing/value.rt
 pub value::after_mark-returns-in_ok-inner-in-OpenVariant-clause-value : goal.value::after_mark-returns-in_ok-inner-in-OpenVariant-clause-value
-value::after_mark-returns-in_ok-inner-in-OpenVariant-clause-value t c = 
+value::after_mark-returns-in_ok-inner-in-OpenVariant-clause-value t c =
     let h = c.in_ok-inner-in-OpenVariant.ensures.value in
     rw c.in-OpenVariant.is (is_boxed _ _ _ _ _ c.in_ok-inner-in-OpenVariant.inner h.value h.taken)
 
@@ -566,7 +566,7 @@ value::boxed-value-requires t c = (omega (arith, c.requires), omega (arith, c.re
 
 -- src/parsing/value.rt
 pub value::boxed-returns-in_err-value-clause-fault : goal.value::boxed-returns-in_err-value-clause-fault
-value::boxed-returns-in_err-value-clause-fault t c = 
+value::boxed-returns-in_err-value-clause-fault t c =
     let p = err_from_is_err_and c.from_residual.result c.from_residual.ensures.1 in
     rw (p.1, p.2) c.in_err-value.ensures.fault
 
@@ -580,7 +580,7 @@ value::value_before-value-requires t c = (omega (arith, c.requires.depth), omega
 
 -- src/parsing/value.rt
 pub value::value_before-returns-in_err-value-clause-fault : goal.value::value_before-returns-in_err-value-clause-fault
-value::value_before-returns-in_err-value-clause-fault t c = 
+value::value_before-returns-in_err-value-clause-fault t c =
     let p = err_from_is_err_and c.from_residual.result c.from_residual.ensures.1 in
     rw (p.1, p.2) (carried_in _ _ (a_value c.args.depth ∷ inside (end_stage c.args.mark) c.args.depth c.args.opened ∷ []) (a_value c.args.depth ∷ []) (left c.args.rest.now)
     (left c.args.rest.now) c.in_err-value.ensures.fault (λ e more. (inside (end_stage c.args.mark) c.args.depth c.args.opened ∷ more, refl, sym c.refused.ensures)))
@@ -599,7 +599,7 @@ value::boxed_before-value_before-requires t c = (omega (arith, c.requires.depth)
 
 -- src/parsing/value.rt
 pub value::boxed_before-returns-in_err-value-clause-fault : goal.value::boxed_before-returns-in_err-value-clause-fault
-value::boxed_before-returns-in_err-value-clause-fault t c = 
+value::boxed_before-returns-in_err-value-clause-fault t c =
     let p = err_from_is_err_and c.from_residual.result c.from_residual.ensures.1 in
     rw (p.1, p.2) c.in_err-value.ensures.fault
 
