@@ -98,8 +98,8 @@ entry_nesting variant k v rest c a b e = absurd cc
 entry_nesting (tuple ts) k v rest c a b e = absurd cc
 
 -- a tuple's members are all read
-pub exactly_members : (t : Ty) (c : Class) (ps : List Pattern) (left : List Ty) → c ≡ class_of t → c ≡ classes.Tuple → left ≡ [] → before ps (exactly_all left) ≡ exactly_each (members t) → strict (tuple_with (patterns_of ps)) ≡ exactly t
-exactly_members t c ps left a b e h = ap (λ qs. strict (tuple_with qs)) (sym (before_stop ps) ∙ ap (λ l. before ps (exactly_all l)) (sym e) ∙ h) ∙ exactly_tuple t c a b
+pub all_exact : (ts : Types) (ps : List Pattern) (left : List Ty) → left ≡ [] → before ps (exactly_all left) ≡ exactly_each ts → patterns_of ps ≡ exactly_each ts
+all_exact ts ps left e h = sym (before_stop ps) ∙ ap (λ l. before ps (exactly_all l)) (sym e) ∙ h
 
 -- an entry has two members
 pub entry_members : (t : Ty) (c : Class) → c ≡ class_of t → c ≡ classes.Entry → (k : Ty) × ((v : Ty) × (type_list (members t) ≡ k ∷ v ∷ []))

@@ -7,7 +7,7 @@ ghost use Rattle.gv_infer.specs.BasicSets.{basic_set_of};
 use gv_types::BasicType;
 
 /// A set of basic types.
-#[derive(Clone, Copy, Debug, PartialEq, Eq)]
+#[derive(Clone, Copy, PartialEq, Eq)]
 pub(crate) enum BasicSet {
     Any,
     Numbers,

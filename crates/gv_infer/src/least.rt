@@ -13,7 +13,7 @@ use crate::pattern::{Bare, Pattern, PatternForm};
 use std::alloc::AllocError;
 
 /// What is found in a set of types.
-#[derive(Clone, Copy, Debug)]
+#[derive(Clone, Copy)]
 pub(crate) enum Found {
     /// No type.
     Nowhere,

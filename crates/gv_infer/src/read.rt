@@ -1,5 +1,7 @@
 //! Reading a text: its syntax, the type of that, and the value at this type.
-ghost use Rattle.std.specs.Prelude.{◌≤◌, Ok, length, IfOk, IfErr};
+ghost use Rattle.std.specs.Prelude.{◌≤◌, ℕ, List, Ok, length, IfOk, IfErr};
+ghost use Rattle.gv_model.specs.Parsing.{IsTree};
+ghost use Rattle.gv_text.specs.Parsed.{IsWithin};
 ghost use Rattle.gv_infer.specs.Reads.{Reads, IsReadFault};
 
 use crate::build::build;
@@ -7,7 +9,7 @@ use crate::contents::check_contents;
 use crate::read_fault::ReadFault;
 use crate::typing::type_of_root;
 use crate::value_fault::ValueFault;
-use gv_text::parse;
+use gv_text::{SyntaxNode, parse};
 use gv_tree::Tree;
 use std::alloc::Global;
 
@@ -27,7 +29,15 @@ pub fn read_value(alloc: Global, text: &str) -> Result<Tree, ReadFault>
     ensures fault { IfErr result (IsReadFault text.now) }
 {
     let syntax = parse(alloc, text)?;
-    let root = syntax.root();
+    value_of(alloc, syntax.root())
+}
+
+/// The value of a text, whose syntax that is, by its own type.
+fn value_of(alloc: Global, root: &SyntaxNode) -> Result<Tree, ReadFault>
+    requires { IsWithin root.now }
+    ensures value { (text : List ℕ) → IsTree text root.now → IfOk result (λ v. Reads text (Ok v)) }
+    ensures fault { (text : List ℕ) → IsTree text root.now → IfErr result (IsReadFault text) }
+{
     let of = type_of_root(alloc, root)?;
     match build(alloc, root, of.as_type()) {
         Ok(built) => built.ok_or(ReadFault::Value(ValueFault::TooDeep)),

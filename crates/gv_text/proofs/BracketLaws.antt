@@ -1,28 +1,31 @@
 -- What occurs in a tuple and in braces, part by part.
 use Rattle.std.proofs.Common.{arith, length, ◌≡◌, ◌≤◌, ◌<◌, ◌+◌, ℕ, List, [], ◌∷◌, ◌++◌, refl, sym, ap, ◌∙◌, append_assoc, Box, Global, Vec}
-use Rattle.std.specs.Prelude.{◌⊎◌}
+use Rattle.std.specs.Prelude.{◌⊎◌, Result, Ok, Err, IfOk, IfErr}
+use Rattle.std.specs.Result.{result_and}
 use mathlib.Core.Logic.{inl, inr}
 use Rattle.gv_model.specs.Syntax.{Syntax as Value, levels, pairs_levels}
 use Rattle.gv_model.specs.Tokens.{Mark as TheMark, Token as TheToken}
-use Rattle.gv_model.specs.Tokens.Mark.{open_brace, close_tuple, close_brace, comma, colon}
+use Rattle.gv_model.specs.Tokens.Mark.{open_brace, close_tuple, close_brace, close_box, comma, colon}
 use Rattle.gv_model.specs.Tokens.Token.{mark}
 use Rattle.gv_model.specs.Grammar.{tokens_of, commas, members_tokens, pairs_tokens}
 use Rattle.gv_model.specs.GrammarFaults.{Stage}
 use Rattle.gv_model.specs.GrammarFaults.Want.{a_value, inside}
-use Rattle.gv_model.specs.GrammarFaults.Stage.{tuple_start, tuple_one, tuple_two, tuple_more, brace_start, brace_first, pair_more, pair_colon, lone_end}
-use Rattle.gv_text.specs.declared.token.Mark.TheVariants.{CloseTuple}
+use Rattle.gv_model.specs.GrammarFaults.Stage.{tuple_start, tuple_one, tuple_two, tuple_more, brace_start, brace_first, pair_more, pair_colon, lone_end, box_end}
+use Rattle.gv_text.specs.declared.token.Mark.{Mark}
+use Rattle.gv_text.specs.declared.token.Mark.TheVariants.{CloseTuple, CloseBrace, CloseVariant, Colon}
 use Rattle.gv_text.specs.declared.token.Span.{Span}
 use Rattle.gv_text.specs.declared.token.Token.{Token}
 use Rattle.gv_text.specs.declared.fault.TextCause.TheVariants.{Unclosed}
 use Rattle.gv_text.specs.declared.fault.TextFault.{TextFault}
 use Rattle.gv_text.specs.declared.fault.TextFault.TheVariants.{Refused}
 use Rattle.gv_text.specs.declared.syntax.SyntaxNode.{SyntaxNode}
+use Rattle.gv_text.specs.declared.syntax.SyntaxKind.{SyntaxKind}
 use Rattle.gv_text.specs.declared.syntax.SyntaxKind.TheVariants.{Dictionary, Entry}
 use Rattle.gv_text.specs.SyntaxNodes.{nodes_of, pairs_of}
-use Rattle.gv_text.specs.ModelTokens.{token_of}
-use Rattle.gv_text.specs.Expectations.{Want, first_fault, kinds_of, Taken, Stops, StopsWith}
-use Rattle.gv_text.specs.ParseSteps.{IsValue, IsBraced, ArePairs, AreMembers, AreMore}
-use Rattle.gv_text.proofs.ExpectationLaws.{Opens, Refuses, carried_in, carried_out, entered, taken, taken_tokens, second_opens}
+use Rattle.gv_text.specs.ModelTokens.{token_of, mark_of}
+use Rattle.gv_text.specs.Expectations.{Want, first_fault, kinds_of, Taken, NotTaken, TakesMark, Stops, StopsWith, EndsValue, end_stage}
+use Rattle.gv_text.specs.ParseSteps.{IsValue, IsValueBefore, IsBraced, IsEntryAfter, HasPair, ArePairs, AreMembers, AreMore}
+use Rattle.gv_text.proofs.ExpectationLaws.{Opens, Refuses, carried_in, carried_out, entered, taken, taken_tokens, not_taken, second_opens, wants_colon, wants_brace, wants_box}
 use Rattle.gv_text.proofs.SequenceLaws.{PairsSoFar, pairs_more, pairs_levels_more, members_of, no_longer}
 
 -- from these tokens, where the first things are wanted, to those, where the second are
@@ -48,6 +51,24 @@ holds_first r q m d at t ts old mid x o h k v = record {
   reaches = λ e more. entered r q m d at t ts old o h k e more ∙ v.passes e (inside q d at ∷ more);
   levels = v.levels;
 }
+
+-- A value and the one mark that comes after it
+
+pub value_read : (m : TheMark) (d : ℕ) (at : Span) (old mid new : List Token) (r : Result (Unit {0}) TextFault) (x : Value) → IsValue d old mid x → TakesMark m at mid new r → IfOk (result_and r (Ok x)) (IsValueBefore m d old new)
+value_read m d at old mid new (Ok u) x v t = record { between = mid; value = v; taken = t }
+value_read m d at old mid new (Err f) x v t = tt
+
+no_end : (m : Mark) (d : ℕ) (at : Span) (old : List Token) (f : TextFault) → EndsValue m → NotTaken (λ t. t ≡ mark (mark_of m)) at old f → Stops (inside (end_stage m) d at ∷ []) old f
+no_end Colon d at old f c h = not_taken pair_colon (λ t. t ≡ mark colon) d at [] old f wants_colon h
+no_end CloseBrace d at old f c h = not_taken lone_end (λ t. t ≡ mark close_brace) d at [] old f wants_brace h
+no_end CloseVariant d at old f c h = not_taken box_end (λ t. t ≡ mark close_box) d at [] old f wants_box h
+no_end _ d at old f c h = absurd c
+
+pub not_ended : (m : Mark) (d : ℕ) (at : Span) (old mid new : List Token) (r : Result (Unit {0}) TextFault) (x : Value) → EndsValue m → IsValue d old mid x → TakesMark (mark_of m) at mid new r
+    → IfErr (result_and r (Ok x)) (Stops (a_value d ∷ inside (end_stage m) d at ∷ []) old)
+not_ended m d at old mid new (Ok u) x c v t = tt
+not_ended m d at old mid new (Err f) x c v t =
+    stops_after (a_value d ∷ inside (end_stage m) d at ∷ []) (inside (end_stage m) d at ∷ []) old mid f (λ e more. v.passes e (inside (end_stage m) d at ∷ more)) (no_end m d at mid f c t)
 
 -- Tuples
 
@@ -121,17 +142,22 @@ some_pairs d at old mid rest new k ps h t g = record {
 pub lone_reached : (d : ℕ) (at : Span) (old mid rest : List Token) (k : Value) → HoldsFirst brace_start brace_first d at old mid k → Taken (mark comma) mid rest → Reaches (inside brace_start d at ∷ []) old (a_value d ∷ inside lone_end d at ∷ []) rest
 lone_reached d at old mid rest k h t e more = h.reaches e more ∙ taken comma brace_first d at (a_value d ∷ inside lone_end d at ∷ []) mid rest t (λ p. refl) e more
 
-pub lone_ended : (d : ℕ) (at : Span) (old mid rest last : List Token) (k v : Value) → HoldsFirst brace_start brace_first d at old mid k → Taken (mark comma) mid rest → IsValue d rest last v → Reaches (inside brace_start d at ∷ []) old (inside lone_end d at ∷ []) last
-lone_ended d at old mid rest last k v h t w e more = lone_reached d at old mid rest k h t e more ∙ w.passes e (inside lone_end d at ∷ more)
-
-pub is_entry : (d : ℕ) (at : Span) (old mid rest last new : List Token) (k v : Box SyntaxNode Global) → HoldsFirst brace_start brace_first d at old mid k.value → Taken (mark comma) mid rest → IsValue d rest last v.value → Taken (mark close_brace) last new → IsBraced d at old new (Entry k v)
+-- an entry from after its `,` on
+pub entry_after : (d : ℕ) (at : Span) (rest new : List Token) (k v : Box SyntaxNode Global) → IsValueBefore close_brace d rest new v.value → IsEntryAfter k.value d at rest new (Entry k v)
 unfolding tokens_of levels
-is_entry d at old mid rest last new k v h t w u = record {
-  tokens = ap (λ ts. mark open_brace ∷ ts) (h.tokens
-      ∙ (ap (λ ts. tokens_of k.value ++ ts) (taken_tokens (mark comma) mid rest t ∙ ap (λ ts. mark comma ∷ ts) (w.tokens ∙ (ap (λ ts. tokens_of v.value ++ ts) (taken_tokens (mark close_brace) last new u) ∙ sym (append_assoc (tokens_of v.value) (mark close_brace ∷ []) (kinds_of new)))))
-      ∙ sym (append_assoc (tokens_of k.value) (mark comma ∷ (tokens_of v.value ++ mark close_brace ∷ [])) (kinds_of new))));
-  passes = λ e more. lone_ended d at old mid rest last k.value v.value h t w e more ∙ taken close_brace lone_end d at [] last new u (λ p. refl) e more;
-  levels = omega (arith, h.levels, w.levels);
+entry_after d at rest new k v w = record {
+  tokens = ap (λ ts. mark open_brace ∷ ts) (
+      ap (λ ts. tokens_of k.value ++ mark comma ∷ ts) (w.value.tokens ∙ (ap (λ ts. tokens_of v.value ++ ts) (taken_tokens (mark close_brace) w.between new w.taken) ∙ sym (append_assoc (tokens_of v.value) (mark close_brace ∷ []) (kinds_of new))))
+      ∙ sym (append_assoc (tokens_of k.value) (mark comma ∷ (tokens_of v.value ++ mark close_brace ∷ [])) (kinds_of new)));
+  passes = λ e more. w.value.passes e (inside lone_end d at ∷ more) ∙ taken close_brace lone_end d at [] w.between new w.taken (λ p. refl) e more;
+  levels = λ l. omega (arith, l, w.value.levels);
+}
+
+pub is_entry : (d : ℕ) (at : Span) (old mid rest new : List Token) (key : Value) (k : SyntaxKind) → HoldsFirst brace_start brace_first d at old mid key → Taken (mark comma) mid rest → IsEntryAfter key d at rest new k → IsBraced d at old new k
+is_entry d at old mid rest new key k h t g = record {
+  tokens = ap (λ ts. mark open_brace ∷ ts) (h.tokens ∙ ap (λ ts. tokens_of key ++ ts) (taken_tokens (mark comma) mid rest t)) ∙ g.tokens;
+  passes = λ e more. lone_reached d at old mid rest key h t e more ∙ g.passes e more;
+  levels = g.levels h.levels;
 }
 
 -- Pairs

@@ -9,9 +9,9 @@ use Rattle.gv_model.specs.Tokens.{Mark as TheMark, Token as TheToken}
 use Rattle.gv_model.specs.Tokens.Mark.{comma}
 use Rattle.gv_model.specs.Tokens.Token.{mark}
 use Rattle.gv_model.specs.GrammarFaults.{Stage, Want as WantAt, FaultAt, begun_wants, at_end as end_fault, first_fault as first_fault_at}
-use Rattle.gv_model.specs.GrammarFaults.Stage.{list_more, tuple_more, pair_more}
+use Rattle.gv_model.specs.GrammarFaults.Stage.{list_more, tuple_more, pair_more, pair_colon, lone_end, box_end}
 use Rattle.gv_text.specs.declared.token.Mark.{Mark}
-use Rattle.gv_text.specs.declared.token.Mark.TheVariants.{CloseArray, CloseTuple}
+use Rattle.gv_text.specs.declared.token.Mark.TheVariants.{CloseArray, CloseTuple, CloseBrace, CloseVariant, Colon}
 use Rattle.gv_text.specs.declared.token.Span.{Span}
 use Rattle.gv_text.specs.declared.token.Token.{Token}
 use Rattle.gv_text.specs.declared.fault.TextCause.{TextCause}
@@ -102,6 +102,18 @@ abbrev pub more_stage : Mark → Stage
 more_stage CloseArray = list_more
 more_stage CloseTuple = tuple_more
 more_stage _ = pair_more
+
+-- marks that come after one value, and the stage of a bracket in which each is
+abbrev pub EndsValue : Mark → Type 0
+EndsValue Colon = Unit {0}
+EndsValue CloseBrace = Unit {0}
+EndsValue CloseVariant = Unit {0}
+EndsValue _ = ⊥
+
+abbrev pub end_stage : Mark → Stage
+end_stage Colon = pair_colon
+end_stage CloseBrace = lone_end
+end_stage _ = box_end
 
 -- marks that close values with `,` between
 abbrev pub ClosesValues : Mark → Type 0

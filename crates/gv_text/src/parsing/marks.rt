@@ -47,19 +47,19 @@ pub(crate) fn expect(rest: &mut IntoIter<Token>, mark: Mark, opened: Span) -> Re
     Ok(())
 }
 
-/// Takes a `,` or the mark that closes the bracket, which was opened there, and says whether it was a `,`.
+/// Takes a `,` or that other mark, in a bracket that was opened there: whether it was a `,`.
 pub(crate) fn more_follow(
     rest: &mut IntoIter<Token>,
-    close: Mark,
+    other: Mark,
     opened: Span,
 ) -> Result<bool, TextFault>
-    ensures { TakesSeparator (mark_of close) opened (left rest.old) (left rest.new) result }
+    ensures { TakesSeparator (mark_of other) opened (left rest.old) (left rest.new) result }
 {
     let token = next(rest, refused(TextCause::Unclosed, opened))?;
     if is_mark(&token, Mark::Comma) {
         return Ok(true);
     }
-    if !is_mark(&token, close) {
+    if !is_mark(&token, other) {
         return Err(refused(TextCause::Unexpected, token.span));
     }
     Ok(false)

@@ -46,11 +46,11 @@ pub(crate) fn members(
     ensures fault { IfErr result (Stops (inside tuple_start depth opened ∷ []) (left rest.old)) }
 {
     let ended = refused(TextCause::Unclosed, opened);
-    let mut members = Vec::new(alloc);
     let first = next(rest, ended)?;
     if is_mark(&first, Mark::CloseTuple) {
-        return Ok(members);
+        return Ok(Vec::new(alloc));
     }
+    let mut members = Vec::new(alloc);
     members.push(value_from(alloc, first, rest, depth, ended)?)?;
     expect(rest, Mark::Comma, opened)?;
     let second = next(rest, ended)?;

@@ -1,10 +1,10 @@
 //! Reading a value: its first token, and what follows in it.
 ghost use Rattle.std.specs.Prelude.{◌≡◌, ◌≤◌, ◌∷◌, ◌↔◌, [], ℕ, IfOk, IfErr, IsSome, IsTrue};
 ghost use Rattle.gv_model.specs.Tokens.Token.{mark as mark_token, word as word_token};
-ghost use Rattle.gv_model.specs.GrammarFaults.{Want.a_value, begun_wants};
+ghost use Rattle.gv_model.specs.GrammarFaults.{Want.a_value, Want.inside, begun_wants};
 ghost use Rattle.gv_text.specs.ModelTokens.{token_of, mark_of, word_of};
-ghost use Rattle.gv_text.specs.Expectations.{left, StopsWith, Stops, wants_after};
-ghost use Rattle.gv_text.specs.ParseSteps.{IsValue, IsAfter, BeginsValue};
+ghost use Rattle.gv_text.specs.Expectations.{left, StopsWith, Stops, EndsValue, end_stage, wants_after};
+ghost use Rattle.gv_text.specs.ParseSteps.{IsValue, IsValueBefore, IsAfter, BeginsValue};
 ghost use Rattle.gv_text.specs.declared.token.Span.{Span};
 
 use crate::fault::{TextCause, TextFault};
@@ -30,6 +30,59 @@ pub(crate) fn value(
 {
     let first = next(rest, ended)?;
     value_from(alloc, first, rest, depth, ended)
+}
+
+/// The same in a box.
+#[cycle(parsing)]
+fn boxed(
+    alloc: Global,
+    rest: &mut IntoIter<Token>,
+    depth: u8,
+    ended: TextFault,
+) -> Result<Box<SyntaxNode>, TextFault>
+    requires { depth ≤ 129 }
+    ensures value { IfOk result (λ x. IsValue depth (left rest.old) (left rest.new) x.value) }
+    ensures fault { IfErr result (StopsWith ended (a_value depth ∷ []) (left rest.old)) }
+{
+    let value = value(alloc, rest, depth, ended)?;
+    Ok(Box::new(alloc, value)?)
+}
+
+/// The value at the start of the tokens, which is so deep, in a bracket that was opened there. It
+/// takes the mark after it, too.
+#[cycle(parsing)]
+pub(crate) fn value_before(
+    alloc: Global,
+    rest: &mut IntoIter<Token>,
+    depth: u8,
+    mark: Mark,
+    opened: Span,
+) -> Result<SyntaxNode, TextFault>
+    requires depth { depth ≤ 129 }
+    requires ends { EndsValue mark }
+    ensures value { IfOk result (IsValueBefore (mark_of mark) depth (left rest.old) (left rest.new)) }
+    ensures fault { IfErr result (Stops (a_value depth ∷ inside (end_stage mark) depth opened ∷ []) (left rest.old)) }
+{
+    let value = value(alloc, rest, depth, refused(TextCause::Unclosed, opened))?;
+    expect(rest, mark, opened).and(Ok(value))
+}
+
+/// The same in a box.
+#[cycle(parsing)]
+pub(crate) fn boxed_before(
+    alloc: Global,
+    rest: &mut IntoIter<Token>,
+    depth: u8,
+    mark: Mark,
+    opened: Span,
+) -> Result<Box<SyntaxNode>, TextFault>
+    requires depth { depth ≤ 129 }
+    requires ends { EndsValue mark }
+    ensures value { IfOk result (λ x. IsValueBefore (mark_of mark) depth (left rest.old) (left rest.new) x.value) }
+    ensures fault { IfErr result (Stops (a_value depth ∷ inside (end_stage mark) depth opened ∷ []) (left rest.old)) }
+{
+    let value = value_before(alloc, rest, depth, mark, opened)?;
+    Ok(Box::new(alloc, value)?)
 }
 
 /// The value that begins with that token.
@@ -100,10 +153,7 @@ fn after_first(
             negative,
             magnitude,
         }),
-        TokenKind::Type(of) => {
-            let of_type = value(alloc, rest, depth + 1, ended)?;
-            Ok(SyntaxKind::OfType(of, Box::new(alloc, of_type)?))
-        }
+        TokenKind::Type(of) => Ok(SyntaxKind::OfType(of, boxed(alloc, rest, depth + 1, ended)?)),
         TokenKind::Word(word) => after_word(alloc, word, rest, depth, ended),
         TokenKind::Mark(mark) => after_mark(alloc, mark, first.span, rest, depth),
     }
@@ -125,14 +175,8 @@ fn after_word(
     match word {
         Word::Truth(truth) => Ok(SyntaxKind::Truth(truth)),
         Word::Nothing => Ok(SyntaxKind::Nothing),
-        Word::Just => {
-            let inner = value(alloc, rest, depth + 1, ended)?;
-            Ok(SyntaxKind::Just(Box::new(alloc, inner)?))
-        }
-        Word::Type(of) => {
-            let inner = value(alloc, rest, depth + 1, ended)?;
-            Ok(SyntaxKind::Keyword(of, Box::new(alloc, inner)?))
-        }
+        Word::Just => Ok(SyntaxKind::Just(boxed(alloc, rest, depth + 1, ended)?)),
+        Word::Type(of) => Ok(SyntaxKind::Keyword(of, boxed(alloc, rest, depth + 1, ended)?)),
     }
 }
 
@@ -155,9 +199,8 @@ fn after_mark(
         Mark::OpenTuple => Ok(SyntaxKind::Tuple(members(alloc, rest, depth + 1, opened)?)),
         Mark::OpenBrace => braces(alloc, rest, depth + 1, opened),
         Mark::OpenVariant => {
-            let inner = value(alloc, rest, depth + 1, refused(TextCause::Unclosed, opened))?;
-            expect(rest, Mark::CloseVariant, opened)?;
-            Ok(SyntaxKind::Variant(Box::new(alloc, inner)?))
+            let inner = boxed_before(alloc, rest, depth + 1, Mark::CloseVariant, opened)?;
+            Ok(SyntaxKind::Variant(inner))
         }
         _ => unreachable!(),
     }

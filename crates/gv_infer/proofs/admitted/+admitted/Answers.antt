@@ -8,14 +8,14 @@ use Rattle.gv_infer.proofs.ExactLaws.{before_more, before_stop}
 use Rattle.gv_infer.proofs.Levels.{levels_at, pair_levels_at}
 use Rattle.gv_infer.proofs.admitted.+admitted.Goals as goal
 
-pub all_common-pattern_of-requires : goal.all_common-pattern_of-requires
-all_common-pattern_of-requires t c = (omega (arith, levels_at c.args.nodes.now _ c.index-nodes-nodes.result (omega (arith, c.loop-done-test.true)) c.index-nodes-nodes.is), tt)
+pub all_common-common_with-requires : goal.all_common-common_with-requires
+all_common-common_with-requires t c = (omega (arith, levels_at c.args.nodes.now _ c.index-nodes-nodes.result (omega (arith, c.loop-done-test.true)) c.index-nodes-nodes.is), tt)
 
-pub common_entry-pattern_of-requires : goal.common_entry-pattern_of-requires
-common_entry-pattern_of-requires t c = (omega (arith, (pair_levels_at c.args.pairs.now _ c.index-pairs-pairs.result (omega (arith, c.loop-done-test.true)) c.index-pairs-pairs.is).0), tt)
+pub common_key-common_with-requires : goal.common_key-common_with-requires
+common_key-common_with-requires t c = (omega (arith, (pair_levels_at c.args.pairs.now _ c.index-pairs-pairs.result (omega (arith, c.loop-done-test.true)) c.index-pairs-pairs.is).0), tt)
 
-pub common_entry-pattern_of-requires-in-loop-done : goal.common_entry-pattern_of-requires-in-loop-done
-common_entry-pattern_of-requires-in-loop-done t c = (omega (arith, (pair_levels_at c.args.pairs.now _ c.index-pairs-pairs.result (omega (arith, c.loop-done-test.true)) c.index-pairs-pairs.is).1), tt)
+pub common_value-common_with-requires : goal.common_value-common_with-requires
+common_value-common_with-requires t c = (omega (arith, (pair_levels_at c.args.pairs.now _ c.index-pairs-pairs.result (omega (arith, c.loop-done-test.true)) c.index-pairs-pairs.is).1), tt)
 
 pub patterns-pattern_of-requires : goal.patterns-pattern_of-requires
 patterns-pattern_of-requires t c = (omega (arith, levels_at c.args.nodes.now c.loop-node.node-index c.node-item.result c.loop-node-test.true c.node-item.is), tt)

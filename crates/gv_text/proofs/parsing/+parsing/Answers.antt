@@ -8,7 +8,7 @@ use Rattle.gv_model.specs.Tokens.Token.{mark}
 use Rattle.gv_model.specs.Grammar.{tokens_of}
 use Rattle.gv_text.specs.ModelTokens.{token_of, mark_of}
 use Rattle.std.specs.Prelude.{IsSome}
-use Rattle.gv_text.specs.Expectations.{left, more_stage}
+use Rattle.gv_text.specs.Expectations.{left, more_stage, end_stage}
 use Rattle.gv_text.proofs.ExpectationLaws.{Either, other, unclosed, missing, entered, carried, carried_in, carried_out, always, does_not_begin, begins, list_opens, tuple_opens, brace_opens, not_taken, pair_wants, wants_comma, wants_colon, wants_brace, wants_box}
 use Rattle.gv_text.proofs.ParseStepLaws.{
   whole_value,
@@ -53,7 +53,7 @@ use Rattle.gv_text.proofs.BracketLaws.{
   pairs_reached,
   some_pairs,
   lone_reached,
-  lone_ended,
+  entry_after,
   is_entry,
   one_pair,
   key_reached,
@@ -62,6 +62,8 @@ use Rattle.gv_text.proofs.BracketLaws.{
   shorter,
   pair_more_read,
   all_pairs,
+  value_read,
+  not_ended,
 }
 use Rattle.gv_text.proofs.parsing.+parsing.Goals as goal
 
@@ -95,92 +97,76 @@ braces::braces-returns-in_err-key-clause-fault t c =
       sym c.refused-ended.ensures,
     )))
 
--- src/parsing/braces.rt:28:16
-pub braces::braces-returns-in_err-mark-clause-fault :
-    goal.braces::braces-returns-in_err-mark-clause-fault
-braces::braces-returns-in_err-mark-clause-fault t c =
-    let p = err_from_is_err_and c.from_residual-in_err-mark.result c.from_residual-in_err-mark.ensures.1 in
+-- src/parsing/braces.rt
+pub braces::braces-returns-in_err-more_follow-clause-fault : goal.braces::braces-returns-in_err-more_follow-clause-fault
+braces::braces-returns-in_err-more_follow-clause-fault t c =
+    let p = err_from_is_err_and c.from_residual-in_err-more_follow.result c.from_residual-in_err-more_follow.ensures.1 in
     rw (p.1, p.2) (stops_after (inside brace_start c.args.depth c.args.opened ∷ []) (inside brace_first c.args.depth c.args.opened ∷ []) (left c.args.rest.now)
-    (left c.value_from.new.rest) _ (HoldsFirst.reaches (holds_first brace_start brace_first close_brace c.args.depth c.args.opened _ _ _ _ _ brace_opens
-    c.in_ok-first.ensures (λ h. cc (c.if-is_mark.false, c.is_mark.ensures.1 h)) c.in_ok-key.ensures.value))
-    (unclosed brace_first _ _ [] _ _ c.in_err-mark.ensures.0 (c.in_err-mark.ensures.1 ∙ c.refused-ended.ensures)))
+    (left c.value_from.new.rest) _ (HoldsFirst.reaches (holds_first brace_start brace_first close_brace c.args.depth c.args.opened _ _ _ _ _ brace_opens c.in_ok-first.ensures
+    (λ h. cc (c.if-is_mark.false, c.is_mark.ensures.1 h)) c.in_ok-key.ensures.value))
+    (not_taken brace_first (Either colon) c.args.depth c.args.opened [] _ _ first_wants c.in_err-more_follow.ensures))
+
+-- src/parsing/braces.rt
+pub braces::braces-entry_of-requires : goal.braces::braces-entry_of-requires
+braces::braces-entry_of-requires t c = (omega (arith, c.requires), omega (arith, c.requires))
+
+-- src/parsing/braces.rt
+pub braces::braces-returns-then-branch-clause-braced : goal.braces::braces-returns-then-branch-clause-braced
+braces::braces-returns-then-branch-clause-braced t c = if_ok c.entry_of.result (λ k h. is_entry _ _ _ _ _ _ _ _
+    (holds_first brace_start brace_first close_brace c.args.depth c.args.opened _ _ _ _ _ brace_opens c.in_ok-first.ensures
+    (λ h. cc (c.if-is_mark.false, c.is_mark.ensures.1 h)) c.in_ok-key.ensures.value)
+    (took_comma colon c.args.opened (left c.value_from.new.rest) (left c.more_follow.new.rest) _ c.if-branch.true c.in_ok-more_follow.ensures) h) c.entry_of.ensures.entry
+
+-- src/parsing/braces.rt
+pub braces::braces-returns-then-branch-clause-fault : goal.braces::braces-returns-then-branch-clause-fault
+braces::braces-returns-then-branch-clause-fault t c = if_err c.entry_of.result (λ f h. stops_after (inside brace_start c.args.depth c.args.opened ∷ [])
+    (a_value c.args.depth ∷ inside lone_end c.args.depth c.args.opened ∷ []) (left c.args.rest.now) (left c.more_follow.new.rest) f
+    (lone_reached c.args.depth c.args.opened _ _ _ _ (holds_first brace_start brace_first close_brace c.args.depth c.args.opened _ _ _ _ _ brace_opens c.in_ok-first.ensures
+    (λ h. cc (c.if-is_mark.false, c.is_mark.ensures.1 h)) c.in_ok-key.ensures.value)
+    (took_comma colon c.args.opened (left c.value_from.new.rest) (left c.more_follow.new.rest) _ c.if-branch.true c.in_ok-more_follow.ensures)) h) c.entry_of.ensures.fault
+
+-- src/parsing/braces.rt
+pub braces::braces-returns-in_err-pairs-clause-fault : goal.braces::braces-returns-in_err-pairs-clause-fault
+braces::braces-returns-in_err-pairs-clause-fault t c =
+    let p = err_from_is_err_and c.from_residual-in_err-pairs.result c.from_residual-in_err-pairs.ensures.1 in
+    rw (p.1, p.2) (stops_after (inside brace_start c.args.depth c.args.opened ∷ []) (a_value c.args.depth ∷ inside pair_more c.args.depth c.args.opened ∷ [])
+    (left c.args.rest.now) (left c.more_follow.new.rest) _ (pairs_reached c.args.depth c.args.opened _ _ _ _
+    (holds_first brace_start brace_first close_brace c.args.depth c.args.opened _ _ _ _ _ brace_opens c.in_ok-first.ensures
+    (λ h. cc (c.if-is_mark.false, c.is_mark.ensures.1 h)) c.in_ok-key.ensures.value)
+    (took_close colon c.args.opened (left c.value_from.new.rest) (left c.more_follow.new.rest) _ c.if-branch.false c.in_ok-more_follow.ensures)) c.in_err-pairs.ensures.fault)
+
+-- src/parsing/braces.rt
+pub braces::braces-returns-clause-braced : goal.braces::braces-returns-clause-braced
+braces::braces-returns-clause-braced t c = some_pairs _ _ _ _ _ _ _ _
+    (holds_first brace_start brace_first close_brace c.args.depth c.args.opened _ _ _ _ _ brace_opens c.in_ok-first.ensures
+    (λ h. cc (c.if-is_mark.false, c.is_mark.ensures.1 h)) c.in_ok-key.ensures.value)
+    (took_close colon c.args.opened (left c.value_from.new.rest) (left c.more_follow.new.rest) _ c.if-branch.false c.in_ok-more_follow.ensures) c.in_ok-pairs.ensures.pairs
+
+-- src/parsing/braces.rt
+pub braces::entry_of-boxed_before-requires : goal.braces::entry_of-boxed_before-requires
+braces::entry_of-boxed_before-requires t c = (omega (arith, c.requires), (c.requires, tt))
+
+-- src/parsing/braces.rt
+pub braces::entry_of-returns-in_err-value-clause-fault : goal.braces::entry_of-returns-in_err-value-clause-fault
+braces::entry_of-returns-in_err-value-clause-fault t c =
+    let p = err_from_is_err_and c.from_residual-in_err-value.result c.from_residual-in_err-value.ensures.1 in
+    rw (p.1, p.2) c.in_err-value.ensures.fault
+
+-- src/parsing/braces.rt
+pub braces::entry_of-returns-clause-entry : goal.braces::entry_of-returns-clause-entry
+braces::entry_of-returns-clause-entry t c = rw (← c.in_ok-key.ensures.ok) (entry_after _ _ _ _ c.in_ok-key.key c.in_ok-value.value c.in_ok-value.ensures.value)
 
 -- src/parsing/braces.rt:30:42
 pub braces::braces-pairs-requires : goal.braces::braces-pairs-requires
 braces::braces-pairs-requires t c = (omega (arith, c.requires), omega (arith, c.requires))
 
--- src/parsing/braces.rt:30:42
-pub braces::braces-returns-in_err-pairs-clause-fault :
-    goal.braces::braces-returns-in_err-pairs-clause-fault
-braces::braces-returns-in_err-pairs-clause-fault t c =
-    let p = err_from_is_err_and c.from_residual-in_err-pairs.result c.from_residual-in_err-pairs.ensures.1 in
-    rw (p.1, p.2) (stops_after (inside brace_start c.args.depth c.args.opened ∷ []) (a_value c.args.depth ∷ inside pair_more c.args.depth c.args.opened ∷ [])
-    (left c.args.rest.now) (left c.next-2.new.rest) _ (pairs_reached c.args.depth c.args.opened _ _ _ _
-    (holds_first brace_start brace_first close_brace c.args.depth c.args.opened _ _ _ _ _ brace_opens c.in_ok-first.ensures
-    (λ h. cc (c.if-is_mark.false, c.is_mark.ensures.1 h)) c.in_ok-key.ensures.value)
-    (record { first = c.in_ok-mark.mark; tokens = c.in_ok-mark.ensures; kind = c.is_mark-2.ensures.0 c.if-is_mark-2.true })) c.in_err-pairs.ensures.fault)
+-- src/parsing/braces.rt
+pub braces::pairs-push_pair-requires : goal.braces::pairs-push_pair-requires
+braces::pairs-push_pair-requires t c = (omega (arith, c.requires), omega (arith, c.requires))
 
--- src/parsing/braces.rt:30:9
-pub braces::braces-returns-then-is_mark-2-clause-braced :
-    goal.braces::braces-returns-then-is_mark-2-clause-braced
-braces::braces-returns-then-is_mark-2-clause-braced t c = some_pairs _ _ _ _ _ _ _ _
-    (holds_first brace_start brace_first close_brace c.args.depth c.args.opened _ _ _ _ _ brace_opens c.in_ok-first.ensures
-    (λ h. cc (c.if-is_mark.false, c.is_mark.ensures.1 h)) c.in_ok-key.ensures.value)
-    (record { first = c.in_ok-mark.mark; tokens = c.in_ok-mark.ensures; kind = c.is_mark-2.ensures.0 c.if-is_mark-2.true }) c.in_ok-pairs.ensures.pairs
-
--- src/parsing/braces.rt:33:9
-pub braces::braces-returns-then-not-is_mark-clause-fault :
-    goal.braces::braces-returns-then-not-is_mark-clause-fault
-braces::braces-returns-then-not-is_mark-clause-fault t c = stops_after (inside brace_start c.args.depth c.args.opened ∷ [])
-    (inside brace_first c.args.depth c.args.opened ∷ []) (left c.args.rest.now) (left c.value_from.new.rest) _
-    (HoldsFirst.reaches (holds_first brace_start brace_first close_brace c.args.depth c.args.opened _ _ _ _ _ brace_opens c.in_ok-first.ensures
-    (λ h. cc (c.if-is_mark.false, c.is_mark.ensures.1 h)) c.in_ok-key.ensures.value))
-    (other (inside brace_first c.args.depth c.args.opened) [] _ c.in_ok-mark.mark _ _ c.in_ok-mark.ensures c.refused.ensures
-    (first_wants c.args.depth c.args.opened _ _ (neither _ _ (λ h. cc (c.if-not-is_mark.true, c.is_mark-3.ensures.1 h))
-    (λ h. cc (c.if-is_mark-2.false, c.is_mark-2.ensures.1 h)))))
-
--- src/parsing/braces.rt:35:17
-pub braces::braces-value-requires : goal.braces::braces-value-requires
-braces::braces-value-requires t c = (omega (arith, c.requires), omega (arith, c.requires))
-
--- src/parsing/braces.rt:35:17
-pub braces::braces-returns-in_err-value-clause-fault :
-    goal.braces::braces-returns-in_err-value-clause-fault
-braces::braces-returns-in_err-value-clause-fault t c =
-    let p = err_from_is_err_and c.from_residual-in_err-value.result c.from_residual-in_err-value.ensures.1 in
-    rw (p.1, p.2) (stops_in_value (inside brace_start c.args.depth c.args.opened ∷ []) lone_end c.args.depth c.args.opened (left c.args.rest.now)
-    (left c.next-2.new.rest) _ _ c.refused-ended.ensures (lone_reached c.args.depth c.args.opened _ _ _ _
-    (holds_first brace_start brace_first close_brace c.args.depth c.args.opened _ _ _ _ _ brace_opens c.in_ok-first.ensures
-    (λ h. cc (c.if-is_mark.false, c.is_mark.ensures.1 h)) c.in_ok-key.ensures.value)
-    (record { first = c.in_ok-mark.mark; tokens = c.in_ok-mark.ensures; kind = c.is_mark-3.ensures.0 c.if-not-is_mark.false })) c.in_err-value.ensures.fault)
-
--- src/parsing/braces.rt:36:5
-pub braces::braces-returns-in_err-expect-clause-fault :
-    goal.braces::braces-returns-in_err-expect-clause-fault
-braces::braces-returns-in_err-expect-clause-fault t c =
-    let p = err_from_is_err_and c.from_residual-in_err-expect.result c.from_residual-in_err-expect.ensures.1 in
-    rw (p.1, p.2) (stops_after (inside brace_start c.args.depth c.args.opened ∷ []) (inside lone_end c.args.depth c.args.opened ∷ []) (left c.args.rest.now)
-    (left c.value.new.rest) _ (lone_ended c.args.depth c.args.opened _ _ _ _ _ _
-    (holds_first brace_start brace_first close_brace c.args.depth c.args.opened _ _ _ _ _ brace_opens c.in_ok-first.ensures
-    (λ h. cc (c.if-is_mark.false, c.is_mark.ensures.1 h)) c.in_ok-key.ensures.value)
-    (record { first = c.in_ok-mark.mark; tokens = c.in_ok-mark.ensures; kind = c.is_mark-3.ensures.0 c.if-not-is_mark.false }) c.in_ok-value.ensures.value)
-    (not_taken lone_end (λ t. t ≡ mark close_brace) c.args.depth c.args.opened [] _ _ wants_brace c.in_err-expect.ensures))
-
--- src/parsing/braces.rt:16:1
-pub braces::braces-returns-clause-braced : goal.braces::braces-returns-clause-braced
-braces::braces-returns-clause-braced t c = is_entry _ _ _ _ _ _ _ c.in_ok-new.field-0 c.in_ok-new-2.field-0
-    (holds_first brace_start brace_first close_brace c.args.depth c.args.opened _ _ _ _ _ brace_opens c.in_ok-first.ensures
-    (λ h. cc (c.if-is_mark.false, c.is_mark.ensures.1 h)) (rw c.in_ok-new.ensures.ok c.in_ok-key.ensures.value))
-    (record { first = c.in_ok-mark.mark; tokens = c.in_ok-mark.ensures; kind = c.is_mark-3.ensures.0 c.if-not-is_mark.false })
-    (rw c.in_ok-new-2.ensures.ok c.in_ok-value.ensures.value) c.in_ok-expect.ensures
-
--- src/parsing/braces.rt:49:24
-pub braces::pairs-value-requires : goal.braces::pairs-value-requires
-braces::pairs-value-requires t c = (omega (arith, c.requires), omega (arith, c.requires))
-
--- src/parsing/braces.rt:50:5
+-- src/parsing/braces.rt
 pub braces::pairs-loop-pairs-init : goal.braces::pairs-loop-pairs-init
-braces::pairs-loop-pairs-init t c = one_pair _ c.in_ok-value.field-0 _ _ _ _ _ (c.in_ok-push.ensures.items ∙ ap (λ ps. ps ++ (c.args.first, c.in_ok-value.field-0) ∷ []) c.new-pairs.ensures.items) c.in_ok-value.ensures.value
+braces::pairs-loop-pairs-init t c = let h = c.in_ok-push_pair.ensures.pair in one_pair _ h.value _ _ _ _ _ (h.joined ∙ ap (λ ps. ps ++ (c.args.first, h.value) ∷ []) c.new-pairs.ensures.items) h.read
 
 -- src/parsing/braces.rt:50:11
 pub braces::pairs-returns-in_err-more_follow-clause-fault :
@@ -191,60 +177,65 @@ braces::pairs-returns-in_err-more_follow-clause-fault t c =
     (left c.args.rest.now) (left c.loop-pairs.rest) _ c.loop-pairs.invariant.passes
     (not_taken pair_more (Either close_brace) c.args.depth c.args.opened [] _ _ pair_wants c.in_err-more_follow.ensures))
 
--- src/parsing/braces.rt:51:19
-pub braces::pairs-value-requires-in-loop-pairs : goal.braces::pairs-value-requires-in-loop-pairs
-braces::pairs-value-requires-in-loop-pairs t c = (omega (arith, c.requires), omega (arith, c.requires))
+-- src/parsing/braces.rt
+pub braces::pairs-value_before-requires : goal.braces::pairs-value_before-requires
+braces::pairs-value_before-requires t c = (omega (arith, c.requires), (c.requires, tt))
 
--- src/parsing/braces.rt:51:19
-pub braces::pairs-returns-in_err-key-clause-fault :
-    goal.braces::pairs-returns-in_err-key-clause-fault
+-- src/parsing/braces.rt
+pub braces::pairs-returns-in_err-key-clause-fault : goal.braces::pairs-returns-in_err-key-clause-fault
 braces::pairs-returns-in_err-key-clause-fault t c =
     let p = err_from_is_err_and c.from_residual-in_err-key.result c.from_residual-in_err-key.ensures.1 in
-    rw (p.1, p.2) (stops_in_value (a_value c.args.depth ∷ inside pair_more c.args.depth c.args.opened ∷ []) pair_colon c.args.depth c.args.opened (left c.args.rest.now)
-    (left c.more_follow.new.rest) _ _ c.refused-ended.ensures (key_reached c.args.first c.args.depth c.args.opened _ _ _ _ c.loop-pairs.invariant
-    (took_comma close_brace c.args.opened (left c.loop-pairs.rest) (left c.more_follow.new.rest) _ c.if-branch.true c.in_ok-more_follow.ensures))
+    rw (p.1, p.2) (stops_after (a_value c.args.depth ∷ inside pair_more c.args.depth c.args.opened ∷ [])
+    (a_value c.args.depth ∷ inside pair_colon c.args.depth c.args.opened ∷ []) (left c.args.rest.now) (left c.more_follow.new.rest) _
+    (key_reached c.args.first c.args.depth c.args.opened _ _ _ _ c.loop-pairs.invariant (took_comma close_brace c.args.opened (left c.loop-pairs.rest) (left c.more_follow.new.rest) _ c.if-branch.true c.in_ok-more_follow.ensures))
     c.in_err-key.ensures.fault)
 
--- src/parsing/braces.rt:52:9
-pub braces::pairs-returns-in_err-expect-clause-fault :
-    goal.braces::pairs-returns-in_err-expect-clause-fault
-braces::pairs-returns-in_err-expect-clause-fault t c =
-    let p = err_from_is_err_and c.from_residual-in_err-expect.result c.from_residual-in_err-expect.ensures.1 in
-    rw (p.1, p.2) (stops_after (a_value c.args.depth ∷ inside pair_more c.args.depth c.args.opened ∷ []) (inside pair_colon c.args.depth c.args.opened ∷ [])
-    (left c.args.rest.now) (left c.value-in-loop-pairs.new.rest) _
-    (colon_reached c.args.first _ c.args.depth c.args.opened _ _ _ _ _ c.loop-pairs.invariant
-    (took_comma close_brace c.args.opened (left c.loop-pairs.rest) (left c.more_follow.new.rest) _ c.if-branch.true c.in_ok-more_follow.ensures)
-    c.in_ok-key.ensures.value) (not_taken pair_colon (λ t. t ≡ mark colon) c.args.depth c.args.opened [] _ _ wants_colon c.in_err-expect.ensures))
+-- src/parsing/braces.rt
+pub braces::pairs-push_pair-requires-in-loop-pairs : goal.braces::pairs-push_pair-requires-in-loop-pairs
+braces::pairs-push_pair-requires-in-loop-pairs t c = (omega (arith, c.requires), omega (arith, c.requires))
 
--- src/parsing/braces.rt:53:26
-pub braces::pairs-value-requires-in-loop-pairs-2 :
-    goal.braces::pairs-value-requires-in-loop-pairs-2
-braces::pairs-value-requires-in-loop-pairs-2 t c = (omega (arith, c.requires), omega (arith, c.requires))
+-- src/parsing/braces.rt
+pub braces::pairs-returns-in_err-push_pair-2-clause-fault : goal.braces::pairs-returns-in_err-push_pair-2-clause-fault
+braces::pairs-returns-in_err-push_pair-2-clause-fault t c =
+    let p = err_from_is_err_and c.from_residual-in_err-push_pair-2.result c.from_residual-in_err-push_pair-2.ensures.1 in
+    let k = c.in_ok-key.ensures.value in
+    rw (p.1, p.2) (stops_after (a_value c.args.depth ∷ inside pair_more c.args.depth c.args.opened ∷ [])
+    (a_value c.args.depth ∷ inside pair_more c.args.depth c.args.opened ∷ []) (left c.args.rest.now) (left c.value_before.new.rest) _
+    (value_reached c.args.first _ c.args.depth c.args.opened _ _ _ _ _ _ c.loop-pairs.invariant (took_comma close_brace c.args.opened (left c.loop-pairs.rest) (left c.more_follow.new.rest) _ c.if-branch.true c.in_ok-more_follow.ensures) k.value k.taken)
+    c.in_err-push_pair-2.ensures.fault)
 
--- src/parsing/braces.rt:53:26
-pub braces::pairs-returns-in_err-value-2-clause-fault :
-    goal.braces::pairs-returns-in_err-value-2-clause-fault
-braces::pairs-returns-in_err-value-2-clause-fault t c =
-    let p = err_from_is_err_and c.from_residual-in_err-value-2.result c.from_residual-in_err-value-2.ensures.1 in
-    rw (p.1, p.2) (stops_in_value (a_value c.args.depth ∷ inside pair_more c.args.depth c.args.opened ∷ []) pair_more c.args.depth c.args.opened (left c.args.rest.now)
-    (left c.expect.new.rest) _ _ c.refused-ended.ensures (value_reached c.args.first _ c.args.depth c.args.opened _ _ _ _ _ _ c.loop-pairs.invariant
-    (took_comma close_brace c.args.opened (left c.loop-pairs.rest) (left c.more_follow.new.rest) _ c.if-branch.true c.in_ok-more_follow.ensures)
-    c.in_ok-key.ensures.value c.in_ok-expect.ensures) c.in_err-value-2.ensures.fault)
-
--- src/parsing/braces.rt:50:5
+-- src/parsing/braces.rt
 pub braces::pairs-loop-pairs-smaller : goal.braces::pairs-loop-pairs-smaller
-braces::pairs-loop-pairs-smaller t c = shorter _ _ _ _ _ _ _ c.args.depth (took_comma close_brace c.args.opened (left c.loop-pairs.rest) (left c.more_follow.new.rest) _ c.if-branch.true c.in_ok-more_follow.ensures) c.in_ok-key.ensures.value c.in_ok-expect.ensures c.in_ok-value-2.ensures.value
+braces::pairs-loop-pairs-smaller t c =
+    let k = c.in_ok-key.ensures.value in
+    let h = c.in_ok-push_pair-2.ensures.pair in
+    shorter _ _ _ _ _ _ _ c.args.depth (took_comma close_brace c.args.opened (left c.loop-pairs.rest) (left c.more_follow.new.rest) _ c.if-branch.true c.in_ok-more_follow.ensures) k.value k.taken h.read
 
--- src/parsing/braces.rt:50:5
+-- src/parsing/braces.rt
 pub braces::pairs-loop-pairs-preserved : goal.braces::pairs-loop-pairs-preserved
-braces::pairs-loop-pairs-preserved t c = pair_more_read _ _ _ _ _ _ _ _ _ _ _ _ _ c.loop-pairs.invariant
-    (took_comma close_brace c.args.opened (left c.loop-pairs.rest) (left c.more_follow.new.rest) _ c.if-branch.true c.in_ok-more_follow.ensures)
-    c.in_ok-key.ensures.value c.in_ok-expect.ensures c.in_ok-value-2.ensures.value
-    (c.in_ok-push-2.ensures.items ∙ ap (λ k. c.loop-pairs.pairs.items ++ (k, c.in_ok-value-2.field-0) ∷ []) c.key.view_is)
+braces::pairs-loop-pairs-preserved t c =
+    let k = c.in_ok-key.ensures.value in
+    let h = c.in_ok-push_pair-2.ensures.pair in
+    pair_more_read _ _ _ _ _ _ _ _ _ _ _ _ _ c.loop-pairs.invariant (took_comma close_brace c.args.opened (left c.loop-pairs.rest) (left c.more_follow.new.rest) _ c.if-branch.true c.in_ok-more_follow.ensures) k.value k.taken h.read h.joined
 
 -- src/parsing/braces.rt:41:1
 pub braces::pairs-returns-clause-pairs : goal.braces::pairs-returns-clause-pairs
 braces::pairs-returns-clause-pairs t c = all_pairs _ _ _ _ _ _ _ c.loop-pairs.invariant (took_close close_brace c.args.opened (left c.loop-pairs.rest) (left c.more_follow.new.rest) _ c.if-branch.false c.in_ok-more_follow.ensures)
+
+-- src/parsing/braces.rt
+pub braces::push_pair-value-requires : goal.braces::push_pair-value-requires
+braces::push_pair-value-requires t c = (omega (arith, c.requires), omega (arith, c.requires))
+
+-- src/parsing/braces.rt
+pub braces::push_pair-returns-in_err-value-clause-fault : goal.braces::push_pair-returns-in_err-value-clause-fault
+braces::push_pair-returns-in_err-value-clause-fault t c =
+    let p = err_from_is_err_and c.from_residual.result c.from_residual.ensures.1 in
+    rw (p.1, p.2) (carried_in _ _ (a_value c.args.depth ∷ inside pair_more c.args.depth c.args.opened ∷ []) (a_value c.args.depth ∷ []) (left c.args.rest.now)
+    (left c.args.rest.now) c.in_err-value.ensures.fault (λ e more. (inside pair_more c.args.depth c.args.opened ∷ more, refl, sym c.refused.ensures)))
+
+-- src/parsing/braces.rt
+pub braces::push_pair-returns-clause-pair : goal.braces::push_pair-returns-clause-pair
+braces::push_pair-returns-clause-pair t c = record { value = c.in_ok-value.value; joined = c.in_ok-push.ensures.items; read = c.in_ok-value.ensures.value }
 
 -- src/parsing/sequence.rt:24:17
 pub sequence::elements-returns-in_err-first-clause-fault :
@@ -290,7 +281,7 @@ sequence::members-returns-in_err-first-clause-fault t c =
 -- src/parsing/sequence.rt:42:9
 pub sequence::members-returns-then-is_mark-clause-members :
     goal.sequence::members-returns-then-is_mark-clause-members
-sequence::members-returns-then-is_mark-clause-members t c = rw c.new-members.ensures.items (no_members _ _ _ _ c.requires (record { first = c.in_ok-first.first; tokens = c.in_ok-first.ensures; kind = c.is_mark.ensures.0 c.if-is_mark.true }))
+sequence::members-returns-then-is_mark-clause-members t c = rw c.new.ensures.items (no_members _ _ _ _ c.requires (record { first = c.in_ok-first.first; tokens = c.in_ok-first.ensures; kind = c.is_mark.ensures.0 c.if-is_mark.true }))
 
 -- src/parsing/sequence.rt:44:18
 pub sequence::members-value_from-requires : goal.sequence::members-value_from-requires
@@ -415,10 +406,6 @@ pub sequence::values_until-returns-clause-values :
     goal.sequence::values_until-returns-clause-values
 sequence::values_until-returns-clause-values t c = all_values _ _ _ _ _ _ _ _ c.requires.closes c.loop-values.invariant (took_close (mark_of c.args.close) c.args.opened (left c.loop-values.rest) (left c.more_follow.new.rest) _ c.if-branch.false c.in_ok-more_follow.ensures)
 
--- src/parsing/value.rt:80:27
-pub value::after_first-value-requires : goal.value::after_first-value-requires
-value::after_first-value-requires t c = (omega (arith, c.requires.depth), omega (arith, c.requires.depth))
-
 -- src/parsing/value.rt:83:34
 pub value::after_first-after_word-requires : goal.value::after_first-after_word-requires
 value::after_first-after_word-requires t c = (omega (arith, c.requires.depth), omega (arith, c.requires.depth))
@@ -441,11 +428,6 @@ value::after_first-returns-in-ByteString-clause-value t c = rw c.in-ByteString.i
 pub value::after_first-returns-in-Integer-clause-value :
     goal.value::after_first-returns-in-Integer-clause-value
 value::after_first-returns-in-Integer-clause-value t c = rw c.in-Integer.is (is_integer _ _ _ _ _ c.requires.depth)
-
--- src/parsing/value.rt:68:1
-pub value::after_first-returns-in_ok-new-in-Type-clause-value :
-    goal.value::after_first-returns-in_ok-new-in-Type-clause-value
-value::after_first-returns-in_ok-new-in-Type-clause-value t c = rw c.in-Type.is (is_of_type _ _ _ _ _ c.in_ok-new-in-Type.field-0 (rw c.in_ok-new-in-Type.ensures.ok c.in_ok-of_type-in-Type.ensures.value))
 
 -- src/parsing/value.rt:68:1
 pub value::after_first-returns-in-Word-clause-fault :
@@ -478,29 +460,6 @@ value::after_mark-returns-in_err-members-in-OpenTuple-clause-fault t c =
 pub value::after_mark-braces-requires : goal.value::after_mark-braces-requires
 value::after_mark-braces-requires t c = (omega (arith, c.requires.depth), omega (arith, c.requires.depth))
 
--- src/parsing/value.rt:122:25
-pub value::after_mark-value-requires : goal.value::after_mark-value-requires
-value::after_mark-value-requires t c = (omega (arith, c.requires.depth), omega (arith, c.requires.depth))
-
--- src/parsing/value.rt:122:25
-pub value::after_mark-returns-in_err-inner-in-OpenVariant-clause-fault :
-    goal.value::after_mark-returns-in_err-inner-in-OpenVariant-clause-fault
-value::after_mark-returns-in_err-inner-in-OpenVariant-clause-fault t c =
-    let p = err_from_is_err_and c.from_residual-in_err-inner-in-OpenVariant.result c.from_residual-in_err-inner-in-OpenVariant.ensures.1 in
-    rw (p.1, p.2) (rw (c.in-OpenVariant.is, ← add-one) (carried_in _ _ (a_value (c.args.depth + 1) ∷ inside box_end (c.args.depth + 1) c.args.opened ∷ [])
-    (a_value (c.args.depth + 1) ∷ []) (left c.args.rest.now) (left c.args.rest.now) c.in_err-inner-in-OpenVariant.ensures.fault
-    (λ e more. (inside box_end (c.args.depth + 1) c.args.opened ∷ more, refl, sym c.refused.ensures))))
-
--- src/parsing/value.rt:123:13
-pub value::after_mark-returns-in_err-expect-in-OpenVariant-clause-fault :
-    goal.value::after_mark-returns-in_err-expect-in-OpenVariant-clause-fault
-value::after_mark-returns-in_err-expect-in-OpenVariant-clause-fault t c =
-    let p = err_from_is_err_and c.from_residual-in_err-expect-in-OpenVariant.result c.from_residual-in_err-expect-in-OpenVariant.ensures.1 in
-    rw (p.1, p.2) (rw (c.in-OpenVariant.is, ← add-one) (stops_after (a_value (c.args.depth + 1) ∷ inside box_end (c.args.depth + 1) c.args.opened ∷ [])
-    (inside box_end (c.args.depth + 1) c.args.opened ∷ []) (left c.args.rest.now) (left c.value.new.rest) _
-    (λ e more. c.in_ok-inner-in-OpenVariant.ensures.value.passes e (inside box_end (c.args.depth + 1) c.args.opened ∷ more))
-    (not_taken box_end (λ t. t ≡ mark close_box) (c.args.depth + 1) c.args.opened [] _ _ wants_box c.in_err-expect-in-OpenVariant.ensures)))
-
 -- src/parsing/value.rt:110:1
 pub value::after_mark-returns-in_ok-elements-in-OpenArray-clause-value :
     goal.value::after_mark-returns-in_ok-elements-in-OpenArray-clause-value
@@ -516,19 +475,6 @@ pub value::after_mark-returns-in-OpenBrace-clause-fault :
     goal.value::after_mark-returns-in-OpenBrace-clause-fault
 value::after_mark-returns-in-OpenBrace-clause-fault t c = rw c.in-OpenBrace.is (rw add-one at c.braces.ensures.fault)
 
--- src/parsing/value.rt:110:1
-pub value::after_mark-returns-in_ok-new-in-OpenVariant-clause-value :
-    goal.value::after_mark-returns-in_ok-new-in-OpenVariant-clause-value
-value::after_mark-returns-in_ok-new-in-OpenVariant-clause-value t c = rw c.in-OpenVariant.is (is_boxed _ _ _ _ _ c.in_ok-new-in-OpenVariant.field-0 (rw c.in_ok-new-in-OpenVariant.ensures.ok c.in_ok-inner-in-OpenVariant.ensures.value) c.in_ok-expect-in-OpenVariant.ensures)
-
--- src/parsing/value.rt:99:25
-pub value::after_word-value-requires : goal.value::after_word-value-requires
-value::after_word-value-requires t c = (omega (arith, c.requires), omega (arith, c.requires))
-
--- src/parsing/value.rt:103:25
-pub value::after_word-value-requires-in-Type : goal.value::after_word-value-requires-in-Type
-value::after_word-value-requires-in-Type t c = (omega (arith, c.requires), omega (arith, c.requires))
-
 -- src/parsing/value.rt:89:1
 pub value::after_word-returns-in-Truth-clause-value :
     goal.value::after_word-returns-in-Truth-clause-value
@@ -538,16 +484,6 @@ value::after_word-returns-in-Truth-clause-value t c = λ s. rw c.in-Truth.is (is
 pub value::after_word-returns-in-Nothing-clause-value :
     goal.value::after_word-returns-in-Nothing-clause-value
 value::after_word-returns-in-Nothing-clause-value t c = λ s. rw c.in-Nothing.is (is_nothing _ s _ c.requires)
-
--- src/parsing/value.rt:89:1
-pub value::after_word-returns-in_ok-new-in-Just-clause-value :
-    goal.value::after_word-returns-in_ok-new-in-Just-clause-value
-value::after_word-returns-in_ok-new-in-Just-clause-value t c = λ s. rw c.in-Just.is (is_just _ s _ _ c.in_ok-new-in-Just.field-0 (rw c.in_ok-new-in-Just.ensures.ok c.in_ok-inner-in-Just.ensures.value))
-
--- src/parsing/value.rt:89:1
-pub value::after_word-returns-in_ok-new-in-Type-clause-value :
-    goal.value::after_word-returns-in_ok-new-in-Type-clause-value
-value::after_word-returns-in_ok-new-in-Type-clause-value t c = λ s. rw c.in-Type.is (is_keyword _ _ s _ _ c.in_ok-new-in-Type.field-0 (rw c.in_ok-new-in-Type.ensures.ok c.in_ok-inner-in-Type.ensures.value))
 
 -- src/parsing/value.rt:25:17
 pub value::value-returns-in_err-first-clause-fault :
@@ -583,3 +519,90 @@ value::value_from-returns-in_err-kind-clause-fault t c =
 -- src/parsing/value.rt:30:1
 pub value::value_from-returns-clause-value : goal.value::value_from-returns-clause-value
 value::value_from-returns-clause-value t c = whole_value _ _ _ _ _ c.in_ok-check_begin.ensures.0 c.in_ok-check_begin.ensures.1 c.in_ok-kind.ensures.value
+
+-- src/parsing/value.rt
+pub value::after_first-boxed-requires : goal.value::after_first-boxed-requires
+value::after_first-boxed-requires t c = (omega (arith, c.requires.depth), omega (arith, c.requires.depth))
+
+-- src/parsing/value.rt
+pub value::after_first-returns-in_ok-boxed-in-Type-clause-value : goal.value::after_first-returns-in_ok-boxed-in-Type-clause-value
+value::after_first-returns-in_ok-boxed-in-Type-clause-value t c = rw c.in-Type.is (is_of_type _ _ _ _ _ c.in_ok-boxed-in-Type.field-0 c.in_ok-boxed-in-Type.ensures.value)
+
+-- src/parsing/value.rt
+pub value::after_mark-boxed_before-requires : goal.value::after_mark-boxed_before-requires
+value::after_mark-boxed_before-requires t c = (omega (arith, c.requires.depth), (omega (arith, c.requires.depth), tt))
+
+-- src/parsing/value.rt
+pub value::after_mark-returns-in_err-inner-in-OpenVariant-clause-fault : goal.value::after_mark-returns-in_err-inner-in-OpenVariant-clause-fault
+value::after_mark-returns-in_err-inner-in-OpenVariant-clause-fault t c =
+    let p = err_from_is_err_and c.from_residual-in_err-inner-in-OpenVariant.result c.from_residual-in_err-inner-in-OpenVariant.ensures.1 in
+    rw (p.1, p.2) (rw c.in-OpenVariant.is (rw add-one at c.in_err-inner-in-OpenVariant.ensures.fault))
+
+-- src/parsing/value.rt
+pub value::after_mark-returns-in_ok-inner-in-OpenVariant-clause-value : goal.value::after_mark-returns-in_ok-inner-in-OpenVariant-clause-value
+value::after_mark-returns-in_ok-inner-in-OpenVariant-clause-value t c =
+    let h = c.in_ok-inner-in-OpenVariant.ensures.value in
+    rw c.in-OpenVariant.is (is_boxed _ _ _ _ _ c.in_ok-inner-in-OpenVariant.inner h.value h.taken)
+
+-- src/parsing/value.rt
+pub value::after_word-boxed-requires : goal.value::after_word-boxed-requires
+value::after_word-boxed-requires t c = (omega (arith, c.requires), omega (arith, c.requires))
+
+-- src/parsing/value.rt
+pub value::after_word-boxed-requires-in-Type : goal.value::after_word-boxed-requires-in-Type
+value::after_word-boxed-requires-in-Type t c = (omega (arith, c.requires), omega (arith, c.requires))
+
+-- src/parsing/value.rt
+pub value::after_word-returns-in_ok-boxed-in-Just-clause-value : goal.value::after_word-returns-in_ok-boxed-in-Just-clause-value
+value::after_word-returns-in_ok-boxed-in-Just-clause-value t c = λ s. rw c.in-Just.is (is_just _ s _ _ c.in_ok-boxed-in-Just.field-0 c.in_ok-boxed-in-Just.ensures.value)
+
+-- src/parsing/value.rt
+pub value::after_word-returns-in_ok-boxed-in-Type-clause-value : goal.value::after_word-returns-in_ok-boxed-in-Type-clause-value
+value::after_word-returns-in_ok-boxed-in-Type-clause-value t c = λ s. rw c.in-Type.is (is_keyword _ _ s _ _ c.in_ok-boxed-in-Type.field-0 c.in_ok-boxed-in-Type.ensures.value)
+
+-- src/parsing/value.rt
+pub value::boxed-value-requires : goal.value::boxed-value-requires
+value::boxed-value-requires t c = (omega (arith, c.requires), omega (arith, c.requires))
+
+-- src/parsing/value.rt
+pub value::boxed-returns-in_err-value-clause-fault : goal.value::boxed-returns-in_err-value-clause-fault
+value::boxed-returns-in_err-value-clause-fault t c =
+    let p = err_from_is_err_and c.from_residual.result c.from_residual.ensures.1 in
+    rw (p.1, p.2) c.in_err-value.ensures.fault
+
+-- src/parsing/value.rt
+pub value::boxed-returns-clause-value : goal.value::boxed-returns-clause-value
+value::boxed-returns-clause-value t c = rw c.in_ok-new.ensures.ok c.in_ok-value.ensures.value
+
+-- src/parsing/value.rt
+pub value::value_before-value-requires : goal.value::value_before-value-requires
+value::value_before-value-requires t c = (omega (arith, c.requires.depth), omega (arith, c.requires.depth))
+
+-- src/parsing/value.rt
+pub value::value_before-returns-in_err-value-clause-fault : goal.value::value_before-returns-in_err-value-clause-fault
+value::value_before-returns-in_err-value-clause-fault t c =
+    let p = err_from_is_err_and c.from_residual.result c.from_residual.ensures.1 in
+    rw (p.1, p.2) (carried_in _ _ (a_value c.args.depth ∷ inside (end_stage c.args.mark) c.args.depth c.args.opened ∷ []) (a_value c.args.depth ∷ []) (left c.args.rest.now)
+    (left c.args.rest.now) c.in_err-value.ensures.fault (λ e more. (inside (end_stage c.args.mark) c.args.depth c.args.opened ∷ more, refl, sym c.refused.ensures)))
+
+-- src/parsing/value.rt
+pub value::value_before-returns-clause-value : goal.value::value_before-returns-clause-value
+value::value_before-returns-clause-value t c = rw c.and.ensures (value_read _ _ _ _ _ _ c.expect.result _ c.in_ok-value.ensures.value c.expect.ensures)
+
+-- src/parsing/value.rt
+pub value::value_before-returns-clause-fault : goal.value::value_before-returns-clause-fault
+value::value_before-returns-clause-fault t c = rw c.and.ensures (not_ended _ _ _ _ _ _ c.expect.result _ c.requires.ends c.in_ok-value.ensures.value c.expect.ensures)
+
+-- src/parsing/value.rt
+pub value::boxed_before-value_before-requires : goal.value::boxed_before-value_before-requires
+value::boxed_before-value_before-requires t c = (omega (arith, c.requires.depth), (c.requires.depth, c.requires.ends))
+
+-- src/parsing/value.rt
+pub value::boxed_before-returns-in_err-value-clause-fault : goal.value::boxed_before-returns-in_err-value-clause-fault
+value::boxed_before-returns-in_err-value-clause-fault t c =
+    let p = err_from_is_err_and c.from_residual.result c.from_residual.ensures.1 in
+    rw (p.1, p.2) c.in_err-value.ensures.fault
+
+-- src/parsing/value.rt
+pub value::boxed_before-returns-clause-value : goal.value::boxed_before-returns-clause-value
+value::boxed_before-returns-clause-value t c = rw c.in_ok-new.ensures.ok c.in_ok-value.ensures.value

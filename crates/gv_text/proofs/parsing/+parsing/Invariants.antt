@@ -4,10 +4,16 @@ use Rattle.gv_text.proofs.SequenceLaws.{MoreSoFar, PairsSoFar}
 use Rattle.gv_text.proofs.parsing.+parsing.Given as goal
 
 abbrev pub decreases-braces::braces : goal.decreases-braces::braces
-decreases-braces::braces l = 8 * (129 - l.depth) + 6
+decreases-braces::braces l = 8 * (129 - l.depth) + 8
+
+abbrev pub decreases-braces::entry_of : goal.decreases-braces::entry_of
+decreases-braces::entry_of l = 8 * (129 - l.depth) + 7
 
 abbrev pub decreases-braces::pairs : goal.decreases-braces::pairs
-decreases-braces::pairs l = 8 * (129 - l.depth) + 5
+decreases-braces::pairs l = 8 * (129 - l.depth) + 6
+
+abbrev pub decreases-braces::push_pair : goal.decreases-braces::push_pair
+decreases-braces::push_pair l = 8 * (129 - l.depth) + 5
 
 abbrev pub decreases-sequence::elements : goal.decreases-sequence::elements
 decreases-sequence::elements l = 8 * (129 - l.depth) + 6
@@ -27,8 +33,17 @@ decreases-value::after_mark l = 8 * (129 - l.depth) + 1
 abbrev pub decreases-value::after_word : goal.decreases-value::after_word
 decreases-value::after_word l = 8 * (129 - l.depth) + 1
 
+abbrev pub decreases-value::boxed : goal.decreases-value::boxed
+decreases-value::boxed l = 8 * (129 - l.depth) + 5
+
+abbrev pub decreases-value::boxed_before : goal.decreases-value::boxed_before
+decreases-value::boxed_before l = 8 * (129 - l.depth) + 6
+
 abbrev pub decreases-value::value : goal.decreases-value::value
 decreases-value::value l = 8 * (129 - l.depth) + 4
+
+abbrev pub decreases-value::value_before : goal.decreases-value::value_before
+decreases-value::value_before l = 8 * (129 - l.depth) + 5
 
 abbrev pub decreases-value::value_from : goal.decreases-value::value_from
 decreases-value::value_from l = 8 * (129 - l.depth) + 3

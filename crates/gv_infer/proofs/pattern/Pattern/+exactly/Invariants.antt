@@ -1,4 +1,4 @@
-use Rattle.std.proofs.Common.{◌≡◌, ◌≤◌}
+use Rattle.std.proofs.Common.{◌≡◌, ◌≤◌, ◌+◌, ◌*◌}
 use Rattle.gv_model.specs.Ty.{nesting, greatest_nesting, members}
 use Rattle.gv_model.specs.Patterns.{exactly_each}
 use Rattle.gv_types.specs.TypeStr.{ty}
@@ -9,12 +9,18 @@ use Rattle.gv_infer.proofs.ExactLaws.{exactly_all}
 use Rattle.gv_infer.proofs.pattern.Pattern.+exactly.Given as goal
 
 abbrev pub decreases-exactly : goal.decreases-exactly
-decreases-exactly l = nesting (ty l.of)
+decreases-exactly l = 2 * nesting (ty l.of) + 1
 
-abbrev pub invariant-loop-member : goal.invariant-loop-member
-invariant-loop-member l = record {
-  next : (goal.iterator-loop-member).can_next l.member-iterator;
-  finite : (goal.iterator-loop-member).is_finite l.member-iterator;
+abbrev pub decreases-exactly_each : goal.decreases-exactly_each
+decreases-exactly_each l = 2 * greatest_nesting (members (ty l.of)) + 2
+
+abbrev pub decreases-exactly_entry : goal.decreases-exactly_entry
+decreases-exactly_entry l = 2 * nesting (ty l.of)
+
+abbrev pub invariant-exactly_each-loop-member : goal.invariant-exactly_each-loop-member
+invariant-exactly_each-loop-member l = record {
+  next : (goal.iterator-exactly_each-loop-member).can_next l.member-iterator;
+  finite : (goal.iterator-exactly_each-loop-member).is_finite l.member-iterator;
   deepest : greatest_of (members_left l.member-iterator) ≤ greatest_nesting (members (ty l.fn.of));
-  whole : before l.members.items (exactly_all (members_left l.member-iterator)) ≡ exactly_each (members (ty l.fn.of));
+  whole : before l.sets.items (exactly_all (members_left l.member-iterator)) ≡ exactly_each (members (ty l.fn.of));
 }
