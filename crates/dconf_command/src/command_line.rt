@@ -20,49 +20,15 @@ pub(crate) fn dconfdb<'a>(alloc: Global) -> Result<clap::Command<'a>, AllocError
     )
     .version("0.1.0")
     .subcommand_required(true);
-    let line = with_files(alloc, line)?;
-    let line = with_keys(alloc, line)?;
-    let line = with_directories(alloc, line)?;
-    with_changes(alloc, line)
-}
-
-// A line that is held while a command is made is dear to prove, and the dearer the more of them one
-// function makes. So `with` takes the command as it was made, or its fault, and adds three in turn.
-
-// The line with `show`, `check` and `compile`.
-fn with_files<'a>(alloc: Global, line: clap::Command<'a>) -> Result<clap::Command<'a>, AllocError>
-    ensures { IfOk result (λ c. app_of c ≡ with_files (app_of line.entry)) }
-{
     let line = with(line, show(alloc))?;
     let line = with(line, check(alloc))?;
-    with(line, compile(alloc))
-}
-
-// The line with `read`, `origin` and `repair`.
-fn with_keys<'a>(alloc: Global, line: clap::Command<'a>) -> Result<clap::Command<'a>, AllocError>
-    ensures { IfOk result (λ c. app_of c ≡ with_keys (app_of line.entry)) }
-{
+    let line = with(line, compile(alloc))?;
     let line = with(line, read(alloc))?;
     let line = with(line, origin(alloc))?;
-    with(line, repair(alloc))
-}
-
-// The line with `list`, `list-locks` and `dump`.
-fn with_directories<'a>(
-    alloc: Global,
-    line: clap::Command<'a>,
-) -> Result<clap::Command<'a>, AllocError>
-    ensures { IfOk result (λ c. app_of c ≡ with_directories (app_of line.entry)) }
-{
+    let line = with(line, repair(alloc))?;
     let line = with(line, list(alloc))?;
     let line = with(line, list_locks(alloc))?;
-    with(line, dump(alloc))
-}
-
-// The line with `write`, `reset` and `load`.
-fn with_changes<'a>(alloc: Global, line: clap::Command<'a>) -> Result<clap::Command<'a>, AllocError>
-    ensures { IfOk result (λ c. app_of c ≡ with_changes (app_of line.entry)) }
-{
+    let line = with(line, dump(alloc))?;
     let line = with(line, write(alloc))?;
     let line = with(line, reset(alloc))?;
     with(line, load(alloc))
