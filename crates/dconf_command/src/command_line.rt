@@ -1,25 +1,24 @@
 //! The command line of `dconfdb`, by clap's builder.
-ghost use Rattle.std.specs.Prelude.{◌≡◌, codes, false, true, IfOk, Some};
-ghost use Rattle.clap.specs.Words.{App, app_of, new_app, new_rule, rule_of, with_subcommand};
-ghost use Rattle.clap.specs.declared.builder.action.ArgAction.TheVariants.{SetTrue};
-ghost use Rattle.dconf_command.specs.CommandLine.{check_line, command_line, compile_line, default_flag, directory_line, force_flag, further_words, load_line, locks_option, origin_line, profile_option, read_line, repair_line, required_word, reset_line, show_line, with_changes, with_directories, with_files, with_keys, write_line};
+ghost use Rattle.std.specs.Prelude.{◌≡◌, codes, true, IfOk};
+ghost use Rattle.clap.specs.Words.{App, app_of, new_app, with_subcommand};
+ghost use Rattle.dconf_command.specs.CommandLine.{check_line, command_line, compile_line, directory_line, load_line, origin_line, read_line, repair_line, reset_line, show_line, write_line};
+ghost use Rattle.dconf_command.specs.Taken.{with_words};
 
 use crate::help;
-use clap::{Arg, ArgAction};
+use crate::word::{self, Word};
 use std::alloc::{AllocError, Global};
 
 /// The whole command line.
 pub(crate) fn dconfdb<'a>(alloc: Global) -> Result<clap::Command<'a>, AllocError>
     ensures { IfOk result (λ c. app_of c ≡ command_line) }
 {
-    let line = named(
-        alloc,
-        "dconfdb",
-        "A settings store in the manner of dconf: reads, changes, makes and checks its databases",
-        help::PROGRAM,
-    )
-    .version("0.1.0")
-    .subcommand_required(true);
+    let line = clap::Command::new(alloc, "dconfdb")
+        .about(
+            "A settings store in the manner of dconf: reads, changes, makes and checks its databases",
+        )
+        .after_long_help(help::PROGRAM)
+        .version("0.1.0")
+        .subcommand_required(true);
     let line = with(line, show(alloc))?;
     let line = with(line, check(alloc))?;
     let line = with(line, compile(alloc))?;
@@ -34,7 +33,8 @@ pub(crate) fn dconfdb<'a>(alloc: Global) -> Result<clap::Command<'a>, AllocError
     with(line, load(alloc))
 }
 
-// The line with one more command, where that could be made.
+// The line with one more command, where that could be made. It takes the result, since a line that
+// is held across a `?` is dear to prove, and a caller of its own would hold it across each.
 fn with<'a>(
     line: clap::Command<'a>,
     command: Result<clap::Command<'a>, AllocError>,
@@ -45,13 +45,23 @@ fn with<'a>(
     line.subcommand(command?)
 }
 
-// A command of this name, with what it does in a line, and `more` behind its long help.
-fn named<'a>(alloc: Global, name: &'a str, about: &'a str, more: &'a str) -> clap::Command<'a>
-    ensures { app_of result ≡ new_app name.now }
+// A command of this name with its words, what it does in a line, and `more` behind its long help.
+fn named<'a>(
+    alloc: Global,
+    name: &'a str,
+    about: &'a str,
+    more: &'a str,
+    words: &[Word<'a>],
+) -> Result<clap::Command<'a>, AllocError>
+    ensures { IfOk result (λ c. app_of c ≡ with_words (new_app name.now) words.now) }
 {
-    clap::Command::new(alloc, name)
+    let mut command = clap::Command::new(alloc, name)
         .about(about)
-        .after_long_help(more)
+        .after_long_help(more);
+    for word in words {
+        command = command.arg(word.argument(alloc))?;
+    }
+    Ok(command)
 }
 
 // `show TYPE FILE`.
@@ -63,9 +73,8 @@ fn show<'a>(alloc: Global) -> Result<clap::Command<'a>, AllocError>
         "show",
         "Prints the bytes of FILE, read as a value of the GVariant type TYPE",
         help::SHOW,
+        &[word::TYPE, word::FILE],
     )
-    .arg(required(alloc, "TYPE", help::TYPE))?
-    .arg(required(alloc, "FILE", help::FILE))
 }
 
 // `check FILE`.
@@ -77,8 +86,8 @@ fn check<'a>(alloc: Global) -> Result<clap::Command<'a>, AllocError>
         "check",
         "Says whether FILE is a sound database",
         help::CHECK,
+        &[word::FILE],
     )
-    .arg(required(alloc, "FILE", help::FILE))
 }
 
 // `compile OUT [--locks FILE] [KEYFILE..]`.
@@ -90,32 +99,8 @@ fn compile<'a>(alloc: Global) -> Result<clap::Command<'a>, AllocError>
         "compile",
         "Makes the database OUT of keyfiles, taken in the byte order of their names",
         help::COMPILE,
+        &[word::OUT, Word::Locks, word::KEYFILE],
     )
-    .arg(required(alloc, "OUT", help::OUT))?
-    .arg(locks_word(alloc))?
-    .arg(keyfile_words(alloc))
-}
-
-// The lock file of `compile`.
-fn locks_word<'a>(alloc: Global) -> Arg<'a>
-    ensures rule { rule_of result ≡ locks_option }
-    ensures own { result.global ≡ false }
-{
-    Arg::new(alloc, "locks")
-        .long("locks")
-        .value_name("FILE")
-        .action(ArgAction::Set)
-        .help("a file of paths to lock, one on a line")
-}
-
-// The keyfiles of `compile`.
-fn keyfile_words<'a>(alloc: Global) -> Arg<'a>
-    ensures rule { rule_of result ≡ further_words (codes "KEYFILE") }
-    ensures own { result.global ≡ false }
-{
-    Arg::new(alloc, "KEYFILE")
-        .action(ArgAction::Append)
-        .help("a keyfile to read, by its path from the current folder")
 }
 
 // `read [-d] [-p FILE] KEY`.
@@ -127,10 +112,8 @@ fn read<'a>(alloc: Global) -> Result<clap::Command<'a>, AllocError>
         "read",
         "Prints the value that is seen at KEY, and nothing where there is none",
         help::READ,
+        &[word::KEY, word::DEFAULT, Word::Profile],
     )
-    .arg(required(alloc, "KEY", help::KEY))?
-    .arg(flag(alloc, "default", 'd', help::DEFAULT))?
-    .arg(profile_word(alloc))
 }
 
 // `origin [-p FILE] KEY`.
@@ -142,9 +125,8 @@ fn origin<'a>(alloc: Global) -> Result<clap::Command<'a>, AllocError>
         "origin",
         "Prints the index and the line of the database whose value is seen at KEY",
         help::ORIGIN,
+        &[word::KEY, Word::Profile],
     )
-    .arg(required(alloc, "KEY", help::KEY))?
-    .arg(profile_word(alloc))
 }
 
 // `repair FILE OUT`.
@@ -156,20 +138,20 @@ fn repair<'a>(alloc: Global) -> Result<clap::Command<'a>, AllocError>
         "repair",
         "Makes a sound database OUT of what can be saved of FILE",
         help::REPAIR,
+        &[word::FILE, word::OUT],
     )
-    .arg(required(alloc, "FILE", help::FILE))?
-    .arg(required(alloc, "OUT", help::OUT))
 }
 
 // `list [-p FILE] DIR`.
 fn list<'a>(alloc: Global) -> Result<clap::Command<'a>, AllocError>
     ensures { IfOk result (λ c. app_of c ≡ directory_line (codes "list")) }
 {
-    of_directory(
+    named(
         alloc,
         "list",
         "Prints the names right below DIR, one on a line; a directory's ends in /",
         help::LIST,
+        &[word::DIR, Word::Profile],
     )
 }
 
@@ -177,11 +159,12 @@ fn list<'a>(alloc: Global) -> Result<clap::Command<'a>, AllocError>
 fn list_locks<'a>(alloc: Global) -> Result<clap::Command<'a>, AllocError>
     ensures { IfOk result (λ c. app_of c ≡ directory_line (codes "list-locks")) }
 {
-    of_directory(
+    named(
         alloc,
         "list-locks",
         "Prints the locked paths at or below DIR, one on a line",
         help::LIST_LOCKS,
+        &[word::DIR, Word::Profile],
     )
 }
 
@@ -189,26 +172,13 @@ fn list_locks<'a>(alloc: Global) -> Result<clap::Command<'a>, AllocError>
 fn dump<'a>(alloc: Global) -> Result<clap::Command<'a>, AllocError>
     ensures { IfOk result (λ c. app_of c ≡ directory_line (codes "dump")) }
 {
-    of_directory(
+    named(
         alloc,
         "dump",
         "Prints the values that are seen below DIR, as a keyfile",
         help::DUMP,
+        &[word::DIR, Word::Profile],
     )
-}
-
-// A command of this name with a directory and a profile, and `more` behind its long help.
-fn of_directory<'a>(
-    alloc: Global,
-    name: &'a str,
-    about: &'a str,
-    more: &'a str,
-) -> Result<clap::Command<'a>, AllocError>
-    ensures { IfOk result (λ c. app_of c ≡ directory_line name.now) }
-{
-    named(alloc, name, about, more)
-        .arg(required(alloc, "DIR", help::DIRECTORY))?
-        .arg(profile_word(alloc))
 }
 
 // `write [-p FILE] KEY VALUE`.
@@ -220,10 +190,8 @@ fn write<'a>(alloc: Global) -> Result<clap::Command<'a>, AllocError>
         "write",
         "Sets the user's value of KEY to VALUE",
         help::WRITE,
+        &[word::KEY, word::VALUE, Word::Profile],
     )
-    .arg(required(alloc, "KEY", help::KEY))?
-    .arg(required(alloc, "VALUE", help::VALUE))?
-    .arg(profile_word(alloc))
 }
 
 // `reset [-f] [-p FILE] PATH`.
@@ -235,10 +203,8 @@ fn reset<'a>(alloc: Global) -> Result<clap::Command<'a>, AllocError>
         "reset",
         "Takes away the user's value of the key PATH, or with -f those of all keys below the directory PATH",
         help::RESET,
+        &[word::PATH, word::WHOLE, Word::Profile],
     )
-    .arg(required(alloc, "PATH", help::PATH))?
-    .arg(flag(alloc, "force", 'f', help::FORCE_RESET))?
-    .arg(profile_word(alloc))
 }
 
 // `load [-f] [-p FILE] DIR`.
@@ -250,42 +216,6 @@ fn load<'a>(alloc: Global) -> Result<clap::Command<'a>, AllocError>
         "load",
         "Sets the user's values of the keys below DIR to those of the keyfile on input",
         help::LOAD,
+        &[word::DIR, word::LEAVING, Word::Profile],
     )
-    .arg(required(alloc, "DIR", help::DIRECTORY))?
-    .arg(flag(alloc, "force", 'f', help::FORCE_LOAD))?
-    .arg(profile_word(alloc))
-}
-
-// The file of the profile.
-fn profile_word<'a>(alloc: Global) -> Arg<'a>
-    ensures rule { rule_of result ≡ profile_option }
-    ensures own { result.global ≡ false }
-{
-    Arg::new(alloc, "profile")
-        .short('p')
-        .value_name("FILE")
-        .action(ArgAction::Set)
-        .help("the file that lists the databases, in place of `profile`")
-}
-
-// A flag of one letter.
-fn flag<'a>(alloc: Global, name: &'a str, letter: char, help: &'a str) -> Arg<'a>
-    ensures rule { rule_of result ≡ record (new_rule name.now) { short = Some letter; action = Some SetTrue } }
-    ensures own { result.global ≡ false }
-{
-    Arg::new(alloc, name)
-        .short(letter)
-        .action(ArgAction::SetTrue)
-        .help(help)
-}
-
-// A word that must be there, in its place.
-fn required<'a>(alloc: Global, name: &'a str, help: &'a str) -> Arg<'a>
-    ensures rule { rule_of result ≡ required_word name.now }
-    ensures own { result.global ≡ false }
-{
-    Arg::new(alloc, name)
-        .required(true)
-        .action(ArgAction::Set)
-        .help(help)
 }

@@ -1,4 +1,4 @@
-//! What help says of the words of a command and, behind them, of its files, with an example and the statuses.
+//! What `--help` adds to the help of each command: its files, an example and the statuses.
 
 /// Of the program.
 pub(crate) const PROGRAM: &str = "Files:
@@ -154,34 +154,3 @@ Example:
 
 Status:
   0 done, 1 refused (one line on err says why), 2 wrong words";
-
-/// Of the word TYPE.
-pub(crate) const TYPE: &str = "a GVariant type text, such as au or s";
-
-/// Of the word FILE.
-pub(crate) const FILE: &str = "the file to read, by its path from the current folder";
-
-/// Of the word OUT.
-pub(crate) const OUT: &str = "the database to make, in the place of any file there";
-
-/// Of the word KEY.
-pub(crate) const KEY: &str = "the path of a key, such as /org/gnome/desktop/interface/clock-format";
-
-/// Of the word DIR.
-pub(crate) const DIRECTORY: &str = "the path of a directory, such as /org/gnome/ or /";
-
-/// Of the word VALUE.
-pub(crate) const VALUE: &str =
-    "the value in GVariant text, such as 5 or \"'12h'\"; one that starts with - comes after --";
-
-/// Of the word PATH.
-pub(crate) const PATH: &str = "the path of a key, or with -f of a directory, such as /org/gnome/";
-
-/// Of `-d`.
-pub(crate) const DEFAULT: &str = "leave the user's values aside";
-
-/// Of `-f` of `reset`.
-pub(crate) const FORCE_RESET: &str = "reset all keys below a directory, but for locked ones";
-
-/// Of `-f` of `load`.
-pub(crate) const FORCE_LOAD: &str = "leave out the rows of locked keys";
