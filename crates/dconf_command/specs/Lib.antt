@@ -1,4 +1,5 @@
 pub mod CommandLine
+pub mod Taken
 pub mod Asked
 pub mod Commands
 pub mod Replaced

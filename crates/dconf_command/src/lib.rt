@@ -11,6 +11,7 @@ mod asked;
 mod command_line;
 mod help;
 mod replaced;
+mod word;
 mod words;
 
 pub use asked::Command;

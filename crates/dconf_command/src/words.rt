@@ -100,10 +100,11 @@ fn read_asked(alloc: Global, read: &ArgMatches<'_>) -> Result<Command, AllocErro
     requires { HasValue read.now (codes "KEY") }
     ensures { IfOk result (λ command. (words : List Text) → AreOf words (codes "read") read.now → IsAskedBy words command) }
 {
+    let (key, profile) = value_and_profile(alloc, read, "KEY")?;
     Ok(Command::Read {
         default: is_given(read, "default"),
-        key: value(alloc, read, "KEY")?,
-        profile: profile_value(alloc, read)?,
+        key,
+        profile,
     })
 }
 
@@ -112,10 +113,8 @@ fn origin_asked(alloc: Global, origin: &ArgMatches<'_>) -> Result<Command, Alloc
     requires { HasValue origin.now (codes "KEY") }
     ensures { IfOk result (λ command. (words : List Text) → AreOf words (codes "origin") origin.now → IsAskedBy words command) }
 {
-    Ok(Command::Origin {
-        key: value(alloc, origin, "KEY")?,
-        profile: profile_value(alloc, origin)?,
-    })
+    let (key, profile) = value_and_profile(alloc, origin, "KEY")?;
+    Ok(Command::Origin { key, profile })
 }
 
 // `repair FILE OUT`.
@@ -135,10 +134,8 @@ fn list_asked(alloc: Global, list: &ArgMatches<'_>) -> Result<Command, AllocErro
     requires { HasValue list.now (codes "DIR") }
     ensures { IfOk result (λ command. (words : List Text) → AreOf words (codes "list") list.now → IsAskedBy words command) }
 {
-    Ok(Command::List {
-        directory: value(alloc, list, "DIR")?,
-        profile: profile_value(alloc, list)?,
-    })
+    let (directory, profile) = value_and_profile(alloc, list, "DIR")?;
+    Ok(Command::List { directory, profile })
 }
 
 // `list-locks [-p FILE] DIR`.
@@ -146,10 +143,8 @@ fn list_locks_asked(alloc: Global, list_locks: &ArgMatches<'_>) -> Result<Comman
     requires { HasValue list_locks.now (codes "DIR") }
     ensures { IfOk result (λ command. (words : List Text) → AreOf words (codes "list-locks") list_locks.now → IsAskedBy words command) }
 {
-    Ok(Command::ListLocks {
-        directory: value(alloc, list_locks, "DIR")?,
-        profile: profile_value(alloc, list_locks)?,
-    })
+    let (directory, profile) = value_and_profile(alloc, list_locks, "DIR")?;
+    Ok(Command::ListLocks { directory, profile })
 }
 
 // `dump [-p FILE] DIR`.
@@ -157,10 +152,8 @@ fn dump_asked(alloc: Global, dump: &ArgMatches<'_>) -> Result<Command, AllocErro
     requires { HasValue dump.now (codes "DIR") }
     ensures { IfOk result (λ command. (words : List Text) → AreOf words (codes "dump") dump.now → IsAskedBy words command) }
 {
-    Ok(Command::Dump {
-        directory: value(alloc, dump, "DIR")?,
-        profile: profile_value(alloc, dump)?,
-    })
+    let (directory, profile) = value_and_profile(alloc, dump, "DIR")?;
+    Ok(Command::Dump { directory, profile })
 }
 
 // `write [-p FILE] KEY VALUE`.
@@ -169,10 +162,12 @@ fn write_asked(alloc: Global, write: &ArgMatches<'_>) -> Result<Command, AllocEr
     requires value { HasValue write.now (codes "VALUE") }
     ensures { IfOk result (λ command. (words : List Text) → AreOf words (codes "write") write.now → IsAskedBy words command) }
 {
+    let text = value(alloc, write, "VALUE")?;
+    let (key, profile) = value_and_profile(alloc, write, "KEY")?;
     Ok(Command::Write {
-        key: value(alloc, write, "KEY")?,
-        value: value(alloc, write, "VALUE")?,
-        profile: profile_value(alloc, write)?,
+        key,
+        value: text,
+        profile,
     })
 }
 
@@ -181,10 +176,11 @@ fn reset_asked(alloc: Global, reset: &ArgMatches<'_>) -> Result<Command, AllocEr
     requires { HasValue reset.now (codes "PATH") }
     ensures { IfOk result (λ command. (words : List Text) → AreOf words (codes "reset") reset.now → IsAskedBy words command) }
 {
+    let (path, profile) = value_and_profile(alloc, reset, "PATH")?;
     Ok(Command::Reset {
         force: is_given(reset, "force"),
-        path: value(alloc, reset, "PATH")?,
-        profile: profile_value(alloc, reset)?,
+        path,
+        profile,
     })
 }
 
@@ -193,10 +189,11 @@ fn load_asked(alloc: Global, load: &ArgMatches<'_>) -> Result<Command, AllocErro
     requires { HasValue load.now (codes "DIR") }
     ensures { IfOk result (λ command. (words : List Text) → AreOf words (codes "load") load.now → IsAskedBy words command) }
 {
+    let (directory, profile) = value_and_profile(alloc, load, "DIR")?;
     Ok(Command::Load {
         force: is_given(load, "force"),
-        directory: value(alloc, load, "DIR")?,
-        profile: profile_value(alloc, load)?,
+        directory,
+        profile,
     })
 }
 
@@ -219,6 +216,20 @@ fn value(alloc: Global, matches: &ArgMatches<'_>, id: &str) -> Result<String, Al
         first_value (found_of matches.now) id.now ≡ Some (string_bytes text)) }
 {
     String::from_str(alloc, matches.get_str(id).unwrap())
+}
+
+// The value of an argument that has one, and the name of the profile's file.
+fn value_and_profile(
+    alloc: Global,
+    matches: &ArgMatches<'_>,
+    id: &str,
+) -> Result<(String, String), AllocError>
+    requires { HasValue matches.now id.now }
+    ensures value { IfOk result (λ texts. first_value (found_of matches.now) id.now ≡ Some (string_bytes texts.0)) }
+    ensures profile { IfOk result (λ texts. string_bytes texts.1 ≡ profile_file (first_value (found_of matches.now) (codes "profile"))) }
+{
+    let text = value(alloc, matches, id)?;
+    Ok((text, profile_value(alloc, matches)?))
 }
 
 // The value of an argument that may be left out.

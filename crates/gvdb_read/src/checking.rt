@@ -4,7 +4,7 @@ ghost use Rattle.dconf_model.specs.Table.{item_count};
 ghost use Rattle.dconf_model.specs.Searchable.{EachItem, IsSearchable};
 ghost use Rattle.gvdb_read.specs.Records.{RecordKeeps};
 ghost use Rattle.dconf_model.specs.Sound.{IsFirstFault, IsSound, Keeps, KeepsAll, rule_number};
-ghost use Rattle.dconf_model.specs.Sound.Rule.{buckets, chain, hash, once};
+ghost use Rattle.dconf_model.specs.Sound.Rule.{buckets, chain, hash, locks, once};
 ghost use Rattle.gvdb_read.specs.Unsounds.{KeepsBelow, KeptBefore, rule_of};
 
 mod backwards;
@@ -105,7 +105,7 @@ impl Table<'_> {
         if self.chains_end() {
             return Ok(());
         }
-        self.each_keeps(Rule::Chain, |i| self.has_end(i))
+        self.check_each(Rule::Chain)
     }
 
     /// Asks S7. Where buckets are long, and the items come in their order, and in each bucket in that of their names, it compares each
@@ -129,13 +129,13 @@ impl Table<'_> {
         ensures fault { IfErr result (λ e. IsFirstFault (region self.entry) (rule_of e.rule) e.item) }
         ensures not_searchable { IfErr result (λ _. ¬ IsSearchable (region self.entry)) }
     {
-        self.each_keeps(Rule::Keys, |i| self.has_good_key(i))?;
+        self.check_each(Rule::Keys)?;
         self.check_chains()?;
         self.check_hashes()?;
-        self.each_keeps(Rule::Span, |i| self.is_in_span(i))?;
-        self.each_keeps(Rule::Bloom, |i| self.is_in_bloom(i))?;
-        self.each_keeps(Rule::Once, |i| self.is_only_named(i))?;
-        self.each_keeps(Rule::Content, |i| self.has_content(i))
+        self.check_each(Rule::Span)?;
+        self.check_each(Rule::Bloom)?;
+        self.check_each(Rule::Once)?;
+        self.check_each(Rule::Content)
     }
 
     /// Asks S4. Where each hash goes on from the parent's it looks at each byte of the keys once. Else it looks at each byte
@@ -149,7 +149,7 @@ impl Table<'_> {
         if self.hashes_go_on() {
             return Ok(());
         }
-        self.each_keeps(Rule::Hash, |i| self.has_hash_of_name(i))
+        self.check_each(Rule::Hash)
     }
 
     /// Asks S9. Where all names are short it looks at the lengths once, and at each item and its parent. Else it looks
@@ -162,7 +162,7 @@ impl Table<'_> {
         if self.names_are_short() {
             return self.each_keeps(Rule::Place, |i| self.has_parent(i));
         }
-        self.each_keeps(Rule::Place, |i| self.has_place(i))
+        self.check_each(Rule::Place)
     }
 
     /// Asks S10. Where each list ascends, by number or by key, and all of them together hold as many numbers as they should, it
@@ -176,7 +176,43 @@ impl Table<'_> {
         if self.lists_hold_all() {
             return Ok(());
         }
-        self.each_keeps(Rule::Lists, |i| self.has_list_if_any(i))
+        self.check_each(Rule::Lists)
+    }
+
+    /// Asks a rule of each item by itself.
+    fn check_each(self, rule: Rule) -> Result<(), Unsound>
+        requires of_items { rule_of rule ≢ buckets }
+        requires own { rule_of rule ≢ locks }
+        requires earlier { KeepsBelow (region self) (rule_number (rule_of rule)) }
+        ensures kept { IfOk result (λ _. KeepsBelow (region self.entry) (rule_number (rule_of rule) + 1)) }
+        ensures fault { IfErr result (λ e. IsFirstFault (region self.entry) (rule_of e.rule) e.item) }
+        ensures not_kept { IfErr result (λ _. ¬ KeepsAll (region self.entry) (rule_of rule)) }
+    {
+        self.each_keeps(rule, |i| self.keeps(rule, i))
+    }
+
+    /// Whether item `i` keeps a rule, where each lower item does. A closure for each rule would be dearer to prove.
+    fn keeps(self, rule: Rule, i: u32) -> bool
+        requires of_items { rule_of rule ≢ buckets }
+        requires own { rule_of rule ≢ locks }
+        requires earlier { KeepsBelow (region self) (rule_number (rule_of rule)) }
+        requires counted { i < item_count (region self) }
+        ensures { KeptBefore (region self.entry) (rule_of rule) i → IsTrue result ↔ Keeps (region self.entry) (rule_of rule) i }
+    {
+        match rule {
+            Rule::Keys => self.has_good_key(i),
+            Rule::Chain => self.has_end(i),
+            Rule::Hash => self.has_hash_of_name(i),
+            Rule::Span => self.is_in_span(i),
+            Rule::Bloom => self.is_in_bloom(i),
+            Rule::Once => self.is_only_named(i),
+            Rule::Content => self.has_content(i),
+            Rule::Place => self.has_place(i),
+            Rule::Lists => self.has_list_if_any(i),
+            // Neither is asked here: the buckets are the whole table's, and the locks another table's.
+            Rule::Buckets => true,
+            Rule::Locks => true,
+        }
     }
 
     /// Refuses a table in which an item doesn't keep the rule, at the least such item. What is asked of an item may build on

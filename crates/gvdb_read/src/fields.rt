@@ -8,7 +8,7 @@ use crate::format::{Kind, RECORD_LEN, parent, read_u8, read_u16, read_u32};
 use crate::table::Table;
 
 /// What leads from an item up to the one above it.
-#[derive(Clone, Copy, Debug)]
+#[derive(Clone, Copy)]
 pub(crate) struct Link<'a> {
     pub(crate) parent: Option<u32>,
     pub(crate) key: &'a [u8],

@@ -26,7 +26,7 @@ use std::alloc::Global;
 pub const MAX_DATABASE_LEN: usize = 4_294_967_295;
 
 /// From where to where something is.
-#[derive(Clone, Copy, Debug)]
+#[derive(Clone, Copy)]
 pub(crate) struct Pointer {
     pub(crate) start: usize,
     pub(crate) end: usize,
@@ -225,7 +225,7 @@ fn lay_values(
 }
 
 /// Where the contents of a table's items are.
-#[derive(Clone, Copy, Debug)]
+#[derive(Clone, Copy)]
 struct Contents<'a> {
     /// Where all lists start.
     lists: usize,

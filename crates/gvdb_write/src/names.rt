@@ -15,7 +15,7 @@ use gvdb_read::{hash, hash_with};
 use std::alloc::Global;
 
 /// What occurs at a name.
-#[derive(Clone, Copy, Debug)]
+#[derive(Clone, Copy)]
 pub(crate) enum Content<'a> {
     /// The bytes of a value.
     Value(&'a [u8]),
@@ -26,7 +26,7 @@ pub(crate) enum Content<'a> {
 }
 
 /// A name, and what is there.
-#[derive(Clone, Copy, Debug)]
+#[derive(Clone, Copy)]
 pub(crate) struct Named<'a> {
     /// The full name.
     pub(crate) name: &'a [u8],

@@ -12,7 +12,7 @@ use crate::table::Table;
 use std::iter::FusedIterator;
 
 /// The bytes of an item's full name that are left, the last first: those of a key, and those of the name above it.
-#[derive(Clone, Copy, Debug)]
+#[derive(Clone, Copy)]
 pub(super) struct Backwards<'a> {
     table: Table<'a>,
     key: &'a [u8],

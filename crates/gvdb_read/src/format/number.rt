@@ -49,14 +49,12 @@ pub(crate) fn number(bytes: &[u8; NUMBER_LEN]) -> u32
 pub(crate) fn push_u32(number: u32, out: &mut Vec<u8>) -> Result<(), AllocError>
     ensures { OnOk result (out.new.items ≡ out.old.items ++ number_bytes 4 number) }
 {
-    out.extend_from_slice(&number.to_le_bytes())?;
-    Ok(())
+    out.extend_from_slice(&number.to_le_bytes())
 }
 
 /// Appends a number of two bytes, the lowest byte first.
 pub(crate) fn push_u16(number: u16, out: &mut Vec<u8>) -> Result<(), AllocError>
     ensures { OnOk result (out.new.items ≡ out.old.items ++ number_bytes 2 number) }
 {
-    out.extend_from_slice(&number.to_le_bytes())?;
-    Ok(())
+    out.extend_from_slice(&number.to_le_bytes())
 }

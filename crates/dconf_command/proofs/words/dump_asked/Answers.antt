@@ -3,4 +3,4 @@ use Rattle.dconf_command.proofs.Subcommands.{asks_of_directory}
 use Rattle.dconf_command.proofs.words.dump_asked.Goals as goal
 
 pub returns : goal.returns
-returns c = λ words named. asks_of_directory (codes "dump") words _ _ _ named c.in_ok-value.ensures c.in_ok-profile_value.ensures
+returns c = λ words named. asks_of_directory (codes "dump") words _ _ _ named c.in_ok-directory.ensures.value c.in_ok-directory.ensures.profile

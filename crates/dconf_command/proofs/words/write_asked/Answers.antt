@@ -2,4 +2,4 @@ use Rattle.dconf_command.proofs.Subcommands.{asks_to_write}
 use Rattle.dconf_command.proofs.words.write_asked.Goals as goal
 
 pub returns : goal.returns
-returns c = λ words named. asks_to_write words _ _ _ _ named c.in_ok-value.ensures c.in_ok-value-2.ensures c.in_ok-profile_value.ensures
+returns c = λ words named. asks_to_write words _ _ _ _ named c.in_ok-key.ensures.value c.in_ok-text.ensures c.in_ok-key.ensures.profile

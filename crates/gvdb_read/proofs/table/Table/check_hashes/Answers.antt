@@ -1,4 +1,4 @@
-use Rattle.std.proofs.Common.{rules, arith}
+use Rattle.std.proofs.Common.{arith}
 use Rattle.dconf_model.specs.Sound.{KeepsAll}
 use Rattle.dconf_model.specs.Sound.Rule.{keys, chain, hash}
 use Rattle.gvdb_read.specs.Tables.{region}
@@ -11,9 +11,3 @@ returns-then-hashes_go_on-clause-kept c =
     let good : KeepsAll (region c.args.self) keys = c.requires.earlier keys (omega arith) in
     let ends : KeepsAll (region c.args.self) chain = c.requires.earlier chain (omega arith) in
     one_more (region c.args.self) hash c.requires.earlier (hashes_kept (region c.args.self) good ends (c.hashes_go_on.ensures.0 c.if-hashes_go_on.true))
-
-pub each_keeps-requires-clause-callable : goal.each_keeps-requires-clause-callable
-each_keeps-requires-clause-callable c =
-    let good : KeepsAll (region c.args.self) keys = c.requires.earlier keys (omega arith) in
-    let ends : KeepsAll (region c.args.self) chain = c.requires.earlier chain (omega arith) in
-    λ i counted. search rules

@@ -1,0 +1,19 @@
+-- What clap is told of the words that a command takes.
+use Rattle.std.specs.Prelude.{List, Some, map}
+use Rattle.std.specs.List.{fold}
+use Rattle.clap.specs.Words.{App, Rule, new_rule, with_rule}
+use Rattle.clap.specs.declared.builder.action.ArgAction.TheVariants.{SetTrue}
+use Rattle.dconf_command.specs.CommandLine.{further_words, locks_option, profile_option, required_word}
+use Rattle.dconf_command.specs.declared.word.Word.{Word}
+use Rattle.dconf_command.specs.declared.word.Word.TheVariants.{Required, Further, Flag, Locks, Profile}
+
+abbrev pub rule_of_word : Word → Rule
+rule_of_word (Required name help) = required_word name.now
+rule_of_word (Further name help) = further_words name.now
+rule_of_word (Flag name letter help) = record (new_rule name.now) { short = Some letter; action = Some SetTrue }
+rule_of_word Locks = locks_option
+rule_of_word Profile = profile_option
+
+-- a line with these words after its own
+abbrev pub with_words : App → List Word → App
+with_words line words = fold with_rule line (map rule_of_word words)

@@ -1,0 +1,168 @@
+//! The words that a command takes, as clap is told of them.
+ghost use Rattle.std.specs.Prelude.{◌≡◌, codes, false, Some};
+ghost use Rattle.clap.specs.Words.{new_rule, rule_of};
+ghost use Rattle.clap.specs.declared.builder.action.ArgAction.TheVariants.{SetTrue};
+ghost use Rattle.dconf_command.specs.CommandLine.{further_words, locks_option, profile_option, required_word};
+ghost use Rattle.dconf_command.specs.Taken.{rule_of_word};
+
+use clap::{Arg, ArgAction};
+use std::alloc::Global;
+
+/// A word, or words, that a command takes.
+#[derive(Clone, Copy)]
+pub(crate) enum Word<'a> {
+    /// One that must be there, in its place.
+    Required {
+        name: &'a str,
+        help: &'a str,
+    },
+    /// Those that may follow in its place, each a value.
+    Further {
+        name: &'a str,
+        help: &'a str,
+    },
+    /// A flag of one letter.
+    Flag {
+        name: &'a str,
+        letter: char,
+        help: &'a str,
+    },
+    /// `--locks FILE`.
+    Locks,
+    /// `-p FILE`.
+    Profile,
+}
+
+/// The type of a value.
+pub(crate) const TYPE: Word<'static> = Word::Required {
+    name: "TYPE",
+    help: "a GVariant type text, such as au or s",
+};
+
+/// The file that is read.
+pub(crate) const FILE: Word<'static> = Word::Required {
+    name: "FILE",
+    help: "the file to read, by its path from the current folder",
+};
+
+/// The database that is made.
+pub(crate) const OUT: Word<'static> = Word::Required {
+    name: "OUT",
+    help: "the database to make, in the place of any file there",
+};
+
+/// The path of a key.
+pub(crate) const KEY: Word<'static> = Word::Required {
+    name: "KEY",
+    help: "the path of a key, such as /org/gnome/desktop/interface/clock-format",
+};
+
+/// The path of a directory.
+pub(crate) const DIR: Word<'static> = Word::Required {
+    name: "DIR",
+    help: "the path of a directory, such as /org/gnome/ or /",
+};
+
+/// The value that a key gets.
+pub(crate) const VALUE: Word<'static> = Word::Required {
+    name: "VALUE",
+    help: "the value in GVariant text, such as 5 or \"'12h'\"; one that starts with - comes after --",
+};
+
+/// The path of a key or of a directory.
+pub(crate) const PATH: Word<'static> = Word::Required {
+    name: "PATH",
+    help: "the path of a key, or with -f of a directory, such as /org/gnome/",
+};
+
+/// The keyfiles that are read.
+pub(crate) const KEYFILE: Word<'static> = Word::Further {
+    name: "KEYFILE",
+    help: "a keyfile to read, by its path from the current folder",
+};
+
+/// Whether the user's values are left aside.
+pub(crate) const DEFAULT: Word<'static> = Word::Flag {
+    name: "default",
+    letter: 'd',
+    help: "leave the user's values aside",
+};
+
+/// Whether PATH is a directory.
+pub(crate) const WHOLE: Word<'static> = Word::Flag {
+    name: "force",
+    letter: 'f',
+    help: "reset all keys below a directory, but for locked ones",
+};
+
+/// Whether locked keys are left out, in place of a refusal.
+pub(crate) const LEAVING: Word<'static> = Word::Flag {
+    name: "force",
+    letter: 'f',
+    help: "leave out the rows of locked keys",
+};
+
+impl<'a> Word<'a> {
+    /// What clap is told of it.
+    pub(crate) fn argument(self, alloc: Global) -> Arg<'a>
+        ensures rule { rule_of result ≡ rule_of_word self.entry }
+        ensures own { result.global ≡ false }
+    {
+        match self {
+            Word::Required { name, help } => required(alloc, name, help),
+            Word::Further { name, help } => further(alloc, name, help),
+            Word::Flag { name, letter, help } => flag(alloc, name, letter, help),
+            Word::Locks => locks(alloc),
+            Word::Profile => profile(alloc),
+        }
+    }
+}
+
+fn required<'a>(alloc: Global, name: &'a str, help: &'a str) -> Arg<'a>
+    ensures rule { rule_of result ≡ required_word name.now }
+    ensures own { result.global ≡ false }
+{
+    Arg::new(alloc, name)
+        .required(true)
+        .action(ArgAction::Set)
+        .help(help)
+}
+
+fn further<'a>(alloc: Global, name: &'a str, help: &'a str) -> Arg<'a>
+    ensures rule { rule_of result ≡ further_words name.now }
+    ensures own { result.global ≡ false }
+{
+    Arg::new(alloc, name).action(ArgAction::Append).help(help)
+}
+
+fn flag<'a>(alloc: Global, name: &'a str, letter: char, help: &'a str) -> Arg<'a>
+    ensures rule { rule_of result ≡ record (new_rule name.now) { short = Some letter; action = Some SetTrue } }
+    ensures own { result.global ≡ false }
+{
+    Arg::new(alloc, name)
+        .short(letter)
+        .action(ArgAction::SetTrue)
+        .help(help)
+}
+
+fn locks<'a>(alloc: Global) -> Arg<'a>
+    ensures rule { rule_of result ≡ locks_option }
+    ensures own { result.global ≡ false }
+{
+    Arg::new(alloc, "locks")
+        .long("locks")
+        .value_name("FILE")
+        .action(ArgAction::Set)
+        .help("a file of paths to lock, one on a line")
+}
+
+fn profile<'a>(alloc: Global) -> Arg<'a>
+    ensures rule { rule_of result ≡ profile_option }
+    ensures own { result.global ≡ false }
+{
+    Arg::new(alloc, "profile")
+        .short('p')
+        .value_name("FILE")
+        .action(ArgAction::Set)
+        .help("the file that lists the databases, in place of `profile`")
+}
