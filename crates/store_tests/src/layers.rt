@@ -1,4 +1,5 @@
 //! Layers of settings: what is seen through the databases of a profile, and how it is changed.
+mod again;
 mod calls;
 mod changing;
 mod engines;

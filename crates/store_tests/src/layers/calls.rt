@@ -57,7 +57,7 @@ fn seen(alloc: Global, engine: &Engine<'_>, path: &str) -> Result<String, Fail> 
 }
 
 /// Each name with a blank before it.
-fn joined(alloc: Global, names: &[String]) -> Result<String, Fail> {
+pub(super) fn joined(alloc: Global, names: &[String]) -> Result<String, Fail> {
     let mut text = String::new(alloc);
     for name in names {
         text.push(' ')?;
