@@ -27,17 +27,23 @@ fn is_valued(alloc: Global, syntax: &Syntax, tree: &Tree) -> Result<bool, Fail> 
     Ok(value_at(alloc, syntax, tree.type_text())?.equal(tree))
 }
 
-/// Whether the text is read in steps too: its tokens, its syntax, and the type and the value of
-/// that.
+/// Whether the syntax has the tree's type and value.
+fn is_syntax_of(alloc: Global, syntax: &Syntax, tree: &Tree) -> Result<bool, Fail> {
+    Ok(is_typed(alloc, syntax, tree)? && is_valued(alloc, syntax, tree)?)
+}
+
+/// Whether the text has tokens.
+fn has_tokens(alloc: Global, text: &str) -> Result<bool, Fail> {
+    Ok(!tokens(alloc, text)?.is_empty())
+}
+
+/// Whether the text is read in steps too: its tokens, its syntax, and the type and value of that.
 fn is_read_in_steps(alloc: Global, text: &str, tree: &Tree) -> Result<bool, Fail> {
     if text.len() > Syntax::MAX_TEXT_LEN {
         return Err(Fail::new("a text too long to be read"));
     }
-    if tokens(alloc, text)?.is_empty() {
-        return Ok(false);
-    }
     let syntax = parse(alloc, text)?;
-    Ok(is_typed(alloc, &syntax, tree)? && is_valued(alloc, &syntax, tree)?)
+    Ok(is_syntax_of(alloc, &syntax, tree)? && has_tokens(alloc, text)?)
 }
 
 /// Whether the text and these bytes are the view's, and both are written, read back and printed.
@@ -75,13 +81,18 @@ pub(crate) fn size(alloc: Global, line: &str) -> Result<String, Fail> {
     Ok(format!(in alloc; "{size}")?)
 }
 
-/// The bytes of the text's value as a serialised `v`, or why there are none.
-pub(crate) fn stored(alloc: Global, text: &str) -> Result<String, Fail> {
-    let tree = value(alloc, text)?;
-    match variant_bytes(alloc, &tree) {
+/// The bytes of a tree as a serialised `v`, or why there are none.
+fn stored_tree(alloc: Global, tree: &Tree) -> Result<String, Fail> {
+    match variant_bytes(alloc, tree) {
         Ok(bytes) => Ok(format!(in alloc; "{bytes:?}")?),
         Err(fault) => Ok(format!(in alloc; "{fault:?}")?),
     }
+}
+
+/// The bytes of the text's value as a serialised `v`, or why there are none.
+pub(crate) fn stored(alloc: Global, text: &str) -> Result<String, Fail> {
+    let tree = value(alloc, text)?;
+    stored_tree(alloc, &tree)
 }
 
 /// An array of so many strings, each its number.

@@ -4,17 +4,22 @@ use gv_text::{Syntax, SyntaxKind, SyntaxNode, parse};
 use std::alloc::Global;
 use std::test::Fail;
 
+/// What a syntax is, and what its parts are.
+fn told(alloc: Global, syntax: &Syntax) -> Result<String, Fail> {
+    let mut line = String::new(alloc);
+    push_kind(&mut line, &syntax.root().kind)?;
+    Ok(line)
+}
+
 /// What a text is, and what its parts are; or its fault.
 pub(crate) fn shown(alloc: Global, text: &str) -> Result<String, Fail> {
     if text.len() > Syntax::MAX_TEXT_LEN {
         return Err(Fail::new("a text too long to be read"));
     }
-    let mut line = String::new(alloc);
     match parse(alloc, text) {
-        Ok(syntax) => push_kind(&mut line, &syntax.root().kind)?,
-        Err(fault) => write!(line, "{fault}")?,
+        Ok(syntax) => told(alloc, &syntax),
+        Err(fault) => Ok(format!(in alloc; "{fault}")?),
     }
-    Ok(line)
 }
 
 fn push_kind(to: &mut String, kind: &SyntaxKind) -> Result<(), Fail> {

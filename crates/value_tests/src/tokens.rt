@@ -4,18 +4,21 @@ use gv_text::{Token, TokenKind, tokens};
 use std::alloc::Global;
 use std::test::Fail;
 
-/// The tokens of a text, or its fault.
-pub(crate) fn shown(alloc: Global, text: &str) -> Result<String, Fail> {
+/// The tokens and where they are.
+fn listed(alloc: Global, tokens: &[Token]) -> Result<String, Fail> {
     let mut line = String::new(alloc);
-    match tokens(alloc, text) {
-        Ok(found) => {
-            for token in &found {
-                push_token(&mut line, token)?;
-            }
-        }
-        Err(fault) => write!(line, "{fault}")?,
+    for token in tokens {
+        push_token(&mut line, token)?;
     }
     Ok(line)
+}
+
+/// The tokens of a text, or its fault.
+pub(crate) fn shown(alloc: Global, text: &str) -> Result<String, Fail> {
+    match tokens(alloc, text) {
+        Ok(found) => listed(alloc, found.as_slice()),
+        Err(fault) => Ok(format!(in alloc; "{fault}")?),
+    }
 }
 
 fn push_token(to: &mut String, token: &Token) -> Result<(), Fail> {

@@ -169,6 +169,16 @@ fn containers_have_parts(rt: HostRuntime) -> Result<(), Fail> {
     )
 }
 
+/// Whether the type is known to be open, and has this text.
+fn is_open(of: TypeStr<'_>, text: &str) -> bool {
+    of.is_known_open() && of.as_str() == text
+}
+
+/// Whether the first member is known to be open.
+fn first_is_open(of: TypeStr<'_>) -> Option<bool> {
+    of.members().next().map(TypeStr::is_known_open)
+}
+
 #[test]
 fn a_member_inherits_what_is_known(rt: HostRuntime) -> Result<(), Fail> {
     let pair = TypeStr::parse("(((as))y)")?;
@@ -177,12 +187,8 @@ fn a_member_inherits_what_is_known(rt: HostRuntime) -> Result<(), Fail> {
         None => first.as_open(),
         Some(_) => first,
     };
-    assert!(rt; open.is_known_open() && open.as_str() == "((as))");
-    let read = open.as_read();
-    assert!(rt; read.is_known_open() && read.as_str() == "((as))");
-    let known = open.members().next().map(TypeStr::is_known_open);
-    let unknown = first.members().next().map(TypeStr::is_known_open);
-    assert!(rt; (known, unknown) == (Some(true), Some(false)));
+    assert!(rt; is_open(open, "((as))") && is_open(open.as_read(), "((as))"));
+    assert!(rt; (first_is_open(open), first_is_open(first)) == (Some(true), Some(false)));
     Ok(())
 }
 

@@ -5,16 +5,21 @@ use gv_text::{Syntax, parse};
 use std::alloc::Global;
 use std::test::Fail;
 
+/// The type of a syntax, or its fault.
+fn typed(alloc: Global, syntax: &Syntax) -> Result<String, Fail> {
+    match type_of(alloc, syntax) {
+        Ok(of) => Ok(String::from_str(alloc, of.as_type().as_str())?),
+        Err(fault) => Ok(format!(in alloc; "{fault}")?),
+    }
+}
+
 /// The type of a text, or its fault.
 pub(crate) fn shown(alloc: Global, text: &str) -> Result<String, Fail> {
     if text.len() > Syntax::MAX_TEXT_LEN {
         return Err(Fail::new("a text too long to be read"));
     }
     let syntax = parse(alloc, text)?;
-    match type_of(alloc, &syntax) {
-        Ok(of) => Ok(String::from_str(alloc, of.as_type().as_str())?),
-        Err(fault) => Ok(format!(in alloc; "{fault}")?),
-    }
+    typed(alloc, &syntax)
 }
 
 #[test]

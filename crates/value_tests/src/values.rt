@@ -30,18 +30,28 @@ pub(crate) fn shown(alloc: Global, text: &str) -> Result<String, Fail> {
     }
 }
 
-/// The value of the text before ` at `, at the type after it; or its fault.
-pub(crate) fn shown_at(alloc: Global, line: &str) -> Result<String, Fail> {
-    let Some((text, of)) = line.split_once(" at ") else {
-        return Err(Fail::new("a line without a type"));
-    };
+/// The value of a syntax at this type, or its fault.
+fn at_type(alloc: Global, syntax: &Syntax, of: TypeStr<'_>) -> Result<String, Fail> {
+    match value_at(alloc, syntax, of) {
+        Ok(tree) => printed(alloc, &tree),
+        Err(fault) => Ok(format!(in alloc; "{fault}")?),
+    }
+}
+
+/// The value of a text at this type, or its fault.
+fn text_at(alloc: Global, text: &str, of: TypeStr<'_>) -> Result<String, Fail> {
     if text.len() > Syntax::MAX_TEXT_LEN {
         return Err(Fail::new("a text too long to be read"));
     }
     let syntax = parse(alloc, text)?;
-    match value_at(alloc, &syntax, TypeStr::parse(of)?) {
-        Ok(tree) => printed(alloc, &tree),
-        Err(fault) => Ok(format!(in alloc; "{fault}")?),
+    at_type(alloc, &syntax, of)
+}
+
+/// The value of the text before ` at `, at the type after it; or its fault.
+pub(crate) fn shown_at(alloc: Global, line: &str) -> Result<String, Fail> {
+    match line.split_once(" at ") {
+        Some((text, of)) => text_at(alloc, text, TypeStr::parse(of)?),
+        None => Err(Fail::new("a line without a type")),
     }
 }
 
