@@ -1,6 +1,8 @@
 -- What clap is told of a command line, setting by setting.
-use Rattle.std.proofs.Common.{◌≡◌, ◌&&◌, Bool, true, false, not, refl}
-use Rattle.clap.specs.Words.{App}
+use Rattle.std.proofs.Common.{◌≡◌, ◌&&◌, Bool, List, [], ◌∷◌, true, false, not, refl}
+use Rattle.clap.specs.Words.{App, with_rule}
+use Rattle.dconf_command.specs.Taken.{rule_of_word, with_words}
+use Rattle.dconf_command.specs.declared.word.Word.{Word}
 
 -- the two settings of `dconfdb`
 abbrev pub versioned : App → App
@@ -16,3 +18,8 @@ second false b e = cc
 pub first_not : (a b : Bool) → (not a && b) ≡ true → a ≡ false
 first_not true b e = cc
 first_not false b e = refl
+
+-- words leave a line plain
+pub plain_words : (a : App) (words : List Word) → (with_words a words).top.is_plain ≡ a.top.is_plain
+plain_words a [] = refl
+plain_words a (word ∷ rest) = plain_words (with_rule a (rule_of_word word)) rest

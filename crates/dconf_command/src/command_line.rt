@@ -1,12 +1,119 @@
 //! The command line of `dconfdb`, by clap's builder.
-ghost use Rattle.std.specs.Prelude.{◌≡◌, codes, true, IfOk};
-ghost use Rattle.clap.specs.Words.{App, app_of, new_app, with_subcommand};
-ghost use Rattle.dconf_command.specs.CommandLine.{check_line, command_line, compile_line, directory_line, load_line, origin_line, read_line, repair_line, reset_line, show_line, write_line};
+ghost use Rattle.std.specs.Prelude.{◌≡◌, IfOk};
+ghost use Rattle.clap.specs.Words.{app_of, new_app, with_subcommand};
+ghost use Rattle.dconf_command.specs.CommandLine.{command_line};
 ghost use Rattle.dconf_command.specs.Taken.{with_words};
 
 use crate::help;
 use crate::word::{self, Word};
 use std::alloc::{AllocError, Global};
+
+/// A command, as clap is told of it.
+#[derive(Clone, Copy)]
+struct Line<'a> {
+    name: &'a str,
+    /// What it does, in a line.
+    about: &'a str,
+    /// What comes behind its long help.
+    more: &'a str,
+    words: &'a [Word<'a>],
+}
+
+/// `show TYPE FILE`.
+const SHOW: Line<'static> = Line {
+    name: "show",
+    about: "Prints the bytes of FILE, read as a value of the GVariant type TYPE",
+    more: help::SHOW,
+    words: &[word::TYPE, word::FILE],
+};
+
+/// `check FILE`.
+const CHECK: Line<'static> = Line {
+    name: "check",
+    about: "Says whether FILE is a sound database",
+    more: help::CHECK,
+    words: &[word::FILE],
+};
+
+/// `compile OUT [--locks FILE] [KEYFILE..]`.
+const COMPILE: Line<'static> = Line {
+    name: "compile",
+    about: "Makes the database OUT of keyfiles, taken in the byte order of their names",
+    more: help::COMPILE,
+    words: &[word::OUT, Word::Locks, word::KEYFILE],
+};
+
+/// `read [-d] [-p FILE] KEY`.
+const READ: Line<'static> = Line {
+    name: "read",
+    about: "Prints the value that is seen at KEY, and nothing where there is none",
+    more: help::READ,
+    words: &[word::KEY, word::DEFAULT, Word::Profile],
+};
+
+/// `origin [-p FILE] KEY`.
+const ORIGIN: Line<'static> = Line {
+    name: "origin",
+    about: "Prints the index and the line of the database whose value is seen at KEY",
+    more: help::ORIGIN,
+    words: &[word::KEY, Word::Profile],
+};
+
+/// `repair FILE OUT`.
+const REPAIR: Line<'static> = Line {
+    name: "repair",
+    about: "Makes a sound database OUT of what can be saved of FILE",
+    more: help::REPAIR,
+    words: &[word::FILE, word::OUT],
+};
+
+/// `list [-p FILE] DIR`.
+const LIST: Line<'static> = Line {
+    name: "list",
+    about: "Prints the names right below DIR, one on a line; a directory's ends in /",
+    more: help::LIST,
+    words: &[word::DIR, Word::Profile],
+};
+
+/// `list-locks [-p FILE] DIR`.
+const LIST_LOCKS: Line<'static> = Line {
+    name: "list-locks",
+    about: "Prints the locked paths at or below DIR, one on a line",
+    more: help::LIST_LOCKS,
+    words: &[word::DIR, Word::Profile],
+};
+
+/// `dump [-p FILE] DIR`.
+const DUMP: Line<'static> = Line {
+    name: "dump",
+    about: "Prints the values that are seen below DIR, as a keyfile",
+    more: help::DUMP,
+    words: &[word::DIR, Word::Profile],
+};
+
+/// `write [-p FILE] KEY VALUE`.
+const WRITE: Line<'static> = Line {
+    name: "write",
+    about: "Sets the user's value of KEY to VALUE",
+    more: help::WRITE,
+    words: &[word::KEY, word::VALUE, Word::Profile],
+};
+
+/// `reset [-f] [-p FILE] PATH`.
+const RESET: Line<'static> = Line {
+    name: "reset",
+    about: "Takes away the user's value of the key PATH, or with -f those of all keys below the directory PATH",
+    more: help::RESET,
+    words: &[word::PATH, word::WHOLE, Word::Profile],
+};
+
+/// `load [-f] [-p FILE] DIR`.
+const LOAD: Line<'static> = Line {
+    name: "load",
+    about: "Sets the user's values of the keys below DIR to those of the keyfile on input",
+    more: help::LOAD,
+    words: &[word::DIR, word::LEAVING, Word::Profile],
+};
 
 /// The whole command line.
 pub(crate) fn dconfdb<'a>(alloc: Global) -> Result<clap::Command<'a>, AllocError>
@@ -19,30 +126,36 @@ pub(crate) fn dconfdb<'a>(alloc: Global) -> Result<clap::Command<'a>, AllocError
         .after_long_help(help::PROGRAM)
         .version("0.1.0")
         .subcommand_required(true);
-    let line = with(line, show(alloc))?;
-    let line = with(line, check(alloc))?;
-    let line = with(line, compile(alloc))?;
-    let line = with(line, read(alloc))?;
-    let line = with(line, origin(alloc))?;
-    let line = with(line, repair(alloc))?;
-    let line = with(line, list(alloc))?;
-    let line = with(line, list_locks(alloc))?;
-    let line = with(line, dump(alloc))?;
-    let line = with(line, write(alloc))?;
-    let line = with(line, reset(alloc))?;
-    with(line, load(alloc))
+    let line = with(alloc, line, SHOW)?;
+    let line = with(alloc, line, CHECK)?;
+    let line = with(alloc, line, COMPILE)?;
+    let line = with(alloc, line, READ)?;
+    let line = with(alloc, line, ORIGIN)?;
+    let line = with(alloc, line, REPAIR)?;
+    let line = with(alloc, line, LIST)?;
+    let line = with(alloc, line, LIST_LOCKS)?;
+    let line = with(alloc, line, DUMP)?;
+    let line = with(alloc, line, WRITE)?;
+    let line = with(alloc, line, RESET)?;
+    with(alloc, line, LOAD)
 }
 
-// The line with one more command, where that could be made. It takes the result, since a line that
-// is held across a `?` is dear to prove, and a caller of its own would hold it across each.
+// The line with one more command.
 fn with<'a>(
+    alloc: Global,
     line: clap::Command<'a>,
-    command: Result<clap::Command<'a>, AllocError>,
+    command: Line<'a>,
 ) -> Result<clap::Command<'a>, AllocError>
-    ensures { (made : App) → made.top.is_plain ≡ true → IfOk command.entry (λ c. app_of c ≡ made)
-        → IfOk result (λ c. app_of c ≡ with_subcommand (app_of line.entry) made.top) }
+    ensures { IfOk result (λ c. app_of c ≡ with_subcommand (app_of line.entry)
+        (with_words (new_app command.entry.name.now) command.entry.words.now).top) }
 {
-    line.subcommand(command?)
+    line.subcommand(named(
+        alloc,
+        command.name,
+        command.about,
+        command.more,
+        command.words,
+    )?)
 }
 
 // A command of this name with its words, what it does in a line, and `more` behind its long help.
@@ -62,160 +175,4 @@ fn named<'a>(
         command = command.arg(word.argument(alloc))?;
     }
     Ok(command)
-}
-
-// `show TYPE FILE`.
-fn show<'a>(alloc: Global) -> Result<clap::Command<'a>, AllocError>
-    ensures { IfOk result (λ c. app_of c ≡ show_line) }
-{
-    named(
-        alloc,
-        "show",
-        "Prints the bytes of FILE, read as a value of the GVariant type TYPE",
-        help::SHOW,
-        &[word::TYPE, word::FILE],
-    )
-}
-
-// `check FILE`.
-fn check<'a>(alloc: Global) -> Result<clap::Command<'a>, AllocError>
-    ensures { IfOk result (λ c. app_of c ≡ check_line) }
-{
-    named(
-        alloc,
-        "check",
-        "Says whether FILE is a sound database",
-        help::CHECK,
-        &[word::FILE],
-    )
-}
-
-// `compile OUT [--locks FILE] [KEYFILE..]`.
-fn compile<'a>(alloc: Global) -> Result<clap::Command<'a>, AllocError>
-    ensures { IfOk result (λ c. app_of c ≡ compile_line) }
-{
-    named(
-        alloc,
-        "compile",
-        "Makes the database OUT of keyfiles, taken in the byte order of their names",
-        help::COMPILE,
-        &[word::OUT, Word::Locks, word::KEYFILE],
-    )
-}
-
-// `read [-d] [-p FILE] KEY`.
-fn read<'a>(alloc: Global) -> Result<clap::Command<'a>, AllocError>
-    ensures { IfOk result (λ c. app_of c ≡ read_line) }
-{
-    named(
-        alloc,
-        "read",
-        "Prints the value that is seen at KEY, and nothing where there is none",
-        help::READ,
-        &[word::KEY, word::DEFAULT, Word::Profile],
-    )
-}
-
-// `origin [-p FILE] KEY`.
-fn origin<'a>(alloc: Global) -> Result<clap::Command<'a>, AllocError>
-    ensures { IfOk result (λ c. app_of c ≡ origin_line) }
-{
-    named(
-        alloc,
-        "origin",
-        "Prints the index and the line of the database whose value is seen at KEY",
-        help::ORIGIN,
-        &[word::KEY, Word::Profile],
-    )
-}
-
-// `repair FILE OUT`.
-fn repair<'a>(alloc: Global) -> Result<clap::Command<'a>, AllocError>
-    ensures { IfOk result (λ c. app_of c ≡ repair_line) }
-{
-    named(
-        alloc,
-        "repair",
-        "Makes a sound database OUT of what can be saved of FILE",
-        help::REPAIR,
-        &[word::FILE, word::OUT],
-    )
-}
-
-// `list [-p FILE] DIR`.
-fn list<'a>(alloc: Global) -> Result<clap::Command<'a>, AllocError>
-    ensures { IfOk result (λ c. app_of c ≡ directory_line (codes "list")) }
-{
-    named(
-        alloc,
-        "list",
-        "Prints the names right below DIR, one on a line; a directory's ends in /",
-        help::LIST,
-        &[word::DIR, Word::Profile],
-    )
-}
-
-// `list-locks [-p FILE] DIR`.
-fn list_locks<'a>(alloc: Global) -> Result<clap::Command<'a>, AllocError>
-    ensures { IfOk result (λ c. app_of c ≡ directory_line (codes "list-locks")) }
-{
-    named(
-        alloc,
-        "list-locks",
-        "Prints the locked paths at or below DIR, one on a line",
-        help::LIST_LOCKS,
-        &[word::DIR, Word::Profile],
-    )
-}
-
-// `dump [-p FILE] DIR`.
-fn dump<'a>(alloc: Global) -> Result<clap::Command<'a>, AllocError>
-    ensures { IfOk result (λ c. app_of c ≡ directory_line (codes "dump")) }
-{
-    named(
-        alloc,
-        "dump",
-        "Prints the values that are seen below DIR, as a keyfile",
-        help::DUMP,
-        &[word::DIR, Word::Profile],
-    )
-}
-
-// `write [-p FILE] KEY VALUE`.
-fn write<'a>(alloc: Global) -> Result<clap::Command<'a>, AllocError>
-    ensures { IfOk result (λ c. app_of c ≡ write_line) }
-{
-    named(
-        alloc,
-        "write",
-        "Sets the user's value of KEY to VALUE",
-        help::WRITE,
-        &[word::KEY, word::VALUE, Word::Profile],
-    )
-}
-
-// `reset [-f] [-p FILE] PATH`.
-fn reset<'a>(alloc: Global) -> Result<clap::Command<'a>, AllocError>
-    ensures { IfOk result (λ c. app_of c ≡ reset_line) }
-{
-    named(
-        alloc,
-        "reset",
-        "Takes away the user's value of the key PATH, or with -f those of all keys below the directory PATH",
-        help::RESET,
-        &[word::PATH, word::WHOLE, Word::Profile],
-    )
-}
-
-// `load [-f] [-p FILE] DIR`.
-fn load<'a>(alloc: Global) -> Result<clap::Command<'a>, AllocError>
-    ensures { IfOk result (λ c. app_of c ≡ load_line) }
-{
-    named(
-        alloc,
-        "load",
-        "Sets the user's values of the keys below DIR to those of the keyfile on input",
-        help::LOAD,
-        &[word::DIR, word::LEAVING, Word::Profile],
-    )
 }
