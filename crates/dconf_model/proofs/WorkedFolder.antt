@@ -1,14 +1,13 @@
 -- A worked folder: its profile names the user's database, which isn't there yet. The laws of runs
 -- speak of it.
-use Rattle.std.specs.Prelude.{◌≡◌, List, ℕ, [], ◌∷◌, Option, None, codes, length, refl}
+use Rattle.std.specs.Prelude.{◌≡◌, List, ℕ, [], ◌∷◌, None, codes, length, refl}
 use Rattle.std.specs.Str.{is_utf8, chars}
 use Rattle.std.specs.Str.Lossy.{utf8_valid_len}
 use Rattle.std.proofs.Common.{ap, subst, arith}
 use lib.Utf8.{encode as encode_char}
-use Rattle.gv_model.specs.Tree.{Tree}
 use Rattle.dconf_model.specs.Profiles.{Database}
 use Rattle.dconf_model.specs.Profiles.Kind.{user_db}
-use Rattle.dconf_model.specs.Folders.{Event, MayLeaveOf, IsSettled, read_content}
+use Rattle.dconf_model.specs.Folders.{Event, MayLeaveOf, read_content}
 use Rattle.dconf_model.specs.Folders.Event.{create, append, sync, sync_folder}
 use Rattle.dconf_model.specs.Stores.{OwnValues, nothing_given}
 use Rattle.dconf_model.specs.Programs.{FolderStands, AreApart}
