@@ -192,11 +192,14 @@ compile_gives out lock_name names input old new output (inl a) =
     done_by files locks files_are locks_are made =
         let r : Replaced old new out made.bytes = subst (λ change. Did change as_meant old new) (ap (λ (o : Outcome). o.change) made.is) a.did in (
           ap (λ (o : Output). o.status) (a.output_is ∙ ap (λ (o : Outcome). o.output) made.is),
-          (made.g, record {
-            sources = record { files = files; locks = locks; files_are = files_are; locks_are = locks_are; given_is = made.given_is };
-            gives = (Some made.bytes, ap read_of r.read ∙ made.fits, compiled_gives files locks made.g made.bytes made.given_is made.compiled);
-            others = λ name apart. r.others.others name apart.own apart.fresh;
-          }),
+          (
+            made.g,
+            record {
+              sources = record { files = files; locks = locks; files_are = files_are; locks_are = locks_are; given_is = made.given_is };
+              gives = (Some made.bytes, ap read_of r.read ∙ made.fits, compiled_gives files locks made.g made.bytes made.given_is made.compiled);
+              others = λ name apart. r.others.others name apart.own apart.fresh;
+            },
+          ),
         )
 
 -- ---- the folder afterwards

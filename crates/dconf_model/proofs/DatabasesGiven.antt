@@ -41,22 +41,29 @@ files_give (item ∷ items) (g ∷ gs) (s ∷ ss) h k =
 -- ---- kinds of databases
 
 pub missing_gives_nothing : MissingGivesNothing
-missing_gives_nothing = (no_settings, refl, record {
-  values = λ path. ap (option_and_then held_value) (get-empty (slice_cmp nat_cmp) path);
-  locks = λ path. ap is_some (get-empty (slice_cmp nat_cmp) path);
-})
+missing_gives_nothing = (
+  no_settings,
+  refl,
+  record {
+    values = λ path. ap (option_and_then held_value) (get-empty (slice_cmp nat_cmp) path);
+    locks = λ path. ap is_some (get-empty (slice_cmp nat_cmp) path);
+  },
+)
 
 pub compiled_gives : CompiledGives
 compiled_gives files locks g file e h =
     let by : IsMadeOfGiven (Ok g) (first_file (taken files)) (Ok file) =
     subst (λ (r : Result Given FileFault). IsMadeOfGiven r (first_file (taken files)) (Ok file)) e h in
-    let written = written_says_settings by.0 file (locked_paths files locks g by.0 e by.1) by.2 in
-    (by.0, (by.2.opens, by.2.sound, written), record {
-      values = λ path.
-          ap (option_and_then held_value) (by.1.values path)
-          ∙ held_of_stored (last_value g.values path) (last_whole g.values path (given_whole files locks g e));
-      locks = by.1.locks;
-    })
+    let written = written_says_settings by.0 file (locked_paths files locks g by.0 e by.1) by.2 in (
+      by.0,
+      (by.2.opens, by.2.sound, written),
+      record {
+        values = λ path.
+            ap (option_and_then held_value) (by.1.values path)
+            ∙ held_of_stored (last_value g.values path) (last_whole g.values path (given_whole files locks g e));
+        locks = by.1.locks;
+      },
+    )
 
 -- ---- levels
 

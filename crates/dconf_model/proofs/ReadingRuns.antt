@@ -18,7 +18,8 @@ use Rattle.dconf_model.specs.Commands.Command.{show, read, list, list_locks, wri
 use Rattle.dconf_model.specs.Profiles.{Database, database_file, is_written, profile_of}
 use Rattle.dconf_model.specs.Reads.{FileRead, ReadResults, Input, steady}
 use Rattle.dconf_model.specs.Reads.FileRead.{no_file, holds, over_size, failed}
-use Rattle.dconf_model.specs.Outcomes.{Gives, Outcome, Output, IsOutcome, UnlessFault, WithType, WithFile, OrNoRead, OrNoDatabase, OrLine, WithDatabases, WithLayers, WithStore, Checks, check_output, shown_outcome, shown_if_any, printed_or, print_fault, done, lines_text, dump_of, dump_output, settings_at, origin_text}
+use Rattle.dconf_model.specs.Outcomes.{Gives, Outcome, Output, IsOutcome, UnlessFault, WithType, WithFile, OrNoRead, OrNoDatabase, OrLine, WithDatabases, WithLayers}
+use Rattle.dconf_model.specs.Outcomes.{WithStore, Checks, check_output, shown_outcome, shown_if_any, printed_or, print_fault, done, lines_text, dump_of, dump_output, settings_at, origin_text}
 use Rattle.dconf_model.specs.Runs.{RanCalmly, Did}
 use Rattle.dconf_model.specs.Runs.RunEnding.{as_meant}
 use Rattle.dconf_model.specs.Programs.{OnlyReads}

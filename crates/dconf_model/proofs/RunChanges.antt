@@ -100,8 +100,12 @@ changing_of reads profile (load force directory file) input o same is =
         | inl why ↦ inl why
         | inr text ↦ elim (past_line (codes "input") (loaded directory input.bytes) _ o text) [
           | inl why ↦ inl why
-          | inr rows ↦ inr (load_values rows.0 force, paths_of rows.0, ap (rows_change force) rows.1,
-              subst (λ file. Changes reads file (paths_of rows.0) (load_values rows.0 force) o) same rows.2)
+          | inr rows ↦ inr (
+            load_values rows.0 force,
+            paths_of rows.0,
+            ap (rows_change force) rows.1,
+            subst (λ file. Changes reads file (paths_of rows.0) (load_values rows.0 force) o) same rows.2,
+          )
         ]
       ]
     ]
@@ -162,9 +166,12 @@ reads_kept old new user (d ∷ ds) (item ∷ items) same apart h =
 
 -- a file of saved values is their layer
 pub saved_layer : (first : Settings) (later : List Settings) (bytes : List ℕ) → IsDatabaseOf (saved (first ∷ later)) bytes → IsLayer (Some bytes) (saved (first ∷ later))
-saved_layer first later bytes made =
-    (made.opens, made.sound, written_says_settings (saved (first ∷ later)) bytes
-    (λ path there. absurd (no_truth (sym (ap is_some (get-empty (slice_cmp nat_cmp) path)) ∙ there))) made)
+saved_layer first later bytes made = (
+  made.opens,
+  made.sound,
+  written_says_settings (saved (first ∷ later)) bytes
+      (λ path there. absurd (no_truth (sym (ap is_some (get-empty (slice_cmp nat_cmp) path)) ∙ there))) made,
+)
 
 pub read_back : (bytes : List ℕ) (s : Settings) → IsDatabaseOf s bytes → read_of (Some bytes) ≡ holds bytes
 read_back bytes s made = ap (λ b. cond b over_size (holds bytes)) (not_less longest_file (length bytes) made.fits)
@@ -208,8 +215,10 @@ module _ (profile : List ℕ) (d : Database) (ds : List Database) (own : OwnValu
         names = h.names;
         first = Some bytes;
         others = h.others;
-        read = (ap read_of r.read ∙ read_back bytes (saved m.layers) made,
-          reads_kept old new (database_file d) ds h.others (λ other a. r.others.others other a.own a.fresh) apart.databases h.read.1);
+        read = (
+          ap read_of r.read ∙ read_back bytes (saved m.layers) made,
+          reads_kept old new (database_file d) ds h.others (λ other a. r.others.others other a.own a.fresh) apart.databases h.read.1,
+        );
         opened = record { layers = again.settings ∷ again.later; written = h.opened.written };
         layers = again.layers;
         written = h.written;
@@ -228,15 +237,15 @@ change_is_kept profile d ds own gs command input old new output apart of h (inl 
       | inl why ↦ refusal why
       | inr c ↦ elim (comes_to (apply h.opened c.0) c.1 (database_file d) a.outcome
           (store_is_opened (read_content old) profile d ds own gs h (λ databases l. Saves c.1 (user_file databases) (apply l c.0)) a.outcome c.3)) [
-        | inl why ↦ refusal why
-        | inr made ↦
-            subst (λ n. FolderStands (read_content new) profile d ds (own_after gs own (if_done n (asked_change command input))) gs)
-            (sym (ap (λ (o : Output). o.status) (a.output_is ∙ ap (λ (o : Outcome). o.output) made.4)))
-            (subst (λ cs. FolderStands (read_content new) profile d ds (own_after gs own cs) gs) (sym c.2)
-            (replaced profile d ds own gs old new h apart c.0 made.0 made.1
-            (subst (AllByRecursion IsWholeChange) c.2 (asked_whole profile command input of)).0 made.2 made.3
-            (subst (λ change. Did change as_meant old new) (ap (λ (o : Outcome). o.change) made.4) a.did)))
-      ]
+            | inl why ↦ refusal why
+            | inr made ↦
+                subst (λ n. FolderStands (read_content new) profile d ds (own_after gs own (if_done n (asked_change command input))) gs)
+                (sym (ap (λ (o : Output). o.status) (a.output_is ∙ ap (λ (o : Outcome). o.output) made.4)))
+                (subst (λ cs. FolderStands (read_content new) profile d ds (own_after gs own cs) gs) (sym c.2)
+                (replaced profile d ds own gs old new h apart c.0 made.0 made.1
+                (subst (AllByRecursion IsWholeChange) c.2 (asked_whole profile command input of)).0 made.2 made.3
+                (subst (λ change. Did change as_meant old new) (ap (λ (o : Outcome). o.change) made.4) a.did)))
+          ]
     ]
   where
     refusal : Refuses a.outcome → FolderStands (read_content new) profile d ds (own_after gs own (if_done output.status (asked_change command input))) gs

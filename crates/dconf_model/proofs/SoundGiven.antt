@@ -74,14 +74,16 @@ locks_at p (k ∷ ks) = ap (λ b. b || list_any (bytes_eq p) ks) (eq_turned p k)
 
 -- settings give rows and locks
 pub gives_some : (s : Settings) → (g : Given) × GivesRows s g
-gives_some s =
-    (record { values = rows_at s.values (keys s.values); locks = map (λ k. record { path = k; line = 0 }) (keys s.locks) }, record {
-      values = λ path.
-          where_there (get s.values path)
-          ∙ (ap (λ b. cond b (option_or (value_at s.values path) None) None) (key_in s.values path)
-          ∙ sym (rows_from None s.values (keys s.values) path));
-      locks = λ path. key_in s.locks path ∙ locks_at path (keys s.locks);
-    })
+gives_some s = (
+  record { values = rows_at s.values (keys s.values); locks = map (λ k. record { path = k; line = 0 }) (keys s.locks) },
+  record {
+    values = λ path.
+        where_there (get s.values path)
+        ∙ (ap (λ b. cond b (option_or (value_at s.values path) None) None) (key_in s.values path)
+        ∙ sym (rows_from None s.values (keys s.values) path));
+    locks = λ path. key_in s.locks path ∙ locks_at path (keys s.locks);
+  },
+)
 
 pub sound_gives : SoundGives
 sound_gives file database sound =

@@ -122,7 +122,7 @@ opened_by : (first : MaybeBytes) (others : List MaybeBytes) (g : Given) (gs : Li
 opened_by first others g gs l [] e k h = absurd k
 opened_by first others g gs l (s ∷ ss) e k h =
     let give = files_give (first ∷ others) (g ∷ gs) (s ∷ ss) h.gives k in
-    record { first = s; later = ss; layers = e; others_are = k.1; gives = give.1; own_is = give.0.values; }
+    record { first = s; later = ss; layers = e; others_are = k.1; gives = give.1; own_is = give.0.values }
 
 pub opened_stands : (first : MaybeBytes) (others : List MaybeBytes) (g : Given) (gs : List Given) (l : Layers) → IsOpenedStore first others g gs l → Stands others (last_value g.values) gs l
 opened_stands first others g gs l h = opened_by first others g gs l l.layers refl h.layers h

@@ -183,10 +183,10 @@ number_text n d ds u l =
     let v = number_after 16 0 digits in
     choose (IsTextStep (92 ∷ d ∷ ds)) (length digits == suc n && is_scalar v) (denotes (encode_utf8 v) (2 + suc n)) (faulty bad_escape 0 (2 + length digits))
     (λ e. (let both = and_parts (length digits == suc n) (is_scalar v) e in
-        let last = last_digit (is_digit_of 16) n ds (eqb-true (length digits) (suc n) both.0) in
-        let rest : IsUtf8 ds = after_ascii d ds l (after_ascii 92 (d ∷ ds) (omega arith) u) in
-        let two : 2 + suc n ≡ suc (suc (suc n)) = omega arith in
-        inl (IsUtf8-encode v (scalar_of v both.1), subst (λ n. IsUtf8 (drop n (92 ∷ d ∷ ds))) (sym two) (drop_ascii ds n last.0 (digit_small 16 (get_or ds n 0) (omega arith) last.1) rest))))
+    let last = last_digit (is_digit_of 16) n ds (eqb-true (length digits) (suc n) both.0) in
+    let rest : IsUtf8 ds = after_ascii d ds l (after_ascii 92 (d ∷ ds) (omega arith) u) in
+    let two : 2 + suc n ≡ suc (suc (suc n)) = omega arith in
+    inl (IsUtf8-encode v (scalar_of v both.1), subst (λ n. IsUtf8 (drop n (92 ∷ d ∷ ds))) (sym two) (drop_ascii ds n last.0 (digit_small 16 (get_or ds n 0) (omega arith) last.1) rest))))
     (λ e. tt)
 
 abbrev SmallLetter : ℕ → Option ℕ → Type 0
@@ -239,7 +239,7 @@ part_text quote c cs u =
     (λ e. choose (IsTextStep (c ∷ cs)) (c == 0) (faulty bad_token 0 1) other (λ f. tt)
     (λ f. choose (IsTextStep (c ∷ cs)) (c == 92) (escape_in false cs) (denotes (c ∷ []) 1)
     (λ g. (let same = eqb-true c 92 g in
-        subst (λ c. IsTextStep (c ∷ cs) (escape_in false cs)) (sym same) (escape_in_text cs (subst (λ c. IsUtf8 (c ∷ cs)) same u))))
+    subst (λ c. IsTextStep (c ∷ cs) (escape_in false cs)) (sym same) (escape_in_text cs (subst (λ c. IsUtf8 (c ∷ cs)) same u))))
     (λ g. own_byte c 1 (c ∷ cs) u)))
 
 -- ---- a string

@@ -344,11 +344,17 @@ module _ (profile : List ℕ) (d : Database) (ds : List Database) (gs : List Giv
         (refused, nothing.0, ((λ c m. subst (λ es. MayLeave es (database_file d) c) nothing.1 m), ap (λ es. read_content es (database_file d)) nothing.1))
     step_of new output (inr m) = elim m.how [
       | inl all ↦ (done, all.0, (Some m.bytes, (made_by new output m (Some m.bytes) refl).0, all.1.settled, all.1.read))
-      | inr some ↦ (faulted, some.0, (whole_of new (moment_of new output m some.1.any_moment some.1.whole),
+      | inr some ↦ (
+        faulted,
+        some.0,
+        (
+          whole_of new (moment_of new output m some.1.any_moment some.1.whole),
           elim some.1.whole.own [
             | inl same ↦ inl same
             | inr left ↦ inr (made_by new output m (read_content new (database_file d)) left).0
-          ]))
+          ],
+        ),
+      )
     ]
 
     stopped_step : (cut new : List Event) → Moment old cut (command, input) → CrashedSince old cut new →
@@ -486,8 +492,12 @@ nothing_is_lost profile d ds own gs attempts old new c apart h settled of came l
     let st = out.stands true in (
       out.kept,
       out.are,
-      (out.can.settings, out.can.layer, λ path.
-          ap (λ (s : Settings). option_and_then held_value (get s.values path)) (ap first_of_layers st.layers) ∙ st.own_is path),
+      (
+        out.can.settings,
+        out.can.layer,
+        λ path.
+            ap (λ (s : Settings). option_and_then held_value (get s.values path)) (ap first_of_layers st.layers) ∙ st.own_is path,
+      ),
     )
 
 pub next_run_finds_all : NextRunFindsAll

@@ -61,9 +61,10 @@ split_short n before (c ∷ text) u l = go (c == 10) refl
         AllByRecursion (IsShortText n) (onto (before ++ c ∷ []) (slice_split (λ c. c == 10) text)) →
         AllByRecursion (IsShortText n) (onto before (cond b ([] ∷ slice_split (λ c. c == 10) text) (onto_first c (slice_split (λ c. c == 10) text))))
     go true e ends on =
-        let parts = utf8_beside before c text (feed_is_ascii c e) u in
-        (record { utf8 = subst IsUtf8 (sym (append-nil before)) parts.0; short = omega (arith, l, length-append before []) },
-        onto_none n (slice_split (λ c. c == 10) text) (ends parts.1))
+        let parts = utf8_beside before c text (feed_is_ascii c e) u in (
+          record { utf8 = subst IsUtf8 (sym (append-nil before)) parts.0; short = omega (arith, l, length-append before []) },
+          onto_none n (slice_split (λ c. c == 10) text) (ends parts.1),
+        )
     go false e ends on = subst (AllByRecursion (IsShortText n)) (onto_byte before c (slice_split (λ c. c == 10) text)) on
 
 no_end : (n : ℕ) (parts : List (List ℕ)) → AllByRecursion (IsShortText n) parts → AllByRecursion (IsShortText n) (without_empty_end parts)
