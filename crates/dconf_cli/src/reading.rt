@@ -9,7 +9,7 @@ use dconf_disk::{Folder, FolderFault};
 use std::alloc::Global;
 
 /// A file that was read, by its name.
-#[derive(Debug, Drop)]
+#[derive(Drop)]
 pub(crate) struct NamedFile<'a> {
     pub(crate) name: &'a str,
     pub(crate) bytes: Vec<u8>,
