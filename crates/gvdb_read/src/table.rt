@@ -10,7 +10,8 @@ use crate::fault::OpenFault;
 use crate::format::{HEAD_LEN, HEADER_LEN, ItemRecord, Kind, RECORD_LEN, SIGNATURE, read_u32};
 use crate::item::Item;
 
-/// A table that opened, in the file where it was found.
+/// A table that opened, in the file where it was found. It may be handed to C and back.
+#[repr(C)]
 #[derive(Clone, Copy, Debug)]
 pub struct Table<'a> {
     pub(crate) file: &'a [u8],
