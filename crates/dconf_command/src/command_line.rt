@@ -140,7 +140,8 @@ pub(crate) fn dconfdb<'a>(alloc: Global) -> Result<clap::Command<'a>, AllocError
     with(alloc, line, LOAD)
 }
 
-// The line with one more command.
+// The line with one more command. It makes the command itself, so that a caller of many holds no
+// line across a `?`: that is dear to prove.
 fn with<'a>(
     alloc: Global,
     line: clap::Command<'a>,
