@@ -1,7 +1,5 @@
 -- The texts of basic values.
 use Rattle.std.proofs.Common.{◌≡◌, ◌++◌, ℕ, List, [], Option, Some, None, Bool, true, false, cond, refl, sym, ap, ◌∙◌, append_assoc, length, ◌==◌, subst}
-use Rattle.std.specs.Result.{is_ok, OnOk}
-use Rattle.std.specs.declared.result.Result.{Result}
 use Rattle.std.proofs.lemmas.Option.{none-some}
 use Rattle.gv_model.specs.Ty.{Ty, Basic}
 use Rattle.gv_model.specs.Ty.Ty.{basic}
@@ -15,11 +13,7 @@ use Rattle.gv_model.specs.BasicValue.{basic_value, basic_of_size, text_or_defaul
 use Rattle.gv_model.specs.Decode.{decode}
 use Rattle.gv_model.specs.Printed.{text_of, word, when, ends_in_nothing, figures, holds_double, is_double_type}
 use Rattle.gv_model.proofs.DecodeLaws.{decode_children}
-use Rattle.gv_types.specs.Classes.{basic_of}
-use Rattle.gv_types.specs.declared.class.BasicType.{BasicType}
-use Rattle.gv_types.specs.declared.class.BasicType.TheVariants.{Double}
 use Rattle.gv_text.specs.Printing.{byte_string_of, figures_of}
-use Rattle.gv_text.proofs.PlainTexts.{written_as}
 
 -- ---- a value of a basic type
 
@@ -81,15 +75,13 @@ of_basic t k b e = subst (λ (u : Ty). IsOf k (decode u b)) (sym e) (of_decoded 
 
 -- ---- what the code wrote
 
-pub wrote_figures : {T E : Type 0} (r : Result T E) (k : Basic) (n : ℕ) (v : Tree) (old new s : List ℕ) → v ≡ number k n → new ≡ cond (is_ok r) (old ++ s) old → s ≡ figures k n → OnOk r (new ≡ old ++ figures_of v)
-wrote_figures r k n v old new s e wrote is = written_as r old new s (figures_of v) wrote (is ∙ sym (ap figures_of e))
+pub wrote_number : (k : Basic) (n : ℕ) (v : Tree) (old new s : List ℕ) → v ≡ number k n → is_double_type k ≡ false → new ≡ old ++ s → s ≡ figures k n → (holds_double v ≡ false) × (new ≡ old ++ figures_of v)
+unfolding holds_double
+wrote_number k n v old new s e plain wrote is = (ap holds_double e ∙ plain, wrote ∙ ap (λ (r : List ℕ). old ++ r) (is ∙ sym (ap figures_of e)))
 
-pub same_figures : {T E : Type 0} (r : Result T E) (v w : Tree) (old new : List ℕ) → v ≡ w → OnOk r (new ≡ old ++ figures_of w) → OnOk r (new ≡ old ++ figures_of v)
-same_figures r v w old new e wrote = subst (λ (u : Tree). OnOk r (new ≡ old ++ figures_of u)) (sym e) wrote
-
-pub plain_type : (b : BasicType) → (b ≡ Double → ⊥) → is_double_type (basic_of b) ≡ false
-plain_type Double h = absurd (h refl)
-plain_type _ h = refl
+pub wrote_text : (k : Basic) (s : List ℕ) (v : Tree) (old new : List ℕ) → v ≡ text k s → new ≡ old ++ figures_of (text k s) → (holds_double v ≡ false) × (new ≡ old ++ figures_of v)
+unfolding holds_double
+wrote_text k s v old new e wrote = (ap holds_double e, wrote ∙ ap (λ (u : Tree). old ++ figures_of u) (sym e))
 
 pub wrote_basic : (k : Basic) (v : Tree) (annotated : Bool) (old mid new : List ℕ) → IsOf k v → mid ≡ old ++ when annotated (word k) → new ≡ mid ++ figures_of v → new ≡ old ++ text_of v annotated false
 wrote_basic k v annotated old mid new is before wrote =

@@ -3,7 +3,6 @@ ghost use Rattle.std.specs.Prelude.{◌≡◌, ◌≢◌, IfErr, ◌++◌, false
 ghost use Rattle.gv_model.specs.Ty.{Ty.basic};
 ghost use Rattle.gv_model.specs.Printed.{word, hex_byte, text_of, holds_double};
 ghost use Rattle.gv_types.specs.Classes.{basic_of};
-ghost use Rattle.gv_types.specs.declared.class.BasicType.TheVariants.{Double};
 ghost use Rattle.gv_text.specs.declared.printing.PrintFault.TheVariants.{TooLarge};
 ghost use Rattle.gv_view.specs.Views.{value, view_ty};
 ghost use Rattle.gv_text.specs.Printing.{IsElementFault, figures_of};
@@ -64,35 +63,24 @@ fn push_figures(to: &mut String, view: View<'_>, of: BasicType) -> Result<(), Pr
         (IsElementFault (value view.entry)) }
     ensures shallow { IfErr result (λ f. f ≢ TooLarge) }
 {
-    if let BasicType::Double = of {
-        return Err(PrintFault::DoubleText);
-    }
-    Ok(push_number_or_text(to, view, of)?)
-}
-
-/// Writes a value of a basic type other than a double without its type's word.
-fn push_number_or_text(to: &mut String, view: View<'_>, of: BasicType) -> Result<(), AllocError>
-    requires typed { view_ty view ≡ basic (basic_of of) }
-    requires no_double { of ≢ Double }
-    ensures { OnOk result (string_bytes to.new ≡ string_bytes to.old ++ figures_of (value view.entry)) }
-{
     match of {
         BasicType::Boolean => to.push_str(if view.as_bool().unwrap() {
             "true"
         } else {
             "false"
-        }),
-        BasicType::Byte => push_hex_byte(to, view.as_u8().unwrap()),
-        BasicType::Int16 => write!(to, "{}", view.as_i16().unwrap()),
-        BasicType::Uint16 => write!(to, "{}", view.as_u16().unwrap()),
-        BasicType::Int32 => write!(to, "{}", view.as_i32().unwrap()),
-        BasicType::Uint32 => write!(to, "{}", view.as_u32().unwrap()),
-        BasicType::Int64 => write!(to, "{}", view.as_i64().unwrap()),
-        BasicType::Uint64 => write!(to, "{}", view.as_u64().unwrap()),
-        BasicType::Handle => write!(to, "{}", view.as_handle().unwrap()),
+        })?,
+        BasicType::Byte => push_hex_byte(to, view.as_u8().unwrap())?,
+        BasicType::Int16 => write!(to, "{}", view.as_i16().unwrap())?,
+        BasicType::Uint16 => write!(to, "{}", view.as_u16().unwrap())?,
+        BasicType::Int32 => write!(to, "{}", view.as_i32().unwrap())?,
+        BasicType::Uint32 => write!(to, "{}", view.as_u32().unwrap())?,
+        BasicType::Int64 => write!(to, "{}", view.as_i64().unwrap())?,
+        BasicType::Uint64 => write!(to, "{}", view.as_u64().unwrap())?,
+        BasicType::Handle => write!(to, "{}", view.as_handle().unwrap())?,
         BasicType::Text | BasicType::ObjectPath | BasicType::Signature => {
-            push_quoted(to, view.as_str().unwrap())
+            push_quoted(to, view.as_str().unwrap())?
         }
-        BasicType::Double => unreachable!(),
+        BasicType::Double => return Err(PrintFault::DoubleText),
     }
+    Ok(())
 }
