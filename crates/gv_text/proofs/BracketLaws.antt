@@ -24,7 +24,7 @@ use Rattle.gv_text.specs.declared.syntax.SyntaxKind.TheVariants.{Dictionary, Ent
 use Rattle.gv_text.specs.SyntaxNodes.{nodes_of, pairs_of}
 use Rattle.gv_text.specs.ModelTokens.{token_of, mark_of}
 use Rattle.gv_text.specs.Expectations.{Want, first_fault, kinds_of, Taken, NotTaken, TakesMark, Stops, StopsWith, EndsValue, end_stage}
-use Rattle.gv_text.specs.ParseSteps.{IsValue, IsValueBefore, IsBraced, IsEntryAfter, HasPair, ArePairs, AreMembers, AreMore}
+use Rattle.gv_text.specs.ParseSteps.{IsValue, IsValueBefore, IsBraced, IsEntryAfter, ArePairs, AreMembers, AreMore}
 use Rattle.gv_text.proofs.ExpectationLaws.{Opens, Refuses, carried_in, carried_out, entered, taken, taken_tokens, not_taken, second_opens, wants_colon, wants_brace, wants_box}
 use Rattle.gv_text.proofs.SequenceLaws.{PairsSoFar, pairs_more, pairs_levels_more, members_of, no_longer}
 

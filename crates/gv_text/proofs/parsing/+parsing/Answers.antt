@@ -1,15 +1,15 @@
-use Rattle.std.proofs.Common.{arith, subst, add-one, length, ◌+◌, ◌≡◌, [], ◌∷◌, ◌++◌, refl, sym, ap, ◌∙◌}
+use Rattle.std.proofs.Common.{arith, subst, add-one, length, ◌≡◌, [], ◌∷◌, ◌++◌, refl, sym, ap, ◌∙◌}
 use Rattle.std.proofs.lemmas.Result.{err_from_is_err_and}
 use Rattle.gv_model.specs.GrammarFaults.{begun_wants}
 use Rattle.gv_model.specs.GrammarFaults.Want.{inside, a_value}
-use Rattle.gv_model.specs.GrammarFaults.Stage.{list_start, list_more, tuple_start, tuple_one, tuple_two, tuple_more, brace_start, brace_first, pair_more, pair_colon, lone_end, box_end}
-use Rattle.gv_model.specs.Tokens.Mark.{close_list, close_tuple, close_brace, close_box, colon, comma}
+use Rattle.gv_model.specs.GrammarFaults.Stage.{list_start, list_more, tuple_start, tuple_one, tuple_two, tuple_more, brace_start, brace_first, pair_more, pair_colon, lone_end}
+use Rattle.gv_model.specs.Tokens.Mark.{close_list, close_tuple, close_brace, colon, comma}
 use Rattle.gv_model.specs.Tokens.Token.{mark}
 use Rattle.gv_model.specs.Grammar.{tokens_of}
 use Rattle.gv_text.specs.ModelTokens.{token_of, mark_of}
 use Rattle.std.specs.Prelude.{IsSome}
 use Rattle.gv_text.specs.Expectations.{left, more_stage, end_stage}
-use Rattle.gv_text.proofs.ExpectationLaws.{Either, other, unclosed, missing, entered, carried, carried_in, carried_out, always, does_not_begin, begins, list_opens, tuple_opens, brace_opens, not_taken, pair_wants, wants_comma, wants_colon, wants_brace, wants_box}
+use Rattle.gv_text.proofs.ExpectationLaws.{Either, unclosed, missing, entered, carried, carried_in, carried_out, always, does_not_begin, begins, list_opens, tuple_opens, brace_opens, not_taken, pair_wants, wants_comma}
 use Rattle.gv_text.proofs.ParseStepLaws.{
   whole_value,
   is_truth,
@@ -37,34 +37,7 @@ use Rattle.gv_text.proofs.ParseStepLaws.{
   all_values,
 }
 use Rattle.gv_text.proofs.SequenceLaws.{no_longer}
-use Rattle.gv_text.proofs.BracketLaws.{
-  HoldsFirst,
-  FirstMember,
-  holds_first,
-  stops_after,
-  stops_in_value,
-  first_member,
-  one_member,
-  second_reached,
-  more_members,
-  first_wants,
-  neither,
-  no_pairs,
-  pairs_reached,
-  some_pairs,
-  lone_reached,
-  entry_after,
-  is_entry,
-  one_pair,
-  key_reached,
-  colon_reached,
-  value_reached,
-  shorter,
-  pair_more_read,
-  all_pairs,
-  value_read,
-  not_ended,
-}
+use Rattle.gv_text.proofs.BracketLaws.{HoldsFirst, FirstMember, holds_first, stops_after, stops_in_value, first_member, one_member, second_reached, more_members, first_wants, no_pairs, pairs_reached, some_pairs, lone_reached, entry_after, is_entry, one_pair, key_reached, value_reached, shorter, pair_more_read, all_pairs, value_read, not_ended}
 use Rattle.gv_text.proofs.parsing.+parsing.Goals as goal
 
 -- src/parsing/braces.rt:23:17
