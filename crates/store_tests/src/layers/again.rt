@@ -82,7 +82,12 @@ fn answer(alloc: Global, row: &str) -> Result<String, Fail> {
     let files = files_of(alloc, texts)?;
     let value = Tree::basic(alloc, Basic::Int32(7))?;
     let changes = changes_of(alloc, words, &value)?;
-    seen(alloc, &profile, &bytes_of(alloc, &files)?, (&changes, path.trim()))
+    seen(
+        alloc,
+        &profile,
+        &bytes_of(alloc, &files)?,
+        (&changes, path.trim()),
+    )
 }
 
 const ROWS: &str = "
