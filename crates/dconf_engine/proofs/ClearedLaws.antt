@@ -14,9 +14,9 @@ use Rattle.dconf_model.proofs.SameBytes.{same_path}
 use Rattle.dconf_engine.specs.declared.layer.Layer.{Layer}
 use Rattle.dconf_engine.specs.Cleared.{keeps, cleared, changed_paths, first_names}
 use Rattle.dconf_engine.specs.KeyNames.{all_key_names}
-use Rattle.dconf_engine.specs.LayerSettings.{settings_of_item}
+use Rattle.dconf_engine.specs.LayerSettings.{settings_of}
 use Rattle.dconf_engine.specs.Unsaved.{Unsaved, and_resets, with_changes}
-use Rattle.dconf_engine.proofs.SavedLaws.{named_of_item}
+use Rattle.dconf_engine.proofs.KeyNameLaws.{each_is_named}
 use Rattle.dconf_engine.proofs.UnsavedLaws.{kept_of}
 
 -- ---- resets
@@ -88,24 +88,24 @@ gone false (Some x) base each = refl
 gone false None None each = refl
 gone false None (Some bytes) each = absurd (no_truth (each bytes refl))
 
-pub reset_below_all : (l : Layers) (d : List ℕ) (c : Unsaved) (item : Option Layer) →
-    with_changes (reset_all l d c (all_key_names item)) (settings_of_item item).values ≡ retain_keys (with_changes c (settings_of_item item).values) (keeps l d)
+pub reset_below_all : (l : Layers) (d : List ℕ) (c : Unsaved) (item : Layer) →
+    with_changes (reset_all l d c (all_key_names item)) (settings_of item).values ≡ retain_keys (with_changes c (settings_of item).values) (keeps l d)
 reset_below_all l d c item =
     let names = all_key_names item in
-    let base = (settings_of_item item).values in
+    let base = (settings_of item).values in
     kept_of c (reset_all l d c names) base (keeps l d)
     (λ q yes. get_reset_all l d c names q ∙ (ap (λ k. cond (list_any (bytes_eq q) names && not k) (Some None) (cond (contains_key c q && not k) (Some None) (get c q))) yes
     ∙ kept_there (list_any (bytes_eq q) names) (contains_key c q) (get c q)))
     (λ q out. ap (λ o. unwrap_or o (get base q)) (get_reset_all l d c names q ∙ ap (λ k. cond (list_any (bytes_eq q) names && not k) (Some None) (cond (contains_key c q && not k) (Some None) (get c q))) out)
-    ∙ gone (list_any (bytes_eq q) names) (get c q) (get base q) (λ bytes e. named_of_item item q bytes e))
+    ∙ gone (list_any (bytes_eq q) names) (get c q) (get base q) (λ bytes e. each_is_named item q bytes e))
 
 -- over the layers of files
-pub reset_layers : (l : Layers) (d : List ℕ) (c : Unsaved) (items : List (Option Layer)) →
-    with_first_layer (λ values. retain_keys values (keeps l d)) (with_first_layer (with_changes c) (map settings_of_item items))
-    ≡ with_first_layer (with_changes (reset_all l d c (first_names items))) (map settings_of_item items)
+pub reset_layers : (l : Layers) (d : List ℕ) (c : Unsaved) (items : List Layer) →
+    with_first_layer (λ values. retain_keys values (keeps l d)) (with_first_layer (with_changes c) (map settings_of items))
+    ≡ with_first_layer (with_changes (reset_all l d c (first_names items))) (map settings_of items)
 reset_layers l d c [] = refl
 reset_layers l d c (item ∷ items) =
-    ap (λ (v : Values). record { values = v; locks = (settings_of_item item).locks } ∷ map settings_of_item items) (sym (reset_below_all l d c item))
+    ap (λ (v : Values). record { values = v; locks = (settings_of item).locks } ∷ map settings_of items) (sym (reset_below_all l d c item))
 
 pub reset_dir_accepted : (l : Layers) (d : List ℕ) → l.written ≡ true → apply l (reset_below_directory d) ≡ Ok (changed (λ values. retain_keys values (keeps l d)) l)
 reset_dir_accepted l d e = ap (λ b. cond b (Ok (changed (λ values. retain_keys values (keeps l d)) l)) (Err not_writable)) e

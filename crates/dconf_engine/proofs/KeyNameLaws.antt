@@ -30,7 +30,7 @@ use Rattle.gvdb_read.specs.Tables.{region}
 use Rattle.gvdb_write.specs.Salvaged.{HasNoShortText}
 use Rattle.dconf_engine.specs.declared.layer.Layer.{Layer}
 use Rattle.dconf_engine.specs.KeyNames.{key_name, key_names, items_of}
-use Rattle.dconf_engine.specs.LayerSettings.{settings_of}
+use Rattle.dconf_engine.specs.LayerSettings.{locks_of, settings_of}
 use Rattle.dconf_engine.specs.SoundTables.{AreOfSoundDatabase}
 use Rattle.dconf_engine.proofs.SoundLayers.{says, settings_at}
 
@@ -103,4 +103,4 @@ is_named values locks p bytes o e =
     (ap (λ o. list_any (bytes_eq p) (key_name o)) (name_of_named t row.0 p named) ∙ there)
 
 pub each_is_named : (layer : Layer) (p bytes : List ℕ) → get (settings_of layer).values p ≡ Some bytes → list_any (bytes_eq p) (key_names layer (items_of layer)) ≡ true
-each_is_named layer p bytes e = ∥∥₁_elim layer.sound (Bool-set _ _) (λ o. is_named layer.values layer.locks p bytes o e)
+each_is_named layer p bytes e = ∥∥₁_elim layer.sound (Bool-set _ _) (λ o. is_named layer.values (locks_of layer) p bytes o e)

@@ -1,20 +1,15 @@
 -- What is left to add, layer by layer.
-use Rattle.std.specs.Prelude.{is_some}
-use Rattle.std.proofs.Common.{◌≡◌, ◌+◌, ◌<◌, ◌≤◌, ℕ, List, [], ◌++◌, length, drop, get_or, sym, ap, ◌∙◌}
-use Rattle.std.specs.Cmp.Lexicographic.{slice_cmp}
-use Rattle.std.specs.FinMap.{keys, get-empty}
-use Rattle.std.specs.Ordering.{nat_cmp}
+use Rattle.std.proofs.Common.{◌≡◌, ◌+◌, ◌<◌, ◌≤◌, ℕ, List, [], ◌++◌, length, drop, get_or, ap, ◌∙◌}
+use Rattle.std.specs.FinMap.{keys}
 use Rattle.std.proofs.lemmas.List.{drop_more, drop_all}
 use Rattle.std.proofs.lemmas.List.Concat.{flat_map-cons}
 use Rattle.std.proofs.lemmas.List.Elements.{filter-append}
 use Rattle.dconf_model.specs.Layers.{all_locks, all_paths, parts_below}
 use Rattle.dconf_model.specs.Locks.{is_below}
 use Rattle.dconf_model.specs.Settings.{Settings, no_settings}
-use Rattle.dconf_model.proofs.PathMaps.{key_in}
 use Rattle.dconf_engine.specs.LockNames.{locks_under}
 use Rattle.dconf_engine.specs.TextSets.{TextSet, is_in, Adds}
-use Rattle.dconf_engine.proofs.PathTests.{parts_alike}
-use Rattle.dconf_engine.proofs.TextSetLaws.{adds_alike, adds_nothing, one_turn, parts_append}
+use Rattle.dconf_engine.proofs.TextSetLaws.{one_turn, parts_append}
 
 locks_from : (d : List ℕ) (xs : List Settings) (i : ℕ) → i < length xs →
     locks_under d (all_locks (drop i xs)) ≡ locks_under d (keys (get_or xs i no_settings).locks) ++ locks_under d (all_locks (drop (i + 1) xs))
@@ -45,9 +40,3 @@ paths_turn d xs i a b t within h =
 
 pub no_paths_left : (d : List ℕ) (xs : List Settings) (i : ℕ) → length xs ≤ i → parts_below d (all_paths (drop i xs)) ≡ []
 no_paths_left d xs i past = ap (λ (ss : List Settings). parts_below d (all_paths ss)) (drop_all i xs past)
-
--- a layer without values has nothing
-pub no_children_added : (d : List ℕ) (a : TextSet) → Adds (parts_below d (keys no_settings.values)) a a
-no_children_added d a =
-    adds_alike [] (parts_below d (keys no_settings.values)) a a
-    (parts_alike d [] (keys no_settings.values) (λ p below. ap is_some (sym (get-empty (slice_cmp nat_cmp) p)) ∙ key_in no_settings.values p)) (adds_nothing a)

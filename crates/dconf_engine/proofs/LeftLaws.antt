@@ -24,7 +24,7 @@ use Rattle.dconf_model.proofs.SameBytes.{same_path}
 use Rattle.gvdb_write.proofs.KeysRise.{from_true}
 use Rattle.dconf_engine.specs.declared.layer.Layer.{Layer}
 use Rattle.dconf_engine.specs.KeyNames.{items_of, key_name, key_names}
-use Rattle.dconf_engine.specs.LayerSettings.{settings_of, settings_of_item}
+use Rattle.dconf_engine.specs.LayerSettings.{settings_of}
 use Rattle.dconf_engine.specs.LeftPaths.{base_paths, has_reset_below, is_left, is_reset_below, left_of, left_parts, path_if_set, set_paths}
 use Rattle.dconf_engine.specs.TextSets.{TextSet, is_in, Adds}
 use Rattle.dconf_engine.specs.Unsaved.{Unsaved, with_changes}
@@ -126,23 +126,13 @@ there_or_set (Some None) o other = absurd (other refl)
 there_or_set None None other = refl
 there_or_set None (Some x) other = refl
 
-set_alone : (g : Option (Option (List ℕ))) (o : Option (List ℕ)) → o ≡ None → (false || is_set g) ≡ is_some (unwrap_or g o)
-set_alone g None e = go g
-  where
-    go : (g : Option (Option (List ℕ))) → is_set g ≡ is_some (unwrap_or g None)
-    go (Some (Some bytes)) = refl
-    go (Some None) = refl
-    go None = refl
-set_alone g (Some x) e = absurd cc
-
 -- paths of the file below the directory, and what was set
-base_or_set : (d : List ℕ) (c : Unsaved) (item : Option Layer) (p : List ℕ) → is_below p d ≡ true →
-    (list_any (bytes_eq p) (base_paths d c item) || is_set (get c p)) ≡ is_some (unwrap_or (get c p) (get (settings_of_item item).values p))
-base_or_set d c None p below = set_alone (get c p) (get (settings_of_item None).values p) (fin.get-empty (slice_cmp nat_cmp) p)
-base_or_set d c (Some layer) p below =
+base_or_set : (d : List ℕ) (c : Unsaved) (layer : Layer) (p : List ℕ) → is_below p d ≡ true →
+    (list_any (bytes_eq p) (base_paths d c layer) || is_set (get c p)) ≡ is_some (unwrap_or (get c p) (get (settings_of layer).values p))
+base_or_set d c layer p below =
     let base = (settings_of layer).values in
     let names = key_names layer (items_of layer) in
-    by_bool (has_reset_below d c) ((list_any (bytes_eq p) (base_paths d c (Some layer)) || is_set (get c p)) ≡ is_some (unwrap_or (get c p) (get base p)))
+    by_bool (has_reset_below d c) ((list_any (bytes_eq p) (base_paths d c layer) || is_set (get c p)) ≡ is_some (unwrap_or (get c p) (get base p)))
     (λ yes.
     ap (λ b. list_any (bytes_eq p) (cond b (left_of base c names) (keys base)) || is_set (get c p)) yes
     ∙ (ap (λ b. b || is_set (get c p)) (any_passing p (is_left base c) names)
@@ -152,32 +142,32 @@ base_or_set d c (Some layer) p below =
     ∙ (ap (λ b. b || is_set (get c p)) (sym (key_in base p))
     ∙ there_or_set (get c p) (get base p) (not_reset d p c none below)))
 
-left_there : (d : List ℕ) (c : Unsaved) (item : Option Layer) (p : List ℕ) → is_below p d ≡ true →
-    list_any (bytes_eq p) (base_paths d c item ++ set_paths (entries c)) ≡ list_any (bytes_eq p) (keys (with_changes c (settings_of_item item).values))
+left_there : (d : List ℕ) (c : Unsaved) (item : Layer) (p : List ℕ) → is_below p d ≡ true →
+    list_any (bytes_eq p) (base_paths d c item ++ set_paths (entries c)) ≡ list_any (bytes_eq p) (keys (with_changes c (settings_of item).values))
 left_there d c item p below =
-    let base = (settings_of_item item).values in
+    let base = (settings_of item).values in
     list_any-append (bytes_eq p) (base_paths d c item) (set_paths (entries c))
     ∙ (ap (λ b. list_any (bytes_eq p) (base_paths d c item) || b) (set_there c p)
     ∙ (base_or_set d c item p below
     ∙ (ap is_some (sym (get_changed c base p)) ∙ key_in (with_changes c base) p)))
 
 -- a set that takes both takes what the directory has
-pub with_changes_added : (d : List ℕ) (c : Unsaved) (item : Option Layer) (a b e : TextSet) → Adds (parts_below d (base_paths d c item)) a b → Adds (parts_below d (set_paths (entries c))) b e →
-    Adds (parts_below d (keys (with_changes c (settings_of_item item).values))) a e
+pub with_changes_added : (d : List ℕ) (c : Unsaved) (item : Layer) (a b e : TextSet) → Adds (parts_below d (base_paths d c item)) a b → Adds (parts_below d (set_paths (entries c))) b e →
+    Adds (parts_below d (keys (with_changes c (settings_of item).values))) a e
 with_changes_added d c item a b e first second =
     let ps = base_paths d c item in
     let qs = set_paths (entries c) in
-    let all = keys (with_changes c (settings_of_item item).values) in
+    let all = keys (with_changes c (settings_of item).values) in
     adds_alike (parts_below d ps ++ parts_below d qs) (parts_below d all) a e
     (λ t. ap (λ (l : List (List ℕ)). list_any (bytes_eq t) l) (sym (parts_append d ps qs)) ∙ parts_alike d (ps ++ qs) all (λ p below. left_there d c item p below) t)
     (adds_more (parts_below d ps) (parts_below d qs) a b e first second)
 
 -- ---- in turns
 
-pub base_if_reset : (d : List ℕ) (c : Unsaved) (layer : Layer) → has_reset_below d c ≡ true → left_of (settings_of layer).values c (key_names layer (items_of layer)) ≡ base_paths d c (Some layer)
+pub base_if_reset : (d : List ℕ) (c : Unsaved) (layer : Layer) → has_reset_below d c ≡ true → left_of (settings_of layer).values c (key_names layer (items_of layer)) ≡ base_paths d c layer
 base_if_reset d c layer reset = sym (ap (λ b. cond b (left_of (settings_of layer).values c (key_names layer (items_of layer))) (keys (settings_of layer).values)) reset)
 
-pub base_if_none : (d : List ℕ) (c : Unsaved) (layer : Layer) → has_reset_below d c ≡ false → keys (settings_of layer).values ≡ base_paths d c (Some layer)
+pub base_if_none : (d : List ℕ) (c : Unsaved) (layer : Layer) → has_reset_below d c ≡ false → keys (settings_of layer).values ≡ base_paths d c layer
 base_if_none d c layer none = sym (ap (λ b. cond b (left_of (settings_of layer).values c (key_names layer (items_of layer))) (keys (settings_of layer).values)) none)
 
 -- of what is gathered from items

@@ -1,30 +1,22 @@
 -- The level of a path and the place of its value, layer by layer.
-use Rattle.std.specs.Prelude.{is_some}
-use Rattle.std.proofs.Common.{◌≡◌, ◌+◌, ◌<◌, ◌≤◌, ℕ, zero, suc, Bool, true, false, cond, List, [], ◌∷◌, length, drop, get_or, Option, None, refl, sym, ap, ◌∙◌, arith, ne_eqb, map, subst}
-use Rattle.std.proofs.lemmas.List.{get_or-map, drop_more, drop_all}
+use Rattle.std.proofs.Common.{◌≡◌, ◌+◌, ◌<◌, ◌≤◌, ℕ, zero, suc, Bool, true, false, cond, List, [], ◌∷◌, length, drop, get_or, Some, None, refl, sym, ap, ◌∙◌, arith, ne_eqb, map, subst}
+use Rattle.std.proofs.lemmas.List.{get_or-map, drop_more, drop_all, length-map}
 use Rattle.std.specs.Cmp.Lexicographic.{slice_cmp}
 use Rattle.std.specs.Ordering.{nat_cmp}
-use Rattle.std.specs.FinMap.{get, get-empty, keys}
+use Rattle.std.specs.FinMap.{get, get-empty}
 use Rattle.dconf_model.specs.Layers.{greatest_from, later_or, locks_path, first_from, place_or, place_of, emptied, without_user}
-use Rattle.dconf_model.specs.Locks.{covers}
 use Rattle.dconf_model.specs.Settings.{Settings, no_settings}
-use Rattle.dconf_model.proofs.PathMaps.{key_in, passes, same_bool, no_truth}
 use Rattle.dconf_engine.specs.declared.layer.Layer.{Layer}
-use Rattle.dconf_engine.specs.LayerSettings.{settings_of_item}
+use Rattle.dconf_engine.specs.LayerSettings.{settings_of}
 
 -- ---- one layer
 
-pub layer_at : (items : List (Option Layer)) (i : ℕ) (item : Option Layer) → i < length items → item ≡ get_or items i item →
-    get_or (map settings_of_item items) i no_settings ≡ settings_of_item item
-layer_at items i item within is = get_or-map settings_of_item items i item no_settings within ∙ ap settings_of_item (sym is)
+pub layer_at : (items : List Layer) (i : ℕ) (item : Layer) → i < length items → item ≡ get_or items i item →
+    get_or (map settings_of items) i no_settings ≡ settings_of item
+layer_at items i item within is = get_or-map settings_of items i item no_settings within ∙ ap settings_of (sym is)
 
-pub nothing_set : (path : List ℕ) → None ≡ get no_settings.values path
-nothing_set path = sym (get-empty (slice_cmp nat_cmp) path)
-
-pub nothing_locked : (path : List ℕ) → false ≡ locks_path path no_settings
-nothing_locked path = same_bool false (locks_path path no_settings) (λ e. absurd (no_truth e))
-    (λ e. let h = passes (λ lock. covers lock path) (keys no_settings.locks) e in
-    absurd (no_truth (ap is_some (sym (get-empty (slice_cmp nat_cmp) h.0)) ∙ (key_in no_settings.locks h.0 ∙ h.1))))
+pub layer_lent : (items : List Layer) (i : ℕ) (item : Layer) → i < length (map settings_of items) → settings_of (get_or items i item) ≡ get_or (map settings_of items) i no_settings
+layer_lent items i item within = let n = length-map items settings_of in sym (get_or-map settings_of items i item no_settings (omega (arith, n, within)))
 
 -- ---- the level
 
@@ -74,6 +66,29 @@ place_step xs i path within = ap (λ (ss : List Settings). first_from i ss path)
 
 pub place_end : (xs : List Settings) (i : ℕ) (path : List ℕ) → length xs ≤ i → first_from i (drop i xs) path ≡ None
 place_end xs i path past = ap (λ (ss : List Settings). first_from i ss path) (drop_all i xs past)
+
+-- ---- all layers but the first
+
+drop_later : (xs : List Settings) (n : ℕ) → drop (suc n) xs ≡ drop n (drop 1 xs)
+drop_later [] n = sym (drop_all n [] (omega arith))
+drop_later (s ∷ xs) n = refl
+
+pub place_later : (xs ys : List Settings) (from : ℕ) (path : List ℕ) → 0 < from → drop 1 xs ≡ drop 1 ys → first_from from (drop from xs) path ≡ first_from from (drop from ys) path
+place_later xs ys zero path some e = absurd (omega (arith, some))
+place_later xs ys (suc n) path some e =
+    ap (λ (ss : List Settings). first_from (suc n) ss path) (drop_later xs n ∙ (ap (drop n) e ∙ sym (drop_later ys n)))
+
+pub place_nowhere : (xs : List Settings) (path : List ℕ) → length xs ≡ 0 → None ≡ first_from 0 xs path
+place_nowhere [] path none = refl
+place_nowhere (s ∷ xs) path none = absurd (omega (arith, none))
+
+pub first_has : (xs : List Settings) (path bytes : List ℕ) → 0 < length xs → Some bytes ≡ get (get_or xs 0 no_settings).values path → Some (0, bytes) ≡ first_from 0 xs path
+first_has [] path bytes some e = absurd (omega (arith, some))
+first_has (s ∷ xs) path bytes some e = ap (λ o. place_or 0 o (first_from 1 xs path)) e
+
+pub first_has_not : (xs : List Settings) (path : List ℕ) → 0 < length xs → None ≡ get (get_or xs 0 no_settings).values path → first_from 1 (drop 1 xs) path ≡ first_from 0 xs path
+first_has_not [] path some e = absurd (omega (arith, some))
+first_has_not (s ∷ xs) path some e = ap (λ o. place_or 0 o (first_from 1 xs path)) e
 
 -- ---- without the user's values
 

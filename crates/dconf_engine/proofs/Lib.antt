@@ -1,5 +1,6 @@
 pub mod CoveringPaths
 pub mod SoundLayers
+pub mod EmptyDatabase
 pub mod Levels
 pub mod Opened
 pub mod FirstLayer
@@ -16,3 +17,4 @@ pub mod ListedNames
 pub mod LockNameLaws
 pub mod LayerTurns
 pub mod LeftLaws
+pub mod DifferingLaws

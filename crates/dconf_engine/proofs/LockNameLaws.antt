@@ -1,11 +1,9 @@
 -- The names of the items of a sound database's table of locks are its locks, as far as they are paths.
-use Rattle.std.specs.Prelude.{IfSome, IfNone, option_map, string_bytes, is_some}
+use Rattle.std.specs.Prelude.{IfSome, IfNone, option_map, string_bytes}
 use Rattle.std.proofs.Common.{◌≡◌, ◌<◌, ◌||◌, ◌&&◌, ℕ, true, false, List, [], ◌∷◌, length, Option, Some, None, refl, sym, ap, ◌∙◌, subst, arith}
 use Rattle.std.specs.Coded.{coded_list, coded_ℕ}
-use Rattle.std.specs.Cmp.Lexicographic.{slice_cmp}
-use Rattle.std.specs.FinMap.{keys, get-empty}
+use Rattle.std.specs.FinMap.{keys}
 use Rattle.std.specs.List.{list_any}
-use Rattle.std.specs.Ordering.{nat_cmp}
 use Rattle.std.specs.Str.{bytes_eq}
 use Rattle.std.specs.declared.alloc.Global.{Global}
 use Rattle.std.specs.declared.string.String.{String}
@@ -16,7 +14,6 @@ use base.Stored.{Coded-set}
 use Rattle.dconf_model.specs.Locks.{is_below}
 use Rattle.dconf_model.specs.Names.{HasName, name_of}
 use Rattle.dconf_model.specs.Paths.{is_path}
-use Rattle.dconf_model.specs.Settings.{no_settings}
 use Rattle.dconf_model.specs.Searchable.{IsSearchable}
 use Rattle.dconf_model.specs.Table.{Table as Region, item_count}
 use Rattle.dconf_model.proofs.ComputedNames.{name_of_named, named_of_name}
@@ -28,7 +25,7 @@ use Rattle.gvdb_read.specs.declared.table.Table.{Table}
 use Rattle.gvdb_read.specs.Tables.{region}
 use Rattle.gvdb_write.specs.Salvaged.{HasNoShortText}
 use Rattle.dconf_engine.specs.declared.layer.Layer.{Layer}
-use Rattle.dconf_engine.specs.LayerSettings.{settings_of}
+use Rattle.dconf_engine.specs.LayerSettings.{locks_of, settings_of}
 use Rattle.dconf_engine.specs.LockNames.{lock_name, lock_count, lock_name_at, lock_names, locks_under}
 use Rattle.dconf_engine.specs.SoundTables.{AreOfSoundDatabase}
 use Rattle.dconf_engine.specs.TextSets.{TextSet, Adds}
@@ -97,8 +94,8 @@ locks_named values (Some locks) p o =
     any_gathered p (lock_name_at (Some locks)) item.0 (item_count u) (counted u item.0 p item.1)
     (ap (λ (found : Option (List ℕ)). list_any (bytes_eq p) (lock_name found)) (name_of_named u item.0 p item.1) ∙ lock_listed p said.0))
 
-pub locks_of_layer : (layer : Layer) (p : List ℕ) → list_any (bytes_eq p) (lock_names layer.locks (lock_count layer.locks)) ≡ list_any (bytes_eq p) (keys (settings_of layer).locks)
-locks_of_layer layer p = ∥∥₁_elim layer.sound (Bool-set _ _) (λ o. locks_named layer.values layer.locks p o)
+pub locks_of_layer : (layer : Layer) (p : List ℕ) → list_any (bytes_eq p) (lock_names (locks_of layer) (lock_count (locks_of layer))) ≡ list_any (bytes_eq p) (keys (settings_of layer).locks)
+locks_of_layer layer p = ∥∥₁_elim layer.sound (Bool-set _ _) (λ o. locks_named layer.values (locks_of layer) p o)
 
 -- ---- below a directory
 
@@ -119,13 +116,7 @@ under_alike : (d : List ℕ) (xs ys : List (List ℕ)) → ((p : List ℕ) → l
 under_alike d xs ys same t =
     any_passing t (λ lock. is_below lock d) xs ∙ (ap (λ b. b && is_below t d) (same t) ∙ sym (any_passing t (λ lock. is_below lock d) ys))
 
-pub layer_locks_added : (d : List ℕ) (layer : Layer) (a b : TextSet) → Adds (locks_under d (lock_names layer.locks (lock_count layer.locks))) a b → Adds (locks_under d (keys (settings_of layer).locks)) a b
+pub layer_locks_added : (d : List ℕ) (layer : Layer) (a b : TextSet) → Adds (locks_under d (lock_names (locks_of layer) (lock_count (locks_of layer)))) a b → Adds (locks_under d (keys (settings_of layer).locks)) a b
 layer_locks_added d layer a b h =
-    adds_alike (locks_under d (lock_names layer.locks (lock_count layer.locks))) (locks_under d (keys (settings_of layer).locks)) a b
-    (under_alike d (lock_names layer.locks (lock_count layer.locks)) (keys (settings_of layer).locks) (locks_of_layer layer)) h
-
--- nothing is locked
-pub no_locks_added : (d : List ℕ) (a : TextSet) → Adds (locks_under d (keys no_settings.locks)) a a
-no_locks_added d a =
-    adds_alike [] (locks_under d (keys no_settings.locks)) a a
-    (under_alike d [] (keys no_settings.locks) (λ p. ap is_some (sym (get-empty (slice_cmp nat_cmp) p)) ∙ key_in no_settings.locks p)) (adds_nothing a)
+    adds_alike (locks_under d (lock_names (locks_of layer) (lock_count (locks_of layer)))) (locks_under d (keys (settings_of layer).locks)) a b
+    (under_alike d (lock_names (locks_of layer) (lock_count (locks_of layer))) (keys (settings_of layer).locks) (locks_of_layer layer)) h

@@ -14,7 +14,7 @@ use Rattle.dconf_model.specs.Changes.{Values, saved, with_first_layer}
 use Rattle.std.proofs.Common.{slice_get, map}
 use Rattle.dconf_engine.specs.declared.layer.Layer.{Layer}
 use Rattle.dconf_engine.specs.KeyNames.{all_key_names}
-use Rattle.dconf_engine.specs.LayerSettings.{settings_of_item}
+use Rattle.dconf_engine.specs.LayerSettings.{settings_of}
 use Rattle.dconf_engine.proofs.KeyNameLaws.{each_is_named}
 use Rattle.dconf_model.proofs.ParentLaws.{by_bool}
 use Rattle.dconf_model.proofs.PathMaps.{get_inserted, eq_turned}
@@ -148,18 +148,14 @@ put_together base u ps each =
 
 -- ---- the first layer
 
-pub named_of_item : (item : Option Layer) (p bytes : List ℕ) → get (settings_of_item item).values p ≡ Some bytes → list_any (bytes_eq p) (all_key_names item) ≡ true
-named_of_item None p bytes e = let bad : None ≡ Some bytes = sym (fin.get-empty (slice_cmp nat_cmp) p) ∙ e in absurd cc
-named_of_item (Some layer) p bytes e = each_is_named layer p bytes e
-
-pub saved_first : (c : Unsaved) (items : List (Option Layer)) (item : Option Layer) → slice_get items 0 ≡ Some item →
-    with_sets (entries c) (with_unchanged (settings_of_item item).values c (all_key_names item) no_settings)
-    ≡ saved (with_first_layer (with_changes c) (map settings_of_item items))
+pub saved_first : (c : Unsaved) (items : List Layer) (item : Layer) → slice_get items 0 ≡ Some item →
+    with_sets (entries c) (with_unchanged (settings_of item).values c (all_key_names item) no_settings)
+    ≡ saved (with_first_layer (with_changes c) (map settings_of items))
 saved_first c [] item e = absurd cc
 saved_first c (x ∷ items) item e =
-    put_together (settings_of_item item).values c (all_key_names item) (named_of_item item)
-    ∙ ap (λ (o : Option (Option Layer)). saved_values o) (sym e)
+    put_together (settings_of item).values c (all_key_names item) (each_is_named item)
+    ∙ ap (λ (o : Option Layer). saved_values o) (sym e)
   where
-    saved_values : Option (Option Layer) → Settings
-    saved_values (Some i) = record { values = with_changes c (settings_of_item i).values; locks = empty }
+    saved_values : Option Layer → Settings
+    saved_values (Some i) = record { values = with_changes c (settings_of i).values; locks = empty }
     saved_values None = no_settings

@@ -1,5 +1,6 @@
 -- What the tables of a sound database give of the settings that it says.
-use Rattle.std.specs.Prelude.{IsTrue, IfSome, IfNone, codes, option_map}
+use Rattle.std.specs.Option.{unwrap_or}
+use Rattle.std.specs.Prelude.{IsTrue, IfSome, IfNone, codes, is_some, option_map}
 use Rattle.std.proofs.Common.{◌≡◌, ◌↔◌, ℕ, Bool, true, false, List, Option, Some, None, refl, sym, ap, ◌∙◌, subst}
 use Rattle.std.specs.FinMap.{get, keys, contains_key}
 use Rattle.std.specs.Borrow.{Bor}
@@ -9,6 +10,7 @@ use Rattle.std.proofs.Math.Logic.{∥∥₁_elim}
 use base.Stored.{Coded-set}
 use Rattle.dconf_model.specs.Locks.{covers}
 use Rattle.dconf_model.specs.Layers.{locks_path}
+use Rattle.dconf_model.specs.Opening.{IsDatabase, root_of}
 use Rattle.dconf_model.specs.Paths.{is_key_path, is_path}
 use Rattle.dconf_model.specs.Settings.{Settings}
 use Rattle.dconf_model.specs.Table.{Table as Region}
@@ -27,7 +29,7 @@ use Rattle.dconf_model.proofs.SoundRows.{sound_finds_rows, locks_are_searchable}
 use Rattle.gvdb_read.specs.declared.table.Table.{Table}
 use Rattle.gvdb_read.specs.Lookups.{IsFound, IsTableAt, IsValueOf}
 use Rattle.gvdb_read.specs.Tables.{region}
-use Rattle.dconf_engine.specs.SoundTables.{AreOfSoundDatabase}
+use Rattle.dconf_engine.specs.SoundTables.{AreOfSoundDatabase, IsTableOfLocks, locks_if}
 use Rattle.gvdb_read.proofs.CoveredPaths.{HasCovering}
 use Rattle.dconf_engine.proofs.CoveringPaths.{covering_is_path}
 
@@ -37,6 +39,21 @@ settings_at t = settings_in t.file
 
 pub says : (values : Table) (locks : Option Table) → AreOfSoundDatabase values locks → Says (region values).file (settings_at (region values))
 says values locks o = says_what_is_in_it (region values).file o.opens (subst IsSound o.root o.sound)
+
+-- ---- what is found at opening
+
+with_locks : (values : Table) (locks : Option Table) (file : List ℕ) → IsDatabase file → region values ≡ root_of file → IsSound (region values) → IsTableOfLocks (region values) locks → AreOfSoundDatabase values locks
+with_locks values locks file opens root sound locks_are =
+    let same : (region values).file ≡ file = ap (λ (t : Region). t.file) root in
+    record { opens = subst IsDatabase (sym same) opens; root = root ∙ ap root_of (sym same); sound = sound; locks_are = locks_are }
+
+pub sound_tables : (file : List ℕ) (values : Table) (found : Option Table) (there : Bool) (locks : Table) → IsDatabase file → region values ≡ root_of file → IsSound (region values) →
+    IfSome found (λ t. IsTableAt (region values) (codes ".locks") (region t)) → IfNone found ((u : Region) → ¬ IsTableAt (region values) (codes ".locks") u) →
+    there ≡ is_some found → locks ≡ unwrap_or found values → AreOfSoundDatabase values (locks_if there locks)
+sound_tables file values (Some t) there locks opens root sound some none is same =
+    subst (λ (o : Option Table). AreOfSoundDatabase values o) (ap (λ (t : Table). Some t) (sym same) ∙ ap (λ b. locks_if b locks) (sym is)) (with_locks values (Some t) file opens root sound some)
+sound_tables file values None there locks opens root sound some none is same =
+    subst (λ (o : Option Table). AreOfSoundDatabase values o) (ap (λ b. locks_if b locks) (sym is)) (with_locks values None file opens root sound none)
 
 -- ---- values
 

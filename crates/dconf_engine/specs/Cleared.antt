@@ -18,6 +18,6 @@ abbrev pub changed_paths : List (List ℕ × Option (List ℕ)) → List (List �
 changed_paths changes = map (λ c. c.0) changes
 
 -- the names of the first layer's items
-abbrev pub first_names : List (Option Layer) → List (List ℕ)
+abbrev pub first_names : List Layer → List (List ℕ)
 first_names [] = []
 first_names (layer ∷ more) = all_key_names layer

@@ -1,10 +1,10 @@
 -- The layers that an engine stands for: what its files say, and of the first what was changed since.
-use Rattle.std.specs.Prelude.{List, Bool, Option, map}
+use Rattle.std.specs.Prelude.{List, Bool, map}
 use Rattle.dconf_model.specs.Changes.{with_first_layer}
 use Rattle.dconf_model.specs.Layers.{Layers}
 use Rattle.dconf_engine.specs.declared.layer.Layer.{Layer}
-use Rattle.dconf_engine.specs.LayerSettings.{settings_of_item}
+use Rattle.dconf_engine.specs.LayerSettings.{settings_of}
 use Rattle.dconf_engine.specs.Unsaved.{Unsaved, with_changes}
 
-abbrev pub layers_of : Unsaved → List (Option Layer) → Bool → Layers
-layers_of changes items written = record { layers = with_first_layer (with_changes changes) (map settings_of_item items); written = written }
+abbrev pub layers_of : Unsaved → List Layer → Bool → Layers
+layers_of changes items written = record { layers = with_first_layer (with_changes changes) (map settings_of items); written = written }

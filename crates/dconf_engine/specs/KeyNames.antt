@@ -23,7 +23,6 @@ key_name_at layer i = key_name (name_of (region layer.values) i)
 abbrev pub key_names : Layer → ℕ → List (List ℕ)
 key_names layer n = gathered (key_name_at layer) n
 
--- those of all items of a layer that may be missing
-abbrev pub all_key_names : Option Layer → List (List ℕ)
-all_key_names None = []
-all_key_names (Some layer) = key_names layer (items_of layer)
+-- those of all items
+abbrev pub all_key_names : Layer → List (List ℕ)
+all_key_names layer = key_names layer (items_of layer)

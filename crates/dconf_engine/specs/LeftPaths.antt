@@ -39,9 +39,8 @@ abbrev pub has_reset_below : List ℕ → Unsaved → Bool
 has_reset_below directory changes = list_any (λ c. is_reset_below directory c.0 c.1) (entries changes)
 
 -- Paths that a layer has, those that were reset below the directory left out. Elsewhere some of them may be among these.
-abbrev pub base_paths : List ℕ → Unsaved → Option Layer → List (List ℕ)
-base_paths directory changes None = []
-base_paths directory changes (Some layer) =
+abbrev pub base_paths : List ℕ → Unsaved → Layer → List (List ℕ)
+base_paths directory changes layer =
     if has_reset_below directory changes
     then left_of (settings_of layer).values changes (key_names layer (items_of layer))
     else keys (settings_of layer).values

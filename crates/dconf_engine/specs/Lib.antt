@@ -4,6 +4,7 @@ pub mod LayerSettings
 pub mod Files
 pub mod LayersCode
 pub mod EngineLayers
+pub mod LentSettings
 pub mod ChangeFaults
 pub mod Edits
 pub mod Rows
@@ -16,3 +17,4 @@ pub mod Cleared
 pub mod TextSets
 pub mod LeftPaths
 pub mod LockNames
+pub mod Differing

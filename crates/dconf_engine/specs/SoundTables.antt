@@ -1,11 +1,15 @@
 -- The two tables of a sound database: its root table, and its table of locks where it has one.
-use Rattle.std.specs.Prelude.{◌≡◌, Option, Some, None, codes}
+use Rattle.std.specs.Prelude.{◌≡◌, Bool, Option, Some, None, codes, if◌then◌else◌}
 use Rattle.dconf_model.specs.Table.{Table as Region}
 use Rattle.dconf_model.specs.Opening.{IsDatabase, root_of}
 use Rattle.dconf_model.specs.Sound.{IsSound}
 use Rattle.gvdb_read.specs.declared.table.Table.{Table}
 use Rattle.gvdb_read.specs.Lookups.{IsTableAt}
 use Rattle.gvdb_read.specs.Tables.{region}
+
+-- a table that may be missing
+abbrev pub locks_if : Bool → Table → Option Table
+locks_if there locks = if there then Some locks else None
 
 abbrev pub IsTableOfLocks : Region → Option Table → Type 0
 IsTableOfLocks t None = (u : Region) → ¬ IsTableAt t (codes ".locks") u

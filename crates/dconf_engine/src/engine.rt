@@ -4,21 +4,22 @@ ghost use Rattle.std.specs.FinMap.{get};
 ghost use Rattle.gv_view.specs.Views.{value};
 ghost use Rattle.gvdb_read.specs.Lookups.{ShowsHeld};
 ghost use Rattle.dconf_model.specs.Databases.{AreLayers, IsFirstBad};
-ghost use Rattle.dconf_model.specs.Layers.{first_from, is_locked, level, locks_path, origin, place_of, visible, visible_bytes, without_user};
+ghost use Rattle.dconf_model.specs.Layers.{first_from, is_locked, level, origin, place_of, visible, visible_bytes, without_user};
 ghost use Rattle.dconf_model.specs.Profiles.{is_written};
 ghost use Rattle.dconf_model.specs.Settings.{no_settings};
 ghost use Rattle.dconf_path.specs.Paths.{key_text};
 ghost use Rattle.dconf_path.specs.Profiles.{databases_of};
 ghost use Rattle.dconf_engine.specs.Faults.{bad_of};
 ghost use Rattle.dconf_engine.specs.Files.{bytes_of_files};
-ghost use Rattle.dconf_engine.specs.LayerSettings.{settings_of_item};
+ghost use Rattle.dconf_engine.specs.LayerSettings.{settings_of};
 
 use crate::changes::Changes;
 use crate::fault::EngineFault;
 use crate::layer::Layer;
+use crate::lent::LentLayers;
 use dconf_path::{DatabaseKind, KeyPath, Profile};
 use gv_view::View;
-use std::alloc::Global;
+use std::alloc::{AllocError, Global};
 use std::marker::Model;
 
 /// The layers of a profile's databases, lent from their files, the first database's first.
@@ -28,7 +29,7 @@ use std::marker::Model;
 pub struct Engine<'a> {
     pub(crate) alloc: Global,
     written: bool,
-    pub(crate) layers: Vec<Option<Layer<'a>>>,
+    pub(crate) layers: Vec<Layer<'a>>,
     pub(crate) changes: Changes,
 }
 
@@ -46,6 +47,8 @@ impl<'a> Model for Engine<'a> {
 }
 
 impl<'a> Engine<'a> {
+    ghost use Rattle.dconf_engine.specs.LentSettings.{seen_in};
+
     /// Opens the databases of a profile. For each there is the bytes of its file, or None where there is no file: that is
     /// an empty database.
     ///
@@ -62,14 +65,35 @@ impl<'a> Engine<'a> {
         ensures fault { IfErr result (λ e. IfSome (bad_of e) (λ bad. IsFirstBad (bytes_of_files files.now) bad.0 bad.1)) }
     {
         let layers = open_layers(alloc, files)?;
-        let written = is_of_user(profile);
+        Ok(Engine::of_opened(alloc, is_of_user(profile), layers))
+    }
+
+    /// The engine of layers that are open: it checks none of them anew. Where `written`, the first is the user's.
+    ///
+    /// An error comes where a growth is refused. It copies the layers, and not their files.
+    pub fn of_layers(
+        alloc: Global,
+        written: bool,
+        layers: &[Layer<'a>],
+    ) -> Result<Engine<'a>, AllocError>
+        ensures { IfOk result (λ engine. engine ≡ record { layers = map settings_of layers.now; written = written }) }
+    {
+        let mut copy = Vec::with_capacity(alloc, layers.len())?;
+        copy.extend_from_slice(layers)?;
+        Ok(Engine::of_opened(alloc, written, copy))
+    }
+
+    /// The engine of these layers, of which none is changed.
+    fn of_opened(alloc: Global, written: bool, layers: Vec<Layer<'a>>) -> Engine<'a>
+        ensures { result ≡ record { layers = map settings_of layers.entry.items; written = written } }
+    {
         let changes = Changes::new(alloc);
-        Ok(Engine {
+        Engine {
             alloc,
             written,
             layers,
             changes,
-        })
+        }
     }
 
     /// The value that is seen at a path, or None where none is.
@@ -136,26 +160,37 @@ impl<'a> Engine<'a> {
     fn level(&self, path: KeyPath<'_>) -> usize
         ensures { result ≡ level self.now (key_text path.entry) }
     {
-        let mut i = self.count();
-        while i > 1 {
-            i -= 1;
-            if self.locks_at(i, path) {
-                return i;
-            }
-        }
-        0
+        self.lent().level(path)
     }
 
     /// The first layer from that one on that has the path, and the bytes of its value.
     fn place_from(&self, from: usize, path: KeyPath<'_>) -> Option<(usize, &[u8])>
         ensures { option_map {U = ℕ × List ℕ} (λ p. (p.0, p.1.now)) result ≡ first_from from (drop from self.now.layers) (key_text path.entry) }
     {
-        for i in from..self.count() {
-            if let Some(bytes) = self.bytes_at(i, path) {
-                return Some((i, bytes));
-            }
+        if from == 0 {
+            return self.first_place(path);
         }
-        None
+        self.lent().place_from(from, path)
+    }
+
+    /// The first layer of all that has the path, and the bytes of its value.
+    fn first_place(&self, path: KeyPath<'_>) -> Option<(usize, &[u8])>
+        ensures { option_map {U = ℕ × List ℕ} (λ p. (p.0, p.1.now)) result ≡ first_from 0 self.now.layers (key_text path.entry) }
+    {
+        if self.count() == 0 {
+            return None;
+        }
+        match self.first_bytes(path) {
+            Some(bytes) => Some((0, bytes)),
+            None => self.lent().place_from(1, path),
+        }
+    }
+
+    /// The layers as their files have them: from the second on they are its own.
+    fn lent(&self) -> LentLayers<'a, '_>
+        ensures { drop 1 (seen_in result).layers ≡ drop 1 self.now.layers }
+    {
+        LentLayers::new(self.written, &self.layers)
     }
 
     /// How many layers there are.
@@ -165,25 +200,6 @@ impl<'a> Engine<'a> {
         self.layers.len()
     }
 
-    /// Whether a layer locks a path.
-    fn locks_at(&self, i: usize, path: KeyPath<'_>) -> bool
-        requires { i < length self.now.layers }
-        ensures { result ≡ locks_path (key_text path.entry) (slice_index_or self.now.layers i no_settings) }
-    {
-        Layer::locks_if_any(self.layers[i], path)
-    }
-
-    /// The bytes of a layer's value at a path.
-    fn bytes_at(&self, i: usize, path: KeyPath<'_>) -> Option<&[u8]>
-        requires { i < length self.now.layers }
-        ensures { option_map (λ bytes. bytes.now) result ≡ get (slice_index_or self.now.layers i no_settings).values (key_text path.entry) }
-    {
-        if i == 0 {
-            return self.first_bytes(path);
-        }
-        Layer::get_if_any(self.layers[i], path.as_str())
-    }
-
     /// The bytes of the first layer's value at a path: those of a change where there is one, else those of its file.
     fn first_bytes(&self, path: KeyPath<'_>) -> Option<&[u8]>
         requires { 0 < length self.now.layers }
@@ -191,22 +207,19 @@ impl<'a> Engine<'a> {
     {
         match self.changes.get(path.as_str()) {
             Some(changed) => changed,
-            None => Layer::get_if_any(self.layers[0], path.as_str()),
+            None => self.layers[0].get(path.as_str()),
         }
     }
 }
 
 /// The layers of the databases whose files these are.
-fn open_layers<'a>(
-    alloc: Global,
-    files: &[Option<&'a [u8]>],
-) -> Result<Vec<Option<Layer<'a>>>, EngineFault>
-    ensures layers { IfOk result (λ layers. AreLayers (bytes_of_files files.now) (map settings_of_item layers.items)) }
+fn open_layers<'a>(alloc: Global, files: &[Option<&'a [u8]>]) -> Result<Vec<Layer<'a>>, EngineFault>
+    ensures layers { IfOk result (λ layers. AreLayers (bytes_of_files files.now) (map settings_of layers.items)) }
     ensures fault { IfErr result (λ e. IfSome (bad_of e) (λ bad. IsFirstBad (bytes_of_files files.now) bad.0 bad.1)) }
 {
     let mut layers = Vec::with_capacity(alloc, files.len())?;
     for (i, file) in files.iter().enumerate() {
-        match Layer::open_if_any(*file) {
+        match Layer::open(*file) {
             Ok(layer) => layers.push(layer)?,
             Err(fault) => return Err(EngineFault::BadDatabase(i, fault)),
         }

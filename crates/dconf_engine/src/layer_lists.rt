@@ -10,7 +10,7 @@ ghost use Rattle.dconf_path.specs.Paths.{directory_text};
 ghost use Rattle.gvdb_read.specs.NamesLeft.{names_left};
 ghost use Rattle.gvdb_read.specs.Tables.{region};
 ghost use Rattle.gvdb_write.specs.Salvaged.{HasNoShortText};
-ghost use Rattle.dconf_engine.specs.LockNames.{lock_count, lock_name, lock_name_at, lock_names, locks_under};
+ghost use Rattle.dconf_engine.specs.LockNames.{lock_count, lock_name, lock_name_at, locks_under};
 ghost use Rattle.dconf_engine.specs.TextSets.{Adds};
 
 use crate::children::add_text;
@@ -21,7 +21,7 @@ use std::alloc::{AllocError, Global};
 use std::collections::BTreeSet;
 
 impl<'a> Layer<'a> {
-    ghost use Rattle.dconf_engine.specs.LayerSettings.{settings_of, settings_of_item};
+    ghost use Rattle.dconf_engine.specs.LayerSettings.{locks_of, settings_of};
 
     // ---- children
 
@@ -42,48 +42,18 @@ impl<'a> Layer<'a> {
         }
     }
 
-    /// As `add_listed`, where there is a file.
-    pub(crate) fn add_listed_if_any(
-        alloc: Global,
-        layer: Option<Layer<'a>>,
-        directory: DirPath<'_>,
-        names: &mut BTreeSet<String>,
-    ) -> Result<(), AllocError>
-        ensures { OnOk result (Adds (parts_below (directory_text directory.entry) (keys (settings_of_item layer.entry).values)) names.old names.new) }
-    {
-        match layer {
-            Some(layer) => layer.add_listed(alloc, directory, names),
-            None => Ok(()),
-        }
-    }
-
     // ---- locks
 
-    /// Adds the paths of a layer's locks that start with a directory, where there is a file.
+    /// Adds the paths of its locks that start with a directory.
     ///
     /// An error comes where a growth is refused. It looks at the name of each lock.
-    pub(crate) fn add_locks_if_any(
-        alloc: Global,
-        layer: Option<Layer<'a>>,
-        directory: DirPath<'_>,
-        paths: &mut BTreeSet<String>,
-    ) -> Result<(), AllocError>
-        ensures { OnOk result (Adds (locks_under (directory_text directory.entry) (keys (settings_of_item layer.entry).locks)) paths.old paths.new) }
-    {
-        match layer {
-            Some(layer) => layer.add_locks(alloc, directory, paths),
-            None => Ok(()),
-        }
-    }
-
-    /// Adds the paths of its locks that start with a directory.
-    fn add_locks(
+    pub(crate) fn add_locks(
         self,
         alloc: Global,
         directory: DirPath<'_>,
         paths: &mut BTreeSet<String>,
     ) -> Result<(), AllocError>
-        ensures { OnOk result (Adds (locks_under (directory_text directory.entry) (lock_names self.entry.locks (lock_count self.entry.locks))) paths.old paths.new) }
+        ensures { OnOk result (Adds (locks_under (directory_text directory.entry) (keys (settings_of self.entry).locks)) paths.old paths.new) }
     {
         for i in 0..self.n_locks() {
             self.add_lock(alloc, i, directory, paths)?;
@@ -99,7 +69,7 @@ impl<'a> Layer<'a> {
         directory: DirPath<'_>,
         paths: &mut BTreeSet<String>,
     ) -> Result<(), AllocError>
-        ensures { OnOk result (Adds (locks_under (directory_text directory.entry) (lock_name_at self.entry.locks i)) paths.old paths.new) }
+        ensures { OnOk result (Adds (locks_under (directory_text directory.entry) (lock_name_at (locks_of self.entry) i)) paths.old paths.new) }
     {
         match self.lock_at(alloc, i)? {
             Some(name) => add_if_lock(alloc, name.as_str(), directory, paths),
@@ -109,9 +79,9 @@ impl<'a> Layer<'a> {
 
     /// How many items its table of locks has.
     fn n_locks(self) -> u32
-        ensures { result ≡ lock_count self.entry.locks }
+        ensures { result ≡ lock_count (locks_of self.entry) }
     {
-        match self.locks {
+        match self.locks() {
             Some(locks) => locks.n_items(),
             None => 0,
         }
@@ -119,9 +89,9 @@ impl<'a> Layer<'a> {
 
     /// The name of item `i` of its table of locks, where it is a text no longer than a path.
     fn lock_at(self, alloc: Global, i: u32) -> Result<Option<String>, AllocError>
-        ensures { IfOk result (λ found. lock_name (option_map string_bytes found) ≡ lock_name_at self.entry.locks i) }
+        ensures { IfOk result (λ found. lock_name (option_map string_bytes found) ≡ lock_name_at (locks_of self.entry) i) }
     {
-        match self.locks {
+        match self.locks() {
             Some(locks) => short_name(alloc, locks, i),
             None => Ok(None),
         }

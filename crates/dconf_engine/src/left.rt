@@ -5,7 +5,7 @@ ghost use Rattle.dconf_model.specs.Layers.{parts_below};
 ghost use Rattle.dconf_model.specs.Paths.{is_key_path};
 ghost use Rattle.dconf_path.specs.Paths.{directory_text};
 ghost use Rattle.dconf_engine.specs.KeyNames.{items_of, key_name, key_name_at, key_names};
-ghost use Rattle.dconf_engine.specs.LayerSettings.{settings_of, settings_of_item};
+ghost use Rattle.dconf_engine.specs.LayerSettings.{settings_of};
 ghost use Rattle.dconf_engine.specs.LeftPaths.{base_paths, has_reset_below, is_left, is_reset_below, left_parts, path_if_set, set_paths};
 ghost use Rattle.dconf_engine.specs.TextSets.{Adds};
 ghost use Rattle.dconf_engine.specs.Unsaved.{with_changes};
@@ -19,37 +19,21 @@ use dconf_path::{DirPath, KeyPath};
 use std::alloc::{AllocError, Global};
 use std::collections::BTreeSet;
 
-/// Adds the names of what a directory has in a layer, if it is there, with the changes.
+/// Adds the names of what a directory has in a layer, with the changes.
 ///
 /// An error comes where a growth is refused. It looks at each change, and asks the file for the directory's list; or, where a
 /// path below the directory was reset, it looks at the name of each item.
 pub(crate) fn add_with_changes(
     alloc: Global,
-    layer: Option<Layer<'_>>,
+    layer: Layer<'_>,
     changes: &Changes,
     directory: DirPath<'_>,
     names: &mut BTreeSet<String>,
 ) -> Result<(), AllocError>
-    ensures { OnOk result (Adds (parts_below (directory_text directory.entry) (keys (with_changes changes.now (settings_of_item layer.entry).values))) names.old names.new) }
+    ensures { OnOk result (Adds (parts_below (directory_text directory.entry) (keys (with_changes changes.now (settings_of layer.entry).values))) names.old names.new) }
 {
-    add_base(alloc, layer, changes, directory, names)?;
+    add_file(alloc, layer, changes, directory, names)?;
     add_sets(alloc, changes, directory, names)
-}
-
-/// Adds the names of what a directory has in a layer, if it is there, less those of which nothing is left.
-fn add_base(
-    alloc: Global,
-    layer: Option<Layer<'_>>,
-    changes: &Changes,
-    directory: DirPath<'_>,
-    names: &mut BTreeSet<String>,
-) -> Result<(), AllocError>
-    ensures { OnOk result (Adds (parts_below (directory_text directory.entry) (base_paths (directory_text directory.entry) changes.now layer.entry)) names.old names.new) }
-{
-    match layer {
-        Some(layer) => add_file(alloc, layer, changes, directory, names),
-        None => Ok(()),
-    }
 }
 
 /// Adds the names of what a directory has in a layer's file, less those of which nothing is left.
@@ -60,7 +44,7 @@ fn add_file(
     directory: DirPath<'_>,
     names: &mut BTreeSet<String>,
 ) -> Result<(), AllocError>
-    ensures { OnOk result (Adds (parts_below (directory_text directory.entry) (base_paths (directory_text directory.entry) changes.now (Some layer.entry))) names.old names.new) }
+    ensures { OnOk result (Adds (parts_below (directory_text directory.entry) (base_paths (directory_text directory.entry) changes.now layer.entry)) names.old names.new) }
 {
     if has_reset_below(changes, directory) {
         return add_unchanged(alloc, layer, changes, directory, names);

@@ -9,7 +9,6 @@ ghost use Rattle.dconf_engine.specs.TextSets.{Adds};
 
 use crate::children::texts_of;
 use crate::engine::Engine;
-use crate::layer::Layer;
 use crate::left::add_with_changes;
 use dconf_path::DirPath;
 use std::alloc::{AllocError, Global};
@@ -61,7 +60,7 @@ impl<'a> Engine<'a> {
         if i == 0 {
             return add_with_changes(alloc, self.layers[0], &self.changes, directory, names);
         }
-        Layer::add_listed_if_any(alloc, self.layers[i], directory, names)
+        self.layers[i].add_listed(alloc, directory, names)
     }
 
     // ---- locks
@@ -104,6 +103,6 @@ impl<'a> Engine<'a> {
         requires { i < length self.now.layers }
         ensures { OnOk result (Adds (locks_under (directory_text directory.entry) (keys (slice_index_or self.now.layers i no_settings).locks)) paths.old paths.new) }
     {
-        Layer::add_locks_if_any(alloc, self.layers[i], directory, paths)
+        self.layers[i].add_locks(alloc, directory, paths)
     }
 }

@@ -53,19 +53,16 @@ impl<'a> Engine<'a> {
     /// Resets what the first layer has below a directory.
     fn reset_first(
         &self,
-        layers: &[Option<Layer<'_>>],
+        layers: &[Layer<'_>],
         directory: DirPath<'_>,
         changes: &mut Changes,
     ) -> Result<(), MapFault>
         ensures { OnOk result (changes.new ≡ and_resets (cleared self.now (directory_text directory.entry) (first_names layers.now)) changes.old) }
     {
-        let Some(first) = layers.first() else {
-            return Ok(());
-        };
-        let Some(layer) = *first else {
-            return Ok(());
-        };
-        self.reset_layer(layer, directory, changes)
+        match layers.first() {
+            Some(first) => self.reset_layer(*first, directory, changes),
+            None => Ok(()),
+        }
     }
 
     /// Resets what a layer has below a directory.

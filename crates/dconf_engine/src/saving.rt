@@ -6,8 +6,8 @@ ghost use Rattle.dconf_model.specs.Changes.{saved};
 ghost use Rattle.dconf_model.specs.Databases.{IsDatabaseOf, IsTooBig};
 ghost use Rattle.gvdb_write.specs.Limits.{IsRefusal};
 ghost use Rattle.dconf_model.specs.Settings.{no_settings};
-ghost use Rattle.dconf_engine.specs.KeyNames.{all_key_names, items_of, key_name_at, key_names};
-ghost use Rattle.dconf_engine.specs.LayerSettings.{settings_of, settings_of_item};
+ghost use Rattle.dconf_engine.specs.KeyNames.{items_of, key_name_at, key_names};
+ghost use Rattle.dconf_engine.specs.LayerSettings.{settings_of};
 ghost use Rattle.dconf_engine.specs.Saved.{and_unchanged, with_unchanged, with_sets};
 
 use crate::changes::Changes;
@@ -45,14 +45,11 @@ impl<'a> Engine<'a> {
     }
 }
 
-/// The values of a layer, if it is there, at paths that were not changed.
-fn unchanged(alloc: Global, layer: Option<Layer<'_>>, changes: &Changes) -> Result<Map, MapFault>
-    ensures { IfOk result (λ map. map ≡ with_unchanged (settings_of_item layer.entry).values changes.now (all_key_names layer.entry) no_settings) }
+/// The values of a layer at paths that were not changed.
+fn unchanged(alloc: Global, layer: Layer<'_>, changes: &Changes) -> Result<Map, MapFault>
+    ensures { IfOk result (λ map. map ≡ with_unchanged (settings_of layer.entry).values changes.now (key_names layer.entry (items_of layer.entry)) no_settings) }
 {
     let mut map = Map::new(alloc);
-    let Some(layer) = layer else {
-        return Ok(map);
-    };
     add_unchanged(alloc, layer, changes, &mut map)?;
     Ok(map)
 }

@@ -1,17 +1,8 @@
-use Rattle.std.proofs.Common.{◌≡◌, ◌∙◌, ◌-◌, ◌+◌, sym, subst, arith}
-use Rattle.dconf_model.specs.Layers.{locks_path}
+use Rattle.std.proofs.Common.{◌∙◌, ap, List}
+use Rattle.dconf_model.specs.Layers.{greatest_from, locks_path}
+use Rattle.dconf_model.specs.Settings.{Settings}
 use Rattle.dconf_path.specs.Paths.{key_text}
-use Rattle.dconf_engine.proofs.Levels.{NoneFrom, level_at, level_none}
 use Rattle.dconf_engine.proofs.engine.Engine.level.Goals as goal
 
-pub returns-then-locks_at : goal.returns-then-locks_at
-returns-then-locks_at c =
-    let P = locks_path (key_text c.args.path) in
-    let xs = c.args.self.now.layers in
-    let i = c.loop-i.i in
-    let step : i ≡ i - 1 + 1 = let some = c.loop-i-test.true in omega arith in
-    sym (level_at P xs (i - 1) (omega arith) (omega arith) (sym c.locks_at.ensures ∙ c.if-locks_at.true) (subst (NoneFrom P xs) step c.loop-i.invariant.none))
-
 pub returns : goal.returns
-returns c =
-    sym (level_none (locks_path (key_text c.args.path)) c.args.self.now.layers (λ k from within. c.loop-i.invariant.none k (omega (arith, from)) within))
+returns c = c.level.ensures ∙ ap (λ (ss : List Settings). greatest_from 1 (locks_path (key_text c.args.path)) ss) c.lent.ensures

@@ -2,7 +2,7 @@ use Rattle.std.proofs.Common.{◌≡◌, ◌∙◌, sym, ap, Ok, map}
 use Rattle.std.proofs.lemmas.Result.{err_from_is_err_and}
 use Rattle.dconf_model.specs.Layers.{Layers}
 use Rattle.dconf_model.specs.Changes.{Values, changed, with_all}
-use Rattle.dconf_engine.specs.LayerSettings.{settings_of_item}
+use Rattle.dconf_engine.specs.LayerSettings.{settings_of}
 use Rattle.dconf_engine.specs.Rows.{rows_of, not_locked}
 use Rattle.dconf_engine.specs.Unsaved.{Unsaved, and_rows, with_changes}
 use Rattle.dconf_engine.proofs.UnsavedLaws.{rows_more}
@@ -17,7 +17,7 @@ returns-in_err-set_rows-clause-fault c =
 pub returns-clause-ok : goal.returns-clause-ok
 returns-clause-ok c =
     let i = c.self.inside in
-    let base : Layers = record { layers = map settings_of_item i.layers.items; written = i.written } in
+    let base : Layers = record { layers = map settings_of i.layers.items; written = i.written } in
     let rows = not_locked c.args.self.now (rows_of c.args.rows.now) in
     let f : Values → Values = with_all rows in
     let made : c.set_rows.new.changes ≡ and_rows rows i.changes = c.in_ok-set_rows.ensures.ok ∙ ap (and_rows rows) c.in_ok-changes.ensures in

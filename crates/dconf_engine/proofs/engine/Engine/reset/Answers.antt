@@ -3,7 +3,7 @@ use Rattle.std.specs.FinMap.{remove}
 use Rattle.dconf_path.specs.Paths.{key_text}
 use Rattle.dconf_model.specs.Layers.{Layers}
 use Rattle.dconf_model.specs.Changes.{Values, changed}
-use Rattle.dconf_engine.specs.LayerSettings.{settings_of_item}
+use Rattle.dconf_engine.specs.LayerSettings.{settings_of}
 use Rattle.dconf_engine.specs.Unsaved.{Unsaved, with_changes}
 use Rattle.dconf_engine.proofs.UnsavedLaws.{reset_more}
 use Rattle.dconf_engine.proofs.WritingLaws.{reset_accepted, changed_beside}
@@ -12,7 +12,7 @@ use Rattle.dconf_engine.proofs.engine.Engine.reset.Goals as goal
 pub returns-clause-ok : goal.returns-clause-ok
 returns-clause-ok c =
     let i = c.self.inside in
-    let base : Layers = record { layers = map settings_of_item i.layers.items; written = i.written } in
+    let base : Layers = record { layers = map settings_of i.layers.items; written = i.written } in
     let p = key_text c.args.path in
     let f : Values → Values = (λ m. remove m p) in
     reset_accepted c.args.self.now p c.in_ok-check_path.ensures.ok

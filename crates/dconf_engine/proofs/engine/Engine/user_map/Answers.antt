@@ -1,4 +1,4 @@
-use Rattle.std.proofs.Common.{◌≡◌, ◌∙◌, ap, sym, List, Option, Some, slice_get}
+use Rattle.std.proofs.Common.{◌≡◌, ◌∙◌, ap, sym, List, Some, slice_get}
 use Rattle.dconf_engine.specs.declared.layer.Layer.{Layer}
 use Rattle.std.specs.FinMap.{entries}
 use Rattle.dconf_model.specs.Changes.{saved}
@@ -11,6 +11,6 @@ use Rattle.dconf_engine.proofs.engine.Engine.user_map.Goals as goal
 pub returns : goal.returns
 returns c =
     let i = c.self.inside in
-    let first : slice_get i.layers.items 0 ≡ Some c.in-Some.first.now = ap (λ (l : List (Option Layer)). slice_get l 0) (sym c.deref.ensures.value) ∙ sym c.in-Some.ensures.value in
+    let first : slice_get i.layers.items 0 ≡ Some c.in-Some.first.now = ap (λ (l : List Layer). slice_get l 0) (sym c.deref.ensures.value) ∙ sym c.in-Some.ensures.value in
     c.in_ok-add_sets.ensures ∙ (ap (λ (s : Settings). with_sets (entries i.changes) s) c.in_ok-map.ensures
     ∙ (saved_first i.changes i.layers.items c.in-Some.first.now first ∙ ap (λ (l : Layers). saved l.layers) c.self.view_is))

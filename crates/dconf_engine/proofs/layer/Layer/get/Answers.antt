@@ -1,6 +1,12 @@
+use Rattle.std.proofs.Common.{rules}
+use Rattle.dconf_engine.specs.LayerSettings.{locks_of}
+use Rattle.dconf_engine.proofs.EmptyDatabase.{nothing_in}
 use Rattle.dconf_engine.proofs.SoundLayers.{found_in}
 use Rattle.dconf_engine.proofs.layer.Layer.get.Goals as goal
 
+pub returns-then-n_items-eq0 : goal.returns-then-n_items-eq0
+returns-then-n_items-eq0 c = nothing_in c.args.self c.args.path.now (search rules)
+
 pub returns : goal.returns
 returns c =
-    found_in c.args.self.values c.args.self.locks c.args.path.now c.find_bytes.result c.args.self.sound c.find_bytes.ensures.found c.find_bytes.ensures.none
+    found_in c.args.self.values (locks_of c.args.self) c.args.path.now c.find_bytes.result c.args.self.sound c.find_bytes.ensures.found c.find_bytes.ensures.none

@@ -8,12 +8,13 @@ use Rattle.gvdb_write.specs.Salvaged.{HasNoShortText}
 use Rattle.dconf_engine.specs.declared.layer.Layer.{Layer}
 use Rattle.dconf_engine.specs.KeyNames.{key_name, key_name_at}
 use Rattle.dconf_engine.proofs.KeyNameLaws.{found_in_layer}
+use Rattle.dconf_engine.specs.LayerSettings.{locks_of}
 use Rattle.dconf_engine.proofs.layer.Layer.name_at.Goals as goal
 
 named : {E : Type 0} (layer : Layer) (i : ℕ) (r : Result (Option (String Global)) E) →
     IfOk r (λ found. IfSome found (λ name. HasName (region layer.values) i (string_bytes name))) → IfOk r (λ found. IfNone found (HasNoShortText (region layer.values) i)) →
     IfOk r (λ found. key_name (option_map string_bytes found) ≡ key_name_at layer i)
-named layer i (Ok found) some none = found_in_layer layer.values layer.locks i found layer.sound some none
+named layer i (Ok found) some none = found_in_layer layer.values (locks_of layer) i found layer.sound some none
 named layer i (Err e) some none = tt
 
 pub returns : goal.returns

@@ -1,0 +1,16 @@
+use Rattle.std.proofs.Common.{◌++◌}
+use Rattle.std.specs.Prelude.{filter}
+use Rattle.dconf_model.specs.Layers.{all_paths}
+use Rattle.dconf_engine.specs.Differing.{differs}
+use Rattle.dconf_engine.specs.LentSettings.{seen_in}
+use Rattle.dconf_engine.proofs.DifferingLaws.{both_added}
+use Rattle.dconf_engine.proofs.TextSetLaws.{listing_given}
+use Rattle.dconf_engine.proofs.lent.LentLayers.differing.Goals as goal
+
+pub returns : goal.returns
+returns c =
+    let l = seen_in c.args.self in
+    let m = seen_in c.args.other in
+    let f = differs l m in
+    listing_given c.new-paths.result c.add_layers-2.new.paths (filter f (all_paths l.layers ++ all_paths m.layers)) c.texts_of.result
+    c.new-paths.ensures.empty (both_added f (all_paths l.layers) (all_paths m.layers) _ _ _ c.in_ok-add_layers.ensures c.in_ok-add_layers-2.ensures) c.texts_of.ensures.texts c.texts_of.ensures.order

@@ -1,0 +1,149 @@
+//! The keys that are seen otherwise through other layers.
+ghost use Rattle.std.specs.Prelude.{◌≡◌, ◌&&◌, Some, IfOk, OnOk, filter, map, string_bytes};
+ghost use Rattle.std.specs.FinMap.{keys};
+ghost use Rattle.dconf_model.specs.Layers.{all_paths};
+ghost use Rattle.dconf_model.specs.Paths.{is_key_path};
+ghost use Rattle.dconf_path.specs.Paths.{key_text};
+ghost use Rattle.dconf_engine.specs.Differing.{bytes_of_place, differing, differs, is_other, same_bytes};
+ghost use Rattle.dconf_engine.specs.KeyNames.{items_of, key_name, key_name_at, key_names};
+ghost use Rattle.dconf_engine.specs.LayerSettings.{settings_of};
+ghost use Rattle.dconf_engine.specs.TextSets.{Adds};
+
+use crate::children::{add_text, texts_of};
+use crate::layer::Layer;
+use crate::lent::LentLayers;
+use dconf_path::KeyPath;
+use std::alloc::{AllocError, Global};
+use std::collections::BTreeSet;
+
+impl<'a, 'l> LentLayers<'a, 'l> {
+    ghost use Rattle.dconf_engine.specs.LentSettings.{seen_in};
+
+    /// The paths of the keys that are seen otherwise through other layers: other bytes are seen, or
+    /// a key is locked in one alone. Each is a key of one of the layers. They are in the order of
+    /// their bytes, once each.
+    ///
+    /// An error comes where a growth is refused. It looks at the name of each item of each layer,
+    /// and reads each key through both.
+    pub fn differing(
+        self,
+        alloc: Global,
+        other: LentLayers<'a, 'l>,
+    ) -> Result<Vec<String>, AllocError>
+        ensures { IfOk result (λ paths. map string_bytes paths.items ≡ differing (seen_in self.entry) (seen_in other.entry)) }
+    {
+        let mut paths = BTreeSet::new(alloc);
+        let pair = Pair {
+            first: self,
+            second: other,
+        };
+        pair.add_layers(alloc, self, &mut paths)?;
+        pair.add_layers(alloc, other, &mut paths)?;
+        texts_of(alloc, paths)
+    }
+
+    /// Whether a key is seen otherwise through other layers.
+    fn differs(self, other: LentLayers<'_, '_>, path: KeyPath<'_>) -> bool
+        ensures { result ≡ differs (seen_in self.entry) (seen_in other.entry) (key_text path.entry) }
+    {
+        self.is_locked(path) != other.is_locked(path)
+            || !is_same(self.place(path), other.place(path))
+    }
+}
+
+/// Two ways to see layers.
+#[derive(Clone, Copy)]
+struct Pair<'a, 'l> {
+    first: LentLayers<'a, 'l>,
+    second: LentLayers<'a, 'l>,
+}
+
+impl<'a, 'l> Pair<'a, 'l> {
+    ghost use Rattle.dconf_engine.specs.LentSettings.{seen_in};
+
+    /// Adds the keys of layers that are seen otherwise through the second than through the first.
+    fn add_layers(
+        self,
+        alloc: Global,
+        layers: LentLayers<'_, '_>,
+        paths: &mut BTreeSet<String>,
+    ) -> Result<(), AllocError>
+        ensures { OnOk result (Adds (filter (differs (seen_in self.entry.first) (seen_in self.entry.second)) (all_paths (seen_in layers.entry).layers)) paths.old paths.new) }
+    {
+        for layer in layers.layers {
+            self.add_layer(alloc, *layer, paths)?;
+        }
+        Ok(())
+    }
+
+    /// Adds those of a layer.
+    fn add_layer(
+        self,
+        alloc: Global,
+        layer: Layer<'_>,
+        paths: &mut BTreeSet<String>,
+    ) -> Result<(), AllocError>
+        ensures { OnOk result (Adds (filter (differs (seen_in self.entry.first) (seen_in self.entry.second)) (keys (settings_of layer.entry).values)) paths.old paths.new) }
+    {
+        for i in 0..layer.n_items() {
+            self.add_item(alloc, layer, i, paths)?;
+        }
+        Ok(())
+    }
+
+    /// Adds the name of an item, if it is such a key.
+    fn add_item(
+        self,
+        alloc: Global,
+        layer: Layer<'_>,
+        i: u32,
+        paths: &mut BTreeSet<String>,
+    ) -> Result<(), AllocError>
+        ensures { OnOk result (Adds (filter (is_other (settings_of layer.entry).values (seen_in self.entry.first) (seen_in self.entry.second)) (key_name_at layer.entry i)) paths.old paths.new) }
+    {
+        let Ok(found) = layer.name_at(alloc, i) else {
+            return Err(AllocError);
+        };
+        match found {
+            Some(name) => self.add_name(alloc, layer, name.as_str(), paths),
+            None => Ok(()),
+        }
+    }
+
+    /// Adds a text, if it is the path of such a key.
+    fn add_name(
+        self,
+        alloc: Global,
+        layer: Layer<'_>,
+        text: &str,
+        paths: &mut BTreeSet<String>,
+    ) -> Result<(), AllocError>
+        ensures { OnOk result (Adds (filter (is_other (settings_of layer.entry).values (seen_in self.entry.first) (seen_in self.entry.second)) (key_name (Some text.now))) paths.old paths.new) }
+    {
+        if !self.is_other(layer, text) {
+            return Ok(());
+        }
+        add_text(alloc, text, paths)
+    }
+
+    /// Whether a text is the path of a key of the layer that is seen otherwise.
+    fn is_other(self, layer: Layer<'_>, text: &str) -> bool
+        ensures { result ≡ (is_key_path text.now && is_other (settings_of layer.entry).values (seen_in self.entry.first) (seen_in self.entry.second) text.now) }
+    {
+        match KeyPath::parse(text) {
+            Ok(path) => layer.get(text).is_some() && self.first.differs(self.second, path),
+            Err(_) => false,
+        }
+    }
+}
+
+/// Whether the bytes at two places are the same.
+fn is_same(first: Option<(usize, &[u8])>, second: Option<(usize, &[u8])>) -> bool
+    ensures { result ≡ same_bytes (bytes_of_place first.entry) (bytes_of_place second.entry) }
+{
+    match (first, second) {
+        (Some((_, first)), Some((_, second))) => first == second,
+        (None, None) => true,
+        _ => false,
+    }
+}

@@ -1,0 +1,128 @@
+//! Layers that are lent, and what is seen through them.
+ghost use Rattle.std.specs.Prelude.{◌≡◌, ◌<◌, ◌&&◌, IfSome, List, Some, drop, length, map, not, option_map, slice_index_or, ℕ};
+ghost use Rattle.std.specs.FinMap.{get};
+ghost use Rattle.gv_view.specs.Views.{value};
+ghost use Rattle.gvdb_read.specs.Lookups.{ShowsHeld};
+ghost use Rattle.dconf_model.specs.Layers.{first_from, is_locked, level, locks_path, origin, place_of, visible, visible_bytes, without_user};
+ghost use Rattle.dconf_model.specs.Settings.{no_settings};
+ghost use Rattle.dconf_path.specs.Paths.{key_text};
+ghost use Rattle.dconf_engine.specs.LayerSettings.{settings_of};
+
+use crate::layer::Layer;
+use dconf_path::KeyPath;
+use gv_view::View;
+
+/// The layers of databases, lent, the first database's first. It reads as [`crate::Engine`] does,
+/// and takes no memory.
+#[derive(Clone, Copy, Debug)]
+pub struct LentLayers<'a, 'l> {
+    pub(crate) layers: &'l [Layer<'a>],
+    written: bool,
+}
+
+impl<'a, 'l> LentLayers<'a, 'l> {
+    ghost use Rattle.dconf_engine.specs.LentSettings.{seen_in};
+
+    /// These layers. Where `written`, the first is the user's.
+    pub fn new(written: bool, layers: &'l [Layer<'a>]) -> LentLayers<'a, 'l>
+        ensures { seen_in result ≡ record { layers = map settings_of layers.entry.now; written = written } }
+    {
+        LentLayers { layers, written }
+    }
+
+    /// The value that is seen at a path, or None where none is.
+    ///
+    /// It asks each layer, from the last on, whether it locks the path, and then each layer from
+    /// there on for its value.
+    pub fn read(self, path: KeyPath<'_>) -> Option<View<'a>>
+        ensures value { visible (seen_in self.entry) (key_text path.entry) ≡ option_map value result }
+        ensures lent { IfSome result (λ view. (bytes : List ℕ) × (visible_bytes (seen_in self.entry) (key_text path.entry) ≡ Some bytes) × ShowsHeld bytes view) }
+    {
+        let (_, bytes) = self.place(path)?;
+        Some(View::of_variant(bytes))
+    }
+
+    /// As `read`, without the values of the user's database.
+    pub fn read_default(self, path: KeyPath<'_>) -> Option<View<'a>>
+        ensures value { visible (without_user (seen_in self.entry)) (key_text path.entry) ≡ option_map value result }
+        ensures lent { IfSome result (λ view. (bytes : List ℕ) × (visible_bytes (without_user (seen_in self.entry)) (key_text path.entry) ≡ Some bytes) × ShowsHeld bytes view) }
+    {
+        let (_, bytes) = self.default_place(path)?;
+        Some(View::of_variant(bytes))
+    }
+
+    /// Whether a path is locked: a layer from the second on has a lock that covers it.
+    pub fn is_locked(self, path: KeyPath<'_>) -> bool
+        ensures { result ≡ is_locked (seen_in self.entry) (key_text path.entry) }
+    {
+        self.level(path) > 0
+    }
+
+    /// The index of the database whose value is seen at a path, or None where none is.
+    pub fn origin(self, path: KeyPath<'_>) -> Option<usize>
+        ensures { result ≡ origin (seen_in self.entry) (key_text path.entry) }
+    {
+        let (i, _) = self.place(path)?;
+        Some(i)
+    }
+
+    /// Where the value that is seen at a path is: its layer, and its bytes, which are a variant's.
+    pub fn place(self, path: KeyPath<'_>) -> Option<(usize, &'a [u8])>
+        ensures { option_map {U = ℕ × List ℕ} (λ p. (p.0, p.1.now)) result ≡ place_of (seen_in self.entry) (key_text path.entry) }
+    {
+        self.place_from(self.level(path), path)
+    }
+
+    /// The same without the values of the user's database.
+    pub fn default_place(self, path: KeyPath<'_>) -> Option<(usize, &'a [u8])>
+        ensures { option_map {U = ℕ × List ℕ} (λ p. (p.0, p.1.now)) result ≡ place_of (without_user (seen_in self.entry)) (key_text path.entry) }
+    {
+        let level = self.level(path);
+        if self.written && level == 0 {
+            return self.place_from(1, path);
+        }
+        self.place_from(level, path)
+    }
+
+    /// The greatest index of at least 1 whose layer locks the path; else 0.
+    pub(crate) fn level(self, path: KeyPath<'_>) -> usize
+        ensures { result ≡ level (seen_in self.entry) (key_text path.entry) }
+    {
+        let mut i = self.layers.len();
+        while i > 1 {
+            i -= 1;
+            if self.locks_at(i, path) {
+                return i;
+            }
+        }
+        0
+    }
+
+    /// The first layer from that one on that has the path, and the bytes of its value.
+    pub(crate) fn place_from(self, from: usize, path: KeyPath<'_>) -> Option<(usize, &'a [u8])>
+        ensures { option_map {U = ℕ × List ℕ} (λ p. (p.0, p.1.now)) result ≡ first_from from (drop from (seen_in self.entry).layers) (key_text path.entry) }
+    {
+        for i in from..self.layers.len() {
+            if let Some(bytes) = self.bytes_at(i, path) {
+                return Some((i, bytes));
+            }
+        }
+        None
+    }
+
+    /// Whether a layer locks a path.
+    fn locks_at(self, i: usize, path: KeyPath<'_>) -> bool
+        requires { i < length (seen_in self).layers }
+        ensures { result ≡ locks_path (key_text path.entry) (slice_index_or (seen_in self.entry).layers i no_settings) }
+    {
+        self.layers[i].locks_path(path)
+    }
+
+    /// The bytes of a layer's value at a path.
+    fn bytes_at(self, i: usize, path: KeyPath<'_>) -> Option<&'a [u8]>
+        requires { i < length (seen_in self).layers }
+        ensures { option_map (λ bytes. bytes.now) result ≡ get (slice_index_or (seen_in self.entry).layers i no_settings).values (key_text path.entry) }
+    {
+        self.layers[i].get(path.as_str())
+    }
+}

@@ -1,0 +1,2 @@
+mod ChangeTurns
+mod Refusals

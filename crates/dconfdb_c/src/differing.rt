@@ -1,0 +1,47 @@
+//! The keys that are seen otherwise through other layers.
+ghost use Rattle.std.specs.Prelude.{◌≡◌, ◌≢◌, IfOk, true};
+ghost use Rattle.dconf_engine.specs.Differing.{differing};
+ghost use Rattle.dconfdb_c.specs.Given.{HandsOut};
+ghost use Rattle.dconfdb_c.specs.Listed.{ended};
+ghost use Rattle.dconfdb_c.specs.Seen.{layers_of};
+
+use crate::fault::Fault;
+use crate::given::hand_out;
+use crate::listing::texts_of;
+use dconf_engine::{Layer, LentLayers};
+use std::alloc::{AllocError, Global};
+
+/// The paths of the keys that are seen otherwise through other layers: other bytes are seen, or a
+/// key is locked in one alone. Each is a key of one of the layers. They are handed out as
+/// `dconfdb_list` does.
+#[unsafe(no_mangle)]
+pub extern "C" fn dconfdb_differs(
+    alloc: Global,
+    layers: &[Layer<'_>],
+    other: &[Layer<'_>],
+    room: &mut [u8],
+    len: &mut usize,
+) -> u32
+    ensures done { result ≡ 0 → HandsOut (ended (differing (layers_of layers.now true) (layers_of other.now true))) room.new len.new }
+    ensures refused { result ≢ 0 → result ≡ 1 }
+{
+    match differing(alloc, layers, other) {
+        Ok(paths) => {
+            *len = hand_out(paths.as_slice(), room);
+            0
+        }
+        Err(_) => Fault::Memory.number(),
+    }
+}
+
+/// The paths of the keys that are seen otherwise, as they are handed out.
+fn differing(
+    alloc: Global,
+    layers: &[Layer<'_>],
+    other: &[Layer<'_>],
+) -> Result<Vec<u8>, AllocError>
+    ensures { IfOk result (λ all. all.items ≡ ended (differing (layers_of layers.now true) (layers_of other.now true))) }
+{
+    let paths = LentLayers::new(true, layers).differing(alloc, LentLayers::new(true, other))?;
+    texts_of(alloc, paths.as_slice())
+}
