@@ -1,0 +1,256 @@
+/* The files of a store: found, read or mapped, locked and replaced. */
+#define _DEFAULT_SOURCE
+#define _POSIX_C_SOURCE 200809L
+#define _FILE_OFFSET_BITS 64
+#include "files.h"
+
+#include <errno.h>
+#include <fcntl.h>
+#include <stdio.h>
+#include <stdlib.h>
+#include <string.h>
+#include <sys/file.h>
+#include <sys/mman.h>
+#include <sys/stat.h>
+#include <unistd.h>
+
+enum { LONGEST_WAIT = 10, PAUSE = 5000000, MOST_TRIES = 2001, PERMISSION_BITS = 0777, READ_AND_WRITE = 0600 };
+
+static FileState state_of(const struct stat *found)
+{
+    return (FileState){true, found->st_dev, found->st_ino, found->st_size, found->st_mtim};
+}
+
+int file_look(const char *name, FileState *state)
+{
+    struct stat found;
+    *state = (FileState){.is_there = false};
+    if (stat(name, &found) != 0)
+        return errno == ENOENT ? 0 : errno;
+    *state = state_of(&found);
+    return 0;
+}
+
+bool file_is_same(const FileState *one, const FileState *other)
+{
+    if (!one->is_there || !other->is_there)
+        return one->is_there == other->is_there;
+    return one->device == other->device && one->inode == other->inode && one->size == other->size
+        && one->written.tv_sec == other->written.tv_sec && one->written.tv_nsec == other->written.tv_nsec;
+}
+
+/* Reads so many bytes, or fewer where the file has become shorter. */
+static int fill(int file, FileBytes *bytes, size_t wanted)
+{
+    while (bytes->len < wanted) {
+        ssize_t got = read(file, bytes->at + bytes->len, wanted - bytes->len);
+        if (got == 0)
+            return 0;
+        if (got > 0)
+            bytes->len += (size_t)got;
+        else if (errno != EINTR)
+            return errno;
+    }
+    return 0;
+}
+
+/* The bytes of an open file, of which there is at least one. */
+static int take(int file, bool maps, size_t len, FileBytes *bytes)
+{
+    if (maps) {
+        void *at = mmap(NULL, len, PROT_READ, MAP_PRIVATE, file, 0);
+        if (at != MAP_FAILED) {
+            *bytes = (FileBytes){at, len, true};
+            return 0;
+        }
+    }
+    /* Also where a file system can't map. */
+    bytes->at = malloc(len);
+    return bytes->at ? fill(file, bytes, len) : ENOMEM;
+}
+
+int file_read(const char *name, bool maps, size_t most, FileBytes *bytes, FileState *state)
+{
+    struct stat found;
+    int fault = 0;
+    *bytes = (FileBytes){NULL, 0, false};
+    *state = (FileState){.is_there = false};
+    /* O_NONBLOCK: a pipe without a writer is not waited for. */
+    int file = open(name, O_RDONLY | O_CLOEXEC | O_NONBLOCK | O_NOCTTY);
+    if (file < 0)
+        return errno == ENOENT ? 0 : errno;
+    if (fstat(file, &found) != 0)
+        fault = errno;
+    else if (!S_ISREG(found.st_mode))
+        fault = S_ISDIR(found.st_mode) ? EISDIR : EINVAL;
+    else if ((uintmax_t)found.st_size > most)
+        fault = EOVERFLOW;
+    else if (found.st_size > 0)
+        fault = take(file, maps, (size_t)found.st_size, bytes);
+    close(file);
+    if (fault == 0)
+        *state = state_of(&found);
+    else
+        file_release(bytes);
+    return fault;
+}
+
+void file_release(FileBytes *bytes)
+{
+    if (bytes->is_mapped)
+        munmap(bytes->at, bytes->len);
+    else
+        free(bytes->at);
+    *bytes = (FileBytes){NULL, 0, false};
+}
+
+/* Tries every five milliseconds, for ten seconds at most; the first try comes at once. */
+static int await_turn(int folder)
+{
+    struct timespec began, now, pause = {0, PAUSE};
+    if (clock_gettime(CLOCK_MONOTONIC, &began) != 0)
+        return errno;
+    for (int tries = 0; tries < MOST_TRIES; tries++) {
+        if (flock(folder, LOCK_EX | LOCK_NB) == 0)
+            return 0;
+        if (errno != EWOULDBLOCK && errno != EINTR)
+            return errno;
+        if (clock_gettime(CLOCK_MONOTONIC, &now) != 0)
+            return errno;
+        long long passed = (long long)(now.tv_sec - began.tv_sec) * 1000000000 + (now.tv_nsec - began.tv_nsec);
+        if (passed >= LONGEST_WAIT * 1000000000LL)
+            return EWOULDBLOCK;
+        nanosleep(&pause, NULL);
+    }
+    return EWOULDBLOCK;
+}
+
+int folder_lock(const char *folder, int *turn)
+{
+    *turn = open(folder, O_RDONLY | O_DIRECTORY | O_CLOEXEC);
+    if (*turn < 0)
+        return errno;
+    int fault = await_turn(*turn);
+    if (fault != 0)
+        close(*turn);
+    return fault;
+}
+
+void folder_unlock(int turn)
+{
+    /* Closing is not enough: a child that was forked meanwhile has the descriptor too. */
+    flock(turn, LOCK_UN);
+    close(turn);
+}
+
+static int sync_folder(const char *name)
+{
+    int fault = 0;
+    int folder = open(name, O_RDONLY | O_DIRECTORY | O_CLOEXEC);
+    if (folder < 0)
+        return errno;
+    if (fsync(folder) != 0)
+        fault = errno;
+    close(folder);
+    return fault;
+}
+
+/* Makes one folder of an absolute path, so that its name is on the disk. */
+static int make_one(char *folder)
+{
+    char *last = strrchr(folder, '/');
+    if (mkdir(folder, 0700) != 0)
+        return errno == EEXIST ? 0 : errno;
+    if (last == folder)
+        return sync_folder("/");
+    *last = 0;
+    int fault = sync_folder(folder);
+    *last = '/';
+    return fault;
+}
+
+int folder_make(const char *folder)
+{
+    struct stat found;
+    int fault = 0;
+    if (stat(folder, &found) == 0)
+        return 0;
+    char *path = malloc(strlen(folder) + 1);
+    if (!path)
+        return ENOMEM;
+    strcpy(path, folder);
+    for (char *at = path + 1; fault == 0 && (at = strchr(at, '/')) != NULL; at++) {
+        *at = 0;
+        if (stat(path, &found) != 0)
+            fault = make_one(path);
+        *at = '/';
+    }
+    if (fault == 0)
+        fault = make_one(path);
+    free(path);
+    return fault;
+}
+
+/* Writes all bytes, and has them and the permission bits on the disk. */
+static int fill_new(int file, const uint8_t *bytes, size_t len, const mode_t *mode, FileState *state)
+{
+    struct stat made;
+    for (size_t at = 0; at < len;) {
+        ssize_t put = write(file, bytes + at, len - at);
+        if (put > 0)
+            at += (size_t)put;
+        else if (put == 0 || errno != EINTR)
+            return put == 0 ? EIO : errno;
+    }
+    if (fstat(file, &made) != 0)
+        return errno;
+    if (mode && (made.st_mode & PERMISSION_BITS) != *mode && fchmod(file, *mode) != 0)
+        return errno;
+    if (fsync(file) != 0 || fstat(file, &made) != 0)
+        return errno;
+    *state = state_of(&made);
+    return 0;
+}
+
+/* Makes the new file. One that is to take another's place is at no time open to more users than that. */
+static int make_new(int folder, const char *name, const char *new_name, const uint8_t *bytes, size_t len, FileState *state)
+{
+    struct stat old;
+    mode_t mode = 0;
+    bool is_there = fstatat(folder, name, &old, 0) == 0;
+    if (!is_there && errno != ENOENT)
+        return errno;
+    if (is_there)
+        mode = old.st_mode & PERMISSION_BITS;
+    if (unlinkat(folder, new_name, 0) != 0 && errno != ENOENT)
+        return errno;
+    int file = openat(folder, new_name, O_WRONLY | O_CREAT | O_EXCL | O_CLOEXEC, is_there ? mode | READ_AND_WRITE : 0666);
+    if (file < 0)
+        return errno;
+    int fault = fill_new(file, bytes, len, is_there ? &mode : NULL, state);
+    if (close(file) != 0 && fault == 0)
+        fault = errno;
+    return fault;
+}
+
+int file_replace(int turn, const char *name, const uint8_t *bytes, size_t len, FileState *state, bool *has_replaced)
+{
+    *has_replaced = false;
+    char *new_name = malloc(strlen(name) + sizeof ".new");
+    if (!new_name)
+        return ENOMEM;
+    strcat(strcpy(new_name, name), ".new");
+    int fault = make_new(turn, name, new_name, bytes, len, state);
+    if (fault == 0) {
+        if (renameat(turn, new_name, turn, name) != 0)
+            fault = errno;
+        else
+            *has_replaced = true;
+    }
+    if (*has_replaced && fsync(turn) != 0)
+        fault = errno;
+    if (!*has_replaced)
+        unlinkat(turn, new_name, 0);
+    free(new_name);
+    return fault;
+}

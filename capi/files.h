@@ -1,0 +1,51 @@
+/* The files of a store, by calls of the system. Each call answers 0, or the errno of what failed. */
+#ifndef FILES_H
+#define FILES_H
+
+#include <stdbool.h>
+#include <stddef.h>
+#include <stdint.h>
+#include <sys/types.h>
+#include <time.h>
+
+/* Which file a name stands for, and when that was written last. */
+typedef struct {
+    bool is_there;
+    dev_t device;
+    ino_t inode;
+    off_t size;
+    struct timespec written;
+} FileState;
+
+/* A file's bytes: mapped, or from malloc(). */
+typedef struct {
+    uint8_t *at; /* NULL where there are none */
+    size_t len;
+    bool is_mapped;
+} FileBytes;
+
+/* The state of a name. It is no fault that there is no file. */
+int file_look(const char *name, FileState *state);
+
+bool file_is_same(const FileState *one, const FileState *other);
+
+/* What a file holds, and its state. It is no fault that there is none. EOVERFLOW: it has more than `most` bytes. EINVAL: it is
+ * no regular file. */
+int file_read(const char *name, bool maps, size_t most, FileBytes *bytes, FileState *state);
+
+void file_release(FileBytes *bytes);
+
+/* Takes the turn to change files of a folder, as crates/dconf_disk/src/lock.rt does: EWOULDBLOCK after ten seconds. */
+int folder_lock(const char *folder, int *turn);
+
+void folder_unlock(int turn);
+
+/* Makes a folder, and those that it is in. It is no fault that there is one. */
+int folder_make(const char *folder);
+
+/* Puts bytes in the place of a file of a folder that is locked: as crates/dconf_disk/src/replacing.rt does, so that a crash leaves
+ * the old bytes or the new ones. `state` is that of the new file; where this fails, `has_replaced` says whether the name is
+ * the new file's. */
+int file_replace(int turn, const char *name, const uint8_t *bytes, size_t len, FileState *state, bool *has_replaced);
+
+#endif

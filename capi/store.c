@@ -1,0 +1,712 @@
+/* A store and its snapshots, over the proved calls. What a file means, and whether a change may be made, is decided there. */
+#define _DEFAULT_SOURCE
+#define _POSIX_C_SOURCE 200809L
+#define _FILE_OFFSET_BITS 64
+#include "dconfdb.h"
+#include "dconfdb_calls.h"
+#include "files.h"
+
+#include <errno.h>
+#include <pthread.h>
+#include <stdarg.h>
+#include <stdatomic.h>
+#include <stdio.h>
+#include <stdlib.h>
+#include <string.h>
+#include <sys/auxv.h>
+#include <unistd.h>
+
+_Static_assert((int)DCONFDB_ERROR_MEMORY == (int)DCONFDB_MEMORY && (int)DCONFDB_ERROR_UNSOUND == (int)DCONFDB_UNSOUND
+                   && (int)DCONFDB_ERROR_TOO_MANY == (int)DCONFDB_TOO_MANY && (int)DCONFDB_ERROR_TOO_BIG == (int)DCONFDB_TOO_BIG,
+               "the header's numbers are those of the proved calls");
+
+/* A database's file at one moment. Snapshots share those that did not change. */
+typedef struct {
+    atomic_size_t references;
+    FileState state;
+    FileBytes bytes;
+    DconfdbLayer layer;
+    char name[];
+} Part;
+
+struct DconfdbSnapshot {
+    atomic_size_t references;
+    bool is_written;
+    size_t count;
+    Part **parts;
+    DconfdbLayer layers[];
+};
+
+/* A file and a profile have at most so many bytes, and a profile so many databases. */
+enum { LARGEST_PROFILE = 16777216, MOST_DATABASES = 64 };
+#define LARGEST_FILE 4294967295U
+
+struct DconfdbStore {
+    pthread_mutex_t refreshing; /* held while files are looked at, and put in place */
+    pthread_mutex_t handing;    /* held for `now` alone */
+    DconfdbSnapshot *now;
+    char *folder, *user_file; /* absolute; no user_file: no user's database */
+    size_t count;
+    char *files[MOST_DATABASES];
+};
+
+/* ---- errors */
+
+static bool refuse(DconfdbError *error, int number, int fault, size_t at, const char *format, ...)
+    __attribute__((format(printf, 5, 6)));
+
+static bool refuse(DconfdbError *error, int number, int fault, size_t at, const char *format, ...)
+{
+    if (!error)
+        return false;
+    va_list words;
+    va_start(words, format);
+    int len = vsnprintf(error->text, sizeof error->text, format, words);
+    va_end(words);
+    if (len < 0)
+        error->text[0] = 0;
+    else if ((size_t)len >= sizeof error->text)
+        memcpy(error->text + sizeof error->text - 4, "...", 4);
+    error->number = number;
+    error->system = fault;
+    error->at = at;
+    return false;
+}
+
+static bool refuse_memory(DconfdbError *error)
+{
+    return refuse(error, DCONFDB_ERROR_MEMORY, 0, 0, "no memory is left");
+}
+
+/* What a call of files.h answered. */
+static bool refuse_file(DconfdbError *error, int fault, const char *name, size_t at)
+{
+    char why[128];
+    if (fault == ENOMEM)
+        return refuse(error, DCONFDB_ERROR_MEMORY, 0, at, "%s: no memory is left", name);
+    if (fault == EOVERFLOW)
+        return refuse(error, DCONFDB_ERROR_TOO_BIG, 0, at, "%s: the file is too big", name);
+    if (strerror_r(fault, why, sizeof why) != 0)
+        snprintf(why, sizeof why, "error %d", fault);
+    return refuse(error, DCONFDB_ERROR_FILE, fault, at, "%s: %s", name, why);
+}
+
+/* What a proved call answered of a file, a line of it (not 0), or a key. */
+static bool refuse_call(DconfdbError *error, uint32_t number, const char *name, size_t line, size_t at)
+{
+    DconfdbBytes text = DCONFDB_NOTHING;
+    char place[32] = "";
+    if (!dconfdb_fault_text(number, &text))
+        return refuse(error, (int)number, 0, at, "%s: fault %u", name, (unsigned)number);
+    if (line != 0)
+        snprintf(place, sizeof place, ":%zu", line);
+    return refuse(error, (int)number, 0, at, "%s%s: %.*s", name, place, (int)text.len, (const char *)text.at);
+}
+
+static bool refuse_database(DconfdbError *error, uint32_t number, const char *name, const DconfdbUnsound *broken, size_t at)
+{
+    if (number != DCONFDB_UNSOUND)
+        return refuse_call(error, number, name, 0, at);
+    if (!broken->has_item)
+        return refuse(error, (int)number, 0, at, "%s: the database breaks the rule S%u", name, (unsigned)broken->rule);
+    return refuse(error, (int)number, 0, at, "%s: the database breaks the rule S%u, at item %u", name, (unsigned)broken->rule,
+                  (unsigned)broken->item);
+}
+
+/* ---- texts */
+
+static const uint8_t *bytes_of(const void *data)
+{
+    return data ? data : dconfdb_empty_file;
+}
+
+/* The first bytes of a text, or NULL. */
+static char *start_of(const void *text, size_t len)
+{
+    char *start = malloc(len + 1);
+    if (start) {
+        memcpy(start, text, len);
+        start[len] = 0;
+    }
+    return start;
+}
+
+/* Texts behind each other, or NULL. */
+static char *joined(const char *one, const char *between, const char *other)
+{
+    size_t size = strlen(one) + strlen(between) + strlen(other) + 1;
+    char *text = malloc(size);
+    if (text)
+        snprintf(text, size, "%s%s%s", one, between, other);
+    return text;
+}
+
+/* ---- parts: a file, opened */
+
+static void part_unref(Part *part)
+{
+    if (part && atomic_fetch_sub(&part->references, 1) == 1) {
+        file_release(&part->bytes);
+        free(part);
+    }
+}
+
+static Part *part_ref(Part *part)
+{
+    atomic_fetch_add(&part->references, 1);
+    return part;
+}
+
+/* Opens what a file holds. The bytes are the part's, or are freed. */
+static Part *part_open(const char *name, FileState state, FileBytes bytes, size_t at, DconfdbError *error)
+{
+    Part *part = malloc(sizeof *part + strlen(name) + 1);
+    if (!part) {
+        file_release(&bytes);
+        refuse_memory(error);
+        return NULL;
+    }
+    *part = (Part){.references = 1, .state = state, .bytes = bytes, .layer = DCONFDB_EMPTY_LAYER};
+    strcpy(part->name, name);
+    DconfdbUnsound broken = {0, 0, false};
+    uint32_t number = dconfdb_open(bytes_of(bytes.at), bytes.len, state.is_there, &part->layer, &broken);
+    if (number == DCONFDB_OK)
+        return part;
+    refuse_database(error, number, name, &broken, at);
+    part_unref(part);
+    return NULL;
+}
+
+static bool has_bytes(const Part *part, const FileBytes *bytes)
+{
+    return part->bytes.len == bytes->len && (bytes->len == 0 || memcmp(part->bytes.at, bytes->at, bytes->len) == 0);
+}
+
+/* The file as it is now; `old` where that still is it. */
+static Part *part_now(const char *name, bool maps, Part *old, bool reads, size_t at, DconfdbError *error)
+{
+    FileState state;
+    FileBytes bytes;
+    int fault = file_look(name, &state);
+    if (fault == 0 && old && !reads && file_is_same(&old->state, &state))
+        return part_ref(old);
+    if (fault == 0)
+        fault = file_read(name, maps, LARGEST_FILE, &bytes, &state);
+    if (fault != 0) {
+        refuse_file(error, fault, name, at);
+        return NULL;
+    }
+    /* The file was perhaps replaced, by one that is alike in all that stat() says. */
+    if (old && reads && file_is_same(&old->state, &state) && has_bytes(old, &bytes)) {
+        file_release(&bytes);
+        return part_ref(old);
+    }
+    return part_open(name, state, bytes, at, error);
+}
+
+/* ---- snapshots */
+
+static DconfdbSnapshot *snapshot_new(size_t count, bool is_written)
+{
+    DconfdbSnapshot *snapshot = malloc(sizeof *snapshot + count * sizeof snapshot->layers[0]);
+    Part **parts = calloc(count + 1, sizeof *parts);
+    if (!snapshot || !parts) {
+        free(snapshot);
+        free(parts);
+        return NULL;
+    }
+    snapshot->references = 1;
+    snapshot->is_written = is_written;
+    snapshot->count = count;
+    snapshot->parts = parts;
+    return snapshot;
+}
+
+static void snapshot_put(DconfdbSnapshot *snapshot, size_t at, Part *part)
+{
+    snapshot->parts[at] = part;
+    snapshot->layers[at] = part->layer;
+}
+
+DconfdbSnapshot *dconfdb_snapshot_ref(DconfdbSnapshot *snapshot)
+{
+    atomic_fetch_add(&snapshot->references, 1);
+    return snapshot;
+}
+
+void dconfdb_snapshot_unref(DconfdbSnapshot *snapshot)
+{
+    if (!snapshot || atomic_fetch_sub(&snapshot->references, 1) != 1)
+        return;
+    for (size_t i = 0; i < snapshot->count; i++)
+        part_unref(snapshot->parts[i]);
+    free(snapshot->parts);
+    free(snapshot);
+}
+
+size_t dconfdb_snapshot_databases(const DconfdbSnapshot *snapshot)
+{
+    return snapshot->count;
+}
+
+const char *dconfdb_snapshot_file(const DconfdbSnapshot *snapshot, size_t database)
+{
+    return database < snapshot->count ? snapshot->parts[database]->name : NULL;
+}
+
+static const DconfdbFound nothing_found = {0, DCONFDB_NOTHING, DCONFDB_NOTHING};
+
+static bool tell(bool is_found, const DconfdbFound *found, DconfdbValue *value)
+{
+    *value = (DconfdbValue){found->value.at, found->value.len, (const char *)found->type_text.at, found->type_text.len, found->origin};
+    return is_found;
+}
+
+bool dconfdb_snapshot_read(const DconfdbSnapshot *snapshot, const char *path, DconfdbValue *value)
+{
+    DconfdbFound found = nothing_found;
+    bool is_found = dconfdb_read(snapshot->layers, snapshot->count, snapshot->is_written, bytes_of(path), strlen(path), &found);
+    return tell(is_found, &found, value);
+}
+
+bool dconfdb_snapshot_read_default(const DconfdbSnapshot *snapshot, const char *path, DconfdbValue *value)
+{
+    DconfdbFound found = nothing_found;
+    bool is_found =
+        dconfdb_read_default(snapshot->layers, snapshot->count, snapshot->is_written, bytes_of(path), strlen(path), &found);
+    return tell(is_found, &found, value);
+}
+
+bool dconfdb_snapshot_read_user(const DconfdbSnapshot *snapshot, const char *path, DconfdbValue *value)
+{
+    DconfdbFound found = nothing_found;
+    bool is_found = snapshot->is_written && dconfdb_read_alone(&snapshot->layers[0], bytes_of(path), strlen(path), &found);
+    return tell(is_found, &found, value);
+}
+
+bool dconfdb_snapshot_is_locked(const DconfdbSnapshot *snapshot, const char *path)
+{
+    return dconfdb_is_locked(snapshot->layers, snapshot->count, bytes_of(path), strlen(path));
+}
+
+bool dconfdb_snapshot_is_writable(const DconfdbSnapshot *snapshot, const char *path)
+{
+    return dconfdb_is_writable(snapshot->layers, snapshot->count, snapshot->is_written, bytes_of(path), strlen(path));
+}
+
+/* What a call lists, into a room of so many bytes. */
+typedef uint32_t Lists(const DconfdbSnapshot *snapshot, const void *of, uint8_t *room, size_t room_len, size_t *len);
+
+static uint32_t lists_names(const DconfdbSnapshot *snapshot, const void *of, uint8_t *room, size_t room_len, size_t *len)
+{
+    return dconfdb_list(snapshot->layers, snapshot->count, of, strlen(of), room, room_len, len);
+}
+
+static uint32_t lists_locks(const DconfdbSnapshot *snapshot, const void *of, uint8_t *room, size_t room_len, size_t *len)
+{
+    return dconfdb_locks(snapshot->layers, snapshot->count, of, strlen(of), room, room_len, len);
+}
+
+static uint32_t lists_differences(const DconfdbSnapshot *snapshot, const void *of, uint8_t *room, size_t room_len, size_t *len)
+{
+    const DconfdbSnapshot *other = of;
+    return dconfdb_differs(snapshot->layers, snapshot->count, other->layers, other->count, room, room_len, len);
+}
+
+/* Calls with a room that mostly is enough, and else with one that is. */
+static char *listed(Lists *lists, const DconfdbSnapshot *snapshot, const void *of, const char *name, size_t *size,
+                    DconfdbError *error)
+{
+    size_t len = 1024, room_len;
+    uint32_t number = DCONFDB_MEMORY;
+    do {
+        room_len = len;
+        char *room = malloc(room_len + 1);
+        if (!room) {
+            refuse_memory(error);
+            return NULL;
+        }
+        number = lists(snapshot, of, (uint8_t *)room, room_len, &len);
+        if (number == DCONFDB_OK && len <= room_len) {
+            room[len] = 0;
+            if (size)
+                *size = len;
+            return room;
+        }
+        free(room);
+    } while (number == DCONFDB_OK);
+    refuse_call(error, number, name, 0, 0);
+    return NULL;
+}
+
+char *dconfdb_snapshot_list(const DconfdbSnapshot *snapshot, const char *directory, size_t *size, DconfdbError *error)
+{
+    return listed(lists_names, snapshot, directory, directory, size, error);
+}
+
+char *dconfdb_snapshot_locks(const DconfdbSnapshot *snapshot, const char *directory, size_t *size, DconfdbError *error)
+{
+    return listed(lists_locks, snapshot, directory, directory, size, error);
+}
+
+char *dconfdb_snapshot_differences(const DconfdbSnapshot *snapshot, const DconfdbSnapshot *other, size_t *size,
+                                   DconfdbError *error)
+{
+    return listed(lists_differences, snapshot, other, "differences", size, error);
+}
+
+/* ---- where a store is */
+
+/* A variable of the environment; none of a program that runs with more rights than who started it. */
+static const char *variable(const char *name)
+{
+    const char *value = getauxval(AT_SECURE) ? NULL : getenv(name);
+    return value && *value ? value : NULL;
+}
+
+static char *absolute(const char *folder)
+{
+    if (folder[0] == '/')
+        return joined(folder, "", "");
+    char *here = getcwd(NULL, 0);
+    char *text = here ? joined(here, "/", folder) : NULL;
+    free(here);
+    return text;
+}
+
+/* The folder's absolute path, or NULL, and then errno; it is ENOENT where the environment names none. */
+static char *find_folder(const char *folder)
+{
+    const char *base = variable("XDG_CONFIG_HOME"), *home = variable("HOME");
+    errno = ENOMEM;
+    if (!folder)
+        folder = variable("DCONFDB_STORE");
+    if (folder)
+        return absolute(folder);
+    if (base && base[0] == '/')
+        return joined(base, "/", "dconfdb");
+    if (home && home[0] == '/')
+        return joined(home, "/", ".config/dconfdb");
+    errno = ENOENT;
+    return NULL;
+}
+
+/* ---- opening a store */
+
+/* The text of a profile, where there is a file of that name; `text` holds NULL where there is none. */
+static bool read_profile(const char *name, FileBytes *text, DconfdbError *error)
+{
+    FileState state;
+    int fault = file_read(name, false, LARGEST_PROFILE, text, &state);
+    if (fault != 0)
+        return refuse_file(error, fault, name, 0);
+    /* A profile without a byte is there too. */
+    if (state.is_there && !text->at && !(text->at = malloc(1)))
+        return refuse_memory(error);
+    return true;
+}
+
+/* The file of a database, or NULL. A name with a zero byte is one of no file. */
+static char *file_of(const DconfdbStore *store, const DconfdbName *database)
+{
+    static const char *const ends[] = {".user", ".db", ""};
+    errno = EINVAL;
+    if (memchr(database->name.at, 0, database->name.len))
+        return NULL;
+    errno = ENOMEM;
+    char *name = start_of(database->name.at, database->name.len);
+    bool is_absolute = name && name[0] == '/';
+    char *with_end = name ? joined(name, ends[database->kind], "") : NULL;
+    char *file = with_end ? joined(is_absolute ? "" : store->folder, is_absolute ? "" : "/", with_end) : NULL;
+    free(name);
+    free(with_end);
+    return file;
+}
+
+static bool name_files(DconfdbStore *store, const char *profile, const uint8_t *text, size_t len, DconfdbError *error)
+{
+    DconfdbName names[MOST_DATABASES];
+    size_t count = 0, line = 0;
+    for (size_t i = 0; i < MOST_DATABASES; i++)
+        names[i] = (DconfdbName){0, DCONFDB_NOTHING};
+    uint32_t number = dconfdb_profile(text, len, names, MOST_DATABASES, &count, &line);
+    if (number != DCONFDB_OK)
+        return refuse_call(error, number, profile, line, line);
+    for (size_t i = 0; i < count; i++) {
+        char *file = file_of(store, &names[i]);
+        if (!file)
+            return refuse_file(error, errno, profile, i);
+        store->files[store->count++] = file;
+    }
+    if (count > 0 && names[0].kind == 0)
+        store->user_file = store->files[0];
+    return true;
+}
+
+/* The profile of the folder, else that of all users, else one of the user alone. */
+static bool find_files(DconfdbStore *store, DconfdbError *error)
+{
+    static const char everyones[] = "/etc/dconfdb/profile", users[] = "user-db:user";
+    FileBytes text = {NULL, 0, false};
+    char *own = joined(store->folder, "/", "profile");
+    if (!own)
+        return refuse_memory(error);
+    const char *name = own;
+    bool done = read_profile(name, &text, error);
+    if (done && !text.at) {
+        name = everyones;
+        done = read_profile(name, &text, error);
+    }
+    if (done && !text.at)
+        done = name_files(store, users, (const uint8_t *)users, sizeof users - 1, error);
+    else if (done)
+        done = name_files(store, name, text.at, text.len, error);
+    file_release(&text);
+    free(own);
+    return done;
+}
+
+/* What the files hold now; the user's is read, where `reads`, also where it looks as it was. */
+static DconfdbSnapshot *look(const DconfdbStore *store, bool reads, DconfdbError *error)
+{
+    const DconfdbSnapshot *old = store->now;
+    DconfdbSnapshot *snapshot = snapshot_new(store->count, store->user_file != NULL);
+    if (!snapshot) {
+        refuse_memory(error);
+        return NULL;
+    }
+    for (size_t i = 0; i < store->count; i++) {
+        bool is_users = store->files[i] == store->user_file;
+        Part *part = part_now(store->files[i], !is_users, old ? old->parts[i] : NULL, reads && is_users, i, error);
+        if (!part) {
+            dconfdb_snapshot_unref(snapshot);
+            return NULL;
+        }
+        snapshot_put(snapshot, i, part);
+    }
+    return snapshot;
+}
+
+DconfdbStore *dconfdb_store_open(const char *folder, DconfdbError *error)
+{
+    DconfdbStore *store = calloc(1, sizeof *store);
+    if (!store) {
+        refuse_memory(error);
+        return NULL;
+    }
+    pthread_mutex_init(&store->refreshing, NULL);
+    pthread_mutex_init(&store->handing, NULL);
+    store->folder = find_folder(folder);
+    if (store->folder && find_files(store, error) && (store->now = look(store, false, error)) != NULL)
+        return store;
+    if (!store->folder && errno == ENOENT && !folder)
+        refuse(error, DCONFDB_ERROR_NO_FOLDER, 0, 0, "the environment names no folder of a store");
+    else if (!store->folder)
+        refuse_file(error, errno, folder ? folder : "the store's folder", 0);
+    dconfdb_store_close(store);
+    return NULL;
+}
+
+void dconfdb_store_close(DconfdbStore *store)
+{
+    if (!store)
+        return;
+    dconfdb_snapshot_unref(store->now);
+    for (size_t i = 0; i < store->count; i++)
+        free(store->files[i]);
+    free(store->folder);
+    pthread_mutex_destroy(&store->refreshing);
+    pthread_mutex_destroy(&store->handing);
+    free(store);
+}
+
+const char *dconfdb_store_folder(const DconfdbStore *store)
+{
+    return store->folder;
+}
+
+const char *dconfdb_store_user_file(const DconfdbStore *store)
+{
+    return store->user_file;
+}
+
+/* ---- the newest snapshot */
+
+DconfdbSnapshot *dconfdb_store_snapshot(DconfdbStore *store)
+{
+    pthread_mutex_lock(&store->handing);
+    DconfdbSnapshot *now = dconfdb_snapshot_ref(store->now);
+    pthread_mutex_unlock(&store->handing);
+    return now;
+}
+
+/* `refreshing` is held. */
+static void renew(DconfdbStore *store, DconfdbSnapshot *newer)
+{
+    pthread_mutex_lock(&store->handing);
+    DconfdbSnapshot *old = store->now;
+    store->now = newer;
+    pthread_mutex_unlock(&store->handing);
+    dconfdb_snapshot_unref(old);
+}
+
+static bool is_as_it_was(const DconfdbSnapshot *one, const DconfdbSnapshot *other)
+{
+    for (size_t i = 0; i < one->count; i++) {
+        if (one->parts[i] != other->parts[i])
+            return false;
+    }
+    return true;
+}
+
+/* `refreshing` is held. */
+static bool refresh(DconfdbStore *store, bool reads, bool *changed, DconfdbError *error)
+{
+    DconfdbSnapshot *newer = look(store, reads, error);
+    if (!newer)
+        return false;
+    bool differs = !is_as_it_was(newer, store->now);
+    if (differs)
+        renew(store, newer);
+    else
+        dconfdb_snapshot_unref(newer);
+    if (changed)
+        *changed = differs;
+    return true;
+}
+
+bool dconfdb_store_refresh(DconfdbStore *store, bool *changed, DconfdbError *error)
+{
+    pthread_mutex_lock(&store->refreshing);
+    bool done = refresh(store, false, changed, error);
+    pthread_mutex_unlock(&store->refreshing);
+    return done;
+}
+
+/* ---- changes */
+
+static DconfdbChange change_of(const DconfdbEdit *edit)
+{
+    const char *type = edit->type ? edit->type : "";
+    return (DconfdbChange){{bytes_of(edit->path), strlen(edit->path)},
+                           {bytes_of(edit->data), edit->data ? edit->size : 0},
+                           {bytes_of(type), strlen(type)},
+                           edit->type != NULL};
+}
+
+/* Room that mostly is enough for the changed file. */
+static size_t guess(const DconfdbStore *store, const DconfdbChange *changes, size_t count)
+{
+    size_t len = 4096 + (store->count > 0 ? store->now->parts[0]->bytes.len : 0);
+    for (size_t i = 0; i < count; i++)
+        len += 128 + changes[i].path.len + changes[i].value.len + changes[i].type_text.len;
+    return len;
+}
+
+/* The user's file with the changes: the caller's, to be released. */
+static bool make_file(const DconfdbStore *store, const DconfdbChange *changes, const DconfdbEdit *edits, size_t count,
+                      FileBytes *file, DconfdbError *error)
+{
+    const DconfdbSnapshot *now = store->now;
+    size_t len = guess(store, changes, count), room_len, at = 0;
+    uint32_t number = DCONFDB_OK;
+    do {
+        room_len = len;
+        *file = (FileBytes){malloc(room_len), 0, false};
+        if (!file->at)
+            return refuse_memory(error);
+        number = dconfdb_change(now->layers, now->count, now->is_written, changes, count, file->at, room_len, &len, &at);
+        file->len = len;
+        if (number == DCONFDB_OK && len <= room_len)
+            return true;
+        file_release(file);
+    } while (number == DCONFDB_OK);
+    const char *whole = store->user_file ? store->user_file : store->folder;
+    return refuse_call(error, number, at < count ? edits[at].path : whole, 0, at);
+}
+
+/* Puts the file in place. What has to be had for the newer snapshot is had before, so that nothing fails after. */
+static bool put_in_place(DconfdbStore *store, int turn, FileBytes file, DconfdbError *error)
+{
+    bool has_replaced = false;
+    DconfdbSnapshot *newer = snapshot_new(store->count, true);
+    Part *part = part_open(store->user_file, (FileState){.is_there = true}, file, 0, error);
+    if (!newer || !part) {
+        dconfdb_snapshot_unref(newer);
+        part_unref(part);
+        return newer ? false : refuse_memory(error);
+    }
+    snapshot_put(newer, 0, part);
+    for (size_t i = 1; i < store->count; i++)
+        snapshot_put(newer, i, part_ref(store->now->parts[i]));
+    const char *name = strrchr(store->user_file, '/') + 1;
+    int fault = file_replace(turn, name, file.at, file.len, &part->state, &has_replaced);
+    if (has_replaced)
+        renew(store, newer);
+    else
+        dconfdb_snapshot_unref(newer);
+    return fault == 0 || refuse_file(error, fault, store->user_file, 0);
+}
+
+/* The changes, while it is this program's turn. */
+static bool change_in_turn(DconfdbStore *store, int turn, const DconfdbChange *changes, const DconfdbEdit *edits, size_t count,
+                           DconfdbError *error)
+{
+    FileBytes file;
+    pthread_mutex_lock(&store->refreshing);
+    bool done = refresh(store, true, NULL, error) && make_file(store, changes, edits, count, &file, error)
+        && put_in_place(store, turn, file, error);
+    pthread_mutex_unlock(&store->refreshing);
+    return done;
+}
+
+/* Waits for the turn to change the user's file. */
+static bool take_turn(const DconfdbStore *store, int *turn, DconfdbError *error)
+{
+    const char *name = store->user_file;
+    char *folder = start_of(name, (size_t)(strrchr(name, '/') - name));
+    if (!folder)
+        return refuse_memory(error);
+    const char *path = *folder ? folder : "/";
+    int fault = folder_lock(path, turn);
+    if (fault == ENOENT && (fault = folder_make(store->folder)) == 0)
+        fault = folder_lock(path, turn);
+    free(folder);
+    if (fault == EWOULDBLOCK)
+        return refuse(error, DCONFDB_ERROR_BUSY, 0, 0, "%s: others have been changing it for ten seconds", name);
+    return fault == 0 || refuse_file(error, fault, name, 0);
+}
+
+/* There is no user's file: only why that is a fault, and of which edit, has to be said. */
+static bool change_nothing(DconfdbStore *store, const DconfdbChange *changes, const DconfdbEdit *edits, size_t count,
+                           DconfdbError *error)
+{
+    FileBytes file;
+    pthread_mutex_lock(&store->refreshing);
+    bool done = make_file(store, changes, edits, count, &file, error);
+    pthread_mutex_unlock(&store->refreshing);
+    if (done)
+        file_release(&file);
+    return done;
+}
+
+bool dconfdb_store_change(DconfdbStore *store, const DconfdbEdit *edits, size_t count, DconfdbError *error)
+{
+    int turn;
+    bool done = false;
+    if (count == 0)
+        return true;
+    DconfdbChange *changes = calloc(count, sizeof *changes);
+    if (!changes)
+        return refuse_memory(error);
+    for (size_t i = 0; i < count; i++)
+        changes[i] = change_of(&edits[i]);
+    if (!store->user_file) {
+        done = change_nothing(store, changes, edits, count, error);
+    } else if (take_turn(store, &turn, error)) {
+        done = change_in_turn(store, turn, changes, edits, count, error);
+        folder_unlock(turn);
+    }
+    free(changes);
+    return done;
+}

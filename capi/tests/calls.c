@@ -1,0 +1,237 @@
+/* Tries each call, and its refusals, on a store that tests/library makes: calls FOLDER. In it, `profile` has user-db:me,
+ * system-db:site and file-db:far.db; site.db has /org/desk/name 'desk' and /org/desk/size 24, and locks /org/desk/size and /shut/;
+ * far.db has /far/key 'far'; the folders bad, none, service, writeless and locks are stores too. */
+#include "try.h"
+
+#include <errno.h>
+#include <sys/stat.h>
+#include <unistd.h>
+
+static DconfdbError error;
+
+/* Whether the last fault is that one, and its text has both. */
+static bool is_fault(int number, const char *what, const char *also)
+{
+    bool is = error.number == number && strstr(error.text, what) && strstr(error.text, also);
+    if (!is)
+        fprintf(stderr, "%d: %s\n", error.number, error.text);
+    return is;
+}
+
+/* The texts of a list are these, each with a zero byte and one more at the end. */
+static bool are(char *list, const size_t *size, const char *wanted, size_t wanted_size)
+{
+    bool is = list && *size == wanted_size && memcmp(list, wanted, *size) == 0 && list[*size] == 0;
+    free(list);
+    return is;
+}
+#define ARE(list, wanted) are(list, &size, wanted, sizeof wanted - 1)
+
+static bool changes(DconfdbStore *store, DconfdbEdit edit)
+{
+    return dconfdb_store_change(store, &edit, 1, &error);
+}
+
+static void tries_reading(DconfdbStore *store)
+{
+    DconfdbSnapshot *now = dconfdb_store_snapshot(store);
+    DconfdbValue value;
+    size_t size;
+    TRY(has(now, "/org/desk/name", "desk") && has(now, "/far/key", "far") && has(now, "/none", NULL));
+    TRY(has(now, "", NULL) && has(now, "org", NULL) && has(now, "/", NULL) && has(now, "/a//b", NULL) && has(now, "/\xff", NULL));
+    TRY(dconfdb_snapshot_read(now, "/far/key", &value) && value.origin == 2);
+    TRY(dconfdb_snapshot_read_default(now, "/org/desk/name", &value) && is_text(&value, "desk") && value.origin == 1);
+    TRY(!dconfdb_snapshot_read_user(now, "/org/desk/name", &value) && value.size == 0);
+    TRY(dconfdb_snapshot_is_locked(now, "/org/desk/size") && !dconfdb_snapshot_is_writable(now, "/org/desk/size"));
+    TRY(dconfdb_snapshot_is_locked(now, "/shut/a/b") && !dconfdb_snapshot_is_locked(now, "/shut"));
+    TRY(!dconfdb_snapshot_is_locked(now, "/org/desk/name") && dconfdb_snapshot_is_writable(now, "/org/desk/name"));
+    TRY(!dconfdb_snapshot_is_locked(now, "/shut/") && !dconfdb_snapshot_is_writable(now, "no path"));
+    TRY(ARE(dconfdb_snapshot_list(now, "/", &size, &error), "far/\0org/\0"));
+    TRY(ARE(dconfdb_snapshot_list(now, "/org/desk/", &size, &error), "name\0size\0"));
+    TRY(ARE(dconfdb_snapshot_list(now, "/none/", &size, &error), ""));
+    TRY(ARE(dconfdb_snapshot_locks(now, "/", &size, &error), "/org/desk/size\0/shut/\0"));
+    TRY(!dconfdb_snapshot_list(now, "/org", &size, &error) && is_fault(DCONFDB_ERROR_BAD_PATH, "/org", "path"));
+    TRY(!dconfdb_snapshot_locks(now, "", NULL, &error) && is_fault(DCONFDB_ERROR_BAD_PATH, "", "path"));
+    TRY(!dconfdb_snapshot_list(now, "x", NULL, NULL));
+    TRY(dconfdb_snapshot_databases(now) == 3 && strstr(dconfdb_snapshot_file(now, 1), "/site.db"));
+    TRY(!dconfdb_snapshot_file(now, 3));
+    dconfdb_snapshot_unref(dconfdb_snapshot_ref(now));
+    dconfdb_snapshot_unref(now);
+    dconfdb_snapshot_unref(NULL);
+}
+
+static void tries_changing(DconfdbStore *store)
+{
+    DconfdbSnapshot *old = dconfdb_store_snapshot(store), *now;
+    DconfdbValue value;
+    size_t size;
+    memset(&error, 7, sizeof error);
+    DconfdbEdit two[] = {sets_text("/org/desk/name", "mine"), sets_text("/b/x", "")};
+    TRY(dconfdb_store_change(store, two, 2, &error) && error.number != 0); /* a call that is done leaves the error alone */
+    now = dconfdb_store_snapshot(store);
+    TRY(has(old, "/org/desk/name", "desk") && has(now, "/org/desk/name", "mine") && has(now, "/b/x", ""));
+    TRY(dconfdb_snapshot_read_default(now, "/org/desk/name", &value) && is_text(&value, "desk"));
+    TRY(dconfdb_snapshot_read_user(now, "/org/desk/name", &value) && is_text(&value, "mine") && value.origin == 0);
+    TRY(ARE(dconfdb_snapshot_differences(old, now, &size, &error), "/b/x\0/org/desk/name\0"));
+    TRY(ARE(dconfdb_snapshot_differences(now, now, &size, &error), ""));
+    dconfdb_snapshot_unref(old);
+
+    /* All or none; the edit at fault is told. */
+    two[0] = sets_text("/b/x", "lost");
+    two[1] = sets_text("/org/desk/size", "lost");
+    TRY(!dconfdb_store_change(store, two, 2, &error) && is_fault(DCONFDB_ERROR_LOCKED, "/org/desk/size", "locked") && error.at == 1);
+    two[1] = (DconfdbEdit){"/b/y", "z", "", 0};
+    TRY(!dconfdb_store_change(store, two, 2, &error) && is_fault(DCONFDB_ERROR_BAD_TYPE, "/b/y", "type") && error.at == 1);
+    two[1] = (DconfdbEdit){"/b/y", "", NULL, 0};
+    TRY(!dconfdb_store_change(store, two, 2, NULL));
+    two[1] = (DconfdbEdit){"b", NULL, NULL, 0};
+    TRY(!dconfdb_store_change(store, two, 2, &error) && is_fault(DCONFDB_ERROR_BAD_PATH, "b", "path") && error.at == 1);
+    TRY(!changes(store, (DconfdbEdit){"//", NULL, NULL, 0}) && error.number == DCONFDB_ERROR_BAD_PATH && error.at == 0);
+    old = dconfdb_store_snapshot(store);
+    TRY(old == now);
+    dconfdb_snapshot_unref(old);
+
+    /* The same in one: a later edit sees the earlier ones. */
+    DconfdbEdit many[] = {sets_text("/b/y", "1"), {"/b/", NULL, NULL, 0}, sets_text("/b/z", "2"), {"/org/desk/name", NULL, NULL, 0}};
+    TRY(dconfdb_store_change(store, many, 4, &error));
+    TRY(dconfdb_store_change(store, NULL, 0, &error));
+    dconfdb_snapshot_unref(now);
+    now = dconfdb_store_snapshot(store);
+    TRY(has(now, "/b/x", NULL) && has(now, "/b/y", NULL) && has(now, "/b/z", "2") && has(now, "/org/desk/name", "desk"));
+    TRY(changes(store, (DconfdbEdit){"/none", NULL, NULL, 0}) && changes(store, (DconfdbEdit){"/", NULL, NULL, 0}));
+    dconfdb_snapshot_unref(now);
+    now = dconfdb_store_snapshot(store);
+    TRY(has(now, "/b/z", NULL));
+    dconfdb_snapshot_unref(now);
+}
+
+/* A value of a million bytes, and data that isn't aligned. */
+static void tries_sizes(DconfdbStore *store)
+{
+    size_t size = 1000001;
+    char *big = malloc(size + 1);
+    TRY(big);
+    memset(big, 'x', size);
+    big[size] = 0;
+    TRY(changes(store, sets_text("/big", big)) && changes(store, sets_text("/odd", big + size - 3)));
+    DconfdbSnapshot *now = dconfdb_store_snapshot(store);
+    TRY(has(now, "/big", big) && has(now, "/odd", "xxx"));
+    dconfdb_snapshot_unref(now);
+    TRY(changes(store, (DconfdbEdit){"/", NULL, NULL, 0}));
+    free(big);
+}
+
+/* What another program did is seen after a refresh, and not before. */
+static void tries_refreshing(DconfdbStore *store, const char *folder)
+{
+    bool changed = true;
+    TRY(dconfdb_store_refresh(store, &changed, &error) && !changed && dconfdb_store_refresh(store, NULL, NULL));
+    DconfdbStore *other = dconfdb_store_open(folder, &error);
+    TRY(other && changes(other, sets_text("/by/other", "1")));
+    DconfdbSnapshot *old = dconfdb_store_snapshot(store);
+    TRY(has(old, "/by/other", NULL) && dconfdb_store_refresh(store, &changed, &error) && changed);
+    DconfdbSnapshot *now = dconfdb_store_snapshot(store);
+    TRY(has(old, "/by/other", NULL) && has(now, "/by/other", "1"));
+    /* A change that begins with an old snapshot loses nothing of another's. */
+    TRY(changes(other, sets_text("/by/other", "2")) && changes(store, sets_text("/by/us", "3")));
+    dconfdb_snapshot_unref(now);
+    now = dconfdb_store_snapshot(store);
+    TRY(has(now, "/by/other", "2") && has(now, "/by/us", "3"));
+    dconfdb_store_close(other);
+    TRY(changes(store, (DconfdbEdit){"/", NULL, NULL, 0}));
+    TRY(has(now, "/by/other", "2") && has(old, "/org/desk/name", "desk"));
+    dconfdb_snapshot_unref(now);
+    dconfdb_snapshot_unref(old);
+}
+
+/* A file that is no database: the newest snapshot stays, and a change is refused. */
+static void tries_bad_files(DconfdbStore *store)
+{
+    const char *name = dconfdb_store_user_file(store);
+    TRY(changes(store, sets_text("/kept", "1")) && rename(name, "kept") == 0);
+    FILE *file = fopen(name, "w");
+    TRY(file && fputs("no database, but long enough to have its header", file) >= 0 && fclose(file) == 0);
+    TRY(!dconfdb_store_refresh(store, NULL, &error) && is_fault(DCONFDB_ERROR_BAD_SIGNATURE, "/me.user", "") && error.at == 0);
+    TRY(!changes(store, sets_text("/kept", "2")) && is_fault(DCONFDB_ERROR_BAD_SIGNATURE, "/me.user", ""));
+    TRY(truncate(name, 0) == 0 && !dconfdb_store_refresh(store, NULL, &error) && is_fault(DCONFDB_ERROR_SHORT, "/me.user", ""));
+    DconfdbSnapshot *now = dconfdb_store_snapshot(store);
+    TRY(has(now, "/kept", "1") && rename("kept", name) == 0 && dconfdb_store_refresh(store, NULL, &error));
+    dconfdb_snapshot_unref(now);
+    TRY(changes(store, (DconfdbEdit){"/", NULL, NULL, 0}));
+}
+
+/* The permission bits of the user's file are kept. */
+static void tries_modes(DconfdbStore *store)
+{
+    struct stat found;
+    const char *name = dconfdb_store_user_file(store);
+    TRY(changes(store, sets_text("/m", "1")) && chmod(name, 0640) == 0 && changes(store, sets_text("/m", "2")));
+    TRY(stat(name, &found) == 0 && (found.st_mode & 07777) == 0640);
+    TRY(chmod(name, 0444) == 0 && changes(store, (DconfdbEdit){"/", NULL, NULL, 0}));
+    TRY(stat(name, &found) == 0 && (found.st_mode & 07777) == 0444 && chmod(name, 0644) == 0);
+}
+
+/* Stores that can't be opened, or be written. */
+static void tries_other_stores(void)
+{
+    TRY(!dconfdb_store_open("bad", &error) && is_fault(DCONFDB_ERROR_BAD_LINE, "/bad/profile:2:", "") && error.at == 2);
+    TRY(!dconfdb_store_open("service", &error) && is_fault(DCONFDB_ERROR_SERVICE_DB, "/service/profile:1:", ""));
+    TRY(!dconfdb_store_open("folder", &error) && is_fault(DCONFDB_ERROR_FILE, "/folder/me.user", "") && error.system == EISDIR);
+    TRY(!dconfdb_store_open("bad", NULL));
+    DconfdbStore *store = dconfdb_store_open("writeless", &error);
+    TRY(store && !dconfdb_store_user_file(store));
+    TRY(!changes(store, sets_text("/k", "1")) && is_fault(DCONFDB_ERROR_NOT_WRITABLE, "/k", "") && error.at == 0);
+    TRY(!changes(store, (DconfdbEdit){"/", NULL, NULL, 0}) && error.number == DCONFDB_ERROR_NOT_WRITABLE);
+    DconfdbSnapshot *now = dconfdb_store_snapshot(store);
+    DconfdbValue value;
+    TRY(has(now, "/org/desk/name", "desk") && !dconfdb_snapshot_is_writable(now, "/org/desk/name"));
+    TRY(!dconfdb_snapshot_read_user(now, "/org/desk/name", &value));
+    dconfdb_snapshot_unref(now);
+    dconfdb_store_close(store);
+    dconfdb_store_close(NULL);
+}
+
+/* The folder of the environment; one that isn't there is made by the first change. */
+static void tries_places(void)
+{
+    char here[4096], name[4200];
+    TRY(getcwd(here, sizeof here));
+    TRY(unsetenv("DCONFDB_STORE") == 0 && unsetenv("XDG_CONFIG_HOME") == 0 && unsetenv("HOME") == 0);
+    TRY(!dconfdb_store_open(NULL, &error) && error.number == DCONFDB_ERROR_NO_FOLDER);
+    snprintf(name, sizeof name, "%s/home", here);
+    TRY(setenv("HOME", name, 1) == 0);
+    DconfdbStore *store = dconfdb_store_open(NULL, &error);
+    TRY(store && strstr(dconfdb_store_folder(store), "/home/.config/dconfdb"));
+    TRY(access("home", F_OK) != 0 && changes(store, sets_text("/first", "1")) && access("home/.config/dconfdb/user.user", R_OK) == 0);
+    dconfdb_store_close(store);
+    snprintf(name, sizeof name, "%s/xdg", here);
+    TRY(setenv("XDG_CONFIG_HOME", name, 1) == 0 && (store = dconfdb_store_open(NULL, &error)) != NULL);
+    TRY(strstr(dconfdb_store_folder(store), "/xdg/dconfdb"));
+    dconfdb_store_close(store);
+    TRY(setenv("DCONFDB_STORE", "store", 1) == 0 && (store = dconfdb_store_open(NULL, &error)) != NULL);
+    TRY(chdir("/") == 0 && changes(store, sets_text("/second", "1")) && chdir(here) == 0);
+    TRY(access("store/user.user", R_OK) == 0);
+    dconfdb_store_close(store);
+}
+
+int main(int argc, char **argv)
+{
+    TRY(argc == 2 && chdir(argv[1]) == 0);
+    DconfdbStore *store = dconfdb_store_open(".", &error);
+    if (!store)
+        fprintf(stderr, "%s\n", error.text);
+    TRY(store && strstr(dconfdb_store_user_file(store), "/me.user") && dconfdb_store_folder(store)[0] == '/');
+    tries_reading(store);
+    tries_changing(store);
+    tries_sizes(store);
+    tries_refreshing(store, ".");
+    tries_bad_files(store);
+    tries_modes(store);
+    tries_other_stores();
+    tries_places();
+    DconfdbSnapshot *last = dconfdb_store_snapshot(store);
+    dconfdb_store_close(store);
+    TRY(has(last, "/org/desk/name", "desk"));
+    dconfdb_snapshot_unref(last);
+    return 0;
+}

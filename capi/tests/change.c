@@ -1,0 +1,40 @@
+/* Sets keys one after another, and says which are acknowledged: change FOLDER PREFIX COUNT. With COUNT 0 it sets the one key PREFIX. */
+#include "try.h"
+
+#include <unistd.h>
+
+static DconfdbError error;
+
+static bool change(DconfdbStore *store, const char *path)
+{
+    DconfdbEdit edit = sets_text(path, "changed");
+    if (!dconfdb_store_change(store, &edit, 1, &error)) {
+        fprintf(stderr, "%s\n", error.text);
+        return false;
+    }
+    DconfdbSnapshot *now = dconfdb_store_snapshot(store);
+    TRY(has(now, path, "changed"));
+    dconfdb_snapshot_unref(now);
+    printf("%s\n", path);
+    fflush(stdout);
+    return true;
+}
+
+int main(int argc, char **argv)
+{
+    TRY(argc == 4);
+    long count = strtol(argv[3], NULL, 10);
+    DconfdbStore *store = dconfdb_store_open(argv[1], &error);
+    if (!store) {
+        fprintf(stderr, "%s\n", error.text);
+        return 1;
+    }
+    bool done = count > 0 || change(store, argv[2]);
+    for (long n = 0; done && n < count; n++) {
+        char path[256];
+        snprintf(path, sizeof path, "%s%ld", argv[2], n);
+        done = change(store, path);
+    }
+    dconfdb_store_close(store);
+    return done ? 0 : 1;
+}

@@ -1,0 +1,42 @@
+/* What the tests of the library have in common. They use the public header alone. */
+#ifndef TRY_H
+#define TRY_H
+
+#include "dconfdb.h"
+
+#include <stdio.h>
+#include <stdlib.h>
+#include <string.h>
+
+/* Ends the test where something is not as it should be. */
+#define TRY(it)                                                                                                                \
+    do {                                                                                                                       \
+        if (!(it)) {                                                                                                           \
+            fprintf(stderr, "%s:%d: %s\n", __FILE__, __LINE__, #it);                                                           \
+            exit(1);                                                                                                           \
+        }                                                                                                                      \
+    } while (0)
+
+/* An edit that sets a string. */
+static inline DconfdbEdit sets_text(const char *path, const char *text)
+{
+    return (DconfdbEdit){path, "s", text, strlen(text) + 1};
+}
+
+/* Whether a string is the value. */
+static inline bool is_text(const DconfdbValue *value, const char *text)
+{
+    return value->type_size == 1 && value->type[0] == 's' && value->size == strlen(text) + 1
+        && memcmp(value->data, text, value->size) == 0;
+}
+
+/* Whether a snapshot has a string at a path; no string: nothing. */
+static inline bool has(const DconfdbSnapshot *snapshot, const char *path, const char *text)
+{
+    DconfdbValue value;
+    if (!dconfdb_snapshot_read(snapshot, path, &value))
+        return !text && value.size == 0 && value.data && value.type;
+    return text && is_text(&value, text);
+}
+
+#endif
