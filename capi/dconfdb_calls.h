@@ -1,0 +1,161 @@
+/* The proved calls of libdconfdb, as crates/dconfdb_c exports them. What each promises is proved
+ * for a caller that keeps what is asked here; nothing checks C.
+ *
+ * - All memory is the caller's. No call keeps a pointer after it returns, and none frees anything.
+ * - What is lent to a call does not change while it runs. A file's bytes don't change as long as a
+ *   layer that was opened from them is used, or anything that was found in it.
+ * - A file starts at a multiple of 8, if its values are to lie as GVariant aligns them.
+ * - A pointer is never NULL, where there are 0 bytes or elements, too: DCONFDB_NOTHING.
+ * - What a call writes to holds valid values before: DCONFDB_EMPTY_LAYER, and DCONFDB_NOTHING for
+ *   bytes.
+ * - A layer is DCONFDB_EMPTY_LAYER, what dconfdb_open put there, or a copy of these. Nobody writes
+ *   its fields.
+ * - Any thread may call at any time, with memory that no other thread writes.
+ *
+ * Texts are UTF-8, without a zero byte at their end. */
+#pragma once
+#include <stdbool.h>
+#include <stddef.h>
+#include <stdint.h>
+
+#ifdef __cplusplus
+extern "C" {
+#endif
+
+/* Bytes that are lent. */
+typedef struct {
+    const uint8_t *at;
+    size_t len;
+} DconfdbBytes;
+
+/* A table of a file; for dconfdb_c alone. */
+typedef struct {
+    DconfdbBytes file;
+    size_t start, end;
+    uint32_t bloom_words, bloom_shift, buckets;
+    size_t first_item;
+    uint32_t items;
+} DconfdbTable;
+
+/* A layer: a sound database, lent from its file, or an empty one. */
+typedef struct {
+    DconfdbTable values, locks;
+    bool has_locks;
+} DconfdbLayer;
+
+/* The rule that a database breaks, 1 to 11, and the item that breaks it, if the rule is one of
+ * items. */
+typedef struct {
+    uint32_t rule, item;
+    bool has_item;
+} DconfdbUnsound;
+
+/* A value: the index of its layer, its bytes and the text of its type. Both are lent from that
+ * layer's file, or are the library's own. */
+typedef struct {
+    size_t origin;
+    DconfdbBytes value, type_text;
+} DconfdbFound;
+
+/* A database of a profile; the name is lent from the profile's text. */
+typedef struct {
+    uint32_t kind; /* 0 user-db, 1 system-db, 2 file-db */
+    DconfdbBytes name;
+} DconfdbName;
+
+/* A change: sets a key, or takes the user's value away; a path that ends in '/' takes away all
+ * below it that is not locked. */
+typedef struct {
+    DconfdbBytes path, value, type_text;
+    bool sets;
+} DconfdbChange;
+
+/* Why a call has no answer. */
+enum {
+    DCONFDB_OK,
+    DCONFDB_MEMORY,
+    DCONFDB_SHORT,
+    DCONFDB_BAD_SIGNATURE,
+    DCONFDB_BAD_VERSION,
+    DCONFDB_BAD_ROOT,
+    DCONFDB_BAD_TABLE,
+    DCONFDB_UNSOUND,
+    DCONFDB_NOT_TEXT,
+    DCONFDB_BAD_LINE,
+    DCONFDB_SERVICE_DB,
+    DCONFDB_USER_NOT_FIRST,
+    DCONFDB_TOO_MANY,
+    DCONFDB_BAD_PATH,
+    DCONFDB_BAD_TYPE,
+    DCONFDB_NOT_WRITABLE,
+    DCONFDB_LOCKED,
+    DCONFDB_TOO_LARGE,
+    DCONFDB_TOO_BIG
+};
+
+/* A database without items. */
+static const uint8_t dconfdb_empty_file[32] = {'G', 'V', 'a', 'r', 'i', 'a', 'n', 't', 0, 0, 0, 0, 0, 0, 0, 0,
+                                               24,  0,   0,   0,   32,  0,   0,   0,   0, 0, 0, 0, 0, 0, 0, 0};
+
+#define DCONFDB_NOTHING {dconfdb_empty_file, 0}
+#define DCONFDB_EMPTY_TABLE {{dconfdb_empty_file, 32}, 24, 32, 0, 0, 0, 32, 0}
+#define DCONFDB_EMPTY_LAYER {DCONFDB_EMPTY_TABLE, DCONFDB_EMPTY_TABLE, false}
+
+/* What the number of a fault says. False, and the text as it was, where no fault has the number. */
+bool dconfdb_fault_text(uint32_t number, DconfdbBytes *text);
+
+/* Opens a layer of a file's bytes, or an empty one where there is no file (is_there false: the
+ * bytes are not looked at). Else SHORT to BAD_TABLE, or UNSOUND with what is broken; the layer is
+ * as it was. It asks each rule of each item. */
+uint32_t dconfdb_open(const uint8_t *file, size_t len, bool is_there, DconfdbLayer *layer, DconfdbUnsound *unsound);
+
+/* The value that is seen at a key's path through layers, the first first. `written`: the first is
+ * the user's. False, and `found` as it was, where nothing is seen and where the text is no key's
+ * path. */
+bool dconfdb_read(const DconfdbLayer *layers, size_t n, bool written, const uint8_t *path, size_t path_len,
+                  DconfdbFound *found);
+
+/* The same without the user's values. */
+bool dconfdb_read_default(const DconfdbLayer *layers, size_t n, bool written, const uint8_t *path, size_t path_len,
+                          DconfdbFound *found);
+
+/* The value that one layer has, whatever is locked: of the first, the user's own. `origin` is 0. */
+bool dconfdb_read_alone(const DconfdbLayer *layer, const uint8_t *path, size_t path_len, DconfdbFound *found);
+
+/* Whether a layer from the second on locks the key. */
+bool dconfdb_is_locked(const DconfdbLayer *layers, size_t n, const uint8_t *path, size_t path_len);
+
+/* Whether the first layer is the user's, and the key is not locked. */
+bool dconfdb_is_writable(const DconfdbLayer *layers, size_t n, bool written, const uint8_t *path, size_t path_len);
+
+/* What a directory has in any layer: names in the order of their bytes, a zero byte after each; a
+ * directory's ends in '/'. `len` is how many bytes there are; where they are more than the room,
+ * nothing is put into it. MEMORY or BAD_PATH. */
+uint32_t dconfdb_list(const DconfdbLayer *layers, size_t n, const uint8_t *directory, size_t directory_len, uint8_t *room,
+                      size_t room_len, size_t *len);
+
+/* The paths of the locks that start with a directory, of keys and of directories, in the same
+ * form. */
+uint32_t dconfdb_locks(const DconfdbLayer *layers, size_t n, const uint8_t *directory, size_t directory_len, uint8_t *room,
+                       size_t room_len, size_t *len);
+
+/* The paths of the keys that are seen otherwise through other layers: other bytes are seen, or a
+ * key is locked in one alone. Each is a key of one of the layers, and they come in the same form.
+ * MEMORY. Locks of what no layer has: compare dconfdb_locks. */
+uint32_t dconfdb_differs(const DconfdbLayer *layers, size_t n, const DconfdbLayer *other, size_t other_n, uint8_t *room,
+                         size_t room_len, size_t *len);
+
+/* The databases that a profile's text names, 64 at most. `names` is how many; where they are more
+ * than the room, nothing is put into it. MEMORY, NOT_TEXT, or BAD_LINE to TOO_MANY with the line,
+ * counted from 1. */
+uint32_t dconfdb_profile(const uint8_t *text, size_t len, DconfdbName *room, size_t room_len, size_t *names, size_t *line);
+
+/* The user's file after all changes, each made in turn, or none. `len` as dconfdb_list has it.
+ * MEMORY, BAD_PATH to TOO_BIG, and `at`, the index of the change at fault, or how many there are
+ * where no change is. */
+uint32_t dconfdb_change(const DconfdbLayer *layers, size_t n, bool written, const DconfdbChange *changes, size_t changes_len,
+                        uint8_t *room, size_t room_len, size_t *len, size_t *at);
+
+#ifdef __cplusplus
+}
+#endif
