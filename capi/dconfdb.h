@@ -46,8 +46,8 @@
  *
  * A CALLER'S DUTIES. Nothing checks them. Pointers are those of live objects, and none is NULL where that isn't allowed here.
  * Texts end in a zero byte. Memory that is given to a call is changed by no other thread while the call runs. Memory that was
- * lent is not written, and not used after the snapshot's last reference is given back. What a call says is to be freed is freed
- * once, by free(). */
+ * lent is not written, and not used after the snapshot's last reference is given back; the library stays loaded as long as it
+ * is used. Each reference is given back once. What a call says is to be freed is freed once, by free(). */
 #ifndef DCONFDB_H
 #define DCONFDB_H
 
