@@ -1,6 +1,7 @@
-/* Tries each call, and its refusals, on a store that tests/library makes: calls FOLDER. In it, `profile` has user-db:me,
- * system-db:site and file-db:far.db; site.db has /org/desk/name 'desk' and /org/desk/size 24, and locks /org/desk/size and /shut/;
- * far.db has /far/key 'far'; the folders bad, none, service, writeless and locks are stores too. */
+/* Tries each call, and its refusals, on a store that tests/library makes: calls FOLDER. In it,
+ * `profile` has user-db:me, system-db:site and file-db:far.db; site.db has /org/desk/name 'desk'
+ * and /org/desk/size 24, and locks /org/desk/size and /shut/; far.db has /far/key 'far'; the
+ * folders bad, none, service, writeless and locks are stores too. */
 #include "try.h"
 
 #include <errno.h>
@@ -67,7 +68,8 @@ static void tries_changing(DconfdbStore *store)
     size_t size;
     memset(&error, 7, sizeof error);
     DconfdbEdit two[] = {sets_text("/org/desk/name", "mine"), sets_text("/b/x", "")};
-    TRY(dconfdb_store_change(store, two, 2, &error) && error.number != 0); /* a call that is done leaves the error alone */
+    /* A call that is done leaves the error alone. */
+    TRY(dconfdb_store_change(store, two, 2, &error) && error.number != 0);
     now = dconfdb_store_snapshot(store);
     TRY(has(old, "/org/desk/name", "desk") && has(now, "/org/desk/name", "mine") && has(now, "/b/x", ""));
     TRY(dconfdb_snapshot_read_default(now, "/org/desk/name", &value) && is_text(&value, "desk"));
