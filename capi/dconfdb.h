@@ -23,31 +23,37 @@
  *
  * Compile it by `cc x.c $(pkg-config --cflags --libs dconfdb)`.
  *
- * WHERE A STORE IS. It is a folder: the one that is given, else $DCONFDB_STORE, else $XDG_CONFIG_HOME/dconfdb, else
- * ~/.config/dconfdb. Its profile is the file `profile` there, else /etc/dconfdb/profile, else the text `user-db:user`. The
- * profile names databases, the first first: `user-db:NAME` is the file NAME.user, `system-db:NAME` is NAME.db, `file-db:PATH` is
- * PATH; a name that doesn't start with `/` is one of the folder. A database without a file is empty. The program dconfdb, run in
- * that folder, sees the same store.
+ * WHERE A STORE IS. It is a folder: the one that is given, else $DCONFDB_STORE, else
+ * $XDG_CONFIG_HOME/dconfdb, else ~/.config/dconfdb. Its profile is the file `profile` there, else
+ * /etc/dconfdb/profile, else the text `user-db:user`. The profile names databases, the first first:
+ * `user-db:NAME` is the file NAME.user, `system-db:NAME` is NAME.db, `file-db:PATH` is PATH; a name
+ * that doesn't start with `/` is one of the folder. A database without a file is empty. The program
+ * dconfdb, run in that folder, sees the same store.
  *
- * SNAPSHOTS. A snapshot is what the files held when they were looked at. It never changes. Each file is the old one or the new
- * one, whole; the files are looked at one after another. All that a snapshot lends (values, texts) is valid until its last
- * reference is given back, also after the store is closed, and after the files are replaced or removed.
+ * SNAPSHOTS. A snapshot is what the files held when they were looked at. It never changes. Each
+ * file is the old one or the new one, whole; the files are looked at one after another. All that a
+ * snapshot lends (values, texts) is valid until its last reference is given back, also after the
+ * store is closed, and after the files are replaced or removed.
  *
- * THREADS. Any thread may call anything at any time, on the same store too. Nothing here starts a thread. A store may not be
- * closed while another thread uses it. After fork() a child may read and give back snapshots; it opens a store of its own
- * before it does anything else. No call may be made in a signal handler.
+ * THREADS. Any thread may call anything at any time, on the same store too. Nothing here starts a
+ * thread. A store may not be closed while another thread uses it. After fork() a child may read and
+ * give back snapshots; it opens a store of its own before it does anything else. No call may be
+ * made in a signal handler.
  *
- * ERRORS. Calls that may fail take a DconfdbError, or NULL where nobody wants to know. Where nothing failed it stays as it was.
- * Nothing here ends the process, or prints.
+ * ERRORS. Calls that may fail take a DconfdbError, or NULL where nobody wants to know. Where
+ * nothing failed it stays as it was. Nothing here ends the process, or prints.
  *
- * MAPPED FILES. Databases other than the user's are mapped. So they have to be replaced by a rename, as `dconfdb compile` and
- * `dconf update` do: who cuts one off in place kills the programs that read it, by SIGBUS, and who writes over one changes what
- * they were lent. The user's file is read into memory: it may be changed in any way.
+ * MAPPED FILES. Databases other than the user's are mapped. So they have to be replaced by a
+ * rename, as `dconfdb compile` and `dconf update` do: who cuts one off in place kills the programs
+ * that read it, by SIGBUS, and who writes over one changes what they were lent. The user's file is
+ * read into memory: it may be changed in any way.
  *
- * A CALLER'S DUTIES. Nothing checks them. Pointers are those of live objects, and none is NULL where that isn't allowed here.
- * Texts end in a zero byte. Memory that is given to a call is changed by no other thread while the call runs. Memory that was
- * lent is not written, and not used after the snapshot's last reference is given back. What a call says is to be freed is freed
- * once, by free(). */
+ * A CALLER'S DUTIES. Nothing checks them. Pointers are those of live objects, and none is NULL
+ * where that isn't allowed here. Texts end in a zero byte. Memory that is given to a call is
+ * changed by no other thread while the call runs. Memory that was lent is not written, and not used
+ * after the snapshot's last reference is given back; the library stays loaded as long as it is
+ * used. Each reference is given back once. What a call says is to be freed is freed once, by
+ * free(). */
 #ifndef DCONFDB_H
 #define DCONFDB_H
 
@@ -64,7 +70,8 @@ typedef struct DconfdbStore DconfdbStore;
 /* What the databases held at one moment. */
 typedef struct DconfdbSnapshot DconfdbSnapshot;
 
-/* Why something failed. Numbers are never given another meaning; there may be more of them one day. */
+/* Why something failed. Numbers are never given another meaning; there may be more of them one
+ * day. */
 enum {
     DCONFDB_ERROR_NONE = 0,
     DCONFDB_ERROR_MEMORY = 1,          /* no memory is left */
@@ -77,7 +84,7 @@ enum {
     DCONFDB_ERROR_NOT_TEXT = 8,        /* the profile: it is not UTF-8 */
     DCONFDB_ERROR_BAD_LINE = 9,        /* .. a line names no database */
     DCONFDB_ERROR_SERVICE_DB = 10,     /* .. a line names a service-db */
-    DCONFDB_ERROR_USER_NOT_FIRST = 11, /* .. a line names a user-db that is not the first database */
+    DCONFDB_ERROR_USER_NOT_FIRST = 11, /* .. a line names a user-db that is not the first */
     DCONFDB_ERROR_TOO_MANY = 12,       /* .. a line names the 65th database */
     DCONFDB_ERROR_BAD_PATH = 13,       /* a path is none of a key, or none of a directory */
     DCONFDB_ERROR_BAD_TYPE = 14,       /* a type text spells no type */
@@ -94,8 +101,8 @@ enum {
 typedef struct DconfdbError {
     int number;     /* one of the numbers above */
     int system;     /* errno where the number is DCONFDB_ERROR_FILE, else 0 */
-    size_t at;      /* the index of the edit at fault, of the database, or the profile's line from 1; else 0 */
-    char text[512]; /* a line that says what failed, and of which file or key; a text that is too long ends in "..." */
+    size_t at;      /* the index of the edit or database at fault, the profile's line from 1, or 0 */
+    char text[512]; /* what failed, and of which file or key; one that is too long ends in "..." */
 } DconfdbError;
 
 /* A value, lent from a snapshot. */
@@ -107,9 +114,10 @@ typedef struct DconfdbValue {
     size_t origin; /* the index of the database that has it */
 } DconfdbValue;
 
-/* An edit of the user's values. With a type the key at the path gets a value; `data` may be NULL where `size` is 0, and need not
- * be aligned. Without one (NULL) the user's value at the path goes; a path that ends in `/` is a directory then, and all of
- * the user's values below it go, except of keys that are locked. */
+/* An edit of the user's values. With a type the key at the path gets a value; `data` may be NULL
+ * where `size` is 0, and need not be aligned. Without one (NULL) the user's value at the path goes;
+ * a path that ends in `/` is a directory then, and all of the user's values below it go, except of
+ * keys that are locked. */
 typedef struct DconfdbEdit {
     const char *path;
     const char *type;
@@ -117,31 +125,37 @@ typedef struct DconfdbEdit {
     size_t size;
 } DconfdbEdit;
 
-/* Opens the store of a folder, or of the environment where NULL is given: then getenv() is called. The folder need not be there.
- * The profile is read now, and not again. NULL: it failed. */
+/* Opens the store of a folder, or of the environment where NULL is given: then getenv() is called.
+ * The folder need not be there. The profile is read now, and not again. NULL: it failed. */
 DconfdbStore *dconfdb_store_open(const char *folder, DconfdbError *error);
 
 /* Closes a store, or NULL. Its snapshots stay. */
 void dconfdb_store_close(DconfdbStore *store);
 
-/* The folder's absolute path, and the file of a user's database in it; NULL where there is none. Valid until the store is closed. */
+/* The folder's absolute path, and the file of a user's database in it; NULL where there is none.
+ * Valid until the store is closed. */
 const char *dconfdb_store_folder(const DconfdbStore *store);
 const char *dconfdb_store_user_file(const DconfdbStore *store);
 
-/* The newest snapshot: a reference that is to be given back. It never fails, looks at no file, and waits for none. */
+/* The newest snapshot: a reference that is to be given back. It never fails, looks at no file, and
+ * waits for none. */
 DconfdbSnapshot *dconfdb_store_snapshot(DconfdbStore *store);
 
-/* Looks at the files again: a stat() each, and what was replaced is read. `changed`, where it isn't NULL, says whether there is a
- * newer snapshot. False: it failed, and the newest snapshot stays the newest. */
+/* Looks at the files again: a stat() each, and what was replaced is read. `changed`, where it isn't
+ * NULL, says whether there is a newer snapshot. False: it failed, and the newest snapshot stays the
+ * newest. */
 bool dconfdb_store_refresh(DconfdbStore *store, bool *changed, DconfdbError *error);
 
-/* Makes all edits, each in turn, or none. The user's file is read again, replaced whole, and on the disk when this returns; the
- * newest snapshot has the edits. The folder is made where it is missing. Programs that change the file take turns, by flock()
- * on its folder: this waits ten seconds at most. False: it failed, and the file has its old bytes; or, where the number is
- * DCONFDB_ERROR_FILE, its old or its new ones. `error->at` is the edit at fault, where the fault is one's. */
+/* Makes all edits, each in turn, or none. The user's file is read again, replaced whole, and on the
+ * disk when this returns; the newest snapshot has the edits. The folder is made where it is
+ * missing. Programs that change the file take turns, by flock() on its folder: this waits ten
+ * seconds at most. False: it failed, and the file has its old bytes; or, where the number is
+ * DCONFDB_ERROR_FILE, its old or its new ones. `error->at` is the edit at fault, where the fault is
+ * one's. */
 bool dconfdb_store_change(DconfdbStore *store, const DconfdbEdit *edits, size_t count, DconfdbError *error);
 
-/* One reference more, and one less; the last one's return frees all. `ref` gives back what it is given; `unref` takes NULL too. */
+/* One reference more, and one less; the last one's return frees all. `ref` gives back what it is
+ * given; `unref` takes NULL too. */
 DconfdbSnapshot *dconfdb_snapshot_ref(DconfdbSnapshot *snapshot);
 void dconfdb_snapshot_unref(DconfdbSnapshot *snapshot);
 
@@ -149,26 +163,29 @@ void dconfdb_snapshot_unref(DconfdbSnapshot *snapshot);
 size_t dconfdb_snapshot_databases(const DconfdbSnapshot *snapshot);
 const char *dconfdb_snapshot_file(const DconfdbSnapshot *snapshot, size_t database);
 
-/* The value that is seen at a key: the first database's that has one, except where a later one locks the key. `default` leaves
- * the user's values out; `user` is the user's own value, also of a locked key. False: there is none, or the text is no key's path;
- * then `value` has 0 bytes. They take no memory. */
+/* The value that is seen at a key: the first database's that has one, except where a later one
+ * locks the key. `default` leaves the user's values out; `user` is the user's own value, also of a
+ * locked key. False: there is none, or the text is no key's path; then `value` has 0 bytes. They
+ * take no memory. */
 bool dconfdb_snapshot_read(const DconfdbSnapshot *snapshot, const char *path, DconfdbValue *value);
 bool dconfdb_snapshot_read_default(const DconfdbSnapshot *snapshot, const char *path, DconfdbValue *value);
 bool dconfdb_snapshot_read_user(const DconfdbSnapshot *snapshot, const char *path, DconfdbValue *value);
 
-/* Whether a database after the first locks the key; and whether there is a user's database and the key isn't locked. Both are
- * false where the text is no key's path. They take no memory. */
+/* Whether a database after the first locks the key; and whether there is a user's database and the
+ * key isn't locked. Both are false where the text is no key's path. They take no memory. */
 bool dconfdb_snapshot_is_locked(const DconfdbSnapshot *snapshot, const char *path);
 bool dconfdb_snapshot_is_writable(const DconfdbSnapshot *snapshot, const char *path);
 
-/* What a directory (a path that ends in `/`) has in any database: names, in the order of their bytes, each once; a directory's
- * ends in `/`. And the locks that start with it. A zero byte stands after each text, and one more after the last. `size`, where
- * it isn't NULL, is how many bytes there are without that last one. The caller frees them by free(). NULL: it failed. */
+/* What a directory (a path that ends in `/`) has in any database: names, in the order of their
+ * bytes, each once; a directory's ends in `/`. And the locks that start with it. A zero byte stands
+ * after each text, and one more after the last. `size`, where it isn't NULL, is how many bytes
+ * there are without that last one. The caller frees them by free(). NULL: it failed. */
 char *dconfdb_snapshot_list(const DconfdbSnapshot *snapshot, const char *directory, size_t *size, DconfdbError *error);
 char *dconfdb_snapshot_locks(const DconfdbSnapshot *snapshot, const char *directory, size_t *size, DconfdbError *error);
 
-/* The paths of the keys that are seen otherwise in one of two snapshots than in the other, or are locked in one alone; in the same
- * form. */
+/* The paths of the keys that are seen otherwise in one of two snapshots than in the other, or are
+ * locked in one alone; in the same form. Each is a key that a database of one of them has: of keys
+ * that none has, compare the locks. */
 char *dconfdb_snapshot_differences(const DconfdbSnapshot *snapshot, const DconfdbSnapshot *other, size_t *size,
                                    DconfdbError *error);
 

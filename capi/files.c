@@ -212,7 +212,8 @@ static int fill_new(int file, const uint8_t *bytes, size_t len, const mode_t *mo
     return 0;
 }
 
-/* Makes the new file. One that is to take another's place is at no time open to more users than that. */
+/* Makes the new file. One that is to take another's place is at no time open to more users than
+ * that. */
 static int make_new(int folder, const char *name, const char *new_name, const uint8_t *bytes, size_t len, FileState *state)
 {
     struct stat old;

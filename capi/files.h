@@ -1,4 +1,5 @@
-/* The files of a store, by calls of the system. Each call answers 0, or the errno of what failed. */
+/* The files of a store, by calls of the system. Each call answers 0, or the errno of what
+ * failed. */
 #ifndef FILES_H
 #define FILES_H
 
@@ -29,13 +30,14 @@ int file_look(const char *name, FileState *state);
 
 bool file_is_same(const FileState *one, const FileState *other);
 
-/* What a file holds, and its state. It is no fault that there is none. EOVERFLOW: it has more than `most` bytes. EINVAL: it is
- * no regular file. */
+/* What a file holds, and its state. It is no fault that there is none. EOVERFLOW: it has more than
+ * `most` bytes. EINVAL: it is no regular file. */
 int file_read(const char *name, bool maps, size_t most, FileBytes *bytes, FileState *state);
 
 void file_release(FileBytes *bytes);
 
-/* Takes the turn to change files of a folder, as crates/dconf_disk/src/lock.rt does: EWOULDBLOCK after ten seconds. */
+/* Takes the turn to change files of a folder, as crates/dconf_disk/src/lock.rt does: EWOULDBLOCK
+ * after ten seconds. */
 int folder_lock(const char *folder, int *turn);
 
 void folder_unlock(int turn);
@@ -43,9 +45,10 @@ void folder_unlock(int turn);
 /* Makes a folder, and those that it is in. It is no fault that there is one. */
 int folder_make(const char *folder);
 
-/* Puts bytes in the place of a file of a folder that is locked: as crates/dconf_disk/src/replacing.rt does, so that a crash leaves
- * the old bytes or the new ones. `state` is that of the new file; where this fails, `has_replaced` says whether the name is
- * the new file's. */
+/* Puts bytes in the place of a file of a folder that is locked: as
+ * crates/dconf_disk/src/replacing.rt does, so that a crash leaves the old bytes or the new ones.
+ * `state` is that of the new file; where this fails, `has_replaced` says whether the name is the
+ * new file's. */
 int file_replace(int turn, const char *name, const uint8_t *bytes, size_t len, FileState *state, bool *has_replaced);
 
 #endif

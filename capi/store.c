@@ -1,4 +1,5 @@
-/* A store and its snapshots, over the proved calls. What a file means, and whether a change may be made, is decided there. */
+/* A store and its snapshots, over the proved calls. What a file means, and whether a change may be
+ * made, is decided there. */
 #define _DEFAULT_SOURCE
 #define _POSIX_C_SOURCE 200809L
 #define _FILE_OFFSET_BITS 64
@@ -357,7 +358,8 @@ char *dconfdb_snapshot_differences(const DconfdbSnapshot *snapshot, const Dconfd
 
 /* ---- where a store is */
 
-/* A variable of the environment; none of a program that runs with more rights than who started it. */
+/* A variable of the environment; none of a program that runs with more rights than who started
+ * it. */
 static const char *variable(const char *name)
 {
     const char *value = getauxval(AT_SECURE) ? NULL : getenv(name);
@@ -374,7 +376,8 @@ static char *absolute(const char *folder)
     return text;
 }
 
-/* The folder's absolute path, or NULL, and then errno; it is ENOENT where the environment names none. */
+/* The folder's absolute path, or NULL, and then errno; it is ENOENT where the environment names
+ * none. */
 static char *find_folder(const char *folder)
 {
     const char *base = variable("XDG_CONFIG_HOME"), *home = variable("HOME");
@@ -393,7 +396,8 @@ static char *find_folder(const char *folder)
 
 /* ---- opening a store */
 
-/* The text of a profile, where there is a file of that name; `text` holds NULL where there is none. */
+/* The text of a profile, where there is a file of that name; `text` holds NULL where there is
+ * none. */
 static bool read_profile(const char *name, FileBytes *text, DconfdbError *error)
 {
     FileState state;
@@ -625,7 +629,8 @@ static bool make_file(const DconfdbStore *store, const DconfdbChange *changes, c
     return refuse_call(error, number, at < count ? edits[at].path : whole, 0, at);
 }
 
-/* Puts the file in place. What has to be had for the newer snapshot is had before, so that nothing fails after. */
+/* Puts the file in place. What has to be had for the newer snapshot is had before, so that nothing
+ * fails after. */
 static bool put_in_place(DconfdbStore *store, int turn, FileBytes file, DconfdbError *error)
 {
     bool has_replaced = false;

@@ -1,5 +1,6 @@
-/* Answers as the program does, for values of the types s, i, u and b. `answers FOLDER ask` reads lines `WORD PATH`, of the words below.
- * `answers FOLDER edit` reads edits, a line each, and makes all or none: `s PATH TEXT`, `i PATH NUMBER`, `reset PATH`. */
+/* Answers as the program does, for values of the types s, i, u and b. `answers FOLDER ask` reads
+ * lines `WORD PATH`, of the words below. `answers FOLDER edit` reads edits, a line each, and makes
+ * all or none: `s PATH TEXT`, `i PATH NUMBER`, `reset PATH`. */
 #include "try.h"
 
 #include <stdint.h>

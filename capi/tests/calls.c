@@ -1,6 +1,8 @@
-/* Tries each call, and its refusals, on a store that tests/library makes: calls FOLDER. In it, `profile` has user-db:me,
- * system-db:site and file-db:far.db; site.db has /org/desk/name 'desk' and /org/desk/size 24, and locks /org/desk/size and /shut/;
- * far.db has /far/key 'far'; the folders bad, none, service, writeless and locks are stores too. */
+/* Tries each call, and its refusals, on a store that tests/library makes: calls FOLDER. In it,
+ * `profile` has user-db:me, system-db:site and file-db:far.db; site.db has /org/desk/name 'desk'
+ * and /org/desk/size 24, and locks /org/desk/size and /shut/; far.db has /far/key 'far'; next.db
+ * has /org/desk/name 'next'. The folders bad, service, folder, writeless and store in it are for
+ * what is said below of each. */
 #include "try.h"
 
 #include <errno.h>
@@ -67,7 +69,8 @@ static void tries_changing(DconfdbStore *store)
     size_t size;
     memset(&error, 7, sizeof error);
     DconfdbEdit two[] = {sets_text("/org/desk/name", "mine"), sets_text("/b/x", "")};
-    TRY(dconfdb_store_change(store, two, 2, &error) && error.number != 0); /* a call that is done leaves the error alone */
+    /* A call that is done leaves the error alone. */
+    TRY(dconfdb_store_change(store, two, 2, &error) && error.number != 0);
     now = dconfdb_store_snapshot(store);
     TRY(has(old, "/org/desk/name", "desk") && has(now, "/org/desk/name", "mine") && has(now, "/b/x", ""));
     TRY(dconfdb_snapshot_read_default(now, "/org/desk/name", &value) && is_text(&value, "desk"));
@@ -160,6 +163,29 @@ static void tries_bad_files(DconfdbStore *store)
     TRY(changes(store, (DconfdbEdit){"/", NULL, NULL, 0}));
 }
 
+/* A site's database is replaced by a rename, and removed: what was lent of the old one stays as it
+ * is. */
+static void tries_replacing(DconfdbStore *store)
+{
+    bool changed;
+    DconfdbValue lent, value;
+    size_t size;
+    DconfdbSnapshot *old = dconfdb_store_snapshot(store);
+    TRY(dconfdb_snapshot_read(old, "/org/desk/name", &lent));
+    TRY(link("site.db", "site.kept") == 0 && rename("next.db", "site.db") == 0);
+    TRY(dconfdb_store_refresh(store, &changed, &error) && changed && is_text(&lent, "desk"));
+    DconfdbSnapshot *now = dconfdb_store_snapshot(store);
+    TRY(has(now, "/org/desk/name", "next") && dconfdb_snapshot_is_writable(now, "/org/desk/size"));
+    TRY(ARE(dconfdb_snapshot_differences(now, old, &size, &error), "/org/desk/name\0/org/desk/size\0"));
+    dconfdb_snapshot_unref(now);
+    TRY(unlink("site.db") == 0 && dconfdb_store_refresh(store, &changed, &error) && changed);
+    now = dconfdb_store_snapshot(store);
+    TRY(!dconfdb_snapshot_read(now, "/org/desk/name", &value) && is_text(&lent, "desk"));
+    dconfdb_snapshot_unref(now);
+    TRY(rename("site.kept", "site.db") == 0 && dconfdb_store_refresh(store, NULL, &error));
+    dconfdb_snapshot_unref(old);
+}
+
 /* The permission bits of the user's file are kept. */
 static void tries_modes(DconfdbStore *store)
 {
@@ -214,8 +240,17 @@ static void tries_places(void)
     dconfdb_store_close(store);
 }
 
+/* The next descriptor that a file would have. */
+static int next_descriptor(void)
+{
+    int next = dup(0);
+    TRY(next >= 0 && close(next) == 0);
+    return next;
+}
+
 int main(int argc, char **argv)
 {
+    int next = next_descriptor();
     TRY(argc == 2 && chdir(argv[1]) == 0);
     DconfdbStore *store = dconfdb_store_open(".", &error);
     if (!store)
@@ -226,6 +261,7 @@ int main(int argc, char **argv)
     tries_sizes(store);
     tries_refreshing(store, ".");
     tries_bad_files(store);
+    tries_replacing(store);
     tries_modes(store);
     tries_other_stores();
     tries_places();
@@ -233,5 +269,6 @@ int main(int argc, char **argv)
     dconfdb_store_close(store);
     TRY(has(last, "/org/desk/name", "desk"));
     dconfdb_snapshot_unref(last);
+    TRY(next_descriptor() == next);
     return 0;
 }

@@ -1,4 +1,5 @@
-/* Sets keys one after another, and says which are acknowledged: change FOLDER PREFIX COUNT. With COUNT 0 it sets the one key PREFIX. */
+/* Sets keys one after another, and says which are acknowledged: change FOLDER PREFIX COUNT. With
+ * COUNT 0 it sets the one key PREFIX. */
 #include "try.h"
 
 #include <unistd.h>

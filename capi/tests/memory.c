@@ -1,5 +1,6 @@
-/* Refuses each growth of memory in turn to all that the library does: memory FOLDER. It is linked with the static library, and with
- * --wrap of malloc, calloc and realloc. Each call is done, or says that memory is missing and has done nothing. */
+/* Refuses each growth of memory in turn to all that the library does: memory FOLDER. It is linked
+ * with the static library, and with --wrap of malloc, calloc and realloc. Each call is done, or
+ * says that memory is missing and has done nothing. */
 #include "try.h"
 
 void *__real_malloc(size_t size);

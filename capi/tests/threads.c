@@ -1,5 +1,6 @@
-/* Eight threads read snapshots and look at the files, while one changes two keys together: threads FOLDER COUNT. Both keys always are
- * alike, no thread sees a change go back, and each snapshot stays as it is. */
+/* Eight threads read snapshots and look at the files, while one changes two keys together: threads
+ * FOLDER COUNT. Both keys always are alike, no thread sees a change go back, and each snapshot
+ * stays as it is. */
 #include "try.h"
 
 #include <pthread.h>
