@@ -1,5 +1,5 @@
 -- Changes that are made one after another.
-use Rattle.std.proofs.Common.{◌≡◌, ◌+◌, ◌<◌, ◌++◌, ◌∷◌, [], ◌∙◌, ℕ, List, Some, Ok, ap, sym, subst, refl, length, take, get_or}
+use Rattle.std.proofs.Common.{◌≡◌, ◌+◌, ◌<◌, ◌++◌, ◌∷◌, [], ◌∙◌, ℕ, List, Ok, ap, sym, subst, refl, length, take, get_or}
 use Rattle.std.proofs.lemmas.List.{take_more}
 use Rattle.std.proofs.lemmas.Option.{slice_get-get_or}
 use Rattle.dconf_model.specs.Changes.{Change, apply}
@@ -14,11 +14,10 @@ one_more : (cs : List DconfdbChange) (c : DconfdbChange) (l m n : Layers) → Ha
 one_more [] c l m n same e = (n, ap (λ (x : Layers). apply x (change_of c)) same ∙ e, refl)
 one_more (d ∷ cs) c l m n h e = (h.0, h.1, one_more cs c h.0 m n h.2 e)
 
-pub changed_more : (cs : List DconfdbChange) (i : ℕ) (c : DconfdbChange) (l m n : Layers) → i < length cs → c ≡ get_or cs i c → HaveChanged (take i cs) l m → apply m (change_of c) ≡ Ok n →
+pub changed_more : (cs : List DconfdbChange) (i : ℕ) (d : DconfdbChange) (l m n : Layers) → i < length cs → HaveChanged (take i cs) l m → apply m (change_of (get_or cs i d)) ≡ Ok n →
     HaveChanged (take (i + 1) cs) l n
-changed_more cs i c l m n within is h e =
-    subst (λ (xs : List DconfdbChange). HaveChanged xs l n)
-    (ap (λ (x : DconfdbChange). take i cs ++ x ∷ []) is ∙ sym (take_more cs i c within)) (one_more (take i cs) c l m n h e)
+changed_more cs i d l m n within h e =
+    subst (λ (xs : List DconfdbChange). HaveChanged xs l n) (sym (take_more cs i d within)) (one_more (take i cs) (get_or cs i d) l m n h e)
 
 -- ---- the change that is refused
 
@@ -29,16 +28,16 @@ never_big l (reset_value path) h = h
 never_big l (reset_below_directory directory) h = h
 never_big l (load_values rows force) h = h
 
-pub refused_at : (cs : List DconfdbChange) (i : ℕ) (c : DconfdbChange) (l m : Layers) (fault : Fault) → i < length cs → c ≡ get_or cs i c → HaveChanged (take i cs) l m → IsRefusedFor m c fault →
+pub refused_at : (cs : List DconfdbChange) (i : ℕ) (d : DconfdbChange) (l m : Layers) (fault : Fault) → i < length cs → HaveChanged (take i cs) l m → IsRefusedFor m (get_or cs i d) fault →
     IsNoChange l cs fault i
-refused_at cs i c l m fault within is h why = go fault why
+refused_at cs i d l m fault within h why = go fault why
   where
-    at : (f : Fault) → IsRefusedFor m c f → IsRefusedAt l cs i f
-    at f r = record { before = m; changed = h; change = c; is = slice_get-get_or cs i c within ∙ ap (λ (x : DconfdbChange). Some x) (sym is); refused = r }
+    at : (f : Fault) → IsRefusedFor m (get_or cs i d) f → IsRefusedAt l cs i f
+    at f r = record { before = m; changed = h; change = get_or cs i d; is = slice_get-get_or cs i d within; refused = r }
 
-    go : (f : Fault) → IsRefusedFor m c f → IsNoChange l cs f i
+    go : (f : Fault) → IsRefusedFor m (get_or cs i d) f → IsNoChange l cs f i
     go Memory r = tt
-    go TooBig r = absurd (never_big m (change_of c) r)
+    go TooBig r = absurd (never_big m (change_of (get_or cs i d)) r)
     go Short r = at Short r
     go BadSignature r = at BadSignature r
     go BadVersion r = at BadVersion r

@@ -105,7 +105,10 @@ fn directories_and_locks_are_listed(rt: HostRuntime) -> Result<(), Fail> {
         "locks"
     );
     let number = dconfdb_differs(rt.alloc(), &[user, site], &[user], &mut room, &mut len);
-    assert!(rt; number == 0 && room.get(..len) == Some(b"/k\0".as_slice()), "differences");
+    assert!(rt;
+        number == 0 && room.get(..len) == Some(b"/k\0".as_slice()),
+        "differences"
+    );
     Ok(())
 }
 

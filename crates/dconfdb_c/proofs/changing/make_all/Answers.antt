@@ -3,8 +3,8 @@ use Rattle.dconfdb_c.proofs.changing.make_all.Goals as goal
 
 pub returns-in-Err-clause-fault : goal.returns-in-Err-clause-fault
 returns-in-Err-clause-fault c =
-    refused_at c.args.changes.now c.loop-at.at c.index-changes-at.result c.args.engine.now c.loop-at.engine c.in-Err.fault c.loop-at-test.true c.index-changes-at.is c.loop-at.invariant c.in-Err.ensures.fault
+    refused_at c.args.changes.now c.loop-at.at _ c.args.engine.now c.loop-at.engine c.in-Err.fault c.loop-at-test.true c.loop-at.invariant c.in-Err.ensures.fault
 
 pub loop-at-preserved : goal.loop-at-preserved
 loop-at-preserved c =
-    changed_more c.args.changes.now c.loop-at.at c.index-changes-at.result c.args.engine.now c.loop-at.engine c.make.new.engine c.loop-at-test.true c.index-changes-at.is c.loop-at.invariant c.in_default.ensures.ok
+    changed_more c.args.changes.now c.loop-at.at _ c.args.engine.now c.loop-at.engine c.make.new.engine c.loop-at-test.true c.loop-at.invariant c.in_default.ensures.ok
