@@ -44,7 +44,7 @@ fn opened(file: &[u8]) -> Result<(Layer<'_>, u32), Fail> {
 }
 
 /// Nothing found.
-fn nothing() -> DconfdbFound<'static> {
+fn nothing<'a>() -> DconfdbFound<'a> {
     DconfdbFound {
         origin: 9,
         value: b"",
@@ -127,29 +127,39 @@ fn a_profile_names_databases(rt: HostRuntime) -> Result<(), Fail> {
     Ok(())
 }
 
+/// Whether the file has 5 at `/a/j`.
+fn is_five_at_j(file: &[u8]) -> Result<bool, Fail> {
+    let (changed, number) = opened(file)?;
+    let layers = [changed];
+    let mut found = nothing();
+    let seen = dconfdb_read(&layers, true, b"/a/j", &mut found);
+    Ok(number == 0 && seen && is_five(found, 0))
+}
+
 #[test]
 fn changes_make_a_new_file(rt: HostRuntime) -> Result<(), Fail> {
     let (user, _) = opened(PLAIN)?;
-    let change = DconfdbChange {
+    let layers = [user];
+    let changes = [DconfdbChange {
         path: b"/a/j",
         value: b"\x05\0\0\0",
         type_text: b"i",
         sets: true,
-    };
+    }];
     let mut room = [0; 512];
     let (mut len, mut at) = (0, 0);
     let number = dconfdb_change(
         rt.alloc(),
-        &[user],
+        &layers,
         true,
-        &[change],
+        &changes,
         &mut room,
         &mut len,
         &mut at,
     );
-    let (changed, _) = opened(room.get(..len).unwrap_or(b""))?;
-    let mut found = nothing();
-    let seen = dconfdb_read(&[changed], true, b"/a/j", &mut found);
-    assert!(rt; number == 0 && seen && is_five(found, 0), "{number}");
+    let Some(file) = room.get(..len) else {
+        return Err(Fail::new("a file that is too long"));
+    };
+    assert!(rt; number == 0 && is_five_at_j(file)?, "{number}");
     Ok(())
 }
