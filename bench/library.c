@@ -1,0 +1,227 @@
+/* Calls of the library, and dconf's own on the same files, for `bench/library`, which counts their instructions.
+ *
+ *   library WORK FOLDER PATH    one call that callgrind leaves out, and then those that it counts: as many as `works` says
+ *   library same FOLDER PATH    ends with 0 where both read the same at the key, and take it for writable alike
+ *
+ * FOLDER is a store of ours, and the environment has dconf look at the same files. dconf's library is taken as it is
+ * installed, by dlopen(). Memory is counted by --wrap of malloc, calloc and realloc: a call of ours that only reads takes
+ * none, or this ends with 4.
+ */
+#include "dconfdb.h"
+
+#include <dlfcn.h>
+#include <stdio.h>
+#include <stdlib.h>
+#include <string.h>
+#include <valgrind/callgrind.h>
+
+void *__real_malloc(size_t size);
+void *__real_calloc(size_t count, size_t size);
+void *__real_realloc(void *old, size_t size);
+void *__wrap_malloc(size_t size);
+void *__wrap_calloc(size_t count, size_t size);
+void *__wrap_realloc(void *old, size_t size);
+
+static long growths;
+
+void *__wrap_malloc(size_t size) {
+    growths++;
+    return __real_malloc(size);
+}
+
+void *__wrap_calloc(size_t count, size_t size) {
+    growths++;
+    return __real_calloc(count, size);
+}
+
+void *__wrap_realloc(void *old, size_t size) {
+    growths++;
+    return __real_realloc(old, size);
+}
+
+/* What the works are done with, and what they answer. */
+static const char *folder, *path;
+static DconfdbStore *store;
+static DconfdbSnapshot *now;
+static DconfdbValue value;
+static bool answer;
+
+/* There is nothing to measure where something fails. */
+static void needs(bool done, const char *what) {
+    if (done)
+        return;
+    fprintf(stderr, "library: %s\n", what);
+    exit(3);
+}
+
+/* ---- ours */
+
+static void our_start(void) {
+    DconfdbError error;
+    store = dconfdb_store_open(folder, &error);
+    needs(store, store ? "" : error.text);
+    now = dconfdb_store_snapshot(store);
+}
+
+/* The call of a work, and the loop. */
+static void do_nothing(void) {
+}
+
+static void our_read(void) {
+    answer = dconfdb_snapshot_read(now, path, &value);
+}
+
+static void our_writable(void) {
+    answer = dconfdb_snapshot_is_writable(now, path);
+}
+
+static void our_snapshot(void) {
+    dconfdb_snapshot_unref(dconfdb_store_snapshot(store));
+}
+
+static void our_refresh(void) {
+    answer = dconfdb_store_refresh(store, NULL, NULL);
+}
+
+static void our_open(void) {
+    DconfdbStore *opened = dconfdb_store_open(folder, NULL);
+    needs(opened, "the store can't be opened again");
+    DconfdbSnapshot *first = dconfdb_store_snapshot(opened);
+    answer = dconfdb_snapshot_read(first, path, &value);
+    dconfdb_snapshot_unref(first);
+    dconfdb_store_close(opened);
+}
+
+static void our_change(void) {
+    DconfdbEdit edit = {path, "s", "changed", sizeof "changed"};
+    answer = dconfdb_store_change(store, &edit, 1, NULL);
+    needs(answer, "a change is refused");
+}
+
+/* ---- dconf's */
+
+typedef struct DConfClient DConfClient;
+typedef struct GVariant GVariant;
+
+static DConfClient *(*dconf_client_new)(void);
+static GVariant *(*dconf_client_read)(DConfClient *client, const char *key);
+static int (*dconf_client_is_writable)(DConfClient *client, const char *key);
+static void (*g_object_unref)(void *object);
+static void (*g_variant_unref)(GVariant *variant);
+static const void *(*g_variant_get_data)(GVariant *variant);
+static size_t (*g_variant_get_size)(GVariant *variant);
+static const char *(*g_variant_get_type_string)(GVariant *variant);
+
+static DConfClient *client;
+
+/* The library needs GLib, so that its names are found in it too. */
+static void their_start(void) {
+    void *dconf = dlopen("libdconf.so.1", RTLD_NOW);
+    needs(dconf, "there is no libdconf.so.1");
+    const struct {
+        const char *name;
+        void *at;
+    } calls[] = {
+        {"dconf_client_new", &dconf_client_new},
+        {"dconf_client_read", &dconf_client_read},
+        {"dconf_client_is_writable", &dconf_client_is_writable},
+        {"g_object_unref", &g_object_unref},
+        {"g_variant_unref", &g_variant_unref},
+        {"g_variant_get_data", &g_variant_get_data},
+        {"g_variant_get_size", &g_variant_get_size},
+        {"g_variant_get_type_string", &g_variant_get_type_string},
+    };
+    for (size_t i = 0; i < sizeof calls / sizeof calls[0]; i++) {
+        void *found = dlsym(dconf, calls[i].name);
+        needs(found, calls[i].name);
+        memcpy(calls[i].at, &found, sizeof found);
+    }
+    client = dconf_client_new();
+}
+
+static void their_read(void) {
+    GVariant *variant = dconf_client_read(client, path);
+    answer = variant;
+    if (variant)
+        g_variant_unref(variant);
+}
+
+static void their_writable(void) {
+    answer = dconf_client_is_writable(client, path);
+}
+
+static void their_open(void) {
+    DConfClient *kept = client;
+    client = dconf_client_new();
+    their_read();
+    g_object_unref(client);
+    client = kept;
+}
+
+/* ---- both */
+
+static bool are_same(void) {
+    GVariant *theirs = dconf_client_read(client, path);
+    our_read();
+    if (!theirs)
+        return !answer;
+    const char *type = g_variant_get_type_string(theirs);
+    bool same = answer && g_variant_get_size(theirs) == value.size && memcmp(g_variant_get_data(theirs), value.data, value.size) == 0
+                && strlen(type) == value.type_size && memcmp(type, value.type, value.type_size) == 0;
+    g_variant_unref(theirs);
+    return same && dconfdb_snapshot_is_writable(now, path) == !!dconf_client_is_writable(client, path);
+}
+
+typedef struct {
+    const char *name;
+    void (*start)(void);
+    void (*call)(void);
+    int times;
+    bool reads; /* and takes no memory */
+} Work;
+
+static const Work works[] = {
+    {"nothing", our_start, do_nothing, 1000, true},
+    {"read", our_start, our_read, 1000, true},
+    {"writable", our_start, our_writable, 1000, true},
+    {"snapshot", our_start, our_snapshot, 1000, true},
+    {"refresh", our_start, our_refresh, 1000, false},
+    {"open", our_start, our_open, 1, false},
+    {"change", our_start, our_change, 1, false},
+    {"dconf-read", their_start, their_read, 1000, false},
+    {"dconf-writable", their_start, their_writable, 1000, false},
+    {"dconf-open", their_start, their_open, 1, false},
+};
+
+static void measure(const Work *work) {
+    work->start();
+    work->call();
+    bool first = answer;
+    growths = 0;
+    CALLGRIND_TOGGLE_COLLECT;
+    for (int i = 0; i < work->times; i++)
+        work->call();
+    CALLGRIND_TOGGLE_COLLECT;
+    needs(answer == first, "it answers otherwise after a while");
+    if (work->reads && growths > 0)
+        exit(4);
+    printf("%d\n", work->times);
+}
+
+int main(int argc, char **argv) {
+    needs(argc == 4, "library WORK FOLDER PATH");
+    folder = argv[2];
+    path = argv[3];
+    if (strcmp(argv[1], "same") == 0) {
+        our_start();
+        their_start();
+        return are_same() ? 0 : 1;
+    }
+    for (size_t i = 0; i < sizeof works / sizeof works[0]; i++) {
+        if (strcmp(argv[1], works[i].name) == 0) {
+            measure(&works[i]);
+            return 0;
+        }
+    }
+    needs(false, "there is no such work");
+}
