@@ -1,5 +1,7 @@
 pub mod Slashes
 pub mod Faults
+pub mod Blocks
+pub mod PlainLaws
 pub mod Covering
 pub mod LineSteps
 pub mod LockLines

@@ -1,6 +1,7 @@
 pub mod Paths
 pub mod PathFaults
 pub mod LockPaths
+pub mod PlainBytes
 pub mod LineFaults
 pub mod Locks
 pub mod Profiles

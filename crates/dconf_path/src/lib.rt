@@ -10,6 +10,7 @@ mod line_fault;
 mod lock_path;
 mod locks;
 mod path;
+mod plain;
 mod profiles;
 mod texts;
 

@@ -1,10 +1,11 @@
 //! Paths of keys and of directories: they start with `/`, and have no `//` and no zero byte. A key's doesn't end in
 //! `/`; a directory's does.
-ghost use Rattle.std.specs.Prelude.{◌≡◌, ◌↔◌, Some, None, IfOk, IfErr, IsOk, OnOk, IsTrue};
+ghost use Rattle.std.specs.Prelude.{◌≡◌, ◌↔◌, Some, None, IfOk, IfErr, IfSome, IsOk, IsSome, IsUtf8, OnOk, IsTrue};
 ghost use Rattle.dconf_model.specs.Paths.{is_key_path, is_directory_path, key_fault, directory_fault, first_path_fault, questions_of_bytes};
 ghost use Rattle.dconf_path.specs.PathFaults.{path_fault_of};
 
 use crate::fault::PathFault;
+use crate::plain::is_plain_key;
 
 /// How many bytes a path has at most.
 pub const MAX_PATH_LEN: usize = 65_535;
@@ -27,6 +28,9 @@ impl<'a> KeyPath<'a> {
         ensures found { IfOk result (λ path. key_text path ≡ text.entry.now) }
         ensures fault { IfErr result (λ e. key_fault text.entry.now ≡ Some (path_fault_of e)) }
     {
+        if is_plain_key(text.as_bytes()) {
+            return Ok(KeyPath { text });
+        }
         check_bytes(text)?;
         if text.ends_with("/") {
             return Err(PathFault::EndsInSlash);
@@ -35,6 +39,19 @@ impl<'a> KeyPath<'a> {
             return Err(PathFault::TooLong);
         }
         Ok(KeyPath { text })
+    }
+
+    /// Takes bytes that are a text, and the path of a key; None where they aren't.
+    pub fn of_bytes(bytes: &'a [u8]) -> Option<KeyPath<'a>>
+        ensures some { IsSome result ↔ (IsUtf8 bytes.entry.now × IsTrue (is_key_path bytes.entry.now)) }
+        ensures path { IfSome result (λ path. key_text path ≡ bytes.entry.now) }
+    {
+        if is_plain_key(bytes) {
+            let text = unsafe { str::from_utf8_unchecked(bytes) };
+            return Some(KeyPath { text });
+        }
+        let text = str::from_utf8(bytes).ok()?;
+        KeyPath::parse(text).ok()
     }
 
     /// The text itself. It looks at no byte.

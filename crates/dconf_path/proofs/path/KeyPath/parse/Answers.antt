@@ -1,7 +1,7 @@
-use Rattle.std.proofs.Common.{[], ◌∷◌, sym, ◌∙◌, rules}
+use Rattle.std.proofs.Common.{[], ◌∷◌, sym, ap, ◌∙◌, rules}
 use Rattle.std.proofs.lemmas.Result.{err_from_is_err_and}
 use Rattle.std.proofs.lemmas.Str.Pattern.{ends_text}
-use Rattle.dconf_model.specs.Paths.{questions_of_bytes}
+use Rattle.dconf_model.specs.Paths.{questions_of_bytes, is_key_path}
 use Rattle.dconf_path.proofs.Faults.{stops, no_key, a_key, ends_as_no_key, is_too_long_for_key, is_faultless_key}
 use Rattle.dconf_path.proofs.path.KeyPath.parse.Goals as goal
 
@@ -27,6 +27,9 @@ returns-then-text-gt-MAX_PATH_LEN-clause-fault c =
     is_too_long_for_key c.args.text.now c.in_ok-check_bytes.ensures.passes ends (search rules)
 
 pub invariant_of-result : goal.invariant_of-result
-invariant_of-result c =
+invariant_of-result c = record { is_of_key = ap is_key_path (sym c.as_bytes.ensures.value) ∙ c.is_plain_key.ensures.key c.if-is_plain_key.true }
+
+pub invariant_of-result-2 : goal.invariant_of-result-2
+invariant_of-result-2 c =
     let ends = sym (ends_text c.ends_with.result (47 ∷ []) c.args.text.now c.ends_with.ensures.cases) ∙ c.if-ends_with.false in
     record { is_of_key = a_key c.args.text.now (is_faultless_key c.args.text.now c.in_ok-check_bytes.ensures.passes ends (search rules)) }
