@@ -1,5 +1,5 @@
 -- What the masks of a block of sixteen bytes say of these.
-use Rattle.std.proofs.Common.{◌≡◌, ◌≢◌, ℕ, ◌+◌, ◌-◌, ◌%◌, ◌^◌, ◌<◌, ◌≤◌, List, [], ◌∷◌, Bool, true, false, cond, eqb, leb, length, get_or, map, replicate, refl, sym, ap, ◌∙◌, arith, w8, subst}
+use Rattle.std.proofs.Common.{◌≡◌, ◌≢◌, ℕ, ◌+◌, ◌-◌, ◌%◌, ◌^◌, ◌<◌, ◌≤◌, List, Bool, true, false, cond, eqb, leb, length, get_or, map, replicate, sym, ap, ◌∙◌, arith, w8, subst}
 use Rattle.std.specs.Simd.Lanes.{zip2, sel_l, mask_l, top, chunk}
 use Rattle.std.proofs.lemmas.Simd.{none_from_empty_mask, bitmask_splat, tops_compared, mask_l-mod, zip2_splat_left, length-chunk, get_or-chunk, length-zip2, get_or-zip2, length-sel_l, get_or-sel_l, get_or-replicate}
 use Rattle.std.proofs.lemmas.Bool.{leb-false, eqb-false, eq-eqb, eqb-true}

@@ -1,4 +1,4 @@
-use Rattle.std.proofs.Common.{◌+◌, ◌-◌, ◌≡◌, ◌<◌, ◌≤◌, length}
+use Rattle.std.proofs.Common.{◌+◌, ◌-◌, ◌≡◌, ◌≤◌, length}
 use Rattle.dconf_path.specs.PlainBytes.{ArePlain}
 use Rattle.dconf_path.proofs.plain.has_plain_blocks.Given as goal
 

@@ -1,4 +1,4 @@
-use Rattle.std.proofs.Common.{◌≡◌, true, sym, ◌∙◌, leb, rules}
+use Rattle.std.proofs.Common.{◌≡◌, true, sym, ◌∙◌, rules}
 use Rattle.dconf_model.specs.Paths.{is_short}
 use Rattle.dconf_path.proofs.PlainLaws.{plain_key}
 use Rattle.dconf_path.proofs.plain.is_plain_key.Goals as goal
