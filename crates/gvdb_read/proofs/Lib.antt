@@ -1,5 +1,6 @@
 pub mod Numbers
 pub mod CoveredPaths
+pub mod DirectoryValues
 pub mod ListSteps
 pub mod RuleOrder
 pub mod ChainSteps

@@ -5,6 +5,8 @@ pub mod Kinds
 pub mod ItemRecords
 pub mod NamesLeft
 pub mod Lookups
+pub mod HashedNames
+pub mod Directories
 pub mod Unsounds
 pub mod Joined
 pub mod Backwards

@@ -2,7 +2,8 @@
 ghost use Rattle.std.specs.Prelude.{◌≡◌, ◌+◌, ◌<◌, ◌↔◌, ℕ, List, IsTrue, length, slice_index, take};
 ghost use Rattle.dconf_model.specs.Bytes.{hash_of};
 ghost use Rattle.dconf_model.specs.Locks.{covers};
-ghost use Rattle.dconf_model.specs.Table.{value_kind};
+ghost use Rattle.dconf_model.specs.Table.{item_count, value_kind};
+ghost use Rattle.gvdb_read.specs.Directories.{HasDirectoryValue, IsDirectoryValue};
 ghost use Rattle.gvdb_read.specs.Lookups.{IsFound};
 
 use crate::format::{HASH_OF_NOTHING, Kind, hash_with};
@@ -28,6 +29,33 @@ impl Table<'_> {
             }
         }
         self.has_hashed(hash, path)
+    }
+
+    /// Whether some value's name ends in `/`, as far as its item's own key tells. Where none does, a path is covered by
+    /// itself alone. It looks at each item.
+    pub fn has_directory_value(self) -> bool
+        ensures { IsTrue result ↔ HasDirectoryValue (region self.entry) }
+    {
+        for i in 0..self.items {
+            if self.is_directory_value(i) {
+                return true;
+            }
+        }
+        false
+    }
+
+    /// Whether item `i` is a value's, and its key ends in `/`.
+    fn is_directory_value(self, i: u32) -> bool
+        requires { i < item_count (region self) }
+        ensures { IsTrue result ↔ IsDirectoryValue (region self.entry) i }
+    {
+        if !self.has_kind(i, Kind::Value) {
+            return false;
+        }
+        match self.link_at(i) {
+            Some(link) => link.key.ends_with(b"/"),
+            None => false,
+        }
     }
 
     /// Whether the byte at a place is a `/`, and the prefix up to it, which has this hash, has a value.

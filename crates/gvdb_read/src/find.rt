@@ -6,12 +6,14 @@ ghost use Rattle.dconf_model.specs.Search.{Finds, PassesBloom, span_size};
 ghost use Rattle.gvdb_read.specs.Lookups.{IsFound, IsListOf, IsTableAt, IsValueOf, IsViewOf};
 
 use crate::format::{Kind, NUMBER_LEN};
+use crate::hashed_name::HashedName;
 use crate::names::Names;
 use crate::table::Table;
 use gv_types::Steps;
 use gv_view::View;
 
 impl<'a> Table<'a> {
+    ghost use Rattle.gvdb_read.specs.HashedNames.{name_text};
     ghost use Rattle.gvdb_read.specs.NamesLeft.{names_left};
     ghost use Rattle.gvdb_read.specs.Tables.{region};
 
@@ -33,8 +35,19 @@ impl<'a> Table<'a> {
         ensures found { IfSome result (λ bytes. IsValueOf (region self.entry) name.now bytes.now) }
         ensures none { IfNone result (Finds (region self.entry) name.now value_kind None) }
     {
+        self.find_hashed_bytes(HashedName::new(name))
+    }
+
+    /// As `find_bytes`, of a name that is hashed already: where the bloom words rule it out, it looks at no byte of it.
+    #[inline(always)]
+    pub fn find_hashed_bytes(self, name: HashedName<'_>) -> Option<&'a [u8]>
+        ensures found { IfSome result (λ bytes. IsValueOf (region self.entry) (name_text name.entry) bytes.now) }
+        ensures none { IfNone result (Finds (region self.entry) (name_text name.entry) value_kind None) }
+    {
         let mut steps = Steps::new();
-        self.bytes_counted(name, &mut steps)
+        let bytes = name.text.as_bytes();
+        let i = self.find_hashed(name.hash, bytes, Kind::Value, &mut steps)?;
+        self.pointed_at(i, Kind::Value)
     }
 
     /// As `find`. Each item that is looked at along a chain of parents is a step: at most as many for each item of the
