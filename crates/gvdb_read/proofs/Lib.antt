@@ -12,6 +12,7 @@ pub mod ByKey
 pub mod CountedLists
 pub mod HashAbove
 pub mod HashFours
+pub mod HashLaneLaws
 pub mod RecordRules
 pub mod Places
 pub mod ListWalks

@@ -6,6 +6,7 @@ pub mod ItemRecords
 pub mod NamesLeft
 pub mod Lookups
 pub mod HashedNames
+pub mod HashLanes
 pub mod Directories
 pub mod Unsounds
 pub mod Joined
