@@ -40,7 +40,7 @@ typedef struct {
 /* A layer: a sound database, lent from its file, or an empty one. */
 typedef struct {
     DconfdbTable values, locks;
-    bool has_locks;
+    bool has_locks, locks_directories;
 } DconfdbLayer;
 
 /* The rule that a database breaks, 1 to 11, and the item that breaks it, if the rule is one of
@@ -99,7 +99,7 @@ static const uint8_t dconfdb_empty_file[32] = {'G', 'V', 'a', 'r', 'i', 'a', 'n'
 
 #define DCONFDB_NOTHING {dconfdb_empty_file, 0}
 #define DCONFDB_EMPTY_TABLE {{dconfdb_empty_file, 32}, 24, 32, 0, 0, 0, 32, 0}
-#define DCONFDB_EMPTY_LAYER {DCONFDB_EMPTY_TABLE, DCONFDB_EMPTY_TABLE, false}
+#define DCONFDB_EMPTY_LAYER {DCONFDB_EMPTY_TABLE, DCONFDB_EMPTY_TABLE, false, false}
 
 /* What the number of a fault says. False, and the text as it was, where no fault has the number. */
 bool dconfdb_fault_text(uint32_t number, DconfdbBytes *text);

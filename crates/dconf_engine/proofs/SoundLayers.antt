@@ -19,7 +19,7 @@ use Rattle.dconf_model.specs.Names.{HasName, IsRow, Rows}
 use Rattle.dconf_model.specs.Search.{Finds}
 use Rattle.dconf_model.specs.Sound.{IsSound}
 use Rattle.dconf_model.specs.SoundLaws.{HoldsLocksAlone}
-use Rattle.dconf_model.specs.Databases.{NamesLock, Says, settings_in}
+use Rattle.dconf_model.specs.Databases.{IsLayer, NamesLock, Says, settings_in}
 use Rattle.dconf_model.proofs.LaidNames.{one_name}
 use Rattle.dconf_model.proofs.PathMaps.{key_in, passes, any_passes, same_bool, no_truth}
 use Rattle.dconf_model.proofs.RowLaws.{counted, one_item}
@@ -42,18 +42,21 @@ says values locks o = says_what_is_in_it (region values).file o.opens (subst IsS
 
 -- ---- what is found at opening
 
-with_locks : (values : Table) (locks : Option Table) (file : List ℕ) → IsDatabase file → region values ≡ root_of file → IsSound (region values) → IsTableOfLocks (region values) locks → AreOfSoundDatabase values locks
-with_locks values locks file opens root sound locks_are =
+pub tables_of : (file : List ℕ) (values : Table) (locks : Option Table) → IsDatabase file → region values ≡ root_of file → IsSound (region values) → IsTableOfLocks (region values) locks → AreOfSoundDatabase values locks
+tables_of file values locks opens root sound locks_are =
     let same : (region values).file ≡ file = ap (λ (t : Region). t.file) root in
     record { opens = subst IsDatabase (sym same) opens; root = root ∙ ap root_of (sym same); sound = sound; locks_are = locks_are }
 
-pub sound_tables : (file : List ℕ) (values : Table) (found : Option Table) (there : Bool) (locks : Table) → IsDatabase file → region values ≡ root_of file → IsSound (region values) →
-    IfSome found (λ t. IsTableAt (region values) (codes ".locks") (region t)) → IfNone found ((u : Region) → ¬ IsTableAt (region values) (codes ".locks") u) →
-    there ≡ is_some found → locks ≡ unwrap_or found values → AreOfSoundDatabase values (locks_if there locks)
-sound_tables file values (Some t) there locks opens root sound some none is same =
-    subst (λ (o : Option Table). AreOfSoundDatabase values o) (ap (λ (t : Table). Some t) (sym same) ∙ ap (λ b. locks_if b locks) (sym is)) (with_locks values (Some t) file opens root sound some)
-sound_tables file values None there locks opens root sound some none is same =
-    subst (λ (o : Option Table). AreOfSoundDatabase values o) (ap (λ b. locks_if b locks) (sym is)) (with_locks values None file opens root sound none)
+pub layer_of : (file : List ℕ) (values : Table) → IsDatabase file → region values ≡ root_of file → IsSound (region values) → IsLayer (Some file) (settings_at (region values))
+layer_of file values opens root sound =
+    let of_root = subst IsSound root sound in
+    let same : (region values).file ≡ file = ap (λ (t : Region). t.file) root in
+    (opens, of_root, subst (λ (f : List ℕ). Says file (settings_in f)) (sym same) (says_what_is_in_it file opens of_root))
+
+-- the table of locks that is there
+pub there_is : (there : Bool) (own locks : Table) → locks_if there own ≡ Some locks → (there ≡ true) × (own ≡ locks)
+there_is true own locks e = (refl, ap (λ o. unwrap_or o own) e)
+there_is false own locks e = absurd (no_truth (ap is_some e))
 
 -- ---- values
 

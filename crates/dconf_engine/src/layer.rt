@@ -1,16 +1,18 @@
 //! A layer of settings: a sound database, lent from its file.
-ghost use Rattle.std.specs.Prelude.{◌≡◌, Some, IfErr, IfOk, option_map};
+ghost use Rattle.std.specs.Prelude.{◌≡◌, Some, IfErr, IfOk, false, option_map, true};
 ghost use Rattle.std.specs.FinMap.{get};
 ghost use Rattle.dconf_model.specs.Databases.{IsBad, IsLayer, IsVerdict};
 ghost use Rattle.dconf_model.specs.Layers.{locks_path};
 ghost use Rattle.dconf_model.specs.Settings.{no_settings};
 ghost use Rattle.dconf_path.specs.Paths.{key_text};
+ghost use Rattle.gvdb_read.specs.Directories.{HasDirectoryValue};
+ghost use Rattle.gvdb_read.specs.Tables.{region};
 ghost use Rattle.dconf_engine.specs.Faults.{verdict_of};
 ghost use Rattle.dconf_engine.specs.SoundTables.{AreOfSoundDatabase, locks_if};
 
 use crate::fault::DatabaseFault;
 use dconf_path::KeyPath;
-use gvdb_read::Table;
+use gvdb_read::{HashedName, Table};
 
 /// The name of the table of locks.
 const LOCKS: &str = ".locks";
@@ -18,20 +20,23 @@ const LOCKS: &str = ".locks";
 /// A database without items.
 const EMPTY: &[u8] = b"GVariant\0\0\0\0\0\0\0\0\x18\0\0\0\x20\0\0\0\0\0\0\0\0\0\0\0";
 
-/// A sound database: its root table, and its table of locks where it has one. It may be handed to C
-/// and back.
+/// A sound database: its root table, and its table of locks where it has one, and whether that may
+/// have one of a directory. It may be handed to C and back.
 #[repr(C)]
 #[derive(Clone, Copy, Debug)]
 pub struct Layer<'a> {
     pub(crate) values: Table<'a>,
     locks: Table<'a>,
     has_locks: bool,
+    locks_directories: bool,
     ghost sound: { ∥ AreOfSoundDatabase values (locks_if has_locks locks) ∥₁ },
+    ghost keys_alone: { has_locks ≡ true → locks_directories ≡ false → ¬ HasDirectoryValue (region locks) },
 }
 
 impl<'a> Layer<'a> {
     ghost use Rattle.dconf_engine.specs.LayerSettings.{locks_of, settings_of};
     ghost use Rattle.dconf_engine.specs.Files.{bytes_of_file};
+    ghost use Rattle.gvdb_read.specs.HashedNames.{name_text};
 
     /// Opens the bytes of a file, or None where there is no file: that is an empty database. Bytes
     /// that open as no database, or as one that isn't sound, are refused.
@@ -59,12 +64,20 @@ impl<'a> Layer<'a> {
         if let Err(unsound) = values.check() {
             return Err(DatabaseFault::Unsound(unsound));
         }
-        let locks = values.table(LOCKS);
-        Ok(Layer {
-            values,
-            locks: locks.unwrap_or(values),
-            has_locks: locks.is_some(),
-        })
+        match values.table(LOCKS) {
+            Some(locks) => Ok(Layer {
+                values,
+                locks,
+                has_locks: true,
+                locks_directories: locks.has_directory_value(),
+            }),
+            None => Ok(Layer {
+                values,
+                locks: values,
+                has_locks: false,
+                locks_directories: false,
+            }),
+        }
     }
 
     /// The layer of an empty database.
@@ -76,6 +89,7 @@ impl<'a> Layer<'a> {
             values,
             locks: values,
             has_locks: false,
+            locks_directories: false,
         }
     }
 
@@ -89,14 +103,29 @@ impl<'a> Layer<'a> {
         self.values.find_bytes(path)
     }
 
+    /// As `get`, of a path that is hashed already.
+    #[inline(always)]
+    pub(crate) fn get_hashed(self, path: HashedName<'_>) -> Option<&'a [u8]>
+        ensures { option_map (λ bytes. bytes.now) result ≡ get (settings_of self.entry).values (name_text path.entry) }
+    {
+        self.values.find_hashed_bytes(path)
+    }
+
     /// Whether a lock covers a key: its own path is locked, or a directory above it.
     ///
-    /// It searches for the path and for each of its directories, and hashes the path once.
+    /// It searches for the path, and where some lock may be a directory's, for each of its directories. It hashes the
+    /// path once.
     pub fn locks_path(self, path: KeyPath<'_>) -> bool
         ensures { result ≡ locks_path (key_text path.entry) (settings_of self.entry) }
     {
         match self.locks() {
-            Some(locks) => locks.covers(path.as_str()),
+            Some(locks) => {
+                if self.locks_directories {
+                    locks.covers(path.as_str())
+                } else {
+                    locks.has(path.as_str())
+                }
+            }
             None => false,
         }
     }

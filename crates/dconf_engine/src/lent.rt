@@ -11,6 +11,7 @@ ghost use Rattle.dconf_engine.specs.LayerSettings.{settings_of};
 use crate::layer::Layer;
 use dconf_path::KeyPath;
 use gv_view::View;
+use gvdb_read::HashedName;
 
 /// The layers of databases, lent, the first database's first. It reads as [`crate::Engine`] does,
 /// and takes no memory.
@@ -22,6 +23,7 @@ pub struct LentLayers<'a, 'l> {
 
 impl<'a, 'l> LentLayers<'a, 'l> {
     ghost use Rattle.dconf_engine.specs.LentSettings.{seen_in};
+    ghost use Rattle.gvdb_read.specs.HashedNames.{name_text};
 
     /// These layers. Where `written`, the first is the user's.
     pub fn new(written: bool, layers: &'l [Layer<'a>]) -> LentLayers<'a, 'l>
@@ -98,12 +100,14 @@ impl<'a, 'l> LentLayers<'a, 'l> {
         0
     }
 
-    /// The first layer from that one on that has the path, and the bytes of its value.
+    /// The first layer from that one on that has the path, and the bytes of its value. It hashes the
+    /// path once.
     pub(crate) fn place_from(self, from: usize, path: KeyPath<'_>) -> Option<(usize, &'a [u8])>
         ensures { option_map {U = ℕ × List ℕ} (λ p. (p.0, p.1.now)) result ≡ first_from from (drop from (seen_in self.entry).layers) (key_text path.entry) }
     {
+        let name = HashedName::new(path.as_str());
         for i in from..self.layers.len() {
-            if let Some(bytes) = self.bytes_at(i, path) {
+            if let Some(bytes) = self.bytes_at(i, name) {
                 return Some((i, bytes));
             }
         }
@@ -119,10 +123,10 @@ impl<'a, 'l> LentLayers<'a, 'l> {
     }
 
     /// The bytes of a layer's value at a path.
-    fn bytes_at(self, i: usize, path: KeyPath<'_>) -> Option<&'a [u8]>
+    fn bytes_at(self, i: usize, path: HashedName<'_>) -> Option<&'a [u8]>
         requires { i < length (seen_in self).layers }
-        ensures { option_map (λ bytes. bytes.now) result ≡ get (slice_index_or (seen_in self.entry).layers i no_settings).values (key_text path.entry) }
+        ensures { option_map (λ bytes. bytes.now) result ≡ get (slice_index_or (seen_in self.entry).layers i no_settings).values (name_text path.entry) }
     {
-        self.layers[i].get(path.as_str())
+        self.layers[i].get_hashed(path)
     }
 }

@@ -1,5 +1,6 @@
 use Rattle.std.proofs.Common.{◌≡◌, IfOk, Result, subst}
 use Rattle.dconf_model.specs.Opening.{root_of}
+use Rattle.dconf_model.proofs.PathMaps.{no_truth}
 use Rattle.gvdb_read.specs.declared.table.Table.{Table}
 use Rattle.gvdb_read.specs.declared.fault.OpenFault.{OpenFault}
 use Rattle.gvdb_read.specs.Tables.{region}
@@ -14,7 +15,7 @@ pub invariant_of-result : goal.invariant_of-result
 unfolding empty_file
 invariant_of-result c =
     let root : region c.unwrap-values.result ≡ root_of empty_file = subst (λ (r : Result Table OpenFault). IfOk r (λ t. region t ≡ root_of empty_file)) c.unwrap-values.ensures c.open.ensures.root in
-    record { sound = ∣ empty_tables c.unwrap-values.result root ∣₁ }
+    record { sound = ∣ empty_tables c.unwrap-values.result root ∣₁; keys_alone = λ there. absurd (no_truth there) }
 
 pub returns : goal.returns
 unfolding empty_file
