@@ -23,3 +23,4 @@ pub mod NameWalks
 pub mod AppendedBytes
 pub mod NotedLengths
 pub mod NamesRise
+pub mod OnePass

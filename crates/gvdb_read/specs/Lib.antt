@@ -20,3 +20,4 @@ pub mod ListNumbers
 pub mod NotedEnds
 pub mod NotedLengths
 pub mod NamesRise
+pub mod OnePass

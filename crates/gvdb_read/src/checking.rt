@@ -22,6 +22,7 @@ mod lists_counted;
 mod locks;
 mod names_rise;
 mod once;
+mod one_pass;
 mod place;
 mod records;
 mod span;
@@ -36,23 +37,39 @@ impl Table<'_> {
     /// Whether the table, as the root of a database, is sound. Where it isn't, the error names the first rule that
     /// fails, in the order of [`Rule`], and the least item that breaks it.
     ///
-    /// It takes no memory. S1, S2, S5, S6 and S8 take time in the buckets, the items and the bytes of their keys; S3
-    /// takes a step for each of the parents of each item, up to the first with a lower number or one that is noted, of which there are 256. S4 takes time in the bytes of the keys where it is kept; else in
-    /// those of the full names. Where there are more than 16 items a bucket, S7 compares each name
-    /// with the one before it, and is done where all names of each bucket rise, as our writer puts them; else it
-    /// looks at the items of each item's bucket, and compares names where the hashes agree. S9
-    /// takes a step for each of the parents of each item, up to one whose name's length is noted, of which there are 256, and as far as their keys have 65,535
-    /// bytes. S10 takes time in the items
-    /// and the bytes of their keys where all lists ascend by number, as our writer puts them, or by key, as dconf's does; else in the
-    /// items times the lists. S11 asks S1 to S8 of the table of locks.
+    /// It takes no memory. One pass sees that a usual file keeps S1 to S10: it reads each item once, with its key and its
+    /// bucket, and each number of a list; a key's bytes are counted once. Where it says nothing, the rules are asked in order,
+    /// each by a quick way, and by a slow one where that says nothing either:
+    ///
+    /// | Rule | Quick way | Slow way |
+    /// |---|---|---|
+    /// | S1, the buckets | | each bucket |
+    /// | S2, keys; S5, span; S6, bloom; S8, content | each record and key once, with S4 | the same, one rule after the other |
+    /// | S3, chain | from each item up to a parent of a lower number, or one of 256 that are noted | up to a parent of a lower number |
+    /// | S4, hash | a key goes on from its parent's hash: the bytes of the keys | the bytes of the full names |
+    /// | S7, once | where there are more than 16 items a bucket, each name and the one before it | each item and the lower ones of its bucket |
+    /// | S9, place | names' lengths up to one of 256 that are noted; each item and its parent | names' lengths up to 65,535 bytes |
+    /// | S10, lists | each number once, and where numbers don't rise its key | each list and all items; each number and those before it |
+    /// | S11, locks | | S1 to S8 of the table of locks |
     pub fn check(self) -> Result<(), Unsound>
         ensures sound { IfOk result (λ _. IsSound (region self.entry)) }
         ensures fault { IfErr result (λ e. IsFirstFault (region self.entry) (rule_of e.rule) e.item) }
     {
+        self.check_before_locks()?;
+        self.each_keeps(Rule::Locks, |i| self.has_locks_if_any(i))
+    }
+
+    /// Asks S1 to S10. Where one pass sees that all are kept, that is all. Else they are asked in their order.
+    fn check_before_locks(self) -> Result<(), Unsound>
+        ensures kept { IfOk result (λ _. KeepsBelow (region self.entry) 11) }
+        ensures fault { IfErr result (λ e. IsFirstFault (region self.entry) (rule_of e.rule) e.item) }
+    {
+        if self.all_keep() {
+            return Ok(());
+        }
         self.check_names()?;
         self.check_places()?;
-        self.check_lists()?;
-        self.each_keeps(Rule::Locks, |i| self.has_locks_if_any(i))
+        self.check_lists()
     }
 
     /// Whether each item of the table can be found by its name: it keeps S1 to S8.
@@ -94,7 +111,7 @@ impl Table<'_> {
         Ok(())
     }
 
-    /// Asks S3. Where a fast pass sees that all items keep it, that is all. Else it walks along the parents of each item, up to
+    /// Asks S3. Where a quick pass sees that all items keep it, that is all. Else it walks along the parents of each item, up to
     /// the first with a lower number.
     fn check_chains(self) -> Result<(), Unsound>
         requires earlier { KeepsBelow (region self) 3 }

@@ -1,8 +1,8 @@
 //! S3: the item's parents end, and its key isn't empty.
 //!
-//! Two fast passes say that all items keep it, or nothing. The first walks up few parents of each item. The second notes the
-//! items that it saw last, and their parents, whose own parents end. A walk ends where it comes to one of these, and so a long
-//! chain of parents isn't walked again for each item of it, nor for each item below it.
+//! A fast pass says that all items keep it, or nothing. It notes the items that it saw last, and their parents, whose own
+//! parents end. A walk ends where it comes to one of these, and so a long chain of parents isn't walked again for each item of
+//! it, nor for each item below it.
 ghost use Rattle.std.specs.Prelude.{◌<◌, ◌≡◌, ◌↔◌, List, ℕ, IsTrue, length};
 ghost use Rattle.dconf_model.specs.Table.{item_count};
 ghost use Rattle.dconf_model.specs.Searchable.{HasEnd, LeadsUp};
@@ -13,11 +13,8 @@ ghost use Rattle.gvdb_read.specs.Unsounds.{KeptBefore};
 
 use crate::table::Table;
 
-/// How many parents of an item the first pass looks at: more than a path has parts in practice.
-const FEW: u32 = 64;
-
 /// How many items are noted. An item's number tells its place, and there the last one counts.
-const NOTED: usize = 256;
+pub(super) const NOTED: usize = 256;
 
 /// An item whose parents end.
 #[derive(Clone, Copy)]
@@ -28,51 +25,9 @@ struct NotedEnd {
 impl Table<'_> {
     ghost use Rattle.gvdb_read.specs.Tables.{region};
 
-    /// Whether all items are seen to keep the rule.
-    pub(super) fn chains_end(self) -> bool
-        requires keys { KeepsAll (region self) keys }
-        ensures { IsTrue result → KeepsAll (region self.entry) chain }
-    {
-        self.chains_end_soon() || self.noted_chains_end()
-    }
-
-    /// Whether all items keep the rule, and each has few parents up to one with a lower number.
-    fn chains_end_soon(self) -> bool
-        requires keys { KeepsAll (region self) keys }
-        ensures { IsTrue result → KeepsAll (region self.entry) chain }
-    {
-        for i in 0..self.n_items() {
-            if self.key_size_at(i) == 0 || !self.ends_soon(i) {
-                return false;
-            }
-        }
-        true
-    }
-
-    /// Whether few parents of item `i` lead to one with a lower number, or to one without parent.
-    #[inline(always)]
-    fn ends_soon(self, i: u32) -> bool
-        requires counted { i < item_count (region self) }
-        requires keys { KeepsAll (region self) keys }
-        ensures { KeptBefore (region self.entry) chain i → IsTrue result
-            → (parents : List ℕ) × LeadsUp (region self.entry) i parents }
-    {
-        let mut at = i;
-        for _ in 0..FEW {
-            let Some(parent) = self.parent_at(at) else {
-                return true;
-            };
-            if parent < i {
-                return true;
-            }
-            at = parent;
-        }
-        false
-    }
-
     /// Whether all items keep the rule. For each item it looks at no more of its parents than up to one that is noted, and then
     /// notes it and its parent.
-    fn noted_chains_end(self) -> bool
+    pub(super) fn chains_end(self) -> bool
         requires keys { KeepsAll (region self) keys }
         ensures { IsTrue result → KeepsAll (region self.entry) chain }
     {

@@ -1,8 +1,8 @@
 //! How long full names are.
 //!
-//! Where each item has few parents, each chain of them is walked. Else a pass notes the lengths of the names of the items
-//! that it saw last, and of their parents. A walk up an item's parents ends where it comes to one of these, and so a long
-//! chain of parents isn't walked again for each item of it, nor for each item below it.
+//! A pass notes the lengths of the names of the items that it saw last, and of their parents. A walk up an item's parents ends
+//! where it comes to one of these, and so a long chain of parents isn't walked again for each item of it, nor for each item
+//! below it.
 ghost use Rattle.std.specs.Prelude.{◌≡◌, ◌≤◌, ◌<◌, ◌↔◌, ℕ, List, IfSome, IsTrue, length};
 ghost use Rattle.dconf_model.specs.Table.{item_count};
 ghost use Rattle.dconf_model.specs.Names.{HasName, full_name};
@@ -11,16 +11,11 @@ ghost use Rattle.dconf_model.specs.Sound.{KeepsAll};
 ghost use Rattle.dconf_model.specs.Sound.Rule.{keys, chain};
 ghost use Rattle.gvdb_read.specs.NotedLengths.{AreNoted, HasShortName};
 
+use super::chain::NOTED;
 use crate::table::Table;
 
 /// How many bytes a full name may have: as many as one item's key, whose size is a number of two bytes.
 pub const MAX_NAME_LEN: usize = u16::MAX as usize;
-
-/// Of how many items a walk looks at the keys' sizes where nothing is noted: more than a path has parts in practice.
-const FEW: u32 = 64;
-
-/// Of how many items the lengths are noted. An item's number tells its place, and there the last one counts.
-const NOTED: usize = 256;
 
 /// An item, and how many bytes its full name has.
 #[derive(Clone, Copy)]
@@ -32,57 +27,9 @@ struct NotedLen {
 impl<'a> Table<'a> {
     ghost use Rattle.gvdb_read.specs.Tables.{region};
 
-    /// Whether each item's full name has at most 65,535 bytes. It looks at the keys' sizes alone, and for each item at its
-    /// parents, 64 items in all. Where that isn't enough, it looks at no more of its parents than up to one whose length is
-    /// noted.
-    pub(super) fn names_are_short(self) -> bool
-        requires keys { KeepsAll (region self) keys }
-        requires chain { KeepsAll (region self) chain }
-        ensures { IsTrue result → EachItem (region self.entry) (HasShortName (region self.entry)) }
-    {
-        self.names_are_near_top() || self.noted_names_are_short()
-    }
-
-    /// Whether each item has few parents, and a full name of at most 65,535 bytes.
-    fn names_are_near_top(self) -> bool
-        requires keys { KeepsAll (region self) keys }
-        requires chain { KeepsAll (region self) chain }
-        ensures { IsTrue result → EachItem (region self.entry) (HasShortName (region self.entry)) }
-    {
-        for i in 0..self.n_items() {
-            if !self.is_near_top(i) {
-                return false;
-            }
-        }
-        true
-    }
-
-    /// Whether item `i` has few parents, and a full name of at most 65,535 bytes.
-    #[inline(always)]
-    fn is_near_top(self, i: u32) -> bool
-        requires keys { KeepsAll (region self) keys }
-        requires chain { KeepsAll (region self) chain }
-        requires counted { i < item_count (region self) }
-        ensures { IsTrue result → length (full_name (region self.entry) i) ≤ 65535 }
-    {
-        let mut at = i;
-        let mut left = u16::MAX;
-        for _ in 0..FEW {
-            let Some(rest) = left.checked_sub(self.key_size_at(at)) else {
-                return false;
-            };
-            let Some(parent) = self.parent_at(at) else {
-                return true;
-            };
-            at = parent;
-            left = rest;
-        }
-        false
-    }
-
     /// Whether each item's full name has at most 65,535 bytes. For each item it looks at no more of its parents than up to
     /// one whose length is noted, and then notes its own and its parent's.
-    fn noted_names_are_short(self) -> bool
+    pub(super) fn names_are_short(self) -> bool
         requires keys { KeepsAll (region self) keys }
         requires chain { KeepsAll (region self) chain }
         ensures { IsTrue result → EachItem (region self.entry) (HasShortName (region self.entry)) }

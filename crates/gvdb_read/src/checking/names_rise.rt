@@ -18,7 +18,7 @@ ghost use Rattle.gvdb_read.specs.NamesRise.{ComesBefore, IsNamedBelow, NameGoesO
 use crate::table::Table;
 
 /// So many items a bucket are quicker looked at one by one, as there are in files of our writer and of dconf's.
-const SHORT_BUCKET: u32 = 16;
+pub(super) const SHORT_BUCKET: u32 = 16;
 
 /// How many items are looked at from an item up its parents. Where directories lie deeper, the pass may say nothing.
 const MOST_ABOVE: u32 = 32;

@@ -26,7 +26,7 @@ impl<'a> Table<'a> {
     /// Whether item `i` is where an item of its kind and key may occur.
     #[inline(always)]
     pub(super) fn has_parent(self, i: u32) -> bool
-        requires keys { KeepsAll (region self) keys }
+        requires good { HasGoodKey (region self) i }
         requires counted { i < item_count (region self) }
         ensures { IsTrue result ↔ HasParent (region self.entry) i (item (region self.entry) i).parent }
     {

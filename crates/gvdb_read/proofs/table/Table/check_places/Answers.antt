@@ -1,6 +1,7 @@
-use Rattle.std.proofs.Common.{rules, Bool, IsTrue, ◌≡◌, ◌↔◌, sym, subst, ℕ}
+use Rattle.std.proofs.Common.{rules, arith, Bool, IsTrue, ◌≡◌, ◌↔◌, sym, subst, ℕ}
 use Rattle.dconf_model.specs.Table.{Table, item}
-use Rattle.dconf_model.specs.Sound.{HasParent, HasPlace}
+use Rattle.dconf_model.specs.Sound.{HasParent, HasPlace, KeepsAll}
+use Rattle.dconf_model.specs.Sound.Rule.{keys}
 use Rattle.gvdb_read.specs.NotedLengths.{HasShortName}
 use Rattle.gvdb_read.specs.Tables.{region}
 use Rattle.gvdb_read.proofs.NotedLengths.{each_name}
@@ -12,6 +13,11 @@ placed t i r b short e tells = (
   λ h. record { has_parent = tells.0 (subst IsTrue e h); short = short },
   λ place. subst IsTrue (sym e) (tells.1 place.has_parent),
 )
+
+pub each_keeps-requires-clause-callable : goal.each_keeps-requires-clause-callable
+each_keeps-requires-clause-callable c =
+    let good : KeepsAll (region c.args.self) keys = c.requires.earlier keys (omega arith) in
+    λ i counted. search rules
 
 pub each_keeps-requires-clause-tells : goal.each_keeps-requires-clause-tells
 each_keeps-requires-clause-tells c =

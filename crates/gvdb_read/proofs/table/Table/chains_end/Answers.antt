@@ -7,8 +7,8 @@ use Rattle.gvdb_read.specs.Tables.{region}
 use Rattle.gvdb_read.proofs.Below.{below_next}
 use Rattle.gvdb_read.proofs.ChainSteps.{goes_on}
 use Rattle.gvdb_read.proofs.NotedLengths.{key_long}
-use Rattle.gvdb_read.proofs.table.Table.noted_chains_end.Goals as goal
-use Rattle.gvdb_read.proofs.table.Table.noted_chains_end.Goals.{in-Some, in_default}
+use Rattle.gvdb_read.proofs.table.Table.chains_end.Goals as goal
+use Rattle.gvdb_read.proofs.table.Table.chains_end.Goals.{in-Some, in_default}
 
 pub loop-i-init : goal.loop-i-init
 loop-i-init c = (λ j l. absurd (omega (arith, l)), All-replicate (Ends (region c.args.self)) 256 None tt)

@@ -6,8 +6,8 @@ use Rattle.gvdb_read.specs.NotedLengths.{IsNoted}
 use Rattle.gvdb_read.specs.Tables.{region}
 use Rattle.gvdb_read.proofs.Below.{below_next}
 use Rattle.gvdb_read.proofs.NotedLengths.{above_is, all_short}
-use Rattle.gvdb_read.proofs.table.Table.noted_names_are_short.Goals as goal
-use Rattle.gvdb_read.proofs.table.Table.noted_names_are_short.Goals.{in-Some-parent_at, in_default-parent_at}
+use Rattle.gvdb_read.proofs.table.Table.names_are_short.Goals as goal
+use Rattle.gvdb_read.proofs.table.Table.names_are_short.Goals.{in-Some-parent_at, in_default-parent_at}
 
 pub overflow_sub-len : goal.overflow_sub-len
 overflow_sub-len c =

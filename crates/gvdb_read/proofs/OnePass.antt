@@ -1,0 +1,82 @@
+-- Where each item keeps what one pass asks of it, all rules before S11 are kept.
+use Rattle.std.proofs.Common.{ℕ, List, [], ◌∷◌, Option, Some, None, length, length-append, ◌≤◌, ◌<◌, ◌≡◌, refl, sym, ap, arith}
+use Rattle.dconf_model.specs.Table.{Table, item, item_count, key}
+use Rattle.dconf_model.specs.Names.{full_name}
+use Rattle.dconf_model.specs.Search.{span_start}
+use Rattle.dconf_model.specs.Searchable.{EachItem, HasBuckets, LeadsUp}
+use Rattle.dconf_model.specs.Sound.{KeepsAll, HasParent}
+use Rattle.dconf_model.specs.Sound.Rule.{buckets, keys, chain, hash, span, bloom, once, content, place, lists, locks}
+use Rattle.dconf_model.proofs.ComputedNames.{leads_up}
+use Rattle.dconf_model.proofs.FullNames.{full_name_is, full_name_at_root, full_name_below, parent_counted}
+use Rattle.gvdb_read.specs.Counted.{HasListOnceIfAny}
+use Rattle.gvdb_read.specs.OnePass.{ItemKeeps}
+use Rattle.gvdb_read.specs.Unsounds.{KeepsBelow}
+use Rattle.gvdb_read.proofs.CountedLists.{IsFound, lists_kept}
+use Rattle.gvdb_read.proofs.HashAbove.{hashes_kept}
+use Rattle.gvdb_read.proofs.NameChecks.{has_no_namesake, same_hash}
+use Rattle.gvdb_read.proofs.NotedLengths.{all_short}
+
+module _ (t : Table) (each : EachItem t (ItemKeeps t)) where
+  good : KeepsAll t keys
+  good i counted = (each i counted).record_keeps.good_key
+
+  -- an item lies in a list, whose parents end
+  leads_from : (i : ℕ) (up : Option ℕ) → i < item_count t → (item t i).parent ≡ up → HasParent t i up → (ps : List ℕ) × LeadsUp t i ps
+  leads_from i None counted top placed = ([], top)
+  leads_from i (Some p) counted up placed =
+      let name = (each p (parent_counted t i p good counted up)).near_top placed.0 in
+      (p ∷ name.1.parents, (up, leads_up t p name.1.parents name.1.chain))
+
+  ends : KeepsAll t chain
+  ends i counted =
+      let here = each i counted in
+      let leads = leads_from i (item t i).parent counted refl here.has_parent in
+      record { parents = leads.0; ends = leads.1; key = here.some_key }
+
+  hashed : KeepsAll t hash
+  hashed = hashes_kept t good ends (λ i counted. (each i counted).record_keeps.goes_on)
+
+  in_span : KeepsAll t span
+  in_span i counted = (each i counted).record_keeps.in_span
+
+  -- items of one name have one hash
+  only_named : KeepsAll t once
+  only_named i counted =
+      has_no_namesake t i (span_start t (item t i).hash) good ends hashed in_span counted refl
+      (λ k lower first same. (each i counted).own_hash k lower first (sym (same_hash t i k good ends hashed counted (omega (arith, lower, counted)) same)))
+
+  -- a name has the bytes of a directory's and of a key
+  short_from : (i : ℕ) (up : Option ℕ) → i < item_count t → (item t i).parent ≡ up → HasParent t i up → length (full_name t i) ≤ 65535
+  short_from i None counted top placed =
+      let own = (each i counted).short_key in
+      omega (arith, ap length (full_name_at_root t i good counted top), own)
+  short_from i (Some p) counted up placed =
+      let own = (each i counted).short_key in
+      let name = (each p (parent_counted t i p good counted up)).near_top placed.0 in
+      omega (
+        arith,
+        own,
+        name.2,
+        ap length (full_name_is t p name.0 name.1),
+        ap length (full_name_below t i p good ends counted up),
+        length-append (full_name t p) (key t i),
+      )
+
+  placed : KeepsAll t place
+  placed i counted =
+      let has_parent = (each i counted).has_parent in
+      let short = all_short t (λ j there. short_from j (item t j).parent there refl (each j there).has_parent) in
+      record { has_parent = has_parent; short = short i counted }
+
+  pub all_kept : (h n m : ℕ) (xs : List ℕ) → HasBuckets t → IsFound t h n m xs → length xs ≡ item_count t → EachItem t (HasListOnceIfAny t) → KeepsBelow t 11
+  all_kept h n m xs has_buckets found all once_each buckets lt = has_buckets
+  all_kept h n m xs has_buckets found all once_each keys lt = good
+  all_kept h n m xs has_buckets found all once_each chain lt = ends
+  all_kept h n m xs has_buckets found all once_each hash lt = hashed
+  all_kept h n m xs has_buckets found all once_each span lt = in_span
+  all_kept h n m xs has_buckets found all once_each bloom lt = λ i counted. (each i counted).record_keeps.in_bloom
+  all_kept h n m xs has_buckets found all once_each once lt = only_named
+  all_kept h n m xs has_buckets found all once_each content lt = λ i counted. (each i counted).record_keeps.content
+  all_kept h n m xs has_buckets found all once_each place lt = placed
+  all_kept h n m xs has_buckets found all once_each lists lt = lists_kept t h n m xs found all once_each
+  all_kept h n m xs has_buckets found all once_each locks lt = absurd (omega (arith, lt))
