@@ -23,4 +23,5 @@ pub mod NameWalks
 pub mod AppendedBytes
 pub mod NotedLengths
 pub mod NamesRise
+pub mod PlainKey
 pub mod OnePass

@@ -18,7 +18,7 @@ use Rattle.gvdb_read.proofs.NotedLengths.{all_short}
 
 module _ (t : Table) (each : EachItem t (ItemKeeps t)) where
   good : KeepsAll t keys
-  good i counted = (each i counted).record_keeps.good_key
+  good i counted = (each i counted).key_keeps.good_key
 
   -- an item lies in a list, whose parents end
   leads_from : (i : ℕ) (up : Option ℕ) → i < item_count t → (item t i).parent ≡ up → HasParent t i up → (ps : List ℕ) × LeadsUp t i ps
@@ -30,14 +30,14 @@ module _ (t : Table) (each : EachItem t (ItemKeeps t)) where
   ends : KeepsAll t chain
   ends i counted =
       let here = each i counted in
-      let leads = leads_from i (item t i).parent counted refl here.has_parent in
+      let leads = leads_from i (item t i).parent counted refl here.key_keeps.has_parent in
       record { parents = leads.0; ends = leads.1; key = here.some_key }
 
   hashed : KeepsAll t hash
-  hashed = hashes_kept t good ends (λ i counted. (each i counted).record_keeps.goes_on)
+  hashed = hashes_kept t good ends (λ i counted. (each i counted).key_keeps.goes_on)
 
   in_span : KeepsAll t span
-  in_span i counted = (each i counted).record_keeps.in_span
+  in_span i counted = (each i counted).in_span
 
   -- items of one name have one hash
   only_named : KeepsAll t once
@@ -64,8 +64,8 @@ module _ (t : Table) (each : EachItem t (ItemKeeps t)) where
 
   placed : KeepsAll t place
   placed i counted =
-      let has_parent = (each i counted).has_parent in
-      let short = all_short t (λ j there. short_from j (item t j).parent there refl (each j there).has_parent) in
+      let has_parent = (each i counted).key_keeps.has_parent in
+      let short = all_short t (λ j there. short_from j (item t j).parent there refl (each j there).key_keeps.has_parent) in
       record { has_parent = has_parent; short = short i counted }
 
   pub all_kept : (h n m : ℕ) (xs : List ℕ) → HasBuckets t → IsFound t h n m xs → length xs ≡ item_count t → EachItem t (HasListOnceIfAny t) → KeepsBelow t 11
@@ -74,9 +74,9 @@ module _ (t : Table) (each : EachItem t (ItemKeeps t)) where
   all_kept h n m xs has_buckets found all once_each chain lt = ends
   all_kept h n m xs has_buckets found all once_each hash lt = hashed
   all_kept h n m xs has_buckets found all once_each span lt = in_span
-  all_kept h n m xs has_buckets found all once_each bloom lt = λ i counted. (each i counted).record_keeps.in_bloom
+  all_kept h n m xs has_buckets found all once_each bloom lt = λ i counted. (each i counted).in_bloom
   all_kept h n m xs has_buckets found all once_each once lt = only_named
-  all_kept h n m xs has_buckets found all once_each content lt = λ i counted. (each i counted).record_keeps.content
+  all_kept h n m xs has_buckets found all once_each content lt = λ i counted. (each i counted).content
   all_kept h n m xs has_buckets found all once_each place lt = placed
   all_kept h n m xs has_buckets found all once_each lists lt = lists_kept t h n m xs found all once_each
   all_kept h n m xs has_buckets found all once_each locks lt = absurd (omega (arith, lt))

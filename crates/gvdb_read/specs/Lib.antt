@@ -20,4 +20,5 @@ pub mod ListNumbers
 pub mod NotedEnds
 pub mod NotedLengths
 pub mod NamesRise
+pub mod PlainKey
 pub mod OnePass

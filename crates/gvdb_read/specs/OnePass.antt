@@ -3,8 +3,8 @@ use Rattle.std.specs.Prelude.{ℕ, ◌≤◌, ◌<◌, ◌≡◌, ◌≢◌, Lis
 use Rattle.dconf_model.specs.Table.{Table, item, key, list_kind}
 use Rattle.dconf_model.specs.Names.{HasName}
 use Rattle.dconf_model.specs.Search.{span_start}
-use Rattle.dconf_model.specs.Sound.{HasParent}
-use Rattle.gvdb_read.specs.Records.{RecordKeeps}
+use Rattle.dconf_model.specs.Searchable.{HasContent, IsInBloom, IsInSpan}
+use Rattle.gvdb_read.specs.PlainKey.{KeyKeeps}
 
 -- no lower item of its bucket has the item's hash
 abbrev pub HasOwnHash : Table → ℕ → Type 0
@@ -16,9 +16,11 @@ HasNameWithin most t i = (name : List ℕ) × HasName t i name × (length name �
 
 -- the name of a directory has at most 1,023 bytes, and a key 64,512: together a full name's 65,535
 pub record ItemKeeps (t : Table) (i : ℕ) : Type 0 where
-  pub record_keeps : RecordKeeps t i
+  pub key_keeps : KeyKeeps t i
+  pub in_span : IsInSpan t i
+  pub in_bloom : IsInBloom t i
+  pub content : HasContent t i
   pub some_key : 0 < length (key t i)
   pub short_key : length (key t i) ≤ 64512
-  pub has_parent : HasParent t i (item t i).parent
   pub own_hash : HasOwnHash t i
   pub near_top : (item t i).kind ≡ list_kind → HasNameWithin 1023 t i

@@ -24,6 +24,7 @@ mod names_rise;
 mod once;
 mod one_pass;
 mod place;
+mod plain_key;
 mod records;
 mod span;
 

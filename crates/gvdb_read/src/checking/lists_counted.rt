@@ -36,6 +36,7 @@ impl Table<'_> {
 
     /// How many items are found by item `i`: those in its list, and itself where it has no parent. None where its list
     /// isn't seen to hold children of it alone, once each, and some but at `/`.
+    #[inline(always)]
     pub(super) fn found_at(self, i: u32) -> Option<usize>
         requires counted { i < item_count (region self) }
         requires valid { HasBytes (region self) i }

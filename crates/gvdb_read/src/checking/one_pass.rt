@@ -68,9 +68,11 @@ impl Table<'_> {
         requires { i < item_count (region self) }
         ensures { IsTrue result → ItemKeeps (region self.entry) i }
     {
-        self.record_keeps(i)
+        self.key_keeps(i)
+            && self.is_in_span(i)
+            && self.is_in_bloom(i)
+            && self.has_content(i)
             && self.has_usual_key(i)
-            && self.has_parent(i)
             && self.has_own_hash(i)
             && self.is_near_top(i)
     }

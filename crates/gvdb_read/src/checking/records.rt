@@ -26,7 +26,7 @@ impl Table<'_> {
 
     /// Whether item `i` keeps S2, S5, S6 and S8, and its hash goes on from its parent's.
     #[inline(always)]
-    pub(super) fn record_keeps(self, i: u32) -> bool
+    fn record_keeps(self, i: u32) -> bool
         requires { i < item_count (region self) }
         ensures { IsTrue result ↔ RecordKeeps (region self.entry) i }
     {
