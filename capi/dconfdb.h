@@ -183,9 +183,10 @@ bool dconfdb_snapshot_is_writable(const DconfdbSnapshot *snapshot, const char *p
 char *dconfdb_snapshot_list(const DconfdbSnapshot *snapshot, const char *directory, size_t *size, DconfdbError *error);
 char *dconfdb_snapshot_locks(const DconfdbSnapshot *snapshot, const char *directory, size_t *size, DconfdbError *error);
 
-/* The paths of the keys that are seen otherwise in one of two snapshots than in the other, or are
- * locked in one alone; in the same form. Each is a key that a database of one of them has: of keys
- * that none has, compare the locks. */
+/* The paths of the keys that have another value in one of two snapshots than in the other, or one
+ * in one alone, or are locked in one alone; in the same form. A value in other bytes is the same
+ * one. Each is a key that a database of one of them has: of keys that none has, compare the
+ * locks. */
 char *dconfdb_snapshot_differences(const DconfdbSnapshot *snapshot, const DconfdbSnapshot *other, size_t *size,
                                    DconfdbError *error);
 

@@ -139,9 +139,10 @@ uint32_t dconfdb_list(const DconfdbLayer *layers, size_t n, const uint8_t *direc
 uint32_t dconfdb_locks(const DconfdbLayer *layers, size_t n, const uint8_t *directory, size_t directory_len, uint8_t *room,
                        size_t room_len, size_t *len);
 
-/* The paths of the keys that are seen otherwise through other layers: other bytes are seen, or a
- * key is locked in one alone. Each is a key of one of the layers, and they come in the same form.
- * MEMORY. Locks of what no layer has: compare dconfdb_locks. */
+/* The paths of the keys that are seen otherwise through other layers: another value is seen, or one
+ * where none was, or a key is locked in one alone. A value in other bytes is the same one. Each is a
+ * key of one of the layers, and they come in the same form. MEMORY. Locks of what no layer has:
+ * compare dconfdb_locks. */
 uint32_t dconfdb_differs(const DconfdbLayer *layers, size_t n, const DconfdbLayer *other, size_t other_n, uint8_t *room,
                          size_t room_len, size_t *len);
 

@@ -1,6 +1,6 @@
 -- Keys that pass a test, of the names of a layer's items and of all layers.
-use Rattle.std.specs.Prelude.{filter, is_some}
-use Rattle.std.proofs.Common.{◌≡◌, ◌+◌, ◌<◌, ◌&&◌, ◌++◌, ◌∷◌, [], ◌∙◌, ℕ, Bool, true, false, List, Option, Some, None, ap, sym, subst, refl, length, take, get_or, map}
+use Rattle.std.specs.Prelude.{◌↔◌, IsTrue, filter, is_some}
+use Rattle.std.proofs.Common.{◌≡◌, ◌≢◌, ◌⊎◌, ◌+◌, ◌<◌, ◌&&◌, ◌||◌, ◌++◌, ◌∷◌, [], ◌∙◌, ℕ, Bool, true, false, List, Option, Some, None, ap, sym, subst, refl, length, take, get_or, map, not, inl, inr}
 use Rattle.std.specs.FinMap.{get, keys}
 use Rattle.std.specs.List.{list_any}
 use Rattle.std.specs.Str.{bytes_eq}
@@ -8,18 +8,42 @@ use Rattle.std.proofs.lemmas.Bool.{and_parts}
 use Rattle.std.proofs.lemmas.Grind.{flat_map-append}
 use Rattle.std.proofs.lemmas.List.{map-append, take_more}
 use Rattle.std.proofs.lemmas.List.Elements.{filter-append}
-use Rattle.dconf_model.specs.Layers.{all_paths}
+use Rattle.dconf_model.specs.Layers.{Layers, all_paths, is_locked, visible}
+use Rattle.dconf_model.specs.Order.{listing}
 use Rattle.dconf_model.specs.Paths.{is_key_path}
 use Rattle.dconf_model.specs.Settings.{Settings}
 use Rattle.dconf_model.proofs.ParentLaws.{by_bool}
-use Rattle.dconf_model.proofs.PathMaps.{key_in}
+use Rattle.dconf_model.proofs.PathMaps.{key_in, no_truth}
 use Rattle.dconf_engine.specs.declared.layer.Layer.{Layer}
+use Rattle.dconf_engine.specs.Differing.{AreDiffering, Differs, differs, same_truth}
 use Rattle.dconf_engine.specs.KeyNames.{items_of, key_name, key_names}
 use Rattle.dconf_engine.specs.LayerSettings.{settings_of}
+use Rattle.dconf_engine.specs.SameValues.{same_value}
 use Rattle.dconf_engine.specs.TextSets.{TextSet, Adds}
 use Rattle.dconf_engine.proofs.KeyNameLaws.{each_is_named}
 use Rattle.dconf_engine.proofs.PathTests.{any_passing}
+use Rattle.dconf_engine.proofs.SameValueLaws.{values_told}
 use Rattle.dconf_engine.proofs.TextSetLaws.{adds_alike, adds_more, adds_nothing}
+
+-- ---- what differs
+
+truths_told : (a b : Bool) → IsTrue (not (same_truth a b)) ↔ (a ≢ b)
+truths_told true true = (λ e. absurd (no_truth e), λ other. absurd (other refl))
+truths_told true false = (λ e same. no_truth (sym same), λ other. refl)
+truths_told false true = (λ e same. no_truth same, λ other. refl)
+truths_told false false = (λ e. absurd (no_truth e), λ other. absurd (other refl))
+
+either_told : (a b : Bool) (A B : Type 0) → IsTrue a ↔ A → IsTrue b ↔ B → IsTrue (a || b) ↔ (A ⊎ B)
+either_told true b A B f g = (λ e. inl (f.0 refl), λ h. refl)
+either_told false b A B f g = (λ e. inr (g.0 e), λ h. elim h [ inl x ↦ absurd (no_truth (f.1 x)) | inr y ↦ g.1 y ])
+
+differs_told : (l m : Layers) (path : List ℕ) → IsTrue (differs l m path) ↔ Differs l m path
+differs_told l m path =
+    either_told (not (same_truth (is_locked l path) (is_locked m path))) (not (same_value (visible l path) (visible m path))) _ _
+    (truths_told (is_locked l path) (is_locked m path)) (values_told (visible l path) (visible m path))
+
+pub are_differing : (l m : Layers) (paths : List (List ℕ)) → paths ≡ listing (filter (differs l m) (all_paths l.layers ++ all_paths m.layers)) → AreDiffering l m paths
+are_differing l m paths e = record { test = differs l m; tells = differs_told l m; are = e }
 
 -- ---- of an item's name
 

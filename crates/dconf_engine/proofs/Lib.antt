@@ -17,4 +17,5 @@ pub mod ListedNames
 pub mod LockNameLaws
 pub mod LayerTurns
 pub mod LeftLaws
+pub mod SameValueLaws
 pub mod DifferingLaws

@@ -17,4 +17,6 @@ pub mod Cleared
 pub mod TextSets
 pub mod LeftPaths
 pub mod LockNames
+pub mod SameValues
+pub mod Compared
 pub mod Differing

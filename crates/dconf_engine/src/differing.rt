@@ -1,36 +1,40 @@
 //! The keys that are seen otherwise through other layers.
-ghost use Rattle.std.specs.Prelude.{◌≡◌, ◌&&◌, Some, IfOk, OnOk, filter, map, string_bytes};
+ghost use Rattle.std.specs.Prelude.{◌≡◌, ◌&&◌, Some, IfOk, OnOk, filter, map, option_map, string_bytes};
 ghost use Rattle.std.specs.FinMap.{keys};
+ghost use Rattle.gv_view.specs.Views.{value};
 ghost use Rattle.dconf_model.specs.Layers.{all_paths};
 ghost use Rattle.dconf_model.specs.Paths.{is_key_path};
 ghost use Rattle.dconf_path.specs.Paths.{key_text};
-ghost use Rattle.dconf_engine.specs.Differing.{bytes_of_place, differing, differs, is_other, same_bytes};
+ghost use Rattle.dconf_engine.specs.Differing.{AreDiffering, differs, is_other};
 ghost use Rattle.dconf_engine.specs.KeyNames.{items_of, key_name, key_name_at, key_names};
 ghost use Rattle.dconf_engine.specs.LayerSettings.{settings_of};
+ghost use Rattle.dconf_engine.specs.SameValues.{same_value};
 ghost use Rattle.dconf_engine.specs.TextSets.{Adds};
 
 use crate::children::{add_text, texts_of};
 use crate::layer::Layer;
 use crate::lent::LentLayers;
+use crate::same_values::show_same;
 use dconf_path::KeyPath;
+use gv_view::View;
 use std::alloc::{AllocError, Global};
 use std::collections::BTreeSet;
 
 impl<'a, 'l> LentLayers<'a, 'l> {
     ghost use Rattle.dconf_engine.specs.LentSettings.{seen_in};
 
-    /// The paths of the keys that are seen otherwise through other layers: other bytes are seen, or
-    /// a key is locked in one alone. Each is a key of one of the layers. They are in the order of
-    /// their bytes, once each.
+    /// The paths of the keys that are seen otherwise through other layers: another value is seen,
+    /// or one where none was, or a key is locked in one alone. A value in other bytes is the same
+    /// one. Each is a key of one of the layers. They are in the order of their bytes, once each.
     ///
     /// An error comes where a growth is refused. It looks at the name of each item of each layer,
-    /// and reads each key through both.
+    /// and reads each key through both; it decodes values whose bytes are not the same.
     pub fn differing(
         self,
         alloc: Global,
         other: LentLayers<'a, 'l>,
     ) -> Result<Vec<String>, AllocError>
-        ensures { IfOk result (λ paths. map string_bytes paths.items ≡ differing (seen_in self.entry) (seen_in other.entry)) }
+        ensures { IfOk result (λ paths. AreDiffering (seen_in self.entry) (seen_in other.entry) (map string_bytes paths.items)) }
     {
         let mut paths = BTreeSet::new(alloc);
         let pair = Pair {
@@ -40,14 +44,6 @@ impl<'a, 'l> LentLayers<'a, 'l> {
         pair.add_layers(alloc, self, &mut paths)?;
         pair.add_layers(alloc, other, &mut paths)?;
         texts_of(alloc, paths)
-    }
-
-    /// Whether a key is seen otherwise through other layers.
-    fn differs(self, other: LentLayers<'_, '_>, path: KeyPath<'_>) -> bool
-        ensures { result ≡ differs (seen_in self.entry) (seen_in other.entry) (key_text path.entry) }
-    {
-        self.is_locked(path) != other.is_locked(path)
-            || !is_same(self.place(path), other.place(path))
     }
 }
 
@@ -120,30 +116,48 @@ impl<'a, 'l> Pair<'a, 'l> {
     ) -> Result<(), AllocError>
         ensures { OnOk result (Adds (filter (is_other (settings_of layer.entry).values (seen_in self.entry.first) (seen_in self.entry.second)) (key_name (Some text.now))) paths.old paths.new) }
     {
-        if !self.is_other(layer, text) {
+        if !self.is_other(alloc, layer, text)? {
             return Ok(());
         }
         add_text(alloc, text, paths)
     }
 
     /// Whether a text is the path of a key of the layer that is seen otherwise.
-    fn is_other(self, layer: Layer<'_>, text: &str) -> bool
-        ensures { result ≡ (is_key_path text.now && is_other (settings_of layer.entry).values (seen_in self.entry.first) (seen_in self.entry.second) text.now) }
+    fn is_other(self, alloc: Global, layer: Layer<'_>, text: &str) -> Result<bool, AllocError>
+        ensures { IfOk result (λ other. other ≡ (is_key_path text.now && is_other (settings_of layer.entry).values (seen_in self.entry.first) (seen_in self.entry.second) text.now)) }
     {
-        match KeyPath::parse(text) {
-            Ok(path) => layer.get(text).is_some() && self.first.differs(self.second, path),
-            Err(_) => false,
+        let Ok(path) = KeyPath::parse(text) else {
+            return Ok(false);
+        };
+        if layer.get(text).is_none() {
+            return Ok(false);
         }
+        self.differs(alloc, path)
+    }
+
+    /// Whether a key is seen otherwise through the second than through the first.
+    fn differs(self, alloc: Global, path: KeyPath<'_>) -> Result<bool, AllocError>
+        ensures { IfOk result (λ other. other ≡ differs (seen_in self.entry.first) (seen_in self.entry.second) (key_text path.entry)) }
+    {
+        if self.first.is_locked(path) != self.second.is_locked(path) {
+            return Ok(true);
+        }
+        let same = is_same(alloc, self.first.read(path), self.second.read(path))?;
+        Ok(!same)
     }
 }
 
-/// Whether the bytes at two places are the same.
-fn is_same(first: Option<(usize, &[u8])>, second: Option<(usize, &[u8])>) -> bool
-    ensures { result ≡ same_bytes (bytes_of_place first.entry) (bytes_of_place second.entry) }
+/// Whether the same value is seen, or none both times.
+fn is_same(
+    alloc: Global,
+    first: Option<View<'_>>,
+    second: Option<View<'_>>,
+) -> Result<bool, AllocError>
+    ensures { IfOk result (λ same. same ≡ same_value (option_map value first.entry) (option_map value second.entry)) }
 {
     match (first, second) {
-        (Some((_, first)), Some((_, second))) => first == second,
-        (None, None) => true,
-        _ => false,
+        (Some(first), Some(second)) => show_same(alloc, first, second),
+        (None, None) => Ok(true),
+        _ => Ok(false),
     }
 }

@@ -19,6 +19,7 @@ mod left;
 mod lent;
 mod listing;
 mod resetting;
+mod same_values;
 mod saving;
 mod storing;
 mod writing;

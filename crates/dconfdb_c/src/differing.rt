@@ -1,6 +1,6 @@
 //! The keys that are seen otherwise through other layers.
-ghost use Rattle.std.specs.Prelude.{◌≡◌, ◌≢◌, IfOk, true};
-ghost use Rattle.dconf_engine.specs.Differing.{differing};
+ghost use Rattle.std.specs.Prelude.{◌≡◌, ◌≢◌, ℕ, IfOk, List, true};
+ghost use Rattle.dconf_engine.specs.Differing.{AreDiffering};
 ghost use Rattle.dconfdb_c.specs.Given.{HandsOut};
 ghost use Rattle.dconfdb_c.specs.Listed.{ended};
 ghost use Rattle.dconfdb_c.specs.Seen.{layers_of};
@@ -11,9 +11,9 @@ use crate::listing::texts_of;
 use dconf_engine::{Layer, LentLayers};
 use std::alloc::{AllocError, Global};
 
-/// The paths of the keys that are seen otherwise through other layers: other bytes are seen, or a
-/// key is locked in one alone. Each is a key of one of the layers. They are handed out as
-/// `dconfdb_list` does.
+/// The paths of the keys that are seen otherwise through other layers: another value is seen, or one
+/// where none was, or a key is locked in one alone. A value in other bytes is the same one. Each is
+/// a key of one of the layers. They are handed out as `dconfdb_list` does.
 #[unsafe(no_mangle)]
 pub extern "C" fn dconfdb_differs(
     alloc: Global,
@@ -22,7 +22,7 @@ pub extern "C" fn dconfdb_differs(
     room: &mut [u8],
     len: &mut usize,
 ) -> u32
-    ensures done { result ≡ 0 → HandsOut (ended (differing (layers_of layers.now true) (layers_of other.now true))) room.new len.new }
+    ensures done { result ≡ 0 → (paths : List (List ℕ)) × AreDiffering (layers_of layers.now true) (layers_of other.now true) paths × HandsOut (ended paths) room.new len.new }
     ensures refused { result ≢ 0 → result ≡ 1 }
 {
     match differing(alloc, layers, other) {
@@ -40,7 +40,7 @@ fn differing(
     layers: &[Layer<'_>],
     other: &[Layer<'_>],
 ) -> Result<Vec<u8>, AllocError>
-    ensures { IfOk result (λ all. all.items ≡ ended (differing (layers_of layers.now true) (layers_of other.now true))) }
+    ensures { IfOk result (λ all. (paths : List (List ℕ)) × AreDiffering (layers_of layers.now true) (layers_of other.now true) paths × (all.items ≡ ended paths)) }
 {
     let paths = LentLayers::new(true, layers).differing(alloc, LentLayers::new(true, other))?;
     texts_of(alloc, paths.as_slice())

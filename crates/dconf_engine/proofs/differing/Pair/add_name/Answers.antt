@@ -8,8 +8,8 @@ use Rattle.dconf_engine.specs.TextSets.{Adds}
 use Rattle.dconf_engine.proofs.DifferingLaws.{key_passes, no_key_added}
 use Rattle.dconf_engine.proofs.differing.Pair.add_name.Goals as goal
 
-pub returns-then-not-is_other : goal.returns-then-not-is_other
-returns-then-not-is_other c =
+pub returns-then-not-branch : goal.returns-then-not-branch
+returns-then-not-branch c =
     let f = is_other (settings_of c.args.layer).values (seen_in c.args.self.first) (seen_in c.args.self.second) in
     let p = c.args.text.now in
     let other : (is_key_path p && f p) ≡ false = search rules in

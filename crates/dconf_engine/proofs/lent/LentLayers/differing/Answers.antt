@@ -1,9 +1,11 @@
-use Rattle.std.proofs.Common.{◌++◌}
-use Rattle.std.specs.Prelude.{filter}
+use Rattle.std.proofs.Common.{◌≡◌, ◌++◌, map}
+use Rattle.std.specs.Prelude.{filter, string_bytes}
+use Rattle.std.proofs.lemmas.Result.{IfOk-weaker}
 use Rattle.dconf_model.specs.Layers.{all_paths}
-use Rattle.dconf_engine.specs.Differing.{differs}
+use Rattle.dconf_model.specs.Order.{listing}
+use Rattle.dconf_engine.specs.Differing.{AreDiffering, differs}
 use Rattle.dconf_engine.specs.LentSettings.{seen_in}
-use Rattle.dconf_engine.proofs.DifferingLaws.{both_added}
+use Rattle.dconf_engine.proofs.DifferingLaws.{are_differing, both_added}
 use Rattle.dconf_engine.proofs.TextSetLaws.{listing_given}
 use Rattle.dconf_engine.proofs.lent.LentLayers.differing.Goals as goal
 
@@ -12,5 +14,7 @@ returns c =
     let l = seen_in c.args.self in
     let m = seen_in c.args.other in
     let f = differs l m in
-    listing_given c.new-paths.result c.add_layers-2.new.paths (filter f (all_paths l.layers ++ all_paths m.layers)) c.texts_of.result
-    c.new-paths.ensures.empty (both_added f (all_paths l.layers) (all_paths m.layers) _ _ _ c.in_ok-add_layers.ensures c.in_ok-add_layers-2.ensures) c.texts_of.ensures.texts c.texts_of.ensures.order
+    IfOk-weaker c.texts_of.result (λ v. map string_bytes v.items ≡ listing (filter f (all_paths l.layers ++ all_paths m.layers))) (λ v. AreDiffering l m (map string_bytes v.items))
+    (λ v e. are_differing l m (map string_bytes v.items) e)
+    (listing_given c.new-paths.result c.add_layers-2.new.paths (filter f (all_paths l.layers ++ all_paths m.layers)) c.texts_of.result
+    c.new-paths.ensures.empty (both_added f (all_paths l.layers) (all_paths m.layers) _ _ _ c.in_ok-add_layers.ensures c.in_ok-add_layers-2.ensures) c.texts_of.ensures.texts c.texts_of.ensures.order)
