@@ -1,13 +1,11 @@
 -- What C lends, and what it is handed.
 use Rattle.std.specs.Prelude.{◌≡◌, ◌≤◌, ℕ, List, IsTrue, IsUtf8, length, take}
 use Rattle.gv_model.specs.TypeText.{is_type}
-use Rattle.dconf_model.specs.Paths.{is_key_path, is_directory_path}
-
+use Rattle.dconf_model.specs.Paths.{is_directory_path}
 -- they are a text, and that of a key's path
-abbrev pub IsKey : List ℕ → Type 0
-IsKey bytes = IsUtf8 bytes × IsTrue (is_key_path bytes)
+pub use Rattle.dconf_model.specs.Salvaging.{IsKeyText as IsKey}
 
--- and of a directory's
+-- they are a text, and that of a directory's path
 abbrev pub IsDirectory : List ℕ → Type 0
 IsDirectory bytes = IsUtf8 bytes × IsTrue (is_directory_path bytes)
 
