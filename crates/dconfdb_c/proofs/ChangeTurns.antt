@@ -5,19 +5,20 @@ use Rattle.std.proofs.lemmas.Option.{slice_get-get_or}
 use Rattle.dconf_model.specs.Changes.{Change, apply}
 use Rattle.dconf_model.specs.Changes.Change.{set_value, reset_value, reset_below_directory, load_values}
 use Rattle.dconf_model.specs.Layers.{Layers}
+use Rattle.dconf_model.specs.Stores.{IsWholeChange}
 use Rattle.dconfdb_c.specs.declared.changing.DconfdbChange.{DconfdbChange}
 use Rattle.dconfdb_c.specs.declared.fault.Fault.{Fault}
 use Rattle.dconfdb_c.specs.declared.fault.Fault.TheVariants.{Memory, Short, BadSignature, BadVersion, BadRoot, BadTable, Unsound, NotText, BadLine, ServiceDb, UserNotFirst, TooMany, BadPath, BadType, NotWritable, Locked, TooLarge, TooBig}
 use Rattle.dconfdb_c.specs.Changed.{HaveChanged, IsChangedInVain, IsNoChange, IsRefusedAt, IsRefusedFor, change_of}
 
-one_more : (cs : List DconfdbChange) (c : DconfdbChange) (l m n : Layers) → HaveChanged cs l m → apply m (change_of c) ≡ Ok n → HaveChanged (cs ++ c ∷ []) l n
-one_more [] c l m n same e = (n, ap (λ (x : Layers). apply x (change_of c)) same ∙ e, refl)
-one_more (d ∷ cs) c l m n h e = (h.0, h.1, one_more cs c h.0 m n h.2 e)
+one_more : (cs : List DconfdbChange) (c : DconfdbChange) (l m n : Layers) → HaveChanged cs l m → IsWholeChange (change_of c) → apply m (change_of c) ≡ Ok n → HaveChanged (cs ++ c ∷ []) l n
+one_more [] c l m n same whole e = (n, whole, ap (λ (x : Layers). apply x (change_of c)) same ∙ e, refl)
+one_more (d ∷ cs) c l m n h whole e = (h.0, h.1, h.2, one_more cs c h.0 m n h.3 whole e)
 
-pub changed_more : (cs : List DconfdbChange) (i : ℕ) (d : DconfdbChange) (l m n : Layers) → i < length cs → HaveChanged (take i cs) l m → apply m (change_of (get_or cs i d)) ≡ Ok n →
-    HaveChanged (take (i + 1) cs) l n
-changed_more cs i d l m n within h e =
-    subst (λ (xs : List DconfdbChange). HaveChanged xs l n) (sym (take_more cs i d within)) (one_more (take i cs) (get_or cs i d) l m n h e)
+pub changed_more : (cs : List DconfdbChange) (i : ℕ) (d : DconfdbChange) (l m n : Layers) → i < length cs → HaveChanged (take i cs) l m →
+    IsWholeChange (change_of (get_or cs i d)) → apply m (change_of (get_or cs i d)) ≡ Ok n → HaveChanged (take (i + 1) cs) l n
+changed_more cs i d l m n within h whole e =
+    subst (λ (xs : List DconfdbChange). HaveChanged xs l n) (sym (take_more cs i d within)) (one_more (take i cs) (get_or cs i d) l m n h whole e)
 
 -- ---- the change that is refused
 

@@ -1,2 +1,3 @@
 mod ChangeTurns
+mod AfterTurns
 mod Refusals

@@ -16,6 +16,7 @@ use Rattle.dconf_model.specs.Changes.Change.{set_value, reset_value, reset_below
 use Rattle.dconf_model.specs.Changes.Refusal.{not_writable, locked, too_large}
 use Rattle.dconf_model.specs.Databases.{IsDatabaseOf, IsTooBig}
 use Rattle.dconf_model.specs.Layers.{Layers}
+use Rattle.dconf_model.specs.Stores.{IsWholeChange}
 use Rattle.dconfdb_c.specs.declared.changing.DconfdbChange.{DconfdbChange}
 use Rattle.dconfdb_c.specs.declared.fault.Fault.{Fault}
 use Rattle.dconfdb_c.specs.declared.fault.Fault.TheVariants.{Memory, BadPath, BadType, NotWritable, Locked, TooLarge, TooBig}
@@ -31,10 +32,10 @@ change_of c =
     if ends_with_slash c.path.now then reset_below_directory c.path.now else
     if c.sets then set_value c.path.now (value_of c) else reset_value c.path.now
 
--- each change is accepted in its turn
+-- each change is accepted in its turn, and what it sets is a value of its type
 abbrev pub HaveChanged : List DconfdbChange → Layers → Layers → Type 0
 HaveChanged [] l m = l ≡ m
-HaveChanged (c ∷ cs) l m = (next : Layers) × (apply l (change_of c) ≡ Ok next) × HaveChanged cs next m
+HaveChanged (c ∷ cs) l m = (next : Layers) × IsWholeChange (change_of c) × (apply l (change_of c) ≡ Ok next) × HaveChanged cs next m
 
 -- the user's database with the changes
 pub record IsChanged (l : Layers) (changes : List DconfdbChange) (file : List ℕ) : Type 0 where

@@ -5,3 +5,4 @@ pub mod Opened
 pub mod Listed
 pub mod Named
 pub mod Changed
+pub mod AfterChanges

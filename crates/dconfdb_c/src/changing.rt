@@ -4,6 +4,7 @@ ghost use Rattle.gv_view.specs.Views.{value};
 ghost use Rattle.dconf_model.specs.Changes.{apply, Change.set_value};
 ghost use Rattle.dconf_path.specs.Paths.{key_text};
 ghost use Rattle.dconf_model.specs.Databases.{IsDatabaseOf};
+ghost use Rattle.dconf_model.specs.Stores.{IsLimitedValue, IsWholeChange};
 ghost use Rattle.dconfdb_c.specs.Changed.{HaveChanged, IsAskedInVain, IsChanged, IsMalformed, IsNoChange, IsNoChangeTold, IsRefusedFor, IsSetInVain, asked_change, change_of, with_fault};
 ghost use Rattle.dconfdb_c.specs.Given.{HandsOut};
 ghost use Rattle.dconfdb_c.specs.Seen.{layers_of};
@@ -149,6 +150,7 @@ impl<'a> DconfdbChange<'a> {
     /// Makes the change, or leaves the engine as it was.
     fn make(self, alloc: Global, engine: &mut Engine<'_>) -> Result<(), Fault>
         ensures ok { OnOk result (apply engine.old (change_of self.entry) ≡ Ok engine.new) }
+        ensures whole { OnOk result (IsWholeChange (change_of self.entry)) }
         ensures fault { IfErr result (IsRefusedFor engine.old self.entry) }
     {
         let asked = self.asked()?;
@@ -160,6 +162,7 @@ impl Asked<'_> {
     /// Makes the change, or leaves the engine as it was.
     fn make(self, alloc: Global, engine: &mut Engine<'_>) -> Result<(), Fault>
         ensures ok { OnOk result (apply engine.old (asked_change self.entry) ≡ Ok engine.new) }
+        ensures whole { OnOk result (IsWholeChange (asked_change self.entry)) }
         ensures fault { IfErr result (IsAskedInVain engine.old self.entry) }
     {
         match self {
@@ -178,6 +181,7 @@ fn set(
     engine: &mut Engine<'_>,
 ) -> Result<(), Fault>
     ensures ok { OnOk result (apply engine.old (set_value (key_text path.entry) (value view.entry)) ≡ Ok engine.new) }
+    ensures whole { OnOk result (IsLimitedValue (value view.entry)) }
     ensures fault { IfErr result (IsSetInVain engine.old (key_text path.entry) (value view.entry)) }
 {
     match view.to_tree(alloc) {

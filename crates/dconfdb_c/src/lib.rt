@@ -5,6 +5,7 @@
 //! frees anything of the caller's, or checks a layer anew.
 #![tactic(auto)]
 
+mod after_changes;
 mod changing;
 mod differing;
 mod fault;
