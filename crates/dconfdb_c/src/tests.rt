@@ -1,4 +1,6 @@
-//! Each call once, over two layers by hand: both have 5 at `/k`, and the second locks it.
+//! Each call, answered and refused, over two layers by hand: both have 5 at `/k`, and the second
+//! locks it.
+use crate::after_changes::{Others, Turn, read_after};
 use crate::changing::{DconfdbChange, dconfdb_change};
 use crate::differing::dconfdb_differs;
 use crate::fault::{DconfdbText, dconfdb_fault_text};
@@ -10,6 +12,7 @@ use crate::reading::{
     dconfdb_read_default,
 };
 use dconf_engine::Layer;
+use std::alloc::Global;
 use std::test::Fail;
 
 /// The key `/k`, worth 5.
@@ -127,6 +130,16 @@ fn a_profile_names_databases(rt: HostRuntime) -> Result<(), Fail> {
     Ok(())
 }
 
+/// Sets a key to 5, or resets it.
+fn change(path: &[u8], sets: bool) -> DconfdbChange<'_> {
+    DconfdbChange {
+        path,
+        value: b"\x05\0\0\0",
+        type_text: b"i",
+        sets,
+    }
+}
+
 /// Whether the file has 5 at `/a/j`.
 fn is_five_at_j(file: &[u8]) -> Result<bool, Fail> {
     let (changed, number) = opened(file)?;
@@ -140,12 +153,7 @@ fn is_five_at_j(file: &[u8]) -> Result<bool, Fail> {
 fn changes_make_a_new_file(rt: HostRuntime) -> Result<(), Fail> {
     let (user, _) = opened(PLAIN)?;
     let layers = [user];
-    let changes = [DconfdbChange {
-        path: b"/a/j",
-        value: b"\x05\0\0\0",
-        type_text: b"i",
-        sets: true,
-    }];
+    let changes = [change(b"/a/j", true)];
     let mut room = [0; 512];
     let (mut len, mut at) = (0, 0);
     let number = dconfdb_change(
@@ -161,5 +169,83 @@ fn changes_make_a_new_file(rt: HostRuntime) -> Result<(), Fail> {
         return Err(Fail::new("a file that is too long"));
     };
     assert!(rt; number == 0 && is_five_at_j(file)?, "{number}");
+    Ok(())
+}
+
+#[test]
+fn a_change_that_is_refused_is_named(rt: HostRuntime) -> Result<(), Fail> {
+    let (user, _) = opened(PLAIN)?;
+    let (site, _) = opened(LOCKED)?;
+    let changes = [change(b"/a/j", true), change(b"/k", false)];
+    let mut room = [0; 512];
+    let (mut len, mut at) = (0, 0);
+    let layers = [user, site];
+    let number = dconfdb_change(
+        rt.alloc(),
+        &layers,
+        true,
+        &changes,
+        &mut room,
+        &mut len,
+        &mut at,
+    );
+    assert!(rt; number == 16 && at == 1, "{number}");
+    Ok(())
+}
+
+#[test]
+fn what_cannot_be_answered_is_refused(rt: HostRuntime) -> Result<(), Fail> {
+    let (user, _) = opened(PLAIN)?;
+    let (site, _) = opened(LOCKED)?;
+    let layers = [user, site];
+    let mut found = nothing();
+    let seen = dconfdb_read(&layers, true, b"k", &mut found)
+        || dconfdb_read_default(&layers, true, b"/j", &mut found)
+        || dconfdb_read_alone(&user, b"/j", &mut found);
+    assert!(rt; !seen && found.origin == 9, "values");
+    let may = dconfdb_is_locked(&layers, b"k") || dconfdb_is_writable(&layers, true, b"/k");
+    assert!(rt; !may, "locks");
+    let mut room = [0; 8];
+    let mut len = 0;
+    let names = dconfdb_list(rt.alloc(), &layers, b"/k", &mut room, &mut len);
+    let locks = dconfdb_locks(rt.alloc(), &layers, b"k/", &mut room, &mut len);
+    assert!(rt; names == 13 && locks == 13, "lists");
+    let mut rooms = [DconfdbName { kind: 9, name: b"" }];
+    let mut line = 0;
+    let text = b"user-db:me\nservice-db:keyfile";
+    let number = dconfdb_profile(rt.alloc(), text, &mut rooms, &mut len, &mut line);
+    let mut told = DconfdbText { text: b"" };
+    assert!(rt;
+        number == 10 && line == 2 && !dconfdb_fault_text(19, &mut told),
+        "a profile"
+    );
+    Ok(())
+}
+
+/// Whether 5 is read at `/a/j` after these turns, of a store that has nothing there.
+fn is_five_after(alloc: Global, turns: &[Turn<'_>]) -> Result<bool, Fail> {
+    let others = Others {
+        files: &[Some(LOCKED)],
+        written: true,
+    };
+    let mut room = [0; 512];
+    match read_after(alloc, Some(PLAIN), others, turns, b"/a/j", &mut room) {
+        Ok(Some(seen)) => Ok(
+            seen.value.as_slice() == b"\x05\0\0\0".as_slice()
+                && seen.type_text.as_slice() == b"i".as_slice(),
+        ),
+        Ok(None) => Ok(false),
+        Err(_) => Err(Fail::new("a call was refused")),
+    }
+}
+
+#[test]
+fn what_is_read_after_turns_is_what_was_set(rt: HostRuntime) -> Result<(), Fail> {
+    let set = [change(b"/a/j", true)];
+    let reset = [change(b"/a/j", false)];
+    let (set, reset) = (Turn { changes: &set }, Turn { changes: &reset });
+    let last = is_five_after(rt.alloc(), &[set, reset, set])?;
+    let first = is_five_after(rt.alloc(), &[set, reset])?;
+    assert!(rt; last && !first, "turns");
     Ok(())
 }
