@@ -2,6 +2,7 @@
 mod again;
 mod calls;
 mod changing;
+mod differing;
 mod engines;
 mod files;
 mod keeping;

@@ -7,7 +7,7 @@ use std::alloc::Global;
 use std::test::Fail;
 
 /// The database in which these bytes of a variant are at `/a/k`.
-fn user(alloc: Global, bytes: &[u8]) -> Result<Vec<u8>, Fail> {
+pub(super) fn user(alloc: Global, bytes: &[u8]) -> Result<Vec<u8>, Fail> {
     let mut map = Map::new(alloc);
     map.insert(KeyPath::parse("/a/k")?, bytes)?;
     Ok(write(alloc, &map)?)
