@@ -132,6 +132,12 @@ DconfdbStore *dconfdb_store_open(const char *folder, DconfdbError *error);
 /* Closes a store, or NULL. Its snapshots stay. */
 void dconfdb_store_close(DconfdbStore *store);
 
+/* The files that are looked at when the store of that folder, or of the environment, is opened: the
+ * folder's profile, that of all users, and the databases that the profile names, in so far as it
+ * can be read. So who can't open a store sees what has to be mended. The form is that of
+ * dconfdb_snapshot_list. NULL: it failed. */
+char *dconfdb_store_files(const char *folder, size_t *size, DconfdbError *error);
+
 /* The folder's absolute path, and the file of a user's database in it; NULL where there is none.
  * Valid until the store is closed. */
 const char *dconfdb_store_folder(const DconfdbStore *store);
@@ -185,8 +191,8 @@ char *dconfdb_snapshot_locks(const DconfdbSnapshot *snapshot, const char *direct
 
 /* The paths of the keys that have another value in one of two snapshots than in the other, or one
  * in one alone, or are locked in one alone; in the same form. A value in other bytes is the same
- * one. Each is a key that a database of one of them has: of keys that none has, compare the
- * locks. */
+ * one. Each is a key that a database of one of them has: of keys that none has, compare the locks.
+ * NULL for the other stands for one without a database. */
 char *dconfdb_snapshot_differences(const DconfdbSnapshot *snapshot, const DconfdbSnapshot *other, size_t *size,
                                    DconfdbError *error);
 

@@ -310,8 +310,10 @@ static uint32_t lists_locks(const DconfdbSnapshot *snapshot, const void *of, uin
 
 static uint32_t lists_differences(const DconfdbSnapshot *snapshot, const void *of, uint8_t *room, size_t room_len, size_t *len)
 {
+    static const DconfdbLayer none = DCONFDB_EMPTY_LAYER;
     const DconfdbSnapshot *other = of;
-    return dconfdb_differs(snapshot->layers, snapshot->count, other->layers, other->count, room, room_len, len);
+    return dconfdb_differs(snapshot->layers, snapshot->count, other ? other->layers : &none, other ? other->count : 0, room,
+                           room_len, len);
 }
 
 /* Calls with a room that mostly is enough, and else with one that is. */
@@ -447,10 +449,12 @@ static bool name_files(DconfdbStore *store, const char *profile, const uint8_t *
     return true;
 }
 
+static const char everyones[] = "/etc/dconfdb/profile";
+
 /* The profile of the folder, else that of all users, else one of the user alone. */
 static bool find_files(DconfdbStore *store, DconfdbError *error)
 {
-    static const char everyones[] = "/etc/dconfdb/profile", users[] = "user-db:user";
+    static const char users[] = "user-db:user";
     FileBytes text = {NULL, 0, false};
     char *own = joined(store->folder, "/", "profile");
     if (!own)
@@ -491,7 +495,8 @@ static DconfdbSnapshot *look(const DconfdbStore *store, bool reads, DconfdbError
     return snapshot;
 }
 
-DconfdbStore *dconfdb_store_open(const char *folder, DconfdbError *error)
+/* A store of which the folder is known alone. */
+static DconfdbStore *store_of(const char *folder, DconfdbError *error)
 {
     DconfdbStore *store = calloc(1, sizeof *store);
     if (!store) {
@@ -501,14 +506,56 @@ DconfdbStore *dconfdb_store_open(const char *folder, DconfdbError *error)
     pthread_mutex_init(&store->refreshing, NULL);
     pthread_mutex_init(&store->handing, NULL);
     store->folder = find_folder(folder);
-    if (store->folder && find_files(store, error) && (store->now = look(store, false, error)) != NULL)
+    if (store->folder)
         return store;
-    if (!store->folder && errno == ENOENT && !folder)
+    if (errno == ENOENT && !folder)
         refuse(error, DCONFDB_ERROR_NO_FOLDER, 0, 0, "the environment names no folder of a store");
-    else if (!store->folder)
+    else
         refuse_file(error, errno, folder ? folder : "the store's folder", 0);
     dconfdb_store_close(store);
     return NULL;
+}
+
+DconfdbStore *dconfdb_store_open(const char *folder, DconfdbError *error)
+{
+    DconfdbStore *store = store_of(folder, error);
+    if (store && find_files(store, error) && (store->now = look(store, false, error)) != NULL)
+        return store;
+    dconfdb_store_close(store);
+    return NULL;
+}
+
+/* Both profiles and the databases, a zero byte after each, or NULL. */
+static char *file_names(const DconfdbStore *store, size_t *size)
+{
+    size_t len = strlen(store->folder) + sizeof "/profile" + sizeof everyones, at;
+    for (size_t i = 0; i < store->count; i++)
+        len += strlen(store->files[i]) + 1;
+    char *names = malloc(len + 1);
+    if (!names)
+        return NULL;
+    at = (size_t)sprintf(names, "%s/profile", store->folder) + 1;
+    at += (size_t)sprintf(names + at, "%s", everyones) + 1;
+    for (size_t i = 0; i < store->count; i++)
+        at += (size_t)sprintf(names + at, "%s", store->files[i]) + 1;
+    names[at] = 0;
+    if (size)
+        *size = at;
+    return names;
+}
+
+char *dconfdb_store_files(const char *folder, size_t *size, DconfdbError *error)
+{
+    DconfdbError fault = {.number = DCONFDB_ERROR_NONE};
+    DconfdbStore *store = store_of(folder, error);
+    if (!store)
+        return NULL;
+    find_files(store, &fault);
+    char *names = fault.number == DCONFDB_ERROR_MEMORY ? NULL : file_names(store, size);
+    if (!names)
+        refuse_memory(error);
+    dconfdb_store_close(store);
+    return names;
 }
 
 void dconfdb_store_close(DconfdbStore *store)

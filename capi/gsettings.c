@@ -1,0 +1,291 @@
+/* A backend of GSettings: GSETTINGS_BACKEND=dconfdb. It reads values in place, and lets changes
+ * wait for the thread that writes them; until then they are read here. */
+#include "gsettings.h"
+
+#include <stdlib.h>
+#include <string.h>
+#include <unistd.h>
+
+G_STATIC_ASSERT(G_BYTE_ORDER == G_LITTLE_ENDIAN);
+
+typedef struct {
+    GSettingsBackendClass parent;
+} DconfdbBackendClass;
+
+static GType dconfdb_backend_get_type(void);
+
+G_DEFINE_DYNAMIC_TYPE(DconfdbBackend, dconfdb_backend, G_TYPE_SETTINGS_BACKEND)
+
+static DconfdbBackend *backend_of(GSettingsBackend *backend)
+{
+    return (DconfdbBackend *)backend;
+}
+
+/* ---- reads */
+
+typedef bool Reads(const DconfdbSnapshot *snapshot, const char *path, DconfdbValue *value);
+
+static void give_back(gpointer snapshot)
+{
+    dconfdb_snapshot_unref(snapshot);
+}
+
+/* The value in place, with the reference to the snapshot that lends it. */
+static GVariant *lend(DconfdbSnapshot *snapshot, Reads *reads, const char *key, const GVariantType *expected)
+{
+    DconfdbValue value;
+    bool is_there = reads(snapshot, key, &value);
+    /* A GVariantType is the text of a type, and needs no zero byte after it. */
+    const GVariantType *type = (const GVariantType *)value.type;
+    if (!is_there || (expected && !g_variant_type_equal(type, expected))) {
+        dconfdb_snapshot_unref(snapshot);
+        return NULL;
+    }
+    return g_variant_ref_sink(g_variant_new_from_data(type, value.data, value.size, FALSE, give_back, snapshot));
+}
+
+/* What waits is read first, where `sees` it; no value that waits is a NULL. */
+static GVariant *read_by(DconfdbBackend *self, Reads *reads, bool sees, const char *key, const GVariantType *expected)
+{
+    GVariant *value = NULL;
+    DconfdbSnapshot *snapshot = NULL;
+    const Edit *edit = NULL;
+    g_mutex_lock(&self->lock);
+    if (self->now && sees)
+        edit = waiting_find(&self->waiting, key);
+    if (edit && edit->value)
+        value = g_variant_ref(edit->value);
+    else if (self->now)
+        snapshot = dconfdb_snapshot_ref(self->now);
+    g_mutex_unlock(&self->lock);
+    if (!snapshot)
+        return value;
+    if (edit)
+        reads = reads == dconfdb_snapshot_read ? dconfdb_snapshot_read_default : NULL;
+    if (reads)
+        return lend(snapshot, reads, key, expected);
+    dconfdb_snapshot_unref(snapshot);
+    return NULL;
+}
+
+static GVariant *dconfdb_backend_read(GSettingsBackend *backend, const char *key, const GVariantType *expected,
+                                      gboolean default_value)
+{
+    if (default_value)
+        return read_by(backend_of(backend), dconfdb_snapshot_read_default, false, key, expected);
+    return read_by(backend_of(backend), dconfdb_snapshot_read, true, key, expected);
+}
+
+static GVariant *dconfdb_backend_read_user_value(GSettingsBackend *backend, const char *key, const GVariantType *expected)
+{
+    return read_by(backend_of(backend), dconfdb_snapshot_read_user, true, key, expected);
+}
+
+/* ---- what may be written */
+
+/* A directory may be, where no lock covers all that is in it. */
+static bool is_directory_writable(const DconfdbSnapshot *now, const char *directory)
+{
+    char *locks = dconfdb_snapshot_locks(now, "/", NULL, NULL);
+    bool is = locks != NULL;
+    for (const char *lock = locks; is && *lock; lock += strlen(lock) + 1)
+        is = !g_str_has_suffix(lock, "/") || !g_str_has_prefix(directory, lock);
+    free(locks);
+    return is;
+}
+
+static gboolean dconfdb_backend_get_writable(GSettingsBackend *backend, const char *name)
+{
+    DconfdbBackend *self = backend_of(backend);
+    g_mutex_lock(&self->lock);
+    DconfdbSnapshot *now = self->now ? dconfdb_snapshot_ref(self->now) : NULL;
+    bool has_user = self->has_user;
+    g_mutex_unlock(&self->lock);
+    bool is = now && (g_str_has_suffix(name, "/") ? has_user && is_directory_writable(now, name) : dconfdb_snapshot_is_writable(now, name));
+    dconfdb_snapshot_unref(now);
+    return is;
+}
+
+static GPermission *dconfdb_backend_get_permission(GSettingsBackend *backend, const char *path)
+{
+    return g_simple_permission_new(dconfdb_backend_get_writable(backend, path));
+}
+
+/* ---- changes */
+
+/* `lock` is held. A child of fork() has no thread that writes, and its parent writes what waits. */
+static bool may_make(const DconfdbBackend *self, const Change *change)
+{
+    if (!self->now || self->has_ended || getpid() != self->process)
+        return false;
+    for (size_t i = 0; i < change->count; i++) {
+        if (!dconfdb_snapshot_is_writable(self->now, change->edits[i].path))
+            return false;
+    }
+    return true;
+}
+
+/* Lets the change wait. False, and it is freed: it may not be made. */
+static bool make(DconfdbBackend *self, Change *change)
+{
+    bool is_here = false;
+    g_mutex_lock(&self->lock);
+    bool may = may_make(self, change);
+    if (may) {
+        waiting_add(&self->waiting, change);
+        worker_begin(self);
+        is_here = !self->worker;
+        if (self->worker)
+            worker_is_to_write(self);
+    }
+    g_mutex_unlock(&self->lock);
+    if (!may)
+        change_free(change);
+    if (is_here)
+        store_write(self);
+    return may;
+}
+
+static gboolean dconfdb_backend_write(GSettingsBackend *backend, const char *key, GVariant *value, gpointer origin_tag)
+{
+    Change *change = change_new(1);
+    change_add(change, key, value);
+    bool done = make(backend_of(backend), change);
+    if (done)
+        g_settings_backend_changed(backend, key, origin_tag);
+    return done;
+}
+
+static void dconfdb_backend_reset(GSettingsBackend *backend, const char *key, gpointer origin_tag)
+{
+    dconfdb_backend_write(backend, key, NULL, origin_tag);
+}
+
+static gboolean add_row(gpointer key, gpointer value, gpointer change)
+{
+    change_add(change, key, value);
+    return FALSE;
+}
+
+static gboolean dconfdb_backend_write_tree(GSettingsBackend *backend, GTree *tree, gpointer origin_tag)
+{
+    Change *change = change_new((size_t)g_tree_nnodes(tree));
+    g_tree_foreach(tree, add_row, change);
+    bool done = make(backend_of(backend), change);
+    if (done)
+        g_settings_backend_changed_tree(backend, tree, origin_tag);
+    return done;
+}
+
+static void dconfdb_backend_sync(GSettingsBackend *backend)
+{
+    DconfdbBackend *self = backend_of(backend);
+    if (getpid() != self->process)
+        return;
+    store_write(self);
+    store_look(self);
+}
+
+/* ---- who listens */
+
+static void dconfdb_backend_subscribe(GSettingsBackend *backend, const char *name)
+{
+    DconfdbBackend *self = backend_of(backend);
+    g_mutex_lock(&self->lock);
+    if (!self->has_ended) {
+        guint count = GPOINTER_TO_UINT(g_hash_table_lookup(self->subscribed, name));
+        g_hash_table_insert(self->subscribed, g_strdup(name), GUINT_TO_POINTER(count + 1));
+        worker_begin(self);
+    }
+    g_mutex_unlock(&self->lock);
+}
+
+static void dconfdb_backend_unsubscribe(GSettingsBackend *backend, const char *name)
+{
+    DconfdbBackend *self = backend_of(backend);
+    g_mutex_lock(&self->lock);
+    if (!self->has_ended) {
+        guint count = GPOINTER_TO_UINT(g_hash_table_lookup(self->subscribed, name));
+        if (count > 1)
+            g_hash_table_insert(self->subscribed, g_strdup(name), GUINT_TO_POINTER(count - 1));
+        else
+            g_hash_table_remove(self->subscribed, name);
+    }
+    g_mutex_unlock(&self->lock);
+}
+
+/* ---- its life: as long as the program's */
+
+static GMutex living_lock;
+static GSList *living;
+
+static void dconfdb_backend_init(DconfdbBackend *self)
+{
+    self->process = getpid();
+    g_mutex_init(&self->turn);
+    g_mutex_init(&self->lock);
+    waiting_begin(&self->waiting);
+    self->subscribed = g_hash_table_new_full(g_str_hash, g_str_equal, g_free, NULL);
+    store_begin(self);
+    g_mutex_lock(&living_lock);
+    living = g_slist_prepend(living, g_object_ref(self));
+    g_mutex_unlock(&living_lock);
+}
+
+/* When the program ends by exit(), or main() returns. A child of fork() leaves all to its
+ * parent. */
+static void __attribute__((destructor)) end_all(void)
+{
+    if (!living || ((DconfdbBackend *)living->data)->process != getpid())
+        return;
+    g_mutex_lock(&living_lock);
+    for (GSList *at = living; at; at = at->next)
+        store_end(at->data);
+    g_clear_pointer(&living, g_slist_free);
+    g_mutex_unlock(&living_lock);
+}
+
+static void dconfdb_backend_class_init(DconfdbBackendClass *class)
+{
+    class->parent.read = dconfdb_backend_read;
+    class->parent.read_user_value = dconfdb_backend_read_user_value;
+    class->parent.get_writable = dconfdb_backend_get_writable;
+    class->parent.get_permission = dconfdb_backend_get_permission;
+    class->parent.write = dconfdb_backend_write;
+    class->parent.write_tree = dconfdb_backend_write_tree;
+    class->parent.reset = dconfdb_backend_reset;
+    class->parent.subscribe = dconfdb_backend_subscribe;
+    class->parent.unsubscribe = dconfdb_backend_unsubscribe;
+    class->parent.sync = dconfdb_backend_sync;
+}
+
+static void dconfdb_backend_class_finalize(DconfdbBackendClass *class)
+{
+    (void)class;
+}
+
+/* ---- the module */
+
+G_MODULE_EXPORT void g_io_module_load(GIOModule *module);
+G_MODULE_EXPORT void g_io_module_unload(GIOModule *module);
+G_MODULE_EXPORT char **g_io_module_query(void);
+
+void g_io_module_load(GIOModule *module)
+{
+    /* It is never unloaded: values are lent from it. */
+    g_type_module_use(G_TYPE_MODULE(module));
+    dconfdb_backend_register_type(G_TYPE_MODULE(module));
+    /* Below all others: it serves only where GSETTINGS_BACKEND names it. */
+    g_io_extension_point_implement(G_SETTINGS_BACKEND_EXTENSION_POINT_NAME, dconfdb_backend_get_type(), "dconfdb", 0);
+}
+
+void g_io_module_unload(GIOModule *module)
+{
+    (void)module;
+}
+
+char **g_io_module_query(void)
+{
+    const char *points[] = {G_SETTINGS_BACKEND_EXTENSION_POINT_NAME, NULL};
+    return g_strdupv((char **)points);
+}

@@ -1,0 +1,121 @@
+/* The GSettings module's parts: a backend of GSettings over libdconfdb. */
+#ifndef GSETTINGS_H
+#define GSETTINGS_H
+
+#define G_SETTINGS_ENABLE_BACKEND
+#include "dconfdb.h"
+
+#include <gio/gio.h>
+#include <gio/gsettingsbackend.h>
+
+/* ---- changes that wait (gsettings_changes.c) */
+
+/* An edit of a key; without a value the user's goes. */
+typedef struct {
+    char *path;
+    GVariant *value;
+} Edit;
+
+/* Edits of which all are made, or none. */
+typedef struct {
+    size_t count, most;
+    Edit edits[];
+} Change;
+
+/* Changes, the oldest first, and the newest edit of each key. */
+typedef struct {
+    GQueue changes;
+    GHashTable *newest;
+} Waiting;
+
+Change *change_new(size_t most);
+void change_add(Change *change, const char *path, GVariant *value);
+void change_free(Change *change);
+void changes_free(GQueue *changes);
+
+void waiting_begin(Waiting *waiting);
+void waiting_end(Waiting *waiting);
+void waiting_add(Waiting *waiting, Change *change);
+const Edit *waiting_find(const Waiting *waiting, const char *path);
+
+/* All changes, which still are found, as long as they aren't forgotten. */
+GQueue waiting_take(Waiting *waiting);
+void waiting_forget(Waiting *waiting, const GQueue *changes);
+
+/* Makes the changes. What was refused goes from `changes` to `refused`, and `error` has the first
+ * refusal. */
+bool changes_write(DconfdbStore *store, GQueue *changes, GQueue *refused, DconfdbError *error);
+
+/* ---- the backend */
+
+/* It lives as long as the program. `turn` is taken before `lock`, and neither while a signal is
+ * sent or a warning printed. */
+typedef struct {
+    GSettingsBackend parent;
+    pid_t process; /* after fork(), the child is another one */
+    char *folder;  /* NULL: the environment names none */
+
+    GMutex turn;         /* held while files are looked at or changed. It guards: */
+    DconfdbStore *store; /* NULL: it could not be opened */
+    bool is_stale;       /* its profile has perhaps changed */
+    char *told;          /* the fault that was told last; NULL: there is none now */
+
+    GMutex lock;          /* held for moments. It guards: */
+    DconfdbSnapshot *now; /* NULL: no store could be opened */
+    bool has_user;        /* there is a user's database */
+    Waiting waiting;
+    bool is_due, has_ended;
+    gint64 written; /* when changes were written last */
+    GHashTable *subscribed;
+    GThread *worker;
+
+    GMainContext *context; /* the worker's */
+    GMainLoop *loop;
+    GPtrArray *monitors; /* for the worker alone, as what follows */
+    char *files;
+} DconfdbBackend;
+
+/* ---- the store (gsettings_store.c) */
+
+/* Opens it. */
+void store_begin(DconfdbBackend *self);
+
+/* Writes what waits, as one change; what is refused is taken back. */
+void store_write(DconfdbBackend *self);
+
+/* Looks at the files, and tells what is seen otherwise than before. */
+void store_look(DconfdbBackend *self);
+
+/* The same where the profile may have changed. */
+void store_look_anew(DconfdbBackend *self);
+
+/* Writes what waits, and frees what is held. Later calls find no store. */
+void store_end(DconfdbBackend *self);
+
+/* ---- the thread that writes and watches (gsettings_worker.c); `lock` is held */
+
+void worker_begin(DconfdbBackend *self);
+void worker_is_to_write(DconfdbBackend *self);
+
+/* `lock` isn't held. */
+void worker_end(DconfdbBackend *self);
+
+/* ---- the files that are watched (gsettings_watch.c), by the worker */
+
+void watch_begin(DconfdbBackend *self);
+void watch_end(DconfdbBackend *self);
+
+/* ---- who is told of what (gsettings_notice.c) */
+
+/* What happened in a turn. */
+typedef struct {
+    DconfdbSnapshot *before, *after;
+    bool had_user, has_user;
+    GQueue written, refused; /* changes of ours */
+    char *fault;             /* to be warned of */
+} Notice;
+
+/* Tells, and frees what the notice holds. */
+void notice_tell(DconfdbBackend *self, Notice *notice);
+
+#endif

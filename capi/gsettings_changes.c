@@ -1,0 +1,184 @@
+/* Changes that wait to be written, and how they are. */
+#include "gsettings.h"
+
+Change *change_new(size_t most)
+{
+    Change *change = g_malloc(sizeof *change + most * sizeof change->edits[0]);
+    change->count = 0;
+    change->most = most;
+    return change;
+}
+
+void change_add(Change *change, const char *path, GVariant *value)
+{
+    g_assert(change->count < change->most);
+    Edit *edit = &change->edits[change->count++];
+    edit->path = g_strdup(path);
+    /* Bytes of a program that aren't normal may be as deep as they like; normal ones say the
+     * same. */
+    edit->value = value ? g_variant_get_normal_form(value) : NULL;
+}
+
+void change_free(Change *change)
+{
+    for (size_t i = 0; i < change->count; i++) {
+        g_free(change->edits[i].path);
+        if (change->edits[i].value)
+            g_variant_unref(change->edits[i].value);
+    }
+    g_free(change);
+}
+
+static void free_one(gpointer change)
+{
+    change_free(change);
+}
+
+void changes_free(GQueue *changes)
+{
+    g_queue_clear_full(changes, free_one);
+}
+
+/* ---- what waits */
+
+void waiting_begin(Waiting *waiting)
+{
+    g_queue_init(&waiting->changes);
+    waiting->newest = g_hash_table_new(g_str_hash, g_str_equal);
+}
+
+void waiting_end(Waiting *waiting)
+{
+    g_hash_table_destroy(waiting->newest);
+    changes_free(&waiting->changes);
+}
+
+void waiting_add(Waiting *waiting, Change *change)
+{
+    g_queue_push_tail(&waiting->changes, change);
+    /* Replaced, so that the path is that of the edit which lives longest. */
+    for (size_t i = 0; i < change->count; i++)
+        g_hash_table_replace(waiting->newest, change->edits[i].path, &change->edits[i]);
+}
+
+const Edit *waiting_find(const Waiting *waiting, const char *path)
+{
+    return g_hash_table_size(waiting->newest) == 0 ? NULL : g_hash_table_lookup(waiting->newest, path);
+}
+
+GQueue waiting_take(Waiting *waiting)
+{
+    GQueue taken = waiting->changes;
+    g_queue_init(&waiting->changes);
+    return taken;
+}
+
+void waiting_forget(Waiting *waiting, const GQueue *changes)
+{
+    for (const GList *at = changes->head; at; at = at->next) {
+        const Change *change = at->data;
+        for (size_t i = 0; i < change->count; i++) {
+            const Edit *edit = &change->edits[i];
+            if (g_hash_table_lookup(waiting->newest, edit->path) == edit)
+                g_hash_table_remove(waiting->newest, edit->path);
+        }
+    }
+}
+
+/* ---- how they are written */
+
+static DconfdbEdit edit_of(const Edit *edit)
+{
+    if (!edit->value)
+        return (DconfdbEdit){edit->path, NULL, NULL, 0};
+    return (DconfdbEdit){edit->path, g_variant_get_type_string(edit->value), g_variant_get_data(edit->value),
+                         g_variant_get_size(edit->value)};
+}
+
+static GArray *edits_of(const GQueue *changes)
+{
+    GArray *edits = g_array_new(FALSE, FALSE, sizeof(DconfdbEdit));
+    for (const GList *at = changes->head; at; at = at->next) {
+        const Change *change = at->data;
+        for (size_t i = 0; i < change->count; i++) {
+            DconfdbEdit edit = edit_of(&change->edits[i]);
+            g_array_append_val(edits, edit);
+        }
+    }
+    return edits;
+}
+
+static bool is_of_an_edit(const DconfdbError *error)
+{
+    return error->number == DCONFDB_ERROR_LOCKED || error->number == DCONFDB_ERROR_TOO_LARGE
+        || error->number == DCONFDB_ERROR_BAD_PATH || error->number == DCONFDB_ERROR_BAD_TYPE;
+}
+
+static void move(GQueue *from, GList *change, GQueue *to)
+{
+    g_queue_unlink(from, change);
+    g_queue_push_tail_link(to, change);
+}
+
+/* Refuses the change that has the edit of that index. */
+static void refuse_one(GQueue *changes, GQueue *refused, size_t index)
+{
+    GList *at = changes->head;
+    while (at && index >= ((const Change *)at->data)->count) {
+        index -= ((const Change *)at->data)->count;
+        at = at->next;
+    }
+    if (at)
+        move(changes, at, refused);
+}
+
+static bool is_locked(const Change *change, const DconfdbSnapshot *now)
+{
+    for (size_t i = 0; i < change->count; i++) {
+        if (dconfdb_snapshot_is_locked(now, change->edits[i].path))
+            return true;
+    }
+    return false;
+}
+
+/* Refuses all that is locked now, so that not each costs a try. */
+static void refuse_locked(DconfdbStore *store, GQueue *changes, GQueue *refused)
+{
+    DconfdbSnapshot *now = dconfdb_store_snapshot(store);
+    for (GList *at = changes->head, *next; at; at = next) {
+        next = at->next;
+        if (is_locked(at->data, now))
+            move(changes, at, refused);
+    }
+    dconfdb_snapshot_unref(now);
+}
+
+static void refuse_all(GQueue *changes, GQueue *refused)
+{
+    while (changes->length > 0)
+        move(changes, changes->head, refused);
+}
+
+static bool try_to_write(DconfdbStore *store, const GQueue *changes, DconfdbError *error)
+{
+    GArray *edits = edits_of(changes);
+    bool done = dconfdb_store_change(store, (const DconfdbEdit *)(const void *)edits->data, edits->len, error);
+    g_array_free(edits, TRUE);
+    return done;
+}
+
+bool changes_write(DconfdbStore *store, GQueue *changes, GQueue *refused, DconfdbError *error)
+{
+    DconfdbError fault;
+    while (!try_to_write(store, changes, &fault)) {
+        if (refused->length == 0)
+            *error = fault;
+        if (!is_of_an_edit(&fault))
+            refuse_all(changes, refused);
+        else
+            refuse_one(changes, refused, fault.at);
+        if (fault.number == DCONFDB_ERROR_LOCKED)
+            refuse_locked(store, changes, refused);
+    }
+    return refused->length == 0;
+}

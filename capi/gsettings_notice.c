@@ -1,0 +1,228 @@
+/* Who is told of what: exactly the keys that are seen otherwise, or that may be written or no
+ * longer. */
+#include "gsettings.h"
+
+#include <stdio.h>
+#include <stdlib.h>
+#include <string.h>
+
+/* GSettings ends the program where one notice has more than 255 keys of a schema. */
+enum { MOST_KEYS = 255 };
+
+/* What is to be told. Paths are lent. */
+typedef struct {
+    DconfdbBackend *backend;
+    const Notice *notice;
+    GHashTable *ours; /* keys of our changes: who made them was told of them */
+    GPtrArray *changed;
+    GHashTable *writable; /* keys, and directories as a whole */
+} Telling;
+
+/* ---- what differs */
+
+static bool read_seen(const DconfdbSnapshot *snapshot, const char *path, DconfdbValue *value)
+{
+    return snapshot && dconfdb_snapshot_read(snapshot, path, value);
+}
+
+static bool is_seen_alike(const Notice *notice, const char *path)
+{
+    DconfdbValue before, after;
+    bool was = read_seen(notice->before, path, &before), is = read_seen(notice->after, path, &after);
+    if (!was || !is)
+        return was == is;
+    return before.size == after.size && memcmp(before.data, after.data, before.size) == 0
+        && before.type_size == after.type_size && memcmp(before.type, after.type, before.type_size) == 0;
+}
+
+static bool is_writable(const DconfdbSnapshot *snapshot, const char *path)
+{
+    return snapshot && dconfdb_snapshot_is_writable(snapshot, path);
+}
+
+static bool is_as_writable(const Notice *notice, const char *path)
+{
+    return is_writable(notice->before, path) == is_writable(notice->after, path);
+}
+
+/* Whether somebody listens to the path, or to a directory above it. */
+static bool is_subscribed(DconfdbBackend *self, const char *path)
+{
+    bool is = false;
+    char *prefix = g_strdup(path);
+    g_mutex_lock(&self->lock);
+    for (size_t len = strlen(prefix); !is && len > 0; len--) {
+        prefix[len] = 0;
+        if (path[len] == 0 || path[len - 1] == '/')
+            is = self->subscribed && g_hash_table_contains(self->subscribed, prefix);
+    }
+    g_mutex_unlock(&self->lock);
+    g_free(prefix);
+    return is;
+}
+
+/* Whether a value of ours hides what the files have: it waits. */
+static bool is_waiting(DconfdbBackend *self, const char *path)
+{
+    g_mutex_lock(&self->lock);
+    bool is = self->now && waiting_find(&self->waiting, path);
+    g_mutex_unlock(&self->lock);
+    return is;
+}
+
+static void add_difference(Telling *telling, const char *path)
+{
+    if (!is_subscribed(telling->backend, path))
+        return;
+    if (!is_as_writable(telling->notice, path))
+        g_hash_table_add(telling->writable, (gpointer)path);
+    if (!g_hash_table_contains(telling->ours, path) && !is_waiting(telling->backend, path)
+        && !is_seen_alike(telling->notice, path))
+        g_ptr_array_add(telling->changed, (gpointer)path);
+}
+
+/* Keys that no database has are locked too: by their own lock, or with all of a directory. */
+static void add_lock(Telling *telling, const char *path)
+{
+    if (g_str_has_suffix(path, "/")) {
+        g_hash_table_add(telling->writable, (gpointer)path);
+        return;
+    }
+    if (is_subscribed(telling->backend, path) && !is_as_writable(telling->notice, path))
+        g_hash_table_add(telling->writable, (gpointer)path);
+}
+
+/* The locks that are in one of two lists alone; both are in the order of their bytes. */
+static void add_locks(Telling *telling, const char *before, const char *after)
+{
+    while (*before || *after) {
+        int order = !*before ? 1 : !*after ? -1 : strcmp(before, after);
+        if (order != 0)
+            add_lock(telling, order < 0 ? before : after);
+        if (order <= 0)
+            before += strlen(before) + 1;
+        if (order >= 0)
+            after += strlen(after) + 1;
+    }
+}
+
+/* ---- who is told */
+
+/* Paths without their first slash, as GSettings wants them below `/`. */
+static void send_changed(DconfdbBackend *self, const GPtrArray *paths)
+{
+    const char *items[MOST_KEYS + 1];
+    for (guint i = 0; i < paths->len;) {
+        guint count = 0;
+        while (i < paths->len && count < MOST_KEYS)
+            items[count++] = (const char *)paths->pdata[i++] + 1;
+        items[count] = NULL;
+        g_settings_backend_keys_changed(&self->parent, "/", items, NULL);
+    }
+}
+
+static bool is_below(GHashTable *directories, const char *path)
+{
+    GHashTableIter at;
+    gpointer directory;
+    g_hash_table_iter_init(&at, directories);
+    while (g_hash_table_iter_next(&at, &directory, NULL)) {
+        if (g_str_has_suffix(directory, "/") && strcmp(directory, path) != 0 && g_str_has_prefix(path, directory))
+            return true;
+    }
+    return false;
+}
+
+static void send_writable(DconfdbBackend *self, GHashTable *paths)
+{
+    GHashTableIter at;
+    gpointer path;
+    g_hash_table_iter_init(&at, paths);
+    while (g_hash_table_iter_next(&at, &path, NULL)) {
+        if (is_below(paths, path))
+            continue;
+        if (g_str_has_suffix(path, "/"))
+            g_settings_backend_path_writable_changed(&self->parent, path);
+        else
+            g_settings_backend_writable_changed(&self->parent, path);
+    }
+}
+
+/* ---- a notice */
+
+static char *differences_of(const Notice *notice)
+{
+    if (!notice->after || notice->before == notice->after)
+        return NULL;
+    return dconfdb_snapshot_differences(notice->after, notice->before, NULL, NULL);
+}
+
+static char *locks_of(const DconfdbSnapshot *snapshot)
+{
+    return snapshot ? dconfdb_snapshot_locks(snapshot, "/", NULL, NULL) : NULL;
+}
+
+static void add_all(Telling *telling, const char *differences, const char *before, const char *after)
+{
+    for (const char *at = differences; at && *at; at += strlen(at) + 1)
+        add_difference(telling, at);
+    add_locks(telling, before ? before : "", after ? after : "");
+    if (telling->notice->had_user != telling->notice->has_user)
+        g_hash_table_add(telling->writable, (gpointer)"/");
+}
+
+static void add_ours(Telling *telling, const GQueue *changes, bool is_told)
+{
+    for (const GList *at = changes->head; at; at = at->next) {
+        const Change *change = at->data;
+        for (size_t i = 0; i < change->count; i++) {
+            if (g_hash_table_add(telling->ours, change->edits[i].path) && is_told)
+                g_ptr_array_add(telling->changed, change->edits[i].path);
+        }
+    }
+}
+
+static void send(DconfdbBackend *self, const Notice *notice)
+{
+    Telling telling = {self, notice, g_hash_table_new(g_str_hash, g_str_equal), g_ptr_array_new(),
+                       g_hash_table_new(g_str_hash, g_str_equal)};
+    bool looks = notice->after && notice->before != notice->after;
+    char *differences = differences_of(notice);
+    char *before = looks ? locks_of(notice->before) : NULL, *after = looks ? locks_of(notice->after) : NULL;
+    add_ours(&telling, &notice->refused, true);
+    add_ours(&telling, &notice->written, false);
+    add_all(&telling, differences, before, after);
+    send_changed(self, telling.changed);
+    send_writable(self, telling.writable);
+    g_hash_table_unref(telling.ours);
+    g_ptr_array_unref(telling.changed);
+    g_hash_table_unref(telling.writable);
+    free(differences);
+    free(before);
+    free(after);
+}
+
+static bool has_ended(DconfdbBackend *self)
+{
+    g_mutex_lock(&self->lock);
+    bool has = self->has_ended;
+    g_mutex_unlock(&self->lock);
+    return has;
+}
+
+void notice_tell(DconfdbBackend *self, Notice *notice)
+{
+    bool ends = has_ended(self);
+    if (!ends)
+        send(self, notice);
+    /* When the program ends, what it warns by may be gone. */
+    if (notice->fault && ends)
+        fprintf(stderr, "dconfdb: %s\n", notice->fault);
+    else if (notice->fault)
+        g_warning("%s", notice->fault);
+    g_free(notice->fault);
+    changes_free(&notice->written);
+    changes_free(&notice->refused);
+    dconfdb_snapshot_unref(notice->before);
+    dconfdb_snapshot_unref(notice->after);
+}
