@@ -58,7 +58,8 @@ static char *folder_above(const char *file)
 static void watch_folder(DconfdbBackend *self, const char *path)
 {
     GError *error = NULL;
-    GFile *folder = g_file_new_for_path(path);
+    /* g_file_new_for_path() would call the desktop's file service. */
+    GFile *folder = g_vfs_get_file_for_path(g_vfs_get_local(), path);
     GFileMonitor *monitor = g_file_monitor_directory(folder, G_FILE_MONITOR_WATCH_MOVES, NULL, &error);
     if (monitor) {
         g_signal_connect(monitor, "changed", G_CALLBACK(on_change), self);

@@ -77,6 +77,7 @@ static void tries_changing(DconfdbStore *store)
     TRY(dconfdb_snapshot_read_user(now, "/org/desk/name", &value) && is_text(&value, "mine") && value.origin == 0);
     TRY(ARE(dconfdb_snapshot_differences(old, now, &size, &error), "/b/x\0/org/desk/name\0"));
     TRY(ARE(dconfdb_snapshot_differences(now, now, &size, &error), ""));
+    TRY(ARE(dconfdb_snapshot_differences(now, NULL, &size, &error), "/b/x\0/far/key\0/org/desk/name\0/org/desk/size\0"));
     dconfdb_snapshot_unref(old);
 
     /* All or none; the edit at fault is told. */
@@ -197,6 +198,35 @@ static void tries_modes(DconfdbStore *store)
     TRY(stat(name, &found) == 0 && (found.st_mode & 07777) == 0444 && chmod(name, 0644) == 0);
 }
 
+static bool ends_in(const char *text, const char *end)
+{
+    return strlen(text) >= strlen(end) && strcmp(text + strlen(text) - strlen(end), end) == 0;
+}
+
+/* Whether the names of the files of a folder's store end in these. */
+static bool are_files(const char *folder, const char *const *wanted)
+{
+    char *files = dconfdb_store_files(folder, NULL, &error);
+    const char *at = files;
+    bool are = files != NULL;
+    for (; are && *wanted; wanted++, at += strlen(at) + 1)
+        are = ends_in(at, *wanted);
+    are = are && *at == 0;
+    free(files);
+    return are;
+}
+#define ARE_FILES(folder, ...) are_files(folder, (const char *const[]){__VA_ARGS__, NULL})
+
+/* What would have to be mended, where a store can't be opened. */
+static void tries_files(void)
+{
+    size_t size = 0;
+    TRY(ARE(dconfdb_store_files("/none", &size, &error), "/none/profile\0/etc/dconfdb/profile\0/none/user.user\0"));
+    TRY(ARE_FILES("bad", "/bad/profile", "/etc/dconfdb/profile"));
+    TRY(ARE_FILES("folder", "/folder/profile", "/etc/dconfdb/profile", "/folder/me.user"));
+    TRY(ARE_FILES("writeless", "/writeless/profile", "/etc/dconfdb/profile", "/site.db"));
+}
+
 /* Stores that can't be opened, or be written. */
 static void tries_other_stores(void)
 {
@@ -224,6 +254,7 @@ static void tries_places(void)
     TRY(getcwd(here, sizeof here));
     TRY(unsetenv("DCONFDB_STORE") == 0 && unsetenv("XDG_CONFIG_HOME") == 0 && unsetenv("HOME") == 0);
     TRY(!dconfdb_store_open(NULL, &error) && error.number == DCONFDB_ERROR_NO_FOLDER);
+    TRY(!dconfdb_store_files(NULL, NULL, NULL));
     snprintf(name, sizeof name, "%s/home", here);
     TRY(setenv("HOME", name, 1) == 0);
     DconfdbStore *store = dconfdb_store_open(NULL, &error);
@@ -263,6 +294,7 @@ int main(int argc, char **argv)
     tries_bad_files(store);
     tries_replacing(store);
     tries_modes(store);
+    tries_files();
     tries_other_stores();
     tries_places();
     DconfdbSnapshot *last = dconfdb_store_snapshot(store);

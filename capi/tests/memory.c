@@ -52,6 +52,9 @@ static void lists(const DconfdbSnapshot *now, const DconfdbSnapshot *old)
     names = dconfdb_snapshot_differences(now, old, NULL, &error);
     lacks_memory(names != NULL);
     free(names);
+    names = dconfdb_store_files(".", NULL, &error);
+    lacks_memory(names != NULL);
+    free(names);
 }
 
 /* All that there is, with one growth refused; whether it was. */
