@@ -30,64 +30,83 @@ static void give_back(gpointer snapshot)
     dconfdb_snapshot_unref(snapshot);
 }
 
-/* The value in place, with the reference to the snapshot that lends it. */
-static GVariant *lend(DconfdbSnapshot *snapshot, Reads *reads, const char *key, const GVariantType *expected)
+/* The value in place, which gives the reference to the snapshot back when it goes; NULL where there
+ * is none, or no snapshot. GSettings asks for its type, and takes a floating reference. */
+static GVariant *lend(DconfdbSnapshot *snapshot, Reads *reads, const char *key)
 {
     DconfdbValue value;
-    bool is_there = reads(snapshot, key, &value);
-    /* A GVariantType is the text of a type, and needs no zero byte after it. */
-    const GVariantType *type = (const GVariantType *)value.type;
-    if (!is_there || (expected && !g_variant_type_equal(type, expected))) {
+    if (!snapshot || !reads(snapshot, key, &value)) {
         dconfdb_snapshot_unref(snapshot);
         return NULL;
     }
-    return g_variant_ref_sink(g_variant_new_from_data(type, value.data, value.size, FALSE, give_back, snapshot));
+    /* A GVariantType is the text of a type, and needs no zero byte after it. The bytes may be
+     * any. */
+    return g_variant_new_from_data((const GVariantType *)value.type, value.data, value.size, FALSE, give_back, snapshot);
 }
 
-/* What waits is read first, where `sees` it; no value that waits is a NULL. */
-static GVariant *read_by(DconfdbBackend *self, Reads *reads, bool sees, const char *key, const GVariantType *expected)
+/* Where a key is read: an edit of it waits, which sets a value or none; or it is read in the newest
+ * snapshot, if there is one. Each is a reference. */
+typedef struct {
+    bool is_edited;
+    GVariant *value;
+    DconfdbSnapshot *now; /* NULL where there is a value */
+} Source;
+
+static Source source_of(DconfdbBackend *self, const char *key)
 {
-    GVariant *value = NULL;
-    DconfdbSnapshot *snapshot = NULL;
-    const Edit *edit = NULL;
+    Source source = {false, NULL, NULL};
     g_mutex_lock(&self->lock);
-    if (self->now && sees)
-        edit = waiting_find(&self->waiting, key);
-    if (edit && edit->value)
-        value = g_variant_ref(edit->value);
-    else if (self->now)
-        snapshot = dconfdb_snapshot_ref(self->now);
+    if (self->now) {
+        const Edit *edit = waiting_find(&self->waiting, key);
+        source.is_edited = edit != NULL;
+        if (edit && edit->value)
+            source.value = g_variant_ref(edit->value);
+        else
+            source.now = dconfdb_snapshot_ref(self->now);
+    }
     g_mutex_unlock(&self->lock);
-    if (!snapshot)
-        return value;
-    if (edit)
-        reads = reads == dconfdb_snapshot_read ? dconfdb_snapshot_read_default : NULL;
-    if (reads)
-        return lend(snapshot, reads, key, expected);
-    dconfdb_snapshot_unref(snapshot);
-    return NULL;
+    return source;
+}
+
+static DconfdbSnapshot *snapshot_of(DconfdbBackend *self)
+{
+    g_mutex_lock(&self->lock);
+    DconfdbSnapshot *now = self->now ? dconfdb_snapshot_ref(self->now) : NULL;
+    g_mutex_unlock(&self->lock);
+    return now;
 }
 
 static GVariant *dconfdb_backend_read(GSettingsBackend *backend, const char *key, const GVariantType *expected,
                                       gboolean default_value)
 {
+    (void)expected;
     if (default_value)
-        return read_by(backend_of(backend), dconfdb_snapshot_read_default, false, key, expected);
-    return read_by(backend_of(backend), dconfdb_snapshot_read, true, key, expected);
+        return lend(snapshot_of(backend_of(backend)), dconfdb_snapshot_read_default, key);
+    Source source = source_of(backend_of(backend), key);
+    if (source.value)
+        return source.value;
+    return lend(source.now, source.is_edited ? dconfdb_snapshot_read_default : dconfdb_snapshot_read, key);
 }
 
 static GVariant *dconfdb_backend_read_user_value(GSettingsBackend *backend, const char *key, const GVariantType *expected)
 {
-    return read_by(backend_of(backend), dconfdb_snapshot_read_user, true, key, expected);
+    (void)expected;
+    Source source = source_of(backend_of(backend), key);
+    if (!source.is_edited)
+        return lend(source.now, dconfdb_snapshot_read_user, key);
+    dconfdb_snapshot_unref(source.now);
+    return source.value;
 }
 
 /* ---- what may be written */
 
 /* A directory may be, where no lock covers all that is in it. */
-static bool is_directory_writable(const DconfdbSnapshot *now, const char *directory)
+static bool is_directory_writable(DconfdbBackend *self, const DconfdbSnapshot *now, const char *directory)
 {
     char *locks = dconfdb_snapshot_locks(now, "/", NULL, NULL);
-    bool is = locks != NULL;
+    g_mutex_lock(&self->lock);
+    bool is = locks && self->has_user;
+    g_mutex_unlock(&self->lock);
     for (const char *lock = locks; is && *lock; lock += strlen(lock) + 1)
         is = !g_str_has_suffix(lock, "/") || !g_str_has_prefix(directory, lock);
     free(locks);
@@ -97,11 +116,10 @@ static bool is_directory_writable(const DconfdbSnapshot *now, const char *direct
 static gboolean dconfdb_backend_get_writable(GSettingsBackend *backend, const char *name)
 {
     DconfdbBackend *self = backend_of(backend);
-    g_mutex_lock(&self->lock);
-    DconfdbSnapshot *now = self->now ? dconfdb_snapshot_ref(self->now) : NULL;
-    bool has_user = self->has_user;
-    g_mutex_unlock(&self->lock);
-    bool is = now && (g_str_has_suffix(name, "/") ? has_user && is_directory_writable(now, name) : dconfdb_snapshot_is_writable(now, name));
+    DconfdbSnapshot *now = snapshot_of(self);
+    bool is = now && dconfdb_snapshot_is_writable(now, name);
+    if (now && !is && g_str_has_suffix(name, "/"))
+        is = is_directory_writable(self, now, name);
     dconfdb_snapshot_unref(now);
     return is;
 }
