@@ -72,7 +72,7 @@ typedef struct {
     GMainContext *context; /* the worker's */
     GMainLoop *loop;
     GPtrArray *monitors; /* for the worker alone, as what follows */
-    char *files;
+    GPtrArray *files;    /* names of the store's files */
 } DconfdbBackend;
 
 /* ---- the store (gsettings_store.c) */

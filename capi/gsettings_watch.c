@@ -11,16 +11,12 @@ typedef enum { NOTHING, A_DATABASE, A_PROFILE, A_FOLDER } Kind;
 static Kind kind_of(const DconfdbBackend *self, GFile *file)
 {
     const char *path = file ? g_file_peek_path(file) : NULL;
-    size_t index = 0;
-    if (!path)
-        return NOTHING;
-    for (const char *at = self->files; *at; at += strlen(at) + 1, index++) {
+    for (guint i = 0; path && i < self->files->len; i++) {
+        const char *name = self->files->pdata[i];
         size_t len = strlen(path);
-        if (strncmp(at, path, len) != 0)
-            continue;
-        if (at[len] == 0)
-            return index < 2 ? A_PROFILE : A_DATABASE;
-        if (at[len] == '/' || len == 1)
+        if (strncmp(name, path, len) == 0 && name[len] == 0)
+            return i < 2 ? A_PROFILE : A_DATABASE;
+        if (strncmp(name, path, len) == 0 && (name[len] == '/' || len == 1))
             return A_FOLDER;
     }
     return NOTHING;
@@ -71,17 +67,27 @@ static void watch_folder(DconfdbBackend *self, const char *path)
     g_object_unref(folder);
 }
 
+/* The names of the store's files, spelled as those of what is watched are. */
+static GPtrArray *names_of(const char *files)
+{
+    GPtrArray *names = g_ptr_array_new_with_free_func(g_free);
+    for (const char *at = files; *at; at += strlen(at) + 1)
+        g_ptr_array_add(names, g_canonicalize_filename(at, NULL));
+    return names;
+}
+
 void watch_begin(DconfdbBackend *self)
 {
     char *files = dconfdb_store_files(self->folder, NULL, NULL);
     if (!files)
         return;
     watch_end(self);
-    self->files = files;
+    self->files = names_of(files);
+    free(files);
     self->monitors = g_ptr_array_new_with_free_func(g_object_unref);
     GHashTable *folders = g_hash_table_new_full(g_str_hash, g_str_equal, g_free, NULL);
-    for (const char *at = files; *at; at += strlen(at) + 1) {
-        char *folder = folder_above(at);
+    for (guint i = 0; i < self->files->len; i++) {
+        char *folder = folder_above(self->files->pdata[i]);
         if (!g_hash_table_contains(folders, folder))
             watch_folder(self, folder);
         g_hash_table_add(folders, folder);
@@ -92,5 +98,5 @@ void watch_begin(DconfdbBackend *self)
 void watch_end(DconfdbBackend *self)
 {
     g_clear_pointer(&self->monitors, g_ptr_array_unref);
-    g_clear_pointer(&self->files, free);
+    g_clear_pointer(&self->files, g_ptr_array_unref);
 }

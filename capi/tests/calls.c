@@ -109,6 +109,34 @@ static void tries_changing(DconfdbStore *store)
     dconfdb_snapshot_unref(now);
 }
 
+/* A store of the same user's file, without the site's locks. */
+static DconfdbStore *lockless(void)
+{
+    TRY(mkdir("lockless", 0700) == 0);
+    FILE *profile = fopen("lockless/profile", "w");
+    TRY(profile && fputs("user-db:../me\n", profile) >= 0 && fclose(profile) == 0);
+    return dconfdb_store_open("lockless", &error);
+}
+
+/* A value of the user's that a lock hides is no difference. */
+static void tries_hidden_changes(DconfdbStore *store)
+{
+    size_t size;
+    DconfdbSnapshot *old = dconfdb_store_snapshot(store), *now;
+    DconfdbStore *alone = lockless();
+    DconfdbEdit edits[] = {sets_text("/org/desk/size", "hidden"), sets_text("/shut/k", "hidden"), sets_text("/seen", "")};
+    TRY(alone && dconfdb_store_change(alone, edits, 3, &error));
+    TRY(dconfdb_store_refresh(store, NULL, &error));
+    now = dconfdb_store_snapshot(store);
+    TRY(ARE(dconfdb_snapshot_differences(old, now, &size, &error), "/seen\0"));
+    TRY(ARE(dconfdb_snapshot_differences(now, old, &size, &error), "/seen\0"));
+    edits[0] = (DconfdbEdit){"/", NULL, NULL, 0};
+    TRY(dconfdb_store_change(alone, edits, 1, &error) && dconfdb_store_refresh(store, NULL, &error));
+    dconfdb_store_close(alone);
+    dconfdb_snapshot_unref(old);
+    dconfdb_snapshot_unref(now);
+}
+
 /* A value of a million bytes, and data that isn't aligned. */
 static void tries_sizes(DconfdbStore *store)
 {
@@ -289,6 +317,7 @@ int main(int argc, char **argv)
     TRY(store && strstr(dconfdb_store_user_file(store), "/me.user") && dconfdb_store_folder(store)[0] == '/');
     tries_reading(store);
     tries_changing(store);
+    tries_hidden_changes(store);
     tries_sizes(store);
     tries_refreshing(store, ".");
     tries_bad_files(store);
