@@ -15,7 +15,8 @@ typedef struct {
     const Notice *notice;
     GHashTable *ours; /* keys of our changes: who made them was told of them */
     GPtrArray *changed;
-    GHashTable *writable; /* keys, and directories as a whole */
+    GHashTable *writable;   /* keys that may be written, or no longer */
+    GPtrArray *directories; /* the same of all that is in them */
 } Telling;
 
 /* ---- what differs */
@@ -81,14 +82,13 @@ static void add_difference(Telling *telling, const char *path)
         g_ptr_array_add(telling->changed, (gpointer)path);
 }
 
-/* Keys that no database has are locked too: by their own lock, or with all of a directory. */
+/* Keys that no database has are locked too: by their own lock, or with all of a directory. Which
+ * keys that has, only GSettings knows. */
 static void add_lock(Telling *telling, const char *path)
 {
-    if (g_str_has_suffix(path, "/")) {
-        g_hash_table_add(telling->writable, (gpointer)path);
-        return;
-    }
-    if (is_subscribed(telling->backend, path) && !is_as_writable(telling->notice, path))
+    if (g_str_has_suffix(path, "/"))
+        g_ptr_array_add(telling->directories, (gpointer)path);
+    else if (is_subscribed(telling->backend, path) && !is_as_writable(telling->notice, path))
         g_hash_table_add(telling->writable, (gpointer)path);
 }
 
@@ -121,30 +121,32 @@ static void send_changed(DconfdbBackend *self, const GPtrArray *paths)
     }
 }
 
-static bool is_below(GHashTable *directories, const char *path)
+static bool is_below(const GPtrArray *directories, const char *path)
 {
-    GHashTableIter at;
-    gpointer directory;
-    g_hash_table_iter_init(&at, directories);
-    while (g_hash_table_iter_next(&at, &directory, NULL)) {
-        if (g_str_has_suffix(directory, "/") && strcmp(directory, path) != 0 && g_str_has_prefix(path, directory))
+    for (guint i = 0; i < directories->len; i++) {
+        const char *directory = directories->pdata[i];
+        if (strcmp(directory, path) != 0 && g_str_has_prefix(path, directory))
             return true;
     }
     return false;
 }
 
-static void send_writable(DconfdbBackend *self, GHashTable *paths)
+static void send_directories(DconfdbBackend *self, const GPtrArray *directories)
+{
+    for (guint i = 0; i < directories->len; i++) {
+        if (!is_below(directories, directories->pdata[i]))
+            g_settings_backend_path_writable_changed(&self->parent, directories->pdata[i]);
+    }
+}
+
+static void send_writable(const Telling *telling)
 {
     GHashTableIter at;
     gpointer path;
-    g_hash_table_iter_init(&at, paths);
+    g_hash_table_iter_init(&at, telling->writable);
     while (g_hash_table_iter_next(&at, &path, NULL)) {
-        if (is_below(paths, path))
-            continue;
-        if (g_str_has_suffix(path, "/"))
-            g_settings_backend_path_writable_changed(&self->parent, path);
-        else
-            g_settings_backend_writable_changed(&self->parent, path);
+        if (!is_below(telling->directories, path))
+            g_settings_backend_writable_changed(&telling->backend->parent, path);
     }
 }
 
@@ -168,7 +170,7 @@ static void add_all(Telling *telling, const char *differences, const char *befor
         add_difference(telling, at);
     add_locks(telling, before ? before : "", after ? after : "");
     if (telling->notice->had_user != telling->notice->has_user)
-        g_hash_table_add(telling->writable, (gpointer)"/");
+        g_ptr_array_add(telling->directories, (gpointer)"/");
 }
 
 static void add_ours(Telling *telling, const GQueue *changes, bool is_told)
@@ -185,7 +187,7 @@ static void add_ours(Telling *telling, const GQueue *changes, bool is_told)
 static void send(DconfdbBackend *self, const Notice *notice)
 {
     Telling telling = {self, notice, g_hash_table_new(g_str_hash, g_str_equal), g_ptr_array_new(),
-                       g_hash_table_new(g_str_hash, g_str_equal)};
+                       g_hash_table_new(g_str_hash, g_str_equal), g_ptr_array_new()};
     bool looks = notice->after && notice->before != notice->after;
     char *differences = differences_of(notice);
     char *before = looks ? locks_of(notice->before) : NULL, *after = looks ? locks_of(notice->after) : NULL;
@@ -193,10 +195,12 @@ static void send(DconfdbBackend *self, const Notice *notice)
     add_ours(&telling, &notice->written, false);
     add_all(&telling, differences, before, after);
     send_changed(self, telling.changed);
-    send_writable(self, telling.writable);
+    send_directories(self, telling.directories);
+    send_writable(&telling);
     g_hash_table_unref(telling.ours);
     g_ptr_array_unref(telling.changed);
     g_hash_table_unref(telling.writable);
+    g_ptr_array_unref(telling.directories);
     free(differences);
     free(before);
     free(after);
