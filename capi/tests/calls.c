@@ -109,13 +109,14 @@ static void tries_changing(DconfdbStore *store)
     dconfdb_snapshot_unref(now);
 }
 
-/* A store of the same user's file, without the site's locks. */
-static DconfdbStore *lockless(void)
+/* Puts a user's file in place that was made where there are no locks. */
+static void takes_file_of(const DconfdbEdit *edits, size_t count)
 {
-    TRY(mkdir("lockless", 0700) == 0);
     FILE *profile = fopen("lockless/profile", "w");
-    TRY(profile && fputs("user-db:../me\n", profile) >= 0 && fclose(profile) == 0);
-    return dconfdb_store_open("lockless", &error);
+    TRY(profile && fputs("user-db:me\n", profile) >= 0 && fclose(profile) == 0);
+    DconfdbStore *store = dconfdb_store_open("lockless", &error);
+    TRY(store && dconfdb_store_change(store, edits, count, &error) && rename("lockless/me.user", "me.user") == 0);
+    dconfdb_store_close(store);
 }
 
 /* A value of the user's that a lock hides is no difference. */
@@ -123,16 +124,16 @@ static void tries_hidden_changes(DconfdbStore *store)
 {
     size_t size;
     DconfdbSnapshot *old = dconfdb_store_snapshot(store), *now;
-    DconfdbStore *alone = lockless();
     DconfdbEdit edits[] = {sets_text("/org/desk/size", "hidden"), sets_text("/shut/k", "hidden"), sets_text("/seen", "")};
-    TRY(alone && dconfdb_store_change(alone, edits, 3, &error));
+    TRY(mkdir("lockless", 0700) == 0);
+    takes_file_of(edits, 3);
     TRY(dconfdb_store_refresh(store, NULL, &error));
     now = dconfdb_store_snapshot(store);
     TRY(ARE(dconfdb_snapshot_differences(old, now, &size, &error), "/seen\0"));
     TRY(ARE(dconfdb_snapshot_differences(now, old, &size, &error), "/seen\0"));
     edits[0] = (DconfdbEdit){"/", NULL, NULL, 0};
-    TRY(dconfdb_store_change(alone, edits, 1, &error) && dconfdb_store_refresh(store, NULL, &error));
-    dconfdb_store_close(alone);
+    takes_file_of(edits, 1);
+    TRY(dconfdb_store_refresh(store, NULL, &error));
     dconfdb_snapshot_unref(old);
     dconfdb_snapshot_unref(now);
 }
