@@ -131,25 +131,24 @@ static GPermission *dconfdb_backend_get_permission(GSettingsBackend *backend, co
 
 /* ---- changes */
 
+/* What becomes of a change. */
+typedef enum { REFUSED, EMPTY, WAITS } Outcome;
+
 /* `lock` is held. A child of fork() has no thread that writes, and its parent writes what waits. */
-static bool may_make(const DconfdbBackend *self, const Change *change)
+static Outcome outcome_of(const DconfdbBackend *self, Change *change)
 {
-    if (!self->now || self->has_ended || getpid() != self->process)
-        return false;
-    for (size_t i = 0; i < change->count; i++) {
-        if (!dconfdb_snapshot_is_writable(self->now, change->edits[i].path))
-            return false;
-    }
-    return true;
+    if (self->has_ended || getpid() != self->process || !change_may_be_made(change, self->now))
+        return REFUSED;
+    return change_is_empty(change) ? EMPTY : WAITS;
 }
 
-/* Lets the change wait. False, and it is freed: it may not be made. */
-static bool make(DconfdbBackend *self, Change *change)
+/* Lets the change wait, or frees it. */
+static Outcome make(DconfdbBackend *self, Change *change)
 {
     bool is_here = false;
     g_mutex_lock(&self->lock);
-    bool may = may_make(self, change);
-    if (may) {
+    Outcome outcome = outcome_of(self, change);
+    if (outcome == WAITS) {
         waiting_add(&self->waiting, change);
         worker_begin(self);
         is_here = !self->worker;
@@ -157,21 +156,21 @@ static bool make(DconfdbBackend *self, Change *change)
             worker_is_to_write(self);
     }
     g_mutex_unlock(&self->lock);
-    if (!may)
+    if (outcome != WAITS)
         change_free(change);
     if (is_here)
         store_write(self);
-    return may;
+    return outcome;
 }
 
 static gboolean dconfdb_backend_write(GSettingsBackend *backend, const char *key, GVariant *value, gpointer origin_tag)
 {
     Change *change = change_new(1);
     change_add(change, key, value);
-    bool done = make(backend_of(backend), change);
-    if (done)
+    Outcome outcome = make(backend_of(backend), change);
+    if (outcome == WAITS)
         g_settings_backend_changed(backend, key, origin_tag);
-    return done;
+    return outcome != REFUSED;
 }
 
 static void dconfdb_backend_reset(GSettingsBackend *backend, const char *key, gpointer origin_tag)
@@ -189,10 +188,10 @@ static gboolean dconfdb_backend_write_tree(GSettingsBackend *backend, GTree *tre
 {
     Change *change = change_new((size_t)g_tree_nnodes(tree));
     g_tree_foreach(tree, add_row, change);
-    bool done = make(backend_of(backend), change);
-    if (done)
+    Outcome outcome = make(backend_of(backend), change);
+    if (outcome == WAITS)
         g_settings_backend_changed_tree(backend, tree, origin_tag);
-    return done;
+    return outcome != REFUSED;
 }
 
 static void dconfdb_backend_sync(GSettingsBackend *backend)

@@ -10,10 +10,12 @@
 
 /* ---- changes that wait (gsettings_changes.c) */
 
-/* An edit of a key; without a value the user's goes. */
+/* An edit of a key; without a value the user's goes. That of a locked key is left out: it isn't
+ * seen, and the others of the change are made. */
 typedef struct {
     char *path;
     GVariant *value;
+    bool is_left_out;
 } Edit;
 
 /* Edits of which all are made, or none. */
@@ -31,6 +33,11 @@ typedef struct {
 Change *change_new(size_t most);
 void change_add(Change *change, const char *path, GVariant *value);
 void change_free(Change *change);
+
+/* Whether nothing that is to be set is locked, or without a snapshot or a user's database; what is to
+ * be reset there is left out. */
+bool change_may_be_made(Change *change, const DconfdbSnapshot *now);
+bool change_is_empty(const Change *change);
 void changes_free(GQueue *changes);
 
 void waiting_begin(Waiting *waiting);

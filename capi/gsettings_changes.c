@@ -17,6 +17,28 @@ void change_add(Change *change, const char *path, GVariant *value)
     /* Bytes of a program that aren't normal may be as deep as they like; normal ones say the
      * same. */
     edit->value = value ? g_variant_get_normal_form(value) : NULL;
+    edit->is_left_out = false;
+}
+
+bool change_may_be_made(Change *change, const DconfdbSnapshot *now)
+{
+    for (size_t i = 0; i < change->count; i++) {
+        Edit *edit = &change->edits[i];
+        bool is_writable = now && dconfdb_snapshot_is_writable(now, edit->path);
+        if (!is_writable && edit->value)
+            return false;
+        edit->is_left_out = !is_writable;
+    }
+    return true;
+}
+
+bool change_is_empty(const Change *change)
+{
+    for (size_t i = 0; i < change->count; i++) {
+        if (!change->edits[i].is_left_out)
+            return false;
+    }
+    return true;
 }
 
 void change_free(Change *change)
@@ -102,16 +124,11 @@ static GArray *edits_of(const GQueue *changes)
         const Change *change = at->data;
         for (size_t i = 0; i < change->count; i++) {
             DconfdbEdit edit = edit_of(&change->edits[i]);
-            g_array_append_val(edits, edit);
+            if (!change->edits[i].is_left_out)
+                g_array_append_val(edits, edit);
         }
     }
     return edits;
-}
-
-static bool is_of_an_edit(const DconfdbError *error)
-{
-    return error->number == DCONFDB_ERROR_LOCKED || error->number == DCONFDB_ERROR_TOO_LARGE
-        || error->number == DCONFDB_ERROR_BAD_PATH || error->number == DCONFDB_ERROR_BAD_TYPE;
 }
 
 static void move(GQueue *from, GList *change, GQueue *to)
@@ -120,25 +137,24 @@ static void move(GQueue *from, GList *change, GQueue *to)
     g_queue_push_tail_link(to, change);
 }
 
+static size_t edits_in(const Change *change)
+{
+    size_t count = 0;
+    for (size_t i = 0; i < change->count; i++)
+        count += !change->edits[i].is_left_out;
+    return count;
+}
+
 /* Refuses the change that has the edit of that index. */
 static void refuse_one(GQueue *changes, GQueue *refused, size_t index)
 {
     GList *at = changes->head;
-    while (at && index >= ((const Change *)at->data)->count) {
-        index -= ((const Change *)at->data)->count;
+    while (at && index >= edits_in(at->data)) {
+        index -= edits_in(at->data);
         at = at->next;
     }
     if (at)
         move(changes, at, refused);
-}
-
-static bool is_locked(const Change *change, const DconfdbSnapshot *now)
-{
-    for (size_t i = 0; i < change->count; i++) {
-        if (dconfdb_snapshot_is_locked(now, change->edits[i].path))
-            return true;
-    }
-    return false;
 }
 
 /* Refuses all that is locked now, so that not each costs a try. */
@@ -147,7 +163,7 @@ static void refuse_locked(DconfdbStore *store, GQueue *changes, GQueue *refused)
     DconfdbSnapshot *now = dconfdb_store_snapshot(store);
     for (GList *at = changes->head, *next; at; at = next) {
         next = at->next;
-        if (is_locked(at->data, now))
+        if (!change_may_be_made(at->data, now))
             move(changes, at, refused);
     }
     dconfdb_snapshot_unref(now);
@@ -157,6 +173,22 @@ static void refuse_all(GQueue *changes, GQueue *refused)
 {
     while (changes->length > 0)
         move(changes, changes->head, refused);
+}
+
+static void refuse(DconfdbStore *store, const DconfdbError *fault, GQueue *changes, GQueue *refused)
+{
+    switch (fault->number) {
+    case DCONFDB_ERROR_LOCKED:
+        refuse_locked(store, changes, refused);
+        break;
+    case DCONFDB_ERROR_TOO_LARGE:
+    case DCONFDB_ERROR_BAD_PATH:
+    case DCONFDB_ERROR_BAD_TYPE:
+        refuse_one(changes, refused, fault->at);
+        break;
+    default:
+        refuse_all(changes, refused);
+    }
 }
 
 static bool try_to_write(DconfdbStore *store, const GQueue *changes, DconfdbError *error)
@@ -171,14 +203,10 @@ bool changes_write(DconfdbStore *store, GQueue *changes, GQueue *refused, Dconfd
 {
     DconfdbError fault;
     while (!try_to_write(store, changes, &fault)) {
-        if (refused->length == 0)
+        guint count = refused->length;
+        refuse(store, &fault, changes, refused);
+        if (count == 0 && refused->length > 0)
             *error = fault;
-        if (!is_of_an_edit(&fault))
-            refuse_all(changes, refused);
-        else
-            refuse_one(changes, refused, fault.at);
-        if (fault.number == DCONFDB_ERROR_LOCKED)
-            refuse_locked(store, changes, refused);
     }
     return refused->length == 0;
 }
