@@ -236,9 +236,18 @@ static void dconfdb_backend_unsubscribe(GSettingsBackend *backend, const char *n
 static GMutex living_lock;
 static GSList *living;
 
+/* GSettings reads a schema's default as a tuple of the key's type at each read; and what GLib knows of
+ * a type goes with the last value that has it in its own. This one keeps that of common keys. */
+static GVariant *value_of_common_types(void)
+{
+    const GVariantType *type = G_VARIANT_TYPE("((b)(i)(u)(x)(t)(d)(s)(as)(ay)(a{sv}))");
+    return g_variant_ref_sink(g_variant_new_from_data(type, "", 0, FALSE, NULL, NULL));
+}
+
 static void dconfdb_backend_init(DconfdbBackend *self)
 {
     self->process = getpid();
+    self->types = value_of_common_types();
     g_mutex_init(&self->turn);
     g_mutex_init(&self->lock);
     waiting_begin(&self->waiting);

@@ -61,6 +61,7 @@ typedef struct {
     GSettingsBackend parent;
     pid_t process; /* after fork(), the child is another one */
     char *folder;  /* NULL: the environment names none */
+    GVariant *types;
 
     GMutex turn;         /* held while files are looked at or changed. It guards: */
     DconfdbStore *store; /* NULL: it could not be opened */

@@ -126,6 +126,7 @@ void store_end(DconfdbBackend *self)
     g_clear_pointer(&self->now, dconfdb_snapshot_unref);
     g_clear_pointer(&self->store, dconfdb_store_close);
     g_clear_pointer(&self->folder, g_free);
+    g_clear_pointer(&self->types, g_variant_unref);
     g_clear_pointer(&self->told, g_free);
     g_clear_pointer(&self->subscribed, g_hash_table_unref);
     waiting_end(&self->waiting);
