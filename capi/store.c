@@ -574,19 +574,19 @@ DconfdbStore *dconfdb_store_open(const char *folder, DconfdbError *error)
 /* Both profiles and the databases, a zero byte after each, or NULL. */
 static char *file_names(const DconfdbStore *store, size_t *size)
 {
-    size_t len = strlen(store->folder) + sizeof "/profile" + sizeof everyones, at;
+    size_t len = strlen(store->folder) + sizeof "/profile" + sizeof everyones;
     for (size_t i = 0; i < store->count; i++)
         len += strlen(store->files[i]) + 1;
     char *names = malloc(len + 1);
     if (!names)
         return NULL;
-    at = (size_t)sprintf(names, "%s/profile", store->folder) + 1;
-    at += (size_t)sprintf(names + at, "%s", everyones) + 1;
+    char *at = stpcpy(stpcpy(names, store->folder), "/profile") + 1;
+    at = stpcpy(at, everyones) + 1;
     for (size_t i = 0; i < store->count; i++)
-        at += (size_t)sprintf(names + at, "%s", store->files[i]) + 1;
-    names[at] = 0;
+        at = stpcpy(at, store->files[i]) + 1;
+    *at = 0;
     if (size)
-        *size = at;
+        *size = len;
     return names;
 }
 
