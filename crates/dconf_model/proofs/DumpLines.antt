@@ -1,10 +1,11 @@
 -- The lines of a dump: its text is these lines, each ended, and each fits on a line.
 use Rattle.std.specs.Prelude.{◌≡◌, ℕ, ◌<◌, Bool, true, false, ◌==◌, List, [], ◌∷◌, ◌++◌, length, codes, Option, Some, None, refl, if◌then◌else◌}
 use Rattle.std.specs.List.{AllByRecursion}
-use Rattle.std.specs.Str.{IsUtf8, IsAscii, bytes_eq}
-use Rattle.std.proofs.Common.{sym, ap, ◌∙◌, append_assoc, arith, zero, suc}
-use Rattle.std.proofs.lemmas.Str.{IsUtf8-nil, IsUtf8-append, IsUtf8-from_ascii}
+use Rattle.std.specs.Str.{IsUtf8, bytes_eq}
+use Rattle.std.proofs.Common.{sym, ap, ◌∙◌, append_assoc, arith}
+use Rattle.std.proofs.lemmas.Str.{IsUtf8-nil, IsUtf8-append}
 use Rattle.dconf_model.specs.Keyfiles.{DumpRow, group_name, heading, heading_after, text_after}
+use Rattle.dconf_model.proofs.StringTexts.{one_byte}
 use Rattle.dconf_model.proofs.EndedLines.{ended, ended-append, HasNoFeed}
 use Rattle.dconf_model.proofs.KeyfileLines.{head_line, row_line, head_feedless, row_feedless}
 use Rattle.dconf_model.proofs.DumpedRows.{Writes}
@@ -45,21 +46,14 @@ text_is before (r ∷ more) =
 abbrev IsLine : List ℕ → Type 0
 IsLine l = HasNoFeed l × IsUtf8 l
 
-one_ascii : (c : ℕ) → c < 128 → IsAscii (c ∷ [])
-one_ascii c l zero = l
-one_ascii c l (suc i) = omega arith
-
-utf8_one : (c : ℕ) → c < 128 → IsUtf8 (c ∷ [])
-utf8_one c l = IsUtf8-from_ascii (c ∷ []) (one_ascii c l)
-
 utf8_between : (c : ℕ) (xs ys : List ℕ) → c < 128 → IsUtf8 xs → IsUtf8 ys → IsUtf8 (xs ++ c ∷ ys)
-utf8_between c xs ys l u w = IsUtf8-append xs (c ∷ ys) u (IsUtf8-append (c ∷ []) ys (utf8_one c l) w)
+utf8_between c xs ys l u w = IsUtf8-append xs (c ∷ ys) u (IsUtf8-append (c ∷ []) ys (one_byte c l) w)
 
 utf8_name : (part : List ℕ) → IsUtf8 part → IsUtf8 (group_name part)
 utf8_name part u = go (length part == 0)
   where
     go : (b : Bool) → IsUtf8 (if b then codes "/" else part)
-    go true = utf8_one 47 (omega arith)
+    go true = one_byte 47 (omega arith)
     go false = u
 
 head_is_line : (r : DumpRow) → Writes r → IsLine (head_line (group_name r.part))

@@ -80,7 +80,6 @@ pub mod ReopenLaws
 pub mod SoundGiven
 pub mod AsciiParts
 pub mod StringTexts
-pub mod TypeWeights
 pub mod WholeTexts
 pub mod WholeRows
 pub mod EmptyStores
@@ -88,6 +87,7 @@ pub mod WorkedStores
 pub mod WorkedStore
 pub mod StandingPrints
 pub mod ProgramLaws
+pub mod WritableKept
 pub mod ReadingRuns
 pub mod RunChanges
 pub mod CompiledFolders

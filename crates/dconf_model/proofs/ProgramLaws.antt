@@ -13,7 +13,7 @@ use Rattle.dconf_model.specs.Profiles.{Database, database_file, is_written, prof
 use Rattle.dconf_model.specs.Reads.{Content, Input, ReadResults, steady}
 use Rattle.dconf_model.specs.Settings.{Settings}
 use Rattle.dconf_model.specs.Sources.{Given}
-use Rattle.dconf_model.specs.Databases.{Verdict, IsLayer, AreLayers, IsBad, IsFirstBad}
+use Rattle.dconf_model.specs.Databases.{Verdict, IsLayer, AreLayers, IsBad, IsFirstBad, IsDatabaseOf, IsGood}
 use Rattle.dconf_model.specs.Databases.Verdict.{no_database, sound, unsound}
 use Rattle.dconf_model.specs.Layers.{Layers, visible, without_user, child_names, locks_below, all_locks, paths_below, parts_below, all_paths, has_value, origin as origin_of}
 use Rattle.dconf_model.specs.Outcomes.{Gives, Outcome, Output, WithStore, WithDatabases, WithLayers, OrNoDatabase, OrNoRead, OrLine, UnlessFault, IsOutcome, shown_if_any, done, done_output, lines_text, refused, dump_of, settings_at, origin_text}
@@ -30,17 +30,27 @@ use Rattle.dconf_model.proofs.StandingPrints.{default_seen, locks_from, locks_to
 
 -- ---- sound databases are opened
 
-not_bad : (item : MaybeBytes) (s : Settings) (v : Verdict) → IsLayer item s → IsBad item v → ⊥
-not_bad None s v h k = k
-not_bad (Some file) s sound h k = k
-not_bad (Some file) s (no_database f) h k = opens.no_database file f k h.0
-not_bad (Some file) s (unsound rule at) h k = sound_has_no_fault (root_of file) rule at h.1 k.1
+not_bad : (item : MaybeBytes) (v : Verdict) → IsGood item → IsBad item v → ⊥
+not_bad None v h k = k
+not_bad (Some file) sound h k = k
+not_bad (Some file) (no_database f) h k = opens.no_database file f k h.0
+not_bad (Some file) (unsound rule at) h k = sound_has_no_fault (root_of file) rule at h.1 k.1
 
-none_bad : (items : List MaybeBytes) (ss : List Settings) (i : ℕ) (v : Verdict) → AreLayers items ss → IsFirstBad items i v → ⊥
+layer_is_good : (item : MaybeBytes) (s : Settings) → IsLayer item s → IsGood item
+layer_is_good None s h = tt
+layer_is_good (Some file) s h = (h.0, h.1)
+
+pub none_bad : (items : List MaybeBytes) (ss : List Settings) (i : ℕ) (v : Verdict) → AreLayers items ss → IsFirstBad items i v → ⊥
 none_bad [] ss i v h k = k
 none_bad (item ∷ items) [] i v h k = absurd h
-none_bad (item ∷ items) (s ∷ ss) zero v h k = not_bad item s v h.0 k
+none_bad (item ∷ items) (s ∷ ss) zero v h k = not_bad item v (layer_is_good item s h.0) k
 none_bad (item ∷ items) (s ∷ ss) (suc i) v h k = none_bad items ss i v h.1 k.1
+
+-- the first may be any that was written, the others those that opened
+pub none_is_bad : (file : List ℕ) (written : Settings) (others : List MaybeBytes) (ss : List Settings) (i : ℕ) (v : Verdict) →
+    IsDatabaseOf written file → AreLayers others ss → IsFirstBad (Some file ∷ others) i v → ⊥
+none_is_bad file written others ss zero v h k bad = not_bad (Some file) v (h.opens, h.sound) bad
+none_is_bad file written others ss (suc i) v h k bad = none_bad others ss i v k bad.1
 
 -- ---- reads give what is there
 

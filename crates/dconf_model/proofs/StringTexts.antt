@@ -12,6 +12,9 @@ use Rattle.gv_model.specs.TextFault.Cause.{bad_token, bad_escape}
 use Rattle.gv_model.specs.Strings.{StringStep, part, escape_in, escape, octal_escape, number_escape, letter_or_self, letter_meaning, at_most, is_scalar}
 use Rattle.gv_model.specs.Strings.StringStep.{denotes, closes, faulty}
 use Rattle.gv_model.specs.TextLaws.{StringPart, meant, written, AreParts}
+use Rattle.gv_model.proofs.ListLaws.{no_bytes}
+use Rattle.gv_model.proofs.LowBytes.{digit_is_low}
+use Rattle.gv_model.proofs.PrintedStrings.{pick_list}
 use Rattle.gv_model.proofs.StringParts.{choose}
 use Rattle.dconf_model.proofs.AsciiParts.{after_ascii, drop_ascii}
 
@@ -24,10 +27,6 @@ AreHigh bs = AllByRecursion (λ b. 128 ≤ b) bs
 abbrev IsLong : ℕ → List ℕ → Type 0
 IsLong c xs = (b : ℕ) × (bs : List ℕ) × (xs ≡ b ∷ bs) × AreHigh bs
 
-either : (P : List ℕ → Type 0) (b : Bool) (x y : List ℕ) → (b ≡ true → P x) → (b ≡ false → P y) → P (cond b x y)
-either P true x y h g = h refl
-either P false x y h g = g refl
-
 short_or_long : (c : ℕ) → ((c < 128) × (encode_char c ≡ c ∷ [])) ⊎ IsLong c (encode_char c)
 unfolding encode_char
 short_or_long c =
@@ -35,11 +34,11 @@ short_or_long c =
     let three = (224 + c / 4096) ∷ next (c / 64) ∷ next c ∷ [] in
     let four = (240 + c / 262144) ∷ next (c / 4096) ∷ next (c / 64) ∷ next c ∷ [] in
     let high : (n : ℕ) → 128 ≤ next n = λ n. omega arith in
-    either (λ xs. ((c < 128) × (xs ≡ c ∷ [])) ⊎ IsLong c xs) (nat_lt c 128) (c ∷ []) (cond (nat_lt c 2048) two (cond (nat_lt c 65536) three four))
+    pick_list (λ xs. ((c < 128) × (xs ≡ c ∷ [])) ⊎ IsLong c xs) (nat_lt c 128) (c ∷ []) (cond (nat_lt c 2048) two (cond (nat_lt c 65536) three four))
     (λ e. inl (ltb-true c 128 e, refl))
-    (λ e. inr (either (IsLong c) (nat_lt c 2048) two (cond (nat_lt c 65536) three four)
+    (λ e. inr (pick_list (IsLong c) (nat_lt c 2048) two (cond (nat_lt c 65536) three four)
     (λ f. (192 + c / 64, next c ∷ [], refl, (high c, tt)))
-    (λ f. either (IsLong c) (nat_lt c 65536) three four
+    (λ f. pick_list (IsLong c) (nat_lt c 65536) three four
     (λ g. (224 + c / 4096, next (c / 64) ∷ next c ∷ [], refl, (high (c / 64), (high c, tt))))
     (λ g. (240 + c / 262144, next (c / 4096) ∷ next (c / 64) ∷ next c ∷ [], refl, (high (c / 4096), (high (c / 64), (high c, tt))))))))
 
@@ -102,10 +101,6 @@ record HighParts (quote : ℕ) (ps : List StringPart) (after bs ys : List ℕ) :
   means : meant ps ≡ bs ++ meant qs
   fewer : length qs ≤ length ps
 
-nothing_more : (cs : List ℕ) → length cs ≡ 0 → cs ≡ []
-nothing_more [] e = refl
-nothing_more (c ∷ cs) e = absurd (omega (arith, e))
-
 high_parts : (quote : ℕ) (bs : List ℕ) (ps : List StringPart) (after ys : List ℕ) → quote < 128 → AreHigh bs → AreParts false quote ps (quote ∷ after) →
     written ps ++ quote ∷ after ≡ bs ++ ys → HighParts quote ps after bs ys
 unfolding written meant
@@ -121,7 +116,7 @@ high_parts quote (b ∷ bs) (p ∷ ps) after ys l h parts e =
     sym (high_part quote c (cs ++ (written ps ++ quote ∷ after)) l (omega (arith, same, h.0))) ∙ parts.0.3 in
     let one : 1 ≡ length p.0 = ap size_of is in
     let size = ap length parts.0.2 in
-    let no_cs : cs ≡ [] = nothing_more cs (omega (arith, one, size)) in
+    let no_cs : cs ≡ [] = no_bytes cs (omega (arith, one, size)) in
     let rest = high_parts quote bs ps after ys l h.1 parts.1 (sym (ap (λ l. l ++ (written ps ++ quote ∷ after)) no_cs) ∙ ap rest_of spelled) in
     record {
       qs = rest.qs;
@@ -140,7 +135,7 @@ abbrev IsTextStep : List ℕ → StringStep → Type 0
 IsTextStep xs (denotes s n) = (IsUtf8 s × IsUtf8 (drop n xs)) ⊎ GoesOn xs s n
 IsTextStep xs other = Unit {0}
 
-one_byte : (c : ℕ) → c < 128 → IsUtf8 (c ∷ [])
+pub one_byte : (c : ℕ) → c < 128 → IsUtf8 (c ∷ [])
 one_byte c l = IsUtf8-from_ascii (c ∷ []) (λ i. small i)
   where
     small : (i : ℕ) → get_or (c ∷ []) i 0 < 128
@@ -153,9 +148,6 @@ own_byte c n xs u = elim (cases_lt c 128) [
   | inl low ↦ inl (one_byte c low, after_ascii c (drop n xs) low u)
   | inr high ↦ inr (c, refl, high, u)
 ]
-
-digit_small : (base c : ℕ) → base ≤ 16 → is_digit_of base c ≡ true → c < 128
-digit_small base c l e = grind arith
 
 -- the last of so many digits
 last_digit : (f : ℕ → Bool) (n : ℕ) (s : List ℕ) → length (prefix_of f (at_most (suc n) s)) ≡ suc n → (n < length s) × (f (get_or s n 0) ≡ true)
@@ -186,7 +178,7 @@ number_text n d ds u l =
     let last = last_digit (is_digit_of 16) n ds (eqb-true (length digits) (suc n) both.0) in
     let rest : IsUtf8 ds = after_ascii d ds l (after_ascii 92 (d ∷ ds) (omega arith) u) in
     let two : 2 + suc n ≡ suc (suc (suc n)) = omega arith in
-    inl (IsUtf8-encode v (scalar_of v both.1), subst (λ n. IsUtf8 (drop n (92 ∷ d ∷ ds))) (sym two) (drop_ascii ds n last.0 (digit_small 16 (get_or ds n 0) (omega arith) last.1) rest))))
+    inl (IsUtf8-encode v (scalar_of v both.1), subst (λ n. IsUtf8 (drop n (92 ∷ d ∷ ds))) (sym two) (drop_ascii ds n last.0 (digit_is_low 16 (get_or ds n 0) (omega arith) last.1) rest))))
     (λ e. tt)
 
 abbrev SmallLetter : ℕ → Option ℕ → Type 0
@@ -303,11 +295,11 @@ encoded_bytes c ok =
     let four = (240 + c / 262144) ∷ next (c / 4096) ∷ next (c / 64) ∷ next c ∷ [] in
     let low : (n : ℕ) → next n < 256 = λ n. omega arith in
     let top : c < 1114112 = grind arith in
-    either AreBytes (nat_lt c 128) (c ∷ []) (cond (nat_lt c 2048) two (cond (nat_lt c 65536) three four))
+    pick_list AreBytes (nat_lt c 128) (c ∷ []) (cond (nat_lt c 2048) two (cond (nat_lt c 65536) three four))
     (λ e. (let l = ltb-true c 128 e in (omega (arith, l), tt)))
-    (λ e. either AreBytes (nat_lt c 2048) two (cond (nat_lt c 65536) three four)
+    (λ e. pick_list AreBytes (nat_lt c 2048) two (cond (nat_lt c 65536) three four)
     (λ f. (let l = ltb-true c 2048 f in (omega (arith, l), (low c, tt))))
-    (λ f. either AreBytes (nat_lt c 65536) three four
+    (λ f. pick_list AreBytes (nat_lt c 65536) three four
     (λ g. (let l = ltb-true c 65536 g in (omega (arith, l), (low (c / 64), (low c, tt)))))
     (λ g. (omega (arith, top), (low (c / 4096), (low (c / 64), (low c, tt)))))))
 

@@ -29,15 +29,10 @@ use Rattle.gv_model.proofs.GrammarLaws.{read_of, no_fault}
 use Rattle.gv_model.proofs.FaultlessTokens.{whole}
 use Rattle.gv_model.proofs.PatternLaws.{admits_chosen, choice_right}
 use Rattle.gv_model.proofs.TypeOrder.{one_choice}
+use Rattle.gv_model.proofs.TypeWeights.{no_type_is, no_clear_is}
 use Rattle.dconf_model.specs.Causes.{SettingsCause}
 use Rattle.dconf_model.specs.Causes.SettingsCause.{text_fault, value_fault}
 use Rattle.dconf_model.specs.Values.{StoredIsHeld, value_of_text, of_tokens, of_grammar, or_value_fault, IsMeaning, HasNoType, TextHasItsValue, HasOneMeaning}
-
-no_type_is : (t : Ty) → no_common_type ≡ is t → ⊥
-no_type_is t e = absurd cc
-
-unclear_is : (t : Ty) → ambiguous ≡ is t → ⊥
-unclear_is t e = absurd cc
 
 abbrev pub Ends : (Syntax → Choice) → List Syntax → Choice → Ty → Type 0
 Ends choose xs c t = (c ≡ is t) × (first_choice choose xs (is t) ≡ is t)
@@ -49,7 +44,7 @@ after_one choose x xs c t e later = go (choose x) refl
     go : (d : Choice) → choose x ≡ d → Ends choose (x ∷ xs) c t
     go (is u) same = let rest = later (rw same at e) in (rest.0, rw same rest.1)
     go no_common_type same = absurd (no_type_is t (rw same at e))
-    go ambiguous same = absurd (unclear_is t (rw same at e))
+    go ambiguous same = absurd (no_clear_is t (rw same at e))
 
 pub last_is : (choose : Syntax → Choice) (xs : List Syntax) (c : Choice) (t : Ty) → first_choice choose xs c ≡ is t → Ends choose xs c t
 last_is choose [] c t e = (e, refl)

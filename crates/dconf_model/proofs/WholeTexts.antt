@@ -1,20 +1,17 @@
 -- The value of a text of UTF-8 within the limit is a value of its type, which is within the limits.
-use Rattle.std.specs.Prelude.{◌≡◌, ◌≤◌, ◌<◌, ℕ, ◌+◌, ◌-◌, true, false, ◌==◌, List, [], ◌∷◌, ◌++◌, length, take, drop, Option, None, Result, Ok, Err, refl}
+use Rattle.std.specs.Prelude.{◌≡◌, ◌≤◌, ℕ, ◌+◌, ◌-◌, List, [], ◌∷◌, ◌++◌, length, take, drop, Option, None, Result, Ok, Err, refl}
 use Rattle.std.specs.List.{AllByRecursion}
 use Rattle.std.specs.Str.{IsUtf8}
 use Rattle.std.proofs.Common.{sym, ap, subst, ◌∙◌, arith, append_assoc}
-use Rattle.std.proofs.lemmas.Bool.{or_parts, eqb-false}
 use Rattle.std.proofs.lemmas.List.{take-append-drop}
 use Rattle.std.proofs.lemmas.Str.{is_utf8-from_IsUtf8, IsUtf8-from_is_utf8}
 use Rattle.gv_model.specs.Tree.{Tree}
-use Rattle.gv_model.specs.Texts.{has_zero_byte}
 use Rattle.gv_model.specs.TextFault.{Fault}
 use Rattle.gv_model.specs.Tokens.{Token, Placed}
 use Rattle.gv_model.specs.Tokens.Token.{mark, string_token, byte_string, integer_token, type_token, word}
 use Rattle.gv_model.specs.Tokens.Mark.{close_tuple, close_list, close_brace, close_box, comma, colon}
-use Rattle.gv_model.specs.Characters.{is_quote}
 use Rattle.gv_model.specs.Lexing.{Begins, Lexes, blanks}
-use Rattle.gv_model.specs.Grammar.{tokens_of, tokens_bytes, text_bytes as size_of, commas, members_tokens, pairs_tokens}
+use Rattle.gv_model.specs.Grammar.{tokens_of, tokens_bytes, text_bytes as size_of, commas, members_tokens, pairs_tokens, syntaxes_bytes, pairs_bytes}
 use Rattle.gv_model.specs.Parsing.{kinds, IsTree}
 use Rattle.gv_model.specs.PlainTexts.{IsPlain, ArePlain, PairsPlain}
 use Rattle.gv_model.specs.Syntax.{Syntax, Syntaxes, Pairs}
@@ -33,7 +30,9 @@ use Rattle.dconf_model.specs.Values.{value_of_text, or_value_fault, IsMeaning}
 use Rattle.dconf_model.specs.Stores.{IsLimitedValue, TextsAreWhole}
 use Rattle.dconf_model.proofs.AsciiParts.{utf8_beside}
 use Rattle.dconf_model.proofs.StringTexts.{string_text, string_bytes, AreBytes, text_bytes, bytes_later}
-use Rattle.dconf_model.proofs.TypeWeights.{choice_within, syntaxes_bytes, pairs_bytes, list_bytes, tuple_bytes, dictionary_bytes, entry_bytes, box_bytes}
+use Rattle.gv_model.proofs.LowBytes.{quote_is_low}
+use Rattle.gv_model.proofs.WellTyped.{no_zero}
+use Rattle.gv_model.proofs.TypeWeights.{choice_within, list_bytes, tuple_bytes, dictionary_bytes, entry_bytes, box_bytes}
 use Rattle.dconf_model.proofs.ValueLaws.{text_has_its_value, with_tree}
 use Rattle.dconf_model.proofs.WholeValues.{IsGood, AreGood, PairsGood, good_is_whole}
 
@@ -54,14 +53,11 @@ drop_end n s h =
     ap (λ l. h.0 ++ l) (sym (take-append-drop n s)) ∙ sym (append_assoc h.0 (take n s) (drop n s)) in
     (h.0 ++ take n s, subst IsUtf8 same h.1)
 
-quote_small : (c : ℕ) → is_quote c ≡ true → c < 128
-quote_small c e = grind arith
-
 text_token : (at : ℕ) (s : List ℕ) (t : Placed) → IsEnd s → Begins at s t → (k : Token) → t.token ≡ k → IsTextToken k
 text_token at s t u h (mark m) e = tt
 text_token at s t u h (string_token x) e =
     let is = string_parts at s t x h e in
-    let small = quote_small is.quote is.is_one in
+    let small = quote_is_low is.quote is.is_one in
     let inside = (utf8_beside u.0 is.quote (written is.parts ++ is.quote ∷ is.after) small (subst (λ l. IsUtf8 (u.0 ++ l)) is.spells u.1)).1 in
     subst IsUtf8 (sym is.meaning) (string_text is.quote is.parts is.after small is.each inside)
 text_token at s t u h (byte_string x) e =
@@ -87,10 +83,6 @@ text_tokens at s (t ∷ ts) f u h = (
 apart : (xs ys : List Token) → AllByRecursion IsTextToken (xs ++ ys) → AllByRecursion IsTextToken xs × AllByRecursion IsTextToken ys
 apart [] ys h = (tt, h)
 apart (x ∷ xs) ys h = let rest = apart xs ys h.1 in ((h.0, rest.0), rest.1)
-
-no_zero : (s : List ℕ) → has_zero_byte s ≡ false → AllByRecursion (λ c. 0 < c) s
-no_zero [] e = tt
-no_zero (c ∷ s) e = let parts = or_parts (c == 0) (has_zero_byte s) e in let other = eqb-false c 0 parts.0 in (grind arith, no_zero s parts.1)
 
 mutual
   unfolding tokens_of tokens_bytes

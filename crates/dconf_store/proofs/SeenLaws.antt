@@ -19,8 +19,8 @@ use Rattle.dconf_store.specs.declared.fault.StoreFault.TheVariants.{BadDatabase,
 use Rattle.dconf_store.specs.Faults.{IsNoValue, IsReadFault, fault_of_engine}
 use Rattle.dconf_store.specs.Seen.{AreChildrenAfter, AreOpened, IsSavedAfter, IsValueAfter}
 use Rattle.dconf_store.specs.Files.{with_first_file}
-use Rattle.dconf_store.proofs.Writable.{changes_keep_it}
-use Rattle.dconf_store.proofs.NeverBad.{none_is_bad}
+use Rattle.dconf_model.proofs.ProgramLaws.{none_is_bad}
+use Rattle.dconf_model.proofs.WritableKept.{changes_keep_it}
 use Rattle.dconf_model.proofs.StoreValues.{each_value_is_given}
 use Rattle.dconf_model.proofs.StoreListings.{each_listing_is_exact}
 

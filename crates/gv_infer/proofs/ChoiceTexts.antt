@@ -16,7 +16,7 @@ use Rattle.gv_model.proofs.TypeTextParts.{spelling-type_at, text_of_type}
 use Rattle.gv_infer.specs.declared.least.Found.{Found}
 use Rattle.gv_infer.specs.declared.least.Found.TheVariants.{Nowhere, Least, Many}
 use Rattle.gv_infer.specs.LeastTexts.{Written, Spelled, found_of}
-use Rattle.gv_infer.proofs.WeightLaws.{Short, short_choice}
+use Rattle.gv_model.proofs.TypeWeights.{Short, short_choice}
 
 limits : (t : Ty) (w : List ℕ) → nat_le (nesting t) 128 ≡ true → length w ≤ 67108864 → is_within_limits t w ≡ true
 limits t w n h = grind arith

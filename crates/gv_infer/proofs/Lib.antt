@@ -1,9 +1,8 @@
 pub mod PatternLists
+pub mod PlainTypes
 pub mod ExactLaws
 pub mod FoundLaws
-pub mod TextBytes
 pub mod WithinLaws
-pub mod WeightLaws
 pub mod ChoiceTexts
 pub mod ContentLaws
 pub mod ContentRules

@@ -12,7 +12,7 @@ use Rattle.gv_model.specs.Literals.{ValueFault as TheFault}
 use Rattle.gv_model.specs.Literals.ValueFault.{no_common, not_clear, out_of_range, bad_object_path, bad_signature, double_text, too_deep}
 use Rattle.gv_model.specs.TextValues.{HasChoice, HasValue}
 use Rattle.gv_model.specs.PrintedLaws.{ReadsBack}
-use Rattle.gv_model.proofs.TextOutcomes.{one_outcome}
+use Rattle.gv_model.proofs.TextOutcomes.{one_outcome, tree_no_fault}
 use Rattle.gv_model.proofs.PrintedReadBack.{reads_back}
 use Rattle.gv_text.specs.declared.fault.TextFault.TheVariants as texts
 use Rattle.gv_text.specs.ModelTokens.{fault_at_span}
@@ -26,9 +26,6 @@ use Rattle.gv_infer.specs.PrintedTexts.{IsWantOfMemory, PrintedIsRead}
 -- a text has one syntax tree, and then no fault
 one_tree : (text : List ℕ) (x y : Syntax) → IsTree text x → IsTree text y → x ≡ y
 one_tree text x y h g = let same : Ok x ≡ Ok y = one_outcome text (Ok x) (Ok y) h g in cc
-
-no_fault : (text : List ℕ) (x : Syntax) (e : Fault) → IsTree text x → HasFault text e → ⊥
-no_fault text x e h g = let same : Ok x ≡ Err e = one_outcome text (Ok x) (Err e) h g in absurd (cc)
 
 -- what comes of the choice of the text's own type
 choice_is : (t : Ty) (v : Tree) (b : ReadsBack t v) (x : Syntax) (c : Choice) → IsTree (printed v true) x → HasChoice x c → c ≡ is t
@@ -56,7 +53,7 @@ not_ambiguous : (t : Ty) (v : Tree) (b : ReadsBack t v) (x : Syntax) → IsTree 
 not_ambiguous t v b x tree h = let same : ambiguous ≡ is t = choice_is t v b x ambiguous tree h in absurd (cc)
 
 fault_is : (t : Ty) (v : Tree) (b : ReadsBack t v) (e : ReadFault) → IsReadFault (printed v true) e → IsWantOfMemory e
-fault_is t v b (Text (texts.Refused cause span)) h = absurd (no_fault (printed v true) b.syntax (fault_at_span cause span) b.parses h)
+fault_is t v b (Text (texts.Refused cause span)) h = absurd (tree_no_fault (printed v true) b.syntax (fault_at_span cause span) b.parses h)
 fault_is t v b (Text texts.Memory) h = refl
 fault_is t v b (Typing types.NoCommonType) h = absurd (no_type_fault t v b h.syntax h.tree h.fault)
 fault_is t v b (Typing types.Ambiguous) h = absurd (not_ambiguous t v b h.syntax h.tree h.fault)

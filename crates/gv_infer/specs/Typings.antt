@@ -1,9 +1,6 @@
 -- What the choice of a text's type comes to.
-use Rattle.std.specs.Prelude.{◌≡◌, List, ℕ, ◌+◌}
-use Rattle.gv_model.specs.Syntax.{Syntax, Syntaxes, Pairs}
-use Rattle.gv_model.specs.Syntax.Syntaxes.{none, first}
-use Rattle.gv_model.specs.Syntax.Pairs.{no_pair, pair}
-use Rattle.gv_model.specs.Grammar.{text_bytes}
+use Rattle.std.specs.Prelude.{◌≡◌, List}
+use Rattle.gv_model.specs.Syntax.{Syntax}
 use Rattle.gv_model.specs.Chosen.{Choice}
 use Rattle.gv_model.specs.Chosen.Choice.{no_common_type, ambiguous}
 use Rattle.gv_model.specs.LeastTypes.{choice}
@@ -30,12 +27,3 @@ AreTyped xs = (last : Choice) → first_choice choice xs last ≡ last
 -- why the first of these that has no type has none
 abbrev pub IsFirstChoiceFault : List Syntax → TypingFault → Type 0
 IsFirstChoiceFault xs fault = (last : Choice) → IsChoiceFault (first_choice choice xs last) fault
-
--- the bytes that these take in a text at least
-abbrev pub syntaxes_bytes : Syntaxes → ℕ
-syntaxes_bytes none = 0
-syntaxes_bytes (first x xs) = text_bytes x + syntaxes_bytes xs
-
-abbrev pub pairs_bytes : Pairs → ℕ
-pairs_bytes no_pair = 0
-pairs_bytes (pair k v ps) = (text_bytes k + text_bytes v) + pairs_bytes ps

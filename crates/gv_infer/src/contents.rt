@@ -5,7 +5,8 @@ ghost use Rattle.std.specs.Prelude.{◌≤◌, IfOk, IfErr};
 ghost use Rattle.gv_model.specs.Grammar.{text_bytes};
 ghost use Rattle.gv_model.specs.TextValues.{contents, all_contents, pairs_contents};
 ghost use Rattle.gv_text.specs.SyntaxNodes.{nodes_of, pairs_of};
-ghost use Rattle.gv_infer.specs.Typings.{AreTyped, IsFirstChoiceFault, syntaxes_bytes, pairs_bytes};
+ghost use Rattle.gv_model.specs.Grammar.{syntaxes_bytes, pairs_bytes};
+ghost use Rattle.gv_infer.specs.Typings.{AreTyped, IsFirstChoiceFault};
 
 use crate::fault::TypingFault;
 use crate::typing::type_of_node;

@@ -1,4 +1,5 @@
 pub mod ListLaws
+pub mod LowBytes
 pub mod TypeTextLaws
 pub mod CodeLaws
 pub mod TypeTextSound
@@ -45,6 +46,7 @@ pub mod FaultPlaces
 pub mod TextOutcomes
 pub mod PatternMeets
 pub mod LeastTypeLaws
+pub mod TypeWeights
 pub mod PatternLaws
 pub mod TypeOrder
 pub mod AdmitsDecided

@@ -1,5 +1,5 @@
 -- Lists that are taken apart from the start, and a tuple's members as a list.
-use Rattle.std.proofs.Common.{◌≡◌, List, [], ◌∷◌, refl, ap, ℕ, ◌+◌, ◌<◌, length, drop, get_or, sym, ◌∙◌, ◌++◌}
+use Rattle.std.proofs.Common.{◌≡◌, List, [], ◌∷◌, refl, ap, arith, ℕ, ◌+◌, ◌<◌, length, drop, get_or, sym, ◌∙◌, ◌++◌}
 use Rattle.std.proofs.lemmas.List.{drop_more}
 use Rattle.std.specs.List.{AllByRecursion}
 use Rattle.gv_model.specs.Ty.{Types, type_list, types_from}
@@ -26,3 +26,7 @@ drop_item xs i x lt e = drop_more xs i x lt ∙ ap (λ y. y ∷ drop (i + 1) xs)
 pub all_append : {X : Type 0} (P : X → Type 0) (xs ys : List X) → AllByRecursion P xs → AllByRecursion P ys → AllByRecursion P (xs ++ ys)
 all_append P [] ys h g = g
 all_append P (x ∷ xs) ys h g = (h.0, all_append P xs ys h.1 g)
+
+pub no_bytes : (b : List ℕ) → length b ≡ 0 → b ≡ []
+no_bytes [] h = refl
+no_bytes (x ∷ b) h = absurd (omega (arith, h))

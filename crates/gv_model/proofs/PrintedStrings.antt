@@ -111,7 +111,7 @@ high_pieces of_bytes quote (c ∷ cs) m h =
     (as_it_is of_bytes quote c (ne_eqb c quote (λ e. omega (arith, e, l, g))) (omega (arith, g)) (ne_eqb c 92 (λ e. omega (arith, e, g))))
     (high_pieces of_bytes quote cs m h.1)
 
-pick_list : (P : List ℕ → Type 0) (b : Bool) (x y : List ℕ) → (b ≡ true → P x) → (b ≡ false → P y) → P (cond b x y)
+pub pick_list : (P : List ℕ → Type 0) (b : Bool) (x y : List ℕ) → (b ≡ true → P x) → (b ≡ false → P y) → P (cond b x y)
 pick_list P true x y h g = h refl
 pick_list P false x y h g = g refl
 

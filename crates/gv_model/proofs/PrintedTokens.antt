@@ -1,24 +1,22 @@
 -- A printed value's text is read as the tokens of its syntax.
 use Rattle.std.proofs.Common.{◌≡◌, ◌<◌, ℕ, Bool, true, false, cond, List, [], ◌∷◌, ◌++◌, Option, Some, None, refl, sym, subst, arith, append_assoc}
-use mathlib.Core.Logic.{⊎_elim}
-use Rattle.std.specs.Prelude.{codes, ◌==◌, ◌&&◌, not, option_map, nat_le}
+use Rattle.std.specs.Prelude.{codes, ◌==◌, ◌&&◌, option_map}
 use Rattle.std.specs.List.{AllByRecursion}
 use Rattle.std.specs.Str.{IsUtf8, IsAscii}
 use Rattle.std.proofs.lemmas.Option.{none-some, same_Some}
-use Rattle.std.proofs.lemmas.Bool.{false≢true, and_parts, or_cases, eqb-true, eqb-false, leb-true}
+use Rattle.std.proofs.lemmas.Bool.{false≢true, and_parts, eqb-false}
 use Rattle.std.proofs.lemmas.Str.{IsUtf8-from_is_utf8, IsUtf8-from_ascii, IsAscii-append}
-use Rattle.std.proofs.lemmas.Str.Ascii.{IsAscii-cons, IsAscii-nil}
-use Rattle.gv_model.specs.Ty.{Ty, Types, Basic, spelling, spellings, letter}
+use Rattle.std.proofs.lemmas.Str.Ascii.{IsAscii-nil}
+use Rattle.gv_model.specs.Ty.{Ty, Basic, spelling}
 use Rattle.gv_model.specs.Ty.Ty.{basic, variant, array, maybe, tuple, entry}
-use Rattle.gv_model.specs.Ty.Types.{end, member}
-use Rattle.gv_model.specs.Ty.Basic.{boolean, byte, int16, uint16, int32, uint32, int64, uint64, handle, double, string, path, signature}
+use Rattle.gv_model.specs.Ty.Basic.{boolean, byte, int32, double, string, path, signature}
 use Rattle.gv_model.specs.Tree.{Tree, Trees, type_of}
 use Rattle.gv_model.specs.Tree.Tree.{number, text, node}
 use Rattle.gv_model.specs.Tree.Trees.{none as no_tree, first as first_tree}
 use Rattle.gv_model.specs.TypeText.{Seen, seen}
 use Rattle.gv_model.specs.TypeText.Seen.{nothing as nothing_seen, type}
 use Rattle.gv_model.specs.BasicValue.{text_in}
-use Rattle.gv_model.specs.Texts.{is_text, is_object_path, are_parts, is_part_byte, are_types}
+use Rattle.gv_model.specs.Texts.{is_text, are_types}
 use Rattle.gv_model.specs.Typed.{AllOf, MayHold}
 use Rattle.gv_model.specs.Admits.{IsTextType}
 use Rattle.gv_model.specs.Quoted.{between, quoted as quoted_text}
@@ -31,6 +29,8 @@ use Rattle.gv_model.specs.Syntax.{Syntax, Syntaxes}
 use Rattle.gv_model.specs.Syntax.Syntax.{quoted, list, tuple_of, lone, nothing, at_type}
 use Rattle.gv_model.specs.Syntax.Syntaxes.{none, first}
 use Rattle.gv_model.specs.Grammar.{tokens_of, commas, pairs_tokens}
+use Rattle.gv_model.proofs.LowBytes.{path_ascii}
+use Rattle.gv_model.proofs.TypeTextParts.{spelling_is_ascii}
 use Rattle.gv_model.proofs.TypeTextSound.{Shows, seen_shows}
 use Rattle.gv_model.proofs.PrintedSyntax.{marked, with_word, figures_syntax, pairs_from, bytes_or_list, list_syntax, with_just, entry_syntax, syntax_of, syntaxes_of, Printable, ArePrintable}
 use Rattle.gv_model.proofs.LimitedTypes.{IsLimited}
@@ -42,70 +42,10 @@ use Rattle.gv_model.proofs.PrintedStrings.{quoted_free, byte_string_free, AllByt
 
 -- ---- the texts of strings, paths and signatures are UTF-8
 
-in_range_low : (a b c : ℕ) → b < 128 → (nat_le a c && nat_le c b) ≡ true → c < 128
-in_range_low a b c l e = let h = leb-true c b (and_parts (nat_le a c) (nat_le c b) e).1 in omega (arith, h, l)
-
-part_low : (c : ℕ) → is_part_byte c ≡ true → c < 128
-part_low c e =
-    ⊎_elim
-    (λ f. ⊎_elim (λ g. ⊎_elim (in_range_low 65 90 c (omega arith)) (in_range_low 97 122 c (omega arith)) (or_cases _ _ g)) (in_range_low 48 57 c (omega arith)) (or_cases _ _ f))
-    (λ h. let z = eqb-true c 95 h in omega (arith, z))
-    (or_cases _ _ e)
-
-parts_ascii : (at_slash : Bool) (s : List ℕ) → are_parts at_slash s ≡ true → IsAscii s
-unfolding are_parts
-parts_ascii at_slash [] e = IsAscii-nil
-parts_ascii at_slash (c ∷ cs) e = go (c == 47) refl e (parts_ascii true cs) (parts_ascii false cs)
-  where
-    go : (b : Bool) → (c == 47) ≡ b → cond b (not at_slash && are_parts true cs) (is_part_byte c && are_parts false cs) ≡ true
-        → (are_parts true cs ≡ true → IsAscii cs) → (are_parts false cs ≡ true → IsAscii cs) → IsAscii (c ∷ cs)
-    go true q h f g = let z = eqb-true c 47 q in IsAscii-cons c cs (omega (arith, z)) (f (and_parts (not at_slash) (are_parts true cs) h).1)
-    go false q h f g = let p = and_parts (is_part_byte c) (are_parts false cs) h in IsAscii-cons c cs (part_low c p.0) (g p.1)
-
-path_ascii : (s : List ℕ) → is_object_path s ≡ true → IsAscii s
-path_ascii [] e = absurd (false≢true e)
-path_ascii (c ∷ []) e = let z = eqb-true c 47 e in IsAscii-cons c [] (omega (arith, z)) IsAscii-nil
-path_ascii (c ∷ d ∷ cs) e =
-    let p = and_parts (c == 47) (are_parts true (d ∷ cs)) e in
-    let z = eqb-true c 47 p.0 in
-    IsAscii-cons c (d ∷ cs) (omega (arith, z)) (parts_ascii true (d ∷ cs) p.1)
-
-letter_low : (k : Basic) → letter k < 128
-letter_low boolean = omega arith
-letter_low byte = omega arith
-letter_low int16 = omega arith
-letter_low uint16 = omega arith
-letter_low int32 = omega arith
-letter_low uint32 = omega arith
-letter_low int64 = omega arith
-letter_low uint64 = omega arith
-letter_low handle = omega arith
-letter_low double = omega arith
-letter_low string = omega arith
-letter_low path = omega arith
-letter_low signature = omega arith
-
-mutual
-  unfolding spelling
-
-  spelling_ascii : (t : Ty) → IsAscii (spelling t)
-  spelling_ascii (basic k) = IsAscii-cons (letter k) [] (letter_low k) IsAscii-nil
-  spelling_ascii variant = IsAscii-cons 118 [] (omega arith) IsAscii-nil
-  spelling_ascii (array t) = IsAscii-cons 97 (spelling t) (omega arith) (spelling_ascii t)
-  spelling_ascii (maybe t) = IsAscii-cons 109 (spelling t) (omega arith) (spelling_ascii t)
-  spelling_ascii (tuple ts) = IsAscii-cons 40 (spellings ts ++ 41 ∷ []) (omega arith) (IsAscii-append (spellings ts) (41 ∷ []) (spellings_ascii ts) (IsAscii-cons 41 [] (omega arith) IsAscii-nil))
-  spelling_ascii (entry k t) =
-      IsAscii-cons 123 (letter k ∷ (spelling t ++ 125 ∷ [])) (omega arith)
-      (IsAscii-cons (letter k) (spelling t ++ 125 ∷ []) (letter_low k) (IsAscii-append (spelling t) (125 ∷ []) (spelling_ascii t) (IsAscii-cons 125 [] (omega arith) IsAscii-nil)))
-
-  spellings_ascii : (ts : Types) → IsAscii (spellings ts)
-  spellings_ascii end = IsAscii-nil
-  spellings_ascii (member t ts) = IsAscii-append (spelling t) (spellings ts) (spelling_ascii t) (spellings_ascii ts)
-
 shown_ascii : (s : Seen) (w : List ℕ) → are_types s ≡ true → Shows s w → IsAscii w
 shown_ascii nothing_seen w e h = subst IsAscii (sym h) IsAscii-nil
 shown_ascii (type t s) w e h =
-    subst IsAscii (sym h.1) (IsAscii-append (spelling t) h.0 (spelling_ascii t) (shown_ascii s h.0 (and_parts _ (are_types s) e).1 h.2))
+    subst IsAscii (sym h.1) (IsAscii-append (spelling t) h.0 (spelling_is_ascii t) (shown_ascii s h.0 (and_parts _ (are_types s) e).1 h.2))
 shown_ascii _ w e h = absurd (false≢true e)
 
 -- ---- brackets

@@ -29,7 +29,7 @@ two_faults text ts (Some f) e d h g = h ∙ sym g
 two_faults text ts None e d h g =
     h.2 ∙ (ap (λ (f : NumberedFault). fault_at (length text) f.0 (slice_get ts f.1)) (same_Some h.0 g.0 (sym h.1 ∙ g.1)) ∙ sym g.2)
 
-tree_no_fault : (text : List ℕ) (x : Syntax) (e : Fault) → IsTree text x → HasFault text e → ⊥
+pub tree_no_fault : (text : List ℕ) (x : Syntax) (e : Fault) → IsTree text x → HasFault text e → ⊥
 tree_no_fault text x e h g = go g.stopped one.1 (subst (λ (ts : List Placed). IsParseFault text ts g.stopped e) (sym one.0) g.fault)
   where
     one : (h.placed ≡ g.placed) × (None ≡ g.stopped)

@@ -1,5 +1,5 @@
 -- Whatever bytes are read, the value is of the type at which they are read.
-use Rattle.std.proofs.Common.{ℕ, zero, suc, ◌+◌, ◌-◌, ◌*◌, ◌^◌, ◌<◌, ◌≡◌, List, [], ◌∷◌, length, take, drop, Option, Some, None, refl, sym, ap, ap₂, ◌∙◌, subst, arith, Bool, true, false, cond, ◌==◌, eqb-true}
+use Rattle.std.proofs.Common.{ℕ, zero, suc, ◌+◌, ◌-◌, ◌*◌, ◌^◌, ◌<◌, ◌≡◌, List, [], ◌∷◌, length, take, drop, Option, Some, None, refl, sym, ap, ap₂, ◌∙◌, subst, arith, Bool, true, false, cond, ◌==◌, eqb-true, ne_eqb}
 use Rattle.std.specs.Prelude.{option_map}
 use Rattle.std.specs.List.{AllByRecursion}
 use Rattle.std.proofs.Math.Nat.{pow-succ'}
@@ -15,7 +15,7 @@ use Rattle.gv_model.specs.Tree.{Tree, Trees, type_of, default, defaults, basic_d
 use Rattle.gv_model.specs.Tree.Trees.{none, first}
 use Rattle.gv_model.specs.Tree.Tree.{number, text}
 use Rattle.gv_model.specs.Typed.{IsValue, AreValues, MayHold, AllOf, types_of, IsNumber, HasType}
-use Rattle.gv_model.specs.Texts.{is_text}
+use Rattle.gv_model.specs.Texts.{is_text, has_zero_byte}
 use Rattle.gv_model.specs.BasicValue.{basic_value, basic_of_size, text_or_default, text_in, number_in, bits_of, truth}
 use Rattle.gv_model.specs.Children.{Child, Span, child_bytes, children_at, ordered}
 use Rattle.gv_model.specs.Arrays.{element_spans}
@@ -124,6 +124,12 @@ sized_value k size b fits = go (length b == size) refl
 
 below_size : (b : List ℕ) (size : ℕ) → IsBytes b → length b ≡ size → number_in b < 256 ^ size
 below_size b size h e = subst (λ (n : ℕ). number_in b < 256 ^ n) e (bound_in b h)
+
+-- a text without a zero byte
+pub no_zero : (s : List ℕ) → has_zero_byte s ≡ false → AllByRecursion (λ c. 0 < c) s
+no_zero [] h = tt
+no_zero (zero ∷ s) h = absurd cc
+no_zero (suc c ∷ s) h = (omega arith, no_zero s (rw (ne_eqb (suc c) 0 (omega arith)) at h))
 
 no_zero_in : (b s : List ℕ) → text_in b ≡ Some s → AllByRecursion (λ c. 0 < c) s
 unfolding text_in

@@ -56,3 +56,11 @@ tokens_bytes (t ∷ ts) = least_bytes t + tokens_bytes ts
 
 abbrev pub text_bytes : Syntax → ℕ
 text_bytes x = tokens_bytes (tokens_of x)
+
+abbrev pub syntaxes_bytes : Syntaxes → ℕ
+syntaxes_bytes none = 0
+syntaxes_bytes (first x xs) = text_bytes x + syntaxes_bytes xs
+
+abbrev pub pairs_bytes : Pairs → ℕ
+pairs_bytes no_pair = 0
+pairs_bytes (pair k v ps) = (text_bytes k + text_bytes v) + pairs_bytes ps

@@ -78,7 +78,3 @@ short_part b n w h = omega (arith, length-take (n - (n - w)) (drop (n - w) b))
 
 pub short_from : (b : List ℕ) (n w : ℕ) → w ≤ 8 → length (take (n + w - n) (drop n b)) ≤ 8
 short_from b n w h = omega (arith, length-take (n + w - n) (drop n b))
-
-pub no_bytes : (b : List ℕ) → length b ≡ 0 → b ≡ []
-no_bytes [] h = refl
-no_bytes (x ∷ b) h = absurd (omega (arith, h))

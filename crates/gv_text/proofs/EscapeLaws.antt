@@ -4,6 +4,7 @@ use Rattle.std.proofs.lemmas.Bool.{ne_eqb}
 use Rattle.gv_model.specs.Characters.{is_quote, is_digit_of, prefix_of}
 use Rattle.gv_model.specs.Strings.{StringStep, part, escape, escape_in, at_most, with_prefix, string_from}
 use Rattle.gv_model.specs.Strings.StringStep.{denotes}
+use Rattle.gv_model.proofs.LowBytes.{digit_is_low}
 use Rattle.gv_text.specs.LexSteps.{BeginsWithPart, TakesFrom}
 use Rattle.gv_text.proofs.Lists.{split_first}
 use Rattle.gv_text.proofs.QuotedLaws.{begins_with_part, with_no_prefix}
@@ -78,10 +79,6 @@ digit_there f (suc n) (c ∷ cs) i l = step (f c) refl i l (digit_there f n cs)
     step true e zero l later = e
     step true e (suc j) l later = let m = rw e at l in later j (omega (arith, m))
     step false e i l later = let m = rw e at l in absurd (omega (arith, m))
-
--- a digit is ASCII
-pub digit_is_low : (base c : ℕ) → base ≤ 16 → is_digit_of base c ≡ true → c < 128
-digit_is_low base c h e = grind arith
 
 -- the last byte of an escape by a number
 pub last_digit_low : (wanted x : ℕ) (s : List ℕ) (n : ℕ) → 0 < n → n ≡ length (prefix_of (is_digit_of 16) (at_most wanted s)) → get_or (92 ∷ x ∷ s) (2 + n - 1) 0 < 128

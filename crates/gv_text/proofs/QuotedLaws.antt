@@ -12,6 +12,7 @@ use Rattle.gv_model.specs.Characters.{prefix_of, is_quote}
 use Rattle.gv_model.specs.Strings.{StringStep, part, string_from, with_part, with_prefix, bytes_after}
 use Rattle.gv_model.specs.Strings.StringStep.{denotes, closes, faulty}
 use Rattle.gv_model.proofs.TokenSizes.{prefix_short}
+use Rattle.gv_model.proofs.LowBytes.{quote_is_low}
 use Rattle.gv_text.specs.ByteClasses.{is_of}
 use Rattle.gv_text.specs.declared.lexing.bytes.ByteClass.TheVariants.{Plain}
 use Rattle.gv_text.specs.LexSteps.{quoted_at, size_of, TakesFrom, EndsInAscii, BeginsWithPart}
@@ -142,9 +143,6 @@ special_is_low q c l e = by_size (c - 127) refl
     by_size : (n : ℕ) → c - 127 ≡ n → c < 128
     by_size zero z = omega arith
     by_size (suc n) z = absurd (true≢false (sym (high_is_plain (omega arith)) ∙ e))
-
-pub quote_is_low : (q : ℕ) → is_quote q ≡ true → q < 128
-quote_is_low q e = grind arith
 
 pub special_there : (text : List ℕ) (q at : ℕ) → is_quote q ≡ true → at ≤ length text → at + length (prefix q (drop at text)) < length text → get_or text (at + length (prefix q (drop at text))) 0 < 128
 special_there text q at quote l more =

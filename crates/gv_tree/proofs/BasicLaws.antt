@@ -1,6 +1,5 @@
 -- Basic values: their types' texts, their bits, and which texts they may be.
-use Rattle.std.proofs.Common.{ℕ, zero, suc, ◌-◌, ◌^◌, min, ap₂, w64, ◌<◌, ◌≡◌, List, [], ◌∷◌, length, Option, Some, None, true, false, refl, sym, ap, ◌∙◌, arith, subst, ne_eqb}
-use Rattle.std.specs.List.{AllByRecursion}
+use Rattle.std.proofs.Common.{ℕ, ◌-◌, ◌^◌, min, ap₂, w64, ◌<◌, ◌≡◌, List, [], ◌∷◌, length, Option, Some, None, true, false, refl, sym, ap, ◌∙◌, arith, subst}
 use Rattle.std.specs.Option.{option_eq}
 use Rattle.std.proofs.Math.Dec.{eqb}
 use Rattle.std.proofs.lemmas.Bool.{eqb-true}
@@ -18,6 +17,7 @@ use Rattle.gv_tree.specs.declared.tree.Node.TheVariants as node_of
 use Rattle.gv_model.specs.BasicValue.{number_in}
 use Rattle.gv_model.proofs.TypeTextLaws.{one_spelling}
 use Rattle.gv_model.proofs.Prefixes.{basic_parts}
+use Rattle.gv_model.proofs.WellTyped.{no_zero}
 use Rattle.std.specs.Int.{from_le_bytes}
 use Rattle.std.proofs.lemmas.Option.{same_Some}
 use Rattle.gv_tree.specs.Basics.{basic_tree, BitsAre, TextIs}
@@ -26,11 +26,6 @@ use Rattle.gv_tree.specs.Wholes.{IsWhole}
 use Rattle.gv_tree.specs.Faults.{IsBasicTextFault}
 use Rattle.gv_tree.specs.declared.fault.TreeFault.{TreeFault}
 use Rattle.gv_tree.specs.declared.fault.TreeFault.TheVariants.{HasNul}
-
-no_zero : (s : List ℕ) → has_zero_byte s ≡ false → AllByRecursion (λ c. 0 < c) s
-no_zero [] h = tt
-no_zero (zero ∷ s) h = absurd cc
-no_zero (suc c ∷ s) h = (omega arith, no_zero s (rw (ne_eqb (suc c) 0 (omega arith)) at h))
 
 -- a text without a zero byte that its type allows
 pub text_value : (k : Basic) (s : List ℕ) → basic_size k ≡ None → has_zero_byte s ≡ false → is_text k s ≡ true → IsTextOf k s

@@ -1,5 +1,5 @@
 -- Object paths and signatures are ASCII, and so UTF-8.
-use Rattle.std.proofs.Common.{◌≡◌, ◌<◌, ℕ, Bool, true, false, cond, ◌==◌, ◌&&◌, not, List, [], ◌∷◌, refl, arith, eqb-true}
+use Rattle.std.proofs.Common.{◌≡◌, ◌<◌, ℕ, Bool, true, false, ◌==◌, not, List, [], ◌∷◌, refl, arith}
 use Rattle.std.specs.List.{list_any}
 use Rattle.std.specs.Str.{is_utf8, IsAscii}
 use Rattle.std.proofs.lemmas.Bool.{and_parts, false≢true}
@@ -10,7 +10,8 @@ use Rattle.gv_model.specs.Ty.Ty.{basic, tuple}
 use Rattle.gv_model.specs.TypeText.{TypeMark, mark, Seen, seen, mark_before, array_before, maybe_before, entry_before, member_before, tuple_type_before, is_within_limits}
 use Rattle.gv_model.specs.TypeText.TypeMark.{letter, of_variant, of_array, of_maybe, open_tuple, close_tuple, open_entry, close_entry, other}
 use Rattle.gv_model.specs.TypeText.Seen.{nothing, type, tuple_end, entry_end, wrong}
-use Rattle.gv_model.specs.Texts.{is_part_byte, are_parts, is_object_path, are_types, is_signature}
+use Rattle.gv_model.specs.Texts.{is_object_path, are_types, is_signature}
+use Rattle.gv_model.proofs.LowBytes.{path_ascii}
 use Rattle.gv_model.proofs.TypeTextParts.{spelling_is_ascii}
 use Rattle.gv_model.proofs.TypeTextSound.{byte_of_mark, IsByteOf}
 
@@ -19,36 +20,8 @@ ascii_is_utf8 s h = is_utf8-from_IsUtf8 s (IsUtf8-from_ascii s h)
 
 -- ---- object paths
 
-part_byte_low : (c : ℕ) → is_part_byte c ≡ true → c < 128
-part_byte_low c h = grind arith
-
-part_ascii : (at_slash : Bool) (c : ℕ) (cs : List ℕ) → ((b : Bool) → are_parts b cs ≡ true → IsAscii cs)
-    → cond (c == 47) (not at_slash && are_parts true cs) (is_part_byte c && are_parts false cs) ≡ true → IsAscii (c ∷ cs)
-part_ascii at_slash c cs rest h = go (c == 47) refl h
-  where
-    go : (b : Bool) → (c == 47) ≡ b → cond b (not at_slash && are_parts true cs) (is_part_byte c && are_parts false cs) ≡ true → IsAscii (c ∷ cs)
-    go true e k =
-        let slash = eqb-true c 47 e in
-        IsAscii-cons c cs (omega arith) (rest true (and_parts (not at_slash) (are_parts true cs) k).1)
-    go false e k =
-        let parts = and_parts (is_part_byte c) (are_parts false cs) k in
-        IsAscii-cons c cs (part_byte_low c parts.0) (rest false parts.1)
-
-are_parts-ascii : (at_slash : Bool) (s : List ℕ) → are_parts at_slash s ≡ true → IsAscii s
-unfolding are_parts
-are_parts-ascii at_slash [] h = IsAscii-nil
-are_parts-ascii at_slash (c ∷ cs) h = part_ascii at_slash c cs (λ b. are_parts-ascii b cs) h
-
-path_is_ascii : (s : List ℕ) → is_object_path s ≡ true → IsAscii s
-path_is_ascii [] h = absurd (false≢true h)
-path_is_ascii (c ∷ []) h = let slash = eqb-true c 47 h in IsAscii-cons c [] (omega arith) IsAscii-nil
-path_is_ascii (c ∷ d ∷ cs) h =
-    let parts = and_parts (c == 47) (are_parts true (d ∷ cs)) h in
-    let slash = eqb-true c 47 parts.0 in
-    IsAscii-cons c (d ∷ cs) (omega arith) (are_parts-ascii true (d ∷ cs) parts.1)
-
 pub path_is_utf8 : (s : List ℕ) → is_object_path s ≡ true → is_utf8 s ≡ true
-path_is_utf8 s h = ascii_is_utf8 s (path_is_ascii s h)
+path_is_utf8 s h = ascii_is_utf8 s (path_ascii s h)
 
 -- ---- signatures
 

@@ -21,7 +21,8 @@ use Rattle.gv_model.specs.Laws.{most_values}
 use Rattle.gv_normal.specs.Tables.{member_place, offset_number}
 use Rattle.gv_model.specs.Tree.{nodes}
 use Rattle.gv_model.specs.Decode.{decode}
-use Rattle.gv_normal.proofs.Pieces.{are_bytes, length-piece, short_from, no_bytes}
+use Rattle.gv_model.proofs.ListLaws.{no_bytes}
+use Rattle.gv_normal.proofs.Pieces.{are_bytes, length-piece, short_from}
 use Rattle.gv_normal.proofs.PartSteps.{begins_behind}
 use Rattle.gv_normal.proofs.PackedParts.{some_level, normal_size}
 use Rattle.gv_normal.proofs.FixedMembers.{never, told, if_some}

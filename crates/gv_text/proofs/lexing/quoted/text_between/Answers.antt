@@ -4,7 +4,8 @@ use Rattle.std.proofs.lemmas.List.{take_rest}
 use Rattle.gv_model.specs.Strings.StringStep.{faulty}
 use Rattle.gv_text.specs.LexSteps.{char_bytes}
 use Rattle.gv_text.specs.ModelTokens.{cause_of}
-use Rattle.gv_text.proofs.QuotedLaws.{SoFar, at_quote, quote_is_low, plain_more, at_special, rest_is_special, after_part, part_end_cuts, at_close, at_part, at_end}
+use Rattle.gv_model.proofs.LowBytes.{quote_is_low}
+use Rattle.gv_text.proofs.QuotedLaws.{SoFar, at_quote, plain_more, at_special, rest_is_special, after_part, part_end_cuts, at_close, at_part, at_end}
 use Rattle.gv_text.proofs.lexing.quoted.text_between.Goals as goal
 
 pub loop-string-init : goal.loop-string-init

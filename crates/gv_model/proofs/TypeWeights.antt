@@ -1,6 +1,7 @@
--- How long the text of the least type of a syntax is: no longer than four times what the syntax takes in a text.
-use Rattle.std.proofs.Common.{ℕ, suc, ◌+◌, ◌*◌, ◌≤◌, [], ◌∷◌, length, arith, length-append}
-use Rattle.gv_model.specs.Ty.{Ty, Types, Basic, spelling, spellings}
+-- How long the text of the least type of a syntax is: no longer than four times what the syntax
+-- takes in a text.
+use Rattle.std.proofs.Common.{◌≡◌, ℕ, suc, ◌+◌, ◌*◌, ◌≤◌, Bool, true, false, cond, List, [], ◌∷◌, ◌++◌, length, nat_le, arith, length-append, leb-true, subst, refl, ap}
+use Rattle.gv_model.specs.Ty.{Ty, Types, Basic, spelling, spellings, nesting}
 use Rattle.gv_model.specs.Ty.Ty.{basic, variant, array, maybe, tuple, entry}
 use Rattle.gv_model.specs.Ty.Types.{end, member}
 use Rattle.gv_model.specs.Syntax.{Syntax, Syntaxes, Pairs}
@@ -15,9 +16,60 @@ use Rattle.gv_model.specs.Patterns.Patterns.{stop, next}
 use Rattle.gv_model.specs.LeastTypes.{Least, Leasts, least_with, least_basics, least_entry, least_tuple, least_member, least_in, least_bare, leasts_in}
 use Rattle.gv_model.specs.LeastTypes.Least.{nowhere, least, many}
 use Rattle.gv_model.specs.LeastTypes.Leasts.{nowhere_each, least_each, many_each}
-use Rattle.gv_model.specs.Grammar.{text_bytes, tokens_bytes, tokens_of}
-use Rattle.gv_infer.specs.Typings.{syntaxes_bytes, pairs_bytes}
-use Rattle.gv_infer.proofs.TextBytes.{list_bytes, tuple_bytes, dictionary_bytes, entry_bytes}
+use Rattle.gv_model.specs.LeastTypes.{choice, choice_from}
+use Rattle.gv_model.specs.Chosen.{Choice}
+use Rattle.gv_model.specs.Chosen.Choice.{is, no_common_type, ambiguous}
+use Rattle.gv_model.specs.TypeText.{IsWithinLimits}
+use Rattle.gv_model.specs.Tokens.{Token}
+use Rattle.gv_model.specs.Tokens.Mark.{close_tuple, close_list, close_brace, close_box, comma, colon}
+use Rattle.gv_model.specs.Tokens.Token.{mark}
+use Rattle.gv_model.specs.Grammar.{text_bytes, syntaxes_bytes, pairs_bytes, tokens_bytes, tokens_of, commas, members_tokens, pairs_tokens}
+use Rattle.gv_model.proofs.TypeTextLaws.{within_limits}
+
+-- ---- the bytes that the parts of a syntax take in a text at least
+
+bytes_append : (s t : List Token) → tokens_bytes (s ++ t) ≡ tokens_bytes s + tokens_bytes t
+unfolding tokens_bytes
+bytes_append [] t = omega arith
+bytes_append (x ∷ s) t = omega (arith, bytes_append s t)
+
+commas_bytes : (xs : Syntaxes) → syntaxes_bytes xs ≤ tokens_bytes (commas xs)
+unfolding tokens_bytes tokens_of
+commas_bytes none = omega arith
+commas_bytes (first x none) = omega arith
+commas_bytes (first x (first y xs)) = omega (arith, bytes_append (tokens_of x) (mark comma ∷ commas (first y xs)), commas_bytes (first y xs))
+
+members_bytes : (xs : Syntaxes) → syntaxes_bytes xs ≤ tokens_bytes (members_tokens xs)
+unfolding tokens_bytes tokens_of
+members_bytes none = omega arith
+members_bytes (first x none) = omega (arith, bytes_append (tokens_of x) (mark comma ∷ []))
+members_bytes (first x (first y xs)) = omega (arith, bytes_append (tokens_of x) (mark comma ∷ commas (first y xs)), commas_bytes (first y xs))
+
+all_pairs_bytes : (ps : Pairs) → pairs_bytes ps ≤ tokens_bytes (pairs_tokens ps)
+unfolding tokens_bytes tokens_of
+all_pairs_bytes no_pair = omega arith
+all_pairs_bytes (pair k v no_pair) = omega (arith, bytes_append (tokens_of k) (mark colon ∷ tokens_of v))
+all_pairs_bytes (pair k v (pair j w ps)) = omega (arith, bytes_append (tokens_of k) (mark colon ∷ (tokens_of v ++ mark comma ∷ pairs_tokens (pair j w ps))), bytes_append (tokens_of v) (mark comma ∷ pairs_tokens (pair j w ps)), all_pairs_bytes (pair j w ps))
+
+pub list_bytes : (xs : Syntaxes) → syntaxes_bytes xs + 2 ≤ text_bytes (list xs)
+unfolding tokens_bytes tokens_of
+list_bytes xs = omega (arith, commas_bytes xs, bytes_append (commas xs) (mark close_list ∷ []))
+
+pub tuple_bytes : (xs : Syntaxes) → syntaxes_bytes xs + 2 ≤ text_bytes (tuple_of xs)
+unfolding tokens_bytes tokens_of
+tuple_bytes xs = omega (arith, members_bytes xs, bytes_append (members_tokens xs) (mark close_tuple ∷ []))
+
+pub dictionary_bytes : (ps : Pairs) → pairs_bytes ps + 2 ≤ text_bytes (dictionary ps)
+unfolding tokens_bytes tokens_of
+dictionary_bytes ps = omega (arith, all_pairs_bytes ps, bytes_append (pairs_tokens ps) (mark close_brace ∷ []))
+
+pub entry_bytes : (k v : Syntax) → text_bytes k + text_bytes v + 2 ≤ text_bytes (lone k v)
+unfolding tokens_bytes tokens_of
+entry_bytes k v = omega (arith, bytes_append (tokens_of k) (mark comma ∷ (tokens_of v ++ mark close_brace ∷ [])), bytes_append (tokens_of v) (mark close_brace ∷ []))
+
+pub box_bytes : (x : Syntax) → text_bytes x ≤ text_bytes (boxed x)
+unfolding tokens_bytes tokens_of
+box_bytes x = omega (arith, bytes_append (tokens_of x) (mark close_box ∷ []))
 
 -- the bytes that the text of a pattern's least type takes at most
 unfoldable mutual
@@ -256,3 +308,34 @@ short_by (many t) n m h g = omega (arith, h, g)
 -- the least type of a syntax within the limit has a text within the limit
 pub short_choice : (x : Syntax) → text_bytes x ≤ 16777216 → Short (least_in (pattern x)) 67108864
 short_choice x h = short_by (least_in (pattern x)) (weight (pattern x)) 67108864 (omega (arith, pattern_weight x, h)) (short_least (pattern x))
+
+-- ---- the chosen type is within the limits
+
+pub no_type_is : (t : Ty) → no_common_type ≡ is t → ⊥
+no_type_is t e = absurd cc
+
+pub no_clear_is : (t : Ty) → ambiguous ≡ is t → ⊥
+no_clear_is t e = absurd cc
+
+abbrev type_or : Ty → Choice → Ty
+type_or t (is u) = u
+type_or t other = t
+
+pub choice_within : (x : Syntax) (t : Ty) → text_bytes x ≤ 16777216 → choice x ≡ is t → IsWithinLimits t
+unfolding choice
+choice_within x t h e = by_least (least_in (pattern x)) (short_choice x h) e
+  where
+    shallow : (u : Ty) (b : Bool) → nat_le (nesting u) 128 ≡ b → length (spelling u) ≤ 67108864 → cond b (is u) no_common_type ≡ is t → IsWithinLimits t
+    shallow u true f short same =
+        let one : u ≡ t = ap (type_or u) same in
+        subst IsWithinLimits one (within_limits u (spelling u) (leb-true (nesting u) 128 f) short)
+    shallow u false f short same = absurd (no_type_is t same)
+
+    unclear : (u : Ty) (b : Bool) → cond b ambiguous no_common_type ≡ is t → ⊥
+    unclear u true same = no_clear_is t same
+    unclear u false same = no_type_is t same
+
+    by_least : (l : Least) → Short l 67108864 → choice_from l ≡ is t → IsWithinLimits t
+    by_least nowhere short same = absurd (no_type_is t same)
+    by_least (least u) short same = shallow u (nat_le (nesting u) 128) refl short same
+    by_least (many u) short same = absurd (unclear u (nat_le (nesting u) 128) same)
