@@ -14,6 +14,7 @@ mod fault;
 mod least;
 mod literal;
 mod pattern;
+mod plain;
 mod printed;
 mod read;
 mod read_fault;

@@ -1,16 +1,21 @@
 //! Reading a text: its syntax, the type of that, and the value at this type.
-ghost use Rattle.std.specs.Prelude.{◌≤◌, ℕ, List, Ok, length, IfOk, IfErr};
+ghost use Rattle.std.specs.Prelude.{◌≡◌, ◌≤◌, ℕ, List, Ok, length, IfOk, IfErr};
+ghost use Rattle.gv_model.specs.Chosen.{Choice.is};
+ghost use Rattle.gv_model.specs.LeastTypes.{choice};
 ghost use Rattle.gv_model.specs.Parsing.{IsTree};
+ghost use Rattle.gv_types.specs.TypeStr.{ty};
 ghost use Rattle.gv_text.specs.Parsed.{IsWithin};
 ghost use Rattle.gv_infer.specs.Reads.{Reads, IsReadFault};
 
 use crate::build::build;
 use crate::contents::check_contents;
+use crate::plain::plain_type;
 use crate::read_fault::ReadFault;
 use crate::typing::type_of_root;
 use crate::value_fault::ValueFault;
 use gv_text::{SyntaxNode, parse};
 use gv_tree::Tree;
+use gv_types::TypeStr;
 use std::alloc::Global;
 
 /// The value of a text of at most 16 MiB, by its own type.
@@ -38,8 +43,21 @@ fn value_of(alloc: Global, root: &SyntaxNode) -> Result<Tree, ReadFault>
     ensures value { (text : List ℕ) → IsTree text root.now → IfOk result (λ v. Reads text (Ok v)) }
     ensures fault { (text : List ℕ) → IsTree text root.now → IfErr result (IsReadFault text) }
 {
+    if let Some(of) = plain_type(root) {
+        return value_at_own(alloc, root, of);
+    }
     let of = type_of_root(alloc, root)?;
-    match build(alloc, root, of.as_type()) {
+    value_at_own(alloc, root, of.as_type())
+}
+
+/// The value of a text, whose syntax that is, at its own type.
+fn value_at_own(alloc: Global, root: &SyntaxNode, of: TypeStr<'_>) -> Result<Tree, ReadFault>
+    requires within { IsWithin root.now }
+    requires own { choice root.now ≡ is (ty of) }
+    ensures value { (text : List ℕ) → IsTree text root.now → IfOk result (λ v. Reads text (Ok v)) }
+    ensures fault { (text : List ℕ) → IsTree text root.now → IfErr result (IsReadFault text) }
+{
+    match build(alloc, root, of) {
         Ok(built) => built.ok_or(ReadFault::Value(ValueFault::TooDeep)),
         Err(fault) => {
             check_contents(alloc, root)?;

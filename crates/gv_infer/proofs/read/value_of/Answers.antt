@@ -1,39 +1,10 @@
-use Rattle.std.proofs.Common.{Ok, Err, IfOk, IfErr, sym, subst}
-use Rattle.gv_model.specs.Admits.{Admits}
-use Rattle.gv_types.specs.TypeStr.{ty}
-use Rattle.gv_text.specs.TypeTexts.{type_of_owned}
-use Rattle.gv_infer.specs.Reads.{Reads, IsReadFault}
+use Rattle.std.proofs.Common.{IfErr}
+use Rattle.gv_infer.specs.Reads.{IsReadFault}
 use Rattle.gv_infer.specs.declared.read_fault.ReadFault.TheVariants.{Typing}
-use Rattle.gv_model.proofs.PatternLaws.{admits_chosen}
-use Rattle.gv_infer.proofs.ReadLaws.{stops, read_or_deep, read_literal_fault, read_content_fault}
+use Rattle.gv_infer.proofs.ReadLaws.{stops}
 use Rattle.gv_infer.proofs.read.value_of.Goals as goal
 
 pub returns-in_err-of-clause-fault : goal.returns-in_err-of-clause-fault
 returns-in_err-of-clause-fault c = λ text tree.
     stops (IsReadFault text) c.from_residual.result (Typing c.in_err-of.field-0.0)
     (record { syntax = c.args.root.now; tree = tree; fault = c.in_err-of.ensures.fault }) c.from_residual.ensures.1
-
-pub build-requires-clause-fits : goal.build-requires-clause-fits
-build-requires-clause-fits c =
-    subst (Admits c.args.root.now) (sym c.as_type.ensures) (admits_chosen c.args.root.now (type_of_owned c.in_ok-of.of) c.in_ok-of.ensures.chosen)
-
-pub returns-in-Ok-clause-value : goal.returns-in-Ok-clause-value
-returns-in-Ok-clause-value c = λ text tree.
-    subst (λ r. IfOk r (λ v. Reads text (Ok v))) (sym c.ok_or.ensures.value)
-    (read_or_deep text c.args.root.now (type_of_owned c.in_ok-of.of) (ty c.as_type.result) c.in-Ok.built tree c.in_ok-of.ensures.chosen c.as_type.ensures c.in-Ok.ensures.built).value
-
-pub returns-in-Ok-clause-fault : goal.returns-in-Ok-clause-fault
-returns-in-Ok-clause-fault c = λ text tree.
-    subst (λ r. IfErr r (IsReadFault text)) (sym c.ok_or.ensures.value)
-    (read_or_deep text c.args.root.now (type_of_owned c.in_ok-of.of) (ty c.as_type.result) c.in-Ok.built tree c.in_ok-of.ensures.chosen c.as_type.ensures c.in-Ok.ensures.built).fault
-
-pub returns-in_err-check_contents-in-Err-clause-fault : goal.returns-in_err-check_contents-in-Err-clause-fault
-returns-in_err-check_contents-in-Err-clause-fault c = λ text tree.
-    stops (IsReadFault text) c.from_residual-in_err-check_contents-in-Err.result (Typing c.in_err-check_contents-in-Err.field-0.0)
-    (read_content_fault text c.args.root.now c.in_err-check_contents-in-Err.field-0.0 tree c.in_err-check_contents-in-Err.ensures.fault)
-    c.from_residual-in_err-check_contents-in-Err.ensures.1
-
-pub returns-clause-fault : goal.returns-clause-fault
-returns-clause-fault c = λ text tree.
-    read_literal_fault text c.args.root.now (type_of_owned c.in_ok-of.of) (ty c.as_type.result) c.in-Err.fault tree c.in_ok-of.ensures.chosen c.as_type.ensures
-    c.in_ok-check_contents-in-Err.ensures.typed c.in-Err.ensures.built
