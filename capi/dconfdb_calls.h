@@ -140,11 +140,12 @@ uint32_t dconfdb_locks(const DconfdbLayer *layers, size_t n, const uint8_t *dire
                        size_t room_len, size_t *len);
 
 /* The paths of the keys that are seen otherwise through other layers: another value is seen, or one
- * where none was, or a key is locked in one alone. A value in other bytes is the same one. Each is a
- * key of one of the layers, and they come in the same form. MEMORY. Locks of what no layer has:
- * compare dconfdb_locks. */
-uint32_t dconfdb_differs(const DconfdbLayer *layers, size_t n, const DconfdbLayer *other, size_t other_n, uint8_t *room,
-                         size_t room_len, size_t *len);
+ * where none was, or a key is locked in one alone. A value in other bytes is the same one. Asked are
+ * the keys of the first `count` layers of each: where those after the first are the same, its keys
+ * are enough. They come in the same form. MEMORY. Locks of what no layer has: compare
+ * dconfdb_locks. */
+uint32_t dconfdb_differs(const DconfdbLayer *layers, size_t n, const DconfdbLayer *other, size_t other_n, size_t count,
+                         uint8_t *room, size_t room_len, size_t *len);
 
 /* The databases that a profile's text names, 64 at most. `names` is how many; where they are more
  * than the room, nothing is put into it. MEMORY, NOT_TEXT, or BAD_LINE to TOO_MANY with the line,

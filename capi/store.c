@@ -308,20 +308,24 @@ static uint32_t lists_locks(const DconfdbSnapshot *snapshot, const void *of, uin
     return dconfdb_locks(snapshot->layers, snapshot->count, of, strlen(of), room, room_len, len);
 }
 
-/* How many of the first layers may differ: those after them are the same. */
-static size_t differing_layers(const DconfdbSnapshot *one, const DconfdbSnapshot *other)
+/* Of how many first layers the keys are to be asked: of the user's alone, where the others are the
+ * same. */
+static size_t layers_to_ask(const DconfdbSnapshot *one, const DconfdbSnapshot *other)
 {
-    size_t count = one->count;
-    while (one->count == other->count && count > 0 && one->parts[count - 1] == other->parts[count - 1])
-        count--;
-    return count;
+    if (one->count != other->count)
+        return SIZE_MAX;
+    for (size_t i = 1; i < one->count; i++) {
+        if (one->parts[i] != other->parts[i])
+            return SIZE_MAX;
+    }
+    return 1;
 }
 
 static uint32_t lists_differences(const DconfdbSnapshot *snapshot, const void *of, uint8_t *room, size_t room_len, size_t *len)
 {
     const DconfdbSnapshot *other = of;
-    return dconfdb_differs(snapshot->layers, differing_layers(snapshot, other), other->layers, differing_layers(other, snapshot),
-                           room, room_len, len);
+    return dconfdb_differs(snapshot->layers, snapshot->count, other->layers, other->count, layers_to_ask(snapshot, other), room,
+                           room_len, len);
 }
 
 /* Calls with a room that mostly is enough, and else with one that is. */
@@ -360,48 +364,12 @@ char *dconfdb_snapshot_locks(const DconfdbSnapshot *snapshot, const char *direct
     return listed(lists_locks, snapshot, directory, directory, size, error);
 }
 
-static bool are_equal(DconfdbBytes one, DconfdbBytes other)
-{
-    return one.len == other.len && memcmp(one.at, other.at, one.len) == 0;
-}
-
-static bool is_seen_alike(const DconfdbSnapshot *one, const DconfdbSnapshot *other, const char *path)
-{
-    DconfdbFound found = nothing_found, also = nothing_found;
-    size_t len = strlen(path);
-    bool is = dconfdb_read(one->layers, one->count, one->is_written, bytes_of(path), len, &found);
-    return is == dconfdb_read(other->layers, other->count, other->is_written, bytes_of(path), len, &also)
-        && are_equal(found.value, also.value) && are_equal(found.type_text, also.type_text)
-        && dconfdb_snapshot_is_locked(one, path) == dconfdb_snapshot_is_locked(other, path);
-}
-
-/* Of a list's keys those that differ through all layers: one that was left out may lock a key. */
-static size_t keep_differing(const DconfdbSnapshot *one, const DconfdbSnapshot *other, char *paths)
-{
-    char *end = paths;
-    for (char *at = paths, *next; *at; at = next) {
-        next = at + strlen(at) + 1;
-        if (!is_seen_alike(one, other, at)) {
-            memmove(end, at, (size_t)(next - at));
-            end += next - at;
-        }
-    }
-    *end = 0;
-    return (size_t)(end - paths);
-}
-
 char *dconfdb_snapshot_differences(const DconfdbSnapshot *snapshot, const DconfdbSnapshot *other, size_t *size,
                                    DconfdbError *error)
 {
     static const DconfdbSnapshot nothing = {.references = 1};
     const DconfdbSnapshot *than = other ? other : &nothing;
-    char *paths = listed(lists_differences, snapshot, than, "differences", size, error);
-    if (!paths || differing_layers(snapshot, than) == snapshot->count)
-        return paths;
-    size_t kept = keep_differing(snapshot, than, paths);
-    if (size)
-        *size = kept;
-    return paths;
+    return listed(lists_differences, snapshot, than, "differences", size, error);
 }
 
 /* ---- where a store is */

@@ -42,8 +42,8 @@ differs_told l m path =
     either_told (not (same_truth (is_locked l path) (is_locked m path))) (not (same_value (visible l path) (visible m path))) _ _
     (truths_told (is_locked l path) (is_locked m path)) (values_told (visible l path) (visible m path))
 
-pub are_differing : (l m : Layers) (paths : List (List ℕ)) → paths ≡ listing (filter (differs l m) (all_paths l.layers ++ all_paths m.layers)) → AreDiffering l m paths
-are_differing l m paths e = record { test = differs l m; tells = differs_told l m; are = e }
+pub are_differing : (l m : Layers) (keys paths : List (List ℕ)) → paths ≡ listing (filter (differs l m) keys) → AreDiffering l m keys paths
+are_differing l m keys paths e = record { test = differs l m; tells = differs_told l m; are = e }
 
 -- ---- of an item's name
 

@@ -1,5 +1,5 @@
 -- The keys that are seen otherwise through other layers.
-use Rattle.std.specs.Prelude.{◌≡◌, ◌≢◌, ◌⊎◌, ◌↔◌, List, ℕ, Bool, true, false, IsTrue, filter, is_some, not, ◌||◌, ◌&&◌, ◌++◌}
+use Rattle.std.specs.Prelude.{◌≡◌, ◌≢◌, ◌⊎◌, ◌↔◌, List, ℕ, Bool, true, false, IsTrue, filter, is_some, not, take, ◌||◌, ◌&&◌}
 use Rattle.std.specs.FinMap.{get}
 use Rattle.dconf_model.specs.Changes.{Values}
 use Rattle.dconf_model.specs.Layers.{Layers, all_paths, is_locked, visible}
@@ -10,11 +10,15 @@ use Rattle.dconf_engine.specs.SameValues.{same_value}
 abbrev pub Differs : Layers → Layers → List ℕ → Type 0
 Differs l m path = (is_locked l path ≢ is_locked m path) ⊎ (visible l path ≢ visible m path)
 
--- of the keys that have a value in some layer, those that differ, in the order of their bytes, once each
-pub record AreDiffering (l m : Layers) (paths : List (List ℕ)) : Type 0 where
+-- the keys that have a value in one of so many first layers
+abbrev pub first_keys : ℕ → Layers → List (List ℕ)
+first_keys count l = all_paths (take count l.layers)
+
+-- of these keys those that differ, in the order of their bytes, once each
+pub record AreDiffering (l m : Layers) (keys paths : List (List ℕ)) : Type 0 where
   pub test : List ℕ → Bool
   pub tells : (path : List ℕ) → IsTrue (test path) ↔ Differs l m path
-  pub are : paths ≡ listing (filter test (all_paths l.layers ++ all_paths m.layers))
+  pub are : paths ≡ listing (filter test keys)
 
 -- ---- words of private parts
 

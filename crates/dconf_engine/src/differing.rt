@@ -1,11 +1,11 @@
 //! The keys that are seen otherwise through other layers.
-ghost use Rattle.std.specs.Prelude.{◌≡◌, ◌&&◌, Some, IfOk, OnOk, filter, map, option_map, string_bytes};
+ghost use Rattle.std.specs.Prelude.{◌≡◌, ◌&&◌, ◌++◌, Some, IfOk, OnOk, filter, map, option_map, string_bytes};
 ghost use Rattle.std.specs.FinMap.{keys};
 ghost use Rattle.gv_view.specs.Views.{value};
 ghost use Rattle.dconf_model.specs.Layers.{all_paths};
 ghost use Rattle.dconf_model.specs.Paths.{is_key_path};
 ghost use Rattle.dconf_path.specs.Paths.{key_text};
-ghost use Rattle.dconf_engine.specs.Differing.{AreDiffering, differs, is_other};
+ghost use Rattle.dconf_engine.specs.Differing.{AreDiffering, differs, first_keys, is_other};
 ghost use Rattle.dconf_engine.specs.KeyNames.{items_of, key_name, key_name_at, key_names};
 ghost use Rattle.dconf_engine.specs.LayerSettings.{settings_of};
 ghost use Rattle.dconf_engine.specs.SameValues.{same_value};
@@ -25,24 +25,27 @@ impl<'a, 'l> LentLayers<'a, 'l> {
 
     /// The paths of the keys that are seen otherwise through other layers: another value is seen,
     /// or one where none was, or a key is locked in one alone. A value in other bytes is the same
-    /// one. Each is a key of one of the layers. They are in the order of their bytes, once each.
+    /// one. Asked are the keys of the first `count` layers of each: where those after the first are
+    /// the same, its keys are enough. They are in the order of their bytes, once each.
     ///
-    /// An error comes where a growth is refused. It looks at the name of each item of each layer,
-    /// and reads each key through both; it decodes values whose bytes are not the same.
+    /// An error comes where a growth is refused. It looks at the name of each item of those layers,
+    /// and reads each key through all; it decodes values whose bytes are not the same.
     pub fn differing(
         self,
         alloc: Global,
         other: LentLayers<'a, 'l>,
+        count: usize,
     ) -> Result<Vec<String>, AllocError>
-        ensures { IfOk result (λ paths. AreDiffering (seen_in self.entry) (seen_in other.entry) (map string_bytes paths.items)) }
+        ensures { IfOk result (λ paths. AreDiffering (seen_in self.entry) (seen_in other.entry)
+            (first_keys count (seen_in self.entry) ++ first_keys count (seen_in other.entry)) (map string_bytes paths.items)) }
     {
         let mut paths = BTreeSet::new(alloc);
         let pair = Pair {
             first: self,
             second: other,
         };
-        pair.add_layers(alloc, self, &mut paths)?;
-        pair.add_layers(alloc, other, &mut paths)?;
+        pair.add_layers(alloc, self.prefix(count), &mut paths)?;
+        pair.add_layers(alloc, other.prefix(count), &mut paths)?;
         texts_of(alloc, paths)
     }
 }

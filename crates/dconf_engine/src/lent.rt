@@ -1,5 +1,5 @@
 //! Layers that are lent, and what is seen through them.
-ghost use Rattle.std.specs.Prelude.{◌≡◌, ◌<◌, ◌&&◌, IfSome, List, Some, drop, length, map, not, option_map, slice_index_or, ℕ};
+ghost use Rattle.std.specs.Prelude.{◌≡◌, ◌<◌, ◌&&◌, IfSome, List, Some, drop, length, map, not, option_map, slice_index_or, ℕ, take};
 ghost use Rattle.std.specs.FinMap.{get};
 ghost use Rattle.gv_view.specs.Views.{value};
 ghost use Rattle.gvdb_read.specs.Lookups.{ShowsHeld};
@@ -30,6 +30,16 @@ impl<'a, 'l> LentLayers<'a, 'l> {
         ensures { seen_in result ≡ record { layers = map settings_of layers.entry.now; written = written } }
     {
         LentLayers { layers, written }
+    }
+
+    /// The first `count` layers.
+    pub(crate) fn prefix(self, count: usize) -> LentLayers<'a, 'l>
+        ensures { (seen_in result).layers ≡ take count (seen_in self.entry).layers }
+    {
+        LentLayers {
+            layers: self.layers.get(..count).unwrap_or(self.layers),
+            written: self.written,
+        }
     }
 
     /// The value that is seen at a path, or None where none is.

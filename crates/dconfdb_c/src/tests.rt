@@ -107,7 +107,7 @@ fn directories_and_locks_are_listed(rt: HostRuntime) -> Result<(), Fail> {
         number == 0 && room.get(..len) == Some(b"/k\0".as_slice()),
         "locks"
     );
-    let number = dconfdb_differs(rt.alloc(), &[user, site], &[user], &mut room, &mut len);
+    let number = dconfdb_differs(rt.alloc(), &[user, site], &[user], 2, &mut room, &mut len);
     assert!(rt;
         number == 0 && room.get(..len) == Some(b"/k\0".as_slice()),
         "differences"
