@@ -41,7 +41,8 @@ pub(crate) struct Seen {
 /// before. Each file is put into the room.
 ///
 /// It is the value that the rows and locks of the databases, the changes, and the order of the
-/// databases give. Where a call is refused its number comes.
+/// databases give. Where a call is refused its number comes; a file that is longer than the room is
+/// too big.
 pub(crate) fn read_after(
     alloc: Global,
     first: Option<&[u8]>,
