@@ -1,20 +1,20 @@
 -- A store after turns of changes.
-use Rattle.std.proofs.Common.{◌≡◌, ◌<◌, ◌+◌, ◌∙◌, ◌++◌, ◌∷◌, [], ℕ, List, Option, Some, None, ap, arith, sym, subst, map, length, take, get_or}
+use Rattle.std.proofs.Common.{◌≡◌, ◌<◌, ◌+◌, ◌∙◌, ◌++◌, ◌∷◌, [], ℕ, List, Option, Some, None, ap, arith, sym, subst, subst₂, map, length, take, get_or}
 use Rattle.std.specs.Borrow.{Bor}
 use Rattle.std.proofs.lemmas.List.{get_or-map, length-map, map-append, take_more}
 use Rattle.gv_model.specs.Tree.{Tree}
 use Rattle.dconf_model.specs.Bytes.{MaybeBytes}
 use Rattle.dconf_model.specs.Databases.{AreLayers, IsLayer}
-use Rattle.dconf_model.specs.Layers.{Layers, visible}
+use Rattle.dconf_model.specs.Layers.{Layers, origin, visible}
 use Rattle.dconf_model.specs.Settings.{Settings}
 use Rattle.dconf_model.specs.Sources.{Given, last_value}
-use Rattle.dconf_model.specs.Stores.{OwnValues, Stands, own_after, own_changed, value_given}
-use Rattle.dconf_model.proofs.StoreValues.{after_change, after_reopening, opened_stands, own_joined, value_seen}
+use Rattle.dconf_model.specs.Stores.{OwnValues, Stands, own_after, own_changed}
+use Rattle.dconf_model.proofs.StoreValues.{after_change, after_reopening, opened_stands, origin_seen, own_joined, value_seen}
 use Rattle.dconf_engine.specs.declared.layer.Layer.{Layer}
 use Rattle.dconf_engine.specs.Files.{bytes_of_file, bytes_of_files}
 use Rattle.dconf_engine.specs.LayerSettings.{settings_of}
 use Rattle.dconf_engine.proofs.Opened.{layers_more}
-use Rattle.dconfdb_c.specs.AfterChanges.{HaveOwn, IsSeenAfter, IsSeenFrom, IsSeenOf, changes_in}
+use Rattle.dconfdb_c.specs.AfterChanges.{HaveOwn, IsSeenAfter, IsSeenFrom, IsSeenOf, IsSeenWith, changes_in}
 use Rattle.dconfdb_c.specs.Changed.{HaveChanged, IsChanged, change_of}
 use Rattle.dconfdb_c.specs.declared.after_changes.Seen.{Seen}
 use Rattle.dconfdb_c.specs.declared.after_changes.Turn.{Turn}
@@ -34,13 +34,13 @@ came_of first others own gs cs l file have opened made m again =
 pub one_turn : (first : MaybeBytes) (others : List MaybeBytes) (turn : Turn) (more : List Turn) (l : Layers) (file path : List ℕ) (seen : Option Seen) → AreLayers (first ∷ others) l.layers →
     IsChanged l turn.changes.now file → IsSeenFrom (Some file) others more path seen → IsSeenFrom first others (turn ∷ more) path seen
 one_turn first others turn more l file path seen opened made later own gs have =
-    subst (λ (after : OwnValues). IsSeenOf path (value_given path (after path) gs) seen) (own_joined gs own (map change_of turn.changes.now) (changes_in more))
+    subst (λ (after : OwnValues). IsSeenWith gs after path seen) (own_joined gs own (map change_of turn.changes.now) (changes_in more))
     (later (own_after gs own (map change_of turn.changes.now)) gs (came_of first others own gs turn.changes.now l file have opened made))
 
-pub no_turn : (first : MaybeBytes) (others : List MaybeBytes) (l : Layers) (path : List ℕ) (seen : Option Seen) → AreLayers (first ∷ others) l.layers → IsSeenOf path (visible l path) seen →
+pub no_turn : (first : MaybeBytes) (others : List MaybeBytes) (l : Layers) (path : List ℕ) (seen : Option Seen) → AreLayers (first ∷ others) l.layers → IsSeenOf path (visible l path) (origin l path) seen →
     IsSeenFrom first others [] path seen
 no_turn first others l path seen opened is own gs have =
-    subst (λ (v : Option Tree). IsSeenOf path v seen) (value_seen others own gs l (have l opened) path) is
+    subst₂ (λ (v : Option Tree) (n : Option ℕ). IsSeenOf path v n seen) (value_seen others own gs l (have l opened) path) (origin_seen others own gs l (have l opened) path) is
 
 pub seen_after : (first : MaybeBytes) (others : List MaybeBytes) (turns : List Turn) (path : List ℕ) (seen : Option Seen) → IsSeenFrom first others turns path seen → IsSeenAfter first others turns path seen
 seen_after first others turns path seen h g gs give =

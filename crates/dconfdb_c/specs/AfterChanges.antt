@@ -9,7 +9,7 @@ use Rattle.dconf_model.specs.Databases.{AreLayers}
 use Rattle.dconf_model.specs.Layers.{Layers}
 use Rattle.dconf_model.specs.Salvaging.{IsKeyText}
 use Rattle.dconf_model.specs.Sources.{Given, last_value}
-use Rattle.dconf_model.specs.Stores.{FilesGive, OwnValues, Stands, own_after, value_given}
+use Rattle.dconf_model.specs.Stores.{FilesGive, OwnValues, Stands, number_given, own_after, value_given}
 use Rattle.dconfdb_c.specs.declared.after_changes.Seen.{Seen}
 use Rattle.dconfdb_c.specs.declared.after_changes.Turn.{Turn}
 use Rattle.dconfdb_c.specs.Changed.{change_of}
@@ -23,16 +23,19 @@ changes_in (turn ∷ more) = map change_of turn.changes.now ++ changes_in more
 abbrev pub seen_value : Seen → Tree
 seen_value seen = decode (type_at seen.type_text.items) seen.value.items
 
--- what is seen at a path that has this value, or none; nothing is seen where it is no path of a key
-abbrev pub IsSeenOf : List ℕ → Option Tree → Option Seen → Type 0
-IsSeenOf path v None = IsKeyText path → v ≡ None
-IsSeenOf path v (Some seen) = v ≡ Some (seen_value seen)
+-- what is seen at a path that has this value from the database of this number, or none; nothing is seen where it is no path of a key
+abbrev pub IsSeenOf : List ℕ → Option Tree → Option ℕ → Option Seen → Type 0
+IsSeenOf path v n None = IsKeyText path → v ≡ None
+IsSeenOf path v n (Some seen) = (v ≡ Some (seen_value seen)) × (n ≡ Some seen.origin)
+
+abbrev pub IsSeenWith : List Given → OwnValues → List ℕ → Option Seen → Type 0
+IsSeenWith gs own path seen = IsSeenOf path (value_given path (own path) gs) (number_given path (own path) gs) seen
 
 -- it is the value that rows, locks, changes and the order of the databases give
 abbrev pub IsSeenAfter : MaybeBytes → List MaybeBytes → List Turn → List ℕ → Option Seen → Type 0
 IsSeenAfter first others turns path seen =
     (g : Given) (gs : List Given) → FilesGive (first ∷ others) (g ∷ gs) →
-    IsSeenOf path (value_given path (own_after gs (last_value g.values) (changes_in turns) path) gs) seen
+    IsSeenWith gs (own_after gs (last_value g.values) (changes_in turns)) path seen
 
 -- ---- words of private parts
 
@@ -43,4 +46,4 @@ HaveOwn first others own gs = (l : Layers) → AreLayers (first ∷ others) l.la
 abbrev pub IsSeenFrom : MaybeBytes → List MaybeBytes → List Turn → List ℕ → Option Seen → Type 0
 IsSeenFrom first others turns path seen =
     (own : OwnValues) (gs : List Given) → HaveOwn first others own gs →
-    IsSeenOf path (value_given path (own_after gs own (changes_in turns) path) gs) seen
+    IsSeenWith gs (own_after gs own (changes_in turns)) path seen

@@ -3,7 +3,7 @@
 //! contract says of those calls together.
 ghost use Rattle.std.specs.Prelude.{◌≡◌, ◌++◌, ◌∷◌, [], IfOk, OnOk, map};
 ghost use Rattle.dconf_model.specs.Databases.{AreLayers, IsLayer};
-ghost use Rattle.dconf_model.specs.Layers.{visible};
+ghost use Rattle.dconf_model.specs.Layers.{origin, visible};
 ghost use Rattle.dconf_engine.specs.Files.{bytes_of_file, bytes_of_files};
 ghost use Rattle.dconf_engine.specs.LayerSettings.{settings_of};
 ghost use Rattle.dconfdb_c.specs.AfterChanges.{IsSeenAfter, IsSeenFrom, IsSeenOf, seen_value};
@@ -30,9 +30,10 @@ pub(crate) struct Others<'f> {
     pub(crate) written: bool,
 }
 
-/// A value that was seen, copied: its bytes, and the text of its type.
+/// A value that was seen, copied: the index of its database, its bytes, and the text of its type.
 #[derive(Drop)]
 pub(crate) struct Seen {
+    pub(crate) origin: usize,
     pub(crate) value: Vec<u8>,
     pub(crate) type_text: Vec<u8>,
 }
@@ -41,7 +42,7 @@ pub(crate) struct Seen {
 /// before. Each file is put into the room.
 ///
 /// It is the value that the rows and locks of the databases, the changes, and the order of the
-/// databases give. Where a call is refused its number comes; a file that is longer than the room is
+/// databases give, and the index of the database that gives it. Where a call is refused its number comes; a file that is longer than the room is
 /// too big.
 pub(crate) fn read_after(
     alloc: Global,
@@ -151,7 +152,7 @@ fn seen_in(
     written: bool,
     path: &[u8],
 ) -> Result<Option<Seen>, u32>
-    ensures { IfOk result (IsSeenOf path.now (visible (layers_of layers.now written) path.now)) }
+    ensures { IfOk result (IsSeenOf path.now (visible (layers_of layers.now written) path.now) (origin (layers_of layers.now written) path.now)) }
 {
     let mut found = DconfdbFound {
         origin: 0,
@@ -162,6 +163,7 @@ fn seen_in(
         return Ok(None);
     }
     Ok(Some(Seen {
+        origin: found.origin,
         value: copied(alloc, found.value)?,
         type_text: copied(alloc, found.type_text)?,
     }))

@@ -2,7 +2,7 @@ use Rattle.std.proofs.Common.{◌≡◌, ◌∷◌, [], sym, subst, List, map, S
 use Rattle.std.proofs.lemmas.List.{nil_from_length}
 use Rattle.std.proofs.lemmas.Result.{IfOk-weaker}
 use Rattle.dconf_model.specs.Databases.{AreLayers}
-use Rattle.dconf_model.specs.Layers.{visible}
+use Rattle.dconf_model.specs.Layers.{origin, visible}
 use Rattle.dconf_engine.specs.declared.layer.Layer.{Layer}
 use Rattle.dconf_engine.specs.Files.{bytes_of_file, bytes_of_files}
 use Rattle.dconf_engine.specs.LayerSettings.{settings_of}
@@ -21,7 +21,7 @@ returns-in_default t c =
     let l = layers_of c.as_slice.result.now c.args.others.written in
     let opened : AreLayers (first ∷ others) l.layers = subst (λ (ls : List Layer). AreLayers (first ∷ others) (map settings_of ls)) (sym c.as_slice.ensures.value) c.in_ok-layers.ensures in
     let none : c.args.turns.now ≡ [] = nil_from_length c.args.turns.now c.in_default.ensures.cases in
-    IfOk-weaker c.seen_in.result (IsSeenOf path (visible l path)) (IsSeenFrom first others c.args.turns.now path)
+    IfOk-weaker c.seen_in.result (IsSeenOf path (visible l path) (origin l path)) (IsSeenFrom first others c.args.turns.now path)
     (λ seen h. subst (λ (ts : List Turn). IsSeenFrom first others ts path seen) (sym none) (no_turn first others l path seen opened h)) c.seen_in.ensures
 
 pub returns : goal.returns
