@@ -231,7 +231,8 @@ fn is_five_after(alloc: Global, turns: &[Turn<'_>]) -> Result<bool, Fail> {
     let mut room = [0; 512];
     match read_after(alloc, Some(PLAIN), others, turns, b"/a/j", &mut room) {
         Ok(Some(seen)) => Ok(
-            seen.value.as_slice() == b"\x05\0\0\0".as_slice()
+            seen.origin == 0
+                && seen.value.as_slice() == b"\x05\0\0\0".as_slice()
                 && seen.type_text.as_slice() == b"i".as_slice(),
         ),
         Ok(None) => Ok(false),
