@@ -14,8 +14,7 @@ pub(crate) fn key_path(bytes: &[u8]) -> Option<KeyPath<'_>>
     ensures some { IsSome result ↔ IsKey bytes.entry.now }
     ensures path { IfSome result (λ path. key_text path ≡ bytes.entry.now) }
 {
-    let text = str::from_utf8(bytes).ok()?;
-    KeyPath::parse(text).ok()
+    KeyPath::of_bytes(bytes)
 }
 
 /// The path of a directory, where the bytes are one.
