@@ -1,66 +1,95 @@
--- Names after their directories: what a step up to the directory keeps.
-use Rattle.std.proofs.Common.{◌≡◌, ◌<◌, ◌≤◌, ◌-◌, ℕ, List, length, get_or, take, drop, Option, Some, None, sym, ap, ◌∙◌, subst, arith, inl, inr, ⊎_elim}
-use Rattle.std.proofs.lemmas.List.{take-take, get_or-take}
-use Rattle.std.proofs.lemmas.Bool.{cases_lt}
+-- The directory that a path lies in, of a directory and those above it: what a step up keeps.
+use Rattle.std.proofs.Common.{◌≡◌, ◌<◌, ◌≤◌, ◌+◌, ◌-◌, ℕ, Bool, true, false, List, [], ◌∷◌, ◌++◌, length, get_or, take, drop, Option, Some, None, refl, sym, ap, ◌∙◌, subst, arith, inl, inr, ⊎_elim, codes, length-append}
+use Rattle.std.specs.List.{starts_with}
+use Rattle.std.specs.Prelude.{nat_eq}
+use Rattle.std.proofs.lemmas.List.{take-take, take_at, take_more, take-append-drop, get_or-take}
+use Rattle.std.proofs.lemmas.Bool.{cases_lt, both_ways}
+use Rattle.std.proofs.lemmas.Bool.Decides.{Decides-eqb}
+use Rattle.std.proofs.lemmas.Slice.Eq.{starts_is}
 use Rattle.dconf_model.specs.Table.{list_kind}
 use Rattle.dconf_model.specs.Entries.{IsTopEntry}
 use Rattle.gvdb_write.specs.declared.names.Named.{Named}
 use Rattle.gvdb_write.specs.PlanWords.{kind_of, entry_of}
-use Rattle.gvdb_write.specs.Names.{named, name_at, kind_at, IsSlash, HasNoSlash, EndsAs, LiesIn, NameHasParent, ArePlaced}
+use Rattle.gvdb_write.specs.Names.{named, name_at, kind_at, IsSlash, HasNoSlash, EndsAs, LiesIn, NameHasParent, ArePlaced, IsDirectoryAt}
 
--- where a list is, after its directory or at the top
-pub record IsUpFrom (names : List Named) (text : List ℕ) (len at : ℕ) : Type 0 where
+-- a list whose name begins another; where that has a slash up to which it is as the text, this has it too
+pub record IsUpFrom (names : List Named) (name text : List ℕ) (at : ℕ) : Type 0 where
   pub within : at < length names
   pub list : kind_at names at ≡ list_kind
-  pub prefix : take (length (name_at names at)) text ≡ name_at names at
-  pub inside : length (name_at names at) ≤ length text
-  pub most : (i : ℕ) → IsSlash text i → i < len → i < length (name_at names at)
+  pub prefix : take (length (name_at names at)) name ≡ name_at names at
+  pub most : (i : ℕ) → IsSlash name i → take (i + 1) name ≡ take (i + 1) text → i < length (name_at names at)
+
+-- whether a text begins with another
+module _ (text prefix : List ℕ) (r : Bool) (m : r ≡ starts_with nat_eq text prefix) where
+  begins : r ≡ true → text ≡ prefix ++ drop (length prefix) text
+  begins t = (starts_is Decides-eqb text prefix r m).0 t
+
+  begins_not : r ≡ false → take (length prefix) text ≡ prefix → ⊥
+  begins_not f e =
+      both_ways r f ((starts_is Decides-eqb text prefix r m).1 (drop (length prefix) text)
+      (sym (take-append-drop (length prefix) text) ∙ ap (λ (x : List ℕ). x ++ drop (length prefix) text) e))
 
 -- the last part of a list's name
 list_end : (n : Named) → kind_of n.content ≡ list_kind → EndsAs n → HasNoSlash n.name.now n.from (length n.name.now - 1)
 list_end n list (inl value) = let bad : list_kind ≡ 118 = sym list ∙ value.0 in absurd (omega (arith, bad))
 list_end n list (inr ends) = ends.3
 
-up : (names : List Named) (text : List ℕ) (len at p : ℕ) → ArePlaced names → IsUpFrom names text len at → len < length (name_at names at) → (p < at) × LiesIn (named names p) (named names at) → IsUpFrom names text len p
-up names text len at p placed u long lies =
-    let l = lies.1 in
-    let here = u.within in
-    let before = lies.0 in
-    let fit = (placed at here).fit in
-    let some = fit.some in
-    let from = l.from in
-    let inside = u.inside in
-    let shorter : length (name_at names p) ≤ length (name_at names at) = omega (arith, from, some) in
-    record {
-      within = omega (arith, here, before);
-      list = l.directory;
-      prefix =
-          sym (take-take (length (name_at names p)) (length (name_at names at)) text shorter)
-          ∙ (ap (λ (x : List ℕ). take (length (name_at names p)) x) u.prefix
-          ∙ (ap (λ (k : ℕ). take k (name_at names at)) (sym from) ∙ l.prefix));
-      inside = omega (arith, shorter, inside);
-      most = λ i slash less.
-          ⊎_elim (λ (yes : i < length (name_at names p)). yes)
-          (λ (no : length (name_at names p) ≤ i).
-          let same : get_or (name_at names at) i 0 ≡ get_or text i 0 =
-          sym (ap (λ (x : List ℕ). get_or x i 0) u.prefix) ∙ get_or-take (length (name_at names at)) text i 0 (omega (arith, less, long)) in
-          absurd (list_end (named names at) u.list l.ends i (omega (arith, from, no)) (omega (arith, less, long)) (same ∙ slash.slash)))
-          (cases_lt i (length (name_at names p)));
-    }
+top_name : (n : Named) → kind_of n.content ≡ list_kind → n.from ≡ 0 → IsTopEntry (entry_of n) → n.name.now ≡ codes "/"
+top_name n list from (inl slash) = ap (λ (k : ℕ). drop k n.name.now) (sym from) ∙ slash.1
+top_name n list from (inr locks) = let bad : list_kind ≡ 72 = sym list ∙ locks.0 in absurd (omega (arith, bad))
 
--- a step up
-pub up_one : (names : List Named) (text : List ℕ) (len at p : ℕ) → ArePlaced names → IsUpFrom names text len at → len < length (name_at names at) → (named names at).parent ≡ Some p → (p < at) × IsUpFrom names text len p
-up_one names text len at p placed u long is =
-    let lies = subst (λ (o : Option ℕ). NameHasParent names at o) is (placed at u.within).has_parent in
-    (lies.0, up names text len at p placed u long lies)
+module _ (names : List Named) (name text : List ℕ) (at : ℕ) (placed : ArePlaced names) (u : IsUpFrom names name text at) (r : Bool) (m : r ≡ starts_with nat_eq text (name_at names at)) where
+  -- a step up, from a list whose name the text does not begin with
+  up : (p : ℕ) → r ≡ false → (p < at) × LiesIn (named names p) (named names at) → IsUpFrom names name text p
+  up p other lies =
+      let l = lies.1 in
+      let here = u.within in
+      let before = lies.0 in
+      let from = l.from in
+      let some = (placed at here).fit.some in
+      let shorter : length (name_at names p) ≤ length (name_at names at) = omega (arith, from, some) in
+      record {
+        within = omega (arith, here, before);
+        list = l.directory;
+        prefix =
+            sym (take-take (length (name_at names p)) (length (name_at names at)) name shorter)
+            ∙ (ap (λ (x : List ℕ). take (length (name_at names p)) x) u.prefix
+            ∙ (ap (λ (k : ℕ). take k (name_at names at)) (sym from) ∙ l.prefix));
+        most = λ i slash same.
+            let there = u.most i slash same in
+            let here_too : get_or (name_at names at) i 0 ≡ 47 =
+            sym (ap (λ (x : List ℕ). get_or x i 0) u.prefix) ∙ (get_or-take (length (name_at names at)) name i 0 there ∙ slash.slash) in
+            ⊎_elim (λ (yes : i < length (name_at names p)). yes)
+            (λ (no : length (name_at names p) ≤ i).
+            ⊎_elim (λ (l' : i < length (name_at names at) - 1). absurd (list_end (named names at) u.list l.ends i (omega (arith, from, no)) l' here_too))
+            (λ (ge : length (name_at names at) - 1 ≤ i).
+            let e : length (name_at names at) ≡ i + 1 = omega (arith, ge, there) in
+            absurd (begins_not text (name_at names at) r m other
+            (ap (λ (k : ℕ). take k text) e ∙ (sym same ∙ (ap (λ (k : ℕ). take k name) (sym e) ∙ u.prefix)))))
+            (cases_lt i (length (name_at names at) - 1)))
+            (cases_lt i (length (name_at names p)));
+      }
 
-top_length : (n : Named) → kind_of n.content ≡ list_kind → n.from ≡ 0 → IsTopEntry (entry_of n) → length n.name.now ≡ 1
-top_length n list from (inl slash) =
-    ap (λ (k : ℕ). length (drop k n.name.now)) (sym from) ∙ ap (λ (x : List ℕ). length x) slash.1
-top_length n list from (inr locks) = let bad : list_kind ≡ 72 = sym list ∙ locks.0 in absurd (omega (arith, bad))
+  pub up_one : (p : ℕ) → r ≡ false → (named names at).parent ≡ Some p → (p < at) × IsUpFrom names name text p
+  up_one p other is =
+      let lies = subst (λ (o : Option ℕ). NameHasParent names at o) is (placed at u.within).has_parent in
+      (lies.0, up p other lies)
 
--- a list without directory is `/`
-pub at_top : (names : List Named) (text : List ℕ) (len at : ℕ) → ArePlaced names → IsUpFrom names text len at → (named names at).parent ≡ None → length (name_at names at) ≡ 1
-at_top names text len at placed u is =
-    let top = subst (λ (o : Option ℕ). NameHasParent names at o) is (placed at u.within).has_parent in
-    top_length (named names at) u.list top.0 top.1
+  -- a list without directory is `/`, with which each path begins
+  pub not_top : IsSlash text 0 → r ≡ false → (named names at).parent ≡ None → ⊥
+  not_top first other is =
+      let top = subst (λ (o : Option ℕ). NameHasParent names at o) is (placed at u.within).has_parent in
+      let slash : name_at names at ≡ codes "/" = top_name (named names at) u.list top.0 top.1 in
+      let one : take (0 + 1) text ≡ codes "/" = take_more text 0 0 first.here ∙ ap (λ (c : ℕ). take 0 text ++ c ∷ []) first.slash in
+      begins_not text (name_at names at) r m other (ap (λ (x : List ℕ). take (length x) text) slash ∙ (one ∙ sym slash))
+
+  pub lies_there : r ≡ true → IsDirectoryAt names text at
+  lies_there is =
+      let whole : text ≡ name_at names at ++ drop (length (name_at names at)) text = begins text (name_at names at) r m is in
+      let len = ap (λ (x : List ℕ). length x) whole ∙ length-append (name_at names at) (drop (length (name_at names at)) text) in
+      record {
+        within = u.within;
+        list = u.list;
+        prefix = ap (λ (x : List ℕ). take (length (name_at names at)) x) whole ∙ take_at (name_at names at) (drop (length (name_at names at)) text) (length (name_at names at)) refl;
+        inside = omega (arith, len);
+      }

@@ -36,46 +36,6 @@ pub record AreNamesSoFar (s : Settings) (names : List Named) (at : ℕ) (last : 
 
 -- ---- the directory of the next path
 
--- the directory of the last one that is in common
-pub record IsCommonDirectory (names : List Named) (at len result : ℕ) : Type 0 where
-  pub within : result < length names
-  pub list : kind_at names result ≡ list_kind
-  pub short : length (name_at names result) ≤ len
-  pub prefix : take (length (name_at names result)) (name_at names at) ≡ name_at names result
-  pub inside : length (name_at names result) ≤ length (name_at names at)
-  pub most : (i : ℕ) → IsSlash (name_at names at) i → i < len → i < length (name_at names result)
-
--- how many bytes two texts begin with in common
-pub record IsCommon (left right : List ℕ) (len : ℕ) : Type 0 where
-  pub within : len ≤ length right
-  pub same : take len left ≡ take len right
-  pub most : (n : ℕ) → n ≤ length left → n ≤ length right → take n left ≡ take n right → n ≤ len
-
-pub some_common : (left right : List ℕ) (len : ℕ) → IsCommon left right len → IsSlash left 0 → IsSlash right 0 → 0 < len
-some_common left right len c a b =
-    let l = a.here in
-    let r = b.here in
-    let one : take (0 + 1) left ≡ take (0 + 1) right =
-    take_more left 0 0 l ∙ (ap (λ (x : ℕ). take 0 left ++ x ∷ []) (a.slash ∙ sym b.slash) ∙ sym (take_more right 0 0 r)) in
-    let n = c.most (0 + 1) (omega (arith, l)) (omega (arith, r)) one in
-    omega (arith, n)
-
-lies_next : (names : List Named) (last text : List ℕ) (at len result : ℕ) → IsDirectoryAt names last at → IsCommon last text len → IsCommonDirectory names at len result → IsDirectoryAt names text result
-lies_next names last text at len result lies common d =
-    let short = d.short in
-    let within = common.within in
-    record {
-      within = d.within;
-      list = d.list;
-      prefix =
-          sym (take-take (length (name_at names result)) len text short)
-          ∙ (ap (λ (x : List ℕ). take (length (name_at names result)) x) (sym common.same)
-          ∙ (take-take (length (name_at names result)) len last short
-          ∙ (sym (take-take (length (name_at names result)) (length (name_at names at)) last d.inside)
-          ∙ (ap (λ (x : List ℕ). take (length (name_at names result)) x) lies.prefix ∙ d.prefix))));
-      inside = omega (arith, short, within);
-    }
-
 -- a slash of a text is one of the other's, as far as they are in common
 slash_in_prefix : (text prefix : List ℕ) (i : ℕ) → take (length prefix) text ≡ prefix → i < length prefix → IsSlash text i → IsSlash prefix i
 slash_in_prefix text prefix i is less s = record {
@@ -83,49 +43,39 @@ slash_in_prefix text prefix i is less s = record {
   slash = sym (ap (λ (x : List ℕ). get_or x i 0) is) ∙ (get_or-take (length prefix) text i 0 less ∙ s.slash);
 }
 
-not_in_prefix : (names : List Named) (last text : List ℕ) (at len result i : ℕ) → IsDirectoryAt names last at
-    → ((j : ℕ) → IsSlash last j → j < length (name_at names at)) → IsCommon last text len → IsCommonDirectory names at len result → IsSlash text i
-    → length (name_at names result) ≤ i → (rest : List ℕ) → last ≢ take (i + 1) text ++ rest
-not_in_prefix names last text at len result i lies innermost common d s after rest is =
+-- of each slash of the directory's name up to which it is as the text, the other's name has it too
+abbrev pub IsMost : List Named → ℕ → List ℕ → ℕ → Type 0
+IsMost names at text result = (i : ℕ) → IsSlash (name_at names at) i → take (i + 1) (name_at names at) ≡ take (i + 1) text → i < length (name_at names result)
+
+not_in_prefix : (names : List Named) (last text : List ℕ) (at result i : ℕ) → IsDirectoryAt names last at → ((j : ℕ) → IsSlash last j → j < length (name_at names at))
+    → IsMost names at text result → IsSlash text i → length (name_at names result) ≤ i → (rest : List ℕ) → last ≢ take (i + 1) text ++ rest
+not_in_prefix names last text at result i lies innermost most s after rest is =
     let here = s.here in
     let size : length (take (i + 1) text) ≡ i + 1 = length-take-le (i + 1) text (omega (arith, here)) in
     let whole : length last ≡ length (take (i + 1) text) + length rest = ap (λ (x : List ℕ). length x) is ∙ length-append (take (i + 1) text) rest in
     let same : take (i + 1) last ≡ take (i + 1) text = ap (λ (x : List ℕ). take (i + 1) x) is ∙ take_at (take (i + 1) text) rest (i + 1) size in
-    let few = common.most (i + 1) (omega (arith, whole, size)) (omega (arith, here)) same in
     let slash : IsSlash last i = record {
       here = omega (arith, whole, size);
       slash = sym (get_or-take (i + 1) last i 0 (omega arith)) ∙ (ap (λ (x : List ℕ). get_or x i 0) same ∙ (get_or-take (i + 1) text i 0 (omega arith) ∙ s.slash));
     } in
-    let inner = d.most i (slash_in_prefix last (name_at names at) i lies.prefix (innermost i slash) slash) (omega (arith, few)) in
+    let before = innermost i slash in
+    let inner = most i (slash_in_prefix last (name_at names at) i lies.prefix before slash)
+    (ap (λ (x : List ℕ). take (i + 1) x) (sym lies.prefix) ∙ (take-take (i + 1) (length (name_at names at)) last (omega (arith, before)) ∙ same)) in
     omega (arith, inner, after)
 
-beyond_next : (names : List Named) (last text : List ℕ) (at len result : ℕ) → IsDirectoryAt names last at → ((j : ℕ) → IsSlash last j → j < length (name_at names at))
-    → IsCommon last text len → IsCommonDirectory names at len result → IsBefore last text → IsBeyond last text (length (name_at names result))
-beyond_next names last text at len result lies innermost common d before = record {
-  path = before;
-  directories = λ i s after.
-      before_prefix last (take (i + 1) text) (drop (i + 1) text)
-      (subst (λ (x : List ℕ). IsBefore last x) (sym (take-append-drop (i + 1) text)) before)
-      (not_in_prefix names last text at len result i lies innermost common d s after);
-}
-
--- the directory that the next path lies in so far
-pub record IsNextDirectory (names : List Named) (text : List ℕ) (at : ℕ) : Type 0 where
-  pub lies : IsDirectoryAt names text at
-  pub beyond : IsBeyond (last_name names) text (length (name_at names at))
-
-pub next_directory : (s : Settings) (names slice : List Named) (at : ℕ) (last text : List ℕ) (left rest : List (List ℕ)) (len result : ℕ)
-    → AreNamesSoFar s names at last left → left ≡ text ∷ rest → IsCommon last text len → slice ≡ names → IsCommonDirectory slice at len result
-    → IsNextDirectory names text result
-next_directory s names slice at last text left rest len result so is common same inner =
+-- the last name precedes the path, and those of its directories that are not there yet
+pub next_beyond : (s : Settings) (names : List Named) (at : ℕ) (last text : List ℕ) (left rest : List (List ℕ)) (result : ℕ) → AreNamesSoFar s names at last left → left ≡ text ∷ rest
+    → IsMost names at text result → IsBeyond (last_name names) text (length (name_at names result))
+next_beyond s names at last text left rest result so is most =
     let some : length left ≡ suc (length rest) = ap (λ (l : List (List ℕ)). length l) is in
     let before : IsBefore last text = subst (λ (l : List (List ℕ)). IsBefore last (get_or l 0 [])) is (so.before 0 (omega (arith, some))) in
-    let d : IsCommonDirectory names at len result = subst (λ (l : List Named). IsCommonDirectory l at len result) same inner in
-    record {
-      lies = lies_next names last text at len result so.lies common d;
-      beyond = subst (λ (x : List ℕ). IsBeyond x text (length (name_at names result))) (sym so.last_is)
-          (beyond_next names last text at len result so.lies so.innermost common d before);
-    }
+    subst (λ (x : List ℕ). IsBeyond x text (length (name_at names result))) (sym so.last_is) (record {
+      path = before;
+      directories = λ i s after.
+          before_prefix last (take (i + 1) text) (drop (i + 1) text)
+          (subst (λ (x : List ℕ). IsBefore last x) (sym (take-append-drop (i + 1) text)) before)
+          (not_in_prefix names last text at result i so.lies so.innermost most s after);
+    })
 
 -- ---- one path more
 

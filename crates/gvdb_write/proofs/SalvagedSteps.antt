@@ -1,126 +1,120 @@
 -- What is salvaged, item by item.
-use Rattle.std.proofs.Common.{◌≡◌, ◌<◌, ◌≤◌, ◌+◌, ◌↔◌, ◌⊎◌, inl, inr, ℕ, List, Option, Some, None, true, false, cond, IsTrue, refl, sym, ◌∙◌, ap, subst, arith}
+use Rattle.std.proofs.Common.{◌≡◌, ◌<◌, ◌≤◌, ◌+◌, ◌↔◌, ◌⊎◌, inl, inr, ℕ, List, Option, Some, None, Result, Ok, Err, is_ok, is_err, true, false, cond, IsTrue, refl, sym, ◌∙◌, ap, subst, arith}
 use Rattle.std.specs.Prelude.{IsSome, is_some}
 use Rattle.std.specs.FinMap.{get, contains_key, insert, empty, get-empty}
 use Rattle.std.specs.Cmp.Lexicographic.{slice_cmp}
 use Rattle.std.specs.Ordering.{nat_cmp}
 use Rattle.std.specs.Str.{bytes_eq}
-use Rattle.std.proofs.lemmas.Bool.{cases_lt}
+use Rattle.std.proofs.lemmas.Bool.{both_ways, cases_lt}
 use Rattle.std.proofs.lemmas.Option.{none-some, same_Some}
 use Rattle.dconf_model.specs.Settings.{Settings, AtPaths, Lock, no_settings, with_value, with_lock}
 use Rattle.dconf_model.specs.Table.{Table, item, item_count, bytes_of, value_kind, table_of}
 use Rattle.dconf_model.specs.Names.{HasName, IsRow}
 use Rattle.dconf_model.specs.Opening.{root_of}
-use Rattle.dconf_model.specs.Salvaging.{IsKeyText, IsLowestValue, IsOpenLocks, IsSalvaged}
+use Rattle.dconf_model.specs.Salvaging.{IsKeyText, IsLowest, IsLowestValue, IsOpenLocks, IsSalvaged}
 use Rattle.dconf_model.proofs.NameSteps.{is_item}
 use Rattle.dconf_model.proofs.LaidNames.{one_name}
 use Rattle.dconf_model.proofs.ParentLaws.{by_bool}
 use Rattle.dconf_model.proofs.PathMaps.{get_inserted}
 use Rattle.dconf_model.proofs.SameBytes.{same_path, path_itself}
-use Rattle.gvdb_write.specs.Salvaged.{HasLowestValues, IsLowestLocks, SpellsLock, TakesLock, TakesValue, with_first}
+use Rattle.gvdb_write.specs.Salvaged.{HasLowestValues, IsLowestLocks, SpellsLock, TakesLock, TakesValue}
 
 -- ---- values
 
--- what an item gives that spells no path
-pub takes_none : (t : Table) (i : ℕ) (s : Settings) → ((path : List ℕ) → IsKeyText path → IsRow t path value_kind i → ⊥) → TakesValue t i s s
-takes_none t i s none = record {
-  kept = λ path bytes e. e;
-  taken = λ path bytes e. inl e;
-  held = λ path text row. absurd (none path text row);
-  same_locks = refl;
-}
+-- of the items from n on, the lowest that has a value of that name
+abbrev IsLowestFrom : Table → ℕ → List ℕ → List ℕ → Type 0
+IsLowestFrom t n path bytes = (i : ℕ) × IsLowest (λ k. (n ≤ k) × IsRow t path value_kind k) i × (bytes_of t i ≡ bytes)
 
--- a path that has a value keeps it
-keeps_first : (t : Table) (i : ℕ) (s : Settings) (path : List ℕ) → IsRow t path value_kind i → IsSome (get s.values path) → TakesValue t i s s
-keeps_first t i s path row has = record {
-  kept = λ q bytes e. e;
-  taken = λ q bytes e. inl e;
-  held = λ q text other. subst (λ (p : List ℕ). IsSome (get s.values p)) (one_name t i path q row.named other.named) has;
-  same_locks = refl;
-}
+-- each path of a key has that of the items from n on
+abbrev pub AreLowestFrom : Table → ℕ → Settings → Type 0
+AreLowestFrom t n s = (path bytes : List ℕ) → (get s.values path ≡ Some bytes) ↔ (IsKeyText path × IsLowestFrom t n path bytes)
 
--- one that has none gets the item's
-sets_first : (t : Table) (i : ℕ) (s : Settings) (path bytes : List ℕ) → IsKeyText path → IsRow t path value_kind i → bytes ≡ bytes_of t i → get s.values path ≡ None → TakesValue t i s (with_value s path bytes)
-sets_first t i s path bytes text row are none = record {
-  kept = λ q b e.
-      by_bool (bytes_eq path q) (get (insert s.values path bytes) q ≡ Some b)
-      (λ same. absurd (none-some b (sym none ∙ (ap (λ (p : List ℕ). get s.values p) (same_path path q same) ∙ e))))
-      (λ other. got q ∙ (ap (λ x. cond x (Some bytes) (get s.values q)) other ∙ e));
-  taken = λ q b e.
-      by_bool (bytes_eq path q) ((get s.values q ≡ Some b) ⊎ ((get s.values q ≡ None) × IsKeyText q × IsRow t q value_kind i × (bytes_of t i ≡ b)))
-      (λ same.
-      let is = same_path path q same in
-      let given : Some bytes ≡ Some b = sym (got q ∙ ap (λ x. cond x (Some bytes) (get s.values q)) same) ∙ e in
-      inr (subst (λ (p : List ℕ). get s.values p ≡ None) is none, subst IsKeyText is text, subst (λ (p : List ℕ). IsRow t p value_kind i) is row, sym are ∙ same_Some bytes b given))
-      (λ other. inl (sym (got q ∙ ap (λ x. cond x (Some bytes) (get s.values q)) other) ∙ e));
-  held = λ q other again.
-      let same = path_itself path q (one_name t i path q row.named again.named) in
-      ap is_some (got q ∙ ap (λ x. cond x (Some bytes) (get s.values q)) same);
-  same_locks = refl;
-}
-  where
-    got : (q : List ℕ) → get (insert s.values path bytes) q ≡ cond (bytes_eq path q) (Some bytes) (get s.values q)
-    got q = get_inserted s.values path bytes q
+pub none_from : (t : Table) (n : ℕ) → item_count t ≤ n → AreLowestFrom t n no_settings
+none_from t n all path bytes = (
+  λ e. absurd (none-some bytes (sym (get-empty (slice_cmp nat_cmp) path) ∙ e)),
+  λ h.
+      let from = h.1.1.has.0 in
+      let counted = (is_item t h.1.0 path h.1.1.has.1.named).counted in
+      absurd (omega (arith, from, counted, all)),
+)
 
-first_by : (t : Table) (i : ℕ) (s : Settings) (path bytes : List ℕ) (o : Option (List ℕ)) → get s.values path ≡ o → IsKeyText path → IsRow t path value_kind i → bytes ≡ bytes_of t i → TakesValue t i s (cond (is_some o) s (with_value s path bytes))
-first_by t i s path bytes None e text row are = sets_first t i s path bytes text row are e
-first_by t i s path bytes (Some b) e text row are = keeps_first t i s path row (ap is_some e)
+-- one item more, which has no value of that name
+not_this : (t : Table) (n : ℕ) (path : List ℕ) → (IsRow t path value_kind n → ⊥) → (k : ℕ) → n ≤ k → IsRow t path value_kind k → n + 1 ≤ k
+not_this t n path other k le row = elim (cases_lt n k) [
+  | inl less ↦ omega (arith, less)
+  | inr ge ↦ absurd (other (subst (λ (j : ℕ). IsRow t path value_kind j) (let e : k ≡ n = omega (arith, le, ge) in e) row))
+]
 
-pub takes_first : (t : Table) (i : ℕ) (s : Settings) (path bytes : List ℕ) → IsKeyText path → IsRow t path value_kind i → bytes ≡ bytes_of t i → TakesValue t i s (with_first s path bytes)
-takes_first t i s path bytes text row are = first_by t i s path bytes (get s.values path) refl text row are
+still_lowest : (t : Table) (n : ℕ) (path bytes : List ℕ) → (IsRow t path value_kind n → ⊥) → IsLowestFrom t (n + 1) path bytes ↔ IsLowestFrom t n path bytes
+still_lowest t n path bytes other = (
+  λ h. let from = h.1.has.0 in (
+    h.0,
+    record { has = (omega (arith, from), h.1.has.1); lowest = λ k r. h.1.lowest k (not_this t n path other k r.0 r.1, r.1) },
+    h.2,
+  ),
+  λ h. (
+    h.0,
+    record {
+      has = (not_this t n path other h.0 h.1.has.0 h.1.has.1, h.1.has.1);
+      lowest = λ k r. let from = r.0 in h.1.lowest k (omega (arith, from), r.1);
+    },
+    h.2,
+  ),
+)
 
--- the values are the lowest, and the paths of the items before n have one
-pub record AreLowestBelow (t : Table) (n : ℕ) (s : Settings) : Type 0 where
-  pub lowest : (path bytes : List ℕ) → get s.values path ≡ Some bytes → IsKeyText path × IsLowestValue t path bytes
-  pub held : (path : List ℕ) (j : ℕ) → j < n → IsKeyText path → IsRow t path value_kind j → IsSome (get s.values path)
+-- the name of this item has its value
+this_lowest : (t : Table) (n : ℕ) (path bytes : List ℕ) → IsRow t path value_kind n → (bytes_of t n ≡ bytes) ↔ IsLowestFrom t n path bytes
+this_lowest t n path bytes row = (
+  λ e. (n, record { has = (omega arith, row); lowest = λ k r. r.0 }, e),
+  λ h.
+      let from = h.1.has.0 in
+      let low = h.1.lowest n (omega arith, row) in
+      ap (bytes_of t) (let e : n ≡ h.0 = omega (arith, from, low) in e) ∙ h.2,
+)
 
-pub none_below : (t : Table) → AreLowestBelow t 0 no_settings
-none_below t = record {
-  lowest = λ path bytes e. absurd (none-some bytes (sym (get-empty (slice_cmp nat_cmp) path) ∙ e));
-  held = λ path j lt text row. absurd (omega (arith, lt));
-}
+set_from : (t : Table) (n : ℕ) (old : Settings) (q : List ℕ) → AreLowestFrom t (n + 1) old → IsKeyText q → IsRow t q value_kind n → AreLowestFrom t n (with_value old q (bytes_of t n))
+set_from t n old q below text row path bytes =
+    by_bool (bytes_eq q path) ((get (insert old.values q (bytes_of t n)) path ≡ Some bytes) ↔ (IsKeyText path × IsLowestFrom t n path bytes))
+    (λ same.
+    let is = same_path q path same in
+    let lowest = this_lowest t n path bytes (subst (λ (p : List ℕ). IsRow t p value_kind n) is row) in
+    let got = get_inserted old.values q (bytes_of t n) path ∙ ap (λ x. cond x (Some (bytes_of t n)) (get old.values path)) same in (
+      λ e. (subst IsKeyText is text, lowest.0 (same_Some (bytes_of t n) bytes (sym got ∙ e))),
+      λ h. got ∙ ap (λ (b : List ℕ). Some b) (lowest.1 h.1),
+    ))
+    (λ other.
+    let not_row : IsRow t path value_kind n → ⊥ = λ r. let same = path_itself q path (one_name t n q path row.named r.named) in both_ways (bytes_eq q path) other same in
+    let got = get_inserted old.values q (bytes_of t n) path ∙ ap (λ x. cond x (Some (bytes_of t n)) (get old.values path)) other in (
+      λ e. let h = (below path bytes).0 (sym got ∙ e) in (h.0, (still_lowest t n path bytes not_row).0 h.1),
+      λ h. got ∙ (below path bytes).1 (h.0, (still_lowest t n path bytes not_row).1 h.1),
+    ))
+
+pub one_from : (t : Table) (n : ℕ) (old new : Settings) → AreLowestFrom t (n + 1) old → TakesValue t n old new → AreLowestFrom t n new
+one_from t n old new below (inl none) =
+    subst (AreLowestFrom t n) (sym none.0) (λ path bytes. (
+      λ e. let h = (below path bytes).0 e in (h.0, (still_lowest t n path bytes (none.1 path h.0)).0 h.1),
+      λ h. (below path bytes).1 (h.0, (still_lowest t n path bytes (none.1 path h.0)).1 h.1),
+    ))
+one_from t n old new below (inr set) = subst (AreLowestFrom t n) (sym set.3) (set_from t n old set.0 below set.1 set.2)
+
+-- after all items each path has its lowest value
+pub all_lowest : (t : Table) (s : Settings) → AreLowestFrom t 0 s → HasLowestValues t s
+all_lowest t s from path bytes = (
+  λ e. let h = (from path bytes).0 e in (h.0, (h.1.0, record { has = h.1.1.has.1; lowest = λ k r. h.1.1.lowest k (omega arith, r) }, h.1.2)),
+  λ h. (from path bytes).1 (h.0, (h.1.0, record { has = (omega arith, h.1.1.has); lowest = λ k r. h.1.1.lowest k r.1 }, h.1.2)),
+)
+
+pub same_locks : {t : Table} {i : ℕ} {old new : Settings} → TakesValue t i old new → new.locks ≡ old.locks
+same_locks (inl none) = ap (λ (s : Settings). s.locks) none.0
+same_locks (inr set) = ap (λ (s : Settings). s.locks) set.3
+
+-- what is refused is not taken
+pub refused : {X Y : Type 0} (r : Result X Y) → is_ok r ≡ true → is_err r ≡ true → ⊥
+refused (Ok x) ok err = let bad : false ≡ true = err in cc
+refused (Err y) ok err = let bad : false ≡ true = ok in cc
 
 not_some : {X : Type 0} (o : Option X) → o ≡ None → IsSome o → ⊥
 not_some o e h = let bad : false ≡ true = sym (ap is_some e) ∙ h in cc
-
--- an item that gives a value is the lowest of its path
-is_lowest : (t : Table) (n : ℕ) (s : Settings) (path : List ℕ) → AreLowestBelow t n s → get s.values path ≡ None → IsKeyText path → (j : ℕ) → IsRow t path value_kind j → n ≤ j
-is_lowest t n s path below none text j row = elim (cases_lt j n) [
-  | inl lt ↦ absurd (not_some (get s.values path) none (below.held path j lt text row))
-  | inr le ↦ le
-]
-
-lowest_after : (t : Table) (n : ℕ) (old : Settings) (path bytes : List ℕ) → AreLowestBelow t n old → ((get old.values path ≡ Some bytes) ⊎ ((get old.values path ≡ None) × IsKeyText path × IsRow t path value_kind n × (bytes_of t n ≡ bytes))) → IsKeyText path × IsLowestValue t path bytes
-lowest_after t n old path bytes below (inl e) = below.lowest path bytes e
-lowest_after t n old path bytes below (inr r) = (r.1, (n, record { has = r.2; lowest = is_lowest t n old path below r.0 r.1 }, r.3))
-
-some_is : {X : Type 0} (o : Option X) → IsSome o → (x : X) × (o ≡ Some x)
-some_is None h = let bad : false ≡ true = h in cc
-some_is (Some x) h = (x, refl)
-
-pub one_lower : (t : Table) (n : ℕ) (old new : Settings) → AreLowestBelow t n old → TakesValue t n old new → AreLowestBelow t (n + 1) new
-one_lower t n old new below takes = record {
-  lowest = λ path bytes e. lowest_after t n old path bytes below (takes.taken path bytes e);
-  held = λ path j lt text row. elim (cases_lt j n) [
-    | inl less ↦ let x = some_is (get old.values path) (below.held path j less text row) in ap is_some (takes.kept path x.0 x.1)
-    | inr le ↦ takes.held path text (subst (λ (k : ℕ). IsRow t path value_kind k) (omega (arith, lt, le)) row)
-  ];
-}
-
--- after all items each path has its lowest value
-pub all_lowest : (t : Table) (n : ℕ) (s : Settings) → AreLowestBelow t n s → item_count t ≤ n → HasLowestValues t s
-all_lowest t n s below all path bytes = (
-  below.lowest path bytes,
-  λ h.
-      let low = h.1.1 in
-      let here : h.1.0 < n = let counted = (is_item t h.1.0 path low.has.named).counted in omega (arith, counted, all) in
-      let x = some_is (get s.values path) (below.held path h.1.0 here h.0 low.has) in
-      let other = (below.lowest path x.0 x.1).1 in
-      let a : h.1.0 ≤ other.0 = low.lowest other.0 other.1.has in
-      let b : other.0 ≤ h.1.0 = other.1.lowest h.1.0 low.has in
-      let same : other.0 ≡ h.1.0 = omega (arith, a, b) in
-      x.1 ∙ ap (λ (l : List ℕ). Some l) (sym other.2 ∙ (ap (bytes_of t) same ∙ h.1.2)),
-)
 
 -- ---- locks
 

@@ -1,22 +1,20 @@
 -- The places of values that are stored once.
-use Rattle.std.proofs.Common.{ℕ, ◌≡◌, ◌<◌, Bool, true, false, cond, ◌||◌, List, [], ◌∷◌, ◌++◌, length, get_or, Option, Some, None, Bor, refl, sym, ap, ◌∙◌, subst, arith, length-append}
+use Rattle.std.proofs.Common.{ℕ, zero, suc, ◌≡◌, ◌≢◌, ◌<◌, ◌≤◌, ◌-◌, ◌%◌, ◌⊎◌, Bool, true, false, cond, ◌||◌, List, [], ◌∷◌, ◌++◌, length, get_or, set, Option, is_some, Some, None, Bor, refl, sym, ap, ◌∙◌, subst, arith, length-append, inl, inr}
 use Rattle.std.specs.List.{list_any}
 use Rattle.std.specs.Str.{bytes_eq}
-use Rattle.std.specs.BTreeMap.{BTreeMap, get}
+use Rattle.std.specs.BTreeMap.{get}
 use Rattle.std.specs.Cmp.Lexicographic.{slice_cmp}
-use Rattle.std.specs.Ordering.{nat_cmp, eq_by_cmp, is_eq, ordering_then}
-use Rattle.std.specs.declared.cmp.Ordering.{Ordering}
-use Rattle.std.specs.declared.cmp.Ordering.TheVariants.{Less, Equal, Greater}
-use Rattle.std.specs.FinMap.{slice_cmp-IsAntisymmetric, nat_cmp-IsAntisymmetric}
-use Rattle.std.specs.Cmp.{eq_by_cmp_equiv, nat_cmp_total}
-use Rattle.std.proofs.lemmas.Bool.{true≢false}
-use Rattle.std.proofs.lemmas.Map.Views.{tells_apart}
-use Rattle.std.proofs.lemmas.List.{get_or_append_left, get_or_push}
+use Rattle.std.specs.Ordering.{nat_cmp, eq_by_cmp}
+use Rattle.std.proofs.lemmas.List.{get_or_append_left, get_or_push, get_or-set_other, get_or_default, length-set}
+use Rattle.std.proofs.lemmas.Grind.{get_or-set_at}
+use Rattle.std.proofs.lemmas.Bool.{cases_eq}
 use Rattle.std.proofs.lemmas.List.Folds.{list_any_at, list_any-append}
+use Rattle.std.proofs.lemmas.Nat.{mod_below}
+use Rattle.std.proofs.lemmas.Option.{same_Some}
 use Rattle.dconf_model.specs.Plans.{with_new}
-use Rattle.dconf_model.proofs.SameBytes.{itself}
+use Rattle.dconf_model.proofs.SameBytes.{itself, path_itself, other_path, same_path as same_bytes}
 use Rattle.dconf_model.specs.Bytes.{hash_of}
-use Rattle.gvdb_write.specs.Values.{ArePlaces, by_hash, place_of}
+use Rattle.gvdb_write.specs.Values.{ArePlaces, Others, by_bytes, place_by, slot_of}
 use Rattle.gvdb_write.proofs.Read.{same_path}
 
 -- a value that has no place is not there, and one that has a place is there
@@ -24,42 +22,7 @@ abbrev pub IsPlaceOf : List (List ℕ) → List ℕ → Option ℕ → Type 0
 IsPlaceOf values value None = list_any (bytes_eq value) values ≡ false
 IsPlaceOf values value (Some k) = (k < length values) × (get_or values k [] ≡ value)
 
-place_is : (places : BTreeMap (ℕ × Bor (List ℕ)) ℕ) (values : List (List ℕ)) (value : Bor (List ℕ)) → ArePlaces places values → (o : Option ℕ) → place_of places value ≡ o → IsPlaceOf values value.now o
-place_is places values value are None e = are.absent value e
-place_is places values value are (Some k) e = (are.within value k e, are.holds value k e)
-
-are_places : (places : BTreeMap (ℕ × Bor (List ℕ)) ℕ) (values : List (List ℕ)) → ((value : Bor (List ℕ)) → IsPlaceOf values value.now (place_of places value)) → ArePlaces places values
-are_places places values each = record {
-  within = λ value k e. (subst (λ (o : Option ℕ). IsPlaceOf values value.now o) e (each value)).0;
-  holds = λ value k e. (subst (λ (o : Option ℕ). IsPlaceOf values value.now o) e (each value)).1;
-  absent = λ value e. subst (λ (o : Option ℕ). IsPlaceOf values value.now o) e (each value);
-}
-
-are_same : (a b : List ℕ) → eq_by_cmp (slice_cmp nat_cmp) a b ≡ true → a ≡ b
-are_same a b e = tells_apart (slice_cmp-IsAntisymmetric nat_cmp-IsAntisymmetric) a b e
-
--- keys are equal where the values are, since equal values have one hash
-is_eq_then : (o p : Ordering) → is_eq p ≡ false → is_eq (ordering_then o p) ≡ false
-is_eq_then Less p e = refl
-is_eq_then Equal p e = e
-is_eq_then Greater p e = refl
-
-tied : (o : Ordering) → is_eq o ≡ true → o ≡ Equal
-tied Less e = absurd (true≢false (sym e))
-tied Equal e = refl
-tied Greater e = absurd (true≢false (sym e))
-
-same_key : (a b : List ℕ) → nat_cmp (hash_of a) (hash_of b) ≡ Equal → eq_by_cmp (slice_cmp nat_cmp) a b ≡ is_eq (ordering_then (nat_cmp (hash_of a) (hash_of b)) (slice_cmp nat_cmp a b))
-same_key a b e = ap (λ (o : Ordering). is_eq (ordering_then o (slice_cmp nat_cmp a b))) (sym e)
-
-keys_by_value : (a b : List ℕ) → is_eq (ordering_then (nat_cmp (hash_of a) (hash_of b)) (slice_cmp nat_cmp a b)) ≡ eq_by_cmp (slice_cmp nat_cmp) a b
-keys_by_value a b = by (eq_by_cmp (slice_cmp nat_cmp) a b) refl
-  where
-    by : (c : Bool) → eq_by_cmp (slice_cmp nat_cmp) a b ≡ c → is_eq (ordering_then (nat_cmp (hash_of a) (hash_of b)) (slice_cmp nat_cmp a b)) ≡ eq_by_cmp (slice_cmp nat_cmp) a b
-    by true e = sym (same_key a b (ap (λ (v : List ℕ). nat_cmp (hash_of a) (hash_of v)) (sym (are_same a b e)) ∙ tied (nat_cmp (hash_of a) (hash_of a)) ((eq_by_cmp_equiv nat_cmp_total).refl (hash_of a))))
-    by false e = is_eq_then (nat_cmp (hash_of a) (hash_of b)) (slice_cmp nat_cmp a b) e ∙ sym e
-
--- what has a place is there already
+-- what is there already
 pub there : (values : List (List ℕ)) (value : List ℕ) (k : ℕ) → IsPlaceOf values value (Some k) → with_new values value ≡ values
 there values value k is =
     let e : bytes_eq value (get_or values k []) ≡ true = ap (λ (v : List ℕ). bytes_eq value v) is.1 ∙ itself value in
@@ -68,45 +31,133 @@ there values value k is =
 pub not_there : (values : List (List ℕ)) (value : List ℕ) → IsPlaceOf values value None → with_new values value ≡ values ++ value ∷ []
 not_there values value is = ap (λ (b : Bool). cond b values (values ++ value ∷ [])) is
 
-last_place : (values : List (List ℕ)) (value : List ℕ) (n : ℕ) → length values ≡ n → IsPlaceOf (values ++ value ∷ []) value (Some n)
-last_place values value n e = (let l = length-append values (value ∷ []) in omega (arith, l, e), get_or_push values value [] n e)
+-- what is found where the slot has something
+pub placed : (others : Others) (values : List (List ℕ)) (q : Bor (List ℕ)) (first : ℕ) (b : Bool) → first ≢ 0 → bytes_eq (get_or values (first - 1) []) q.now ≡ b → place_by others values q first ≡ cond b (Some (first - 1)) (get by_bytes others q)
+placed others values q zero b some e = absurd (some refl)
+placed others values q (suc k) b some e =
+    let n : suc k - 1 ≡ k = omega arith in
+    ap (λ (c : Bool). cond c (Some k) (get by_bytes others q)) (ap (λ (j : ℕ). bytes_eq (get_or values j []) q.now) (sym n) ∙ e)
+    ∙ ap (λ (j : ℕ). cond b (Some j) (get by_bytes others q)) (sym n)
 
-other_place : (values : List (List ℕ)) (value q : List ℕ) → bytes_eq q value ≡ false → (o : Option ℕ) → IsPlaceOf values q o → IsPlaceOf (values ++ value ∷ []) q o
-other_place values value q other None is =
-    list_any-append (bytes_eq q) values (value ∷ []) ∙ (ap (λ (b : Bool). b || (bytes_eq q value || false)) is ∙ ap (λ (b : Bool). b || false) other)
-other_place values value q other (Some k) is =
-    (let l = length-append values (value ∷ []) in let h = is.0 in omega (arith, l, h), get_or_append_left values (value ∷ []) [] k is.0 ∙ is.1)
+-- what is found of a value is there
+found : (others : Others) (values : List (List ℕ)) (q : Bor (List ℕ)) (first k : ℕ) → first ≤ length values
+    → ((j : ℕ) → get by_bytes others q ≡ Some j → IsPlaceOf values q.now (Some j)) → place_by others values q first ≡ Some k → IsPlaceOf values q.now (Some k)
+found others values q zero k within held e = let bad : None ≡ Some k = e in cc
+found others values q (suc j) k within held e = by (bytes_eq (get_or values j []) q.now) refl
+  where
+    at : (b : Bool) → bytes_eq (get_or values j []) q.now ≡ b → cond b (Some j) (get by_bytes others q) ≡ Some k
+    at b same = ap (λ (c : Bool). cond c (Some j) (get by_bytes others q)) (sym same) ∙ e
 
-place_after : (values : List (List ℕ)) (value q : List ℕ) (n : ℕ) (o : Option ℕ) → length values ≡ n → IsPlaceOf values q o → (b : Bool) → eq_by_cmp (slice_cmp nat_cmp) value q ≡ b → IsPlaceOf (values ++ value ∷ []) q (cond b (Some n) o)
-place_after values value q n o e is true same = subst (λ (v : List ℕ). IsPlaceOf (values ++ value ∷ []) v (Some n)) (are_same value q same) (last_place values value n e)
-place_after values value q n o e is false other = other_place values value q (same_path q value ∙ other) o is
+    by : (b : Bool) → bytes_eq (get_or values j []) q.now ≡ b → IsPlaceOf values q.now (Some k)
+    by true same = subst (λ (i : ℕ). IsPlaceOf values q.now (Some i)) (same_Some j k (at true same)) (omega (arith, within), same_bytes (get_or values j []) q.now same)
+    by false other = held k (at false other)
 
-abbrev Updates : BTreeMap (ℕ × Bor (List ℕ)) ℕ → BTreeMap (ℕ × Bor (List ℕ)) ℕ → ℕ × Bor (List ℕ) → ℕ → Type 0
-Updates m n key count = (q : ℕ × Bor (List ℕ)) → get by_hash n q ≡ cond (eq_by_cmp by_hash key q) (Some count) (get by_hash m q)
+-- the slot of a value's hash, as the code reads it
+pub record IsSlot (slots value : List ℕ) (slot first : ℕ) : Type 0 where
+  pub slot_is : slot ≡ hash_of value % length slots
+  pub within : slot < length slots
+  pub first_is : first ≡ slot_of slots value
 
--- what is found after one value was put at a place
-updated : (m n : BTreeMap (ℕ × Bor (List ℕ)) ℕ) (hash count : ℕ) (value q : Bor (List ℕ)) → hash ≡ hash_of value.now → Updates m n (hash, value) count → place_of n q ≡ cond (eq_by_cmp (slice_cmp nat_cmp) value.now q.now) (Some count) (place_of m q)
-updated m n hash count value q e updates =
-    updates (hash_of q.now, q)
-    ∙ ap (λ (b : Bool). cond b (Some count) (place_of m q))
-    (ap (λ (h : ℕ). is_eq (by_hash (h, value) (hash_of q.now, q))) e ∙ keys_by_value value.now q.now)
+pub is_slot : (slots value : List ℕ) (hash len first : ℕ) → 0 < length slots → hash ≡ hash_of value → len ≡ length slots → first ≡ get_or slots (hash % len) first → IsSlot slots value (hash % len) first
+is_slot slots value hash len first some h n is =
+    let e : hash % len ≡ hash_of value % length slots = ap (λ (x : ℕ). x % len) h ∙ ap (λ (x : ℕ). hash_of value % x) n in
+    let within : hash % len < length slots = let l = mod_below hash len (omega (arith, some, n)) in omega (arith, l, n) in
+    record { slot_is = e; within = within; first_is = is ∙ (get_or_default slots (hash % len) first 0 within ∙ ap (λ (i : ℕ). get_or slots i 0) e) }
 
--- a value that is added at the end has its place there
-pub places_after : (m n : BTreeMap (ℕ × Bor (List ℕ)) ℕ) (values more : List (List ℕ)) (value : Bor (List ℕ)) (hash count : ℕ) → ArePlaces m values → length values ≡ count → hash ≡ hash_of value.now → Updates m n (hash, value) count → more ≡ values ++ value.now ∷ [] → ArePlaces n more
-places_after m n values more value hash count are e h updates is = are_places n more (λ q.
-    subst (λ (vs : List (List ℕ)). IsPlaceOf vs q.now (place_of n q)) (sym is)
-    (subst (λ (o : Option ℕ). IsPlaceOf (values ++ value.now ∷ []) q.now o) (sym (updated m n hash count value q h updates))
-    (place_after values value.now q.now count (place_of m q) e (place_is m values q are _ refl) _ refl)))
+pub place_is : (slots : List ℕ) (others : Others) (values : List (List ℕ)) (q : Bor (List ℕ)) (slot first : ℕ) → ArePlaces slots others values → IsSlot slots q.now slot first
+    → (o : Option ℕ) → place_by others values q first ≡ o → IsPlaceOf values q.now o
+place_is slots others values q slot first are at None e = are.absent q (ap (place_by others values q) (sym at.first_is) ∙ e)
+place_is slots others values q slot first are at (Some k) e =
+    let within = are.within (hash_of q.now % length slots) in
+    let is = at.first_is in
+    found others values q first k (omega (arith, within, is)) (are.held q) e
 
--- a value that has a place keeps it, where it was put at another and back
-put_back : (values : List (List ℕ)) (value q : List ℕ) (first count : ℕ) (o : Option ℕ) → IsPlaceOf values value (Some first) → IsPlaceOf values q o → (b : Bool) → eq_by_cmp (slice_cmp nat_cmp) value q ≡ b → IsPlaceOf values q (cond b (Some first) (cond b (Some count) o))
-put_back values value q first count o at is true same = subst (λ (v : List ℕ). IsPlaceOf values v (Some first)) (are_same value q same) at
-put_back values value q first count o at is false other = is
+both_none : (b c : Bool) (x y o : Option ℕ) → is_some x ≡ true → is_some y ≡ true → cond b x (cond c y o) ≡ None → (c ≡ false) × (cond b x o ≡ None)
+both_none true c x y o some also e = let bad : true ≡ false = sym some ∙ ap is_some e in cc
+both_none false true x y o some also e = let bad : true ≡ false = sym also ∙ ap is_some e in cc
+both_none false false x y o some also e = (refl, e)
 
-pub places_kept : (m between n : BTreeMap (ℕ × Bor (List ℕ)) ℕ) (values : List (List ℕ)) (value : Bor (List ℕ)) (hash first count : ℕ)
-    → ArePlaces m values → hash ≡ hash_of value.now → place_of m value ≡ Some first → Updates m between (hash, value) count → Updates between n (hash, value) first → ArePlaces n values
-places_kept m between n values value hash first count are h at out back = are_places n values (λ q.
-    let same = eq_by_cmp (slice_cmp nat_cmp) value.now q.now in
-    subst (λ (o : Option ℕ). IsPlaceOf values q.now o)
-    (sym (updated between n hash first value q h back ∙ ap (λ (o : Option ℕ). cond same (Some first) o) (updated m between hash count value q h out)))
-    (put_back values value.now q.now first count (place_of m q) (place_is m values value are (Some first) at) (place_is m values q are _ refl) same refl))
+-- ---- one value more, which is not there
+
+module _ (slots : List ℕ) (others : Others) (values : List (List ℕ)) (value : Bor (List ℕ)) (are : ArePlaces slots others values) where
+  last : IsPlaceOf (values ++ value.now ∷ []) value.now (Some (length values))
+  last = (let l = length-append values (value.now ∷ []) in omega (arith, l), get_or_push values value.now [] (length values) refl)
+
+  still : (q : List ℕ) (k : ℕ) → IsPlaceOf values q (Some k) → IsPlaceOf (values ++ value.now ∷ []) q (Some k)
+  still q k is =
+      (let l = length-append values (value.now ∷ []) in let h = is.0 in omega (arith, l, h), get_or_append_left values (value.now ∷ []) [] k is.0 ∙ is.1)
+
+  absent_still : (q : Bor (List ℕ)) → q.now ≢ value.now → place_by others values q (slot_of slots q.now) ≡ None → list_any (bytes_eq q.now) (values ++ value.now ∷ []) ≡ false
+  absent_still q other none =
+      list_any-append (bytes_eq q.now) values (value.now ∷ [])
+      ∙ (ap (λ (b : Bool). b || (bytes_eq q.now value.now || false)) (are.absent q none) ∙ ap (λ (b : Bool). b || false) (other_path q.now value.now other))
+
+  -- a value that was there is found as before
+  as_before : (q : Bor (List ℕ)) (first : ℕ) → first ≤ length values → place_by others (values ++ value.now ∷ []) q first ≡ place_by others values q first
+  as_before q zero within = refl
+  as_before q (suc k) within =
+      ap (λ (v : List ℕ). cond (bytes_eq v q.now) (Some k) (get by_bytes others q)) (get_or_append_left values (value.now ∷ []) [] k (omega (arith, within)))
+
+  -- the value at its slot, which had none
+  pub slot_filled : (i : ℕ) → i ≡ hash_of value.now % length slots → i < length slots → get_or slots i 0 ≡ 0 → ArePlaces (set slots i (suc (length values))) others (values ++ value.now ∷ [])
+  slot_filled i is inside none = record {
+    some = let some = are.some in omega (arith, some, len);
+    within = λ j. within j (cases_eq j i);
+    held = λ q k e. still q.now k (are.held q k e);
+    absent = λ q nothing. absent q (cases_eq (hash_of q.now % length slots) i) (sym (ap (place_by others (values ++ value.now ∷ []) q) (seen q)) ∙ nothing);
+  }
+    where
+      new : List ℕ
+      new = set slots i (suc (length values))
+
+      len : length new ≡ length slots
+      len = length-set slots i (suc (length values))
+
+      seen : (q : Bor (List ℕ)) → slot_of new q.now ≡ get_or new (hash_of q.now % length slots) 0
+      seen q = ap (λ (n : ℕ). get_or new (hash_of q.now % n) 0) len
+
+      within : (j : ℕ) → (j ≡ i) ⊎ (j ≢ i) → get_or new j 0 ≤ length (values ++ value.now ∷ [])
+      within j (inl same) = let e = get_or-set_at slots i j (suc (length values)) 0 same inside in let l = length-append values (value.now ∷ []) in omega (arith, e, l)
+      within j (inr other) =
+          let e = get_or-set_other slots i j (suc (length values)) 0 other in let w = are.within j in let l = length-append values (value.now ∷ []) in omega (arith, e, w, l)
+
+      absent : (q : Bor (List ℕ)) → (hash_of q.now % length slots ≡ i) ⊎ (hash_of q.now % length slots ≢ i)
+          → place_by others (values ++ value.now ∷ []) q (get_or new (hash_of q.now % length slots) 0) ≡ None → list_any (bytes_eq q.now) (values ++ value.now ∷ []) ≡ false
+      absent q (inl same) nothing =
+          let first = get_or-set_at slots i (hash_of q.now % length slots) (suc (length values)) 0 same inside in
+          absent_still q
+          (λ e. let found : Some (length values) ≡ None =
+          sym (ap (λ (b : Bool). cond b (Some (length values)) (get by_bytes others q)) (path_itself _ q.now (last.1 ∙ sym e)))
+          ∙ (sym (ap (place_by others (values ++ value.now ∷ []) q) first) ∙ nothing) in cc)
+          (ap (place_by others values q) (ap (λ (k : ℕ). get_or slots k 0) same ∙ none))
+      absent q (inr other) nothing =
+          absent_still q (λ e. other (ap (λ (v : List ℕ). hash_of v % length slots) e ∙ sym is))
+          (sym (as_before q (slot_of slots q.now) (are.within (hash_of q.now % length slots)))
+          ∙ (sym (ap (place_by others (values ++ value.now ∷ []) q) (get_or-set_other slots i (hash_of q.now % length slots) (suc (length values)) 0 other)) ∙ nothing))
+
+  -- the value among the others, since its slot has another one
+  pub others_added : (new : Others) → ((q : Bor (List ℕ)) → get by_bytes new q ≡ cond (eq_by_cmp by_bytes value q) (Some (length values)) (get by_bytes others q))
+      → 0 < slot_of slots value.now → ArePlaces slots new (values ++ value.now ∷ [])
+  others_added new updates taken = record {
+    some = are.some;
+    within = λ j. let w = are.within j in let l = length-append values (value.now ∷ []) in omega (arith, w, l);
+    held = λ q k e. held q k (eq_by_cmp by_bytes value q) refl (sym (updates q) ∙ e);
+    absent = λ q nothing. absent q (slot_of slots q.now) refl nothing;
+  }
+    where
+      held : (q : Bor (List ℕ)) (k : ℕ) (b : Bool) → eq_by_cmp by_bytes value q ≡ b → cond b (Some (length values)) (get by_bytes others q) ≡ Some k → IsPlaceOf (values ++ value.now ∷ []) q.now (Some k)
+      held q k true same e =
+          subst (λ (v : List ℕ). IsPlaceOf (values ++ value.now ∷ []) v (Some k)) (sym (same_bytes q.now value.now (same_path q.now value.now ∙ same)))
+          (subst (λ (j : ℕ). IsPlaceOf (values ++ value.now ∷ []) value.now (Some j)) (same_Some _ _ e) last)
+      held q k false other e = still q.now k (are.held q k e)
+
+      absent : (q : Bor (List ℕ)) (first : ℕ) → slot_of slots q.now ≡ first → place_by new (values ++ value.now ∷ []) q first ≡ None → list_any (bytes_eq q.now) (values ++ value.now ∷ []) ≡ false
+      absent q zero is nothing =
+          absent_still q (λ e. let same : slot_of slots q.now ≡ slot_of slots value.now = ap (slot_of slots) e in omega (arith, same, is, taken)) (ap (place_by others values q) is)
+      absent q (suc k) is nothing =
+          let more : List (List ℕ) = values ++ value.now ∷ [] in
+          let both = both_none (bytes_eq (get_or more k []) q.now) (eq_by_cmp by_bytes value q) (Some k) (Some (length values)) (get by_bytes others q) refl refl
+          (sym (ap (λ (o : Option ℕ). cond (bytes_eq (get_or more k []) q.now) (Some k) o) (updates q)) ∙ nothing) in
+          let within = are.within (hash_of q.now % length slots) in
+          absent_still q (λ e. let same : bytes_eq q.now value.now ≡ true = path_itself q.now value.now e in let other = same_path q.now value.now ∙ both.0 in let bad : true ≡ false = sym same ∙ other in cc)
+          (ap (place_by others values q) is ∙ (sym (as_before q (suc k) (omega (arith, within, is))) ∙ both.1))

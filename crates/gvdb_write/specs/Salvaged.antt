@@ -1,5 +1,5 @@
 -- What one item gives to the settings that are salvaged.
-use Rattle.std.specs.Prelude.{◌≡◌, ◌<◌, ◌⊎◌, ◌↔◌, ℕ, List, Some, None, IsSome, IsTrue, IsUtf8, is_some, length, if◌then◌else◌}
+use Rattle.std.specs.Prelude.{◌≡◌, ◌<◌, ◌⊎◌, ◌↔◌, ℕ, List, Some, IsTrue, IsUtf8, length}
 use Rattle.std.specs.FinMap.{get, contains_key}
 use Rattle.dconf_model.specs.Settings.{Settings, with_value}
 use Rattle.dconf_model.specs.Table.{Table, item, item_count, HasBytes, bytes_of, value_kind, table_of}
@@ -29,17 +29,11 @@ pub record IsPointed (t : Table) (i : ℕ) : Type 0 where
   pub of_kind : (item t i).kind ≡ value_kind
   pub valid : HasBytes t i
 
--- the value of a path, where it has none yet
-abbrev pub with_first : Settings → List ℕ → List ℕ → Settings
-with_first s path value = if is_some (get s.values path) then s else with_value s path value
-
--- item i gives its bytes to the path that it spells, where that has no value yet
-pub record TakesValue (t : Table) (i : ℕ) (old new : Settings) : Type 0 where
-  pub kept : (path bytes : List ℕ) → get old.values path ≡ Some bytes → get new.values path ≡ Some bytes
-  pub taken : (path bytes : List ℕ) → get new.values path ≡ Some bytes →
-      (get old.values path ≡ Some bytes) ⊎ ((get old.values path ≡ None) × IsKeyText path × IsRow t path value_kind i × (bytes_of t i ≡ bytes))
-  pub held : (path : List ℕ) → IsKeyText path → IsRow t path value_kind i → IsSome (get new.values path)
-  pub same_locks : new.locks ≡ old.locks
+-- item i gives its bytes to the path of a key that it spells, if it spells one
+abbrev pub TakesValue : Table → ℕ → Settings → Settings → Type 0
+TakesValue t i old new =
+    (new ≡ old) × ((path : List ℕ) → IsKeyText path → ¬ IsRow t path value_kind i)
+    ⊎ ((path : List ℕ) × IsKeyText path × IsRow t path value_kind i × (new ≡ with_value old path (bytes_of t i)))
 
 -- item i of a table of locks spells this path
 pub record SpellsLock (t : Table) (i : ℕ) (path : List ℕ) : Type 0 where

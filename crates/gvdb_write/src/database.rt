@@ -27,8 +27,8 @@ const BLOOM_SHIFT: u32 = 5;
 /// The bytes of a database that holds a map's values and locks.
 ///
 /// `TooBig` comes where there would be over 4,294,967,295 bytes, and `Memory` where a growth is refused. Equal values
-/// are stored once. It looks at each path and each value and writes each byte a fixed number of times, and compares the hash of each value
-/// with as many others as a map of them is deep, and its bytes where hashes agree.
+/// are stored once. It looks at each path and each value and writes each byte a fixed number of times, and compares a value
+/// with the one that its hash leads to, and where that is another one, with as many as a map of such values is deep.
 pub fn write(alloc: Global, map: &Map) -> Result<Vec<u8>, WriteFault>
     ensures opens { IfOk result (λ file. IsDatabase file.items) }
     ensures sound { IfOk result (λ file. IsSound (root_of file.items)) }

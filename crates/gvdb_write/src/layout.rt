@@ -188,8 +188,8 @@ fn value_places<'a>(
     items: &[Named<'a>],
     values: &mut Values<'a>,
 ) -> Result<Vec<usize>, WriteFault>
-    requires { ArePlaces values.old.places (bytes_of_each values.old.distinct.items) }
-    ensures known { OnOk result (ArePlaces values.new.places (bytes_of_each values.new.distinct.items)) }
+    requires { ArePlaces values.old.slots.items values.old.others (bytes_of_each values.old.distinct.items) }
+    ensures known { OnOk result (ArePlaces values.new.slots.items values.new.others (bytes_of_each values.new.distinct.items)) }
     ensures distinct { OnOk result (bytes_of_each values.new.distinct.items
         ≡ fold with_new (bytes_of_each values.old.distinct.items) (own_values items.now)) }
     ensures places { IfOk result (λ places. HavePlaces items.now (bytes_of_each values.new.distinct.items) places.items) }
@@ -324,7 +324,7 @@ impl<'a> Layout<'a> {
         let root_at = lay_items(&mut cursor, &root.items)?;
         let lists = lay_lists(&mut cursor, root.children.len())?;
         let table = lay_locks(&mut cursor, &locks.items)?;
-        let mut values = Values::new(alloc);
+        let mut values = Values::new(alloc, root.items.len())?;
         let root_places = value_places(alloc, &root.items, &mut values)?;
         let lock_places = value_places(alloc, &locks.items, &mut values)?;
         let values = values.distinct;

@@ -1,6 +1,7 @@
 //! A map of paths to the bytes of their values, and a set of locked paths.
-ghost use Rattle.std.specs.Prelude.{◌≡◌, OnOk, OnErr, option_map};
+ghost use Rattle.std.specs.Prelude.{◌≡◌, IsTrue, OnOk, OnErr, option_map, string_bytes};
 ghost use Rattle.std.specs.FinMap.{contains_key, get, keys, len};
+ghost use Rattle.dconf_model.specs.Paths.{is_key_path};
 ghost use Rattle.dconf_model.specs.Settings.{no_settings, with_value, with_lock};
 ghost use Rattle.dconf_path.specs.Paths.{key_text};
 ghost use Rattle.dconf_path.specs.LockPaths.{lock_text};
@@ -60,10 +61,8 @@ impl Map {
         ensures ok { OnOk result (self.new ≡ with_value self.old (key_text path.entry) value.now) }
         ensures err { OnErr result (self.new ≡ self.old) }
     {
-        let path = String::from_str(self.alloc, path.as_str())?;
         let value = value.to_vec(self.alloc)?;
-        self.values.insert(path, value)?;
-        Ok(())
+        self.insert_owned(path, value)
     }
 
     /// Sets the bytes of the value at a path, in the place of those that it had, and keeps them where they are.
@@ -74,8 +73,17 @@ impl Map {
         ensures ok { OnOk result (self.new ≡ with_value self.old (key_text path.entry) value.items) }
         ensures err { OnErr result (self.new ≡ self.old) }
     {
-        let text = String::from_str(self.alloc, path.as_str())?;
-        self.values.insert(text, value)?;
+        let path = String::from_str(self.alloc, path.as_str())?;
+        self.put(path, value)
+    }
+
+    /// Sets the bytes of the value at the path of a key, and keeps both where they are.
+    pub(crate) fn put(&mut self, path: String, value: Vec<u8>) -> Result<(), MapFault>
+        requires { IsTrue (is_key_path (string_bytes path)) }
+        ensures ok { OnOk result (self.new ≡ with_value self.old (string_bytes path) value.items) }
+        ensures err { OnErr result (self.new ≡ self.old) }
+    {
+        self.values.insert(path, value)?;
         Ok(())
     }
 

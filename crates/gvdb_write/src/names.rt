@@ -1,6 +1,6 @@
 //! The names of a database in the order of their bytes: each directory that a key lies in, and each key. A name's
 //! own key is its last part, a directory's with its slash.
-ghost use Rattle.std.specs.Prelude.{◌≡◌, ◌≤◌, ◌<◌, ℕ, length, take, None, IfOk, IfErr, IsTrue, IsUtf8};
+ghost use Rattle.std.specs.Prelude.{◌≡◌, ◌<◌, ◌+◌, ℕ, length, take, None, IfOk, IfErr, IsTrue, IsUtf8};
 ghost use Rattle.dconf_model.specs.Bytes.{hash_of};
 ghost use Rattle.dconf_model.specs.Table.{list_kind};
 ghost use Rattle.dconf_model.specs.Settings.{IsSettings};
@@ -55,12 +55,10 @@ pub(crate) fn root_names<'a>(alloc: Global, map: &'a Map) -> Result<Vec<Named<'a
     }
     let mut directory = names.len();
     names.push(top(b"/", Content::List))?;
-    let mut last: &[u8] = b"/";
     for (path, value) in map.entries() {
         let text = path.as_bytes();
-        directory = innermost(&names, directory, common(last, text));
+        directory = innermost(&names, directory, text);
         directory = add(text, value, directory, &mut names)?;
-        last = text;
     }
     Ok(names)
 }
@@ -93,21 +91,18 @@ fn top<'a>(name: &'a [u8], content: Content<'a>) -> Named<'a>
     }
 }
 
-/// The innermost directory that has at most so many bytes, of a directory and those that it lies in.
-fn innermost(names: &[Named<'_>], directory: usize, len: usize) -> usize
+/// The innermost directory that a path lies in, of a directory and those that it lies in.
+fn innermost(names: &[Named<'_>], directory: usize, text: &[u8]) -> usize
     requires within { directory < length names.now }
     requires placed { ArePlaced names.now }
     requires list { kind_at names.now directory ≡ list_kind }
-    requires some { 0 < len }
-    ensures within { result < length names.now }
-    ensures list { kind_at names.now result ≡ list_kind }
-    ensures short { length (name_at names.now result) ≤ len }
-    ensures prefix { take (length (name_at names.now result)) (name_at names.now directory) ≡ name_at names.now result }
-    ensures inside { length (name_at names.now result) ≤ length (name_at names.now directory) }
-    ensures most { (i : ℕ) → IsSlash (name_at names.now directory) i → i < len → i < length (name_at names.now result) }
+    requires first { IsSlash text.now 0 }
+    ensures lies { IsDirectoryAt names.now text.now result }
+    ensures most { (i : ℕ) → IsSlash (name_at names.now directory) i
+        → take (i + 1) (name_at names.now directory) ≡ take (i + 1) text.now → i < length (name_at names.now result) }
 {
     let mut at = directory;
-    while names[at].name.len() > len {
+    while !text.starts_with(names[at].name) {
         match names[at].parent {
             Some(parent) => at = parent,
             None => return at,
@@ -157,20 +152,4 @@ fn add<'a>(
         content: Content::Value(value),
     })?;
     Ok(parent)
-}
-
-/// How many bytes two names begin with in common.
-fn common(left: &[u8], right: &[u8]) -> usize
-    ensures within { result ≤ length right.now }
-    ensures same { take result left.now ≡ take result right.now }
-    ensures most { (n : ℕ) → n ≤ length left.now → n ≤ length right.now → take n left.now ≡ take n right.now → n ≤ result }
-{
-    let mut count = 0;
-    for (l, r) in left.iter().zip(right) {
-        if l != r {
-            return count;
-        }
-        count += 1;
-    }
-    count
 }

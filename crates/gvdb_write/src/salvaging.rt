@@ -6,9 +6,8 @@ ghost use Rattle.dconf_model.specs.Names.{HasName};
 ghost use Rattle.dconf_model.specs.Opening.{IsDatabase};
 ghost use Rattle.dconf_model.specs.Salvaging.{IsOpenLocks, IsSalvaged};
 ghost use Rattle.dconf_model.specs.Table.{bytes_of, item, item_count, table_of, value_kind};
-ghost use Rattle.dconf_path.specs.Paths.{key_text};
 ghost use Rattle.gvdb_read.specs.Tables.{region};
-ghost use Rattle.gvdb_write.specs.Salvaged.{HasLowestValues, HasNoShortText, IsLowestLocks, IsPointed, IsSalvageRefusal, SpellsLock, TakesLock, TakesValue, with_first};
+ghost use Rattle.gvdb_write.specs.Salvaged.{HasLowestValues, HasNoShortText, IsLowestLocks, IsPointed, IsSalvageRefusal, SpellsLock, TakesLock, TakesValue};
 
 use crate::fault::MapFault;
 use crate::map::Map;
@@ -28,7 +27,7 @@ const LOCKS: &str = ".locks";
 /// looked into.
 ///
 /// `Open` comes where the bytes are no database, and `Memory` where a growth is refused. It walks from each item up its
-/// parents, for at most 65,536 items, and looks each path up in the map.
+/// parents, for at most 65,536 items, and compares each path with as many as the map is deep.
 pub fn salvage(alloc: Global, file: &[u8]) -> Result<Map, SalvageFault>
     ensures opens { IfOk result (λ _. IsDatabase file.now) }
     ensures salvaged { IfOk result (λ map. IsSalvaged file.now map) }
@@ -48,13 +47,16 @@ fn salvaged_values(alloc: Global, root: Table<'_>) -> Result<Map, MapFault>
     ensures no_locks { IfOk result (λ map. map.locks ≡ empty) }
 {
     let mut values = Map::new(alloc);
-    for i in 0..root.n_items() {
+    // From the last item on: the lowest value of a path is the one that is set last.
+    let mut i = root.n_items();
+    while i > 0 {
+        i -= 1;
         salvage_value(alloc, root, i, &mut values)?;
     }
     Ok(values)
 }
 
-/// Takes item `i`'s value, where it is one, its name is the path of a key, and the map has none there.
+/// Sets item `i`'s value at its name, where it is a value and its name is the path of a key.
 fn salvage_value(alloc: Global, root: Table<'_>, i: u32, map: &mut Map) -> Result<(), MapFault>
     ensures takes { OnOk result (TakesValue (region root.entry) i map.old map.new) }
 {
@@ -64,20 +66,10 @@ fn salvage_value(alloc: Global, root: Table<'_>, i: u32, map: &mut Map) -> Resul
     let Some(name) = name_of(alloc, root, i)? else {
         return Ok(());
     };
-    match KeyPath::parse(name.as_str()) {
-        Ok(path) => insert_first(path, bytes, map),
-        Err(_) => Ok(()),
-    }
-}
-
-/// Sets the bytes at a path that has none yet.
-fn insert_first(path: KeyPath<'_>, bytes: &[u8], map: &mut Map) -> Result<(), MapFault>
-    ensures first { OnOk result (map.new ≡ with_first map.old (key_text path.entry) bytes.now) }
-{
-    if map.get(path).is_some() {
+    if KeyPath::parse(name.as_str()).is_err() {
         return Ok(());
     }
-    map.insert(path, bytes)
+    map.put(name, bytes.to_vec(alloc)?)
 }
 
 /// The bytes of item `i`, where it is a value whose pointer is valid.

@@ -13,7 +13,7 @@ loop-named-init c = record {
 }
 
 abbrev AreKnown : Values → Type 0
-AreKnown values = ArePlaces values.places (bytes_of_each values.distinct.items)
+AreKnown values = ArePlaces values.slots.items values.others (bytes_of_each values.distinct.items)
 
 pub loop-named-preserved : goal.loop-named-preserved
 loop-named-preserved c =

@@ -4,6 +4,6 @@ use Rattle.gvdb_write.proofs.layout.value_places.Given as goal
 
 abbrev pub invariant-loop-named : goal.invariant-loop-named
 invariant-loop-named l = record {
-  known : ArePlaces l.values.places (bytes_of_each l.values.distinct.items);
+  known : ArePlaces l.values.slots.items l.values.others (bytes_of_each l.values.distinct.items);
   so_far : AreFound l.items (bytes_of_each l.fn.values.distinct.items) (bytes_of_each l.values.distinct.items) l.places.items l.named-index;
 }

@@ -2,8 +2,8 @@ use Rattle.gvdb_write.specs.Names.{name_at}
 use Rattle.gvdb_write.proofs.DirectorySteps.{IsUpFrom}
 use Rattle.gvdb_write.proofs.names.innermost.Given as goal
 
-abbrev pub invariant-loop-at : goal.invariant-loop-at
-invariant-loop-at l = record { up : IsUpFrom l.names (name_at l.names l.directory) l.len l.at }
+abbrev pub invariant-loop-parent : goal.invariant-loop-parent
+invariant-loop-parent l = record { up : IsUpFrom l.names (name_at l.names l.directory) l.text l.at }
 
-abbrev pub decreases-loop-at : goal.decreases-loop-at
-decreases-loop-at l = l.at
+abbrev pub decreases-loop-parent : goal.decreases-loop-parent
+decreases-loop-parent l = l.at

@@ -3,13 +3,13 @@ use Rattle.std.specs.FinMap.{keys}
 use Rattle.dconf_model.specs.Settings.{Settings}
 use Rattle.dconf_model.specs.Table.{list_kind, table_kind}
 use Rattle.gvdb_write.specs.declared.names.Named.{Named}
-use Rattle.gvdb_write.specs.Names.{ArePlaced}
+use Rattle.gvdb_write.specs.Names.{ArePlaced, IsDirectoryAt}
 use Rattle.gvdb_write.specs.PathsLeft.{AreHeld, entries_left}
 use Rattle.gvdb_write.specs.Maps.{AreKeyPaths, ArePaths, paths_of}
 use Rattle.gvdb_write.proofs.HeldEntries.{first_path, first_is_path, first_value, rest_held}
 use Rattle.gvdb_write.proofs.KeysRise.{are_settings}
 use Rattle.gvdb_write.proofs.PathTexts.{text_of_key}
-use Rattle.gvdb_write.proofs.RootNames.{AreNamesSoFar, IsCommon, IsCommonDirectory, IsNextDirectory, some_common, next_directory, names_more}
+use Rattle.gvdb_write.proofs.RootNames.{AreNamesSoFar, IsMost, next_beyond, names_more}
 use Rattle.gvdb_write.proofs.RootStart.{IsTopName, is_top, vec_counted, as_said, start_without, start_with, all_names, some_lock, no_lock}
 use Rattle.gvdb_write.proofs.names.root_names.Goals as goal
 use Rattle.gvdb_write.proofs.names.root_names.Goals.{then-is_some+in_ok-push, else-is_some}
@@ -29,6 +29,7 @@ loop-path-init c =
           let first : c.if-is_some.names.items ≡ locks ∷ [] =
           ap (λ v. v.items) w.names-is ∙ (w.in_ok-push.ensures.items ∙ ap (λ (l : List Named). l ++ locks ∷ []) c.new-names.ensures.items) in
           record {
+            last = codes "/";
             so_far =
                 as_said s (locks ∷ slash ∷ []) _ 1 _ (codes "/") _ _ (c.in_ok-push-2.ensures.items ∙ ap (λ (l : List Named). l ++ slash ∷ []) first)
                 (c.len-directory.ensures ∙ vec_counted c.if-is_some.names (locks ∷ []) first) left
@@ -39,6 +40,7 @@ loop-path-init c =
       | else-is_some w ↦
           let first : c.if-is_some.names.items ≡ [] = ap (λ v. v.items) w.names-is ∙ c.new-names.ensures.items in
           record {
+            last = codes "/";
             so_far =
                 as_said s (slash ∷ []) _ 0 _ (codes "/") _ _ (c.in_ok-push-2.ensures.items ∙ ap (λ (l : List Named). l ++ slash ∷ []) first)
                 (c.len-directory.ensures ∙ vec_counted c.if-is_some.names [] first) left
@@ -50,29 +52,19 @@ loop-path-init c =
 pub innermost-directory-requires-clause-placed : goal.innermost-directory-requires-clause-placed
 innermost-directory-requires-clause-placed c = subst (λ (l : List Named). ArePlaced l) (sym c.deref.ensures.value) c.loop-path.invariant.so_far.good.placed
 
-pub innermost-directory-requires-clause-some : goal.innermost-directory-requires-clause-some
-innermost-directory-requires-clause-some c =
-    let common : IsCommon c.loop-path.last.now c.as_bytes-text.result.now c.common.result =
-    record { within = c.common.ensures.within; same = c.common.ensures.same; most = c.common.ensures.most } in
-    let is_path = first_is_path (entries_left c.loop-path.path-iterator) (entries_left c.next-in-loop-path.new.self) c.in-Some.path.now c.in-Some.value.now c.as_bytes-text.result.now c.in-Some.ensures.steps c.as_bytes-text.ensures.value c.loop-path.path-iterator.are_paths in
-    some_common _ _ _ common c.loop-path.invariant.so_far.first (text_of_key c.as_bytes-text.result.now is_path).first
-
-next : (c : goal.After-names-in-loop-path-2-1) → IsNextDirectory c.loop-path.names.items c.as_bytes-text.result.now c.innermost-directory.result
-next c =
-    let d = c.innermost-directory.ensures in
-    let common : IsCommon c.loop-path.last.now c.as_bytes-text.result.now c.common.result =
-    record { within = c.common.ensures.within; same = c.common.ensures.same; most = c.common.ensures.most } in
-    let inner : IsCommonDirectory c.deref.result.now c.loop-path.directory c.common.result c.innermost-directory.result =
-    record { within = d.within; list = d.list; short = d.short; prefix = d.prefix; inside = d.inside; most = d.most } in
-    next_directory c.args.map.now c.loop-path.names.items c.deref.result.now c.loop-path.directory c.loop-path.last.now c.as_bytes-text.result.now _ _
-    c.common.result c.innermost-directory.result c.loop-path.invariant.so_far
-    (first_path _ _ c.in-Some.path.now c.in-Some.value.now c.as_bytes-text.result.now c.in-Some.ensures.steps c.as_bytes-text.ensures.value) common c.deref.ensures.value inner
+pub innermost-directory-requires-clause-first : goal.innermost-directory-requires-clause-first
+innermost-directory-requires-clause-first c =
+    (text_of_key c.as_bytes-text.result.now
+    (first_is_path (entries_left c.loop-path.path-iterator) (entries_left c.next-in-loop-path.new.self) c.in-Some.path.now c.in-Some.value.now c.as_bytes-text.result.now c.in-Some.ensures.steps c.as_bytes-text.ensures.value c.loop-path.path-iterator.are_paths)).first
 
 pub add-requires-clause-lies : goal.add-requires-clause-lies
-add-requires-clause-lies c = (next c).lies
+add-requires-clause-lies c = subst (λ (l : List Named). IsDirectoryAt l c.as_bytes-text.result.now c.innermost-directory.result) c.deref.ensures.value c.innermost-directory.ensures.lies
 
 pub add-requires-clause-beyond : goal.add-requires-clause-beyond
-add-requires-clause-beyond c = (next c).beyond
+add-requires-clause-beyond c =
+    next_beyond c.args.map.now c.loop-path.names.items c.loop-path.directory c.loop-path.invariant.last c.as_bytes-text.result.now _ _ c.innermost-directory.result c.loop-path.invariant.so_far
+    (first_path _ _ c.in-Some.path.now c.in-Some.value.now c.as_bytes-text.result.now c.in-Some.ensures.steps c.as_bytes-text.ensures.value)
+    (subst (λ (l : List Named). IsMost l c.loop-path.directory c.as_bytes-text.result.now c.innermost-directory.result) c.deref.ensures.value c.innermost-directory.ensures.most)
 
 pub add-requires-clause-path : goal.add-requires-clause-path
 add-requires-clause-path c =
@@ -86,12 +78,13 @@ loop-path-preserved c =
     let rest = entries_left c.next-in-loop-path.new.self in
     let first = c.in-Some.ensures.steps in
     let is = c.as_bytes-text.ensures.value in
-    let so : AreNamesSoFar s c.loop-path.names.items c.loop-path.directory c.loop-path.last.now (text ∷ paths_of rest) =
-    subst (λ (l : List (List ℕ)). AreNamesSoFar s c.loop-path.names.items c.loop-path.directory c.loop-path.last.now l)
+    let so : AreNamesSoFar s c.loop-path.names.items c.loop-path.directory c.loop-path.invariant.last (text ∷ paths_of rest) =
+    subst (λ (l : List (List ℕ)). AreNamesSoFar s c.loop-path.names.items c.loop-path.directory c.loop-path.invariant.last l)
     (first_path left rest c.in-Some.path.now c.in-Some.value.now text first is) c.loop-path.invariant.so_far in
     record {
+      last = text;
       so_far =
-          names_more s c.loop-path.names.items c.add.new.names.items c.loop-path.last.now text c.in-Some.value.now (paths_of rest)
+          names_more s c.loop-path.names.items c.add.new.names.items c.loop-path.invariant.last text c.in-Some.value.now (paths_of rest)
           c.loop-path.directory c.in_ok-directory.directory so c.in_ok-directory.ensures.added
           (λ _. first_value left rest c.in-Some.path.now c.in-Some.value.now text first is s.values c.loop-path.invariant.held)
           (text_of_key text (first_is_path left rest c.in-Some.path.now c.in-Some.value.now text first is c.loop-path.path-iterator.are_paths));
@@ -99,7 +92,7 @@ loop-path-preserved c =
     }
 
 pub returns-clause-names : goal.returns-clause-names
-returns-clause-names c = all_names c.args.map.now c.loop-path.names.items c.loop-path.directory c.loop-path.last.now _ (ap paths_of c.in-None.ensures.steps.0) c.loop-path.invariant.so_far
+returns-clause-names c = all_names c.args.map.now c.loop-path.names.items c.loop-path.directory c.loop-path.invariant.last _ (ap paths_of c.in-None.ensures.steps.0) c.loop-path.invariant.so_far
 
 pub returns-clause-settings : goal.returns-clause-settings
 returns-clause-settings c =

@@ -66,7 +66,7 @@ returns-in_err-pointers-clause-fault c =
     let first : List (List ℕ) = bytes_of_each c.value_places.new.values.distinct.items in
     let last : List (List ℕ) = bytes_of_each c.value_places-2.new.values.distinct.items in
     let once = ap bytes_of_each c.deref-5.ensures.value ∙ all_once root locks first last c.requires.nothing
-    (added_seen root.items.items c.deref-3.result.now _ [] first c.deref-3.ensures.value (ap bytes_of_each c.new-values.ensures.empty) c.in_ok-root_places.ensures.distinct)
+    (added_seen root.items.items c.deref-3.result.now _ [] first c.deref-3.ensures.value (ap bytes_of_each c.in_ok-values.ensures.empty) c.in_ok-root_places.ensures.distinct)
     (added_seen locks.items.items c.deref-4.result.now first first last c.deref-4.ensures.value refl c.in_ok-lock_places.ensures.distinct) in
     let ends = whole_is root locks c.lay_lists.new.cursor.at c.lay_locks.new.cursor.at (values_end c.lay_locks.new.cursor.at all) all at lock_at once refl in
     still_over c.from_residual-in_err-pointers.result (values_end c.lay_locks.new.cursor.at all) (length_of (plan_of root locks)) (λ past. omega (arith, ends, past)) (search rules)
@@ -138,7 +138,7 @@ returns-clause-layout c =
     let pointed = subst (λ (items : List Named). ArePointed items k rows) c.deref-10.ensures.value c.in_ok-records.ensures.pointers in
     let lock_pointed = subst (λ (items : List Named). ArePointed items l lock_rows) c.deref-11.ensures.value c.in_ok-records-2.ensures.pointers in
     let valued = are_valued root locks at k l rows lock_rows first all c.requires.nothing
-    (added_seen root.items.items c.deref-3.result.now _ [] first c.deref-3.ensures.value (ap bytes_of_each c.new-values.ensures.empty) c.in_ok-root_places.ensures.distinct)
+    (added_seen root.items.items c.deref-3.result.now _ [] first c.deref-3.ensures.value (ap bytes_of_each c.in_ok-values.ensures.empty) c.in_ok-root_places.ensures.distinct)
     (added_seen locks.items.items c.deref-4.result.now first first all c.deref-4.ensures.value refl c.in_ok-lock_places.ensures.distinct)
     (places_lent root.items.items c.deref-3.result.now first c.in_ok-root_places.root_places.items c.deref-7.result.now c.deref-3.ensures.value c.deref-7.ensures.value c.in_ok-root_places.ensures.places)
     (places_lent locks.items.items c.deref-4.result.now all c.in_ok-lock_places.lock_places.items c.deref-9.result.now c.deref-4.ensures.value c.deref-9.ensures.value c.in_ok-lock_places.ensures.places)
