@@ -12,7 +12,7 @@ use Rattle.dconf_model.proofs.NameOrder.{before_prefix}
 use Rattle.dconf_model.proofs.PathLaws.{ends_in}
 use Rattle.gvdb_write.specs.declared.names.Named.{Named}
 use Rattle.gvdb_write.specs.PlanWords.{kind_of, content_bytes, no_name}
-use Rattle.gvdb_write.specs.Names.{named, name_at, kind_at, IsBefore, IsSlash, AreGood, AreRootNames, HoldValues, IsThere, IsDirectoryAt, IsBeyond, last_name, IsNewDirectory, IsAdded}
+use Rattle.gvdb_write.specs.Names.{named, name_at, IsBefore, IsSlash, AreGood, AreRootNames, HoldValues, IsThere, IsDirectoryAt, IsBeyond, last_name, IsNewDirectory, IsAdded}
 use Rattle.gvdb_write.proofs.PathTexts.{IsText}
 use Rattle.gvdb_write.proofs.PushedNames.{kept, pushed, old_or_last, last_pushed}
 use Rattle.gvdb_write.proofs.KeysRise.{Rise, rise_rest, first_before, listed_is_kept}

@@ -1,4 +1,4 @@
-use Rattle.std.proofs.Common.{◌≡◌, ◌∙◌, IsTrue, inl, true, false, refl, sym, subst}
+use Rattle.std.proofs.Common.{◌≡◌, ◌∙◌, IsTrue, inl, refl, sym, subst}
 use Rattle.std.specs.String.{string_bytes}
 use Rattle.dconf_model.specs.Names.{HasName}
 use Rattle.dconf_model.specs.Paths.{is_key_path}

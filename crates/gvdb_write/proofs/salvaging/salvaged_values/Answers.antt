@@ -1,6 +1,5 @@
-use Rattle.std.proofs.Common.{◌≡◌, ◌≤◌, ◌+◌, ◌-◌, ℕ, ◌∙◌, ap, sym, subst, arith}
+use Rattle.std.proofs.Common.{◌≡◌, ◌+◌, ◌-◌, ℕ, ◌∙◌, ap, sym, subst, arith}
 use Rattle.dconf_model.specs.Settings.{Settings}
-use Rattle.dconf_model.specs.Table.{item_count}
 use Rattle.gvdb_read.specs.Tables.{region}
 use Rattle.gvdb_write.proofs.SalvagedSteps.{AreLowestFrom, none_from, one_from, all_lowest, same_locks}
 use Rattle.gvdb_write.proofs.salvaging.salvaged_values.Goals as goal

@@ -1,4 +1,4 @@
-use Rattle.std.proofs.Common.{◌≡◌, ◌∙◌, ap, refl, rules, List, ℕ}
+use Rattle.std.proofs.Common.{◌∙◌, ap, refl, rules, List, ℕ}
 use Rattle.std.specs.String.{string_bytes}
 use Rattle.dconf_model.specs.Settings.{Settings, AtPaths, with_value}
 use Rattle.gvdb_write.specs.Maps.{locks_of}
