@@ -8,7 +8,7 @@ use Rattle.gv_model.specs.Ty.Basic.{boolean, int32, string}
 use Rattle.gv_model.specs.Syntax.{Syntax, Syntaxes}
 use Rattle.gv_model.specs.Syntax.Syntax.{truth, integer, quoted, list, keyword}
 use Rattle.gv_model.specs.Syntax.Syntaxes.{first}
-use Rattle.gv_model.specs.Patterns.{Pattern, pattern, common, all_common, is_number, only_if, under}
+use Rattle.gv_model.specs.Patterns.{pattern, common, all_common, is_number, only_if, under}
 use Rattle.gv_model.specs.Patterns.Pattern.{anything, loose, strict}
 use Rattle.gv_model.specs.Patterns.Bare.{basics, array_of}
 use Rattle.gv_model.specs.Patterns.BasicSet.{numbers, texts, only}
@@ -69,5 +69,5 @@ before_all ns i x l here e more =
 
     rest : (suc i ≡ length ns) ⊎ (all_common (nodes_of (drop (suc i) ns)) ≡ loose (basics texts)) →
         (all_common (nodes_of (drop (i + 1) ns)) ≡ anything) ⊎ (all_common (nodes_of (drop (i + 1) ns)) ≡ loose (basics texts))
-    rest (inl end) = inl (ap (λ l. all_common (nodes_of l)) (drop_all (i + 1) ns (λ more. omega (arith, more, end))))
-    rest (inr texts) = inr (ap (λ n. all_common (nodes_of (drop n ns))) next ∙ texts)
+    rest (inl end) = inl (ap (λ l. all_common (nodes_of l)) (drop_all (i + 1) ns (omega (arith, end))))
+    rest (inr more) = inr (ap (λ n. all_common (nodes_of (drop n ns))) next ∙ more)

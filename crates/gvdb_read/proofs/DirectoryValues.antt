@@ -5,13 +5,12 @@ use Rattle.std.proofs.Math.Seq.{get_or-append_seam}
 use Rattle.std.proofs.lemmas.Bool.Decides.{Decides-eqb}
 use Rattle.std.proofs.lemmas.List.{take_more, take_all}
 use Rattle.std.proofs.lemmas.Slice.Eq.{ends_is}
-use Rattle.dconf_model.specs.Locks.{covers}
 use Rattle.dconf_model.specs.Names.{HasParents, IsItem, joined}
 use Rattle.dconf_model.specs.Paths.{ends_with_slash}
 use Rattle.dconf_model.specs.Table.{Table as Region}
 use Rattle.dconf_model.specs.Table.{key, value_kind}
 use Rattle.dconf_model.proofs.PathLaws.{ends_in}
-use Rattle.gvdb_read.specs.Directories.{IsDirectoryValue, HasDirectoryValue}
+use Rattle.gvdb_read.specs.Directories.{HasDirectoryValue}
 use Rattle.gvdb_read.specs.Lookups.{IsFound}
 use Rattle.gvdb_read.proofs.CoveredPaths.{IsPrefixAt, HasCovering, covering, covers_itself}
 

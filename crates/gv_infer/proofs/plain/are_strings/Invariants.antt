@@ -1,4 +1,4 @@
-use Rattle.std.proofs.Common.{◌≡◌, ◌⊎◌, ◌<◌, ◌≤◌, length, drop}
+use Rattle.std.proofs.Common.{◌≡◌, ◌⊎◌, ◌≤◌, length, drop}
 use Rattle.gv_model.specs.Patterns.{all_common}
 use Rattle.gv_model.specs.Patterns.Pattern.{loose}
 use Rattle.gv_model.specs.Patterns.Bare.{basics}

@@ -1,5 +1,4 @@
-use Rattle.std.proofs.Common.{Ok, Err, IfOk, IfErr, refl, sym, subst}
-use Rattle.gv_model.specs.Admits.{Admits}
+use Rattle.std.proofs.Common.{Ok, IfOk, IfErr, refl, sym, subst}
 use Rattle.gv_types.specs.TypeStr.{ty}
 use Rattle.gv_infer.specs.Reads.{Reads, IsReadFault}
 use Rattle.gv_infer.specs.declared.read_fault.ReadFault.TheVariants.{Typing}
@@ -20,13 +19,13 @@ returns-in-Ok-clause-fault c = λ text tree.
     subst (λ r. IfErr r (IsReadFault text)) (sym c.ok_or.ensures.value)
     (read_or_deep text c.args.root.now (ty c.args.of) (ty c.args.of) c.in-Ok.built tree c.requires.own refl c.in-Ok.ensures.built).fault
 
-pub returns-in_err-check_contents-clause-fault : goal.returns-in_err-check_contents-clause-fault
-returns-in_err-check_contents-clause-fault c = λ text tree.
-    stops (IsReadFault text) c.from_residual.result (Typing c.in_err-check_contents.field-0.0)
-    (read_content_fault text c.args.root.now c.in_err-check_contents.field-0.0 tree c.in_err-check_contents.ensures.fault)
+pub returns-in_err-check_contents-in-Err-clause-fault : goal.returns-in_err-check_contents-in-Err-clause-fault
+returns-in_err-check_contents-in-Err-clause-fault c = λ text tree.
+    stops (IsReadFault text) c.from_residual.result (Typing c.in_err-check_contents-in-Err.field-0.0)
+    (read_content_fault text c.args.root.now c.in_err-check_contents-in-Err.field-0.0 tree c.in_err-check_contents-in-Err.ensures.fault)
     c.from_residual.ensures.1
 
-pub returns-clause-fault : goal.returns-clause-fault
-returns-clause-fault c = λ text tree.
+pub returns-in_ok-check_contents-in-Err-clause-fault : goal.returns-in_ok-check_contents-in-Err-clause-fault
+returns-in_ok-check_contents-in-Err-clause-fault c = λ text tree.
     read_literal_fault text c.args.root.now (ty c.args.of) (ty c.args.of) c.in-Err.fault tree c.requires.own refl
-    c.in_ok-check_contents.ensures.typed c.in-Err.ensures.built
+    c.in_ok-check_contents-in-Err.ensures.typed c.in-Err.ensures.built

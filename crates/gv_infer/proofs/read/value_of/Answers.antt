@@ -1,4 +1,3 @@
-use Rattle.std.proofs.Common.{IfErr}
 use Rattle.gv_infer.specs.Reads.{IsReadFault}
 use Rattle.gv_infer.specs.declared.read_fault.ReadFault.TheVariants.{Typing}
 use Rattle.gv_infer.proofs.ReadLaws.{stops}
