@@ -1,9 +1,10 @@
--- What clap is told of the words that a command takes.
+-- What clap is told of commands and of the words that they take.
 use Rattle.std.specs.Prelude.{List, Some, map}
 use Rattle.std.specs.List.{fold}
-use Rattle.clap.specs.Words.{App, Rule, new_rule, with_rule}
+use Rattle.clap.specs.Words.{App, Rule, new_app, new_rule, with_rule, with_subcommand}
 use Rattle.clap.specs.declared.builder.action.ArgAction.TheVariants.{SetTrue}
 use Rattle.dconf_command.specs.CommandLine.{further_words, locks_option, profile_option, required_word}
+use Rattle.dconf_command.specs.declared.command_table.Line.{Line}
 use Rattle.dconf_command.specs.declared.word.Word.{Word}
 use Rattle.dconf_command.specs.declared.word.Word.TheVariants.{Required, Further, Flag, Locks, Profile}
 
@@ -17,3 +18,11 @@ rule_of_word Profile = profile_option
 -- a line with these words after its own
 abbrev pub with_words : App → List Word → App
 with_words line words = fold with_rule line (map rule_of_word words)
+
+-- with a command more, of a name and its words
+abbrev pub with_line : App → Line → App
+with_line app line = with_subcommand app (with_words (new_app line.name.now) line.words.now).top
+
+-- with commands more
+abbrev pub with_lines : App → List Line → App
+with_lines app lines = fold with_line app lines

@@ -9,7 +9,7 @@
 
 mod asked;
 mod command_line;
-mod help;
+mod command_table;
 mod replaced;
 mod word;
 mod words;

@@ -7,9 +7,9 @@ use Rattle.dconf_command.proofs.command_line.with.Goals as goal
 
 pub returns : goal.returns
 returns c =
-    let made : App = with_words (new_app c.args.command.name.now) c.args.command.words.now in
+    let made : App = with_words (new_app c.args.command.now.name.now) c.args.command.now.words.now in
     let is_made : app_of c.in_ok-named.field-0 ≡ made = c.in_ok-named.ensures in
-    let plain : made.top.is_plain ≡ true = plain_words (new_app c.args.command.name.now) c.args.command.words.now in
+    let plain : made.top.is_plain ≡ true = plain_words (new_app c.args.command.now.name.now) c.args.command.now.words.now in
     IfOk-weaker c.subcommand.result _ _ (λ r h.
     h.shape (first_not _ _ (second _ _ (second _ _ (ap (λ (a : App). a.top.is_plain) is_made ∙ plain))))
     ∙ ap (λ (a : App). with_subcommand (app_of c.args.line) a.top) is_made) c.subcommand.ensures
