@@ -25,7 +25,9 @@ pub(crate) fn plain_type<'a>(node: &SyntaxNode) -> Option<TypeStr<'a>>
         SyntaxKind::Keyword(of, inner) if of.is_number() && is_integer(inner) => {
             Some(basic_type(*of))
         }
-        SyntaxKind::Array(nodes) if are_strings(nodes.as_slice()) => Some(TypeStr::of_checked("as")),
+        SyntaxKind::Array(nodes) if are_strings(nodes.as_slice()) => Some(TypeStr::of_checked(
+            "as",
+        )),
         _ => None,
     }
 }

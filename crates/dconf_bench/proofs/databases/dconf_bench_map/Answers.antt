@@ -1,6 +1,0 @@
-use Rattle.std.proofs.Common.{sym, ◌∙◌}
-use Rattle.dconf_bench.proofs.TextsAtPaths.{are_of_some}
-use Rattle.dconf_bench.proofs.databases.dconf_bench_map.Goals as goal
-
-pub returns : goal.returns
-returns c some = are_of_some c.args.paths.now c.map_of.result c.map_of.ensures (sym c.is_some.ensures ∙ some)
