@@ -87,8 +87,8 @@ def profile():
     (HOME / 'dconf.profile').write_text(f'user-db:user\nfile-db:{SITE}\n', encoding='utf-8')
 
 
-def site(values, locks=()):
-    """Makes or replaces the site's database: values by directory and key, and the paths that are locked."""
+def site(values, locks=(), into=SITE):
+    """Makes or replaces the site's database, or another: values by directory and key, and the paths that are locked."""
     keys = ''.join(f'[{group}]\n' + ''.join(f'{key}={text}\n' for key, text in rows.items()) for group, rows in values.items())
     source = HOME / 'site.d'
     (source / 'locks').mkdir(parents=True, exist_ok=True)
@@ -96,9 +96,9 @@ def site(values, locks=()):
     (source / 'locks' / 'locks').write_text(''.join(f'{path}\n' for path in locks), encoding='utf-8')
     profile()
     if IS_OURS:
-        run(frame.program(), 'compile', SITE, '--locks', source / 'locks' / 'locks', source / 'keys')
+        run(frame.program(), 'compile', into, '--locks', source / 'locks' / 'locks', source / 'keys')
     else:
-        run('dconf', 'compile', SITE, source)
+        run('dconf', 'compile', into, source)
 
 
 def gio():
