@@ -108,9 +108,9 @@ int main(int argc, char **argv)
     Bench bench = {NULL, {NULL}, 0};
     if (argc < 3)
         return 2;
-    /* As long as a value of a container's type is there, GLib keeps its table of such types. Nearly every program has one;
-     * dconf's backend has, ours hasn't, and the table would be made anew at each call. */
-    GVariant *held = g_variant_ref_sink(g_variant_new_array(G_VARIANT_TYPE_INT32, NULL, 0));
+    /* GLib describes a container's type anew whenever no value of that type is left. The schema's text of a key is of this
+     * one, and a message that dconf's backend has sent, which stays. Here it stays with both backends. */
+    GVariant *held = g_variant_ref_sink(g_variant_new("(s)", ""));
     for (gsize work = 0; work < G_N_ELEMENTS(works); work++) {
         if (strcmp(works[work].name, argv[1]) != 0)
             continue;
