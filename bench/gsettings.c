@@ -108,9 +108,6 @@ int main(int argc, char **argv)
     Bench bench = {NULL, {NULL}, 0};
     if (argc < 3)
         return 2;
-    /* GLib describes a container's type anew whenever no value of that type is left. The schema's text of a key is of this
-     * one, and a message that dconf's backend has sent, which stays. Here it stays with both backends. */
-    GVariant *held = g_variant_ref_sink(g_variant_new("(s)", ""));
     for (gsize work = 0; work < G_N_ELEMENTS(works); work++) {
         if (strcmp(works[work].name, argv[1]) != 0)
             continue;
@@ -118,9 +115,7 @@ int main(int argc, char **argv)
             bench.desk = g_settings_new("org.example.desk");
         measure(&bench, work, (guint)atoi(argv[2]), argc == 4);
         g_settings_sync();
-        g_variant_unref(held);
         return 0;
     }
-    g_variant_unref(held);
     return 2;
 }
