@@ -5,6 +5,7 @@ import re
 import subprocess
 import sys
 import time
+import traceback
 from pathlib import Path
 
 HERE = Path(__file__).resolve().parent
@@ -149,7 +150,18 @@ def made(name, *flags):
     return HOME / name
 
 
+def checked(main):
+    """The line that `main` gives. A fault of its own is told on stdout too, since stderr may be a file."""
+    try:
+        return main()
+    except (Stop, Missing):
+        raise
+    except Exception as why:
+        place = traceback.extract_tb(why.__traceback__)[-1]
+        raise Stop(f'{type(why).__name__} in line {place.lineno} of {Path(place.filename).name}: {why}') from why
+
+
 def verdict(main):
     """Calls `main`, prints its line, and ends as the scripts of tests do."""
     profile()
-    frame.verdict(lambda _: main())
+    frame.verdict(lambda _: checked(main))
