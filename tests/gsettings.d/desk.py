@@ -102,12 +102,31 @@ def site(values, locks=(), into=SITE):
         run('dconf', 'compile', into, source)
 
 
+def ends_without(why):
+    """Ends a part that finds something missing before it begins."""
+    def told(_):
+        raise why
+    frame.verdict(told)
+
+
+def on_a_screen():
+    """Runs the part again on a screen that nobody sees, where it is on none."""
+    if 'DISPLAY' in os.environ:
+        return
+    try:
+        frame.needs('xvfb-run', 'xvfb')
+        frame.needs('xauth', 'xauth')
+    except Missing as why:
+        ends_without(why)
+    os.execvp('xvfb-run', ['xvfb-run', '-a', sys.executable, *sys.argv])
+
+
 def gio():
     """Gio and GLib of Debian's python3-gi; all that they say on stderr comes into a file."""
     try:
         from gi.repository import Gio, GLib  # pylint: disable=import-outside-toplevel
-    except ImportError as why:
-        raise Missing("there is no gi for /usr/bin/python3 (Debian's package python3-gi)") from why
+    except ImportError:
+        ends_without(Missing("there is no gi for /usr/bin/python3 (Debian's package python3-gi)"))
     with open(STDERR, 'ab') as file:
         os.dup2(file.fileno(), 2)
     return Gio, GLib
