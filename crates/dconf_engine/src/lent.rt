@@ -36,8 +36,11 @@ impl<'a, 'l> LentLayers<'a, 'l> {
     pub(crate) fn prefix(self, count: usize) -> LentLayers<'a, 'l>
         ensures { (seen_in result).layers ≡ take count (seen_in self.entry).layers }
     {
+        if count >= self.layers.len() {
+            return self;
+        }
         LentLayers {
-            layers: self.layers.get(..count).unwrap_or(self.layers),
+            layers: &self.layers[..count],
             written: self.written,
         }
     }
