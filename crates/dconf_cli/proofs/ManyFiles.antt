@@ -15,7 +15,7 @@ use Rattle.dconf_cli.specs.declared.answer.Answer.{Answer}
 use Rattle.dconf_cli.specs.declared.answer.Answer.TheVariants.{NoMemory}
 use Rattle.dconf_cli.specs.Answers.{GivesOutcome, RefusesFor}
 use Rattle.dconf_cli.specs.Readings.{AllRead, AreOf, BreaksAt, Decides, Gave, HasRead, NoSources, Nothing, Reading, Tells, held_read, named_source, named_sources, one_read, reads_of}
-use Rattle.dconf_cli.specs.declared.reading.NamedFile.{NamedFile}
+use Rattle.dconf_cli.specs.declared.folder_files.NamedFile.{NamedFile}
 use Rattle.dconf_cli.proofs.Decisions.{answers_also, decides_also, decides_at_once, not_failed, nothing_is_any}
 
 -- ---- one list of reads after another

@@ -8,7 +8,7 @@ use Rattle.dconf_model.specs.Reads.{FileRead, ReadResults, read_of}
 use Rattle.dconf_model.specs.Reads.FileRead.{no_file, holds, failed}
 use Rattle.dconf_model.specs.Sources.{Source}
 use Rattle.dconf_cli.specs.declared.answer.Answer.{Answer}
-use Rattle.dconf_cli.specs.declared.reading.NamedFile.{NamedFile}
+use Rattle.dconf_cli.specs.declared.folder_files.NamedFile.{NamedFile}
 use Rattle.dconf_cli.specs.Answers.{GivesOutcome, RefusesFor}
 use Rattle.dconf_cli.specs.Streams.{Rose}
 

@@ -12,21 +12,21 @@
 #![tactic(auto)]
 
 mod answer;
-mod changing;
+mod command_run;
 mod commands;
 mod counted;
-mod giving;
+mod folder_files;
 mod input;
-mod printing;
-mod putting;
-mod reading;
-mod running;
-mod store;
+mod outcome;
+mod printed_value;
+mod store_files;
 mod task;
+mod user_database;
 mod walk;
+mod whole_write;
 mod word_value;
 
+pub use command_run::run;
 pub use counted::Counted;
 pub use dconf_command::{Command, command};
 pub use input::{InputFault, read_input};
-pub use running::run;

@@ -8,7 +8,7 @@ ghost use Rattle.dconf_cli.specs.Answers.{GivesOutcome};
 ghost use Rattle.dconf_cli.specs.Readings.{Decides};
 
 use crate::answer::{Answer, refused, unsound};
-use crate::reading::file;
+use crate::folder_files::file;
 use dconf_disk::Folder;
 use gvdb_read::Table;
 use std::alloc::Global;

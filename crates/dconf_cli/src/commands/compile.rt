@@ -11,7 +11,7 @@ ghost use Rattle.dconf_cli.specs.Readings.{Decides, named_sources};
 ghost use Rattle.dconf_cli.specs.declared.answer.Answer.TheVariants.{NoMemory};
 
 use crate::answer::{Answer, refused};
-use crate::reading::{NamedFile, files};
+use crate::folder_files::{NamedFile, files};
 use dconf_compile::{CompileFault, FileRef, Source};
 use dconf_disk::Folder;
 use std::alloc::{AllocError, Global};

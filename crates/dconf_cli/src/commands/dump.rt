@@ -16,7 +16,7 @@ ghost use Rattle.dconf_cli.specs.Dumps.{with_earlier};
 ghost use Rattle.dconf_cli.specs.Readings.{Decides};
 
 use crate::answer::{Answer, refused};
-use crate::store::in_store;
+use crate::store_files::in_store;
 use crate::task::Task;
 use crate::walk::keys_below;
 use dconf_disk::Folder;

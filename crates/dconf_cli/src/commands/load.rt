@@ -19,11 +19,11 @@ ghost use Rattle.dconf_cli.specs.Readings.{Decides};
 ghost use Rattle.dconf_cli.specs.Runs.{Took};
 
 use crate::answer::{Answer, refused};
-use crate::changing::{change_refused, saved};
 use crate::counted::Counted;
 use crate::input::{InputFault, read_input};
-use crate::store::{in_store, refused_at};
+use crate::store_files::{in_store, refused_at};
 use crate::task::Task;
+use crate::user_database::{change_refused, saved};
 use dconf_compile::{LineStop, RowsBelow};
 use dconf_disk::Folder;
 use dconf_engine::{ChangeFault, Engine};

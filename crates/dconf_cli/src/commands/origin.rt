@@ -9,7 +9,7 @@ ghost use Rattle.dconf_cli.specs.Answers.{GivesOutcome};
 ghost use Rattle.dconf_cli.specs.Readings.{Decides};
 
 use crate::answer::{Answer, refused};
-use crate::store::in_store;
+use crate::store_files::in_store;
 use crate::task::Task;
 use dconf_disk::Folder;
 use dconf_engine::Engine;

@@ -6,8 +6,8 @@ ghost use Rattle.dconf_model.specs.Reads.{Input};
 ghost use Rattle.dconf_cli.specs.Readings.{Decides};
 
 use crate::answer::{Answer, refused};
-use crate::printing::printed;
-use crate::store::in_store;
+use crate::printed_value::printed;
+use crate::store_files::in_store;
 use crate::task::Task;
 use dconf_disk::Folder;
 use dconf_engine::Engine;

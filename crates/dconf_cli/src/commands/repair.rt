@@ -7,7 +7,7 @@ ghost use Rattle.dconf_cli.specs.Answers.{GivesOutcome};
 ghost use Rattle.dconf_cli.specs.Readings.{Decides};
 
 use crate::answer::{Answer, refused};
-use crate::reading::file;
+use crate::folder_files::file;
 use dconf_disk::Folder;
 use gvdb_write::{Map, SalvageFault, WriteFault, salvage, write};
 use std::alloc::{AllocError, Global};

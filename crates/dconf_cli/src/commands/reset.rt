@@ -6,9 +6,9 @@ ghost use Rattle.dconf_command.specs.Commands.{resetting};
 ghost use Rattle.dconf_cli.specs.Readings.{Decides};
 
 use crate::answer::{Answer, refused};
-use crate::changing::{change_refused, saved};
-use crate::store::in_store;
+use crate::store_files::in_store;
 use crate::task::Task;
+use crate::user_database::{change_refused, saved};
 use dconf_disk::Folder;
 use dconf_engine::Engine;
 use dconf_path::{DirPath, KeyPath, Profile};

@@ -9,8 +9,8 @@ ghost use Rattle.dconf_cli.specs.Answers.{GivesOutcome};
 ghost use Rattle.dconf_cli.specs.Readings.{Decides};
 
 use crate::answer::{Answer, refused};
-use crate::printing::printed;
-use crate::reading::file;
+use crate::folder_files::file;
+use crate::printed_value::printed;
 use dconf_disk::Folder;
 use gv_types::TypeStr;
 use gv_view::View;

@@ -1,0 +1,58 @@
+//! Answers of the commands that change the user's values: the user's database takes the place of its file, or the change is
+//! refused.
+ghost use Rattle.std.specs.Prelude.{◌≡◌, ℕ, List, [], IfOk, string_bytes};
+ghost use Rattle.dconf_model.specs.Changes.{saved};
+ghost use Rattle.dconf_model.specs.Outcomes.{Writes};
+ghost use Rattle.dconf_model.specs.Profiles.{user_file};
+ghost use Rattle.dconf_path.specs.Profiles.{databases_of};
+ghost use Rattle.dconf_engine.specs.ChangeFaults.{refusal_of};
+ghost use Rattle.dconf_cli.specs.Answers.{GivesOutcome};
+ghost use Rattle.dconf_cli.specs.Changing.{IsLockedPath, RefusedFor};
+
+use crate::answer::{Answer, refused};
+use crate::store_files::file_name;
+use dconf_engine::{ChangeFault, Engine};
+use dconf_path::Profile;
+use gvdb_write::WriteFault;
+use std::alloc::{AllocError, Global};
+
+/// The answer that puts the user's database, with all changes, into the place of its file.
+pub(crate) fn saved(alloc: Global, profile: &Profile<'_>, engine: &Engine<'_>) -> Answer
+    ensures { GivesOutcome result (Writes (user_file (databases_of profile.now)) [] (saved engine.now.layers)) }
+{
+    let bytes = match engine.save() {
+        Ok(bytes) => bytes,
+        Err(WriteFault::Memory) => return Answer::NoMemory,
+        Err(fault) => return refused(alloc, fault),
+    };
+    match user_file(alloc, profile) {
+        Ok(file) => Answer::Changed {
+            file,
+            bytes,
+            text: String::new(alloc),
+        },
+        Err(_) => Answer::NoMemory,
+    }
+}
+
+/// The refusal of a change. The path is the locked one, where one is.
+pub(crate) fn change_refused(alloc: Global, fault: ChangeFault, path: &str) -> Answer
+    ensures { (paths : List (List ℕ)) → IsLockedPath paths (refusal_of fault) path.now → GivesOutcome result (RefusedFor paths (refusal_of fault)) }
+{
+    match fault {
+        ChangeFault::Locked(_) => refused(alloc, format_args!("Locked {path}")),
+        ChangeFault::Memory => Answer::NoMemory,
+        ChangeFault::NotWritable => refused(alloc, fault),
+        ChangeFault::TooLarge => refused(alloc, fault),
+    }
+}
+
+/// The name of the file that holds the first database.
+fn user_file(alloc: Global, profile: &Profile<'_>) -> Result<String, AllocError>
+    ensures { IfOk result (λ name. string_bytes name ≡ user_file (databases_of profile.now)) }
+{
+    match profile.databases().first() {
+        Some(database) => file_name(alloc, *database),
+        None => Ok(String::new(alloc)),
+    }
+}
