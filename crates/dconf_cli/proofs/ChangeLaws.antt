@@ -8,19 +8,21 @@ use Rattle.dconf_model.specs.Causes.SettingsCause.{too_big}
 use Rattle.dconf_model.specs.Changes.{Refusal, all_storable, apply, saved, set_all, unless_locked}
 use Rattle.dconf_model.specs.Changes.Change.{reset_value, set_value}
 use Rattle.dconf_model.specs.Changes.Refusal.{locked, not_writable, too_large}
+use Rattle.dconf_model.specs.Folders.{Event}
 use Rattle.dconf_model.specs.Layers.{Layers, is_locked}
 use Rattle.dconf_model.specs.Lines.{longest_text}
 use Rattle.dconf_model.specs.Outcomes.{Gives, OrCause, Outcome, Saves, Writes, value_of_word}
+use Rattle.dconf_model.specs.Reads.{ReadResults}
 use Rattle.dconf_model.specs.Sources.{Assigned}
 use Rattle.dconf_model.specs.Values.{value_of_text}
-use Rattle.dconf_cli.specs.declared.answer.Answer.{Answer}
-use Rattle.dconf_cli.specs.Answers.{GivesOutcome}
+use Rattle.dconf_cli.specs.Answers.{Answered, GivesOutcome}
 use Rattle.dconf_cli.specs.Changing.{IsLockedPath, NoValue, RefusedCause, RefusedFor}
+use Rattle.dconf_cli.specs.Readings.{Decides}
 use Rattle.dconf_cli.proofs.Decisions.{answers_also}
 
 -- ---- what is answered
 
-module _ (answer : Answer) (paths : List (List ℕ)) (name : List ℕ) (given : Result Layers Refusal) where
+module _ (answer : Answered) (paths : List (List ℕ)) (name : List ℕ) (given : Result Layers Refusal) where
   pub saves_change : (new : Layers) → given ≡ Ok new → GivesOutcome answer (Writes name [] (saved new.layers)) → GivesOutcome answer (Saves paths name given)
   saves_change new is h = subst (λ (r : Result Layers Refusal). GivesOutcome answer (Saves paths name r)) (sym is) h
 
@@ -81,7 +83,7 @@ no_value_at : (r : Result Tree SettingsCause) (Go : Tree → Gives) (o : Outcome
 no_value_at (Ok v) Go o h = absurd h
 no_value_at (Err c) Go o h = h
 
-pub no_value_is_any : (answer : Answer) (r : Result Tree SettingsCause) (Go : Tree → Gives) → GivesOutcome answer (OrCause r NoValue) → GivesOutcome answer (OrCause r Go)
+pub no_value_is_any : (answer : Answered) (r : Result Tree SettingsCause) (Go : Tree → Gives) → GivesOutcome answer (OrCause r NoValue) → GivesOutcome answer (OrCause r Go)
 no_value_is_any answer r Go h = answers_also answer (OrCause r NoValue) (OrCause r Go) (λ o x. no_value_at r Go o x) h
 
 -- the text is no longer than may be read
@@ -91,7 +93,13 @@ short_word text short = let e : nat_lt longest_text (length text) ≡ false = le
 pub long_word : (text : List ℕ) → longest_text < length text → value_of_word text ≡ Err too_big
 long_word text long = let e : nat_lt longest_text (length text) ≡ true = lt-ltb longest_text (length text) long in rw e refl
 
-pub refuses_word : (answer : Answer) (o : Option SettingsCause) (r : Result Tree SettingsCause) → IfSome o (λ c. r ≡ Err c) → GivesOutcome answer (RefusedCause o)
+pub refuses_word : (answer : Answered) (o : Option SettingsCause) (r : Result Tree SettingsCause) → IfSome o (λ c. r ≡ Err c) → GivesOutcome answer (RefusedCause o)
     → GivesOutcome answer (OrCause r NoValue)
 refuses_word answer None r is h = answers_also answer (RefusedCause None) (OrCause r NoValue) (λ o none. absurd none) h
 refuses_word answer (Some c) r is h = subst (λ (x : Result Tree SettingsCause). GivesOutcome answer (OrCause x NoValue)) (sym is) h
+
+pub decides_with_value : {F : Type 0} (past : F → List Event → Type 0) (failures : F → ℕ) (old new : F) (answer : Answered) (r : Result Tree SettingsCause) (v : Tree)
+    (Go : ReadResults → Tree → Gives) → r ≡ Ok v → Decides past failures old new 0 (λ reads. Go reads v) answer
+    → Decides past failures old new 0 (λ reads. OrCause r (Go reads)) answer
+decides_with_value past failures old new answer r v Go is d =
+    subst (λ (x : Result Tree SettingsCause). Decides past failures old new 0 (λ reads. OrCause x (Go reads)) answer) (sym is) d

@@ -1,5 +1,5 @@
 -- What a command decides, put together from its reads and from what it makes of their bytes.
-use Rattle.std.proofs.Common.{◌≡◌, ◌≤◌, inl, inr, ℕ, List, [], length, true, false, Option, Some, None, refl, sym, arith}
+use Rattle.std.proofs.Common.{◌≡◌, ◌≤◌, inl, inr, ℕ, List, [], length, true, false, Option, Some, None, Err, refl, sym, arith}
 use Rattle.std.specs.Prelude.{◌≢◌, IfSome, codes, nat_lt, option_map, vec_items}
 use Rattle.std.specs.declared.vec.Vec.{Vec}
 use Rattle.dconf_model.specs.Bytes.{longest_file}
@@ -8,9 +8,8 @@ use Rattle.dconf_model.specs.FaultTexts.{device_text, no_file_text}
 use Rattle.dconf_model.specs.Outcomes.{OrNoDatabase, OrNoRead, Outcome, Refused, WithFile}
 use Rattle.dconf_model.specs.Reads.{FileRead, IsOverSize, ReadResults, read_of}
 use Rattle.dconf_model.specs.Reads.FileRead.{no_file, holds, over_size, failed}
-use Rattle.dconf_cli.specs.declared.answer.Answer.{Answer}
-use Rattle.dconf_cli.specs.declared.answer.Answer.TheVariants.{NoMemory}
-use Rattle.dconf_cli.specs.Answers.{GivesOutcome, RefusesFor, outcome_of}
+use Rattle.dconf_cli.specs.declared.refusal.Refusal.TheVariants.{NoMemory}
+use Rattle.dconf_cli.specs.Answers.{Answered, GivesOutcome, RefusesFor, outcome_of}
 use Rattle.dconf_cli.specs.Readings.{Decides, HasRead, Nothing, NothingIfAny, found_read, one_read}
 use Rattle.dconf_cli.specs.Streams.{Rose}
 
@@ -20,7 +19,7 @@ also_some : (o : Option Outcome) (Makes Also : Outcome → Type 0) → ((x : Out
 also_some None Makes Also also h = tt
 also_some (Some x) Makes Also also h = also x h
 
-pub answers_also : (answer : Answer) (Makes Also : Outcome → Type 0) → ((o : Outcome) → Makes o → Also o) → GivesOutcome answer Makes → GivesOutcome answer Also
+pub answers_also : (answer : Answered) (Makes Also : Outcome → Type 0) → ((o : Outcome) → Makes o → Also o) → GivesOutcome answer Makes → GivesOutcome answer Also
 answers_also answer Makes Also also h = also_some (outcome_of answer) Makes Also also h
 
 -- ---- what a read gave
@@ -38,7 +37,7 @@ nothing_is_any name failed Go o h = h
 
 module _ {F : Type 0} (past : F → List Event → Type 0) (failures : F → ℕ) where
   -- the same, said of more outcomes
-  pub decides_also : (old new : F) (n : ℕ) (answer : Answer) (Makes Also : ReadResults → Outcome → Type 0) → ((reads : ReadResults) (o : Outcome) → Makes reads o → Also reads o)
+  pub decides_also : (old new : F) (n : ℕ) (answer : Answered) (Makes Also : ReadResults → Outcome → Type 0) → ((reads : ReadResults) (o : Outcome) → Makes reads o → Also reads o)
       → Decides past failures old new n Makes answer → Decides past failures old new n Also answer
   decides_also old new n answer Makes Also also d = record {
     log = d.log;
@@ -48,7 +47,7 @@ module _ {F : Type 0} (past : F → List Event → Type 0) (failures : F → ℕ
   }
 
   -- before anything is read
-  pub decides_at_once : (folder : F) (n : ℕ) (answer : Answer) (Makes : ReadResults → Outcome → Type 0) → ((reads : ReadResults) → GivesOutcome answer (Makes reads))
+  pub decides_at_once : (folder : F) (n : ℕ) (answer : Answered) (Makes : ReadResults → Outcome → Type 0) → ((reads : ReadResults) → GivesOutcome answer (Makes reads))
       → Decides past failures folder folder n Makes answer
   decides_at_once folder n answer Makes each = record {
     log = [];
@@ -58,7 +57,7 @@ module _ {F : Type 0} (past : F → List Event → Type 0) (failures : F → ℕ
   }
 
   -- by the bytes of one file
-  pub decides_by_file : (old new : F) (n : ℕ) (name bytes : List ℕ) (answer : Answer) (Go : List ℕ → Outcome → Type 0)
+  pub decides_by_file : (old new : F) (n : ℕ) (name bytes : List ℕ) (answer : Answered) (Go : List ℕ → Outcome → Type 0)
       → HasRead past failures old new (one_read name (holds bytes)) → GivesOutcome answer (Go bytes)
       → Decides past failures old new n (λ reads. WithFile reads n name Go) answer
   decides_by_file old new n name bytes answer Go has_read h = record {
@@ -69,7 +68,7 @@ module _ {F : Type 0} (past : F → List Event → Type 0) (failures : F → ℕ
   }
 
   -- without the bytes of the file
-  pub decides_without_file : (old new : F) (n : ℕ) (name : List ℕ) (answer : Answer) (Go : List ℕ → Outcome → Type 0)
+  pub decides_without_file : (old new : F) (n : ℕ) (name : List ℕ) (answer : Answered) (Go : List ℕ → Outcome → Type 0)
       → Decides past failures old new n (λ reads. WithFile reads n name Nothing) answer
       → Decides past failures old new n (λ reads. WithFile reads n name Go) answer
   decides_without_file old new n name answer Go d =
@@ -98,7 +97,7 @@ module _ {F : Type 0} (past : F → List Event → Type 0) (failures : F → ℕ
     none_failed = same;
   }
 
-  pub decides_broken : (n : ℕ) (answer : Answer) → Rose (failures old) (failures new) → RefusesFor answer (device_text name)
+  pub decides_broken : (n : ℕ) (answer : Answered) → Rose (failures old) (failures new) → RefusesFor answer (device_text name)
       → Decides past failures old new n (λ reads. OrNoDatabase name (reads n name) NothingIfAny) answer
   decides_broken n answer rose refuses = record {
     log = one_read name failed;
@@ -107,7 +106,7 @@ module _ {F : Type 0} (past : F → List Event → Type 0) (failures : F → ℕ
     answers = λ reads gave. answers_also answer (Refused (device_text name)) (OrNoDatabase name (reads n name) NothingIfAny) (λ o r. rw gave.0 r) refuses;
   }
 
-  pub decides_over_size : (n : ℕ) (answer : Answer) → ((es : List Event) → past old es → IsOverSize (read_content es name)) → failures new ≡ failures old
+  pub decides_over_size : (n : ℕ) (answer : Answered) → ((es : List Event) → past old es → IsOverSize (read_content es name)) → failures new ≡ failures old
       → RefusesFor answer (codes "TooBig") → Decides past failures old new n (λ reads. OrNoDatabase name (reads n name) NothingIfAny) answer
   decides_over_size n answer much same refuses = record {
     log = one_read name over_size;
@@ -116,7 +115,7 @@ module _ {F : Type 0} (past : F → List Event → Type 0) (failures : F → ℕ
     answers = λ reads gave. answers_also answer (Refused (codes "TooBig")) (OrNoDatabase name (reads n name) NothingIfAny) (λ o r. rw gave.0 r) refuses;
   }
 
-  pub decides_no_memory : (n : ℕ) → failures new ≡ failures old → (Makes : ReadResults → Outcome → Type 0) → Decides past failures old new n Makes NoMemory
+  pub decides_no_memory : (n : ℕ) → failures new ≡ failures old → (Makes : ReadResults → Outcome → Type 0) → Decides past failures old new n Makes (Err NoMemory)
   decides_no_memory n same Makes = record {
     log = [];
     known = λ es p. (keeps es p, tt);
@@ -126,7 +125,7 @@ module _ {F : Type 0} (past : F → List Event → Type 0) (failures : F → ℕ
 
 module _ {F : Type 0} (past : F → List Event → Type 0) (failures : F → ℕ) (old new : F) (name : List ℕ) where
   -- a file that may not be missing
-  pub decides_no_file : (n : ℕ) (answer : Answer) → HasRead past failures old new (one_read name no_file) → RefusesFor answer (no_file_text name)
+  pub decides_no_file : (n : ℕ) (answer : Answered) → HasRead past failures old new (one_read name no_file) → RefusesFor answer (no_file_text name)
       → Decides past failures old new n (λ reads. WithFile reads n name Nothing) answer
   decides_no_file n answer h refuses = record {
     log = one_read name no_file;
@@ -141,7 +140,7 @@ module _ {F : Type 0} (past : F → List Event → Type 0) (failures : F → ℕ
   none_needed over_size o h = h
   none_needed failed o h = h
 
-  pub decides_without : (n : ℕ) (answer : Answer) → Decides past failures old new n (λ reads. OrNoDatabase name (reads n name) NothingIfAny) answer
+  pub decides_without : (n : ℕ) (answer : Answered) → Decides past failures old new n (λ reads. OrNoDatabase name (reads n name) NothingIfAny) answer
       → Decides past failures old new n (λ reads. WithFile reads n name Nothing) answer
   decides_without n answer d =
       decides_also past failures old new n answer (λ reads. OrNoDatabase name (reads n name) NothingIfAny) (λ reads. WithFile reads n name Nothing)

@@ -18,8 +18,7 @@ use Rattle.dconf_model.proofs.RisingTexts.{kept_is_there}
 use Rattle.dconf_path.specs.declared.path.KeyPath.{KeyPath}
 use Rattle.dconf_path.specs.Paths.{key_text}
 use Rattle.keyfile_core.specs.DumpRows.{AreBelow, setting_of}
-use Rattle.dconf_cli.specs.declared.answer.Answer.{Answer}
-use Rattle.dconf_cli.specs.Answers.{GivesOutcome}
+use Rattle.dconf_cli.specs.Answers.{Answered, GivesOutcome}
 use Rattle.dconf_cli.specs.Dumps.{with_earlier}
 
 abbrev Settled : Type 0
@@ -82,7 +81,7 @@ pub last_setting : (l : Layers) (keys : List (String Global)) (new : List Settin
 last_setting l keys new all i none e =
     sym e ∙ (ap (λ (ks : List (String Global)). with_earlier new (settings_at l (map string_bytes ks))) none ∙ ap (λ (s : List Setting). Ok s) (append-nil new))
 
-pub fault_ends : (l : Layers) (keys : List (String Global)) (i : ℕ) (key : String Global) (path : List ℕ) (old : List Setting) (all : Settled) (answer : Answer) (directory : List ℕ)
+pub fault_ends : (l : Layers) (keys : List (String Global)) (i : ℕ) (key : String Global) (path : List ℕ) (old : List Setting) (all : Settled) (answer : Answered) (directory : List ℕ)
     → drop i keys ≡ key ∷ drop (i + 1) keys → path ≡ string_bytes key → with_earlier old (settings_at l (map string_bytes (drop i keys))) ≡ all
     → ((earlier : List Setting) (later : Settled) (directory : List ℕ)
     → GivesOutcome answer (λ o. o ≡ dump_of directory (with_earlier earlier (with_value_if_any path (visible l path) later))))

@@ -1,5 +1,5 @@
 -- How an answer comes about.
-use Rattle.std.proofs.Common.{◌≡◌, ◌∷◌, ◌++◌, ◌⊎◌, inl, inr, ℕ, List, [], Option, Some, None, Result, Err, refl, subst}
+use Rattle.std.proofs.Common.{◌≡◌, ◌∷◌, ◌++◌, ◌⊎◌, inl, inr, ℕ, List, [], Option, Some, Result, Err, refl, subst}
 use Rattle.dconf_disk.specs.declared.fault.FolderFault.{FolderFault}
 use Rattle.dconf_disk.specs.declared.fault.FolderFault.TheVariants.{Device, TooBig, Memory}
 use Rattle.dconf_model.specs.Folders.{Event}
@@ -7,12 +7,14 @@ use Rattle.dconf_model.specs.FaultTexts.{device_text}
 use Rattle.dconf_model.specs.Replacing.{Replaced, MaybeReplaced}
 use Rattle.dconf_model.specs.Outcomes.{Outcome, Output, changing, done, done_output, refused_output}
 use Rattle.dconf_cli.specs.declared.counted.Counted.{Counted}
-use Rattle.dconf_cli.specs.Answers.{refused_by}
+use Rattle.dconf_cli.specs.Answers.{line_of, outcome_of}
 use Rattle.dconf_cli.specs.Counted.{Grew, Leaves, Prints, Unfailed}
 use Rattle.dconf_cli.specs.Endings.{Ends}
 use Rattle.dconf_cli.specs.Streams.{Rose}
 use Rattle.dconf_cli.proofs.Leaving.{leaves_line, leaves_text}
-use Rattle.std.specs.Prelude.{codes}
+use Rattle.std.specs.Prelude.{codes, string_bytes}
+use Rattle.dconf_cli.specs.declared.refusal.Refusal.{Refusal}
+use Rattle.dconf_cli.specs.declared.refusal.Refusal.TheVariants.{Line, NoMemory}
 
 module _ {F O E : Type 0} (past : F → List Event → Type 0) (failures : F → ℕ) (contents : O → Option (List ℕ)) (err_contents : E → Option (List ℕ)) where
   -- the outcome was given: an output came about, and was left on out and err
@@ -28,18 +30,16 @@ module _ {F O E : Type 0} (past : F → List Event → Type 0) (failures : F →
   gives_text folder out_old out_new err text bytes status same h =
       (done_output text, (refl, refl), leaves_text contents err_contents out_old out_new err text status (subst (λ t. Prints contents out_old out_new t status) same h))
 
-  pub gives_line : (folder : F) (out : Counted O) (err_old err_new : Counted E) (line bytes : List ℕ) (status : ℕ) → bytes ≡ line → status ≡ 1
-      → Wrote err_old err_new bytes → Gives folder folder out out err_old err_new (Some (refused_by line)) status
-  gives_line folder out err_old err_new line bytes status same is h = (
-    record { out = []; err = line; status = 1 },
+  -- a refusal was given by its line
+  pub gives_refusal : (folder : F) (out : Counted O) (err_old err_new : Counted E) (refusal : Refusal) (status : ℕ) → status ≡ 1
+      → Wrote err_old err_new (line_of refusal) → Gives folder folder out out err_old err_new (outcome_of (Err refusal)) status
+  gives_refusal folder out err_old err_new (Line line) status is h = (
+    record { out = []; err = string_bytes line; status = 1 },
     (refl, refl),
-    leaves_line contents err_contents out err_old err_new line status is (subst (λ t. Wrote err_old err_new t) same h),
+    leaves_line contents err_contents out err_old err_new (string_bytes line) status is h,
   )
-
-  pub gives_no_memory : (folder : F) (out : Counted O) (err_old err_new : Counted E) (status : ℕ) → status ≡ 1
-      → Wrote err_old err_new (codes "error: Memory" ++ 10 ∷ []) → Gives folder folder out out err_old err_new None status
-  gives_no_memory folder out err_old err_new status is h =
-      (refused_output (codes "Memory"), (refl, refl), leaves_line contents err_contents out err_old err_new (codes "error: Memory" ++ 10 ∷ []) status is h)
+  gives_refusal folder out err_old err_new NoMemory status is h =
+      (refused_output (codes "Memory"), (refl, refl), leaves_line contents err_contents out err_old err_new (line_of NoMemory) status is h)
 
   -- of a file that was to change
   module _ (old new : F) (name bytes text : List ℕ) where

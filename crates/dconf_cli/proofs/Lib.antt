@@ -4,6 +4,7 @@ pub mod Decisions
 pub mod ManyFiles
 pub mod StoreReads
 pub mod Stores
+pub mod OpenStores
 pub mod PathArguments
 pub mod Runs
 pub mod Shows

@@ -19,8 +19,7 @@ use Rattle.dconf_path.specs.Paths.{key_text}
 use Rattle.dconf_path.specs.declared.path.KeyPath.{KeyPath}
 use Rattle.dconf_compile.specs.LineStops.{at_line}
 use Rattle.dconf_engine.specs.Rows.{rows_of}
-use Rattle.dconf_cli.specs.declared.answer.Answer.{Answer}
-use Rattle.dconf_cli.specs.Answers.{GivesOutcome, RefusesFor}
+use Rattle.dconf_cli.specs.Answers.{Answered, GivesOutcome, RefusesFor}
 use Rattle.dconf_cli.specs.Inputs.{SameText}
 use Rattle.dconf_cli.specs.Loads.{RefusedLine}
 use Rattle.dconf_cli.specs.Readings.{Decides}
@@ -37,7 +36,7 @@ same_loaded directory given read (inl e) = ap (loaded directory) e
 same_loaded directory given read (inr long) =
     ap (and_rows (rows_read value_of_text directory)) (long_rows read long.1 ∙ sym (long_rows given long.0))
 
-module _ {F : Type 0} (past : F → List Event → Type 0) (failures : F → ℕ) (answer : Answer) (directory : List ℕ) (Go : ReadResults → List Assigned → Gives) (i : Input) where
+module _ {F : Type 0} (past : F → List Event → Type 0) (failures : F → ℕ) (answer : Answered) (directory : List ℕ) (Go : ReadResults → List Assigned → Gives) (i : Input) where
   pub decides_text : (old new : F) (read : List ℕ) → is_lost i ≡ false → SameText i.bytes read
       → Decides past failures old new 0 (λ reads. OrLine (codes "input") (loaded directory read) (Go reads)) answer
       → Decides past failures old new 0 (λ reads. WithRows directory i (Go reads)) answer
@@ -52,18 +51,18 @@ module _ {F : Type 0} (past : F → List Event → Type 0) (failures : F → ℕ
 
 -- ---- a line of it
 
-pub line_says : (answer : Answer) (line : ℕ) (o : Option SettingsCause) → is_none o ≡ false
+pub line_says : (answer : Answered) (line : ℕ) (o : Option SettingsCause) → is_none o ≡ false
     → RefusesFor answer (codes "input" ++ (58 ∷ (decimal line ++ (codes ": " ++ unwrap_or (option_map cause_text o) (codes "Memory")))))
     → GivesOutcome answer (RefusedLine (option_map (at_line line) o))
 line_says answer line None e h = absurd (true≢false e)
 line_says answer line (Some c) e h = h
 
-refuses_line : (answer : Answer) (o : Option LineFault) (r : Result (List Assigned) LineFault) (Go : List Assigned → Gives) → IfSome o (λ f. r ≡ Err f)
+refuses_line : (answer : Answered) (o : Option LineFault) (r : Result (List Assigned) LineFault) (Go : List Assigned → Gives) → IfSome o (λ f. r ≡ Err f)
     → GivesOutcome answer (RefusedLine o) → GivesOutcome answer (OrLine (codes "input") r Go)
 refuses_line answer None r Go is h = answers_also answer (RefusedLine None) (OrLine (codes "input") r Go) (λ o none. absurd none) h
 refuses_line answer (Some f) r Go is h = subst (λ (x : Result (List Assigned) LineFault). GivesOutcome answer (OrLine (codes "input") x Go)) (sym is) h
 
-pub decides_line : {F : Type 0} (past : F → List Event → Type 0) (failures : F → ℕ) (folder : F) (answer : Answer) (o : Option LineFault) (r : Result (List Assigned) LineFault)
+pub decides_line : {F : Type 0} (past : F → List Event → Type 0) (failures : F → ℕ) (folder : F) (answer : Answered) (o : Option LineFault) (r : Result (List Assigned) LineFault)
     (Go : ReadResults → List Assigned → Gives) → IfSome o (λ f. r ≡ Err f) → GivesOutcome answer (RefusedLine o)
     → Decides past failures folder folder 0 (λ reads. OrLine (codes "input") r (Go reads)) answer
 decides_line past failures folder answer o r Go is h =

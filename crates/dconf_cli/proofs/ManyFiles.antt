@@ -11,9 +11,9 @@ use Rattle.dconf_model.specs.Outcomes.{Compiles, IsOutcome, OrNoRead, Outcome, R
 use Rattle.dconf_model.specs.Reads.{FileRead, Input, ReadResults}
 use Rattle.dconf_model.specs.Reads.FileRead.{no_file, holds, over_size, failed}
 use Rattle.dconf_model.specs.Sources.{FileFault, Source}
-use Rattle.dconf_cli.specs.declared.answer.Answer.{Answer}
-use Rattle.dconf_cli.specs.declared.answer.Answer.TheVariants.{NoMemory}
-use Rattle.dconf_cli.specs.Answers.{GivesOutcome, RefusesFor}
+use Rattle.dconf_cli.specs.declared.refusal.Refusal.{Refusal}
+use Rattle.dconf_cli.specs.declared.refusal.Refusal.TheVariants.{NoMemory}
+use Rattle.dconf_cli.specs.Answers.{Answered, GivesOutcome, RefusesFor}
 use Rattle.dconf_cli.specs.Readings.{AllRead, AreOf, BreaksAt, Decides, Gave, HasRead, NoSources, Nothing, Reading, Tells, held_read, named_source, named_sources, one_read, reads_of}
 use Rattle.dconf_cli.specs.declared.folder_files.NamedFile.{NamedFile}
 use Rattle.dconf_cli.proofs.Decisions.{answers_also, decides_also, decides_at_once, not_failed, nothing_is_any}
@@ -43,7 +43,7 @@ breaks_later (x ∷ xs) ys name first broken = go (xs ++ ys) (breaks_later xs ys
     go [] b = absurd b
     go (y ∷ more) b = (first.0, b)
 
-tells_later : (old mid new : ℕ) (xs ys : List Reading) (answer : Answer) → AllRead xs → mid ≡ old → Tells mid new ys answer → Tells old new (xs ++ ys) answer
+tells_later : (old mid new : ℕ) (xs ys : List Reading) (answer : Answered) → AllRead xs → mid ≡ old → Tells mid new ys answer → Tells old new (xs ++ ys) answer
 tells_later old mid new xs ys answer first same (inl all) = inl (all_together xs ys first all.0, all.1 ∙ same)
 tells_later old mid new xs ys answer first same (inr broken) =
     inr (broken.0, breaks_later xs ys broken.0 first broken.1, rw (sym same) broken.2, broken.3)
@@ -131,7 +131,7 @@ texts_if_any (Some text) texts same = ap (map string_bytes) same
 
 module _ {F : Type 0} (past : F → List Event → Type 0) (failures : F → ℕ) where
   -- after other reads, none of which failed
-  pub decides_later : (old mid new : F) (n : ℕ) (log : List Reading) (answer : Answer) (Makes Also : ReadResults → Outcome → Type 0)
+  pub decides_later : (old mid new : F) (n : ℕ) (log : List Reading) (answer : Answered) (Makes Also : ReadResults → Outcome → Type 0)
       → HasRead past failures old mid log → AllRead log → ((reads : ReadResults) → Gave reads n log → (o : Outcome) → Makes reads o → Also reads o)
       → Decides past failures mid new (n + length log) Makes answer → Decides past failures old new n Also answer
   decides_later old mid new n log answer Makes Also h all also d = record {
@@ -147,7 +147,7 @@ module _ {F : Type 0} (past : F → List Event → Type 0) (failures : F → ℕ
   }
 
   -- by the bytes of several files
-  pub decides_by_files : (old new : F) (n : ℕ) (files : List Source) (answer : Answer) (Go : List Source → Outcome → Type 0)
+  pub decides_by_files : (old new : F) (n : ℕ) (files : List Source) (answer : Answered) (Go : List Source → Outcome → Type 0)
       → HasRead past failures old new (reads_of files) → GivesOutcome answer (Go files)
       → Decides past failures old new n (λ reads. WithFiles reads n (map (λ s. s.name) files) Go) answer
   decides_by_files old new n files answer Go h is =
@@ -155,7 +155,7 @@ module _ {F : Type 0} (past : F → List Event → Type 0) (failures : F → ℕ
       (λ reads gave o g. with_all reads n files Go o gave g) (decides_at_once past failures new _ answer (λ reads. Go files) (λ reads. is))
 
   -- without the bytes of several files
-  pub decides_without_files : (old new : F) (n : ℕ) (names : List (List ℕ)) (answer : Answer) (Go : List Source → Outcome → Type 0)
+  pub decides_without_files : (old new : F) (n : ℕ) (names : List (List ℕ)) (answer : Answered) (Go : List Source → Outcome → Type 0)
       → Decides past failures old new n (λ reads. WithFiles reads n names NoSources) answer
       → Decides past failures old new n (λ reads. WithFiles reads n names Go) answer
   decides_without_files old new n names answer Go d =
@@ -163,7 +163,7 @@ module _ {F : Type 0} (past : F → List Event → Type 0) (failures : F → ℕ
       (λ reads o h. no_sources reads n names Go o h) d
 
   -- one that can't be read, after these
-  pub decides_at_file : (old mid new : F) (n : ℕ) (files : List Source) (name : List ℕ) (names others : List (List ℕ)) (answer : Answer)
+  pub decides_at_file : (old mid new : F) (n : ℕ) (files : List Source) (name : List ℕ) (names others : List (List ℕ)) (answer : Answered)
       → map (λ s. s.name) files ++ name ∷ others ≡ names → HasRead past failures old mid (reads_of files)
       → ((k : ℕ) → Decides past failures mid new k (λ reads. WithFile reads k name Nothing) answer)
       → Decides past failures old new n (λ reads. WithFiles reads n names NoSources) answer
@@ -177,14 +177,14 @@ module _ {F : Type 0} (past : F → List Event → Type 0) (failures : F → ℕ
 
   -- no memory, after these
   pub decides_out_of_memory : (old mid new : F) (n : ℕ) (files : List Source) (Makes : ReadResults → Outcome → Type 0)
-      → HasRead past failures old mid (reads_of files) → HasRead past failures mid new [] → Decides past failures old new n Makes NoMemory
+      → HasRead past failures old mid (reads_of files) → HasRead past failures mid new [] → Decides past failures old new n Makes (Err NoMemory)
   decides_out_of_memory old mid new n files Makes h later =
-      decides_later old mid new n (reads_of files) NoMemory Makes Makes h (all_read files) (λ reads gave o m. m)
+      decides_later old mid new n (reads_of files) (Err NoMemory) Makes Makes h (all_read files) (λ reads gave o m. m)
       (record { log = []; known = later.known; tells = inl (tt, later.none_failed); answers = λ reads gave. tt })
 
   -- ---- `compile`
 
-  module _ (out : List ℕ) (lock_name : Option (List ℕ)) (names : List (List ℕ)) (answer : Answer) (input : Input) where
+  module _ (out : List ℕ) (lock_name : Option (List ℕ)) (names : List (List ℕ)) (answer : Answered) (input : Input) where
     abbrev AsCompile : F → F → Type 0
     AsCompile old new = Decides past failures old new 0 (λ reads. IsOutcome (compile out lock_name names) reads input) answer
 
@@ -217,9 +217,9 @@ module _ {F : Type 0} (past : F → List Event → Type 0) (failures : F → ℕ
           (decides_by_files mid new n locks answer (Compiles out files) h_locks made))
 
 -- a fault of the files, or none where memory ran out
-pub compile_refuses : (out : List ℕ) (files locks : List Source) (answer : Answer) (fault : Option FileFault) → IfSome fault (λ f. IsCompiled files locks (Err f))
-    → IfSome fault (λ f. RefusesFor answer (line_fault_text (file_name files locks f.file) f.line f.cause)) → (fault ≡ None → answer ≡ NoMemory)
-    → GivesOutcome answer (Compiles out files locks)
-compile_refuses out files locks answer None is refuses lost = subst (λ a. GivesOutcome a (Compiles out files locks)) (sym (lost refl)) tt
-compile_refuses out files locks answer (Some f) is refuses lost =
-    answers_also answer (Refused (line_fault_text (file_name files locks f.file) f.line f.cause)) (Compiles out files locks) (λ o r. (Err f, is, r)) refuses
+pub compile_refuses : (out : List ℕ) (files locks : List Source) (refusal : Refusal) (fault : Option FileFault) → IfSome fault (λ f. IsCompiled files locks (Err f))
+    → IfSome fault (λ f. RefusesFor (Err refusal) (line_fault_text (file_name files locks f.file) f.line f.cause)) → (fault ≡ None → refusal ≡ NoMemory)
+    → GivesOutcome (Err refusal) (Compiles out files locks)
+compile_refuses out files locks refusal None is refuses lost = subst (λ (r : Refusal). GivesOutcome (Err r) (Compiles out files locks)) (sym (lost refl)) tt
+compile_refuses out files locks refusal (Some f) is refuses lost =
+    answers_also (Err refusal) (Refused (line_fault_text (file_name files locks f.file) f.line f.cause)) (Compiles out files locks) (λ o r. (Err f, is, r)) refuses

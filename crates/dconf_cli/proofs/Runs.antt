@@ -1,5 +1,5 @@
 -- What a run did, by what its command decided and by how the answer came about.
-use Rattle.std.proofs.Common.{◌≡◌, ◌+◌, ◌∷◌, ◌⊎◌, ◌∙◌, inl, inr, ℕ, Bool, true, false, zero, suc, List, [], Option, Some, None, refl, sym, ap, subst, arith}
+use Rattle.std.proofs.Common.{◌≡◌, ◌+◌, ◌∷◌, ◌⊎◌, ◌∙◌, inl, inr, ℕ, Bool, true, false, zero, suc, List, [], Option, Some, None, Ok, Err, refl, sym, ap, subst, arith}
 use Rattle.std.specs.Prelude.{◌≢◌, IfSome, codes, unwrap_or}
 use Rattle.std.specs.Str.{bytes_eq}
 use Rattle.std.proofs.Math.Dec.{eqb}
@@ -15,9 +15,9 @@ use Rattle.dconf_model.specs.Outcomes.{IsOutcome, Outcome, Output, Replacement, 
 use Rattle.dconf_model.specs.Runs.{Answers as AnswersAny, AnswersIn, Did, MayMake, NoMemory, Ran, RanCalmly, ReadsFrom, device_output}
 use Rattle.dconf_model.specs.Runs.{RunEnding}
 use Rattle.dconf_model.specs.Runs.RunEnding.{as_meant, device}
-use Rattle.dconf_cli.specs.declared.answer.Answer.{Answer}
 use Rattle.dconf_cli.specs.declared.answer.Answer.TheVariants as answers
-use Rattle.dconf_cli.specs.Answers.{RefusesFor, outcome_of}
+use Rattle.dconf_cli.specs.declared.refusal.Refusal.TheVariants as refusals
+use Rattle.dconf_cli.specs.Answers.{Answered, RefusesFor, outcome_of}
 use Rattle.dconf_cli.specs.Endings.{Ends, EndsBy}
 use Rattle.dconf_cli.specs.Readings.{AllRead, AreOf, Decides, Gave, Reading, Tells}
 use Rattle.dconf_cli.specs.Runs.{IsFormed, IsOwn, KeepsFiles, NamesFile, RanAnywhere, SaysLostInput, Took}
@@ -96,17 +96,17 @@ module _ (es : List Event) where
 
 -- ---- outcomes of answers
 
-changes_done : (answer : Answer) → IfSome (outcome_of answer) (λ o. (o.change ≡ None) ⊎ (o.output.status ≡ 0))
-changes_done (answers.Done text) = inl refl
-changes_done (answers.Changed file bytes text) = inr refl
-changes_done (answers.Refused line) = inl refl
-changes_done answers.NoMemory = tt
+changes_done : (answer : Answered) → IfSome (outcome_of answer) (λ o. (o.change ≡ None) ⊎ (o.output.status ≡ 0))
+changes_done (Ok (answers.Done text)) = inl refl
+changes_done (Ok (answers.Changed file bytes text)) = inr refl
+changes_done (Err (refusals.Line line)) = inl refl
+changes_done (Err refusals.NoMemory) = tt
 
-outcome_formed : (answer : Answer) → IfSome (outcome_of answer) (λ o. IsFormed o.output)
-outcome_formed (answers.Done text) = inl (refl, refl)
-outcome_formed (answers.Changed file bytes text) = inl (refl, refl)
-outcome_formed (answers.Refused line) = inr (refl, refl)
-outcome_formed answers.NoMemory = tt
+outcome_formed : (answer : Answered) → IfSome (outcome_of answer) (λ o. IsFormed o.output)
+outcome_formed (Ok (answers.Done text)) = inl (refl, refl)
+outcome_formed (Ok (answers.Changed file bytes text)) = inl (refl, refl)
+outcome_formed (Err (refusals.Line line)) = inr (refl, refl)
+outcome_formed (Err refusals.NoMemory) = tt
 
 line_status : (output : Output) (why : List ℕ) → output ≡ refused_output why → output.status ≡ 1
 line_status output why e = ap (λ (o : Output). o.status) e
@@ -273,7 +273,7 @@ others_keep command input reads es now output given (inl did) name = by_change d
     by_change (Some r) same as_meant d = whole r same d.others _ _ refl refl
     by_change (Some r) same device d = whole r same d.whole _ _ refl refl
 
-module _ {F : Type 0} (past : F → List Event → Type 0) (failures : F → ℕ) (command : Command) (input : Input) (old mid new : F) (answer : Answer) (output : Output)
+module _ {F : Type 0} (past : F → List Event → Type 0) (failures : F → ℕ) (command : Command) (input : Input) (old mid new : F) (answer : Answered) (output : Output)
     (d : Decides past failures old mid 0 (λ reads. IsOutcome command reads input) answer) (e : Ends past failures mid new (outcome_of answer) output) where
   pub ran : (es : List Event) → past old es → (now : List Event) × past new now × Ran command input es now output × KeepsFiles command input es now output
   ran es es_is =

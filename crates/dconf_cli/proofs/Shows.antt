@@ -20,8 +20,7 @@ use Rattle.dconf_model.specs.Databases.{IsVerdict, Verdict}
 use Rattle.dconf_model.specs.Outcomes.{Checks, IsOutcome, Outcome, Refused, WithFile, WithType, check_output, done, refused, shown_outcome}
 use Rattle.dconf_model.specs.Reads.{Input, ReadResults}
 use Rattle.dconf_model.specs.Reads.FileRead.{holds}
-use Rattle.dconf_cli.specs.declared.answer.Answer.{Answer}
-use Rattle.dconf_cli.specs.Answers.{GivesOutcome, RefusesFor}
+use Rattle.dconf_cli.specs.Answers.{Answered, GivesOutcome, RefusesFor}
 use Rattle.dconf_cli.specs.Readings.{Decides, HasRead, Nothing, one_read}
 use Rattle.dconf_cli.proofs.Decisions.{answers_also, decides_also, decides_at_once, decides_by_file, decides_without_file}
 
@@ -50,7 +49,7 @@ no_type w none_found = go (type_of_text w) refl
 
 -- ---- `show`
 
-module _ {F : Type 0} (past : F → List Event → Type 0) (failures : F → ℕ) (text name : List ℕ) (answer : Answer) (input : Input) where
+module _ {F : Type 0} (past : F → List Event → Type 0) (failures : F → ℕ) (text name : List ℕ) (answer : Answered) (input : Input) where
   abbrev Shows : F → F → Type 0
   Shows old new = Decides past failures old new 0 (λ reads. IsOutcome (show text name) reads input) answer
 
@@ -79,7 +78,7 @@ module _ {F : Type 0} (past : F → List Event → Type 0) (failures : F → ℕ
 
 -- ---- `check`
 
-pub checks_as : (bytes : List ℕ) (answer : Answer) (v : Verdict) → IsVerdict bytes v → GivesOutcome answer (λ o. o ≡ check_output v) → GivesOutcome answer (Checks bytes)
+pub checks_as : (bytes : List ℕ) (answer : Answered) (v : Verdict) → IsVerdict bytes v → GivesOutcome answer (λ o. o ≡ check_output v) → GivesOutcome answer (Checks bytes)
 checks_as bytes answer v is h = answers_also answer (λ o. o ≡ check_output v) (Checks bytes) (λ o e. (v, is, e)) h
 
 -- ---- the value that `show` prints
@@ -87,10 +86,10 @@ checks_as bytes answer v is h = answers_also answer (λ o. o ≡ check_output v)
 pub shows_text : (v : Tree) (text : List ℕ) → text ≡ printed v true ++ 10 ∷ [] → (is_too_large v ≡ false) × (holds_double v ≡ false) → done text ≡ shown_outcome v
 shows_text v text e fits = rw (e, fits.0, fits.1) refl
 
-refuses_as : (why : List ℕ) (v : Tree) (answer : Answer) → refused why ≡ shown_outcome v → RefusesFor answer why → GivesOutcome answer (λ o. o ≡ shown_outcome v)
+refuses_as : (why : List ℕ) (v : Tree) (answer : Answered) → refused why ≡ shown_outcome v → RefusesFor answer why → GivesOutcome answer (λ o. o ≡ shown_outcome v)
 refuses_as why v answer same h = answers_also answer (Refused why) (λ o. o ≡ shown_outcome v) (λ o r. r ∙ same) h
 
-pub shows_fault : (v : Tree) (f : PrintFault) (answer : Answer) → IsUnprintable v f → f ≢ Memory → RefusesFor answer (print_fault_name f)
+pub shows_fault : (v : Tree) (f : PrintFault) (answer : Answered) → IsUnprintable v f → f ≢ Memory → RefusesFor answer (print_fault_name f)
     → GivesOutcome answer (λ o. o ≡ shown_outcome v)
 shows_fault v TooLarge answer is other h = refuses_as (codes "TooLarge") v answer (rw is refl) h
 shows_fault v DoubleText answer is other h = refuses_as (codes "DoubleText") v answer (rw (is.0, is.1) refl) h

@@ -9,7 +9,7 @@ use Rattle.dconf_model.specs.Reads.{FileRead, ReadResults}
 use Rattle.dconf_model.specs.Reads.FileRead.{no_file, holds, over_size, failed}
 use Rattle.dconf_path.specs.declared.profiles.Database.{Database as ProfileDatabase}
 use Rattle.dconf_path.specs.declared.profiles.DatabaseKind.TheVariants.{User}
-use Rattle.dconf_cli.specs.declared.answer.Answer.{Answer}
+use Rattle.dconf_cli.specs.Answers.{Answered}
 use Rattle.dconf_cli.specs.Readings.{AllRead, Decides, Gave, HasRead, NothingIfAny, Reading, found_read, one_read}
 use Rattle.dconf_cli.specs.StoreReads.{NoItems, database_reads}
 use Rattle.dconf_cli.proofs.Decisions.{found_not_failed}
@@ -81,7 +81,7 @@ module _ {F : Type 0} (past : F → List Event → Type 0) (failures : F → ℕ
       (reads_both past failures old mid new (database_reads ds items) (one_read (database_file d) (found_read item)) read one)
 
   -- or its reading ends the command
-  pub decides_at_database : (later : List Database) (answer : Answer)
+  pub decides_at_database : (later : List Database) (answer : Answered)
       → ((n : ℕ) → Decides past failures mid new n (λ reads. OrNoDatabase (database_file d) (reads n (database_file d)) NothingIfAny) answer)
       → (n : ℕ) → Decides past failures old new n (λ reads. WithDatabases reads n (ds ++ d ∷ later) NoItems) answer
   decides_at_database later answer each n =

@@ -1,5 +1,6 @@
 -- What is decided by the reads of a store.
-use Rattle.std.proofs.Common.{◌≡◌, ◌+◌, ◌∷◌, ℕ, List, [], Result, Ok, Err, Option, length, sym, subst}
+use Rattle.std.proofs.Common.{◌≡◌, ◌+◌, ◌∷◌, inl, inr, ℕ, Bool, List, [], Result, Ok, Err, Option, length, sym, subst}
+use Rattle.std.specs.Prelude.{vec_items}
 use Rattle.std.proofs.lemmas.List.{append-nil}
 use Rattle.dconf_model.specs.Folders.{Event}
 use Rattle.dconf_model.specs.Layers.{Layers}
@@ -8,11 +9,13 @@ use Rattle.dconf_model.specs.Profiles.{Database, database_file, is_written, prof
 use Rattle.dconf_model.specs.Outcomes.{Gives, OrLine, OrNoDatabase, Outcome, WithDatabases, WithFile, WithLayers, WithStore}
 use Rattle.dconf_model.specs.Reads.{FileRead, ReadResults}
 use Rattle.dconf_model.specs.Reads.FileRead.{no_file, holds, over_size, failed}
-use Rattle.dconf_cli.specs.declared.answer.Answer.{Answer}
-use Rattle.dconf_cli.specs.Answers.{GivesOutcome}
+use Rattle.dconf_cli.specs.Answers.{Answered, GivesOutcome}
 use Rattle.dconf_cli.specs.Readings.{Decides, Gave, HasRead, Nothing, one_read}
 use Rattle.dconf_cli.specs.StoreReads.{NoDatabases, NoItems, database_reads}
-use Rattle.dconf_cli.proofs.Decisions.{decides_also, decides_at_once, nothing_is_any}
+use Rattle.dconf_cli.specs.Stores.{AreOpened, HasStore, NoLayers, items_of, named_by}
+use Rattle.dconf_cli.specs.declared.folder_files.NamedFile.{NamedFile}
+use Rattle.dconf_cli.specs.declared.store_files.StoreFiles.{StoreFiles}
+use Rattle.dconf_cli.proofs.Decisions.{answers_also, decides_also, decides_at_once, nothing_is_any}
 use Rattle.dconf_cli.proofs.StoreReads.{databases_all_read, databases_given}
 use Rattle.dconf_cli.proofs.ManyFiles.{decides_later}
 
@@ -43,60 +46,86 @@ all_given reads n ds items Go o same gave h =
     subst (λ (l : List Database). WithDatabases reads n l Go o) (append-nil ds)
     (databases_given reads n ds [] items Go o same gave (subst (λ (l : List (Option (List ℕ))). Go l o) (sym (append-nil items)) h))
 
--- ---- a store
+no_items_in_any : (reads : ReadResults) (name : List ℕ) (profile : Result (List Database) LineFault) (Go : List Database → List (Option (List ℕ)) → Gives) (o : Outcome)
+    → OrLine name profile (λ ds. WithDatabases reads 1 ds NoItems) o → OrLine name profile (λ ds. WithDatabases reads 1 ds (Go ds)) o
+no_items_in_any reads name (Ok ds) Go o h = no_items_are_any reads 1 ds (Go ds) o h
+no_items_in_any reads name (Err f) Go o h = h
 
-module _ {F : Type 0} (past : F → List Event → Type 0) (failures : F → ℕ) (name : List ℕ) (Go : List Database → Layers → Gives) (answer : Answer) where
+no_layers_are_any : (items : List (Option (List ℕ))) (written : Bool) (Go : Layers → Gives) (o : Outcome) → WithLayers items written NoLayers o → WithLayers items written Go o
+no_layers_are_any items written Go o (inl opened) = absurd opened.2
+no_layers_are_any items written Go o (inr bad) = inr bad
+
+-- ---- the files of a store
+
+module _ {F : Type 0} (past : F → List Event → Type 0) (failures : F → ℕ) (name bytes : List ℕ) (answer : Answered) where
+  -- a profile of these bytes, and its databases
+  abbrev pub OfProfile : ReadResults → Gives
+  OfProfile reads = OrLine name (profile_of bytes) (λ ds. WithDatabases reads 1 ds NoItems)
+
+  pub no_profile : (folder : F) → GivesOutcome answer (OrLine name (profile_of bytes) NoDatabases) → Decides past failures folder folder 1 OfProfile answer
+  no_profile folder gives =
+      decides_at_once past failures folder 1 answer OfProfile
+      (λ reads. answers_also answer (OrLine name (profile_of bytes) NoDatabases) (OfProfile reads)
+      (λ o m. no_databases_are_any name (profile_of bytes) (λ ds. WithDatabases reads 1 ds NoItems) o m) gives)
+
+  pub a_database_is_unread : (old new : F) (ds : List Database) → profile_of bytes ≡ Ok ds → Decides past failures old new 1 (λ reads. WithDatabases reads 1 ds NoItems) answer
+      → Decides past failures old new 1 OfProfile answer
+  a_database_is_unread old new ds is d =
+      subst (λ (r : Result (List Database) LineFault). Decides past failures old new 1 (λ reads. OrLine name r (λ all. WithDatabases reads 1 all NoItems)) answer) (sym is) d
+
+-- ---- what is decided
+
+module _ {F : Type 0} (past : F → List Event → Type 0) (failures : F → ℕ) (name : List ℕ) (Go : List Database → Layers → Gives) (answer : Answered) where
   -- what is made of the databases
-  abbrev pub InLayers : List Database → List (Option (List ℕ)) → Gives
+  abbrev InLayers : List Database → List (Option (List ℕ)) → Gives
   InLayers ds items = WithLayers items (is_written ds) (Go ds)
 
-  abbrev InDatabases : ReadResults → List Database → Gives
-  InDatabases reads ds = WithDatabases reads 1 ds (InLayers ds)
-
   abbrev InProfile : ReadResults → List ℕ → Gives
-  InProfile reads bytes = OrLine name (profile_of bytes) (InDatabases reads)
+  InProfile reads bytes = OrLine name (profile_of bytes) (λ ds. WithDatabases reads 1 ds (InLayers ds))
 
   abbrev Does : F → F → Type 0
   Does old new = Decides past failures old new 0 (λ reads. WithStore reads name Go) answer
 
-  -- its profile isn't read
+  -- the profile isn't read
   pub store_without_file : (old new : F) → Decides past failures old new 0 (λ reads. WithFile reads 0 name Nothing) answer → Does old new
   store_without_file old new d =
       decides_also past failures old new 0 answer (λ reads. WithFile reads 0 name Nothing) (λ reads. WithStore reads name Go)
       (λ reads o h. nothing_is_any name (reads 0 name) (InProfile reads) o h) d
 
   -- it is read
-  module _ (old mid new : F) (bytes : List ℕ) (h : HasRead past failures old mid (one_read name (holds bytes))) where
-    store_by_file : Decides past failures mid new 1 (λ reads. InProfile reads bytes) answer → Does old new
+  module _ (old mid new : F) (file : NamedFile) (same : file.name.now ≡ name) (h : HasRead past failures old mid (one_read name (holds (vec_items file.bytes)))) where
+    store_by_file : Decides past failures mid new 1 (λ reads. InProfile reads (vec_items file.bytes)) answer → Does old new
     store_by_file d =
-        decides_later past failures old mid new 0 (one_read name (holds bytes)) answer (λ reads. InProfile reads bytes) (λ reads. WithStore reads name Go)
-        h ((λ e. cc), tt) (λ reads gave o m. rw gave.0 m) d
+        decides_later past failures old mid new 0 (one_read name (holds (vec_items file.bytes))) answer (λ reads. InProfile reads (vec_items file.bytes))
+        (λ reads. WithStore reads name Go) h ((λ e. cc), tt) (λ reads gave o m. rw gave.0 m) d
 
-    -- and is none
-    pub store_without_profile : new ≡ mid → GivesOutcome answer (OrLine name (profile_of bytes) NoDatabases) → Does old new
-    store_without_profile same gives =
-        store_by_file (decides_also past failures mid new 1 answer (λ reads. OrLine name (profile_of bytes) NoDatabases) (λ reads. InProfile reads bytes)
-        (λ reads o m. no_databases_are_any name (profile_of bytes) (InDatabases reads) o m)
-        (subst (λ f. Decides past failures mid f 1 (λ reads. OrLine name (profile_of bytes) NoDatabases) answer) (sym same)
-        (decides_at_once past failures mid 1 answer (λ reads. OrLine name (profile_of bytes) NoDatabases) (λ reads. gives))))
+    -- it is none, or a database isn't read
+    pub store_without_databases : Decides past failures mid new 1 (OfProfile past failures file.name.now (vec_items file.bytes) answer) answer → Does old new
+    store_without_databases d =
+        store_by_file (decides_also past failures mid new 1 answer (OfProfile past failures file.name.now (vec_items file.bytes) answer)
+        (λ reads. InProfile reads (vec_items file.bytes))
+        (λ reads o m. subst (λ (n : List ℕ). OrLine n (profile_of (vec_items file.bytes)) (λ ds. WithDatabases reads 1 ds (InLayers ds)) o) same
+        (no_items_in_any reads file.name.now (profile_of (vec_items file.bytes)) InLayers o m)) d)
 
-    module _ (ds : List Database) (profile_is : profile_of bytes ≡ Ok ds) where
-      store_by_profile : Decides past failures mid new 1 (λ reads. InDatabases reads ds) answer → Does old new
-      store_by_profile d =
-          store_by_file (decides_also past failures mid new 1 answer (λ reads. InDatabases reads ds) (λ reads. InProfile reads bytes)
-          (λ reads o m. subst (λ (r : Result (List Database) LineFault). OrLine name r (InDatabases reads) o) (sym profile_is) m) d)
+    -- all are
+    module _ (files : StoreFiles) (s : HasStore past failures mid new (vec_items file.bytes) files) where
+      store_by_items : GivesOutcome answer (InLayers (named_by files) (items_of files)) → Does old new
+      store_by_items gives =
+          let ds = named_by files in
+          let items = items_of files in
+          let Then : Gives = InLayers ds items in
+          store_by_file (decides_later past failures mid new new 1 (database_reads ds items) answer (λ reads. Then) (λ reads. InProfile reads (vec_items file.bytes))
+          s.read (databases_all_read ds items)
+          (λ reads gave o m. subst (λ (r : Result (List Database) LineFault). OrLine name r (λ all. WithDatabases reads 1 all (InLayers all)) o) (sym s.names)
+          (all_given reads 1 ds items (InLayers ds) o s.each gave m))
+          (decides_at_once past failures new (1 + length (database_reads ds items)) answer (λ reads. Then) (λ reads. gives)))
 
-      -- a database isn't read
-      pub store_without_database : Decides past failures mid new 1 (λ reads. WithDatabases reads 1 ds NoItems) answer → Does old new
-      store_without_database d =
-          store_by_profile (decides_also past failures mid new 1 answer (λ reads. WithDatabases reads 1 ds NoItems) (λ reads. InDatabases reads ds)
-          (λ reads o m. no_items_are_any reads 1 ds (InLayers ds) o m) d)
+      pub store_not_opened : GivesOutcome answer (WithLayers (items_of files) (is_written (named_by files)) NoLayers) → Does old new
+      store_not_opened gives =
+          store_by_items (answers_also answer (WithLayers (items_of files) (is_written (named_by files)) NoLayers) (InLayers (named_by files) (items_of files))
+          (λ o m. no_layers_are_any (items_of files) (is_written (named_by files)) (Go (named_by files)) o m) gives)
 
-      -- all are
-      pub store_by_databases : (items : List (Option (List ℕ))) → length items ≡ length ds → HasRead past failures mid new (database_reads ds items)
-          → GivesOutcome answer (InLayers ds items) → Does old new
-      store_by_databases items same all gives =
-          store_by_profile (decides_later past failures mid new new 1 (database_reads ds items) answer (λ reads. InLayers ds items) (λ reads. InDatabases reads ds)
-          all (databases_all_read ds items)
-          (λ reads gave o m. all_given reads 1 ds items (InLayers ds) o same gave m)
-          (decides_at_once past failures new (1 + length (database_reads ds items)) answer (λ reads. InLayers ds items) (λ reads. gives)))
+      pub store_opened : (l : Layers) → AreOpened files l → GivesOutcome answer (Go (named_by files) l) → Does old new
+      store_opened l opened gives =
+          store_by_items (answers_also answer (Go (named_by files) l) (InLayers (named_by files) (items_of files))
+          (λ o m. inl (l.layers, opened.layers, subst (λ (w : Bool). Go (named_by files) (record { layers = l.layers; written = w }) o) opened.written m)) gives)

@@ -3,6 +3,7 @@ pub mod Counted
 pub mod Answers
 pub mod Readings
 pub mod StoreReads
+pub mod Stores
 pub mod Endings
 pub mod Runs
 pub mod Inputs

@@ -7,9 +7,8 @@ use Rattle.dconf_model.specs.Outcomes.{Outcome}
 use Rattle.dconf_model.specs.Reads.{FileRead, ReadResults, read_of}
 use Rattle.dconf_model.specs.Reads.FileRead.{no_file, holds, failed}
 use Rattle.dconf_model.specs.Sources.{Source}
-use Rattle.dconf_cli.specs.declared.answer.Answer.{Answer}
 use Rattle.dconf_cli.specs.declared.folder_files.NamedFile.{NamedFile}
-use Rattle.dconf_cli.specs.Answers.{GivesOutcome, RefusesFor}
+use Rattle.dconf_cli.specs.Answers.{Answered, GivesOutcome, RefusesFor}
 use Rattle.dconf_cli.specs.Streams.{Rose}
 
 -- a read of a file, and what it gave
@@ -44,18 +43,18 @@ pub record HasRead {F : Type 0} (past : F → List Event → Type 0) (failures :
   pub none_failed : failures new ≡ failures old
 
 -- the device failed at a read, and the answer says of which file; or it failed at none
-abbrev pub Tells : ℕ → ℕ → List Reading → Answer → Type 0
-Tells old new log answer =
-    (AllRead log × (new ≡ old)) ⊎ ((name : List ℕ) × BreaksAt log name × Rose old new × RefusesFor answer (device_text name))
+abbrev pub Tells : ℕ → ℕ → List Reading → Answered → Type 0
+Tells old new log answered =
+    (AllRead log × (new ≡ old)) ⊎ ((name : List ℕ) × BreaksAt log name × Rose old new × RefusesFor answered (device_text name))
 
 -- What a command decides by its reads, the first of which has that number: whatever reads gave the same, its answer is one of the
 -- outcomes that they make.
 pub record Decides {F : Type 0} (past : F → List Event → Type 0) (failures : F → ℕ) (old new : F) (n : ℕ) (Makes : ReadResults → Outcome → Type 0)
-    (answer : Answer) : Type 0 where
+    (answered : Answered) : Type 0 where
   pub log : List Reading
   pub known : (es : List Event) → past old es → past new es × AreOf es log
-  pub tells : Tells (failures old) (failures new) log answer
-  pub answers : (reads : ReadResults) → Gave reads n log → GivesOutcome answer (Makes reads)
+  pub tells : Tells (failures old) (failures new) log answered
+  pub answers : (reads : ReadResults) → Gave reads n log → GivesOutcome answered (Makes reads)
 
 -- no bytes are looked at yet
 abbrev pub Nothing : List ℕ → Outcome → Type 0

@@ -24,6 +24,7 @@ mod write;
 
 use crate::answer::Answer;
 use crate::counted::Counted;
+use crate::refusal::Refusal;
 use check::check;
 use compile::compile;
 use dconf_command::Command;
@@ -46,7 +47,7 @@ pub(crate) fn answered<F: Folder, I: Read>(
     command: &Command,
     folder: &mut F,
     input: &mut Counted<I>,
-) -> Answer
+) -> Result<Answer, Refusal>
     ensures answer { (i : Input) × Took (I.remaining (inner_of input.old)) (failures_of input.old) (failures_of input.new) i
         × Decides F.past F.failed folder.old folder.new 0 (λ reads. IsOutcome (command_of command.now) reads i) result }
     ensures device { failures_of input.new ≢ failures_of input.old → RefusesFor result (device_text (codes "input")) }

@@ -12,6 +12,7 @@
 #![tactic(auto)]
 
 mod answer;
+mod argument;
 mod command_run;
 mod commands;
 mod counted;
@@ -19,12 +20,11 @@ mod folder_files;
 mod input;
 mod outcome;
 mod printed_value;
+mod refusal;
 mod store_files;
-mod task;
 mod user_database;
 mod walk;
 mod whole_write;
-mod word_value;
 
 pub use command_run::run;
 pub use counted::Counted;

@@ -1,6 +1,6 @@
 //! Answers of the commands that change the user's values: the user's database takes the place of its file, or the change is
 //! refused.
-ghost use Rattle.std.specs.Prelude.{◌≡◌, ℕ, List, [], IfOk, string_bytes};
+ghost use Rattle.std.specs.Prelude.{◌≡◌, ℕ, List, [], Err, IfOk, string_bytes};
 ghost use Rattle.dconf_model.specs.Changes.{saved};
 ghost use Rattle.dconf_model.specs.Outcomes.{Writes};
 ghost use Rattle.dconf_model.specs.Profiles.{user_file};
@@ -9,7 +9,8 @@ ghost use Rattle.dconf_engine.specs.ChangeFaults.{refusal_of};
 ghost use Rattle.dconf_cli.specs.Answers.{GivesOutcome};
 ghost use Rattle.dconf_cli.specs.Changing.{IsLockedPath, RefusedFor};
 
-use crate::answer::{Answer, refused};
+use crate::answer::Answer;
+use crate::refusal::{Refusal, refused};
 use crate::store_files::file_name;
 use dconf_engine::{ChangeFault, Engine};
 use dconf_path::Profile;
@@ -17,31 +18,31 @@ use gvdb_write::WriteFault;
 use std::alloc::{AllocError, Global};
 
 /// The answer that puts the user's database, with all changes, into the place of its file.
-pub(crate) fn saved(alloc: Global, profile: &Profile<'_>, engine: &Engine<'_>) -> Answer
+pub(crate) fn saved(
+    alloc: Global,
+    profile: &Profile<'_>,
+    engine: &Engine<'_>,
+) -> Result<Answer, Refusal>
     ensures { GivesOutcome result (Writes (user_file (databases_of profile.now)) [] (saved engine.now.layers)) }
 {
-    let bytes = match engine.save() {
-        Ok(bytes) => bytes,
-        Err(WriteFault::Memory) => return Answer::NoMemory,
-        Err(fault) => return refused(alloc, fault),
-    };
-    match user_file(alloc, profile) {
-        Ok(file) => Answer::Changed {
-            file,
+    match engine.save() {
+        Ok(bytes) => Ok(Answer::Changed {
+            file: user_file(alloc, profile)?,
             bytes,
             text: String::new(alloc),
-        },
-        Err(_) => Answer::NoMemory,
+        }),
+        Err(WriteFault::Memory) => Err(Refusal::NoMemory),
+        Err(fault) => Err(refused(alloc, fault)),
     }
 }
 
 /// The refusal of a change. The path is the locked one, where one is.
-pub(crate) fn change_refused(alloc: Global, fault: ChangeFault, path: &str) -> Answer
-    ensures { (paths : List (List ℕ)) → IsLockedPath paths (refusal_of fault) path.now → GivesOutcome result (RefusedFor paths (refusal_of fault)) }
+pub(crate) fn change_refused(alloc: Global, fault: ChangeFault, path: &str) -> Refusal
+    ensures { (paths : List (List ℕ)) → IsLockedPath paths (refusal_of fault) path.now → GivesOutcome (Err result) (RefusedFor paths (refusal_of fault)) }
 {
     match fault {
         ChangeFault::Locked(_) => refused(alloc, format_args!("Locked {path}")),
-        ChangeFault::Memory => Answer::NoMemory,
+        ChangeFault::Memory => Refusal::NoMemory,
         ChangeFault::NotWritable => refused(alloc, fault),
         ChangeFault::TooLarge => refused(alloc, fault),
     }

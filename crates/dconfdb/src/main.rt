@@ -5,6 +5,7 @@ use dconf_cli::{Counted, run};
 use dconf_command::{Command, Replaced, command, user_file};
 use dconf_disk::{Folder, FolderLock, LockFault, StdFolder, folder_of};
 use std::env;
+use std::fmt::Display;
 use std::io::ErrorKind;
 use std::process::ExitCode;
 
@@ -13,6 +14,9 @@ const REFUSED: u8 = 1;
 
 /// The status of wrong arguments, and of running out of memory while they are read.
 const USAGE: u8 = 2;
+
+/// What is said of a want of memory.
+const NO_MEMORY: &str = "Memory";
 
 /// Runs the command that the words ask for, and ends with its status.
 ///
@@ -23,16 +27,16 @@ fn main(rt: HostRuntime) -> ExitCode {
     let args = match env::args(&rt) {
         Ok(args) => args,
         Err(error) if error.kind() == ErrorKind::OutOfMemory => {
-            let _ = rt.eprintln("error: Memory");
+            refuse(&rt, NO_MEMORY);
             return ExitCode::from(USAGE);
         }
         Err(_) => {
-            let _ = rt.eprintln("error: the arguments are not UTF-8");
+            refuse(&rt, "the arguments are not UTF-8");
             return ExitCode::from(USAGE);
         }
     };
     let Ok(words) = args.collect::<Vec<String>>(alloc) else {
-        let _ = rt.eprintln("error: Memory");
+        refuse(&rt, NO_MEMORY);
         return ExitCode::from(USAGE);
     };
     match command(alloc, &words) {
@@ -94,9 +98,14 @@ fn refuse_busy(rt: &HostRuntime, replaced: Replaced<'_>) -> u8 {
             user_file(alloc, profile, &bytes)
         }
     };
-    let _ = match name {
-        Ok(name) => eprintln!(rt; "error: Busy {name}"),
-        Err(_) => rt.eprintln("error: Memory"),
-    };
+    match name {
+        Ok(name) => refuse(rt, format_args!("Busy {name}")),
+        Err(_) => refuse(rt, NO_MEMORY),
+    }
     REFUSED
+}
+
+/// Says on err why nothing is done.
+fn refuse<D: Display + Drop>(rt: &HostRuntime, why: D) {
+    let _ = eprintln!(rt; "error: {why}");
 }

@@ -1,5 +1,5 @@
 //! `compile OUT [--locks FILE] [KEYFILE..]`: the database of keyfiles and a lock file, or their first fault.
-ghost use Rattle.std.specs.Prelude.{◌≡◌, [], IfOk, IfSome, map, option_map, string_bytes, vec_items};
+ghost use Rattle.std.specs.Prelude.{◌≡◌, [], Err, IfOk, IfSome, map, option_map, string_bytes, vec_items};
 ghost use Rattle.dconf_compile.specs.CompileFaults.{fault_of, no_memory};
 ghost use Rattle.dconf_compile.specs.Sources.{sources_of};
 ghost use Rattle.dconf_model.specs.Commands.Command.{compile as compile_of};
@@ -8,10 +8,11 @@ ghost use Rattle.dconf_model.specs.Outcomes.{Compiles, IsOutcome, changing, file
 ghost use Rattle.dconf_model.specs.Reads.{Input};
 ghost use Rattle.dconf_cli.specs.Answers.{GivesOutcome, RefusesFor};
 ghost use Rattle.dconf_cli.specs.Readings.{Decides, named_sources};
-ghost use Rattle.dconf_cli.specs.declared.answer.Answer.TheVariants.{NoMemory};
+ghost use Rattle.dconf_cli.specs.declared.refusal.Refusal.TheVariants.{NoMemory};
 
-use crate::answer::{Answer, refused};
+use crate::answer::Answer;
 use crate::folder_files::{NamedFile, files};
+use crate::refusal::{Refusal, refused_at};
 use dconf_compile::{CompileFault, FileRef, Source};
 use dconf_disk::Folder;
 use std::alloc::{AllocError, Global};
@@ -23,33 +24,29 @@ pub(crate) fn compile<F: Folder>(
     locks: &Option<String>,
     keyfiles: &[String],
     folder: &mut F,
-) -> Answer
+) -> Result<Answer, Refusal>
     ensures { (input : Input) → Decides F.past F.failed folder.old folder.new 0
         (λ reads. IsOutcome (compile_of out.now (option_map string_bytes locks.now) (map string_bytes keyfiles.now)) reads input) result }
 {
-    let keyfiles = match files(alloc, folder, keyfiles) {
-        Ok(keyfiles) => keyfiles,
-        Err(answer) => return answer,
-    };
-    match files(alloc, folder, locks.as_slice()) {
-        Ok(locks) => compiled(alloc, out, &keyfiles, &locks),
-        Err(answer) => answer,
-    }
+    let keyfiles = files(alloc, folder, keyfiles)?;
+    let locks = files(alloc, folder, locks.as_slice())?;
+    compiled(alloc, out, &keyfiles, &locks)
 }
 
 /// What `compile` answers for the bytes of the files.
-fn compiled(alloc: Global, out: &str, keyfiles: &[NamedFile<'_>], locks: &[NamedFile<'_>]) -> Answer
+fn compiled(
+    alloc: Global,
+    out: &str,
+    keyfiles: &[NamedFile<'_>],
+    locks: &[NamedFile<'_>],
+) -> Result<Answer, Refusal>
     ensures { GivesOutcome result (Compiles out.now (named_sources keyfiles.entry.now) (named_sources locks.entry.now)) }
 {
-    let Ok(keyfile_sources) = sources(alloc, keyfiles) else {
-        return Answer::NoMemory;
-    };
-    let Ok(lock_sources) = sources(alloc, locks) else {
-        return Answer::NoMemory;
-    };
+    let keyfile_sources = sources(alloc, keyfiles)?;
+    let lock_sources = sources(alloc, locks)?;
     match dconf_compile::compile(alloc, &keyfile_sources, &lock_sources) {
         Ok(bytes) => changed(alloc, out, bytes),
-        Err(fault) => refusal(alloc, fault, keyfiles, locks),
+        Err(fault) => Err(refusal(alloc, fault, keyfiles, locks)),
     }
 }
 
@@ -68,17 +65,14 @@ fn sources<'a, 'b>(alloc: Global, files: &'b [NamedFile<'a>]) -> Result<Vec<Sour
 }
 
 /// The answer that puts the database into the place of `out`.
-fn changed(alloc: Global, out: &str, bytes: Vec<u8>) -> Answer
+fn changed(alloc: Global, out: &str, bytes: Vec<u8>) -> Result<Answer, Refusal>
     ensures { GivesOutcome result (λ o. o ≡ changing out.now (vec_items bytes) []) }
 {
-    match String::from_str(alloc, out) {
-        Ok(file) => Answer::Changed {
-            file,
-            bytes,
-            text: String::new(alloc),
-        },
-        Err(_) => Answer::NoMemory,
-    }
+    Ok(Answer::Changed {
+        file: String::from_str(alloc, out)?,
+        bytes,
+        text: String::new(alloc),
+    })
 }
 
 /// The refusal that says which file is at fault, at which line and why.
@@ -87,20 +81,17 @@ fn refusal(
     fault: CompileFault,
     keyfiles: &[NamedFile<'_>],
     locks: &[NamedFile<'_>],
-) -> Answer
-    ensures says { IfSome (fault_of fault) (λ f. RefusesFor result
+) -> Refusal
+    ensures says { IfSome (fault_of fault) (λ f. RefusesFor (Err result)
         (line_fault_text (file_name (named_sources keyfiles.entry.now) (named_sources locks.entry.now) f.file) f.line f.cause)) }
     ensures memory { fault ≡ no_memory → result ≡ NoMemory }
 {
     let name = match fault.file {
         FileRef::Keyfile(i) => name_of(keyfiles, i),
         FileRef::LockFile(i) => name_of(locks, i),
-        FileRef::Whole => return Answer::NoMemory,
+        FileRef::Whole => return Refusal::NoMemory,
     };
-    refused(
-        alloc,
-        format_args!("{name}:{}: {}", fault.line, fault.cause),
-    )
+    refused_at(alloc, name, fault.line, fault.cause)
 }
 
 /// The name of the file of that number.

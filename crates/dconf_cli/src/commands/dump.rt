@@ -1,13 +1,14 @@
 //! `dump DIR`: the values that are seen below a directory, as a keyfile.
-ghost use Rattle.std.specs.Prelude.{◌≡◌, ℕ, List, Some, Ok, Err, Result, IfOk, IfErr, OnOk, IsTrue, map, nat_eq, string_bytes};
-ghost use Rattle.std.specs.List.{All, starts_with};
+ghost use Rattle.std.specs.Prelude.{◌≡◌, ℕ, List, Some, Ok, Err, Result, IfOk, IfErr, OnOk, IsTrue, map, string_bytes};
+ghost use Rattle.std.specs.List.{All};
 ghost use Rattle.dconf_model.specs.Commands.Command.{dump as dump_of_directory};
 ghost use Rattle.gv_view.specs.Views.{value};
 ghost use Rattle.dconf_model.specs.Keyfiles.{Setting};
-ghost use Rattle.dconf_model.specs.Layers.{visible};
+ghost use Rattle.dconf_model.specs.Layers.{all_paths, paths_below, visible};
 ghost use Rattle.dconf_model.specs.Outcomes.{IsOutcome, dump_of, dump_output, path_at, setting_paths, settings_at, with_value_if_any};
 ghost use Rattle.dconf_model.specs.Paths.{is_key_path};
 ghost use Rattle.dconf_model.specs.Reads.{Input};
+ghost use Rattle.dconf_model.specs.Walks.{AreKeyPaths};
 ghost use Rattle.dconf_path.specs.Paths.{directory_text, key_text};
 ghost use Rattle.keyfile_core.specs.DumpRows.{AreBelow, setting_of};
 ghost use Rattle.keyfile_core.specs.RowsFaults.{rows_cause_of};
@@ -15,13 +16,15 @@ ghost use Rattle.dconf_cli.specs.Answers.{GivesOutcome};
 ghost use Rattle.dconf_cli.specs.Dumps.{with_earlier};
 ghost use Rattle.dconf_cli.specs.Readings.{Decides};
 
-use crate::answer::{Answer, refused};
-use crate::store_files::in_store;
-use crate::task::Task;
+use crate::answer::Answer;
+use crate::argument::directory_path;
+use crate::folder_files::named_file;
+use crate::refusal::{Refusal, refused};
+use crate::store_files::StoreFiles;
 use crate::walk::keys_below;
 use dconf_disk::Folder;
 use dconf_engine::Engine;
-use dconf_path::{DirPath, KeyPath, Profile};
+use dconf_path::{DirPath, KeyPath};
 use gv_text::{PrintFault, print};
 use gv_view::View;
 use keyfile_core::{RowsCause, RowsFault, write_rows};
@@ -33,60 +36,40 @@ pub(crate) fn dump<F: Folder>(
     directory: &str,
     profile: &str,
     folder: &mut F,
-) -> Answer
+) -> Result<Answer, Refusal>
     ensures { (input : Input) → Decides F.past F.failed folder.old folder.new 0
         (λ reads. IsOutcome (dump_of_directory directory.now profile.now) reads input) result }
 {
-    match DirPath::parse(directory) {
-        Ok(directory) => in_store(alloc, profile, &DumpTask { directory }, folder),
-        Err(fault) => refused(alloc, fault),
-    }
+    let directory = directory_path(alloc, directory)?;
+    let profile = named_file(alloc, folder, profile)?;
+    let files = StoreFiles::read(alloc, folder, &profile)?;
+    let engine = files.open(alloc)?;
+    dumped(alloc, &engine, directory)
 }
 
-/// To print the settings below a directory.
-#[derive(Clone, Copy)]
-struct DumpTask<'a> {
-    directory: DirPath<'a>,
-}
-
-impl<'a> Task for DumpTask<'a> {
-    ghost use Rattle.std.specs.Prelude.{◌≡◌};
-    ghost use Rattle.dconf_model.specs.Layers.{paths_below};
-    ghost use Rattle.dconf_model.specs.Outcomes.{dump_of, settings_at};
-    ghost use Rattle.dconf_path.specs.Paths.{directory_text};
-
-    ghost makes = { λ task databases l o. o ≡ dump_of (directory_text task.directory) (settings_at l (paths_below l (directory_text task.directory))) };
-
-    fn answer(&self, alloc: Global, profile: &Profile<'_>, engine: Engine<'_>) -> Answer {
-        let _ = profile;
-        match keys_below(alloc, &engine, self.directory) {
-            Ok(keys) => dumped(alloc, &engine, &keys, self.directory),
-            Err(_) => Answer::NoMemory,
-        }
-    }
-}
-
-/// The answer of the values that are seen at these keys.
-fn dumped(alloc: Global, engine: &Engine<'_>, keys: &[String], directory: DirPath<'_>) -> Answer
-    requires keys { All (λ key. IsTrue (is_key_path (string_bytes key))) keys.now }
-    requires below { All (λ key. IsTrue (starts_with nat_eq (string_bytes key) (directory_text directory))) keys.now }
-    ensures { GivesOutcome result (λ o. o ≡ dump_of (directory_text directory.entry) (settings_at engine.entry.now (map string_bytes keys.now))) }
+/// What it answers of a store.
+fn dumped(alloc: Global, engine: &Engine<'_>, directory: DirPath<'_>) -> Result<Answer, Refusal>
+    requires { AreKeyPaths (all_paths engine.now.layers) }
+    ensures { GivesOutcome result (λ o. o ≡ dump_of (directory_text directory.entry) (settings_at engine.now (paths_below engine.now (directory_text directory.entry)))) }
 {
-    match settings(alloc, engine, keys) {
-        Ok(settings) => written(alloc, &settings, directory),
-        Err(answer) => answer,
-    }
+    let keys = keys_below(alloc, engine, directory)?;
+    let settings = settings(alloc, engine, &keys)?;
+    written(alloc, &settings, directory)
 }
 
 /// The answer of settings, by the text of their keyfile.
-fn written(alloc: Global, settings: &[(KeyPath<'_>, String)], directory: DirPath<'_>) -> Answer
+fn written(
+    alloc: Global,
+    settings: &[(KeyPath<'_>, String)],
+    directory: DirPath<'_>,
+) -> Result<Answer, Refusal>
     requires { AreBelow (directory_text directory) settings.now }
     ensures { GivesOutcome result (λ o. o ≡ dump_of (directory_text directory.entry) (Ok (map setting_of settings.entry.now))) }
 {
     match write_rows(alloc, settings, directory) {
-        Ok(text) => Answer::Done(text),
-        Err(RowsFault::Refused { row, cause }) => refused_row(alloc, settings, row, cause),
-        Err(RowsFault::Memory) => Answer::NoMemory,
+        Ok(text) => Ok(Answer::Done(text)),
+        Err(RowsFault::Refused { row, cause }) => Err(refused_row(alloc, settings, row, cause)),
+        Err(RowsFault::Memory) => Err(Refusal::NoMemory),
     }
 }
 
@@ -96,8 +79,8 @@ fn refused_row(
     settings: &[(KeyPath<'_>, String)],
     row: usize,
     cause: RowsCause,
-) -> Answer
-    ensures { GivesOutcome result (λ o. o ≡ dump_output (map setting_of settings.entry.now) (Err (record { row = row; cause = rows_cause_of cause }))) }
+) -> Refusal
+    ensures { GivesOutcome (Err result) (λ o. o ≡ dump_output (map setting_of settings.entry.now) (Err (record { row = row; cause = rows_cause_of cause }))) }
 {
     let path = path_of_row(settings, row);
     refused(alloc, format_args!("{cause} {path}"))
@@ -113,16 +96,16 @@ fn path_of_row<'a>(settings: &[(KeyPath<'a>, String)], row: usize) -> &'a str
     }
 }
 
-/// The values that are seen at these keys, printed; or the answer where one isn't printed.
+/// The values that are seen at these keys, printed; or the refusal where one isn't.
 fn settings<'a>(
     alloc: Global,
     engine: &Engine<'_>,
     keys: &'a [String],
-) -> Result<Vec<(KeyPath<'a>, String)>, Answer>
+) -> Result<Vec<(KeyPath<'a>, String)>, Refusal>
     requires { All (λ key. IsTrue (is_key_path (string_bytes key))) keys.now }
     ensures ok { IfOk result (λ settings. settings_at engine.entry.now (map string_bytes keys.entry.now) ≡ Ok (map setting_of settings.items)) }
-    ensures err { IfErr result (λ answer. (directory : List ℕ)
-        → GivesOutcome answer (λ o. o ≡ dump_of directory (settings_at engine.entry.now (map string_bytes keys.entry.now)))) }
+    ensures err { IfErr result (λ refusal. (directory : List ℕ)
+        → GivesOutcome (Err refusal) (λ o. o ≡ dump_of directory (settings_at engine.entry.now (map string_bytes keys.entry.now)))) }
 {
     let mut settings = Vec::new(alloc);
     for key in keys {
@@ -137,13 +120,13 @@ fn push_setting<'a>(
     engine: &Engine<'_>,
     key: &'a str,
     settings: &mut Vec<(KeyPath<'a>, String)>,
-) -> Result<(), Answer>
+) -> Result<(), Refusal>
     requires { IsTrue (is_key_path key.now) }
     ensures ok { OnOk result ((later : Result (List Setting) (List ℕ))
         → with_earlier (map setting_of settings.old.items) (with_value_if_any key.entry.now (visible engine.entry.now key.entry.now) later)
         ≡ with_earlier (map setting_of settings.new.items) later) }
-    ensures err { IfErr result (λ answer. (earlier : List Setting) (later : Result (List Setting) (List ℕ)) (directory : List ℕ)
-        → GivesOutcome answer (λ o. o
+    ensures err { IfErr result (λ refusal. (earlier : List Setting) (later : Result (List Setting) (List ℕ)) (directory : List ℕ)
+        → GivesOutcome (Err refusal) (λ o. o
         ≡ dump_of directory (with_earlier earlier (with_value_if_any key.entry.now (visible engine.entry.now key.entry.now) later)))) }
 {
     match KeyPath::parse(key) {
@@ -159,12 +142,12 @@ fn push_value<'a>(
     engine: &Engine<'_>,
     path: KeyPath<'a>,
     settings: &mut Vec<(KeyPath<'a>, String)>,
-) -> Result<(), Answer>
+) -> Result<(), Refusal>
     ensures ok { OnOk result ((later : Result (List Setting) (List ℕ))
         → with_earlier (map setting_of settings.old.items) (with_value_if_any (key_text path.entry) (visible engine.entry.now (key_text path.entry)) later)
         ≡ with_earlier (map setting_of settings.new.items) later) }
-    ensures err { IfErr result (λ answer. (earlier : List Setting) (later : Result (List Setting) (List ℕ)) (directory : List ℕ)
-        → GivesOutcome answer (λ o. o
+    ensures err { IfErr result (λ refusal. (earlier : List Setting) (later : Result (List Setting) (List ℕ)) (directory : List ℕ)
+        → GivesOutcome (Err refusal) (λ o. o
         ≡ dump_of directory (with_earlier earlier (with_value_if_any (key_text path.entry) (visible engine.entry.now (key_text path.entry)) later)))) }
 {
     match engine.read(path) {
@@ -179,12 +162,12 @@ fn push_text<'a>(
     path: KeyPath<'a>,
     view: View<'_>,
     settings: &mut Vec<(KeyPath<'a>, String)>,
-) -> Result<(), Answer>
+) -> Result<(), Refusal>
     ensures ok { OnOk result ((later : Result (List Setting) (List ℕ))
         → with_earlier (map setting_of settings.old.items) (with_value_if_any (key_text path.entry) (Some (value view.entry)) later)
         ≡ with_earlier (map setting_of settings.new.items) later) }
-    ensures err { IfErr result (λ answer. (earlier : List Setting) (later : Result (List Setting) (List ℕ)) (directory : List ℕ)
-        → GivesOutcome answer (λ o. o
+    ensures err { IfErr result (λ refusal. (earlier : List Setting) (later : Result (List Setting) (List ℕ)) (directory : List ℕ)
+        → GivesOutcome (Err refusal) (λ o. o
         ≡ dump_of directory (with_earlier earlier (with_value_if_any (key_text path.entry) (Some (value view.entry)) later)))) }
 {
     match print(alloc, view) {
@@ -192,7 +175,7 @@ fn push_text<'a>(
             settings.push((path, text))?;
             Ok(())
         }
-        Err(PrintFault::Memory) => Err(Answer::NoMemory),
+        Err(PrintFault::Memory) => Err(Refusal::NoMemory),
         Err(fault) => {
             let path = path.as_str();
             Err(refused(alloc, format_args!("{fault} {path}")))

@@ -1,12 +1,14 @@
 //! `load [-f] DIR`: the user's values of the rows of a keyfile from input, below a directory. All rows are read before any is set.
-ghost use Rattle.std.specs.Prelude.{◌≢◌, codes};
-ghost use Rattle.dconf_model.specs.Changes.{Change.load_values, paths_of};
+ghost use Rattle.std.specs.Prelude.{◌≢◌, Err, codes};
+ghost use Rattle.dconf_model.specs.Changes.{Change.load_values, apply, paths_of};
 ghost use Rattle.dconf_model.specs.Commands.Command.{load as load_of};
 ghost use Rattle.dconf_model.specs.FaultTexts.{device_text};
-ghost use Rattle.dconf_model.specs.Outcomes.{Changes, IsOutcome, OrLine, WithRows};
+ghost use Rattle.dconf_model.specs.Outcomes.{Changes, IsOutcome, OrLine, Saves, WithRows};
+ghost use Rattle.dconf_model.specs.Profiles.{user_file};
 ghost use Rattle.dconf_model.specs.Reads.{Input};
 ghost use Rattle.dconf_model.specs.Sources.{loaded};
 ghost use Rattle.dconf_path.specs.Paths.{directory_text};
+ghost use Rattle.dconf_path.specs.Profiles.{databases_of};
 ghost use Rattle.dconf_compile.specs.LineStops.{line_fault_of};
 ghost use Rattle.dconf_engine.specs.ChangeFaults.{refusal_of};
 ghost use Rattle.dconf_engine.specs.Rows.{rows_of};
@@ -18,11 +20,13 @@ ghost use Rattle.dconf_cli.specs.Loads.{RefusedLine};
 ghost use Rattle.dconf_cli.specs.Readings.{Decides};
 ghost use Rattle.dconf_cli.specs.Runs.{Took};
 
-use crate::answer::{Answer, refused};
+use crate::answer::Answer;
+use crate::argument::directory_path;
 use crate::counted::Counted;
+use crate::folder_files::named_file;
 use crate::input::{InputFault, read_input};
-use crate::store_files::{in_store, refused_at};
-use crate::task::Task;
+use crate::refusal::{Refusal, device, refused_at};
+use crate::store_files::StoreFiles;
 use crate::user_database::{change_refused, saved};
 use dconf_compile::{LineStop, RowsBelow};
 use dconf_disk::Folder;
@@ -40,16 +44,14 @@ pub(crate) fn load<F: Folder, I: Read>(
     profile: &str,
     folder: &mut F,
     input: &mut Counted<I>,
-) -> Answer
+) -> Result<Answer, Refusal>
     ensures answer { (i : Input) × Took (I.remaining (inner_of input.old)) (failures_of input.old) (failures_of input.new) i
         × Decides F.past F.failed folder.old folder.new 0 (λ reads. IsOutcome (load_of force directory.now profile.now) reads i) result }
     ensures device { failures_of input.new ≢ failures_of input.old → RefusesFor result (device_text (codes "input")) }
     ensures limit { ConsumesText (I.remaining (inner_of input.old)) (I.remaining (inner_of input.new)) }
 {
-    match DirPath::parse(directory) {
-        Ok(directory) => load_below(alloc, force, directory, profile, folder, input),
-        Err(fault) => refused(alloc, fault),
-    }
+    let directory = directory_path(alloc, directory)?;
+    load_below(alloc, force, directory, profile, folder, input)
 }
 
 /// What it answers of a directory, by the input.
@@ -60,7 +62,7 @@ fn load_below<F: Folder, I: Read>(
     profile: &str,
     folder: &mut F,
     input: &mut Counted<I>,
-) -> Answer
+) -> Result<Answer, Refusal>
     ensures answer { (i : Input) × Took (I.remaining (inner_of input.old)) (failures_of input.old) (failures_of input.new) i
         × Decides F.past F.failed folder.old folder.new 0 (λ reads. WithRows (directory_text directory.entry) i
         (λ rows. Changes reads profile.now (paths_of rows) (load_values rows force))) result }
@@ -69,8 +71,8 @@ fn load_below<F: Folder, I: Read>(
 {
     match read_input(alloc, input) {
         Ok(bytes) => load_bytes(alloc, force, directory, &bytes, profile, folder),
-        Err(InputFault::Device) => refused(alloc, "Device input"),
-        Err(InputFault::Memory) => Answer::NoMemory,
+        Err(InputFault::Device) => Err(device(alloc, "input")),
+        Err(InputFault::Memory) => Err(Refusal::NoMemory),
     }
 }
 
@@ -82,34 +84,58 @@ fn load_bytes<F: Folder>(
     bytes: &[u8],
     profile: &str,
     folder: &mut F,
-) -> Answer
+) -> Result<Answer, Refusal>
     ensures { Decides F.past F.failed folder.old folder.new 0 (λ reads. OrLine (codes "input") (loaded (directory_text directory.entry) bytes.entry.now)
         (λ rows. Changes reads profile.now (paths_of rows) (load_values rows force))) result }
 {
     let rows = match RowsBelow::read(alloc, directory, bytes) {
         Ok(rows) => rows,
-        Err(stop) => return line_refused(alloc, stop),
+        Err(stop) => return Err(line_refused(alloc, stop)),
     };
     match rows.values(alloc) {
-        Ok(values) => in_store(
-            alloc,
-            profile,
-            &LoadTask {
-                rows: &values,
-                force,
-            },
-            folder,
-        ),
-        Err(stop) => line_refused(alloc, stop),
+        Ok(values) => load_rows(alloc, force, &values, profile, folder),
+        Err(stop) => Err(line_refused(alloc, stop)),
+    }
+}
+
+/// What it answers of these rows.
+fn load_rows<F: Folder>(
+    alloc: Global,
+    force: bool,
+    rows: &[(KeyPath<'_>, Tree)],
+    profile: &str,
+    folder: &mut F,
+) -> Result<Answer, Refusal>
+    ensures { Decides F.past F.failed folder.old folder.new 0 (λ reads. Changes reads profile.now (paths_of (rows_of rows.now)) (load_values (rows_of rows.now) force)) result }
+{
+    let profile = named_file(alloc, folder, profile)?;
+    let files = StoreFiles::read(alloc, folder, &profile)?;
+    let engine = files.open(alloc)?;
+    with_rows(alloc, &files.profile, engine, rows, force)
+}
+
+/// What it answers of a store.
+fn with_rows(
+    alloc: Global,
+    profile: &Profile<'_>,
+    mut engine: Engine<'_>,
+    rows: &[(KeyPath<'_>, Tree)],
+    force: bool,
+) -> Result<Answer, Refusal>
+    ensures { GivesOutcome result (Saves (paths_of (rows_of rows.now)) (user_file (databases_of profile.now)) (apply engine.entry (load_values (rows_of rows.now) force))) }
+{
+    match engine.load(rows, force) {
+        Ok(()) => saved(alloc, profile, &engine),
+        Err(fault) => Err(change_refused(alloc, fault, locked_path(rows, fault))),
     }
 }
 
 /// The refusal of a line of the input.
-fn line_refused(alloc: Global, stop: LineStop) -> Answer
-    ensures { GivesOutcome result (RefusedLine (line_fault_of stop)) }
+fn line_refused(alloc: Global, stop: LineStop) -> Refusal
+    ensures { GivesOutcome (Err result) (RefusedLine (line_fault_of stop)) }
 {
     if stop.cause.is_memory() {
-        return Answer::NoMemory;
+        return Refusal::NoMemory;
     }
     refused_at(alloc, "input", stop.line, stop.cause)
 }
@@ -124,29 +150,5 @@ fn locked_path<'a>(rows: &[(KeyPath<'a>, Tree)], fault: ChangeFault) -> &'a str
             None => "",
         },
         _ => "",
-    }
-}
-
-/// To set the values of rows.
-#[derive(Clone, Copy)]
-struct LoadTask<'a> {
-    rows: &'a [(KeyPath<'a>, Tree)],
-    force: bool,
-}
-
-impl<'a> Task for LoadTask<'a> {
-    ghost use Rattle.dconf_model.specs.Changes.{Change.load_values, apply, paths_of};
-    ghost use Rattle.dconf_model.specs.Outcomes.{Saves};
-    ghost use Rattle.dconf_model.specs.Profiles.{user_file};
-    ghost use Rattle.dconf_engine.specs.Rows.{rows_of};
-
-    ghost makes = { λ task databases l o. Saves (paths_of (rows_of task.rows.now)) (user_file databases) (apply l (load_values (rows_of task.rows.now) task.force)) o };
-
-    fn answer(&self, alloc: Global, profile: &Profile<'_>, engine: Engine<'_>) -> Answer {
-        let mut engine = engine;
-        match engine.load(self.rows, self.force) {
-            Ok(()) => saved(alloc, profile, &engine),
-            Err(fault) => change_refused(alloc, fault, locked_path(self.rows, fault)),
-        }
     }
 }

@@ -1,17 +1,22 @@
 //! `read [-d] KEY`: the value that is seen at a key.
-ghost use Rattle.std.specs.Prelude.{◌≡◌};
+ghost use Rattle.std.specs.Prelude.{◌≡◌, if◌then◌else◌};
 ghost use Rattle.dconf_model.specs.Commands.Command.{read as read_of};
-ghost use Rattle.dconf_model.specs.Outcomes.{IsOutcome};
+ghost use Rattle.dconf_model.specs.Layers.{visible, without_user};
+ghost use Rattle.dconf_model.specs.Outcomes.{IsOutcome, shown_if_any};
 ghost use Rattle.dconf_model.specs.Reads.{Input};
+ghost use Rattle.dconf_path.specs.Paths.{key_text};
+ghost use Rattle.dconf_cli.specs.Answers.{GivesOutcome};
 ghost use Rattle.dconf_cli.specs.Readings.{Decides};
 
-use crate::answer::{Answer, refused};
+use crate::answer::Answer;
+use crate::argument::key_path;
+use crate::folder_files::named_file;
 use crate::printed_value::printed;
-use crate::store_files::in_store;
-use crate::task::Task;
+use crate::refusal::Refusal;
+use crate::store_files::StoreFiles;
 use dconf_disk::Folder;
 use dconf_engine::Engine;
-use dconf_path::{KeyPath, Profile};
+use dconf_path::KeyPath;
 use std::alloc::Global;
 
 /// What `read` answers, with or without the user's value.
@@ -21,42 +26,33 @@ pub(crate) fn read<F: Folder>(
     key: &str,
     profile: &str,
     folder: &mut F,
-) -> Answer
+) -> Result<Answer, Refusal>
     ensures { (input : Input) → Decides F.past F.failed folder.old folder.new 0
         (λ reads. IsOutcome (read_of default key.now profile.now) reads input) result }
 {
-    match KeyPath::parse(key) {
-        Ok(key) => in_store(alloc, profile, &ReadTask { key, default }, folder),
-        Err(fault) => refused(alloc, fault),
-    }
+    let key = key_path(alloc, key)?;
+    let profile = named_file(alloc, folder, profile)?;
+    let files = StoreFiles::read(alloc, folder, &profile)?;
+    let engine = files.open(alloc)?;
+    seen(alloc, &engine, key, default)
 }
 
-/// To print the value of a key.
-#[derive(Clone, Copy)]
-struct ReadTask<'a> {
-    key: KeyPath<'a>,
-    /// Whether the user's value is left aside.
+/// What it answers of a store.
+fn seen(
+    alloc: Global,
+    engine: &Engine<'_>,
+    key: KeyPath<'_>,
     default: bool,
-}
-
-impl<'a> Task for ReadTask<'a> {
-    ghost use Rattle.std.specs.Prelude.{◌≡◌, if◌then◌else◌};
-    ghost use Rattle.dconf_model.specs.Layers.{visible, without_user};
-    ghost use Rattle.dconf_model.specs.Outcomes.{shown_if_any};
-    ghost use Rattle.dconf_path.specs.Paths.{key_text};
-
-    ghost makes = { λ task databases l o. o ≡ shown_if_any (visible (if task.default then without_user l else l) (key_text task.key)) };
-
-    fn answer(&self, alloc: Global, profile: &Profile<'_>, engine: Engine<'_>) -> Answer {
-        let _ = profile;
-        let value = if self.default {
-            engine.read_default(self.key)
-        } else {
-            engine.read(self.key)
-        };
-        match value {
-            Some(view) => printed(alloc, view),
-            None => Answer::Done(String::new(alloc)),
-        }
+) -> Result<Answer, Refusal>
+    ensures { GivesOutcome result (λ o. o ≡ shown_if_any (visible (if default then without_user engine.now else engine.now) (key_text key.entry))) }
+{
+    let value = if default {
+        engine.read_default(key)
+    } else {
+        engine.read(key)
+    };
+    match value {
+        Some(view) => printed(alloc, view),
+        None => Ok(Answer::Done(String::new(alloc))),
     }
 }

@@ -1,13 +1,21 @@
 //! `reset [-f] PATH`: the user's value of a key is taken away, or those of all keys below a directory.
+ghost use Rattle.std.specs.Prelude.{[], ◌∷◌};
+ghost use Rattle.dconf_model.specs.Changes.{Change.reset_below_directory, Change.reset_value, apply};
 ghost use Rattle.dconf_model.specs.Commands.Command.{reset as reset_of_key, reset_below as reset_of_directory};
-ghost use Rattle.dconf_model.specs.Outcomes.{IsOutcome};
+ghost use Rattle.dconf_model.specs.Outcomes.{IsOutcome, Saves};
+ghost use Rattle.dconf_model.specs.Profiles.{user_file};
 ghost use Rattle.dconf_model.specs.Reads.{Input};
 ghost use Rattle.dconf_command.specs.Commands.{resetting};
+ghost use Rattle.dconf_path.specs.Paths.{directory_text, key_text};
+ghost use Rattle.dconf_path.specs.Profiles.{databases_of};
+ghost use Rattle.dconf_cli.specs.Answers.{GivesOutcome};
 ghost use Rattle.dconf_cli.specs.Readings.{Decides};
 
-use crate::answer::{Answer, refused};
-use crate::store_files::in_store;
-use crate::task::Task;
+use crate::answer::Answer;
+use crate::argument::{directory_path, key_path};
+use crate::folder_files::named_file;
+use crate::refusal::Refusal;
+use crate::store_files::StoreFiles;
 use crate::user_database::{change_refused, saved};
 use dconf_disk::Folder;
 use dconf_engine::Engine;
@@ -21,7 +29,7 @@ pub(crate) fn reset<F: Folder>(
     path: &str,
     profile: &str,
     folder: &mut F,
-) -> Answer
+) -> Result<Answer, Refusal>
     ensures { (input : Input) → Decides F.past F.failed folder.old folder.new 0
         (λ reads. IsOutcome (resetting force path.now profile.now) reads input) result }
 {
@@ -33,72 +41,66 @@ pub(crate) fn reset<F: Folder>(
 }
 
 /// What it answers of a key.
-fn reset_key<F: Folder>(alloc: Global, key: &str, profile: &str, folder: &mut F) -> Answer
+fn reset_key<F: Folder>(
+    alloc: Global,
+    key: &str,
+    profile: &str,
+    folder: &mut F,
+) -> Result<Answer, Refusal>
     ensures { (input : Input) → Decides F.past F.failed folder.old folder.new 0
         (λ reads. IsOutcome (reset_of_key key.now profile.now) reads input) result }
 {
-    match KeyPath::parse(key) {
-        Ok(key) => in_store(alloc, profile, &KeyTask { key }, folder),
-        Err(fault) => refused(alloc, fault),
-    }
+    let key = key_path(alloc, key)?;
+    let profile = named_file(alloc, folder, profile)?;
+    let files = StoreFiles::read(alloc, folder, &profile)?;
+    let engine = files.open(alloc)?;
+    without_key(alloc, &files.profile, engine, key)
 }
 
 /// What it answers of a directory.
-fn reset_below<F: Folder>(alloc: Global, directory: &str, profile: &str, folder: &mut F) -> Answer
+fn reset_below<F: Folder>(
+    alloc: Global,
+    directory: &str,
+    profile: &str,
+    folder: &mut F,
+) -> Result<Answer, Refusal>
     ensures { (input : Input) → Decides F.past F.failed folder.old folder.new 0
         (λ reads. IsOutcome (reset_of_directory directory.now profile.now) reads input) result }
 {
-    match DirPath::parse(directory) {
-        Ok(directory) => in_store(alloc, profile, &DirectoryTask { directory }, folder),
-        Err(fault) => refused(alloc, fault),
+    let directory = directory_path(alloc, directory)?;
+    let profile = named_file(alloc, folder, profile)?;
+    let files = StoreFiles::read(alloc, folder, &profile)?;
+    let engine = files.open(alloc)?;
+    without_directory(alloc, &files.profile, engine, directory)
+}
+
+/// What it answers of a key and a store.
+fn without_key(
+    alloc: Global,
+    profile: &Profile<'_>,
+    mut engine: Engine<'_>,
+    key: KeyPath<'_>,
+) -> Result<Answer, Refusal>
+    ensures { GivesOutcome result (Saves (key_text key.entry ∷ []) (user_file (databases_of profile.now)) (apply engine.entry (reset_value (key_text key.entry)))) }
+{
+    match engine.reset(key) {
+        Ok(()) => saved(alloc, profile, &engine),
+        Err(fault) => Err(change_refused(alloc, fault, key.as_str())),
     }
 }
 
-/// To reset a key.
-#[derive(Clone, Copy)]
-struct KeyTask<'a> {
-    key: KeyPath<'a>,
-}
-
-impl<'a> Task for KeyTask<'a> {
-    ghost use Rattle.std.specs.Prelude.{[], ◌∷◌};
-    ghost use Rattle.dconf_model.specs.Changes.{Change.reset_value, apply};
-    ghost use Rattle.dconf_model.specs.Outcomes.{Saves};
-    ghost use Rattle.dconf_model.specs.Profiles.{user_file};
-    ghost use Rattle.dconf_path.specs.Paths.{key_text};
-
-    ghost makes = { λ task databases l o. Saves (key_text task.key ∷ []) (user_file databases) (apply l (reset_value (key_text task.key))) o };
-
-    fn answer(&self, alloc: Global, profile: &Profile<'_>, engine: Engine<'_>) -> Answer {
-        let mut engine = engine;
-        match engine.reset(self.key) {
-            Ok(()) => saved(alloc, profile, &engine),
-            Err(fault) => change_refused(alloc, fault, self.key.as_str()),
-        }
-    }
-}
-
-/// To reset all keys below a directory.
-#[derive(Clone, Copy)]
-struct DirectoryTask<'a> {
-    directory: DirPath<'a>,
-}
-
-impl<'a> Task for DirectoryTask<'a> {
-    ghost use Rattle.std.specs.Prelude.{[]};
-    ghost use Rattle.dconf_model.specs.Changes.{Change.reset_below_directory, apply};
-    ghost use Rattle.dconf_model.specs.Outcomes.{Saves};
-    ghost use Rattle.dconf_model.specs.Profiles.{user_file};
-    ghost use Rattle.dconf_path.specs.Paths.{directory_text};
-
-    ghost makes = { λ task databases l o. Saves [] (user_file databases) (apply l (reset_below_directory (directory_text task.directory))) o };
-
-    fn answer(&self, alloc: Global, profile: &Profile<'_>, engine: Engine<'_>) -> Answer {
-        let mut engine = engine;
-        match engine.reset_dir(self.directory) {
-            Ok(()) => saved(alloc, profile, &engine),
-            // No path of it is looked at for locks.
-            Err(fault) => change_refused(alloc, fault, ""),
-        }
+/// What it answers of a directory and a store.
+fn without_directory(
+    alloc: Global,
+    profile: &Profile<'_>,
+    mut engine: Engine<'_>,
+    directory: DirPath<'_>,
+) -> Result<Answer, Refusal>
+    ensures { GivesOutcome result (Saves [] (user_file (databases_of profile.now)) (apply engine.entry (reset_below_directory (directory_text directory.entry)))) }
+{
+    match engine.reset_dir(directory) {
+        Ok(()) => saved(alloc, profile, &engine),
+        // No path of it is looked at for locks.
+        Err(fault) => Err(change_refused(alloc, fault, "")),
     }
 }

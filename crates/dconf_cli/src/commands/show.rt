@@ -8,31 +8,35 @@ ghost use Rattle.dconf_model.specs.Reads.{Input};
 ghost use Rattle.dconf_cli.specs.Answers.{GivesOutcome};
 ghost use Rattle.dconf_cli.specs.Readings.{Decides};
 
-use crate::answer::{Answer, refused};
+use crate::answer::Answer;
 use crate::folder_files::file;
 use crate::printed_value::printed;
+use crate::refusal::{Refusal, refused};
 use dconf_disk::Folder;
 use gv_types::TypeStr;
 use gv_view::View;
 use std::alloc::Global;
 
 /// What `show` answers. The type is looked at before the file.
-pub(crate) fn show<F: Folder>(alloc: Global, type_text: &str, name: &str, folder: &mut F) -> Answer
+pub(crate) fn show<F: Folder>(
+    alloc: Global,
+    type_text: &str,
+    name: &str,
+    folder: &mut F,
+) -> Result<Answer, Refusal>
     ensures { (input : Input) → Decides F.past F.failed folder.old folder.new 0
         (λ reads. IsOutcome (show_of type_text.now name.now) reads input) result }
 {
     let type_str = match TypeStr::parse(type_text) {
         Ok(type_str) => type_str,
-        Err(fault) => return refused(alloc, fault),
+        Err(fault) => return Err(refused(alloc, fault)),
     };
-    match file(alloc, folder, name) {
-        Ok(bytes) => shown(alloc, type_str, &bytes),
-        Err(answer) => answer,
-    }
+    let bytes = file(alloc, folder, name)?;
+    shown(alloc, type_str, &bytes)
 }
 
 /// What `show` answers for the bytes of the file.
-fn shown(alloc: Global, type_str: TypeStr<'_>, bytes: &[u8]) -> Answer
+fn shown(alloc: Global, type_str: TypeStr<'_>, bytes: &[u8]) -> Result<Answer, Refusal>
     ensures { GivesOutcome result (λ o. o ≡ shown_of (decode (ty type_str.entry) bytes.now)) }
 {
     printed(alloc, View::new(type_str, bytes))

@@ -1,14 +1,21 @@
 //! `write KEY VALUE`: the user's value of a key is set.
+ghost use Rattle.std.specs.Prelude.{[], ◌∷◌};
+ghost use Rattle.dconf_model.specs.Changes.{Change.set_value, apply};
 ghost use Rattle.dconf_model.specs.Commands.Command.{write as write_of};
-ghost use Rattle.dconf_model.specs.Outcomes.{IsOutcome};
+ghost use Rattle.dconf_model.specs.Outcomes.{IsOutcome, Saves};
+ghost use Rattle.dconf_model.specs.Profiles.{user_file};
 ghost use Rattle.dconf_model.specs.Reads.{Input};
+ghost use Rattle.dconf_path.specs.Paths.{key_text};
+ghost use Rattle.dconf_path.specs.Profiles.{databases_of};
+ghost use Rattle.dconf_cli.specs.Answers.{GivesOutcome};
 ghost use Rattle.dconf_cli.specs.Readings.{Decides};
 
-use crate::answer::{Answer, refused};
-use crate::store_files::in_store;
-use crate::task::Task;
+use crate::answer::Answer;
+use crate::argument::{key_path, word_value};
+use crate::folder_files::named_file;
+use crate::refusal::Refusal;
+use crate::store_files::StoreFiles;
 use crate::user_database::{change_refused, saved};
-use crate::word_value::word_value;
 use dconf_disk::Folder;
 use dconf_engine::Engine;
 use dconf_path::{KeyPath, Profile};
@@ -22,41 +29,30 @@ pub(crate) fn write<F: Folder>(
     value: &str,
     profile: &str,
     folder: &mut F,
-) -> Answer
+) -> Result<Answer, Refusal>
     ensures { (input : Input) → Decides F.past F.failed folder.old folder.new 0
         (λ reads. IsOutcome (write_of key.now value.now profile.now) reads input) result }
 {
-    let key = match KeyPath::parse(key) {
-        Ok(key) => key,
-        Err(fault) => return refused(alloc, fault),
-    };
-    match word_value(alloc, value) {
-        Ok(value) => in_store(alloc, profile, &WriteTask { key, value }, folder),
-        Err(answer) => answer,
-    }
+    let key = key_path(alloc, key)?;
+    let value = word_value(alloc, value)?;
+    let profile = named_file(alloc, folder, profile)?;
+    let files = StoreFiles::read(alloc, folder, &profile)?;
+    let engine = files.open(alloc)?;
+    with_value(alloc, &files.profile, engine, key, &value)
 }
 
-/// To set a key to a value.
-#[derive(Drop)]
-struct WriteTask<'a> {
-    key: KeyPath<'a>,
-    value: Tree,
-}
-
-impl<'a> Task for WriteTask<'a> {
-    ghost use Rattle.std.specs.Prelude.{[], ◌∷◌};
-    ghost use Rattle.dconf_model.specs.Changes.{Change.set_value, apply};
-    ghost use Rattle.dconf_model.specs.Outcomes.{Saves};
-    ghost use Rattle.dconf_model.specs.Profiles.{user_file};
-    ghost use Rattle.dconf_path.specs.Paths.{key_text};
-
-    ghost makes = { λ task databases l o. Saves (key_text task.key ∷ []) (user_file databases) (apply l (set_value (key_text task.key) task.value)) o };
-
-    fn answer(&self, alloc: Global, profile: &Profile<'_>, engine: Engine<'_>) -> Answer {
-        let mut engine = engine;
-        match engine.write(self.key, &self.value) {
-            Ok(()) => saved(alloc, profile, &engine),
-            Err(fault) => change_refused(alloc, fault, self.key.as_str()),
-        }
+/// What it answers of a store.
+fn with_value(
+    alloc: Global,
+    profile: &Profile<'_>,
+    mut engine: Engine<'_>,
+    key: KeyPath<'_>,
+    value: &Tree,
+) -> Result<Answer, Refusal>
+    ensures { GivesOutcome result (Saves (key_text key.entry ∷ []) (user_file (databases_of profile.now)) (apply engine.entry (set_value (key_text key.entry) value.now))) }
+{
+    match engine.write(key, value) {
+        Ok(()) => saved(alloc, profile, &engine),
+        Err(fault) => Err(change_refused(alloc, fault, key.as_str())),
     }
 }

@@ -9,14 +9,14 @@ returns-in-Ok-clause-ok g c =
 
 pub returns-in-Err-Device-clause-err : goal.returns-in-Err-Device-clause-err
 returns-in-Err-Device-clause-err g c = λ n.
-    decides_broken g.F.Folder.past g.F.Folder.failed c.args.folder.now c.read.new.self c.args.name.now c.read.ensures.past n c.refused.result
-    (c.in-Err-Device.ensures.cause.device (ap Err c.in-Err-Device.field-0-is)) c.refused.ensures
+    decides_broken g.F.Folder.past g.F.Folder.failed c.args.folder.now c.read.new.self c.args.name.now c.read.ensures.past n (Err c.device.result)
+    (c.in-Err-Device.ensures.cause.device (ap Err c.in-Err-Device.field-0-is)) c.device.ensures
 
 pub returns-in-Err-TooBig-clause-err : goal.returns-in-Err-TooBig-clause-err
 returns-in-Err-TooBig-clause-err g c = λ n.
     let is = c.in-Err-TooBig.field-0-is in
-    decides_over_size g.F.Folder.past g.F.Folder.failed c.args.folder.now c.read.new.self c.args.name.now c.read.ensures.past n c.refused-in-Err-TooBig.result
-    (λ es p. c.in-Err-TooBig.ensures.too_big es p (ap Err is)) (c.in-Err-TooBig.ensures.cause.others (λ e. cc)) c.refused-in-Err-TooBig.ensures
+    decides_over_size g.F.Folder.past g.F.Folder.failed c.args.folder.now c.read.new.self c.args.name.now c.read.ensures.past n (Err c.refused.result)
+    (λ es p. c.in-Err-TooBig.ensures.too_big es p (ap Err is)) (c.in-Err-TooBig.ensures.cause.others (λ e. cc)) c.refused.ensures
 
 pub returns-in-Err-Memory-clause-err : goal.returns-in-Err-Memory-clause-err
 returns-in-Err-Memory-clause-err g c = λ n.

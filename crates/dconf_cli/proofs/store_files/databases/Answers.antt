@@ -1,4 +1,4 @@
-use Rattle.std.proofs.Common.{List, ◌≡◌, ◌+◌, ◌∙◌, [], ℕ, drop, get_or, length, map, take, sym, ap, subst}
+use Rattle.std.proofs.Common.{List, Err, ◌≡◌, ◌+◌, ◌∙◌, [], ℕ, drop, get_or, length, map, take, sym, ap, subst}
 use Rattle.std.proofs.lemmas.List.{length-map, length_push, map-append}
 use Rattle.std.proofs.lemmas.Result.{err_from_is_err_and}
 use Rattle.dconf_model.specs.Outcomes.{WithDatabases}
@@ -19,9 +19,9 @@ returns-in_err-read_database-clause-err g c =
     let taken : length (take k (map database_of ds)) ≡ k = length_taken database_of ds k no_database c.loop-database-test.true in
     let p = err_from_is_err_and c.from_residual.result c.from_residual.ensures.1 in
     rw (p.1, p.2) (λ n. subst (λ (all : List Database). Decides g.F.Folder.past g.F.Folder.failed c.args.folder.now c.read_database.new.folder n
-    (λ reads. WithDatabases reads n all NoItems) c.in_err-read_database.field-0.0) (sym (all_around database_of ds k no_database c.loop-database-test.true))
+    (λ reads. WithDatabases reads n all NoItems) (Err c.in_err-read_database.field-0.0)) (sym (all_around database_of ds k no_database c.loop-database-test.true))
     (decides_at_database g.F.Folder.past g.F.Folder.failed c.args.folder.now c.loop-database.folder c.read_database.new.folder (take k (map database_of ds)) items
-    (length_is ∙ sym taken) c.loop-database.invariant.0 (database_of (get_or ds k no_database)) (drop (k + 1) (map database_of ds)) c.in_err-read_database.field-0.0 c.in_err-read_database.ensures.err n))
+    (length_is ∙ sym taken) c.loop-database.invariant.0 (database_of (get_or ds k no_database)) (drop (k + 1) (map database_of ds)) (Err c.in_err-read_database.field-0.0) c.in_err-read_database.ensures.err n))
 
 pub returns-in_err-push-clause-err : goal.returns-in_err-push-clause-err
 returns-in_err-push-clause-err g c =

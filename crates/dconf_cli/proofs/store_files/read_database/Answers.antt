@@ -1,4 +1,5 @@
-use Rattle.std.proofs.Common.{IfErr, ℕ, refl, subst, ◌∙◌}
+use Rattle.std.proofs.Common.{ℕ, Err, IfErr, refl, subst, ◌∙◌}
+use Rattle.std.proofs.lemmas.Result.{err_from_is_err_and}
 use Rattle.dconf_model.specs.Outcomes.{OrNoDatabase}
 use Rattle.dconf_model.specs.Profiles.{database_file}
 use Rattle.dconf_path.specs.Profiles.{database_of}
@@ -6,11 +7,12 @@ use Rattle.dconf_cli.specs.Readings.{Decides, NothingIfAny}
 use Rattle.dconf_cli.proofs.Decisions.{decides_no_memory}
 use Rattle.dconf_cli.proofs.store_files.read_database.Goals as goal
 
-pub returns-in-Ok-clause-err : goal.returns-in-Ok-clause-err
-returns-in-Ok-clause-err g c =
-    subst (λ name. IfErr c.file_if_any.result (λ answer. (n : ℕ) → Decides g.F.Folder.past g.F.Folder.failed c.args.folder.now c.file_if_any.new.folder n
-    (λ reads. OrNoDatabase name (reads n name) NothingIfAny) answer)) (c.as_str.ensures.value ∙ c.in-Ok.ensures) c.file_if_any.ensures.err
+pub returns-clause-err : goal.returns-clause-err
+returns-clause-err g c =
+    subst (λ name. IfErr c.file_if_any.result (λ refusal. (n : ℕ) → Decides g.F.Folder.past g.F.Folder.failed c.args.folder.now c.file_if_any.new.folder n
+    (λ reads. OrNoDatabase name (reads n name) NothingIfAny) (Err refusal))) (c.as_str.ensures.value ∙ c.in_ok-name.ensures) c.file_if_any.ensures.err
 
-pub returns-in-Err-clause-err : goal.returns-in-Err-clause-err
-returns-in-Err-clause-err g c = λ n.
-    decides_no_memory g.F.Folder.past g.F.Folder.failed c.args.folder.now c.args.folder.now (database_file (database_of c.args.database)) (λ es is. is) n refl _
+pub returns-in_err-name-clause-err : goal.returns-in_err-name-clause-err
+returns-in_err-name-clause-err g c =
+    let p = err_from_is_err_and c.from_residual.result c.from_residual.ensures.1 in
+    rw (p.1, p.2) (λ n. decides_no_memory g.F.Folder.past g.F.Folder.failed c.args.folder.now c.args.folder.now (database_file (database_of c.args.database)) (λ es is. is) n refl _)

@@ -1,4 +1,4 @@
-use Rattle.std.proofs.Common.{◌≡◌, ℕ, List, Option, Result, map, sym, subst}
+use Rattle.std.proofs.Common.{◌≡◌, ℕ, List, Err, Option, Result, map, sym, subst}
 use Rattle.std.specs.Prelude.{IfErr, OnOk}
 use Rattle.gv_model.specs.Tree.{Tree}
 use Rattle.dconf_model.specs.Keyfiles.{Setting}
@@ -18,8 +18,8 @@ returns-in-Some-clause-ok c =
 
 pub returns-in-Some-clause-err : goal.returns-in-Some-clause-err
 returns-in-Some-clause-err c =
-    subst (λ (s : Option Tree). IfErr c.push_text.result (λ answer. (earlier : List Setting) (later : Result (List Setting) (List ℕ)) (directory : List ℕ)
-    → GivesOutcome answer (λ o. o ≡ dump_of directory (with_earlier earlier (with_value_if_any (key_text c.args.path) s later)))))
+    subst (λ (s : Option Tree). IfErr c.push_text.result (λ refusal. (earlier : List Setting) (later : Result (List Setting) (List ℕ)) (directory : List ℕ)
+    → GivesOutcome (Err refusal) (λ o. o ≡ dump_of directory (with_earlier earlier (with_value_if_any (key_text c.args.path) s later)))))
     (sym c.in-Some.ensures.value) c.push_text.ensures.err
 
 pub returns-in-None-clause-ok : goal.returns-in-None-clause-ok

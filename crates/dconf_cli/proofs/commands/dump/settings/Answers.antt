@@ -1,4 +1,4 @@
-use Rattle.std.proofs.Common.{◌∙◌, ℕ, List, ap, map, string_bytes, sym, subst}
+use Rattle.std.proofs.Common.{◌∙◌, ℕ, List, Err, ap, map, string_bytes, sym, subst}
 use Rattle.std.specs.Prelude.{IsTrue, String}
 use Rattle.std.specs.Global.{Global}
 use Rattle.std.proofs.lemmas.List.{drop_all}
@@ -36,7 +36,7 @@ returns-in_err-push_setting-clause-err c =
     let i = c.loop-key.key-index in
     let p = err_from_is_err_and c.from_residual.result c.from_residual.ensures.1 in
     rw (p.1, p.2) (λ directory. fault_ends c.args.engine.now keys i c.key-item.result c.as_str.result.now (map setting_of c.loop-key.settings.items)
-    (settings_at c.args.engine.now (map string_bytes keys)) _ directory (drop_item keys i c.key-item.result c.loop-key-test.true c.key-item.is) c.as_str.ensures.value
+    (settings_at c.args.engine.now (map string_bytes keys)) (Err c.in_err-push_setting.field-0.0) directory (drop_item keys i c.key-item.result c.loop-key-test.true c.key-item.is) c.as_str.ensures.value
     c.loop-key.invariant c.in_err-push_setting.ensures.err)
 
 pub returns-clause-ok : goal.returns-clause-ok

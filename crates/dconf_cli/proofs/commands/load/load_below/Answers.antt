@@ -1,11 +1,11 @@
-use Rattle.std.proofs.Common.{ℕ, List, codes, subst, vec_items}
+use Rattle.std.proofs.Common.{ℕ, List, Err, codes, subst, vec_items}
 use Rattle.dconf_model.specs.Changes.{paths_of}
 use Rattle.dconf_model.specs.Changes.Change.{load_values}
 use Rattle.dconf_model.specs.Outcomes.{Changes, Gives, OrLine, WithRows}
 use Rattle.dconf_model.specs.Reads.{ReadResults}
 use Rattle.dconf_model.specs.Sources.{Assigned, loaded}
 use Rattle.dconf_path.specs.Paths.{directory_text}
-use Rattle.dconf_cli.specs.declared.answer.Answer.TheVariants.{NoMemory}
+use Rattle.dconf_cli.specs.declared.refusal.Refusal.TheVariants.{NoMemory}
 use Rattle.dconf_cli.specs.Readings.{Decides}
 use Rattle.dconf_cli.proofs.Decisions.{decides_at_once}
 use Rattle.dconf_cli.proofs.LoadLaws.{decides_text}
@@ -27,7 +27,7 @@ pub returns-in-Err-Memory-clause-answer : goal.returns-in-Err-Memory-clause-answ
 returns-in-Err-Memory-clause-answer g c =
     let Go : ReadResults → List Assigned → Gives = λ reads rows. Changes reads c.args.profile.now (paths_of rows) (load_values rows c.args.force) in
     let t = c.in-Err-Memory.ensures.took in
-    (t.0, t.1, decides_at_once g.F.Folder.past g.F.Folder.failed c.args.folder.now 0 NoMemory (λ reads. WithRows (directory_text c.args.directory) t.0 (Go reads)) (λ reads. tt))
+    (t.0, t.1, decides_at_once g.F.Folder.past g.F.Folder.failed c.args.folder.now 0 (Err NoMemory) (λ reads. WithRows (directory_text c.args.directory) t.0 (Go reads)) (λ reads. tt))
 
 pub returns-in-Ok-clause-limit : goal.returns-in-Ok-clause-limit
 returns-in-Ok-clause-limit g c = (vec_items c.in-Ok.bytes, c.in-Ok.ensures.bytes, c.in-Ok.ensures.limit)

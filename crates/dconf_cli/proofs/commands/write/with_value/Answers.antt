@@ -1,14 +1,14 @@
-use Rattle.std.proofs.Common.{◌∷◌, [], subst, sym}
+use Rattle.std.proofs.Common.{◌∷◌, [], Err, subst, sym}
 use Rattle.dconf_path.specs.Paths.{key_text}
 use Rattle.dconf_engine.specs.ChangeFaults.{refusal_of}
 use Rattle.dconf_cli.specs.Changing.{IsLockedPath}
 use Rattle.dconf_cli.proofs.ChangeLaws.{refuses_change, set_locks}
-use Rattle.dconf_cli.proofs.commands.write.WriteTaskTask.answer.Goals as goal
+use Rattle.dconf_cli.proofs.commands.write.with_value.Goals as goal
 
 pub returns : goal.returns
 returns c =
-    let path = key_text c.args.self.now.key in
+    let path = key_text c.args.key in
     let why = refusal_of c.in-Err.fault in
-    refuses_change c.change_refused.result (path ∷ []) _ _ why c.in-Err.ensures.fault
+    refuses_change (Err c.change_refused.result) (path ∷ []) _ _ why c.in-Err.ensures.fault
     (c.change_refused.ensures (path ∷ []) (subst (λ name. IsLockedPath (path ∷ []) why name) (sym c.as_str.ensures)
-    (set_locks c.args.engine path c.args.self.now.value why c.in-Err.ensures.fault)))
+    (set_locks c.args.engine path c.args.value.now why c.in-Err.ensures.fault)))

@@ -1,0 +1,34 @@
+-- What a command makes of the databases of a profile, and of their layers when they are open.
+use Rattle.std.proofs.Common.{◌≡◌, ℕ, Bool, List}
+use Rattle.std.specs.Prelude.{if◌then◌else◌}
+use Rattle.dconf_model.specs.Changes.{Change, apply}
+use Rattle.dconf_model.specs.Layers.{Layers, child_names, locks_below, origin, paths_below, visible, without_user}
+use Rattle.dconf_model.specs.Outcomes.{Gives, Saves, done, dump_of, lines_text, origin_text, settings_at, shown_if_any}
+use Rattle.dconf_model.specs.Profiles.{Database, user_file}
+
+abbrev pub Made : Type 1
+Made = List Database → Layers → Gives
+
+-- the value that is seen at a key, with or without the user's
+abbrev pub value_seen : Bool → List ℕ → Made
+value_seen default key = λ databases l o. o ≡ shown_if_any (visible (if default then without_user l else l) key)
+
+-- the database of that value
+abbrev pub origin_named : List ℕ → Made
+origin_named key = λ databases l o. o ≡ done (origin_text databases (origin l key))
+
+-- the names in a directory
+abbrev pub names_listed : List ℕ → Made
+names_listed directory = λ databases l o. o ≡ done (lines_text (child_names l directory))
+
+-- the locks below one
+abbrev pub locks_listed : List ℕ → Made
+locks_listed directory = λ databases l o. o ≡ done (lines_text (locks_below l directory))
+
+-- the values below one
+abbrev pub values_dumped : List ℕ → Made
+values_dumped directory = λ databases l o. o ≡ dump_of directory (settings_at l (paths_below l directory))
+
+-- a change, at these paths
+abbrev pub change_saved : List (List ℕ) → Change → Made
+change_saved paths change = λ databases l. Saves paths (user_file databases) (apply l change)

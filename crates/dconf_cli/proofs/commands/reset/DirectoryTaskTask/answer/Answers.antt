@@ -1,9 +1,0 @@
-use Rattle.std.proofs.Common.{[]}
-use Rattle.dconf_engine.specs.ChangeFaults.{refusal_of}
-use Rattle.dconf_cli.proofs.ChangeLaws.{none_is_locked, refuses_change}
-use Rattle.dconf_cli.proofs.commands.reset.DirectoryTaskTask.answer.Goals as goal
-
-pub returns : goal.returns
-returns c =
-    let why = refusal_of c.in-Err.fault in
-    refuses_change c.change_refused.result [] _ _ why c.in-Err.ensures.fault (c.change_refused.ensures [] (none_is_locked why))

@@ -1,0 +1,100 @@
+//! Why a command is refused, and the lines for err that say so.
+ghost use Rattle.std.specs.Prelude.{◌≡◌, ◌++◌, ◌∷◌, [], Err, IfOk, IfSome, codes, decimal, string_bytes};
+ghost use Rattle.dconf_model.specs.FaultTexts.{device_text};
+ghost use Rattle.dconf_cli.specs.Answers.{GivesOutcome, RefusesFor, refused_by};
+
+use std::alloc::{AllocError, AllocFailed, Global};
+use std::fmt::Display;
+
+/// Why a command is refused.
+#[derive(Drop)]
+pub(crate) enum Refusal {
+    /// For what this line for err says.
+    Line(String),
+    /// For want of memory.
+    NoMemory,
+}
+
+impl Refusal {
+    ghost use Rattle.dconf_cli.specs.Answers.{line_of};
+
+    /// The line for err, with its line feed.
+    pub(crate) fn line(&self) -> &str
+        ensures { result.now ≡ line_of self.now }
+    {
+        match self {
+            Refusal::Line(line) => line.as_str(),
+            Refusal::NoMemory => "error: Memory\n",
+        }
+    }
+}
+
+impl From<AllocError> for Refusal {
+    ghost use Rattle.dconf_cli.specs.declared.refusal.Refusal.TheVariants.{NoMemory};
+
+    ghost from_gives = { λ _ refusal. refusal ≡ NoMemory };
+
+    fn from(_error: AllocError) -> Refusal {
+        Refusal::NoMemory
+    }
+}
+
+impl<T: Drop> From<AllocFailed<T>> for Refusal {
+    ghost use Rattle.dconf_cli.specs.declared.refusal.Refusal.TheVariants.{NoMemory};
+
+    ghost from_gives = { λ _ refusal. refusal ≡ NoMemory };
+
+    fn from(_error: AllocFailed<T>) -> Refusal {
+        Refusal::NoMemory
+    }
+}
+
+/// The refusal that says why: `error: `, the reason and a line feed.
+pub(crate) fn refused<D: Display + Drop>(alloc: Global, why: D) -> Refusal
+    ensures { IfSome (D.output why) (λ text. RefusesFor (Err result) text) }
+{
+    match format!(in alloc; "error: {why}\n") {
+        Ok(line) => Refusal::Line(line),
+        Err(_) => Refusal::NoMemory,
+    }
+}
+
+/// The refusal of a line of a file.
+pub(crate) fn refused_at<D: Display + Drop>(
+    alloc: Global,
+    file: &str,
+    line: usize,
+    cause: D,
+) -> Refusal
+    ensures { IfSome (D.output cause) (λ text. RefusesFor (Err result) (file.now ++ (58 ∷ (decimal line ++ (codes ": " ++ text))))) }
+{
+    refused(alloc, format_args!("{file}:{line}: {cause}"))
+}
+
+/// The refusal of a database that breaks a rule: `unsound: `, the fault and a line feed.
+pub(crate) fn unsound<D: Display + Drop>(alloc: Global, fault: D) -> Refusal
+    ensures { IfSome (D.output fault)
+        (λ text. GivesOutcome (Err result) (λ o. o ≡ refused_by (codes "unsound: " ++ (text ++ 10 ∷ [])))) }
+{
+    match format!(in alloc; "unsound: {fault}\n") {
+        Ok(line) => Refusal::Line(line),
+        Err(_) => Refusal::NoMemory,
+    }
+}
+
+/// The refusal for a device that failed, of a file or of the input.
+pub(crate) fn device(alloc: Global, name: &str) -> Refusal
+    ensures { RefusesFor (Err result) (device_text name.now) }
+{
+    match device_line(alloc, name) {
+        Ok(line) => Refusal::Line(line),
+        Err(_) => Refusal::NoMemory,
+    }
+}
+
+/// The line of it.
+pub(crate) fn device_line(alloc: Global, name: &str) -> Result<String, AllocError>
+    ensures { IfOk result (λ line. string_bytes line ≡ codes "error: Device " ++ (name.now ++ 10 ∷ [])) }
+{
+    format!(in alloc; "error: Device {name}\n")
+}
