@@ -1,4 +1,4 @@
-use Rattle.std.proofs.Common.{◌↔◌, ◌≡◌, ◌∙◌, sym, ℕ, List, Option, subst}
+use Rattle.std.proofs.Common.{◌↔◌, ◌∙◌, sym, ℕ, List, Option, subst}
 use Rattle.std.specs.Prelude.{IsTrue}
 use Rattle.dconf_model.specs.Locks.{covers}
 use Rattle.dconf_model.specs.Table.{value_kind}
