@@ -20,7 +20,7 @@ fn count(alloc: Global, first: &[u8], second: &[u8], others: usize) -> Result<us
     let one = [Layer::open(Some(&first))?];
     let other = [Layer::open(Some(&second))?];
     let layers = LentLayers::new(true, &one);
-    let paths = layers.differing(alloc, LentLayers::new(true, &other))?;
+    let paths = layers.differing(alloc, LentLayers::new(true, &other), 1)?;
     Ok(paths.len())
 }
 
