@@ -3,7 +3,7 @@ use super::samples::{file_of, sample};
 use crate::rows::hold;
 use gv_types::Steps;
 use gv_view::View;
-use gvdb_read::{Table, hash, hash_with};
+use gvdb_read::{HashedName, Table, hash, hash_with};
 use std::alloc::Global;
 use std::test::Fail;
 
@@ -35,6 +35,7 @@ fn takes_bytes_as_signed_numbers(rt: HostRuntime) {
 /// Whether the value of this name has these bytes in a table, and no list has this name.
 fn has_bytes(table: Table<'_>, name: &str, bytes: Option<&[u8]>) -> bool {
     table.find_bytes(name) == bytes
+        && table.find_hashed_bytes(HashedName::new(name)) == bytes
         && table.find(name).is_some() == bytes.is_some()
         && table.has(name) == bytes.is_some()
 }

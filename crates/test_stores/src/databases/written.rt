@@ -156,3 +156,31 @@ fn maps_are_written_and_read_back(rt: HostRuntime) -> Result<(), Fail> {
     assert!(rt; shared.get(136..142) == Some(FIVE));
     Ok(())
 }
+
+/// Whether some lock may be a directory's, in what is written of these.
+fn has_lock_of_directory(alloc: Global, locks: &str) -> Result<bool, Fail> {
+    let file = write(alloc, &fives(alloc, "/k", locks)?)?;
+    let table = Table::open(&file)?;
+    match table.table(".locks") {
+        Some(locks) => Ok(locks.has_directory_value()),
+        None => Err(Fail::new("there is no table of locks")),
+    }
+}
+
+#[test]
+fn tells_where_a_directory_is_locked(rt: HostRuntime) -> Result<(), Fail> {
+    let rows = [
+        ("/k", false),
+        ("/a/k /k", false),
+        ("/a/", true),
+        ("/a/k /a/b/ /k", true),
+        ("/", true),
+    ];
+    for (locks, expected) in rows {
+        assert!(rt;
+            has_lock_of_directory(rt.alloc(), locks)? == expected,
+            "of {locks}"
+        );
+    }
+    Ok(())
+}

@@ -47,11 +47,41 @@ a//\0/ => NotAbsolute NotAbsolute
 /a//k => DoubleSlash DoubleSlash
 // => DoubleSlash DoubleSlash
 /a// => DoubleSlash DoubleSlash
+/org/gnome/desktop/settings/ => EndsInSlash true
+/org/gnome/desktop/ü => true NoEndSlash
+/org/gnome/desktop/k\0 => HasNul HasNul
+/45678901234567//k => DoubleSlash DoubleSlash
+/456789012345678//k => DoubleSlash DoubleSlash
+/4567890123456789/k/ => EndsInSlash true
 ";
 
 #[test]
 fn tells_keys_and_directories(rt: HostRuntime) -> Result<(), Fail> {
     hold(rt.alloc(), PATHS, '\n', self::path_read)
+}
+
+#[test]
+fn takes_bytes_that_are_a_keys_path(rt: HostRuntime) {
+    let rows: [(&[u8], bool); 10] = [
+        (b"/k", true),
+        (b"/org/gnome/desktop/cursor-size", true),
+        (b"/org/gnome/desktop/\xc3\xbc", true),
+        (b"/org/gnome/desktop/cursor-size\xc3\xbc", true),
+        (b"/org/gnome/desktop/\xff", false),
+        (b"/org/gnome/desktop/cursor-size\0", false),
+        (b"/org/gnome/desktop/cursor-size/", false),
+        (b"/org/gnome/desktop//cursor-size", false),
+        (b"org/gnome/desktop/cursor-size", false),
+        (b"", false),
+    ];
+    for (bytes, is_key) in rows {
+        let path = KeyPath::of_bytes(bytes);
+        let is_its_own = match path {
+            Some(path) => path.as_str().as_bytes() == bytes,
+            None => !is_key,
+        };
+        assert!(rt; is_its_own && path.is_some() == is_key);
+    }
 }
 
 /// Whether a lock covers a key.
