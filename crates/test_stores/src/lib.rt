@@ -4,6 +4,8 @@
 #[cfg(test)]
 mod databases;
 #[cfg(test)]
+mod examples;
+#[cfg(test)]
 mod folders;
 #[cfg(test)]
 mod layers;

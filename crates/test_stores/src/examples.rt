@@ -1,0 +1,80 @@
+//! The examples at the heads of the crates: `tests/guarantees --check` sees that the two are alike.
+use dconf_compile::{Source, compile};
+use dconf_disk::{Folder, MemoryFolder, replace};
+use dconf_engine::{Engine, Layer};
+use dconf_path::{KeyPath, LockPath, read_profile};
+use dconf_store::{Change, value_after};
+use gv_tree::{Basic, Tree};
+use gv_view::View;
+use gvdb_read::Table;
+use gvdb_write::{Map, write};
+use std::alloc::Global;
+use std::test::Fail;
+
+fn of_dconf_path() -> Result<bool, Fail> {
+    let name = KeyPath::parse("/org/desk/name")?;
+    let lock = LockPath::parse("/org/desk/")?;
+    Ok(lock.covers(name) && KeyPath::parse("org").is_err())
+}
+
+fn of_keyfile_core(alloc: Global) -> Result<bool, Fail> {
+    let rows = keyfile_core::read(alloc, b"[desk]\nsize=24\n")?;
+    Ok(rows.iter().all(|row| row.line == 2 && row.group == "desk" && row.text == "24"))
+}
+
+fn of_gvdb_write(alloc: Global) -> Result<Vec<u8>, Fail> {
+    let mut map = Map::new(alloc);
+    map.insert(KeyPath::parse("/desk/size")?, &[24, 0, 0, 0, 0, b'i'])?;
+    map.lock(LockPath::parse("/desk/")?)?;
+    Ok(write(alloc, &map)?)
+}
+
+fn of_gvdb_read(file: &[u8]) -> Result<bool, Fail> {
+    let table = Table::open(file)?;
+    let size = table.find("/desk/size").and_then(View::as_i32);
+    Ok(table.check().is_ok() && size == Some(24))
+}
+
+fn of_dconf_compile(alloc: Global) -> Result<Vec<u8>, Fail> {
+    let name = "site.keys";
+    let bytes = b"[desk]\nsize=24\n";
+    Ok(compile(alloc, &[Source { name, bytes }], &[])?)
+}
+
+fn of_dconf_engine(alloc: Global, site: &[u8]) -> Result<bool, Fail> {
+    let layers = [Layer::open(None)?, Layer::open(Some(site))?];
+    let mut engine = Engine::of_layers(alloc, true, &layers)?;
+    let size = KeyPath::parse("/desk/size")?;
+    engine.write(size, &Tree::basic(alloc, Basic::Int32(32))?)?;
+    Ok(engine.read(size).and_then(View::as_i32) == Some(32) && engine.origin(size) == Some(0))
+}
+
+fn of_dconf_store(alloc: Global, user: &[u8], site: &[u8]) -> Result<bool, Fail> {
+    let profile = read_profile(alloc, "user-db:me\nsystem-db:site\n")?;
+    let (files, size) = ([Some(user), Some(site)], KeyPath::parse("/desk/size")?);
+    if profile.databases().len() != files.len() {
+        return Ok(false);
+    }
+    let value = value_after(alloc, &profile, &files, &[Change::Reset(size)], size)?;
+    Ok(value.is_some())
+}
+
+fn of_dconf_disk(alloc: Global) -> Result<bool, Fail> {
+    let mut folder = MemoryFolder::new(alloc);
+    replace(alloc, &mut folder, "me.user", b"new")?;
+    folder.crash(0)?;
+    let bytes = folder.read(alloc, "me.user")?;
+    Ok(bytes.is_some_and(|it| it.as_slice() == b"new".as_slice()))
+}
+
+#[test]
+fn each_example_is_so(rt: HostRuntime) -> Result<(), Fail> {
+    let alloc = rt.alloc();
+    let (written, compiled) = (of_gvdb_write(alloc)?, of_dconf_compile(alloc)?);
+    let files = of_gvdb_read(&written)? && of_gvdb_read(&compiled)?;
+    let stores = of_dconf_engine(alloc, &compiled)? && of_dconf_store(alloc, &written, &compiled)?;
+    assert!(rt;
+        files && stores && of_dconf_path()? && of_keyfile_core(alloc)? && of_dconf_disk(alloc)?
+    );
+    Ok(())
+}
