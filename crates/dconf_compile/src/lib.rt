@@ -2,6 +2,12 @@
 //!
 //! [`compile`] takes the bytes of all files, and gives those of a database or the first fault, with its file and line. Nothing is
 //! read or written. The texts of values are read once each, and only one value at a time is in memory beside the bytes of all.
+//!
+//! ```
+//! let name = "site.keys";
+//! let bytes = b"[desk]\nsize=24\n";
+//! Ok(compile(alloc, &[Source { name, bytes }], &[])?)
+//! ```
 #![tactic(auto)]
 
 mod adding;

@@ -6,8 +6,8 @@
 //! the new file whole, under a name of its own, before that takes the name of the old one. That name is the same for all, so
 //! several programs take turns: a [`FolderLock`] is one program's turn to replace files in a folder of the host.
 //!
-//! No call stops the program or runs without end; [`FolderLock::take`] waits for its turn, for ten seconds at most. A fault is a [`FolderFault`]: of the device, which the folder counts, of a
-//! file of more than [`LARGEST_FILE`] bytes, or of memory.
+//! No call stops the program or runs without end; [`FolderLock::take`] waits for its turn, for ten seconds at most. A fault is
+//! a [`FolderFault`]: of the device, which the folder counts, of a file of more than [`LARGEST_FILE`] bytes, or of memory.
 //!
 //! A read holds a file's bytes once. On the host no other call copies any. A `MemoryFolder` is for tests: it keeps each byte that
 //! was ever appended, and its calls go back through those before them.
@@ -15,6 +15,14 @@
 //! What no contract can say: that a host keeps what a folder is, that what it says is synced stays, what a file of it holds from
 //! one call to the next, and that nobody else writes there. So a `StdFolder` has no past, and its clauses say only which faults
 //! come, that they are counted, and that no file is read over the limit. Tests, and a look at its calls by strace, are for the rest.
+//!
+//! ```
+//! let mut folder = MemoryFolder::new(alloc);
+//! replace(alloc, &mut folder, "me.user", b"new")?;
+//! folder.crash(0)?;
+//! let bytes = folder.read(alloc, "me.user")?;
+//! Ok(bytes.is_some_and(|it| it.as_slice() == b"new".as_slice()))
+//! ```
 #![tactic(auto)]
 
 mod calls;

@@ -3,6 +3,12 @@
 //! A [`KeyPath`], a [`DirPath`] or a [`LockPath`] always holds the text of one path. What is read is lent from its text,
 //! and nothing of it is copied. [`read_locks`] and [`read_profile`] take memory for what they find; no other call takes
 //! any. Each byte is looked at a fixed number of times. [`settings_text`] gives the text of a file of settings.
+//!
+//! ```
+//! let name = KeyPath::parse("/org/desk/name")?;
+//! let lock = LockPath::parse("/org/desk/")?;
+//! Ok(lock.covers(name) && KeyPath::parse("org").is_err())
+//! ```
 #![tactic(auto)]
 
 mod fault;

@@ -1,6 +1,12 @@
 //! The bytes of GVariant values, written as the format wants them (GVariant Specification, "Serialisation Format").
 //!
 //! Each byte is written once, from the start to the end, into one buffer, which never passes 4,294,967,295 bytes.
+//!
+//! ```
+//! let size = Tree::basic(alloc, Basic::Int32(24))?;
+//! let bytes = variant_bytes(alloc, &size)?;
+//! Ok(bytes.as_slice() == [24, 0, 0, 0, 0, b'i'].as_slice())
+//! ```
 #![tactic(auto)]
 
 mod array;

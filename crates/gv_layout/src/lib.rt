@@ -2,6 +2,13 @@
 //! children of a container lie (GVariant Specification, "Serialisation Format").
 //!
 //! No call takes memory, and none fails: each has an answer for any bytes.
+//!
+//! ```
+//! let pair = TypeStr::parse("(yu)")?;
+//! let pairs = TypeStr::parse("a(yu)")?;
+//! let bytes = [0; 24];
+//! Ok(alignment(pair) == 4 && fixed_size(pair) == Some(8) && n_children(pairs, &bytes) == 3)
+//! ```
 #![tactic(auto)]
 
 mod array;

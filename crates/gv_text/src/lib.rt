@@ -2,6 +2,12 @@
 //!
 //! Printing takes memory for the text alone, and nothing fails but what has no text or is too large. [`tokens`] and [`parse`]
 //! take memory for the tokens and the tree alone, and are linear in the text. Nothing recurses deeper than 128.
+//!
+//! ```
+//! let numbers = View::new(TypeStr::parse("au")?, &[1, 0, 0, 0, 2, 0, 0, 0]);
+//! let text = print(alloc, numbers)?;
+//! Ok(text.as_str() == "[uint32 1, 2]")
+//! ```
 #![tactic(auto)]
 
 mod fault;

@@ -2,6 +2,13 @@
 //!
 //! A [`TypeStr`] always holds the text of one type. No call takes memory, and none fails but
 //! [`TypeStr::parse`]. [`Steps`] counts the steps of a walk.
+//!
+//! ```
+//! let settings = TypeStr::parse("a{sv}")?;
+//! let key = settings.element().and_then(TypeStr::key);
+//! let wrong = TypeStr::parse("a{vs}");
+//! Ok(key.map(TypeStr::as_str) == Some("s") && wrong.is_err())
+//! ```
 #![tactic(auto)]
 
 mod class;

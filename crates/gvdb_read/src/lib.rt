@@ -4,6 +4,14 @@
 //! lent from the file. No call takes memory. Any bytes may be handed in: those that are no database are refused by
 //! [`Table::open`], and in a table that opens every call ends and gives what the format's search gives, whatever
 //! its items say of their parents, keys and contents.
+//!
+//! Where `file` is a database of a number at one path:
+//!
+//! ```
+//! let table = Table::open(file)?;
+//! let size = table.find("/desk/size").and_then(View::as_i32);
+//! Ok(table.check().is_ok() && size == Some(24))
+//! ```
 #![tactic(auto)]
 
 mod checking;

@@ -3,6 +3,11 @@
 //! [`read`] takes any bytes: each line is looked at once, and the first that is wrong is the fault. The rows are lent from the
 //! bytes, so that only the list of rows takes memory. [`write_rows`] writes the text that [`read`] gives back.
 //! Nothing here reads a value's text: a row has it as it stands in the file.
+//!
+//! ```
+//! let rows = keyfile_core::read(alloc, b"[desk]\nsize=24\n")?;
+//! Ok(rows.iter().all(|row| row.line == 2 && row.group == "desk" && row.text == "24"))
+//! ```
 #![tactic(auto)]
 
 mod blanks;
