@@ -25,6 +25,16 @@ def needs(tool, package):
         raise Missing(f"there is no {tool} (Debian's package {package})")
 
 
+def wants(**tools):
+    """Ends the script with 77 where there is no such tool, each named with its package, and says so."""
+    try:
+        for tool, package in tools.items():
+            needs(tool.replace('_', '-'), package)
+    except Missing as why:
+        print(f'{NAME}: skipped, since {why}')
+        sys.exit(77)
+
+
 @functools.cache
 def program():
     """The program that the variable DCONFDB names, else ./dconfdb, which is built where it isn't."""
