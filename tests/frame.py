@@ -52,6 +52,8 @@ def verdict(main):
             line, status = main(Path(folder)), 0
     except Stop as why:
         line, status = why, 1
+    except subprocess.TimeoutExpired as why:
+        line, status = f'{" ".join(map(str, why.cmd))[:80]} .. took more than {why.timeout:.0f} seconds', 1
     except Missing as why:
         line, status = f'skipped, since {why}', 77
     print(f'{NAME}: {line}')
