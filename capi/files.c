@@ -69,14 +69,14 @@ static int take(int file, bool maps, size_t len, FileBytes *bytes)
     return bytes->at ? fill(file, bytes, len) : ENOMEM;
 }
 
-int file_read(const char *name, bool maps, size_t most, FileBytes *bytes, FileState *state)
+int file_read(int folder, const char *name, bool maps, size_t most, FileBytes *bytes, FileState *state)
 {
     struct stat found;
     int fault = 0;
     *bytes = (FileBytes){NULL, 0, false};
     *state = (FileState){.is_there = false};
     /* O_NONBLOCK: a pipe without a writer is not waited for. */
-    int file = open(name, O_RDONLY | O_CLOEXEC | O_NONBLOCK | O_NOCTTY);
+    int file = openat(folder, name, O_RDONLY | O_CLOEXEC | O_NONBLOCK | O_NOCTTY);
     if (file < 0)
         return errno == ENOENT ? 0 : errno;
     if (fstat(file, &found) != 0)

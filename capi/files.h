@@ -9,6 +9,8 @@
 #include <sys/types.h>
 #include <time.h>
 
+enum { NO_FOLDER = -1 };
+
 /* Which file a name stands for, and when that was written last. */
 typedef struct {
     bool is_there;
@@ -30,9 +32,9 @@ int file_look(const char *name, FileState *state);
 
 bool file_is_same(const FileState *one, const FileState *other);
 
-/* What a file holds, and its state. It is no fault that there is none. EOVERFLOW: it has more than
- * `most` bytes. EINVAL: it is no regular file. */
-int file_read(const char *name, bool maps, size_t most, FileBytes *bytes, FileState *state);
+/* What a file holds, and its state; a name that isn't absolute is one of the folder. It is no fault
+ * that there is none. EOVERFLOW: it has more than `most` bytes. EINVAL: it is no regular file. */
+int file_read(int folder, const char *name, bool maps, size_t most, FileBytes *bytes, FileState *state);
 
 void file_release(FileBytes *bytes);
 

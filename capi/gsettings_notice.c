@@ -21,19 +21,34 @@ typedef struct {
 
 /* ---- what differs */
 
-static bool read_seen(const DconfdbSnapshot *snapshot, const char *path, DconfdbValue *value)
+/* The value that is seen, in the bytes that each form of it has in common; NULL where there is none. */
+static GVariant *seen_of(const DconfdbSnapshot *snapshot, const char *path)
 {
-    return snapshot && dconfdb_snapshot_read(snapshot, path, value);
+    DconfdbValue value;
+    if (!snapshot || !dconfdb_snapshot_read(snapshot, path, &value))
+        return NULL;
+    const GVariantType *type = (const GVariantType *)value.type;
+    GVariant *lent = g_variant_ref_sink(g_variant_new_from_data(type, value.data, value.size, FALSE, NULL, NULL));
+    GVariant *normal = g_variant_get_normal_form(lent);
+    g_variant_unref(lent);
+    return normal;
 }
 
+static bool is_locked(const DconfdbSnapshot *snapshot, const char *path)
+{
+    return snapshot && dconfdb_snapshot_is_locked(snapshot, path);
+}
+
+/* Of a key that differs, by its lock or its value. */
 static bool is_seen_alike(const Notice *notice, const char *path)
 {
-    DconfdbValue before, after;
-    bool was = read_seen(notice->before, path, &before), is = read_seen(notice->after, path, &after);
-    if (!was || !is)
-        return was == is;
-    return before.size == after.size && memcmp(before.data, after.data, before.size) == 0
-        && before.type_size == after.type_size && memcmp(before.type, after.type, before.type_size) == 0;
+    if (is_locked(notice->before, path) == is_locked(notice->after, path))
+        return false;
+    GVariant *before = seen_of(notice->before, path), *after = seen_of(notice->after, path);
+    bool is = before && after ? g_variant_equal(before, after) : before == after;
+    g_clear_pointer(&before, g_variant_unref);
+    g_clear_pointer(&after, g_variant_unref);
+    return is;
 }
 
 static bool is_writable(const DconfdbSnapshot *snapshot, const char *path)

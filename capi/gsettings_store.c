@@ -1,6 +1,7 @@
 /* The backend's store: opened, looked at, changed. */
 #include "gsettings.h"
 
+#include <stdlib.h>
 #include <string.h>
 
 /* ---- `turn` is held */
@@ -62,19 +63,26 @@ static void look(DconfdbBackend *self, Notice *notice)
 
 /* ---- `turn` isn't held */
 
+/* The folder of a store that can't be opened now. */
+static char *folder_of_none(void)
+{
+    char *files = dconfdb_store_files(NULL, NULL, NULL);
+    char *folder = files ? g_path_get_dirname(files) : NULL;
+    free(files);
+    return folder;
+}
+
 void store_begin(DconfdbBackend *self)
 {
     DconfdbError error;
-    char *files = dconfdb_store_files(NULL, NULL, &error);
-    /* The environment is read once: the program may change it. */
-    if (files)
-        self->folder = g_path_get_dirname(files);
-    free(files);
-    if (self->folder && open_store(self, &error)) {
+    /* The environment is read now, and not again: the program may change it. */
+    if (open_store(self, &error)) {
+        self->folder = g_strdup(dconfdb_store_folder(self->store));
         self->now = dconfdb_store_snapshot(self->store);
         self->has_user = dconfdb_store_user_file(self->store) != NULL;
         return;
     }
+    self->folder = folder_of_none();
     g_warning("%s", error.text);
     self->told = g_strdup(error.text);
 }

@@ -183,22 +183,24 @@ static bool has_bytes(const Part *part, const FileBytes *bytes)
     return part->bytes.len == bytes->len && (bytes->len == 0 || memcmp(part->bytes.at, bytes->at, bytes->len) == 0);
 }
 
-/* The file as it is now; `old` where that still is it. */
-static Part *part_now(const char *name, bool maps, Part *old, bool reads, size_t at, DconfdbError *error)
+/* The file as it is now; `old` where that still is it. In a turn it is read in any case, in the
+ * turn's folder, which may be moved meanwhile. */
+static Part *part_now(const char *name, bool maps, Part *old, int turn, size_t at, DconfdbError *error)
 {
     FileState state;
     FileBytes bytes;
-    int fault = file_look(name, &state);
-    if (fault == 0 && old && !reads && file_is_same(&old->state, &state))
+    bool looks = old && turn == NO_FOLDER;
+    int fault = looks ? file_look(name, &state) : 0;
+    if (fault == 0 && looks && file_is_same(&old->state, &state))
         return part_ref(old);
     if (fault == 0)
-        fault = file_read(name, maps, LARGEST_FILE, &bytes, &state);
+        fault = file_read(turn, turn == NO_FOLDER ? name : strrchr(name, '/') + 1, maps, LARGEST_FILE, &bytes, &state);
     if (fault != 0) {
         refuse_file(error, fault, name, at);
         return NULL;
     }
     /* The file was perhaps replaced, by one that is alike in all that stat() says. */
-    if (old && reads && file_is_same(&old->state, &state) && has_bytes(old, &bytes)) {
+    if (old && !looks && file_is_same(&old->state, &state) && has_bytes(old, &bytes)) {
         file_release(&bytes);
         return part_ref(old);
     }
@@ -417,7 +419,7 @@ static char *find_folder(const char *folder)
 static bool read_profile(const char *name, FileBytes *text, DconfdbError *error)
 {
     FileState state;
-    int fault = file_read(name, false, LARGEST_PROFILE, text, &state);
+    int fault = file_read(NO_FOLDER, name, false, LARGEST_PROFILE, text, &state);
     if (fault != 0)
         return refuse_file(error, fault, name, 0);
     /* A profile without a byte is there too. */
@@ -488,8 +490,8 @@ static bool find_files(DconfdbStore *store, DconfdbError *error)
     return done;
 }
 
-/* What the files hold now; the user's is read, where `reads`, also where it looks as it was. */
-static DconfdbSnapshot *look(const DconfdbStore *store, bool reads, DconfdbError *error)
+/* What the files hold now; in a turn, which is one of the user's file, that is read. */
+static DconfdbSnapshot *look(const DconfdbStore *store, int turn, DconfdbError *error)
 {
     const DconfdbSnapshot *old = store->now;
     DconfdbSnapshot *snapshot = snapshot_new(store->count, store->user_file != NULL);
@@ -499,7 +501,7 @@ static DconfdbSnapshot *look(const DconfdbStore *store, bool reads, DconfdbError
     }
     for (size_t i = 0; i < store->count; i++) {
         bool is_users = store->files[i] == store->user_file;
-        Part *part = part_now(store->files[i], !is_users, old ? old->parts[i] : NULL, reads && is_users, i, error);
+        Part *part = part_now(store->files[i], !is_users, old ? old->parts[i] : NULL, is_users ? turn : NO_FOLDER, i, error);
         if (!part) {
             dconfdb_snapshot_unref(snapshot);
             return NULL;
@@ -533,7 +535,7 @@ static DconfdbStore *store_of(const char *folder, DconfdbError *error)
 DconfdbStore *dconfdb_store_open(const char *folder, DconfdbError *error)
 {
     DconfdbStore *store = store_of(folder, error);
-    if (store && find_files(store, error) && (store->now = look(store, false, error)) != NULL)
+    if (store && find_files(store, error) && (store->now = look(store, NO_FOLDER, error)) != NULL)
         return store;
     dconfdb_store_close(store);
     return NULL;
@@ -625,9 +627,9 @@ static bool is_as_it_was(const DconfdbSnapshot *one, const DconfdbSnapshot *othe
 }
 
 /* `refreshing` is held. */
-static bool refresh(DconfdbStore *store, bool reads, bool *changed, DconfdbError *error)
+static bool refresh(DconfdbStore *store, int turn, bool *changed, DconfdbError *error)
 {
-    DconfdbSnapshot *newer = look(store, reads, error);
+    DconfdbSnapshot *newer = look(store, turn, error);
     if (!newer)
         return false;
     bool differs = !is_as_it_was(newer, store->now);
@@ -643,7 +645,7 @@ static bool refresh(DconfdbStore *store, bool reads, bool *changed, DconfdbError
 bool dconfdb_store_refresh(DconfdbStore *store, bool *changed, DconfdbError *error)
 {
     pthread_mutex_lock(&store->refreshing);
-    bool done = refresh(store, false, changed, error);
+    bool done = refresh(store, NO_FOLDER, changed, error);
     pthread_mutex_unlock(&store->refreshing);
     return done;
 }
@@ -720,7 +722,7 @@ static bool change_in_turn(DconfdbStore *store, int turn, const DconfdbChange *c
 {
     FileBytes file;
     pthread_mutex_lock(&store->refreshing);
-    bool done = refresh(store, true, NULL, error) && make_file(store, changes, edits, count, &file, error)
+    bool done = refresh(store, turn, NULL, error) && make_file(store, changes, edits, count, &file, error)
         && put_in_place(store, turn, file, error);
     pthread_mutex_unlock(&store->refreshing);
     return done;

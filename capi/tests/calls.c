@@ -109,11 +109,16 @@ static void tries_changing(DconfdbStore *store)
     dconfdb_snapshot_unref(now);
 }
 
+static void makes_profile(const char *name, const char *text)
+{
+    FILE *profile = fopen(name, "w");
+    TRY(profile && fputs(text, profile) >= 0 && fclose(profile) == 0);
+}
+
 /* Puts a user's file in place that was made where there are no locks. */
 static void takes_file_of(const DconfdbEdit *edits, size_t count)
 {
-    FILE *profile = fopen("lockless/profile", "w");
-    TRY(profile && fputs("user-db:me\n", profile) >= 0 && fclose(profile) == 0);
+    makes_profile("lockless/profile", "user-db:me\n");
     DconfdbStore *store = dconfdb_store_open("lockless", &error);
     TRY(store && dconfdb_store_change(store, edits, count, &error) && rename("lockless/me.user", "me.user") == 0);
     dconfdb_store_close(store);
@@ -300,6 +305,48 @@ static void tries_places(void)
     dconfdb_store_close(store);
 }
 
+static bool is_refused(const char *profile, int fault)
+{
+    makes_profile("odd/profile", profile);
+    return !dconfdb_store_open("odd", &error) && error.number == DCONFDB_ERROR_FILE && error.system == fault;
+}
+
+/* What is no regular file is neither read nor waited for. A link that leads nowhere is no file. */
+static void tries_odd_files(void)
+{
+    TRY(mkdir("odd", 0700) == 0 && mkfifo("odd/pipe", 0600) == 0 && mkfifo("odd/pipe.user", 0600) == 0);
+    TRY(symlink("loop", "odd/loop") == 0 && symlink("/dev/zero", "odd/zero.user") == 0 && symlink("nothing", "odd/none.user") == 0);
+    TRY(is_refused("file-db:pipe\n", EINVAL) && is_refused("user-db:pipe\n", EINVAL));
+    TRY(is_refused("file-db:/dev/zero\n", EINVAL) && is_refused("user-db:zero\n", EINVAL));
+    TRY(is_refused("file-db:.\n", EISDIR) && is_refused("file-db:loop\n", ELOOP));
+    makes_profile("odd/profile", "user-db:none\n");
+    DconfdbStore *store = dconfdb_store_open("odd", &error);
+    TRY(store && changes(store, sets_text("/k", "1")) && access("odd/nothing", F_OK) != 0);
+    dconfdb_store_close(store);
+    TRY(unlink("odd/profile") == 0 && symlink("pipe", "odd/profile") == 0);
+    TRY(!dconfdb_store_open("odd", &error) && is_fault(DCONFDB_ERROR_FILE, "/odd/profile", "") && error.system == EINVAL);
+}
+
+/* The folder is moved: then its databases are empty, and the next change makes another one. */
+static void tries_moving(void)
+{
+    bool changed;
+    TRY(mkdir("here", 0700) == 0);
+    makes_profile("here/profile", "user-db:me\n");
+    DconfdbStore *store = dconfdb_store_open("here", &error);
+    TRY(store && changes(store, sets_text("/old", "1")) && rename("here", "there") == 0);
+    TRY(dconfdb_store_refresh(store, &changed, &error) && changed && changes(store, sets_text("/new", "2")));
+    DconfdbSnapshot *now = dconfdb_store_snapshot(store);
+    TRY(has(now, "/old", NULL) && has(now, "/new", "2"));
+    dconfdb_snapshot_unref(now);
+    dconfdb_store_close(store);
+    store = dconfdb_store_open("there", &error);
+    now = store ? dconfdb_store_snapshot(store) : NULL;
+    TRY(now && has(now, "/old", "1") && has(now, "/new", NULL));
+    dconfdb_snapshot_unref(now);
+    dconfdb_store_close(store);
+}
+
 /* The next descriptor that a file would have. */
 static int next_descriptor(void)
 {
@@ -326,6 +373,8 @@ int main(int argc, char **argv)
     tries_modes(store);
     tries_files();
     tries_other_stores();
+    tries_odd_files();
+    tries_moving();
     tries_places();
     DconfdbSnapshot *last = dconfdb_store_snapshot(store);
     dconfdb_store_close(store);
