@@ -135,10 +135,9 @@ static char *start_of(const void *text, size_t len)
 /* Texts behind each other, or NULL. */
 static char *joined(const char *one, const char *between, const char *other)
 {
-    size_t size = strlen(one) + strlen(between) + strlen(other) + 1;
-    char *text = malloc(size);
+    char *text = malloc(strlen(one) + strlen(between) + strlen(other) + 1);
     if (text)
-        snprintf(text, size, "%s%s%s", one, between, other);
+        stpcpy(stpcpy(stpcpy(text, one), between), other);
     return text;
 }
 
