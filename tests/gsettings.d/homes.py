@@ -51,6 +51,8 @@ def bus(folder):
     service = Path('/usr/share/dbus-1/services/ca.desrt.dconf.service')
     if not service.exists():
         raise Missing("there is no dconf-service (Debian's package dconf-service)")
+    if not list(Path('/usr/lib').glob('*/gio/modules/libdconfsettings.so')):
+        raise Missing("there is no backend of dconf's (Debian's package dconf-gsettings-backend)")
     (folder / 'services').mkdir()
     (folder / 'services' / service.name).symlink_to(service)
     (folder / 'bus.conf').write_text(BUS.format(folder=folder), encoding='utf-8')
