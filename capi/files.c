@@ -14,7 +14,7 @@
 #include <sys/stat.h>
 #include <unistd.h>
 
-enum { LONGEST_WAIT = 10, PAUSE = 5000000, MOST_TRIES = 2001, PERMISSION_BITS = 0777, READ_AND_WRITE = 0600 };
+enum { LONGEST_WAIT = 10, PAUSE = 5000000, PERMISSION_BITS = 0777, READ_AND_WRITE = 0600 };
 
 static FileState state_of(const struct stat *found)
 {
@@ -104,13 +104,14 @@ void file_release(FileBytes *bytes)
     *bytes = (FileBytes){NULL, 0, false};
 }
 
-/* Tries every five milliseconds, for ten seconds at most; the first try comes at once. */
+/* Tries every five milliseconds, and sooner where a signal comes, for ten seconds; the first try
+ * comes at once. */
 static int await_turn(int folder)
 {
     struct timespec began, now, pause = {0, PAUSE};
     if (clock_gettime(CLOCK_MONOTONIC, &began) != 0)
         return errno;
-    for (int tries = 0; tries < MOST_TRIES; tries++) {
+    for (;;) {
         if (flock(folder, LOCK_EX | LOCK_NB) == 0)
             return 0;
         if (errno != EWOULDBLOCK && errno != EINTR)
@@ -122,7 +123,6 @@ static int await_turn(int folder)
             return EWOULDBLOCK;
         nanosleep(&pause, NULL);
     }
-    return EWOULDBLOCK;
 }
 
 int folder_lock(const char *folder, int *turn)

@@ -1,7 +1,9 @@
 /* Sets keys one after another, and says which are acknowledged: change FOLDER PREFIX COUNT. With
- * COUNT 0 it sets the one key PREFIX. */
+ * COUNT 0 it sets the one key PREFIX. With one word more signals interrupt it all the time. */
 #include "try.h"
 
+#include <signal.h>
+#include <sys/time.h>
 #include <unistd.h>
 
 static DconfdbError error;
@@ -21,9 +23,23 @@ static bool change(DconfdbStore *store, const char *path)
     return true;
 }
 
+static void on_signal(int number)
+{
+    (void)number;
+}
+
+static void is_interrupted(void)
+{
+    struct sigaction action = {.sa_handler = on_signal};
+    struct itimerval often = {{0, 1000}, {0, 1000}};
+    TRY(sigaction(SIGALRM, &action, NULL) == 0 && setitimer(ITIMER_REAL, &often, NULL) == 0);
+}
+
 int main(int argc, char **argv)
 {
-    TRY(argc == 4);
+    TRY(argc == 4 || argc == 5);
+    if (argc == 5)
+        is_interrupted();
     long count = strtol(argv[3], NULL, 10);
     DconfdbStore *store = dconfdb_store_open(argv[1], &error);
     if (!store) {
