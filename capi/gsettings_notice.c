@@ -21,7 +21,8 @@ typedef struct {
 
 /* ---- what differs */
 
-/* The value that is seen, in the bytes that each form of it has in common; NULL where there is none. */
+/* The value that is seen, in normal form: the same value has the same bytes then. NULL where there
+ * is none. */
 static GVariant *seen_of(const DconfdbSnapshot *snapshot, const char *path)
 {
     DconfdbValue value;

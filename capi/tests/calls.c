@@ -323,6 +323,13 @@ static void tries_odd_files(void)
     DconfdbStore *store = dconfdb_store_open("odd", &error);
     TRY(store && changes(store, sets_text("/k", "1")) && access("odd/nothing", F_OK) != 0);
     dconfdb_store_close(store);
+    /* A file or a profile that is too big is not read. */
+    makes_profile("odd/big.user", "");
+    makes_profile("odd/profile", "user-db:big\n");
+    TRY(truncate("odd/big.user", 4294967296) == 0 && !dconfdb_store_open("odd", &error));
+    TRY(is_fault(DCONFDB_ERROR_TOO_BIG, "/odd/big.user", ""));
+    TRY(truncate("odd/profile", 16777217) == 0 && !dconfdb_store_open("odd", &error));
+    TRY(is_fault(DCONFDB_ERROR_TOO_BIG, "/odd/profile", ""));
     TRY(unlink("odd/profile") == 0 && symlink("pipe", "odd/profile") == 0);
     TRY(!dconfdb_store_open("odd", &error) && is_fault(DCONFDB_ERROR_FILE, "/odd/profile", "") && error.system == EINVAL);
 }
