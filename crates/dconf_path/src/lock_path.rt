@@ -9,9 +9,11 @@ ghost use Rattle.dconf_path.specs.LockPaths.{lock_text};
 
 use crate::fault::PathFault;
 use crate::path::{DirPath, KeyPath};
+use std::convert::AsStr;
+use std::fmt;
 
 /// The path of a lock, lent from where it was found.
-#[derive(Clone, Copy, Debug)]
+#[derive(Clone, Copy, Debug, PartialEq, Eq)]
 pub enum LockPath<'a> {
     /// Locks the key.
     Key(KeyPath<'a>),
@@ -53,5 +55,21 @@ impl<'a> LockPath<'a> {
             LockPath::Key(path) => path.as_str() == key.as_str(),
             LockPath::Directory(path) => key.as_str().starts_with(path.as_str()),
         }
+    }
+}
+
+impl AsStr for LockPath<'_> {
+    ghost text = { lock_text };
+
+    fn as_str(&self) -> &str {
+        LockPath::as_str(*self)
+    }
+}
+
+impl fmt::Display for LockPath<'_> {
+    ghost output = { λ path. Some (lock_text path) };
+
+    fn fmt<W: fmt::Write>(&self, f: &mut fmt::Formatter<W>) -> fmt::Result {
+        f.write_str(LockPath::as_str(*self))
     }
 }

@@ -9,7 +9,7 @@ use crate::lock_path::LockPath;
 use std::alloc::Global;
 
 /// A lock of a lock file.
-#[derive(Clone, Copy, Debug)]
+#[derive(Clone, Copy, Debug, PartialEq, Eq)]
 pub struct Lock<'a> {
     /// What it locks, lent from the file's text.
     pub path: LockPath<'a>,

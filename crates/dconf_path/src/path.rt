@@ -6,12 +6,14 @@ ghost use Rattle.dconf_path.specs.PathFaults.{path_fault_of};
 
 use crate::fault::PathFault;
 use crate::plain::is_plain_key;
+use std::convert::AsStr;
+use std::fmt;
 
 /// How many bytes a path has at most.
 pub const MAX_PATH_LEN: usize = 65_535;
 
 /// The path of a key, lent from where it was found, such as `/org/gnome/desktop/cursor-size`.
-#[derive(Clone, Copy, Debug)]
+#[derive(Clone, Copy, Debug, PartialEq, Eq)]
 pub struct KeyPath<'a> {
     text: &'a str,
     ghost is_of_key: { IsTrue (is_key_path text.now) },
@@ -62,8 +64,28 @@ impl<'a> KeyPath<'a> {
     }
 }
 
+impl AsStr for KeyPath<'_> {
+    ghost use Rattle.dconf_path.specs.Paths.{key_text};
+
+    ghost text = { key_text };
+
+    fn as_str(&self) -> &str {
+        self.text
+    }
+}
+
+impl fmt::Display for KeyPath<'_> {
+    ghost use Rattle.dconf_path.specs.Paths.{key_text};
+
+    ghost output = { λ path. Some (key_text path) };
+
+    fn fmt<W: fmt::Write>(&self, f: &mut fmt::Formatter<W>) -> fmt::Result {
+        f.write_str(self.text)
+    }
+}
+
 /// The path of a directory, lent from where it was found, such as `/org/gnome/` or `/`.
-#[derive(Clone, Copy, Debug)]
+#[derive(Clone, Copy, Debug, PartialEq, Eq)]
 pub struct DirPath<'a> {
     text: &'a str,
     ghost is_of_directory: { IsTrue (is_directory_path text.now) },
@@ -95,6 +117,26 @@ impl<'a> DirPath<'a> {
         ensures { result.now ≡ directory_text self.entry }
     {
         self.text
+    }
+}
+
+impl AsStr for DirPath<'_> {
+    ghost use Rattle.dconf_path.specs.Paths.{directory_text};
+
+    ghost text = { directory_text };
+
+    fn as_str(&self) -> &str {
+        self.text
+    }
+}
+
+impl fmt::Display for DirPath<'_> {
+    ghost use Rattle.dconf_path.specs.Paths.{directory_text};
+
+    ghost output = { λ path. Some (directory_text path) };
+
+    fn fmt<W: fmt::Write>(&self, f: &mut fmt::Formatter<W>) -> fmt::Result {
+        f.write_str(self.text)
     }
 }
 
