@@ -11,6 +11,7 @@
 //! ```
 #![tactic(auto)]
 
+mod as_text;
 mod class;
 mod fault;
 mod front;
