@@ -7,7 +7,7 @@ use crate::walk::Walk;
 use gv_types::{Members, TypeStr};
 
 /// A child of a container: its type, and where its bytes start and end in the container's.
-#[derive(Clone, Copy, Debug)]
+#[derive(Clone, Copy, Debug, PartialEq, Eq)]
 pub struct Place<'a> {
     pub type_str: TypeStr<'a>,
     pub from: usize,

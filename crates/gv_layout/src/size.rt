@@ -101,7 +101,7 @@ pub fn offset_width(len: usize) -> u8
 
 /// What the starts of a type's values are multiples of, and how many bytes each value has, or None where they
 /// differ in it.
-#[derive(Clone, Copy, Debug)]
+#[derive(Clone, Copy, Debug, PartialEq, Eq)]
 pub struct TypeInfo {
     pub alignment: u8,
     pub size: Option<usize>,
