@@ -15,6 +15,14 @@ impl Model for Steps {
     ghost view = { λ s. s.count };
 }
 
+impl Default for Steps {
+    ghost is_default = { λ steps. steps ≡ 0 };
+
+    fn default() -> Steps {
+        Steps::new()
+    }
+}
+
 impl Steps {
     /// No steps yet.
     pub fn new() -> Steps
