@@ -1,7 +1,7 @@
 //! Items, as a caller sees them.
 
 /// An item of a table, as it shows itself.
-#[derive(Clone, Copy, Debug)]
+#[derive(Clone, Copy, Debug, PartialEq, Eq)]
 pub struct Item<'a> {
     /// The number of its parent, which may be no item's.
     pub parent: Option<u32>,

@@ -12,7 +12,7 @@ use std::alloc::AllocError;
 pub(crate) const RECORD_LEN: usize = 24;
 
 /// An item's numbers: where its key is, and where its content starts and ends. Any bytes are some item's.
-#[derive(Clone, Copy, Debug)]
+#[derive(Clone, Copy, Debug, PartialEq, Eq)]
 pub struct ItemRecord {
     /// The hash of the full name.
     pub hash: u32,
