@@ -3,3 +3,4 @@ pub mod Staging
 pub mod MemoryFolders
 pub mod Crashes
 pub mod StdFolders
+pub mod FolderFaults

@@ -1,7 +1,11 @@
 //! Why a call of a folder failed.
-use std::alloc::AllocError;
+ghost use Rattle.std.specs.Prelude.{◌≡◌};
 
-/// Why a call of a folder failed.
+use std::alloc::AllocError;
+use std::error::Error;
+use std::fmt;
+
+/// Why a call of a folder failed. It is printed as its name.
 #[derive(Clone, Copy, Debug, PartialEq, Eq)]
 pub enum FolderFault {
     /// The device failed, or a call that needs a file found none. The folder has counted it. Any call may answer it.
@@ -12,9 +16,36 @@ pub enum FolderFault {
     Memory,
 }
 
+impl FolderFault {
+    ghost use Rattle.dconf_disk.specs.FolderFaults.{folder_fault_text};
+
+    /// The name by which it is printed.
+    fn name(self) -> &'static str
+        ensures { result.now ≡ folder_fault_text self }
+    {
+        match self {
+            FolderFault::Device => "Device",
+            FolderFault::TooBig => "TooBig",
+            FolderFault::Memory => "Memory",
+        }
+    }
+}
+
+impl fmt::Display for FolderFault {
+    ghost use Rattle.std.specs.Prelude.{Some};
+    ghost use Rattle.dconf_disk.specs.FolderFaults.{folder_fault_text};
+
+    ghost output = { λ fault. Some (folder_fault_text fault) };
+
+    fn fmt<W: fmt::Write>(&self, f: &mut fmt::Formatter<W>) -> fmt::Result {
+        f.write_str(self.name())
+    }
+}
+
+impl Error for FolderFault {}
+
 impl From<AllocError> for FolderFault {
     ghost use Rattle.dconf_disk.specs.declared.fault.FolderFault.TheVariants.{Memory};
-    ghost use Rattle.std.specs.Prelude.{◌≡◌};
 
     ghost from_gives = { λ _ fault. fault ≡ Memory };
 
