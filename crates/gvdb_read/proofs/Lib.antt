@@ -8,7 +8,6 @@ pub mod Yielded
 pub mod BackwardSteps
 pub mod NameChecks
 pub mod Ascending
-pub mod ByKey
 pub mod CountedLists
 pub mod HashAbove
 pub mod HashFours
@@ -22,6 +21,5 @@ pub mod ListNumbers
 pub mod NameWalks
 pub mod AppendedBytes
 pub mod NotedLengths
-pub mod NamesRise
 pub mod PlainKey
 pub mod OnePass

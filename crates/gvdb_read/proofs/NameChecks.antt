@@ -1,5 +1,5 @@
 -- What the rules on full names say of the one name that an item has.
-use Rattle.std.proofs.Common.{ℕ, ◌≡◌, ◌≤◌, ◌<◌, ◌↔◌, sym, ◌∙◌, ap, subst, arith}
+use Rattle.std.proofs.Common.{ℕ, ◌≡◌, ◌≤◌, ◌<◌, ◌↔◌, refl, sym, ◌∙◌, ap, subst, arith}
 use Rattle.dconf_model.specs.Bytes.{hash_of}
 use Rattle.dconf_model.specs.Table.{Table, item, item_count}
 use Rattle.dconf_model.specs.Names.{HasName, full_name}
@@ -8,6 +8,7 @@ use Rattle.dconf_model.specs.Searchable.{HasHash, IsOnlyNamed}
 use Rattle.dconf_model.specs.Sound.{KeepsAll}
 use Rattle.dconf_model.specs.Sound.Rule.{keys, chain, hash, span}
 use Rattle.dconf_model.proofs.FullNames.{full_name_is, has_full_name}
+use Rattle.gvdb_read.specs.OnePass.{HasOwnHash}
 
 pub hash_is_of_name : (t : Table) (i : ℕ) → KeepsAll t keys → KeepsAll t chain → i < item_count t → ((item t i).hash ≡ hash_of (full_name t i)) ↔ HasHash t i
 hash_is_of_name t i good ends counted = (
@@ -34,3 +35,9 @@ has_no_namesake t i first good ends hashed spans counted is none name k h g lowe
     let hashes = same_hash t i k good ends hashed counted other e in
     let within : span_start t (item t i).hash ≤ k = subst (λ x. span_start t x ≤ k) (sym hashes) (spans k other).first in
     none k lower (subst (λ x. x ≤ k) (sym is) within) e
+
+-- nor where no lower item of its bucket has its hash
+pub only_of_hash : (t : Table) (i : ℕ) → KeepsAll t keys → KeepsAll t chain → KeepsAll t hash → KeepsAll t span → i < item_count t → HasOwnHash t i → IsOnlyNamed t i
+only_of_hash t i good ends hashed spans counted own =
+    has_no_namesake t i (span_start t (item t i).hash) good ends hashed spans counted refl
+    (λ k lower first same. own k lower first (sym (same_hash t i k good ends hashed counted (omega (arith, lower, counted)) same)))

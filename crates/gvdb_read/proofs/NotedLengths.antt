@@ -1,12 +1,10 @@
 -- Lengths of full names along a walk up the parents, and those that are noted.
-use Rattle.std.proofs.Common.{◌≡◌, ◌<◌, ◌≤◌, ◌+◌, ℕ, length, Some, None, ap, arith, length-append}
+use Rattle.std.proofs.Common.{◌≡◌, ◌<◌, ◌≤◌, ◌+◌, ℕ, Option, length, Some, None, refl, ap, arith, length-append}
 use Rattle.dconf_model.specs.Table.{Table, item, item_count, key}
 use Rattle.dconf_model.specs.Names.{full_name}
-use Rattle.dconf_model.specs.Searchable.{EachItem}
 use Rattle.dconf_model.specs.Sound.{KeepsAll}
 use Rattle.dconf_model.specs.Sound.Rule.{keys, chain}
 use Rattle.dconf_model.proofs.FullNames.{full_name_is, full_name_at_root, full_name_below, parent_counted}
-use Rattle.dconf_model.proofs.NameSteps.{is_item}
 use Rattle.dconf_model.proofs.Occurrences.{range_length}
 use Rattle.gvdb_read.specs.NotedLengths.{HasShortName}
 
@@ -53,10 +51,15 @@ module _ (t : Table) (i at left size rest : ℕ) (good : KeepsAll t keys) (ends 
 pub ends_noted : (t : Table) (i at left known last : ℕ) → IsLeft t i at left → length (full_name t at) ≡ known → last + known ≡ left → length (full_name t i) + last ≡ 65535
 ends_noted t i at left known last walk is e = let w = walk.whole in omega (arith, w, is, e)
 
--- where each length has two bytes, each name is short
-pub all_short : (t : Table) → ((i : ℕ) → i < item_count t → length (full_name t i) ≤ 65535) → EachItem t (HasShortName t)
-all_short t lens i counted name h = let e = ap length (full_name_is t i name h) in let l = lens i counted in omega (arith, e, l)
+-- a name holds its key
+name_holds_key : (t : Table) (i size : ℕ) (up : Option ℕ) → KeepsAll t keys → KeepsAll t chain → i < item_count t → (item t i).key_start + size ≡ (item t i).key_end → (item t i).parent ≡ up → size ≤ length (full_name t i)
+name_holds_key t i size None good ends counted e top = omega (arith, ap length (full_name_at_root t i good counted top), key_long t i size good counted e)
+name_holds_key t i size (Some p) good ends counted e up = omega (arith, above_is t i p size good ends counted e up)
 
--- what has a name is an item
-pub each_name : (t : Table) → EachItem t (HasShortName t) → (i : ℕ) → HasShortName t i
-each_name t short i name h = short i (is_item t i name h).counted name h
+-- no bytes are left for the key at hand
+pub too_long : (t : Table) (i at left size : ℕ) → KeepsAll t keys → KeepsAll t chain → IsLeft t i at left → (item t at).key_start + size ≡ (item t at).key_end → left < size → 65535 < length (full_name t i)
+too_long t i at left size good ends walk e none = omega (arith, name_holds_key t at size (item t at).parent good ends walk.counted e refl, walk.whole, none)
+
+-- the length of the one name tells
+pub short_name : (t : Table) (i : ℕ) → length (full_name t i) ≤ 65535 → HasShortName t i
+short_name t i le name h = omega (arith, ap length (full_name_is t i name h), le)

@@ -1,8 +1,7 @@
 -- Where each item keeps what one pass asks of it, all rules before S11 are kept.
-use Rattle.std.proofs.Common.{ℕ, List, [], ◌∷◌, Option, Some, None, length, length-append, ◌≤◌, ◌<◌, ◌≡◌, refl, sym, ap, arith}
+use Rattle.std.proofs.Common.{ℕ, List, [], ◌∷◌, Option, Some, None, length, length-append, ◌≤◌, ◌<◌, ◌≡◌, refl, ap, arith}
 use Rattle.dconf_model.specs.Table.{Table, item, item_count, key}
 use Rattle.dconf_model.specs.Names.{full_name}
-use Rattle.dconf_model.specs.Search.{span_start}
 use Rattle.dconf_model.specs.Searchable.{EachItem, HasBuckets, LeadsUp}
 use Rattle.dconf_model.specs.Sound.{KeepsAll, HasParent}
 use Rattle.dconf_model.specs.Sound.Rule.{buckets, keys, chain, hash, span, bloom, once, content, place, lists, locks}
@@ -13,8 +12,8 @@ use Rattle.gvdb_read.specs.OnePass.{ItemKeeps}
 use Rattle.gvdb_read.specs.Unsounds.{KeepsBelow}
 use Rattle.gvdb_read.proofs.CountedLists.{IsFound, lists_kept}
 use Rattle.gvdb_read.proofs.HashAbove.{hashes_kept}
-use Rattle.gvdb_read.proofs.NameChecks.{has_no_namesake, same_hash}
-use Rattle.gvdb_read.proofs.NotedLengths.{all_short}
+use Rattle.gvdb_read.proofs.NameChecks.{only_of_hash}
+use Rattle.gvdb_read.proofs.NotedLengths.{short_name}
 
 module _ (t : Table) (each : EachItem t (ItemKeeps t)) where
   good : KeepsAll t keys
@@ -39,11 +38,8 @@ module _ (t : Table) (each : EachItem t (ItemKeeps t)) where
   in_span : KeepsAll t span
   in_span i counted = (each i counted).in_span
 
-  -- items of one name have one hash
   only_named : KeepsAll t once
-  only_named i counted =
-      has_no_namesake t i (span_start t (item t i).hash) good ends hashed in_span counted refl
-      (λ k lower first same. (each i counted).own_hash k lower first (sym (same_hash t i k good ends hashed counted (omega (arith, lower, counted)) same)))
+  only_named i counted = only_of_hash t i good ends hashed in_span counted (each i counted).own_hash
 
   -- a name has the bytes of a directory's and of a key
   short_from : (i : ℕ) (up : Option ℕ) → i < item_count t → (item t i).parent ≡ up → HasParent t i up → length (full_name t i) ≤ 65535
@@ -65,8 +61,7 @@ module _ (t : Table) (each : EachItem t (ItemKeeps t)) where
   placed : KeepsAll t place
   placed i counted =
       let has_parent = (each i counted).key_keeps.has_parent in
-      let short = all_short t (λ j there. short_from j (item t j).parent there refl (each j there).key_keeps.has_parent) in
-      record { has_parent = has_parent; short = short i counted }
+      record { has_parent = has_parent; short = short_name t i (short_from i (item t i).parent counted refl has_parent) }
 
   pub all_kept : (h n m : ℕ) (xs : List ℕ) → HasBuckets t → IsFound t h n m xs → length xs ≡ item_count t → EachItem t (HasListOnceIfAny t) → KeepsBelow t 11
   all_kept h n m xs has_buckets found all once_each buckets lt = has_buckets

@@ -1,5 +1,5 @@
 -- Lists that hold children of their items once each, and how many items are found by them.
-use Rattle.std.specs.Prelude.{ℕ, ◌+◌, ◌<◌, ◌≡◌, Bool, true, false, ◌==◌, Option, Some, None, codes}
+use Rattle.std.specs.Prelude.{ℕ, ◌+◌, ◌%◌, ◌<◌, ◌≡◌, ◌≢◌, Bool, true, false, ◌==◌, Option, Some, None, codes}
 use Rattle.dconf_model.specs.Table.{Table, item, list_kind}
 use Rattle.dconf_model.specs.Names.{HasName}
 use Rattle.dconf_model.specs.Sound.{IsChild, list_length, listed}
@@ -7,6 +7,14 @@ use Rattle.dconf_model.specs.Sound.{IsChild, list_length, listed}
 -- no number occurs twice
 abbrev pub IsOnce : Table → ℕ → Type 0
 IsOnce t i = (k m : ℕ) → k < list_length t i → m < list_length t i → listed t i k ≡ listed t i m → k ≡ m
+
+-- the number at place m is none of those before it, if it is of this part
+abbrev pub IsNewInPart : Table → ℕ → ℕ → ℕ → ℕ → Type 0
+IsNewInPart t i part parts m = listed t i m % parts ≡ part → (k : ℕ) → k < m → listed t i k ≢ listed t i m
+
+-- no number of this part occurs twice
+abbrev pub IsOnceInPart : Table → ℕ → ℕ → ℕ → Type 0
+IsOnceInPart t i part parts = (m : ℕ) → m < list_length t i → IsNewInPart t i part parts m
 
 -- the list holds children of its item, once each; it is empty only at `/`
 pub record ListsOnce (t : Table) (i : ℕ) : Type 0 where

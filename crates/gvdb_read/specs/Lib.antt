@@ -12,13 +12,12 @@ pub mod Unsounds
 pub mod Joined
 pub mod Backwards
 pub mod Ascending
-pub mod ByKey
+pub mod Flags
 pub mod Counted
 pub mod HashAbove
 pub mod Records
 pub mod ListNumbers
 pub mod NotedEnds
 pub mod NotedLengths
-pub mod NamesRise
 pub mod PlainKey
 pub mod OnePass

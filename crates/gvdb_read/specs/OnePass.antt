@@ -1,14 +1,18 @@
 -- What one pass over the items sees of each.
-use Rattle.std.specs.Prelude.{ℕ, ◌≤◌, ◌<◌, ◌≡◌, ◌≢◌, List, length}
-use Rattle.dconf_model.specs.Table.{Table, item, key, list_kind}
+use Rattle.std.specs.Prelude.{ℕ, ◌%◌, ◌≤◌, ◌<◌, ◌≡◌, ◌≢◌, List, length}
+use Rattle.dconf_model.specs.Table.{Table, item, item_count, key, list_kind}
 use Rattle.dconf_model.specs.Names.{HasName}
 use Rattle.dconf_model.specs.Search.{span_start}
-use Rattle.dconf_model.specs.Searchable.{HasContent, IsInBloom, IsInSpan}
+use Rattle.dconf_model.specs.Searchable.{HasContent, IsInBloom, IsInSpan, IsOnlyNamed}
 use Rattle.gvdb_read.specs.PlainKey.{KeyKeeps}
 
 -- no lower item of its bucket has the item's hash
 abbrev pub HasOwnHash : Table → ℕ → Type 0
 HasOwnHash t i = (j : ℕ) → j < i → span_start t (item t i).hash ≤ j → (item t j).hash ≢ (item t i).hash
+
+-- each item whose hash is in this part is the only one of its name
+abbrev pub OnlyNamedInPart : Table → ℕ → ℕ → Type 0
+OnlyNamedInPart t part parts = (i : ℕ) → i < item_count t → (item t i).hash % parts ≡ part → IsOnlyNamed t i
 
 -- the item has a full name of at most so many bytes
 abbrev pub HasNameWithin : ℕ → Table → ℕ → Type 0

@@ -27,3 +27,17 @@ KeepsBelow t n = (rule : SoundRule) → rule_number rule < n → KeepsAll t rule
 -- each lower item keeps the rule
 abbrev pub KeptBefore : Region → SoundRule → ℕ → Type 0
 KeptBefore t rule i = (j : ℕ) → j < i → Keeps t rule j
+
+-- the rules that are asked of each item by itself
+abbrev pub IsAskedAlone : SoundRule → Type 0
+IsAskedAlone buckets = ⊥
+IsAskedAlone keys = Unit {0}
+IsAskedAlone chain = ⊥
+IsAskedAlone hash = Unit {0}
+IsAskedAlone span = Unit {0}
+IsAskedAlone bloom = Unit {0}
+IsAskedAlone once = ⊥
+IsAskedAlone content = Unit {0}
+IsAskedAlone place = ⊥
+IsAskedAlone lists = Unit {0}
+IsAskedAlone locks = ⊥

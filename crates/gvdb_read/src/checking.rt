@@ -4,24 +4,25 @@ ghost use Rattle.dconf_model.specs.Table.{item_count};
 ghost use Rattle.dconf_model.specs.Searchable.{EachItem, IsSearchable};
 ghost use Rattle.gvdb_read.specs.Records.{RecordKeeps};
 ghost use Rattle.dconf_model.specs.Sound.{IsFirstFault, IsSound, Keeps, KeepsAll, rule_number};
-ghost use Rattle.dconf_model.specs.Sound.Rule.{buckets, chain, hash, locks, once};
-ghost use Rattle.gvdb_read.specs.Unsounds.{KeepsBelow, KeptBefore, rule_of};
+ghost use Rattle.dconf_model.specs.Sound.Rule.{buckets, hash, once};
+ghost use Rattle.gvdb_read.specs.Unsounds.{IsAskedAlone, KeepsBelow, rule_of};
 
 mod backwards;
 mod bloom;
 mod buckets;
 mod chain;
 mod content;
+mod flags;
 mod hash;
 mod hash_by_parent;
 mod keys;
 mod length;
 mod lists;
-mod lists_by_key;
 mod lists_counted;
+mod lists_flagged;
 mod locks;
-mod names_rise;
 mod once;
+mod once_by_hash;
 mod one_pass;
 mod place;
 mod plain_key;
@@ -40,17 +41,17 @@ impl Table<'_> {
     ///
     /// It takes no memory. One pass sees that a usual file keeps S1 to S10: it reads each item once, with its key and its
     /// bucket, and each number of a list; a key's bytes are counted once. Where it says nothing, the rules are asked in order,
-    /// each by a quick way, and by a slow one where that says nothing either:
+    /// some by a quick way first, which says that all items keep the rule, or nothing:
     ///
     /// | Rule | Quick way | Slow way |
     /// |---|---|---|
-    /// | S1, the buckets | | each bucket |
+    /// | S1, buckets | | each bucket |
     /// | S2, keys; S5, span; S6, bloom; S8, content | each record and key once, with S4 | the same, one rule after the other |
-    /// | S3, chain | from each item up to a parent of a lower number, or one of 256 that are noted | up to a parent of a lower number |
-    /// | S4, hash | a key goes on from its parent's hash: the bytes of the keys | the bytes of the full names |
-    /// | S7, once | where there are more than 16 items a bucket, each name and the one before it | each item and the lower ones of its bucket |
-    /// | S9, place | names' lengths up to one of 256 that are noted; each item and its parent | names' lengths up to 65,535 bytes |
-    /// | S10, lists | each number once, and where numbers don't rise its key | each list and all items; each number and those before it |
+    /// | S3, chain | | from each item up to a parent of a lower number, or to one of 256 that are noted |
+    /// | S4, hash | the bytes of the keys: each goes on from its parent's hash | the bytes of the full names |
+    /// | S7, once | where buckets are long, each hash once for each 2,048 items | each item and the lower ones of its bucket |
+    /// | S9, place | | each item and its parent; its name's length up to one of 256 that are noted |
+    /// | S10, lists | each number once where they rise, else once for each 32,768 items | each list and all items; each number and those before it |
     /// | S11, locks | | S1 to S8 of the table of locks |
     pub fn check(self) -> Result<(), Unsound>
         ensures sound { IfOk result (λ _. IsSound (region self.entry)) }
@@ -112,29 +113,15 @@ impl Table<'_> {
         Ok(())
     }
 
-    /// Asks S3. Where a quick pass sees that all items keep it, that is all. Else it walks along the parents of each item, up to
-    /// the first with a lower number.
-    fn check_chains(self) -> Result<(), Unsound>
-        requires earlier { KeepsBelow (region self) 3 }
-        ensures kept { IfOk result (λ _. KeepsBelow (region self.entry) 4) }
-        ensures fault { IfErr result (λ e. IsFirstFault (region self.entry) (rule_of e.rule) e.item) }
-        ensures not_kept { IfErr result (λ _. ¬ KeepsAll (region self.entry) chain) }
-    {
-        if self.chains_end() {
-            return Ok(());
-        }
-        self.check_each(Rule::Chain)
-    }
-
-    /// Asks S7. Where buckets are long, and the items come in their order, and in each bucket in that of their names, it compares each
-    /// name with the one before it. Else it looks at the items of each item's bucket.
+    /// Asks S7. Where buckets are long, hashes tell of most items that they are the first of their names. Else it looks at the items
+    /// of each item's bucket.
     fn check_once(self) -> Result<(), Unsound>
         requires earlier { KeepsBelow (region self) 7 }
         ensures kept { IfOk result (λ _. KeepsBelow (region self.entry) 8) }
         ensures fault { IfErr result (λ e. IsFirstFault (region self.entry) (rule_of e.rule) e.item) }
         ensures not_kept { IfErr result (λ _. ¬ KeepsAll (region self.entry) once) }
     {
-        if self.names_rise() {
+        if self.hashes_tell() {
             return Ok(());
         }
         self.each_keeps(Rule::Once, |i| self.is_only_named(i))
@@ -152,7 +139,7 @@ impl Table<'_> {
         self.check_hashes()?;
         self.check_each(Rule::Span)?;
         self.check_each(Rule::Bloom)?;
-        self.check_each(Rule::Once)?;
+        self.check_once()?;
         self.check_each(Rule::Content)
     }
 
@@ -168,19 +155,6 @@ impl Table<'_> {
             return Ok(());
         }
         self.check_each(Rule::Hash)
-    }
-
-    /// Asks S9. Where all names are short it looks at the lengths once, and at each item and its parent. Else it looks
-    /// along the parents of each item, up to the first whose name is too long.
-    fn check_places(self) -> Result<(), Unsound>
-        requires earlier { KeepsBelow (region self) 9 }
-        ensures kept { IfOk result (λ _. KeepsBelow (region self.entry) 10) }
-        ensures fault { IfErr result (λ e. IsFirstFault (region self.entry) (rule_of e.rule) e.item) }
-    {
-        if self.names_are_short() {
-            return self.each_keeps(Rule::Place, |i| self.has_parent(i));
-        }
-        self.check_each(Rule::Place)
     }
 
     /// Asks S10. Where each list ascends, by number or by key, and all of them together hold as many numbers as they should, it
@@ -199,8 +173,7 @@ impl Table<'_> {
 
     /// Asks a rule of each item by itself.
     fn check_each(self, rule: Rule) -> Result<(), Unsound>
-        requires of_items { rule_of rule ≢ buckets }
-        requires own { rule_of rule ≢ locks }
+        requires alone { IsAskedAlone (rule_of rule) }
         requires earlier { KeepsBelow (region self) (rule_number (rule_of rule)) }
         ensures kept { IfOk result (λ _. KeepsBelow (region self.entry) (rule_number (rule_of rule) + 1)) }
         ensures fault { IfErr result (λ e. IsFirstFault (region self.entry) (rule_of e.rule) e.item) }
@@ -209,39 +182,36 @@ impl Table<'_> {
         self.each_keeps(rule, |i| self.keeps(rule, i))
     }
 
-    /// Whether item `i` keeps a rule, where each lower item does. A closure for each rule would be dearer to prove.
+    /// Whether item `i` keeps a rule. A closure for each rule would be dearer to prove.
     fn keeps(self, rule: Rule, i: u32) -> bool
-        requires of_items { rule_of rule ≢ buckets }
-        requires own { rule_of rule ≢ locks }
+        requires alone { IsAskedAlone (rule_of rule) }
         requires earlier { KeepsBelow (region self) (rule_number (rule_of rule)) }
         requires counted { i < item_count (region self) }
-        ensures { KeptBefore (region self.entry) (rule_of rule) i → IsTrue result ↔ Keeps (region self.entry) (rule_of rule) i }
+        ensures { IsTrue result ↔ Keeps (region self.entry) (rule_of rule) i }
     {
         match rule {
             Rule::Keys => self.has_good_key(i),
-            Rule::Chain => self.has_end(i),
             Rule::Hash => self.has_hash_of_name(i),
             Rule::Span => self.is_in_span(i),
             Rule::Bloom => self.is_in_bloom(i),
-            Rule::Once => self.is_only_named(i),
             Rule::Content => self.has_content(i),
-            Rule::Place => self.has_place(i),
             Rule::Lists => self.has_list_if_any(i),
-            // Neither is asked here: the buckets are the whole table's, and the locks another table's.
+            // No other rule is asked so.
             Rule::Buckets => true,
+            Rule::Chain => true,
+            Rule::Once => true,
+            Rule::Place => true,
             Rule::Locks => true,
         }
     }
 
-    /// Refuses a table in which an item doesn't keep the rule, at the least such item. What is asked of an item may build on
-    /// it that each lower item keeps the rule.
+    /// Refuses a table in which an item doesn't keep the rule, at the least such item.
     #[tactic(auto, using(crate::proofs::RuleOrder::least_is_not_kept, crate::proofs::RuleOrder::all_keep))]
     fn each_keeps<F: Fn(u32) -> bool>(self, rule: Rule, keeps: F) -> Result<(), Unsound>
         requires of_items { rule_of rule ≢ buckets }
         requires earlier { KeepsBelow (region self) (rule_number (rule_of rule)) }
         requires callable { (i : ℕ) → i < item_count (region self) → F.pre keeps i }
-        requires tells { (i : ℕ) (b : Bool) → KeptBefore (region self) (rule_of rule) i → F.post keeps i b
-            → IsTrue b ↔ Keeps (region self) (rule_of rule) i }
+        requires tells { (i : ℕ) (b : Bool) → F.post keeps i b → IsTrue b ↔ Keeps (region self) (rule_of rule) i }
         ensures kept { IfOk result (λ _. KeepsBelow (region self.entry) (rule_number (rule_of rule) + 1)) }
         ensures fault { IfErr result (λ e. IsFirstFault (region self.entry) (rule_of e.rule) e.item) }
         ensures not_kept { IfErr result (λ _. ¬ KeepsAll (region self.entry) (rule_of rule)) }

@@ -1,17 +1,17 @@
 //! S3: the item's parents end, and its key isn't empty.
 //!
-//! A fast pass says that all items keep it, or nothing. It notes the items that it saw last, and their parents, whose own
-//! parents end. A walk ends where it comes to one of these, and so a long chain of parents isn't walked again for each item of
-//! it, nor for each item below it.
-ghost use Rattle.std.specs.Prelude.{◌<◌, ◌≡◌, ◌↔◌, List, ℕ, IsTrue, length};
+//! The items that were seen last are noted, and those above them. A walk up the parents ends where it comes to one of these, and
+//! so a long chain of parents isn't walked again for each item of it, nor for each item below it.
+ghost use Rattle.std.specs.Prelude.{◌<◌, ◌≡◌, ◌↔◌, List, ℕ, IfErr, IfOk, IsTrue, length};
 ghost use Rattle.dconf_model.specs.Table.{item_count};
 ghost use Rattle.dconf_model.specs.Searchable.{HasEnd, LeadsUp};
-ghost use Rattle.dconf_model.specs.Sound.{KeepsAll};
+ghost use Rattle.dconf_model.specs.Sound.{IsFirstFault, KeepsAll};
 ghost use Rattle.dconf_model.specs.Sound.Rule.{keys, chain};
 ghost use Rattle.gvdb_read.specs.NotedEnds.{DoEnd};
-ghost use Rattle.gvdb_read.specs.Unsounds.{KeptBefore};
+ghost use Rattle.gvdb_read.specs.Unsounds.{KeepsBelow, KeptBefore, rule_of};
 
 use crate::table::Table;
+use crate::unsound::{Rule, Unsound};
 
 /// How many items are noted. An item's number tells its place, and there the last one counts.
 pub(super) const NOTED: usize = 256;
@@ -25,33 +25,72 @@ struct NotedEnd {
 impl Table<'_> {
     ghost use Rattle.gvdb_read.specs.Tables.{region};
 
-    /// Whether all items keep the rule. For each item it looks at no more of its parents than up to one that is noted, and then
-    /// notes it and its parent.
-    pub(super) fn chains_end(self) -> bool
-        requires keys { KeepsAll (region self) keys }
-        ensures { IsTrue result → KeepsAll (region self.entry) chain }
+    /// Asks S3 of each item. It looks at no more of its parents than up to one that is noted or has a lower number, and then notes it
+    /// and those above it.
+    #[tactic(auto, using(crate::proofs::RuleOrder::least_is_not_kept))]
+    pub(super) fn check_chains(self) -> Result<(), Unsound>
+        requires earlier { KeepsBelow (region self) 3 }
+        ensures kept { IfOk result (λ _. KeepsBelow (region self.entry) 4) }
+        ensures fault { IfErr result (λ e. IsFirstFault (region self.entry) (rule_of e.rule) e.item) }
+        ensures not_kept { IfErr result (λ _. ¬ KeepsAll (region self.entry) chain) }
     {
         let mut noted = [None; NOTED];
         for i in 0..self.n_items() {
-            if self.key_size_at(i) == 0 || !self.ends_at_noted(i, &noted) {
-                return false;
+            if !self.has_end(i, &noted) {
+                return Err(Unsound {
+                    rule: Rule::Chain,
+                    item: Some(i),
+                });
             }
-            noted[i as usize % NOTED] = Some(NotedEnd { item: i });
-            if let Some(parent) = self.parent_at(i) {
-                noted[parent as usize % NOTED] = Some(NotedEnd { item: parent });
-            }
+            self.note_ends(i, &mut noted);
         }
-        true
+        Ok(())
     }
 
-    /// Whether the parents of item `i` lead to one that is noted, to one with a lower number, or to one without parent.
+    /// Whether item `i` keeps the rule, where each lower item does.
+    fn has_end(self, i: u32, noted: &[Option<NotedEnd>]) -> bool
+        requires counted { i < item_count (region self) }
+        requires keys { KeepsAll (region self) keys }
+        requires places { 0 < length noted.now }
+        requires noted { DoEnd (region self) noted.now }
+        ensures { KeptBefore (region self.entry) chain i → IsTrue result ↔ HasEnd (region self.entry) i }
+    {
+        self.key_size_at(i) > 0 && self.ends_at_noted(i, noted)
+    }
+
+    /// Notes item `i`, whose parents end, and those above it, up to one that is noted, and no more than have a place.
+    fn note_ends(self, i: u32, noted: &mut [Option<NotedEnd>])
+        requires counted { i < item_count (region self) }
+        requires keys { KeepsAll (region self) keys }
+        requires ends { (parents : List ℕ) × LeadsUp (region self) i parents }
+        requires places { 0 < length noted.old }
+        requires noted { DoEnd (region self) noted.old }
+        ensures noted { DoEnd (region self.entry) noted.new }
+        ensures len { length noted.new ≡ length noted.old }
+    {
+        let mut at = i;
+        for _ in 0..NOTED {
+            if self.is_noted(at, noted) {
+                return;
+            }
+            let place = at as usize % noted.len();
+            noted[place] = Some(NotedEnd { item: at });
+            let Some(parent) = self.parent_at(at) else {
+                return;
+            };
+            at = parent;
+        }
+    }
+
+    /// Whether the parents of item `i` end, where those of each lower item do. As many steps as there are items are enough:
+    /// more would come to an item for the second time, and go round in a circle.
     fn ends_at_noted(self, i: u32, noted: &[Option<NotedEnd>]) -> bool
         requires counted { i < item_count (region self) }
         requires keys { KeepsAll (region self) keys }
         requires places { 0 < length noted.now }
         requires noted { DoEnd (region self) noted.now }
-        ensures { KeptBefore (region self.entry) chain i → IsTrue result
-            → (parents : List ℕ) × LeadsUp (region self.entry) i parents }
+        ensures { KeptBefore (region self.entry) chain i
+            → IsTrue result ↔ ((parents : List ℕ) × LeadsUp (region self.entry) i parents) }
     {
         let mut at = i;
         for _ in 0..self.n_items() {
@@ -80,36 +119,5 @@ impl Table<'_> {
             Some(known) => known.item == i,
             None => false,
         }
-    }
-
-    /// Whether item `i` keeps the rule, where each lower item does. It takes a step for each parent, up to the first whose
-    /// number is lower.
-    pub(super) fn has_end(self, i: u32) -> bool
-        requires counted { i < item_count (region self) }
-        requires keys { KeepsAll (region self) keys }
-        ensures { KeptBefore (region self.entry) chain i → IsTrue result ↔ HasEnd (region self.entry) i }
-    {
-        self.key_size_at(i) > 0 && self.has_first_parent(i)
-    }
-
-    /// Whether the parents of item `i` end, where those of each lower item do. As many steps as there are items are enough:
-    /// more would come to an item for the second time, and go round in a circle.
-    fn has_first_parent(self, i: u32) -> bool
-        requires counted { i < item_count (region self) }
-        requires keys { KeepsAll (region self) keys }
-        ensures { KeptBefore (region self.entry) chain i
-            → IsTrue result ↔ ((parents : List ℕ) × LeadsUp (region self.entry) i parents) }
-    {
-        let mut at = i;
-        for _ in 0..self.n_items() {
-            let Some(parent) = self.parent_at(at) else {
-                return true;
-            };
-            if parent < i {
-                return true;
-            }
-            at = parent;
-        }
-        false
     }
 }

@@ -1,18 +1,18 @@
-//! How long full names are.
+//! How long full names are, and S9, which asks for short ones.
 //!
-//! A pass notes the lengths of the names of the items that it saw last, and of their parents. A walk up an item's parents ends
-//! where it comes to one of these, and so a long chain of parents isn't walked again for each item of it, nor for each item
-//! below it.
-ghost use Rattle.std.specs.Prelude.{◌≡◌, ◌≤◌, ◌<◌, ◌↔◌, ℕ, List, IfSome, IsTrue, length};
+//! The lengths of the names of the items that were seen last are noted, and of those above them, as chain.rt notes whose parents
+//! end.
+ghost use Rattle.std.specs.Prelude.{◌≡◌, ◌≤◌, ◌<◌, ◌↔◌, IfErr, IfNone, IfOk, IfSome, IsSome, length};
 ghost use Rattle.dconf_model.specs.Table.{item_count};
-ghost use Rattle.dconf_model.specs.Names.{HasName, full_name};
-ghost use Rattle.dconf_model.specs.Searchable.{EachItem};
-ghost use Rattle.dconf_model.specs.Sound.{KeepsAll};
+ghost use Rattle.dconf_model.specs.Names.{full_name};
+ghost use Rattle.dconf_model.specs.Sound.{HasPlace, IsFirstFault, KeepsAll};
 ghost use Rattle.dconf_model.specs.Sound.Rule.{keys, chain};
-ghost use Rattle.gvdb_read.specs.NotedLengths.{AreNoted, HasShortName};
+ghost use Rattle.gvdb_read.specs.NotedLengths.{AreNoted};
+ghost use Rattle.gvdb_read.specs.Unsounds.{KeepsBelow, rule_of};
 
 use super::chain::NOTED;
 use crate::table::Table;
+use crate::unsound::{Rule, Unsound};
 
 /// How many bytes a full name may have: as many as one item's key, whose size is a number of two bytes.
 pub const MAX_NAME_LEN: usize = u16::MAX as usize;
@@ -24,28 +24,72 @@ struct NotedLen {
     len: u16,
 }
 
-impl<'a> Table<'a> {
+impl Table<'_> {
     ghost use Rattle.gvdb_read.specs.Tables.{region};
 
-    /// Whether each item's full name has at most 65,535 bytes. For each item it looks at no more of its parents than up to
-    /// one whose length is noted, and then notes its own and its parent's.
-    pub(super) fn names_are_short(self) -> bool
-        requires keys { KeepsAll (region self) keys }
-        requires chain { KeepsAll (region self) chain }
-        ensures { IsTrue result → EachItem (region self.entry) (HasShortName (region self.entry)) }
+    /// Asks S9 of each item. It looks at the item and its parent, and no further up than to one whose length is noted, and then notes
+    /// its own length and those of the items above it.
+    #[tactic(auto, using(crate::proofs::RuleOrder::least_is_not_kept))]
+    pub(super) fn check_places(self) -> Result<(), Unsound>
+        requires earlier { KeepsBelow (region self) 9 }
+        ensures kept { IfOk result (λ _. KeepsBelow (region self.entry) 10) }
+        ensures fault { IfErr result (λ e. IsFirstFault (region self.entry) (rule_of e.rule) e.item) }
     {
         let mut noted = [None; NOTED];
         for i in 0..self.n_items() {
-            let Some(len) = self.short_len(i, &noted) else {
-                return false;
+            let Some(len) = self.placed_len(i, &noted) else {
+                return Err(Unsound {
+                    rule: Rule::Place,
+                    item: Some(i),
+                });
             };
-            noted[i as usize % NOTED] = Some(NotedLen { item: i, len });
-            if let Some(parent) = self.parent_at(i) {
-                let len = len - self.key_size_at(i);
-                noted[parent as usize % NOTED] = Some(NotedLen { item: parent, len });
-            }
+            self.note_lens(i, len, &mut noted);
         }
-        true
+        Ok(())
+    }
+
+    /// How many bytes item `i`'s full name has. None where it doesn't keep the rule.
+    fn placed_len(self, i: u32, noted: &[Option<NotedLen>]) -> Option<u16>
+        requires keys { KeepsAll (region self) keys }
+        requires chain { KeepsAll (region self) chain }
+        requires counted { i < item_count (region self) }
+        requires places { 0 < length noted.now }
+        requires noted { AreNoted (region self) noted.now }
+        ensures some { IsSome result ↔ HasPlace (region self.entry) i }
+        ensures len { IfSome result (λ len. length (full_name (region self.entry) i) ≡ len) }
+    {
+        if !self.has_parent(i) {
+            return None;
+        }
+        self.short_len(i, noted)
+    }
+
+    /// Notes the length of item `i`'s full name, and those of the names above it, up to one that is noted, and no more than have a
+    /// place.
+    fn note_lens(self, i: u32, len: u16, noted: &mut [Option<NotedLen>])
+        requires keys { KeepsAll (region self) keys }
+        requires chain { KeepsAll (region self) chain }
+        requires counted { i < item_count (region self) }
+        requires len { length (full_name (region self) i) ≡ len }
+        requires places { 0 < length noted.old }
+        requires noted { AreNoted (region self) noted.old }
+        ensures noted { AreNoted (region self.entry) noted.new }
+        ensures len { length noted.new ≡ length noted.old }
+    {
+        let mut at = i;
+        let mut len = len;
+        for _ in 0..NOTED {
+            if self.noted_len(at, noted).is_some() {
+                return;
+            }
+            let place = at as usize % noted.len();
+            noted[place] = Some(NotedLen { item: at, len });
+            let Some(parent) = self.parent_at(at) else {
+                return;
+            };
+            len -= self.key_size_at(at);
+            at = parent;
+        }
     }
 
     /// How many bytes item `i`'s full name has. None where it has more than 65,535.
@@ -57,6 +101,7 @@ impl<'a> Table<'a> {
         requires noted { AreNoted (region self) noted.now }
         ensures len { IfSome result (λ len. length (full_name (region self.entry) i) ≡ len) }
         ensures short { IfSome result (λ len. len ≤ 65535) }
+        ensures none { IfNone result (65535 < length (full_name (region self.entry) i)) }
     {
         let mut at = i;
         let mut left = u16::MAX;
@@ -83,16 +128,5 @@ impl<'a> Table<'a> {
             Some(known) if known.item == i => Some(known.len),
             _ => None,
         }
-    }
-
-    /// Whether item `i`'s full name has at most 65,535 bytes. It looks at the keys' sizes alone.
-    pub(super) fn has_short_name(self, i: u32) -> bool
-        requires keys { KeepsAll (region self) keys }
-        requires chain { KeepsAll (region self) chain }
-        requires counted { i < item_count (region self) }
-        ensures { IsTrue result
-            ↔ ((name : List ℕ) → HasName (region self.entry) i name → length name ≤ 65535) }
-    {
-        self.name_len(i, MAX_NAME_LEN).is_some()
     }
 }

@@ -72,7 +72,7 @@ impl<'a> Table<'a> {
     }
 
     /// Whether no number occurs twice in the list.
-    fn lists_once(self, i: u32) -> bool
+    pub(super) fn lists_once(self, i: u32) -> bool
         requires counted { i < item_count (region self) }
         requires valid { HasBytes (region self) i }
         ensures { IsTrue result ↔ ((k m : ℕ) → k < list_length (region self.entry) i

@@ -1,13 +1,12 @@
 //! S10, by counting: a fast pass, which says 'each list is right', or nothing.
 //!
-//! It looks whether each list holds children of its item alone, and none of them twice. Then no child is missing where
-//! all lists together hold as many numbers as there are items with a parent. None occurs twice where the numbers rise, as
-//! our writer puts them, or the keys, as dconf's does.
+//! It looks whether each list holds children of its item alone, and none of them twice (lists_flagged.rt). Then no child is
+//! missing where all lists together hold as many numbers as there are items with a parent.
 ghost use Rattle.std.specs.Prelude.{◌≡◌, ◌<◌, IfSome, IsTrue};
 ghost use Rattle.dconf_model.specs.Table.{HasBytes, item, item_count, list_kind};
 ghost use Rattle.dconf_model.specs.Sound.{KeepsAll, list_length};
 ghost use Rattle.dconf_model.specs.Sound.Rule.{content, lists};
-ghost use Rattle.gvdb_read.specs.Counted.{HasListOnceIfAny, IsOnce, ListsOnce, found_count};
+ghost use Rattle.gvdb_read.specs.Counted.{HasListOnceIfAny, ListsOnce, found_count};
 
 use crate::format::Kind;
 use crate::table::Table;
@@ -15,8 +14,8 @@ use crate::table::Table;
 impl Table<'_> {
     ghost use Rattle.gvdb_read.specs.Tables.{region};
 
-    /// Whether the lists are seen to be right. It looks at each item and at each number of a list once, and where the
-    /// numbers of a list don't rise at its keys.
+    /// Whether the lists are seen to be right. It looks at each item once, and at the numbers of each list as `is_once`
+    /// does.
     pub(super) fn lists_hold_all(self) -> bool
         requires content { KeepsAll (region self) content }
         ensures { IsTrue result → KeepsAll (region self.entry) lists }
@@ -57,19 +56,10 @@ impl Table<'_> {
         ensures once { IfSome result (λ _. ListsOnce (region self.entry) i) }
         ensures len { IfSome result (λ n. n ≡ list_length (region self.entry) i) }
     {
-        if self.lists_children_alone(i) && self.rises(i) && self.is_empty_at_root_alone(i) {
+        if self.lists_children_alone(i) && self.is_once(i) && self.is_empty_at_root_alone(i) {
             Some(self.numbers(i).len())
         } else {
             None
         }
-    }
-
-    /// Whether no number is seen to occur twice in the list: the numbers rise, or the keys.
-    fn rises(self, i: u32) -> bool
-        requires counted { i < item_count (region self) }
-        requires valid { HasBytes (region self) i }
-        ensures { IsTrue result → IsOnce (region self.entry) i }
-    {
-        self.ascends(i) || self.keys_rise(i)
     }
 }

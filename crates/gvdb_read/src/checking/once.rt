@@ -1,4 +1,4 @@
-//! S7: no lower item has the same full name. It is asked item by item where the fast pass (names_rise.rt) doesn't say that
+//! S7: no lower item has the same full name. It is asked item by item where the fast pass (once_by_hash.rt) doesn't say that
 //! no two have the same.
 ghost use Rattle.std.specs.Prelude.{◌≡◌, ◌<◌, ◌↔◌, IsTrue};
 ghost use Rattle.dconf_model.specs.Table.{item_count};

@@ -10,7 +10,6 @@ ghost use Rattle.gvdb_read.specs.OnePass.{HasNameWithin, HasOwnHash, ItemKeeps};
 ghost use Rattle.gvdb_read.specs.Unsounds.{KeepsBelow};
 
 use super::length::MAX_NAME_LEN;
-use super::names_rise::SHORT_BUCKET;
 use crate::format::Kind;
 use crate::table::Table;
 
@@ -19,6 +18,9 @@ const MOST_OF_DIRECTORY: usize = 1023;
 
 /// How many bytes a key has here at most: with a directory's, no full name is too long.
 const MOST_OF_KEY: usize = MAX_NAME_LEN - MOST_OF_DIRECTORY;
+
+/// So many items of a bucket are quickly looked at one by one, as there are in files of our writer and of dconf's.
+pub(super) const SHORT_BUCKET: u32 = 16;
 
 impl Table<'_> {
     ghost use Rattle.gvdb_read.specs.Tables.{region};

@@ -1,27 +1,15 @@
 //! S9: an item without parent is `/` or the table of locks; any other is a key or a directory, and lies under a
-//! list; full names are short.
+//! list; full names are short (length.rt).
 ghost use Rattle.std.specs.Prelude.{◌≡◌, ◌<◌, ◌⊎◌, ◌↔◌, Contains, IsTrue, codes};
 ghost use Rattle.dconf_model.specs.Table.{item, item_count, key, list_kind, table_kind, value_kind};
 ghost use Rattle.dconf_model.specs.Searchable.{HasGoodKey};
-ghost use Rattle.dconf_model.specs.Sound.{HasPlace, IsDirectoryPart, KeepsAll, HasParent};
-ghost use Rattle.dconf_model.specs.Sound.Rule.{keys, chain};
+ghost use Rattle.dconf_model.specs.Sound.{HasParent, IsDirectoryPart};
 
 use crate::format::Kind;
 use crate::table::Table;
 
 impl<'a> Table<'a> {
     ghost use Rattle.gvdb_read.specs.Tables.{region};
-
-    /// Whether item `i` keeps the rule. It looks at its key and at its parent, and along its parents for the length of
-    /// its name.
-    pub(super) fn has_place(self, i: u32) -> bool
-        requires keys { KeepsAll (region self) keys }
-        requires chain { KeepsAll (region self) chain }
-        requires counted { i < item_count (region self) }
-        ensures { IsTrue result ↔ HasPlace (region self.entry) i }
-    {
-        self.has_parent(i) && self.has_short_name(i)
-    }
 
     /// Whether item `i` is where an item of its kind and key may occur.
     #[inline(always)]

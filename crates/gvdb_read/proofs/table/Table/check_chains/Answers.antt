@@ -1,7 +1,8 @@
-use Rattle.dconf_model.specs.Sound.Rule.{chain}
+use Rattle.std.proofs.Common.{None, arith}
+use Rattle.std.proofs.lemmas.List.Elements.{All-replicate}
+use Rattle.gvdb_read.specs.NotedEnds.{Ends}
 use Rattle.gvdb_read.specs.Tables.{region}
-use Rattle.gvdb_read.proofs.RuleOrder.{one_more}
 use Rattle.gvdb_read.proofs.table.Table.check_chains.Goals as goal
 
-pub returns-then-chains_end-clause-kept : goal.returns-then-chains_end-clause-kept
-returns-then-chains_end-clause-kept c = one_more (region c.args.self) chain c.requires.earlier (c.chains_end.ensures c.if-chains_end.true)
+pub loop-i-init : goal.loop-i-init
+loop-i-init c = record { kept = λ j lt. absurd (omega (arith, lt)); noted = All-replicate (Ends (region c.args.self)) 256 None tt; some = omega arith }

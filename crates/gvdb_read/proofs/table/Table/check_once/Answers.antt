@@ -6,8 +6,8 @@ use Rattle.gvdb_read.specs.Tables.{region}
 use Rattle.gvdb_read.proofs.RuleOrder.{moved, one_more}
 use Rattle.gvdb_read.proofs.table.Table.check_once.Goals as goal
 
-pub returns-then-names_rise-clause-kept : goal.returns-then-names_rise-clause-kept
-returns-then-names_rise-clause-kept c = one_more (region c.args.self) once c.requires.earlier (c.names_rise.ensures c.if-names_rise.true)
+pub returns-then-hashes_tell-clause-kept : goal.returns-then-hashes_tell-clause-kept
+returns-then-hashes_tell-clause-kept c = one_more (region c.args.self) once c.requires.earlier (c.hashes_tell.ensures c.if-hashes_tell.true)
 
 pub each_keeps-requires-clause-callable : goal.each_keeps-requires-clause-callable
 each_keeps-requires-clause-callable c =
@@ -18,4 +18,4 @@ each_keeps-requires-clause-callable c =
     λ i counted. search rules
 
 pub each_keeps-requires-clause-tells : goal.each_keeps-requires-clause-tells
-each_keeps-requires-clause-tells c = λ i b kept post. search (rules, moved)
+each_keeps-requires-clause-tells c = λ i b post. search (rules, moved)

@@ -1,26 +1,22 @@
-use Rattle.std.proofs.Common.{rules, arith, Bool, IsTrue, ◌≡◌, ◌↔◌, sym, subst, ℕ}
-use Rattle.dconf_model.specs.Table.{Table, item}
-use Rattle.dconf_model.specs.Sound.{HasParent, HasPlace, KeepsAll}
-use Rattle.dconf_model.specs.Sound.Rule.{keys}
-use Rattle.gvdb_read.specs.NotedLengths.{HasShortName}
+use Rattle.std.proofs.Common.{None, refl, arith}
+use Rattle.std.proofs.lemmas.List.Elements.{All-replicate}
+use Rattle.dconf_model.specs.Sound.{HasPlace}
+use Rattle.dconf_model.specs.Sound.Rule.{place}
+use Rattle.gvdb_read.specs.NotedLengths.{IsNoted}
 use Rattle.gvdb_read.specs.Tables.{region}
-use Rattle.gvdb_read.proofs.NotedLengths.{each_name}
+use Rattle.gvdb_read.proofs.Below.{below_next}
+use Rattle.gvdb_read.proofs.RuleOrder.{one_more}
 use Rattle.gvdb_read.proofs.table.Table.check_places.Goals as goal
 
--- of an item with a short name the parent is asked alone
-placed : (t : Table) (i : ℕ) (r b : Bool) → HasShortName t i → b ≡ r → (IsTrue r ↔ HasParent t i (item t i).parent) → IsTrue b ↔ HasPlace t i
-placed t i r b short e tells = (
-  λ h. record { has_parent = tells.0 (subst IsTrue e h); short = short },
-  λ place. subst IsTrue (sym e) (tells.1 place.has_parent),
-)
+pub loop-i-init : goal.loop-i-init
+loop-i-init c = record { kept = λ j lt. absurd (omega (arith, lt)); noted = All-replicate (IsNoted (region c.args.self)) 256 None tt; some = omega arith }
 
-pub each_keeps-requires-clause-callable : goal.each_keeps-requires-clause-callable
-each_keeps-requires-clause-callable c =
-    let good : KeepsAll (region c.args.self) keys = c.requires.earlier keys (omega arith) in
-    λ i counted. search rules
+pub loop-i-preserved : goal.loop-i-preserved
+loop-i-preserved c = record {
+  kept = below_next (HasPlace (region c.args.self)) c.loop-i.i c.loop-i.invariant.kept (c.in-Some.ensures.some.0 refl);
+  noted = c.note_lens.ensures.noted;
+  some = omega (arith, c.note_lens.ensures.len, c.loop-i.invariant.some);
+}
 
-pub each_keeps-requires-clause-tells : goal.each_keeps-requires-clause-tells
-each_keeps-requires-clause-tells c =
-    let t = region c.args.self in
-    let short = each_name t (c.names_are_short.ensures c.if-names_are_short.true) in
-    λ i b kept post. let here : (r : Bool) → b ≡ r → (IsTrue r ↔ HasParent t i (item t i).parent) → IsTrue b ↔ HasPlace t i = λ r. placed t i r b (short i) in search (rules, here)
+pub returns-clause-kept : goal.returns-clause-kept
+returns-clause-kept c = one_more (region c.args.self) place c.requires.earlier (λ i counted. c.loop-i.invariant.kept i (omega (arith, counted, c.loop-i-test.false, c.n_items-i-end.ensures)))

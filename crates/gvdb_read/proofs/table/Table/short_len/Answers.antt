@@ -1,7 +1,7 @@
-use Rattle.std.proofs.Common.{◌≡◌, Some, None, arith, sym, ◌∙◌}
+use Rattle.std.proofs.Common.{◌≡◌, Some, None, arith, rules, sym, ◌∙◌}
 use Rattle.dconf_model.specs.Table.{item}
 use Rattle.gvdb_read.specs.Tables.{region}
-use Rattle.gvdb_read.proofs.NotedLengths.{some_key, ends_here, goes_up, ends_noted}
+use Rattle.gvdb_read.proofs.NotedLengths.{some_key, ends_here, goes_up, ends_noted, too_long}
 use Rattle.gvdb_read.proofs.table.Table.short_len.Goals as goal
 
 pub loop-len-init : goal.loop-len-init
@@ -33,3 +33,8 @@ pub loop-len-preserved : goal.loop-len-preserved
 loop-len-preserved c =
     let up : (item (region c.args.self) c.loop-len.at).parent ≡ Some c.in-Some-parent_at.parent = sym c.parent_at.ensures ∙ c.in-Some-parent_at.is in
     goes_up (region c.args.self) c.args.i c.loop-len.at c.loop-len.left c.key_size_at.result c.in_ok-left.left c.requires.keys c.requires.chain c.loop-len.invariant c.key_size_at.ensures (omega (arith, c.in_ok-left.ensures.0, c.in_ok-left.ensures.1)) c.in-Some-parent_at.parent up
+
+pub returns-in_err-left-clause-none : goal.returns-in_err-left-clause-none
+returns-in_err-left-clause-none c =
+    let long = too_long (region c.args.self) c.args.i c.loop-len.at c.loop-len.left c.key_size_at.result c.requires.keys c.requires.chain c.loop-len.invariant c.key_size_at.ensures (omega (arith, c.in_err-left.ensures)) in
+    search (rules, long)

@@ -1,0 +1,14 @@
+use Rattle.std.proofs.Common.{◌<◌, length}
+use Rattle.dconf_model.specs.Sound.Rule.{chain}
+use Rattle.gvdb_read.specs.NotedEnds.{DoEnd}
+use Rattle.gvdb_read.specs.Tables.{region}
+use Rattle.gvdb_read.specs.Unsounds.{KeptBefore}
+use Rattle.gvdb_read.proofs.table.Table.check_chains.Given as goal
+
+-- the items before this one keep the rule, and the parents of those that are noted end
+abbrev pub invariant-loop-i : goal.invariant-loop-i
+invariant-loop-i l = record {
+  kept : KeptBefore (region l.fn.self) chain l.i;
+  noted : DoEnd (region l.fn.self) l.noted;
+  some : 0 < length l.noted;
+}
