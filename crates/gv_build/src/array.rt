@@ -36,7 +36,7 @@ pub(crate) fn write_array(
 }
 
 /// The size of the elements of an array of this type, if they all have one.
-fn element_size(of: TypeStr<'_>) -> Option<usize>
+pub(crate) fn element_size(of: TypeStr<'_>) -> Option<usize>
     ensures { result ≡ element_size (ty of.entry) }
 {
     fixed_size(of.element()?)

@@ -9,6 +9,7 @@ ghost use Rattle.gv_view.specs.Views.{value};
 ghost use Rattle.gv_build.specs.Faults.{limit, IsOverLimit, IsUnbuildable};
 
 use crate::fault::BuildFault;
+use crate::room::room;
 use crate::tree::write_tree;
 use crate::variant::end_variant;
 use gv_tree::Tree;
@@ -24,7 +25,7 @@ pub fn serialise(alloc: Global, tree: &Tree) -> Result<Vec<u8>, BuildFault>
     ensures fits { OnOk result (length (encode tree.now) ≤ limit) }
     ensures fault { IfErr result (IsOverLimit (length (encode tree.now))) }
 {
-    let mut bytes = Vec::new(alloc);
+    let mut bytes = Vec::with_capacity(alloc, room(tree))?;
     write_tree(tree, &mut bytes)?;
     Ok(bytes)
 }
@@ -46,7 +47,8 @@ pub fn variant_bytes(alloc: Global, tree: &Tree) -> Result<Vec<u8>, BuildFault>
     if levels >= Tree::MAX_LEVELS {
         return Err(BuildFault::TooLarge);
     }
-    let mut out = Vec::new(alloc);
+    let end = 1 + of.as_str().len();
+    let mut out = Vec::with_capacity(alloc, room(tree).saturating_add(end))?;
     write_tree(tree, &mut out)?;
     end_variant(of, &mut out)?;
     Ok(out)

@@ -17,6 +17,7 @@ mod fault;
 mod maybe;
 mod offsets;
 mod place;
+mod room;
 mod tree;
 mod tuple;
 mod variant;

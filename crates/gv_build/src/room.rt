@@ -1,0 +1,43 @@
+//! The room that a value's bytes take, as far as that is told at sight, so that a buffer seldom grows.
+
+use crate::array::element_size;
+use crate::buffer::MAX_LEN;
+use gv_layout::fixed_size;
+use gv_tree::{Basic, Shape, Tree};
+
+/// So many bytes at least: all of a value of a fixed size, of a text and of an array of these; of
+/// other values none.
+pub(crate) fn room(tree: &Tree) -> usize {
+    let room = match tree.shape() {
+        Shape::Basic(value) => basic_room(value, tree),
+        Shape::Array(elements) => match element_size(tree.type_text()) {
+            Some(size) => size.saturating_mul(elements.len()),
+            None => texts_room(elements),
+        },
+        _ => 0,
+    };
+    room.min(MAX_LEN)
+}
+
+/// The bytes of a basic value.
+fn basic_room(value: &Basic, tree: &Tree) -> usize {
+    match value {
+        Basic::Text(text) | Basic::ObjectPath(text) | Basic::Signature(text) => {
+            text.len().saturating_add(1)
+        }
+        _ => fixed_size(tree.type_text()).unwrap_or(0),
+    }
+}
+
+/// The bytes of the texts among the elements of an array, and an offset of one byte for each.
+fn texts_room(elements: &[Tree]) -> usize {
+    let mut room: usize = 0;
+    for element in elements {
+        if let Shape::Basic(value) = element.shape() {
+            room = room
+                .saturating_add(basic_room(value, element))
+                .saturating_add(1);
+        }
+    }
+    room
+}
