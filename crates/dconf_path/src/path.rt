@@ -44,6 +44,7 @@ impl<'a> KeyPath<'a> {
     }
 
     /// Takes bytes that are a text, and the path of a key; None where they aren't.
+    #[inline(always)]
     pub fn of_bytes(bytes: &'a [u8]) -> Option<KeyPath<'a>>
         ensures some { IsSome result ↔ (IsUtf8 bytes.entry.now × IsTrue (is_key_path bytes.entry.now)) }
         ensures path { IfSome result (λ path. key_text path ≡ bytes.entry.now) }
@@ -52,6 +53,15 @@ impl<'a> KeyPath<'a> {
             let text = unsafe { str::from_utf8_unchecked(bytes) };
             return Some(KeyPath { text });
         }
+        KeyPath::of_other_bytes(bytes)
+    }
+
+    /// As `of_bytes`. It is kept apart, since nearly all bytes are plain.
+    #[inline(never)]
+    fn of_other_bytes(bytes: &'a [u8]) -> Option<KeyPath<'a>>
+        ensures some { IsSome result ↔ (IsUtf8 bytes.entry.now × IsTrue (is_key_path bytes.entry.now)) }
+        ensures path { IfSome result (λ path. key_text path ≡ bytes.entry.now) }
+    {
         let text = str::from_utf8(bytes).ok()?;
         KeyPath::parse(text).ok()
     }

@@ -12,6 +12,7 @@ use std::simd::prelude::*;
 const BLOCK_LEN: usize = 16;
 
 /// Whether bytes are the path of a key, and plain. Where it says no they may still be the path of a key.
+#[inline(always)]
 pub(crate) fn is_plain_key(bytes: &[u8]) -> bool
     ensures ascii { IsTrue result → IsAscii bytes.now }
     ensures key { IsTrue result → IsTrue (is_key_path bytes.now) }
