@@ -23,3 +23,4 @@ pub mod AppendedBytes
 pub mod NotedLengths
 pub mod PlainKey
 pub mod OnePass
+pub mod SameEnds

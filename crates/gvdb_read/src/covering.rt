@@ -16,7 +16,8 @@ impl Table<'_> {
     /// Whether the name of some value covers a path: it is the path, or it ends in `/` and the path starts with it.
     ///
     /// It searches for the path, and for each prefix of it that ends in `/`. The path is hashed once, and a prefix is
-    /// compared with the names that have its hash alone.
+    /// compared with the names that have its hash alone. It is kept out of its callers, most of which have no locks.
+    #[inline(never)]
     pub fn covers(self, path: &str) -> bool
         ensures { IsTrue result ↔ ((name : List ℕ) × IsTrue (covers name path.now) × IsFound (region self.entry) name value_kind) }
     {

@@ -67,6 +67,7 @@ impl<'a> Table<'a> {
     }
 
     /// Whether this name has a value: true exactly where `find` is Some.
+    #[inline(never)]
     pub fn has(self, name: &str) -> bool
         ensures { IsTrue result ↔ IsFound (region self.entry) name.now value_kind }
     {

@@ -25,6 +25,7 @@ mod hashed_name;
 mod item;
 mod names;
 mod search;
+mod suffix;
 mod table;
 mod unsound;
 

@@ -8,6 +8,7 @@ ghost use Rattle.dconf_model.specs.Search.{Fits, IsLeast, IsWanted, PassesBloom,
 ghost use Rattle.gvdb_read.specs.Kinds.{letter_of};
 
 use crate::format::{Kind, WORD_LEN, hash, read_u32};
+use crate::suffix::before_suffix;
 use crate::table::Table;
 use gv_types::Steps;
 
@@ -149,7 +150,7 @@ impl<'a> Table<'a> {
             let Some(link) = self.link_at(at) else {
                 return false;
             };
-            let Some(prefix) = rest.strip_suffix(link.key) else {
+            let Some(prefix) = before_suffix(rest, link.key) else {
                 return false;
             };
             let Some(parent) = link.parent else {

@@ -1,7 +1,5 @@
 use Rattle.std.proofs.Common.{◌≡◌, ◌≢◌, ◌<◌, ℕ, IsTrue, Bool, true, false, List, [], ◌∷◌, ◌++◌, length, arith, sym, subst, ap, ◌∙◌, Some, None, eqb, refl, length-append}
 use borrow.Author.Tests.{eqb-true, eqb-false}
-use Rattle.std.proofs.lemmas.Slice.Eq.{strip_suffix_is}
-use Rattle.std.proofs.lemmas.Bool.Decides.{Decides-eqb}
 use Rattle.dconf_model.specs.Names.{HasName}
 use Rattle.dconf_model.specs.Table.{item, key}
 use Rattle.gvdb_read.specs.Tables.{region}
@@ -22,12 +20,11 @@ long_key_test xs b e h = let d : length xs ≢ 0 = eqb-false _ _ (sym e ∙ h) i
 pub returns-in_default-clause-named : goal.returns-in_default-clause-named
 returns-in_default-clause-named c = never (λ h. c.in_default.ensures.none (is_item _ _ _ (c.loop-link.invariant.named.1 h)))
 
-pub returns-in_default-strip_suffix-clause-named : goal.returns-in_default-strip_suffix-clause-named
-returns-in_default-strip_suffix-clause-named c =
+pub returns-in_default-before_suffix-clause-named : goal.returns-in_default-before_suffix-clause-named
+returns-in_default-before_suffix-clause-named c =
     let t = region c.args.self in
     let rest = c.loop-link.rest.now in
-    let none = strip_suffix_is Decides-eqb rest c.in-Some.link.key.now None c.in_default-strip_suffix.ensures.cases in
-    let other = subst (λ (k : List ℕ). (prefix : List ℕ) → rest ≢ prefix ++ k) c.in-Some.ensures.some.2 none in
+    let other = subst (λ (k : List ℕ). (prefix : List ℕ) → rest ≢ prefix ++ k) c.in-Some.ensures.some.2 c.in_default-before_suffix.ensures in
     never (λ h. no_suffix t c.loop-link.at rest other (c.loop-link.invariant.named.1 h))
 
 pub returns-in_default-parent-clause-named : goal.returns-in_default-parent-clause-named
@@ -35,8 +32,8 @@ returns-in_default-parent-clause-named c =
     let t = region c.args.self in
     let rest = c.loop-link.rest.now in
     let some = c.in-Some.ensures.some in
-    let prefix = c.in-Some-strip_suffix.prefix.now in
-    let cut = strip_suffix_is Decides-eqb rest c.in-Some.link.key.now (Some c.in-Some-strip_suffix.prefix) c.in-Some-strip_suffix.ensures.cases in
+    let prefix = c.in-Some-before_suffix.prefix.now in
+    let cut = c.in-Some-before_suffix.ensures in
     let is = cut ∙ ap (λ (k : List ℕ). prefix ++ k) some.2 in
     let orphan : (item t c.loop-link.at).parent ≡ None = sym some.1 ∙ c.in_default-parent.is in
     let root = at_root t c.loop-link.at prefix rest some.0 orphan is in
@@ -48,8 +45,8 @@ returns-then-is_empty-clause-named c =
     let t = region c.args.self in
     let rest = c.loop-link.rest.now in
     let some = c.in-Some.ensures.some in
-    let prefix = c.in-Some-strip_suffix.prefix.now in
-    let cut = strip_suffix_is Decides-eqb rest c.in-Some.link.key.now (Some c.in-Some-strip_suffix.prefix) c.in-Some-strip_suffix.ensures.cases in
+    let prefix = c.in-Some-before_suffix.prefix.now in
+    let cut = c.in-Some-before_suffix.ensures in
     let is = cut ∙ ap (λ (k : List ℕ). prefix ++ k) some.2 in
     let up : (item t c.loop-link.at).parent ≡ Some c.in-Some-parent.parent = sym some.1 ∙ c.in-Some-parent.is in
     let long = λ (h : HasName t c.loop-link.at rest). empty_key t c.loop-link.at c.in-Some-parent.parent prefix rest up is h in
@@ -61,8 +58,8 @@ loop-link-preserved c =
     let t = region c.args.self in
     let rest = c.loop-link.rest.now in
     let some = c.in-Some.ensures.some in
-    let prefix = c.in-Some-strip_suffix.prefix.now in
-    let cut = strip_suffix_is Decides-eqb rest c.in-Some.link.key.now (Some c.in-Some-strip_suffix.prefix) c.in-Some-strip_suffix.ensures.cases in
+    let prefix = c.in-Some-before_suffix.prefix.now in
+    let cut = c.in-Some-before_suffix.ensures in
     let is = cut ∙ ap (λ (k : List ℕ). prefix ++ k) some.2 in
     let up : (item t c.loop-link.at).parent ≡ Some c.in-Some-parent.parent = sym some.1 ∙ c.in-Some-parent.is in
     let long : 0 < length (key t c.loop-link.at) = subst (λ (k : List ℕ). 0 < length k) some.2 (long_key_test _ _ c.is_empty-in-loop-link.ensures c.if-is_empty.false) in
