@@ -3,3 +3,4 @@ pub mod LineParts
 pub mod ReadingLaws
 pub mod DumpParts
 pub mod DumpTexts
+pub mod PairSort

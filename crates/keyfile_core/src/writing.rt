@@ -35,9 +35,7 @@ pub fn write_rows(
 fn sort_rows(rows: &mut Vec<DumpRow<'_>>) -> Result<(), AllocError>
     ensures { OnOk result (map dump_meant rows.new.items ≡ in_groups (map dump_meant rows.old.items)) }
 {
-    rows.sort_by_key(|row| row.key)?;
-    rows.sort_by_key(|row| row.part)?;
-    Ok(())
+    rows.sort_by_key(|row| (row.part, row.key))
 }
 
 /// The text of rows that are in order.
