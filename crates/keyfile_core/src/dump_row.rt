@@ -1,5 +1,5 @@
 //! A row of a dump: a setting's path below the directory, cut at its last slash.
-ghost use Rattle.std.specs.Prelude.{◌≡◌, IfOk, IfErr, None, IsTrue, map, option_map, length, take, drop, ◌-◌, nat_eq};
+ghost use Rattle.std.specs.Prelude.{◌≡◌, IfOk, IfErr, IfNone, IfSome, None, IsTrue, map, option_map, length, take, drop, ◌-◌, nat_eq};
 ghost use Rattle.std.specs.List.{starts_with};
 ghost use Rattle.dconf_model.specs.Keyfiles.{first_row_fault, key_len};
 
@@ -20,7 +20,7 @@ pub(crate) struct DumpRow<'a> {
 }
 
 impl<'a> DumpRow<'a> {
-    ghost use Rattle.dconf_model.specs.Keyfiles.{row_fault};
+    ghost use Rattle.dconf_model.specs.Keyfiles.{group_name, is_group, row_fault};
     ghost use Rattle.keyfile_core.specs.DumpRows.{dump_meant};
     ghost use Rattle.keyfile_core.specs.RowsFaults.{rows_cause_of};
 
@@ -44,17 +44,30 @@ impl<'a> DumpRow<'a> {
         }
     }
 
-    /// Why the row could not be read again.
-    fn fault(self) -> Option<RowsCause>
-        ensures { option_map rows_cause_of result ≡ row_fault (dump_meant self.entry) }
+    /// Why the row could not be read again. What is known to be a group needn't be looked at: the part of the row before.
+    fn fault_after(self, before: Option<&str>) -> Option<RowsCause>
+        requires { IfSome before (λ part. IsTrue (is_group (group_name part.now))) }
+        ensures fault { option_map rows_cause_of result ≡ row_fault (dump_meant self.entry) }
+        ensures group { IfNone result (IsTrue (is_group (group_name self.entry.part.now))) }
     {
-        if !is_group(group_name(self.part)) {
+        if !self.has_group_after(before) {
             return Some(RowsCause::BadGroup);
         }
         if !is_readable_key(self.key) {
             return Some(RowsCause::BadKeyName);
         }
         None
+    }
+
+    /// Whether its part is a group.
+    fn has_group_after(self, before: Option<&str>) -> bool
+        requires { IfSome before (λ part. IsTrue (is_group (group_name part.now))) }
+        ensures { result ≡ is_group (group_name self.entry.part.now) }
+    {
+        match before {
+            Some(part) if part == self.part => true,
+            _ => is_group(group_name(self.part)),
+        }
     }
 }
 
@@ -73,12 +86,14 @@ pub(crate) fn rows_below<'a>(
     ensures fault { IfErr result (IsRowFault (first_row_fault 0 (map (row_below directory.entry.now) settings.entry.now))) }
 {
     let mut rows = Vec::new(alloc);
+    let mut before = None;
     for (at, (path, text)) in settings.iter().enumerate() {
         let path = path_below(path.as_str(), directory);
         let row = DumpRow::new(path, text.as_str());
-        if let Some(cause) = row.fault() {
+        if let Some(cause) = row.fault_after(before) {
             return Err(RowsFault::at(at, cause));
         }
+        before = Some(row.part);
         rows.push(row)?;
     }
     Ok(rows)

@@ -1,5 +1,6 @@
 use Rattle.std.proofs.Common.{◌≡◌, map, take, drop}
-use Rattle.dconf_model.specs.Keyfiles.{first_row_fault}
+use Rattle.std.specs.Prelude.{IfSome, IsTrue}
+use Rattle.dconf_model.specs.Keyfiles.{first_row_fault, group_name, is_group}
 use Rattle.keyfile_core.specs.DumpRows.{dump_meant, row_below}
 use Rattle.keyfile_core.proofs.dump_row.rows_below.Given as goal
 
@@ -7,4 +8,5 @@ abbrev pub invariant-loop-at : goal.invariant-loop-at
 invariant-loop-at l = record {
   rows : map dump_meant l.rows.items ≡ map (row_below l.directory) (take l.at l.settings);
   faultless : first_row_fault 0 (map (row_below l.directory) l.settings) ≡ first_row_fault l.at (map (row_below l.directory) (drop l.at l.settings));
+  group : IfSome l.before (λ part. IsTrue (is_group (group_name part.now)));
 }
