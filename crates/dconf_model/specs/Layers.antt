@@ -98,9 +98,10 @@ child_names l directory = listing (parts_below directory (all_paths l.layers))
 abbrev pub locks_below : Layers → List ℕ → List (List ℕ)
 locks_below l directory = listing (filter (λ lock. is_below lock directory) (all_locks (drop 1 l.layers)))
 
--- the paths below a directory that have a value
+-- whether a path has a value
 abbrev pub has_value : Layers → List ℕ → Bool
 has_value l path = is_some (visible_bytes l path)
 
+-- the paths below a directory that have a value
 abbrev pub paths_below : Layers → List ℕ → List (List ℕ)
 paths_below l directory = listing (filter (λ path. if is_below path directory then has_value l path else false) (all_paths l.layers))

@@ -124,10 +124,11 @@ abbrev pub keys_end : Entries → ℕ → ℕ → ℕ
 keys_end e at zero = at
 keys_end e at (suc i) = keys_end e at i + length (e.entry i).key
 
--- where the lists of so many items end, each at a multiple of 4
+-- how many bytes the list of an item takes
 abbrev pub list_size : Children → ℕ → ℕ
 list_size c i = 4 * (c.first (i + 1) - c.first i)
 
+-- where the lists of so many items end, each at a multiple of 4
 abbrev pub lists_end : Entries → Children → ℕ → ℕ → ℕ
 lists_end e c at zero = at
 lists_end e c at (suc i) =

@@ -26,10 +26,11 @@ use Rattle.dconf_model.specs.Changes.Change.{set_value, reset_value, reset_below
 
 -- ---- what the sources say of a path
 
--- the greatest index of a database, the first being 1, that has a lock which covers the path; else 0
+-- whether a lock of these covers the path
 abbrev pub locks_given : List ℕ → Given → Bool
 locks_given path g = list_any (λ lock. covers lock.path path) g.locks
 
+-- the greatest index of a database, the first being 1, that has a lock which covers the path; else 0
 abbrev pub level_given : ℕ → List Given → List ℕ → ℕ
 level_given from [] path = 0
 level_given from (g ∷ more) path =

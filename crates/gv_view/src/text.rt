@@ -83,7 +83,7 @@ pub(crate) fn around_last_zero(bytes: &[u8]) -> Option<(&[u8], &[u8])>
     Some((&bytes[..zero], &bytes[zero + 1..]))
 }
 
-/// The bytes as a text, if they are UTF-8. This is the one place where bytes become a text.
+/// The bytes as a text, if they are UTF-8.
 pub fn utf8_of(bytes: &[u8]) -> Option<&str>
     ensures { option_map (λ s. s.now) result ≡ utf8_of bytes.now }
 {

@@ -163,7 +163,7 @@ impl<'a> Table<'a> {
         self.follow(stored.kind, stored.start, stored.end)
     }
 
-    /// The bytes to which an item of this kind points: the one place where a pointer is followed. None where the pointer
+    /// The bytes to which an item of this kind points: the one place where one is followed to a content. None where it
     /// isn't valid.
     #[inline(always)]
     pub(crate) fn follow(self, kind: u8, start: u32, end: u32) -> Option<&'a [u8]>
