@@ -1,18 +1,16 @@
 -- The first part of a path, as it is cut, and the name that a path has in a directory.
 use Rattle.std.specs.Prelude.{IsTrue, string_bytes}
 use Rattle.std.proofs.Common.{◌≡◌, ◌+◌, ◌<◌, ◌||◌, ℕ, suc, Bool, true, false, cond, eqb, not, List, [], ◌∷◌, ◌++◌, length, take, drop, refl, sym, ap, ◌∙◌, arith}
-use Rattle.std.specs.BTreeSet.{contains_text, UpdatesBy}
 use Rattle.std.specs.Io.BufRead.{take_through}
 use Rattle.std.specs.List.{before_first, position_or_len, list_any}
 use Rattle.std.specs.Str.{bytes_eq}
-use Rattle.std.specs.String.{string_cmp}
 use Rattle.std.specs.declared.alloc.Global.{Global}
 use Rattle.std.specs.declared.string.String.{String}
 use Rattle.std.proofs.lemmas.Bool.{eqb-true}
 use Rattle.dconf_model.specs.Layers.{parts_below}
 use Rattle.dconf_model.specs.Locks.{is_below}
 use Rattle.dconf_model.specs.SoundLaws.{first_part}
-use Rattle.dconf_engine.specs.TextSets.{TextSet, Adds}
+use Rattle.dconf_engine.specs.TextSets.{TextSet, has_text, Adds}
 use Rattle.dconf_engine.proofs.TextSetLaws.{added}
 
 abbrev slash : ℕ → Bool
@@ -38,13 +36,13 @@ all_through (x ∷ xs) e = go (slash x) e (all_through xs)
     go false e later = ap (λ (l : List ℕ). x ∷ l) (later (omega (arith, e)))
 
 part_if : List ℕ → List ℕ → TextSet → List ℕ → Bool → Bool
-part_if d path set t below = list_any (bytes_eq t) (cond below (first_part (drop (length d) path) ∷ []) []) || contains_text set t
+part_if d path set t below = list_any (bytes_eq t) (cond below (first_part (drop (length d) path) ∷ []) []) || has_text set t
 
 pub no_part_added : (set : TextSet) (d path : List ℕ) → is_below path d ≡ false → Adds (parts_below d (path ∷ [])) set set
 unfolding part_if
 no_part_added set d path e t = sym (ap (part_if d path set t) e)
 
 pub part_added : (old new : TextSet) (d path : List ℕ) (key : String Global) → IsTrue (is_below path d) → string_bytes key ≡ first_part (drop (length d) path) →
-    UpdatesBy string_cmp (string_cmp key) old new true → Adds (parts_below d (path ∷ [])) old new
+    new.items ≡ old.items ++ key ∷ [] → Adds (parts_below d (path ∷ [])) old new
 unfolding part_if
-part_added old new d path key below named updates t = added old new key (first_part (drop (length d) path)) named updates t ∙ sym (ap (part_if d path old t) below)
+part_added old new d path key below named pushed t = added old new key (first_part (drop (length d) path)) named pushed t ∙ sym (ap (part_if d path old t) below)

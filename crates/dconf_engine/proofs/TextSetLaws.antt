@@ -1,17 +1,16 @@
--- Texts that are added to a set, and the set's texts in order.
+-- Texts that are gathered, and the same in order, once each.
 use Rattle.std.specs.Prelude.{IfOk, IsUtf8, filter, map, string_bytes}
-use Rattle.std.proofs.Common.{◌≡◌, ◌||◌, ◌++◌, ℕ, Bool, true, false, cond, List, [], ◌∷◌, ◌+◌, suc, length, drop, refl, sym, ap, ◌∙◌, arith, subst, Result, Ok, Err, Vec}
+use Rattle.std.proofs.Common.{◌≡◌, ◌||◌, ◌++◌, ℕ, Bool, true, false, cond, List, [], ◌∷◌, ◌+◌, suc, length, drop, refl, sym, ap, ◌∙◌, arith, subst, Result, Vec}
 use Rattle.std.specs.BTreeMap.{is_at}
-use Rattle.std.specs.BTreeSet.{BTreeSet, contains_text, UpdatesBy}
+use Rattle.std.specs.BTreeSet.{BTreeSet}
 use Rattle.std.specs.Cmp.Lexicographic.{slice_cmp}
 use Rattle.std.specs.List.{list_any}
-use Rattle.std.specs.List.{AllByRecursion}
-use Rattle.std.specs.List.Sorted.{IsStrictlySortedBy}
+use Rattle.std.specs.List.{dedup, dedup_from}
+use Rattle.std.specs.List.Sorted.{IsSorted, IsStable, IsStrictlySortedBy}
 use Rattle.std.specs.Ordering.{nat_cmp}
 use Rattle.std.specs.Str.{bytes_eq, is_utf8}
 use Rattle.std.specs.String.{string_cmp}
 use Rattle.std.specs.declared.alloc.Global.{Global}
-use Rattle.std.specs.declared.cmp.Ordering.TheVariants.{Less}
 use Rattle.std.specs.declared.string.String.{String}
 use Rattle.std.proofs.lemmas.Bool.{false_from_ne_true}
 use Rattle.std.proofs.lemmas.Cmp.{nat_list_cmp_total}
@@ -19,7 +18,9 @@ use Rattle.std.proofs.lemmas.List.Elements.{filter-append}
 use Rattle.std.proofs.lemmas.List.Folds.{list_any-append}
 use Rattle.std.proofs.lemmas.List.Kept.{IsStrictlySortedBy-dedup}
 use Rattle.std.proofs.lemmas.Map.Lookups.{btree_set_from_contains, exact_bytes}
-use Rattle.std.proofs.lemmas.Map.Text.{btree_set_updates_text, is_eq-slice_cmp}
+use Rattle.std.proofs.lemmas.Map.Text.{is_eq-slice_cmp}
+use Rattle.std.proofs.lemmas.List.{map-append}
+use Rattle.std.proofs.lemmas.Result.{IfOk-weaker}
 use Rattle.std.proofs.lemmas.Str.{is_utf8-from_IsUtf8, IsUtf8-from_is_utf8}
 use Rattle.dconf_model.specs.Databases.{gathered}
 use Rattle.dconf_model.specs.Layers.{parts_below}
@@ -27,22 +28,26 @@ use Rattle.dconf_model.specs.Locks.{is_below}
 use Rattle.dconf_model.specs.Order.{in_order, listing}
 use Rattle.dconf_model.specs.SoundLaws.{first_part}
 use Rattle.dconf_model.proofs.ListingOrder.{listing_is_once_each}
+use Rattle.dconf_model.proofs.OneSortedList.{in_order-map, sorted_is_in_order}
 use Rattle.dconf_model.proofs.OrderLaws.{order_is_stable}
-use Rattle.dconf_model.proofs.PathMaps.{eq_turned, or_swap}
-use Rattle.dconf_engine.specs.TextSets.{TextSet, is_in, Adds}
+use Rattle.dconf_model.proofs.PathMaps.{or_swap}
+use Rattle.dconf_engine.specs.TextSets.{TextSet, has_text, is_in, Adds}
 
 -- ---- one text
 
-first_or : (b c : Bool) → cond b true c ≡ ((b || false) || c)
-first_or true c = refl
-first_or false c = refl
+or_turned : (b c : Bool) → (b || c) ≡ (c || b)
+or_turned true true = refl
+or_turned true false = refl
+or_turned false true = refl
+or_turned false false = refl
 
-pub added : (old new : TextSet) (key : String Global) (text : List ℕ) → string_bytes key ≡ text → UpdatesBy string_cmp (string_cmp key) old new true → Adds (text ∷ []) old new
-added old new key text named updates t =
-    btree_set_updates_text (string_bytes key) old new true updates t
-    ∙ ap (λ (p : List ℕ). cond (bytes_eq p t) true (contains_text old t)) named
-    ∙ ap (λ b. cond b true (contains_text old t)) (eq_turned text t)
-    ∙ first_or (bytes_eq t text) (contains_text old t)
+pub added : (old new : TextSet) (key : String Global) (text : List ℕ) → string_bytes key ≡ text → new.items ≡ old.items ++ key ∷ [] → Adds (text ∷ []) old new
+added old new key text named pushed t =
+    ap (λ (ks : List (String Global)). list_any (bytes_eq t) (map string_bytes ks)) pushed
+    ∙ ap (list_any (bytes_eq t)) (map-append string_bytes old.items (key ∷ []))
+    ∙ list_any-append (bytes_eq t) (map string_bytes old.items) (string_bytes key ∷ [])
+    ∙ ap (λ (p : List ℕ). has_text old t || list_any (bytes_eq t) (p ∷ [])) named
+    ∙ or_turned (has_text old t) (list_any (bytes_eq t) (text ∷ []))
 
 pub adds_nothing : (set : TextSet) → Adds [] set set
 adds_nothing set t = refl
@@ -52,15 +57,15 @@ adds_nothing set t = refl
 -- what is left to add after some
 pub rest_after : (xs rest : List (List ℕ)) (a b : TextSet) (t : List ℕ) → Adds xs a b → is_in rest b t ≡ is_in (xs ++ rest) a t
 rest_after xs rest a b t h =
-    ap (λ c. list_any (bytes_eq t) rest || c) (h t) ∙ (or_swap (list_any (bytes_eq t) xs) (list_any (bytes_eq t) rest) (contains_text a t)
-    ∙ ap (λ c. c || contains_text a t) (sym (list_any-append (bytes_eq t) xs rest)))
+    ap (λ c. list_any (bytes_eq t) rest || c) (h t) ∙ (or_swap (list_any (bytes_eq t) xs) (list_any (bytes_eq t) rest) (has_text a t)
+    ∙ ap (λ c. c || has_text a t) (sym (list_any-append (bytes_eq t) xs rest)))
 
 pub adds_more : (xs ys : List (List ℕ)) (a b c : TextSet) → Adds xs a b → Adds ys b c → Adds (xs ++ ys) a c
 adds_more xs ys a b c first second t = second t ∙ rest_after xs ys a b t first
 
 -- other lists of the same texts
 pub adds_alike : (xs ys : List (List ℕ)) (a b : TextSet) → ((t : List ℕ) → list_any (bytes_eq t) xs ≡ list_any (bytes_eq t) ys) → Adds xs a b → Adds ys a b
-adds_alike xs ys a b same h t = h t ∙ ap (λ c. c || contains_text a t) (same t)
+adds_alike xs ys a b same h t = h t ∙ ap (λ c. c || has_text a t) (same t)
 
 -- ---- in turns
 
@@ -97,50 +102,53 @@ at_text : (t : List ℕ) (xs : List (List ℕ)) → list_any (is_at (slice_cmp n
 at_text t [] = refl
 at_text t (x ∷ xs) = ap (λ b. b || list_any (is_at (slice_cmp nat_cmp t)) xs) (is_eq-slice_cmp t x) ∙ ap (λ b. bytes_eq t x || b) (at_text t xs)
 
-at_bytes : (t : List ℕ) (ks : List (String Global)) → list_any (is_at (slice_cmp nat_cmp t)) (map string_bytes ks) ≡ list_any (is_at (λ k. slice_cmp nat_cmp t (string_bytes k))) ks
-at_bytes t [] = refl
-at_bytes t (k ∷ ks) = ap (λ b. is_at (slice_cmp nat_cmp t) (string_bytes k) || b) (at_bytes t ks)
-
-below_bytes : (k : String Global) (ks : List (String Global)) → AllByRecursion (λ y. string_cmp k y ≡ Less) ks → AllByRecursion (λ y. slice_cmp nat_cmp (string_bytes k) y ≡ Less) (map string_bytes ks)
-below_bytes k [] h = tt
-below_bytes k (x ∷ ks) h = (h.0, below_bytes k ks h.1)
-
-sorted_bytes : (ks : List (String Global)) → IsStrictlySortedBy string_cmp ks → IsStrictlySortedBy (slice_cmp nat_cmp) (map string_bytes ks)
-unfolding IsStrictlySortedBy
-sorted_bytes [] h = tt
-sorted_bytes (k ∷ ks) h = (below_bytes k ks h.0, sorted_bytes ks h.1)
-
 sorted_listing : (texts : List (List ℕ)) → IsStrictlySortedBy (slice_cmp nat_cmp) (listing texts)
 sorted_listing texts =
     IsStrictlySortedBy-dedup nat_list_cmp_total (λ x y. sym (is_eq-slice_cmp x y)) (in_order (λ t. t) texts) ((order_is_stable (λ (t : List ℕ). t) texts).sorted)
 
-pub is_listing : (set : TextSet) (ks : List (String Global)) (texts : List (List ℕ)) → ks ≡ set.keys → IsStrictlySortedBy string_cmp ks →
-    ((t : List ℕ) → contains_text set t ≡ list_any (bytes_eq t) texts) → map string_bytes ks ≡ listing texts
-is_listing set ks texts keys order same =
-    let own : BTreeSet (List ℕ) = record { keys = map string_bytes ks } in
-    let wanted : BTreeSet (List ℕ) = record { keys = listing texts } in
-    btree_set_from_contains nat_list_cmp_total own wanted (sorted_bytes ks order) (sorted_listing texts)
-    (λ t. at_bytes t ks
-    ∙ (ap (λ (l : List (String Global)). list_any (is_at (λ k. slice_cmp nat_cmp t (string_bytes k))) l) keys
-    ∙ (same t ∙ (sym ((listing_is_once_each texts).same t) ∙ sym (at_text t (listing texts))))))
+listing_alike : (xs ys : List (List ℕ)) → ((t : List ℕ) → list_any (bytes_eq t) xs ≡ list_any (bytes_eq t) ys) → listing xs ≡ listing ys
+listing_alike xs ys same =
+    let one : BTreeSet (List ℕ) = record { keys = listing xs } in
+    let other : BTreeSet (List ℕ) = record { keys = listing ys } in
+    btree_set_from_contains nat_list_cmp_total one other (sorted_listing xs) (sorted_listing ys)
+    (λ t. at_text t (listing xs) ∙ ((listing_is_once_each xs).same t ∙ (same t ∙ (sym ((listing_is_once_each ys).same t) ∙ sym (at_text t (listing ys))))))
     exact_bytes
 
--- a set to which texts were added that was empty
-pub listed_from : (empty set : TextSet) (ks : List (String Global)) (texts : List (List ℕ)) → empty.keys ≡ [] → Adds texts empty set → ks ≡ set.keys → IsStrictlySortedBy string_cmp ks →
-    map string_bytes ks ≡ listing texts
-listed_from empty set ks texts none adds keys order =
-    is_listing set ks texts keys order (λ t. adds t
-    ∙ (ap (λ (l : List (String Global)). list_any (bytes_eq t) texts || list_any (is_at (λ k. slice_cmp nat_cmp t (string_bytes k))) l) none ∙ or_none (list_any (bytes_eq t) texts)))
+abbrev same_text : String Global → String Global → Bool
+same_text x y = bytes_eq (string_bytes x) (string_bytes y)
+
+deduped_from : (k : String Global) (ks : List (String Global)) → map string_bytes (dedup_from same_text k ks) ≡ dedup_from bytes_eq (string_bytes k) (map string_bytes ks)
+deduped_from k [] = refl
+deduped_from k (x ∷ ks) = go (bytes_eq (string_bytes x) (string_bytes k)) refl (deduped_from k ks) (deduped_from x ks)
+  where
+    go : (b : Bool) → bytes_eq (string_bytes x) (string_bytes k) ≡ b → map string_bytes (dedup_from same_text k ks) ≡ dedup_from bytes_eq (string_bytes k) (map string_bytes ks)
+        → map string_bytes (dedup_from same_text x ks) ≡ dedup_from bytes_eq (string_bytes x) (map string_bytes ks)
+        → map string_bytes (dedup_from same_text k (x ∷ ks)) ≡ dedup_from bytes_eq (string_bytes k) (map string_bytes (x ∷ ks))
+    go true e kept later = rw e kept
+    go false e kept later = rw e (ap (λ (l : List (List ℕ)). string_bytes k ∷ l) later)
+
+deduped : (ks : List (String Global)) → map string_bytes (dedup same_text ks) ≡ dedup bytes_eq (map string_bytes ks)
+deduped [] = refl
+deduped (k ∷ ks) = deduped_from k ks
+
+-- sorted, and without what comes again
+pub listed : (texts sorted kept : List (String Global)) → IsSorted string_cmp sorted → IsStable string_cmp texts sorted → kept ≡ dedup same_text sorted →
+    map string_bytes kept ≡ listing (map string_bytes texts)
+listed texts sorted kept up keeps is =
+    ap (map string_bytes) is ∙ (deduped sorted
+    ∙ ap (dedup bytes_eq) (ap (map string_bytes) (sorted_is_in_order string_bytes texts sorted up keeps) ∙ in_order-map string_bytes (λ t. t) texts))
+
+-- texts that were gathered where there were none
+pub listing_given : {E : Type 0} (none all : TextSet) (texts : List (List ℕ)) (r : Result (Vec (String Global) Global) E) → none.items ≡ [] → Adds texts none all →
+    IfOk r (λ v. map string_bytes v.items ≡ listing (map string_bytes all.items)) → IfOk r (λ v. map string_bytes v.items ≡ listing texts)
+listing_given none all texts r empty adds given = IfOk-weaker r _ _ (λ v e. e ∙ listing_alike (map string_bytes all.items) texts same) given
   where
     or_none : (b : Bool) → (b || false) ≡ b
     or_none true = refl
     or_none false = refl
 
--- the texts of such a set, where there was memory for them
-pub listing_given : {E : Type 0} (empty set : TextSet) (texts : List (List ℕ)) (r : Result (Vec (String Global) Global) E) → empty.keys ≡ [] → Adds texts empty set →
-    IfOk r (λ v. v.items ≡ set.keys) → IfOk r (λ v. IsStrictlySortedBy string_cmp v.items) → IfOk r (λ v. map string_bytes v.items ≡ listing texts)
-listing_given empty set texts (Ok v) none adds keys order = listed_from empty set v.items texts none adds keys order
-listing_given empty set texts (Err e) none adds keys order = tt
+    same : (t : List ℕ) → list_any (bytes_eq t) (map string_bytes all.items) ≡ list_any (bytes_eq t) texts
+    same t = adds t ∙ (ap (λ (ks : List (String Global)). list_any (bytes_eq t) texts || list_any (bytes_eq t) (map string_bytes ks)) empty ∙ or_none (list_any (bytes_eq t) texts))
 
 -- ---- texts among keys
 

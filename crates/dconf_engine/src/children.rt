@@ -1,25 +1,19 @@
-//! Texts that are added to a set, and the name of a path in a directory.
-ghost use Rattle.std.specs.Prelude.{◌≡◌, [], ◌∷◌, IfOk, OnOk, map};
-ghost use Rattle.std.specs.List.Sorted.{IsStrictlySortedBy};
-ghost use Rattle.std.specs.String.{string_bytes, string_cmp};
+//! Texts that are gathered, and the name of a path in a directory.
+ghost use Rattle.std.specs.Prelude.{◌≡◌, [], ◌∷◌, IfOk, OnOk, map, string_bytes};
 ghost use Rattle.dconf_model.specs.Layers.{parts_below};
+ghost use Rattle.dconf_model.specs.Order.{listing};
 ghost use Rattle.dconf_model.specs.SoundLaws.{first_part};
 ghost use Rattle.dconf_engine.specs.TextSets.{Adds};
 
 use std::alloc::{AllocError, Global};
-use std::collections::BTreeSet;
 
 /// Adds a text.
 ///
 /// An error comes where a growth is refused.
-pub(crate) fn add_text(
-    alloc: Global,
-    text: &str,
-    texts: &mut BTreeSet<String>,
-) -> Result<(), AllocError>
+pub(crate) fn add_text(alloc: Global, text: &str, texts: &mut Vec<String>) -> Result<(), AllocError>
     ensures { OnOk result (Adds (text.now ∷ []) texts.old texts.new) }
 {
-    texts.insert(String::from_str(alloc, text)?)?;
+    texts.push(String::from_str(alloc, text)?)?;
     Ok(())
 }
 
@@ -30,14 +24,14 @@ pub(crate) fn add_child(
     alloc: Global,
     directory: &str,
     path: &str,
-    names: &mut BTreeSet<String>,
+    names: &mut Vec<String>,
 ) -> Result<(), AllocError>
     ensures { OnOk result (Adds (parts_below directory.now (path.now ∷ [])) names.old names.new) }
 {
     let Some(rest) = path.strip_prefix(directory) else {
         return Ok(());
     };
-    names.insert(first_part_of(alloc, rest)?)?;
+    names.push(first_part_of(alloc, rest)?)?;
     Ok(())
 }
 
@@ -55,10 +49,13 @@ fn first_part_of(alloc: Global, rest: &str) -> Result<String, AllocError>
     }
 }
 
-/// The texts of a set, in the order of their bytes.
-pub(crate) fn texts_of(alloc: Global, texts: BTreeSet<String>) -> Result<Vec<String>, AllocError>
-    ensures texts { IfOk result (λ list. list.items ≡ texts.keys) }
-    ensures order { IfOk result (λ list. IsStrictlySortedBy string_cmp list.items) }
+/// The texts in the order of their bytes, once each.
+///
+/// An error comes where a growth is refused. Those that come in order are compared once, each with the next.
+pub(crate) fn texts_of(mut texts: Vec<String>) -> Result<Vec<String>, AllocError>
+    ensures { IfOk result (λ list. map string_bytes list.items ≡ listing (map string_bytes texts.items)) }
 {
-    texts.into_iter().collect(alloc)
+    texts.sort()?;
+    texts.dedup();
+    Ok(texts)
 }

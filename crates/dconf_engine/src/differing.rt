@@ -18,7 +18,6 @@ use crate::same_values::show_same;
 use dconf_path::KeyPath;
 use gv_view::View;
 use std::alloc::{AllocError, Global};
-use std::collections::BTreeSet;
 
 impl<'a, 'l> LentLayers<'a, 'l> {
     ghost use Rattle.dconf_engine.specs.LentSettings.{seen_in};
@@ -39,14 +38,14 @@ impl<'a, 'l> LentLayers<'a, 'l> {
         ensures { IfOk result (λ paths. AreDiffering (seen_in self.entry) (seen_in other.entry)
             (first_keys count (seen_in self.entry) ++ first_keys count (seen_in other.entry)) (map string_bytes paths.items)) }
     {
-        let mut paths = BTreeSet::new(alloc);
+        let mut paths = Vec::new(alloc);
         let pair = Pair {
             first: self,
             second: other,
         };
         pair.add_layers(alloc, self.prefix(count), &mut paths)?;
         pair.add_layers(alloc, other.prefix(count), &mut paths)?;
-        texts_of(alloc, paths)
+        texts_of(paths)
     }
 }
 
@@ -65,7 +64,7 @@ impl<'a, 'l> Pair<'a, 'l> {
         self,
         alloc: Global,
         layers: LentLayers<'_, '_>,
-        paths: &mut BTreeSet<String>,
+        paths: &mut Vec<String>,
     ) -> Result<(), AllocError>
         ensures { OnOk result (Adds (filter (differs (seen_in self.entry.first) (seen_in self.entry.second)) (all_paths (seen_in layers.entry).layers)) paths.old paths.new) }
     {
@@ -80,7 +79,7 @@ impl<'a, 'l> Pair<'a, 'l> {
         self,
         alloc: Global,
         layer: Layer<'_>,
-        paths: &mut BTreeSet<String>,
+        paths: &mut Vec<String>,
     ) -> Result<(), AllocError>
         ensures { OnOk result (Adds (filter (differs (seen_in self.entry.first) (seen_in self.entry.second)) (keys (settings_of layer.entry).values)) paths.old paths.new) }
     {
@@ -96,7 +95,7 @@ impl<'a, 'l> Pair<'a, 'l> {
         alloc: Global,
         layer: Layer<'_>,
         i: u32,
-        paths: &mut BTreeSet<String>,
+        paths: &mut Vec<String>,
     ) -> Result<(), AllocError>
         ensures { OnOk result (Adds (filter (is_other (settings_of layer.entry).values (seen_in self.entry.first) (seen_in self.entry.second)) (key_name_at layer.entry i)) paths.old paths.new) }
     {
@@ -115,7 +114,7 @@ impl<'a, 'l> Pair<'a, 'l> {
         alloc: Global,
         layer: Layer<'_>,
         text: &str,
-        paths: &mut BTreeSet<String>,
+        paths: &mut Vec<String>,
     ) -> Result<(), AllocError>
         ensures { OnOk result (Adds (filter (is_other (settings_of layer.entry).values (seen_in self.entry.first) (seen_in self.entry.second)) (key_name (Some text.now))) paths.old paths.new) }
     {

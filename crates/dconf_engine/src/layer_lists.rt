@@ -18,7 +18,6 @@ use crate::layer::Layer;
 use dconf_path::{DirPath, LockPath};
 use gvdb_read::{Names, Table};
 use std::alloc::{AllocError, Global};
-use std::collections::BTreeSet;
 
 impl<'a> Layer<'a> {
     ghost use Rattle.dconf_engine.specs.LayerSettings.{locks_of, settings_of};
@@ -32,7 +31,7 @@ impl<'a> Layer<'a> {
         self,
         alloc: Global,
         directory: DirPath<'_>,
-        names: &mut BTreeSet<String>,
+        names: &mut Vec<String>,
     ) -> Result<(), AllocError>
         ensures { OnOk result (Adds (parts_below (directory_text directory.entry) (keys (settings_of self.entry).values)) names.old names.new) }
     {
@@ -51,7 +50,7 @@ impl<'a> Layer<'a> {
         self,
         alloc: Global,
         directory: DirPath<'_>,
-        paths: &mut BTreeSet<String>,
+        paths: &mut Vec<String>,
     ) -> Result<(), AllocError>
         ensures { OnOk result (Adds (locks_under (directory_text directory.entry) (keys (settings_of self.entry).locks)) paths.old paths.new) }
     {
@@ -67,7 +66,7 @@ impl<'a> Layer<'a> {
         alloc: Global,
         i: u32,
         directory: DirPath<'_>,
-        paths: &mut BTreeSet<String>,
+        paths: &mut Vec<String>,
     ) -> Result<(), AllocError>
         ensures { OnOk result (Adds (locks_under (directory_text directory.entry) (lock_name_at (locks_of self.entry) i)) paths.old paths.new) }
     {
@@ -114,7 +113,7 @@ fn add_if_lock(
     alloc: Global,
     text: &str,
     directory: DirPath<'_>,
-    paths: &mut BTreeSet<String>,
+    paths: &mut Vec<String>,
 ) -> Result<(), AllocError>
     ensures { OnOk result (Adds (locks_under (directory_text directory.entry) (lock_name (Some text.now))) paths.old paths.new) }
 {
@@ -146,11 +145,7 @@ pub(crate) fn is_under(path: &str, directory: DirPath<'_>) -> bool
 }
 
 /// Adds the keys that a list names, those that are texts.
-fn add_keys(
-    alloc: Global,
-    listed: Names<'_>,
-    names: &mut BTreeSet<String>,
-) -> Result<(), AllocError>
+fn add_keys(alloc: Global, listed: Names<'_>, names: &mut Vec<String>) -> Result<(), AllocError>
     ensures { OnOk result (Adds (filter is_utf8 (names_left listed.entry)) names.old names.new) }
 {
     for key in listed {
@@ -160,7 +155,7 @@ fn add_keys(
 }
 
 /// Adds a key, if it is a text.
-fn add_key(alloc: Global, key: &[u8], names: &mut BTreeSet<String>) -> Result<(), AllocError>
+fn add_key(alloc: Global, key: &[u8], names: &mut Vec<String>) -> Result<(), AllocError>
     ensures { OnOk result (Adds (filter is_utf8 (key.now ∷ [])) names.old names.new) }
 {
     match str::from_utf8(key) {

@@ -17,7 +17,6 @@ use crate::layer::Layer;
 use crate::layer_lists::is_under;
 use dconf_path::{DirPath, KeyPath};
 use std::alloc::{AllocError, Global};
-use std::collections::BTreeSet;
 
 /// Adds the names of what a directory has in a layer, with the changes.
 ///
@@ -28,7 +27,7 @@ pub(crate) fn add_with_changes(
     layer: Layer<'_>,
     changes: &Changes,
     directory: DirPath<'_>,
-    names: &mut BTreeSet<String>,
+    names: &mut Vec<String>,
 ) -> Result<(), AllocError>
     ensures { OnOk result (Adds (parts_below (directory_text directory.entry) (keys (with_changes changes.now (settings_of layer.entry).values))) names.old names.new) }
 {
@@ -42,7 +41,7 @@ fn add_file(
     layer: Layer<'_>,
     changes: &Changes,
     directory: DirPath<'_>,
-    names: &mut BTreeSet<String>,
+    names: &mut Vec<String>,
 ) -> Result<(), AllocError>
     ensures { OnOk result (Adds (parts_below (directory_text directory.entry) (base_paths (directory_text directory.entry) changes.now layer.entry)) names.old names.new) }
 {
@@ -59,7 +58,7 @@ fn add_unchanged(
     layer: Layer<'_>,
     changes: &Changes,
     directory: DirPath<'_>,
-    names: &mut BTreeSet<String>,
+    names: &mut Vec<String>,
 ) -> Result<(), AllocError>
     ensures { OnOk result (Adds (left_parts (directory_text directory.entry) (settings_of layer.entry).values changes.now (key_names layer.entry (items_of layer.entry))) names.old names.new) }
 {
@@ -76,7 +75,7 @@ fn add_item(
     i: u32,
     changes: &Changes,
     directory: DirPath<'_>,
-    names: &mut BTreeSet<String>,
+    names: &mut Vec<String>,
 ) -> Result<(), AllocError>
     ensures { OnOk result (Adds (left_parts (directory_text directory.entry) (settings_of layer.entry).values changes.now (key_name_at layer.entry i)) names.old names.new) }
 {
@@ -96,7 +95,7 @@ fn add_if_left(
     text: &str,
     changes: &Changes,
     directory: DirPath<'_>,
-    names: &mut BTreeSet<String>,
+    names: &mut Vec<String>,
 ) -> Result<(), AllocError>
     ensures { OnOk result (Adds (left_parts (directory_text directory.entry) (settings_of layer.entry).values changes.now (key_name (Some text.now))) names.old names.new) }
 {
@@ -139,7 +138,7 @@ fn add_sets(
     alloc: Global,
     changes: &Changes,
     directory: DirPath<'_>,
-    names: &mut BTreeSet<String>,
+    names: &mut Vec<String>,
 ) -> Result<(), AllocError>
     ensures { OnOk result (Adds (parts_below (directory_text directory.entry) (set_paths (entries changes.now))) names.old names.new) }
 {
@@ -154,7 +153,7 @@ fn add_set(
     alloc: Global,
     change: Changed<'_>,
     directory: DirPath<'_>,
-    names: &mut BTreeSet<String>,
+    names: &mut Vec<String>,
 ) -> Result<(), AllocError>
     ensures { OnOk result (Adds (parts_below (directory_text directory.entry) (path_if_set (change_of change.entry).0 (change_of change.entry).1)) names.old names.new) }
 {

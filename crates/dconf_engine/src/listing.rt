@@ -12,7 +12,6 @@ use crate::engine::Engine;
 use crate::left::add_with_changes;
 use dconf_path::DirPath;
 use std::alloc::{AllocError, Global};
-use std::collections::BTreeSet;
 
 impl<'a> Engine<'a> {
     // ---- children
@@ -26,9 +25,9 @@ impl<'a> Engine<'a> {
     pub fn list(&self, alloc: Global, directory: DirPath<'_>) -> Result<Vec<String>, AllocError>
         ensures { IfOk result (λ names. map string_bytes names.items ≡ child_names self.now (directory_text directory.entry)) }
     {
-        let mut names = BTreeSet::new(alloc);
+        let mut names = Vec::new(alloc);
         self.add_children(alloc, directory, &mut names)?;
-        texts_of(alloc, names)
+        texts_of(names)
     }
 
     /// Adds the names of what a directory has in any layer.
@@ -36,7 +35,7 @@ impl<'a> Engine<'a> {
         &self,
         alloc: Global,
         directory: DirPath<'_>,
-        names: &mut BTreeSet<String>,
+        names: &mut Vec<String>,
     ) -> Result<(), AllocError>
         ensures { OnOk result (Adds (parts_below (directory_text directory.entry) (all_paths self.now.layers)) names.old names.new) }
     {
@@ -52,7 +51,7 @@ impl<'a> Engine<'a> {
         alloc: Global,
         i: usize,
         directory: DirPath<'_>,
-        names: &mut BTreeSet<String>,
+        names: &mut Vec<String>,
     ) -> Result<(), AllocError>
         requires { i < length self.now.layers }
         ensures { OnOk result (Adds (parts_below (directory_text directory.entry) (keys (slice_index_or self.now.layers i no_settings).values)) names.old names.new) }
@@ -72,9 +71,9 @@ impl<'a> Engine<'a> {
     pub fn locks(&self, alloc: Global, directory: DirPath<'_>) -> Result<Vec<String>, AllocError>
         ensures { IfOk result (λ paths. map string_bytes paths.items ≡ locks_below self.now (directory_text directory.entry)) }
     {
-        let mut paths = BTreeSet::new(alloc);
+        let mut paths = Vec::new(alloc);
         self.add_locks(alloc, directory, &mut paths)?;
-        texts_of(alloc, paths)
+        texts_of(paths)
     }
 
     /// Adds the paths of the locks of the layers from the second on that start with a directory.
@@ -82,7 +81,7 @@ impl<'a> Engine<'a> {
         &self,
         alloc: Global,
         directory: DirPath<'_>,
-        paths: &mut BTreeSet<String>,
+        paths: &mut Vec<String>,
     ) -> Result<(), AllocError>
         ensures { OnOk result (Adds (locks_under (directory_text directory.entry) (all_locks (drop 1 self.now.layers))) paths.old paths.new) }
     {
@@ -98,7 +97,7 @@ impl<'a> Engine<'a> {
         alloc: Global,
         i: usize,
         directory: DirPath<'_>,
-        paths: &mut BTreeSet<String>,
+        paths: &mut Vec<String>,
     ) -> Result<(), AllocError>
         requires { i < length self.now.layers }
         ensures { OnOk result (Adds (locks_under (directory_text directory.entry) (keys (slice_index_or self.now.layers i no_settings).locks)) paths.old paths.new) }

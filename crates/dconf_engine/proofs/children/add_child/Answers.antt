@@ -22,4 +22,4 @@ returns c =
     let cut : path ≡ directory ++ drop h.0 path = h.1.1 in
     let starts = (starts_is Decides-eqb path directory (is_below path directory) refl).1 (drop h.0 path) cut in
     let rest : c.in-Some.rest.now ≡ drop (length directory) path = h.2 ∙ ap (λ n. drop n path) h.1.0 in
-    part_added c.args.names.now c.insert.new.self directory path c.in_ok-first_part_of.field-0 starts (c.in_ok-first_part_of.ensures ∙ ap first_part rest) c.in_ok-insert.ensures.updates
+    part_added c.args.names.now c.push.new.self directory path c.in_ok-first_part_of.field-0 starts (c.in_ok-first_part_of.ensures ∙ ap first_part rest) c.in_ok-push.ensures.items

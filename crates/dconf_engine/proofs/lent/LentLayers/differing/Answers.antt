@@ -20,8 +20,8 @@ returns c =
     IfOk-weaker c.texts_of.result (λ v. map string_bytes v.items ≡ listing (filter f (ps ++ qs))) (λ v. AreDiffering l m (ps ++ qs) (map string_bytes v.items))
     (λ v e. are_differing l m (ps ++ qs) (map string_bytes v.items) e)
     (listing_given c.new-paths.result c.add_layers-2.new.paths (filter f (ps ++ qs)) c.texts_of.result
-    c.new-paths.ensures.empty
-    (both_added f ps qs _ _ _
+    c.new-paths.ensures.items
+    (both_added f ps qs c.new-paths.result c.add_layers.new.paths c.add_layers-2.new.paths
     (subst (λ ss. Adds (filter f (all_paths ss)) c.new-paths.result c.add_layers.new.paths) c.prefix.ensures c.in_ok-add_layers.ensures)
     (subst (λ ss. Adds (filter f (all_paths ss)) c.add_layers.new.paths c.add_layers-2.new.paths) c.prefix-2.ensures c.in_ok-add_layers-2.ensures))
-    c.texts_of.ensures.texts c.texts_of.ensures.order)
+    c.texts_of.ensures)
