@@ -1,8 +1,9 @@
 //! The keys below a directory, by a walk over the names that directories have. Directories may lie tens of thousands deep, so the
 //! walk has a list of its own.
-ghost use Rattle.std.specs.Prelude.{◌≡◌, ◌++◌, ◌+◌, ◌<◌, IfOk, OnOk, flat_map, map, reverse, string_bytes};
+ghost use Rattle.std.specs.Prelude.{◌≡◌, ◌++◌, ◌+◌, ◌<◌, IfNone, IfOk, IfSome, IsTrue, OnOk, false, flat_map, map, reverse, string_bytes};
 ghost use Rattle.std.specs.List.{sum_by};
 ghost use Rattle.dconf_model.specs.Layers.{all_paths};
+ghost use Rattle.dconf_model.specs.Paths.{is_directory_path};
 ghost use Rattle.dconf_model.specs.Walks.{AreKeyPaths, keys_at, keys_below, places_in, work_at};
 ghost use Rattle.dconf_path.specs.Paths.{directory_text};
 
@@ -45,12 +46,26 @@ fn visit(
     ensures less { OnOk result (sum_by (work_at (all_paths engine.entry.now.layers)) (map string_bytes waiting.new.items)
         < sum_by (work_at (all_paths engine.entry.now.layers)) (map string_bytes waiting.old.items) + work_at (all_paths engine.entry.now.layers) (string_bytes place)) }
 {
-    match DirPath::parse(place.as_str()) {
-        Ok(directory) => push_places(alloc, engine, directory, waiting),
-        Err(_) => {
+    match directory_at(place.as_str()) {
+        Some(directory) => push_places(alloc, engine, directory, waiting),
+        None => {
             keys.push(place)?;
             Ok(())
         }
+    }
+}
+
+/// The directory that a place is, if it is one. Of a key's path it looks at the last byte alone.
+fn directory_at(place: &str) -> Option<DirPath<'_>>
+    ensures some { IfSome result (λ directory. (directory_text directory ≡ place.entry.now) × IsTrue (is_directory_path place.entry.now)) }
+    ensures none { IfNone result (is_directory_path place.entry.now ≡ false) }
+{
+    if !place.ends_with("/") {
+        return None;
+    }
+    match DirPath::parse(place) {
+        Ok(directory) => Some(directory),
+        Err(_) => None,
     }
 }
 
