@@ -157,9 +157,9 @@ impl Table<'_> {
         self.check_each(Rule::Hash)
     }
 
-    /// Asks S10. Where each list ascends, by number or by key, and all of them together hold as many numbers as they should, it
-    /// looks at each item and at each number once. Else it looks at each item once for each list, and compares
-    /// each number of a list with its children and with the numbers before it.
+    /// Asks S10. Where no list is seen to hold a number twice, and all of them together hold as many numbers as they should, it looks
+    /// at each item once, and at each number once or for each 32,768 items. Else it looks at each item once for each list, and
+    /// compares each number of a list with its children and with the numbers before it.
     fn check_lists(self) -> Result<(), Unsound>
         requires earlier { KeepsBelow (region self) 10 }
         ensures kept { IfOk result (λ _. KeepsBelow (region self.entry) 11) }

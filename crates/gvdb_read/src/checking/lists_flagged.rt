@@ -17,6 +17,7 @@ impl Table<'_> {
 
     /// Whether no number is seen to occur twice in the list. Where they rise it looks at each once, and else once for each
     /// 32,768 items of the table.
+    #[inline(always)]
     pub(super) fn is_once(self, i: u32) -> bool
         requires counted { i < item_count (region self) }
         requires valid { HasBytes (region self) i }
