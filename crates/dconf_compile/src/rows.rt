@@ -14,14 +14,20 @@ use gvdb_write::Map;
 use keyfile_core::Row;
 use std::alloc::{AllocError, Global};
 
-/// Puts a row's value into a map, in the place of the one that its path had.
-pub(crate) fn add_row(alloc: Global, row: &Row<'_>, settings: &mut Map) -> Result<(), CompileCause>
+/// Puts a row's value into a map, in the place of the one that its path had. The path is written
+/// over a text, so that many rows need room for one path.
+pub(crate) fn add_row(
+    alloc: Global,
+    row: &Row<'_>,
+    path: &mut String,
+    settings: &mut Map,
+) -> Result<(), CompileCause>
     requires { IsReadRow (row_meant row.now) }
     ensures added { OnOk result (AddsRow (row_compiled (row_meant row.now)) settings.old settings.new) }
     ensures fault { IfErr result (λ cause. IfSome (cause_of cause) (λ c. row_compiled (row_meant row.now) ≡ wrong c)) }
 {
-    let path = path_of(alloc, "/", row)?;
-    match KeyPath::parse(&path) {
+    write_path("/", row, path)?;
+    match KeyPath::parse(path.as_str()) {
         Ok(path) => {
             let value = stored(alloc, row.text)?;
             settings.insert_owned(path, value)?;
@@ -36,13 +42,27 @@ pub(crate) fn add_row(alloc: Global, row: &Row<'_>, settings: &mut Map) -> Resul
 pub(crate) fn path_of(alloc: Global, directory: &str, row: &Row<'_>) -> Result<String, AllocError>
     ensures { IfOk result (λ path. string_bytes path ≡ path_of directory.now (row_meant row.now)) }
 {
-    let mut path = String::from_str(alloc, directory)?;
+    let len = directory
+        .len()
+        .saturating_add(row.group.len())
+        .saturating_add(row.key.len());
+    let mut path = String::with_capacity(alloc, len.saturating_add(1))?;
+    write_path(directory, row, &mut path)?;
+    Ok(path)
+}
+
+/// Writes the path of a row's key below a directory over a text.
+fn write_path(directory: &str, row: &Row<'_>, path: &mut String) -> Result<(), AllocError>
+    ensures { OnOk result (string_bytes path.new ≡ path_of directory.now (row_meant row.now)) }
+{
+    path.clear();
+    path.push_str(directory)?;
     if row.group != "/" {
         path.push_str(row.group)?;
         path.push_str("/")?;
     }
     path.push_str(row.key)?;
-    Ok(path)
+    Ok(())
 }
 
 /// The bytes that are stored for the value of a text.

@@ -4,10 +4,10 @@ use Rattle.keyfile_core.specs.Rows.{row_meant}
 use Rattle.dconf_compile.proofs.RowPaths.{too_long_row}
 use Rattle.dconf_compile.proofs.rows.add_row.Goals as goal
 
-pub returns-clause-fault : goal.returns-clause-fault
-returns-clause-fault c =
-    let same : c.deref.result.now ≡ path_of (codes "/") (row_meant c.args.row.now) = search rules in
-    too_long_row (row_meant c.args.row.now) c.requires c.deref.result.now same c.in-Err.ensures.accepts.1
+pub returns-in-Err-clause-fault : goal.returns-in-Err-clause-fault
+returns-in-Err-clause-fault c =
+    let same : c.as_str.result.now ≡ path_of (codes "/") (row_meant c.args.row.now) = search rules in
+    too_long_row (row_meant c.args.row.now) c.requires c.as_str.result.now same c.in-Err.ensures.accepts.1
 
-pub returns-in-Ok-clause-added : goal.returns-in-Ok-clause-added
-returns-in-Ok-clause-added c = search rules
+pub returns-in_ok-insert_owned-in-Ok-clause-added : goal.returns-in_ok-insert_owned-in-Ok-clause-added
+returns-in_ok-insert_owned-in-Ok-clause-added c = search rules
