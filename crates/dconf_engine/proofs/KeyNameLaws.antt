@@ -91,11 +91,14 @@ any_gathered p f i (suc n) within e =
     (λ (m : n ≤ i). let same : i ≡ n = omega (arith, within, m) in or_right (list_any (bytes_eq p) (gathered f n)) (list_any (bytes_eq p) (f n)) (subst (λ (k : ℕ). list_any (bytes_eq p) (f k) ≡ true) same e))
     (cases_lt i n))
 
+pub value_row : (values : Table) (locks : Option Table) (p bytes : List ℕ) → AreOfSoundDatabase values locks → get (settings_at (region values)).values p ≡ Some bytes → Rows (region values) p value_kind bytes
+value_row values locks p bytes o e = subst (λ (t : Region). Rows t p value_kind bytes) (sym o.root) (((says values locks o).values p bytes).1 e)
+
 is_named : (values : Table) (locks : Option Table) (p bytes : List ℕ) → AreOfSoundDatabase values locks → get (settings_at (region values)).values p ≡ Some bytes →
     list_any (bytes_eq p) (gathered (λ i. key_name (name_of (region values) i)) (item_count (region values))) ≡ true
 is_named values locks p bytes o e =
     let t = region values in
-    let row = subst (λ (t : Region). Rows t p value_kind bytes) (sym o.root) (((says values locks o).values p bytes).1 e) in
+    let row = value_row values locks p bytes o e in
     let named = row.1.named in
     let is_key : is_key_path p ≡ true = values_are_keys t p row.0 o.sound named row.1.of_kind in
     let there : list_any (bytes_eq p) (key_name (Some p)) ≡ true = rw is_key (or_left (bytes_eq p p) false (path_itself p p refl)) in

@@ -8,6 +8,7 @@ pub mod TextMapLaws
 pub mod UnsavedLaws
 pub mod WritingLaws
 pub mod KeyNameLaws
+pub mod ItemValues
 pub mod SavedLaws
 pub mod ClearedLaws
 pub mod TextSetLaws

@@ -24,6 +24,7 @@ mod changes;
 mod children;
 mod differing;
 mod engine;
+mod entry;
 mod fault;
 mod key_names;
 mod layer;

@@ -1,5 +1,5 @@
 //! The user's database.
-ghost use Rattle.std.specs.Prelude.{◌≡◌, IfOk, IfErr, OnOk};
+ghost use Rattle.std.specs.Prelude.{◌≡◌, [], ◌∷◌, IfOk, IfErr, OnOk};
 ghost use Rattle.std.specs.FinMap.{entries};
 ghost use Rattle.dconf_path.specs.Paths.{key_text};
 ghost use Rattle.dconf_model.specs.Changes.{saved};
@@ -21,7 +21,7 @@ impl<'a> Engine<'a> {
     /// The bytes of the user's database, without locks: what its file has, with all changes.
     ///
     /// `TooBig` comes where there would be over 4,294,967,295 bytes, and `Memory` where a growth is refused. It copies each
-    /// path and value, and looks each path of the file up among the changes.
+    /// path and value, and looks each path of the file up among the changes alone.
     pub fn save(&self) -> Result<Vec<u8>, WriteFault>
         ensures database { IfOk result (λ file. IsDatabaseOf (saved self.now.layers) file.items) }
         ensures fault { IfErr result (IsRefusal (saved self.now.layers)) }
@@ -83,24 +83,26 @@ fn add_item(
         return Ok(());
     };
     match KeyPath::parse(name.as_str()) {
-        Ok(path) => add_key(layer, path, changes, map),
+        Ok(path) => add_key(layer, i, path, changes, map),
         Err(_) => Ok(()),
     }
 }
 
-/// Adds the value of a key that was not changed.
+/// Adds the value of a key that was not changed, which is item `i`'s name.
 fn add_key(
     layer: Layer<'_>,
+    i: u32,
     path: KeyPath<'_>,
     changes: &Changes,
     map: &mut Map,
 ) -> Result<(), MapFault>
+    requires named { key_name_at layer i ≡ key_text path ∷ [] }
     ensures { OnOk result (map.new ≡ and_unchanged (settings_of layer.entry).values changes.now map.old (key_text path.entry)) }
 {
     if changes.get(path.as_str()).is_some() {
         return Ok(());
     }
-    match layer.get(path.as_str()) {
+    match layer.value_at(i, path) {
         Some(bytes) => map.insert(path, bytes),
         None => Ok(()),
     }
