@@ -93,7 +93,7 @@ fn load_bytes<F: Folder>(
         Err(stop) => return Err(line_refused(alloc, stop)),
     };
     match rows.values(alloc) {
-        Ok(values) => load_rows(alloc, force, &values, profile, folder),
+        Ok(values) => load_rows(alloc, force, values, profile, folder),
         Err(stop) => Err(line_refused(alloc, stop)),
     }
 }
@@ -102,11 +102,11 @@ fn load_bytes<F: Folder>(
 fn load_rows<F: Folder>(
     alloc: Global,
     force: bool,
-    rows: &[(KeyPath<'_>, Tree)],
+    rows: Vec<(KeyPath<'_>, Tree)>,
     profile: &str,
     folder: &mut F,
 ) -> Result<Answer, Refusal>
-    ensures { Decides F.past F.failed folder.old folder.new 0 (λ reads. Changes reads profile.now (paths_of (rows_of rows.now)) (load_values (rows_of rows.now) force)) result }
+    ensures { Decides F.past F.failed folder.old folder.new 0 (λ reads. Changes reads profile.now (paths_of (rows_of rows.entry.items)) (load_values (rows_of rows.entry.items) force)) result }
 {
     let profile = named_file(alloc, folder, profile)?;
     let files = StoreFiles::read(alloc, folder, &profile)?;
@@ -114,19 +114,22 @@ fn load_rows<F: Folder>(
     with_rows(alloc, &files.profile, engine, rows, force)
 }
 
-/// What it answers of a store.
+/// What it answers of a store. The rows are let go before the file is made, which takes as much memory.
 fn with_rows(
     alloc: Global,
     profile: &Profile<'_>,
     mut engine: Engine<'_>,
-    rows: &[(KeyPath<'_>, Tree)],
+    rows: Vec<(KeyPath<'_>, Tree)>,
     force: bool,
 ) -> Result<Answer, Refusal>
-    ensures { GivesOutcome result (Saves (paths_of (rows_of rows.now)) (user_file (databases_of profile.now)) (apply engine.entry (load_values (rows_of rows.now) force))) }
+    ensures { GivesOutcome result (Saves (paths_of (rows_of rows.entry.items)) (user_file (databases_of profile.now)) (apply engine.entry (load_values (rows_of rows.entry.items) force))) }
 {
-    match engine.load(rows, force) {
-        Ok(()) => saved(alloc, profile, &engine),
-        Err(fault) => Err(change_refused(alloc, fault, locked_path(rows, fault))),
+    match engine.load(&rows, force) {
+        Ok(()) => {
+            drop(rows);
+            saved(alloc, profile, &engine)
+        }
+        Err(fault) => Err(change_refused(alloc, fault, locked_path(&rows, fault))),
     }
 }
 

@@ -1,6 +1,5 @@
 use Rattle.std.proofs.Common.{◌≡◌, ◌∙◌, List, Result, Err, codes, sym, subst}
 use Rattle.std.specs.Prelude.{IfSome}
-use Rattle.gv_model.specs.Tree.{Tree}
 use Rattle.dconf_model.specs.Changes.{paths_of}
 use Rattle.dconf_model.specs.Changes.Change.{load_values}
 use Rattle.dconf_model.specs.Lines.{LineFault}
@@ -8,9 +7,7 @@ use Rattle.dconf_model.specs.Outcomes.{Changes, Gives, OrLine}
 use Rattle.dconf_model.specs.Reads.{ReadResults}
 use Rattle.dconf_model.specs.Sources.{Assigned, loaded}
 use Rattle.dconf_path.specs.Paths.{directory_text}
-use Rattle.dconf_path.specs.declared.path.KeyPath.{KeyPath}
 use Rattle.dconf_compile.specs.LineStops.{line_fault_of}
-use Rattle.dconf_engine.specs.Rows.{rows_of}
 use Rattle.dconf_cli.specs.Readings.{Decides}
 use Rattle.dconf_cli.proofs.LoadLaws.{decides_line}
 use Rattle.dconf_cli.proofs.commands.load.load_bytes.Goals as goal
@@ -25,9 +22,7 @@ pub returns-in-Ok-values : goal.returns-in-Ok-values
 returns-in-Ok-values g c =
     let Go : ReadResults → List Assigned → Gives = λ reads rows. Changes reads c.args.profile.now (paths_of rows) (load_values rows c.args.force) in
     subst (λ (r : Result (List Assigned) LineFault). Decides g.F.Folder.past g.F.Folder.failed c.args.folder.now c.load_rows.new.folder 0
-    (λ reads. OrLine (codes "input") r (Go reads)) c.load_rows.result) (sym (c.in-Ok.ensures.found ∙ c.in-Ok-values.ensures.found))
-    (subst (λ (l : List (KeyPath × Tree)). Decides g.F.Folder.past g.F.Folder.failed c.args.folder.now c.load_rows.new.folder 0
-    (λ reads. Go reads (rows_of l)) c.load_rows.result) c.deref.ensures.value c.load_rows.ensures)
+    (λ reads. OrLine (codes "input") r (Go reads)) c.load_rows.result) (sym (c.in-Ok.ensures.found ∙ c.in-Ok-values.ensures.found)) c.load_rows.ensures
 
 pub returns : goal.returns
 returns g c =
