@@ -115,6 +115,7 @@ impl<'a> Layer<'a> {
     ///
     /// It searches for the path, and where some lock may be a directory's, for each of its directories. It hashes the
     /// path once.
+    #[inline(always)]
     pub fn locks_path(self, path: KeyPath<'_>) -> bool
         ensures { result ≡ locks_path (key_text path.entry) (settings_of self.entry) }
     {

@@ -67,6 +67,7 @@ impl<'a, 'l> LentLayers<'a, 'l> {
     }
 
     /// Whether a path is locked: a layer from the second on has a lock that covers it.
+    #[inline(always)]
     pub fn is_locked(self, path: KeyPath<'_>) -> bool
         ensures { result ≡ is_locked (seen_in self.entry) (key_text path.entry) }
     {
@@ -82,6 +83,7 @@ impl<'a, 'l> LentLayers<'a, 'l> {
     }
 
     /// Where the value that is seen at a path is: its layer, and its bytes, which are a variant's.
+    #[inline(always)]
     pub fn place(self, path: KeyPath<'_>) -> Option<(usize, &'a [u8])>
         ensures { option_map {U = ℕ × List ℕ} (λ p. (p.0, p.1.now)) result ≡ place_of (seen_in self.entry) (key_text path.entry) }
     {
@@ -100,6 +102,7 @@ impl<'a, 'l> LentLayers<'a, 'l> {
     }
 
     /// The greatest index of at least 1 whose layer locks the path; else 0.
+    #[inline(always)]
     pub(crate) fn level(self, path: KeyPath<'_>) -> usize
         ensures { result ≡ level (seen_in self.entry) (key_text path.entry) }
     {
@@ -115,6 +118,7 @@ impl<'a, 'l> LentLayers<'a, 'l> {
 
     /// The first layer from that one on that has the path, and the bytes of its value. It hashes the
     /// path once.
+    #[inline(always)]
     pub(crate) fn place_from(self, from: usize, path: KeyPath<'_>) -> Option<(usize, &'a [u8])>
         ensures { option_map {U = ℕ × List ℕ} (λ p. (p.0, p.1.now)) result ≡ first_from from (drop from (seen_in self.entry).layers) (key_text path.entry) }
     {
@@ -128,6 +132,7 @@ impl<'a, 'l> LentLayers<'a, 'l> {
     }
 
     /// Whether a layer locks a path.
+    #[inline(always)]
     fn locks_at(self, i: usize, path: KeyPath<'_>) -> bool
         requires { i < length (seen_in self).layers }
         ensures { result ≡ locks_path (key_text path.entry) (slice_index_or (seen_in self.entry).layers i no_settings) }
@@ -136,6 +141,7 @@ impl<'a, 'l> LentLayers<'a, 'l> {
     }
 
     /// The bytes of a layer's value at a path.
+    #[inline(always)]
     fn bytes_at(self, i: usize, path: HashedName<'_>) -> Option<&'a [u8]>
         requires { i < length (seen_in self).layers }
         ensures { option_map (λ bytes. bytes.now) result ≡ get (slice_index_or (seen_in self.entry).layers i no_settings).values (name_text path.entry) }
