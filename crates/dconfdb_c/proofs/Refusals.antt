@@ -5,9 +5,10 @@ use Rattle.std.specs.Prelude.{IfNone, IfSome, IsSome, Err, option_map}
 use Rattle.dconf_model.specs.Lines.{LineFault}
 use Rattle.dconf_model.specs.Paths.{ends_with_slash}
 use Rattle.dconf_model.specs.Profiles.{databases_in}
+use Rattle.dconf_model.specs.Salvaging.{IsKeyText}
 use Rattle.dconf_model.proofs.PathMaps.{no_truth}
 use Rattle.dconfdb_c.specs.Changed.{IsBadPath, IsBadPathOf}
-use Rattle.dconfdb_c.specs.Given.{IsDirectory, IsKey}
+use Rattle.dconfdb_c.specs.Given.{IsDirectory}
 use Rattle.dconfdb_c.specs.Named.{IsNoProfile, cause_number}
 
 pub none_of : {A P : Type 0} (o : Option A) → o ≡ None → (IsSome o ↔ P) → ¬ P
@@ -17,7 +18,7 @@ none_of (Some x) e h p = absurd cc
 pub bad_directory : (path : List ℕ) → ends_with_slash path ≡ true → ¬ IsDirectory path → IsBadPath path
 bad_directory path e bad = subst (λ (b : Bool). IsBadPathOf b path) (sym e) bad
 
-pub bad_key : (path : List ℕ) → ends_with_slash path ≡ false → ¬ IsKey path → IsBadPath path
+pub bad_key : (path : List ℕ) → ends_with_slash path ≡ false → ¬ IsKeyText path → IsBadPath path
 bad_key path e bad = subst (λ (b : Bool). IsBadPathOf b path) (sym e) bad
 
 pub profile_told : (text : List ℕ) (o : Option LineFault) (n m line : ℕ) → IfSome o (λ f. databases_in text ≡ Err f) → n ≡ m → IfSome o (λ f. m ≡ cause_number f.cause) → IfNone o (m ≡ 1) →

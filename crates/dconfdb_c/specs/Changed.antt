@@ -16,11 +16,12 @@ use Rattle.dconf_model.specs.Changes.Change.{set_value, reset_value, reset_below
 use Rattle.dconf_model.specs.Changes.Refusal.{not_writable, locked, too_large}
 use Rattle.dconf_model.specs.Databases.{IsDatabaseOf, IsTooBig}
 use Rattle.dconf_model.specs.Layers.{Layers}
+use Rattle.dconf_model.specs.Salvaging.{IsKeyText}
 use Rattle.dconf_model.specs.Stores.{IsWholeChange}
 use Rattle.dconfdb_c.specs.declared.changing.DconfdbChange.{DconfdbChange}
 use Rattle.dconfdb_c.specs.declared.fault.Fault.{Fault}
 use Rattle.dconfdb_c.specs.declared.fault.Fault.TheVariants.{Memory, BadPath, BadType, NotWritable, Locked, TooLarge, TooBig}
-use Rattle.dconfdb_c.specs.Given.{IsDirectory, IsKey, SpellsType}
+use Rattle.dconfdb_c.specs.Given.{IsDirectory, SpellsType}
 use Rattle.dconfdb_c.specs.Numbers.{number_of}
 
 -- the value that a change sets
@@ -86,7 +87,7 @@ IsAskedInVain l asked fault = IsChangedInVain l (asked_change asked) fault
 -- type
 abbrev pub IsBadPathOf : Bool → List ℕ → Type 0
 IsBadPathOf true path = ¬ IsDirectory path
-IsBadPathOf false path = ¬ IsKey path
+IsBadPathOf false path = ¬ IsKeyText path
 
 abbrev pub IsBadPath : List ℕ → Type 0
 IsBadPath path = IsBadPathOf (ends_with_slash path) path

@@ -2,8 +2,6 @@
 use Rattle.std.specs.Prelude.{◌≡◌, ◌≤◌, ℕ, List, IsTrue, IsUtf8, length, take}
 use Rattle.gv_model.specs.TypeText.{is_type}
 use Rattle.dconf_model.specs.Paths.{is_directory_path}
--- they are a text, and that of a key's path
-pub use Rattle.dconf_model.specs.Salvaging.{IsKeyText as IsKey}
 
 -- they are a text, and that of a directory's path
 abbrev pub IsDirectory : List ℕ → Type 0

@@ -3,15 +3,17 @@ ghost use Rattle.std.specs.Prelude.{◌≡◌, ◌↔◌, IfSome, IsSome};
 ghost use Rattle.gv_model.specs.TypeText.{type_at};
 ghost use Rattle.gv_view.specs.Views.{view_bytes, view_ty};
 ghost use Rattle.dconf_path.specs.Paths.{directory_text, key_text};
-ghost use Rattle.dconfdb_c.specs.Given.{HandsOut, IsDirectory, IsKey, SpellsType};
+ghost use Rattle.dconf_model.specs.Salvaging.{IsKeyText};
+ghost use Rattle.dconfdb_c.specs.Given.{HandsOut, IsDirectory, SpellsType};
 
 use dconf_path::{DirPath, KeyPath};
 use gv_types::TypeStr;
 use gv_view::View;
 
 /// The path of a key, where the bytes are one.
+#[inline(always)]
 pub(crate) fn key_path(bytes: &[u8]) -> Option<KeyPath<'_>>
-    ensures some { IsSome result ↔ IsKey bytes.entry.now }
+    ensures some { IsSome result ↔ IsKeyText bytes.entry.now }
     ensures path { IfSome result (λ path. key_text path ≡ bytes.entry.now) }
 {
     KeyPath::of_bytes(bytes)

@@ -2,9 +2,9 @@
 ghost use Rattle.std.specs.Prelude.{◌≡◌, ◌↔◌, ℕ, List, IsTrue, Some, None, false, true, option_map};
 ghost use Rattle.std.specs.FinMap.{get};
 ghost use Rattle.dconf_model.specs.Layers.{is_locked, origin, place_of, visible, without_user};
+ghost use Rattle.dconf_model.specs.Salvaging.{IsKeyText};
 ghost use Rattle.dconf_model.specs.Values.{held_value};
 ghost use Rattle.dconf_engine.specs.LayerSettings.{settings_of};
-ghost use Rattle.dconfdb_c.specs.Given.{IsKey};
 ghost use Rattle.dconfdb_c.specs.Seen.{found_value, layers_of};
 
 use crate::given::key_path;
@@ -32,7 +32,7 @@ pub extern "C" fn dconfdb_read<'a>(
 ) -> bool
     ensures value { IsTrue result → visible (layers_of layers.now written) path.now ≡ Some (found_value found.new) }
     ensures origin { IsTrue result → origin (layers_of layers.now written) path.now ≡ Some found.new.origin }
-    ensures none { result ≡ false → IsKey path.now → place_of (layers_of layers.now written) path.now ≡ None }
+    ensures none { result ≡ false → IsKeyText path.now → place_of (layers_of layers.now written) path.now ≡ None }
     ensures kept { result ≡ false → found.new ≡ found.old }
 {
     let Some(path) = key_path(path) else {
@@ -55,7 +55,7 @@ pub extern "C" fn dconfdb_read_default<'a>(
 ) -> bool
     ensures value { IsTrue result → visible (without_user (layers_of layers.now written)) path.now ≡ Some (found_value found.new) }
     ensures origin { IsTrue result → origin (without_user (layers_of layers.now written)) path.now ≡ Some found.new.origin }
-    ensures none { result ≡ false → IsKey path.now → place_of (without_user (layers_of layers.now written)) path.now ≡ None }
+    ensures none { result ≡ false → IsKeyText path.now → place_of (without_user (layers_of layers.now written)) path.now ≡ None }
     ensures kept { result ≡ false → found.new ≡ found.old }
 {
     let Some(path) = key_path(path) else {
@@ -78,7 +78,7 @@ pub extern "C" fn dconfdb_read_alone<'a>(
     found: &mut DconfdbFound<'a>,
 ) -> bool
     ensures value { IsTrue result → (bytes : List ℕ) × (get (settings_of layer.now).values path.now ≡ Some bytes) × (held_value bytes ≡ Some (found_value found.new)) }
-    ensures none { result ≡ false → IsKey path.now → get (settings_of layer.now).values path.now ≡ None }
+    ensures none { result ≡ false → IsKeyText path.now → get (settings_of layer.now).values path.now ≡ None }
     ensures kept { result ≡ false → found.new ≡ found.old }
 {
     let Some(path) = key_path(path) else {
@@ -95,7 +95,7 @@ pub extern "C" fn dconfdb_read_alone<'a>(
 /// bytes are no path of a key.
 #[unsafe(no_mangle)]
 pub extern "C" fn dconfdb_is_locked(layers: &[Layer<'_>], path: &[u8]) -> bool
-    ensures { IsTrue result ↔ (IsKey path.now × IsTrue (is_locked (layers_of layers.now true) path.now)) }
+    ensures { IsTrue result ↔ (IsKeyText path.now × IsTrue (is_locked (layers_of layers.now true) path.now)) }
 {
     match key_path(path) {
         Some(path) => LentLayers::new(true, layers).is_locked(path),
@@ -107,7 +107,7 @@ pub extern "C" fn dconfdb_is_locked(layers: &[Layer<'_>], path: &[u8]) -> bool
 /// the bytes are no path of a key.
 #[unsafe(no_mangle)]
 pub extern "C" fn dconfdb_is_writable(layers: &[Layer<'_>], written: bool, path: &[u8]) -> bool
-    ensures { IsTrue result ↔ (IsKey path.now × IsTrue written × (is_locked (layers_of layers.now true) path.now ≡ false)) }
+    ensures { IsTrue result ↔ (IsKeyText path.now × IsTrue written × (is_locked (layers_of layers.now true) path.now ≡ false)) }
 {
     match key_path(path) {
         Some(path) => written && !LentLayers::new(true, layers).is_locked(path),
@@ -116,6 +116,7 @@ pub extern "C" fn dconfdb_is_writable(layers: &[Layer<'_>], written: bool, path:
 }
 
 /// What a variant's bytes hold, found in that layer.
+#[inline(always)]
 fn found_in<'a>(origin: usize, bytes: &'a [u8]) -> DconfdbFound<'a>
     ensures value { held_value bytes.entry.now ≡ Some (found_value result) }
     ensures origin { result.origin ≡ origin }
