@@ -109,14 +109,14 @@ bool dconfdb_fault_text(uint32_t number, DconfdbBytes *text);
  * as it was. It asks each rule of each item. */
 uint32_t dconfdb_open(const uint8_t *file, size_t len, bool is_there, DconfdbLayer *layer, DconfdbUnsound *unsound);
 
-/* The value that is seen at a key's path through layers, the first first. `written`: the first is
+/* The value that is seen at a key's path through layers, the first first. `writable`: the first is
  * the user's. False, and `found` as it was, where nothing is seen and where the text is no key's
  * path. */
-bool dconfdb_read(const DconfdbLayer *layers, size_t n, bool written, const uint8_t *path, size_t path_len,
+bool dconfdb_read(const DconfdbLayer *layers, size_t n, bool writable, const uint8_t *path, size_t path_len,
                   DconfdbFound *found);
 
 /* The same without the user's values. */
-bool dconfdb_read_default(const DconfdbLayer *layers, size_t n, bool written, const uint8_t *path, size_t path_len,
+bool dconfdb_read_default(const DconfdbLayer *layers, size_t n, bool writable, const uint8_t *path, size_t path_len,
                           DconfdbFound *found);
 
 /* The value that one layer has, whatever is locked: of the first, the user's own. `origin` is 0. */
@@ -126,7 +126,7 @@ bool dconfdb_read_alone(const DconfdbLayer *layer, const uint8_t *path, size_t p
 bool dconfdb_is_locked(const DconfdbLayer *layers, size_t n, const uint8_t *path, size_t path_len);
 
 /* Whether the first layer is the user's, and the key is not locked. */
-bool dconfdb_is_writable(const DconfdbLayer *layers, size_t n, bool written, const uint8_t *path, size_t path_len);
+bool dconfdb_is_writable(const DconfdbLayer *layers, size_t n, bool writable, const uint8_t *path, size_t path_len);
 
 /* What a directory has in any layer: names in the order of their bytes, a zero byte after each; a
  * directory's ends in '/'. `len` is how many bytes there are; where they are more than the room,
@@ -155,7 +155,7 @@ uint32_t dconfdb_profile(const uint8_t *text, size_t len, DconfdbName *room, siz
 /* The user's file after all changes, each made in turn, or none. `len` as dconfdb_list has it.
  * MEMORY, BAD_PATH to TOO_BIG, and `at`, the index of the change at fault, or how many there are
  * where no change is. */
-uint32_t dconfdb_change(const DconfdbLayer *layers, size_t n, bool written, const DconfdbChange *changes, size_t changes_len,
+uint32_t dconfdb_change(const DconfdbLayer *layers, size_t n, bool writable, const DconfdbChange *changes, size_t changes_len,
                         uint8_t *room, size_t room_len, size_t *len, size_t *at);
 
 #ifdef __cplusplus

@@ -57,7 +57,7 @@ unlocking : (path : List ℕ) (is : Bool) (given : Result Layers Refusal) → Lo
 unlocking path true given h = of_refusal path (locked 0) refl
 unlocking path false given h = h
 
-writing : (path : List ℕ) (written : Bool) (given : Result Layers Refusal) → LocksFirst path given → LocksFirst path (if written then given else Err not_writable)
+writing : (path : List ℕ) (writable : Bool) (given : Result Layers Refusal) → LocksFirst path given → LocksFirst path (if writable then given else Err not_writable)
 writing path true given h = h
 writing path false given h = of_refusal path not_writable tt
 
@@ -65,10 +65,10 @@ writing path false given h = of_refusal path not_writable tt
 pub set_locks : (l : Layers) (path : List ℕ) (v : Tree) → LocksFirst path (apply l (set_value path v))
 set_locks l path v =
     let rows : List Assigned = record { path = path; value = v } ∷ [] in
-    writing path l.written _ (unlocking path (is_locked l path) (set_all l rows) (storing path _ (all_storable rows)))
+    writing path l.writable _ (unlocking path (is_locked l path) (set_all l rows) (storing path _ (all_storable rows)))
 
 pub reset_locks : (l : Layers) (path : List ℕ) → LocksFirst path (apply l (reset_value path))
-reset_locks l path = writing path l.written _ (unlocking path (is_locked l path) _ (of_other path _))
+reset_locks l path = writing path l.writable _ (unlocking path (is_locked l path) _ (of_other path _))
 
 -- where there are no paths, none is
 pub none_is_locked : (r : Option Refusal) → IsLockedPath [] r []

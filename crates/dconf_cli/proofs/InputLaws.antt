@@ -61,14 +61,14 @@ module _ {V : Type 0} (items : V → List ℕ) (remaining : Option (List ℕ)) (
   read_fault Device rose = (
     record { bytes = []; fails = true },
     record { whole = λ e. cc; part = λ _. (nothing_of remaining, rose refl) },
-    record { text = tt; lost = λ _. refl },
+    record { text = tt; failing = λ _. refl },
   )
-  read_fault Memory rose = (whole remaining [], took_whole remaining [] old new, record { text = tt; lost = λ e. cc })
+  read_fault Memory rose = (whole remaining [], took_whole remaining [] old new, record { text = tt; failing = λ e. cc })
 
   pub read_text : (left : Option (List ℕ)) (bytes : V) → Consumes remaining left (items bytes)
       → IsAtEnd left ⊎ (longest_text < length (items bytes)) → WasRead (Ok bytes)
   read_text left bytes is end = (
     whole remaining (items bytes),
     took_whole remaining (items bytes) old new,
-    record { text = (refl, same_text remaining left (items bytes) is end); lost = λ e. cc },
+    record { text = (refl, same_text remaining left (items bytes) is end); failing = λ e. cc },
   )

@@ -24,20 +24,20 @@ module _ {O E : Type 0} (contents : O → Option (List ℕ)) (err_contents : E �
       go (inl written) = record {
         out = λ _. (written.1, written.0);
         err = λ _ _. Appends-nil (err_contents (inner_of err));
-        lost = λ rose. absurd (rose written.2);
+        failing = λ rose. absurd (rose written.2);
         refused = λ e. cc;
         silent = prints.nothing;
         done = λ _. (refl, written.2);
         within = let is = written.0 in omega arith;
       }
-      go (inr lost) = record {
-        out = λ unfailed. absurd (not_one_more _ _ unfailed lost.1);
+      go (inr failing) = record {
+        out = λ unfailed. absurd (not_one_more _ _ unfailed failing.1);
         err = λ _ _. Appends-nil (err_contents (inner_of err));
-        lost = λ _. (lost.0, refl);
+        failing = λ _. (failing.0, refl);
         refused = λ e. cc;
         silent = prints.nothing;
-        done = λ zero. let is = lost.0 in absurd (omega arith);
-        within = let is = lost.0 in omega arith;
+        done = λ zero. let is = failing.0 in absurd (omega arith);
+        within = let is = failing.0 in omega arith;
       }
 
   pub leaves_line : (out : Counted O) (err_old err_new : Counted E) (line : List ℕ) (status : ℕ) → status ≡ 1
@@ -46,7 +46,7 @@ module _ {O E : Type 0} (contents : O → Option (List ℕ)) (err_contents : E �
   leaves_line out err_old err_new line status is written = record {
     out = λ _. (Appends-nil (contents (inner_of out)), is);
     err = λ _ unfailed. written unfailed;
-    lost = λ rose. absurd (rose refl);
+    failing = λ rose. absurd (rose refl);
     refused = λ _. (is, refl);
     silent = λ _. (is, refl);
     done = λ zero. absurd (omega arith);

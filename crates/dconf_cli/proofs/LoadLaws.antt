@@ -11,7 +11,7 @@ use Rattle.dconf_model.specs.FaultTexts.{cause_text, device_text}
 use Rattle.dconf_model.specs.Folders.{Event}
 use Rattle.dconf_model.specs.Keyfiles.{rows_of as rows_in}
 use Rattle.dconf_model.specs.Lines.{LineFault, longest_text}
-use Rattle.dconf_model.specs.Outcomes.{Gives, OrLine, UnlessLost, WithRows, is_lost, path_at}
+use Rattle.dconf_model.specs.Outcomes.{Gives, OrLine, UnlessFailed, WithRows, read_failed, path_at}
 use Rattle.dconf_model.specs.Reads.{Input, ReadResults}
 use Rattle.dconf_model.specs.Sources.{Assigned, and_rows, loaded, rows_read}
 use Rattle.dconf_model.specs.Values.{value_of_text}
@@ -37,17 +37,17 @@ same_loaded directory given read (inr long) =
     ap (and_rows (rows_read value_of_text directory)) (long_rows read long.1 ∙ sym (long_rows given long.0))
 
 module _ {F : Type 0} (past : F → List Event → Type 0) (failures : F → ℕ) (answer : Answered) (directory : List ℕ) (Go : ReadResults → List Assigned → Gives) (i : Input) where
-  pub decides_text : (old new : F) (read : List ℕ) → is_lost i ≡ false → SameText i.bytes read
+  pub decides_text : (old new : F) (read : List ℕ) → read_failed i ≡ false → SameText i.bytes read
       → Decides past failures old new 0 (λ reads. OrLine (codes "input") (loaded directory read) (Go reads)) answer
       → Decides past failures old new 0 (λ reads. WithRows directory i (Go reads)) answer
   decides_text old new read kept same d =
-      subst (λ (b : Bool). Decides past failures old new 0 (λ reads. UnlessLost b (OrLine (codes "input") (loaded directory i.bytes) (Go reads))) answer) (sym kept)
+      subst (λ (b : Bool). Decides past failures old new 0 (λ reads. UnlessFailed b (OrLine (codes "input") (loaded directory i.bytes) (Go reads))) answer) (sym kept)
       (subst (λ (r : Result (List Assigned) LineFault). Decides past failures old new 0 (λ reads. OrLine (codes "input") r (Go reads)) answer) (same_loaded directory i.bytes read same) d)
 
-  pub decides_lost : (folder : F) → is_lost i ≡ true → RefusesFor answer (device_text (codes "input")) → Decides past failures folder folder 0 (λ reads. WithRows directory i (Go reads)) answer
-  decides_lost folder lost refuses =
-      subst (λ (b : Bool). Decides past failures folder folder 0 (λ reads. UnlessLost b (OrLine (codes "input") (loaded directory i.bytes) (Go reads))) answer) (sym lost)
-      (decides_at_once past failures folder 0 answer (λ reads. UnlessLost true (OrLine (codes "input") (loaded directory i.bytes) (Go reads))) (λ reads. refuses))
+  pub decides_failed : (folder : F) → read_failed i ≡ true → RefusesFor answer (device_text (codes "input")) → Decides past failures folder folder 0 (λ reads. WithRows directory i (Go reads)) answer
+  decides_failed folder failing refuses =
+      subst (λ (b : Bool). Decides past failures folder folder 0 (λ reads. UnlessFailed b (OrLine (codes "input") (loaded directory i.bytes) (Go reads))) answer) (sym failing)
+      (decides_at_once past failures folder 0 answer (λ reads. UnlessFailed true (OrLine (codes "input") (loaded directory i.bytes) (Go reads))) (λ reads. refuses))
 
 -- ---- a line of it
 

@@ -220,6 +220,6 @@ module _ {F : Type 0} (past : F → List Event → Type 0) (failures : F → ℕ
 pub compile_refuses : (out : List ℕ) (files locks : List Source) (refusal : Refusal) (fault : Option FileFault) → IfSome fault (λ f. IsCompiled files locks (Err f))
     → IfSome fault (λ f. RefusesFor (Err refusal) (line_fault_text (file_name files locks f.file) f.line f.cause)) → (fault ≡ None → refusal ≡ NoMemory)
     → GivesOutcome (Err refusal) (Compiles out files locks)
-compile_refuses out files locks refusal None is refuses lost = subst (λ (r : Refusal). GivesOutcome (Err r) (Compiles out files locks)) (sym (lost refl)) tt
-compile_refuses out files locks refusal (Some f) is refuses lost =
+compile_refuses out files locks refusal None is refuses failing = subst (λ (r : Refusal). GivesOutcome (Err r) (Compiles out files locks)) (sym (failing refl)) tt
+compile_refuses out files locks refusal (Some f) is refuses failing =
     answers_also (Err refusal) (Refused (line_fault_text (file_name files locks f.file) f.line f.cause)) (Compiles out files locks) (λ o r. (Err f, is, r)) refuses

@@ -20,7 +20,7 @@ use Rattle.dconf_cli.specs.declared.refusal.Refusal.TheVariants as refusals
 use Rattle.dconf_cli.specs.Answers.{Answered, RefusesFor, outcome_of}
 use Rattle.dconf_cli.specs.Endings.{Ends, EndsBy}
 use Rattle.dconf_cli.specs.Readings.{AllRead, AreOf, Decides, Gave, Reading, Tells}
-use Rattle.dconf_cli.specs.Runs.{IsFormed, IsOwn, KeepsFiles, NamesFile, RanAnywhere, SaysLostInput, Took}
+use Rattle.dconf_cli.specs.Runs.{IsFormed, IsOwn, KeepsFiles, NamesFile, RanAnywhere, SaysFailedInput, Took}
 use Rattle.dconf_cli.specs.Streams.{NoneFailed}
 use Rattle.dconf_cli.proofs.Leaving.{not_rose}
 
@@ -325,28 +325,28 @@ module _ {F : Type 0} (past : F → List Event → Type 0) (failures : F → ℕ
   pub zero_keeps : output.status ≡ 0 → failures new ≡ failures old
   zero_keeps zero_is = go d.tells
     where
-      lost : (why : List ℕ) → (output ≡ refused_output why) ⊎ NoMemory output → failures new ≡ failures old
-      lost why (inl is) = absurd (not_both output.status zero_is (line_status output why is))
-      lost why (inr is) = absurd (not_both output.status zero_is (line_status output (codes "Memory") is))
+      failing : (why : List ℕ) → (output ≡ refused_output why) ⊎ NoMemory output → failures new ≡ failures old
+      failing why (inl is) = absurd (not_both output.status zero_is (line_status output why is))
+      failing why (inr is) = absurd (not_both output.status zero_is (line_status output (codes "Memory") is))
 
       go : Tells (failures old) (failures mid) d.log answer → failures new ≡ failures old
       go (inl all) = kept past failures command input mid new output (outcome_of answer) zero_is e ∙ all.1
-      go (inr broken) = lost (device_text broken.0) (refusal_says past failures command input mid new output (outcome_of answer) (device_text broken.0) broken.3 e)
+      go (inr broken) = failing (device_text broken.0) (refusal_says past failures command input mid new output (outcome_of answer) (device_text broken.0) broken.3 e)
 
   -- it is not 0 where the input failed
   pub zero_keeps_input : (failed_old failed_new : ℕ) → (failed_new ≢ failed_old → RefusesFor answer (device_text (codes "input")))
       → output.status ≡ 0 → failed_new ≡ failed_old
   zero_keeps_input failed_old failed_new says zero_is = go (eqb_tells failed_new failed_old)
     where
-      lost : (output ≡ refused_output (device_text (codes "input"))) ⊎ NoMemory output → failed_new ≡ failed_old
-      lost (inl is) = absurd (not_both output.status zero_is (line_status output (device_text (codes "input")) is))
-      lost (inr is) = absurd (not_both output.status zero_is (line_status output (codes "Memory") is))
+      failing : (output ≡ refused_output (device_text (codes "input"))) ⊎ NoMemory output → failed_new ≡ failed_old
+      failing (inl is) = absurd (not_both output.status zero_is (line_status output (device_text (codes "input")) is))
+      failing (inr is) = absurd (not_both output.status zero_is (line_status output (codes "Memory") is))
 
       go : ((eqb failed_new failed_old ≡ true) × (failed_new ≡ failed_old)) ⊎ ((eqb failed_new failed_old ≡ false) × (failed_new ≢ failed_old)) → failed_new ≡ failed_old
       go (inl same) = same.1
       go (inr other) =
-          lost (refusal_says past failures command input mid new output (outcome_of answer) (device_text (codes "input")) (says other.1) e)
+          failing (refusal_says past failures command input mid new output (outcome_of answer) (device_text (codes "input")) (says other.1) e)
 
   -- of an input that failed the output says so
-  pub says_lost_input : RefusesFor answer (device_text (codes "input")) → SaysLostInput output
-  says_lost_input says = refusal_says past failures command input mid new output (outcome_of answer) (device_text (codes "input")) says e
+  pub says_failed_input : RefusesFor answer (device_text (codes "input")) → SaysFailedInput output
+  says_failed_input says = refusal_says past failures command input mid new output (outcome_of answer) (device_text (codes "input")) says e

@@ -5,7 +5,7 @@ use Rattle.std.proofs.lemmas.List.{append-nil}
 use Rattle.dconf_model.specs.Folders.{Event}
 use Rattle.dconf_model.specs.Layers.{Layers}
 use Rattle.dconf_model.specs.Lines.{LineFault}
-use Rattle.dconf_model.specs.Profiles.{Database, database_file, is_written, profile_of}
+use Rattle.dconf_model.specs.Profiles.{Database, database_file, has_writable, profile_of}
 use Rattle.dconf_model.specs.Outcomes.{Gives, OrLine, OrNoDatabase, Outcome, WithDatabases, WithFile, WithLayers, WithStore}
 use Rattle.dconf_model.specs.Reads.{FileRead, ReadResults}
 use Rattle.dconf_model.specs.Reads.FileRead.{no_file, holds, over_size, failed}
@@ -51,9 +51,9 @@ no_items_in_any : (reads : ReadResults) (name : List ℕ) (profile : Result (Lis
 no_items_in_any reads name (Ok ds) Go o h = no_items_are_any reads 1 ds (Go ds) o h
 no_items_in_any reads name (Err f) Go o h = h
 
-no_layers_are_any : (items : List (Option (List ℕ))) (written : Bool) (Go : Layers → Gives) (o : Outcome) → WithLayers items written NoLayers o → WithLayers items written Go o
-no_layers_are_any items written Go o (inl opened) = absurd opened.2
-no_layers_are_any items written Go o (inr bad) = inr bad
+no_layers_are_any : (items : List (Option (List ℕ))) (writable : Bool) (Go : Layers → Gives) (o : Outcome) → WithLayers items writable NoLayers o → WithLayers items writable Go o
+no_layers_are_any items writable Go o (inl opened) = absurd opened.2
+no_layers_are_any items writable Go o (inr bad) = inr bad
 
 -- ---- the files of a store
 
@@ -78,7 +78,7 @@ module _ {F : Type 0} (past : F → List Event → Type 0) (failures : F → ℕ
 module _ {F : Type 0} (past : F → List Event → Type 0) (failures : F → ℕ) (name : List ℕ) (Go : List Database → Layers → Gives) (answer : Answered) where
   -- what is made of the databases
   abbrev InLayers : List Database → List (Option (List ℕ)) → Gives
-  InLayers ds items = WithLayers items (is_written ds) (Go ds)
+  InLayers ds items = WithLayers items (has_writable ds) (Go ds)
 
   abbrev InProfile : ReadResults → List ℕ → Gives
   InProfile reads bytes = OrLine name (profile_of bytes) (λ ds. WithDatabases reads 1 ds (InLayers ds))
@@ -120,12 +120,12 @@ module _ {F : Type 0} (past : F → List Event → Type 0) (failures : F → ℕ
           (all_given reads 1 ds items (InLayers ds) o s.each gave m))
           (decides_at_once past failures new (1 + length (database_reads ds items)) answer (λ reads. Then) (λ reads. gives)))
 
-      pub store_not_opened : GivesOutcome answer (WithLayers (items_of files) (is_written (named_by files)) NoLayers) → Does old new
+      pub store_not_opened : GivesOutcome answer (WithLayers (items_of files) (has_writable (named_by files)) NoLayers) → Does old new
       store_not_opened gives =
-          store_by_items (answers_also answer (WithLayers (items_of files) (is_written (named_by files)) NoLayers) (InLayers (named_by files) (items_of files))
-          (λ o m. no_layers_are_any (items_of files) (is_written (named_by files)) (Go (named_by files)) o m) gives)
+          store_by_items (answers_also answer (WithLayers (items_of files) (has_writable (named_by files)) NoLayers) (InLayers (named_by files) (items_of files))
+          (λ o m. no_layers_are_any (items_of files) (has_writable (named_by files)) (Go (named_by files)) o m) gives)
 
       pub store_opened : (l : Layers) → AreOpened files l → GivesOutcome answer (Go (named_by files) l) → Does old new
       store_opened l opened gives =
           store_by_items (answers_also answer (Go (named_by files) l) (InLayers (named_by files) (items_of files))
-          (λ o m. inl (l.layers, opened.layers, subst (λ (w : Bool). Go (named_by files) (record { layers = l.layers; written = w }) o) opened.written m)) gives)
+          (λ o m. inl (l.layers, opened.layers, subst (λ (w : Bool). Go (named_by files) (record { layers = l.layers; writable = w }) o) opened.writable m)) gives)

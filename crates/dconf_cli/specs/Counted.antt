@@ -31,7 +31,7 @@ pub record Leaves {O E : Type 0} (contents : O → Option (List ℕ)) (err_conte
   pub out : Unfailed out_old out_new → Grew contents out_old out_new output.out × (status ≡ output.status)
   pub err : Unfailed out_old out_new → Unfailed err_old err_new → Grew err_contents err_old err_new output.err
   -- where one did
-  pub lost : failures_of out_new ≢ failures_of out_old → (status ≡ 1) × (err_new ≡ err_old)
+  pub failing : failures_of out_new ≢ failures_of out_old → (status ≡ 1) × (err_new ≡ err_old)
   -- however it went
   pub refused : output.status ≡ 1 → (status ≡ 1) × (out_new ≡ out_old)
   -- of no text nothing is written to out, so that no failure of it changes the status

@@ -2,7 +2,7 @@
 use Rattle.std.specs.Prelude.{◌≡◌, ◌≤◌, ◌<◌, ◌+◌, ◌⊎◌, ◌++◌, ℕ, true, false, List, length, Option, Result, IfOk, IsErrOf}
 use Rattle.std.specs.Io.KnownBytes.{Consumes, IsAtEnd}
 use Rattle.dconf_model.specs.Lines.{longest_text}
-use Rattle.dconf_model.specs.Outcomes.{is_lost}
+use Rattle.dconf_model.specs.Outcomes.{read_failed}
 use Rattle.dconf_model.specs.Reads.{Input}
 use Rattle.dconf_cli.specs.declared.input.InputFault.{InputFault}
 use Rattle.dconf_cli.specs.declared.input.InputFault.TheVariants.{Device}
@@ -17,8 +17,8 @@ SameText given read = (read ≡ given) ⊎ ((longest_text < length given) × (lo
 
 -- What was read of an input is its text; it is lost where a read failed first. Without memory nothing is known.
 pub record IsReadOf {V : Type 0} (i : Input) (items : V → List ℕ) (result : Result V InputFault) : Type 0 where
-  pub text : IfOk result (λ bytes. (is_lost i ≡ false) × SameText i.bytes (items bytes))
-  pub lost : IsErrOf result Device → is_lost i ≡ true
+  pub text : IfOk result (λ bytes. (read_failed i ≡ false) × SameText i.bytes (items bytes))
+  pub failing : IsErrOf result Device → read_failed i ≡ true
 
 -- One read consumed at most so many bytes. They were appended, unless there was a fault, and none is the end, where there was room.
 pub record TakesPiece (old new : Option (List ℕ)) (room : ℕ) (bytes_old bytes_new : List ℕ) (result : Result ℕ InputFault) : Type 0 where

@@ -17,8 +17,8 @@ pub record Took (remaining : Option (List ℕ)) (failures_old failures_new : ℕ
   pub part : i.fails ≡ true → IfSome remaining (λ xs. (n : ℕ) × (i.bytes ≡ take n xs)) × (failures_new ≡ one_more failures_old)
 
 -- the line for an input that failed, or the one for memory
-abbrev pub SaysLostInput : Output → Type 0
-SaysLostInput output = (output ≡ refused_output (device_text (codes "input"))) ⊎ NoMemory output
+abbrev pub SaysFailedInput : Output → Type 0
+SaysFailedInput output = (output ≡ refused_output (device_text (codes "input"))) ⊎ NoMemory output
 
 -- whether a command reads its input
 abbrev pub reads_input : Command → Bool

@@ -4,7 +4,7 @@ use Rattle.dconf_model.specs.Databases.{AreLayers}
 use Rattle.dconf_model.specs.Folders.{Event}
 use Rattle.dconf_model.specs.Layers.{Layers}
 use Rattle.dconf_model.specs.Outcomes.{Gives}
-use Rattle.dconf_model.specs.Profiles.{Database, is_written, profile_of}
+use Rattle.dconf_model.specs.Profiles.{Database, has_writable, profile_of}
 use Rattle.dconf_path.specs.Profiles.{databases_of}
 use Rattle.dconf_cli.specs.declared.store_files.StoreFiles.{StoreFiles}
 use Rattle.dconf_cli.specs.Readings.{HasRead}
@@ -27,7 +27,7 @@ pub record HasStore {F : Type 0} (past : F → List Event → Type 0) (failures 
 -- they are open
 pub record AreOpened (files : StoreFiles) (l : Layers) : Type 0 where
   pub layers : AreLayers (items_of files) l.layers
-  pub written : l.written ≡ is_written (named_by files)
+  pub writable : l.writable ≡ has_writable (named_by files)
 
 -- no layers are looked at yet
 abbrev pub NoLayers : Layers → Gives

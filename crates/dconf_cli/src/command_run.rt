@@ -7,7 +7,7 @@ ghost use Rattle.dconf_model.specs.Runs.{Ran, RanCalmly};
 ghost use Rattle.dconf_command.specs.Commands.{command_of};
 ghost use Rattle.dconf_cli.specs.Counted.{Leaves, failures_of, inner_of};
 ghost use Rattle.dconf_cli.specs.Inputs.{ConsumesText};
-ghost use Rattle.dconf_cli.specs.Runs.{KeepsFiles, RanAnywhere, SaysLostInput, Took, reads_input};
+ghost use Rattle.dconf_cli.specs.Runs.{KeepsFiles, RanAnywhere, SaysFailedInput, Took, reads_input};
 ghost use Rattle.dconf_cli.specs.Streams.{NoneFailed};
 
 use crate::commands::answered;
@@ -64,11 +64,11 @@ pub fn run<F: Folder, I: Read, O: Write, E: Write>(
         × ((output : Output) × RanAnywhere (F.failed folder.old) (F.failed folder.new) (command_of command) i output
         × Leaves O.contents E.contents out.old out.new err.old err.new output result) }
     // Of an input that failed it says so, whatever was read of it before.
-    ensures lost_input { failures_of input.new ≢ failures_of input.old → (output : Output) × SaysLostInput output
+    ensures failed_input { failures_of input.new ≢ failures_of input.old → (output : Output) × SaysFailedInput output
         × Leaves O.contents E.contents out.old out.new err.old err.new output result }
     ensures zero { result ≡ 0 → (F.failed folder.new ≡ F.failed folder.old)
         × (failures_of input.new ≡ failures_of input.old) × (failures_of out.new ≡ failures_of out.old) }
-    ensures lost_out { failures_of out.new ≢ failures_of out.old → (result ≡ 1) × (err.new ≡ err.old) }
+    ensures failed_out { failures_of out.new ≢ failures_of out.old → (result ≡ 1) × (err.new ≡ err.old) }
     ensures status { result ≤ 1 }
     ensures input { reads_input (command_of command) ≡ false → input.new ≡ input.old }
     ensures limit { ConsumesText (I.remaining (inner_of input.old)) (I.remaining (inner_of input.new)) }

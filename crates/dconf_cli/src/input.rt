@@ -60,7 +60,7 @@ pub fn read_input<I: Read>(alloc: Global, input: &mut Counted<I>) -> Result<Vec<
         × IsReadOf i vec_items result }
     ensures bytes { IfOk result (λ bytes. Consumes (I.remaining (inner_of input.old)) (I.remaining (inner_of input.new)) (vec_items bytes)) }
     ensures limit { IfOk result (λ bytes. length (vec_items bytes) ≤ longest_text + 1) }
-    ensures lost { OnErr result (ConsumesText (I.remaining (inner_of input.old)) (I.remaining (inner_of input.new))) }
+    ensures consumed { OnErr result (ConsumesText (I.remaining (inner_of input.old)) (I.remaining (inner_of input.new))) }
     ensures ok { OnOk result (failures_of input.new ≡ failures_of input.old) }
     ensures device { IsErrOf result InputFault.Device → failures_of input.new ≡ one_more (failures_of input.old) }
     ensures memory { IsErrOf result InputFault.Memory → failures_of input.new ≡ failures_of input.old }

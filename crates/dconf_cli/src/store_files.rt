@@ -1,7 +1,7 @@
 //! The files of a store: the profile, and the databases that it names.
 ghost use Rattle.std.specs.Prelude.{◌≡◌, ℕ, Err, Ok, IfOk, IfErr, length, map, string_bytes, vec_items};
 ghost use Rattle.dconf_model.specs.Outcomes.{OrLine, OrNoDatabase, WithDatabases, WithLayers};
-ghost use Rattle.dconf_model.specs.Profiles.{database_file, is_written, profile_of};
+ghost use Rattle.dconf_model.specs.Profiles.{database_file, has_writable, profile_of};
 ghost use Rattle.dconf_path.specs.Profiles.{database_of, databases_of};
 ghost use Rattle.dconf_engine.specs.Files.{bytes_of_files};
 ghost use Rattle.dconf_cli.specs.Answers.{GivesOutcome};
@@ -45,7 +45,7 @@ impl<'a> StoreFiles<'a> {
     pub(crate) fn open(&self, alloc: Global) -> Result<Engine<'_>, Refusal>
         requires { length (items_of self.now) ≡ length (named_by self.now) }
         ensures ok { IfOk result (AreOpened self.now) }
-        ensures err { IfErr result (λ refusal. GivesOutcome (Err refusal) (WithLayers (items_of self.now) (is_written (named_by self.now)) NoLayers)) }
+        ensures err { IfErr result (λ refusal. GivesOutcome (Err refusal) (WithLayers (items_of self.now) (has_writable (named_by self.now)) NoLayers)) }
     {
         let files = lent(alloc, &self.databases)?;
         match Engine::open(alloc, &self.profile, &files) {

@@ -107,5 +107,5 @@ reset_layers l d c [] = refl
 reset_layers l d c (item ∷ items) =
     ap (λ (v : Values). record { values = v; locks = (settings_of item).locks } ∷ map settings_of items) (sym (reset_below_all l d c item))
 
-pub reset_dir_accepted : (l : Layers) (d : List ℕ) → l.written ≡ true → apply l (reset_below_directory d) ≡ Ok (changed (λ values. retain_keys values (keeps l d)) l)
+pub reset_dir_accepted : (l : Layers) (d : List ℕ) → l.writable ≡ true → apply l (reset_below_directory d) ≡ Ok (changed (λ values. retain_keys values (keeps l d)) l)
 reset_dir_accepted l d e = ap (λ b. cond b (Ok (changed (λ values. retain_keys values (keeps l d)) l)) (Err not_writable)) e

@@ -100,13 +100,13 @@ default_first : (s : Settings) (more : List Settings) (path : List ℕ) → firs
 default_first s more path = ap (λ o. place_or 0 o (first_from 1 more path)) (get-empty (slice_cmp nat_cmp) path)
 
 pub default_low : (xs : List Settings) (path : List ℕ) (n : ℕ) → n ≡ 0 → greatest_from 1 (locks_path path) (drop 1 xs) ≡ n →
-    place_of (without_user (record { layers = xs; written = true })) path ≡ first_from 1 (drop 1 xs) path
+    place_of (without_user (record { layers = xs; writable = true })) path ≡ first_from 1 (drop 1 xs) path
 default_low [] path n zero_ e = refl
 default_low (s ∷ more) path n zero_ e =
     ap (λ k. first_from k (drop k (emptied (s ∷ more))) path) (e ∙ zero_) ∙ default_first s more path
 
 pub default_high : (xs : List Settings) (path : List ℕ) (n : ℕ) → 0 < n → greatest_from 1 (locks_path path) (drop 1 xs) ≡ n →
-    place_of (without_user (record { layers = xs; written = true })) path ≡ first_from n (drop n xs) path
+    place_of (without_user (record { layers = xs; writable = true })) path ≡ first_from n (drop n xs) path
 default_high [] path n some e = absurd (let z : 0 ≡ n = e in omega (arith, some, z))
 default_high (s ∷ more) path zero some e = absurd (omega (arith, some))
 default_high (s ∷ more) path (suc k) some e = ap (λ k. first_from k (drop k (emptied (s ∷ more))) path) e

@@ -28,12 +28,12 @@ changed_first f c new (s ∷ more) h = ap (λ (v : Values). record { values = v;
 -- what a change of the first layer's values gives, where the changes beside it make the same of any values
 pub changed_beside : (f : Values → Values) (c new : Unsaved) (l : Layers) → ((v : Values) → with_changes new v ≡ f (with_changes c v)) →
     changed f (changed (with_changes c) l) ≡ changed (with_changes new) l
-changed_beside f c new l h = ap (λ (ls : List Settings). record { layers = ls; written = l.written }) (changed_first f c new l.layers h)
+changed_beside f c new l h = ap (λ (ls : List Settings). record { layers = ls; writable = l.writable }) (changed_first f c new l.layers h)
 
 -- ---- one path
 
 abbrev IsFree : Layers → List ℕ → Type 0
-IsFree l p = (l.written ≡ true) × (is_locked l p ≡ false)
+IsFree l p = (l.writable ≡ true) × (is_locked l p ≡ false)
 
 free_if : (w k : Bool) → cond w (cond k (Some (locked 0)) None) (Some not_writable) ≡ None → (w ≡ true) × (k ≡ false)
 free_if true true e = absurd cc
@@ -41,7 +41,7 @@ free_if true false e = (refl, refl)
 free_if false k e = absurd cc
 
 free : (l : Layers) (p : List ℕ) → path_refusal l p ≡ None → IsFree l p
-free l p e = free_if l.written (is_locked l p) e
+free l p e = free_if l.writable (is_locked l p) e
 
 pub write_accepted : (l : Layers) (p : List ℕ) (v : Tree) → path_refusal l p ≡ None → is_storable v ≡ true →
     apply l (set_value p v) ≡ Ok (changed (λ m. insert m p (stored v)) l)
@@ -82,7 +82,7 @@ rows_given l rows false e = ap (λ o. unless_locked o (set_all l rows)) e ∙ ap
 -- what rows give that may be loaded
 pub load_given : (l : Layers) (rows : List Assigned) (force : Bool) → rows_refusal l rows force ≡ None → apply l (load_values rows force) ≡ set_all l (not_locked l rows)
 load_given l rows force e =
-    let may = rows_may l.written force (first_locked l 0 (paths_of rows)) e in
+    let may = rows_may l.writable force (first_locked l 0 (paths_of rows)) e in
     ap (λ b. cond b (load_all l rows force) (Err not_writable)) may.0 ∙ rows_given l rows force may.1
 
 pub load_accepted : (l : Layers) (rows : List Assigned) (force : Bool) → rows_refusal l rows force ≡ None → all_storable (not_locked l rows) ≡ true →
@@ -104,7 +104,7 @@ first_row None x r e = absurd cc
 first_row (Some n) x r e = ap (err_of x) e
 
 load_refused_as : (l : Layers) (rows : List Assigned) (force : Bool) (r : Refusal) → rows_refusal l rows force ≡ Some r → apply l (load_values rows force) ≡ Err r
-load_refused_as l rows force r e = go l.written force e
+load_refused_as l rows force r e = go l.writable force e
   where
     go : (w f : Bool) → cond w (cond f None (option_map locked (first_locked l 0 (paths_of rows)))) (Some not_writable) ≡ Some r → cond w (load_all l rows f) (Err not_writable) ≡ Err r
     go true true h = absurd cc

@@ -32,8 +32,8 @@ change_fault_text Memory = codes "Memory"
 
 -- why a path may not be changed
 abbrev pub path_refusal : Layers → List ℕ → Option Refusal
-path_refusal l path = if l.written then (if is_locked l path then Some (locked 0) else None) else Some not_writable
+path_refusal l path = if l.writable then (if is_locked l path then Some (locked 0) else None) else Some not_writable
 
 -- why rows may not be loaded, whatever their values
 abbrev pub rows_refusal : Layers → List Assigned → Bool → Option Refusal
-rows_refusal l rows force = if l.written then (if force then None else option_map locked (first_locked l 0 (paths_of rows))) else Some not_writable
+rows_refusal l rows force = if l.writable then (if force then None else option_map locked (first_locked l 0 (paths_of rows))) else Some not_writable

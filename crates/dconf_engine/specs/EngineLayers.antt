@@ -7,4 +7,4 @@ use Rattle.dconf_engine.specs.LayerSettings.{settings_of}
 use Rattle.dconf_engine.specs.Unsaved.{Unsaved, with_changes}
 
 abbrev pub layers_of : Unsaved → List Layer → Bool → Layers
-layers_of changes items written = record { layers = with_first_layer (with_changes changes) (map settings_of items); written = written }
+layers_of changes items writable = record { layers = with_first_layer (with_changes changes) (map settings_of items); writable = writable }

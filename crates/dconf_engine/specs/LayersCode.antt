@@ -7,4 +7,4 @@ use Rattle.dconf_model.specs.Layers.{Layers}
 abbrev pub layers_code : Coded Layers
 layers_code =
     code_by (List Settings × Bool) (coded× (coded_list settings_code) coded_bool)
-    (λ l. (l.layers, l.written)) (λ p. record { layers = p.0; written = p.1 }) (λ _. refl)
+    (λ l. (l.layers, l.writable)) (λ p. record { layers = p.0; writable = p.1 }) (λ _. refl)

@@ -5,4 +5,4 @@ use Rattle.dconf_engine.specs.declared.lent.LentLayers.{LentLayers}
 use Rattle.dconf_engine.specs.LayerSettings.{settings_of}
 
 abbrev pub seen_in : LentLayers → Layers
-seen_in lent = record { layers = map settings_of lent.layers.now; written = lent.written }
+seen_in lent = record { layers = map settings_of lent.layers.now; writable = lent.writable }

@@ -5,7 +5,7 @@ ghost use Rattle.gv_view.specs.Views.{value};
 ghost use Rattle.gvdb_read.specs.Lookups.{ShowsHeld};
 ghost use Rattle.dconf_model.specs.Databases.{AreLayers, IsFirstBad};
 ghost use Rattle.dconf_model.specs.Layers.{first_from, is_locked, level, origin, place_of, visible, visible_bytes, without_user};
-ghost use Rattle.dconf_model.specs.Profiles.{is_written};
+ghost use Rattle.dconf_model.specs.Profiles.{has_writable};
 ghost use Rattle.dconf_model.specs.Settings.{no_settings};
 ghost use Rattle.dconf_path.specs.Paths.{key_text};
 ghost use Rattle.dconf_path.specs.Profiles.{databases_of};
@@ -28,7 +28,7 @@ use std::marker::Model;
 #[derive(Drop)]
 pub struct Engine<'a> {
     pub(crate) alloc: Global,
-    written: bool,
+    writable: bool,
     pub(crate) layers: Vec<Layer<'a>>,
     pub(crate) changes: Changes,
 }
@@ -43,7 +43,7 @@ impl<'a> Model for Engine<'a> {
 
     ghost use Rattle.dconf_engine.specs.EngineLayers.{layers_of};
 
-    ghost view = { λ e. layers_of e.changes e.layers.items e.written };
+    ghost view = { λ e. layers_of e.changes e.layers.items e.writable };
 }
 
 impl<'a> Engine<'a> {
@@ -61,7 +61,7 @@ impl<'a> Engine<'a> {
     ) -> Result<Engine<'a>, EngineFault>
         requires { length files.now ≡ length (databases_of profile.now) }
         ensures layers { IfOk result (λ engine. AreLayers (bytes_of_files files.now) engine.layers) }
-        ensures written { IfOk result (λ engine. engine.written ≡ is_written (databases_of profile.now)) }
+        ensures writable { IfOk result (λ engine. engine.writable ≡ has_writable (databases_of profile.now)) }
         ensures fault { IfErr result (λ e. IfSome (bad_of e) (λ bad. IsFirstBad (bytes_of_files files.now) bad.0 bad.1)) }
     {
         let layers = open_layers(alloc, files)?;
@@ -73,24 +73,24 @@ impl<'a> Engine<'a> {
     /// An error comes where a growth is refused. It copies the layers, and not their files.
     pub fn of_layers(
         alloc: Global,
-        written: bool,
+        writable: bool,
         layers: &[Layer<'a>],
     ) -> Result<Engine<'a>, AllocError>
-        ensures { IfOk result (λ engine. engine ≡ record { layers = map settings_of layers.now; written = written }) }
+        ensures { IfOk result (λ engine. engine ≡ record { layers = map settings_of layers.now; writable = writable }) }
     {
         let mut copy = Vec::with_capacity(alloc, layers.len())?;
         copy.extend_from_slice(layers)?;
-        Ok(Engine::of_opened(alloc, written, copy))
+        Ok(Engine::of_opened(alloc, writable, copy))
     }
 
     /// The engine of these layers, of which none is changed.
-    fn of_opened(alloc: Global, written: bool, layers: Vec<Layer<'a>>) -> Engine<'a>
-        ensures { result ≡ record { layers = map settings_of layers.entry.items; written = written } }
+    fn of_opened(alloc: Global, writable: bool, layers: Vec<Layer<'a>>) -> Engine<'a>
+        ensures { result ≡ record { layers = map settings_of layers.entry.items; writable = writable } }
     {
         let changes = Changes::new(alloc);
         Engine {
             alloc,
-            written,
+            writable,
             layers,
             changes,
         }
@@ -133,9 +133,9 @@ impl<'a> Engine<'a> {
 
     /// Whether the first database is the user's, which may be written.
     pub fn is_writable(&self) -> bool
-        ensures { result ≡ self.now.written }
+        ensures { result ≡ self.now.writable }
     {
-        self.written
+        self.writable
     }
 
     /// Where the value that is seen at a path is: its layer, and its bytes.
@@ -150,7 +150,7 @@ impl<'a> Engine<'a> {
         ensures { option_map {U = ℕ × List ℕ} (λ p. (p.0, p.1.now)) result ≡ place_of (without_user self.now) (key_text path.entry) }
     {
         let level = self.level(path);
-        if self.written && level == 0 {
+        if self.writable && level == 0 {
             return self.place_from(1, path);
         }
         self.place_from(level, path)
@@ -190,7 +190,7 @@ impl<'a> Engine<'a> {
     fn lent(&self) -> LentLayers<'a, '_>
         ensures { drop 1 (seen_in result).layers ≡ drop 1 self.now.layers }
     {
-        LentLayers::new(self.written, &self.layers)
+        LentLayers::new(self.writable, &self.layers)
     }
 
     /// How many layers there are.
@@ -229,7 +229,7 @@ fn open_layers<'a>(alloc: Global, files: &[Option<&'a [u8]>]) -> Result<Vec<Laye
 
 /// Whether the first database of a profile is the user's.
 fn is_of_user(profile: &Profile<'_>) -> bool
-    ensures { result ≡ is_written (databases_of profile.now) }
+    ensures { result ≡ has_writable (databases_of profile.now) }
 {
     match profile.databases().first() {
         Some(database) => database.kind == DatabaseKind::User,

@@ -18,7 +18,7 @@ use gvdb_read::HashedName;
 #[derive(Clone, Copy, Debug)]
 pub struct LentLayers<'a, 'l> {
     pub(crate) layers: &'l [Layer<'a>],
-    written: bool,
+    writable: bool,
 }
 
 impl<'a, 'l> LentLayers<'a, 'l> {
@@ -26,10 +26,10 @@ impl<'a, 'l> LentLayers<'a, 'l> {
     ghost use Rattle.gvdb_read.specs.HashedNames.{name_text};
 
     /// These layers. Where `written`, the first is the user's.
-    pub fn new(written: bool, layers: &'l [Layer<'a>]) -> LentLayers<'a, 'l>
-        ensures { seen_in result ≡ record { layers = map settings_of layers.entry.now; written = written } }
+    pub fn new(writable: bool, layers: &'l [Layer<'a>]) -> LentLayers<'a, 'l>
+        ensures { seen_in result ≡ record { layers = map settings_of layers.entry.now; writable = writable } }
     {
-        LentLayers { layers, written }
+        LentLayers { layers, writable }
     }
 
     /// The first `count` layers.
@@ -41,7 +41,7 @@ impl<'a, 'l> LentLayers<'a, 'l> {
         }
         LentLayers {
             layers: &self.layers[..count],
-            written: self.written,
+            writable: self.writable,
         }
     }
 
@@ -95,7 +95,7 @@ impl<'a, 'l> LentLayers<'a, 'l> {
         ensures { option_map {U = ℕ × List ℕ} (λ p. (p.0, p.1.now)) result ≡ place_of (without_user (seen_in self.entry)) (key_text path.entry) }
     {
         let level = self.level(path);
-        if self.written && level == 0 {
+        if self.writable && level == 0 {
             return self.place_from(1, path);
         }
         self.place_from(level, path)

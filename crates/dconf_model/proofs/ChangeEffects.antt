@@ -22,9 +22,9 @@ use Rattle.dconf_model.proofs.HeldLaws.{IsWholeOption}
 use Rattle.dconf_model.proofs.ValueLaws.{stored_is_held}
 use Rattle.dconf_model.proofs.LastValues.{last_step, get_all, last_whole, last_kept, last_none, all_kept, whole_kept}
 
--- layers of which the first is written
+-- layers of which the first may be written
 abbrev pub store : Settings → List Settings → Layers
-store s later = record { layers = s ∷ later; written = true }
+store s later = record { layers = s ∷ later; writable = true }
 
 abbrev pub with_values : Settings → Values → Settings
 with_values s values = record { values = values; locks = s.locks }

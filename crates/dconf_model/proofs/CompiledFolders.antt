@@ -10,7 +10,7 @@ use Rattle.dconf_model.specs.Settings.{Settings}
 use Rattle.dconf_model.specs.FaultTexts.{no_file_text, line_fault_text}
 use Rattle.dconf_model.specs.Folders.{Event, read_content}
 use Rattle.dconf_model.specs.Replacing.{new_name, Replaced}
-use Rattle.dconf_model.specs.Profiles.{Database, database_file, is_written}
+use Rattle.dconf_model.specs.Profiles.{Database, database_file, has_writable}
 use Rattle.dconf_model.specs.Reads.{Content, read_of, steady}
 use Rattle.dconf_model.specs.Reads.FileRead.{holds, over_size}
 use Rattle.dconf_model.specs.Sources.{Source, Given, FileFault, given, last_value, taken, first_file}
@@ -19,7 +19,7 @@ use Rattle.dconf_model.specs.Outcomes.{Gives, Outcome, Output, WithFiles, OrNoRe
 use Rattle.dconf_model.specs.Runs.{Did}
 use Rattle.dconf_model.specs.Runs.RunEnding.{as_meant}
 use Rattle.dconf_model.specs.Stores.{OwnValues, AllGive}
-use Rattle.dconf_model.specs.Programs.{AreRead, FolderStands, NameGives, NamesGive, GivenStands, NoFileGivesNothing, AreSources, Compiled, CompileGives, given_compiled, CompileSteps}
+use Rattle.dconf_model.specs.Programs.{AreRead, FolderHolds, NameGives, NamesGive, GivenHolds, NoFileGivesNothing, AreSources, Compiled, CompileGives, given_compiled, CompileSteps}
 use Rattle.dconf_model.proofs.DatabasesGiven.{missing_gives_nothing, compiled_gives}
 use Rattle.dconf_model.proofs.SoundGiven.{gives_some}
 use Rattle.dconf_model.proofs.ProgramLaws.{Refuses}
@@ -48,8 +48,8 @@ gathered content (d ∷ ds) (g ∷ gs) h =
       give = (h.0.2.2, rest.give);
     }
 
-pub given_stands : GivenStands
-given_stands content profile text d ds g gs profile_is names h =
+pub given_holds : GivenHolds
+given_holds content profile text d ds g gs profile_is names h =
     let rest = gathered content ds gs h.1 in
     let first = h.0.2 in
     record {
@@ -59,10 +59,10 @@ given_stands content profile text d ds g gs profile_is names h =
       first = h.0.0;
       others = rest.items;
       read = (h.0.1, rest.read);
-      opened = record { layers = first.0 ∷ rest.settings; written = is_written (d ∷ ds) };
+      opened = record { layers = first.0 ∷ rest.settings; writable = has_writable (d ∷ ds) };
       layers = (first.1, rest.layers);
-      written = refl;
-      stands = record { first = first.0; later = rest.settings; layers = refl; others_are = rest.layers; gives = rest.give; own_is = first.2.values };
+      writable = refl;
+      held = record { first = first.0; later = rest.settings; layers = refl; others_are = rest.layers; gives = rest.give; own_is = first.2.values };
     }
 
 pub no_file_gives_nothing : NoFileGivesNothing
@@ -88,15 +88,15 @@ record GivesNow (content : Content) (d : Database) (ds : List Database) (own : O
   same : last_value now.values ≡ own
 
 gives_now : (content : Content) (profile : List ℕ) (d : Database) (ds : List Database) (own : OwnValues) (gs : List Given) →
-    FolderStands content profile d ds own gs → GivesNow content d ds own gs
+    FolderHolds content profile d ds own gs → GivesNow content d ds own gs
 gives_now content profile d ds own gs h =
-    let s = h.stands.first in
+    let s = h.held.first in
     let some = gives_some s in
-    let layers = subst (AreLayers (h.first ∷ h.others)) h.stands.layers h.layers in
+    let layers = subst (AreLayers (h.first ∷ h.others)) h.held.layers h.layers in
     record {
       now = some.0;
-      gives = ((h.first, h.read.0, (s, layers.0, some.1)), names_give content ds h.others h.stands.later gs h.read.1 layers.1 h.stands.gives);
-      same = λ i path. (sym (some.1.values path) ∙ h.stands.own_is path) i;
+      gives = ((h.first, h.read.0, (s, layers.0, some.1)), names_give content ds h.others h.held.later gs h.read.1 layers.1 h.held.gives);
+      same = λ i path. (sym (some.1.values path) ∙ h.held.own_is path) i;
     }
 
 -- ---- files that are read
@@ -231,6 +231,6 @@ compile_steps profile d ds own gs out lock_name names g old new h apart fresh c 
     let b = bytes_eq (database_file d) out in
     let first = one_gives old new out lock_name names g c (database_file d) n.now b refl fresh.0 n.gives.0 in
     let rest = all_give old new out lock_name names g c ds gs fresh.1 n.gives.1 in
-    subst (λ own. FolderStands (read_content new) profile d ds own (given_compiled out g ds gs)) (values_of b g n.now own n.same)
-    (given_stands (read_content new) profile h.text d ds (cond b g n.now) (given_compiled out g ds gs)
+    subst (λ own. FolderHolds (read_content new) profile d ds own (given_compiled out g ds gs)) (values_of b g n.now own n.same)
+    (given_holds (read_content new) profile h.text d ds (cond b g n.now) (given_compiled out g ds gs)
     (ap read_of (c.others profile apart) ∙ h.profile_is) h.names (first, rest))

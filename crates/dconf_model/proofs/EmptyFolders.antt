@@ -6,7 +6,7 @@ use Rattle.dconf_model.specs.Lines.{LineFault}
 use Rattle.dconf_model.specs.Folders.{Event, read_content}
 use Rattle.dconf_model.specs.Commands.{Command}
 use Rattle.dconf_model.specs.Commands.Command.{show, read, list, list_locks, write, reset, reset_below, dump, load, origin, compile, check, repair}
-use Rattle.dconf_model.specs.Profiles.{Database, profile_of, is_written}
+use Rattle.dconf_model.specs.Profiles.{Database, profile_of, has_writable}
 use Rattle.dconf_model.specs.Reads.{Input, read_of, steady}
 use Rattle.dconf_model.specs.Reads.FileRead.{holds}
 use Rattle.dconf_model.specs.Layers.{Layers, visible, without_user, child_names, locks_below, paths_below, origin as origin_of}
@@ -15,17 +15,17 @@ use Rattle.dconf_model.specs.Programs.{IsQuestion, EmptyPrintsNothing}
 use Rattle.dconf_model.proofs.EmptyStores.{no_layers}
 
 abbrev no_store : Layers
-no_store = record { layers = []; written = false }
+no_store = record { layers = []; writable = false }
 
 -- what a command goes on with
 opened_empty : (Go : List Database → Layers → Gives) (o : Outcome) → WithLayers [] false (Go []) o → Go [] no_store o
-opened_empty Go o (inl opened) = subst (λ ls. Go [] (record { layers = ls; written = false }) o) (no_layers opened.0 opened.1) opened.2
+opened_empty Go o (inl opened) = subst (λ ls. Go [] (record { layers = ls; writable = false }) o) (no_layers opened.0 opened.1) opened.2
 opened_empty Go o (inr bad) = absurd bad.2
 
 goes_on : (old : List Event) (profile file text : List ℕ) (f : Option PathFault) (Go : List Database → Layers → Gives) (o : Outcome) → file ≡ profile → f ≡ None →
     read_of (read_content old profile) ≡ holds text → profile_of text ≡ Ok [] → UnlessFault f (WithStore (steady (read_content old)) file Go) o → Go [] no_store o
 goes_on old profile file text f Go o same no_fault profile_is names h =
-    let K2 : List Database → Gives = λ databases. WithDatabases (steady (read_content old)) 1 databases (λ items. WithLayers items (is_written databases) (Go databases)) in
+    let K2 : List Database → Gives = λ databases. WithDatabases (steady (read_content old)) 1 databases (λ items. WithLayers items (has_writable databases) (Go databases)) in
     let K1 : List ℕ → Gives = λ bytes. OrLine profile (profile_of bytes) K2 in
     let asked = subst (λ file. WithStore (steady (read_content old)) file Go o) same
     (subst (λ (f : Option PathFault). UnlessFault f (WithStore (steady (read_content old)) file Go) o) no_fault h) in

@@ -12,7 +12,7 @@ no_layers (s ∷ ss) h = absurd h
 
 pub empty_has_nothing : EmptyHasNothing
 empty_has_nothing l h =
-    let is_l : l ≡ record { layers = []; written = l.written } = λ i. record { layers = no_layers l.layers h i; written = l.written } in
+    let is_l : l ≡ record { layers = []; writable = l.writable } = λ i. record { layers = no_layers l.layers h i; writable = l.writable } in
     record {
       values = λ path. ap (λ (l : Layers). visible l path) is_l;
       children = λ directory. ap (λ (l : Layers). child_names l directory) is_l;

@@ -9,7 +9,7 @@ use Rattle.dconf_model.specs.Folders.{Event, read_content}
 use Rattle.dconf_model.specs.Opening.{root_of}
 use Rattle.dconf_model.specs.Commands.{Command}
 use Rattle.dconf_model.specs.Commands.Command.{show, read, list, list_locks, write, reset, reset_below, dump, load, origin, compile, check, repair}
-use Rattle.dconf_model.specs.Profiles.{Database, database_file, is_written, profile_of}
+use Rattle.dconf_model.specs.Profiles.{Database, database_file, has_writable, profile_of}
 use Rattle.dconf_model.specs.Reads.{Content, Input, ReadResults, steady}
 use Rattle.dconf_model.specs.Settings.{Settings}
 use Rattle.dconf_model.specs.Sources.{Given}
@@ -20,7 +20,7 @@ use Rattle.dconf_model.specs.Outcomes.{Gives, Outcome, Output, WithStore, WithDa
 use Rattle.dconf_model.specs.FaultTexts.{device_text}
 use Rattle.dconf_model.specs.Runs.{ReadsFrom}
 use Rattle.dconf_model.specs.Stores.{OwnValues}
-use Rattle.dconf_model.specs.Programs.{FolderStands, AreRead, found, Prints, IsQuestion, QuestionsAreAnswered}
+use Rattle.dconf_model.specs.Programs.{FolderHolds, AreRead, found, Prints, IsQuestion, QuestionsAreAnswered}
 use Rattle.dconf_model.proofs.OpenLaws as opens
 use Rattle.dconf_model.proofs.SoundLaws.{sound_has_no_fault}
 use Rattle.dconf_model.proofs.ReopenLaws.{one_list}
@@ -70,17 +70,17 @@ databases_read content n (d ∷ ds) (item ∷ items) Go o h w =
 
 -- a command that opens the store goes on with these layers
 pub store_is_opened : (content : Content) (profile : List ℕ) (d : Database) (ds : List Database) (own : OwnValues) (gs : List Given)
-    (h : FolderStands content profile d ds own gs) (Go : List Database → Layers → Gives) (o : Outcome) →
+    (h : FolderHolds content profile d ds own gs) (Go : List Database → Layers → Gives) (o : Outcome) →
     WithStore (steady content) profile Go o → Go (d ∷ ds) h.opened o
 store_is_opened content profile d ds own gs h Go o w =
-    let K3 : List Database → List MaybeBytes → Gives = λ databases items. WithLayers items (is_written databases) (Go databases) in
+    let K3 : List Database → List MaybeBytes → Gives = λ databases items. WithLayers items (has_writable databases) (Go databases) in
     let K2 : List Database → Gives = λ databases. WithDatabases (steady content) 1 databases (K3 databases) in
     let K1 : List ℕ → Gives = λ bytes. OrLine profile (profile_of bytes) K2 in
     let in_text : K1 h.text o = subst (λ r. OrNoRead profile r K1 o) h.profile_is w in
     let in_lines : K2 (d ∷ ds) o = subst (λ (r : Result (List Database) LineFault). OrLine profile r K2 o) h.names in_text in
     elim (databases_read content 1 (d ∷ ds) (h.first ∷ h.others) (K3 (d ∷ ds)) o h.read in_lines) [
       | inl layers ↦ (let same : layers.0 ≡ h.opened.layers = one_list (h.first ∷ h.others) layers.0 h.opened.layers layers.1 h.layers in
-          subst (λ (l : Layers). Go (d ∷ ds) l o) (λ i. record { layers = same i; written = sym h.written i }) layers.2)
+          subst (λ (l : Layers). Go (d ∷ ds) l o) (λ i. record { layers = same i; writable = sym h.writable i }) layers.2)
       | inr bad ↦ absurd (none_bad (h.first ∷ h.others) h.opened.layers bad.0 bad.1 h.layers bad.2)
     ]
 
@@ -104,10 +104,10 @@ databases_any es reads n (d ∷ ds) (item ∷ items) Go o from h w =
 
 -- a command refuses, or goes on with these layers
 pub store_if_read : (es : List Event) (reads : ReadResults) (profile : List ℕ) (d : Database) (ds : List Database) (own : OwnValues) (gs : List Given)
-    (h : FolderStands (read_content es) profile d ds own gs) (Go : List Database → Layers → Gives) (o : Outcome) → ReadsFrom es reads →
+    (h : FolderHolds (read_content es) profile d ds own gs) (Go : List Database → Layers → Gives) (o : Outcome) → ReadsFrom es reads →
     WithStore reads profile Go o → Refuses o ⊎ Go (d ∷ ds) h.opened o
 store_if_read es reads profile d ds own gs h Go o from w =
-    let K3 : List Database → List MaybeBytes → Gives = λ databases items. WithLayers items (is_written databases) (Go databases) in
+    let K3 : List Database → List MaybeBytes → Gives = λ databases items. WithLayers items (has_writable databases) (Go databases) in
     let K2 : List Database → Gives = λ databases. WithDatabases reads 1 databases (K3 databases) in
     let K1 : List ℕ → Gives = λ bytes. OrLine profile (profile_of bytes) K2 in
     elim (from 0 profile) [
@@ -117,7 +117,7 @@ store_if_read es reads profile d ds own gs h Go o from w =
             | inl why ↦ inl why
             | inr on ↦ elim on [
               | inl layers ↦ (let same : layers.0 ≡ h.opened.layers = one_list (h.first ∷ h.others) layers.0 h.opened.layers layers.1 h.layers in
-                  inr (subst (λ (l : Layers). Go (d ∷ ds) l o) (λ i. record { layers = same i; written = sym h.written i }) layers.2))
+                  inr (subst (λ (l : Layers). Go (d ∷ ds) l o) (λ i. record { layers = same i; writable = sym h.writable i }) layers.2))
               | inr bad ↦ absurd (none_bad (h.first ∷ h.others) h.opened.layers bad.0 bad.1 h.layers bad.2)
             ]
           ])
@@ -131,7 +131,7 @@ abbrev Shows : Type 1
 Shows = List Database → Layers → Gives
 
 goes_on : (old : List Event) (profile file : List ℕ) (d : Database) (ds : List Database) (own : OwnValues) (gs : List Given)
-    (h : FolderStands (read_content old) profile d ds own gs) (f : Option PathFault) (S : Shows) (o : Outcome) → file ≡ profile → f ≡ None →
+    (h : FolderHolds (read_content old) profile d ds own gs) (f : Option PathFault) (S : Shows) (o : Outcome) → file ≡ profile → f ≡ None →
     UnlessFault f (WithStore (steady (read_content old)) file S) o → S (d ∷ ds) h.opened o
 goes_on old profile file d ds own gs h f S o same no_fault is =
     store_is_opened (read_content old) profile d ds own gs h S o
@@ -139,7 +139,7 @@ goes_on old profile file d ds own gs h f S o same no_fault is =
     (subst (λ (f : Option PathFault). UnlessFault f (WithStore (steady (read_content old)) file S) o) no_fault is))
 
 module _ (old : List Event) (profile : List ℕ) (d : Database) (ds : List Database) (own : OwnValues) (gs : List Given)
-    (h : FolderStands (read_content old) profile d ds own gs) (output : Output) where
+    (h : FolderHolds (read_content old) profile d ds own gs) (output : Output) where
   by_outcome : (o p : Outcome) → output ≡ o.output → o ≡ p → output ≡ p.output
   by_outcome o p e same = e ∙ ap (λ (o : Outcome). o.output) same
 
@@ -147,37 +147,37 @@ module _ (old : List Event) (profile : List ℕ) (d : Database) (ds : List Datab
       output ≡ o.output → Prints (d ∷ ds) own gs command output
   answered (read false key file) input o asks is e =
       let shown = goes_on old profile file d ds own gs h (key_fault key) (λ databases l o. o ≡ shown_if_any (visible l key)) o asks.0 asks.1 is in
-      by_outcome o (shown_if_any (visible h.opened key)) e shown ∙ ap (λ v. (shown_if_any v).output) (value_seen h.others own gs h.opened h.stands key)
+      by_outcome o (shown_if_any (visible h.opened key)) e shown ∙ ap (λ v. (shown_if_any v).output) (value_seen h.others own gs h.opened h.held key)
   answered (read true key file) input o asks is e =
       let shown = goes_on old profile file d ds own gs h (key_fault key) (λ databases l o. o ≡ shown_if_any (visible (without_user l) key)) o asks.0 asks.1 is in
       by_outcome o (shown_if_any (visible (without_user h.opened) key)) e shown
-      ∙ ap (λ v. (shown_if_any v).output) (default_seen h.others own gs h.opened h.stands (is_written (d ∷ ds)) h.written key)
+      ∙ ap (λ v. (shown_if_any v).output) (default_seen h.others own gs h.opened h.held (has_writable (d ∷ ds)) h.writable key)
   answered (list directory file) input o asks is e =
       let shown = goes_on old profile file d ds own gs h (directory_fault directory) (λ databases l o. o ≡ done (lines_text (child_names l directory))) o asks.0 asks.1 is in
       record {
         names = parts_below directory (all_paths h.opened.layers);
         printed = by_outcome o (done (lines_text (child_names h.opened directory))) e shown;
-        exact = λ part. (names_from h.others own gs h.opened h.stands directory part, names_to h.others own gs h.opened h.stands directory part);
+        exact = λ part. (names_from h.others own gs h.opened h.held directory part, names_to h.others own gs h.opened h.held directory part);
       }
   answered (list_locks directory file) input o asks is e =
       let shown = goes_on old profile file d ds own gs h (directory_fault directory) (λ databases l o. o ≡ done (lines_text (locks_below l directory))) o asks.0 asks.1 is in
       record {
         locks = filter (λ lock. is_below lock directory) (all_locks (drop 1 h.opened.layers));
         printed = by_outcome o (done (lines_text (locks_below h.opened directory))) e shown;
-        exact = λ lock. (locks_from h.others own gs h.opened h.stands directory lock, locks_to h.others own gs h.opened h.stands directory lock);
+        exact = λ lock. (locks_from h.others own gs h.opened h.held directory lock, locks_to h.others own gs h.opened h.held directory lock);
       }
   answered (dump directory file) input o asks is e =
       let shown = goes_on old profile file d ds own gs h (directory_fault directory) (λ databases l o. o ≡ dump_of directory (settings_at l (paths_below l directory))) o asks.0 asks.1 is in
       record {
         paths = filter (λ path. cond (is_below path directory) (has_value h.opened path) false) (all_paths h.opened.layers);
         printed = by_outcome o (dump_of directory (settings_at h.opened (paths_below h.opened directory))) e shown
-            ∙ ap (λ r. (dump_of directory r).output) (settings_seen h.others own gs h.opened h.stands (paths_below h.opened directory));
-        exact = λ path. (paths_from h.others own gs h.opened h.stands directory path, paths_to h.others own gs h.opened h.stands directory path);
+            ∙ ap (λ r. (dump_of directory r).output) (settings_seen h.others own gs h.opened h.held (paths_below h.opened directory));
+        exact = λ path. (paths_from h.others own gs h.opened h.held directory path, paths_to h.others own gs h.opened h.held directory path);
       }
   answered (origin key file) input o asks is e =
       let shown = goes_on old profile file d ds own gs h (key_fault key) (λ databases l o. o ≡ done (origin_text databases (origin_of l key))) o asks.0 asks.1 is in
       by_outcome o (done (origin_text (d ∷ ds) (origin_of h.opened key))) e shown
-      ∙ ap (λ n. done_output (origin_text (d ∷ ds) n)) (origin_seen h.others own gs h.opened h.stands key)
+      ∙ ap (λ n. done_output (origin_text (d ∷ ds) n)) (origin_seen h.others own gs h.opened h.held key)
   answered (show type file) input o asks is e = absurd asks
   answered (write key text file) input o asks is e = absurd asks
   answered (reset key file) input o asks is e = absurd asks

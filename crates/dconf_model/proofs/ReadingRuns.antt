@@ -15,7 +15,7 @@ use Rattle.dconf_model.specs.Layers.{Layers, visible, without_user, child_names,
 use Rattle.dconf_model.specs.Folders.{Event, read_content}
 use Rattle.dconf_model.specs.Commands.{Command}
 use Rattle.dconf_model.specs.Commands.Command.{show, read, list, list_locks, write, reset, reset_below, dump, load, origin, compile, check, repair}
-use Rattle.dconf_model.specs.Profiles.{Database, database_file, is_written, profile_of}
+use Rattle.dconf_model.specs.Profiles.{Database, database_file, has_writable, profile_of}
 use Rattle.dconf_model.specs.Reads.{FileRead, ReadResults, Input, steady}
 use Rattle.dconf_model.specs.Reads.FileRead.{no_file, holds, over_size, failed}
 use Rattle.dconf_model.specs.Outcomes.{Gives, Outcome, Output, IsOutcome, UnlessFault, WithType, WithFile, OrNoRead, OrNoDatabase, OrLine, WithDatabases, WithLayers}
@@ -60,17 +60,17 @@ databases_leave reads n (d ∷ ds) Go o on h =
     database_leaves (database_file d) (reads n (database_file d)) (λ item. WithDatabases reads (n + 1) ds (λ items. Go (item ∷ items))) o
     (λ item o. databases_leave reads (n + 1) ds (λ items. Go (item ∷ items)) o (λ items. on (item ∷ items))) h
 
-layers_leave : (items : List MaybeBytes) (written : Bool) (Go : Layers → Gives) (o : Outcome) → AllLeave Go → WithLayers items written Go o → Leaves o
-layers_leave items written Go o on (inl opened) = on (record { layers = opened.0; written = written }) o opened.2
-layers_leave items written Go o on (inr bad) = leaves o _ bad.3 refl
+layers_leave : (items : List MaybeBytes) (writable : Bool) (Go : Layers → Gives) (o : Outcome) → AllLeave Go → WithLayers items writable Go o → Leaves o
+layers_leave items writable Go o on (inl opened) = on (record { layers = opened.0; writable = writable }) o opened.2
+layers_leave items writable Go o on (inr bad) = leaves o _ bad.3 refl
 
 store_leaves : (reads : ReadResults) (file : List ℕ) (Go : List Database → Layers → Gives) (o : Outcome) →
     ((databases : List Database) (l : Layers) (o : Outcome) → Go databases l o → Leaves o) → WithStore reads file Go o → Leaves o
 store_leaves reads file Go o on h =
-    let K2 : List Database → Gives = λ databases. WithDatabases reads 1 databases (λ items. WithLayers items (is_written databases) (Go databases)) in
+    let K2 : List Database → Gives = λ databases. WithDatabases reads 1 databases (λ items. WithLayers items (has_writable databases) (Go databases)) in
     read_leaves file (reads 0 file) (λ bytes. OrLine file (profile_of bytes) K2) o
-    (λ bytes o. line_leaves file (profile_of bytes) K2 o (λ databases o. databases_leave reads 1 databases (λ items. WithLayers items (is_written databases) (Go databases)) o
-    (λ items o. layers_leave items (is_written databases) (Go databases) o (on databases)))) h
+    (λ bytes o. line_leaves file (profile_of bytes) K2 o (λ databases o. databases_leave reads 1 databases (λ items. WithLayers items (has_writable databases) (Go databases)) o
+    (λ items o. layers_leave items (has_writable databases) (Go databases) o (on databases)))) h
 
 -- ---- what is printed
 

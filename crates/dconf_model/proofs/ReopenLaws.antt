@@ -60,8 +60,8 @@ reopened_is_same others l file m h =
     let later = h.later in
     let again : m.layers ≡ saved (s ∷ later) ∷ later =
     layers_again s later others file m.layers h.others_are (subst (λ ls. IsDatabaseOf (saved ls) file) h.layers h.saved_is) h.opened in
-    let is_m : m ≡ record { layers = saved (s ∷ later) ∷ later; written = l.written } = λ i. record { layers = again i; written = h.written i } in
-    let is_l : l ≡ record { layers = s ∷ later; written = l.written } = λ i. record { layers = h.layers i; written = l.written } in
+    let is_m : m ≡ record { layers = saved (s ∷ later) ∷ later; writable = l.writable } = λ i. record { layers = again i; writable = h.writable i } in
+    let is_l : l ≡ record { layers = s ∷ later; writable = l.writable } = λ i. record { layers = h.layers i; writable = l.writable } in
     let places : (path : List ℕ) → place_of m path ≡ place_of l path =
     λ path. ap (λ (l : Layers). place_of l path) is_m ∙ (same_place (greatest_from 1 (locks_path path) later) s later path ∙ sym (ap (λ (l : Layers). place_of l path) is_l)) in
     record {

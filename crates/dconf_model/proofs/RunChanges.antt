@@ -29,11 +29,11 @@ use Rattle.dconf_model.specs.Databases.{IsLayer, AreLayers, IsDatabaseOf}
 use Rattle.dconf_model.specs.Layers.{Layers}
 use Rattle.dconf_model.specs.Changes.{Change, Refusal, apply, saved, paths_of}
 use Rattle.dconf_model.specs.Changes.Change.{set_value, reset_value, reset_below_directory, load_values}
-use Rattle.dconf_model.specs.Outcomes.{Gives, Outcome, Output, IsOutcome, Changes, Saves, UnlessFault, UnlessLost, OrCause, OrLine, changing, refusal_text, value_of_word, is_lost}
+use Rattle.dconf_model.specs.Outcomes.{Gives, Outcome, Output, IsOutcome, Changes, Saves, UnlessFault, UnlessFailed, OrCause, OrLine, changing, refusal_text, value_of_word, read_failed}
 use Rattle.dconf_model.specs.Runs.{RanCalmly, Did}
 use Rattle.dconf_model.specs.Runs.RunEnding.{as_meant}
-use Rattle.dconf_model.specs.Stores.{IsWholeChange, OwnValues, own_changed, own_after, Stands}
-use Rattle.dconf_model.specs.Programs.{FolderStands, AreRead, IsApart, AreApart, IsChangeOf, OnlyReads, asked_change, value_change, rows_change, if_done, changes_made, ChangesAreKept, ProgramGives}
+use Rattle.dconf_model.specs.Stores.{IsWholeChange, OwnValues, own_changed, own_after, StoreHolds}
+use Rattle.dconf_model.specs.Programs.{FolderHolds, AreRead, IsApart, AreApart, IsChangeOf, OnlyReads, asked_change, value_change, rows_change, if_done, changes_made, ChangesAreKept, ProgramGives}
 use Rattle.dconf_model.proofs.PathMaps.{no_truth}
 use Rattle.dconf_model.proofs.DatabaseLaws.{written_says_settings}
 use Rattle.dconf_model.proofs.WholeRows.{loaded_whole}
@@ -55,9 +55,9 @@ past_fault : (f : Option PathFault) (Go : Gives) (o : Outcome) → UnlessFault f
 past_fault (Some f) Go o h = inl (path_fault_text f, h)
 past_fault None Go o h = inr h
 
-past_lost : (b : Bool) (Go : Gives) (o : Outcome) → UnlessLost b Go o → Refuses o ⊎ Go o
-past_lost true Go o h = inl (device_text (codes "input"), h)
-past_lost false Go o h = inr h
+past_failed : (b : Bool) (Go : Gives) (o : Outcome) → UnlessFailed b Go o → Refuses o ⊎ Go o
+past_failed true Go o h = inl (device_text (codes "input"), h)
+past_failed false Go o h = inr h
 
 past_cause : (r : Result Tree SettingsCause) (Go : Tree → Gives) (o : Outcome) → OrCause r Go o → Refuses o ⊎ ((v : Tree) × (r ≡ Ok v) × Go v o)
 past_cause (Ok v) Go o h = inr (v, refl, h)
@@ -96,7 +96,7 @@ changing_of reads profile (reset_below directory file) input o same is =
 changing_of reads profile (load force directory file) input o same is =
     elim (past_fault (directory_fault directory) _ o is) [
       | inl why ↦ inl why
-      | inr on ↦ elim (past_lost (is_lost input) _ o on) [
+      | inr on ↦ elim (past_failed (read_failed input) _ o on) [
         | inl why ↦ inl why
         | inr text ↦ elim (past_line (codes "input") (loaded directory input.bytes) _ o text) [
           | inl why ↦ inl why
@@ -181,9 +181,9 @@ pub record Again (others : List MaybeBytes) (own : OwnValues) (gs : List Given) 
   pub settings : Settings
   pub later : List Settings
   pub layers : AreLayers (Some bytes ∷ others) (settings ∷ later)
-  pub stands : (written : Bool) → Stands others own gs (record { layers = settings ∷ later; written = written })
+  pub held : (writable : Bool) → StoreHolds others own gs (record { layers = settings ∷ later; writable = writable })
 
-pub saved_again : (others : List MaybeBytes) (own : OwnValues) (gs : List Given) (m : Layers) (bytes : List ℕ) → Stands others own gs m →
+pub saved_again : (others : List MaybeBytes) (own : OwnValues) (gs : List Given) (m : Layers) (bytes : List ℕ) → StoreHolds others own gs m →
     IsDatabaseOf (saved m.layers) bytes → Again others own gs bytes
 saved_again others own gs m bytes one made =
     let s = saved (one.first ∷ one.later) in
@@ -193,22 +193,22 @@ saved_again others own gs m bytes one made =
       settings = s;
       later = one.later;
       layers = (layer, one.others_are);
-      stands = λ written. after_reopening others own gs m (record { layers = s ∷ one.later; written = written }) one bytes made (layer, one.others_are);
+      held = λ writable. after_reopening others own gs m (record { layers = s ∷ one.later; writable = writable }) one bytes made (layer, one.others_are);
     }
 
 module _ (profile : List ℕ) (d : Database) (ds : List Database) (own : OwnValues) (gs : List Given) (old new : List Event) where
-  unchanged : new ≡ old → FolderStands (read_content old) profile d ds own gs → FolderStands (read_content new) profile d ds own gs
-  unchanged same h = subst (λ es. FolderStands (read_content es) profile d ds own gs) (sym same) h
+  unchanged : new ≡ old → FolderHolds (read_content old) profile d ds own gs → FolderHolds (read_content new) profile d ds own gs
+  unchanged same h = subst (λ es. FolderHolds (read_content es) profile d ds own gs) (sym same) h
 
-  as_before : (n : ℕ) (asked : List Change) → n ≡ 1 → new ≡ old → FolderStands (read_content old) profile d ds own gs →
-      FolderStands (read_content new) profile d ds (own_after gs own (if_done n asked)) gs
-  as_before n asked one same h = subst (λ n. FolderStands (read_content new) profile d ds (own_after gs own (if_done n asked)) gs) (sym one) (unchanged same h)
+  as_before : (n : ℕ) (asked : List Change) → n ≡ 1 → new ≡ old → FolderHolds (read_content old) profile d ds own gs →
+      FolderHolds (read_content new) profile d ds (own_after gs own (if_done n asked)) gs
+  as_before n asked one same h = subst (λ n. FolderHolds (read_content new) profile d ds (own_after gs own (if_done n asked)) gs) (sym one) (unchanged same h)
 
-  replaced : (h : FolderStands (read_content old) profile d ds own gs) → AreApart profile d ds → (change : Change) (m : Layers) (bytes : List ℕ) →
+  replaced : (h : FolderHolds (read_content old) profile d ds own gs) → AreApart profile d ds → (change : Change) (m : Layers) (bytes : List ℕ) →
       IsWholeChange change → apply h.opened change ≡ Ok m → IsDatabaseOf (saved m.layers) bytes → Replaced old new (database_file d) bytes →
-      FolderStands (read_content new) profile d ds (own_changed gs own change) gs
+      FolderHolds (read_content new) profile d ds (own_changed gs own change) gs
   replaced h apart change m bytes whole e made r =
-      let again = saved_again h.others (own_changed gs own change) gs m bytes (after_change h.others own gs h.opened m h.stands change whole e) made in
+      let again = saved_again h.others (own_changed gs own change) gs m bytes (after_change h.others own gs h.opened m h.held change whole e) made in
       record {
         text = h.text;
         profile_is = ap read_of (r.others.others profile apart.profile_is.own apart.profile_is.fresh) ∙ h.profile_is;
@@ -219,17 +219,17 @@ module _ (profile : List ℕ) (d : Database) (ds : List Database) (own : OwnValu
           ap read_of r.read ∙ read_back bytes (saved m.layers) made,
           reads_kept old new (database_file d) ds h.others (λ other a. r.others.others other a.own a.fresh) apart.databases h.read.1,
         );
-        opened = record { layers = again.settings ∷ again.later; written = h.opened.written };
+        opened = record { layers = again.settings ∷ again.later; writable = h.opened.writable };
         layers = again.layers;
-        written = h.written;
-        stands = again.stands h.opened.written;
+        writable = h.writable;
+        held = again.held h.opened.writable;
       }
 
 -- a run that changes the first database
 change_is_kept : (profile : List ℕ) (d : Database) (ds : List Database) (own : OwnValues) (gs : List Given)
     (command : Command) (input : Input) (old new : List Event) (output : Output) → AreApart profile d ds → IsChangeOf profile command →
-    FolderStands (read_content old) profile d ds own gs → RanCalmly command input old new output →
-    FolderStands (read_content new) profile d ds (own_after gs own (if_done output.status (asked_change command input))) gs
+    FolderHolds (read_content old) profile d ds own gs → RanCalmly command input old new output →
+    FolderHolds (read_content new) profile d ds (own_after gs own (if_done output.status (asked_change command input))) gs
 change_is_kept profile d ds own gs command input old new output apart of h (inr m) =
     as_before profile d ds own gs old new output.status (asked_change command input) (ap (λ (o : Output). o.status) m.0) m.1 h
 change_is_kept profile d ds own gs command input old new output apart of h (inl a) =
@@ -239,16 +239,16 @@ change_is_kept profile d ds own gs command input old new output apart of h (inl 
           (store_is_opened (read_content old) profile d ds own gs h (λ databases l. Saves c.1 (user_file databases) (apply l c.0)) a.outcome c.3)) [
             | inl why ↦ refusal why
             | inr made ↦
-                subst (λ n. FolderStands (read_content new) profile d ds (own_after gs own (if_done n (asked_change command input))) gs)
+                subst (λ n. FolderHolds (read_content new) profile d ds (own_after gs own (if_done n (asked_change command input))) gs)
                 (sym (ap (λ (o : Output). o.status) (a.output_is ∙ ap (λ (o : Outcome). o.output) made.4)))
-                (subst (λ cs. FolderStands (read_content new) profile d ds (own_after gs own cs) gs) (sym c.2)
+                (subst (λ cs. FolderHolds (read_content new) profile d ds (own_after gs own cs) gs) (sym c.2)
                 (replaced profile d ds own gs old new h apart c.0 made.0 made.1
                 (subst (AllByRecursion IsWholeChange) c.2 (asked_whole profile command input of)).0 made.2 made.3
                 (subst (λ change. Did change as_meant old new) (ap (λ (o : Outcome). o.change) made.4) a.did)))
           ]
     ]
   where
-    refusal : Refuses a.outcome → FolderStands (read_content new) profile d ds (own_after gs own (if_done output.status (asked_change command input))) gs
+    refusal : Refuses a.outcome → FolderHolds (read_content new) profile d ds (own_after gs own (if_done output.status (asked_change command input))) gs
     refusal why = as_before profile d ds own gs old new output.status (asked_change command input)
         (ap (λ (o : Output). o.status) (a.output_is ∙ ap (λ (o : Outcome). o.output) why.1))
         (subst (λ change. Did change as_meant old new) (ap (λ (o : Outcome). o.change) why.1) a.did) h
@@ -277,11 +277,11 @@ nothing_asked (repair file out) input n reads = absurd reads
 
 run_is_kept : (profile : List ℕ) (d : Database) (ds : List Database) (own : OwnValues) (gs : List Given)
     (command : Command) (input : Input) (old new : List Event) (output : Output) → AreApart profile d ds → IsChangeOf profile command ⊎ OnlyReads command →
-    FolderStands (read_content old) profile d ds own gs → RanCalmly command input old new output →
-    FolderStands (read_content new) profile d ds (own_after gs own (if_done output.status (asked_change command input))) gs
+    FolderHolds (read_content old) profile d ds own gs → RanCalmly command input old new output →
+    FolderHolds (read_content new) profile d ds (own_after gs own (if_done output.status (asked_change command input))) gs
 run_is_kept profile d ds own gs command input old new output apart (inl of) h ran = change_is_kept profile d ds own gs command input old new output apart of h ran
 run_is_kept profile d ds own gs command input old new output apart (inr reads) h ran =
-    subst (λ cs. FolderStands (read_content new) profile d ds (own_after gs own cs) gs) (sym (nothing_asked command input output.status reads))
+    subst (λ cs. FolderHolds (read_content new) profile d ds (own_after gs own cs) gs) (sym (nothing_asked command input output.status reads))
     (unchanged profile d ds own gs old new (calm_reading command input old new output reads ran) h)
 
 pub changes_are_kept : ChangesAreKept
@@ -289,7 +289,7 @@ changes_are_kept profile d ds own gs [] old new apart h of ran = unchanged profi
 changes_are_kept profile d ds own gs (r ∷ more) old new apart h of ran =
     let changes : List Change = if_done r.output.status (asked_change r.command r.input) in
     let one = run_is_kept profile d ds own gs r.command r.input old ran.0 r.output apart of.0 h ran.1 in
-    subst (λ own. FolderStands (read_content new) profile d ds own gs) (own_joined gs own changes (changes_made more))
+    subst (λ own. FolderHolds (read_content new) profile d ds own gs) (own_joined gs own changes (changes_made more))
     (changes_are_kept profile d ds (own_after gs own changes) gs more ran.0 new apart one of.1 ran.2)
 
 pub program_gives : ProgramGives

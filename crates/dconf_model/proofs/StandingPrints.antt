@@ -18,7 +18,7 @@ use Rattle.dconf_model.specs.Values.{held_value}
 use Rattle.dconf_model.specs.Sources.{Given, last_value}
 use Rattle.dconf_model.specs.Layers.{Layers, visible, visible_bytes, without_user, emptied, all_locks, all_paths, locks_below, paths_below, has_value}
 use Rattle.dconf_model.specs.Outcomes.{settings_at, with_value_if_any}
-use Rattle.dconf_model.specs.Stores.{OwnValues, Stands, AllGive, IsNamed, is_given, is_lock_given, first_given, level_given, value_given, value_from}
+use Rattle.dconf_model.specs.Stores.{OwnValues, StoreHolds, AllGive, IsNamed, is_given, is_lock_given, first_given, level_given, value_given, value_from}
 use Rattle.dconf_model.specs.Programs.{own_or_none, settings_given}
 use Rattle.dconf_model.proofs.PathMaps.{no_truth}
 use Rattle.dconf_model.proofs.HeldLaws.{held_there}
@@ -79,11 +79,11 @@ seen_is_named n own gs path e = go (n == 0) e
     go true e = own_or_given (own path) gs path e
     go false e = inl (dropped_is_given (n - 1) gs path (first_is_given (drop (n - 1) gs) path e))
 
-module _ (others : List MaybeBytes) (own : OwnValues) (gs : List Given) (l : Layers) (h : Stands others own gs l) where
+module _ (others : List MaybeBytes) (own : OwnValues) (gs : List Given) (l : Layers) (h : StoreHolds others own gs l) where
   -- ---- without the user's values
 
-  none_stands : Stands others (λ path. None) gs (record { layers = emptied l.layers; written = true })
-  none_stands = record {
+  none_holds : StoreHolds others (λ path. None) gs (record { layers = emptied l.layers; writable = true })
+  none_holds = record {
     first = record { values = empty; locks = h.first.locks };
     later = h.later;
     layers = ap emptied h.layers;
@@ -92,12 +92,12 @@ module _ (others : List MaybeBytes) (own : OwnValues) (gs : List Given) (l : Lay
     own_is = λ path. ap (option_and_then held_value) (get-empty (slice_cmp nat_cmp) path);
   }
 
-  pub default_seen : (b : Bool) → l.written ≡ b → (path : List ℕ) → visible (without_user l) path ≡ value_given path (own_or_none b (own path)) gs
+  pub default_seen : (b : Bool) → l.writable ≡ b → (path : List ℕ) → visible (without_user l) path ≡ value_given path (own_or_none b (own path)) gs
   default_seen true e path =
-      ap (λ b. visible (cond b (record { layers = emptied l.layers; written = true }) l) path) e
-      ∙ value_seen others (λ path. None) gs (record { layers = emptied l.layers; written = true }) none_stands path
+      ap (λ b. visible (cond b (record { layers = emptied l.layers; writable = true }) l) path) e
+      ∙ value_seen others (λ path. None) gs (record { layers = emptied l.layers; writable = true }) none_holds path
   default_seen false e path =
-      ap (λ b. visible (cond b (record { layers = emptied l.layers; written = true }) l) path) e ∙ value_seen others own gs l h path
+      ap (λ b. visible (cond b (record { layers = emptied l.layers; writable = true }) l) path) e ∙ value_seen others own gs l h path
 
   -- ---- locks below a directory
 

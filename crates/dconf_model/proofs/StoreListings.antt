@@ -14,13 +14,13 @@ use Rattle.dconf_model.specs.SoundLaws.{first_part}
 use Rattle.dconf_model.specs.Sources.{Given, last_value}
 use Rattle.dconf_model.specs.Layers.{Layers, child_names, all_paths, parts_below}
 use Rattle.dconf_model.specs.Order.{listing}
-use Rattle.dconf_model.specs.Stores.{OwnValues, own_after, is_given, AllGive, Stands, IsNamed, changes_of, EachListingIsExact}
+use Rattle.dconf_model.specs.Stores.{OwnValues, own_after, is_given, AllGive, StoreHolds, IsNamed, changes_of, EachListingIsExact}
 use Rattle.dconf_model.proofs.PathMaps.{key_in, no_truth}
 use Rattle.dconf_model.proofs.SameBytes.{same_path}
 use Rattle.dconf_model.proofs.HeldLaws.{held_there}
 use Rattle.dconf_model.proofs.DatabasesGiven.{has_given}
 use Rattle.dconf_model.proofs.Listings.{listing_has, listing_from, part_of_path, path_of_part, none_of_none}
-use Rattle.dconf_model.proofs.StoreValues.{all_stand, opened_stands}
+use Rattle.dconf_model.proofs.StoreValues.{all_stand, opened_holds}
 
 -- ---- paths of layers
 
@@ -53,7 +53,7 @@ path_given (s ∷ ss) (g ∷ gs) p h e =
       | inr later ↦ Contains-append_right (keys s.values) (all_paths ss) p (path_given ss gs p h.1 later)
     ]
 
-module _ (others : List MaybeBytes) (own : OwnValues) (gs : List Given) (l : Layers) (h : Stands others own gs l) where
+module _ (others : List MaybeBytes) (own : OwnValues) (gs : List Given) (l : Layers) (h : StoreHolds others own gs l) where
   named : (p : List ℕ) → Contains (all_paths (h.first ∷ h.later)) p → IsNamed own gs p
   named p k =
       elim (Contains-append_cases (keys h.first.values) (all_paths h.later) p k) [
@@ -87,5 +87,5 @@ module _ (others : List MaybeBytes) (own : OwnValues) (gs : List Given) (l : Lay
 pub each_listing_is_exact : EachListingIsExact
 each_listing_is_exact first others g gs opened l deeds directory part h did =
     let own = own_after gs (last_value g.values) (changes_of deeds) in
-    let stands = all_stand others (last_value g.values) gs opened l deeds (opened_stands first others g gs opened h) did in
-    (names_from others own gs l stands directory part, names_to others own gs l stands directory part)
+    let held = all_stand others (last_value g.values) gs opened l deeds (opened_holds first others g gs opened h) did in
+    (names_from others own gs l held directory part, names_to others own gs l held directory part)

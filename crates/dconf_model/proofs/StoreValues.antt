@@ -13,7 +13,7 @@ use Rattle.dconf_model.specs.Databases.{AreLayers, IsDatabaseOf}
 use Rattle.dconf_model.specs.Layers.{Layers, visible, origin, first_from, greatest_from, locks_path}
 use Rattle.dconf_model.specs.Changes.{Change, Refusal, apply, change_written, saved}
 use Rattle.dconf_model.specs.Changes.Refusal.{not_writable}
-use Rattle.dconf_model.specs.Stores.{IsWholeChange, OwnValues, own_changed, own_after, first_given, first_number, level_given, value_given, value_from, number_given, number_from, heard, Saying, saying_of, AllGive, Stands, Deed, Did, changes_of, IsOpenedStore, EachValueIsGiven}
+use Rattle.dconf_model.specs.Stores.{IsWholeChange, OwnValues, own_changed, own_after, first_given, first_number, level_given, value_given, value_from, number_given, number_from, heard, Saying, saying_of, AllGive, StoreHolds, Deed, Did, changes_of, IsOpenedStore, EachValueIsGiven}
 use Rattle.dconf_model.specs.Stores.Deed.{changed, reopened}
 use Rattle.dconf_model.proofs.DatabasesGiven.{level_gives, first_gives, number_gives, dropped_give, value_from_layers, value_before, number_of, number_before, files_give}
 use Rattle.dconf_model.proofs.ChangeEffects.{store, with_values, value_at, step_of}
@@ -48,7 +48,7 @@ number_seen (suc k) s ss gs path own h same =
     ∙ (ap (λ n. first_number (suc k) (drop n gs) path) (sym less)
     ∙ sym (ap (λ b. cond b (cond (is_some own) (Some 0) (first_number 1 gs path)) (first_number (suc k) (drop (suc k - 1) gs) path)) (other_level k)))
 
-module _ (others : List MaybeBytes) (own : OwnValues) (gs : List Given) (l : Layers) (h : Stands others own gs l) where
+module _ (others : List MaybeBytes) (own : OwnValues) (gs : List Given) (l : Layers) (h : StoreHolds others own gs l) where
   pub value_seen : (path : List ℕ) → visible l path ≡ value_given path (own path) gs
   value_seen path =
       ap (λ ls. value_from_layers (greatest_from 1 (locks_path path) (drop 1 ls)) (drop (greatest_from 1 (locks_path path) (drop 1 ls)) ls) path) h.layers
@@ -77,10 +77,10 @@ is_open : (b : Bool) (r : Result Layers Refusal) (m : Layers) → cond b r (Err 
 is_open true r m e = refl
 is_open false r m e = cc
 
-module _ (others : List MaybeBytes) (own : OwnValues) (gs : List Given) (l m : Layers) (h : Stands others own gs l) where
-  pub after_change : (change : Change) → IsWholeChange change → apply l change ≡ Ok m → Stands others (own_changed gs own change) gs m
+module _ (others : List MaybeBytes) (own : OwnValues) (gs : List Given) (l m : Layers) (h : StoreHolds others own gs l) where
+  pub after_change : (change : Change) → IsWholeChange change → apply l change ≡ Ok m → StoreHolds others (own_changed gs own change) gs m
   after_change change whole e =
-      let is_l : l ≡ store h.first h.later = λ i. record { layers = h.layers i; written = is_open l.written (change_written l change) m e i } in
+      let is_l : l ≡ store h.first h.later = λ i. record { layers = h.layers i; writable = is_open l.writable (change_written l change) m e i } in
       let accepted : apply (store h.first h.later) change ≡ Ok m = subst (λ (l : Layers). apply l change ≡ Ok m) is_l e in
       let made = step_of h.first h.later change m whole accepted in
       record {
@@ -97,7 +97,7 @@ module _ (others : List MaybeBytes) (own : OwnValues) (gs : List Given) (l m : L
             (h.own_is path));
       }
 
-  pub after_reopening : (file : List ℕ) → IsDatabaseOf (saved l.layers) file → AreLayers (Some file ∷ others) m.layers → Stands others own gs m
+  pub after_reopening : (file : List ℕ) → IsDatabaseOf (saved l.layers) file → AreLayers (Some file ∷ others) m.layers → StoreHolds others own gs m
   after_reopening file written opened = record {
     first = saved (h.first ∷ h.later);
     later = h.later;
@@ -108,8 +108,8 @@ module _ (others : List MaybeBytes) (own : OwnValues) (gs : List Given) (l m : L
   }
 
 pub all_stand : (others : List MaybeBytes) (own : OwnValues) (gs : List Given) (l m : Layers) (deeds : List Deed) →
-    Stands others own gs l → Did others l deeds m → Stands others (own_after gs own (changes_of deeds)) gs m
-all_stand others own gs l m [] h did = subst (Stands others own gs) (sym did) h
+    StoreHolds others own gs l → Did others l deeds m → StoreHolds others (own_after gs own (changes_of deeds)) gs m
+all_stand others own gs l m [] h did = subst (StoreHolds others own gs) (sym did) h
 all_stand others own gs l m (changed change ∷ more) h did =
     all_stand others (own_changed gs own change) gs did.0 m more (after_change others own gs l did.0 h change did.1.0 did.1.1) did.2
 all_stand others own gs l m (reopened file ∷ more) h did =
@@ -118,19 +118,19 @@ all_stand others own gs l m (reopened file ∷ more) h did =
 -- ---- opened
 
 opened_by : (first : MaybeBytes) (others : List MaybeBytes) (g : Given) (gs : List Given) (l : Layers) (ls : List Settings) → l.layers ≡ ls →
-    AreLayers (first ∷ others) ls → IsOpenedStore first others g gs l → Stands others (last_value g.values) gs l
+    AreLayers (first ∷ others) ls → IsOpenedStore first others g gs l → StoreHolds others (last_value g.values) gs l
 opened_by first others g gs l [] e k h = absurd k
 opened_by first others g gs l (s ∷ ss) e k h =
     let give = files_give (first ∷ others) (g ∷ gs) (s ∷ ss) h.gives k in
     record { first = s; later = ss; layers = e; others_are = k.1; gives = give.1; own_is = give.0.values }
 
-pub opened_stands : (first : MaybeBytes) (others : List MaybeBytes) (g : Given) (gs : List Given) (l : Layers) → IsOpenedStore first others g gs l → Stands others (last_value g.values) gs l
-opened_stands first others g gs l h = opened_by first others g gs l l.layers refl h.layers h
+pub opened_holds : (first : MaybeBytes) (others : List MaybeBytes) (g : Given) (gs : List Given) (l : Layers) → IsOpenedStore first others g gs l → StoreHolds others (last_value g.values) gs l
+opened_holds first others g gs l h = opened_by first others g gs l l.layers refl h.layers h
 
 pub each_value_is_given : EachValueIsGiven
 each_value_is_given first others g gs opened l deeds path h did =
     value_seen others (own_after gs (last_value g.values) (changes_of deeds)) gs l
-    (all_stand others (last_value g.values) gs opened l deeds (opened_stands first others g gs opened h) did) path
+    (all_stand others (last_value g.values) gs opened l deeds (opened_holds first others g gs opened h) did) path
 
 -- changes one after another are one list
 pub own_joined : (gs : List Given) (own : OwnValues) (first second : List Change) → own_after gs (own_after gs own first) second ≡ own_after gs own (first ++ second)

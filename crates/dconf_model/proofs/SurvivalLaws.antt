@@ -11,7 +11,7 @@ use Rattle.dconf_model.specs.Values.{held_value}
 use Rattle.dconf_model.specs.Folders.{Event, MayLeave, MayHaveLeft, IsSettled, Grows, read_content}
 use Rattle.dconf_model.specs.Replacing.{MayReplace, ReadsWhole, Replaced, MaybeReplaced}
 use Rattle.dconf_model.specs.Commands.{Command}
-use Rattle.dconf_model.specs.Profiles.{Database, database_file, user_file, is_written, profile_of}
+use Rattle.dconf_model.specs.Profiles.{Database, database_file, user_file, has_writable, profile_of}
 use Rattle.dconf_model.specs.Reads.{FileRead, Input, read_of}
 use Rattle.dconf_model.specs.Reads.FileRead.{no_file, holds, over_size}
 use Rattle.dconf_model.specs.Sources.{Given}
@@ -21,8 +21,8 @@ use Rattle.dconf_model.specs.Changes.{Change, apply, saved}
 use Rattle.dconf_model.specs.Outcomes.{Outcome, Output, Saves, changing, refused_output}
 use Rattle.dconf_model.specs.Runs.{Ran, RunEnding, Did, AnswersIn, output_of}
 use Rattle.dconf_model.specs.Runs.RunEnding.{as_meant, device}
-use Rattle.dconf_model.specs.Stores.{IsWholeChange, OwnValues, own_changed, own_after, AllGive, Stands}
-use Rattle.dconf_model.specs.Programs.{FolderStands, AreRead, IsApart, AreApart, IsChangeOf, found, asked_change}
+use Rattle.dconf_model.specs.Stores.{IsWholeChange, OwnValues, own_changed, own_after, AllGive, StoreHolds}
+use Rattle.dconf_model.specs.Programs.{FolderHolds, AreRead, IsApart, AreApart, IsChangeOf, found, asked_change}
 use Rattle.dconf_model.specs.Survivals.{RunEnd, Attempt, CrashedSince, CameTo, CameInTurn, Asked, IsFirst, IsKeptBy, AreKept, asked_changes, AreSettled, NothingIsLost, NextRunFindsAll}
 use Rattle.dconf_model.specs.Survivals.RunEnd.{ended, stopped as crashed}
 use Rattle.dconf_model.proofs.Histories.{Ending, Step, History, Kept, KeptBy, MayRun, IsWholeAtAnyMoment}
@@ -85,9 +85,9 @@ pub record MaySave (others : List MaybeBytes) (c : MaybeBytes) (asked : Asked) (
   pub left : e ≡ Some bytes
 
 -- what stands is said of the layers alone
-stands_in : (others : List MaybeBytes) (own : OwnValues) (gs : List Given) (c : MaybeBytes) (l m : Layers) →
-    AreLayers (c ∷ others) l.layers → AreLayers (c ∷ others) m.layers → Stands others own gs l → Stands others own gs m
-stands_in others own gs c l m k n h = record {
+still_holds : (others : List MaybeBytes) (own : OwnValues) (gs : List Given) (c : MaybeBytes) (l m : Layers) →
+    AreLayers (c ∷ others) l.layers → AreLayers (c ∷ others) m.layers → StoreHolds others own gs l → StoreHolds others own gs m
+still_holds others own gs c l m k n h = record {
   first = h.first;
   later = h.later;
   layers = one_list (c ∷ others) m.layers l.layers n k ∙ h.layers;
@@ -98,17 +98,17 @@ stands_in others own gs c l m k n h = record {
 
 -- what a chain of commands makes says their changes, in order
 kept_are_said : (others : List MaybeBytes) (own : OwnValues) (gs : List Given) (c e : MaybeBytes) (kept : List Asked) (l m : Layers) →
-    AreLayers (c ∷ others) l.layers → Stands others own gs l → MayRun (MaySave others) c kept e → AreLayers (e ∷ others) m.layers →
-    Stands others (own_after gs own (asked_changes kept)) gs m
-kept_are_said others own gs c e [] l m k h run n = stands_in others own gs c l m k (subst (λ c. AreLayers (c ∷ others) m.layers) run n) h
+    AreLayers (c ∷ others) l.layers → StoreHolds others own gs l → MayRun (MaySave others) c kept e → AreLayers (e ∷ others) m.layers →
+    StoreHolds others (own_after gs own (asked_changes kept)) gs m
+kept_are_said others own gs c e [] l m k h run n = still_holds others own gs c l m k (subst (λ c. AreLayers (c ∷ others) m.layers) run n) h
 kept_are_said others own gs c e (asked ∷ more) l m k h run n =
     let by = run.1 in
-    let before = stands_in others own gs c l by.opened k by.layers h in
+    let before = still_holds others own gs c l by.opened k by.layers h in
     let own1 : OwnValues = own_changed gs own by.change in
     let again = saved_again others own1 gs by.after by.bytes (after_change others own gs by.opened by.after before by.change by.whole by.accepted) by.saved_is in
-    let now : Layers = record { layers = again.settings ∷ again.later; written = true } in
-    let rest = kept_are_said others own1 gs run.0 e more now m (subst (λ c. AreLayers (c ∷ others) now.layers) (sym by.left) again.layers) (again.stands true) run.2 n in
-    subst (λ own. Stands others own gs m) (ap (λ cs. own_after gs own (cs ++ asked_changes more)) (sym by.asks)) rest
+    let now : Layers = record { layers = again.settings ∷ again.later; writable = true } in
+    let rest = kept_are_said others own1 gs run.0 e more now m (subst (λ c. AreLayers (c ∷ others) now.layers) (sym by.left) again.layers) (again.held true) run.2 n in
+    subst (λ own. StoreHolds others own gs m) (ap (λ cs. own_after gs own (cs ++ asked_changes more)) (sym by.asks)) rest
 
 -- ---- what a run did
 
@@ -126,7 +126,7 @@ abbrev RunDid : Command → Input → List Event → List Event → Output → L
 RunDid command input old new output user opened = ((output.status ≡ 1) × (new ≡ old)) ⊎ Made command input old new output user opened
 
 module _ (profile : List ℕ) (d : Database) (ds : List Database) (own : OwnValues) (gs : List Given) (command : Command) (input : Input)
-    (old new : List Event) (output : Output) (h : FolderStands (read_content old) profile d ds own gs) where
+    (old new : List Event) (output : Output) (h : FolderHolds (read_content old) profile d ds own gs) where
   refused_did : (o : Outcome) (e : RunEnding) → Refuses o → Did o.change e old new → output ≡ output_of o e → (output.status ≡ 1) × (new ≡ old)
   refused_did o as_meant why did is = (
     ap (λ (p : Output). p.status) (is ∙ ap (λ (o : Outcome). o.output) why.1),
@@ -186,8 +186,8 @@ module _ (profile : List ℕ) (d : Database) (ds : List Database) (gs : List Giv
   abbrev now_own : (es : List Event) → Ready es → OwnValues
   now_own es r path = option_and_then held_value (get (r.user (read_content es (database_file d)) (seen_may es (database_file d))).settings.values path)
 
-  abbrev stands_now : (es : List Event) (r : Ready es) → FolderStands (read_content es) profile d ds (now_own es r) gs
-  stands_now es r =
+  abbrev holds_now : (es : List Event) (r : Ready es) → FolderHolds (read_content es) profile d ds (now_own es r) gs
+  holds_now es r =
       let can = r.user (read_content es (database_file d)) (seen_may es (database_file d)) in
       record {
         text = text;
@@ -196,10 +196,10 @@ module _ (profile : List ℕ) (d : Database) (ds : List Database) (gs : List Giv
         first = read_content es (database_file d);
         others = others;
         read = (can.read, r.read);
-        opened = record { layers = can.settings ∷ later; written = is_written (d ∷ ds) };
+        opened = record { layers = can.settings ∷ later; writable = has_writable (d ∷ ds) };
         layers = (can.layer, layers);
-        written = refl;
-        stands = record { first = can.settings; later = later; layers = refl; others_are = layers; gives = give; own_is = λ path. refl };
+        writable = refl;
+        held = record { first = can.settings; later = later; layers = refl; others_are = layers; gives = give; own_is = λ path. refl };
       }
 
   -- what came of a run is a step that ended so
@@ -222,13 +222,13 @@ module _ (profile : List ℕ) (d : Database) (ds : List Database) (gs : List Giv
     reads : (name : List ℕ) → IsApart (database_file d) name → read_content cut name ≡ read_content old name
 
   module _ (old : List Event) (r : Ready old) (command : Command) (input : Input) (of : IsChangeOf profile command) where
-    made_by : (new : List Event) (output : Output) (m : Made command input old new output (database_file d) (stands_now old r).opened) (c : MaybeBytes) → c ≡ Some m.bytes →
+    made_by : (new : List Event) (output : Output) (m : Made command input old new output (database_file d) (holds_now old r).opened) (c : MaybeBytes) → c ≡ Some m.bytes →
         MaySave others (read_content old (database_file d)) (command, input) c × CanBeRead c
     made_by new output m c left =
-        let h = stands_now old r in
+        let h = holds_now old r in
         let whole = (subst (AllByRecursion IsWholeChange) m.asks (asked_whole profile command input of)).0 in
         let own1 = own_changed gs (now_own old r) m.change in
-        let again = saved_again others own1 gs m.after m.bytes (after_change others (now_own old r) gs h.opened m.after h.stands m.change whole m.accepted) m.saved_is in (
+        let again = saved_again others own1 gs m.after m.bytes (after_change others (now_own old r) gs h.opened m.after h.held m.change whole m.accepted) m.saved_is in (
           record {
             change = m.change;
             asks = m.asks;
@@ -244,7 +244,7 @@ module _ (profile : List ℕ) (d : Database) (ds : List Database) (gs : List Giv
           subst CanBeRead (sym left) (record { read = read_back m.bytes (saved m.after.layers) m.saved_is; settings = again.settings; layer = again.layers.0 }),
         )
 
-    moment_of : (new : List Event) (output : Output) (m : Made command input old new output (database_file d) (stands_now old r).opened) →
+    moment_of : (new : List Event) (output : Output) (m : Made command input old new output (database_file d) (holds_now old r).opened) →
         MayReplace old new (database_file d) m.bytes → ReadsWhole old new (database_file d) m.bytes → Moment old new (command, input)
     moment_of new output m may whole = record {
       grown = may.grown;
@@ -253,7 +253,7 @@ module _ (profile : List ℕ) (d : Database) (ds : List Database) (gs : List Giv
       reads = λ name a. whole.others name a.own a.fresh;
     }
 
-    moment : (new : List Event) (output : Output) → RunDid command input old new output (database_file d) (stands_now old r).opened → Moment old new (command, input)
+    moment : (new : List Event) (output : Output) → RunDid command input old new output (database_file d) (holds_now old r).opened → Moment old new (command, input)
     moment new output (inl nothing) = record {
       grown = ([], nothing.1);
       own = λ c k. inl (unchanged old new (database_file d) c nothing.1 k);
@@ -339,7 +339,7 @@ module _ (profile : List ℕ) (d : Database) (ds : List Database) (gs : List Giv
     abbrev IsStep : List Event → Output → Type 0
     IsStep new output = (e : Ending) × CameSo (ended output) e × Step (MaySave others) (database_file d) old (command, input) e new
 
-    step_of : (new : List Event) (output : Output) → RunDid command input old new output (database_file d) (stands_now old r).opened → IsStep new output
+    step_of : (new : List Event) (output : Output) → RunDid command input old new output (database_file d) (holds_now old r).opened → IsStep new output
     step_of new output (inl nothing) =
         (refused, nothing.0, ((λ c m. subst (λ es. MayLeave es (database_file d) c) nothing.1 m), ap (λ es. read_content es (database_file d)) nothing.1))
     step_of new output (inr m) = elim m.how [
@@ -391,12 +391,12 @@ module _ (profile : List ℕ) (d : Database) (ds : List Database) (gs : List Giv
     where
       by_end : (Ready came.0 → Lived more came.0 new) → (end : RunEnd) → a.end ≡ end → CameTo a.command a.input end old came.0 → Lived (a ∷ more) old new
       by_end rest (ended output) e ran =
-          let did = run_did profile d ds (now_own old r) gs a.command a.input old came.0 output (stands_now old r) of.0 ran in
+          let did = run_did profile d ds (now_own old r) gs a.command a.input old came.0 output (holds_now old r) of.0 ran in
           let step = step_of old r a.command a.input of.0 came.0 output did in
           one_more a more old came.0 new step.0 (subst (λ end. CameSo end step.0) (sym e) step.1) step.2
           (rest (ready_after old r a.command a.input of.0 came.0 (moment old r a.command a.input of.0 came.0 output did)))
       by_end rest crashed e ran =
-          let did = run_did profile d ds (now_own old r) gs a.command a.input old ran.0 ran.1 (stands_now old r) of.0 ran.2 in
+          let did = run_did profile d ds (now_own old r) gs a.command a.input old ran.0 ran.1 (holds_now old r) of.0 ran.2 in
           let m = moment old r a.command a.input of.0 ran.0 ran.1 did in
           one_more a more old came.0 new stopped (subst (λ end. CameSo end stopped) (sym e) tt)
           (stopped_step old r a.command a.input of.0 ran.0 came.0 m ran.3) (rest (ready_crashed old r a.command a.input of.0 ran.0 came.0 m ran.3))
@@ -438,12 +438,12 @@ first_layer : (c : MaybeBytes) (others : List MaybeBytes) (ls : List Settings) (
 first_layer c others ls s later e h = (subst (AreLayers (c ∷ others)) e h).0
 
 module _ (profile : List ℕ) (d : Database) (ds : List Database) (own : OwnValues) (gs : List Given) (old : List Event) (apart : AreApart profile d ds)
-    (h : FolderStands (read_content old) profile d ds own gs) (settled : AreSettled old profile d ds) where
+    (h : FolderHolds (read_content old) profile d ds own gs) (settled : AreSettled old profile d ds) where
   first_is : read_content old (database_file d) ≡ h.first
   first_is = found_all (read_content old (database_file d)) h.first h.read.0
 
   abbrev IsReady : List Event → Type 0
-  IsReady es = Ready profile d ds gs h.text h.names h.others h.stands.later h.stands.others_are h.stands.gives apart es
+  IsReady es = Ready profile d ds gs h.text h.names h.others h.held.later h.held.others_are h.held.gives apart es
 
   ready_at_first : IsReady old
   ready_at_first = record {
@@ -454,8 +454,8 @@ module _ (profile : List ℕ) (d : Database) (ds : List Database) (own : OwnValu
     user = λ c left. (let same : c ≡ h.first = settled.user c left ∙ first_is in
         subst CanBeRead (sym same) (record {
           read = ap read_of (sym first_is) ∙ h.read.0;
-          settings = h.stands.first;
-          layer = first_layer h.first h.others h.opened.layers h.stands.first h.stands.later h.stands.layers h.layers;
+          settings = h.held.first;
+          layer = first_layer h.first h.others h.opened.layers h.held.first h.held.later h.held.layers h.layers;
         }));
   }
 
@@ -463,22 +463,22 @@ module _ (profile : List ℕ) (d : Database) (ds : List Database) (own : OwnValu
     kept : List Asked
     are : AreKept (database_file d) attempts kept
     can : CanBeRead c
-    stands : (written : Bool) → Stands h.others (own_after gs own (asked_changes kept)) gs (record { layers = can.settings ∷ h.stands.later; written = written })
+    held : (writable : Bool) → StoreHolds h.others (own_after gs own (asked_changes kept)) gs (record { layers = can.settings ∷ h.held.later; writable = writable })
     ready : IsReady new
 
   outlived : (attempts : List Attempt) (new : List Event) (c : MaybeBytes) → AllByRecursion (λ a. IsChangeOf profile a.command) attempts →
       CameInTurn old attempts new → MayLeave new (database_file d) c → Outlived attempts new c
   outlived attempts new c of came left =
-      let lived = all_lived profile d ds gs h.text h.names h.others h.stands.later h.stands.others_are h.stands.gives apart attempts old new ready_at_first of came in
+      let lived = all_lived profile d ds gs h.text h.names h.others h.held.later h.held.others_are h.held.gives apart attempts old new ready_at_first of came in
       let all = never_lost (MaySave h.others) (database_file d) old new lived.steps c settled.user lived.history left in
       let can = lived.ready.user c left in
       let opened = subst (λ c. AreLayers (c ∷ h.others) h.opened.layers) (sym first_is) h.layers in
       record {
         kept = all.0;
-        are = kept_so profile d ds gs h.text h.names h.others h.stands.later h.stands.others_are h.stands.gives apart attempts lived.steps all.0 lived.are all.1;
+        are = kept_so profile d ds gs h.text h.names h.others h.held.later h.held.others_are h.held.gives apart attempts lived.steps all.0 lived.are all.1;
         can = can;
-        stands = λ written. kept_are_said h.others own gs (read_content old (database_file d)) c all.0 h.opened
-            (record { layers = can.settings ∷ h.stands.later; written = written }) opened h.stands all.2 (can.layer, h.stands.others_are);
+        held = λ writable. kept_are_said h.others own gs (read_content old (database_file d)) c all.0 h.opened
+            (record { layers = can.settings ∷ h.held.later; writable = writable }) opened h.held all.2 (can.layer, h.held.others_are);
         ready = lived.ready;
       }
 
@@ -489,7 +489,7 @@ first_of_layers (s ∷ ss) = s
 pub nothing_is_lost : NothingIsLost
 nothing_is_lost profile d ds own gs attempts old new c apart h settled of came left =
     let out = outlived profile d ds own gs old apart h settled attempts new c of came left in
-    let st = out.stands true in (
+    let st = out.held true in (
       out.kept,
       out.are,
       (
@@ -513,9 +513,9 @@ next_run_finds_all profile d ds own gs attempts old new apart h settled of came 
         first = user;
         others = h.others;
         read = (out.can.read, out.ready.read);
-        opened = record { layers = out.can.settings ∷ h.stands.later; written = is_written (d ∷ ds) };
-        layers = (out.can.layer, h.stands.others_are);
-        written = refl;
-        stands = out.stands (is_written (d ∷ ds));
+        opened = record { layers = out.can.settings ∷ h.held.later; writable = has_writable (d ∷ ds) };
+        layers = (out.can.layer, h.held.others_are);
+        writable = refl;
+        held = out.held (has_writable (d ∷ ds));
       },
     )

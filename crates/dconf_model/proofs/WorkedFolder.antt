@@ -10,9 +10,9 @@ use Rattle.dconf_model.specs.Profiles.Kind.{user_db}
 use Rattle.dconf_model.specs.Folders.{Event, MayLeaveOf, read_content}
 use Rattle.dconf_model.specs.Folders.Event.{create, append, sync, sync_folder}
 use Rattle.dconf_model.specs.Stores.{OwnValues, nothing_given}
-use Rattle.dconf_model.specs.Programs.{FolderStands, AreApart}
+use Rattle.dconf_model.specs.Programs.{FolderHolds, AreApart}
 use Rattle.dconf_model.specs.Survivals.{Asked, AreSettled, AreKept}
-use Rattle.dconf_model.proofs.CompiledFolders.{given_stands, no_file_gives_nothing}
+use Rattle.dconf_model.proofs.CompiledFolders.{given_holds, no_file_gives_nothing}
 use Rattle.dconf_model.proofs.SurvivalLaws.{next_run_finds_all}
 
 abbrev p : List ℕ
@@ -27,10 +27,10 @@ user = record { kind = user_db; name = codes "u" }
 abbrev no_values : OwnValues
 no_values path = None
 
-folder_stands : FolderStands (read_content folder) p user [] no_values []
+folder_holds : FolderHolds (read_content folder) p user [] no_values []
 unfolding is_utf8 chars encode_char utf8_valid_len
-folder_stands =
-    given_stands (read_content folder) p (codes "user-db:u") user [] nothing_given [] refl refl
+folder_holds =
+    given_holds (read_content folder) p (codes "user-db:u") user [] nothing_given [] refl refl
     (no_file_gives_nothing (read_content folder) (codes "u.user") refl, tt)
 
 other_length : (name other : List ℕ) → length name ≡ 1 → length other ≡ 6 → name ≡ other → ⊥
@@ -55,5 +55,5 @@ settled = record {
 -- no run, nothing kept
 nothing_kept : (kept : List Asked) × (AreKept (codes "u.user") [] kept)
 nothing_kept =
-    let found = next_run_finds_all p user [] no_values [] [] folder folder apart folder_stands settled tt refl in
+    let found = next_run_finds_all p user [] no_values [] [] folder folder apart folder_holds settled tt refl in
     (found.0, found.1)

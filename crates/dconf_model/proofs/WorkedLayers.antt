@@ -58,7 +58,7 @@ site : Entries
 site = (codes "/a/k", stored (number int32 2)) ∷ []
 
 store : Layers
-store = record { layers = settings user [] ∷ settings site (codes "/a/k" ∷ []) ∷ []; written = true }
+store = record { layers = settings user [] ∷ settings site (codes "/a/k" ∷ []) ∷ []; writable = true }
 
 user_value : (q : List ℕ) → get {R = slice_cmp nat_cmp} (from_sorted user) q ≡ find (slice_cmp nat_cmp) q user
 unfolding user
@@ -128,7 +128,7 @@ list_a = rw (user_paths, site_paths) refl
 -- ---- a lock hides a value before it
 
 base : Layers
-base = record { layers = settings [] [] ∷ settings site [] ∷ settings [] (codes "/a/k" ∷ []) ∷ []; written = true }
+base = record { layers = settings [] [] ∷ settings site [] ∷ settings [] (codes "/a/k" ∷ []) ∷ []; writable = true }
 
 no_paths : keys {X = List ℕ} {R = slice_cmp nat_cmp} (from_sorted []) ≡ []
 no_paths = paths_there [] tt
@@ -155,7 +155,7 @@ base_locks = rw (no_locks, site_locks) refl
 -- ---- the same store without the lock
 
 open_store : Layers
-open_store = record { layers = settings user [] ∷ settings site [] ∷ []; written = true }
+open_store = record { layers = settings user [] ∷ settings site [] ∷ []; writable = true }
 
 open_level : level open_store (codes "/a/k") ≡ 0
 unfolding open_store
@@ -180,7 +180,7 @@ default_open = rw (default_level, get-empty (slice_cmp nat_cmp) (codes "/a/k"), 
 -- ---- nothing is written where the first database is no user's
 
 site_alone : Layers
-site_alone = record { layers = settings site [] ∷ []; written = false }
+site_alone = record { layers = settings site [] ∷ []; writable = false }
 
 write_site : apply site_alone (set_value (codes "/a/k") (number int32 1)) ≡ Err not_writable
 unfolding site_alone
@@ -216,7 +216,7 @@ j_one : Entries
 j_one = (codes "/a/j", stored (number int32 1)) ∷ []
 
 directory_locked : Layers
-directory_locked = record { layers = settings j_one [] ∷ settings site (codes "/a/" ∷ []) ∷ []; written = true }
+directory_locked = record { layers = settings j_one [] ∷ settings site (codes "/a/" ∷ []) ∷ []; writable = true }
 
 directory_locks : keys {R = slice_cmp nat_cmp} (from_sorted (map lock_entry (codes "/a/" ∷ []))) ≡ codes "/a/" ∷ []
 directory_locks = locks_there (codes "/a/" ∷ []) tt
@@ -263,7 +263,7 @@ lock_above = rw directory_locks refl
 
 -- the lock of everything
 root_locked : Layers
-root_locked = record { layers = settings [] [] ∷ settings [] (codes "/" ∷ []) ∷ []; written = true }
+root_locked = record { layers = settings [] [] ∷ settings [] (codes "/" ∷ []) ∷ []; writable = true }
 
 root_write : apply root_locked (set_value (codes "/q") (number int32 1)) ≡ Err (locked 0)
 unfolding root_locked
@@ -278,7 +278,7 @@ runs_in_parts l (change ∷ more) second = runs_in_parts (or_as_before l (apply 
 -- ---- what two keyfiles give, opened by itself
 
 given_store : Settings → Layers
-given_store s = record { layers = s ∷ []; written = false }
+given_store s = record { layers = s ∷ []; writable = false }
 
 given_level : (s : Settings) (path : List ℕ) → level (given_store s) path ≡ 0
 unfolding given_store
@@ -325,13 +325,13 @@ gone k v p away = same_map nat_list_cmp_total (slice_cmp-IsAntisymmetric nat_cmp
     at q = rw (value_there ((k, v) ∷ []) q tt) (by q (slice_cmp nat_cmp q k) refl (p q) refl)
 
 alone : Layers
-alone = record { layers = settings ((codes "/a/b/k", stored (number int32 1)) ∷ []) [] ∷ []; written = true }
+alone = record { layers = settings ((codes "/a/b/k", stored (number int32 1)) ∷ []) [] ∷ []; writable = true }
 
 abbrev keeps : List ℕ → Bool
 keeps path = if is_below path (codes "/a/") then is_locked alone path else true
 
 emptied_store : Layers
-emptied_store = record { layers = record { values = retain_keys (from_sorted ((codes "/a/b/k", stored (number int32 1)) ∷ [])) keeps; locks = from_sorted (map lock_entry []) } ∷ []; written = true }
+emptied_store = record { layers = record { values = retain_keys (from_sorted ((codes "/a/b/k", stored (number int32 1)) ∷ [])) keeps; locks = from_sorted (map lock_entry []) } ∷ []; writable = true }
 
 below_is_reset : apply alone (reset_below_directory (codes "/a/")) ≡ Ok emptied_store
 unfolding alone emptied_store

@@ -11,7 +11,7 @@ use Rattle.dconf_model.specs.Commands.{Command}
 use Rattle.dconf_model.specs.Commands.Command.{read, list, write, load, compile, repair}
 use Rattle.dconf_model.specs.Reads.{Content, Input, steady, failing}
 use Rattle.dconf_model.specs.Databases.Verdict.{no_database}
-use Rattle.dconf_model.specs.Outcomes.{IsOutcome, refused, done, UnlessLost, OrLine, Changes, dump_of, with_value_if_any}
+use Rattle.dconf_model.specs.Outcomes.{IsOutcome, refused, done, UnlessFailed, OrLine, Changes, dump_of, with_value_if_any}
 use Rattle.dconf_model.specs.Layers.{level}
 use Rattle.dconf_model.specs.Lines.{longest_text}
 use Rattle.dconf_model.specs.Sources.{loaded}
@@ -60,11 +60,11 @@ late_user = refl
 
 -- ---- input
 
-lost_input : Input
-lost_input = record { bytes = codes "[a]"; fails = true }
+failed_input : Input
+failed_input = record { bytes = codes "[a]"; fails = true }
 
-input_fails : IsOutcome (load false (codes "/") profile) (steady two_databases) lost_input (refused (codes "Device input"))
-unfolding meaning lost_input
+input_fails : IsOutcome (load false (codes "/") profile) (steady two_databases) failed_input (refused (codes "Device input"))
+unfolding meaning failed_input
 input_fails = refl
 
 bad_input : Input
@@ -108,7 +108,7 @@ no_lock_keys = rw (← no_locks) (ap (map (λ e. e.0)) (entries-from_sorted (sli
 none_there : List Settings
 none_there = no_settings ∷ no_settings ∷ []
 
-empty_level : level (record { layers = no_settings ∷ no_settings ∷ []; written = true }) (codes "/k") ≡ 0
+empty_level : level (record { layers = no_settings ∷ no_settings ∷ []; writable = true }) (codes "/k") ≡ 0
 empty_level = rw no_lock_keys refl
 
 read_nothing : IsOutcome (read false (codes "/k") profile) (steady two_databases) no_input (done [])
@@ -185,7 +185,7 @@ endless : (input : Input) → nat_lt longest_text (length input.bytes) ≡ true 
 unfolding meaning two_databases
 endless input long = go input.fails
   where
-    go : (b : Bool) → UnlessLost (b && not (nat_lt longest_text (length input.bytes))) (OrLine (codes "input") (loaded (codes "/") input.bytes) (λ rows. Changes (steady two_databases) profile (paths_of rows) (load_values rows false))) (refused (codes "input:0: TooBig"))
+    go : (b : Bool) → UnlessFailed (b && not (nat_lt longest_text (length input.bytes))) (OrLine (codes "input") (loaded (codes "/") input.bytes) (λ rows. Changes (steady two_databases) profile (paths_of rows) (load_values rows false))) (refused (codes "input:0: TooBig"))
     go true = rw long refl
     go false = rw long refl
 

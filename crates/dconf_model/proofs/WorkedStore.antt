@@ -19,7 +19,7 @@ abbrev pub k : List ℕ
 k = codes "/a/k"
 
 abbrev opened : Layers
-opened = record { layers = no_settings ∷ []; written = true }
+opened = record { layers = no_settings ∷ []; writable = true }
 
 abbrev change : Change
 change = set_value k (number int32 5)

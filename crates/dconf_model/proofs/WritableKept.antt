@@ -11,7 +11,7 @@ use Rattle.dconf_model.specs.Stores.{Did}
 use Rattle.dconf_model.specs.Stores.Deed.{changed as changing}
 
 abbrev IsAsWritable : Layers → Result Layers Refusal → Type 0
-IsAsWritable l (Ok m) = m.written ≡ l.written
+IsAsWritable l (Ok m) = m.writable ≡ l.writable
 IsAsWritable l (Err e) = Unit {0}
 
 either : (l : Layers) (b : Bool) (r q : Result Layers Refusal) → IsAsWritable l r → IsAsWritable l q → IsAsWritable l (cond b r q)
@@ -35,9 +35,9 @@ change l (reset_value path) = unless l (first_locked l 0 (path ∷ [])) _ refl
 change l (reset_below_directory directory) = refl
 change l (load_values rows force) = load l rows force
 
-one_change : (l m : Layers) (c : Change) → apply l c ≡ Ok m → m.written ≡ l.written
-one_change l m c e = subst (IsAsWritable l) e (either l l.written (change_written l c) (Err not_writable) (change l c) tt)
+one_change : (l m : Layers) (c : Change) → apply l c ≡ Ok m → m.writable ≡ l.writable
+one_change l m c e = subst (IsAsWritable l) e (either l l.writable (change_written l c) (Err not_writable) (change l c) tt)
 
-pub changes_keep_it : (others : List MaybeBytes) (l m : Layers) (cs : List Change) → Did others l (map changing cs) m → m.written ≡ l.written
-changes_keep_it others l m [] did = ap (λ (l : Layers). l.written) did
+pub changes_keep_it : (others : List MaybeBytes) (l m : Layers) (cs : List Change) → Did others l (map changing cs) m → m.writable ≡ l.writable
+changes_keep_it others l m [] did = ap (λ (l : Layers). l.writable) did
 changes_keep_it others l m (c ∷ cs) did = changes_keep_it others did.0 m cs did.2 ∙ one_change l did.0 c did.1.1

@@ -32,7 +32,7 @@ with_first_layer change [] = []
 with_first_layer change (s ∷ more) = record { values = change s.values; locks = s.locks } ∷ more
 
 abbrev pub changed : (Values → Values) → Layers → Layers
-changed change l = record { layers = with_first_layer change l.layers; written = l.written }
+changed change l = record { layers = with_first_layer change l.layers; writable = l.writable }
 
 -- with these values, of which a later one of the same path counts
 abbrev pub with_all : List Assigned → Values → Values
@@ -74,7 +74,7 @@ change_written l (load_values rows force) = load_all l rows force
 
 -- the layers after a change, or why it is refused
 abbrev pub apply : Layers → Change → Result Layers Refusal
-apply l change = if l.written then change_written l change else Err not_writable
+apply l change = if l.writable then change_written l change else Err not_writable
 
 -- the layers after changes, of which those that are refused are passed over
 abbrev pub or_as_before : Layers → Result Layers Refusal → Layers

@@ -14,7 +14,7 @@ use Rattle.dconf_model.specs.Values.{held_value}
 -- the layers, the first first, and whether the first may be written
 pub record Layers : Type 0 where
   pub layers : List Settings
-  pub written : Bool
+  pub writable : Bool
 
 -- ---- locks
 
@@ -72,9 +72,9 @@ abbrev pub emptied : List Settings → List Settings
 emptied [] = []
 emptied (s ∷ more) = record { values = empty; locks = s.locks } ∷ more
 
--- a first layer that is written, emptied
+-- a first layer that may be written, emptied
 abbrev pub without_user : Layers → Layers
-without_user l = if l.written then record { layers = emptied l.layers; written = true } else l
+without_user l = if l.writable then record { layers = emptied l.layers; writable = true } else l
 
 -- ---- listings
 

@@ -18,7 +18,7 @@ use Rattle.dconf_model.specs.Causes.SettingsCause.{too_big}
 use Rattle.dconf_model.specs.FaultTexts.{cause_text, path_fault_text, open_fault_text, unsound_text, about, line_fault_text, no_file_text, device_text, bad_database_text}
 use Rattle.dconf_model.specs.Lines.{LineFault, longest_text}
 use Rattle.dconf_model.specs.Values.{value_of_text}
-use Rattle.dconf_model.specs.Profiles.{Database, database_text, database_file, is_written, user_file, profile_of}
+use Rattle.dconf_model.specs.Profiles.{Database, database_text, database_file, has_writable, user_file, profile_of}
 use Rattle.dconf_model.specs.Keyfiles.{Setting, RowFault, dumped}
 use Rattle.dconf_model.specs.Sources.{Assigned, Source, File, FileFault, loaded}
 use Rattle.dconf_model.specs.Sources.File.{keyfile, lock_file}
@@ -124,16 +124,16 @@ WithFiles reads n (name ∷ more) Go =
     WithFile reads n name (λ bytes. WithFiles reads (n + 1) more (λ files. Go (record { name = name; bytes = bytes } ∷ files)))
 
 -- input that is too big is left before its end
-abbrev pub is_lost : Input → Bool
-is_lost input = input.fails && not (nat_lt longest_text (length input.bytes))
+abbrev pub read_failed : Input → Bool
+read_failed input = input.fails && not (nat_lt longest_text (length input.bytes))
 
-abbrev pub UnlessLost : Bool → Gives → Gives
-UnlessLost true Go o = Refused (device_text (codes "input")) o
-UnlessLost false Go o = Go o
+abbrev pub UnlessFailed : Bool → Gives → Gives
+UnlessFailed true Go o = Refused (device_text (codes "input")) o
+UnlessFailed false Go o = Go o
 
 -- the rows of a keyfile from input
 abbrev pub WithRows : List ℕ → Input → (List Assigned → Gives) → Gives
-WithRows directory input Go = UnlessLost (is_lost input) (OrLine (codes "input") (loaded directory input.bytes) Go)
+WithRows directory input Go = UnlessFailed (read_failed input) (OrLine (codes "input") (loaded directory input.bytes) Go)
 
 -- ---- the store: a profile, and its databases
 
@@ -155,15 +155,15 @@ verdict_text sound = codes "sound"
 verdict_text (unsound rule at) = unsound_text rule at
 
 abbrev pub WithLayers : List (Option (List ℕ)) → Bool → (Layers → Gives) → Gives
-WithLayers items written Go o =
-    ((layers : List Settings) × AreLayers items layers × Go (record { layers = layers; written = written }) o)
+WithLayers items writable Go o =
+    ((layers : List Settings) × AreLayers items layers × Go (record { layers = layers; writable = writable }) o)
     ⊎ ((i : ℕ) × (v : Verdict) × IsFirstBad items i v × Refused (bad_database_text i (verdict_text v)) o)
 
 -- all databases are read, and then opened
 abbrev pub WithStore : ReadResults → List ℕ → (List Database → Layers → Gives) → Gives
 WithStore reads file Go =
     WithFile reads 0 file (λ bytes. OrLine file (profile_of bytes) (λ databases.
-    WithDatabases reads 1 databases (λ items. WithLayers items (is_written databases) (Go databases))))
+    WithDatabases reads 1 databases (λ items. WithLayers items (has_writable databases) (Go databases))))
 
 -- ---- values and listings
 

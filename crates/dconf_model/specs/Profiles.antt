@@ -49,10 +49,10 @@ abbrev pub is_name : Kind → List ℕ → Bool
 is_name kind name =
     nat_lt 0 (length name) && not (has_zero_byte name) && (if may_have_slash kind then true else not (list_any (λ c. c == 47) name))
 
--- the first database is written where it is the user's
-abbrev pub is_written : List Database → Bool
-is_written [] = false
-is_written (d ∷ more) = is_user d.kind
+-- the first database may be written where it is the user's
+abbrev pub has_writable : List Database → Bool
+has_writable [] = false
+has_writable (d ∷ more) = is_user d.kind
 
 abbrev pub user_file : List Database → List ℕ
 user_file [] = []

@@ -11,7 +11,7 @@ use Rattle.dconf_model.specs.Causes.{SettingsCause}
 use Rattle.dconf_model.specs.Lines.{LineFault}
 use Rattle.dconf_model.specs.Locks.{is_below}
 use Rattle.dconf_model.specs.Order.{listing}
-use Rattle.dconf_model.specs.Profiles.{Database, database_file, is_written, profile_of}
+use Rattle.dconf_model.specs.Profiles.{Database, database_file, has_writable, profile_of}
 use Rattle.dconf_model.specs.Keyfiles.{Setting}
 use Rattle.dconf_model.specs.Sources.{Given, Assigned, Source, given, last_value, loaded}
 use Rattle.dconf_model.specs.Databases.{AreLayers}
@@ -26,7 +26,7 @@ use Rattle.dconf_model.specs.Reads.{FileRead, Content, Input, read_of}
 use Rattle.dconf_model.specs.Reads.FileRead.{no_file, holds}
 use Rattle.dconf_model.specs.Outcomes.{Output, done_output, shown_if_any, lines_text, origin_text, with_value_if_any, dump_of, value_of_word}
 use Rattle.dconf_model.specs.Runs.{RanCalmly, NoMemory}
-use Rattle.dconf_model.specs.Stores.{OwnValues, Stands, FileGives, nothing_given, IsNamed, is_lock_given, value_given, number_given, own_after}
+use Rattle.dconf_model.specs.Stores.{OwnValues, StoreHolds, FileGives, nothing_given, IsNamed, is_lock_given, value_given, number_given, own_after}
 
 -- ---- what a folder's files give
 
@@ -42,7 +42,7 @@ AreRead content _ _ = ⊥
 
 -- The profile's file names these databases. The first has its own values, and each other one
 -- gives what stands beside it.
-pub record FolderStands (content : Content) (profile : List ℕ) (d : Database) (ds : List Database) (own : OwnValues) (gs : List Given) : Type 0 where
+pub record FolderHolds (content : Content) (profile : List ℕ) (d : Database) (ds : List Database) (own : OwnValues) (gs : List Given) : Type 0 where
   pub text : List ℕ
   pub profile_is : read_of (content profile) ≡ holds text
   pub names : profile_of text ≡ Ok (d ∷ ds)
@@ -51,8 +51,8 @@ pub record FolderStands (content : Content) (profile : List ℕ) (d : Database) 
   pub read : AreRead content (d ∷ ds) (first ∷ others)
   pub opened : Layers
   pub layers : AreLayers (first ∷ others) opened.layers
-  pub written : opened.written ≡ is_written (d ∷ ds)
-  pub stands : Stands others own gs opened
+  pub writable : opened.writable ≡ has_writable (d ∷ ds)
+  pub held : StoreHolds others own gs opened
 
 -- the file of this name is read, and gives so
 abbrev pub NameGives : Content → List ℕ → Given → Type 0
@@ -64,11 +64,11 @@ NamesGive content (d ∷ ds) (g ∷ gs) = NameGives content (database_file d) g 
 NamesGive content _ _ = ⊥
 
 -- laws: a folder stands where its files give so, and a file that isn't there gives nothing
-abbrev pub GivenStands : Type 0
-GivenStands =
+abbrev pub GivenHolds : Type 0
+GivenHolds =
     (content : Content) (profile text : List ℕ) (d : Database) (ds : List Database) (g : Given) (gs : List Given) →
     read_of (content profile) ≡ holds text → profile_of text ≡ Ok (d ∷ ds) → NamesGive content (d ∷ ds) (g ∷ gs) →
-    FolderStands content profile d ds (last_value g.values) gs
+    FolderHolds content profile d ds (last_value g.values) gs
 
 abbrev pub NoFileGivesNothing : Type 0
 NoFileGivesNothing = (content : Content) (name : List ℕ) → content name ≡ None → NameGives content name nothing_given
@@ -109,7 +109,7 @@ own_or_none false own = own
 abbrev pub Prints : List Database → OwnValues → List Given → Command → Output → Type 0
 Prints databases own gs (read false key profile) output = output ≡ (shown_if_any (value_given key (own key) gs)).output
 Prints databases own gs (read true key profile) output =
-    output ≡ (shown_if_any (value_given key (own_or_none (is_written databases) (own key)) gs)).output
+    output ≡ (shown_if_any (value_given key (own_or_none (has_writable databases) (own key)) gs)).output
 Prints databases own gs (list directory profile) output = NamesPrinted directory own gs output
 Prints databases own gs (list_locks directory profile) output = LocksPrinted directory gs output
 Prints databases own gs (dump directory profile) output = SettingsPrinted directory own gs output
@@ -130,7 +130,7 @@ abbrev pub QuestionsAreAnswered : Type 0
 QuestionsAreAnswered =
     (profile : List ℕ) (d : Database) (ds : List Database) (own : OwnValues) (gs : List Given)
     (command : Command) (input : Input) (old new : List Event) (output : Output) →
-    FolderStands (read_content old) profile d ds own gs → IsQuestion profile command → RanCalmly command input old new output →
+    FolderHolds (read_content old) profile d ds own gs → IsQuestion profile command → RanCalmly command input old new output →
     Prints (d ∷ ds) own gs command output ⊎ NoMemory output
 
 -- law: where the profile names no database, it prints nothing
@@ -216,8 +216,8 @@ changes_made (r ∷ more) = if_done r.output.status (asked_change r.command r.in
 abbrev pub ChangesAreKept : Type 0
 ChangesAreKept =
     (profile : List ℕ) (d : Database) (ds : List Database) (own : OwnValues) (gs : List Given) (runs : List Run) (old new : List Event) →
-    AreApart profile d ds → FolderStands (read_content old) profile d ds own gs → AreOf profile runs → RanInTurn old runs new →
-    FolderStands (read_content new) profile d ds (own_after gs own (changes_made runs)) gs
+    AreApart profile d ds → FolderHolds (read_content old) profile d ds own gs → AreOf profile runs → RanInTurn old runs new →
+    FolderHolds (read_content new) profile d ds (own_after gs own (changes_made runs)) gs
 
 -- law, the whole of it: a run after them that reads the store prints what rows, changes, locks
 -- and the profile give
@@ -225,7 +225,7 @@ abbrev pub ProgramGives : Type 0
 ProgramGives =
     (profile : List ℕ) (d : Database) (ds : List Database) (own : OwnValues) (gs : List Given) (runs : List Run)
     (command : Command) (input : Input) (old mid new : List Event) (output : Output) →
-    AreApart profile d ds → FolderStands (read_content old) profile d ds own gs → AreOf profile runs → RanInTurn old runs mid →
+    AreApart profile d ds → FolderHolds (read_content old) profile d ds own gs → AreOf profile runs → RanInTurn old runs mid →
     IsQuestion profile command → RanCalmly command input mid new output →
     Prints (d ∷ ds) (own_after gs own (changes_made runs)) gs command output ⊎ NoMemory output
 
@@ -273,6 +273,6 @@ abbrev pub CompileSteps : Type 0
 CompileSteps =
     (profile : List ℕ) (d : Database) (ds : List Database) (own : OwnValues) (gs : List Given)
     (out : List ℕ) (lock_name : Option (List ℕ)) (names : List (List ℕ)) (g : Given) (old new : List Event) →
-    FolderStands (read_content old) profile d ds own gs → IsApart out profile →
+    FolderHolds (read_content old) profile d ds own gs → IsApart out profile →
     AllByRecursion (λ other. database_file other ≢ new_name out) (d ∷ ds) → Compiled old new out lock_name names g →
-    FolderStands (read_content new) profile d ds (own_compiled out g d own) (given_compiled out g ds gs)
+    FolderHolds (read_content new) profile d ds (own_compiled out g d own) (given_compiled out g ds gs)

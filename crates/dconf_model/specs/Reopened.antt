@@ -14,7 +14,7 @@ pub record IsReopened (others : List MaybeBytes) (l : Layers) (file : List ℕ) 
   pub others_are : AreLayers others later
   pub saved_is : IsDatabaseOf (saved l.layers) file
   pub opened : AreLayers (Some file ∷ others) m.layers
-  pub written : m.written ≡ l.written
+  pub writable : m.writable ≡ l.writable
 
 pub record IsSeenAlike (l m : Layers) : Type 0 where
   pub values : (path : List ℕ) → visible m path ≡ visible l path

@@ -102,14 +102,14 @@ pub record Wrote (o : Output) (status : ℕ) (out_old out_new err_old err_new : 
   pub status_is : status ≡ o.status
 
 -- a write to out failed: whatever the outcome was, nothing is said of it on err
-pub record LostOut (status : ℕ) (err_old err_new : MaybeBytes) : Type 0 where
+pub record FailedOut (status : ℕ) (err_old err_new : MaybeBytes) : Type 0 where
   pub err : Appends err_old err_new []
   pub status_is : status ≡ 1
 
 -- what a run leaves on its streams, where writes to err don't fail: whether one to out failed
 abbrev pub LeftOnStreams : Bool → Output → ℕ → MaybeBytes → MaybeBytes → MaybeBytes → MaybeBytes → Type 0
 LeftOnStreams false o status out_old out_new err_old err_new = Wrote o status out_old out_new err_old err_new
-LeftOnStreams true o status out_old out_new err_old err_new = LostOut status err_old err_new
+LeftOnStreams true o status out_old out_new err_old err_new = FailedOut status err_old err_new
 
 -- ---- a crash
 

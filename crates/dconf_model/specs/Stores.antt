@@ -166,7 +166,7 @@ SoundGives = (file : List ℕ) → IsDatabase file → IsSound (root_of file) �
 -- ---- the store as it stands
 
 -- The first layer has its own values, and the others are those of their files, which give so.
-pub record Stands (others : List MaybeBytes) (own : OwnValues) (gs : List Given) (l : Layers) : Type 0 where
+pub record StoreHolds (others : List MaybeBytes) (own : OwnValues) (gs : List Given) (l : Layers) : Type 0 where
   pub first : Settings
   pub later : List Settings
   pub layers : l.layers ≡ first ∷ later
@@ -184,7 +184,7 @@ pub data Deed : Type 0 where
 -- the change is accepted
 abbrev pub Does : List MaybeBytes → Layers → Deed → Layers → Type 0
 Does others l (changed change) m = IsWholeChange change × (apply l change ≡ Ok m)
-Does others l (reopened file) m = IsDatabaseOf (saved l.layers) file × AreLayers (Some file ∷ others) m.layers × (m.written ≡ l.written)
+Does others l (reopened file) m = IsDatabaseOf (saved l.layers) file × AreLayers (Some file ∷ others) m.layers × (m.writable ≡ l.writable)
 
 abbrev pub Did : List MaybeBytes → Layers → List Deed → Layers → Type 0
 Did others l [] m = m ≡ l

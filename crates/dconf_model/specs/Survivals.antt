@@ -17,7 +17,7 @@ use Rattle.dconf_model.specs.Reads.{Input}
 use Rattle.dconf_model.specs.Outcomes.{Output, refused_output}
 use Rattle.dconf_model.specs.Runs.{Ran}
 use Rattle.dconf_model.specs.Stores.{OwnValues, own_after}
-use Rattle.dconf_model.specs.Programs.{FolderStands, AreApart, IsChangeOf, asked_change}
+use Rattle.dconf_model.specs.Programs.{FolderHolds, AreApart, IsChangeOf, asked_change}
 
 -- ---- what came of runs
 
@@ -90,7 +90,7 @@ FileHolds item own = (s : Settings) × IsLayer item s × ((path : List ℕ) → 
 abbrev pub NothingIsLost : Type 0
 NothingIsLost =
     (profile : List ℕ) (d : Database) (ds : List Database) (own : OwnValues) (gs : List Given) (attempts : List Attempt) (old new : List Event) (c : MaybeBytes) →
-    AreApart profile d ds → FolderStands (read_content old) profile d ds own gs → AreSettled old profile d ds →
+    AreApart profile d ds → FolderHolds (read_content old) profile d ds own gs → AreSettled old profile d ds →
     AllByRecursion (λ a. IsChangeOf profile a.command) attempts → CameInTurn old attempts new → MayLeave new (database_file d) c →
     (kept : List Asked) × AreKept (database_file d) attempts kept × FileHolds c (own_after gs own (asked_changes kept))
 
@@ -98,7 +98,7 @@ NothingIsLost =
 abbrev pub NextRunFindsAll : Type 0
 NextRunFindsAll =
     (profile : List ℕ) (d : Database) (ds : List Database) (own : OwnValues) (gs : List Given) (attempts : List Attempt) (old new : List Event) →
-    AreApart profile d ds → FolderStands (read_content old) profile d ds own gs → AreSettled old profile d ds →
+    AreApart profile d ds → FolderHolds (read_content old) profile d ds own gs → AreSettled old profile d ds →
     AllByRecursion (λ a. IsChangeOf profile a.command) attempts → CameInTurn old attempts new →
     (kept : List Asked) × AreKept (database_file d) attempts kept
-    × FolderStands (read_content new) profile d ds (own_after gs own (asked_changes kept)) gs
+    × FolderHolds (read_content new) profile d ds (own_after gs own (asked_changes kept)) gs

@@ -22,7 +22,7 @@ ghost use Rattle.std.specs.Prelude.{ℕ, List};
 ghost use Rattle.dconf_model.specs.Order.{OrderIsStable, ListingIsOnceEach};
 ghost use Rattle.dconf_model.specs.Keyfiles.{DumpReadsBack, DumpHasEachSetting, DumpIsInOrder};
 ghost use Rattle.dconf_model.specs.Databases.{SaysWhatIsInIt, SaysSettings, SaysOneThing, WrittenSaysSettings};
-ghost use Rattle.dconf_model.specs.Programs.{GivenStands, NoFileGivesNothing, CompileGives, CompileSteps, QuestionsAreAnswered, EmptyPrintsNothing, ChangesAreKept, ProgramGives};
+ghost use Rattle.dconf_model.specs.Programs.{GivenHolds, NoFileGivesNothing, CompileGives, CompileSteps, QuestionsAreAnswered, EmptyPrintsNothing, ChangesAreKept, ProgramGives};
 ghost use Rattle.dconf_model.specs.Reopened.{ReopenedIsSame};
 ghost use Rattle.dconf_model.specs.Stores.{TextsAreWhole, MissingGivesNothing, CompiledGives, SoundGives, EachValueIsGiven, EachListingIsExact, EmptyHasNothing};
 ghost use Rattle.dconf_model.specs.Walks.{LayersHaveKeyPaths, WalkFindsEachKey, WalkEnds, WalkHasEachSetting};
@@ -176,8 +176,8 @@ pub fn a_saved_store_is_seen_again()
 
 /// A folder whose databases give rows stands, and a run of `compile` makes a database give what
 /// its keyfiles and lock files give, before other runs or between them.
-pub fn a_compiled_folder_stands()
-    ensures stands { GivenStands }
+pub fn a_compiled_folder_holds()
+    ensures held { GivenHolds }
     ensures missing { NoFileGivesNothing }
     ensures compiles { CompileGives }
     ensures steps { CompileSteps }

@@ -10,14 +10,14 @@ use Rattle.dconf_model.specs.Profiles.Kind.{user_db, system_db, file_db}
 use Rattle.dconf_path.specs.Profiles.{named_as, named_in}
 
 -- what a line gives that names this database, or none
-abbrev pub behind : ℕ → Option Database → LineReading Database
-behind others None = wrong bad_line
-behind others (Some d) = database_line others d.kind d.name
+abbrev pub after_kind : ℕ → Option Database → LineReading Database
+after_kind others None = wrong bad_line
+after_kind others (Some d) = database_line others d.kind d.name
 
 module _ (others : ℕ) (a b c : Database) where
   first_of : (u s f : Bool)
-      → (if u then behind others (Some a) else if s then behind others (Some b) else if f then behind others (Some c) else wrong bad_line)
-      ≡ behind others (if u then Some a else if s then Some b else if f then Some c else None)
+      → (if u then after_kind others (Some a) else if s then after_kind others (Some b) else if f then after_kind others (Some c) else wrong bad_line)
+      ≡ after_kind others (if u then Some a else if s then Some b else if f then Some c else None)
   first_of true s f = refl
   first_of false true f = refl
   first_of false false true = refl
@@ -25,7 +25,7 @@ module _ (others : ℕ) (a b c : Database) where
 
 -- a line that is neither empty nor a service's
 pub names : (others : ℕ) (text : List ℕ) → (length text == 0) ≡ false → starts_with nat_eq text (codes "service-db:") ≡ false
-    → entry_line others text ≡ behind others (named_in text)
+    → entry_line others text ≡ after_kind others (named_in text)
 names others text some other =
     ap (λ p. if p then nothing else if starts_with nat_eq text (codes "service-db:") then wrong service_db else rest) some
     ∙ (ap (λ p. if p then wrong service_db else rest) other
@@ -33,7 +33,7 @@ names others text some other =
     (starts_with nat_eq text (kind_text user_db)) (starts_with nat_eq text (kind_text system_db)) (starts_with nat_eq text (kind_text file_db)))
   where
     rest : LineReading Database
-    rest = if starts_with nat_eq text (kind_text user_db) then behind others (Some (named_as user_db text))
-        else if starts_with nat_eq text (kind_text system_db) then behind others (Some (named_as system_db text))
-        else if starts_with nat_eq text (kind_text file_db) then behind others (Some (named_as file_db text))
+    rest = if starts_with nat_eq text (kind_text user_db) then after_kind others (Some (named_as user_db text))
+        else if starts_with nat_eq text (kind_text system_db) then after_kind others (Some (named_as system_db text))
+        else if starts_with nat_eq text (kind_text file_db) then after_kind others (Some (named_as file_db text))
         else wrong bad_line

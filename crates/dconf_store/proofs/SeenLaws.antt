@@ -36,8 +36,8 @@ pub did_then : (others : List MaybeBytes) (l m n : Layers) (ds : List Deed) (dee
 did_then others l m n [] deed did does = (n, subst (λ l. Does others l deed n) did does, refl)
 did_then others l m n (d ∷ ds) deed did does = (did.0, did.1, did_then others did.0 m n ds deed did.2 does)
 
-module _ (first : MaybeBytes) (others : List MaybeBytes) (written : Bool) (cs : List Change) (file : List ℕ) (m : Layers)
-    (made : IsSavedAfter (first ∷ others) written cs file) (again : AreOpened (Some file ∷ others) written m) where
+module _ (first : MaybeBytes) (others : List MaybeBytes) (writable : Bool) (cs : List Change) (file : List ℕ) (m : Layers)
+    (made : IsSavedAfter (first ∷ others) writable cs file) (again : AreOpened (Some file ∷ others) writable m) where
   did : Did others made.1.0 (deeds cs file) m
   did = did_then others made.1.0 made.0 m (map changed cs) (reopened file) (made.1.2 others)
       (made.2, again.layers, again.writable ∙ sym (changes_keep_it others made.1.0 made.0 cs (made.1.2 others) ∙ made.1.1.writable))
@@ -54,45 +54,45 @@ module _ (first : MaybeBytes) (others : List MaybeBytes) (written : Bool) (cs : 
 
 -- ---- of any number of files
 
-module _ (files : List MaybeBytes) (written : Bool) (cs : List Change) (file : List ℕ) (m : Layers) where
-  pub value_after : IsSavedAfter files written cs file → AreOpened (with_first_file file files) written m → (path : List ℕ) → IsValueAfter files cs path (visible m path)
+module _ (files : List MaybeBytes) (writable : Bool) (cs : List Change) (file : List ℕ) (m : Layers) where
+  pub value_after : IsSavedAfter files writable cs file → AreOpened (with_first_file file files) writable m → (path : List ℕ) → IsValueAfter files cs path (visible m path)
   value_after made again path = go files made again
     where
-      go : (files : List MaybeBytes) → IsSavedAfter files written cs file → AreOpened (with_first_file file files) written m → IsValueAfter files cs path (visible m path)
+      go : (files : List MaybeBytes) → IsSavedAfter files writable cs file → AreOpened (with_first_file file files) writable m → IsValueAfter files cs path (visible m path)
       go [] made again g gs give = absurd give
-      go (first ∷ others) made again g gs give = value_is_seen first others written cs file m made again path g gs give
+      go (first ∷ others) made again g gs give = value_is_seen first others writable cs file m made again path g gs give
 
-  pub children_after : IsSavedAfter files written cs file → AreOpened (with_first_file file files) written m → (directory : List ℕ) →
+  pub children_after : IsSavedAfter files writable cs file → AreOpened (with_first_file file files) writable m → (directory : List ℕ) →
       AreChildrenAfter files cs directory (child_names m directory)
   children_after made again directory = go files made again
     where
-      go : (files : List MaybeBytes) → IsSavedAfter files written cs file → AreOpened (with_first_file file files) written m →
+      go : (files : List MaybeBytes) → IsSavedAfter files writable cs file → AreOpened (with_first_file file files) writable m →
           AreChildrenAfter files cs directory (child_names m directory)
       go [] made again g gs give = absurd give
-      go (first ∷ others) made again g gs give = children_are_seen first others written cs file m made again directory g gs give
+      go (first ∷ others) made again g gs give = children_are_seen first others writable cs file m made again directory g gs give
 
-none_bad : (files : List MaybeBytes) (written : Bool) (cs : List Change) (file : List ℕ) → IsSavedAfter files written cs file → (i : ℕ) (v : Verdict) →
+none_bad : (files : List MaybeBytes) (writable : Bool) (cs : List Change) (file : List ℕ) → IsSavedAfter files writable cs file → (i : ℕ) (v : Verdict) →
     IsFirstBad (with_first_file file files) i v → ⊥
-none_bad [] written cs file made i v bad = bad
-none_bad (first ∷ others) written cs file made i v bad = no_bad_one made.1.0.layers i v made.1.1.layers bad
+none_bad [] writable cs file made i v bad = bad
+none_bad (first ∷ others) writable cs file made i v bad = no_bad_one made.1.0.layers i v made.1.1.layers bad
   where
     no_bad_one : (ss : List Settings) (i : ℕ) (v : Verdict) → AreLayers (first ∷ others) ss → IsFirstBad (Some file ∷ others) i v → ⊥
     no_bad_one [] i v h bad = absurd h
     no_bad_one (s ∷ ss) i v h bad = none_is_bad file (saved made.0.layers) others ss i v made.2 h.1 bad
 
 -- an engine of what was saved has no fault but want of memory
-pub reopen_fault : (files : List MaybeBytes) (written : Bool) (cs : List Change) (file : List ℕ) (f : EngineFault) → IsSavedAfter files written cs file →
+pub reopen_fault : (files : List MaybeBytes) (writable : Bool) (cs : List Change) (file : List ℕ) (f : EngineFault) → IsSavedAfter files writable cs file →
     IfSome (bad_of f) (λ bad. IsFirstBad (with_first_file file files) bad.0 bad.1) → fault_of_engine f ≡ Memory
-reopen_fault files written cs file (opened_as.BadDatabase i fault) made bad = absurd (none_bad files written cs file made i (verdict_of fault) bad)
-reopen_fault files written cs file opened_as.Memory made bad = refl
+reopen_fault files writable cs file (opened_as.BadDatabase i fault) made bad = absurd (none_bad files writable cs file made i (verdict_of fault) bad)
+reopen_fault files writable cs file opened_as.Memory made bad = refl
 
-pub read_fault : (files : List MaybeBytes) (written : Bool) (cs : List Change) (path : List ℕ) (v : Option Tree) (fault : StoreFault) → IsValueAfter files cs path v →
-    IsReadFault v fault → IsNoValue files written cs path fault
-read_fault files written cs path v TooLarge is h = (v, is, h)
-read_fault files written cs path v Memory is h = tt
-read_fault files written cs path v (BadDatabase i f) is h = absurd h
-read_fault files written cs path v (Refused i f) is h = absurd h
-read_fault files written cs path v TooBig is h = absurd h
+pub read_fault : (files : List MaybeBytes) (writable : Bool) (cs : List Change) (path : List ℕ) (v : Option Tree) (fault : StoreFault) → IsValueAfter files cs path v →
+    IsReadFault v fault → IsNoValue files writable cs path fault
+read_fault files writable cs path v TooLarge is h = (v, is, h)
+read_fault files writable cs path v Memory is h = tt
+read_fault files writable cs path v (BadDatabase i f) is h = absurd h
+read_fault files writable cs path v (Refused i f) is h = absurd h
+read_fault files writable cs path v TooBig is h = absurd h
 
 pub ok_then : {A E : Type 0} (P Q : A → Type 0) (r : Result A E) → ((v : A) → P v → Q v) → IfOk r P → IfOk r Q
 ok_then P Q (Ok v) f h = f v h

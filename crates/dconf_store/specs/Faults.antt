@@ -37,12 +37,12 @@ IsRefusedAt l changes _ = ⊥
 
 -- a database is no sound one, a change is refused after those before it were accepted, or what is saved is too big
 abbrev pub IsFaultOf : List MaybeBytes → Bool → List Change → StoreFault → Type 0
-IsFaultOf files written changes (BadDatabase i fault) = IsFirstBad files i (verdict_of fault)
-IsFaultOf files written changes (Refused i fault) =
-    (l : Layers) × AreOpened files written l × IsRefusedAt l changes (Refused i fault)
-IsFaultOf files written changes TooBig = (l : Layers) × AreChanged files written changes l × IsTooBig (saved l.layers)
-IsFaultOf files written changes TooLarge = ⊥
-IsFaultOf files written changes Memory = Unit {0}
+IsFaultOf files writable changes (BadDatabase i fault) = IsFirstBad files i (verdict_of fault)
+IsFaultOf files writable changes (Refused i fault) =
+    (l : Layers) × AreOpened files writable l × IsRefusedAt l changes (Refused i fault)
+IsFaultOf files writable changes TooBig = (l : Layers) × AreChanged files writable changes l × IsTooBig (saved l.layers)
+IsFaultOf files writable changes TooLarge = ⊥
+IsFaultOf files writable changes Memory = Unit {0}
 
 -- the same of a value that is read: it may be more than 128 levels deep
 abbrev pub IsReadFault : Option Tree → StoreFault → Type 0
@@ -51,8 +51,8 @@ IsReadFault v Memory = Unit {0}
 IsReadFault v _ = ⊥
 
 abbrev pub IsNoValue : List MaybeBytes → Bool → List Change → List ℕ → StoreFault → Type 0
-IsNoValue files written changes path TooLarge = (v : Option Tree) × IsValueAfter files changes path v × IsReadFault v TooLarge
-IsNoValue files written changes path fault = IsFaultOf files written changes fault
+IsNoValue files writable changes path TooLarge = (v : Option Tree) × IsValueAfter files changes path v × IsReadFault v TooLarge
+IsNoValue files writable changes path fault = IsFaultOf files writable changes fault
 
 -- ---- which fault one of a call is, and how it is printed
 

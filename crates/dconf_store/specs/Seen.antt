@@ -11,9 +11,9 @@ use Rattle.dconf_model.specs.Stores.{Did, FilesGive, IsNamed, own_after, value_g
 use Rattle.dconf_model.specs.Stores.Deed.{changed}
 
 -- the layers of these files
-pub record AreOpened (files : List MaybeBytes) (written : Bool) (l : Layers) : Type 0 where
+pub record AreOpened (files : List MaybeBytes) (writable : Bool) (l : Layers) : Type 0 where
   pub layers : AreLayers files l.layers
-  pub writable : l.written ≡ written
+  pub writable : l.writable ≡ writable
 
 -- each change is accepted in turn
 abbrev pub HaveChanged : Layers → List Change → Layers → Type 0
@@ -21,11 +21,11 @@ HaveChanged l changes m = (others : List MaybeBytes) → Did others l (map chang
 
 -- the layers of these files after these changes
 abbrev pub AreChanged : List MaybeBytes → Bool → List Change → Layers → Type 0
-AreChanged files written changes m = (l : Layers) × AreOpened files written l × HaveChanged l changes m
+AreChanged files writable changes m = (l : Layers) × AreOpened files writable l × HaveChanged l changes m
 
 -- the bytes that are saved of them
 abbrev pub IsSavedAfter : List MaybeBytes → Bool → List Change → List ℕ → Type 0
-IsSavedAfter files written changes file = (l : Layers) × AreChanged files written changes l × IsDatabaseOf (saved l.layers) file
+IsSavedAfter files writable changes file = (l : Layers) × AreChanged files writable changes l × IsDatabaseOf (saved l.layers) file
 
 -- the value of a path is what the rows and locks of its databases, the changes and the order of the databases give
 abbrev pub IsValueAfter : List MaybeBytes → List Change → List ℕ → Option Tree → Type 0

@@ -3,7 +3,7 @@ ghost use Rattle.std.specs.Prelude.{◌≡◌, [], IfErr, IfOk, None, OnErr, OnO
 ghost use Rattle.dconf_model.specs.Databases.{IsDatabaseOf};
 ghost use Rattle.dconf_model.specs.Changes.{saved};
 ghost use Rattle.dconf_model.specs.Layers.{Layers, visible};
-ghost use Rattle.dconf_model.specs.Profiles.{is_written};
+ghost use Rattle.dconf_model.specs.Profiles.{has_writable};
 ghost use Rattle.dconf_path.specs.Paths.{directory_text, key_text};
 ghost use Rattle.dconf_path.specs.Profiles.{databases_of};
 ghost use Rattle.dconf_engine.specs.Files.{bytes_of_file, bytes_of_files};
@@ -32,8 +32,8 @@ pub fn user_file_after(
     changes: &[Change<'_>],
 ) -> Result<Vec<u8>, StoreFault>
     requires { length files.now ≡ length (databases_of profile.now) }
-    ensures file { IfOk result (λ file. IsSavedAfter (bytes_of_files files.now) (is_written (databases_of profile.now)) (asked_of changes.now) file.items) }
-    ensures fault { IfErr result (IsFaultOf (bytes_of_files files.now) (is_written (databases_of profile.now)) (asked_of changes.now)) }
+    ensures file { IfOk result (λ file. IsSavedAfter (bytes_of_files files.now) (has_writable (databases_of profile.now)) (asked_of changes.now) file.items) }
+    ensures fault { IfErr result (IsFaultOf (bytes_of_files files.now) (has_writable (databases_of profile.now)) (asked_of changes.now)) }
 {
     let mut engine = Engine::open(alloc, profile, files)?;
     make_all(&mut engine, changes)?;
@@ -54,7 +54,7 @@ pub fn value_after(
     requires { length files.now ≡ length (databases_of profile.now) }
     ensures value { IfOk result (λ v. IsValueAfter (bytes_of_files files.now) (asked_of changes.now) (key_text path.entry) v) }
     ensures none { length files.now ≡ 0 → IfOk result (λ v. v ≡ None) }
-    ensures fault { IfErr result (IsNoValue (bytes_of_files files.now) (is_written (databases_of profile.now)) (asked_of changes.now) (key_text path.entry)) }
+    ensures fault { IfErr result (IsNoValue (bytes_of_files files.now) (has_writable (databases_of profile.now)) (asked_of changes.now) (key_text path.entry)) }
 {
     let file = user_file_after(alloc, profile, files, changes)?;
     let again = replaced(alloc, files, &file)?;
@@ -77,7 +77,7 @@ pub fn children_after(
     requires { length files.now ≡ length (databases_of profile.now) }
     ensures names { IfOk result (λ names. AreChildrenAfter (bytes_of_files files.now) (asked_of changes.now) (directory_text directory.entry) (map string_bytes names.items)) }
     ensures none { length files.now ≡ 0 → IfOk result (λ names. names.items ≡ []) }
-    ensures fault { IfErr result (IsFaultOf (bytes_of_files files.now) (is_written (databases_of profile.now)) (asked_of changes.now)) }
+    ensures fault { IfErr result (IsFaultOf (bytes_of_files files.now) (has_writable (databases_of profile.now)) (asked_of changes.now)) }
 {
     let file = user_file_after(alloc, profile, files, changes)?;
     let again = replaced(alloc, files, &file)?;

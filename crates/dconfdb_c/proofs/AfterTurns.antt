@@ -8,8 +8,8 @@ use Rattle.dconf_model.specs.Databases.{AreLayers, IsLayer}
 use Rattle.dconf_model.specs.Layers.{Layers, origin, visible}
 use Rattle.dconf_model.specs.Settings.{Settings}
 use Rattle.dconf_model.specs.Sources.{Given, last_value}
-use Rattle.dconf_model.specs.Stores.{OwnValues, Stands, own_after, own_changed}
-use Rattle.dconf_model.proofs.StoreValues.{after_change, after_reopening, opened_stands, origin_seen, own_joined, value_seen}
+use Rattle.dconf_model.specs.Stores.{OwnValues, StoreHolds, own_after, own_changed}
+use Rattle.dconf_model.proofs.StoreValues.{after_change, after_reopening, opened_holds, origin_seen, own_joined, value_seen}
 use Rattle.dconf_engine.specs.declared.layer.Layer.{Layer}
 use Rattle.dconf_engine.specs.Files.{bytes_of_file, bytes_of_files}
 use Rattle.dconf_engine.specs.LayerSettings.{settings_of}
@@ -20,8 +20,8 @@ use Rattle.dconfdb_c.specs.declared.after_changes.Seen.{Seen}
 use Rattle.dconfdb_c.specs.declared.after_changes.Turn.{Turn}
 use Rattle.dconfdb_c.specs.declared.changing.DconfdbChange.{DconfdbChange}
 
-after_all : (others : List MaybeBytes) (gs : List Given) (own : OwnValues) (cs : List DconfdbChange) (l m : Layers) → Stands others own gs l → HaveChanged cs l m → Stands others (own_after gs own (map change_of cs)) gs m
-after_all others gs own [] l m h same = subst (Stands others own gs) same h
+after_all : (others : List MaybeBytes) (gs : List Given) (own : OwnValues) (cs : List DconfdbChange) (l m : Layers) → StoreHolds others own gs l → HaveChanged cs l m → StoreHolds others (own_after gs own (map change_of cs)) gs m
+after_all others gs own [] l m h same = subst (StoreHolds others own gs) same h
 after_all others gs own (c ∷ cs) l m h made =
     after_all others gs (own_changed gs own (change_of c)) cs made.0 m (after_change others own gs l made.0 h (change_of c) made.1 made.2) made.3
 
@@ -44,7 +44,7 @@ no_turn first others l path seen opened is own gs have =
 
 pub seen_after : (first : MaybeBytes) (others : List MaybeBytes) (turns : List Turn) (path : List ℕ) (seen : Option Seen) → IsSeenFrom first others turns path seen → IsSeenAfter first others turns path seen
 seen_after first others turns path seen h g gs give =
-    h (last_value g.values) gs (λ l opened. opened_stands first others g gs l (record { layers = opened; gives = give }))
+    h (last_value g.values) gs (λ l opened. opened_holds first others g gs l (record { layers = opened; gives = give }))
 
 -- ---- layers that are opened one after another
 

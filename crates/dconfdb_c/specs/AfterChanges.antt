@@ -9,7 +9,7 @@ use Rattle.dconf_model.specs.Databases.{AreLayers}
 use Rattle.dconf_model.specs.Layers.{Layers}
 use Rattle.dconf_model.specs.Salvaging.{IsKeyText}
 use Rattle.dconf_model.specs.Sources.{Given, last_value}
-use Rattle.dconf_model.specs.Stores.{FilesGive, OwnValues, Stands, number_given, own_after, value_given}
+use Rattle.dconf_model.specs.Stores.{FilesGive, OwnValues, StoreHolds, number_given, own_after, value_given}
 use Rattle.dconfdb_c.specs.declared.after_changes.Seen.{Seen}
 use Rattle.dconfdb_c.specs.declared.after_changes.Turn.{Turn}
 use Rattle.dconfdb_c.specs.Changed.{change_of}
@@ -41,7 +41,7 @@ IsSeenAfter first others turns path seen =
 
 -- however these files are opened, the first has its own values, and the others give so
 abbrev pub HaveOwn : MaybeBytes → List MaybeBytes → OwnValues → List Given → Type 0
-HaveOwn first others own gs = (l : Layers) → AreLayers (first ∷ others) l.layers → Stands others own gs l
+HaveOwn first others own gs = (l : Layers) → AreLayers (first ∷ others) l.layers → StoreHolds others own gs l
 
 abbrev pub IsSeenFrom : MaybeBytes → List MaybeBytes → List Turn → List ℕ → Option Seen → Type 0
 IsSeenFrom first others turns path seen =

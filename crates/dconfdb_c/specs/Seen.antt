@@ -9,7 +9,7 @@ use Rattle.dconf_engine.specs.LayerSettings.{settings_of}
 use Rattle.dconfdb_c.specs.declared.reading.DconfdbFound.{DconfdbFound}
 
 abbrev pub layers_of : List Layer → Bool → Layers
-layers_of layers written = record { layers = map settings_of layers; written = written }
+layers_of layers writable = record { layers = map settings_of layers; writable = writable }
 
 -- bytes, read at the type that the text spells
 abbrev pub found_value : DconfdbFound → Tree

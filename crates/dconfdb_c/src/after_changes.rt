@@ -27,7 +27,7 @@ pub(crate) struct Turn<'a> {
 #[derive(Clone, Copy)]
 pub(crate) struct Others<'f> {
     pub(crate) files: &'f [Option<&'f [u8]>],
-    pub(crate) written: bool,
+    pub(crate) writable: bool,
 }
 
 /// A value that was seen, copied: the index of its database, its bytes, and the text of its type.
@@ -70,9 +70,15 @@ fn read_turns(
 {
     let layers = opened(alloc, first, others)?;
     let Some((turn, more)) = turns.split_first() else {
-        return seen_in(alloc, layers.as_slice(), others.written, path);
+        return seen_in(alloc, layers.as_slice(), others.writable, path);
     };
-    let file = changed(alloc, layers.as_slice(), others.written, turn.changes, room)?;
+    let file = changed(
+        alloc,
+        layers.as_slice(),
+        others.writable,
+        turn.changes,
+        room,
+    )?;
     read_turns(alloc, Some(file.as_slice()), others, more, path, room)
 }
 
@@ -128,14 +134,14 @@ fn layer_of<'a, 'f: 'a>(file: Option<&'f [u8]>) -> Result<Layer<'a>, u32>
 fn changed(
     alloc: Global,
     layers: &[Layer<'_>],
-    written: bool,
+    writable: bool,
     changes: &[DconfdbChange<'_>],
     room: &mut [u8],
 ) -> Result<Vec<u8>, u32>
-    ensures { IfOk result (λ file. IsChanged (layers_of layers.now written) changes.now file.items) }
+    ensures { IfOk result (λ file. IsChanged (layers_of layers.now writable) changes.now file.items) }
 {
     let (mut len, mut at) = (0, 0);
-    let number = dconfdb_change(alloc, layers, written, changes, room, &mut len, &mut at);
+    let number = dconfdb_change(alloc, layers, writable, changes, room, &mut len, &mut at);
     if number != 0 {
         return Err(number);
     }
@@ -149,17 +155,17 @@ fn changed(
 fn seen_in(
     alloc: Global,
     layers: &[Layer<'_>],
-    written: bool,
+    writable: bool,
     path: &[u8],
 ) -> Result<Option<Seen>, u32>
-    ensures { IfOk result (IsSeenOf path.now (visible (layers_of layers.now written) path.now) (origin (layers_of layers.now written) path.now)) }
+    ensures { IfOk result (IsSeenOf path.now (visible (layers_of layers.now writable) path.now) (origin (layers_of layers.now writable) path.now)) }
 {
     let mut found = DconfdbFound {
         origin: 0,
         value: b"",
         type_text: b"",
     };
-    if !dconfdb_read(layers, written, path, &mut found) {
+    if !dconfdb_read(layers, writable, path, &mut found) {
         return Ok(None);
     }
     Ok(Some(Seen {

@@ -43,16 +43,16 @@ struct Refused {
 pub extern "C" fn dconfdb_change(
     alloc: Global,
     layers: &[Layer<'_>],
-    written: bool,
+    writable: bool,
     changes: &[DconfdbChange<'_>],
     room: &mut [u8],
     len: &mut usize,
     at: &mut usize,
 ) -> u32
-    ensures done { result ≡ 0 → (file : List ℕ) × IsChanged (layers_of layers.now written) changes.now file × HandsOut file room.new len.new }
-    ensures refused { result ≢ 0 → IsNoChangeTold (layers_of layers.now written) changes.now result at.new }
+    ensures done { result ≡ 0 → (file : List ℕ) × IsChanged (layers_of layers.now writable) changes.now file × HandsOut file room.new len.new }
+    ensures refused { result ≢ 0 → IsNoChangeTold (layers_of layers.now writable) changes.now result at.new }
 {
-    match changed(alloc, layers, written, changes) {
+    match changed(alloc, layers, writable, changes) {
         Ok(file) => {
             *len = hand_out(file.as_slice(), room);
             0
@@ -68,14 +68,14 @@ pub extern "C" fn dconfdb_change(
 fn changed(
     alloc: Global,
     layers: &[Layer<'_>],
-    written: bool,
+    writable: bool,
     changes: &[DconfdbChange<'_>],
 ) -> Result<Vec<u8>, Refused>
-    ensures file { IfOk result (λ file. IsChanged (layers_of layers.now written) changes.now file.items) }
-    ensures fault { IfErr result (λ e. IsNoChange (layers_of layers.now written) changes.now e.fault e.at) }
+    ensures file { IfOk result (λ file. IsChanged (layers_of layers.now writable) changes.now file.items) }
+    ensures fault { IfErr result (λ e. IsNoChange (layers_of layers.now writable) changes.now e.fault e.at) }
 {
     let at = changes.len();
-    let Ok(mut engine) = Engine::of_layers(alloc, written, layers) else {
+    let Ok(mut engine) = Engine::of_layers(alloc, writable, layers) else {
         return Err(Refused {
             fault: Fault::Memory,
             at,

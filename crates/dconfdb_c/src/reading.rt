@@ -26,19 +26,19 @@ pub struct DconfdbFound<'a> {
 #[unsafe(no_mangle)]
 pub extern "C" fn dconfdb_read<'a>(
     layers: &[Layer<'a>],
-    written: bool,
+    writable: bool,
     path: &[u8],
     found: &mut DconfdbFound<'a>,
 ) -> bool
-    ensures value { IsTrue result → visible (layers_of layers.now written) path.now ≡ Some (found_value found.new) }
-    ensures origin { IsTrue result → origin (layers_of layers.now written) path.now ≡ Some found.new.origin }
-    ensures none { result ≡ false → IsKeyText path.now → place_of (layers_of layers.now written) path.now ≡ None }
+    ensures value { IsTrue result → visible (layers_of layers.now writable) path.now ≡ Some (found_value found.new) }
+    ensures origin { IsTrue result → origin (layers_of layers.now writable) path.now ≡ Some found.new.origin }
+    ensures none { result ≡ false → IsKeyText path.now → place_of (layers_of layers.now writable) path.now ≡ None }
     ensures kept { result ≡ false → found.new ≡ found.old }
 {
     let Some(path) = key_path(path) else {
         return false;
     };
-    let Some((origin, bytes)) = LentLayers::new(written, layers).place(path) else {
+    let Some((origin, bytes)) = LentLayers::new(writable, layers).place(path) else {
         return false;
     };
     *found = found_in(origin, bytes);
@@ -49,19 +49,19 @@ pub extern "C" fn dconfdb_read<'a>(
 #[unsafe(no_mangle)]
 pub extern "C" fn dconfdb_read_default<'a>(
     layers: &[Layer<'a>],
-    written: bool,
+    writable: bool,
     path: &[u8],
     found: &mut DconfdbFound<'a>,
 ) -> bool
-    ensures value { IsTrue result → visible (without_user (layers_of layers.now written)) path.now ≡ Some (found_value found.new) }
-    ensures origin { IsTrue result → origin (without_user (layers_of layers.now written)) path.now ≡ Some found.new.origin }
-    ensures none { result ≡ false → IsKeyText path.now → place_of (without_user (layers_of layers.now written)) path.now ≡ None }
+    ensures value { IsTrue result → visible (without_user (layers_of layers.now writable)) path.now ≡ Some (found_value found.new) }
+    ensures origin { IsTrue result → origin (without_user (layers_of layers.now writable)) path.now ≡ Some found.new.origin }
+    ensures none { result ≡ false → IsKeyText path.now → place_of (without_user (layers_of layers.now writable)) path.now ≡ None }
     ensures kept { result ≡ false → found.new ≡ found.old }
 {
     let Some(path) = key_path(path) else {
         return false;
     };
-    let Some((origin, bytes)) = LentLayers::new(written, layers).default_place(path) else {
+    let Some((origin, bytes)) = LentLayers::new(writable, layers).default_place(path) else {
         return false;
     };
     *found = found_in(origin, bytes);
@@ -106,11 +106,11 @@ pub extern "C" fn dconfdb_is_locked(layers: &[Layer<'_>], path: &[u8]) -> bool
 /// Whether a key may be written: there is a user's database, and the key is not locked. False where
 /// the bytes are no path of a key.
 #[unsafe(no_mangle)]
-pub extern "C" fn dconfdb_is_writable(layers: &[Layer<'_>], written: bool, path: &[u8]) -> bool
-    ensures { IsTrue result ↔ (IsKeyText path.now × IsTrue written × (is_locked (layers_of layers.now true) path.now ≡ false)) }
+pub extern "C" fn dconfdb_is_writable(layers: &[Layer<'_>], writable: bool, path: &[u8]) -> bool
+    ensures { IsTrue result ↔ (IsKeyText path.now × IsTrue writable × (is_locked (layers_of layers.now true) path.now ≡ false)) }
 {
     match key_path(path) {
-        Some(path) => written && !LentLayers::new(true, layers).is_locked(path),
+        Some(path) => writable && !LentLayers::new(true, layers).is_locked(path),
         None => false,
     }
 }

@@ -226,7 +226,7 @@ fn what_cannot_be_answered_is_refused(rt: HostRuntime) -> Result<(), Fail> {
 fn is_five_after(alloc: Global, turns: &[Turn<'_>]) -> Result<bool, Fail> {
     let others = Others {
         files: &[Some(LOCKED)],
-        written: true,
+        writable: true,
     };
     let mut room = [0; 512];
     match read_after(alloc, Some(PLAIN), others, turns, b"/a/j", &mut room) {

@@ -26,7 +26,7 @@ use Rattle.gv_model.proofs.PlacedParts.{ordered-nil}
 use Rattle.gv_model.proofs.InOrder.{just_stay}
 use Rattle.gv_layout.specs.Bodies.{placed_body}
 use Rattle.gv_layout.proofs.InOrder.{as_many, fixed_stay}
-use Rattle.gv_layout.proofs.MemberLaws.{walked, lost, empty_stay, no_body}
+use Rattle.gv_layout.proofs.MemberLaws.{walked, unplaced, empty_stay, no_body}
 
 -- ---- arrays
 
@@ -122,12 +122,12 @@ tuple_placed t xs b w m is_width is_list h =
     go true e = absurd (none-some m (sym e))
     go false e = ap (λ o. children_at (length b) (ordered o (member_spans (offset_width (length b)) b 0 (Some 0) (members t)))) e
 
-pub tuple_lost : (t : Ty) (xs : List Ty) (b : List ℕ) (w m : ℕ) → xs ≡ type_list (members t) → None ≡ placed_body t b
+pub tuple_unplaced : (t : Ty) (xs : List Ty) (b : List ℕ) (w m : ℕ) → xs ≡ type_list (members t) → None ≡ placed_body t b
     → walked (length b) m w 0 b None xs ≡ CutMembers t b
-tuple_lost t xs b w m is_list h =
+tuple_unplaced t xs b w m is_list h =
     let same : types_from xs ≡ members t = ap types_from is_list ∙ types_from-listed (members t) in
     ap (λ us. children_at (length b) (ordered (Some m) (member_spans w b 0 None us))) same
-    ∙ (lost (length b) w 0 b (Some m) (members t) ∙ go (is_other_size (fixed_size t) (length b)) h)
+    ∙ (unplaced (length b) w 0 b (Some m) (members t) ∙ go (is_other_size (fixed_size t) (length b)) h)
   where
     go : (c : Bool) → None ≡ cond c None (members_end (fixed_size t) (members t) b)
         → children_at (length b) (empty_spans (members t))

@@ -84,17 +84,17 @@ by_offsets-none t n m w zero None b h = refl
 by_offsets-none t n m w zero (Some p) b h = refl
 by_offsets-none t n m w (suc left) o b h = absurd (omega arith)
 
-lost_first : (t : Ty) (n m w k : ℕ) (b : List ℕ) → walked t n m w None (suc k) b ≡ child t 0 0 ∷ walked t n m w None k (drop w b)
+unplaced_first : (t : Ty) (n m w k : ℕ) (b : List ℕ) → walked t n m w None (suc k) b ≡ child t 0 0 ∷ walked t n m w None k (drop w b)
 unfolding offset_spans numbers_in
-lost_first t n m w k b = ap (λ xs. child t 0 0 ∷ children_at n xs) (nowhere_alike t (number_in (take w b)) 0 (numbers_in w k (drop w b)))
+unplaced_first t n m w k b = ap (λ xs. child t 0 0 ∷ children_at n xs) (nowhere_alike t (number_in (take w b)) 0 (numbers_in w k (drop w b)))
 
-pub by_offsets-lost : (t : Ty) (n m w left k : ℕ) (o : Option ℕ) (b back : List ℕ) (place : Child) → IsNext left k → o ≡ None → back ≡ drop w b → place ≡ child t 0 0
+pub by_offsets-unplaced : (t : Ty) (n m w left k : ℕ) (o : Option ℕ) (b back : List ℕ) (place : Child) → IsNext left k → o ≡ None → back ≡ drop w b → place ≡ child t 0 0
     → walked t n m w o left b ≡ place ∷ walked t n m w None k back
-by_offsets-lost t n m w zero k o b back place h none is_back is_place = absurd (omega (arith, h.0))
-by_offsets-lost t n m w (suc j) k o b back place h none is_back is_place =
+by_offsets-unplaced t n m w zero k o b back place h none is_back is_place = absurd (omega (arith, h.0))
+by_offsets-unplaced t n m w (suc j) k o b back place h none is_back is_place =
     let same : k ≡ j = omega (arith, h.1) in
     ap (λ q. walked t n m w q (suc j) b) none
-    ∙ (lost_first t n m w j b
+    ∙ (unplaced_first t n m w j b
     ∙ ap₂ (λ c cs. c ∷ cs) (sym is_place) (ap₂ (walked t n m w None) (sym same) (sym is_back)))
 
 open_first : (t : Ty) (n m w p k : ℕ) (b : List ℕ)

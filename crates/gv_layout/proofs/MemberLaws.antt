@@ -18,18 +18,18 @@ nowhere_members n w k b p end = refl
 nowhere_members n w k b p (member t ts) = ap (λ cs. child t 0 0 ∷ cs) (nowhere_members n w (next_offset k (fixed_size t)) b (end_of w b k p t ts) ts)
 
 -- none that follows is known to lie anywhere
-pub lost : (n w k : ℕ) (b : List ℕ) (e : Option ℕ) (ts : Types) → children_at n (ordered e (member_spans w b k None ts)) ≡ children_at n (empty_spans ts)
+pub unplaced : (n w k : ℕ) (b : List ℕ) (e : Option ℕ) (ts : Types) → children_at n (ordered e (member_spans w b k None ts)) ≡ children_at n (empty_spans ts)
 unfolding ordered member_spans empty_spans
-lost n w k b e end = refl
-lost n w k b e (member t ts) = ap (λ cs. child t 0 0 ∷ cs) (lost n w (next_offset k (fixed_size t)) b e ts)
+unplaced n w k b e end = refl
+unplaced n w k b e (member t ts) = ap (λ cs. child t 0 0 ∷ cs) (unplaced n w (next_offset k (fixed_size t)) b e ts)
 
 empty_alike : (n : ℕ) (ts : Types) → children_at n (empty_spans ts) ≡ children_at 0 (empty_spans ts)
 unfolding empty_spans
 empty_alike n end = refl
 empty_alike n (member t ts) = ap (λ cs. child t 0 0 ∷ cs) (empty_alike n ts)
 
-pub lost_members : (n w k m : ℕ) (b : List ℕ) (p : Option ℕ) (ts : Types) → None ≡ p → children_at n (ordered (Some m) (member_spans w b k p ts)) ≡ children_at 0 (empty_spans ts)
-lost_members n w k m b p ts e = rw (sym e) (lost n w k b (Some m) ts ∙ empty_alike n ts)
+pub unplaced_members : (n w k m : ℕ) (b : List ℕ) (p : Option ℕ) (ts : Types) → None ≡ p → children_at n (ordered (Some m) (member_spans w b k p ts)) ≡ children_at 0 (empty_spans ts)
+unplaced_members n w k m b p ts e = rw (sym e) (unplaced n w k b (Some m) ts ∙ empty_alike n ts)
 
 pub empty_stay : (n : ℕ) (e : Option ℕ) (ts : Types) → children_at n (ordered e (empty_spans ts)) ≡ children_at n (empty_spans ts)
 unfolding ordered empty_spans
@@ -43,7 +43,7 @@ no_body n w k p b end = refl
 no_body n w k p b (member t ts) = go (end_of w b k (Some p) t ts)
   where
     go : (o : Option ℕ) → children_at n (ordered None ((t, span (Some (round_up (alignment t) p)) o) ∷ member_spans w b (next_offset k (fixed_size t)) o ts)) ≡ child t 0 0 ∷ children_at n (empty_spans ts)
-    go None = ap (λ cs. child t 0 0 ∷ cs) (lost n w (next_offset k (fixed_size t)) b None ts)
+    go None = ap (λ cs. child t 0 0 ∷ cs) (unplaced n w (next_offset k (fixed_size t)) b None ts)
     go (Some e) = ap (λ cs. child t 0 0 ∷ cs) (nowhere_members n w (next_offset k (fixed_size t)) b (Some e) ts)
 
 alike_ends : (n w k s r : ℕ) (b : List ℕ) (size : Option ℕ) (ts : Types) → clamp n s ≡ clamp n r
@@ -94,7 +94,7 @@ out_first n m w k p s to b t ts within starts ends out =
     open_first n m w k p b t ts
     ∙ (ap (from_there n m w k b t ts start) found.1
     ∙ (dropped n m t start found.0 (member_spans w b (next_offset k (fixed_size t)) (Some found.0) ts) (out_alike n m s start to found.0 within starts found.2 out)
-    ∙ ap (λ cs. child t 0 0 ∷ cs) (nowhere_members n w (next_offset k (fixed_size t)) b (Some found.0) ts ∙ sym (lost n w k b (Some m) ts))))
+    ∙ ap (λ cs. child t 0 0 ∷ cs) (nowhere_members n w (next_offset k (fixed_size t)) b (Some found.0) ts ∙ sym (unplaced n w k b (Some m) ts))))
 
 pub unknown_first : (n m w k p s : ℕ) (b : List ℕ) (t : Ty) (ts : Types)
     → clamp n s ≡ clamp n (round_up (alignment t) p)
@@ -106,13 +106,13 @@ unknown_first n m w k p s b t ts starts ends =
     let none = no_end n (member_end w b k start (fixed_size t) ts) (ends ∙ alike_ends n w k s start b (fixed_size t) ts starts) in
     open_first n m w k p b t ts
     ∙ (ap (from_there n m w k b t ts start) none
-    ∙ ap (λ cs. child t 0 0 ∷ cs) (lost n w (next_offset k (fixed_size t)) b (Some m) ts ∙ sym (lost n w k b (Some m) ts)))
+    ∙ ap (λ cs. child t 0 0 ∷ cs) (unplaced n w (next_offset k (fixed_size t)) b (Some m) ts ∙ sym (unplaced n w k b (Some m) ts)))
 
-pub lost_first : (n m w k : ℕ) (b : List ℕ) (t : Ty) (ts : Types)
+pub unplaced_first : (n m w k : ℕ) (b : List ℕ) (t : Ty) (ts : Types)
     → children_at n (ordered (Some m) (member_spans w b k None (member t ts))) ≡ child t 0 0 ∷ children_at n (ordered (Some m) (member_spans w b k None ts))
 unfolding ordered member_spans
-lost_first n m w k b t ts =
-    ap (λ cs. child t 0 0 ∷ cs) (lost n w (next_offset k (fixed_size t)) b (Some m) ts ∙ sym (lost n w k b (Some m) ts))
+unplaced_first n m w k b t ts =
+    ap (λ cs. child t 0 0 ∷ cs) (unplaced n w (next_offset k (fixed_size t)) b (Some m) ts ∙ sym (unplaced n w k b (Some m) ts))
 
 -- ---- the next member of a walk, after which come xs
 
@@ -123,10 +123,10 @@ pub none_next : (n m w k : ℕ) (b : List ℕ) (p : Option ℕ) (ys : List Ty) �
 unfolding ordered member_spans
 none_next n m w k b p ys e = ap (walked n m w k b p) e
 
-pub lost_next : (n m w k : ℕ) (b : List ℕ) (p : Option ℕ) (t : Ty) (xs ys : List Ty) (place : Child) → ys ≡ t ∷ xs → p ≡ None → place ≡ child t 0 0
+pub unplaced_next : (n m w k : ℕ) (b : List ℕ) (p : Option ℕ) (t : Ty) (xs ys : List Ty) (place : Child) → ys ≡ t ∷ xs → p ≡ None → place ≡ child t 0 0
     → walked n m w k b p ys ≡ place ∷ walked n m w k b None xs
-lost_next n m w k b p t xs ys place e h is_place =
-    ap₂ (walked n m w k b) h e ∙ (lost_first n m w k b t (types_from xs) ∙ ap (λ c. c ∷ walked n m w k b None xs) (sym is_place))
+unplaced_next n m w k b p t xs ys place e h is_place =
+    ap₂ (walked n m w k b) h e ∙ (unplaced_first n m w k b t (types_from xs) ∙ ap (λ c. c ∷ walked n m w k b None xs) (sym is_place))
 
 pub unknown_next : (n m w k p s : ℕ) (b : List ℕ) (o : Option ℕ) (t : Ty) (xs ys : List Ty) (place : Child) → ys ≡ t ∷ xs → o ≡ Some p
     → clamp n s ≡ clamp n (round_up (alignment t) p)

@@ -55,16 +55,16 @@ places_left p = walk_left p.walk
 
 -- ---- members of which none lies anywhere, since one before them was out of order
 
-abbrev pub lost_after : Option ℕ → List Ty → Option (List Ty)
-lost_after None ts = Some ts
-lost_after (Some p) ts = None
+abbrev pub unplaced_after : Option ℕ → List Ty → Option (List Ty)
+unplaced_after None ts = Some ts
+unplaced_after (Some p) ts = None
 
-abbrev pub lost_in : Walk → Option (List Ty)
-lost_in (walks.ByMembers m) = lost_after m.previous (members_left m.members)
-lost_in _ = None
+abbrev pub unplaced_in : Walk → Option (List Ty)
+unplaced_in (walks.ByMembers m) = unplaced_after m.previous (members_left m.members)
+unplaced_in _ = None
 
-abbrev pub lost_left : Places → Option (List Ty)
-lost_left p = lost_in p.walk
+abbrev pub unplaced_left : Places → Option (List Ty)
+unplaced_left p = unplaced_in p.walk
 
 -- they have no bytes
 abbrev pub lie_nowhere : List Ty → List Child

@@ -202,7 +202,7 @@ impl<'a, 'b> ByOffsets<'a, 'b> {
         let left = self.left.checked_sub(1)?;
         let (offset, offsets) = self.offsets.split_at(self.width);
         let nowhere = Place::nowhere(self.element);
-        let lost = ByOffsets {
+        let unplaced = ByOffsets {
             element: self.element,
             aligned_to: self.aligned_to,
             previous: None,
@@ -213,12 +213,12 @@ impl<'a, 'b> ByOffsets<'a, 'b> {
             len: self.len,
         };
         let Some(previous) = self.previous else {
-            return Some((nowhere, lost));
+            return Some((nowhere, unplaced));
         };
         let from = aligned(previous, self.aligned_to, self.len);
         let end = number(offset);
         let Some(place) = Place::in_order(self.element, from, end, self.body) else {
-            return Some((nowhere, lost));
+            return Some((nowhere, unplaced));
         };
         let after = ByOffsets {
             element: self.element,

@@ -22,4 +22,4 @@ mod walk;
 pub use bounds::{member_bounds, n_children, place_of, places};
 pub use offset::number;
 pub use place::{Place, Places};
-pub use size::{TypeInfo, alignment, fixed_size, offset_width, place_behind, round_up, type_info};
+pub use size::{TypeInfo, aligned_after, alignment, fixed_size, offset_width, round_up, type_info};

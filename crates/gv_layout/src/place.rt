@@ -54,17 +54,17 @@ pub struct Places<'a> {
 
 impl<'a> Places<'a> {
     ghost use Rattle.gv_types.specs.Members.{members_left};
-    ghost use Rattle.gv_layout.specs.Places.{lie_nowhere, lost_left, places_left};
+    ghost use Rattle.gv_layout.specs.Places.{lie_nowhere, unplaced_left, places_left};
 
     /// The types of the children that are left, if they are members, and one before them was out of order: they lie nowhere, and
     /// all are defaults. None else. It looks at no byte.
     #[inline(always)]
-    pub fn lost(&self) -> Option<Members<'a>>
-        ensures types { option_map members_left result ≡ lost_left self.now }
+    pub fn unplaced(&self) -> Option<Members<'a>>
+        ensures types { option_map members_left result ≡ unplaced_left self.now }
         ensures nowhere { IfSome result (λ ms. places_left self.now ≡ lie_nowhere (members_left ms)) }
     {
         match &self.walk {
-            Walk::ByMembers(by_members) => by_members.lost(),
+            Walk::ByMembers(by_members) => by_members.unplaced(),
             _ => None,
         }
     }

@@ -6,7 +6,7 @@ ghost use Rattle.gv_model.specs.Layout.{basic_size, or_one, alignment, greatest_
 ghost use Rattle.gv_model.specs.TypeText.{seen};
 ghost use Rattle.gv_types.specs.Classes.{basic_of, class_of};
 ghost use Rattle.gv_types.specs.declared.class.Class.TheVariants.{Tuple, Entry};
-ghost use Rattle.gv_types.specs.Fronts.{BeginsFront, front};
+ghost use Rattle.gv_types.specs.FirstTypes.{HasFirstType, first_type};
 ghost use Rattle.gv_types.specs.TypeStr.{ty};
 ghost use Rattle.gv_layout.specs.TypesAt.{IsInfoAt};
 ghost use Rattle.gv_layout.specs.OpenLetters.{is_open_letter};
@@ -157,13 +157,13 @@ struct InfoAt<'a> {
 /// The layout of the type at the start of a text. It looks at each byte of the type once.
 #[cycle(infos)]
 fn info_at(text: &[u8]) -> InfoAt<'_>
-    requires { BeginsFront text.now }
+    requires { HasFirstType text.now }
     ensures { IsInfoAt text.entry.now result.info.alignment result.info.size result.rest.now }
 {
     match Class::of_letter(text[0]).unwrap() {
         Class::Basic(basic) => InfoAt {
             info: basic_info(basic),
-            rest: behind(text),
+            rest: after_letter(text),
         },
         Class::Variant | Class::Array | Class::Maybe => {
             let (of, rest) = TypeStr::split_prefix(text).unwrap();
@@ -180,11 +180,11 @@ fn info_at(text: &[u8]) -> InfoAt<'_>
 /// The layout of the tuple at the start of a text: that of its members one after the other.
 #[cycle(infos)]
 fn tuple_at(text: &[u8]) -> InfoAt<'_>
-    requires front { BeginsFront text.now }
-    requires kind { class_of (front (seen text.now)) ≡ Tuple }
+    requires first_type { HasFirstType text.now }
+    requires kind { class_of (first_type (seen text.now)) ≡ Tuple }
     ensures { IsInfoAt text.entry.now result.info.alignment result.info.size result.rest.now }
 {
-    let mut rest = behind(text);
+    let mut rest = after_letter(text);
     let mut alignment: u8 = 1;
     let mut end = Some(0);
     while rest[0] != b')' {
@@ -196,30 +196,30 @@ fn tuple_at(text: &[u8]) -> InfoAt<'_>
     let size = padded(end, alignment);
     InfoAt {
         info: TypeInfo { alignment, size },
-        rest: behind(rest),
+        rest: after_letter(rest),
     }
 }
 
 /// The layout of the entry at the start of a text: that of its key and its value one after the other.
 #[cycle(infos)]
 fn entry_at(text: &[u8]) -> InfoAt<'_>
-    requires front { BeginsFront text.now }
-    requires kind { class_of (front (seen text.now)) ≡ Entry }
+    requires first_type { HasFirstType text.now }
+    requires kind { class_of (first_type (seen text.now)) ≡ Entry }
     ensures { IsInfoAt text.entry.now result.info.alignment result.info.size result.rest.now }
 {
-    let key = info_at(behind(text));
+    let key = info_at(after_letter(text));
     let value = info_at(key.rest);
     let alignment = key.info.alignment.max(value.info.alignment);
     let key_end = end_after(Some(0), key.info);
     let size = padded(end_after(key_end, value.info), alignment);
     InfoAt {
         info: TypeInfo { alignment, size },
-        rest: behind(value.rest),
+        rest: after_letter(value.rest),
     }
 }
 
 /// The text after its first letter.
-fn behind(text: &[u8]) -> &[u8]
+fn after_letter(text: &[u8]) -> &[u8]
     requires { 0 < length text.now }
     ensures { result.now ≡ drop 1 text.entry.now }
 {
@@ -245,10 +245,10 @@ fn padded(end: Option<usize>, alignment: u8) -> Option<usize>
     Some(round_up(end?, alignment).max(1))
 }
 
-/// Where a value of this type begins that comes behind so many bytes: the first place from there on that is aligned for it.
+/// Where a value of this type begins that comes after so many bytes: the first place from there on that is aligned for it.
 ///
 /// At 0 any type is, so there it looks at no byte of the type's text.
-pub fn place_behind(end: usize, of: TypeStr<'_>) -> usize
+pub fn aligned_after(end: usize, of: TypeStr<'_>) -> usize
     requires fits { end + 8 < 2 ^ 64 }
     ensures { result ≡ round_up (alignment (ty of.entry)) end }
 {

@@ -32,7 +32,7 @@ pub(crate) struct ByMembers<'a, 'b> {
 }
 
 impl<'a, 'b> ByMembers<'a, 'b> {
-    ghost use Rattle.gv_layout.specs.Places.{child_of, clamp, end_by, by_members_left, lie_nowhere, lost_after};
+    ghost use Rattle.gv_layout.specs.Places.{child_of, clamp, end_by, by_members_left, lie_nowhere, unplaced_after};
 
     /// The members of a tuple or an entry.
     pub(crate) fn of_tuple(of: TypeStr<'a>, bytes: &'b [u8]) -> ByMembers<'a, 'b>
@@ -71,8 +71,8 @@ impl<'a, 'b> ByMembers<'a, 'b> {
 
     /// The types of the children that are left, if one before them was out of order, so that none of them lies anywhere.
     #[inline(always)]
-    pub(crate) fn lost(&self) -> Option<Members<'a>>
-        ensures types { option_map members_left result ≡ lost_after self.now.previous (members_left self.now.members) }
+    pub(crate) fn unplaced(&self) -> Option<Members<'a>>
+        ensures types { option_map members_left result ≡ unplaced_after self.now.previous (members_left self.now.members) }
         ensures nowhere { IfSome result (λ ms. by_members_left self.now ≡ lie_nowhere (members_left ms)) }
     {
         match self.previous {
@@ -91,7 +91,7 @@ impl<'a, 'b> ByMembers<'a, 'b> {
         let member = members.next()?;
         let is_last = members.is_empty();
         let nowhere = Place::nowhere(member);
-        let lost = ByMembers {
+        let unplaced = ByMembers {
             members,
             bytes: self.bytes,
             width: self.width,
@@ -100,15 +100,15 @@ impl<'a, 'b> ByMembers<'a, 'b> {
             body: self.body,
         };
         let Some(previous) = self.previous else {
-            return Some((nowhere, lost));
+            return Some((nowhere, unplaced));
         };
         let from = begin(member, previous, self.bytes);
         let (member, size) = sized(member);
         let Some((to, used)) = self.end(size, from, is_last) else {
-            return Some((nowhere, lost));
+            return Some((nowhere, unplaced));
         };
         let Some(place) = Place::in_order(member, from, to, self.body) else {
-            return Some((nowhere, lost));
+            return Some((nowhere, unplaced));
         };
         let after = ByMembers {
             members,

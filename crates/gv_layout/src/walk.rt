@@ -8,7 +8,7 @@ ghost use Rattle.gv_layout.specs.Places.{clamp};
 
 use crate::array::{ByOffsets, FixedSize};
 use crate::place::Place;
-use crate::size::{fixed_size, place_behind, round_up};
+use crate::size::{aligned_after, fixed_size, round_up};
 use crate::tuple::ByMembers;
 use gv_types::{Class, TypeStr};
 
@@ -25,7 +25,7 @@ pub(crate) fn aligned(from: usize, alignment: u8, len: usize) -> usize
 pub(crate) fn begin(member: TypeStr<'_>, previous: usize, bytes: &[u8]) -> usize
     ensures { clamp (length bytes.now) result ≡ clamp (length bytes.now) (round_up (alignment (ty member.entry)) previous) }
 {
-    place_behind(previous.min(bytes.len() + 1), member)
+    aligned_after(previous.min(bytes.len() + 1), member)
 }
 
 /// The children of a container that are left.

@@ -20,10 +20,10 @@ use Rattle.gv_model.proofs.WellTyped.{IsBytes}
 use Rattle.gv_model.proofs.MemberLaws.{part_types, HasSize, HaveSizes}
 use Rattle.gv_model.proofs.ContainerParts.{Holds, tuple_holds, entry_holds}
 use Rattle.gv_model.proofs.PlacedParts.{length-zeros}
-use Rattle.gv_normal.specs.InPlace.{IsNormalWithin, LiesBehind, HasMembers}
+use Rattle.gv_normal.specs.InPlace.{IsNormalWithin, LiesAfter, HasMembers}
 use Rattle.gv_normal.proofs.PackedParts.{AreNormal, AreOfBytes, PackedOf, values_of, packed_values, normal_of_parts, parts_of_normal, types_of_parts, sizes_of_parts}
-use Rattle.gv_normal.proofs.Pieces.{bytes_piece, no_piece, front_and_back, length-piece}
-use Rattle.gv_normal.proofs.PartSteps.{joined_there, written_behind}
+use Rattle.gv_normal.proofs.Pieces.{bytes_piece, no_piece, prefix_and_rest, length-piece}
+use Rattle.gv_normal.proofs.PartSteps.{joined_there, written_after}
 
 pub packed_members : (t : Ty) (xs : List Part) → HasMembers t → packed t xs ≡ tuple_bytes xs (fixed_size t)
 unfolding packed
@@ -70,7 +70,7 @@ holds (maybe t) xs h e = absurd h
 abbrev pub IsFixedAt : ℕ → List ℕ → ℕ → Ty → (ℕ → Type 0) → Option ℕ → Type 0
 IsFixedAt d b p t Rest None = ⊥
 IsFixedAt d b p t Rest (Some s) =
-    (LiesBehind b p (round_up (alignment t) p) (round_up (alignment t) p + s)
+    (LiesAfter b p (round_up (alignment t) p) (round_up (alignment t) p + s)
     × IsNormalWithin d t (slice_range b (round_up (alignment t) p) (round_up (alignment t) p + s)))
     × Rest (round_up (alignment t) p + s)
 
@@ -148,12 +148,12 @@ fixed_there d b front tail p [] f g h k whole zero =
     ap₂ drop (sym k) whole ∙ (drop-append_seam front tail ∙ (zero ∙ ap zeros rest))
 fixed_there d b front tail p (x ∷ xs) f g h k whole zero =
     let one = whole ∙ ap (λ (r : List ℕ). front ++ r) (split (zeros (start_after p x - p)) x.1 (body_from (end_after p x) xs) tail) in
-    let w = written_behind b front (body_from (end_after p x) xs ++ tail) p x k one in
+    let w = written_after b front (body_from (end_after p x) xs ++ tail) p x k one in
     let size : length x.1 ≡ f.0.0 = subst (λ (o : Option ℕ). HasSize o x) f.0.1 g.0 in
     let to : end_after p x ≡ start_after p x + f.0.0 = ap (λ (n : ℕ). start_after p x + n) size in
-    let here : LiesBehind b p (start_after p x) (end_after p x) × IsNormalWithin d x.0 (slice_range b (start_after p x) (end_after p x)) = (w.lies, subst (IsNormalWithin d x.0) (sym w.piece) h.0) in
+    let here : LiesAfter b p (start_after p x) (end_after p x) × IsNormalWithin d x.0 (slice_range b (start_after p x) (end_after p x)) = (w.lies, subst (IsNormalWithin d x.0) (sym w.piece) h.0) in
     subst (IsFixedAt d b p x.0 (λ e. AreFixedFrom d b e (part_types xs))) (sym f.0.1)
-    (subst (λ (e : ℕ). (LiesBehind b p (start_after p x) e × IsNormalWithin d x.0 (slice_range b (start_after p x) e)) × AreFixedFrom d b e (part_types xs)) to
+    (subst (λ (e : ℕ). (LiesAfter b p (start_after p x) e × IsNormalWithin d x.0 (slice_range b (start_after p x) e)) × AreFixedFrom d b e (part_types xs)) to
     (here, fixed_there d b w.front tail (end_after p x) xs f.1 g.1 h.1 w.size w.whole zero))
   where
     split : (z y r t : List ℕ) → (z ++ (y ++ r)) ++ t ≡ z ++ (y ++ (r ++ t))
@@ -178,7 +178,7 @@ fixed_packed d t b bytes k fixed h =
         held = held_members t r.parts k r.types;
         normal = r.normal;
         bytes = r.bytes;
-        whole = sym (packed_members t r.parts k ∙ (ap (tuple_bytes r.parts) fixed ∙ (ap₂ ◌++◌ r.body tail ∙ front_and_back b r.last)));
+        whole = sym (packed_members t r.parts k ∙ (ap (tuple_bytes r.parts) fixed ∙ (ap₂ ◌++◌ r.body tail ∙ prefix_and_rest b r.last)));
       };
       values = r.values;
     }
@@ -214,11 +214,11 @@ fixed_iff d t b bytes k fixed = (fixed_normal d t b bytes k fixed, normal_fixed 
 
 -- the next member, where what is left decides
 pub fixed_turn : (W : Type 0) (d : ℕ) (b : List ℕ) (p from s : ℕ) (u : Ty) (left rest : List Ty) → left ≡ u ∷ rest → (AreFixedFrom d b p (types_from left) ↔ W) → fixed_size u ≡ Some s → from ≡ round_up (alignment u) p
-    → (((LiesBehind b p from (from + s) × IsNormalWithin d u (slice_range b from (from + s))) × AreFixedFrom d b (from + s) (types_from rest)) ↔ W)
+    → (((LiesAfter b p from (from + s) × IsNormalWithin d u (slice_range b from (from + s))) × AreFixedFrom d b (from + s) (types_from rest)) ↔ W)
 fixed_turn W d b p from s u left rest steps h e is =
     let one : IsFixedAt d b p u (λ q. AreFixedFrom d b q (types_from rest)) (fixed_size u) ↔ W = subst (λ (ts : List Ty). AreFixedFrom d b p (types_from ts) ↔ W) steps h in
     let two = subst (λ (o : Option ℕ). IsFixedAt d b p u (λ q. AreFixedFrom d b q (types_from rest)) o ↔ W) e one in
-    subst (λ (r : ℕ). ((LiesBehind b p r (r + s) × IsNormalWithin d u (slice_range b r (r + s))) × AreFixedFrom d b (r + s) (types_from rest)) ↔ W) (sym is) two
+    subst (λ (r : ℕ). ((LiesAfter b p r (r + s) × IsNormalWithin d u (slice_range b r (r + s))) × AreFixedFrom d b (r + s) (types_from rest)) ↔ W) (sym is) two
 
 -- and how many values there are in it and behind it
 pub fixed_turn_values : (b : List ℕ) (p from s : ℕ) (u : Ty) (left rest : List Ty) → left ≡ u ∷ rest → fixed_size u ≡ Some s → from ≡ round_up (alignment u) p

@@ -23,7 +23,7 @@ use Rattle.gv_model.proofs.WellTyped.{IsBytes, type_of-decode}
 use Rattle.gv_view.specs.Variants.{held, at_type_text}
 use Rattle.gv_normal.specs.InPlace.{IsNormalWithin}
 use Rattle.gv_normal.proofs.PackedParts.{PackedOf, packed_values, normal_of_parts, parts_of_normal}
-use Rattle.gv_normal.proofs.Pieces.{bytes_front}
+use Rattle.gv_normal.proofs.Pieces.{bytes_prefix}
 
 -- ---- variants
 
@@ -70,7 +70,7 @@ held_packed d b p bytes e h =
     record {
       held = subst (λ (t : Ty). is_within_limits t (spelling t) ≡ true) (sym (type_of-decode p.0 p.1)) is.limits;
       normal = (h, tt);
-      bytes = (bytes_front p.1 (0 ∷ spelling p.0) (subst IsBytes is.whole bytes), tt);
+      bytes = (bytes_prefix p.1 (0 ∷ spelling p.0) (subst IsBytes is.whole bytes), tt);
       whole = is.whole ∙ sym (packed_variant p);
     }
 
@@ -152,13 +152,13 @@ fixed_just_values d n t b bytes e h = just_values d t b b bytes (sym (ap (just_b
 pub open_just_values : (d : ℕ) (t : Ty) (b x : List ℕ) (c : ℕ) → IsBytes b → b ≡ x ++ c ∷ [] → fixed_size t ≡ None → c ≡ 0 → IsNormalWithin d t x → nodes (decode (maybe t) b) ≡ nodes (decode t x) + 1
 open_just_values d t b x c bytes whole e zero h =
     let is : b ≡ x ++ 0 ∷ [] = whole ∙ ap (λ (y : ℕ). x ++ y ∷ []) zero in
-    just_values d t x b (bytes_front x (0 ∷ []) (subst IsBytes is bytes)) (is ∙ sym (ap (just_bytes x) e)) h
+    just_values d t x b (bytes_prefix x (0 ∷ []) (subst IsBytes is bytes)) (is ∙ sym (ap (just_bytes x) e)) h
 
 pub open_just : (d : ℕ) (t : Ty) (b x : List ℕ) (c : ℕ) → IsBytes b → b ≡ x ++ c ∷ [] → fixed_size t ≡ None → c ≡ 0 → (IsNormalWithin d t x ↔ IsNormalWithin (suc d) (maybe t) b)
 open_just d t b x c bytes whole e zero =
     let is : b ≡ x ++ 0 ∷ [] = whole ∙ ap (λ (y : ℕ). x ++ y ∷ []) zero in
     let size : length b ≡ length x + 1 = ap length whole ∙ length-append x (c ∷ []) in (
-      λ h. just_normal d t x b (bytes_front x (0 ∷ []) (subst IsBytes is bytes)) (is ∙ sym (ap (just_bytes x) e)) h,
+      λ h. just_normal d t x b (bytes_prefix x (0 ∷ []) (subst IsBytes is bytes)) (is ∙ sym (ap (just_bytes x) e)) h,
       λ h. let r = normal_just d t b bytes (omega (arith, size)) h in
           subst (IsNormalWithin d t) (sym (same_front x r.0 c 0 (sym whole ∙ (r.1.whole ∙ ap (just_bytes r.0) e)))) r.1.normal,
     )

@@ -19,17 +19,17 @@ use Rattle.gv_model.proofs.FramedArrays.{offsets, last_of, last_end, last_number
 use Rattle.gv_model.proofs.MemberLaws.{offset_width_pos}
 use Rattle.gv_model.proofs.NumberBytes.{offset_width-least}
 use Rattle.gv_model.proofs.ValueBound.{length-numbers}
-use Rattle.gv_normal.specs.InPlace.{IsNormalWithin, LiesBehind}
+use Rattle.gv_normal.specs.InPlace.{IsNormalWithin, LiesAfter}
 use Rattle.gv_normal.specs.Tables.{HasTable, offset_number}
 use Rattle.gv_normal.proofs.PackedParts.{AreNormal, AreOfBytes, PackedOf, values_of, packed_values, normal_of_parts, parts_of_normal, one_type_held, held_one_type}
 use Rattle.gv_normal.proofs.Pieces.{offsets_back, numbers_at, numbers_end, bytes_piece, no_piece}
-use Rattle.gv_normal.proofs.PartSteps.{joined_there, ends_there, written_behind}
+use Rattle.gv_normal.proofs.PartSteps.{joined_there, ends_there, written_after}
 
 -- elements with these ends fill what is left of a body from p on, and are normal
 abbrev pub AreNormalFrom : ℕ → Ty → List ℕ → ℕ → List ℕ → Type 0
 AreNormalFrom d t body p [] = p ≡ length body
 AreNormalFrom d t body p (e ∷ es) =
-    (LiesBehind body p (round_up (alignment t) p) e × IsNormalWithin d t (slice_range body (round_up (alignment t) p) e)) × AreNormalFrom d t body e es
+    (LiesAfter body p (round_up (alignment t) p) e × IsNormalWithin d t (slice_range body (round_up (alignment t) p) e)) × AreNormalFrom d t body e es
 
 -- how many values are in them
 abbrev pub values_from : Ty → List ℕ → ℕ → List ℕ → ℕ
@@ -67,9 +67,9 @@ pub elements_there : (d : ℕ) (t : Ty) (body front : List ℕ) (p : ℕ) (xs : 
 unfolding body_from ends_from
 elements_there d t body front p [] h g k whole = sym (ap length (whole ∙ append-nil front) ∙ k)
 elements_there d t body front p (x ∷ xs) h g k whole =
-    let w = written_behind body front (body_from (end_after p x) xs) p x k whole in
-    let here : LiesBehind body p (start_after p x) (end_after p x) × IsNormalWithin d x.0 (slice_range body (start_after p x) (end_after p x)) = (w.lies, subst (IsNormalWithin d x.0) (sym w.piece) g.0) in (
-      subst (λ (u : Ty). LiesBehind body p (round_up (alignment u) p) (end_after p x) × IsNormalWithin d u (slice_range body (round_up (alignment u) p) (end_after p x))) h.0 here,
+    let w = written_after body front (body_from (end_after p x) xs) p x k whole in
+    let here : LiesAfter body p (start_after p x) (end_after p x) × IsNormalWithin d x.0 (slice_range body (start_after p x) (end_after p x)) = (w.lies, subst (IsNormalWithin d x.0) (sym w.piece) g.0) in (
+      subst (λ (u : Ty). LiesAfter body p (round_up (alignment u) p) (end_after p x) × IsNormalWithin d u (slice_range body (round_up (alignment u) p) (end_after p x))) h.0 here,
       elements_there d t body w.front (end_after p x) xs h.1 g.1 w.size w.whole,
     )
 
@@ -213,13 +213,13 @@ next_end b c i to w wide c_is less to_is =
 -- the next element, where what is left decides
 pub element_turn : (W : Type 0) (d : ℕ) (t : Ty) (b c body : List ℕ) (i p from to w : ℕ) → w ≡ offset_width (length b) → c ≡ drop (elements_end b None) b → body ≡ take (elements_end b None) b → i < offset_number b
     → to ≡ number_in (take (i * w + w - i * w) (drop (i * w) c)) → from ≡ round_up (alignment t) p → (AreNormalFrom d t (take (elements_end b None) b) p (drop i (table b)) ↔ W)
-    → (((LiesBehind body p from to × IsNormalWithin d t (slice_range body from to)) × AreNormalFrom d t (take (elements_end b None) b) to (drop (i + 1) (table b))) ↔ W)
+    → (((LiesAfter body p from to × IsNormalWithin d t (slice_range body from to)) × AreNormalFrom d t (take (elements_end b None) b) to (drop (i + 1) (table b))) ↔ W)
 element_turn W d t b c body i p from to w wide c_is body_is less to_is from_is h =
     let front = take (elements_end b None) b in
     let next = next_end b c i to w wide c_is less to_is in
     let one = subst (λ (ys : List ℕ). AreNormalFrom d t front p ys ↔ W) next h in
-    let two = subst (λ (s : ℕ). ((LiesBehind front p s to × IsNormalWithin d t (slice_range front s to)) × AreNormalFrom d t front to (drop (i + 1) (table b))) ↔ W) (sym from_is) one in
-    subst (λ (x : List ℕ). ((LiesBehind x p from to × IsNormalWithin d t (slice_range x from to)) × AreNormalFrom d t front to (drop (i + 1) (table b))) ↔ W) (sym body_is) two
+    let two = subst (λ (s : ℕ). ((LiesAfter front p s to × IsNormalWithin d t (slice_range front s to)) × AreNormalFrom d t front to (drop (i + 1) (table b))) ↔ W) (sym from_is) one in
+    subst (λ (x : List ℕ). ((LiesAfter x p from to × IsNormalWithin d t (slice_range x from to)) × AreNormalFrom d t front to (drop (i + 1) (table b))) ↔ W) (sym body_is) two
 
 -- and how many values it has
 pub element_values : (t : Ty) (b c body : List ℕ) (i p from to w : ℕ) → w ≡ offset_width (length b) → c ≡ drop (elements_end b None) b → body ≡ take (elements_end b None) b → i < offset_number b

@@ -21,11 +21,11 @@ use Rattle.gv_model.proofs.WellTyped.{IsBytes, bytes_take, bytes_drop}
 use Rattle.gv_model.proofs.PlacedParts.{length-body_from}
 use Rattle.gv_model.proofs.MemberLaws.{part_types, HasSize, HaveSizes}
 use Rattle.gv_model.proofs.FramedArrays.{offsets, length-offsets, least_width_pos}
-use Rattle.gv_normal.specs.InPlace.{IsNormalWithin, LiesBehind, HasMembers}
+use Rattle.gv_normal.specs.InPlace.{IsNormalWithin, LiesAfter, HasMembers}
 use Rattle.gv_normal.specs.Tables.{member_place}
 use Rattle.gv_normal.proofs.PackedParts.{AreNormal, AreOfBytes, PackedOf, values_of, packed_values, normal_of_parts, parts_of_normal, sizes_of_parts}
-use Rattle.gv_normal.proofs.Pieces.{bytes_piece, no_piece, front_and_back, length-piece, number_back}
-use Rattle.gv_normal.proofs.PartSteps.{IsWrittenBehind, joined_there, ends_there, written_behind}
+use Rattle.gv_normal.proofs.Pieces.{bytes_piece, no_piece, prefix_and_rest, length-piece, number_back}
+use Rattle.gv_normal.proofs.PartSteps.{IsWrittenAfter, joined_there, ends_there, written_after}
 use Rattle.gv_normal.proofs.FixedMembers.{packed_members, held_members, members_held, with_members}
 use Rattle.gv_normal.proofs.OpenElements.{framed_is}
 
@@ -36,7 +36,7 @@ is_end (member t ts) = false
 abbrev pub IsOpenAt : ℕ → List ℕ → ℕ → Ty → (ℕ → ℕ → Type 0) → Option (ℕ × ℕ) → Type 0
 IsOpenAt d b p t Rest None = ⊥
 IsOpenAt d b p t Rest (Some q) =
-    (LiesBehind b p (round_up (alignment t) p) q.0 × IsNormalWithin d t (slice_range b (round_up (alignment t) p) q.0)) × Rest q.0 q.1
+    (LiesAfter b p (round_up (alignment t) p) q.0 × IsNormalWithin d t (slice_range b (round_up (alignment t) p) q.0)) × Rest q.0 q.1
 
 -- the offsets from q on, of w bytes each, follow a body of p bytes, and are as narrow as they can be
 pub record IsFull (b : List ℕ) (w q p : ℕ) : Type 0 where
@@ -107,7 +107,7 @@ offset_back w b q bytes pos room le =
     ap₂ ◌++◌ (number_back w (take w (drop from b)) pos size (bytes_take w (drop from b) (bytes_drop from b bytes))) (ap (λ (n : ℕ). drop n b) (sym place) ∙ sym (drop-drop w from b))
     ∙ take-append-drop w (drop from b)
 
-one_part : (d : ℕ) (b : List ℕ) (w q q' p e : ℕ) (t : Ty) (ts : Types) → IsBytes b → LiesBehind b p (round_up (alignment t) p) e → IsNormalWithin d t (slice_range b (round_up (alignment t) p) e) → (r : HasOpen d b w q' e ts)
+one_part : (d : ℕ) (b : List ℕ) (w q q' p e : ℕ) (t : Ty) (ts : Types) → IsBytes b → LiesAfter b p (round_up (alignment t) p) e → IsNormalWithin d t (slice_range b (round_up (alignment t) p) e) → (r : HasOpen d b w q' e ts)
     → offsets w (reverse (ends_with (fixed_size t) (is_end ts) e (open_ends_from e r.parts))) ++ drop q b ≡ offsets w (reverse (open_ends_from e r.parts)) ++ drop q' b
     → (0 < length (ends_with (fixed_size t) (is_end ts) e (open_ends_from e r.parts)) → 0 < w)
     → member_place w b q (round_up (alignment t) p) (fixed_size t) (is_end ts) ≡ Some (e, q')
@@ -225,8 +225,8 @@ open_there d b front after w q p (x ∷ xs) g h k room whole wide narrow =
     one : b ≡ front ++ (zeros (s - p) ++ (x.1 ++ (body ++ all)))
     one = whole ∙ ap (λ (r : List ℕ). front ++ r) (split (zeros (s - p)) x.1 body all)
 
-    u : IsWrittenBehind b p x (body ++ all)
-    u = written_behind b front (body ++ all) p x k one
+    u : IsWrittenAfter b p x (body ++ all)
+    u = written_after b front (body ++ all) p x k one
 
     long : length front + length (body_from p (x ∷ xs)) ≡ length u.front + length body
     long = (let n = length-body_from p (x ∷ xs) in let m = length-body_from e xs in omega (arith, k, u.size))
@@ -240,11 +240,11 @@ open_there d b front after w q p (x ∷ xs) g h k room whole wide narrow =
     At : Option (ℕ × ℕ) → Type 0
     At o = IsOpenAt d b p x.0 (λ e r. AreOpenFrom d b w r e (part_types xs)) o
 
-    here : LiesBehind b p s e × IsNormalWithin d x.0 (slice_range b s e)
+    here : LiesAfter b p s e × IsNormalWithin d x.0 (slice_range b s e)
     here = (u.lies, subst (IsNormalWithin d x.0) (sym u.piece) h.0)
 
     at_end : (n : ℕ) → n ≡ e → (r : ℕ) → AreOpenFrom d b w r e (part_types xs) → At (Some (n, r))
-    at_end n is r j = subst (λ (m : ℕ). (LiesBehind b p s m × IsNormalWithin d x.0 (slice_range b s m)) × AreOpenFrom d b w r m (part_types xs)) (sym is) (here, j)
+    at_end n is r j = subst (λ (m : ℕ). (LiesAfter b p s m × IsNormalWithin d x.0 (slice_range b s m)) × AreOpenFrom d b w r m (part_types xs)) (sym is) (here, j)
 
     last : (ys : List Part) → is_end (part_types ys) ≡ true → ys ≡ []
     last [] i = refl
@@ -318,7 +318,7 @@ open_packed d t b bytes k varies h =
         held = held_members t r.parts k r.types;
         normal = r.normal;
         bytes = r.bytes;
-        whole = sym (packed_open t r.parts k varies ∙ (framed_is body es ∙ (ap₂ ◌++◌ r.joined (same_offsets (least_width (length body) (length es)) w es narrow ∙ tail) ∙ front_and_back b r.last)));
+        whole = sym (packed_open t r.parts k varies ∙ (framed_is body es ∙ (ap₂ ◌++◌ r.joined (same_offsets (least_width (length body) (length es)) w es narrow ∙ tail) ∙ prefix_and_rest b r.last)));
       };
       values = r.values;
     }
@@ -385,10 +385,10 @@ place_turn W d b w v q p from u left rest size last steps h wide size_is from_is
     subst (λ (n : ℕ). IsOpenAt d b p u Rest (member_place n b q from size last) ↔ W) (sym wide) four
 
 pub member_turn : (W : Type 0) (d : ℕ) (b : List ℕ) (w p from to r : ℕ) (u : Ty) (rest : List Ty) (o : Option (ℕ × ℕ)) → o ≡ Some (to, r) → from ≡ round_up (alignment u) p
-    → (IsOpenAt d b p u (λ e q. AreOpenFrom d b w q e (types_from rest)) o ↔ W) → (((LiesBehind b p from to × IsNormalWithin d u (slice_range b from to)) × AreOpenFrom d b w r to (types_from rest)) ↔ W)
+    → (IsOpenAt d b p u (λ e q. AreOpenFrom d b w q e (types_from rest)) o ↔ W) → (((LiesAfter b p from to × IsNormalWithin d u (slice_range b from to)) × AreOpenFrom d b w r to (types_from rest)) ↔ W)
 member_turn W d b w p from to r u rest o is from_is h =
     let one = subst (λ (x : Option (ℕ × ℕ)). IsOpenAt d b p u (λ e q. AreOpenFrom d b w q e (types_from rest)) x ↔ W) is h in
-    subst (λ (s : ℕ). ((LiesBehind b p s to × IsNormalWithin d u (slice_range b s to)) × AreOpenFrom d b w r to (types_from rest)) ↔ W) (sym from_is) one
+    subst (λ (s : ℕ). ((LiesAfter b p s to × IsNormalWithin d u (slice_range b s to)) × AreOpenFrom d b w r to (types_from rest)) ↔ W) (sym from_is) one
 
 -- how many values there are in the next member and behind it
 pub member_values : (b : List ℕ) (w v q p from to r : ℕ) (u : Ty) (left rest : List Ty) (size : Option ℕ) (last : Bool) → left ≡ u ∷ rest

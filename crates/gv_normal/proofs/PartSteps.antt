@@ -8,20 +8,20 @@ use Rattle.gv_model.proofs.NumberBytes.{slice_mid, le-round_up}
 use Rattle.gv_model.proofs.LayoutLaws.{alignment_pos}
 use Rattle.gv_model.proofs.PlacedParts.{le-start_after, length-zeros}
 use Rattle.gv_layout.proofs.Sizes.{alignment_most, round_up_near}
-use Rattle.gv_normal.specs.InPlace.{LiesBehind}
+use Rattle.gv_normal.specs.InPlace.{LiesAfter}
 use Rattle.gv_normal.proofs.Pieces.{pieces, length-piece}
 
 -- where a part begins that is aligned behind others
-pub begins_behind : (t : Ty) (p s : ℕ) → s ≡ round_up (alignment t) p → (p ≤ s) × (s < p + 8)
-begins_behind t p s e =
+pub begins_after : (t : Ty) (p s : ℕ) → s ≡ round_up (alignment t) p → (p ≤ s) × (s < p + 8)
+begins_after t p s e =
     let near = round_up_near (alignment t) p (alignment_pos t) in
     (omega (arith, e, near.0), omega (arith, e, near.1, alignment_most t))
 
-pub ends_there : (b : List ℕ) (t : Ty) (p e : ℕ) → LiesBehind b p (round_up (alignment t) p) e → end_after p (t, slice_range b (round_up (alignment t) p) e) ≡ e
+pub ends_there : (b : List ℕ) (t : Ty) (p e : ℕ) → LiesAfter b p (round_up (alignment t) p) e → end_after p (t, slice_range b (round_up (alignment t) p) e) ≡ e
 ends_there b t p e h = omega (arith, length-piece b (round_up (alignment t) p) e h.within, h.rises)
 
 -- with the parts behind it
-pub joined_there : (b : List ℕ) (t : Ty) (p e q : ℕ) (xs : List Part) → LiesBehind b p (round_up (alignment t) p) e → e ≤ q → body_from e xs ≡ slice_range b e q
+pub joined_there : (b : List ℕ) (t : Ty) (p e q : ℕ) (xs : List Part) → LiesAfter b p (round_up (alignment t) p) e → e ≤ q → body_from e xs ≡ slice_range b e q
     → body_from p ((t, slice_range b (round_up (alignment t) p) e) ∷ xs) ≡ slice_range b p q
 unfolding body_from
 joined_there b t p e q xs h g rest =
@@ -31,8 +31,8 @@ joined_there b t p e q xs h g rest =
     ∙ sym (pieces b p s q low (omega (arith, h.rises)))
 
 -- a part that was written behind a front of p bytes
-pub record IsWrittenBehind (b : List ℕ) (p : ℕ) (x : Part) (rest : List ℕ) : Type 0 where
-  pub lies : LiesBehind b p (start_after p x) (end_after p x)
+pub record IsWrittenAfter (b : List ℕ) (p : ℕ) (x : Part) (rest : List ℕ) : Type 0 where
+  pub lies : LiesAfter b p (start_after p x) (end_after p x)
   pub piece : slice_range b (start_after p x) (end_after p x) ≡ x.1
   pub front : List ℕ
   pub size : length front ≡ end_after p x
@@ -44,8 +44,8 @@ regroup f z x r = simp append_assoc
 regroup_one : (f z x r : List ℕ) → f ++ (z ++ (x ++ r)) ≡ (f ++ z) ++ (x ++ r)
 regroup_one f z x r = simp append_assoc
 
-pub written_behind : (b front rest : List ℕ) (p : ℕ) (x : Part) → length front ≡ p → b ≡ front ++ (zeros (start_after p x - p) ++ (x.1 ++ rest)) → IsWrittenBehind b p x rest
-written_behind b front rest p x h whole =
+pub written_after : (b front rest : List ℕ) (p : ℕ) (x : Part) → length front ≡ p → b ≡ front ++ (zeros (start_after p x - p) ++ (x.1 ++ rest)) → IsWrittenAfter b p x rest
+written_after b front rest p x h whole =
     let z = zeros (start_after p x - p) in
     let low = le-start_after p x in
     let start : length (front ++ z) ≡ start_after p x = omega (arith, length-append front z, length-zeros (start_after p x - p)) in

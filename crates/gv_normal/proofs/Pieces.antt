@@ -23,15 +23,15 @@ length-piece b s e h = length-take-le (e - s) (drop s b) (omega (arith, length-d
 pub no_piece : (b : List ℕ) (p : ℕ) → slice_range b p p ≡ []
 no_piece b p = let none : p - p ≡ 0 = omega arith in rw none refl
 
-pub front_and_back : (b : List ℕ) (m : ℕ) → slice_range b 0 m ++ drop m b ≡ b
-front_and_back b m = let whole : m - 0 ≡ m = omega arith in ap (λ n. take n b ++ drop m b) whole ∙ take-append-drop m b
+pub prefix_and_rest : (b : List ℕ) (m : ℕ) → slice_range b 0 m ++ drop m b ≡ b
+prefix_and_rest b m = let whole : m - 0 ≡ m = omega arith in ap (λ n. take n b ++ drop m b) whole ∙ take-append-drop m b
 
 pub bytes_piece : (b : List ℕ) (s e : ℕ) → IsBytes b → IsBytes (slice_range b s e)
 bytes_piece b s e h = bytes_take (e - s) (drop s b) (bytes_drop s b h)
 
-pub bytes_front : (xs ys : List ℕ) → IsBytes (xs ++ ys) → IsBytes xs
-bytes_front [] ys h = tt
-bytes_front (x ∷ xs) ys h = (h.0, bytes_front xs ys h.1)
+pub bytes_prefix : (xs ys : List ℕ) → IsBytes (xs ++ ys) → IsBytes xs
+bytes_prefix [] ys h = tt
+bytes_prefix (x ∷ xs) ys h = (h.0, bytes_prefix xs ys h.1)
 
 pub number_back : (w : ℕ) (c : List ℕ) → 0 < w → length c ≡ w → IsBytes c → number_bytes w (number_in c) ≡ c
 unfolding number_bytes number_in

@@ -14,7 +14,7 @@ pub record IsNormalWithin (d : ℕ) (t : Ty) (b : List ℕ) : Type 0 where
   pub shallow : depth (decode t b) ≤ d
 
 -- a part lies from s to e in a body, and the bytes before it, from p on, are zero
-pub record LiesBehind (body : List ℕ) (p s e : ℕ) : Type 0 where
+pub record LiesAfter (body : List ℕ) (p s e : ℕ) : Type 0 where
   pub rises : s ≤ e
   pub within : e ≤ length body
   pub padding : slice_range body p s ≡ zeros (s - p)

@@ -14,7 +14,7 @@ ghost use Rattle.gv_model.specs.Decode.{decode};
 
 use crate::fixed::is_normal_fixed;
 use crate::in_place::is_normal_open;
-use crate::padding::{is_narrow, lies_behind};
+use crate::padding::{is_narrow, lies_after};
 use gv_layout::{number, offset_width, round_up, type_info};
 use gv_types::{BasicType, Class, Steps, TypeStr};
 
@@ -118,7 +118,7 @@ fn are_normal_elements(
         let at = i * width;
         let to = number(&offsets[at..at + width]);
         let from = round_up(end, aligned_to);
-        if !lies_behind(body, end, from, to) {
+        if !lies_after(body, end, from, to) {
             return false;
         }
         if !is_normal_open(element, &body[from..to], levels, steps) {

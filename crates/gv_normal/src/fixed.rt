@@ -8,7 +8,7 @@ ghost use Rattle.gv_model.specs.Tree.{nodes};
 ghost use Rattle.gv_model.specs.Decode.{decode};
 
 use crate::basic::is_normal_number;
-use crate::padding::{are_zero, lies_behind};
+use crate::padding::{are_zero, lies_after};
 use gv_layout::{round_up, type_info};
 use gv_types::{Class, Steps, TypeStr};
 
@@ -51,7 +51,7 @@ fn are_normal_fixed(of: TypeStr<'_>, bytes: &[u8], levels: u8, steps: &mut Steps
         let Some(size) = layout.size else {
             return false;
         };
-        if !lies_behind(bytes, end, from, from + size) {
+        if !lies_after(bytes, end, from, from + size) {
             return false;
         }
         if !is_normal_fixed(member, &bytes[from..from + size], levels, steps) {

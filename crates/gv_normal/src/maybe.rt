@@ -27,11 +27,11 @@ pub(crate) fn is_normal_maybe(
     ensures exact { IsTrue result → steps.new + 1 ≡ steps.old + nodes (decode (maybe (ty child.entry)) bytes.now) }
     ensures grows { steps.old ≤ steps.new }
 {
-    let Some((last, front)) = bytes.split_last() else {
+    let Some((last, prefix)) = bytes.split_last() else {
         return true;
     };
     match fixed_size(child) {
         Some(size) => bytes.len() == size && is_normal_fixed(child, bytes, levels, steps),
-        None => *last == 0 && is_normal_open(child, front, levels, steps),
+        None => *last == 0 && is_normal_open(child, prefix, levels, steps),
     }
 }

@@ -2,7 +2,7 @@
 ghost use Rattle.std.specs.Prelude.{◌≡◌, ◌≤◌, ◌<◌, ◌+◌, ◌*◌, ◌^◌, ◌↔◌, IsTrue, length};
 ghost use Rattle.gv_model.specs.Layout.{offset_width};
 ghost use Rattle.gv_model.specs.Encode.{zeros, least_width};
-ghost use Rattle.gv_normal.specs.InPlace.{LiesBehind};
+ghost use Rattle.gv_normal.specs.InPlace.{LiesAfter};
 
 /// Whether all bytes are zero.
 pub(crate) fn are_zero(bytes: &[u8]) -> bool
@@ -15,9 +15,9 @@ pub(crate) fn are_zero(bytes: &[u8]) -> bool
 }
 
 /// Whether a part that ends at `to` lies in order in a body, with zero bytes between it and what ends at `end`.
-pub(crate) fn lies_behind(body: &[u8], end: usize, from: usize, to: usize) -> bool
+pub(crate) fn lies_after(body: &[u8], end: usize, from: usize, to: usize) -> bool
     requires { end ≤ from }
-    ensures { IsTrue result ↔ LiesBehind body.now end from to }
+    ensures { IsTrue result ↔ LiesAfter body.now end from to }
 {
     from <= to && to <= body.len() && are_zero(&body[end..from])
 }

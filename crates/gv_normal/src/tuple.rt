@@ -12,8 +12,8 @@ ghost use Rattle.gv_model.specs.Decode.{decode};
 
 use crate::fixed::is_normal_fixed;
 use crate::in_place::is_normal_open;
-use crate::padding::{is_narrow, lies_behind};
-use gv_layout::{fixed_size, number, offset_width, place_behind};
+use crate::padding::{is_narrow, lies_after};
+use gv_layout::{aligned_after, fixed_size, number, offset_width};
 use gv_types::{Steps, TypeStr};
 
 /// Whether the members of a tuple or an entry are normal, and no deeper than so many levels, and lie as they are
@@ -40,12 +40,12 @@ pub(crate) fn are_normal_members(
     let mut tail = bytes.len();
     while let Some(member) = members.next() {
         let size = fixed_size(member);
-        let from = place_behind(end, member);
+        let from = aligned_after(end, member);
         let is_last = members.is_empty();
         let Some((to, before)) = member_place(bytes, width, tail, from, size, is_last) else {
             return false;
         };
-        if !lies_behind(bytes, end, from, to) {
+        if !lies_after(bytes, end, from, to) {
             return false;
         }
         if !is_normal_member(member, size, &bytes[from..to], levels, steps) {

@@ -26,8 +26,8 @@ use Rattle.gv_types.specs.Classes.{basic_of, class_of}
 use Rattle.gv_types.specs.TypeStr.{element_of}
 use Rattle.gv_text.specs.Printing.{IsElementFault, brackets_of, child_texts, figures_of}
 use Rattle.gv_model.specs.TypeText.{seen}
-use Rattle.gv_types.specs.Fronts.{after, after_close, front, types_inside, BeginsInside, IsAfterFront}
-use Rattle.gv_types.proofs.Fronts.{HasInside, HasMember, HasPair, inside_end, inside_front, inside_more, inside_next, inside_types, key_type, value_type}
+use Rattle.gv_types.specs.FirstTypes.{after, after_close, first_type, types_inside, BeginsInside, IsAfterFirst}
+use Rattle.gv_types.proofs.FirstTypes.{HasInside, HasMember, HasPair, inside_end, inside_first_type, inside_more, inside_next, inside_types, key_type, value_type}
 use Rattle.gv_text.specs.declared.printing.PrintFault.{PrintFault}
 use Rattle.gv_text.specs.declared.printing.PrintFault.TheVariants.{TooLarge, DoubleText, Memory}
 use Rattle.gv_text.specs.Defaults.{default_in, AreFigures, IsEmptied, IsLevelFault, Writes, WritesJoined}
@@ -88,8 +88,8 @@ pub basic_written : (k : Basic) (annotated : Bool) (s old mid new : Text) → s 
 basic_written k annotated s old mid new is marks wrote =
     wrote ∙ (ap (λ (l : Text). l ++ s) marks ∙ (append_assoc old (when annotated (word k)) s ∙ (ap (λ (l : Text). old ++ (when annotated (word k) ++ l)) is ∙ ap (λ (l : Text). old ++ l) (sym (basic_text k annotated false)))))
 
-pub behind_written : (k : Basic) (alone behind old new : Text) → AreFigures k alone behind → new ≡ old ++ behind → new ≡ (old ++ comma) ++ text_of (basic_default k) false false
-behind_written k alone behind old new are wrote =
+pub after_comma_written : (k : Basic) (alone after_comma old new : Text) → AreFigures k alone after_comma → new ≡ old ++ after_comma → new ≡ (old ++ comma) ++ text_of (basic_default k) false false
+after_comma_written k alone after_comma old new are wrote =
     wrote ∙ (ap (λ (l : Text). old ++ l) (are.joined ∙ ap (λ (l : Text). comma ++ l) (are.are ∙ sym (basic_text k false false))) ∙ sym (append_assoc old comma (text_of (basic_default k) false false)))
 
 basic_level : (k : Basic) → depth (basic_default k) ≡ 1
@@ -255,7 +255,7 @@ written_tuple w h levels annotated old new plain wrote fits =
     })
 
 -- what follows the members follows the tuple
-after_tuple : (w rest : List ℕ) (h : HasInside w) → BeginsInside rest → after_close (seen rest) ≡ after_close (seen (drop 1 w)) → length rest ≤ length (drop 1 w) → get_or rest 0 0 ≡ 41 → IsAfterFront w (drop 1 rest)
+after_tuple : (w rest : List ℕ) (h : HasInside w) → BeginsInside rest → after_close (seen rest) ≡ after_close (seen (drop 1 w)) → length rest ≤ length (drop 1 w) → get_or rest 0 0 ≡ 41 → IsAfterFirst w (drop 1 rest)
 after_tuple w rest h b e less close =
     let c = inside_end rest b close in
     record { is = sym c.after ∙ (e ∙ sym h.after); shorter = omega (arith, h.shorter, less, c.shorter) }
@@ -270,7 +270,7 @@ unfolding default text_of holds_double
 unit_text annotated = (refl, refl)
 
 pub unit_written : (w : List ℕ) (h : HasInside w) (levels : ℕ) (annotated : Bool) (old opened new : Text) → 0 < levels → get_or (drop 1 w) 0 0 ≡ 41 → opened ≡ old ++ 40 ∷ [] → new ≡ opened ++ 41 ∷ []
-    → IsAfterFront w (drop 1 (drop 1 w)) × Writes (default_in w) levels annotated false old new
+    → IsAfterFirst w (drop 1 (drop 1 w)) × Writes (default_in w) levels annotated false old new
 unit_written w h levels annotated old opened new some close opens closes =
     let none = (inside_end (drop 1 w) h.begins close).none in
     let is = unit_text annotated in (
@@ -289,12 +289,12 @@ pub record IsTuplePart (w rest : List ℕ) (levels : ℕ) (annotated : Bool) (op
   pub shorter : length rest ≤ length (drop 1 w)
 
 members_are : (w rest : List ℕ) → HasMember w rest → defaults (types_inside (seen w)) ≡ first (default_in w) (defaults (types_inside (seen rest)))
-members_are w rest m = ap defaults m.types ∙ first_default (front (seen w)) (types_inside (seen rest))
+members_are w rest m = ap defaults m.types ∙ first_default (first_type (seen w)) (types_inside (seen rest))
 
-pub first_part : (w rest : List ℕ) (h : HasInside w) (levels : ℕ) (annotated : Bool) (opened now : Text) → 0 < levels → (get_or (drop 1 w) 0 0 ≡ 41 → ⊥) → IsAfterFront (drop 1 w) rest
+pub first_part : (w rest : List ℕ) (h : HasInside w) (levels : ℕ) (annotated : Bool) (opened now : Text) → 0 < levels → (get_or (drop 1 w) 0 0 ≡ 41 → ⊥) → IsAfterFirst (drop 1 w) rest
     → Writes (default_in (drop 1 w)) (levels - 1) annotated false opened now → IsTuplePart w rest levels annotated opened now
 first_part w rest h levels annotated opened now some begun a wrote =
-    let m = inside_next (drop 1 w) rest h.begins (inside_front (drop 1 w) h.begins begun) a in
+    let m = inside_next (drop 1 w) rest h.begins (inside_first_type (drop 1 w) h.begins begun) a in
     let is = members_are (drop 1 w) rest m in
     record {
       begins = m.begins;
@@ -305,10 +305,10 @@ first_part w rest h levels annotated opened now some begun a wrote =
       shorter = omega (arith, a.shorter);
     }
 
-pub next_part : (w rest more : List ℕ) (levels : ℕ) (annotated : Bool) (opened now mid new : Text) → 0 < levels → IsTuplePart w rest levels annotated opened now → (get_or rest 0 0 ≡ 41 → ⊥) → IsAfterFront rest more
+pub next_part : (w rest more : List ℕ) (levels : ℕ) (annotated : Bool) (opened now mid new : Text) → 0 < levels → IsTuplePart w rest levels annotated opened now → (get_or rest 0 0 ≡ 41 → ⊥) → IsAfterFirst rest more
     → mid ≡ now ++ comma → Writes (default_in rest) (levels - 1) annotated false mid new → IsTuplePart w more levels annotated opened new
 next_part w rest more levels annotated opened now mid new some p begun a marks wrote =
-    let m = inside_next rest more p.begins (inside_front rest p.begins begun) a in
+    let m = inside_next rest more p.begins (inside_first_type rest p.begins begun) a in
     let is = members_are rest more m in
     record {
       begins = m.begins;
@@ -326,14 +326,14 @@ one_long : (v : Tree) → trees_len (first v none) ≡ 1
 unfolding trees_len
 one_long v = refl
 
-pub one_written : (w rest : List ℕ) (h : HasInside w) (levels : ℕ) (annotated : Bool) (old opened now new : Text) → 0 < levels → (get_or (drop 1 w) 0 0 ≡ 41 → ⊥) → IsAfterFront (drop 1 w) rest
+pub one_written : (w rest : List ℕ) (h : HasInside w) (levels : ℕ) (annotated : Bool) (old opened now new : Text) → 0 < levels → (get_or (drop 1 w) 0 0 ≡ 41 → ⊥) → IsAfterFirst (drop 1 w) rest
     → Writes (default_in (drop 1 w)) (levels - 1) annotated false opened now → get_or rest 0 0 ≡ 41 → opened ≡ old ++ 40 ∷ [] → new ≡ now ++ 44 ∷ 41 ∷ []
-    → IsAfterFront w (drop 1 rest) × Writes (default_in w) levels annotated false old new
+    → IsAfterFirst w (drop 1 rest) × Writes (default_in w) levels annotated false old new
 one_written w rest h levels annotated old opened now new some begun a wrote close opens closes =
     let p = first_part w rest h levels annotated opened now some begun a wrote in
     let last = none_left rest p.begins close in
     let texts = left_none comma (defaults (inside_of w)) annotated false opened now (subst (λ (vs : Trees). IsLeft comma (defaults (inside_of w)) vs annotated false opened now) last p.texts) in
-    let m = inside_next (drop 1 w) rest h.begins (inside_front (drop 1 w) h.begins begun) a in
+    let m = inside_next (drop 1 w) rest h.begins (inside_first_type (drop 1 w) h.begins begun) a in
     let one : trees_len (defaults (inside_of w)) ≡ 1 = ap trees_len (members_are (drop 1 w) rest m) ∙ (ap (λ vs. trees_len (first (default_in (drop 1 w)) vs)) last ∙ one_long (default_in (drop 1 w))) in (
       after_tuple w rest h p.begins p.after p.shorter close,
       written_tuple w h levels annotated old new texts.0 (one_member (defaults (inside_of w)) annotated old opened now new one opens texts.1 closes)
@@ -346,16 +346,16 @@ not_one v end h e = h refl
 not_one v (member t ts) h e = omega (arith, e)
 
 -- more than one member
-pub several : (w rest : List ℕ) (h : HasInside w) (levels : ℕ) (annotated : Bool) (opened now : Text) → (get_or (drop 1 w) 0 0 ≡ 41 → ⊥) → IsAfterFront (drop 1 w) rest → (get_or rest 0 0 ≡ 41 → ⊥) → BeginsInside rest
+pub several : (w rest : List ℕ) (h : HasInside w) (levels : ℕ) (annotated : Bool) (opened now : Text) → (get_or (drop 1 w) 0 0 ≡ 41 → ⊥) → IsAfterFirst (drop 1 w) rest → (get_or rest 0 0 ≡ 41 → ⊥) → BeginsInside rest
     → trees_len (defaults (inside_of w)) ≡ 1 → ⊥
 several w rest h levels annotated opened now begun a more b one =
-    let m = inside_next (drop 1 w) rest h.begins (inside_front (drop 1 w) h.begins begun) a in
-    let f = inside_front rest b more in
+    let m = inside_next (drop 1 w) rest h.begins (inside_first_type (drop 1 w) h.begins begun) a in
+    let f = inside_first_type rest b more in
     let is = ap trees_len (members_are (drop 1 w) rest m) in
     not_one (default_in (drop 1 w)) (types_inside (seen rest)) (inside_more rest b more) (sym is ∙ one)
 
 pub tuple_written : (w rest : List ℕ) (h : HasInside w) (levels : ℕ) (annotated : Bool) (old opened now new : Text) → 0 < levels → (trees_len (defaults (inside_of w)) ≡ 1 → ⊥) → IsTuplePart w rest levels annotated opened now
-    → get_or rest 0 0 ≡ 41 → opened ≡ old ++ 40 ∷ [] → new ≡ now ++ 41 ∷ [] → IsAfterFront w (drop 1 rest) × Writes (default_in w) levels annotated false old new
+    → get_or rest 0 0 ≡ 41 → opened ≡ old ++ 40 ∷ [] → new ≡ now ++ 41 ∷ [] → IsAfterFirst w (drop 1 rest) × Writes (default_in w) levels annotated false old new
 tuple_written w rest h levels annotated old opened now new some others p close opens closes =
     let last = none_left rest p.begins close in
     let texts = left_none comma (defaults (inside_of w)) annotated false opened now (subst (λ (vs : Trees). IsLeft comma (defaults (inside_of w)) vs annotated false opened now) last p.texts) in (
@@ -373,9 +373,9 @@ first_double v vs h = or_left (holds_double v) (hold_double vs) h
 
 pub first_member_fault : (w : List ℕ) (h : HasInside w) (levels : ℕ) (f : PrintFault) → 0 < levels → (get_or (drop 1 w) 0 0 ≡ 41 → ⊥) → IsLevelFault (default_in (drop 1 w)) (levels - 1) f → IsLevelFault (default_in w) levels f
 first_member_fault w h levels f some begun is =
-    let b = inside_front (drop 1 w) h.begins begun in
+    let b = inside_first_type (drop 1 w) h.begins begun in
     let t = inside_types (drop 1 w) h.begins b in
-    let e : defaults (inside_of w) ≡ first (default_in (drop 1 w)) _ = ap defaults t ∙ first_default (front (seen (drop 1 w))) _ in
+    let e : defaults (inside_of w) ≡ first (default_in (drop 1 w)) _ = ap defaults t ∙ first_default (first_type (seen (drop 1 w))) _ in
     let v = default (tuple (inside_of w)) in
     tuple_fault w h levels f (child_fault v (default_in (drop 1 w)) levels f some (child_deeper v (default_in (drop 1 w)) _ (tuple_children (inside_of w) ∙ e))
     (λ d. tuple_doubles (inside_of w) ∙ (ap hold_double e ∙ first_double (default_in (drop 1 w)) _ d)) is)
@@ -383,8 +383,8 @@ first_member_fault w h levels f some begun is =
 pub next_member_fault : (w rest : List ℕ) (h : HasInside w) (levels : ℕ) (annotated : Bool) (opened now : Text) (f : PrintFault) → 0 < levels → IsTuplePart w rest levels annotated opened now → (get_or rest 0 0 ≡ 41 → ⊥)
     → IsLevelFault (default_in rest) (levels - 1) f → IsLevelFault (default_in w) levels f
 next_member_fault w rest h levels annotated opened now f some p begun is =
-    let t = inside_types rest p.begins (inside_front rest p.begins begun) in
-    let e : defaults (types_inside (seen rest)) ≡ first (default_in rest) _ = ap defaults t ∙ first_default (front (seen rest)) _ in
+    let t = inside_types rest p.begins (inside_first_type rest p.begins begun) in
+    let e : defaults (types_inside (seen rest)) ≡ first (default_in rest) _ = ap defaults t ∙ first_default (first_type (seen rest)) _ in
     let v = default (tuple (inside_of w)) in
     tuple_fault w h levels f (child_fault v (default_in rest) levels f some (omega (arith, p.deep.deeper, ap greatest_depth e, first_deep (default_in rest) (defaults (types_inside (after (seen rest))))))
     (λ d. tuple_doubles (inside_of w) ∙ (p.texts.doubles ∙ (ap hold_double e ∙ first_double (default_in rest) _ d))) is)
@@ -408,7 +408,7 @@ entry_node : (k : Basic) (t : Ty) → default (entry k t) ≡ node (entry k t) (
 unfolding default
 entry_node k t = refl
 
-pub pair_of : (w value : List ℕ) (p : HasPair w) → IsAfterFront (drop 1 w) value → ArePair w value (default_in w)
+pub pair_of : (w value : List ℕ) (p : HasPair w) → IsAfterFirst (drop 1 w) value → ArePair w value (default_in w)
 pair_of w value p a =
     let is : default_in w ≡ node (entry p.key p.value) (first (default_in (drop 1 w)) (first (default_in value) none)) = ap default p.type
     ∙ (entry_node p.key p.value ∙ ap₂ (λ x y. node (entry p.key p.value) (first (default x) (first (default y) none))) (sym (key_type w p)) (sym (value_type w value p a))) in

@@ -23,5 +23,5 @@ pub mod ParseStepLaws
 pub mod BracketLaws
 pub mod NumberedFaults
 mod DefaultTexts
-mod Behind
+mod RestLaws
 mod Copies

@@ -75,13 +75,13 @@ run room text [] some before after short h counts = rw (after_none, counts.0 (ap
 run room text (b ∷ rest) some before after short h counts = run_at (is_single_mark (mark b)) room b text rest refl some (run room text rest some) before after short h counts
 
 -- a member and the letters behind it, as the code counts
-pub more_read : (room : ℕ) (text rest next : List ℕ) (before lone after : ℕ) → HasRead room text rest before → ReadsType room rest next lone → (room ≡ 0 → ⊥)
-    → (length rest ≡ length text) × (length (after_letters next) ≡ length next) × (after ≡ lone + 1) ⊎ ((length rest ≡ length text → length (after_letters next) ≢ length next) × (after ≡ 0))
+pub more_read : (room : ℕ) (text rest next : List ℕ) (before singles after : ℕ) → HasRead room text rest before → ReadsType room rest next singles → (room ≡ 0 → ⊥)
+    → (length rest ≡ length text) × (length (after_letters next) ≡ length next) × (after ≡ singles + 1) ⊎ ((length rest ≡ length text → length (after_letters next) ≢ length next) × (after ≡ 0))
     → HasRead room text (after_letters next) after
-more_read room text rest next before lone after h r some is =
-    let mid = one_read room text rest next before lone (if length rest == length text then lone + 1 else 0) h r refl in
+more_read room text rest next before singles after h r some is =
+    let mid = one_read room text rest next before singles (if length rest == length text then singles + 1 else 0) h r refl in
     let short : length next < length text = omega (arith, reads_shorter room rest next r.begins, ap length h.members.whole, length-append (spellings h.members.types) rest) in
-    run room text next some (if length rest == length text then lone + 1 else 0) after short mid (elim is [
-      | inl one ↦ ((λ _. counted_if rest text lone after (inl (one.0, one.2))), (λ differ. absurd (differ one.1)))
-      | inr none ↦ ((λ same. counted_if rest text lone after (inr ((λ e. none.0 e same), none.1))), (λ _. none.1))
+    run room text next some (if length rest == length text then singles + 1 else 0) after short mid (elim is [
+      | inl one ↦ ((λ _. counted_if rest text singles after (inl (one.0, one.2))), (λ differ. absurd (differ one.1)))
+      | inr none ↦ ((λ same. counted_if rest text singles after (inr ((λ e. none.0 e same), none.1))), (λ _. none.1))
     ])

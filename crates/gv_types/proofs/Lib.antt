@@ -12,5 +12,5 @@ pub mod PathLaws
 pub mod PrefixTypes
 pub mod NestingLaws
 pub mod Splits
-pub mod Fronts
+pub mod FirstTypes
 mod BasicMembers

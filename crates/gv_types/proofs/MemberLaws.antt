@@ -5,7 +5,7 @@ use Rattle.gv_model.specs.Ty.{Ty, Types, spelling, spellings, nesting, greatest_
 use Rattle.gv_model.specs.Ty.Ty.{basic, variant, array, maybe, tuple, entry}
 use Rattle.gv_model.specs.Ty.Types.{end, member}
 use Rattle.gv_model.proofs.Prefixes.{spelling-positive}
-use Rattle.gv_types.specs.LoneTuples.{lone_tuples}
+use Rattle.gv_types.specs.SingleTuples.{single_tuples}
 use Rattle.gv_types.specs.TypePrefix.{ReadsType}
 
 -- the members that occur before the rest
@@ -15,9 +15,9 @@ pub record MembersSoFar (room : ℕ) (text rest : List ℕ) : Type 0 where
   pub within : greatest_nesting types ≤ room
 
 -- the same, where the tuple of these members is so many of one member, one in another
-pub record HasRead (room : ℕ) (text rest : List ℕ) (lone : ℕ) : Type 0 where
+pub record HasRead (room : ℕ) (text rest : List ℕ) (singles : ℕ) : Type 0 where
   pub members : MembersSoFar room text rest
-  pub counted : lone ≡ lone_tuples (tuple members.types)
+  pub counted : singles ≡ single_tuples (tuple members.types)
 
 with_last : Types → Ty → Types
 with_last end t = member t end
@@ -52,7 +52,7 @@ one_more room text rest others t m e h = record {
 -- ---- how many tuples of one member they make
 
 pub none_read : (room : ℕ) (text : List ℕ) → HasRead room text text 0
-unfolding no_members lone_tuples
+unfolding no_members single_tuples
 none_read room text = record { members = no_members room text; counted = refl }
 
 same_length : (rest text : List ℕ) → text ≡ rest → (length rest == length text) ≡ true
@@ -63,41 +63,41 @@ unfolding spellings
 other_length u us rest text e =
     grind (arith, nat_tests, ap length e, length-append (spelling u ++ spellings us) rest, length-append (spelling u) (spellings us), spelling-positive u)
 
-lone-with_last : (ts : Types) (t : Ty) (text rest : List ℕ) → text ≡ spellings ts ++ rest → lone_tuples (tuple (with_last ts t)) ≡ (if length rest == length text then lone_tuples t + 1 else 0)
-unfolding lone_tuples with_last spellings
-lone-with_last end t text rest e = rw (same_length rest text e) (omega arith)
-lone-with_last (member u end) t text rest e = rw (other_length u end rest text e) refl
-lone-with_last (member u (member v ts)) t text rest e = rw (other_length u (member v ts) rest text e) refl
+singles-with_last : (ts : Types) (t : Ty) (text rest : List ℕ) → text ≡ spellings ts ++ rest → single_tuples (tuple (with_last ts t)) ≡ (if length rest == length text then single_tuples t + 1 else 0)
+unfolding single_tuples with_last spellings
+singles-with_last end t text rest e = rw (same_length rest text e) (omega arith)
+singles-with_last (member u end) t text rest e = rw (other_length u end rest text e) refl
+singles-with_last (member u (member v ts)) t text rest e = rw (other_length u (member v ts) rest text e) refl
 
-pub one_read : (room : ℕ) (text rest others : List ℕ) (before lone after : ℕ) → HasRead room text rest before → ReadsType room rest others lone → after ≡ (if length rest == length text then lone + 1 else 0) → HasRead room text others after
+pub one_read : (room : ℕ) (text rest others : List ℕ) (before singles after : ℕ) → HasRead room text rest before → ReadsType room rest others singles → after ≡ (if length rest == length text then singles + 1 else 0) → HasRead room text others after
 unfolding one_more
-one_read room text rest others before lone after m r e = record {
+one_read room text rest others before singles after m r e = record {
   members = one_more room text rest others r.begins.type m.members r.begins.whole r.begins.within;
-  counted = e ∙ (ap (λ n. if length rest == length text then n + 1 else 0) r.counted ∙ sym (lone-with_last m.members.types r.begins.type text rest m.members.whole));
+  counted = e ∙ (ap (λ n. if length rest == length text then n + 1 else 0) r.counted ∙ sym (singles-with_last m.members.types r.begins.type text rest m.members.whole));
 }
 
 -- each of them is a level
-lone_within : (t : Ty) → suc (lone_tuples t) ≤ nesting t
-unfolding lone_tuples nesting greatest_nesting
-lone_within (basic k) = omega arith
-lone_within variant = omega arith
-lone_within (array t) = omega arith
-lone_within (maybe t) = omega arith
-lone_within (tuple end) = omega arith
-lone_within (tuple (member t end)) = omega (arith, lone_within t)
-lone_within (tuple (member t (member u ts))) = omega arith
-lone_within (entry k t) = omega arith
+singles_within : (t : Ty) → suc (single_tuples t) ≤ nesting t
+unfolding single_tuples nesting greatest_nesting
+singles_within (basic k) = omega arith
+singles_within variant = omega arith
+singles_within (array t) = omega arith
+singles_within (maybe t) = omega arith
+singles_within (tuple end) = omega arith
+singles_within (tuple (member t end)) = omega (arith, singles_within t)
+singles_within (tuple (member t (member u ts))) = omega arith
+singles_within (entry k t) = omega arith
 
-pub lone_fits : (room : ℕ) (text rest : List ℕ) (lone : ℕ) → ReadsType room text rest lone → suc lone ≤ room
-lone_fits room text rest lone r = omega (arith, r.counted, lone_within r.begins.type, r.begins.within)
+pub singles_fit : (room : ℕ) (text rest : List ℕ) (singles : ℕ) → ReadsType room text rest singles → suc singles ≤ room
+singles_fit room text rest singles r = omega (arith, r.counted, singles_within r.begins.type, r.begins.within)
 
 -- how the code says it
-pub counted_if : (rest text : List ℕ) (lone after : ℕ) → (length rest ≡ length text) × (after ≡ lone + 1) ⊎ (length rest ≢ length text) × (after ≡ 0) → after ≡ (if length rest == length text then lone + 1 else 0)
-counted_if rest text lone after (inl h) = h.1 ∙ sym (rw (same h.0) refl)
+pub counted_if : (rest text : List ℕ) (singles after : ℕ) → (length rest ≡ length text) × (after ≡ singles + 1) ⊎ (length rest ≢ length text) × (after ≡ 0) → after ≡ (if length rest == length text then singles + 1 else 0)
+counted_if rest text singles after (inl h) = h.1 ∙ sym (rw (same h.0) refl)
   where
     same : length rest ≡ length text → (length rest == length text) ≡ true
     same e = grind (arith, nat_tests)
-counted_if rest text lone after (inr h) = h.1 ∙ sym (rw (other h.0) refl)
+counted_if rest text singles after (inr h) = h.1 ∙ sym (rw (other h.0) refl)
   where
     other : (length rest ≢ length text) → (length rest == length text) ≡ false
     other e = grind (arith, nat_tests)

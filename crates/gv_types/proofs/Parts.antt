@@ -8,7 +8,7 @@ use Rattle.gv_model.specs.Ty.{Ty, Types, Basic, letter, spelling, spellings, nes
 use Rattle.gv_model.specs.Ty.Ty.{basic, variant, array, maybe, tuple, entry}
 use Rattle.gv_model.specs.Ty.Types.{end, member}
 use Rattle.gv_model.specs.Layout.{alignment, greatest_alignment, fixed_size, fixed_end, padded, round_up}
-use Rattle.gv_types.specs.LoneTuples.{lone_tuples, IsLoneMember}
+use Rattle.gv_types.specs.SingleTuples.{single_tuples, IsSingleMember}
 use Rattle.gv_model.specs.TypeText.{seen, is_type, type_at, is_within_limits}
 use Rattle.gv_model.specs.Texts.{are_types}
 use Rattle.gv_model.proofs.TypeTextParts.{spelling-type_at, limits_down, text_of_type, IsTextOfType}
@@ -158,7 +158,7 @@ text_of_members w h m =
 
 -- where the tuple is known to be some of one member, one in another, the text is that of its member
 pub record IsTextOfMember (n : ℕ) (t : Ty) (w : List ℕ) : Type 0 where
-  pub alone : IsLoneMember n w
+  pub alone : IsSingleMember n w
   pub inherits : fixed_size t ≡ None → fixed_size (type_at w) ≡ None
 
 no_padded : (a : ℕ) (o : Option ℕ) → padded a o ≡ None → o ≡ None
@@ -177,13 +177,13 @@ member_inherits : (t : Ty) → fixed_size (tuple (member t end)) ≡ None → fi
 unfolding fixed_size
 member_inherits t h = no_end t (no_padded (greatest_alignment (member t end)) (fixed_end (member t end) 0) h)
 
-member_text : (n : ℕ) (u : Ty) (v w : List ℕ) → 0 < n → n ≤ lone_tuples u → HasMembers v u → is_within_limits u v ≡ true → slice_range v 1 (length v - 1) ≡ w → IsTextOfMember n u w
-unfolding lone_tuples spelling greatest_nesting
+member_text : (n : ℕ) (u : Ty) (v w : List ℕ) → 0 < n → n ≤ single_tuples u → HasMembers v u → is_within_limits u v ≡ true → slice_range v 1 (length v - 1) ≡ w → IsTextOfMember n u w
+unfolding single_tuples spelling greatest_nesting
 member_text n (tuple (member t end)) v w h few m within e =
     let spelled : spelling t ≡ w = sym (append-nil (spelling t)) ∙ (sym m.spelled ∙ e) in
     let is = text_of_type t w spelled (limits_down (tuple (member t end)) t v w (omega (arith, m.nested)) (omega (arith, ap length spelled, m.shorter, length-append (spelling t) [])) within) in
     record {
-      alone = record { spells = is.checked; few = omega (arith, few, ap lone_tuples is.type) };
+      alone = record { spells = is.checked; few = omega (arith, few, ap single_tuples is.type) };
       inherits = λ none. ap fixed_size is.type ∙ member_inherits t none;
     }
 member_text n (basic k) v w h few m within e = absurd (omega arith)
@@ -194,7 +194,7 @@ member_text n (tuple end) v w h few m within e = absurd (omega arith)
 member_text n (tuple (member t (member u ts))) v w h few m within e = absurd (omega arith)
 member_text n (entry k t) v w h few m within e = absurd (omega arith)
 
-pub text_of_member : (n : ℕ) (w : List ℕ) → is_type w ≡ true → n ≤ lone_tuples (type_at w) → HasMembers w (type_at w) → 0 < n → IsTextOfMember n (type_at w) (slice_range w 1 (length w - 1))
+pub text_of_member : (n : ℕ) (w : List ℕ) → is_type w ≡ true → n ≤ single_tuples (type_at w) → HasMembers w (type_at w) → 0 < n → IsTextOfMember n (type_at w) (slice_range w 1 (length w - 1))
 text_of_member n w h few m some = member_text n (type_at w) w (slice_range w 1 (length w - 1)) some few m (spelling-type_at w h).1 refl
 
 -- a type of another class has no members

@@ -17,14 +17,14 @@ use Rattle.gv_types.specs.declared.grammar.Halt.{Halt}
 use Rattle.gv_types.specs.declared.grammar.Halt.TheVariants.{Unclosed, BadChar, KeyNotBasic, TooDeep}
 use Rattle.gv_types.specs.declared.grammar.Stop.{Stop}
 use Rattle.gv_types.specs.declared.grammar.Reading.{Reading}
-use Rattle.gv_types.specs.LoneTuples.{lone_tuples}
+use Rattle.gv_types.specs.SingleTuples.{single_tuples}
 use Rattle.gv_types.specs.TypePrefix.{BeginsWithType, ReadsType, HaltsAfter, HaltsAt, IsNotClosed}
 use Rattle.gv_types.proofs.Firsts.{first_is}
 use Rattle.gv_types.proofs.MemberLaws.{MembersSoFar, HasRead}
 
 -- what a call gives that reads a type of at most so many levels at the start of a text
 abbrev pub IsReadingOf : ℕ → List ℕ → Result Reading Stop → Type 0
-IsReadingOf room text r = MatchResult r (λ x. ReadsType room text x.rest.now x.lone) (λ stop. HaltsAt room text stop.rest.now stop.halt)
+IsReadingOf room text r = MatchResult r (λ x. ReadsType room text x.rest.now x.singles) (λ stop. HaltsAt room text stop.rest.now stop.halt)
 
 -- ---- what is read
 
@@ -32,25 +32,25 @@ IsReadingOf room text r = MatchResult r (λ x. ReadsType room text x.rest.now x.
 letter_at : (room : ℕ) (t : Ty) (b : ℕ) (text rest : List ℕ) → spelling t ≡ b ∷ [] → nesting t ≤ room → text ≡ b ∷ rest → BeginsWithType room text rest
 letter_at room t b text rest s n e = record { type = t; whole = e ∙ ap (λ x. x ++ rest) (sym s); within = n }
 
-pub reads_letter : (room : ℕ) (t : Ty) (b : ℕ) (text rest : List ℕ) → spelling t ≡ b ∷ [] → nesting t ≤ room → 0 ≡ lone_tuples t → text ≡ b ∷ rest → ReadsType room text rest 0
+pub reads_letter : (room : ℕ) (t : Ty) (b : ℕ) (text rest : List ℕ) → spelling t ≡ b ∷ [] → nesting t ≤ room → 0 ≡ single_tuples t → text ≡ b ∷ rest → ReadsType room text rest 0
 unfolding letter_at
-reads_letter room t b text rest s n lone e = record { begins = letter_at room t b text rest s n e; counted = lone }
+reads_letter room t b text rest s n singles e = record { begins = letter_at room t b text rest s n e; counted = singles }
 
 array_at : (room : ℕ) (text rest : List ℕ) → BeginsWithType room text rest → BeginsWithType (suc room) (97 ∷ text) rest
 unfolding spelling nesting
 array_at room text rest r = record { type = array r.type; whole = ap (λ x. 97 ∷ x) r.whole; within = let h = r.within in omega arith }
 
-pub reads_array : (room : ℕ) (text rest : List ℕ) (lone : ℕ) → BeginsWithType room text rest × (lone ≡ 0) → ReadsType (suc room) (97 ∷ text) rest lone
-unfolding array_at lone_tuples
-reads_array room text rest lone r = record { begins = array_at room text rest r.0; counted = r.1 }
+pub reads_array : (room : ℕ) (text rest : List ℕ) (singles : ℕ) → BeginsWithType room text rest × (singles ≡ 0) → ReadsType (suc room) (97 ∷ text) rest singles
+unfolding array_at single_tuples
+reads_array room text rest singles r = record { begins = array_at room text rest r.0; counted = r.1 }
 
 maybe_at : (room : ℕ) (text rest : List ℕ) → BeginsWithType room text rest → BeginsWithType (suc room) (109 ∷ text) rest
 unfolding spelling nesting
 maybe_at room text rest r = record { type = maybe r.type; whole = ap (λ x. 109 ∷ x) r.whole; within = let h = r.within in omega arith }
 
-pub reads_maybe : (room : ℕ) (text rest : List ℕ) (lone : ℕ) → BeginsWithType room text rest × (lone ≡ 0) → ReadsType (suc room) (109 ∷ text) rest lone
-unfolding maybe_at lone_tuples
-reads_maybe room text rest lone r = record { begins = maybe_at room text rest r.0; counted = r.1 }
+pub reads_maybe : (room : ℕ) (text rest : List ℕ) (singles : ℕ) → BeginsWithType room text rest × (singles ≡ 0) → ReadsType (suc room) (109 ∷ text) rest singles
+unfolding maybe_at single_tuples
+reads_maybe room text rest singles r = record { begins = maybe_at room text rest r.0; counted = r.1 }
 
 tuple_at : (room : ℕ) (text others rest : List ℕ) → MembersSoFar room text others → others ≡ 41 ∷ rest → BeginsWithType (suc room) (40 ∷ text) rest
 unfolding spelling nesting
@@ -60,9 +60,9 @@ tuple_at room text others rest m e = record {
   within = let h = m.within in omega arith;
 }
 
-pub reads_tuple : (room : ℕ) (text others rest : List ℕ) (lone : ℕ) → HasRead room text others lone → others ≡ 41 ∷ rest → ReadsType (suc room) (40 ∷ text) rest lone
+pub reads_tuple : (room : ℕ) (text others rest : List ℕ) (singles : ℕ) → HasRead room text others singles → others ≡ 41 ∷ rest → ReadsType (suc room) (40 ∷ text) rest singles
 unfolding tuple_at
-reads_tuple room text others rest lone m e = record { begins = tuple_at room text others rest m.members e; counted = m.counted }
+reads_tuple room text others rest singles m e = record { begins = tuple_at room text others rest m.members e; counted = m.counted }
 
 -- an entry's text up to its value
 key_text : (k : Basic) (b : ℕ) (text value more : List ℕ) → b ≡ letter k → text ≡ b ∷ value → value ≡ more → text ≡ letter k ∷ more
@@ -76,9 +76,9 @@ entry_at room b text value others rest k e r close = record {
   within = let h = r.within in omega arith;
 }
 
-pub reads_entry : (room b : ℕ) (text value others rest : List ℕ) (lone : ℕ) → IsKey b → text ≡ b ∷ value → BeginsWithType room value others → others ≡ 125 ∷ rest → lone ≡ 0 → ReadsType (suc room) (123 ∷ text) rest lone
-unfolding entry_at lone_tuples
-reads_entry room b text value others rest lone k e r close none = record { begins = entry_at room b text value others rest k e r close; counted = none }
+pub reads_entry : (room b : ℕ) (text value others rest : List ℕ) (singles : ℕ) → IsKey b → text ≡ b ∷ value → BeginsWithType room value others → others ≡ 125 ∷ rest → singles ≡ 0 → ReadsType (suc room) (123 ∷ text) rest singles
+unfolding entry_at single_tuples
+reads_entry room b text value others rest singles k e r close none = record { begins = entry_at room b text value others rest k e r close; counted = none }
 
 -- what is left is shorter
 pub reads_shorter : (room : ℕ) (text rest : List ℕ) → BeginsWithType room text rest → length rest < length text
@@ -224,19 +224,19 @@ after_first r n room b c text rest e is at h =
     subst (λ (m : ℕ). IsReadingOf m text r) e (subst (λ (l : List ℕ). IsReadingOf n l r) (sym (at ∙ ap (λ x. x ∷ rest) is)) h)
 
 pub reads_single : (room b : ℕ) (c : Class) (text rest : List ℕ) → class_of_mark (mark b) ≡ Some c → ((k : BasicType) × (c ≡ classes.Basic k)) ⊎ (c ≡ classes.Variant) → (room ≡ 0 → ⊥) → text ≡ b ∷ rest → ReadsType room text rest 0
-unfolding spelling nesting lone_tuples
+unfolding spelling nesting single_tuples
 reads_single room b c text rest e is some at = elim is [
   | inl k ↦ reads_letter room (basic (basic_of k.0)) b text rest (ap (λ x. x ∷ []) (sym (first_is b c (classes.Basic k.0) e k.1))) (omega arith) refl at
   | inr v ↦ reads_letter room variant b text rest (ap (λ x. x ∷ []) (sym (first_is b c classes.Variant e v))) (omega arith) refl at
 ]
 
 pub reading_element : (r : Result Reading Stop) (room b : ℕ) (c : Class) (text rest : List ℕ) → class_of_mark (mark b) ≡ Some c → (c ≡ classes.Array) ⊎ (c ≡ classes.Maybe) → (room ≡ 0 → ⊥) → text ≡ b ∷ rest
-    → MatchResult r (λ x. BeginsWithType (room - 1) rest x.rest.now × (x.lone ≡ 0)) (λ stop. HaltsAt (room - 1) rest stop.rest.now stop.halt) → IsReadingOf room text r
+    → MatchResult r (λ x. BeginsWithType (room - 1) rest x.rest.now × (x.singles ≡ 0)) (λ stop. HaltsAt (room - 1) rest stop.rest.now stop.halt) → IsReadingOf room text r
 reading_element r room b c text rest e is some at h = elim is [
   | inl a ↦ after_first r (suc (room - 1)) room b 97 text rest (omega arith) (first_is b c classes.Array e a) at
-      (MatchResult-weaker r h (λ x. reads_array (room - 1) rest x.rest.now x.lone) (λ s. stops_array (room - 1) rest s.rest.now s.halt))
+      (MatchResult-weaker r h (λ x. reads_array (room - 1) rest x.rest.now x.singles) (λ s. stops_array (room - 1) rest s.rest.now s.halt))
   | inr m ↦ after_first r (suc (room - 1)) room b 109 text rest (omega arith) (first_is b c classes.Maybe e m) at
-      (MatchResult-weaker r h (λ x. reads_maybe (room - 1) rest x.rest.now x.lone) (λ s. stops_maybe (room - 1) rest s.rest.now s.halt))
+      (MatchResult-weaker r h (λ x. reads_maybe (room - 1) rest x.rest.now x.singles) (λ s. stops_maybe (room - 1) rest s.rest.now s.halt))
 ]
 
 pub reading_tuple : (r : Result Reading Stop) (room b : ℕ) (c : Class) (text rest : List ℕ) → class_of_mark (mark b) ≡ Some c → c ≡ classes.Tuple → (room ≡ 0 → ⊥) → text ≡ b ∷ rest → IsReadingOf (suc (room - 1)) (40 ∷ rest) r → IsReadingOf room text r
@@ -247,7 +247,7 @@ reading_entry r room b c text rest e is some at h = after_first r (suc (room - 1
 
 -- a call for the closing bracket of an entry
 pub reading_close : (r : Result Reading Stop) (room b : ℕ) (text value others : List ℕ) → IsKey b → text ≡ b ∷ value → BeginsWithType room value others
-    → MatchResult r (λ x. (others ≡ 125 ∷ x.rest.now) × (x.lone ≡ 0)) (λ stop. (stop.rest.now ≡ others) × IsNotClosed others stop.halt) → IsReadingOf (suc room) (123 ∷ text) r
+    → MatchResult r (λ x. (others ≡ 125 ∷ x.rest.now) × (x.singles ≡ 0)) (λ stop. (stop.rest.now ≡ others) × IsNotClosed others stop.halt) → IsReadingOf (suc room) (123 ∷ text) r
 reading_close r room b text value others k e v h = MatchResult-weaker r h
-    (λ x at. reads_entry room b text value others x.rest.now x.lone k e v at.0 at.1)
+    (λ x at. reads_entry room b text value others x.rest.now x.singles k e v at.0 at.1)
     (λ s at. subst (λ (l : List ℕ). HaltsAt (suc room) (123 ∷ text) l s.halt) (sym at.0) (stops_at_close room b text value others s.halt k e v at.1))

@@ -1,8 +1,8 @@
 pub mod Classes
-pub mod LoneTuples
+pub mod SingleTuples
 pub mod TypeStr
 pub mod TypePrefix
 pub mod Members
 pub mod TypeFaults
 pub mod Paths
-pub mod Fronts
+pub mod FirstTypes

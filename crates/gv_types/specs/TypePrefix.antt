@@ -5,7 +5,7 @@ use Rattle.gv_model.specs.TypeFault.{Prefix, prefix_text, prefix_nesting, open_t
 use Rattle.gv_model.specs.TypeFault.Expected.{key}
 use Rattle.gv_model.specs.TypeText.{mark}
 use Rattle.gv_types.specs.Classes.{is_single_mark}
-use Rattle.gv_types.specs.LoneTuples.{lone_tuples}
+use Rattle.gv_types.specs.SingleTuples.{single_tuples}
 use Rattle.gv_types.specs.declared.grammar.Halt.{Halt}
 use Rattle.gv_types.specs.declared.grammar.Halt.TheVariants.{Unclosed, BadChar, KeyNotBasic, TooDeep}
 
@@ -16,9 +16,9 @@ pub record BeginsWithType (room : ℕ) (text rest : List ℕ) : Type 0 where
   pub within : nesting type ≤ room
 
 -- the same, of a type that is so many tuples of one member, one in another
-pub record ReadsType (room : ℕ) (text rest : List ℕ) (lone : ℕ) : Type 0 where
+pub record ReadsType (room : ℕ) (text rest : List ℕ) (singles : ℕ) : Type 0 where
   pub begins : BeginsWithType room text rest
-  pub counted : lone ≡ lone_tuples begins.type
+  pub counted : singles ≡ single_tuples begins.type
 
 -- what follows the types of one letter that a text begins with
 unfoldable pub after_letters : List ℕ → List ℕ

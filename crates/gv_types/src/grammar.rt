@@ -48,7 +48,7 @@ pub(crate) struct Stop<'a> {
 #[derive(Clone, Copy, Debug)]
 pub(crate) struct Reading<'a> {
     pub(crate) rest: &'a [u8],
-    pub(crate) lone: u8,
+    pub(crate) singles: u8,
 }
 
 /// Reading stops at once.
@@ -75,7 +75,7 @@ pub(crate) fn after_type(text: &[u8], room: u8) -> Result<&[u8], Stop<'_>>
 #[inline(always)]
 pub(crate) fn read_type(text: &[u8], room: u8) -> Result<Reading<'_>, Stop<'_>>
     ensures { MatchResult result
-        (λ read. ReadsType room text.now read.rest.now read.lone)
+        (λ read. ReadsType room text.now read.rest.now read.singles)
         (λ stop. HaltsAt room text.now stop.rest.now stop.halt) }
 {
     let Some((letter, rest)) = text.split_first() else {
@@ -88,7 +88,7 @@ pub(crate) fn read_type(text: &[u8], room: u8) -> Result<Reading<'_>, Stop<'_>>
         return stopped(Halt::TooDeep, text);
     }
     match class {
-        Class::Basic(_) | Class::Variant => Ok(Reading { rest, lone: 0 }),
+        Class::Basic(_) | Class::Variant => Ok(Reading { rest, singles: 0 }),
         Class::Array | Class::Maybe => read_element(rest, room - 1),
         Class::Tuple => read_members(rest, room - 1),
         Class::Entry => read_entry(rest, room - 1),
@@ -99,13 +99,13 @@ pub(crate) fn read_type(text: &[u8], room: u8) -> Result<Reading<'_>, Stop<'_>>
 #[cycle(types)]
 fn read_element(text: &[u8], room: u8) -> Result<Reading<'_>, Stop<'_>>
     ensures { MatchResult result
-        (λ read. BeginsWithType room text.now read.rest.now × (read.lone ≡ 0))
+        (λ read. BeginsWithType room text.now read.rest.now × (read.singles ≡ 0))
         (λ stop. HaltsAt room text.now stop.rest.now stop.halt) }
 {
     let element = read_type(text, room)?;
     Ok(Reading {
         rest: element.rest,
-        lone: 0,
+        singles: 0,
     })
 }
 
@@ -113,22 +113,25 @@ fn read_element(text: &[u8], room: u8) -> Result<Reading<'_>, Stop<'_>>
 #[cycle(types)]
 fn read_members(text: &[u8], room: u8) -> Result<Reading<'_>, Stop<'_>>
     ensures { MatchResult result
-        (λ read. ReadsType (suc room) (40 ∷ text.now) read.rest.now read.lone)
+        (λ read. ReadsType (suc room) (40 ∷ text.now) read.rest.now read.singles)
         (λ stop. HaltsAt (suc room) (40 ∷ text.now) stop.rest.now stop.halt) }
 {
     let mut rest = text;
-    let mut lone: u8 = 0;
+    let mut singles: u8 = 0;
     loop {
         let Some((letter, others)) = rest.split_first() else {
             return stopped(Halt::Unclosed, rest);
         };
         if *letter == b')' {
-            return Ok(Reading { rest: others, lone });
+            return Ok(Reading {
+                rest: others,
+                singles,
+            });
         }
         let member = read_type(rest, room)?;
         let others = after_letters(member.rest);
-        lone = if is_alone(text.len(), rest.len(), member.rest.len(), others.len()) {
-            member.lone + 1
+        singles = if is_alone(text.len(), rest.len(), member.rest.len(), others.len()) {
+            member.singles + 1
         } else {
             0
         };
@@ -138,10 +141,10 @@ fn read_members(text: &[u8], room: u8) -> Result<Reading<'_>, Stop<'_>>
 
 /// Whether nothing is read before a member, and nothing behind it: the bytes left are as many as at first before it, and as
 /// many as behind it at last.
-fn is_alone(at_first: usize, before: usize, behind: usize, at_last: usize) -> bool
-    ensures { IsTrue result ↔ (before ≡ at_first) × (at_last ≡ behind) }
+fn is_alone(at_first: usize, before: usize, after: usize, at_last: usize) -> bool
+    ensures { IsTrue result ↔ (before ≡ at_first) × (at_last ≡ after) }
 {
-    before == at_first && at_last == behind
+    before == at_first && at_last == after
 }
 
 /// What follows the types of one letter that the text begins with, of which a tuple may have very many.
@@ -161,11 +164,11 @@ fn after_letters(text: &[u8]) -> &[u8]
 #[inline(always)]
 pub(crate) fn read_member(text: &[u8]) -> Result<Reading<'_>, Stop<'_>>
     ensures { MatchResult result
-        (λ read. ReadsType 128 text.now read.rest.now read.lone)
+        (λ read. ReadsType 128 text.now read.rest.now read.singles)
         (λ stop. HaltsAt 128 text.now stop.rest.now stop.halt) }
 {
     match text.split_first() {
-        Some((letter, rest)) if is_single(*letter) => Ok(Reading { rest, lone: 0 }),
+        Some((letter, rest)) if is_single(*letter) => Ok(Reading { rest, singles: 0 }),
         _ => read_type(text, TypeStr::MAX_LEVELS),
     }
 }
@@ -185,7 +188,7 @@ fn is_single(letter: u8) -> bool
 #[cycle(types)]
 fn read_entry(text: &[u8], room: u8) -> Result<Reading<'_>, Stop<'_>>
     ensures { MatchResult result
-        (λ read. ReadsType (suc room) (123 ∷ text.now) read.rest.now read.lone)
+        (λ read. ReadsType (suc room) (123 ∷ text.now) read.rest.now read.singles)
         (λ stop. HaltsAt (suc room) (123 ∷ text.now) stop.rest.now stop.halt) }
 {
     let Some((letter, rest)) = text.split_first() else {
@@ -207,12 +210,12 @@ fn read_entry(text: &[u8], room: u8) -> Result<Reading<'_>, Stop<'_>>
 /// Reads the bracket that closes an entry.
 fn read_close(text: &[u8]) -> Result<Reading<'_>, Stop<'_>>
     ensures { MatchResult result
-        (λ read. (text.now ≡ 125 ∷ read.rest.now) × (read.lone ≡ 0))
+        (λ read. (text.now ≡ 125 ∷ read.rest.now) × (read.singles ≡ 0))
         (λ stop. (stop.rest.now ≡ text.now) × IsNotClosed text.now stop.halt) }
 {
     match text.split_first() {
         None => stopped(Halt::Unclosed, text),
-        Some((b'}', rest)) => Ok(Reading { rest, lone: 0 }),
+        Some((b'}', rest)) => Ok(Reading { rest, singles: 0 }),
         Some(_) => stopped(Halt::BadChar, text),
     }
 }

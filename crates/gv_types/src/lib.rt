@@ -14,10 +14,10 @@
 mod as_text;
 mod class;
 mod fault;
-mod front;
 mod grammar;
 mod members;
 mod object_path;
+mod prefix;
 mod signature;
 mod steps;
 mod type_str;

@@ -5,7 +5,7 @@ ghost use Rattle.gv_model.specs.Layout.{fixed_size};
 ghost use Rattle.gv_model.specs.Texts.{are_types};
 ghost use Rattle.gv_model.specs.TypeText.{seen, type_at};
 ghost use Rattle.gv_types.specs.Classes.{basic_of};
-ghost use Rattle.gv_types.specs.LoneTuples.{IsLoneMember};
+ghost use Rattle.gv_types.specs.SingleTuples.{IsSingleMember};
 
 use crate::class::{BasicType, basic_type_of};
 use crate::grammar::read_member;
@@ -18,11 +18,11 @@ use crate::type_str::TypeStr;
 #[derive(Clone, Copy, Debug)]
 pub struct Members<'a> {
     pub(crate) rest: &'a str,
-    pub(crate) lone: u8,
+    pub(crate) singles: u8,
     pub(crate) known_open: bool,
     ghost are_types: { IsTrue (are_types (seen rest.now)) },
-    ghost alone: { 0 < lone → IsLoneMember lone rest.now },
-    ghost open: { 0 < lone → IsTrue known_open → fixed_size (type_at rest.now) ≡ None },
+    ghost alone: { 0 < singles → IsSingleMember singles rest.now },
+    ghost open: { 0 < singles → IsTrue known_open → fixed_size (type_at rest.now) ≡ None },
 }
 
 impl<'a> Members<'a> {
@@ -34,7 +34,7 @@ impl<'a> Members<'a> {
     {
         Members {
             rest: "",
-            lone: 0,
+            singles: 0,
             known_open: false,
         }
     }
@@ -50,7 +50,7 @@ impl<'a> Members<'a> {
         let of = basic_type_of(*letter)?;
         *self = Members {
             rest: &self.rest[1..],
-            lone: 0,
+            singles: 0,
             known_open: false,
         };
         Some(of)
@@ -77,10 +77,10 @@ impl<'a> Iterator for Members<'a> {
 
     #[inline(always)]
     fn next(&mut self) -> Option<TypeStr<'a>> {
-        if self.lone > 0 {
+        if self.singles > 0 {
             let member = TypeStr {
                 text: self.rest,
-                lone: self.lone - 1,
+                singles: self.singles - 1,
                 known_open: self.known_open,
             };
             *self = Members::none();
@@ -95,7 +95,7 @@ impl<'a> Iterator for Members<'a> {
         self.rest = rest;
         Some(TypeStr {
             text,
-            lone: read.lone,
+            singles: read.singles,
             known_open: false,
         })
     }

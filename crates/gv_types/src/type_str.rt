@@ -6,7 +6,7 @@ ghost use Rattle.gv_model.specs.TypeText.{is_type, type_at, type_of_text};
 ghost use Rattle.gv_model.specs.TypeFault.{IsFault};
 ghost use Rattle.gv_model.specs.Lexing.{type_prefix};
 ghost use Rattle.gv_types.specs.Classes.{class_of, AreBracketed};
-ghost use Rattle.gv_types.specs.LoneTuples.{lone_tuples};
+ghost use Rattle.gv_types.specs.SingleTuples.{single_tuples};
 ghost use Rattle.gv_types.specs.TypeFaults.{type_fault_of};
 
 use crate::class::{BasicType, Class, class_of_letter};
@@ -19,11 +19,11 @@ use crate::members::Members;
 pub struct TypeStr<'a> {
     pub(crate) text: &'a str,
     /// Of how many tuples of one member, one in another, the type is known to be.
-    pub(crate) lone: u8,
+    pub(crate) singles: u8,
     /// Whether the type is known to have no fixed size.
     pub(crate) known_open: bool,
     ghost spells_type: { IsTrue (is_type text.now) },
-    ghost alone: { lone ≤ lone_tuples (type_at text.now) },
+    ghost alone: { singles ≤ single_tuples (type_at text.now) },
     ghost open: { IsTrue known_open → fixed_size (type_at text.now) ≡ None },
 }
 
@@ -103,7 +103,7 @@ impl<'a> TypeStr<'a> {
     {
         TypeStr {
             text,
-            lone: 0,
+            singles: 0,
             known_open: false,
         }
     }
@@ -116,7 +116,7 @@ impl<'a> TypeStr<'a> {
     {
         TypeStr {
             text: self.text,
-            lone: self.lone,
+            singles: self.singles,
             known_open: true,
         }
     }
@@ -148,7 +148,7 @@ impl<'a> TypeStr<'a> {
         let known_open = self.known_open;
         TypeStr {
             text: self.text,
-            lone: read.lone,
+            singles: read.singles,
             known_open,
         }
     }
@@ -215,7 +215,7 @@ impl<'a> TypeStr<'a> {
     {
         Members {
             rest: &self.text[1..self.text.len() - 1],
-            lone: self.lone,
+            singles: self.singles,
             known_open: self.known_open,
         }
     }

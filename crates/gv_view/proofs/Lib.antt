@@ -11,7 +11,7 @@ pub mod TreeParts
 pub mod EntryLemmas
 pub mod Depths
 pub mod PartValues
-mod LostParts
+mod UnplacedParts
 pub mod Alike
 pub mod BasicCopies
 pub mod Copies

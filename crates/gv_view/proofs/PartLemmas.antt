@@ -63,7 +63,7 @@ abbrev view_at : (t : Ty) (b : List ℕ) → is_type (spelling t) ≡ true → V
 view_at t b h = record {
   type_str = record {
     text = record { ref_ptr = (0, 0); now = spelling t };
-    lone = 0;
+    singles = 0;
     known_open = false;
     spells_type = h;
     alone = omega arith;

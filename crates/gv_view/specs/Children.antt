@@ -2,7 +2,7 @@
 use Rattle.std.specs.Prelude.{List, [], ◌∷◌, map, Option, Some, None}
 use Rattle.gv_model.specs.Parts.{Part, part_of}
 use Rattle.gv_model.specs.Ty.{Ty}
-use Rattle.gv_layout.specs.Places.{places_left, lost_left}
+use Rattle.gv_layout.specs.Places.{places_left, unplaced_left}
 use Rattle.gv_view.specs.declared.children.Children.{Children}
 use Rattle.gv_view.specs.declared.children.Placed.{Placed}
 use Rattle.gv_view.specs.declared.children.Walk.{Walk}
@@ -28,9 +28,9 @@ abbrev pub children_left : Children → List Part
 children_left c = parts_left c.walk
 
 -- the types of members of which none lies anywhere, since one before them was out of order
-abbrev pub lost_parts : Walk → Option (List Ty)
-lost_parts (walks.Placed p) = lost_left p.places
-lost_parts (walks.Alone v) = None
+abbrev pub unplaced_parts : Walk → Option (List Ty)
+unplaced_parts (walks.Placed p) = unplaced_left p.places
+unplaced_parts (walks.Alone v) = None
 
-abbrev pub lost_children : Children → Option (List Ty)
-lost_children c = lost_parts c.walk
+abbrev pub unplaced_children : Children → Option (List Ty)
+unplaced_children c = unplaced_parts c.walk

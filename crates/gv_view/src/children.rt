@@ -88,17 +88,17 @@ impl<'a> View<'a> {
 impl<'a> Children<'a> {
     ghost use Rattle.gv_model.specs.Parts.{part_trees};
     ghost use Rattle.gv_types.specs.Members.{members_left};
-    ghost use Rattle.gv_view.specs.Children.{children_left, lost_children};
+    ghost use Rattle.gv_view.specs.Children.{children_left, unplaced_children};
 
     /// The types of the children that are left, if they are members and one before them was out of order: none of them has
     /// bytes, and all are defaults. None else. It looks at no byte.
     #[inline(always)]
-    pub fn lost(&self) -> Option<Members<'a>>
-        ensures types { option_map members_left result ≡ lost_children self.now }
+    pub fn unplaced(&self) -> Option<Members<'a>>
+        ensures types { option_map members_left result ≡ unplaced_children self.now }
         ensures defaults { IfSome result (λ ms. part_trees (children_left self.now) ≡ defaults (types_from (members_left ms))) }
     {
         match &self.walk {
-            Walk::Placed(placed) => placed.places.lost(),
+            Walk::Placed(placed) => placed.places.unplaced(),
             Walk::Alone(_) => None,
         }
     }

@@ -50,9 +50,9 @@ pub(crate) fn signature_in(bytes: &[u8]) -> &str
 pub fn text_in(bytes: &[u8]) -> Option<&str>
     ensures { option_map (λ s. s.now) result ≡ utf8_in bytes.now }
 {
-    let (last, front) = bytes.split_last()?;
-    if *last == 0 && front.len() <= SHORT && is_ascii_text(front) {
-        return Some(unsafe { str::from_utf8_unchecked(front) });
+    let (last, prefix) = bytes.split_last()?;
+    if *last == 0 && prefix.len() <= SHORT && is_ascii_text(prefix) {
+        return Some(unsafe { str::from_utf8_unchecked(prefix) });
     }
     long_text_in(bytes)
 }

@@ -12,8 +12,8 @@ pub(crate) fn around(
     times: usize,
 ) -> Result<String, AllocError> {
     let before = open.repeat(alloc, times)?;
-    let behind = close.repeat(alloc, times)?;
-    format!(in alloc; "{before}{middle}{behind}")
+    let after = close.repeat(alloc, times)?;
+    format!(in alloc; "{before}{middle}{after}")
 }
 
 /// Adds these bytes, with the number of bytes so far for each `#`.

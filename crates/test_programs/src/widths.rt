@@ -19,10 +19,10 @@ fn prints_letters(alloc: Global, row: OfLetters<'_>) -> Result<(), Fail> {
     if bytes.len() != length {
         return Err(Fail::new("a value of another length"));
     }
-    let Some((before, behind)) = text.split_once('x') else {
+    let Some((before, after)) = text.split_once('x') else {
         return prints(alloc, type_text, &bytes, text);
     };
-    let printed = format!(in alloc; "{before}{word}{behind}")?;
+    let printed = format!(in alloc; "{before}{word}{after}")?;
     prints(alloc, type_text, &bytes, &printed)
 }
 

@@ -3,7 +3,7 @@
 use crate::table::Asked;
 use crate::view_table::AskedOfView;
 use gv_layout::{
-    Place, alignment, fixed_size, member_bounds, n_children, number, offset_width, place_behind,
+    Place, aligned_after, alignment, fixed_size, member_bounds, n_children, number, offset_width,
     place_of, places, round_up, type_info,
 };
 use gv_types::{Class, TypeStr};
@@ -15,7 +15,7 @@ use std::test::Fail;
 /// Of `u behind 1`, the alignment and the size of `u`, and the place of its value behind another's
 /// end.
 pub(crate) fn laid_out(alloc: Global, text: &str) -> Result<String, Fail> {
-    let Some((of, end)) = text.split_once(" behind ") else {
+    let Some((of, end)) = text.split_once(" after ") else {
         return Err(Fail::new("a line without an end"));
     };
     let of = TypeStr::parse(of)?;
@@ -24,7 +24,7 @@ pub(crate) fn laid_out(alloc: Global, text: &str) -> Result<String, Fail> {
     if (info.alignment, info.size) != (aligned, size) {
         return Err(Fail::new("two calls differ"));
     }
-    let place = place_behind(usize::from(end), of);
+    let place = aligned_after(usize::from(end), of);
     Ok(format!(in alloc; "{aligned} {size:?} {place}")?)
 }
 
@@ -33,36 +33,36 @@ fn types_have_alignments_and_sizes(rt: HostRuntime) -> Result<(), Fail> {
     Asked::Layout.each_gives(
         rt.alloc(),
         r"
-        b behind 7 | 1 Some(1) 7
-        n behind 7 | 2 Some(2) 8
-        u behind 1 | 4 Some(4) 4
-        u behind 4 | 4 Some(4) 4
-        h behind 5 | 4 Some(4) 8
-        d behind 8 | 8 Some(8) 8
-        s behind 9 | 1 None 9
-        v behind 0 | 8 None 0
-        as behind 3 | 1 None 3
-        ay behind 0 | 1 None 0
-        a(yx) behind 3 | 8 None 8
-        a(sx) behind 1 | 8 None 8
-        mmx behind 17 | 8 None 24
-        () behind 3 | 1 Some(1) 3
-        (y) behind 5 | 1 Some(1) 5
-        (yq) behind 5 | 2 Some(4) 6
-        (yu) behind 2 | 4 Some(8) 4
-        (uy) behind 3 | 4 Some(8) 4
-        (yyyyy) behind 2 | 1 Some(5) 2
-        (nqiuxthd) behind 6 | 8 Some(48) 8
-        (sx) behind 12 | 8 None 16
-        (ymu) behind 6 | 4 None 8
-        (()) behind 7 | 1 Some(1) 7
-        ((yq)u) behind 9 | 4 Some(8) 12
-        (y(yq)y) behind 3 | 2 Some(8) 4
-        (y(ys)u) behind 10 | 4 None 12
-        {yx} behind 4 | 8 Some(16) 8
-        {y()} behind 11 | 1 Some(2) 11
-        {y(yu)} behind 13 | 4 Some(12) 16
-        {sv} behind 9 | 8 None 16
+        b after 7 | 1 Some(1) 7
+        n after 7 | 2 Some(2) 8
+        u after 1 | 4 Some(4) 4
+        u after 4 | 4 Some(4) 4
+        h after 5 | 4 Some(4) 8
+        d after 8 | 8 Some(8) 8
+        s after 9 | 1 None 9
+        v after 0 | 8 None 0
+        as after 3 | 1 None 3
+        ay after 0 | 1 None 0
+        a(yx) after 3 | 8 None 8
+        a(sx) after 1 | 8 None 8
+        mmx after 17 | 8 None 24
+        () after 3 | 1 Some(1) 3
+        (y) after 5 | 1 Some(1) 5
+        (yq) after 5 | 2 Some(4) 6
+        (yu) after 2 | 4 Some(8) 4
+        (uy) after 3 | 4 Some(8) 4
+        (yyyyy) after 2 | 1 Some(5) 2
+        (nqiuxthd) after 6 | 8 Some(48) 8
+        (sx) after 12 | 8 None 16
+        (ymu) after 6 | 4 None 8
+        (()) after 7 | 1 Some(1) 7
+        ((yq)u) after 9 | 4 Some(8) 12
+        (y(yq)y) after 3 | 2 Some(8) 4
+        (y(ys)u) after 10 | 4 None 12
+        {yx} after 4 | 8 Some(16) 8
+        {y()} after 11 | 1 Some(2) 11
+        {y(yu)} after 13 | 4 Some(12) 16
+        {sv} after 9 | 8 None 16
     ",
     )
 }

@@ -241,16 +241,16 @@ fn is_one(left: Option<Members<'_>>, text: &str) -> bool {
 }
 
 #[test]
-fn members_behind_one_out_of_order_are_lost(rt: HostRuntime) -> Result<(), Fail> {
+fn members_after_one_out_of_order_are_unplaced(rt: HostRuntime) -> Result<(), Fail> {
     let of = TypeStr::parse("(ysas)")?;
     assert!(rt; of.class() != Class::Variant);
     let mut places = places(of, b"\x05\xff\xff");
     let mut children = View::new(of, b"\x05\xff\xff").children();
     places.next();
     children.next();
-    let kept = places.lost().is_none() && children.lost().is_none();
+    let kept = places.unplaced().is_none() && children.unplaced().is_none();
     places.next();
     children.next();
-    assert!(rt; kept && is_one(places.lost(), "as") && is_one(children.lost(), "as"));
+    assert!(rt; kept && is_one(places.unplaced(), "as") && is_one(children.unplaced(), "as"));
     Ok(())
 }

@@ -23,7 +23,7 @@ use Rattle.gv_model.specs.Tree.{nodes}
 use Rattle.gv_model.specs.Decode.{decode}
 use Rattle.gv_model.proofs.ListLaws.{no_bytes}
 use Rattle.gv_normal.proofs.Pieces.{are_bytes, length-piece, short_from}
-use Rattle.gv_normal.proofs.PartSteps.{begins_behind}
+use Rattle.gv_normal.proofs.PartSteps.{begins_after}
 use Rattle.gv_normal.proofs.PackedParts.{some_level, normal_size}
 use Rattle.gv_normal.proofs.FixedMembers.{never, told, if_some}
 use Rattle.gv_normal.proofs.FixedElements.{normal_chunks, numbers_told, numbers_values, no_numbers}
@@ -50,8 +50,8 @@ pub array::are_normal_elements-round_up-from-requires-clause-aligned : goal.arra
 array::are_normal_elements-round_up-from-requires-clause-aligned t c =
     omega (arith, c.requires.aligned, alignment_pos (ty c.args.element))
 
-pub array::are_normal_elements-returns-then-not-lies_behind-clause-normal : goal.array::are_normal_elements-returns-then-not-lies_behind-clause-normal
-array::are_normal_elements-returns-then-not-lies_behind-clause-normal t c =
+pub array::are_normal_elements-returns-then-not-lies_after-clause-normal : goal.array::are_normal_elements-returns-then-not-lies_after-clause-normal
+array::are_normal_elements-returns-then-not-lies_after-clause-normal t c =
     let b = c.args.bytes.now in
     let t' = ty c.args.element in
     let bytes = are_bytes b c.type_inv.bytes in
@@ -63,10 +63,10 @@ array::are_normal_elements-returns-then-not-lies_behind-clause-normal t c =
     let law = table_iff c.args.levels t' b bytes c.requires.open has in
     let from_is = c.round_up-from.ensures.rounded ∙ ap (λ a. round_up a c.loop-i.end) c.requires.aligned in
     let turn = element_turn _ c.args.levels t' b c.split_at.result.1.now c.split_at.result.0.now c.loop-i.i c.loop-i.end c.round_up-from.result c.number-to.result c.from-width.result wide back front (omega (arith, c.loop-i-test.true, count)) c.number-to.ensures from_is c.loop-i.invariant.same in
-    never (λ n. told c.lies_behind.ensures c.if-not-lies_behind.true (turn.1 (law.1 n)).0.0)
+    never (λ n. told c.lies_after.ensures c.if-not-lies_after.true (turn.1 (law.1 n)).0.0)
 
-pub array::are_normal_elements-returns-then-not-lies_behind-clause-few : goal.array::are_normal_elements-returns-then-not-lies_behind-clause-few
-array::are_normal_elements-returns-then-not-lies_behind-clause-few t c =
+pub array::are_normal_elements-returns-then-not-lies_after-clause-few : goal.array::are_normal_elements-returns-then-not-lies_after-clause-few
+array::are_normal_elements-returns-then-not-lies_after-clause-few t c =
     let b = c.args.bytes.now in
     let has = c.in-Some.ensures.1 in
     let all = all_elements (length (spelling (ty c.args.element))) (length b) c.loop-i.end c.loop-i.i (omega (arith, c.loop-i.invariant.within, c.loop-i.invariant.passed, offsets_fit b has)) in
@@ -84,7 +84,7 @@ array::are_normal_elements-is_normal_open-requires t c =
     let count = counted b c.split_at.result.1.now c.from-width.result wide back in
     let law = table_iff c.args.levels t' b bytes c.requires.open has in
     let spelled = length (spelling t') in
-    let lies = c.lies_behind.ensures.0 c.if-not-lies_behind.false in
+    let lies = c.lies_after.ensures.0 c.if-not-lies_after.false in
     let body = c.split_at.result.0.now in
     let long = length-piece body c.round_up-from.result c.number-to.result lies.within in
     let small = bound_grows (length (slice_range body c.round_up-from.result c.number-to.result)) (c.number-to.result - c.round_up-from.result) spelled (omega (arith, long)) in
@@ -121,7 +121,7 @@ array::are_normal_elements-returns-then-not-is_normal_open-clause-few t c =
     let count = counted b c.split_at.result.1.now c.from-width.result wide back in
     let law = table_iff c.args.levels t' b bytes c.requires.open has in
     let spelled = length (spelling t') in
-    let lies = c.lies_behind.ensures.0 c.if-not-lies_behind.false in
+    let lies = c.lies_after.ensures.0 c.if-not-lies_after.false in
     let body = c.split_at.result.0.now in
     let long = length-piece body c.round_up-from.result c.number-to.result lies.within in
     let small = bound_grows (length (slice_range body c.round_up-from.result c.number-to.result)) (c.number-to.result - c.round_up-from.result) spelled (omega (arith, long)) in
@@ -144,7 +144,7 @@ array::are_normal_elements-loop-i-preserved t c =
     let from_is = c.round_up-from.ensures.rounded ∙ ap (λ a. round_up a c.loop-i.end) c.requires.aligned in
     let turn = element_turn _ c.args.levels t' b c.split_at.result.1.now c.split_at.result.0.now c.loop-i.i c.loop-i.end c.round_up-from.result c.number-to.result c.from-width.result wide back front (omega (arith, c.loop-i-test.true, count)) c.number-to.ensures from_is c.loop-i.invariant.same in
     let spelled = length (spelling t') in
-    let lies = c.lies_behind.ensures.0 c.if-not-lies_behind.false in
+    let lies = c.lies_after.ensures.0 c.if-not-lies_after.false in
     let body = c.split_at.result.0.now in
     let long = length-piece body c.round_up-from.result c.number-to.result lies.within in
     let small = bound_grows (length (slice_range body c.round_up-from.result c.number-to.result)) (c.number-to.result - c.round_up-from.result) spelled (omega (arith, long)) in
@@ -341,7 +341,7 @@ maybe::is_normal_maybe-returns-then-bytes-size-clause-exact t c = λ h.
 pub maybe::is_normal_maybe-returns-then-last-eq0-clause-exact : goal.maybe::is_normal_maybe-returns-then-last-eq0-clause-exact
 maybe::is_normal_maybe-returns-then-last-eq0-clause-exact t c = λ h.
     let b = c.args.bytes.now in
-    let values = open_just_values c.args.levels (ty c.args.child) b c.in-Some.front.now c.in-Some.last.now (are_bytes b c.type_inv.bytes) c.in-Some.ensures.cases.0 (sym c.in-None.ensures) c.if-last-eq0.true (c.is_normal_open.ensures.normal.0 h) in
+    let values = open_just_values c.args.levels (ty c.args.child) b c.in-Some.prefix.now c.in-Some.last.now (are_bytes b c.type_inv.bytes) c.in-Some.ensures.cases.0 (sym c.in-None.ensures) c.if-last-eq0.true (c.is_normal_open.ensures.normal.0 h) in
     omega (arith, c.is_normal_open.ensures.exact h, values)
 
 pub maybe::is_normal_maybe-returns-then-bytes-size-clause-normal : goal.maybe::is_normal_maybe-returns-then-bytes-size-clause-normal
@@ -363,14 +363,14 @@ pub maybe::is_normal_maybe-returns-then-last-eq0-clause-normal : goal.maybe::is_
 maybe::is_normal_maybe-returns-then-last-eq0-clause-normal t c =
     let b = c.args.bytes.now in
     let bytes = are_bytes b c.type_inv.bytes in
-    let law = open_just c.args.levels (ty c.args.child) b c.in-Some.front.now c.in-Some.last.now bytes c.in-Some.ensures.cases.0 (sym c.in-None.ensures) c.if-last-eq0.true in
+    let law = open_just c.args.levels (ty c.args.child) b c.in-Some.prefix.now c.in-Some.last.now bytes c.in-Some.ensures.cases.0 (sym c.in-None.ensures) c.if-last-eq0.true in
     (λ h. law.0 (c.is_normal_open.ensures.normal.0 h), λ n. c.is_normal_open.ensures.normal.1 (law.1 n))
 
 pub maybe::is_normal_maybe-returns-else-last-eq0-clause-normal : goal.maybe::is_normal_maybe-returns-else-last-eq0-clause-normal
 maybe::is_normal_maybe-returns-else-last-eq0-clause-normal t c =
     let b = c.args.bytes.now in
     let bytes = are_bytes b c.type_inv.bytes in
-    let last : IsNormalWithin (suc c.args.levels) (maybe (ty c.args.child)) b → c.in-Some.last.now ≡ 0 = λ n. other_last c.args.levels (ty c.args.child) b c.in-Some.front.now c.in-Some.last.now bytes c.in-Some.ensures.cases.0 (sym c.in-None.ensures) n in
+    let last : IsNormalWithin (suc c.args.levels) (maybe (ty c.args.child)) b → c.in-Some.last.now ≡ 0 = λ n. other_last c.args.levels (ty c.args.child) b c.in-Some.prefix.now c.in-Some.last.now bytes c.in-Some.ensures.cases.0 (sym c.in-None.ensures) n in
     (λ h. absurd (c.if-last-eq0.false (eqb-true c.in-Some.last.now 0 h)), λ n. absurd (c.if-last-eq0.false (last n)))
 
 pub tuple::are_normal_members-loop-member-init : goal.tuple::are_normal_members-loop-member-init
@@ -384,7 +384,7 @@ tuple::are_normal_members-loop-member-init t c =
       record {
         same = (λ h. subst (AreOpenFrom c.args.levels c.args.bytes.now (offset_width n) n 0) same h, λ h. subst (AreOpenFrom c.args.levels c.args.bytes.now (offset_width n) n 0) (sym same) h);
         within = omega arith;
-        behind = omega arith;
+        tail_within = omega arith;
         whole = (0, omega arith);
         left = omega (arith, ap (λ ts. length (spellings ts)) same);
         few = omega arith;
@@ -399,9 +399,9 @@ tuple::are_normal_members-member_place-requires-clause-narrow t c =
 
 pub tuple::are_normal_members-member_place-requires-clause-small : goal.tuple::are_normal_members-member_place-requires-clause-small
 tuple::are_normal_members-member_place-requires-clause-small t c =
-    if_some (λ n. c.place_behind-from.result + n < 18446744073709551616) c.fixed_size-size.result
+    if_some (λ n. c.aligned_after-from.result + n < 18446744073709551616) c.fixed_size-size.result
     (λ n e. let small = fixed_size_most c.in-Some.member.text.now n c.in-Some.member.spells_type (sym c.fixed_size-size.ensures ∙ e) in
-    omega (arith, small, (begins_behind (ty c.in-Some.member) c.loop-member.end c.place_behind-from.result c.place_behind-from.ensures).1, c.loop-member.invariant.2.within))
+    omega (arith, small, (begins_after (ty c.in-Some.member) c.loop-member.end c.aligned_after-from.result c.aligned_after-from.ensures).1, c.loop-member.invariant.2.within))
 
 pub tuple::are_normal_members-returns-in_default-member_place-clause-normal : goal.tuple::are_normal_members-returns-in_default-member_place-clause-normal
 tuple::are_normal_members-returns-in_default-member_place-clause-normal t c =
@@ -409,9 +409,9 @@ tuple::are_normal_members-returns-in_default-member_place-clause-normal t c =
     let inv = c.loop-member.invariant.2 in
     let law = open_iff c.args.levels (ty c.args.of) b (are_bytes b c.type_inv.bytes) c.requires.kind c.requires.open in
     let wide = c.from-width.ensures ∙ c.offset_width.ensures in
-    let from_is = c.place_behind-from.ensures in
-    let at = member_place c.from-width.result b c.loop-member.tail c.place_behind-from.result c.fixed_size-size.result c.is_empty-is_last.result in
-    let place = place_turn _ c.args.levels b (offset_width (length b)) c.from-width.result c.loop-member.tail c.loop-member.end c.place_behind-from.result (ty c.in-Some.member) _ (members_left c.next.new.self) c.fixed_size-size.result c.is_empty-is_last.result
+    let from_is = c.aligned_after-from.ensures in
+    let at = member_place c.from-width.result b c.loop-member.tail c.aligned_after-from.result c.fixed_size-size.result c.is_empty-is_last.result in
+    let place = place_turn _ c.args.levels b (offset_width (length b)) c.from-width.result c.loop-member.tail c.loop-member.end c.aligned_after-from.result (ty c.in-Some.member) _ (members_left c.next.new.self) c.fixed_size-size.result c.is_empty-is_last.result
     c.in-Some.ensures.steps inv.same wide c.fixed_size-size.ensures from_is c.is_empty-is_last.ensures in
     never (λ n. no_place _ c.args.levels b c.loop-member.end (ty c.in-Some.member) _ at (sym c.member_place.ensures ∙ c.in_default-member_place.is) place (law.1 n))
 
@@ -421,26 +421,26 @@ tuple::are_normal_members-returns-in_default-member_place-clause-few t c =
     let all = all_members (length (spellings (members (ty c.args.of))) - length (spellings (types_from (members_left c.loop-member.members)))) (length (spelling (ty c.args.of))) (length c.args.bytes.now) c.loop-member.end (omega (arith, members_spelled (ty c.args.of) c.requires.kind)) inv.within in
     omega (arith, inv.few, all)
 
-pub tuple::are_normal_members-lies_behind-requires : goal.tuple::are_normal_members-lies_behind-requires
-tuple::are_normal_members-lies_behind-requires t c =
-    (begins_behind (ty c.in-Some.member) c.loop-member.end c.place_behind-from.result c.place_behind-from.ensures).0
+pub tuple::are_normal_members-lies_after-requires : goal.tuple::are_normal_members-lies_after-requires
+tuple::are_normal_members-lies_after-requires t c =
+    (begins_after (ty c.in-Some.member) c.loop-member.end c.aligned_after-from.result c.aligned_after-from.ensures).0
 
-pub tuple::are_normal_members-returns-then-not-lies_behind-clause-normal : goal.tuple::are_normal_members-returns-then-not-lies_behind-clause-normal
-tuple::are_normal_members-returns-then-not-lies_behind-clause-normal t c =
+pub tuple::are_normal_members-returns-then-not-lies_after-clause-normal : goal.tuple::are_normal_members-returns-then-not-lies_after-clause-normal
+tuple::are_normal_members-returns-then-not-lies_after-clause-normal t c =
     let b = c.args.bytes.now in
     let inv = c.loop-member.invariant.2 in
     let law = open_iff c.args.levels (ty c.args.of) b (are_bytes b c.type_inv.bytes) c.requires.kind c.requires.open in
     let wide = c.from-width.ensures ∙ c.offset_width.ensures in
-    let from_is = c.place_behind-from.ensures in
-    let at = member_place c.from-width.result b c.loop-member.tail c.place_behind-from.result c.fixed_size-size.result c.is_empty-is_last.result in
-    let place = place_turn _ c.args.levels b (offset_width (length b)) c.from-width.result c.loop-member.tail c.loop-member.end c.place_behind-from.result (ty c.in-Some.member) _ (members_left c.next.new.self) c.fixed_size-size.result c.is_empty-is_last.result
+    let from_is = c.aligned_after-from.ensures in
+    let at = member_place c.from-width.result b c.loop-member.tail c.aligned_after-from.result c.fixed_size-size.result c.is_empty-is_last.result in
+    let place = place_turn _ c.args.levels b (offset_width (length b)) c.from-width.result c.loop-member.tail c.loop-member.end c.aligned_after-from.result (ty c.in-Some.member) _ (members_left c.next.new.self) c.fixed_size-size.result c.is_empty-is_last.result
     c.in-Some.ensures.steps inv.same wide c.fixed_size-size.ensures from_is c.is_empty-is_last.ensures in
     let is = sym c.member_place.ensures ∙ c.in-Some-member_place.is in
-    let turn = member_turn _ c.args.levels b (offset_width (length b)) c.loop-member.end c.place_behind-from.result c.in-Some-member_place.to c.in-Some-member_place.before (ty c.in-Some.member) (members_left c.next.new.self) at is from_is place in
-    never (λ n. told c.lies_behind.ensures c.if-not-lies_behind.true (turn.1 (law.1 n)).0.0)
+    let turn = member_turn _ c.args.levels b (offset_width (length b)) c.loop-member.end c.aligned_after-from.result c.in-Some-member_place.to c.in-Some-member_place.before (ty c.in-Some.member) (members_left c.next.new.self) at is from_is place in
+    never (λ n. told c.lies_after.ensures c.if-not-lies_after.true (turn.1 (law.1 n)).0.0)
 
-pub tuple::are_normal_members-returns-then-not-lies_behind-clause-few : goal.tuple::are_normal_members-returns-then-not-lies_behind-clause-few
-tuple::are_normal_members-returns-then-not-lies_behind-clause-few t c =
+pub tuple::are_normal_members-returns-then-not-lies_after-clause-few : goal.tuple::are_normal_members-returns-then-not-lies_after-clause-few
+tuple::are_normal_members-returns-then-not-lies_after-clause-few t c =
     let inv = c.loop-member.invariant.2 in
     let all = all_members (length (spellings (members (ty c.args.of))) - length (spellings (types_from (members_left c.loop-member.members)))) (length (spelling (ty c.args.of))) (length c.args.bytes.now) c.loop-member.end (omega (arith, members_spelled (ty c.args.of) c.requires.kind)) inv.within in
     omega (arith, inv.few, all)
@@ -451,26 +451,26 @@ tuple::are_normal_members-is_normal_member-requires t c =
     let inv = c.loop-member.invariant.2 in
     let law = open_iff c.args.levels (ty c.args.of) b (are_bytes b c.type_inv.bytes) c.requires.kind c.requires.open in
     let wide = c.from-width.ensures ∙ c.offset_width.ensures in
-    let from_is = c.place_behind-from.ensures in
-    let at = member_place c.from-width.result b c.loop-member.tail c.place_behind-from.result c.fixed_size-size.result c.is_empty-is_last.result in
-    let place = place_turn _ c.args.levels b (offset_width (length b)) c.from-width.result c.loop-member.tail c.loop-member.end c.place_behind-from.result (ty c.in-Some.member) _ (members_left c.next.new.self) c.fixed_size-size.result c.is_empty-is_last.result
+    let from_is = c.aligned_after-from.ensures in
+    let at = member_place c.from-width.result b c.loop-member.tail c.aligned_after-from.result c.fixed_size-size.result c.is_empty-is_last.result in
+    let place = place_turn _ c.args.levels b (offset_width (length b)) c.from-width.result c.loop-member.tail c.loop-member.end c.aligned_after-from.result (ty c.in-Some.member) _ (members_left c.next.new.self) c.fixed_size-size.result c.is_empty-is_last.result
     c.in-Some.ensures.steps inv.same wide c.fixed_size-size.ensures from_is c.is_empty-is_last.ensures in
     let is = sym c.member_place.ensures ∙ c.in-Some-member_place.is in
-    let turn = member_turn _ c.args.levels b (offset_width (length b)) c.loop-member.end c.place_behind-from.result c.in-Some-member_place.to c.in-Some-member_place.before (ty c.in-Some.member) (members_left c.next.new.self) at is from_is place in
-    let lies = c.lies_behind.ensures.0 c.if-not-lies_behind.false in
+    let turn = member_turn _ c.args.levels b (offset_width (length b)) c.loop-member.end c.aligned_after-from.result c.in-Some-member_place.to c.in-Some-member_place.before (ty c.in-Some.member) (members_left c.next.new.self) at is from_is place in
+    let lies = c.lies_after.ensures.0 c.if-not-lies_after.false in
     let all_text = length (spellings (members (ty c.args.of))) in
     let left_text = length (spellings (types_from (members_left c.loop-member.members))) in
     let next_text = length (spellings (types_from (members_left c.next.new.self))) in
     let own_text = length (spelling (ty c.in-Some.member)) in
     let texts : left_text ≡ own_text + next_text = ap (λ ts. length (spellings (types_from ts))) c.in-Some.ensures.steps ∙ spelled_first (ty c.in-Some.member) (members_left c.next.new.self) in
-    let part = slice_range c.args.bytes.now c.place_behind-from.result c.in-Some-member_place.to in
-    let long = length-piece c.args.bytes.now c.place_behind-from.result c.in-Some-member_place.to lies.within in
-    let small = bound_grows (length part) (c.in-Some-member_place.to - c.place_behind-from.result) own_text (omega (arith, long)) in
-    let grow = member_steps (all_text - left_text) own_text c.loop-member.end c.place_behind-from.result c.in-Some-member_place.to (most_values (length part) own_text) (begins_behind (ty c.in-Some.member) c.loop-member.end c.place_behind-from.result c.place_behind-from.ensures).0 lies.rises small in
+    let part = slice_range c.args.bytes.now c.aligned_after-from.result c.in-Some-member_place.to in
+    let long = length-piece c.args.bytes.now c.aligned_after-from.result c.in-Some-member_place.to lies.within in
+    let small = bound_grows (length part) (c.in-Some-member_place.to - c.aligned_after-from.result) own_text (omega (arith, long)) in
+    let grow = member_steps (all_text - left_text) own_text c.loop-member.end c.aligned_after-from.result c.in-Some-member_place.to (most_values (length part) own_text) (begins_after (ty c.in-Some.member) c.loop-member.end c.aligned_after-from.result c.aligned_after-from.ensures).0 lies.rises small in
     let moved : in_members (own_text + (all_text - left_text)) c.in-Some-member_place.to ≡ in_members (all_text - next_text) c.in-Some-member_place.to = ap (λ a. in_members a c.in-Some-member_place.to) (let sum : own_text + (all_text - left_text) ≡ all_text - next_text = omega (arith, texts, c.loop-member.invariant.2.left) in sum) in
     let all = all_members (all_text - next_text) (length (spelling (ty c.args.of))) (length c.args.bytes.now) c.in-Some-member_place.to (omega (arith, members_spelled (ty c.args.of) c.requires.kind)) lies.within in
     let falls : 4 * c.args.levels + 1 < 4 * c.args.levels + 3 = omega arith in
-    let fits = if_some (λ n. length part ≡ n) c.fixed_size-size.result (λ n e. let to_is = sized_place c.from-width.result b c.loop-member.tail c.place_behind-from.result c.in-Some-member_place.to c.in-Some-member_place.before n c.fixed_size-size.result c.is_empty-is_last.result is e in omega (arith, to_is, long)) in
+    let fits = if_some (λ n. length part ≡ n) c.fixed_size-size.result (λ n e. let to_is = sized_place c.from-width.result b c.loop-member.tail c.aligned_after-from.result c.in-Some-member_place.to c.in-Some-member_place.before n c.fixed_size-size.result c.is_empty-is_last.result is e in omega (arith, to_is, long)) in
     (search (rules, falls), (sym c.fixed_size-size.ensures, (fits, omega (arith, inv.few, grow, moved, all, c.requires.room))))
 
 pub tuple::are_normal_members-returns-then-not-is_normal_member-clause-normal : goal.tuple::are_normal_members-returns-then-not-is_normal_member-clause-normal
@@ -479,26 +479,26 @@ tuple::are_normal_members-returns-then-not-is_normal_member-clause-normal t c =
     let inv = c.loop-member.invariant.2 in
     let law = open_iff c.args.levels (ty c.args.of) b (are_bytes b c.type_inv.bytes) c.requires.kind c.requires.open in
     let wide = c.from-width.ensures ∙ c.offset_width.ensures in
-    let from_is = c.place_behind-from.ensures in
-    let at = member_place c.from-width.result b c.loop-member.tail c.place_behind-from.result c.fixed_size-size.result c.is_empty-is_last.result in
-    let place = place_turn _ c.args.levels b (offset_width (length b)) c.from-width.result c.loop-member.tail c.loop-member.end c.place_behind-from.result (ty c.in-Some.member) _ (members_left c.next.new.self) c.fixed_size-size.result c.is_empty-is_last.result
+    let from_is = c.aligned_after-from.ensures in
+    let at = member_place c.from-width.result b c.loop-member.tail c.aligned_after-from.result c.fixed_size-size.result c.is_empty-is_last.result in
+    let place = place_turn _ c.args.levels b (offset_width (length b)) c.from-width.result c.loop-member.tail c.loop-member.end c.aligned_after-from.result (ty c.in-Some.member) _ (members_left c.next.new.self) c.fixed_size-size.result c.is_empty-is_last.result
     c.in-Some.ensures.steps inv.same wide c.fixed_size-size.ensures from_is c.is_empty-is_last.ensures in
     let is = sym c.member_place.ensures ∙ c.in-Some-member_place.is in
-    let turn = member_turn _ c.args.levels b (offset_width (length b)) c.loop-member.end c.place_behind-from.result c.in-Some-member_place.to c.in-Some-member_place.before (ty c.in-Some.member) (members_left c.next.new.self) at is from_is place in
+    let turn = member_turn _ c.args.levels b (offset_width (length b)) c.loop-member.end c.aligned_after-from.result c.in-Some-member_place.to c.in-Some-member_place.before (ty c.in-Some.member) (members_left c.next.new.self) at is from_is place in
     never (λ n. told c.is_normal_member.ensures.normal c.if-not-is_normal_member.true (turn.1 (law.1 n)).0.1)
 
 pub tuple::are_normal_members-returns-then-not-is_normal_member-clause-few : goal.tuple::are_normal_members-returns-then-not-is_normal_member-clause-few
 tuple::are_normal_members-returns-then-not-is_normal_member-clause-few t c =
-    let lies = c.lies_behind.ensures.0 c.if-not-lies_behind.false in
+    let lies = c.lies_after.ensures.0 c.if-not-lies_after.false in
     let all_text = length (spellings (members (ty c.args.of))) in
     let left_text = length (spellings (types_from (members_left c.loop-member.members))) in
     let next_text = length (spellings (types_from (members_left c.next.new.self))) in
     let own_text = length (spelling (ty c.in-Some.member)) in
     let texts : left_text ≡ own_text + next_text = ap (λ ts. length (spellings (types_from ts))) c.in-Some.ensures.steps ∙ spelled_first (ty c.in-Some.member) (members_left c.next.new.self) in
-    let part = slice_range c.args.bytes.now c.place_behind-from.result c.in-Some-member_place.to in
-    let long = length-piece c.args.bytes.now c.place_behind-from.result c.in-Some-member_place.to lies.within in
-    let small = bound_grows (length part) (c.in-Some-member_place.to - c.place_behind-from.result) own_text (omega (arith, long)) in
-    let grow = member_steps (all_text - left_text) own_text c.loop-member.end c.place_behind-from.result c.in-Some-member_place.to (most_values (length part) own_text) (begins_behind (ty c.in-Some.member) c.loop-member.end c.place_behind-from.result c.place_behind-from.ensures).0 lies.rises small in
+    let part = slice_range c.args.bytes.now c.aligned_after-from.result c.in-Some-member_place.to in
+    let long = length-piece c.args.bytes.now c.aligned_after-from.result c.in-Some-member_place.to lies.within in
+    let small = bound_grows (length part) (c.in-Some-member_place.to - c.aligned_after-from.result) own_text (omega (arith, long)) in
+    let grow = member_steps (all_text - left_text) own_text c.loop-member.end c.aligned_after-from.result c.in-Some-member_place.to (most_values (length part) own_text) (begins_after (ty c.in-Some.member) c.loop-member.end c.aligned_after-from.result c.aligned_after-from.ensures).0 lies.rises small in
     let moved : in_members (own_text + (all_text - left_text)) c.in-Some-member_place.to ≡ in_members (all_text - next_text) c.in-Some-member_place.to = ap (λ a. in_members a c.in-Some-member_place.to) (let sum : own_text + (all_text - left_text) ≡ all_text - next_text = omega (arith, texts, c.loop-member.invariant.2.left) in sum) in
     let all = all_members (all_text - next_text) (length (spelling (ty c.args.of))) (length c.args.bytes.now) c.in-Some-member_place.to (omega (arith, members_spelled (ty c.args.of) c.requires.kind)) lies.within in
     omega (arith, c.loop-member.invariant.2.few, c.is_normal_member.ensures.few, grow, moved, all)
@@ -509,38 +509,38 @@ tuple::are_normal_members-loop-member-preserved t c =
     let inv = c.loop-member.invariant.2 in
     let law = open_iff c.args.levels (ty c.args.of) b (are_bytes b c.type_inv.bytes) c.requires.kind c.requires.open in
     let wide = c.from-width.ensures ∙ c.offset_width.ensures in
-    let from_is = c.place_behind-from.ensures in
-    let at = member_place c.from-width.result b c.loop-member.tail c.place_behind-from.result c.fixed_size-size.result c.is_empty-is_last.result in
-    let place = place_turn _ c.args.levels b (offset_width (length b)) c.from-width.result c.loop-member.tail c.loop-member.end c.place_behind-from.result (ty c.in-Some.member) _ (members_left c.next.new.self) c.fixed_size-size.result c.is_empty-is_last.result
+    let from_is = c.aligned_after-from.ensures in
+    let at = member_place c.from-width.result b c.loop-member.tail c.aligned_after-from.result c.fixed_size-size.result c.is_empty-is_last.result in
+    let place = place_turn _ c.args.levels b (offset_width (length b)) c.from-width.result c.loop-member.tail c.loop-member.end c.aligned_after-from.result (ty c.in-Some.member) _ (members_left c.next.new.self) c.fixed_size-size.result c.is_empty-is_last.result
     c.in-Some.ensures.steps inv.same wide c.fixed_size-size.ensures from_is c.is_empty-is_last.ensures in
     let is = sym c.member_place.ensures ∙ c.in-Some-member_place.is in
-    let turn = member_turn _ c.args.levels b (offset_width (length b)) c.loop-member.end c.place_behind-from.result c.in-Some-member_place.to c.in-Some-member_place.before (ty c.in-Some.member) (members_left c.next.new.self) at is from_is place in
-    let lies = c.lies_behind.ensures.0 c.if-not-lies_behind.false in
+    let turn = member_turn _ c.args.levels b (offset_width (length b)) c.loop-member.end c.aligned_after-from.result c.in-Some-member_place.to c.in-Some-member_place.before (ty c.in-Some.member) (members_left c.next.new.self) at is from_is place in
+    let lies = c.lies_after.ensures.0 c.if-not-lies_after.false in
     let all_text = length (spellings (members (ty c.args.of))) in
     let left_text = length (spellings (types_from (members_left c.loop-member.members))) in
     let next_text = length (spellings (types_from (members_left c.next.new.self))) in
     let own_text = length (spelling (ty c.in-Some.member)) in
     let texts : left_text ≡ own_text + next_text = ap (λ ts. length (spellings (types_from ts))) c.in-Some.ensures.steps ∙ spelled_first (ty c.in-Some.member) (members_left c.next.new.self) in
-    let part = slice_range c.args.bytes.now c.place_behind-from.result c.in-Some-member_place.to in
-    let long = length-piece c.args.bytes.now c.place_behind-from.result c.in-Some-member_place.to lies.within in
-    let small = bound_grows (length part) (c.in-Some-member_place.to - c.place_behind-from.result) own_text (omega (arith, long)) in
-    let grow = member_steps (all_text - left_text) own_text c.loop-member.end c.place_behind-from.result c.in-Some-member_place.to (most_values (length part) own_text) (begins_behind (ty c.in-Some.member) c.loop-member.end c.place_behind-from.result c.place_behind-from.ensures).0 lies.rises small in
+    let part = slice_range c.args.bytes.now c.aligned_after-from.result c.in-Some-member_place.to in
+    let long = length-piece c.args.bytes.now c.aligned_after-from.result c.in-Some-member_place.to lies.within in
+    let small = bound_grows (length part) (c.in-Some-member_place.to - c.aligned_after-from.result) own_text (omega (arith, long)) in
+    let grow = member_steps (all_text - left_text) own_text c.loop-member.end c.aligned_after-from.result c.in-Some-member_place.to (most_values (length part) own_text) (begins_after (ty c.in-Some.member) c.loop-member.end c.aligned_after-from.result c.aligned_after-from.ensures).0 lies.rises small in
     let moved : in_members (own_text + (all_text - left_text)) c.in-Some-member_place.to ≡ in_members (all_text - next_text) c.in-Some-member_place.to = ap (λ a. in_members a c.in-Some-member_place.to) (let sum : own_text + (all_text - left_text) ≡ all_text - next_text = omega (arith, texts, c.loop-member.invariant.2.left) in sum) in
     let all = all_members (all_text - next_text) (length (spelling (ty c.args.of))) (length c.args.bytes.now) c.in-Some-member_place.to (omega (arith, members_spelled (ty c.args.of) c.requires.kind)) lies.within in
-    let behind = place_within c.from-width.result b c.loop-member.tail c.place_behind-from.result c.in-Some-member_place.to c.in-Some-member_place.before c.fixed_size-size.result c.is_empty-is_last.result is in
-    let whole = place_whole c.from-width.result (length b) b c.loop-member.tail c.place_behind-from.result c.in-Some-member_place.to c.in-Some-member_place.before c.fixed_size-size.result c.is_empty-is_last.result is (subst (λ w. AreWhole w (length b) c.loop-member.tail) (sym wide) inv.whole) in (
+    let tail_within = place_within c.from-width.result b c.loop-member.tail c.aligned_after-from.result c.in-Some-member_place.to c.in-Some-member_place.before c.fixed_size-size.result c.is_empty-is_last.result is in
+    let whole = place_whole c.from-width.result (length b) b c.loop-member.tail c.aligned_after-from.result c.in-Some-member_place.to c.in-Some-member_place.before c.fixed_size-size.result c.is_empty-is_last.result is (subst (λ w. AreWhole w (length b) c.loop-member.tail) (sym wide) inv.whole) in (
       tt,
       tt,
       record {
         same = (λ h. turn.0 ((lies, c.is_normal_member.ensures.normal.0 c.if-not-is_normal_member.false), h), λ w. (turn.1 w).1);
         within = lies.within;
-        behind = omega (arith, behind, inv.behind);
+        tail_within = omega (arith, tail_within, inv.tail_within);
         whole = subst (λ w. AreWhole w (length b) c.in-Some-member_place.before) wide whole;
         left = omega (arith, texts, inv.left);
         few = omega (arith, inv.few, c.is_normal_member.ensures.few, grow, moved);
         grows = omega (arith, inv.grows, c.is_normal_member.ensures.grows);
         exact =
-            let values = member_values b (offset_width (length b)) c.from-width.result c.loop-member.tail c.loop-member.end c.place_behind-from.result c.in-Some-member_place.to c.in-Some-member_place.before (ty c.in-Some.member) _ (members_left c.next.new.self) c.fixed_size-size.result c.is_empty-is_last.result
+            let values = member_values b (offset_width (length b)) c.from-width.result c.loop-member.tail c.loop-member.end c.aligned_after-from.result c.in-Some-member_place.to c.in-Some-member_place.before (ty c.in-Some.member) _ (members_left c.next.new.self) c.fixed_size-size.result c.is_empty-is_last.result
             c.in-Some.ensures.steps wide c.fixed_size-size.ensures from_is c.is_empty-is_last.ensures is in
             omega (arith, inv.exact, c.is_normal_member.ensures.exact c.if-not-is_normal_member.false, values);
       },
@@ -548,26 +548,26 @@ tuple::are_normal_members-loop-member-preserved t c =
 
 pub tuple::are_normal_members-nonzero_div-bytes : goal.tuple::are_normal_members-nonzero_div-bytes
 tuple::are_normal_members-nonzero_div-bytes t c =
-    let less : c.loop-member.tail < length c.args.bytes.now = omega (arith, c.loop-member.invariant.2.behind, c.if-tail-bytes.false) in
+    let less : c.loop-member.tail < length c.args.bytes.now = omega (arith, c.loop-member.invariant.2.tail_within, c.if-tail-bytes.false) in
     let pos : 0 < c.from-width.result = (width_is _ c.from-width.result c.offset_width.result c.from-width.ensures c.offset_width.ensures).some (omega (arith, less)) in
     pos
 
 pub tuple::are_normal_members-is_narrow-requires-clause-wide : goal.tuple::are_normal_members-is_narrow-requires-clause-wide
 tuple::are_normal_members-is_narrow-requires-clause-wide t c =
-    let less : c.loop-member.tail < length c.args.bytes.now = omega (arith, c.loop-member.invariant.2.behind, c.if-tail-bytes.false) in
+    let less : c.loop-member.tail < length c.args.bytes.now = omega (arith, c.loop-member.invariant.2.tail_within, c.if-tail-bytes.false) in
     let pos : 0 < c.from-width.result = (width_is _ c.from-width.result c.offset_width.result c.from-width.ensures c.offset_width.ensures).some (omega (arith, less)) in
     pos
 
 pub tuple::are_normal_members-is_narrow-requires-clause-some : goal.tuple::are_normal_members-is_narrow-requires-clause-some
 tuple::are_normal_members-is_narrow-requires-clause-some t c =
-    let less : c.loop-member.tail < length c.args.bytes.now = omega (arith, c.loop-member.invariant.2.behind, c.if-tail-bytes.false) in
+    let less : c.loop-member.tail < length c.args.bytes.now = omega (arith, c.loop-member.invariant.2.tail_within, c.if-tail-bytes.false) in
     let pos : 0 < c.from-width.result = (width_is _ c.from-width.result c.offset_width.result c.from-width.ensures c.offset_width.ensures).some (omega (arith, less)) in
     let has = has_offsets c.from-width.result (length c.args.bytes.now) c.loop-member.tail c.loop-member.end (c.from-width.ensures ∙ c.offset_width.ensures) pos less c.if-end-tail.true c.loop-member.invariant.2.whole in
     has.some
 
 pub tuple::are_normal_members-is_narrow-requires-clause-width : goal.tuple::are_normal_members-is_narrow-requires-clause-width
 tuple::are_normal_members-is_narrow-requires-clause-width t c =
-    let less : c.loop-member.tail < length c.args.bytes.now = omega (arith, c.loop-member.invariant.2.behind, c.if-tail-bytes.false) in
+    let less : c.loop-member.tail < length c.args.bytes.now = omega (arith, c.loop-member.invariant.2.tail_within, c.if-tail-bytes.false) in
     let pos : 0 < c.from-width.result = (width_is _ c.from-width.result c.offset_width.result c.from-width.ensures c.offset_width.ensures).some (omega (arith, less)) in
     let has = has_offsets c.from-width.result (length c.args.bytes.now) c.loop-member.tail c.loop-member.end (c.from-width.ensures ∙ c.offset_width.ensures) pos less c.if-end-tail.true c.loop-member.invariant.2.whole in
     has.width
@@ -606,7 +606,7 @@ tuple::are_normal_members-returns-else-tail-bytes-clause-normal t c =
     let done = members_done _ c.args.levels b (offset_width (length b)) c.loop-member.tail c.loop-member.end _ c.in_default.ensures.steps.0 inv.same in
     let wide = c.from-width.ensures ∙ c.offset_width.ensures in
     let least : ℕ → Type 0 = λ w. least_width c.loop-member.end ((length b - c.loop-member.tail) / w) ≡ w in
-    let less : c.loop-member.tail < length b = omega (arith, inv.behind, c.if-tail-bytes.false) in (
+    let less : c.loop-member.tail < length b = omega (arith, inv.tail_within, c.if-tail-bytes.false) in (
       λ h. law.0 (done.0 (record { full = c.if-end-tail.true; narrow = λ more. subst least wide (c.is_narrow.ensures.0 h) })),
       λ n. c.is_narrow.ensures.1 (subst least (sym wide) ((done.1 (law.1 n)).narrow less)),
     )

@@ -57,7 +57,7 @@ invariant-tuple::are_normal_members-loop-member l =
       same : AreOpenFrom l.fn.levels l.fn.bytes (offset_width (length l.fn.bytes)) l.tail l.end (types_from (members_left l.members))
           ↔ AreOpenFrom l.fn.levels l.fn.bytes (offset_width (length l.fn.bytes)) (length l.fn.bytes) 0 (members (ty l.fn.of));
       within : l.end ≤ length l.fn.bytes;
-      behind : l.tail ≤ length l.fn.bytes;
+      tail_within : l.tail ≤ length l.fn.bytes;
       whole : AreWhole (offset_width (length l.fn.bytes)) (length l.fn.bytes) l.tail;
       left : length (spellings (types_from (members_left l.members))) ≤ length (spellings (members (ty l.fn.of)));
       few : l.steps ≤ l.fn.steps + in_members (length (spellings (members (ty l.fn.of))) - length (spellings (types_from (members_left l.members)))) l.end;

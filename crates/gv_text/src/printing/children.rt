@@ -7,7 +7,7 @@ ghost use Rattle.gv_text.specs.declared.printing.PrintFault.TheVariants.{TooLarg
 ghost use Rattle.gv_view.specs.Views.{value};
 ghost use Rattle.gv_text.specs.Printing.{AreFaultOf, child_texts};
 
-use super::default::push_behind;
+use super::default::push_rest;
 use super::{PrintFault, push_value};
 use gv_view::View;
 
@@ -66,8 +66,8 @@ pub(super) fn push_children(
         alone = false;
         to.push_str(mark)?;
         push_value(to, child, levels - 1, annotated, false)?;
-        if let Some(lost) = children.lost() {
-            push_behind(to, lost, levels - 1, mark, annotated)?;
+        if let Some(unplaced) = children.unplaced() {
+            push_rest(to, unplaced, levels - 1, mark, annotated)?;
             return Ok(false);
         }
     }

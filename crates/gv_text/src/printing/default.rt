@@ -10,11 +10,11 @@ ghost use Rattle.gv_model.specs.Printed.{comma, text_of, holds_double};
 ghost use Rattle.gv_types.specs.Classes.{basic_of, class_of};
 ghost use Rattle.gv_types.specs.TypeStr.{ty};
 ghost use Rattle.gv_types.specs.Members.{members_left};
-ghost use Rattle.gv_types.specs.Fronts.{front, BeginsFront, IsAfterFront};
+ghost use Rattle.gv_types.specs.FirstTypes.{first_type, HasFirstType, IsAfterFirst};
 ghost use Rattle.gv_types.specs.declared.class.Class.TheVariants.{Tuple, Entry};
 ghost use Rattle.gv_text.specs.declared.printing.PrintFault.TheVariants.{TooLarge, Memory};
 ghost use Rattle.gv_text.specs.Printing.{IsElementFault};
-ghost use Rattle.gv_text.specs.Defaults.{default_in, defaults_left, AreFigures, AreLeft, AreLevelFault, IsEmptied, IsLevelFault, WriteBehind, Writes, WritesJoined};
+ghost use Rattle.gv_text.specs.Defaults.{default_in, defaults_left, AreFigures, AreLeft, AreLevelFault, IsEmptied, IsLevelFault, WriteRest, Writes, WritesJoined};
 
 use super::PrintFault;
 use super::array::brackets;
@@ -40,14 +40,14 @@ pub(super) fn push_default(
         Class::Basic(basic) => push_basic_default(to, basic, annotated)?,
         Class::Array | Class::Maybe => push_emptied(to, of, annotated)?,
         _ => {
-            push_front(to, of.as_str().as_bytes(), levels, annotated, in_array)?;
+            push_first(to, of.as_str().as_bytes(), levels, annotated, in_array)?;
         }
     }
     Ok(())
 }
 
 /// Writes the defaults of the members that are left, each after the mark.
-pub(super) fn push_behind(
+pub(super) fn push_rest(
     to: &mut String,
     members: Members<'_>,
     levels: u8,
@@ -55,7 +55,7 @@ pub(super) fn push_behind(
     annotated: bool,
 ) -> Result<(), PrintFault>
     ensures { MatchResult result
-        (λ _. WriteBehind (defaults_left members.entry) levels mark.now annotated (string_bytes to.old) (string_bytes to.new))
+        (λ _. WriteRest (defaults_left members.entry) levels mark.now annotated (string_bytes to.old) (string_bytes to.new))
         (AreLevelFault (defaults_left members.entry) levels) }
 {
     let mut left = members;
@@ -89,23 +89,23 @@ fn push_basics(
         return Ok(());
     }
     while let Some(of) = members.next_basic() {
-        push_basic_behind(to, of)?;
+        push_basic_after(to, of)?;
     }
     Ok(())
 }
 
 /// Writes the default of the type at the start of the text, and answers what comes after the type.
 #[cycle(defaults)]
-fn push_front<'a>(
+fn push_first<'a>(
     to: &mut String,
     text: &'a [u8],
     levels: u8,
     annotated: bool,
     in_array: bool,
 ) -> Result<&'a [u8], PrintFault>
-    requires { BeginsFront text.now }
+    requires { HasFirstType text.now }
     ensures { MatchResult result
-        (λ rest. IsAfterFront text.entry.now rest.now
+        (λ rest. IsAfterFirst text.entry.now rest.now
         × Writes (default_in text.entry.now) levels annotated in_array (string_bytes to.old) (string_bytes to.new))
         (IsLevelFault (default_in text.entry.now) levels) }
 {
@@ -121,7 +121,7 @@ fn push_front<'a>(
             push_variant_default(to, levels)?;
             Ok(after_letter(text))
         }
-        Class::Array | Class::Maybe => push_emptied_front(to, text, annotated),
+        Class::Array | Class::Maybe => push_emptied_first(to, text, annotated),
         Class::Tuple => push_tuple_default(to, text, levels, annotated),
         Class::Entry => push_entry_default(to, text, levels, annotated, in_array),
     }
@@ -143,11 +143,11 @@ fn push_tuple_default<'a>(
     levels: u8,
     annotated: bool,
 ) -> Result<&'a [u8], PrintFault>
-    requires front { BeginsFront text.now }
-    requires kind { class_of (front (seen text.now)) ≡ Tuple }
+    requires first_type { HasFirstType text.now }
+    requires kind { class_of (first_type (seen text.now)) ≡ Tuple }
     requires some { 0 < levels }
     ensures { MatchResult result
-        (λ rest. IsAfterFront text.entry.now rest.now
+        (λ rest. IsAfterFirst text.entry.now rest.now
         × Writes (default_in text.entry.now) levels annotated false (string_bytes to.old) (string_bytes to.new))
         (IsLevelFault (default_in text.entry.now) levels) }
 {
@@ -157,7 +157,7 @@ fn push_tuple_default<'a>(
         to.push(')')?;
         return Ok(after_letter(inside));
     }
-    let mut rest = push_front(to, inside, levels - 1, annotated, false)?;
+    let mut rest = push_first(to, inside, levels - 1, annotated, false)?;
     if rest[0] == b')' {
         to.push_str(",)")?;
         return Ok(after_letter(rest));
@@ -178,20 +178,20 @@ fn push_next<'a>(
     levels: u8,
     annotated: bool,
 ) -> Result<&'a [u8], PrintFault>
-    requires { BeginsFront text.now }
+    requires { HasFirstType text.now }
     ensures { MatchResult result
-        (λ rest. IsAfterFront text.entry.now rest.now
+        (λ rest. IsAfterFirst text.entry.now rest.now
         × Writes (default_in text.entry.now) levels annotated false (string_bytes to.old ++ comma) (string_bytes to.new))
         (IsLevelFault (default_in text.entry.now) levels) }
 {
     match Class::of_letter(text[0]).unwrap() {
         Class::Basic(of) if !annotated && levels > 0 => {
-            push_basic_behind(to, of)?;
+            push_basic_after(to, of)?;
             Ok(after_letter(text))
         }
         _ => {
             to.push_str(", ")?;
-            push_front(to, text, levels, annotated, false)
+            push_first(to, text, levels, annotated, false)
         }
     }
 }
@@ -205,11 +205,11 @@ fn push_entry_default<'a>(
     annotated: bool,
     in_array: bool,
 ) -> Result<&'a [u8], PrintFault>
-    requires front { BeginsFront text.now }
-    requires kind { class_of (front (seen text.now)) ≡ Entry }
+    requires first_type { HasFirstType text.now }
+    requires kind { class_of (first_type (seen text.now)) ≡ Entry }
     requires some { 0 < levels }
     ensures { MatchResult result
-        (λ rest. IsAfterFront text.entry.now rest.now
+        (λ rest. IsAfterFirst text.entry.now rest.now
         × Writes (default_in text.entry.now) levels annotated in_array (string_bytes to.old) (string_bytes to.new))
         (IsLevelFault (default_in text.entry.now) levels) }
 {
@@ -232,30 +232,30 @@ fn push_pair<'a>(
     mark: &str,
     annotated: bool,
 ) -> Result<&'a [u8], PrintFault>
-    requires front { BeginsFront text.now }
-    requires kind { class_of (front (seen text.now)) ≡ Entry }
+    requires first_type { HasFirstType text.now }
+    requires kind { class_of (first_type (seen text.now)) ≡ Entry }
     requires some { 0 < levels }
     ensures { MatchResult result
-        (λ rest. IsAfterFront text.entry.now rest.now
+        (λ rest. IsAfterFirst text.entry.now rest.now
         × WritesJoined (default_in text.entry.now) levels mark.now annotated (string_bytes to.old) (string_bytes to.new))
         (IsLevelFault (default_in text.entry.now) levels) }
 {
-    let value = push_front(to, after_letter(text), levels - 1, annotated, false)?;
+    let value = push_first(to, after_letter(text), levels - 1, annotated, false)?;
     to.push_str(mark)?;
-    let rest = push_front(to, value, levels - 1, annotated, false)?;
+    let rest = push_first(to, value, levels - 1, annotated, false)?;
     Ok(after_letter(rest))
 }
 
 /// Writes the default of the array or maybe at the start of the text, and answers what comes after its type.
-fn push_emptied_front<'a>(
+fn push_emptied_first<'a>(
     to: &mut String,
     text: &'a [u8],
     annotated: bool,
 ) -> Result<&'a [u8], PrintFault>
-    requires front { BeginsFront text.now }
-    requires kind { IsEmptied (front (seen text.now)) }
+    requires first_type { HasFirstType text.now }
+    requires kind { IsEmptied (first_type (seen text.now)) }
     ensures { MatchResult result
-        (λ rest. IsAfterFront text.entry.now rest.now
+        (λ rest. IsAfterFirst text.entry.now rest.now
         × (string_bytes to.new ≡ string_bytes to.old ++ text_of (default_in text.entry.now) annotated false))
         (λ f. f ≡ Memory) }
 {
@@ -310,16 +310,16 @@ fn push_basic_default(to: &mut String, of: BasicType, annotated: bool) -> Result
 
 /// Writes a comma and then the default of a basic type, in one piece.
 #[inline(always)]
-fn push_basic_behind(to: &mut String, of: BasicType) -> Result<(), PrintFault>
+fn push_basic_after(to: &mut String, of: BasicType) -> Result<(), PrintFault>
     ensures { MatchResult result
         (λ _. (holds_double (basic_default (basic_of of)) ≡ false)
         × (string_bytes to.new ≡ (string_bytes to.old ++ comma) ++ text_of (basic_default (basic_of of)) false false))
         (λ f. (f ≡ TooLarge → ⊥) × IsElementFault (basic_default (basic_of of)) f) }
 {
-    let Some((_, behind)) = default_figures(of) else {
+    let Some((_, after_comma)) = default_figures(of) else {
         return Err(PrintFault::DoubleText);
     };
-    Ok(to.push_str(behind)?)
+    Ok(to.push_str(after_comma)?)
 }
 
 /// The text of a basic type's default, by itself and behind a comma, or None for a double.

@@ -1,4 +1,4 @@
-use Rattle.dconf_cli.proofs.Runs.{ran, ran_anywhere, ran_calmly, says_lost_input, zero_keeps, zero_keeps_input}
+use Rattle.dconf_cli.proofs.Runs.{ran, ran_anywhere, ran_calmly, says_failed_input, zero_keeps, zero_keeps_input}
 use Rattle.dconf_cli.proofs.command_run.run.Goals as goal
 
 pub returns-clause-calm : goal.returns-clause-calm
@@ -31,11 +31,11 @@ returns-clause-anywhere g c =
       ),
     )
 
-pub returns-clause-lost_input : goal.returns-clause-lost_input
-returns-clause-lost_input g c = λ failed.
+pub returns-clause-failed_input : goal.returns-clause-failed_input
+returns-clause-failed_input g c = λ failed.
     let end = c.give.ensures in (
       end.0,
-      says_lost_input g.F.Folder.past g.F.Folder.failed _ c.answered-answer.ensures.answer.0 c.args.folder.now
+      says_failed_input g.F.Folder.past g.F.Folder.failed _ c.answered-answer.ensures.answer.0 c.args.folder.now
           c.answered-answer.new.folder c.give.new.folder c.answered-answer.result end.0 c.answered-answer.ensures.answer.2 end.1
           (c.answered-answer.ensures.device failed),
       end.2,
@@ -53,8 +53,8 @@ returns-clause-zero g c = λ zero_is.
       done.1,
     )
 
-pub returns-clause-lost_out : goal.returns-clause-lost_out
-returns-clause-lost_out g c = λ rose. c.give.ensures.2.lost rose
+pub returns-clause-failed_out : goal.returns-clause-failed_out
+returns-clause-failed_out g c = λ rose. c.give.ensures.2.failing rose
 
 pub returns-clause-status : goal.returns-clause-status
 returns-clause-status g c = c.give.ensures.2.within

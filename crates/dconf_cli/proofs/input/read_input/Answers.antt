@@ -20,8 +20,8 @@ returns-in_err-append_piece-clause-took g c =
     rw (p.1, p.2) (read_fault vec_items (g.I.Read.remaining (inner_of c.args.input.now)) (failures_of c.args.input.now) (failures_of c.append_piece.new.input)
     c.in_err-append_piece.field-0.0 (λ e. c.in_err-append_piece.ensures.device (ap Err e) ∙ ap one_more c.loop-piece.invariant.0))
 
-pub returns-in_err-append_piece-clause-lost : goal.returns-in_err-append_piece-clause-lost
-returns-in_err-append_piece-clause-lost g c =
+pub returns-in_err-append_piece-clause-consumed : goal.returns-in_err-append_piece-clause-consumed
+returns-in_err-append_piece-clause-consumed g c =
     let p = err_from_is_err_and c.from_residual.result c.from_residual.ensures.1 in
     rw p.1 (takes_more _ _ _ _ _ _ _ c.loop-piece.invariant.1 c.in_err-append_piece.ensures.took 16777217 (search rules))
 

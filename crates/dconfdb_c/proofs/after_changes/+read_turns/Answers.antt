@@ -18,7 +18,7 @@ returns-in_default t c =
     let first = bytes_of_file c.args.first in
     let others = bytes_of_files c.args.others.files.now in
     let path = c.args.path.now in
-    let l = layers_of c.as_slice.result.now c.args.others.written in
+    let l = layers_of c.as_slice.result.now c.args.others.writable in
     let opened : AreLayers (first ∷ others) l.layers = subst (λ (ls : List Layer). AreLayers (first ∷ others) (map settings_of ls)) (sym c.as_slice.ensures.value) c.in_ok-layers.ensures in
     let none : c.args.turns.now ≡ [] = nil_from_length c.args.turns.now c.in_default.ensures.cases in
     IfOk-weaker c.seen_in.result (IsSeenOf path (visible l path) (origin l path)) (IsSeenFrom first others c.args.turns.now path)
@@ -31,7 +31,7 @@ returns t c =
     let path = c.args.path.now in
     let turn = c.in-Some.turn.now in
     let more = c.in-Some.more.now in
-    let l = layers_of c.as_slice-2.result.now c.args.others.written in
+    let l = layers_of c.as_slice-2.result.now c.args.others.writable in
     let file = c.as_slice-3.result.now in
     let opened : AreLayers (first ∷ others) l.layers = subst (λ (ls : List Layer). AreLayers (first ∷ others) (map settings_of ls)) (sym c.as_slice-2.ensures.value) c.in_ok-layers.ensures in
     let made : IsChanged l turn.changes.now file = subst (IsChanged l turn.changes.now) (sym c.as_slice-3.ensures.value) c.in_ok-file.ensures in

@@ -1,9 +1,9 @@
 use Rattle.std.proofs.Common.{sym, ap, ◌∙◌, subst}
 use Rattle.gv_model.specs.Layout.{fixed_size}
 use Rattle.gv_model.specs.TypeText.{seen}
-use Rattle.gv_types.specs.Fronts.{front, BeginsFront}
+use Rattle.gv_types.specs.FirstTypes.{first_type, HasFirstType}
 use Rattle.gv_types.specs.TypeStr.{ty}
-use Rattle.gv_types.proofs.Fronts.{whole_front, whole_type}
+use Rattle.gv_types.proofs.FirstTypes.{whole_first_type, whole_type}
 use Rattle.gv_layout.proofs.OpenTypes.{no_fixed_size}
 use Rattle.gv_layout.proofs.Sizes.{fixed_size-basic, no_size}
 use Rattle.gv_layout.proofs.size.fixed_size.Goals as goal
@@ -24,9 +24,9 @@ returns-in-Tuple c =
 pub info_at-requires : goal.info_at-requires
 info_at-requires c =
     let same = c.as_bytes-in-Tuple-2.ensures.value ∙ c.as_str-in-Tuple-2.ensures.text in
-    subst BeginsFront (sym same) (whole_front c.args.of.text.now c.args.of.spells_type)
+    subst HasFirstType (sym same) (whole_first_type c.args.of.text.now c.args.of.spells_type)
 
 pub returns-in-Tuple-2 : goal.returns-in-Tuple-2
 returns-in-Tuple-2 c =
     let same = c.as_bytes-in-Tuple-2.ensures.value ∙ c.as_str-in-Tuple-2.ensures.text in
-    c.info_at.ensures.size_is ∙ ap fixed_size (ap (λ w. front (seen w)) same ∙ whole_type c.args.of.text.now c.args.of.spells_type)
+    c.info_at.ensures.size_is ∙ ap fixed_size (ap (λ w. first_type (seen w)) same ∙ whole_type c.args.of.text.now c.args.of.spells_type)

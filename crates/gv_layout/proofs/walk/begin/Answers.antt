@@ -10,4 +10,4 @@ pub returns : goal.returns
 returns c =
     let n = length c.args.bytes.now in
     let t = ty c.args.member in
-    ap (clamp n) c.place_behind.ensures ∙ alike_round_up n (alignment t) c.min.result c.args.previous (alignment_pos t) (omega (arith, c.min.ensures))
+    ap (clamp n) c.aligned_after.ensures ∙ alike_round_up n (alignment t) c.min.result c.args.previous (alignment_pos t) (omega (arith, c.min.ensures))

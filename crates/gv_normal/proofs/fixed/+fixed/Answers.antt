@@ -48,22 +48,22 @@ are_normal_fixed-overflow_add-from t c =
     let small = fixed_size_most c.in-Some.member.text.now c.in-Some-size.size c.in-Some.member.spells_type (sym c.type_info-layout.ensures.size ∙ c.in-Some-size.is) in
     omega (arith, small, c.round_up-from.ensures.near, c.type_info-layout.ensures.alignment, alignment_most (ty c.in-Some.member), c.loop-member.invariant.within)
 
-pub are_normal_fixed-returns-then-not-lies_behind-clause-normal :
-    goal.are_normal_fixed-returns-then-not-lies_behind-clause-normal
-are_normal_fixed-returns-then-not-lies_behind-clause-normal t c =
+pub are_normal_fixed-returns-then-not-lies_after-clause-normal :
+    goal.are_normal_fixed-returns-then-not-lies_after-clause-normal
+are_normal_fixed-returns-then-not-lies_after-clause-normal t c =
     let law = fixed_iff c.args.levels (ty c.args.of) c.args.bytes.now (are_bytes c.args.bytes.now c.type_inv.bytes) c.requires.kind c.requires.size in
     let from_is = c.round_up-from.ensures.rounded ∙ ap (λ a. round_up a c.loop-member.end) c.type_info-layout.ensures.alignment in
     let turn = fixed_turn _ c.args.levels c.args.bytes.now c.loop-member.end c.round_up-from.result c.in-Some-size.size (ty c.in-Some.member) _ _ c.in-Some.ensures.steps c.loop-member.invariant.same (sym c.type_info-layout.ensures.size ∙ c.in-Some-size.is) from_is in
-    never (λ n. told c.lies_behind.ensures c.if-not-lies_behind.true (turn.1 (law.1 n)).0.0)
+    never (λ n. told c.lies_after.ensures c.if-not-lies_after.true (turn.1 (law.1 n)).0.0)
 
-pub are_normal_fixed-returns-then-not-lies_behind-clause-few :
-    goal.are_normal_fixed-returns-then-not-lies_behind-clause-few
-are_normal_fixed-returns-then-not-lies_behind-clause-few t c = omega (arith, c.loop-member.invariant.few, members_spelled (ty c.args.of) c.requires.kind)
+pub are_normal_fixed-returns-then-not-lies_after-clause-few :
+    goal.are_normal_fixed-returns-then-not-lies_after-clause-few
+are_normal_fixed-returns-then-not-lies_after-clause-few t c = omega (arith, c.loop-member.invariant.few, members_spelled (ty c.args.of) c.requires.kind)
 
 pub are_normal_fixed-is_normal_fixed-requires : goal.are_normal_fixed-is_normal_fixed-requires
 are_normal_fixed-is_normal_fixed-requires t c =
     let falls : 2 * c.args.levels < suc (2 * c.args.levels) = omega arith in
-    let lies = c.lies_behind.ensures.0 c.if-not-lies_behind.false in
+    let lies = c.lies_after.ensures.0 c.if-not-lies_after.false in
     let from = c.round_up-from.result in
     let long = length-piece c.args.bytes.now from (from + c.in-Some-size.size) lies.within in (
       search (rules, falls),
@@ -90,7 +90,7 @@ pub are_normal_fixed-loop-member-preserved : goal.are_normal_fixed-loop-member-p
 are_normal_fixed-loop-member-preserved t c =
     let from_is = c.round_up-from.ensures.rounded ∙ ap (λ a. round_up a c.loop-member.end) c.type_info-layout.ensures.alignment in
     let turn = fixed_turn _ c.args.levels c.args.bytes.now c.loop-member.end c.round_up-from.result c.in-Some-size.size (ty c.in-Some.member) _ _ c.in-Some.ensures.steps c.loop-member.invariant.same (sym c.type_info-layout.ensures.size ∙ c.in-Some-size.is) from_is in
-    let lies = c.lies_behind.ensures.0 c.if-not-lies_behind.false in
+    let lies = c.lies_after.ensures.0 c.if-not-lies_after.false in
     let normal = c.is_normal_fixed.ensures.normal.0 c.if-not-is_normal_fixed.false in
     record {
       same = (λ h. turn.0 ((lies, normal), h), λ w. (turn.1 w).1);

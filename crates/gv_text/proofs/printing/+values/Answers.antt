@@ -39,7 +39,7 @@ use Rattle.gv_text.proofs.Containers.{fault_of_children}
 use Rattle.gv_text.proofs.ChildTexts.{childless_text, first_fault, left_first, left_next, left_none, one_member, other_members, same_faults}
 use Rattle.gv_text.proofs.ChildCounts.{alone_first, alone_last, alone_next, alone_none}
 use Rattle.gv_text.specs.Defaults.{defaults_left}
-use Rattle.gv_text.proofs.Behind.{not_alone, rest_faults, rest_fits, rest_too_deep, rest_written}
+use Rattle.gv_text.proofs.RestLaws.{not_alone, rest_faults, rest_fits, rest_too_deep, rest_written}
 use Rattle.gv_text.proofs.ArrayTexts.{array_written, byte_string_text}
 use Rattle.gv_text.proofs.DefaultTexts.{empty_deep, empty_fits, empty_value, empty_written}
 use Rattle.gv_text.proofs.Levels.{childless_fits, first_too_deep, begin_levels, next_levels, then_too_deep, all_fit}
@@ -200,40 +200,40 @@ children::push_children-returns-clause-text t c =
 
 -- ---- members that lie nowhere
 
-pub children::push_children-returns-in-Some-lost-clause-text : goal.children::push_children-returns-in-Some-lost-clause-text
-children::push_children-returns-in-Some-lost-clause-text t c =
-    rest_written c.args.mark.now (children (value c.args.view)) (part_trees (children_left c.next-in-loop-child.new.self)) (defaults_left c.in-Some-lost.lost) (c.args.levels - 1) c.args.annotated c.args.annotated (string_bytes c.args.to.now) (string_bytes c.push_value-in-Some-next.new.to) (string_bytes c.push_behind.new.to)
+pub children::push_children-returns-in-Some-unplaced-clause-text : goal.children::push_children-returns-in-Some-unplaced-clause-text
+children::push_children-returns-in-Some-unplaced-clause-text t c =
+    rest_written c.args.mark.now (children (value c.args.view)) (part_trees (children_left c.next-in-loop-child.new.self)) (defaults_left c.in-Some-unplaced.unplaced) (c.args.levels - 1) c.args.annotated c.args.annotated (string_bytes c.args.to.now) (string_bytes c.push_value-in-Some-next.new.to) (string_bytes c.push_rest.new.to)
     (left_next c.args.mark.now (children (value c.args.view)) (value c.in-Some-next.child)
     (part_trees (children_left c.next-in-loop-child.new.self)) c.args.annotated false (string_bytes c.args.to.now) (string_bytes c.loop-child.to)
     (string_bytes c.push_str.new.self) (string_bytes c.push_value-in-Some-next.new.to) (rw (ap part_trees c.in-Some-next.ensures.steps) at c.loop-child.invariant.0) c.in_ok-push_str.ensures.bytes c.in_ok-push_value-2.ensures.text.0
     c.in_ok-push_value-2.ensures.text.1)
-    c.in-Some-lost.ensures.defaults refl c.in_ok-push_behind.ensures
+    c.in-Some-unplaced.ensures.defaults refl c.in_ok-push_rest.ensures
 
-pub children::push_children-returns-in_err-push_behind-clause-text : goal.children::push_children-returns-in_err-push_behind-clause-text
-children::push_children-returns-in_err-push_behind-clause-text t c =
-    let p = err_from_is_err_and c.from_residual-in_err-push_behind.result c.from_residual-in_err-push_behind.ensures.1 in
-    rw (p.1, p.2) (rest_faults c.args.mark.now (children (value c.args.view)) (part_trees (children_left c.next-in-loop-child.new.self)) (defaults_left c.in-Some-lost.lost) (c.args.levels - 1) c.args.annotated (string_bytes c.args.to.now) (string_bytes c.push_value-in-Some-next.new.to) c.in_err-push_behind.field-0.0
+pub children::push_children-returns-in_err-push_rest-clause-text : goal.children::push_children-returns-in_err-push_rest-clause-text
+children::push_children-returns-in_err-push_rest-clause-text t c =
+    let p = err_from_is_err_and c.from_residual-in_err-push_rest.result c.from_residual-in_err-push_rest.ensures.1 in
+    rw (p.1, p.2) (rest_faults c.args.mark.now (children (value c.args.view)) (part_trees (children_left c.next-in-loop-child.new.self)) (defaults_left c.in-Some-unplaced.unplaced) (c.args.levels - 1) c.args.annotated (string_bytes c.args.to.now) (string_bytes c.push_value-in-Some-next.new.to) c.in_err-push_rest.field-0.0
     (left_next c.args.mark.now (children (value c.args.view)) (value c.in-Some-next.child)
     (part_trees (children_left c.next-in-loop-child.new.self)) c.args.annotated false (string_bytes c.args.to.now) (string_bytes c.loop-child.to)
     (string_bytes c.push_str.new.self) (string_bytes c.push_value-in-Some-next.new.to) (rw (ap part_trees c.in-Some-next.ensures.steps) at c.loop-child.invariant.0) c.in_ok-push_str.ensures.bytes c.in_ok-push_value-2.ensures.text.0
     c.in_ok-push_value-2.ensures.text.1)
-    c.in-Some-lost.ensures.defaults c.in_err-push_behind.ensures)
+    c.in-Some-unplaced.ensures.defaults c.in_err-push_rest.ensures)
 
-pub children::push_children-returns-in-Some-lost-clause-alone : goal.children::push_children-returns-in-Some-lost-clause-alone
-children::push_children-returns-in-Some-lost-clause-alone t c =
+pub children::push_children-returns-in-Some-unplaced-clause-alone : goal.children::push_children-returns-in-Some-unplaced-clause-alone
+children::push_children-returns-in-Some-unplaced-clause-alone t c =
     not_alone (children (value c.args.view)) (part_trees (children_left c.next-in-loop-child.new.self))
     (alone_next c.loop-child.alone (children (value c.args.view)) (part_trees (children_left c.loop-child.children)) (part_trees (children_left c.next-in-loop-child.new.self)) (value c.in-Some-next.child) (ap part_trees c.in-Some-next.ensures.steps) c.loop-child.invariant.1)
 
-pub children::push_children-returns-in-Some-lost-clause-fits : goal.children::push_children-returns-in-Some-lost-clause-fits
-children::push_children-returns-in-Some-lost-clause-fits t c =
-    rest_fits (value c.args.view) (part_trees (children_left c.next-in-loop-child.new.self)) (defaults_left c.in-Some-lost.lost) c.args.levels
-    (next_levels (value c.args.view) (value c.in-Some-next.child) (part_trees (children_left c.next-in-loop-child.new.self)) (part_trees (children_left c.loop-child.children)) c.args.levels (ap part_trees c.in-Some-next.ensures.steps) c.requires.1.1 c.in_ok-push_value-2.ensures.fits c.loop-child.invariant.2) c.in-Some-lost.ensures.defaults c.requires.1.1 c.in_ok-push_behind.ensures.fits
+pub children::push_children-returns-in-Some-unplaced-clause-fits : goal.children::push_children-returns-in-Some-unplaced-clause-fits
+children::push_children-returns-in-Some-unplaced-clause-fits t c =
+    rest_fits (value c.args.view) (part_trees (children_left c.next-in-loop-child.new.self)) (defaults_left c.in-Some-unplaced.unplaced) c.args.levels
+    (next_levels (value c.args.view) (value c.in-Some-next.child) (part_trees (children_left c.next-in-loop-child.new.self)) (part_trees (children_left c.loop-child.children)) c.args.levels (ap part_trees c.in-Some-next.ensures.steps) c.requires.1.1 c.in_ok-push_value-2.ensures.fits c.loop-child.invariant.2) c.in-Some-unplaced.ensures.defaults c.requires.1.1 c.in_ok-push_rest.ensures.fits
 
-pub children::push_children-returns-in_err-push_behind-clause-deep : goal.children::push_children-returns-in_err-push_behind-clause-deep
-children::push_children-returns-in_err-push_behind-clause-deep t c =
-    let p = err_from_is_err_and c.from_residual-in_err-push_behind.result c.from_residual-in_err-push_behind.ensures.1 in
-    rw (p.1, p.2) (rest_too_deep (value c.args.view) (part_trees (children_left c.next-in-loop-child.new.self)) (defaults_left c.in-Some-lost.lost) c.args.levels c.in_err-push_behind.field-0.0
-    (next_levels (value c.args.view) (value c.in-Some-next.child) (part_trees (children_left c.next-in-loop-child.new.self)) (part_trees (children_left c.loop-child.children)) c.args.levels (ap part_trees c.in-Some-next.ensures.steps) c.requires.1.1 c.in_ok-push_value-2.ensures.fits c.loop-child.invariant.2) c.in-Some-lost.ensures.defaults c.in_err-push_behind.ensures)
+pub children::push_children-returns-in_err-push_rest-clause-deep : goal.children::push_children-returns-in_err-push_rest-clause-deep
+children::push_children-returns-in_err-push_rest-clause-deep t c =
+    let p = err_from_is_err_and c.from_residual-in_err-push_rest.result c.from_residual-in_err-push_rest.ensures.1 in
+    rw (p.1, p.2) (rest_too_deep (value c.args.view) (part_trees (children_left c.next-in-loop-child.new.self)) (defaults_left c.in-Some-unplaced.unplaced) c.args.levels c.in_err-push_rest.field-0.0
+    (next_levels (value c.args.view) (value c.in-Some-next.child) (part_trees (children_left c.next-in-loop-child.new.self)) (part_trees (children_left c.loop-child.children)) c.args.levels (ap part_trees c.in-Some-next.ensures.steps) c.requires.1.1 c.in_ok-push_value-2.ensures.fits c.loop-child.invariant.2) c.in-Some-unplaced.ensures.defaults c.in_err-push_rest.ensures)
 
 -- ---- maybes
 

@@ -6,7 +6,7 @@ use Rattle.gv_types.specs.Classes.{class_of_mark}
 use Rattle.gv_types.specs.declared.grammar.Halt.TheVariants.{Unclosed, BadChar, KeyNotBasic, TooDeep}
 use Rattle.gv_types.proofs.Firsts.{begins_none, begins_some, is_key, is_no_key}
 use Rattle.gv_types.proofs.LetterRuns.{letters_shorter, more_read}
-use Rattle.gv_types.proofs.MemberLaws.{none_read, lone_fits}
+use Rattle.gv_types.proofs.MemberLaws.{none_read, singles_fit}
 use Rattle.gv_types.proofs.TypeSteps.{stopped_there, stops_at_end, stops_at_bad, stops_at_deep, reads_single, reading_element, reading_tuple, reading_entry, reads_tuple, stops_in_tuple, stops_at_member, reads_shorter, no_key, key_bad, key_not_basic, key_too_deep, stops_at_value}
 use Rattle.gv_types.proofs.TypeSteps.{stopped_as, reading_close}
 use Rattle.gv_types.proofs.grammar.+types.Goals as goal
@@ -67,7 +67,7 @@ read_members-returns-in_default t c =
 
 pub read_members-returns-then-letter-eq41 : goal.read_members-returns-then-letter-eq41
 read_members-returns-then-letter-eq41 t c =
-    reads_tuple c.args.room c.args.text.now c.loop-letter.rest.now c.in-Some.others.now c.loop-letter.lone c.loop-letter.invariant
+    reads_tuple c.args.room c.args.text.now c.loop-letter.rest.now c.in-Some.others.now c.loop-letter.singles c.loop-letter.invariant
     (search (rules, c.in-Some.ensures.cases, c.if-letter-eq41.true))
 
 pub read_members-returns-in_err-member : goal.read_members-returns-in_err-member
@@ -87,9 +87,9 @@ read_members-loop-letter-smaller t c =
     let shorter = reads_shorter c.args.room c.loop-letter.rest.now c.in_ok-member.member.rest.now c.in_ok-member.ensures.begins in
     omega (arith, shorter, letters_shorter c.in_ok-member.member.rest.now, ap length c.after_letters-others.ensures)
 
-pub read_members-overflow_add-lone : goal.read_members-overflow_add-lone
-read_members-overflow_add-lone t c =
-    let few = lone_fits c.args.room c.loop-letter.rest.now c.in_ok-member.member.rest.now c.in_ok-member.member.lone c.in_ok-member.ensures in
+pub read_members-overflow_add-singles : goal.read_members-overflow_add-singles
+read_members-overflow_add-singles t c =
+    let few = singles_fit c.args.room c.loop-letter.rest.now c.in_ok-member.member.rest.now c.in_ok-member.member.singles c.in_ok-member.ensures in
     omega (arith, few, c.ranges.room.fits)
 
 pub read_members-loop-letter-preserved-then-is_alone : goal.read_members-loop-letter-preserved-then-is_alone
@@ -97,9 +97,9 @@ read_members-loop-letter-preserved-then-is_alone t c =
     let rest = c.loop-letter.rest.now in
     let next = c.in_ok-member.member.rest.now in
     let others = c.after_letters-others.ensures in
-    let few = lone_fits c.args.room rest next c.in_ok-member.member.lone c.in_ok-member.ensures in
+    let few = singles_fit c.args.room rest next c.in_ok-member.member.singles c.in_ok-member.ensures in
     let is = c.is_alone.ensures.0 c.if-is_alone.true in
-    rw others (more_read c.args.room c.args.text.now rest next c.loop-letter.lone c.in_ok-member.member.lone _ c.loop-letter.invariant c.in_ok-member.ensures (λ none. omega (arith, few, none))
+    rw others (more_read c.args.room c.args.text.now rest next c.loop-letter.singles c.in_ok-member.member.singles _ c.loop-letter.invariant c.in_ok-member.ensures (λ none. omega (arith, few, none))
     (inl (is.0, sym (ap length others) ∙ is.1, refl)))
 
 pub read_members-loop-letter-preserved : goal.read_members-loop-letter-preserved
@@ -107,8 +107,8 @@ read_members-loop-letter-preserved t c =
     let rest = c.loop-letter.rest.now in
     let next = c.in_ok-member.member.rest.now in
     let others = c.after_letters-others.ensures in
-    let few = lone_fits c.args.room rest next c.in_ok-member.member.lone c.in_ok-member.ensures in
-    rw others (more_read c.args.room c.args.text.now rest next c.loop-letter.lone c.in_ok-member.member.lone 0 c.loop-letter.invariant c.in_ok-member.ensures (λ none. omega (arith, few, none))
+    let few = singles_fit c.args.room rest next c.in_ok-member.member.singles c.in_ok-member.ensures in
+    rw others (more_read c.args.room c.args.text.now rest next c.loop-letter.singles c.in_ok-member.member.singles 0 c.loop-letter.invariant c.in_ok-member.ensures (λ none. omega (arith, few, none))
     (inr ((λ first last. false≢true (sym c.if-is_alone.false ∙ c.is_alone.ensures.1 (first, ap length others ∙ last))), refl)))
 
 pub read_entry-returns-in_default : goal.read_entry-returns-in_default

@@ -15,7 +15,7 @@ abbrev pub decreases-read_type : goal.decreases-read_type
 decreases-read_type l = 2 * l.room
 
 abbrev pub invariant-read_members-loop-letter : goal.invariant-read_members-loop-letter
-invariant-read_members-loop-letter l = HasRead l.room l.text l.rest l.lone
+invariant-read_members-loop-letter l = HasRead l.room l.text l.rest l.singles
 
 abbrev pub decreases-read_members-loop-letter : goal.decreases-read_members-loop-letter
 decreases-read_members-loop-letter l = length l.rest

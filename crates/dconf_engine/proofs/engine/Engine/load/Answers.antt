@@ -17,7 +17,7 @@ returns-in_err-set_rows-clause-fault c =
 pub returns-clause-ok : goal.returns-clause-ok
 returns-clause-ok c =
     let i = c.self.inside in
-    let base : Layers = record { layers = map settings_of i.layers.items; written = i.written } in
+    let base : Layers = record { layers = map settings_of i.layers.items; writable = i.writable } in
     let rows = not_locked c.args.self.now (rows_of c.args.rows.now) in
     let f : Values → Values = with_all rows in
     let made : c.set_rows.new.changes ≡ and_rows rows i.changes = c.in_ok-set_rows.ensures.ok ∙ ap (and_rows rows) c.in_ok-changes.ensures in

@@ -8,4 +8,4 @@ use Rattle.dconf_engine.proofs.engine.Engine.of_opened.Goals as goal
 pub returns : goal.returns
 returns c =
     let xs = map settings_of c.args.layers.items in
-    λ i. record { layers = (ap (λ (u : Unsaved). with_first_layer (with_changes u) xs) c.new-changes.ensures ∙ unchanged xs) i; written = c.args.written }
+    λ i. record { layers = (ap (λ (u : Unsaved). with_first_layer (with_changes u) xs) c.new-changes.ensures ∙ unchanged xs) i; writable = c.args.writable }

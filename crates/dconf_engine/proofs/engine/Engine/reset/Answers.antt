@@ -12,7 +12,7 @@ use Rattle.dconf_engine.proofs.engine.Engine.reset.Goals as goal
 pub returns-clause-ok : goal.returns-clause-ok
 returns-clause-ok c =
     let i = c.self.inside in
-    let base : Layers = record { layers = map settings_of i.layers.items; written = i.written } in
+    let base : Layers = record { layers = map settings_of i.layers.items; writable = i.writable } in
     let p = key_text c.args.path in
     let f : Values → Values = (λ m. remove m p) in
     reset_accepted c.args.self.now p c.in_ok-check_path.ensures.ok

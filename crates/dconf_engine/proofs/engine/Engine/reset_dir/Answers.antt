@@ -17,16 +17,16 @@ returns-clause-ok c =
     let l = c.args.self.now in
     let d = directory_text c.args.directory in
     let items = i.layers.items in
-    let written : l.written ≡ true = search rules in
+    let writable : l.writable ≡ true = search rules in
     let f : Values → Values = (λ v. retain_keys v (keeps l d)) in
     let made : c.reset_first.new.changes ≡ reset_all l d i.changes (first_names items) =
     c.in_ok-reset_first.ensures
     ∙ (ap (λ (ls : List Layer). and_resets (cleared l d (first_names ls)) c.reset_changed.new.changes) c.deref.ensures.value
     ∙ ap (and_resets (cleared l d (first_names items)))
     (c.in_ok-reset_changed.ensures ∙ ap (and_resets (cleared l d (changed_paths (entries i.changes)))) c.in_ok-changes.ensures)) in
-    reset_dir_accepted l d written
+    reset_dir_accepted l d writable
     ∙ (ap (λ (m : Layers). Ok (changed f m)) (sym c.self.view_is)
-    ∙ ap (λ (ls : List Settings). Ok (record { layers = ls; written = i.written }))
+    ∙ ap (λ (ls : List Settings). Ok (record { layers = ls; writable = i.writable }))
     (reset_layers l d i.changes items ∙ ap (λ (u : Unsaved). with_first_layer (with_changes u) (map settings_of items)) (sym made)))
 
 pub returns-then-not-is_writable-clause-fault : goal.returns-then-not-is_writable-clause-fault

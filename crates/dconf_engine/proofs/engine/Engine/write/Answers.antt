@@ -13,7 +13,7 @@ use Rattle.dconf_engine.proofs.engine.Engine.write.Goals as goal
 pub returns-clause-ok : goal.returns-clause-ok
 returns-clause-ok c =
     let i = c.self.inside in
-    let base : Layers = record { layers = map settings_of i.layers.items; written = i.written } in
+    let base : Layers = record { layers = map settings_of i.layers.items; writable = i.writable } in
     let p = key_text c.args.path in
     let f : Values → Values = (λ m. insert m p (stored c.args.value.now)) in
     let made : c.set.new.self ≡ insert i.changes p (Some (stored c.args.value.now)) = c.in_ok-set.ensures.ok ∙ ap (λ (b : List ℕ). insert i.changes p (Some b)) c.in_ok-bytes.ensures.bytes in

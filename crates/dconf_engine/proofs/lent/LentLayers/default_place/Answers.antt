@@ -9,7 +9,7 @@ pub returns-then-level-eq0 : goal.returns-then-level-eq0
 returns-then-level-eq0 c =
     let l = seen_in c.args.self in
     let path = key_text c.args.path in
-    let written : l.written ≡ true = search rules in
-    let whole : l ≡ record { layers = l.layers; written = true } = λ i. record { layers = l.layers; written = written i } in
+    let writable : l.writable ≡ true = search rules in
+    let whole : l ≡ record { layers = l.layers; writable = true } = λ i. record { layers = l.layers; writable = writable i } in
     c.place_from.ensures ∙ (sym (default_low l.layers path c.level-level.result (search rules) (sym c.level-level.ensures))
     ∙ ap (λ (m : Layers). place_of (without_user m) path) (sym whole))

@@ -4,7 +4,7 @@ use Rattle.gv_model.specs.Layout.{round_up}
 use Rattle.gv_model.proofs.LayoutLaws.{alignment_pos}
 use Rattle.gv_layout.specs.Places.{child_of, clamp}
 use Rattle.gv_layout.proofs.Lists.{one_less}
-use Rattle.gv_layout.proofs.Elements.{by_offsets-none, by_offsets-lost, by_offsets-out, by_offsets-next}
+use Rattle.gv_layout.proofs.Elements.{by_offsets-none, by_offsets-unplaced, by_offsets-out, by_offsets-next}
 use Rattle.gv_layout.proofs.array.ByOffsets.split_first.Goals as goal
 
 pub returns-in_err-left : goal.returns-in_err-left
@@ -18,7 +18,7 @@ aligned-from-requires-clause-some c = omega (arith, c.args.self.aligned, alignme
 pub returns-in_default : goal.returns-in_default
 returns-in_default c =
     let self = c.args.self in
-    by_offsets-lost (ty self.element) self.len self.body self.width self.left c.in_ok-left.left self.previous
+    by_offsets-unplaced (ty self.element) self.len self.body self.width self.left c.in_ok-left.left self.previous
     self.offsets.now c.split_at.result.1.now (child_of c.nowhere-nowhere.result) c.in_ok-left.ensures c.in_default.is
     c.split_at.ensures.back c.nowhere-nowhere.ensures
 
@@ -40,8 +40,8 @@ returns c =
     c.number-end.ensures c.split_at.ensures.front c.split_at.ensures.back
     c.in-Some-in_order.ensures.order c.in-Some-in_order.ensures.place
 
-pub invariant_of-lost-in_default-in_order : goal.invariant_of-lost-in_default-in_order
-invariant_of-lost-in_default-in_order c =
+pub invariant_of-unplaced-in_default-in_order : goal.invariant_of-unplaced-in_default-in_order
+invariant_of-unplaced-in_default-in_order c =
     let self = c.args.self in
     record {
       aligned = self.aligned;

@@ -2,13 +2,13 @@ use Rattle.std.proofs.Common.{length, ap, ◌∙◌, sym, arith}
 use Rattle.gv_types.specs.TypeStr.{ty}
 use Rattle.gv_types.specs.Members.{members_left}
 use Rattle.gv_layout.proofs.Widths.{width_is}
-use Rattle.gv_layout.proofs.Cuts.{tuple_placed, tuple_lost, body_within}
+use Rattle.gv_layout.proofs.Cuts.{tuple_placed, tuple_unplaced, body_within}
 use Rattle.gv_layout.proofs.Counts.{members_few}
 use Rattle.gv_layout.proofs.tuple.ByMembers.of_tuple.Goals as goal
 
 pub returns-in_default : goal.returns-in_default
 returns-in_default c =
-    tuple_lost (ty c.args.of) (members_left c.members-members.result) c.args.bytes.now c.from-width.result 0 c.members-members.ensures (sym c.in_default.is ∙ c.body_of.ensures)
+    tuple_unplaced (ty c.args.of) (members_left c.members-members.result) c.args.bytes.now c.from-width.result 0 c.members-members.ensures (sym c.in_default.is ∙ c.body_of.ensures)
 
 pub returns : goal.returns
 returns c =

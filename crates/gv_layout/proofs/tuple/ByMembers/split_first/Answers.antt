@@ -5,7 +5,7 @@ use Rattle.gv_model.specs.Ty.{Ty}
 use Rattle.gv_types.specs.TypeStr.{ty}
 use Rattle.gv_types.specs.Members.{members_left}
 use Rattle.gv_layout.specs.Places.{child_of, clamp, end_by}
-use Rattle.gv_layout.proofs.MemberLaws.{none_next, lost_next, unknown_next, out_next, known_next, end_by-member_end, counted}
+use Rattle.gv_layout.proofs.MemberLaws.{none_next, unplaced_next, unknown_next, out_next, known_next, end_by-member_end, counted}
 use Rattle.gv_layout.proofs.tuple.ByMembers.split_first.Goals as goal
 
 pub returns-in_err-member : goal.returns-in_err-member
@@ -16,7 +16,7 @@ returns-in_err-member c =
 pub returns-in_default : goal.returns-in_default
 returns-in_default c =
     let self = c.args.self in
-    lost_next (length self.bytes.now) self.body self.width self.used self.bytes.now self.previous (ty c.in_ok-member.member)
+    unplaced_next (length self.bytes.now) self.body self.width self.used self.bytes.now self.previous (ty c.in_ok-member.member)
     (members_left c.next.new.self) (members_left self.members) (child_of c.nowhere-nowhere.result) c.in_ok-member.ensures.steps c.in_default.is c.nowhere-nowhere.ensures
 
 pub returns-in_default-end : goal.returns-in_default-end

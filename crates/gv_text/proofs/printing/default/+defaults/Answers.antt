@@ -4,8 +4,8 @@ use Rattle.std.proofs.lemmas.Result.{MatchResult-weaker, err_from_is_err_and}
 use Rattle.gv_model.specs.TypeText.{seen}
 use Rattle.gv_model.specs.Printed.{comma}
 use Rattle.gv_types.specs.Classes.{basic_of}
-use Rattle.gv_types.specs.Fronts.{front}
-use Rattle.gv_types.proofs.Fronts.{front_some, front_class, basic_front, variant_front, tuple_front, entry_front, inside_some, inside_front, inside_next, key_front, value_front, entry_closed}
+use Rattle.gv_types.specs.FirstTypes.{first_type}
+use Rattle.gv_types.proofs.FirstTypes.{first_type_some, first_type_class, basic_first_type, variant_first_type, tuple_first_type, entry_first_type, inside_some, inside_first_type, inside_next, key_first_type, value_first_type, entry_closed}
 use Rattle.gv_text.specs.Defaults.{default_in}
 use Rattle.gv_text.proofs.DefaultTexts.{
   basic_fault,
@@ -34,59 +34,59 @@ use Rattle.gv_text.proofs.DefaultTexts.{
 }
 use Rattle.gv_text.proofs.printing.default.+defaults.Goals as goal
 
--- ---- push_front
+-- ---- push_first
 
-pub push_front-returns-then-levels-eq0 : goal.push_front-returns-then-levels-eq0
-push_front-returns-then-levels-eq0 t c = omega (arith, c.if-levels-eq0.true, no_level (default_in c.args.text.now))
+pub push_first-returns-then-levels-eq0 : goal.push_first-returns-then-levels-eq0
+push_first-returns-then-levels-eq0 t c = omega (arith, c.if-levels-eq0.true, no_level (default_in c.args.text.now))
 
-pub push_front-bounds-text-0 : goal.push_front-bounds-text-0
-push_front-bounds-text-0 t c = front_some c.args.text.now c.requires
+pub push_first-bounds-text-0 : goal.push_first-bounds-text-0
+push_first-bounds-text-0 t c = first_type_some c.args.text.now c.requires
 
-pub push_front-unwrap-requires : goal.push_front-unwrap-requires
-push_front-unwrap-requires t c = rw (c.of_letter.ensures ∙ front_class c.args.text.now c.requires) refl
+pub push_first-unwrap-requires : goal.push_first-unwrap-requires
+push_first-unwrap-requires t c = rw (c.of_letter.ensures ∙ first_type_class c.args.text.now c.requires) refl
 
-pub push_front-returns-in_err-push_basic_default-in-Basic : goal.push_front-returns-in_err-push_basic_default-in-Basic
-push_front-returns-in_err-push_basic_default-in-Basic t c =
+pub push_first-returns-in_err-push_basic_default-in-Basic : goal.push_first-returns-in_err-push_basic_default-in-Basic
+push_first-returns-in_err-push_basic_default-in-Basic t c =
     let w = c.args.text.now in
-    let class = same_Some _ _ (sym (front_class w c.requires) ∙ (sym c.of_letter.ensures ∙ c.unwrap.ensures)) ∙ c.in-Basic.is in
-    let one = basic_front w c.in-Basic.of c.requires class in
+    let class = same_Some _ _ (sym (first_type_class w c.requires) ∙ (sym c.of_letter.ensures ∙ c.unwrap.ensures)) ∙ c.in-Basic.is in
+    let one = basic_first_type w c.in-Basic.of c.requires class in
     let p = err_from_is_err_and c.from_residual.result c.from_residual.ensures.1 in
-    rw (p.1, p.2) (basic_fault (front (seen w)) (basic_of c.in-Basic.of) c.args.levels c.in_err-push_basic_default-in-Basic.field-0.0 one.type c.in_err-push_basic_default-in-Basic.ensures.0 c.in_err-push_basic_default-in-Basic.ensures.1)
+    rw (p.1, p.2) (basic_fault (first_type (seen w)) (basic_of c.in-Basic.of) c.args.levels c.in_err-push_basic_default-in-Basic.field-0.0 one.type c.in_err-push_basic_default-in-Basic.ensures.0 c.in_err-push_basic_default-in-Basic.ensures.1)
 
-pub push_front-returns-in_ok-push_basic_default-in-Basic : goal.push_front-returns-in_ok-push_basic_default-in-Basic
-push_front-returns-in_ok-push_basic_default-in-Basic t c =
+pub push_first-returns-in_ok-push_basic_default-in-Basic : goal.push_first-returns-in_ok-push_basic_default-in-Basic
+push_first-returns-in_ok-push_basic_default-in-Basic t c =
     let w = c.args.text.now in
-    let class = same_Some _ _ (sym (front_class w c.requires) ∙ (sym c.of_letter.ensures ∙ c.unwrap.ensures)) ∙ c.in-Basic.is in
-    let one = basic_front w c.in-Basic.of c.requires class in
-    (rw c.after_letter.ensures one.after, basic_writes (front (seen w)) (basic_of c.in-Basic.of) c.args.levels c.args.annotated c.args.in_array (string_bytes c.args.to.now) (string_bytes c.push_basic_default.new.to) one.type (omega (arith, c.if-levels-eq0.false)) c.in_ok-push_basic_default-in-Basic.ensures)
+    let class = same_Some _ _ (sym (first_type_class w c.requires) ∙ (sym c.of_letter.ensures ∙ c.unwrap.ensures)) ∙ c.in-Basic.is in
+    let one = basic_first_type w c.in-Basic.of c.requires class in
+    (rw c.after_letter.ensures one.after, basic_writes (first_type (seen w)) (basic_of c.in-Basic.of) c.args.levels c.args.annotated c.args.in_array (string_bytes c.args.to.now) (string_bytes c.push_basic_default.new.to) one.type (omega (arith, c.if-levels-eq0.false)) c.in_ok-push_basic_default-in-Basic.ensures)
 
-pub push_front-returns-in_err-push_variant_default-in-Variant : goal.push_front-returns-in_err-push_variant_default-in-Variant
-push_front-returns-in_err-push_variant_default-in-Variant t c =
+pub push_first-returns-in_err-push_variant_default-in-Variant : goal.push_first-returns-in_err-push_variant_default-in-Variant
+push_first-returns-in_err-push_variant_default-in-Variant t c =
     let w = c.args.text.now in
-    let class = same_Some _ _ (sym (front_class w c.requires) ∙ (sym c.of_letter.ensures ∙ c.unwrap.ensures)) ∙ c.in-Variant.is in
-    let one = variant_front w c.requires class in
+    let class = same_Some _ _ (sym (first_type_class w c.requires) ∙ (sym c.of_letter.ensures ∙ c.unwrap.ensures)) ∙ c.in-Variant.is in
+    let one = variant_first_type w c.requires class in
     let p = err_from_is_err_and c.from_residual-in_err-push_variant_default-in-Variant.result c.from_residual-in_err-push_variant_default-in-Variant.ensures.1 in
-    rw (p.1, p.2) (variant_fault (front (seen w)) c.args.levels c.in_err-push_variant_default-in-Variant.field-0.0 one.type c.in_err-push_variant_default-in-Variant.ensures)
+    rw (p.1, p.2) (variant_fault (first_type (seen w)) c.args.levels c.in_err-push_variant_default-in-Variant.field-0.0 one.type c.in_err-push_variant_default-in-Variant.ensures)
 
-pub push_front-returns-in_ok-push_variant_default-in-Variant : goal.push_front-returns-in_ok-push_variant_default-in-Variant
-push_front-returns-in_ok-push_variant_default-in-Variant t c =
+pub push_first-returns-in_ok-push_variant_default-in-Variant : goal.push_first-returns-in_ok-push_variant_default-in-Variant
+push_first-returns-in_ok-push_variant_default-in-Variant t c =
     let w = c.args.text.now in
-    let class = same_Some _ _ (sym (front_class w c.requires) ∙ (sym c.of_letter.ensures ∙ c.unwrap.ensures)) ∙ c.in-Variant.is in
-    let one = variant_front w c.requires class in
-    (rw c.after_letter-in-Variant.ensures one.after, variant_alike (front (seen w)) c.args.levels c.args.annotated c.args.in_array (string_bytes c.args.to.now) (string_bytes c.push_variant_default.new.to) one.type c.in_ok-push_variant_default-in-Variant.ensures)
+    let class = same_Some _ _ (sym (first_type_class w c.requires) ∙ (sym c.of_letter.ensures ∙ c.unwrap.ensures)) ∙ c.in-Variant.is in
+    let one = variant_first_type w c.requires class in
+    (rw c.after_letter-in-Variant.ensures one.after, variant_alike (first_type (seen w)) c.args.levels c.args.annotated c.args.in_array (string_bytes c.args.to.now) (string_bytes c.push_variant_default.new.to) one.type c.in_ok-push_variant_default-in-Variant.ensures)
 
 -- ---- entries
 
 pub push_entry_default-returns-then-in_array : goal.push_entry_default-returns-then-in_array
 push_entry_default-returns-then-in_array t c =
     let w = c.args.text.now in
-    let p = entry_front w c.requires.front c.requires.kind in
+    let p = entry_first_type w c.requires.first_type c.requires.kind in
     MatchResult-weaker c.push_pair.result c.push_pair.ensures (λ rest h. (h.0, rw c.if-in_array.true (element_written w p c.args.levels c.args.annotated (string_bytes c.args.to.now) (string_bytes c.push_pair.new.to) h.1))) (λ f h. h)
 
 pub push_entry_default-returns : goal.push_entry_default-returns
 push_entry_default-returns t c =
     let w = c.args.text.now in
-    let p = entry_front w c.requires.front c.requires.kind in
+    let p = entry_first_type w c.requires.first_type c.requires.kind in
     let old = string_bytes c.args.to.now in
     let opened = string_bytes c.push.new.self in
     let now = string_bytes c.push_pair-2.new.to in (
@@ -95,77 +95,77 @@ push_entry_default-returns t c =
           (c.in_ok-push.ensures.bytes ∙ ap (λ l. old ++ l) (c.in_ok-push.ensures.ascii (omega arith))) c.in_ok-rest.ensures.1 (c.in_ok-push-2.ensures.bytes ∙ ap (λ l. now ++ l) (c.in_ok-push-2.ensures.ascii (omega arith)))),
     )
 
-pub push_front-after_letter-requires : goal.push_front-after_letter-requires
-push_front-after_letter-requires t c = front_some c.args.text.now c.requires
+pub push_first-after_letter-requires : goal.push_first-after_letter-requires
+push_first-after_letter-requires t c = first_type_some c.args.text.now c.requires
 
-pub push_front-after_letter-requires-in-Variant : goal.push_front-after_letter-requires-in-Variant
-push_front-after_letter-requires-in-Variant t c = front_some c.args.text.now c.requires
+pub push_first-after_letter-requires-in-Variant : goal.push_first-after_letter-requires-in-Variant
+push_first-after_letter-requires-in-Variant t c = first_type_some c.args.text.now c.requires
 
-pub push_front-push_emptied_front-requires-clause-kind : goal.push_front-push_emptied_front-requires-clause-kind
-push_front-push_emptied_front-requires-clause-kind t c =
+pub push_first-push_emptied_first-requires-clause-kind : goal.push_first-push_emptied_first-requires-clause-kind
+push_first-push_emptied_first-requires-clause-kind t c =
     let w = c.args.text.now in
-    is_emptied (front (seen w)) c.unwrap.result (same_Some _ _ (sym c.unwrap.ensures ∙ (c.of_letter.ensures ∙ front_class w c.requires))) c.in-Array.is
+    is_emptied (first_type (seen w)) c.unwrap.result (same_Some _ _ (sym c.unwrap.ensures ∙ (c.of_letter.ensures ∙ first_type_class w c.requires))) c.in-Array.is
 
-pub push_front-push_tuple_default-requires : goal.push_front-push_tuple_default-requires
-push_front-push_tuple_default-requires t c =
+pub push_first-push_tuple_default-requires : goal.push_first-push_tuple_default-requires
+push_first-push_tuple_default-requires t c =
     let w = c.args.text.now in
-    let class = same_Some _ _ (sym (front_class w c.requires) ∙ (sym c.of_letter.ensures ∙ c.unwrap.ensures)) ∙ c.in-Tuple.is in
+    let class = same_Some _ _ (sym (first_type_class w c.requires) ∙ (sym c.of_letter.ensures ∙ c.unwrap.ensures)) ∙ c.in-Tuple.is in
     (search rules, (c.requires, (class, omega (arith, c.if-levels-eq0.false))))
 
-pub push_front-push_entry_default-requires : goal.push_front-push_entry_default-requires
-push_front-push_entry_default-requires t c =
+pub push_first-push_entry_default-requires : goal.push_first-push_entry_default-requires
+push_first-push_entry_default-requires t c =
     let w = c.args.text.now in
-    let class = same_Some _ _ (sym (front_class w c.requires) ∙ (sym c.of_letter.ensures ∙ c.unwrap.ensures)) ∙ c.in-Entry.is in
+    let class = same_Some _ _ (sym (first_type_class w c.requires) ∙ (sym c.of_letter.ensures ∙ c.unwrap.ensures)) ∙ c.in-Entry.is in
     (search rules, (c.requires, (class, omega (arith, c.if-levels-eq0.false))))
 
-pub push_front-returns-in-Array : goal.push_front-returns-in-Array
-push_front-returns-in-Array t c =
+pub push_first-returns-in-Array : goal.push_first-returns-in-Array
+push_first-returns-in-Array t c =
     let w = c.args.text.now in
-    let kind = is_emptied (front (seen w)) c.unwrap.result (same_Some _ _ (sym c.unwrap.ensures ∙ (c.of_letter.ensures ∙ front_class w c.requires))) c.in-Array.is in
-    MatchResult-weaker c.push_emptied_front.result c.push_emptied_front.ensures
-    (λ rest h. (h.0, emptied_writes (front (seen w)) c.args.levels c.args.annotated c.args.in_array (string_bytes c.args.to.now) (string_bytes c.push_emptied_front.new.to) kind (omega (arith, c.if-levels-eq0.false)) h.1))
-    (λ f h. emptied_result (front (seen w)) c.args.levels f h)
+    let kind = is_emptied (first_type (seen w)) c.unwrap.result (same_Some _ _ (sym c.unwrap.ensures ∙ (c.of_letter.ensures ∙ first_type_class w c.requires))) c.in-Array.is in
+    MatchResult-weaker c.push_emptied_first.result c.push_emptied_first.ensures
+    (λ rest h. (h.0, emptied_writes (first_type (seen w)) c.args.levels c.args.annotated c.args.in_array (string_bytes c.args.to.now) (string_bytes c.push_emptied_first.new.to) kind (omega (arith, c.if-levels-eq0.false)) h.1))
+    (λ f h. emptied_result (first_type (seen w)) c.args.levels f h)
 
-pub push_front-returns-in-Tuple : goal.push_front-returns-in-Tuple
-push_front-returns-in-Tuple t c =
+pub push_first-returns-in-Tuple : goal.push_first-returns-in-Tuple
+push_first-returns-in-Tuple t c =
     let w = c.args.text.now in
-    let class = same_Some _ _ (sym (front_class w c.requires) ∙ (sym c.of_letter.ensures ∙ c.unwrap.ensures)) ∙ c.in-Tuple.is in
+    let class = same_Some _ _ (sym (first_type_class w c.requires) ∙ (sym c.of_letter.ensures ∙ c.unwrap.ensures)) ∙ c.in-Tuple.is in
     MatchResult-weaker c.push_tuple_default.result c.push_tuple_default.ensures
-    (λ rest h. (h.0, tuple_alike (front (seen w)) c.args.levels c.args.annotated c.args.in_array (string_bytes c.args.to.now) (string_bytes c.push_tuple_default.new.to) class h.1)) (λ f h. h)
+    (λ rest h. (h.0, tuple_alike (first_type (seen w)) c.args.levels c.args.annotated c.args.in_array (string_bytes c.args.to.now) (string_bytes c.push_tuple_default.new.to) class h.1)) (λ f h. h)
 
 -- ---- pairs
 
 pub push_pair-after_letter-requires : goal.push_pair-after_letter-requires
-push_pair-after_letter-requires t c = front_some c.args.text.now c.requires.1.1.0
+push_pair-after_letter-requires t c = first_type_some c.args.text.now c.requires.1.1.0
 
-pub push_pair-push_front-requires : goal.push_pair-push_front-requires
-push_pair-push_front-requires t c =
+pub push_pair-push_first-requires : goal.push_pair-push_first-requires
+push_pair-push_first-requires t c =
     let w = c.args.text.now in
     let some : 0 < c.args.levels = c.requires.1.1.1.1 in
     let falls : 3 * (c.args.levels - 1) + 2 < 3 * c.args.levels = omega (arith, some) in
-    let p = entry_front w c.requires.1.1.0 c.requires.1.1.1.0 in
-    (search (rules, falls), rw c.after_letter.ensures (key_front w p))
+    let p = entry_first_type w c.requires.1.1.0 c.requires.1.1.1.0 in
+    (search (rules, falls), rw c.after_letter.ensures (key_first_type w p))
 
 pub push_pair-returns-in_err-value : goal.push_pair-returns-in_err-value
 push_pair-returns-in_err-value t c =
     let w = c.args.text.now in
-    let p = entry_front w c.requires.1.1.0 c.requires.1.1.1.0 in
+    let p = entry_first_type w c.requires.1.1.0 c.requires.1.1.1.0 in
     let e = err_from_is_err_and c.from_residual.result c.from_residual.ensures.1 in
     rw (e.1, e.2) (key_fault_alone w p c.args.levels c.in_err-value.field-0.0 c.requires.1.1.1.1 (rw c.after_letter.ensures at c.in_err-value.ensures))
 
-pub push_pair-push_front-requires-2 : goal.push_pair-push_front-requires-2
-push_pair-push_front-requires-2 t c =
+pub push_pair-push_first-requires-2 : goal.push_pair-push_first-requires-2
+push_pair-push_first-requires-2 t c =
     let w = c.args.text.now in
     let some : 0 < c.args.levels = c.requires.1.1.1.1 in
     let falls : 3 * (c.args.levels - 1) + 2 < 3 * c.args.levels = omega (arith, some) in
-    let p = entry_front w c.requires.1.1.0 c.requires.1.1.1.0 in
+    let p = entry_first_type w c.requires.1.1.0 c.requires.1.1.1.0 in
     let key = rw c.after_letter.ensures at c.in_ok-value.ensures in
-    (search (rules, falls), value_front w c.in_ok-value.value.now p key.0)
+    (search (rules, falls), value_first_type w c.in_ok-value.value.now p key.0)
 
 pub push_pair-returns-in_err-rest : goal.push_pair-returns-in_err-rest
 push_pair-returns-in_err-rest t c =
     let w = c.args.text.now in
-    let p = entry_front w c.requires.1.1.0 c.requires.1.1.1.0 in
+    let p = entry_first_type w c.requires.1.1.0 c.requires.1.1.1.0 in
     let key = rw c.after_letter.ensures at c.in_ok-value.ensures in
     let e = err_from_is_err_and c.from_residual-in_err-rest.result c.from_residual-in_err-rest.ensures.1 in
     rw (e.1, e.2) (value_fault w c.in_ok-value.value.now c.args.levels c.in_err-rest.field-0.0 c.requires.1.1.1.1 (pair_of w c.in_ok-value.value.now p key.0) c.in_err-rest.ensures)
@@ -173,7 +173,7 @@ push_pair-returns-in_err-rest t c =
 pub push_pair-after_letter-requires-2 : goal.push_pair-after_letter-requires-2
 push_pair-after_letter-requires-2 t c =
     let w = c.args.text.now in
-    let p = entry_front w c.requires.1.1.0 c.requires.1.1.1.0 in
+    let p = entry_first_type w c.requires.1.1.0 c.requires.1.1.1.0 in
     let key = rw c.after_letter.ensures at c.in_ok-value.ensures in
     (entry_closed w c.in_ok-value.value.now c.in_ok-rest.rest.now p key.0 c.in_ok-rest.ensures.0).some
 
@@ -181,72 +181,72 @@ pub push_pair-returns : goal.push_pair-returns
 push_pair-returns t c =
     let w = c.args.text.now in
     let value = c.in_ok-value.value.now in
-    let p = entry_front w c.requires.1.1.0 c.requires.1.1.1.0 in
+    let p = entry_first_type w c.requires.1.1.0 c.requires.1.1.1.0 in
     let key = rw c.after_letter.ensures at c.in_ok-value.ensures in
     let closed = entry_closed w value c.in_ok-rest.rest.now p key.0 c.in_ok-rest.ensures.0 in (
       rw c.after_letter-2.ensures closed.after,
-      pair_written w value c.args.levels c.args.mark.now c.args.annotated (string_bytes c.args.to.now) (string_bytes c.push_front.new.to) (string_bytes c.push_str.new.self) (string_bytes c.push_front-2.new.to)
+      pair_written w value c.args.levels c.args.mark.now c.args.annotated (string_bytes c.args.to.now) (string_bytes c.push_first.new.to) (string_bytes c.push_str.new.self) (string_bytes c.push_first-2.new.to)
           c.requires.1.1.1.1 (pair_of w value p key.0) key.1 c.in_ok-push_str.ensures.bytes c.in_ok-rest.ensures.1,
     )
 
 -- ---- tuples
 
 pub push_tuple_default-after_letter-inside-requires : goal.push_tuple_default-after_letter-inside-requires
-push_tuple_default-after_letter-inside-requires t c = front_some c.args.text.now c.requires.front
+push_tuple_default-after_letter-inside-requires t c = first_type_some c.args.text.now c.requires.first_type
 
 pub push_tuple_default-bounds-inside-0 : goal.push_tuple_default-bounds-inside-0
 push_tuple_default-bounds-inside-0 t c =
-    let h = tuple_front c.args.text.now c.requires.front c.requires.kind in
+    let h = tuple_first_type c.args.text.now c.requires.first_type c.requires.kind in
     rw c.after_letter-inside.ensures (inside_some (drop 1 c.args.text.now) h.begins)
 
 pub push_tuple_default-returns-then-inside-eq41 : goal.push_tuple_default-returns-then-inside-eq41
 push_tuple_default-returns-then-inside-eq41 t c =
     let w = c.args.text.now in
-    let h = tuple_front w c.requires.front c.requires.kind in
+    let h = tuple_first_type w c.requires.first_type c.requires.kind in
     let old = string_bytes c.args.to.now in
     let opened = string_bytes c.push.new.self in
     let close = rw c.after_letter-inside.ensures at c.if-inside-eq41.true in
     rw (c.after_letter.ensures, c.after_letter-inside.ensures) (unit_written w h c.args.levels c.args.annotated old opened (string_bytes c.push-then-inside-eq41.new.self) c.requires.some close
     (c.in_ok-push.ensures.bytes ∙ ap (λ l. old ++ l) (c.in_ok-push.ensures.ascii (omega arith))) (c.in_ok-push-2.ensures.bytes ∙ ap (λ l. opened ++ l) (c.in_ok-push-2.ensures.ascii (omega arith))))
 
-pub push_tuple_default-push_front-requires : goal.push_tuple_default-push_front-requires
-push_tuple_default-push_front-requires t c =
+pub push_tuple_default-push_first-requires : goal.push_tuple_default-push_first-requires
+push_tuple_default-push_first-requires t c =
     let w = c.args.text.now in
-    let h = tuple_front w c.requires.front c.requires.kind in
+    let h = tuple_first_type w c.requires.first_type c.requires.kind in
     let falls : 3 * (c.args.levels - 1) + 2 < 3 * c.args.levels + 1 = omega (arith, c.requires.some) in
-    (search (rules, falls), rw c.after_letter-inside.ensures (inside_front (drop 1 w) h.begins (rw c.after_letter-inside.ensures at c.if-inside-eq41.false)))
+    (search (rules, falls), rw c.after_letter-inside.ensures (inside_first_type (drop 1 w) h.begins (rw c.after_letter-inside.ensures at c.if-inside-eq41.false)))
 
 pub push_tuple_default-returns-in_err-rest : goal.push_tuple_default-returns-in_err-rest
 push_tuple_default-returns-in_err-rest t c =
     let w = c.args.text.now in
-    let h = tuple_front w c.requires.front c.requires.kind in
+    let h = tuple_first_type w c.requires.first_type c.requires.kind in
     let e = err_from_is_err_and c.from_residual-in_err-rest.result c.from_residual-in_err-rest.ensures.1 in
     rw (e.1, e.2) (first_member_fault w h c.args.levels c.in_err-rest.field-0.0 c.requires.some (rw c.after_letter-inside.ensures at c.if-inside-eq41.false) (rw c.after_letter-inside.ensures at c.in_err-rest.ensures))
 
 pub push_tuple_default-loop-rest-init : goal.push_tuple_default-loop-rest-init
 push_tuple_default-loop-rest-init t c =
     let w = c.args.text.now in
-    let h = tuple_front w c.requires.front c.requires.kind in
+    let h = tuple_first_type w c.requires.first_type c.requires.kind in
     let old = string_bytes c.args.to.now in
     let opens = c.in_ok-push.ensures.bytes ∙ ap (λ l. old ++ l) (c.in_ok-push.ensures.ascii (omega arith)) in
     let read = rw (c.after_letter-inside.ensures, opens) at c.in_ok-rest.ensures in
-    first_part w c.in_ok-rest.rest.now h c.args.levels c.args.annotated (old ++ 40 ∷ []) (string_bytes c.push_front.new.to) c.requires.some (rw c.after_letter-inside.ensures at c.if-inside-eq41.false) read.0 read.1
+    first_part w c.in_ok-rest.rest.now h c.args.levels c.args.annotated (old ++ 40 ∷ []) (string_bytes c.push_first.new.to) c.requires.some (rw c.after_letter-inside.ensures at c.if-inside-eq41.false) read.0 read.1
 
 pub push_tuple_default-bounds-rest-0 : goal.push_tuple_default-bounds-rest-0
 push_tuple_default-bounds-rest-0 t c =
     let w = c.args.text.now in
-    let h = tuple_front w c.requires.front c.requires.kind in
+    let h = tuple_first_type w c.requires.first_type c.requires.kind in
     let read = rw c.after_letter-inside.ensures at c.in_ok-rest.ensures in
-    inside_some c.in_ok-rest.rest.now (inside_next (drop 1 w) c.in_ok-rest.rest.now h.begins (inside_front (drop 1 w) h.begins (rw c.after_letter-inside.ensures at c.if-inside-eq41.false)) read.0).begins
+    inside_some c.in_ok-rest.rest.now (inside_next (drop 1 w) c.in_ok-rest.rest.now h.begins (inside_first_type (drop 1 w) h.begins (rw c.after_letter-inside.ensures at c.if-inside-eq41.false)) read.0).begins
 
 pub push_tuple_default-returns-then-rest-eq41 : goal.push_tuple_default-returns-then-rest-eq41
 push_tuple_default-returns-then-rest-eq41 t c =
     let w = c.args.text.now in
-    let h = tuple_front w c.requires.front c.requires.kind in
+    let h = tuple_first_type w c.requires.first_type c.requires.kind in
     let old = string_bytes c.args.to.now in
     let opened = string_bytes c.push.new.self in
     let read = rw c.after_letter-inside.ensures at c.in_ok-rest.ensures in
-    rw c.after_letter-then-rest-eq41.ensures (one_written w c.in_ok-rest.rest.now h c.args.levels c.args.annotated old opened (string_bytes c.push_front.new.to) (string_bytes c.push_str.new.self) c.requires.some
+    rw c.after_letter-then-rest-eq41.ensures (one_written w c.in_ok-rest.rest.now h c.args.levels c.args.annotated old opened (string_bytes c.push_first.new.to) (string_bytes c.push_str.new.self) c.requires.some
     (rw c.after_letter-inside.ensures at c.if-inside-eq41.false) read.0 read.1 c.if-rest-eq41.true (c.in_ok-push.ensures.bytes ∙ ap (λ l. old ++ l) (c.in_ok-push.ensures.ascii (omega arith))) c.in_ok-push_str.ensures.bytes)
 
 pub push_tuple_default-bounds-rest-0-in-loop-rest : goal.push_tuple_default-bounds-rest-0-in-loop-rest
@@ -255,12 +255,12 @@ push_tuple_default-bounds-rest-0-in-loop-rest t c = inside_some c.loop-rest.rest
 pub push_tuple_default-push_next-requires : goal.push_tuple_default-push_next-requires
 push_tuple_default-push_next-requires t c =
     let falls : 3 * (c.args.levels - 1) + 3 < 3 * c.args.levels + 1 = omega (arith, c.requires.some) in
-    (search (rules, falls), inside_front c.loop-rest.rest.now c.loop-rest.invariant.begins c.loop-rest-test.true)
+    (search (rules, falls), inside_first_type c.loop-rest.rest.now c.loop-rest.invariant.begins c.loop-rest-test.true)
 
 pub push_tuple_default-returns-in_err-rest-2 : goal.push_tuple_default-returns-in_err-rest-2
 push_tuple_default-returns-in_err-rest-2 t c =
     let w = c.args.text.now in
-    let h = tuple_front w c.requires.front c.requires.kind in
+    let h = tuple_first_type w c.requires.first_type c.requires.kind in
     let e = err_from_is_err_and c.from_residual-in_err-rest-2.result c.from_residual-in_err-rest-2.ensures.1 in
     rw (e.1, e.2) (next_member_fault w c.loop-rest.rest.now h c.args.levels c.args.annotated _ (string_bytes c.loop-rest.to) c.in_err-rest-2.field-0.0 c.requires.some c.loop-rest.invariant c.loop-rest-test.true c.in_err-rest-2.ensures)
 
@@ -273,12 +273,12 @@ push_tuple_default-loop-rest-preserved t c =
 pub push_tuple_default-returns : goal.push_tuple_default-returns
 push_tuple_default-returns t c =
     let w = c.args.text.now in
-    let h = tuple_front w c.requires.front c.requires.kind in
+    let h = tuple_first_type w c.requires.first_type c.requires.kind in
     let old = string_bytes c.args.to.now in
     let now = string_bytes c.loop-rest.to in
     let begun = rw c.after_letter-inside.ensures at c.if-inside-eq41.false in
     let read = rw c.after_letter-inside.ensures at c.in_ok-rest.ensures in
-    let more = (inside_next (drop 1 w) c.in_ok-rest.rest.now h.begins (inside_front (drop 1 w) h.begins begun) read.0).begins in
+    let more = (inside_next (drop 1 w) c.in_ok-rest.rest.now h.begins (inside_first_type (drop 1 w) h.begins begun) read.0).begins in
     rw c.after_letter-2.ensures (tuple_written w c.loop-rest.rest.now h c.args.levels c.args.annotated old (old ++ 40 ∷ []) now (string_bytes c.push-2.new.self) c.requires.some
     (several w c.in_ok-rest.rest.now h c.args.levels c.args.annotated old now begun read.0 c.if-rest-eq41.false more) c.loop-rest.invariant c.loop-rest-test.false refl
     (c.in_ok-push-3.ensures.bytes ∙ ap (λ l. now ++ l) (c.in_ok-push-3.ensures.ascii (omega arith))))
@@ -286,25 +286,25 @@ push_tuple_default-returns t c =
 -- ---- what comes behind a comma
 
 pub push_next-bounds-text-0 : goal.push_next-bounds-text-0
-push_next-bounds-text-0 t c = front_some c.args.text.now c.requires
+push_next-bounds-text-0 t c = first_type_some c.args.text.now c.requires
 
 pub push_next-unwrap-requires : goal.push_next-unwrap-requires
-push_next-unwrap-requires t c = rw (c.of_letter.ensures ∙ front_class c.args.text.now c.requires) refl
+push_next-unwrap-requires t c = rw (c.of_letter.ensures ∙ first_type_class c.args.text.now c.requires) refl
 
 pub push_next-after_letter-requires : goal.push_next-after_letter-requires
-push_next-after_letter-requires t c = front_some c.args.text.now c.requires
+push_next-after_letter-requires t c = first_type_some c.args.text.now c.requires
 
-pub push_next-returns-in_err-push_basic_behind-in-Basic : goal.push_next-returns-in_err-push_basic_behind-in-Basic
-push_next-returns-in_err-push_basic_behind-in-Basic t c =
+pub push_next-returns-in_err-push_basic_after-in-Basic : goal.push_next-returns-in_err-push_basic_after-in-Basic
+push_next-returns-in_err-push_basic_after-in-Basic t c =
     let w = c.args.text.now in
-    let class = same_Some _ _ (sym (front_class w c.requires) ∙ (sym c.of_letter.ensures ∙ c.unwrap.ensures)) ∙ c.in-Basic.is in
-    let one = basic_front w c.in-Basic.of c.requires class in
+    let class = same_Some _ _ (sym (first_type_class w c.requires) ∙ (sym c.of_letter.ensures ∙ c.unwrap.ensures)) ∙ c.in-Basic.is in
+    let one = basic_first_type w c.in-Basic.of c.requires class in
     let p = err_from_is_err_and c.from_residual.result c.from_residual.ensures.1 in
-    rw (p.1, p.2) (basic_fault (front (seen w)) (basic_of c.in-Basic.of) c.args.levels c.in_err-push_basic_behind-in-Basic.field-0.0 one.type c.in_err-push_basic_behind-in-Basic.ensures.0 c.in_err-push_basic_behind-in-Basic.ensures.1)
+    rw (p.1, p.2) (basic_fault (first_type (seen w)) (basic_of c.in-Basic.of) c.args.levels c.in_err-push_basic_after-in-Basic.field-0.0 one.type c.in_err-push_basic_after-in-Basic.ensures.0 c.in_err-push_basic_after-in-Basic.ensures.1)
 
-pub push_next-returns-in_ok-push_basic_behind-in-Basic : goal.push_next-returns-in_ok-push_basic_behind-in-Basic
-push_next-returns-in_ok-push_basic_behind-in-Basic t c =
+pub push_next-returns-in_ok-push_basic_after-in-Basic : goal.push_next-returns-in_ok-push_basic_after-in-Basic
+push_next-returns-in_ok-push_basic_after-in-Basic t c =
     let w = c.args.text.now in
-    let class = same_Some _ _ (sym (front_class w c.requires) ∙ (sym c.of_letter.ensures ∙ c.unwrap.ensures)) ∙ c.in-Basic.is in
-    let one = basic_front w c.in-Basic.of c.requires class in
-    (rw c.after_letter.ensures one.after, rw c.if-not-annotated.true (basic_writes (front (seen w)) (basic_of c.in-Basic.of) c.args.levels false false (string_bytes c.args.to.now ++ comma) (string_bytes c.push_basic_behind.new.to) one.type (omega (arith, c.if-levels-gt0.true)) c.in_ok-push_basic_behind-in-Basic.ensures))
+    let class = same_Some _ _ (sym (first_type_class w c.requires) ∙ (sym c.of_letter.ensures ∙ c.unwrap.ensures)) ∙ c.in-Basic.is in
+    let one = basic_first_type w c.in-Basic.of c.requires class in
+    (rw c.after_letter.ensures one.after, rw c.if-not-annotated.true (basic_writes (first_type (seen w)) (basic_of c.in-Basic.of) c.args.levels false false (string_bytes c.args.to.now ++ comma) (string_bytes c.push_basic_after.new.to) one.type (omega (arith, c.if-levels-gt0.true)) c.in_ok-push_basic_after-in-Basic.ensures))

@@ -7,8 +7,8 @@ use Rattle.gv_text.proofs.printing.default.+defaults.Given as goal
 abbrev pub decreases-push_next : goal.decreases-push_next
 decreases-push_next l = 3 * l.levels + 3
 
-abbrev pub decreases-push_front : goal.decreases-push_front
-decreases-push_front l = 3 * l.levels + 2
+abbrev pub decreases-push_first : goal.decreases-push_first
+decreases-push_first l = 3 * l.levels + 2
 
 abbrev pub decreases-push_tuple_default : goal.decreases-push_tuple_default
 decreases-push_tuple_default l = 3 * l.levels + 1

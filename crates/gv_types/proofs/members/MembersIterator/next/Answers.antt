@@ -2,7 +2,7 @@ use Rattle.std.proofs.Common.{arith, rules, ◌∷◌, sym, ap, ◌∙◌}
 use Rattle.std.proofs.lemmas.Bool.{false≢true}
 use Rattle.std.proofs.lemmas.Str.{IsCharBoundary-from_ascii}
 use Rattle.gv_model.specs.TypeText.{type_at}
-use Rattle.gv_types.specs.LoneTuples.{lone_tuples}
+use Rattle.gv_types.specs.SingleTuples.{single_tuples}
 use Rattle.gv_types.proofs.TypeLists.{types_are_ascii, cut_after_first, no_types_left, one_type_left}
 use Rattle.gv_types.proofs.members.MembersIterator.next.Goals as goal
 
@@ -47,7 +47,7 @@ invariant_of-result c =
     let w = c.args.self.now.rest.now in
     let read = rw c.as_bytes.ensures.value at c.in-Ok.ensures in
     let is = cut_after_first w c.in-Ok.read.rest.now c.split_at.result.0.now c.split_at.result.1.now c.args.self.now.are_types read.begins c.split_at.ensures.front c.split_at.ensures.back in
-    record { spells_type = is.checked; alone = omega (arith, read.counted, ap lone_tuples is.type); «open» = λ h. absurd (false≢true h) }
+    record { spells_type = is.checked; alone = omega (arith, read.counted, ap single_tuples is.type); «open» = λ h. absurd (false≢true h) }
 
 pub returns-clause-steps : goal.returns-clause-steps
 returns-clause-steps c =

@@ -32,7 +32,7 @@ invariant_of-result c =
     let w = c.args.self.text.now in
     let m = has_members w c.args.self.spells_type c.requires in
     let t = text_of_members w c.args.self.spells_type m in
-    let one = text_of_member c.args.self.lone w c.args.self.spells_type c.args.self.alone m in
+    let one = text_of_member c.args.self.singles w c.args.self.spells_type c.args.self.alone m in
     record {
       are_types = rw c.range.ensures.value t.are;
       alone = λ h. rw c.range.ensures.value (one h).alone;

@@ -2,7 +2,7 @@ use Rattle.std.proofs.Common.{◌++◌, Some, ap, ◌∙◌, sym, arith}
 use Rattle.gv_model.specs.Ty.{spelling}
 use Rattle.gv_model.specs.TypeText.{type_at}
 use Rattle.gv_types.proofs.PrefixTypes.{halted_prefix, too_long_prefix}
-use Rattle.gv_types.proofs.Splits.{front_is_utf8, split}
+use Rattle.gv_types.proofs.Splits.{prefix_is_utf8, split}
 use Rattle.gv_types.proofs.type_str.TypeStr.split_prefix.Goals as goal
 
 pub returns-in_default-clause-found : goal.returns-in_default-clause-found
@@ -14,7 +14,7 @@ returns-then-prefix-gt-MAX_LEN-clause-found c =
     sym (too_long_prefix c.args.bytes.now c.in-Ok.after.now c.in-Ok.ensures (omega (arith, c.if-prefix-gt-MAX_LEN.true, c.split_at.ensures.front_len)))
 
 pub from_utf8_unchecked-text-requires : goal.from_utf8_unchecked-text-requires
-from_utf8_unchecked-text-requires c = front_is_utf8 c.args.bytes.now c.in-Ok.after.now c.split_at.result.0.now c.in-Ok.ensures c.split_at.ensures.front
+from_utf8_unchecked-text-requires c = prefix_is_utf8 c.args.bytes.now c.in-Ok.after.now c.split_at.result.0.now c.in-Ok.ensures c.split_at.ensures.front
 
 pub of_checked-requires : goal.of_checked-requires
 of_checked-requires c =

@@ -1,7 +1,7 @@
 use Rattle.std.proofs.Common.{length, string_bytes}
 use Rattle.gv_types.specs.Members.{members_left}
 use Rattle.gv_text.specs.Defaults.{defaults_left, AreLeft}
-use Rattle.gv_text.proofs.printing.default.push_behind.Given as goal
+use Rattle.gv_text.proofs.printing.default.push_rest.Given as goal
 
 abbrev pub invariant-loop-member : goal.invariant-loop-member
 invariant-loop-member l =

@@ -11,9 +11,9 @@ abbrev pub begins_type : Seen → Bool
 begins_type (type t s) = true
 begins_type _ = false
 
-abbrev pub front : Seen → Ty
-front (type t s) = t
-front _ = tuple end
+abbrev pub first_type : Seen → Ty
+first_type (type t s) = t
+first_type _ = tuple end
 
 abbrev pub after : Seen → Seen
 after (type t s) = s
@@ -37,9 +37,9 @@ after_close _ = wrong
 -- ---- texts within the limits of a type's text
 
 -- a type of at most 128 levels is at the start
-pub record BeginsFront (text : List ℕ) : Type 0 where
+pub record HasFirstType (text : List ℕ) : Type 0 where
   pub begins : begins_type (seen text) ≡ true
-  pub nested : nesting (front (seen text)) ≤ 128
+  pub nested : nesting (first_type (seen text)) ≤ 128
   pub short : length text ≤ 67108864
 
 -- members of at most 128 levels are at the start, and then their tuple's closing bracket
@@ -49,6 +49,6 @@ pub record BeginsInside (text : List ℕ) : Type 0 where
   pub short : length text ≤ 67108864
 
 -- the rest comes after the type at the start
-pub record IsAfterFront (text rest : List ℕ) : Type 0 where
+pub record IsAfterFirst (text rest : List ℕ) : Type 0 where
   pub is : seen rest ≡ after (seen text)
   pub shorter : length rest < length text

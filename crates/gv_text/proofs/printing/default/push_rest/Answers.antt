@@ -4,8 +4,8 @@ use Rattle.gv_model.specs.Tree.{default}
 use Rattle.gv_types.specs.TypeStr.{ty}
 use Rattle.gv_types.specs.Members.{members_left}
 use Rattle.gv_text.specs.Defaults.{defaults_left}
-use Rattle.gv_text.proofs.Behind.{all_written, fault_behind, fault_left, no_levels, one_less, then_left, types_first, types_none}
-use Rattle.gv_text.proofs.printing.default.push_behind.Goals as goal
+use Rattle.gv_text.proofs.RestLaws.{all_written, fault_in_rest, fault_left, no_levels, one_less, then_left, types_first, types_none}
+use Rattle.gv_text.proofs.printing.default.push_rest.Goals as goal
 
 pub loop-member-init : goal.loop-member-init
 loop-member-init c = c.in_ok-push_basics.ensures.written
@@ -18,7 +18,7 @@ returns-then-levels-eq0 c =
 pub returns-in_err-push_default : goal.returns-in_err-push_default
 returns-in_err-push_default c =
     let e = err_from_is_err_and c.from_residual-in_err-push_default.result c.from_residual-in_err-push_default.ensures.1 in
-    rw (e.1, e.2) (fault_behind c.args.mark.now (defaults_left c.args.members) (defaults_left c.loop-member.left) (defaults_left c.next.new.self) (default (ty c.in-Some.member)) c.args.levels c.args.annotated (string_bytes c.args.to.now) (string_bytes c.loop-member.to)
+    rw (e.1, e.2) (fault_in_rest c.args.mark.now (defaults_left c.args.members) (defaults_left c.loop-member.left) (defaults_left c.next.new.self) (default (ty c.in-Some.member)) c.args.levels c.args.annotated (string_bytes c.args.to.now) (string_bytes c.loop-member.to)
     c.in_err-push_default.field-0.0 (types_first (ty c.in-Some.member) (members_left c.next.new.self) (members_left c.loop-member.left) c.in-Some.ensures.steps) c.loop-member.invariant c.in_err-push_default.ensures)
 
 pub loop-member-preserved : goal.loop-member-preserved

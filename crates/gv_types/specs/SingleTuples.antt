@@ -6,11 +6,11 @@ use Rattle.gv_model.specs.Ty.Types.{end, member}
 use Rattle.gv_model.specs.TypeText.{is_type, type_at}
 
 -- how many a type is, from the outermost in
-unfoldable pub lone_tuples : Ty → ℕ
-lone_tuples (tuple (member t end)) = suc (lone_tuples t)
-lone_tuples _ = 0
+unfoldable pub single_tuples : Ty → ℕ
+single_tuples (tuple (member t end)) = suc (single_tuples t)
+single_tuples _ = 0
 
 -- the text is that of the one member of so many
-pub record IsLoneMember (n : ℕ) (text : List ℕ) : Type 0 where
+pub record IsSingleMember (n : ℕ) (text : List ℕ) : Type 0 where
   pub spells : is_type text ≡ true
-  pub few : n ≤ suc (lone_tuples (type_at text))
+  pub few : n ≤ suc (single_tuples (type_at text))

@@ -9,7 +9,7 @@ use Rattle.gv_model.specs.Printed.{Text, joined_by, hold_double, text_of, texts}
 use Rattle.gv_text.specs.declared.printing.PrintFault.{PrintFault}
 use Rattle.gv_text.specs.declared.printing.PrintFault.TheVariants.{TooLarge, DoubleText, Memory}
 use Rattle.gv_text.specs.Printing.{AreFaultOf, child_texts, following, rest_annotated}
-use Rattle.gv_text.specs.Defaults.{behind, AreLeft, AreLevelFault, IsLevelFault, WriteBehind, Writes}
+use Rattle.gv_text.specs.Defaults.{rest_text, AreLeft, AreLevelFault, IsLevelFault, WriteRest, Writes}
 use Rattle.gv_text.proofs.ChildCounts.{IsAlone}
 use Rattle.gv_text.proofs.ChildTexts.{IsLeft, first_fault, no_doubles, plain_first}
 use Rattle.gv_text.proofs.Levels.{AreLevels, first_depth, no_depth}
@@ -26,12 +26,12 @@ pub one_less : (mark : Text) (vs us left : Trees) (u : Tree) (levels : ℕ) (ann
     → mid ≡ now ++ mark → Writes u levels annotated false mid new → AreLeft mark vs left levels annotated start new
 one_less mark vs us left u levels annotated start now mid new is was marks wrote =
     let s = text_of u annotated false in
-    let more = behind mark left annotated in
+    let more = rest_text mark left annotated in
     let depths = ap greatest_depth is ∙ first_depth u left in
     record {
       texts = ap (λ (l : Text). l ++ more) (wrote.text ∙ ap (λ (l : Text). l ++ s) marks)
           ∙ (append_assoc (now ++ mark) s more ∙ (append_assoc now mark (s ++ more)
-          ∙ (ap (λ (l : Text). now ++ l) (ap (following mark) (sym (texts_first u left annotated)) ∙ ap (λ (ws : Trees). behind mark ws annotated) (sym is)) ∙ was.texts)));
+          ∙ (ap (λ (l : Text). now ++ l) (ap (following mark) (sym (texts_first u left annotated)) ∙ ap (λ (ws : Trees). rest_text mark ws annotated) (sym is)) ∙ was.texts)));
       doubles = was.doubles ∙ (ap hold_double is ∙ plain_first u left wrote.plain);
       known = omega (arith, was.known, depths, wrote.fits);
       deeper = omega (arith, was.deeper, depths);
@@ -53,22 +53,22 @@ fault_left mark vs left levels annotated start now TooLarge was h = omega (arith
 fault_left mark vs left levels annotated start now DoubleText was h = was.doubles ∙ h
 fault_left mark vs left levels annotated start now Memory was h = tt
 
-nothing_behind : (mark : Text) (annotated : Bool) → behind mark none annotated ≡ []
+no_rest : (mark : Text) (annotated : Bool) → rest_text mark none annotated ≡ []
 unfolding text_of
-nothing_behind mark annotated = refl
+no_rest mark annotated = refl
 
-pub all_written : (mark : Text) (vs us : Trees) (levels : ℕ) (annotated : Bool) (start now : Text) → us ≡ none → AreLeft mark vs us levels annotated start now → WriteBehind vs levels mark annotated start now
+pub all_written : (mark : Text) (vs us : Trees) (levels : ℕ) (annotated : Bool) (start now : Text) → us ≡ none → AreLeft mark vs us levels annotated start now → WriteRest vs levels mark annotated start now
 all_written mark vs us levels annotated start now is was = record {
   plain = was.doubles ∙ (ap hold_double is ∙ no_doubles);
-  text = sym (append-nil now) ∙ (ap (λ (l : Text). now ++ l) (sym (ap (λ (ws : Trees). behind mark ws annotated) is ∙ nothing_behind mark annotated)) ∙ was.texts);
+  text = sym (append-nil now) ∙ (ap (λ (l : Text). now ++ l) (sym (ap (λ (ws : Trees). rest_text mark ws annotated) is ∙ no_rest mark annotated)) ∙ was.texts);
   fits = omega (arith, was.known, ap greatest_depth is ∙ no_depth);
 }
 
-pub fault_behind : (mark : Text) (vs us left : Trees) (u : Tree) (levels : ℕ) (annotated : Bool) (start now : Text) (f : PrintFault) → us ≡ first u left → AreLeft mark vs us levels annotated start now
+pub fault_in_rest : (mark : Text) (vs us left : Trees) (u : Tree) (levels : ℕ) (annotated : Bool) (start now : Text) (f : PrintFault) → us ≡ first u left → AreLeft mark vs us levels annotated start now
     → IsLevelFault u levels f → AreLevelFault vs levels f
-fault_behind mark vs us left u levels annotated start now TooLarge is was h = omega (arith, h, was.deeper, ap greatest_depth is ∙ first_depth u left)
-fault_behind mark vs us left u levels annotated start now DoubleText is was h = was.doubles ∙ (ap hold_double is ∙ first_fault u left DoubleText h)
-fault_behind mark vs us left u levels annotated start now Memory is was h = tt
+fault_in_rest mark vs us left u levels annotated start now TooLarge is was h = omega (arith, h, was.deeper, ap greatest_depth is ∙ first_depth u left)
+fault_in_rest mark vs us left u levels annotated start now DoubleText is was h = was.doubles ∙ (ap hold_double is ∙ first_fault u left DoubleText h)
+fault_in_rest mark vs us left u levels annotated start now Memory is was h = tt
 
 pub no_levels : (mark : Text) (vs us left : Trees) (u : Tree) (levels : ℕ) (annotated : Bool) (start now : Text) → levels ≡ 0 → us ≡ first u left → AreLeft mark vs us levels annotated start now → levels < greatest_depth vs
 no_levels mark vs us left u levels annotated start now few is was = omega (arith, few, was.deeper, ap greatest_depth is ∙ first_depth u left, depth_children u)
@@ -84,10 +84,10 @@ types_none us e = ap (λ (ws : List Ty). defaults (types_from ws)) e
 -- ---- the children that are left are such members
 
 pub rest_written : (mark : Text) (vs left ds : Trees) (levels : ℕ) (annotated later : Bool) (start now new : Text) → IsLeft mark vs left annotated false start now → left ≡ ds → later ≡ rest_annotated annotated false
-    → WriteBehind ds levels mark later now new → (hold_double vs ≡ false) × (new ≡ start ++ joined_by mark (child_texts vs annotated false))
+    → WriteRest ds levels mark later now new → (hold_double vs ≡ false) × (new ≡ start ++ joined_by mark (child_texts vs annotated false))
 rest_written mark vs left ds levels annotated later start now new was is same wrote = (
   was.doubles ∙ (ap hold_double is ∙ wrote.plain),
-  wrote.text ∙ (ap (λ (ws : Trees). now ++ behind mark ws later) (sym is) ∙ (ap (λ (a : Bool). now ++ behind mark left a) same ∙ was.texts)),
+  wrote.text ∙ (ap (λ (ws : Trees). now ++ rest_text mark ws later) (sym is) ∙ (ap (λ (a : Bool). now ++ rest_text mark left a) same ∙ was.texts)),
 )
 
 pub rest_faults : (mark : Text) (vs left ds : Trees) (levels : ℕ) (annotated : Bool) (start now : Text) (f : PrintFault) → IsLeft mark vs left annotated false start now → left ≡ ds → AreLevelFault ds levels f → AreFaultOf vs f

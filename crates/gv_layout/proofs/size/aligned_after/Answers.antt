@@ -3,7 +3,7 @@ use Rattle.gv_model.specs.Layout.{alignment, round_up}
 use Rattle.gv_model.proofs.LayoutLaws.{alignment_pos, round_up-zero}
 use Rattle.gv_types.specs.TypeStr.{ty}
 use Rattle.gv_layout.proofs.Sizes.{alignment_most}
-use Rattle.gv_layout.proofs.size.place_behind.Goals as goal
+use Rattle.gv_layout.proofs.size.aligned_after.Goals as goal
 
 pub returns-then-end-eq0 : goal.returns-then-end-eq0
 returns-then-end-eq0 c =

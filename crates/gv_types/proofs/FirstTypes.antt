@@ -16,7 +16,7 @@ use Rattle.gv_types.specs.declared.class.BasicType.{BasicType}
 use Rattle.gv_types.specs.declared.class.Class.{Class}
 use Rattle.gv_types.specs.declared.class.Class.TheVariants as classes
 use Rattle.gv_types.specs.Classes.{basic_of, class_of, class_of_mark}
-use Rattle.gv_types.specs.Fronts.{begins_type, front, after, closes, types_inside, after_close, BeginsFront, BeginsInside, IsAfterFront}
+use Rattle.gv_types.specs.FirstTypes.{begins_type, first_type, after, closes, types_inside, after_close, HasFirstType, BeginsInside, IsAfterFirst}
 use Rattle.gv_types.proofs.ClassLaws.{basic_of-basic_type}
 use Rattle.gv_types.proofs.PrefixTypes.{one_type_prefix}
 
@@ -99,8 +99,8 @@ IsBefore s r classes.Entry = IsEntryBefore s r
 
 -- a mark before s tells the class
 pub record IsMarked (m : TypeMark) (s r : Seen) : Type 0 where
-  pub class : class_of_mark m ≡ Some (class_of (front r))
-  pub is : IsBefore s r (class_of (front r))
+  pub class : class_of_mark m ≡ Some (class_of (first_type r))
+  pub is : IsBefore s r (class_of (first_type r))
 
 array_is : (s : Seen) → begins_type (array_before s) ≡ true → IsMarked of_array s (array_before s)
 array_is (type t s) h = record { class = refl; is = tt }
@@ -123,7 +123,7 @@ entry_is _ h = absurd (false≢true h)
 tuple_is : (s : Seen) → begins_type (tuple_type_before s) ≡ true → IsMarked open_tuple s (tuple_type_before s)
 tuple_is s h =
     let t = tuple_before s h in
-    let c : classes.Tuple ≡ class_of (front (tuple_type_before s)) = sym (ap (λ r. class_of (front r)) t.is) in
+    let c : classes.Tuple ≡ class_of (first_type (tuple_type_before s)) = sym (ap (λ r. class_of (first_type r)) t.is) in
     record { class = ap Some c; is = subst (IsBefore s (tuple_type_before s)) c t }
 
 marked : (m : TypeMark) (s : Seen) → begins_type (mark_before m s) ≡ true → IsMarked m s (mark_before m s)
@@ -149,67 +149,67 @@ unfolding seen
 some_seen [] h = absurd (h refl)
 some_seen (c ∷ w) h = omega arith
 
-pub front_some : (w : List ℕ) → BeginsFront w → 0 < length w
-front_some w f = some_seen w (λ e. false≢true (sym (ap begins_type e) ∙ f.begins))
+pub first_type_some : (w : List ℕ) → HasFirstType w → 0 < length w
+first_type_some w f = some_seen w (λ e. false≢true (sym (ap begins_type e) ∙ f.begins))
 
-front_marked : (w : List ℕ) → BeginsFront w → IsMarked (mark (get_or w 0 0)) (seen (drop 1 w)) (seen w)
-front_marked w f =
-    let e = seen_cut w (front_some w f) in
+first_type_marked : (w : List ℕ) → HasFirstType w → IsMarked (mark (get_or w 0 0)) (seen (drop 1 w)) (seen w)
+first_type_marked w f =
+    let e = seen_cut w (first_type_some w f) in
     subst (IsMarked (mark (get_or w 0 0)) (seen (drop 1 w))) (sym e) (marked (mark (get_or w 0 0)) (seen (drop 1 w)) (sym (ap begins_type e) ∙ f.begins))
 
 -- it tells the type's class
-pub front_class : (w : List ℕ) → BeginsFront w → class_of_mark (mark (get_or w 0 0)) ≡ Some (class_of (front (seen w)))
-front_class w f = (front_marked w f).class
+pub first_type_class : (w : List ℕ) → HasFirstType w → class_of_mark (mark (get_or w 0 0)) ≡ Some (class_of (first_type (seen w)))
+first_type_class w f = (first_type_marked w f).class
 
-front_is : (w : List ℕ) (c : Class) → BeginsFront w → class_of (front (seen w)) ≡ c → IsBefore (seen (drop 1 w)) (seen w) c
-front_is w c f e = subst (IsBefore (seen (drop 1 w)) (seen w)) e (front_marked w f).is
+first_type_is : (w : List ℕ) (c : Class) → HasFirstType w → class_of (first_type (seen w)) ≡ c → IsBefore (seen (drop 1 w)) (seen w) c
+first_type_is w c f e = subst (IsBefore (seen (drop 1 w)) (seen w)) e (first_type_marked w f).is
 
 drop_shorter : (w : List ℕ) → 0 < length w → length (drop 1 w) < length w
 drop_shorter w h = omega (arith, h, length-drop 1 w)
 
 -- a type of one letter
 pub record IsOneLetter (w : List ℕ) (t : Ty) : Type 0 where
-  pub type : front (seen w) ≡ t
-  pub after : IsAfterFront w (drop 1 w)
+  pub type : first_type (seen w) ≡ t
+  pub after : IsAfterFirst w (drop 1 w)
 
-one_letter : (w : List ℕ) (t : Ty) → BeginsFront w → seen w ≡ type t (seen (drop 1 w)) → IsOneLetter w t
-one_letter w t f e = record { type = ap front e; after = record { is = sym (ap after e); shorter = drop_shorter w (front_some w f) } }
+one_letter : (w : List ℕ) (t : Ty) → HasFirstType w → seen w ≡ type t (seen (drop 1 w)) → IsOneLetter w t
+one_letter w t f e = record { type = ap first_type e; after = record { is = sym (ap after e); shorter = drop_shorter w (first_type_some w f) } }
 
-pub basic_front : (w : List ℕ) (b : BasicType) → BeginsFront w → class_of (front (seen w)) ≡ classes.Basic b → IsOneLetter w (basic (basic_of b))
-basic_front w b f e = one_letter w (basic (basic_of b)) f (front_is w (classes.Basic b) f e)
+pub basic_first_type : (w : List ℕ) (b : BasicType) → HasFirstType w → class_of (first_type (seen w)) ≡ classes.Basic b → IsOneLetter w (basic (basic_of b))
+basic_first_type w b f e = one_letter w (basic (basic_of b)) f (first_type_is w (classes.Basic b) f e)
 
-pub variant_front : (w : List ℕ) → BeginsFront w → class_of (front (seen w)) ≡ classes.Variant → IsOneLetter w variant
-variant_front w f e = one_letter w variant f (front_is w classes.Variant f e)
+pub variant_first_type : (w : List ℕ) → HasFirstType w → class_of (first_type (seen w)) ≡ classes.Variant → IsOneLetter w variant
+variant_first_type w f e = one_letter w variant f (first_type_is w classes.Variant f e)
 
 -- ---- the type that is cut off
 
-begun : (s : Seen) → begins_type s ≡ true → s ≡ type (front s) (after s)
+begun : (s : Seen) → begins_type s ≡ true → s ≡ type (first_type s) (after s)
 begun (type t s) h = refl
 begun nothing h = absurd (false≢true h)
 begun (tuple_end s) h = absurd (false≢true h)
 begun (entry_end s) h = absurd (false≢true h)
 begun wrong h = absurd (false≢true h)
 
-spelled : (s : Seen) (w : List ℕ) → begins_type s ≡ true → Shows s w → (r : List ℕ) × (w ≡ spelling (front s) ++ r)
+spelled : (s : Seen) (w : List ℕ) → begins_type s ≡ true → Shows s w → (r : List ℕ) × (w ≡ spelling (first_type s) ++ r)
 spelled (type t s) w h is = (is.0, is.1)
 spelled nothing w h is = absurd (false≢true h)
 spelled (tuple_end s) w h is = absurd (false≢true h)
 spelled (entry_end s) w h is = absurd (false≢true h)
 spelled wrong w h is = absurd (false≢true h)
 
-pub front_prefix : (w : List ℕ) → BeginsFront w → type_prefix [] w ≡ Some (front (seen w))
-front_prefix w f =
+pub first_type_prefix : (w : List ℕ) → HasFirstType w → type_prefix [] w ≡ Some (first_type (seen w))
+first_type_prefix w f =
     let p = spelled (seen w) w f.begins (seen_shows w) in
-    let t = front (seen w) in
+    let t = first_type (seen w) in
     let fits = within_limits t (spelling t) f.nested (omega (arith, f.short, ap length p.1, length-append (spelling t) p.0)) in
     ap (type_prefix []) p.1 ∙ one_type_prefix t [] (spelling t) p.0 fits refl
 
-pub front_short : (w : List ℕ) → BeginsFront w → length (spelling (front (seen w))) ≤ 67108864
-front_short w f =
+pub first_type_short : (w : List ℕ) → HasFirstType w → length (spelling (first_type (seen w))) ≤ 67108864
+first_type_short w f =
     let p = spelled (seen w) w f.begins (seen_shows w) in
-    omega (arith, f.short, ap length p.1, length-append (spelling (front (seen w))) p.0)
+    omega (arith, f.short, ap length p.1, length-append (spelling (first_type (seen w))) p.0)
 
-pub cut_after : (w rest : List ℕ) (t : Ty) → w ≡ spelling t ++ rest → IsAfterFront w rest
+pub cut_after : (w rest : List ℕ) (t : Ty) → w ≡ spelling t ++ rest → IsAfterFirst w rest
 cut_after w rest t e = record {
   is = sym (ap after (ap seen e ∙ seen-spelling t rest));
   shorter = omega (arith, ap length e, length-append (spelling t) rest, spelling-positive t);
@@ -219,7 +219,7 @@ cut_after w rest t e = record {
 
 pub record HasInside (w : List ℕ) : Type 0 where
   pub begins : BeginsInside (drop 1 w)
-  pub type : front (seen w) ≡ tuple (types_inside (seen (drop 1 w)))
+  pub type : first_type (seen w) ≡ tuple (types_inside (seen (drop 1 w)))
   pub after : after (seen w) ≡ after_close (seen (drop 1 w))
   pub shorter : length (drop 1 w) < length w
 
@@ -227,13 +227,13 @@ inside_nests : (ts : Types) → greatest_nesting ts ≤ nesting (tuple ts)
 unfolding nesting
 inside_nests ts = omega arith
 
-pub tuple_front : (w : List ℕ) → BeginsFront w → class_of (front (seen w)) ≡ classes.Tuple → HasInside w
-tuple_front w f e =
-    let t = front_is w classes.Tuple f e in
-    let less = drop_shorter w (front_some w f) in
+pub tuple_first_type : (w : List ℕ) → HasFirstType w → class_of (first_type (seen w)) ≡ classes.Tuple → HasInside w
+tuple_first_type w f e =
+    let t = first_type_is w classes.Tuple f e in
+    let less = drop_shorter w (first_type_some w f) in
     record {
-      begins = record { ends = t.ends; nested = omega (arith, f.nested, ap (λ r. nesting (front r)) t.is, inside_nests (types_inside (seen (drop 1 w)))); short = omega (arith, f.short, less) };
-      type = ap front t.is;
+      begins = record { ends = t.ends; nested = omega (arith, f.nested, ap (λ r. nesting (first_type r)) t.is, inside_nests (types_inside (seen (drop 1 w)))); short = omega (arith, f.short, less) };
+      type = ap first_type t.is;
       after = ap after t.is;
       shorter = less;
     }
@@ -286,31 +286,31 @@ ends_or_begins close_tuple b s is h e = absurd (h is)
 ends_or_begins close_entry b s is h e = e
 ends_or_begins other b s is h e = e
 
-pub inside_front : (w : List ℕ) → BeginsInside w → (get_or w 0 0 ≡ 41 → ⊥) → BeginsFront w
-inside_front w f h =
+pub inside_first_type : (w : List ℕ) → BeginsInside w → (get_or w 0 0 ≡ 41 → ⊥) → HasFirstType w
+inside_first_type w f h =
     let cut = seen_cut w (inside_some w f) in
     let begins : begins_type (seen w) ≡ true = ap begins_type cut ∙ ends_or_begins (mark (get_or w 0 0)) (get_or w 0 0) (seen (drop 1 w)) (byte_of_mark (get_or w 0 0)) h (sym (ap closes cut) ∙ f.ends) in
-    record { begins = begins; nested = omega (arith, f.nested, ap (λ s. greatest_nesting (types_inside s)) (begun (seen w) begins), first_nests (front (seen w)) (types_inside (after (seen w)))); short = f.short }
+    record { begins = begins; nested = omega (arith, f.nested, ap (λ s. greatest_nesting (types_inside s)) (begun (seen w) begins), first_nests (first_type (seen w)) (types_inside (after (seen w)))); short = f.short }
 
-pub inside_types : (w : List ℕ) → BeginsInside w → BeginsFront w → types_inside (seen w) ≡ member (front (seen w)) (types_inside (after (seen w)))
+pub inside_types : (w : List ℕ) → BeginsInside w → HasFirstType w → types_inside (seen w) ≡ member (first_type (seen w)) (types_inside (after (seen w)))
 inside_types w f g = ap types_inside (begun (seen w) g.begins)
 
 pub inside_more : (w : List ℕ) → BeginsInside w → (get_or w 0 0 ≡ 41 → ⊥) → types_inside (seen w) ≡ end → ⊥
-inside_more w f h e = let is : member (front (seen w)) (types_inside (after (seen w))) ≡ end = sym (inside_types w f (inside_front w f h)) ∙ e in cc
+inside_more w f h e = let is : member (first_type (seen w)) (types_inside (after (seen w))) ≡ end = sym (inside_types w f (inside_first_type w f h)) ∙ e in cc
 
 -- after a member
 pub record HasMember (w rest : List ℕ) : Type 0 where
   pub begins : BeginsInside rest
-  pub types : types_inside (seen w) ≡ member (front (seen w)) (types_inside (seen rest))
+  pub types : types_inside (seen w) ≡ member (first_type (seen w)) (types_inside (seen rest))
   pub after : after_close (seen w) ≡ after_close (seen rest)
 
-pub inside_next : (w rest : List ℕ) → BeginsInside w → BeginsFront w → IsAfterFront w rest → HasMember w rest
+pub inside_next : (w rest : List ℕ) → BeginsInside w → HasFirstType w → IsAfterFirst w rest → HasMember w rest
 inside_next w rest f g a =
-    let is : seen w ≡ type (front (seen w)) (seen rest) = begun (seen w) g.begins ∙ ap (type (front (seen w))) (sym a.is) in
+    let is : seen w ≡ type (first_type (seen w)) (seen rest) = begun (seen w) g.begins ∙ ap (type (first_type (seen w))) (sym a.is) in
     record {
       begins = record {
         ends = sym (ap closes is) ∙ f.ends;
-        nested = omega (arith, f.nested, ap (λ s. greatest_nesting (types_inside s)) is, first_nests (front (seen w)) (types_inside (seen rest)));
+        nested = omega (arith, f.nested, ap (λ s. greatest_nesting (types_inside s)) is, first_nests (first_type (seen w)) (types_inside (seen rest)));
         short = omega (arith, f.short, a.shorter);
       };
       types = ap types_inside is;
@@ -325,7 +325,7 @@ pub record HasPair (w : List ℕ) : Type 0 where
   pub value : Ty
   pub rest : Seen
   pub inside : seen (drop 1 w) ≡ type (basic key) (type value (entry_end rest))
-  pub type : front (seen w) ≡ entry key value
+  pub type : first_type (seen w) ≡ entry key value
   pub after : after (seen w) ≡ rest
   pub nested : nesting value ≤ 128
   pub short : length (drop 1 w) ≤ 67108864
@@ -335,18 +335,18 @@ value_nests : (k : Basic) (t : Ty) → nesting t ≤ nesting (entry k t)
 unfolding nesting
 value_nests k t = omega arith
 
-pub entry_front : (w : List ℕ) → BeginsFront w → class_of (front (seen w)) ≡ classes.Entry → HasPair w
-entry_front w f e =
-    let t = front_is w classes.Entry f e in
-    let less = drop_shorter w (front_some w f) in
+pub entry_first_type : (w : List ℕ) → HasFirstType w → class_of (first_type (seen w)) ≡ classes.Entry → HasPair w
+entry_first_type w f e =
+    let t = first_type_is w classes.Entry f e in
+    let less = drop_shorter w (first_type_some w f) in
     record {
       key = t.key;
       value = t.value;
       rest = t.rest;
       inside = t.inside;
-      type = ap front t.is;
+      type = ap first_type t.is;
       after = ap after t.is;
-      nested = omega (arith, f.nested, ap (λ r. nesting (front r)) t.is, value_nests t.key t.value);
+      nested = omega (arith, f.nested, ap (λ r. nesting (first_type r)) t.is, value_nests t.key t.value);
       short = omega (arith, f.short, less);
       shorter = less;
     }
@@ -356,23 +356,23 @@ unfolding nesting
 key_nests k = omega arith
 
 -- the key is at the start of what is in the brackets
-pub key_front : (w : List ℕ) (p : HasPair w) → BeginsFront (drop 1 w)
-key_front w p = record { begins = ap begins_type p.inside; nested = subst (λ (t : Ty). nesting t ≤ 128) (sym (ap front p.inside)) (key_nests p.key); short = p.short }
+pub key_first_type : (w : List ℕ) (p : HasPair w) → HasFirstType (drop 1 w)
+key_first_type w p = record { begins = ap begins_type p.inside; nested = subst (λ (t : Ty). nesting t ≤ 128) (sym (ap first_type p.inside)) (key_nests p.key); short = p.short }
 
-pub key_type : (w : List ℕ) (p : HasPair w) → front (seen (drop 1 w)) ≡ basic p.key
-key_type w p = ap front p.inside
+pub key_type : (w : List ℕ) (p : HasPair w) → first_type (seen (drop 1 w)) ≡ basic p.key
+key_type w p = ap first_type p.inside
 
 -- after it the value is
-value_seen : (w rest : List ℕ) (p : HasPair w) → IsAfterFront (drop 1 w) rest → seen rest ≡ type p.value (entry_end p.rest)
+value_seen : (w rest : List ℕ) (p : HasPair w) → IsAfterFirst (drop 1 w) rest → seen rest ≡ type p.value (entry_end p.rest)
 value_seen w rest p a = a.is ∙ ap after p.inside
 
-pub value_front : (w rest : List ℕ) (p : HasPair w) → IsAfterFront (drop 1 w) rest → BeginsFront rest
-value_front w rest p a =
+pub value_first_type : (w rest : List ℕ) (p : HasPair w) → IsAfterFirst (drop 1 w) rest → HasFirstType rest
+value_first_type w rest p a =
     let e = value_seen w rest p a in
-    record { begins = ap begins_type e; nested = subst (λ (t : Ty). nesting t ≤ 128) (sym (ap front e)) p.nested; short = omega (arith, p.short, a.shorter) }
+    record { begins = ap begins_type e; nested = subst (λ (t : Ty). nesting t ≤ 128) (sym (ap first_type e)) p.nested; short = omega (arith, p.short, a.shorter) }
 
-pub value_type : (w rest : List ℕ) (p : HasPair w) → IsAfterFront (drop 1 w) rest → front (seen rest) ≡ p.value
-value_type w rest p a = ap front (value_seen w rest p a)
+pub value_type : (w rest : List ℕ) (p : HasPair w) → IsAfterFirst (drop 1 w) rest → first_type (seen rest) ≡ p.value
+value_type w rest p a = ap first_type (value_seen w rest p a)
 
 -- and then the bracket
 entry_closes : (w : List ℕ) (s : Seen) → seen w ≡ entry_end s → (0 < length w) × (seen (drop 1 w) ≡ s)
@@ -401,21 +401,21 @@ entry_closes w s e =
 
 pub record IsEntryClosed (w last : List ℕ) : Type 0 where
   pub some : 0 < length last
-  pub after : IsAfterFront w (drop 1 last)
+  pub after : IsAfterFirst w (drop 1 last)
 
-pub entry_closed : (w value last : List ℕ) (p : HasPair w) → IsAfterFront (drop 1 w) value → IsAfterFront value last → IsEntryClosed w last
+pub entry_closed : (w value last : List ℕ) (p : HasPair w) → IsAfterFirst (drop 1 w) value → IsAfterFirst value last → IsEntryClosed w last
 entry_closed w value last p a b =
     let c = entry_closes last p.rest (b.is ∙ ap after (value_seen w value p a)) in
     record { some = c.0; after = record { is = c.1 ∙ sym p.after; shorter = omega (arith, p.shorter, a.shorter, b.shorter, drop_shorter last c.0) } }
 
 -- ---- a whole type
 
-pub whole_front : (w : List ℕ) → is_type w ≡ true → BeginsFront w
-whole_front w h =
+pub whole_first_type : (w : List ℕ) → is_type w ≡ true → HasFirstType w
+whole_first_type w h =
     let is = spelling-type_at w h in
     let e : seen w ≡ type (type_at w) nothing = ap seen (sym is.0) ∙ seen_type (type_at w) in
     let limits = limits_of (type_at w) w is.1 in
-    record { begins = ap begins_type e; nested = subst (λ (t : Ty). nesting t ≤ 128) (sym (ap front e)) limits.0; short = limits.1 }
+    record { begins = ap begins_type e; nested = subst (λ (t : Ty). nesting t ≤ 128) (sym (ap first_type e)) limits.0; short = limits.1 }
 
-pub whole_type : (w : List ℕ) → is_type w ≡ true → front (seen w) ≡ type_at w
-whole_type w h = ap front (ap seen (sym (spelling-type_at w h).0) ∙ seen_type (type_at w))
+pub whole_type : (w : List ℕ) → is_type w ≡ true → first_type (seen w) ≡ type_at w
+whole_type w h = ap first_type (ap seen (sym (spelling-type_at w h).0) ∙ seen_type (type_at w))
