@@ -3,7 +3,7 @@ use Rattle.std.specs.Prelude.{ℕ, List, Option, Some, None, Result, Ok, Err, if
 use Rattle.dconf_model.specs.Commands.{Command}
 use Rattle.dconf_model.specs.Commands.Command.{write, reset, reset_below, load, compile, repair}
 use Rattle.dconf_model.specs.Lines.{LineFault}
-use Rattle.dconf_model.specs.Profiles.{Database, is_written, profile_of, user_file}
+use Rattle.dconf_model.specs.Profiles.{Database, has_writable, profile_of, user_file}
 use Rattle.dconf_command.specs.declared.replaced.Replaced.{Replaced}
 use Rattle.dconf_command.specs.declared.replaced.Replaced.TheVariants.{File, UserOf}
 
@@ -28,7 +28,7 @@ replaced_by other = None
 
 -- The user's file where the first database is the user's, else the profile's own.
 abbrev pub file_of_first : List ℕ → List Database → List ℕ
-file_of_first profile databases = if is_written databases then user_file databases else profile
+file_of_first profile databases = if has_writable databases then user_file databases else profile
 
 abbrev pub file_if_read : List ℕ → Result (List Database) LineFault → List ℕ
 file_if_read profile (Ok databases) = file_of_first profile databases

@@ -11,9 +11,9 @@ use Rattle.dconf_model.specs.Stores.{Did, FilesGive, IsNamed, own_after, value_g
 use Rattle.dconf_model.specs.Stores.Deed.{changed}
 
 -- the layers of these files
-pub record AreOpened (files : List MaybeBytes) (writable : Bool) (l : Layers) : Type 0 where
+pub record AreOpened (files : List MaybeBytes) (may_write : Bool) (l : Layers) : Type 0 where
   pub layers : AreLayers files l.layers
-  pub writable : l.writable ≡ writable
+  pub writable : l.writable ≡ may_write
 
 -- each change is accepted in turn
 abbrev pub HaveChanged : Layers → List Change → Layers → Type 0
