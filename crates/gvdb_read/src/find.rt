@@ -35,7 +35,7 @@ impl<'a> Table<'a> {
         ensures found { IfSome result (λ bytes. IsValueOf (region self.entry) name.now bytes.now) }
         ensures none { IfNone result (Finds (region self.entry) name.now value_kind None) }
     {
-        self.find_hashed_bytes(HashedName::new(name))
+        self.find_hashed_bytes(HashedName::new(name.as_bytes()))
     }
 
     /// As `find_bytes`, of a name that is hashed already: where the bloom words rule it out, it looks at no byte of it.
@@ -45,8 +45,7 @@ impl<'a> Table<'a> {
         ensures none { IfNone result (Finds (region self.entry) (name_text name.entry) value_kind None) }
     {
         let mut steps = Steps::new();
-        let bytes = name.text.as_bytes();
-        let i = self.find_hashed(name.hash, bytes, Kind::Value, &mut steps)?;
+        let i = self.find_hashed(name.hash, name.bytes, Kind::Value, &mut steps)?;
         self.pointed_at(i, Kind::Value)
     }
 

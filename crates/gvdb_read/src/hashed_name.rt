@@ -7,21 +7,22 @@ use crate::format::hash;
 /// A name, lent, and its hash.
 #[derive(Clone, Copy, Debug)]
 pub struct HashedName<'n> {
-    pub(crate) text: &'n str,
+    pub(crate) bytes: &'n [u8],
     pub(crate) hash: u32,
-    ghost is_hashed: { hash ≡ hash_of text.now },
+    ghost is_hashed: { hash ≡ hash_of bytes.now },
 }
 
 impl<'n> HashedName<'n> {
     ghost use Rattle.gvdb_read.specs.HashedNames.{name_text};
 
-    /// Hashes a name. It looks at each byte once.
-    pub fn new(text: &'n str) -> HashedName<'n>
-        ensures { name_text result ≡ text.entry.now }
+    /// Hashes the bytes of a name. It looks at each byte once.
+    #[inline(always)]
+    pub fn new(bytes: &'n [u8]) -> HashedName<'n>
+        ensures { name_text result ≡ bytes.entry.now }
     {
         HashedName {
-            text,
-            hash: hash(text.as_bytes()),
+            bytes,
+            hash: hash(bytes),
         }
     }
 }

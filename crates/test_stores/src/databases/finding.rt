@@ -35,7 +35,7 @@ fn takes_bytes_as_signed_numbers(rt: HostRuntime) {
 /// Whether the value of this name has these bytes in a table, and no list has this name.
 fn has_bytes(table: Table<'_>, name: &str, bytes: Option<&[u8]>) -> bool {
     table.find_bytes(name) == bytes
-        && table.find_hashed_bytes(HashedName::new(name)) == bytes
+        && table.find_hashed_bytes(HashedName::new(name.as_bytes())) == bytes
         && table.find(name).is_some() == bytes.is_some()
         && table.has(name) == bytes.is_some()
 }
