@@ -4,3 +4,4 @@ pub mod MemoryFolders
 pub mod Crashes
 pub mod StdFolders
 pub mod FolderFaults
+pub mod LockFaults

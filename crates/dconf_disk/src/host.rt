@@ -11,7 +11,7 @@ use std::fs::{OpenFile, OpenOptions};
 use std::io::{ErrorKind, Read, Write};
 use std::path::Path;
 use std::rt::Files;
-use std::{fs, io};
+use std::{fmt, fs, io};
 
 /// The files of the current folder, by `rt`. What they hold no contract can say, nor that the host keeps what a folder is.
 ///
@@ -25,6 +25,17 @@ pub struct StdFolder<R> {
     rt: R,
     failures: u64,
     can_write: bool,
+}
+
+/// It shows nothing of the host, which no proof speaks of.
+impl<R> fmt::Debug for StdFolder<R> {
+    ghost use Rattle.std.specs.Prelude.{None};
+
+    ghost debug_output = { λ _. None };
+
+    fn fmt<W: fmt::Write>(&self, f: &mut fmt::Formatter<W>) -> fmt::Result {
+        f.write_str("StdFolder { .. }")
+    }
 }
 
 impl<R: Files> StdFolder<R> {

@@ -1,9 +1,12 @@
 //! The lock by which the programs that replace files in a folder take turns.
+ghost use Rattle.std.specs.Prelude.{◌≡◌};
+
+use std::error::Error;
 use std::fs::{File, TryLockError};
 use std::rt::{Clock, Files};
 use std::thread::sleep;
 use std::time::{Duration, Instant};
-use std::{fs, io};
+use std::{fmt, fs, io};
 
 /// How many seconds a program waits for its turn, at most.
 const LONGEST_WAIT: u64 = 10;
@@ -31,6 +34,33 @@ pub enum LockFault {
     /// The folder can't be opened, or its file system has no such lock, or the clock failed.
     Device(io::Error),
 }
+
+impl LockFault {
+    ghost use Rattle.dconf_disk.specs.LockFaults.{lock_fault_text};
+
+    /// The name by which it is printed.
+    fn name(&self) -> &'static str
+        ensures { result.now ≡ lock_fault_text self.now }
+    {
+        match self {
+            LockFault::Busy => "Busy",
+            LockFault::Device(_) => "Device",
+        }
+    }
+}
+
+impl fmt::Display for LockFault {
+    ghost use Rattle.std.specs.Prelude.{Some};
+    ghost use Rattle.dconf_disk.specs.LockFaults.{lock_fault_text};
+
+    ghost output = { λ fault. Some (lock_fault_text fault) };
+
+    fn fmt<W: fmt::Write>(&self, f: &mut fmt::Formatter<W>) -> fmt::Result {
+        f.write_str(self.name())
+    }
+}
+
+impl Error for LockFault {}
 
 impl From<io::Error> for LockFault {
     fn from(error: io::Error) -> LockFault {

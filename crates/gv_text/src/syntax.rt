@@ -5,6 +5,7 @@ ghost use Rattle.gv_model.specs.Grammar.{text_bytes};
 
 use crate::type_text::TypeText;
 use gv_types::BasicType;
+use std::fmt;
 use std::marker::Model;
 
 /// A part of a syntax tree: what it is, and the parts in it.
@@ -16,7 +17,7 @@ pub struct SyntaxNode {
 
 /// What a part of a syntax tree is.
 #[cycle(syntax)]
-#[derive(Drop)]
+#[derive(Debug, Drop)]
 pub enum SyntaxKind {
     /// `true` or `false`.
     Truth(bool),
@@ -66,8 +67,19 @@ impl Model for SyntaxNode {
     ghost size_decreases = { λ a h. deep-le_levels a.kind };
 }
 
+/// It shows none of its parts: there may be many. Its kind shows one level of them.
+impl fmt::Debug for SyntaxNode {
+    ghost use Rattle.std.specs.Prelude.{None};
+
+    ghost debug_output = { λ _. None };
+
+    fn fmt<W: fmt::Write>(&self, f: &mut fmt::Formatter<W>) -> fmt::Result {
+        f.write_str("SyntaxNode { .. }")
+    }
+}
+
 /// The syntax tree of a text: at most 128 levels, and of a text of at most 16 MiB.
-#[derive(Drop)]
+#[derive(Debug, Drop)]
 pub struct Syntax {
     root: SyntaxNode,
 }

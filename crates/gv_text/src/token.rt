@@ -50,7 +50,7 @@ pub enum Word {
 }
 
 /// What a token is.
-#[derive(Drop)]
+#[derive(Debug, Drop)]
 pub enum TokenKind {
     Mark(Mark),
     /// A string: the text between its quotes, escapes taken out.
@@ -65,7 +65,7 @@ pub enum TokenKind {
 }
 
 /// A token and where it is.
-#[derive(Drop)]
+#[derive(Debug, Drop)]
 pub struct Token {
     pub kind: TokenKind,
     pub span: Span,

@@ -7,7 +7,7 @@ use gv_types::TypeStr;
 use std::alloc::{AllocError, Global};
 
 /// The text of one type, which owns it.
-#[derive(Drop)]
+#[derive(Debug, Drop)]
 pub struct TypeText {
     pub(crate) text: String,
     ghost spells_type: { IsTrue (is_type (string_bytes text)) },

@@ -15,7 +15,7 @@ use std::alloc::{AllocError, Global};
 /// A value of a type that holds no other.
 ///
 /// A text, an object path and a signature are looked at where a tree is made of them.
-#[derive(Drop)]
+#[derive(Debug, Drop)]
 pub enum Basic {
     /// `b`, true or false.
     Bool(bool),

@@ -10,7 +10,7 @@ use crate::tree::Tree;
 use gv_types::{Class, TypeStr};
 
 /// What a tree is made of, lent from it.
-#[derive(Clone, Copy)]
+#[derive(Clone, Copy, Debug)]
 pub enum Shape<'a> {
     /// A value of a basic type.
     Basic(&'a Basic),

@@ -1,5 +1,5 @@
 //! A tree, and what it tells of itself.
-ghost use Rattle.std.specs.Prelude.{◌≡◌, ◌-◌, ◌^◌, min};
+ghost use Rattle.std.specs.Prelude.{◌≡◌, ◌-◌, ◌^◌, None, min};
 ghost use Rattle.gv_model.specs.Tree.{type_of, depth, nodes};
 ghost use Rattle.gv_types.specs.TypeStr.{ty};
 ghost use Rattle.gv_tree.specs.Wholes.{IsWhole};
@@ -8,6 +8,7 @@ ghost use Rattle.gv_tree.specs.Shapes.{ShapeIs};
 use crate::basic::Basic;
 use crate::shape::{Shape, container_shape};
 use gv_types::TypeStr;
+use std::fmt;
 use std::marker::Model;
 
 /// A value of a type, which owns its parts.
@@ -91,5 +92,16 @@ impl Tree {
         ensures { result ≡ depth self.now }
     {
         self.levels
+    }
+}
+
+/// It shows the type alone: a value may be large, and gv_text prints it.
+impl fmt::Debug for Tree {
+    ghost debug_output = { λ _. None };
+
+    fn fmt<W: fmt::Write>(&self, f: &mut fmt::Formatter<W>) -> fmt::Result {
+        f.write_str("Tree { type: ")?;
+        f.write_str(self.type_text().as_str())?;
+        f.write_str(", .. }")
     }
 }
