@@ -32,7 +32,7 @@ typedef struct {
 
 struct DconfdbSnapshot {
     atomic_size_t references;
-    bool is_written;
+    bool is_writable;
     size_t count;
     Part **parts;
     DconfdbLayer layers[];
@@ -208,7 +208,7 @@ static Part *part_now(const char *name, bool maps, Part *old, int turn, size_t a
 
 /* ---- snapshots */
 
-static DconfdbSnapshot *snapshot_new(size_t count, bool is_written)
+static DconfdbSnapshot *snapshot_new(size_t count, bool is_writable)
 {
     DconfdbSnapshot *snapshot = malloc(sizeof *snapshot + count * sizeof snapshot->layers[0]);
     Part **parts = calloc(count + 1, sizeof *parts);
@@ -218,7 +218,7 @@ static DconfdbSnapshot *snapshot_new(size_t count, bool is_written)
         return NULL;
     }
     snapshot->references = 1;
-    snapshot->is_written = is_written;
+    snapshot->is_writable = is_writable;
     snapshot->count = count;
     snapshot->parts = parts;
     return snapshot;
@@ -267,7 +267,7 @@ static bool tell(bool is_found, const DconfdbFound *found, DconfdbValue *value)
 bool dconfdb_snapshot_read(const DconfdbSnapshot *snapshot, const char *path, DconfdbValue *value)
 {
     DconfdbFound found = nothing_found;
-    bool is_found = dconfdb_read(snapshot->layers, snapshot->count, snapshot->is_written, bytes_of(path), strlen(path), &found);
+    bool is_found = dconfdb_read(snapshot->layers, snapshot->count, snapshot->is_writable, bytes_of(path), strlen(path), &found);
     return tell(is_found, &found, value);
 }
 
@@ -275,14 +275,14 @@ bool dconfdb_snapshot_read_default(const DconfdbSnapshot *snapshot, const char *
 {
     DconfdbFound found = nothing_found;
     bool is_found =
-        dconfdb_read_default(snapshot->layers, snapshot->count, snapshot->is_written, bytes_of(path), strlen(path), &found);
+        dconfdb_read_default(snapshot->layers, snapshot->count, snapshot->is_writable, bytes_of(path), strlen(path), &found);
     return tell(is_found, &found, value);
 }
 
 bool dconfdb_snapshot_read_user(const DconfdbSnapshot *snapshot, const char *path, DconfdbValue *value)
 {
     DconfdbFound found = nothing_found;
-    bool is_found = snapshot->is_written && dconfdb_read_alone(&snapshot->layers[0], bytes_of(path), strlen(path), &found);
+    bool is_found = snapshot->is_writable && dconfdb_read_alone(&snapshot->layers[0], bytes_of(path), strlen(path), &found);
     return tell(is_found, &found, value);
 }
 
@@ -293,7 +293,7 @@ bool dconfdb_snapshot_is_locked(const DconfdbSnapshot *snapshot, const char *pat
 
 bool dconfdb_snapshot_is_writable(const DconfdbSnapshot *snapshot, const char *path)
 {
-    return dconfdb_is_writable(snapshot->layers, snapshot->count, snapshot->is_written, bytes_of(path), strlen(path));
+    return dconfdb_is_writable(snapshot->layers, snapshot->count, snapshot->is_writable, bytes_of(path), strlen(path));
 }
 
 /* What a call lists, into a room of so many bytes. */
@@ -681,7 +681,7 @@ static bool make_file(const DconfdbStore *store, const DconfdbChange *changes, c
         *file = (FileBytes){malloc(room_len), 0, false};
         if (!file->at)
             return refuse_memory(error);
-        number = dconfdb_change(now->layers, now->count, now->is_written, changes, count, file->at, room_len, &len, &at);
+        number = dconfdb_change(now->layers, now->count, now->is_writable, changes, count, file->at, room_len, &len, &at);
         file->len = len;
         if (number == DCONFDB_OK && len <= room_len)
             return true;

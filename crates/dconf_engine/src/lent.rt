@@ -1,9 +1,10 @@
 //! Layers that are lent, and what is seen through them.
-ghost use Rattle.std.specs.Prelude.{◌≡◌, ◌<◌, ◌&&◌, IfSome, List, Some, drop, length, map, not, option_map, slice_index_or, ℕ, take};
+ghost use Rattle.std.specs.Prelude.{◌≡◌, ◌<◌, ◌&&◌, IfSome, IsSome, List, Some, drop, false, length, map, not, option_map, slice_index_or, ℕ, take};
 ghost use Rattle.std.specs.FinMap.{get};
 ghost use Rattle.gv_view.specs.Views.{value};
 ghost use Rattle.gvdb_read.specs.Lookups.{ShowsHeld};
 ghost use Rattle.dconf_model.specs.Layers.{first_from, is_locked, level, locks_path, origin, place_of, visible, visible_bytes, without_user};
+ghost use Rattle.dconf_model.specs.Salvaging.{IsKeyText};
 ghost use Rattle.dconf_model.specs.Settings.{no_settings};
 ghost use Rattle.dconf_path.specs.Paths.{key_text};
 ghost use Rattle.dconf_engine.specs.LayerSettings.{settings_of};
@@ -90,6 +91,23 @@ impl<'a, 'l> LentLayers<'a, 'l> {
         self.place_from(self.level(path), path)
     }
 
+    /// As `place`, of bytes; None also where they are no path of a key.
+    ///
+    /// Where no layer has locks the bytes are looked up as they are, and looked at once more only where something is found:
+    /// most keys that programs ask for have no value.
+    #[inline(always)]
+    pub fn place_of_bytes(self, path: &[u8]) -> Option<(usize, &'a [u8])>
+        ensures key { IsSome result → IsKeyText path.entry.now }
+        ensures place { IsKeyText path.entry.now → option_map {U = ℕ × List ℕ} (λ p. (p.0, p.1.now)) result ≡ place_of (seen_in self.entry) path.entry.now }
+    {
+        if self.have_locks() {
+            return self.place(KeyPath::of_bytes(path)?);
+        }
+        let place = self.place_named(0, HashedName::new(path))?;
+        KeyPath::of_bytes(path)?;
+        Some(place)
+    }
+
     /// The same without the values of the user's database.
     pub fn default_place(self, path: KeyPath<'_>) -> Option<(usize, &'a [u8])>
         ensures { option_map {U = ℕ × List ℕ} (λ p. (p.0, p.1.now)) result ≡ place_of (without_user (seen_in self.entry)) (key_text path.entry) }
@@ -99,6 +117,19 @@ impl<'a, 'l> LentLayers<'a, 'l> {
             return self.place_from(1, path);
         }
         self.place_from(level, path)
+    }
+
+    /// Whether a layer from the second on has locks. Where none has, no key is locked.
+    #[inline(always)]
+    fn have_locks(self) -> bool
+        ensures { result ≡ false → (path : List ℕ) → IsKeyText path → level (seen_in self.entry) path ≡ 0 }
+    {
+        for i in 1..self.layers.len() {
+            if self.has_locks_at(i) {
+                return true;
+            }
+        }
+        false
     }
 
     /// The greatest index of at least 1 whose layer locks the path; else 0.
@@ -122,13 +153,29 @@ impl<'a, 'l> LentLayers<'a, 'l> {
     pub(crate) fn place_from(self, from: usize, path: KeyPath<'_>) -> Option<(usize, &'a [u8])>
         ensures { option_map {U = ℕ × List ℕ} (λ p. (p.0, p.1.now)) result ≡ first_from from (drop from (seen_in self.entry).layers) (key_text path.entry) }
     {
-        let name = HashedName::new(path.as_str());
+        self.place_named(from, HashedName::new(path.as_str().as_bytes()))
+    }
+
+    /// The same, of a name that is hashed already.
+    #[inline(always)]
+    fn place_named(self, from: usize, name: HashedName<'_>) -> Option<(usize, &'a [u8])>
+        ensures { option_map {U = ℕ × List ℕ} (λ p. (p.0, p.1.now)) result ≡ first_from from (drop from (seen_in self.entry).layers) (name_text name.entry) }
+    {
         for i in from..self.layers.len() {
             if let Some(bytes) = self.bytes_at(i, name) {
                 return Some((i, bytes));
             }
         }
         None
+    }
+
+    /// Whether a layer has locks.
+    #[inline(always)]
+    fn has_locks_at(self, i: usize) -> bool
+        requires { i < length (seen_in self).layers }
+        ensures { result ≡ false → (path : List ℕ) → IsKeyText path → locks_path path (slice_index_or (seen_in self.entry).layers i no_settings) ≡ false }
+    {
+        self.layers[i].has_locks()
     }
 
     /// Whether a layer locks a path.

@@ -35,10 +35,7 @@ pub extern "C" fn dconfdb_read<'a>(
     ensures none { result ≡ false → IsKeyText path.now → place_of (layers_of layers.now writable) path.now ≡ None }
     ensures kept { result ≡ false → found.new ≡ found.old }
 {
-    let Some(path) = key_path(path) else {
-        return false;
-    };
-    let Some((origin, bytes)) = LentLayers::new(writable, layers).place(path) else {
+    let Some((origin, bytes)) = LentLayers::new(writable, layers).place_of_bytes(path) else {
         return false;
     };
     *found = found_in(origin, bytes);

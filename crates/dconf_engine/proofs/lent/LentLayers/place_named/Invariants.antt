@@ -1,11 +1,11 @@
 use Rattle.std.proofs.Common.{◌≡◌, drop}
 use Rattle.dconf_model.specs.Layers.{first_from}
-use Rattle.dconf_path.specs.Paths.{key_text}
 use Rattle.dconf_engine.specs.LentSettings.{seen_in}
-use Rattle.dconf_engine.proofs.lent.LentLayers.place_from.Given as goal
+use Rattle.gvdb_read.specs.HashedNames.{name_text}
+use Rattle.dconf_engine.proofs.lent.LentLayers.place_named.Given as goal
 
 -- no layer before this one has the path
 abbrev pub invariant-loop-i : goal.invariant-loop-i
 invariant-loop-i l =
-    first_from l.i (drop l.i (seen_in l.self).layers) (key_text l.path)
-    ≡ first_from l.from (drop l.from (seen_in l.self).layers) (key_text l.path)
+    first_from l.i (drop l.i (seen_in l.self).layers) (name_text l.name)
+    ≡ first_from l.from (drop l.from (seen_in l.self).layers) (name_text l.name)
