@@ -68,6 +68,12 @@ static void open_first(Bench *bench, guint i)
     bench->desk = g_settings_new("org.example.desk");
 }
 
+static void open_and_read(Bench *bench, guint i)
+{
+    open_first(bench, i);
+    read_string(bench, i);
+}
+
 static void subscribe(Bench *bench, guint i)
 {
     char path[64];
@@ -85,7 +91,7 @@ static const struct {
 } works[] = {
     {"string", read_string, TRUE, 10},     {"strings", read_strings, TRUE, 10}, {"missing", read_missing, TRUE, 10},
     {"writable", ask_writable, TRUE, 10},  {"set", set, TRUE, 1},               {"sync", set_and_sync, TRUE, 1},
-    {"open", open_first, FALSE, 0},        {"subscribe", subscribe, TRUE, 0},
+    {"open", open_first, FALSE, 0},        {"first", open_and_read, FALSE, 0},  {"subscribe", subscribe, TRUE, 0},
 };
 
 static void measure(Bench *bench, gsize work, guint times, gboolean toggles)

@@ -2,6 +2,7 @@
  * wait for the thread that writes them; until then they are read here. */
 #include "gsettings.h"
 
+#include <pthread.h>
 #include <stdlib.h>
 #include <string.h>
 #include <unistd.h>
@@ -44,6 +45,17 @@ static GVariant *lend(DconfdbSnapshot *snapshot, Reads *reads, const char *key)
     return g_variant_new_from_data((const GVariantType *)value.type, value.data, value.size, FALSE, give_back, snapshot);
 }
 
+/* Takes `lock`, as soon as the first opening is over. */
+static void lock_opened(DconfdbBackend *self)
+{
+    g_mutex_lock(&self->lock);
+    if (G_LIKELY(self->now || self->has_opened))
+        return;
+    g_mutex_unlock(&self->lock);
+    store_open(self);
+    g_mutex_lock(&self->lock);
+}
+
 /* Where a key is read: an edit of it waits, which sets a value or none; or it is read in the newest
  * snapshot, if there is one. Each is a reference. */
 typedef struct {
@@ -55,7 +67,7 @@ typedef struct {
 static Source source_of(DconfdbBackend *self, const char *key)
 {
     Source source = {false, NULL, NULL};
-    g_mutex_lock(&self->lock);
+    lock_opened(self);
     if (self->now) {
         const Edit *edit = waiting_find(&self->waiting, key);
         source.is_edited = edit != NULL;
@@ -70,7 +82,7 @@ static Source source_of(DconfdbBackend *self, const char *key)
 
 static DconfdbSnapshot *snapshot_of(DconfdbBackend *self)
 {
-    g_mutex_lock(&self->lock);
+    lock_opened(self);
     DconfdbSnapshot *now = self->now ? dconfdb_snapshot_ref(self->now) : NULL;
     g_mutex_unlock(&self->lock);
     return now;
@@ -146,7 +158,7 @@ static Outcome outcome_of(const DconfdbBackend *self, Change *change)
 static Outcome make(DconfdbBackend *self, Change *change)
 {
     bool is_here = false;
-    g_mutex_lock(&self->lock);
+    lock_opened(self);
     Outcome outcome = outcome_of(self, change);
     if (outcome == WAITS) {
         waiting_add(&self->waiting, change);
@@ -233,7 +245,7 @@ static void dconfdb_backend_unsubscribe(GSettingsBackend *backend, const char *n
 
 /* ---- its life: as long as the program's */
 
-static GMutex living_lock;
+static GMutex living_lock; /* taken before a backend's `lock` */
 static GSList *living;
 
 /* GSettings reads a schema's default as a tuple of the key's type at each read; and what GLib knows of
@@ -258,17 +270,45 @@ static void dconfdb_backend_init(DconfdbBackend *self)
     g_mutex_unlock(&living_lock);
 }
 
-/* When the program ends by exit(), or main() returns. A child of fork() leaves all to its
- * parent. */
+/* When the program ends by exit(), or main() returns. A child of fork() leaves all to its parent.
+ * `living_lock` isn't held meanwhile, since a fork() of the program's wants it. */
 static void __attribute__((destructor)) end_all(void)
 {
-    if (!living || ((DconfdbBackend *)living->data)->process != getpid())
-        return;
     g_mutex_lock(&living_lock);
-    for (GSList *at = living; at; at = at->next)
+    GSList *all = living;
+    g_mutex_unlock(&living_lock);
+    if (!all || ((DconfdbBackend *)all->data)->process != getpid())
+        return;
+    for (GSList *at = all; at; at = at->next)
         store_end(at->data);
+    g_mutex_lock(&living_lock);
     g_clear_pointer(&living, g_slist_free);
     g_mutex_unlock(&living_lock);
+}
+
+/* ---- fork(): the child has no thread but the one that called it */
+
+/* So that nobody else has `lock`, and what it guards is whole. `turn` may be held for seconds, and
+ * is not waited for. */
+static void before_fork(void)
+{
+    g_mutex_lock(&living_lock);
+    for (GSList *at = living; at; at = at->next)
+        g_mutex_lock(&((DconfdbBackend *)at->data)->lock);
+}
+
+static void after_fork(void)
+{
+    for (GSList *at = living; at; at = at->next)
+        g_mutex_unlock(&((DconfdbBackend *)at->data)->lock);
+    g_mutex_unlock(&living_lock);
+}
+
+static void after_fork_in_child(void)
+{
+    for (GSList *at = living; at; at = at->next)
+        store_leave(at->data);
+    after_fork();
 }
 
 static void dconfdb_backend_class_init(DconfdbBackendClass *class)
@@ -283,6 +323,8 @@ static void dconfdb_backend_class_init(DconfdbBackendClass *class)
     class->parent.subscribe = dconfdb_backend_subscribe;
     class->parent.unsubscribe = dconfdb_backend_unsubscribe;
     class->parent.sync = dconfdb_backend_sync;
+    /* The class is made once, and the module is never unloaded. */
+    pthread_atfork(before_fork, after_fork, after_fork_in_child);
 }
 
 static void dconfdb_backend_class_finalize(DconfdbBackendClass *class)

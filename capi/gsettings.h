@@ -56,20 +56,23 @@ bool changes_write(DconfdbStore *store, GQueue *changes, GQueue *refused, Dconfd
 /* ---- the backend */
 
 /* It lives as long as the program. `turn` is taken before `lock`, and neither while a signal is
- * sent or a warning printed. */
+ * sent or a warning printed. fork() takes `lock`; in the child `turn` is free, whoever had it. */
 typedef struct {
     GSettingsBackend parent;
     pid_t process; /* after fork(), the child is another one */
-    char *folder;  /* NULL: the environment names none */
+    char *folder;  /* NULL: the environment names none; it goes with both locks held, after the worker */
     GVariant *types;
 
     GMutex turn;         /* held while files are looked at or changed. It guards: */
-    DconfdbStore *store; /* NULL: it could not be opened */
+    DconfdbStore *store; /* NULL: it isn't opened yet, or could not be */
     bool is_stale;       /* its profile has perhaps changed */
     char *told;          /* the fault that was told last; NULL: there is none now */
 
+    /* Read with `turn` or `lock` held, changed with both. */
+    bool has_opened; /* the first opening is over; perhaps it failed */
+
     GMutex lock;          /* held for moments. It guards: */
-    DconfdbSnapshot *now; /* NULL: no store could be opened */
+    DconfdbSnapshot *now; /* NULL: no store is opened yet, or none could be */
     bool has_user;        /* there is a user's database */
     Waiting waiting;
     bool is_due, has_ended;
@@ -85,13 +88,16 @@ typedef struct {
 
 /* ---- the store (gsettings_store.c) */
 
-/* Opens it. */
+/* Finds its folder, by the environment. */
 void store_begin(DconfdbBackend *self);
+
+/* Opens it for the first time, where nobody has: the worker does, or who needs a snapshot before. */
+void store_open(DconfdbBackend *self);
 
 /* Writes what waits, as one change; what is refused is taken back. */
 void store_write(DconfdbBackend *self);
 
-/* Looks at the files, and tells what is seen otherwise than before. */
+/* Looks at the files, and tells what is seen otherwise than before; of a first opening nothing. */
 void store_look(DconfdbBackend *self);
 
 /* The same where the profile may have changed. */
@@ -99,6 +105,10 @@ void store_look_anew(DconfdbBackend *self);
 
 /* Writes what waits, and frees what is held. Later calls find no store. */
 void store_end(DconfdbBackend *self);
+
+/* In a child of fork(), with `lock` held: what `turn` guards is the parent's, and perhaps half
+ * changed. The child opens a store of its own, where it has no snapshot. */
+void store_leave(DconfdbBackend *self);
 
 /* ---- the thread that writes and watches (gsettings_worker.c); `lock` is held */
 
@@ -118,6 +128,7 @@ void watch_end(DconfdbBackend *self);
 /* What happened in a turn. */
 typedef struct {
     DconfdbSnapshot *before, *after;
+    bool is_first; /* the store was opened: nobody has seen another one */
     bool had_user, has_user;
     GQueue written, refused; /* changes of ours */
     char *fault;             /* to be warned of */

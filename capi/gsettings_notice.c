@@ -233,7 +233,7 @@ static bool has_ended(DconfdbBackend *self)
 void notice_tell(DconfdbBackend *self, Notice *notice)
 {
     bool ends = has_ended(self);
-    if (!ends)
+    if (!ends && !notice->is_first)
         send(self, notice);
     /* When the program ends, what it warns by may be gone. */
     if (notice->fault && ends)

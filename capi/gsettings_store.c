@@ -38,6 +38,8 @@ static void renew(DconfdbBackend *self, Notice *notice)
         self->written = g_get_monotonic_time();
     notice->before = self->now;
     notice->had_user = self->has_user;
+    notice->is_first = !self->has_opened;
+    self->has_opened = true;
     if (self->store) {
         self->now = dconfdb_store_snapshot(self->store);
         self->has_user = dconfdb_store_user_file(self->store) != NULL;
@@ -63,37 +65,35 @@ static void look(DconfdbBackend *self, Notice *notice)
 
 /* ---- `turn` isn't held */
 
-/* The folder of a store that can't be opened now. */
-static char *folder_of_none(void)
-{
-    char *files = dconfdb_store_files(NULL, NULL, NULL);
-    char *folder = files ? g_path_get_dirname(files) : NULL;
-    free(files);
-    return folder;
-}
-
 void store_begin(DconfdbBackend *self)
 {
     DconfdbError error;
-    /* The environment is read now, and not again: the program may change it. */
-    if (open_store(self, &error)) {
-        self->folder = g_strdup(dconfdb_store_folder(self->store));
-        self->now = dconfdb_store_snapshot(self->store);
-        self->has_user = dconfdb_store_user_file(self->store) != NULL;
-        return;
-    }
-    self->folder = folder_of_none();
-    g_warning("%s", error.text);
-    self->told = g_strdup(error.text);
+    /* The environment is read now, and not again: the program may change it. The first file is the
+     * folder's profile. */
+    char *files = dconfdb_store_files(NULL, NULL, &error);
+    self->folder = files ? g_path_get_dirname(files) : NULL;
+    self->has_opened = !files;
+    if (!files)
+        g_warning("%s", error.text);
+    free(files);
+}
+
+void store_open(DconfdbBackend *self)
+{
+    Notice notice = {.is_first = true};
+    g_mutex_lock(&self->turn);
+    if (!self->has_opened)
+        look(self, &notice);
+    g_mutex_unlock(&self->turn);
+    notice_tell(self, &notice);
 }
 
 void store_look(DconfdbBackend *self)
 {
     Notice notice = {.fault = NULL};
-    if (!self->folder)
-        return;
     g_mutex_lock(&self->turn);
-    look(self, &notice);
+    if (self->folder)
+        look(self, &notice);
     g_mutex_unlock(&self->turn);
     notice_tell(self, &notice);
 }
@@ -131,6 +131,7 @@ void store_end(DconfdbBackend *self)
     store_write(self);
     g_mutex_lock(&self->turn);
     g_mutex_lock(&self->lock);
+    self->has_opened = true;
     g_clear_pointer(&self->now, dconfdb_snapshot_unref);
     g_clear_pointer(&self->store, dconfdb_store_close);
     g_clear_pointer(&self->folder, g_free);
@@ -140,4 +141,12 @@ void store_end(DconfdbBackend *self)
     waiting_end(&self->waiting);
     g_mutex_unlock(&self->lock);
     g_mutex_unlock(&self->turn);
+}
+
+void store_leave(DconfdbBackend *self)
+{
+    g_mutex_init(&self->turn);
+    self->store = NULL;
+    self->is_stale = false;
+    self->told = NULL;
 }

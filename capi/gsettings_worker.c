@@ -10,7 +10,8 @@ static gpointer work(gpointer data)
     DconfdbBackend *self = data;
     g_main_context_push_thread_default(self->context);
     watch_begin(self);
-    /* What changed before anything was watched. */
+    /* Opens the store, since a program may listen and never read; or tells what changed after a
+     * read opened it, before anything was watched. */
     store_look(self);
     g_main_loop_run(self->loop);
     watch_end(self);
