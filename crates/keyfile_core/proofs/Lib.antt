@@ -4,3 +4,4 @@ pub mod ReadingLaws
 pub mod DumpParts
 pub mod DumpTexts
 pub mod PairSort
+pub mod PlainKeys

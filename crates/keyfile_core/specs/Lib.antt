@@ -5,3 +5,4 @@ pub mod LineMeanings
 pub mod Readings
 pub mod Rows
 pub mod RowsFaults
+pub mod SchemaKeys
