@@ -13,7 +13,23 @@ use std::alloc::{AllocError, Global};
 pub(crate) fn add_text(alloc: Global, text: &str, texts: &mut Vec<String>) -> Result<(), AllocError>
     ensures { OnOk result (Adds (text.now ∷ []) texts.old texts.new) }
 {
-    texts.push(String::from_str(alloc, text)?)?;
+    add_with_room(alloc, text, 0, texts)
+}
+
+/// Adds a text, which has room for so many bytes more.
+///
+/// An error comes where a growth is refused.
+pub(crate) fn add_with_room(
+    alloc: Global,
+    text: &str,
+    room: usize,
+    texts: &mut Vec<String>,
+) -> Result<(), AllocError>
+    ensures { OnOk result (Adds (text.now ∷ []) texts.old texts.new) }
+{
+    let mut kept = String::with_capacity(alloc, text.len().saturating_add(room))?;
+    kept.push_str(text)?;
+    texts.push(kept)?;
     Ok(())
 }
 

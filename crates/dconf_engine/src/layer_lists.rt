@@ -13,18 +13,22 @@ ghost use Rattle.gvdb_write.specs.Salvaged.{HasNoShortText};
 ghost use Rattle.dconf_engine.specs.LockNames.{lock_count, lock_name, lock_name_at, locks_under};
 ghost use Rattle.dconf_engine.specs.TextSets.{Adds};
 
-use crate::children::add_text;
+use crate::children::{add_text, add_with_room};
 use crate::layer::Layer;
 use dconf_path::{DirPath, LockPath};
 use gvdb_read::{Names, Table};
 use std::alloc::{AllocError, Global};
+
+/// The longest path of a directory that the names which it has leave room for.
+const ROOM: usize = 64;
 
 impl<'a> Layer<'a> {
     ghost use Rattle.dconf_engine.specs.LayerSettings.{locks_of, settings_of};
 
     // ---- children
 
-    /// Adds the names of what a directory has, by the directory's list.
+    /// Adds the names of what a directory has, by the directory's list. Each has room for the directory's path before it, where
+    /// that isn't long.
     ///
     /// An error comes where a growth is refused. It is one search, and then it looks at these names alone.
     pub(crate) fn add_listed(
@@ -36,7 +40,10 @@ impl<'a> Layer<'a> {
         ensures { OnOk result (Adds (parts_below (directory_text directory.entry) (keys (settings_of self.entry).values)) names.old names.new) }
     {
         match self.values.list(directory.as_str()) {
-            Some(listed) => add_keys(alloc, listed, names),
+            Some(listed) => {
+                let room = directory.as_str().len().min(ROOM);
+                add_keys(alloc, listed, room, names)
+            }
             None => Ok(()),
         }
     }
@@ -144,22 +151,32 @@ pub(crate) fn is_under(path: &str, directory: DirPath<'_>) -> bool
     path.starts_with(directory.as_str())
 }
 
-/// Adds the keys that a list names, those that are texts.
-fn add_keys(alloc: Global, listed: Names<'_>, names: &mut Vec<String>) -> Result<(), AllocError>
+/// Adds the keys that a list names, those that are texts, each with room for so many bytes more.
+fn add_keys(
+    alloc: Global,
+    listed: Names<'_>,
+    room: usize,
+    names: &mut Vec<String>,
+) -> Result<(), AllocError>
     ensures { OnOk result (Adds (filter is_utf8 (names_left listed.entry)) names.old names.new) }
 {
     for key in listed {
-        add_key(alloc, key, names)?;
+        add_key(alloc, key, room, names)?;
     }
     Ok(())
 }
 
-/// Adds a key, if it is a text.
-fn add_key(alloc: Global, key: &[u8], names: &mut Vec<String>) -> Result<(), AllocError>
+/// Adds a key, if it is a text, with room for so many bytes more.
+fn add_key(
+    alloc: Global,
+    key: &[u8],
+    room: usize,
+    names: &mut Vec<String>,
+) -> Result<(), AllocError>
     ensures { OnOk result (Adds (filter is_utf8 (key.now ∷ [])) names.old names.new) }
 {
     match str::from_utf8(key) {
-        Ok(name) => add_text(alloc, name, names),
+        Ok(name) => add_with_room(alloc, name, room, names),
         Err(_) => Ok(()),
     }
 }
