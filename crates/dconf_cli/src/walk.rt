@@ -81,16 +81,15 @@ fn push_places(
 {
     let mut names = engine.list(alloc, directory)?;
     while let Some(name) = names.pop() {
-        waiting.push(place_at(alloc, directory, name.as_str())?)?;
+        waiting.push(place_at(directory, name)?)?;
     }
     Ok(())
 }
 
-/// The path of a name in a directory.
-fn place_at(alloc: Global, directory: DirPath<'_>, name: &str) -> Result<String, AllocError>
-    ensures { IfOk result (λ place. string_bytes place ≡ directory_text directory.entry ++ name.now) }
+/// The path of a name in a directory. A name that is listed mostly has room for it.
+fn place_at(directory: DirPath<'_>, mut name: String) -> Result<String, AllocError>
+    ensures { IfOk result (λ place. string_bytes place ≡ directory_text directory.entry ++ string_bytes name) }
 {
-    let mut place = String::from_str(alloc, directory.as_str())?;
-    place.push_str(name)?;
-    Ok(place)
+    name.insert_str(0, directory.as_str())?;
+    Ok(name)
 }
