@@ -1,4 +1,3 @@
-pub mod Faults
 pub mod Maps
 pub mod PathsLeft
 pub mod WriteFaults

@@ -16,7 +16,6 @@
 #![tactic(auto)]
 
 mod database;
-mod fault;
 mod groups;
 mod layout;
 mod map;
@@ -28,7 +27,6 @@ mod values;
 mod write_fault;
 
 pub use database::write;
-pub use fault::MapFault;
 pub use layout::MAX_DATABASE_LEN;
 pub use map::{Keys, Locks, Map};
 pub use salvage_fault::SalvageFault;

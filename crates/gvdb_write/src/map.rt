@@ -7,9 +7,8 @@ ghost use Rattle.dconf_path.specs.Paths.{key_text};
 ghost use Rattle.dconf_path.specs.LockPaths.{lock_text};
 ghost use Rattle.gvdb_write.specs.Maps.{AreKeyPaths, ArePaths, paths_of, texts, value_entries};
 
-use crate::fault::MapFault;
 use dconf_path::{KeyPath, LockPath};
-use std::alloc::Global;
+use std::alloc::{AllocError, Global};
 use std::collections::{BTreeMap, BTreeSet, btree_map, btree_set};
 use std::marker::Model;
 
@@ -55,9 +54,9 @@ impl Map {
 
     /// Sets the bytes of the value at a path, in the place of those that it had.
     ///
-    /// `Memory` comes where a growth is refused, and then the map stays as it was. It copies the path and the bytes,
+    /// An error comes where a growth is refused, and then the map stays as it was. It copies the path and the bytes,
     /// and compares as many paths as the map is deep.
-    pub fn insert(&mut self, path: KeyPath<'_>, value: &[u8]) -> Result<(), MapFault>
+    pub fn insert(&mut self, path: KeyPath<'_>, value: &[u8]) -> Result<(), AllocError>
         ensures ok { OnOk result (self.new ≡ with_value self.old (key_text path.entry) value.now) }
         ensures err { OnErr result (self.new ≡ self.old) }
     {
@@ -67,9 +66,9 @@ impl Map {
 
     /// Sets the bytes of the value at a path, in the place of those that it had, and keeps them where they are.
     ///
-    /// `Memory` comes where a growth is refused, and then the map stays as it was. It copies the path, and compares as
+    /// An error comes where a growth is refused, and then the map stays as it was. It copies the path, and compares as
     /// many paths as the map is deep.
-    pub fn insert_owned(&mut self, path: KeyPath<'_>, value: Vec<u8>) -> Result<(), MapFault>
+    pub fn insert_owned(&mut self, path: KeyPath<'_>, value: Vec<u8>) -> Result<(), AllocError>
         ensures ok { OnOk result (self.new ≡ with_value self.old (key_text path.entry) value.items) }
         ensures err { OnErr result (self.new ≡ self.old) }
     {
@@ -78,7 +77,7 @@ impl Map {
     }
 
     /// Sets the bytes of the value at the path of a key, and keeps both where they are.
-    pub(crate) fn put(&mut self, path: String, value: Vec<u8>) -> Result<(), MapFault>
+    pub(crate) fn put(&mut self, path: String, value: Vec<u8>) -> Result<(), AllocError>
         requires { IsTrue (is_key_path (string_bytes path)) }
         ensures ok { OnOk result (self.new ≡ with_value self.old (string_bytes path) value.items) }
         ensures err { OnErr result (self.new ≡ self.old) }
@@ -89,9 +88,9 @@ impl Map {
 
     /// Locks the path of a key, whether or not it has a value, or that of a directory.
     ///
-    /// `Memory` comes where a growth is refused, and then the map stays as it was. It copies the path, and compares
+    /// An error comes where a growth is refused, and then the map stays as it was. It copies the path, and compares
     /// as many paths as the set of locks is deep.
-    pub fn lock(&mut self, path: LockPath<'_>) -> Result<(), MapFault>
+    pub fn lock(&mut self, path: LockPath<'_>) -> Result<(), AllocError>
         ensures ok { OnOk result (self.new ≡ with_lock self.old (lock_text path.entry)) }
         ensures err { OnErr result (self.new ≡ self.old) }
     {

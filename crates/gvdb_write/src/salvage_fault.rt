@@ -2,8 +2,8 @@
 ghost use Rattle.std.specs.Prelude.{◌≡◌};
 ghost use Rattle.gvdb_write.specs.declared.salvage_fault.SalvageFault.TheVariants.{Memory, Open};
 
-use crate::fault::MapFault;
 use gvdb_read::OpenFault;
+use std::alloc::AllocError;
 use std::error::Error;
 use std::fmt;
 
@@ -40,10 +40,10 @@ impl From<OpenFault> for SalvageFault {
     }
 }
 
-impl From<MapFault> for SalvageFault {
+impl From<AllocError> for SalvageFault {
     ghost from_gives = { λ _ e. e ≡ Memory };
 
-    fn from(_fault: MapFault) -> SalvageFault {
+    fn from(_error: AllocError) -> SalvageFault {
         SalvageFault::Memory
     }
 }

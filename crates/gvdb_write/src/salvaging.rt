@@ -9,13 +9,12 @@ ghost use Rattle.dconf_model.specs.Table.{bytes_of, item, item_count, table_of, 
 ghost use Rattle.gvdb_read.specs.Tables.{region};
 ghost use Rattle.gvdb_write.specs.Salvaged.{HasLowestValues, HasNoShortText, IsLowestLocks, IsPointed, IsSalvageRefusal, SpellsLock, TakesLock, TakesValue};
 
-use crate::fault::MapFault;
 use crate::map::Map;
 use crate::salvage_fault::SalvageFault;
 use dconf_path::{KeyPath, LockPath, MAX_PATH_LEN};
 use gvdb_read::Table;
 use gvdb_read::format::Kind;
-use std::alloc::Global;
+use std::alloc::{AllocError, Global};
 
 /// The name of the table of locks.
 const LOCKS: &str = ".locks";
@@ -42,7 +41,7 @@ pub fn salvage(alloc: Global, file: &[u8]) -> Result<Map, SalvageFault>
 }
 
 /// The lowest value of each path of a key.
-fn salvaged_values(alloc: Global, root: Table<'_>) -> Result<Map, MapFault>
+fn salvaged_values(alloc: Global, root: Table<'_>) -> Result<Map, AllocError>
     ensures values { IfOk result (HasLowestValues (region root.entry)) }
     ensures no_locks { IfOk result (λ map. map.locks ≡ empty) }
 {
@@ -57,7 +56,7 @@ fn salvaged_values(alloc: Global, root: Table<'_>) -> Result<Map, MapFault>
 }
 
 /// Sets item `i`'s value at its name, where it is a value and its name is the path of a key.
-fn salvage_value(alloc: Global, root: Table<'_>, i: u32, map: &mut Map) -> Result<(), MapFault>
+fn salvage_value(alloc: Global, root: Table<'_>, i: u32, map: &mut Map) -> Result<(), AllocError>
     ensures takes { OnOk result (TakesValue (region root.entry) i map.old map.new) }
 {
     let Some(bytes) = pointed_value(root, i) else {
@@ -111,7 +110,7 @@ fn open_locks<'a>(root: Table<'a>, i: u32) -> Option<Table<'a>>
 }
 
 /// Locks the paths that a table's values name.
-fn salvage_locks(alloc: Global, locks: Table<'_>, map: &mut Map) -> Result<(), MapFault>
+fn salvage_locks(alloc: Global, locks: Table<'_>, map: &mut Map) -> Result<(), AllocError>
     ensures locks { OnOk result ((path : List ℕ) → IsTrue (contains_key map.new.locks path)
         ↔ (IsTrue (contains_key map.old.locks path) ⊎ (i : ℕ) × SpellsLock (region locks.entry) i path)) }
     ensures values { OnOk result (map.new.values ≡ map.old.values) }
@@ -123,7 +122,7 @@ fn salvage_locks(alloc: Global, locks: Table<'_>, map: &mut Map) -> Result<(), M
 }
 
 /// Locks item `i`'s name, where the item is a value, wherever its pointer leads, and its name is a path.
-fn salvage_lock(alloc: Global, locks: Table<'_>, i: u32, map: &mut Map) -> Result<(), MapFault>
+fn salvage_lock(alloc: Global, locks: Table<'_>, i: u32, map: &mut Map) -> Result<(), AllocError>
     ensures takes { OnOk result (TakesLock (region locks.entry) i map.old map.new) }
 {
     if !is_value(locks, i) {
@@ -150,8 +149,8 @@ fn is_value(table: Table<'_>, i: u32) -> bool
 
 /// Item `i`'s full name, where it is a text that is no longer than a path.
 ///
-/// `Memory` comes where a growth is refused. It takes as much memory as the name has bytes.
-pub fn name_of(alloc: Global, table: Table<'_>, i: u32) -> Result<Option<String>, MapFault>
+/// An error comes where a growth is refused. It takes as much memory as the name has bytes.
+pub fn name_of(alloc: Global, table: Table<'_>, i: u32) -> Result<Option<String>, AllocError>
     ensures some { IfOk result (λ found. IfSome found (λ name. HasName (region table.entry) i (string_bytes name))) }
     ensures none { IfOk result (λ found. IfNone found (HasNoShortText (region table.entry) i)) }
 {
