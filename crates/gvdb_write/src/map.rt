@@ -10,6 +10,7 @@ ghost use Rattle.gvdb_write.specs.Maps.{AreKeyPaths, ArePaths, paths_of, texts, 
 use dconf_path::{KeyPath, LockPath};
 use std::alloc::{AllocError, Global};
 use std::collections::{BTreeMap, BTreeSet, btree_map, btree_set};
+use std::fmt;
 use std::marker::Model;
 
 /// The bytes of the value at each path that has one, and the paths that are locked.
@@ -154,6 +155,19 @@ impl Map {
     {
         let rest = self.locks.iter();
         Locks { rest }
+    }
+}
+
+/// How many there are of each, and none of them.
+impl fmt::Debug for Map {
+    ghost use Rattle.std.specs.Prelude.{None};
+
+    ghost debug_output = { λ _. None };
+
+    fn fmt<W: fmt::Write>(&self, f: &mut fmt::Formatter<W>) -> fmt::Result {
+        let values = self.key_count();
+        let locks = self.lock_count();
+        write!(f, "Map {{ values: {values}, locks: {locks} }}")
     }
 }
 
