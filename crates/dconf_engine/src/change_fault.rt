@@ -3,7 +3,6 @@ ghost use Rattle.std.specs.Prelude.{◌≡◌};
 ghost use Rattle.dconf_engine.specs.declared.change_fault.ChangeFault.TheVariants.{Memory};
 
 use gv_build::BuildFault;
-use gvdb_write::MapFault;
 use std::alloc::{AllocError, AllocFailed};
 use std::error::Error;
 use std::fmt;
@@ -76,13 +75,5 @@ impl From<BuildFault> for ChangeFault {
             BuildFault::TooLarge => ChangeFault::TooLarge,
             BuildFault::Memory => ChangeFault::Memory,
         }
-    }
-}
-
-impl From<MapFault> for ChangeFault {
-    ghost from_gives = { λ _ e. e ≡ Memory };
-
-    fn from(_fault: MapFault) -> ChangeFault {
-        ChangeFault::Memory
     }
 }

@@ -20,6 +20,7 @@ use crate::lent::LentLayers;
 use dconf_path::{DatabaseKind, KeyPath, Profile};
 use gv_view::View;
 use std::alloc::{AllocError, Global};
+use std::fmt;
 use std::marker::Model;
 
 /// The layers of a profile's databases, lent from their files, the first database's first.
@@ -44,6 +45,17 @@ impl<'a> Model for Engine<'a> {
     ghost use Rattle.dconf_engine.specs.EngineLayers.{layers_of};
 
     ghost view = { λ e. layers_of e.changes e.layers.items e.writable };
+}
+
+/// How many layers there are, and whether the first may be written.
+impl<'a> fmt::Debug for Engine<'a> {
+    ghost debug_output = { λ _. None };
+
+    fn fmt<W: fmt::Write>(&self, f: &mut fmt::Formatter<W>) -> fmt::Result {
+        let writable = self.is_writable();
+        let layers = self.count();
+        write!(f, "Engine {{ writable: {writable}, layers: {layers} }}")
+    }
 }
 
 impl<'a> Engine<'a> {

@@ -2,8 +2,7 @@
 ghost use Rattle.std.specs.Prelude.{◌≡◌, IfOk, option_map, string_bytes};
 
 use crate::layer::Layer;
-use gvdb_write::MapFault;
-use std::alloc::Global;
+use std::alloc::{AllocError, Global};
 
 impl<'a> Layer<'a> {
     ghost use Rattle.dconf_engine.specs.KeyNames.{items_of, key_name, key_name_at};
@@ -17,8 +16,8 @@ impl<'a> Layer<'a> {
 
     /// Item `i`'s name, where it is a text no longer than a path: each key's is.
     ///
-    /// `Memory` comes where a growth is refused. It walks from the item up its parents.
-    pub(crate) fn name_at(self, alloc: Global, i: u32) -> Result<Option<String>, MapFault>
+    /// An error comes where a growth is refused. It walks from the item up its parents.
+    pub(crate) fn name_at(self, alloc: Global, i: u32) -> Result<Option<String>, AllocError>
         ensures { IfOk result (λ found. key_name (option_map string_bytes found) ≡ key_name_at self.entry i) }
     {
         gvdb_write::name_of(alloc, self.values, i)

@@ -1,22 +1,19 @@
 //! What a layer's file lists: the names of what a directory has, and the paths of its locks.
-ghost use Rattle.std.specs.Prelude.{◌≡◌, ◌&&◌, [], ◌∷◌, Some, IfOk, IfSome, IfNone, OnOk, filter, option_map, string_bytes};
+ghost use Rattle.std.specs.Prelude.{◌≡◌, ◌&&◌, [], ◌∷◌, Some, IfOk, OnOk, filter, option_map, string_bytes};
 ghost use Rattle.std.specs.FinMap.{keys};
 ghost use Rattle.std.specs.Str.{is_utf8};
 ghost use Rattle.dconf_model.specs.Layers.{parts_below};
 ghost use Rattle.dconf_model.specs.Locks.{is_below};
-ghost use Rattle.dconf_model.specs.Names.{HasName};
 ghost use Rattle.dconf_model.specs.Paths.{is_path};
 ghost use Rattle.dconf_path.specs.Paths.{directory_text};
 ghost use Rattle.gvdb_read.specs.NamesLeft.{names_left};
-ghost use Rattle.gvdb_read.specs.Tables.{region};
-ghost use Rattle.gvdb_write.specs.Salvaged.{HasNoShortText};
 ghost use Rattle.dconf_engine.specs.LockNames.{lock_count, lock_name, lock_name_at, locks_under};
 ghost use Rattle.dconf_engine.specs.TextSets.{Adds};
 
 use crate::children::{add_text, add_with_room};
 use crate::layer::Layer;
 use dconf_path::{DirPath, LockPath};
-use gvdb_read::{Names, Table};
+use gvdb_read::Names;
 use std::alloc::{AllocError, Global};
 
 /// The longest path of a directory that the names which it has leave room for.
@@ -98,20 +95,9 @@ impl<'a> Layer<'a> {
         ensures { IfOk result (λ found. lock_name (option_map string_bytes found) ≡ lock_name_at (locks_of self.entry) i) }
     {
         match self.locks() {
-            Some(locks) => short_name(alloc, locks, i),
+            Some(locks) => gvdb_write::name_of(alloc, locks, i),
             None => Ok(None),
         }
-    }
-}
-
-/// Item `i`'s full name, where it is a text no longer than a path.
-fn short_name(alloc: Global, table: Table<'_>, i: u32) -> Result<Option<String>, AllocError>
-    ensures some { IfOk result (λ found. IfSome found (λ name. HasName (region table.entry) i (string_bytes name))) }
-    ensures none { IfOk result (λ found. IfNone found (HasNoShortText (region table.entry) i)) }
-{
-    match gvdb_write::name_of(alloc, table, i) {
-        Ok(found) => Ok(found),
-        Err(_) => Err(AllocError),
     }
 }
 

@@ -79,10 +79,7 @@ fn add_item(
 ) -> Result<(), AllocError>
     ensures { OnOk result (Adds (left_parts (directory_text directory.entry) (settings_of layer.entry).values changes.now (key_name_at layer.entry i)) names.old names.new) }
 {
-    let Ok(found) = layer.name_at(alloc, i) else {
-        return Err(AllocError);
-    };
-    match found {
+    match layer.name_at(alloc, i)? {
         Some(name) => add_if_left(alloc, layer, name.as_str(), changes, directory, names),
         None => Ok(()),
     }

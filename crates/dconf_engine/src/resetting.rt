@@ -13,7 +13,7 @@ use crate::changes::Changes;
 use crate::engine::Engine;
 use crate::layer::Layer;
 use dconf_path::{DirPath, KeyPath};
-use gvdb_write::MapFault;
+use std::alloc::AllocError;
 
 impl<'a> Engine<'a> {
     /// Takes away the user's values of the keys below a directory, except of those that are locked.
@@ -41,7 +41,7 @@ impl<'a> Engine<'a> {
         from: &Changes,
         directory: DirPath<'_>,
         changes: &mut Changes,
-    ) -> Result<(), MapFault>
+    ) -> Result<(), AllocError>
         ensures { OnOk result (changes.new ≡ and_resets (cleared self.now (directory_text directory.entry) (changed_paths (entries from.now))) changes.old) }
     {
         for change in from.iter() {
@@ -56,7 +56,7 @@ impl<'a> Engine<'a> {
         layers: &[Layer<'_>],
         directory: DirPath<'_>,
         changes: &mut Changes,
-    ) -> Result<(), MapFault>
+    ) -> Result<(), AllocError>
         ensures { OnOk result (changes.new ≡ and_resets (cleared self.now (directory_text directory.entry) (first_names layers.now)) changes.old) }
     {
         match layers.first() {
@@ -71,7 +71,7 @@ impl<'a> Engine<'a> {
         layer: Layer<'_>,
         directory: DirPath<'_>,
         changes: &mut Changes,
-    ) -> Result<(), MapFault>
+    ) -> Result<(), AllocError>
         ensures { OnOk result (changes.new ≡ and_resets (cleared self.now (directory_text directory.entry) (key_names layer.entry (items_of layer.entry))) changes.old) }
     {
         for i in 0..layer.n_items() {
@@ -87,7 +87,7 @@ impl<'a> Engine<'a> {
         i: u32,
         directory: DirPath<'_>,
         changes: &mut Changes,
-    ) -> Result<(), MapFault>
+    ) -> Result<(), AllocError>
         ensures { OnOk result (changes.new ≡ and_resets (cleared self.now (directory_text directory.entry) (key_name_at layer.entry i)) changes.old) }
     {
         let Some(name) = layer.name_at(self.alloc, i)? else {
@@ -105,7 +105,7 @@ impl<'a> Engine<'a> {
         path: KeyPath<'_>,
         directory: DirPath<'_>,
         changes: &mut Changes,
-    ) -> Result<(), MapFault>
+    ) -> Result<(), AllocError>
         ensures { OnOk result (changes.new ≡ and_resets (cleared self.now (directory_text directory.entry) (key_text path.entry ∷ [])) changes.old) }
     {
         if self.keeps(path, directory) {

@@ -14,8 +14,8 @@ use crate::changes::Changes;
 use crate::engine::Engine;
 use crate::layer::Layer;
 use dconf_path::KeyPath;
-use gvdb_write::{Map, MapFault, WriteFault, write};
-use std::alloc::Global;
+use gvdb_write::{Map, WriteFault, write};
+use std::alloc::{AllocError, Global};
 
 impl<'a> Engine<'a> {
     /// The bytes of the user's database, without locks: what its file has, with all changes.
@@ -26,14 +26,12 @@ impl<'a> Engine<'a> {
         ensures database { IfOk result (λ file. IsDatabaseOf (saved self.now.layers) file.items) }
         ensures fault { IfErr result (IsRefusal (saved self.now.layers)) }
     {
-        match self.user_map() {
-            Ok(map) => write(self.alloc, &map),
-            Err(MapFault::Memory) => Err(WriteFault::Memory),
-        }
+        let map = self.user_map()?;
+        write(self.alloc, &map)
     }
 
     /// The user's values, without locks.
-    fn user_map(&self) -> Result<Map, MapFault>
+    fn user_map(&self) -> Result<Map, AllocError>
         ensures { IfOk result (λ map. map ≡ saved self.now.layers) }
     {
         let Some(first) = self.layers.first() else {
@@ -46,7 +44,7 @@ impl<'a> Engine<'a> {
 }
 
 /// The values of a layer at paths that were not changed.
-fn unchanged(alloc: Global, layer: Layer<'_>, changes: &Changes) -> Result<Map, MapFault>
+fn unchanged(alloc: Global, layer: Layer<'_>, changes: &Changes) -> Result<Map, AllocError>
     ensures { IfOk result (λ map. map ≡ with_unchanged (settings_of layer.entry).values changes.now (key_names layer.entry (items_of layer.entry)) no_settings) }
 {
     let mut map = Map::new(alloc);
@@ -60,7 +58,7 @@ fn add_unchanged(
     layer: Layer<'_>,
     changes: &Changes,
     map: &mut Map,
-) -> Result<(), MapFault>
+) -> Result<(), AllocError>
     ensures { OnOk result (map.new ≡ with_unchanged (settings_of layer.entry).values changes.now (key_names layer.entry (items_of layer.entry)) map.old) }
 {
     for i in 0..layer.n_items() {
@@ -76,7 +74,7 @@ fn add_item(
     i: u32,
     changes: &Changes,
     map: &mut Map,
-) -> Result<(), MapFault>
+) -> Result<(), AllocError>
     ensures { OnOk result (map.new ≡ with_unchanged (settings_of layer.entry).values changes.now (key_name_at layer.entry i) map.old) }
 {
     let Some(name) = layer.name_at(alloc, i)? else {
@@ -95,7 +93,7 @@ fn add_key(
     path: KeyPath<'_>,
     changes: &Changes,
     map: &mut Map,
-) -> Result<(), MapFault>
+) -> Result<(), AllocError>
     requires named { key_name_at layer i ≡ key_text path ∷ [] }
     ensures { OnOk result (map.new ≡ and_unchanged (settings_of layer.entry).values changes.now map.old (key_text path.entry)) }
 {
@@ -109,7 +107,7 @@ fn add_key(
 }
 
 /// Adds what was set.
-fn add_sets(changes: &Changes, map: &mut Map) -> Result<(), MapFault>
+fn add_sets(changes: &Changes, map: &mut Map) -> Result<(), AllocError>
     ensures { OnOk result (map.new ≡ with_sets (entries changes.now) map.old) }
 {
     for change in changes.iter() {

@@ -15,11 +15,11 @@ whole : {E : Type 0} (s : Settings) (r : Result (Vec ℕ Global) E) → IfOk r (
 whole s (Ok file) opens sound values locks size fits = record { opens = opens; sound = sound; values = values; locks = locks; size = size; fits = fits }
 whole s (Err e) opens sound values locks size fits = tt
 
-pub returns-in-Ok-clause-database : goal.returns-in-Ok-clause-database
-returns-in-Ok-clause-database c =
+pub returns-clause-database : goal.returns-clause-database
+returns-clause-database c =
     let e = c.write.ensures in
-    subst (λ (s : Settings). IfOk c.write.result (λ file. IsDatabaseOf s file.items)) c.in-Ok.ensures
-    (whole c.in-Ok.map c.write.result e.opens e.sound e.values e.locks e.length e.fits)
+    subst (λ (s : Settings). IfOk c.write.result (λ file. IsDatabaseOf s file.items)) c.in_ok-map.ensures
+    (whole c.in_ok-map.map c.write.result e.opens e.sound e.values e.locks e.length e.fits)
 
-pub returns-in-Ok-clause-fault : goal.returns-in-Ok-clause-fault
-returns-in-Ok-clause-fault c = search rules
+pub returns-clause-fault : goal.returns-clause-fault
+returns-clause-fault c = search rules

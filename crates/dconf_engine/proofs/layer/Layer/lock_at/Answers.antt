@@ -21,8 +21,8 @@ pub returns-in-Some : goal.returns-in-Some
 returns-in-Some c =
     let locks = c.in-Some.locks in
     let h = subst (λ (o : Option Table). ∥ AreOfSoundDatabase c.args.self.values o ∥₁) (sym c.locks.ensures ∙ c.in-Some.is) c.args.self.sound in
-    subst (λ (o : Option Table). IfOk c.short_name.result (λ found. lock_name (option_map string_bytes found) ≡ lock_name_at o c.args.i)) (sym c.in-Some.is ∙ c.locks.ensures)
-    (named c.args.self.values locks c.args.i c.short_name.result h c.short_name.ensures.some c.short_name.ensures.none)
+    subst (λ (o : Option Table). IfOk c.name_of.result (λ found. lock_name (option_map string_bytes found) ≡ lock_name_at o c.args.i)) (sym c.in-Some.is ∙ c.locks.ensures)
+    (named c.args.self.values locks c.args.i c.name_of.result h c.name_of.ensures.some c.name_of.ensures.none)
 
 pub returns-in-None : goal.returns-in-None
 returns-in-None c = ap (λ (o : Option Table). lock_name_at o c.args.i) (sym c.in-None.is ∙ c.locks.ensures)
