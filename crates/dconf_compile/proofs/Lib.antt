@@ -1,3 +1,4 @@
+pub mod Causes
 pub mod AddedRows
 pub mod Compiled
 pub mod FileSteps

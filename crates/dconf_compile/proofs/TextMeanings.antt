@@ -23,7 +23,10 @@ use Rattle.dconf_model.specs.Causes.SettingsCause.{text_fault, value_fault, too_
 use Rattle.dconf_model.specs.Values.{value_of_text, stored, if_storable}
 use Rattle.dconf_model.proofs.ValueLaws.{computed}
 use Rattle.dconf_compile.specs.Added.{text_compiled}
-use Rattle.dconf_compile.specs.CompileFaults.{build_cause, cause_of, read_cause_of}
+use Rattle.dconf_compile.specs.CompileFaults.{IsReadCause, build_cause, cause_of}
+use Rattle.dconf_compile.specs.ReadCauses.{read_cause_of}
+use Rattle.dconf_compile.specs.declared.fault.CompileCause.{CompileCause}
+use Rattle.dconf_compile.proofs.Causes.{same_cause}
 use Rattle.dconf_model.proofs.PathMaps.{and_false}
 
 -- the fault of a step is that of the whole
@@ -53,6 +56,13 @@ fault_read s (Text (Refused cause span)) h = computed s (Err (text_fault (fault_
 fault_read s (Text Memory) h = tt
 fault_read s (Typing e) h = untyped s e h
 fault_read s (Value e) h = unvalued s (fault_of e) h
+
+-- also as the cause that it is made
+pub stops_reading : {A : Type 0} (s : List ℕ) (e : ReadFault) (r : Result A CompileCause) → IsReadFault s e → IsErrAnd r (IsReadCause e)
+    → IfErr r (λ cause. Faults s (cause_of cause))
+stops_reading s e r h stop =
+    let p = err_from_is_err_and r stop in
+    rw p.1 (subst (Faults s) (sym (same_cause e _ p.2)) (fault_read s e h))
 
 -- the fault of a text is that of compiling it
 pub text_refused : (s : List ℕ) (o : Option SettingsCause) → Faults s o → IfSome o (λ c. text_compiled s ≡ Err c)

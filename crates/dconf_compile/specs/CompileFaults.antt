@@ -1,18 +1,12 @@
 -- Which fault of the model a fault of compiling is, if it is one of the files, and how it is printed.
 use Rattle.std.specs.Prelude.{◌≡◌, ℕ, List, Option, Some, None, Result, Err, IfSome, codes, option_map, unwrap_or}
 use Rattle.dconf_model.specs.Causes.{SettingsCause}
-use Rattle.dconf_model.specs.Causes.SettingsCause.{too_big, not_utf8, bad_line, no_group, bad_group, bad_key_name, lock_not_key, path_fault, text_fault, value_fault, too_large}
+use Rattle.dconf_model.specs.Causes.SettingsCause.{too_big, not_utf8, bad_line, no_group, bad_group, bad_key_name, lock_not_key, path_fault, too_large}
 use Rattle.dconf_model.specs.FaultTexts.{cause_text}
 use Rattle.dconf_model.specs.Paths.PathFault.{too_long}
 use Rattle.dconf_model.specs.Sources.{File, FileFault}
 use Rattle.dconf_model.specs.Sources.File.{keyfile, lock_file}
-use Rattle.gv_text.specs.ModelTokens.{fault_at_span}
-use Rattle.gv_text.specs.declared.fault.TextFault.{TextFault}
-use Rattle.gv_text.specs.declared.fault.TextFault.TheVariants as texts
-use Rattle.gv_infer.specs.TypingValues.{value_fault as typing_as_value}
-use Rattle.gv_infer.specs.ValueFaults.{fault_of as value_fault_of}
 use Rattle.gv_infer.specs.declared.read_fault.ReadFault.{ReadFault}
-use Rattle.gv_infer.specs.declared.read_fault.ReadFault.TheVariants.{Text, Typing, Value as OfValue}
 use Rattle.gv_build.specs.declared.fault.BuildFault.{BuildFault}
 use Rattle.gv_build.specs.declared.fault.BuildFault.TheVariants as builds
 use Rattle.dconf_compile.specs.declared.fault.FileRef.{FileRef}
@@ -20,17 +14,9 @@ use Rattle.dconf_compile.specs.declared.fault.FileRef.TheVariants.{Keyfile, Lock
 use Rattle.dconf_compile.specs.declared.fault.CompileCause.{CompileCause}
 use Rattle.dconf_compile.specs.declared.fault.CompileCause.TheVariants.{TooBig, NotUtf8, BadLine, NoGroup, BadGroup, BadKeyName, LockNotKey, TooLong, Value, TooLarge, Memory}
 use Rattle.dconf_compile.specs.declared.fault.CompileFault.{CompileFault}
+use Rattle.dconf_compile.specs.ReadCauses.{read_cause_of}
 
 -- ---- causes; running out of memory is never the files' fault
-
-abbrev pub text_cause_of : TextFault → Option SettingsCause
-text_cause_of (texts.Refused cause span) = Some (text_fault (fault_at_span cause span))
-text_cause_of texts.Memory = None
-
-abbrev pub read_cause_of : ReadFault → Option SettingsCause
-read_cause_of (Text e) = text_cause_of e
-read_cause_of (Typing e) = option_map value_fault (value_fault_of (typing_as_value e))
-read_cause_of (OfValue e) = option_map value_fault (value_fault_of e)
 
 abbrev pub cause_of : CompileCause → Option SettingsCause
 cause_of TooBig = Some too_big
@@ -41,9 +27,15 @@ cause_of BadGroup = Some bad_group
 cause_of BadKeyName = Some bad_key_name
 cause_of LockNotKey = Some lock_not_key
 cause_of TooLong = Some (path_fault too_long)
-cause_of (Value e) = read_cause_of e
+cause_of (Value e) = read_cause_of e.fault
 cause_of TooLarge = Some too_large
 cause_of Memory = None
+
+-- the cause for a fault of reading a text: `Memory` where a growth was refused
+abbrev pub IsReadCause : ReadFault → CompileCause → Type 0
+IsReadCause fault (Value e) = e.fault ≡ fault
+IsReadCause fault Memory = read_cause_of fault ≡ None
+IsReadCause fault _ = ⊥
 
 abbrev pub build_cause : BuildFault → CompileCause
 build_cause builds.TooLarge = TooLarge

@@ -1,4 +1,5 @@
 pub mod Added
+pub mod ReadCauses
 pub mod CompileFaults
 pub mod LineStops
 pub mod Loading

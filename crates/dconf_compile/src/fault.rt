@@ -1,11 +1,10 @@
 //! Why files are not compiled.
-ghost use Rattle.std.specs.Prelude.{◌≡◌, None, is_none};
+ghost use Rattle.std.specs.Prelude.{◌≡◌, None};
 ghost use Rattle.dconf_compile.specs.CompileFaults.{cause_of, fault_at, fault_of, file_of, no_memory};
 
+use crate::value_cause::ValueCause;
 use gv_build::BuildFault;
-use gv_infer::{ReadFault, TypingFault, ValueFault};
-use gv_text::TextFault;
-use gvdb_write::MapFault;
+use gv_infer::ReadFault;
 use keyfile_core::KeyfileCause;
 use std::alloc::{AllocError, AllocFailed};
 use std::error::Error;
@@ -42,10 +41,10 @@ pub enum CompileCause {
     /// The path of a key has more than 65,535 bytes.
     TooLong,
     /// The text of a value has none.
-    Value(ReadFault),
+    Value(ValueCause),
     /// A value has 128 levels, or more than 4,294,967,295 bytes would be stored for it.
     TooLarge,
-    /// A growth was refused.
+    /// A growth was refused, also one while the text of a value was read.
     Memory,
 }
 
@@ -57,23 +56,6 @@ pub struct CompileFault {
     /// The number of the line, from 1 on. It is 0 for `TooBig` and for `Memory`.
     pub line: usize,
     pub cause: CompileCause,
-}
-
-impl CompileCause {
-    ghost use Rattle.dconf_compile.specs.CompileFaults.{compile_cause_text};
-
-    /// Whether a growth was refused, also while a value's text was read.
-    pub fn is_memory(self) -> bool
-        ensures { result ≡ is_none (cause_of self) }
-    {
-        match self {
-            CompileCause::Memory => true,
-            CompileCause::Value(ReadFault::Text(TextFault::Memory)) => true,
-            CompileCause::Value(ReadFault::Typing(TypingFault::Memory)) => true,
-            CompileCause::Value(ReadFault::Value(ValueFault::Memory)) => true,
-            _ => false,
-        }
-    }
 }
 
 impl CompileFault {
@@ -93,10 +75,10 @@ impl CompileFault {
         ensures fault { fault_of result ≡ fault_at (file_of file) line (cause_of cause) }
         ensures memory { cause_of cause ≡ None → result ≡ no_memory }
     {
-        if cause.is_memory() {
-            return CompileFault::memory();
+        match cause {
+            CompileCause::Memory => CompileFault::memory(),
+            _ => CompileFault { file, line, cause },
         }
-        CompileFault { file, line, cause }
     }
 }
 
@@ -116,7 +98,7 @@ impl fmt::Display for CompileCause {
             CompileCause::BadKeyName => f.write_str("BadKeyName"),
             CompileCause::LockNotKey => f.write_str("LockNotKey"),
             CompileCause::TooLong => f.write_str("TooLong"),
-            CompileCause::Value(fault) => write!(f, "{fault}"),
+            CompileCause::Value(cause) => write!(f, "{cause}"),
             CompileCause::TooLarge => f.write_str("TooLarge"),
             CompileCause::Memory => f.write_str("Memory"),
         }
@@ -157,12 +139,15 @@ impl From<KeyfileCause> for CompileCause {
 }
 
 impl From<ReadFault> for CompileCause {
-    ghost use Rattle.dconf_compile.specs.declared.fault.CompileCause.TheVariants.{Value};
+    ghost use Rattle.dconf_compile.specs.CompileFaults.{IsReadCause};
 
-    ghost from_gives = { λ fault cause. cause ≡ Value fault };
+    ghost from_gives = { λ fault cause. IsReadCause fault cause };
 
     fn from(fault: ReadFault) -> CompileCause {
-        CompileCause::Value(fault)
+        match ValueCause::of(fault) {
+            Some(cause) => CompileCause::Value(cause),
+            None => CompileCause::Memory,
+        }
     }
 }
 
@@ -176,16 +161,6 @@ impl From<BuildFault> for CompileCause {
             BuildFault::TooLarge => CompileCause::TooLarge,
             BuildFault::Memory => CompileCause::Memory,
         }
-    }
-}
-
-impl From<MapFault> for CompileCause {
-    ghost use Rattle.dconf_compile.specs.declared.fault.CompileCause.TheVariants.{Memory};
-
-    ghost from_gives = { λ _ cause. cause ≡ Memory };
-
-    fn from(_fault: MapFault) -> CompileCause {
-        CompileCause::Memory
     }
 }
 

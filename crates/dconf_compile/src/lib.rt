@@ -20,6 +20,7 @@ mod order;
 mod rows;
 mod source;
 mod value;
+mod value_cause;
 
 pub use compiling::compile;
 pub use fault::{CompileCause, CompileFault, FileRef};
@@ -27,3 +28,4 @@ pub use line_stop::LineStop;
 pub use loading::RowsBelow;
 pub use source::Source;
 pub use value::value_of_text;
+pub use value_cause::ValueCause;

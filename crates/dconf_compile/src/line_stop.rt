@@ -6,11 +6,12 @@ ghost use Rattle.dconf_compile.specs.LineStops.{keyfile_fault_of, line_fault_of}
 
 use crate::fault::CompileCause;
 use dconf_path::{LocksFault, TextFault};
-use gvdb_write::MapFault;
 use keyfile_core::{KeyfileCause, KeyfileFault};
 use std::alloc::{AllocError, AllocFailed};
+use std::error::Error;
+use std::fmt;
 
-/// What is wrong at a line of a file.
+/// What is wrong at a line of a file. It is printed as its cause: the line is for who knows the file's name.
 #[derive(Clone, Copy, Debug, PartialEq, Eq)]
 pub struct LineStop {
     /// The number of the line, from 1 on, or 0 where it is none.
@@ -29,6 +30,18 @@ impl LineStop {
         }
     }
 }
+
+impl fmt::Display for LineStop {
+    ghost use Rattle.dconf_compile.specs.CompileFaults.{compile_cause_text};
+
+    ghost output = { λ stop. Some (compile_cause_text stop.cause) };
+
+    fn fmt<W: fmt::Write>(&self, f: &mut fmt::Formatter<W>) -> fmt::Result {
+        write!(f, "{}", self.cause)
+    }
+}
+
+impl Error for LineStop {}
 
 impl From<KeyfileFault> for LineStop {
     ghost from_gives = { λ fault stop. line_fault_of stop ≡ keyfile_fault_of fault };
@@ -72,14 +85,6 @@ impl From<LocksFault> for LineStop {
             },
             LocksFault::Memory => LineStop::memory(),
         }
-    }
-}
-
-impl From<MapFault> for LineStop {
-    ghost from_gives = { λ _ stop. line_fault_of stop ≡ None };
-
-    fn from(_fault: MapFault) -> LineStop {
-        LineStop::memory()
     }
 }
 

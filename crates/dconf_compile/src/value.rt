@@ -10,8 +10,8 @@ use std::alloc::Global;
 
 /// The value of a text of at most 16,777,216 bytes, by its own type.
 ///
-/// The refusal is the text's first fault, as [`read_value`] gives it: `Value`, which may also be that a growth was refused. It
-/// takes the time and the memory that [`read_value`] takes.
+/// The refusal is `Value`, with the text's first fault as [`read_value`] gives it, or `Memory` where a growth is refused. It takes
+/// the time and the memory that [`read_value`] takes.
 pub fn value_of_text(alloc: Global, text: &str) -> Result<Tree, CompileCause>
     requires { length text.now ≤ 16777216 }
     ensures value { IfOk result (λ v. value_of_text text.now ≡ Ok v) }
