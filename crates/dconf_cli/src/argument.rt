@@ -55,8 +55,8 @@ pub(crate) fn word_value(alloc: Global, text: &str) -> Result<Tree, Refusal>
 fn refused_for(alloc: Global, cause: CompileCause) -> Refusal
     ensures { GivesOutcome (Err result) (RefusedCause (cause_of cause)) }
 {
-    if cause.is_memory() {
-        return Refusal::NoMemory;
+    match cause {
+        CompileCause::Memory => Refusal::NoMemory,
+        _ => refused(alloc, cause),
     }
-    refused(alloc, cause)
 }

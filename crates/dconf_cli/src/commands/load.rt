@@ -28,7 +28,7 @@ use crate::input::{InputFault, read_input};
 use crate::refusal::{Refusal, device, refused_at};
 use crate::store_files::StoreFiles;
 use crate::user_database::{change_refused, saved};
-use dconf_compile::{LineStop, RowsBelow};
+use dconf_compile::{CompileCause, LineStop, RowsBelow};
 use dconf_disk::Folder;
 use dconf_engine::{ChangeFault, Engine};
 use dconf_path::{DirPath, KeyPath, Profile};
@@ -137,10 +137,10 @@ fn with_rows(
 fn line_refused(alloc: Global, stop: LineStop) -> Refusal
     ensures { GivesOutcome (Err result) (RefusedLine (line_fault_of stop)) }
 {
-    if stop.cause.is_memory() {
-        return Refusal::NoMemory;
+    match stop.cause {
+        CompileCause::Memory => Refusal::NoMemory,
+        _ => refused_at(alloc, "input", stop.line, stop.cause),
     }
-    refused_at(alloc, "input", stop.line, stop.cause)
 }
 
 /// The path of the row that is locked, or no text where the fault is another.
