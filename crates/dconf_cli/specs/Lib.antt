@@ -10,3 +10,4 @@ pub mod Inputs
 pub mod Dumps
 pub mod Changing
 pub mod Loads
+pub mod InputFaults

@@ -11,10 +11,11 @@ ghost use Rattle.dconf_cli.specs.Streams.{one_more};
 
 use crate::counted::Counted;
 use std::alloc::{AllocError, Global};
-use std::io;
+use std::error::Error;
 use std::io::Read;
+use std::{fmt, io};
 
-/// Why the input was not read.
+/// Why the input was not read. It is printed as the reason that err is given: `Device input`, or `Memory`.
 #[derive(Clone, Copy, Debug, PartialEq, Eq)]
 pub enum InputFault {
     /// A read failed. The stream has counted it.
@@ -22,6 +23,22 @@ pub enum InputFault {
     /// Out of memory.
     Memory,
 }
+
+impl fmt::Display for InputFault {
+    ghost use Rattle.std.specs.Prelude.{Some};
+    ghost use Rattle.dconf_cli.specs.InputFaults.{input_fault_text};
+
+    ghost output = { λ fault. Some (input_fault_text fault) };
+
+    fn fmt<W: fmt::Write>(&self, f: &mut fmt::Formatter<W>) -> fmt::Result {
+        match self {
+            InputFault::Device => f.write_str("Device input"),
+            InputFault::Memory => f.write_str("Memory"),
+        }
+    }
+}
+
+impl Error for InputFault {}
 
 impl From<io::Error> for InputFault {
     ghost use Rattle.dconf_cli.specs.declared.input.InputFault.TheVariants.{Device};
