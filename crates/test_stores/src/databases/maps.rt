@@ -35,6 +35,8 @@ fn values_and_locks_are_where_they_were_put(rt: HostRuntime) -> Result<(), Fail>
     assert!(rt;
         !map.is_locked(LockPath::parse("/a/kk")?) && !map.is_locked(LockPath::parse("/a/")?)
     );
+    let shown = format!(in rt.alloc(); "{map:?}")?;
+    assert_eq!(rt; shown.as_str(), "Map { values: 0, locks: 1 }");
     let mut locks = map.locks();
     assert!(rt; locks.next().is_some() && locks.next().is_none());
     Ok(())

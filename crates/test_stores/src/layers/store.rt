@@ -1,6 +1,6 @@
 //! One store from its keyfiles on: they are compiled, opened after a user's database, and changed.
 use super::engines::stores;
-use dconf_compile::{LineStop, RowsBelow, Source, compile, value_of_text};
+use dconf_compile::{CompileCause, LineStop, RowsBelow, Source, compile, value_of_text};
 use dconf_path::DirPath;
 use gv_tree::Tree;
 use gv_view::View;
@@ -93,6 +93,6 @@ fn rows_have_values_below_a_directory(rt: HostRuntime) -> Result<(), Fail> {
     let found = only_row(alloc, directory, b"[b]\nk=[1, 2]\n", &value);
     assert!(rt; found.is_ok_and(|path| path.as_str() == "/a/b/k"));
     let stopped = only_row(alloc, directory, b"[b]\n\nk=oops\n", &value);
-    assert!(rt; stopped.is_err_and(|stop| stop.line == 3 && !stop.cause.is_memory()));
+    assert!(rt; stopped.is_err_and(|stop| stop.line == 3 && stop.cause != CompileCause::Memory));
     Ok(())
 }

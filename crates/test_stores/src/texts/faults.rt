@@ -1,7 +1,7 @@
 //! How faults are printed.
 use dconf_path::{LocksFault, PathFault, ProfileFault};
 use gvdb_read::{OpenFault, Rule, Unsound};
-use gvdb_write::{MapFault, WriteFault};
+use gvdb_write::{SalvageFault, WriteFault};
 use std::fmt::Write;
 use std::test::Fail;
 
@@ -28,7 +28,7 @@ fn faults_are_printed_as_names_rules_and_items(rt: HostRuntime) -> Result<(), Fa
         write!(names, "{fault} ")?;
     }
     write!(names, "{} {} ", LocksFault::Memory, ProfileFault::Memory)?;
-    write!(names, "{} {} ", MapFault::Memory, WriteFault::TooBig)?;
+    write!(names, "{} {} ", SalvageFault::Memory, WriteFault::TooBig)?;
     write!(names, "{}", WriteFault::Memory)?;
     assert_eq!(rt;
         names.as_str(),
