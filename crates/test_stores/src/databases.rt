@@ -1,15 +1,15 @@
 //! Databases as they are read, checked, salvaged and written.
-mod checking;
+pub(crate) mod checking;
 mod damaged;
 mod dconf_bytes;
-mod dconf_made;
-mod finding;
-mod items;
-mod maps;
-mod salvaging;
+pub(crate) mod dconf_made;
+pub(crate) mod finding;
+pub(crate) mod items;
+pub(crate) mod maps;
+pub(crate) mod salvaging;
 pub(crate) mod samples;
 mod slow_check;
 mod slow_search;
 mod verdicts;
-mod writing;
-mod written;
+pub(crate) mod writing;
+pub(crate) mod written;

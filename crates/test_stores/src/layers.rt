@@ -1,11 +1,11 @@
 //! Layers of settings: what is seen through the databases of a profile, and how it is changed.
-mod again;
+pub(crate) mod again;
 mod calls;
 mod changing;
-mod differing;
+pub(crate) mod differing;
 mod engines;
 mod files;
-mod keeping;
+pub(crate) mod keeping;
 mod listing;
 mod many;
 mod seeing;

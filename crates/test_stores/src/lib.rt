@@ -10,6 +10,8 @@ mod folders;
 #[cfg(test)]
 mod layers;
 #[cfg(test)]
+mod questions;
+#[cfg(test)]
 mod rows;
 #[cfg(test)]
 mod texts;

@@ -1,6 +1,7 @@
 //! Rows of a text, in each of which ` =>` and the answer follow on what is asked. One that begins
 //! with `-- ` is a comment.
-use std::alloc::Global;
+use crate::questions::{Question, answer};
+use std::alloc::{AllocError, Global};
 use std::test::Fail;
 
 /// An error says what was found, if it isn't the answer.
@@ -20,29 +21,32 @@ pub(crate) fn cut(row: &str) -> Result<(&str, &str), Fail> {
     }
 }
 
-/// What a row asks, and its answer. None of a comment.
-fn asked(row: &str) -> Result<Option<(&str, &str)>, Fail> {
-    let row = row.trim_start_matches('\n');
-    if row.is_empty() || row.starts_with("-- ") {
-        return Ok(None);
+/// The bytes that the characters of a text stand for, each of them the one of its own number.
+pub(crate) fn bytes_of_text(alloc: Global, text: &str) -> Result<Vec<u8>, AllocError> {
+    let mut bytes = Vec::new(alloc);
+    for letter in text.chars() {
+        bytes.push((u32::from(letter) % 256) as u8)?;
     }
-    Ok(Some(cut(row)?))
+    Ok(bytes)
 }
 
-/// Asks what each row asks, which ends so. An answer has a blank before each of its words. An error
-/// says what was found of the first row that has another answer.
-pub(crate) fn hold<F: Fn(Global, &str) -> Result<String, Fail>>(
-    alloc: Global,
-    rows: &str,
-    end: char,
-    answer: F,
-) -> Result<(), Fail>
-    requires { F.IsAlwaysCallable answer }
-{
+/// Asks what a row asks, with room for the answer.
+fn row_holds(alloc: Global, question: Question, row: &str, found: &mut String) -> Result<(), Fail> {
+    if row.is_empty() || row.starts_with("-- ") {
+        return Ok(());
+    }
+    let (asked, wanted) = cut(row)?;
+    found.clear();
+    answer(alloc, question, asked, found)?;
+    is_found(alloc, asked, found.as_str(), wanted)
+}
+
+/// Asks a question of each row, which ends so. An answer has a blank before each of its words. An
+/// error says what was found of the first row that has another answer.
+pub(crate) fn hold(alloc: Global, question: Question, rows: &str, end: char) -> Result<(), Fail> {
+    let mut found = String::new(alloc);
     for row in rows.split_terminator(end) {
-        if let Some((asked, wanted)) = asked(row)? {
-            is_found(alloc, asked, &answer(alloc, asked)?, wanted)?;
-        }
+        row_holds(alloc, question, row.trim_start_matches('\n'), &mut found)?;
     }
     Ok(())
 }

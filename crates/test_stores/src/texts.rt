@@ -1,6 +1,6 @@
 //! Paths, lock files, profiles and keyfiles, and what faults are printed as.
 mod faults;
-mod keyfiles;
-mod limits;
+pub(crate) mod keyfiles;
+pub(crate) mod limits;
 pub(crate) mod paths;
-mod settings;
+pub(crate) mod settings;

@@ -2,18 +2,25 @@
 use super::samples::file_of;
 use super::slow_check::slow_verdict;
 use super::verdicts::verdict_of;
+use crate::questions::Question;
 use crate::rows::hold;
 use std::alloc::Global;
+use std::fmt::Write;
 use std::test::Fail;
 
 /// What a file is, by the slow check too.
-fn verdict_shown(alloc: Global, asked: &str) -> Result<String, Fail> {
-    let file = file_of(alloc, asked)?;
-    let verdict = verdict_of(&file);
-    if slow_verdict(alloc, &file)? != verdict {
+fn show_verdict(alloc: Global, file: &[u8], found: &mut String) -> Result<(), Fail> {
+    let verdict = verdict_of(file);
+    if slow_verdict(alloc, file)? != verdict {
         return Err(Fail::new("the slow check says something else"));
     }
-    Ok(format!(in alloc; " {verdict:?}")?)
+    write!(found, " {verdict:?}")?;
+    Ok(())
+}
+
+/// What a file is of which some bytes are set.
+pub(crate) fn file_checked(alloc: Global, asked: &str, found: &mut String) -> Result<(), Fail> {
+    show_verdict(alloc, &file_of(alloc, asked)?, found)
 }
 
 const OPENED: &str = "
@@ -38,7 +45,7 @@ plain 28=64 => NoDatabase(BadTable)
 
 #[test]
 fn opens_exactly_databases(rt: HostRuntime) -> Result<(), Fail> {
-    hold(rt.alloc(), OPENED, '\n', self::verdict_shown)
+    hold(rt.alloc(), Question::Checked, OPENED, '\n')
 }
 
 // 72 and 76 are the kinds `H` and `L`, and 120 is none.
@@ -115,5 +122,5 @@ listed 172=2 176=2 => Unsound(Lists, Some(1))
 
 #[test]
 fn names_the_rule_that_is_broken(rt: HostRuntime) -> Result<(), Fail> {
-    hold(rt.alloc(), CHECKED, '\n', self::verdict_shown)
+    hold(rt.alloc(), Question::Checked, CHECKED, '\n')
 }

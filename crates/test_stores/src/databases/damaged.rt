@@ -9,19 +9,11 @@ use gvdb_read::Rule;
 use std::alloc::{AllocError, Global};
 use std::test::Fail;
 
-/// How each copy of a file is damaged.
-#[derive(Clone, Copy)]
-enum Damage {
-    /// In four copies one byte is changed, in the next four the byte after it.
-    EachByte,
-    /// One or two bytes are set: half of them in the root table, which has this size, half anywhere.
-    InTable(u16),
-    /// One to eight bytes are set, anywhere.
-    Anywhere,
-}
+/// The first number of Marsaglia's generator.
+const SEED: u32 = 2_463_534_242;
 
-/// What is said of a copy by `check`, and by the slow check where the table is damaged. Else, whether both searches find the same in it.
-type Said = (Verdict, Verdict, bool);
+/// How many copies of a file are damaged at random.
+const COPIES: usize = 2000;
 
 /// The next number of Marsaglia's generator, for a seed that is not 0.
 fn next(seed: u32) -> u32 {
@@ -83,68 +75,70 @@ fn set_some(file: &mut [u8], table_size: Option<u16>, seed: u32) -> u32 {
     seed
 }
 
-/// Damages the copy of this number. Gives the generator's next number.
-fn damage_copy(file: &mut [u8], damage: Damage, copy: usize, seed: u32) -> u32 {
-    match damage {
-        Damage::EachByte => {
-            change_one(file, copy);
-            seed
-        }
-        Damage::InTable(size) => set_some(file, Some(size), seed),
-        Damage::Anywhere => set_some(file, None, seed),
-    }
+/// Makes this a copy of a file.
+fn copy(file: &mut Vec<u8>, whole: &[u8]) -> Result<(), AllocError> {
+    file.clear();
+    file.extend_from_slice(whole)
 }
 
-/// What is said of a copy.
-fn said_of(
-    alloc: Global,
-    file: &[u8],
-    damage: Damage,
-    names: &[String],
-) -> Result<Said, AllocError> {
+/// Whether the slow check says the same of a copy. The rule that is the first that it doesn't keep is added.
+fn is_checked_so(alloc: Global, file: &[u8], broken: &mut Vec<Rule>) -> Result<bool, AllocError> {
     let verdict = verdict_of(file);
-    match damage {
-        Damage::InTable(_) => Ok((verdict, slow_verdict(alloc, file)?, true)),
-        _ => Ok((verdict, verdict, agree(alloc, file, names)?)),
+    if let Verdict::Unsound(rule, _) = verdict {
+        broken.push(rule)?;
     }
+    Ok(slow_verdict(alloc, file)? == verdict)
 }
 
-/// What is said of each damaged copy of a file.
-fn said_of_copies(alloc: Global, whole: &[u8], damage: Damage) -> Result<Vec<Said>, Fail> {
-    let names = names(alloc, 8)?;
-    let mut said = Vec::new(alloc);
-    let mut seed = 2_463_534_242;
-    let copies = match damage {
-        Damage::EachByte => whole.len().saturating_mul(4),
-        _ => 2000,
-    };
-    for copy in 0..copies {
-        let mut file = whole.to_vec(alloc)?;
-        seed = damage_copy(&mut file, damage, copy, seed);
-        said.push(said_of(alloc, &file, damage, &names)?)?;
+/// Sets one or two bytes in each copy of a file: half of them in its root table, which has this size, half anywhere. Gives the first
+/// copy of which the slow check says something else. There is room for a copy.
+fn checked_otherwise(
+    alloc: Global,
+    (whole, size): (&[u8], u16),
+    file: &mut Vec<u8>,
+    broken: &mut Vec<Rule>,
+) -> Result<Option<usize>, AllocError> {
+    let mut seed = SEED;
+    for number in 0..COPIES {
+        copy(file, whole)?;
+        seed = set_some(file, Some(size), seed);
+        if !is_checked_so(alloc, file, broken)? {
+            return Ok(Some(number));
+        }
     }
-    Ok(said)
+    Ok(None)
 }
 
-/// Whether this rule was the first that isn't kept so often.
-fn is_named(said: &[Said], (rule, least): (Rule, usize)) -> bool {
-    let named = said.iter().filter(|(
-        verdict,
-        _,
-        _,
-    )| matches!(verdict, Verdict::Unsound(named, _) if *named == rule));
-    named.count() >= least
+/// How often a rule is one of these.
+fn times_broken(broken: &[Rule], wanted: Rule) -> usize {
+    let mut times = 0usize;
+    for rule in broken {
+        if *rule == wanted {
+            times = times.saturating_add(1);
+        }
+    }
+    times
 }
 
-/// The number of the first copy of which not all say the same, or of a rule that is named too seldom.
-fn first_other(said: &[Said], rules: &[(Rule, usize)]) -> Option<usize> {
-    let other = said
-        .iter()
-        .position(|(verdict, slow, found)| verdict != slow || !found);
-    match other {
-        Some(copy) => Some(copy),
-        None => rules.iter().position(|rule| !is_named(said, *rule)),
+/// The first rule that isn't broken as often as is wanted.
+fn first_seldom(broken: &[Rule], wanted: &[(Rule, usize)]) -> Option<Rule> {
+    for (rule, least) in wanted {
+        if times_broken(broken, *rule) < *least {
+            return Some(*rule);
+        }
     }
+    None
+}
+
+/// Whether the slow check says the same of each damaged copy, by which these rules are broken so often.
+fn are_checked_so(
+    alloc: Global,
+    whole: (&[u8], u16),
+    wanted: &[(Rule, usize)],
+) -> Result<(Option<usize>, Option<Rule>), AllocError> {
+    let mut broken = Vec::new(alloc);
+    let other = checked_otherwise(alloc, whole, &mut Vec::new(alloc), &mut broken)?;
+    Ok((other, first_seldom(&broken, wanted)))
 }
 
 /// The rules that copies of the real dconf's file break, and how often at least. It has no bloom
@@ -164,25 +158,57 @@ const OF_SITE: [(Rule, usize); 9] = [
 #[test]
 fn a_slow_check_says_the_same_of_damaged_files(rt: HostRuntime) -> Result<(), Fail> {
     let alloc = rt.alloc();
-    let said = said_of_copies(alloc, site(), Damage::InTable(736))?;
-    assert_eq!(rt; first_other(&said, &OF_SITE), None);
+    let of_site = are_checked_so(alloc, (site(), 736), &OF_SITE)?;
     let written = database(alloc, 8)?;
-    let said = said_of_copies(alloc, &written, Damage::InTable(492))?;
-    assert_eq!(rt; first_other(&said, &[(Rule::Bloom, 1)]), None);
+    let of_written = are_checked_so(alloc, (&written, 492), &[(Rule::Bloom, 1)])?;
+    assert_eq!(rt; (of_site, of_written), ((None, None), (None, None)));
     Ok(())
+}
+
+/// Damages the copy of this number: where `each` is so, one byte of it, which comes after that of the four copies before; else one to
+/// eight bytes anywhere. Gives the generator's next number.
+fn damage(file: &mut [u8], each: bool, number: usize, seed: u32) -> u32 {
+    if each {
+        change_one(file, number);
+        return seed;
+    }
+    set_some(file, None, seed)
+}
+
+/// The first damaged copy of a file in which the slow search finds something else. There is room for a copy.
+fn searched_otherwise(
+    (whole, names): (&[u8], &str),
+    each: bool,
+    file: &mut Vec<u8>,
+) -> Result<Option<usize>, AllocError> {
+    let mut seed = SEED;
+    let copies = if each {
+        whole.len().saturating_mul(4)
+    } else {
+        COPIES
+    };
+    for number in 0..copies {
+        copy(file, whole)?;
+        seed = damage(file, each, number, seed);
+        if !agree(file, names) {
+            return Ok(Some(number));
+        }
+    }
+    Ok(None)
+}
+
+/// The first damaged copy of a database of so many keys in which it does.
+fn other_found(alloc: Global, keys: u32, each: bool) -> Result<Option<usize>, Fail> {
+    let whole = database(alloc, keys)?;
+    let names = names(alloc, 8)?;
+    let other = searched_otherwise((&whole, &names), each, &mut Vec::new(alloc))?;
+    Ok(other)
 }
 
 #[test]
 fn a_slow_search_finds_the_same_in_damaged_files(rt: HostRuntime) -> Result<(), Fail> {
-    for (keys, damage) in [
-        (0, Damage::EachByte),
-        (1, Damage::EachByte),
-        (2, Damage::EachByte),
-        (3, Damage::EachByte),
-        (50, Damage::Anywhere),
-    ] {
-        let said = said_of_copies(rt.alloc(), &database(rt.alloc(), keys)?, damage)?;
-        let other = first_other(&said, &[]);
+    for (keys, each) in [(0, true), (1, true), (2, true), (3, true), (50, false)] {
+        let other = other_found(rt.alloc(), keys, each)?;
         assert!(rt; other == None, "{keys} keys: {other:?}");
     }
     Ok(())

@@ -1,10 +1,12 @@
-//! Looking up names in files by hand.
-use super::samples::{file_of, sample};
+//! Looking up names in files by hand, and in one that the real dconf made.
+use super::samples::file_of;
+use crate::questions::Question;
 use crate::rows::hold;
 use gv_types::Steps;
 use gv_view::View;
 use gvdb_read::{HashedName, Table, hash, hash_with};
-use std::alloc::Global;
+use std::alloc::{AllocError, Global};
+use std::fmt::Write;
 use std::test::Fail;
 
 /// The hash of a name, byte by byte.
@@ -16,100 +18,130 @@ fn hash_one_by_one(name: &[u8]) -> u32 {
     found
 }
 
-#[test]
-fn takes_bytes_as_signed_numbers(rt: HostRuntime) {
-    for (name, expected) in [
-        ("", 5381),
-        ("/", 177620),
-        ("/k", 5861567),
-        ("\u{e9}", 5857809),
-    ] {
-        let bytes = name.as_bytes();
-        assert!(rt;
-            hash(bytes) == expected && hash_one_by_one(bytes) == expected,
-            "at {name}"
-        );
-    }
+/// The hash of a name, in one call and byte by byte.
+pub(crate) fn hashed(asked: &str, found: &mut String) -> Result<(), AllocError> {
+    let name = asked.as_bytes();
+    write!(found, " {} {}", hash(name), hash_one_by_one(name))
 }
 
-/// Whether the value of this name has these bytes in a table, and no list has this name.
-fn has_bytes(table: Table<'_>, name: &str, bytes: Option<&[u8]>) -> bool {
-    table.find_bytes(name) == bytes
-        && table.find_hashed_bytes(HashedName::new(name.as_bytes())) == bytes
+const HASHES: &str = "
+ => 5381 5381
+/ => 177620 177620
+/k => 5861567 5861567
+\u{e9} => 5857809 5857809
+";
+
+#[test]
+fn takes_bytes_as_signed_numbers(rt: HostRuntime) -> Result<(), Fail> {
+    hold(rt.alloc(), Question::Hash, HASHES, '\n')
+}
+
+/// Whether each other call finds these bytes of a name too.
+fn is_found_by_all(table: Table<'_>, name: &str, bytes: Option<&[u8]>) -> bool {
+    table.find_hashed_bytes(HashedName::new(name.as_bytes())) == bytes
         && table.find(name).is_some() == bytes.is_some()
         && table.has(name) == bytes.is_some()
 }
 
+/// The bytes of a name's value.
+fn show_value(table: Table<'_>, name: &str, found: &mut String) -> Result<(), AllocError> {
+    let bytes = table.find_bytes(name);
+    if !is_found_by_all(table, name, bytes) {
+        return write!(found, " another value");
+    }
+    write!(found, " {bytes:?}")
+}
+
 /// The names in a list, each with a blank before it; `none` where there is no list.
-pub(crate) fn names_shown(alloc: Global, table: Table<'_>, name: &str) -> Result<String, Fail> {
-    let mut text = String::new(alloc);
+fn show_list(table: Table<'_>, name: &str, found: &mut String) -> Result<(), AllocError> {
     let Some(names) = table.list(name) else {
-        text.push_str(" none")?;
-        return Ok(text);
+        return write!(found, " none");
     };
     for name in names {
-        text.push(' ')?;
-        text.push_str(str::from_utf8(name)?)?;
+        write!(found, " {}", str::from_utf8(name).unwrap_or("no text"))?;
     }
-    Ok(text)
+    Ok(())
 }
 
-/// Whether `/k` is in a table, worth 5, and no value has another of these names.
-fn holds_k_alone(table: Table<'_>) -> bool {
-    for name in ["", "/", "k", "/j", "/k/", "//k", ".locks"] {
-        if !has_bytes(table, name, None) {
-            return false;
-        }
-    }
-    (0..table.n_items()).any(|i| table.has_name(i, "/k"))
-        && !table.has_name(0, "/j")
-        && has_bytes(table, "/k", Some(&[5, 0, 0, 0, 0, b'i']))
-        && table.find("/k").and_then(View::as_i32) == Some(5)
-        && table.list("/k").is_none()
-        && table.list("").is_none()
-        && table.table("/").is_none()
+/// Of a name that is a table's: how many items that has, and the text of its value `/k`.
+fn show_table(table: Table<'_>, name: &str, found: &mut String) -> Result<(), AllocError> {
+    let Some(inner) = table.table(name) else {
+        return Ok(());
+    };
+    let text = inner.find("/k").and_then(View::as_str);
+    write!(found, "; {} {text:?}", inner.n_items())
 }
 
-/// The text at `/k` in the table `.locks`.
-fn lock_value(table: Table<'_>) -> Option<&str> {
-    table.table(".locks")?.find("/k")?.as_str()
+/// What a table has of a name: a value, a list, and a table.
+fn show_all(table: Table<'_>, name: &str, found: &mut String) -> Result<(), AllocError> {
+    show_value(table, name, found)?;
+    show_list(table, name, found)?;
+    show_table(table, name, found)
 }
 
-/// What a file has of locks and in the list of `/`, where it holds `/k` alone.
-fn file_shown(alloc: Global, asked: &str) -> Result<String, Fail> {
-    let table = Table::open(sample(asked)?)?;
-    if !holds_k_alone(table) {
-        return Err(Fail::new("the file holds something else"));
-    }
-    let names = names_shown(alloc, table, "/")?;
-    Ok(format!(in alloc; " {:?}{names}", lock_value(table))?)
+/// What a file has of a name.
+pub(crate) fn looked_up(alloc: Global, asked: &str, found: &mut String) -> Result<(), Fail> {
+    let (file, name) = asked.split_once("; ").unwrap_or((asked, ""));
+    let file = file_of(alloc, file)?;
+    show_all(Table::open(&file)?, name, found)?;
+    Ok(())
 }
 
 const FILES: &str = "
-plain => None k
-buckets => None k
-locked => Some(\"\") k
+plain; /k => Some([5, 0, 0, 0, 0, 105]) none
+plain; / => None k
+plain => None none
+plain; k => None none
+plain; /j => None none
+plain; /k/ => None none
+plain; //k => None none
+plain; .locks => None none
+buckets; /k => Some([5, 0, 0, 0, 0, 105]) none
+buckets; / => None k
+buckets => None none
+buckets; k => None none
+buckets; /j => None none
+buckets; /k/ => None none
+buckets; //k => None none
+buckets; .locks => None none
+locked; /k => Some([5, 0, 0, 0, 0, 105]) none
+locked; / => None k
+locked => None none
+locked; k => None none
+locked; /j => None none
+locked; /k/ => None none
+locked; //k => None none
+locked; .locks => None none; 1 Some(\"\")
 ";
 
 #[test]
 fn finds_values_lists_and_locks(rt: HostRuntime) -> Result<(), Fail> {
-    hold(rt.alloc(), FILES, '\n', self::file_shown)
+    hold(rt.alloc(), Question::LookedUp, FILES, '\n')
 }
 
-/// What a search for a name finds in a file, with its steps counted and without, whether it took so
+/// What a search for a name finds in a table, with its steps counted and without, whether it took so
 /// many at most, and the names in the list of `/`.
-fn searched(alloc: Global, asked: &str) -> Result<String, Fail> {
-    let (file, rest) = asked.split_once("; ").unwrap_or((asked, ""));
-    let (name, most) = rest.split_once("; ").unwrap_or((rest, ""));
-    let most: u128 = most.parse()?;
-    let file = file_of(alloc, file)?;
-    let table = Table::open(&file)?;
+fn show_search(
+    table: Table<'_>,
+    name: &str,
+    most: u128,
+    found: &mut String,
+) -> Result<(), AllocError> {
     let mut steps = Steps::new();
     let counted = table.find_counted(name, &mut steps).and_then(View::as_i32);
-    let found = table.find(name).and_then(View::as_i32);
+    let value = table.find(name).and_then(View::as_i32);
     let ended = steps.count() <= most;
-    let names = names_shown(alloc, table, "/")?;
-    Ok(format!(in alloc; " {counted:?} {found:?} {ended}{names}")?)
+    write!(found, " {counted:?} {value:?} {ended}")?;
+    show_list(table, "/", found)
+}
+
+/// What a search for a name finds in a file, in so many steps at most.
+pub(crate) fn searched(alloc: Global, asked: &str, found: &mut String) -> Result<(), Fail> {
+    let (file, rest) = asked.split_once("; ").unwrap_or((asked, ""));
+    let (name, most) = rest.split_once("; ").unwrap_or((rest, ""));
+    let file = file_of(alloc, file)?;
+    show_search(Table::open(&file)?, name, most.parse()?, found)?;
+    Ok(())
 }
 
 const SEARCHES: &str = "
@@ -130,5 +162,5 @@ plain 88=2; /k; 6 => Some(5) Some(5) true
 
 #[test]
 fn searches_end_in_bare_and_damaged_files_too(rt: HostRuntime) -> Result<(), Fail> {
-    hold(rt.alloc(), SEARCHES, '\n', self::searched)
+    hold(rt.alloc(), Question::Searched, SEARCHES, '\n')
 }

@@ -1,57 +1,79 @@
 //! Items as a table shows them, their full names, and the tables that they point to.
 use super::samples::file_of;
+use crate::questions::Question;
 use crate::rows::hold;
 use gvdb_read::Table;
-use std::alloc::Global;
+use std::alloc::{AllocError, Global};
+use std::fmt::Write;
 use std::test::Fail;
 
 /// An item: the number of its parent, its key, its kind, and how many bytes it points to.
-fn item_shown(alloc: Global, table: Table<'_>, i: u32) -> Result<String, Fail> {
+fn show_item(table: Table<'_>, i: u32, found: &mut String) -> Result<(), AllocError> {
     let Some(item) = table.item(i) else {
-        return Ok(String::from_str(alloc, "none")?);
+        return write!(found, " none");
     };
     let key = match item.key {
-        Some(key) => str::from_utf8(key)?,
+        Some(key) => str::from_utf8(key).unwrap_or("no text"),
         None => "none",
     };
     let len = item.bytes.map(<[u8]>::len);
-    Ok(format!(in alloc; "{:?} {key} {} {len:?}", item.parent, char::from(item.kind))?)
+    write!(
+        found,
+        " {:?} {key} {} {len:?}",
+        item.parent,
+        char::from(item.kind)
+    )
 }
 
 /// The first item of the table to which an item points.
-fn first_shown(alloc: Global, table: Table<'_>, i: u32) -> Result<String, Fail> {
+fn show_first(table: Table<'_>, i: u32, found: &mut String) -> Result<(), AllocError> {
+    write!(found, ";")?;
     match table.table_at(i) {
-        Some(locks) => item_shown(alloc, locks, 0),
-        None => Ok(String::from_str(alloc, "no table")?),
+        Some(locks) => show_item(locks, 0, found),
+        None => write!(found, " no table"),
     }
 }
 
-/// The full name of an item, or why there is none of six bytes at most.
-fn name_of(alloc: Global, table: Table<'_>, i: u32) -> Result<String, Fail> {
-    let mut name = Vec::new(alloc);
-    match table.name_len(i, 6) {
-        Some(len) => name.resize(len, 0u8)?,
-        None => return Ok(String::from_str(alloc, "none")?),
+/// The full name of an item, or `none` where it has none that fits this room.
+fn name_in<'a>(table: Table<'_>, i: u32, room: &'a mut [u8]) -> &'a str {
+    let len = table.name_len(i, room.len()).unwrap_or(usize::MAX);
+    let Some(name) = room.get_mut(..len) else {
+        return "none";
+    };
+    if !table.write_name(i, name) {
+        return "another";
     }
-    if !table.write_name(i, &mut name) {
-        return Ok(String::from_str(alloc, "another")?);
-    }
-    Ok(String::from_utf8(name)?)
+    str::from_utf8(name).unwrap_or("no text")
 }
 
-/// An item of a file: its full name, the item itself, and the first one of its table.
-fn shown_item(alloc: Global, asked: &str) -> Result<String, Fail> {
+/// The full name of an item, of six bytes at most. It is named so, and not `/j`.
+fn show_name(table: Table<'_>, i: u32, found: &mut String) -> Result<(), AllocError> {
+    let mut room = [0; 6];
+    let name = name_in(table, i, &mut room);
+    if table.has_name(i, name) == (name == "none") || table.has_name(i, "/j") {
+        return write!(found, " another;");
+    }
+    write!(found, " {name};")
+}
+
+/// An item: its full name, the item itself, and the first one of its table.
+fn show_whole(table: Table<'_>, i: u32, found: &mut String) -> Result<(), AllocError> {
+    show_name(table, i, found)?;
+    show_item(table, i, found)?;
+    show_first(table, i, found)
+}
+
+/// An item of a file.
+pub(crate) fn item_shown(alloc: Global, asked: &str, found: &mut String) -> Result<(), Fail> {
     let (file, i) = asked.split_once("; ").unwrap_or((asked, ""));
-    let i: u32 = i.parse()?;
     let file = file_of(alloc, file)?;
-    let table = Table::open(&file)?;
-    let name = name_of(alloc, table, i)?;
-    let item = item_shown(alloc, table, i)?;
-    let first = first_shown(alloc, table, i)?;
-    Ok(format!(in alloc; " {name}; {item}; {first}")?)
+    show_whole(Table::open(&file)?, i.parse()?, found)?;
+    Ok(())
 }
 
 const ROWS: &str = "
+plain; 0 => /; None / L Some(4); no table
+plain; 1 => /k; Some(0) k v Some(6); no table
 locked; 0 => .locks; None .locks H Some(36); None /k v Some(3)
 locked; 1 => /; None / L Some(4); no table
 locked; 2 => /k; Some(1) k v Some(6); no table
@@ -72,5 +94,5 @@ plain 68=102 76=97; 1 => none; Some(0) none v None; no table
 
 #[test]
 fn items_have_names_contents_and_tables(rt: HostRuntime) -> Result<(), Fail> {
-    hold(rt.alloc(), ROWS, '\n', self::shown_item)
+    hold(rt.alloc(), Question::Item, ROWS, '\n')
 }

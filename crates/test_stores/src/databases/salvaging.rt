@@ -1,34 +1,42 @@
 //! What is salvaged of files by hand with some bytes set, as a text.
 use super::samples::file_of;
+use crate::questions::Question;
 use crate::rows::hold;
-use gvdb_write::{Map, salvage};
-use std::alloc::Global;
+use gvdb_write::{Map, salvage, write};
+use std::alloc::{AllocError, Global};
 use std::fmt::Write;
 use std::test::Fail;
 
 /// What a map holds: each path with the first byte of its value, and each lock.
-pub(crate) fn text_of(alloc: Global, map: &Map) -> Result<String, Fail> {
-    let mut text = String::new(alloc);
+pub(crate) fn show_map(map: &Map, found: &mut String) -> Result<(), AllocError> {
     for path in map.keys() {
         let first = map.get(path).and_then(|value| value.first().copied());
-        write!(text, " {}={first:?}", path.as_str())?;
+        write!(found, " {}={first:?}", path.as_str())?;
     }
     for path in map.locks() {
-        write!(text, " lock {}", path.as_str())?;
+        write!(found, " lock {}", path.as_str())?;
     }
-    Ok(text)
+    Ok(())
 }
 
 /// What is salvaged of a file, or why nothing is.
-pub(crate) fn kept(alloc: Global, file: &[u8]) -> Result<String, Fail> {
+pub(crate) fn show_kept(alloc: Global, file: &[u8], found: &mut String) -> Result<(), AllocError> {
     match salvage(alloc, file) {
-        Ok(map) => text_of(alloc, &map),
-        Err(fault) => Ok(format!(in alloc; " {fault}")?),
+        Ok(map) => show_map(&map, found),
+        Err(fault) => write!(found, " {fault}"),
     }
 }
 
-fn salvaged(alloc: Global, asked: &str) -> Result<String, Fail> {
-    kept(alloc, &file_of(alloc, asked)?)
+/// The database of what is salvaged of such a file.
+pub(crate) fn file_salvaged(alloc: Global, text: &str) -> Result<Vec<u8>, Fail> {
+    let map = salvage(alloc, &file_of(alloc, text)?)?;
+    Ok(write(alloc, &map)?)
+}
+
+/// What is salvaged of a file of which some bytes are set.
+pub(crate) fn salvaged(alloc: Global, asked: &str, found: &mut String) -> Result<(), Fail> {
+    show_kept(alloc, &file_of(alloc, asked)?, found)?;
+    Ok(())
 }
 
 // 76, 118 and 120 are the kinds `L` and `v`, and none.
@@ -57,5 +65,5 @@ locked 50=76 => /k=Some(5)
 
 #[test]
 fn keeps_what_has_a_name_and_a_place(rt: HostRuntime) -> Result<(), Fail> {
-    hold(rt.alloc(), ROWS, '\n', self::salvaged)
+    hold(rt.alloc(), Question::Salvaged, ROWS, '\n')
 }

@@ -1,4 +1,5 @@
 //! Files by hand: a header, a table and its items, keys, a list, values, in this order.
+use super::dconf_bytes::site;
 use std::alloc::Global;
 use std::test::Fail;
 
@@ -54,25 +55,28 @@ const DOTTED: &[u8] = &[
 
 /// The file of this name: `plain` has the key `/k`, worth 5; `buckets` is the same with buckets and
 /// a bloom word, `locked` with a lock, `listed` with a lock and a list of two numbers, and `dotted`
-/// with `/.` in place of the lock. A number is so many bytes of the plain one.
-pub(crate) fn sample(name: &str) -> Result<&'static [u8], Fail> {
+/// with `/.` in place of the lock; `dconf` is the one that the real dconf made. A number is so many
+/// bytes of the plain one.
+pub(crate) fn sample(name: &str) -> &'static [u8] {
     match name {
-        "plain" => Ok(PLAIN),
-        "buckets" => Ok(BUCKETS),
-        "locked" => Ok(LOCKED),
-        "listed" => Ok(LISTED),
-        "dotted" => Ok(DOTTED),
-        _ => Ok(PLAIN.get(..name.parse()?).unwrap_or(&[])),
+        "plain" => PLAIN,
+        "buckets" => BUCKETS,
+        "locked" => LOCKED,
+        "listed" => LISTED,
+        "dotted" => DOTTED,
+        "dconf" => site(),
+        _ => PLAIN.get(..name.parse().unwrap_or(0)).unwrap_or(&[]),
     }
 }
 
-/// Sets a byte, as `32=1` says.
-fn set(file: &mut [u8], change: &str) -> Result<(), Fail> {
-    let (at, byte) = change.split_once('=').unwrap_or((change, ""));
-    let at: usize = at.parse()?;
-    match file.get_mut(at) {
-        Some(there) => *there = byte.parse()?,
-        None => return Err(Fail::new("a byte past the end")),
+/// Sets bytes, as `32=1 36=190` says.
+fn set_all(file: &mut [u8], changes: &str) -> Result<(), Fail> {
+    for change in changes.split_terminator(' ') {
+        let (at, byte) = change.split_once('=').unwrap_or((change, ""));
+        match file.get_mut(at.parse().unwrap_or(usize::MAX)) {
+            Some(there) => *there = byte.parse()?,
+            None => return Err(Fail::new("a byte past the end")),
+        }
     }
     Ok(())
 }
@@ -80,9 +84,7 @@ fn set(file: &mut [u8], change: &str) -> Result<(), Fail> {
 /// A copy of the file of this name, and of the bytes that are set in it: `plain 32=1 36=190`.
 pub(crate) fn file_of(alloc: Global, text: &str) -> Result<Vec<u8>, Fail> {
     let (name, changes) = text.split_once(' ').unwrap_or((text, ""));
-    let mut file = sample(name)?.to_vec(alloc)?;
-    for change in changes.split_terminator(' ') {
-        set(&mut file, change)?;
-    }
+    let mut file = sample(name).to_vec(alloc)?;
+    set_all(&mut file, changes)?;
     Ok(file)
 }

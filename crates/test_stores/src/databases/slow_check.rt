@@ -1,6 +1,6 @@
 //! What a file is, by the definition's own words. A table is read anew, and each rule of a sound one is asked of each of its items, in the
 //! rules' order. What `check` names is compared with the first that isn't kept.
-use super::slow_search::{Slow, Stored, number};
+use super::slow_search::{Slow, Stored, number, number_at};
 use super::verdicts::Verdict;
 use gvdb_read::{OpenFault, Rule, hash};
 use std::alloc::{AllocError, Global};
@@ -16,64 +16,12 @@ const OF_NAMES: [Rule; 7] = [
     Rule::Content,
 ];
 
-/// The rules S2 to S10.
-const OF_ITEMS: [Rule; 9] = [
-    Rule::Keys,
-    Rule::Chain,
-    Rule::Hash,
-    Rule::Span,
-    Rule::Bloom,
-    Rule::Once,
-    Rule::Content,
-    Rule::Place,
-    Rule::Lists,
-];
+/// The rules S9 and S10.
+const OF_PLACES: [Rule; 2] = [Rule::Place, Rule::Lists];
 
-/// An item with its number, and with its full name where it has one.
-#[derive(Drop)]
-struct Named<'a> {
-    number: u32,
-    item: Stored<'a>,
-    name: Option<Vec<u8>>,
-}
-
-impl Named<'_> {
-    /// Whether this is its full name.
-    fn is_named(&self, name: &[u8]) -> bool {
-        match &self.name {
-            Some(own) => own.as_slice() == name,
-            None => false,
-        }
-    }
-
-    /// Whether the other has the same full name.
-    fn is_named_as(&self, other: &Named<'_>) -> bool {
-        match &other.name {
-            Some(name) => self.is_named(name),
-            None => false,
-        }
-    }
-
-    /// S4: the hash is that of the full name.
-    fn has_hash(&self) -> bool {
-        match &self.name {
-            Some(name) => self.item.hash == hash(name),
-            None => true,
-        }
-    }
-
-    /// Whether the full name has at most 65,535 bytes.
-    fn is_short(&self) -> bool {
-        match &self.name {
-            Some(name) => name.len() <= 65_535,
-            None => true,
-        }
-    }
-
-    /// Whether it is a lock: of kind `v`, without parent, its key starting with `/`.
-    fn is_lock(&self) -> bool {
-        self.item.kind == b'v' && self.item.parent == u32::MAX && self.item.key().starts_with(b"/")
-    }
+/// Whether an item is a lock: of kind `v`, without parent, its key starting with `/`.
+fn is_lock(item: Stored<'_>) -> bool {
+    item.kind == b'v' && item.parent == u32::MAX && item.key().starts_with(b"/")
 }
 
 /// Whether it is `/` of kind `L`, or `.locks` of kind `H`.
@@ -94,54 +42,64 @@ fn is_part(item: Stored<'_>) -> bool {
     }
 }
 
-/// A table and all of its items.
-#[derive(Drop)]
-struct Checked<'a> {
-    slow: Slow<'a>,
-    items: Vec<Named<'a>>,
+/// Adds a key from its end on.
+fn push_backwards(name: &mut Vec<u8>, key: &[u8]) -> Result<(), AllocError> {
+    for byte in key.iter().rev() {
+        name.push(*byte)?;
+    }
+    Ok(())
 }
 
-impl<'a> Checked<'a> {
-    /// The table with the names of its items.
-    fn new(alloc: Global, slow: Slow<'a>) -> Result<Checked<'a>, AllocError> {
-        let mut items = Vec::new(alloc);
-        let mut number = 0u32;
-        for item in slow.items.iter() {
-            let (item, name) = (*item, slow.full_name(alloc, *item)?);
-            items.push(Named { number, item, name })?;
-            number = number.wrapping_add(1);
+impl<'a> Slow<'a> {
+    /// Adds the keys of an item and of its parents, from the end of its full name on. They are the full name only where the item
+    /// keeps S2 and S3, which are asked before any rule that asks for it.
+    fn push_name(self, item: Stored<'a>, name: &mut Vec<u8>) -> Result<(), AllocError> {
+        let mut at = item;
+        for _ in 0..self.count() {
+            push_backwards(name, at.key())?;
+            match self.item(at.parent) {
+                Some(parent) => at = parent,
+                None => return Ok(()),
+            }
         }
-        Ok(Checked { slow, items })
+        Ok(())
     }
 
     /// S1: where there are items there are buckets; where there are buckets the first number is 0, they don't fall, none is
     /// past the item count.
-    fn has_buckets(&self) -> bool {
-        let (buckets, items) = (self.slow.buckets.as_slice(), self.items.len());
-        (items == 0 || !buckets.is_empty())
-            && matches!(buckets.first(), None | Some(0))
-            && buckets.is_sorted()
-            && buckets.iter().all(|bucket| *bucket as usize <= items)
+    fn has_buckets(self) -> bool {
+        let mut least = 0;
+        for four in self.buckets.chunks_exact(4) {
+            let bucket = number(four);
+            if bucket < least || bucket > self.count() {
+                return false;
+            }
+            least = bucket;
+        }
+        match number_at(self.buckets, 0) {
+            Some(first) => first == 0,
+            None => self.count() == 0,
+        }
     }
 
     /// S2: the key lies in the file, and is UTF-8 without NUL; the parent is none or an item number.
-    fn has_good_key(&self, item: Stored<'_>) -> bool {
+    fn has_good_key(self, item: Stored<'a>) -> bool {
         let Some(key) = item.key else {
             return false;
         };
         str::from_utf8(key).is_ok()
             && !key.contains(&0)
-            && (item.parent == u32::MAX || self.slow.item(item.parent).is_some())
+            && (item.parent == u32::MAX || self.item(item.parent).is_some())
     }
 
     /// S3: the item's chain of parents ends, and the item has a non-empty key.
-    fn has_end(&self, item: Stored<'_>) -> bool {
+    fn has_end(self, item: Stored<'a>) -> bool {
         let mut at = item;
-        for _ in 0..self.items.len() {
+        for _ in 0..self.count() {
             if at.parent == u32::MAX {
                 return !item.key().is_empty();
             }
-            match self.slow.item(at.parent) {
+            match self.item(at.parent) {
                 Some(parent) => at = parent,
                 None => return false,
             }
@@ -150,13 +108,20 @@ impl<'a> Checked<'a> {
     }
 
     /// S7: no lower item has the same full name.
-    fn is_only_named(&self, named: &Named<'_>) -> bool {
-        !self.items.iter().any(|other| other.number < named.number && other.is_named_as(named))
+    fn is_only_named(self, i: u32, name: &[u8]) -> bool {
+        for lower in 0..i {
+            if let Some(item) = self.item(lower) {
+                if self.is_named(item, name) {
+                    return false;
+                }
+            }
+        }
+        true
     }
 
     /// S8: the kind is `v`, `L` or `H`; the pointer is valid for it; a list's size is a multiple of 4.
-    fn has_content(&self, item: Stored<'_>) -> bool {
-        match (item.kind, self.slow.content(item)) {
+    fn has_content(self, item: Stored<'a>) -> bool {
+        match (item.kind, self.content(item)) {
             (b'v' | b'H', Some(_)) => true,
             (b'L', Some(list)) => list.len() % 4 == 0,
             _ => false,
@@ -165,125 +130,170 @@ impl<'a> Checked<'a> {
 
     /// S9: an item without parent is `/` or `.locks`; any other has a parent of kind `L`, and is a key or a directory; the full
     /// name has at most 65,535 bytes.
-    fn has_place(&self, named: &Named<'_>) -> bool {
-        let item = named.item;
-        let placed = if item.parent == u32::MAX {
-            is_top(item)
-        } else {
-            match self.slow.item(item.parent) {
-                Some(parent) => parent.kind == b'L' && is_part(item),
-                None => false,
-            }
+    fn has_place(self, item: Stored<'a>, name: &[u8]) -> bool {
+        let placed = match self.item(item.parent) {
+            Some(parent) => parent.kind == b'L' && is_part(item),
+            None => item.parent == u32::MAX && is_top(item),
         };
-        placed && named.is_short()
+        placed && name.len() <= 65_535
     }
 
     /// Whether this is the number of an item whose parent is another.
-    fn is_child(&self, number: u32, parent: u32) -> bool {
-        match self.slow.item(number) {
+    fn is_child(self, number: u32, parent: u32) -> bool {
+        match self.item(number) {
             Some(child) => child.parent == parent,
             None => false,
         }
     }
 
+    /// Whether a list holds children of an item alone.
+    fn holds_children_alone(self, list: &[u8], parent: u32) -> bool {
+        for four in list.chunks_exact(4) {
+            if !self.is_child(number(four), parent) {
+                return false;
+            }
+        }
+        true
+    }
+
+    /// Whether a list holds each child of an item once.
+    fn holds_each_child(self, list: &[u8], parent: u32) -> bool {
+        for i in 0..self.count() {
+            if self.is_child(i, parent) && times_in(list, i) != 1 {
+                return false;
+            }
+        }
+        true
+    }
+
     /// S10: a list holds exactly the items whose parent it is, once each; it is empty only at `/`.
-    fn has_list_if_any(&self, named: &Named<'_>) -> bool {
-        if named.item.kind != b'L' {
+    fn has_list_if_any(self, i: u32, item: Stored<'a>, name: &[u8]) -> bool {
+        if item.kind != b'L' {
             return true;
         }
-        let list = self.slow.content(named.item).unwrap_or(&[]);
-        let children_alone = list
-            .chunks_exact(4)
-            .all(|four| self.is_child(number(four), named.number));
-        let each_child_once = self.items.iter().all(|other| {
-            !self.is_child(other.number, named.number) || times_in(list, other.number) == 1
-        });
-        children_alone && each_child_once && (list.len() >= 4 || named.is_named(b"/"))
+        let list = self.content(item).unwrap_or(&[]);
+        self.holds_children_alone(list, i)
+            && self.holds_each_child(list, i)
+            && (list.len() >= 4 || name == b"/".as_slice())
     }
 
     /// Whether an item keeps one of the rules S2 to S10.
-    fn keeps(&self, rule: Rule, named: &Named<'_>) -> bool {
+    fn keeps(self, rule: Rule, i: u32, item: Stored<'a>, name: &[u8]) -> bool {
         match rule {
-            Rule::Keys => self.has_good_key(named.item),
-            Rule::Chain => self.has_end(named.item),
-            Rule::Hash => named.has_hash(),
-            Rule::Span => self.slow.spans(named.item.hash, named.number as usize),
-            Rule::Bloom => self.slow.passes(named.item.hash),
-            Rule::Once => self.is_only_named(named),
-            Rule::Content => self.has_content(named.item),
-            Rule::Place => self.has_place(named),
-            Rule::Lists => self.has_list_if_any(named),
+            Rule::Keys => self.has_good_key(item),
+            Rule::Chain => self.has_end(item),
+            Rule::Hash => item.hash == hash(name),
+            Rule::Span => self.spans(item.hash, i),
+            Rule::Bloom => self.passes(item.hash),
+            Rule::Once => self.is_only_named(i, name),
+            Rule::Content => self.has_content(item),
+            Rule::Place => self.has_place(item, name),
+            Rule::Lists => self.has_list_if_any(i, item, name),
             Rule::Buckets | Rule::Locks => false,
         }
     }
 
-    /// The first of these rules that an item doesn't keep, and the least such item.
-    fn first_broken(&self, rules: &[Rule]) -> Option<(Rule, u32)> {
-        for rule in rules {
-            if let Some(named) = self.items.iter().find(|named| !self.keeps(*rule, named)) {
-                return Some((*rule, named.number));
+    /// The least item that doesn't keep a rule. There is room for a name.
+    fn first_breaking(self, rule: Rule, name: &mut Vec<u8>) -> Result<Option<u32>, AllocError> {
+        for i in 0..self.count() {
+            if let Some(item) = self.item(i) {
+                name.clear();
+                self.push_name(item, name)?;
+                name.reverse();
+                if !self.keeps(rule, i, item, name) {
+                    return Ok(Some(i));
+                }
             }
         }
-        None
+        Ok(None)
     }
 
-    /// S11: `.locks` opens as a table in which S1 to S8 hold and each item is a lock.
-    fn has_locks_if_any(&self, alloc: Global, named: &Named<'_>) -> Result<bool, AllocError> {
-        if !named.is_named(b".locks") {
+    /// The first of these rules that an item doesn't keep, and the least such item.
+    fn first_broken(
+        self,
+        rules: &[Rule],
+        name: &mut Vec<u8>,
+    ) -> Result<Option<Verdict>, AllocError> {
+        for rule in rules {
+            if let Some(i) = self.first_breaking(*rule, name)? {
+                return Ok(Some(Verdict::Unsound(*rule, Some(i))));
+            }
+        }
+        Ok(None)
+    }
+
+    /// Whether all items are locks.
+    fn has_locks_alone(self) -> bool {
+        for i in 0..self.count() {
+            if !self.item(i).is_some_and(is_lock) {
+                return false;
+            }
+        }
+        true
+    }
+
+    /// S11, where an item is named `.locks`: it opens as a table in which S1 to S8 hold and each item is a lock.
+    fn has_locks_if_any(self, item: Stored<'a>, name: &mut Vec<u8>) -> Result<bool, AllocError> {
+        if !self.is_named(item, b".locks") {
             return Ok(true);
         }
-        let (start, end) = (named.item.start, named.item.end);
-        let Some(slow) = Slow::between(alloc, self.slow.file, start, end)? else {
-            return Ok(false);
-        };
-        let locks = Checked::new(alloc, slow)?;
-        Ok(
-            locks.has_buckets()
-                && locks.first_broken(&OF_NAMES).is_none()
-                && locks.items.iter().all(Named::is_lock),
-        )
+        match Slow::between(self.file, item.start, item.end) {
+            Some(locks) if locks.has_buckets() && locks.has_locks_alone() => {
+                Ok(locks.first_broken(&OF_NAMES, name)?.is_none())
+            }
+            _ => Ok(false),
+        }
     }
 
-    /// Whether the table is sound, and else the first rule that isn't kept, and where.
-    fn verdict(&self, alloc: Global) -> Result<Verdict, AllocError> {
-        if !self.has_buckets() {
-            return Ok(Verdict::Unsound(Rule::Buckets, None));
-        }
-        if let Some((rule, item)) = self.first_broken(&OF_ITEMS) {
-            return Ok(Verdict::Unsound(rule, Some(item)));
-        }
-        for named in &self.items {
-            if !self.has_locks_if_any(alloc, named)? {
-                return Ok(Verdict::Unsound(Rule::Locks, Some(named.number)));
+    /// The first item that doesn't keep S11.
+    fn first_bad_locks(self, name: &mut Vec<u8>) -> Result<Verdict, AllocError> {
+        for i in 0..self.count() {
+            if let Some(item) = self.item(i) {
+                if !self.has_locks_if_any(item, name)? {
+                    return Ok(Verdict::Unsound(Rule::Locks, Some(i)));
+                }
             }
         }
         Ok(Verdict::Sound)
     }
+
+    /// Whether the table is sound, and else the first rule that isn't kept, and where.
+    fn verdict(self, name: &mut Vec<u8>) -> Result<Verdict, AllocError> {
+        if !self.has_buckets() {
+            return Ok(Verdict::Unsound(Rule::Buckets, None));
+        }
+        if let Some(verdict) = self.first_broken(&OF_NAMES, name)? {
+            return Ok(verdict);
+        }
+        if let Some(verdict) = self.first_broken(&OF_PLACES, name)? {
+            return Ok(verdict);
+        }
+        self.first_bad_locks(name)
+    }
 }
 
 /// How often a list holds a number.
-fn times_in(list: &[u8], wanted: u32) -> usize {
-    list.chunks_exact(4)
-        .filter(|four| number(four) == wanted)
-        .count()
+fn times_in(list: &[u8], wanted: u32) -> u32 {
+    let mut times = 0u32;
+    for four in list.chunks_exact(4) {
+        if number(four) == wanted {
+            times = times.saturating_add(1);
+        }
+    }
+    times
 }
 
 /// The first that a file doesn't keep of what opens a database, where it keeps not all.
 fn open_fault(file: &[u8]) -> OpenFault {
-    let Some(header) = file.get(..24) else {
+    let (Some(start), Some(end)) = (number_at(file, 4), number_at(file, 5)) else {
         return OpenFault::Short;
     };
-    if !header.starts_with(b"GVariant") {
+    if !file.starts_with(b"GVariant") {
         return OpenFault::BadSignature;
     }
-    let (_, version) = header.split_at(8);
-    let (version, _) = version.split_at(4);
-    if number(version) != 0 {
+    if number_at(file, 2) != Some(0) {
         return OpenFault::BadVersion;
     }
-    let (_, pointer) = header.split_at(16);
-    let (start, end) = pointer.split_at(4);
-    let (start, end) = (number(start), number(end));
     match file.get(start as usize..end as usize) {
         Some(root) if root.len() >= 8 && start % 4 == 0 => OpenFault::BadTable,
         _ => OpenFault::BadRoot,
@@ -292,8 +302,8 @@ fn open_fault(file: &[u8]) -> OpenFault {
 
 /// What a file is.
 pub(crate) fn slow_verdict(alloc: Global, file: &[u8]) -> Result<Verdict, AllocError> {
-    match Slow::open(alloc, file)? {
-        Some(slow) => Checked::new(alloc, slow)?.verdict(alloc),
+    match Slow::open(file) {
+        Some(slow) => slow.verdict(&mut Vec::new(alloc)),
         None => Ok(Verdict::NoDatabase(open_fault(file))),
     }
 }

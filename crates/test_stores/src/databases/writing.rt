@@ -1,9 +1,11 @@
 //! Databases by example, byte for byte.
-use super::maps::{FIVE, fives};
-use super::samples::{file_of, sample};
-use dconf_path::{KeyPath, LockPath};
-use gvdb_write::{Map, salvage, write};
-use std::alloc::Global;
+use super::maps::file_of_words;
+use super::salvaging::file_salvaged;
+use super::samples::sample;
+use crate::questions::Question;
+use crate::rows::hold;
+use std::alloc::{AllocError, Global};
+use std::fmt::Write;
 use std::test::Fail;
 
 /// A hash of a database's bytes, as of a name.
@@ -16,55 +18,53 @@ fn digest(bytes: &[u8]) -> u32 {
     hash
 }
 
-/// Nested directories, locks and shared values.
-fn nested(alloc: Global) -> Result<Map, Fail> {
-    let values: [&[u8]; 4] = [FIVE, &[], &[0, 0, b's'], b"hello\0\0s"];
-    let mut map = fives(alloc, "", "/org/k /q /a/b/x")?;
-    let paths = [
-        "/a/b/c/d",
-        "/a/b/c/e",
-        "/a/b/x",
-        "/a/bb",
-        "/a",
-        "/a-/q",
-        "/z/y/x/w/v",
-        "/z/y",
-        "/é/ü",
-        "/org/gnome/desktop/cursor-size",
-        "/org/gnome/desktop/a",
-        "/org/k",
-    ];
-    for (i, path) in paths.iter().enumerate() {
-        map.insert(KeyPath::parse(path)?, values[i % 4])?;
+/// How many bytes a database has, and their hash. It may be the file by hand of two buckets.
+fn show_bytes(file: &[u8], found: &mut String) -> Result<(), AllocError> {
+    if file == sample("buckets") {
+        return write!(found, " buckets");
     }
-    Ok(map)
+    write!(found, " {} {}", file.len(), digest(file))
 }
 
-/// So many keys and locks that a table has several bloom words.
-fn many(alloc: Global) -> Result<Map, Fail> {
-    let mut map = Map::new(alloc);
-    for i in 0..60u8 {
-        let path = format!(in alloc; "/k{}/l{i}", i % 7)?;
-        map.insert(KeyPath::parse(&path)?, &[5, i % 5, 0, 0, 0, b'i'])?;
+/// The words of so many keys and locks that a table has several bloom words.
+fn push_many(words: &mut String) -> Result<(), AllocError> {
+    for i in 0..60u32 {
+        write!(words, "/k{}/l{i}={} ", i % 7, 5 + i % 5 * 256)?;
         if i < 20 {
-            let lock = format!(in alloc; "/k{i}")?;
-            map.lock(LockPath::parse(&lock)?)?;
+            write!(words, "/k{i} ")?;
         }
     }
-    Ok(map)
+    Ok(())
 }
 
-/// The lengths and hashes are those that a second writer gives.
+/// The database of many keys and locks.
+fn many_keys(alloc: Global) -> Result<Vec<u8>, Fail> {
+    let mut words = String::new(alloc);
+    push_many(&mut words)?;
+    file_of_words(alloc, &words)
+}
+
+/// What is written of words, of many keys, or of what is salvaged of a file.
+pub(crate) fn written(alloc: Global, asked: &str, found: &mut String) -> Result<(), Fail> {
+    let file = match asked {
+        "many" => many_keys(alloc),
+        "salvaged" => file_salvaged(alloc, "plain 60=190"),
+        _ => file_of_words(alloc, asked),
+    };
+    show_bytes(&file?, found)?;
+    Ok(())
+}
+
+// The lengths and hashes are those that a second writer gives. The second row has nested
+// directories, locks and shared values.
+const ROWS: &str = "
+/k=5 => buckets
+/a/b/c/d=5 /a/b/c/e= /a/b/x='' /a/bb='hello' /a=5 /a-/q= /z/y/x/w/v='' /z/y='hello' /é/ü=5 /org/gnome/desktop/cursor-size= /org/gnome/desktop/a='' /org/k='hello' /org/k /q /a/b/x => 1067 4065451339
+many => 3147 1198000973
+salvaged => buckets
+";
+
 #[test]
 fn writes_byte_for_byte_what_a_second_writer_does(rt: HostRuntime) -> Result<(), Fail> {
-    let alloc = rt.alloc();
-    let one = write(alloc, &fives(alloc, "/k", "")?)?;
-    assert!(rt; one.as_slice() == sample("buckets")?);
-    let nested = write(alloc, &nested(alloc)?)?;
-    assert!(rt; nested.len() == 1067 && digest(&nested) == 4_065_451_339);
-    let many = write(alloc, &many(alloc)?)?;
-    assert!(rt; many.len() == 3147 && digest(&many) == 1_198_000_973);
-    let salvaged = salvage(alloc, &file_of(alloc, "plain 60=190")?)?;
-    assert!(rt; write(alloc, &salvaged)?.as_slice() == sample("buckets")?);
-    Ok(())
+    hold(rt.alloc(), Question::Written, ROWS, '\n')
 }

@@ -1,8 +1,10 @@
 //! What a crash after some calls may leave. A folder in memory has each outcome under a number.
 use super::steps::answered;
+use crate::questions::Question;
 use crate::rows::hold;
 use dconf_disk::MemoryFolder;
 use std::alloc::Global;
+use std::fmt::Write;
 use std::test::Fail;
 
 /// The calls of a name.
@@ -17,18 +19,14 @@ fn calls_of(name: &str) -> &'static str {
     }
 }
 
-/// The outcome of this number, after the first calls of some. None where one of them failed.
-fn crashed(alloc: Global, calls: &str, count: usize, outcome: u64) -> Option<MemoryFolder> {
-    let mut folder = MemoryFolder::new(alloc);
+/// Makes the first calls of some. Whether none failed.
+fn are_done(alloc: Global, folder: &mut MemoryFolder, calls: &str, count: usize) -> bool {
     for call in calls.split(", ").take(count) {
-        if answered(alloc, &mut folder, call) != "done" {
-            return None;
+        if answered(alloc, folder, call) != "done" {
+            return false;
         }
     }
-    match folder.crash(outcome) {
-        Ok(()) => Some(folder),
-        Err(_) => None,
-    }
+    true
 }
 
 /// Whether a look, the answer of a call, is so.
@@ -37,35 +35,51 @@ fn is_so(alloc: Global, folder: &mut MemoryFolder, look: &str) -> bool {
     answered(alloc, folder, call) == wanted
 }
 
-/// Which of four cases are seen in so many outcomes of a crash after the first calls of some:
-/// neither look is so, the second alone is, the first alone is, both are. None where a call failed.
-fn cases(
+/// Which of four cases is seen in the outcome of this number of a crash after the first calls of
+/// some: neither look is so, the second alone is, the first alone is, both are. None where a call failed.
+fn case(
     alloc: Global,
     (calls, count): (&str, usize),
-    outcomes: u64,
+    outcome: u64,
     (first, second): (&str, &str),
+) -> Option<usize> {
+    let mut folder = MemoryFolder::new(alloc);
+    if !are_done(alloc, &mut folder, calls, count) || folder.crash(outcome).is_err() {
+        return None;
+    }
+    let is_first = is_so(alloc, &mut folder, first);
+    let is_second = is_so(alloc, &mut folder, second);
+    Some(usize::from(is_first) * 2 + usize::from(is_second))
+}
+
+/// Which cases are seen in so many outcomes. None where a call failed.
+fn cases(
+    alloc: Global,
+    calls: (&str, usize),
+    outcomes: u64,
+    looks: (&str, &str),
 ) -> Option<[bool; 4]> {
     let mut seen = [false; 4];
     for outcome in 0..outcomes {
-        let mut folder = crashed(alloc, calls, count, outcome)?;
-        let is_first = is_so(alloc, &mut folder, first);
-        let is_second = is_so(alloc, &mut folder, second);
-        seen[usize::from(is_first) * 2 + usize::from(is_second)] = true;
+        if let Some(case) = seen.get_mut(case(alloc, calls, outcome, looks)?) {
+            *case = true;
+        }
     }
     Some(seen)
 }
 
 /// Which cases are seen of two looks, after so many of the calls of a name, in so many outcomes.
-fn crash_cases(alloc: Global, asked: &str) -> Result<String, Fail> {
+pub(crate) fn crash_cases(alloc: Global, asked: &str, found: &mut String) -> Result<(), Fail> {
     let (calls, looks) = asked.split_once(": ").unwrap_or((asked, ""));
     let (name, rest) = calls.split_once(' ').unwrap_or((calls, ""));
     let (count, outcomes) = rest.split_once(' ').unwrap_or((rest, ""));
     let calls = (calls_of(name), count.parse()?);
     let looks = looks.split_once("; ").unwrap_or((looks, ""));
     match cases(alloc, calls, outcomes.parse()?, looks) {
-        Some(seen) => Ok(format!(in alloc; " {:?}", seen.as_slice())?),
-        None => Err(Fail::new("a call failed")),
+        Some(seen) => write!(found, " {:?}", seen.as_slice())?,
+        None => found.push_str(" a call failed")?,
     }
+    Ok(())
 }
 
 const ROWS: &str = "
@@ -92,5 +106,5 @@ renamed 3 16: missing read a x; done read a x => [false, true, true, false]
 
 #[test]
 fn a_crash_leaves_what_was_synced_and_may_change_the_rest(rt: HostRuntime) -> Result<(), Fail> {
-    hold(rt.alloc(), ROWS, '\n', self::crash_cases)
+    hold(rt.alloc(), Question::Crash, ROWS, '\n')
 }

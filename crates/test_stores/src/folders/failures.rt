@@ -1,16 +1,23 @@
 //! A folder in memory: files that grow, and what a replacement leaves where each of its calls fails once.
 use super::steps::{answered, calls};
+use crate::questions::Question;
 use crate::rows::hold;
 use dconf_disk::{Folder, MemoryFolder};
-use std::alloc::Global;
+use std::alloc::{AllocError, Global};
+use std::fmt::Write;
 use std::test::Fail;
 
 /// The text of a file, or why it can't be read.
-fn text_of(alloc: Global, folder: &mut MemoryFolder, name: &str) -> Result<String, Fail> {
+fn show_text_of(
+    alloc: Global,
+    folder: &mut MemoryFolder,
+    name: &str,
+    found: &mut String,
+) -> Result<(), AllocError> {
     match folder.read(alloc, name) {
-        Ok(Some(bytes)) => Ok(String::from_utf8(bytes)?),
-        Ok(None) => Ok(String::from_str(alloc, "missing")?),
-        Err(fault) => Ok(format!(in alloc; "{fault:?}")?),
+        Ok(Some(bytes)) => write!(found, " {}", str::from_utf8(&bytes).unwrap_or("no text")),
+        Ok(None) => write!(found, " missing"),
+        Err(fault) => write!(found, " {fault:?}"),
     }
 }
 
@@ -19,19 +26,27 @@ replace me.user => done
 read me.user => done
 ";
 
-/// How a replacement of `old` by `new` is answered whose call of this number fails, and the read
-/// after it; how many calls failed then, and what the file has.
-fn replaced_so(alloc: Global, asked: &str) -> Result<String, Fail> {
-    let name = "me.user";
+/// How a replacement of `old` by `new` is answered, and the read after it; how many calls failed
+/// then, and what the file has.
+fn show_replaced(
+    alloc: Global,
+    folder: &mut MemoryFolder,
+    found: &mut String,
+) -> Result<(), AllocError> {
+    let replaced = answered(alloc, folder, "replace me.user new");
+    write!(found, " {replaced}")?;
+    show_text_of(alloc, folder, "me.user", found)?;
+    write!(found, " {}", folder.failures())?;
+    show_text_of(alloc, folder, "me.user", found)
+}
+
+/// What a replacement leaves whose call of this number fails.
+pub(crate) fn replaced_so(alloc: Global, asked: &str, found: &mut String) -> Result<(), Fail> {
     let mut folder = MemoryFolder::new(alloc);
     calls(alloc, &mut folder, "replace me.user old => done\n")?;
     folder.fail_at(asked.parse()?);
-    let replaced = answered(alloc, &mut folder, "replace me.user new");
-    let first = text_of(alloc, &mut folder, name)?;
-    let failures = folder.failures();
-    let second = text_of(alloc, &mut folder, name)?;
-    calls(alloc, &mut folder, AFTER)?;
-    Ok(format!(in alloc; " {replaced} {first} {failures} {second}")?)
+    show_replaced(alloc, &mut folder, found)?;
+    calls(alloc, &mut folder, AFTER)
 }
 
 // The fourth is the rename, which is done though it fails; the fifth is the sync of the folder. The
@@ -62,5 +77,5 @@ read me.user => done
 fn files_grow_and_each_call_fails_once(rt: HostRuntime) -> Result<(), Fail> {
     let alloc = rt.alloc();
     calls(alloc, &mut MemoryFolder::new(alloc), GROWN)?;
-    hold(alloc, ROWS, '\n', self::replaced_so)
+    hold(alloc, Question::Replaced, ROWS, '\n')
 }

@@ -37,20 +37,30 @@ fn answer_of_read<F: Folder>(
     }
 }
 
-/// The answer of a call: a word, the name of a file, and bytes or another name.
+/// Whether so many calls failed.
+fn answer_of_count(failures: u64, wanted: &str) -> &'static str {
+    match wanted.parse() {
+        Ok(wanted) if failures == wanted => "done",
+        _ => "another number",
+    }
+}
+
+/// The answer of a call: a word, the name of a file, and bytes or another name. `failures` has how
+/// many calls failed so far.
 pub(crate) fn answered<F: Folder>(alloc: Global, folder: &mut F, call: &str) -> &'static str {
     let (word, rest) = call.split_once(' ').unwrap_or((call, ""));
     let (name, other) = rest.split_once(' ').unwrap_or((rest, ""));
-    match word {
-        "create" => answer_of(folder.create(name)),
-        "append" => answer_of(folder.append(name, other.as_bytes())),
-        "sync" => answer_of(folder.sync(name)),
-        "rename" => answer_of(folder.rename(name, other)),
-        "settle" => answer_of(folder.sync_folder()),
-        "replace" => answer_of(replace(alloc, folder, name, other.as_bytes())),
-        "read" => answer_of_read(alloc, folder, name, bytes_of(other)),
-        _ => "no call",
-    }
+    answer_of(match word {
+        "create" => folder.create(name),
+        "append" => folder.append(name, other.as_bytes()),
+        "sync" => folder.sync(name),
+        "rename" => folder.rename(name, other),
+        "settle" => folder.sync_folder(),
+        "replace" => replace(alloc, folder, name, other.as_bytes()),
+        "read" => return answer_of_read(alloc, folder, name, bytes_of(other)),
+        "failures" => return answer_of_count(folder.failures(), name),
+        _ => return "no call",
+    })
 }
 
 /// Makes the calls of lines. An error names the first that is answered otherwise.

@@ -3,18 +3,20 @@
 //! A row is the user's words and the site's, a `;` after each, then changes, and what is asked. A
 //! change that ends in `=` sets a key to 7, one that ends in `/` resets all below it, and another
 //! resets a key.
-use super::calls::joined;
+use super::calls::show_names;
 use super::files::{bytes_of, files_of};
+use crate::questions::Question;
 use crate::rows::hold;
 use dconf_path::{DirPath, KeyPath, Profile, read_profile};
 use dconf_store::{Change, StoreFault, children_after, user_file_after, value_after};
 use gv_tree::{Basic, Shape, Tree};
 use gvdb_read::Table;
-use std::alloc::Global;
+use std::alloc::{AllocError, Global};
+use std::fmt::Write;
 use std::test::Fail;
 
 /// The change of a word.
-fn change<'a>(word: &'a str, value: &'a Tree) -> Result<Change<'a>, Fail> {
+fn change_of<'a>(word: &'a str, value: &'a Tree) -> Result<Change<'a>, Fail> {
     if let Some(path) = word.strip_suffix('=') {
         return Ok(Change::Set(KeyPath::parse(path)?, value));
     }
@@ -24,70 +26,106 @@ fn change<'a>(word: &'a str, value: &'a Tree) -> Result<Change<'a>, Fail> {
     Ok(Change::Reset(KeyPath::parse(word)?))
 }
 
-/// The changes of these words.
-fn changes_of<'a>(alloc: Global, words: &'a str, value: &'a Tree) -> Result<Vec<Change<'a>>, Fail> {
-    let mut changes = Vec::new(alloc);
+/// Adds the changes of these words.
+fn push_changes<'a>(
+    changes: &mut Vec<Change<'a>>,
+    words: &'a str,
+    value: &'a Tree,
+) -> Result<(), Fail> {
     for word in words.split_whitespace() {
-        changes.push(change(word, value)?)?;
+        changes.push(change_of(word, value)?)?;
     }
-    Ok(changes)
+    Ok(())
 }
 
 /// The number that a tree is.
-fn number(value: &Tree) -> Option<i32> {
-    match value.shape() {
+fn number_of(value: Option<&Tree>) -> Option<i32> {
+    match value?.shape() {
         Shape::Basic(Basic::Int32(number)) => Some(*number),
         _ => None,
     }
 }
 
-/// A fault, as it is printed.
-fn faulty(alloc: Global, fault: StoreFault) -> Result<String, Fail> {
-    Ok(format!(in alloc; " {fault}")?)
+/// A number that is seen, or the fault, as it is printed.
+fn show_number(
+    answer: Result<Option<Tree>, StoreFault>,
+    found: &mut String,
+) -> Result<(), AllocError> {
+    match answer {
+        Ok(value) => write!(found, " {:?}", number_of(value.as_ref())),
+        Err(fault) => write!(found, " {fault}"),
+    }
+}
+
+/// What a directory has, or the fault.
+fn show_children(
+    answer: Result<Vec<String>, StoreFault>,
+    found: &mut String,
+) -> Result<(), AllocError> {
+    match answer {
+        Ok(names) => show_names(&names, found),
+        Err(fault) => write!(found, " {fault}"),
+    }
+}
+
+/// Whether a file is sound, or the fault.
+fn show_saved(answer: Result<Vec<u8>, StoreFault>, found: &mut String) -> Result<(), Fail> {
+    match answer {
+        Ok(file) => write!(found, " {:?}", Table::open(&file)?.check())?,
+        Err(fault) => write!(found, " {fault}")?,
+    }
+    Ok(())
 }
 
 /// What is seen at a path, or what a directory has. Of no path: whether the file is sound.
-fn seen(
+fn show_seen(
     alloc: Global,
     profile: &Profile<'_>,
     files: &[Option<&[u8]>],
     (changes, path): (&[Change<'_>], &str),
-) -> Result<String, Fail> {
+    found: &mut String,
+) -> Result<(), Fail> {
     if files.len() != profile.databases().len() {
         return Err(Fail::new("a profile has as many files as databases"));
     }
     if path.is_empty() {
-        return match user_file_after(alloc, profile, files, changes) {
-            Ok(file) => Ok(format!(in alloc; " {:?}", Table::open(&file)?.check())?),
-            Err(fault) => faulty(alloc, fault),
-        };
+        return show_saved(user_file_after(alloc, profile, files, changes), found);
     }
     if path.ends_with('/') {
-        return match children_after(alloc, profile, files, changes, DirPath::parse(path)?) {
-            Ok(names) => joined(alloc, &names),
-            Err(fault) => faulty(alloc, fault),
-        };
+        let directory = DirPath::parse(path)?;
+        show_children(
+            children_after(alloc, profile, files, changes, directory),
+            found,
+        )?;
+        return Ok(());
     }
-    match value_after(alloc, profile, files, changes, KeyPath::parse(path)?) {
-        Ok(value) => Ok(format!(in alloc; " {:?}", value.as_ref().and_then(number))?),
-        Err(fault) => faulty(alloc, fault),
-    }
+    let path = KeyPath::parse(path)?;
+    show_number(value_after(alloc, profile, files, changes, path), found)?;
+    Ok(())
 }
 
-/// The answer of a row.
-fn answer(alloc: Global, row: &str) -> Result<String, Fail> {
-    let (texts, rest) = row.split_once(" : ").unwrap_or((row, ""));
-    let (words, path) = rest.split_once(" :").unwrap_or((rest, ""));
+/// What is seen after the changes of words.
+fn show_after(
+    alloc: Global,
+    profile: &Profile<'_>,
+    files: &[Option<&[u8]>],
+    (words, path): (&str, &str),
+    found: &mut String,
+) -> Result<(), Fail> {
+    let value = Tree::basic(alloc, Basic::Int32(7))?;
+    let mut changes = Vec::new(alloc);
+    push_changes(&mut changes, words, &value)?;
+    show_seen(alloc, profile, files, (&changes, path.trim()), found)
+}
+
+/// What is seen in a store after changes.
+pub(crate) fn seen_after(alloc: Global, asked: &str, found: &mut String) -> Result<(), Fail> {
+    let (texts, rest) = asked.split_once(" : ").unwrap_or((asked, ""));
+    let asked = rest.split_once(" :").unwrap_or((rest, ""));
     let profile = read_profile(alloc, "user-db:me\nsystem-db:site")?;
     let files = files_of(alloc, texts)?;
-    let value = Tree::basic(alloc, Basic::Int32(7))?;
-    let changes = changes_of(alloc, words, &value)?;
-    seen(
-        alloc,
-        &profile,
-        &bytes_of(alloc, &files)?,
-        (&changes, path.trim()),
-    )
+    let bytes = bytes_of(alloc, &files)?;
+    show_after(alloc, &profile, &bytes, asked, found)
 }
 
 const ROWS: &str = "
@@ -116,5 +154,5 @@ const ROWS: &str = "
 
 #[test]
 fn a_store_is_seen_again_after_its_changes(rt: HostRuntime) -> Result<(), Fail> {
-    hold(rt.alloc(), ROWS, '\n', answer)
+    hold(rt.alloc(), Question::After, ROWS, '\n')
 }

@@ -3,7 +3,8 @@ use dconf_engine::{ChangeFault, Engine};
 use dconf_path::{DirPath, KeyPath};
 use gv_tree::{Basic, Tree};
 use gv_view::View;
-use std::alloc::Global;
+use std::alloc::{AllocError, Global};
+use std::fmt::Write;
 use std::test::Fail;
 
 /// A number that lies so deep in variants; 1 is a number in none.
@@ -19,51 +20,64 @@ fn nested(alloc: Global, number: i32, levels: u8) -> Result<Tree, Fail> {
 fn key_and_value<'a>(alloc: Global, row: &'a str) -> Result<(KeyPath<'a>, Tree), Fail> {
     let (path, number) = row.split_once(' ').unwrap_or((row, ""));
     let (number, levels) = number.split_once(' ').unwrap_or((number, "1"));
-    let value = nested(alloc, number.parse()?, levels.parse()?)?;
-    Ok((KeyPath::parse(path)?, value))
+    let path = KeyPath::parse(path)?;
+    Ok((path, nested(alloc, number.parse()?, levels.parse()?)?))
 }
 
 /// A refusal, as it is printed and as it is.
-fn refusal(alloc: Global, answer: Result<(), ChangeFault>) -> Result<String, Fail> {
+fn show_refusal(answer: Result<(), ChangeFault>, found: &mut String) -> Result<(), AllocError> {
     match answer {
-        Ok(()) => Ok(String::new(alloc)),
-        Err(fault) => Ok(format!(in alloc; " {fault} {fault:?}")?),
+        Ok(()) => Ok(()),
+        Err(fault) => write!(found, " {fault} {fault:?}"),
     }
 }
 
 /// Sets a key.
-fn write(alloc: Global, engine: &mut Engine<'_>, row: &str) -> Result<String, Fail> {
+fn write(
+    alloc: Global,
+    engine: &mut Engine<'_>,
+    row: &str,
+) -> Result<Result<(), ChangeFault>, Fail> {
     let (path, value) = key_and_value(alloc, row)?;
-    refusal(alloc, engine.write(path, &value))
+    Ok(engine.write(path, &value))
 }
 
 /// Sets the keys of two rows, with a comma between them.
-fn load(alloc: Global, engine: &mut Engine<'_>, rows: &str, force: bool) -> Result<String, Fail> {
+fn load(
+    alloc: Global,
+    engine: &mut Engine<'_>,
+    rows: &str,
+    force: bool,
+) -> Result<Result<(), ChangeFault>, Fail> {
     let (first, second) = rows.split_once(", ").unwrap_or((rows, ""));
     let rows = [key_and_value(alloc, first)?, key_and_value(alloc, second)?];
-    refusal(alloc, engine.load(&rows, force))
+    Ok(engine.load(&rows, force))
 }
 
 /// What is seen at a path: its value, its value without the user's, the number of its database, and
 /// whether it is locked; and whether there is a user's database.
-fn seen(alloc: Global, engine: &Engine<'_>, path: &str) -> Result<String, Fail> {
-    let path = KeyPath::parse(path)?;
+fn show_setting(
+    engine: &Engine<'_>,
+    path: KeyPath<'_>,
+    found: &mut String,
+) -> Result<(), AllocError> {
     let value = engine.read(path).and_then(View::as_i32);
     let default = engine.read_default(path).and_then(View::as_i32);
     let origin = engine.origin(path);
     let locked = engine.is_locked(path);
     let writable = engine.is_writable();
-    Ok(format!(in alloc; " {value:?} {default:?} {origin:?} {locked} {writable}")?)
+    write!(
+        found,
+        " {value:?} {default:?} {origin:?} {locked} {writable}"
+    )
 }
 
 /// Each name with a blank before it.
-pub(super) fn joined(alloc: Global, names: &[String]) -> Result<String, Fail> {
-    let mut text = String::new(alloc);
+pub(super) fn show_names(names: &[String], found: &mut String) -> Result<(), AllocError> {
     for name in names {
-        text.push(' ')?;
-        text.push_str(name.as_str())?;
+        write!(found, " {name}")?;
     }
-    Ok(text)
+    Ok(())
 }
 
 /// What changes nothing, and is asked again once the database was saved.
@@ -71,22 +85,47 @@ pub(super) fn is_look(word: &str) -> bool {
     matches!(word, "key" | "list" | "locks")
 }
 
-/// The answer of a call.
-pub(super) fn engine_answer(
+/// What a look finds.
+fn look(
+    alloc: Global,
+    engine: &Engine<'_>,
+    (word, rest): (&str, &str),
+    found: &mut String,
+) -> Result<(), Fail> {
+    let shown = match word {
+        "key" => show_setting(engine, KeyPath::parse(rest)?, found),
+        "list" => show_names(&engine.list(alloc, DirPath::parse(rest)?)?, found),
+        _ => show_names(&engine.locks(alloc, DirPath::parse(rest)?)?, found),
+    };
+    Ok(shown?)
+}
+
+/// What a change answers.
+fn change(
     alloc: Global,
     engine: &mut Engine<'_>,
-    word: &str,
-    rest: &str,
-) -> Result<String, Fail> {
+    (word, rest): (&str, &str),
+) -> Result<Result<(), ChangeFault>, Fail> {
     match word {
-        "key" => seen(alloc, engine, rest),
-        "list" => joined(alloc, &engine.list(alloc, DirPath::parse(rest)?)?),
-        "locks" => joined(alloc, &engine.locks(alloc, DirPath::parse(rest)?)?),
         "write" => write(alloc, engine, rest),
-        "reset" => refusal(alloc, engine.reset(KeyPath::parse(rest)?)),
-        "clear" => refusal(alloc, engine.reset_dir(DirPath::parse(rest)?)),
+        "reset" => Ok(engine.reset(KeyPath::parse(rest)?)),
+        "clear" => Ok(engine.reset_dir(DirPath::parse(rest)?)),
         "load" => load(alloc, engine, rest, false),
         "force" => load(alloc, engine, rest, true),
         _ => Err(Fail::new("no call")),
     }
+}
+
+/// The answer of a call.
+pub(super) fn engine_answer(
+    alloc: Global,
+    engine: &mut Engine<'_>,
+    call: (&str, &str),
+    found: &mut String,
+) -> Result<(), Fail> {
+    if is_look(call.0) {
+        return look(alloc, engine, call, found);
+    }
+    show_refusal(change(alloc, engine, call)?, found)?;
+    Ok(())
 }

@@ -1,61 +1,58 @@
 //! Which keys are seen otherwise through other layers.
 use super::keeping::user;
+use crate::questions::Question;
+use crate::rows::{bytes_of_text, hold};
 use dconf_engine::{Layer, LentLayers};
 use std::alloc::Global;
+use std::fmt::Write;
 use std::test::Fail;
 
-/// The bytes of a variant in so many others, at `/a/k` of a database.
-fn file(alloc: Global, bytes: &[u8], others: usize) -> Result<Vec<u8>, Fail> {
-    let mut all = Vec::new(alloc);
-    all.extend_from_slice(bytes)?;
-    let around = "\0v".repeat(alloc, others)?;
-    all.extend_from_slice(around.as_bytes())?;
-    user(alloc, &all)
+/// The bytes of a variant in others, at `/a/k` of a database.
+fn file_of_variant(alloc: Global, variant: &str, others: &str) -> Result<Vec<u8>, Fail> {
+    let text = format!(in alloc; "{variant}{others}")?;
+    user(alloc, &bytes_of_text(alloc, &text)?)
 }
 
-/// How many keys differ, of two files that have these bytes in so many variants.
-fn count(alloc: Global, first: &[u8], second: &[u8], others: usize) -> Result<usize, Fail> {
-    let first = file(alloc, first, others)?;
-    let second = file(alloc, second, others)?;
-    let one = [Layer::open(Some(&first))?];
-    let other = [Layer::open(Some(&second))?];
+/// How many keys differ, of two files.
+fn count_of_others(alloc: Global, first: &[u8], second: &[u8]) -> Result<usize, Fail> {
+    let one = [Layer::open(Some(first))?];
+    let other = [Layer::open(Some(second))?];
     let layers = LentLayers::new(true, &one);
     let paths = layers.differing(alloc, LentLayers::new(true, &other), 1)?;
     Ok(paths.len())
 }
 
-/// Whether so many keys differ, also where the values lie too deep to be copied.
-fn counts(alloc: Global, first: &[u8], second: &[u8], wanted: usize) -> Result<bool, Fail> {
-    let plain = count(alloc, first, second, 0)?;
-    let deep = count(alloc, first, second, 200)?;
-    Ok(plain == wanted && deep == wanted)
+/// How many keys differ, of two files that have the bytes of these texts in the same variants.
+fn show_count(alloc: Global, asked: &str, others: &str, found: &mut String) -> Result<(), Fail> {
+    let (first, second) = asked.split_once("; ").unwrap_or((asked, ""));
+    let first = file_of_variant(alloc, first, others)?;
+    let second = file_of_variant(alloc, second, others)?;
+    write!(found, " {}", count_of_others(alloc, &first, &second)?)?;
+    Ok(())
 }
+
+/// How many keys differ, also where the values lie too deep to be copied.
+pub(crate) fn differing(alloc: Global, asked: &str, found: &mut String) -> Result<(), Fail> {
+    show_count(alloc, asked, "", found)?;
+    show_count(alloc, asked, &"\0v".repeat(alloc, 200)?, found)
+}
+
+const ROWS: &str = "
+-- the same bytes, another number, another type
+\x05\0\0\0\0i; \x05\0\0\0\0i => 0 0
+\x05\0\0\0\0i; \x06\0\0\0\0i => 1 1
+\x05\0\0\0\0i; \x05\0\0\0\0u => 1 1
+-- true by another byte, a text without its zero byte, padding that is not zero
+\x05\0b; \x01\0b => 0 0
+a\0s; \0\0s => 0 0
+\x01\u{ff}\u{ff}\u{ff}\x02\0\0\0\0(yi); \x01\0\0\0\x02\0\0\0\0(yi) => 0 0
+-- a double of other bits, one element more, no type
+\0\0\0\0\0\0\0\0\0d; \0\0\0\0\0\0\0\u{80}\0d => 1 1
+\x01\x02\0ay; \x01\x02\x03\0ay => 1 1
+junk; \0\0() => 0 0
+";
 
 #[test]
 fn keys_differ_by_their_values_and_not_by_their_bytes(rt: HostRuntime) -> Result<(), Fail> {
-    let rows: [(&str, &[u8], &[u8], usize); 9] = [
-        ("the same bytes", b"\x05\0\0\0\0i", b"\x05\0\0\0\0i", 0),
-        ("another number", b"\x05\0\0\0\0i", b"\x06\0\0\0\0i", 1),
-        ("another type", b"\x05\0\0\0\0i", b"\x05\0\0\0\0u", 1),
-        ("true by another byte", b"\x05\0b", b"\x01\0b", 0),
-        ("a text without its zero byte", b"a\0s", b"\0\0s", 0),
-        (
-            "padding that is not zero",
-            b"\x01\xff\xff\xff\x02\0\0\0\0(yi)",
-            b"\x01\0\0\0\x02\0\0\0\0(yi)",
-            0,
-        ),
-        (
-            "a double of other bits",
-            b"\0\0\0\0\0\0\0\0\0d",
-            b"\0\0\0\0\0\0\0\x80\0d",
-            1,
-        ),
-        ("one element more", b"\x01\x02\0ay", b"\x01\x02\x03\0ay", 1),
-        ("no type", b"junk", b"\0\0()", 0),
-    ];
-    for (what, first, second, wanted) in rows {
-        assert!(rt; counts(rt.alloc(), first, second, wanted)?, "{what}");
-    }
-    Ok(())
+    hold(rt.alloc(), Question::Differing, ROWS, '\n')
 }

@@ -25,47 +25,71 @@ pub(super) fn opened<'a>(
 }
 
 /// Makes the call of a line, unless it is a change and only looks are wanted. An error says that it
-/// answers something else.
-fn line(alloc: Global, engine: &mut Engine<'_>, row: &str, looks: bool) -> Result<(), Fail> {
+/// answers something else. There is room for the answer.
+fn line(
+    alloc: Global,
+    engine: &mut Engine<'_>,
+    row: &str,
+    looks: bool,
+    found: &mut String,
+) -> Result<(), Fail> {
     let (asked, wanted) = cut(row)?;
-    let (word, rest) = asked.split_once(' ').unwrap_or((asked, ""));
-    if looks && !is_look(word) {
+    let call = asked.split_once(' ').unwrap_or((asked, ""));
+    if looks && !is_look(call.0) {
         return Ok(());
     }
-    let found = engine_answer(alloc, engine, word, rest)?;
-    is_found(alloc, asked, &found, wanted)
+    found.clear();
+    engine_answer(alloc, engine, call, found)?;
+    is_found(alloc, asked, found.as_str(), wanted)
 }
 
 /// Makes the calls of lines.
 fn lines(alloc: Global, engine: &mut Engine<'_>, rows: &str, looks: bool) -> Result<(), Fail> {
+    let mut found = String::new(alloc);
     for row in rows.split_terminator('\n') {
-        line(alloc, engine, row, looks)?;
+        line(alloc, engine, row, looks, &mut found)?;
     }
     Ok(())
 }
 
-/// Opens files and makes the calls of lines. Gives what is saved then; it is empty where there is
-/// no user's database. Files that don't open have one line, with their fault.
+/// Makes the calls of lines. Gives what is saved then; it is empty where there is no user's database.
+fn saved_by(
+    alloc: Global,
+    engine: &mut Engine<'_>,
+    (rows, looks): (&str, bool),
+) -> Result<Vec<u8>, Fail> {
+    lines(alloc, engine, rows, looks)?;
+    if engine.is_writable() {
+        return Ok(engine.save()?);
+    }
+    Ok(Vec::new(alloc))
+}
+
+/// Files that don't open have one line, with their fault.
+fn is_not_opened(alloc: Global, fault: EngineFault, rows: &str) -> Result<(), Fail> {
+    is_found(
+        alloc,
+        "open",
+        &format!(in alloc; "open => {fault}\n")?,
+        rows,
+    )
+}
+
+/// Opens files and makes the calls of lines. Gives what is saved then, if anything.
 pub(super) fn saved(
     alloc: Global,
     profile: &Profile<'_>,
     files: &[Vec<u8>],
-    (rows, looks): (&str, bool),
+    rows: (&str, bool),
 ) -> Result<Vec<u8>, Fail> {
     let bytes = bytes_of(alloc, files)?;
     match opened(alloc, profile, &bytes)? {
-        Ok(mut engine) => {
-            lines(alloc, &mut engine, rows, looks)?;
-            if engine.is_writable() {
-                return Ok(engine.save()?);
-            }
-        }
+        Ok(mut engine) => saved_by(alloc, &mut engine, rows),
         Err(fault) => {
-            let found = format!(in alloc; "open => {fault}\n")?;
-            is_found(alloc, "open", &found, rows)?;
+            is_not_opened(alloc, fault, rows.0)?;
+            Ok(Vec::new(alloc))
         }
     }
-    Ok(Vec::new(alloc))
 }
 
 /// Makes this the first file.
@@ -76,15 +100,25 @@ fn set_first(files: &mut [Vec<u8>], user: Vec<u8>) {
 }
 
 /// Makes the calls of a store, and asks again what looks.
+fn asked_twice(
+    alloc: Global,
+    profile: &Profile<'_>,
+    files: &mut [Vec<u8>],
+    rows: &str,
+) -> Result<(), Fail> {
+    let user = saved(alloc, profile, files, (rows, false))?;
+    if !user.is_empty() {
+        set_first(files, user);
+        saved(alloc, profile, files, (rows, true))?;
+    }
+    Ok(())
+}
+
+/// Makes the calls of a store of these files.
 fn store(alloc: Global, profile: &str, texts: &str, rows: &str) -> Result<(), Fail> {
     let profile = read_profile(alloc, profile)?;
     let mut files = files_of(alloc, texts)?;
-    let user = saved(alloc, &profile, &files, (rows, false))?;
-    if !user.is_empty() {
-        set_first(&mut files, user);
-        saved(alloc, &profile, &files, (rows, true))?;
-    }
-    Ok(())
+    asked_twice(alloc, &profile, &mut files, rows)
 }
 
 /// Makes the calls of these stores. An error names the first that answers something else.

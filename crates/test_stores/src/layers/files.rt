@@ -1,30 +1,8 @@
 //! The files of a profile, each of a text.
 use super::store::site;
-use dconf_path::{KeyPath, LockPath};
-use gvdb_write::{Map, write};
+use crate::databases::maps::file_of_words;
 use std::alloc::Global;
 use std::test::Fail;
-
-/// Puts a word into a map: `/a/k=1` is a value of type `i`, another word is a lock.
-fn put(map: &mut Map, word: &str) -> Result<(), Fail> {
-    match word.split_once('=') {
-        Some((path, number)) => {
-            let number: u8 = number.parse()?;
-            map.insert(KeyPath::parse(path)?, &[number, 0, 0, 0, 0, b'i'])?;
-        }
-        None => map.lock(LockPath::parse(word)?)?,
-    }
-    Ok(())
-}
-
-/// The database of these words.
-fn database(alloc: Global, words: &str) -> Result<Vec<u8>, Fail> {
-    let mut map = Map::new(alloc);
-    for word in words.split(' ') {
-        put(&mut map, word)?;
-    }
-    Ok(write(alloc, &map)?)
-}
 
 /// The file of a text: `/a/k=1 /a/ -3` is the database of these words without its last three bytes,
 /// `@` the one that is made of keyfiles. It is empty where the text is: then there is no file.
@@ -34,7 +12,7 @@ fn file(alloc: Global, text: &str) -> Result<Vec<u8>, Fail> {
         "@" => site(alloc),
         _ => {
             let (words, lost) = text.split_once(" -").unwrap_or((text, "0"));
-            let mut file = database(alloc, words)?;
+            let mut file = file_of_words(alloc, words)?;
             file.truncate(file.len().saturating_sub(lost.parse()?));
             Ok(file)
         }

@@ -1,5 +1,7 @@
 //! What a save keeps of the user's file, byte for byte.
 use super::engines::saved;
+use crate::questions::Question;
+use crate::rows::{bytes_of_text, hold};
 use dconf_path::{KeyPath, read_profile};
 use gvdb_read::Table;
 use gvdb_write::{Map, write};
@@ -13,33 +15,42 @@ pub(super) fn user(alloc: Global, bytes: &[u8]) -> Result<Vec<u8>, Fail> {
     Ok(write(alloc, &map)?)
 }
 
-/// Whether these bytes are kept there, where a key beside it is set and the database is saved.
-fn keeps(alloc: Global, bytes: &[u8]) -> Result<bool, Fail> {
+/// What is saved of this file of the user's, where a key beside it is set.
+fn saved_again(alloc: Global, user: Vec<u8>) -> Result<Vec<u8>, Fail> {
     let profile = read_profile(alloc, "user-db:me")?;
-    let files = [user(alloc, bytes)?];
-    let file = saved(alloc, &profile, &files, ("write /a/j 7 =>", false))?;
+    saved(alloc, &profile, &[user], ("write /a/j 7 =>", false))
+}
+
+/// Whether these bytes are kept there.
+fn are_kept(alloc: Global, bytes: &[u8]) -> Result<bool, Fail> {
+    let file = saved_again(alloc, user(alloc, bytes)?)?;
     let table = Table::open(&file)?;
     Ok(table.find_bytes("/a/k") == Some(bytes) && table.has("/a/j"))
 }
 
+/// Whether the bytes that a text stands for are kept.
+pub(crate) fn bytes_kept(alloc: Global, asked: &str, found: &mut String) -> Result<(), Fail> {
+    let is_so = are_kept(alloc, &bytes_of_text(alloc, asked)?)?;
+    found.push_str(if is_so { " kept" } else { " lost" })?;
+    Ok(())
+}
+
+const ROWS: &str = "
+-- a text that is no UTF-8, one without its zero byte
+a\u{ff}\0\0s => kept
+a\0s => kept
+-- a boolean that is not normal, a number of a byte too many, padding that is not zero, a double
+\x05\0b => kept
+\x05\0\0\0\0\0i => kept
+\x01\u{ff}\u{ff}\u{ff}\x02\0\0\0\0(yi) => kept
+\x01\x02\x03\x04\x05\x06\u{f8}\x7f\0d => kept
+-- no type, a type that is none, no bytes
+junk => kept
+\x01\0q} => kept
+ => kept
+";
+
 #[test]
 fn a_save_keeps_the_bytes_of_other_values(rt: HostRuntime) -> Result<(), Fail> {
-    let rows: [(&str, &[u8]); 9] = [
-        ("a text that is no UTF-8", b"a\xff\0\0s"),
-        ("a text without its zero byte", b"a\0s"),
-        ("a boolean that is not normal", b"\x05\0b"),
-        ("a number of a byte too many", b"\x05\0\0\0\0\0i"),
-        (
-            "padding that is not zero",
-            b"\x01\xff\xff\xff\x02\0\0\0\0(yi)",
-        ),
-        ("a double", b"\x01\x02\x03\x04\x05\x06\xf8\x7f\0d"),
-        ("no type", b"junk"),
-        ("a type that is none", b"\x01\0q}"),
-        ("no bytes", b""),
-    ];
-    for (what, bytes) in rows {
-        assert!(rt; keeps(rt.alloc(), bytes)?, "{what}");
-    }
-    Ok(())
+    hold(rt.alloc(), Question::Kept, ROWS, '\n')
 }

@@ -4,30 +4,43 @@ ghost use Rattle.std.specs.List.{starts_with};
 ghost use Rattle.dconf_path.specs.Paths.{directory_text, key_text};
 ghost use Rattle.keyfile_core.specs.DumpRows.{AreBelow};
 
-use crate::rows::hold;
+use crate::questions::Question;
+use crate::rows::{bytes_of_text, hold};
 use dconf_path::{DirPath, KeyPath};
-use keyfile_core::{KeyfileCause, KeyfileFault, read, write_rows};
-use std::alloc::Global;
+use keyfile_core::{Row, read, write_rows};
+use std::alloc::{AllocError, Global};
 use std::fmt::Write;
 use std::test::Fail;
 
-/// The rows of a keyfile, or its first fault.
-fn rows_read(alloc: Global, asked: &str) -> Result<String, Fail> {
-    let (_, file) = asked.split_once(':').unwrap_or(("", asked));
-    let mut text = String::new(alloc);
-    match read(alloc, file.as_bytes()) {
-        Ok(rows) => {
-            for row in &rows {
-                write!(
-                    text,
-                    " {} [{}] {}={};",
-                    row.line, row.group, row.key, row.text
-                )?;
-            }
-        }
-        Err(fault) => write!(text, " {fault:?}")?,
+/// Each row as its line, its group, its key and its text.
+fn show_rows(rows: &[Row<'_>], found: &mut String) -> Result<(), AllocError> {
+    for row in rows {
+        write!(
+            found,
+            " {} [{}] {}={};",
+            row.line, row.group, row.key, row.text
+        )?;
     }
-    Ok(text)
+    Ok(())
+}
+
+/// The rows of a keyfile, or its first fault.
+fn show_keyfile(alloc: Global, file: &[u8], found: &mut String) -> Result<(), AllocError> {
+    match read(alloc, file) {
+        Ok(rows) => show_rows(&rows, found),
+        Err(fault) => write!(found, " {fault:?}"),
+    }
+}
+
+/// What a keyfile is read as. Its text follows on `file:`, or its bytes on `bytes:`.
+pub(crate) fn keyfile_read(alloc: Global, asked: &str, found: &mut String) -> Result<(), Fail> {
+    let (kind, file) = asked.split_once(':').unwrap_or(("", asked));
+    let shown = if kind == "bytes" {
+        show_keyfile(alloc, &bytes_of_text(alloc, file)?, found)
+    } else {
+        show_keyfile(alloc, file.as_bytes(), found)
+    };
+    Ok(shown?)
 }
 
 const FILES: &str = "
@@ -70,28 +83,22 @@ file:[a]
 k=\0 => Refused { line: 2, cause: BadLine }$
 file:\r# c => Refused { line: 1, cause: BadLine }$";
 
-/// Whether the first fault of a keyfile is a byte in this line that is no part of a character.
-fn is_no_text(alloc: Global, file: &[u8], line: usize) -> bool {
-    let cause = KeyfileCause::NotUtf8;
-    match read(alloc, file) {
-        Ok(_) => false,
-        Err(fault) => fault == KeyfileFault::Refused { line, cause },
-    }
-}
+// A byte that is no part of a character.
+const NO_TEXTS: &str = "
+bytes:k=1
+#\u{ff}
+ => Refused { line: 2, cause: NotUtf8 }$
+bytes:[\u{e2}\u{82}] => Refused { line: 1, cause: NotUtf8 }$
+bytes:[a]
+
+k\u{ff}=1 => Refused { line: 3, cause: NotUtf8 }$
+bytes:[a]
+k=\u{ed}\u{a0}\u{80} => Refused { line: 2, cause: NotUtf8 }$";
 
 #[test]
 fn a_keyfile_has_rows_or_a_first_fault(rt: HostRuntime) -> Result<(), Fail> {
-    hold(rt.alloc(), FILES, '$', self::rows_read)?;
-    let rows: [(&[u8], usize); 4] = [
-        (b"k=1\n#\xff\n", 2),
-        (b"[\xe2\x82]", 1),
-        (b"[a]\n\nk\xff=1", 3),
-        (b"[a]\nk=\xed\xa0\x80", 2),
-    ];
-    for (file, line) in rows {
-        assert!(rt; is_no_text(rt.alloc(), file, line), "{file:?}");
-    }
-    Ok(())
+    hold(rt.alloc(), Question::Keyfile, FILES, '$')?;
+    hold(rt.alloc(), Question::Keyfile, NO_TEXTS, '$')
 }
 
 /// Whether a path starts with the directory's.
@@ -112,35 +119,57 @@ fn are_below(settings: &[(KeyPath<'_>, String)], directory: DirPath<'_>) -> bool
         .all(|setting| is_below(setting.0, directory))
 }
 
-/// The settings of a text, in which ` = ` is between a path and the text of its value: those below
-/// a directory.
-fn settings_of<'a>(
+/// Adds a setting, in whose text ` = ` is between a path and the text of its value.
+fn push_setting<'a>(
+    alloc: Global,
+    setting: &'a str,
+    settings: &mut Vec<(KeyPath<'a>, String)>,
+) -> Result<(), Fail> {
+    let (path, value) = setting.split_once(" = ").unwrap_or((setting, ""));
+    let path = KeyPath::parse(path)?;
+    settings.push((path, String::from_str(alloc, value)?))?;
+    Ok(())
+}
+
+/// Adds the settings of a text that are below a directory.
+fn push_settings<'a>(
     alloc: Global,
     text: &'a str,
     directory: &str,
-) -> Result<Vec<(KeyPath<'a>, String)>, Fail> {
-    let mut settings = Vec::new(alloc);
+    settings: &mut Vec<(KeyPath<'a>, String)>,
+) -> Result<(), Fail> {
     for setting in text.split_terminator(", ") {
-        let (path, value) = setting.split_once(" = ").unwrap_or((setting, ""));
-        if path.starts_with(directory) {
-            settings.push((KeyPath::parse(path)?, String::from_str(alloc, value)?))?;
+        if setting.starts_with(directory) {
+            push_setting(alloc, setting, settings)?;
         }
     }
-    Ok(settings)
+    Ok(())
 }
 
-/// How the settings of a text are written below a directory, or why they aren't.
-fn settings_written(alloc: Global, asked: &str) -> Result<String, Fail> {
+/// How settings are written below a directory, or why they aren't.
+fn show_settings_written(
+    alloc: Global,
+    settings: &[(KeyPath<'_>, String)],
+    directory: DirPath<'_>,
+    found: &mut String,
+) -> Result<(), AllocError> {
+    if !are_below(settings, directory) {
+        return write!(found, " a setting of another directory");
+    }
+    match write_rows(alloc, settings, directory) {
+        Ok(text) => write!(found, "\n{text}"),
+        Err(fault) => write!(found, " {fault:?}"),
+    }
+}
+
+/// How the settings of a text are written below a directory.
+pub(crate) fn settings_written(alloc: Global, asked: &str, found: &mut String) -> Result<(), Fail> {
     let (directory, text) = asked.split_once(": ").unwrap_or((asked, ""));
-    let settings = settings_of(alloc, text, directory)?;
-    let directory = DirPath::parse(directory)?;
-    if !are_below(&settings, directory) {
-        return Err(Fail::new("a setting of another directory"));
-    }
-    match write_rows(alloc, &settings, directory) {
-        Ok(text) => Ok(format!(in alloc; "\n{text}")?),
-        Err(fault) => Ok(format!(in alloc; " {fault:?}")?),
-    }
+    let path = DirPath::parse(directory)?;
+    let mut settings = Vec::new(alloc);
+    push_settings(alloc, text, directory, &mut settings)?;
+    show_settings_written(alloc, &settings, path, found)?;
+    Ok(())
 }
 
 const SETTINGS: &str = "
@@ -162,5 +191,5 @@ $
 
 #[test]
 fn settings_are_written_by_groups_and_keys(rt: HostRuntime) -> Result<(), Fail> {
-    hold(rt.alloc(), SETTINGS, '$', self::settings_written)
+    hold(rt.alloc(), Question::Settings, SETTINGS, '$')
 }

@@ -1,30 +1,31 @@
 //! The paths of keys, of directories and of locks.
-use crate::rows::hold;
+use crate::questions::Question;
+use crate::rows::{bytes_of_text, hold};
 use dconf_path::{DirPath, KeyPath, LockPath};
-use std::alloc::Global;
+use std::alloc::{AllocError, Global};
+use std::fmt::Write;
 use std::test::Fail;
 
 /// What a text is as the path of a key: whether it is its own text, or its fault.
-fn key_shown(alloc: Global, text: &str) -> Result<String, Fail> {
+fn show_key(text: &str, found: &mut String) -> Result<(), AllocError> {
     match KeyPath::parse(text) {
-        Ok(path) => Ok(format!(in alloc; "{}", path.as_str() == text)?),
-        Err(fault) => Ok(format!(in alloc; "{fault:?}")?),
+        Ok(path) => write!(found, " {}", path.as_str() == text),
+        Err(fault) => write!(found, " {fault:?}"),
     }
 }
 
 /// What it is as the path of a directory.
-fn directory_shown(alloc: Global, text: &str) -> Result<String, Fail> {
+fn show_directory(text: &str, found: &mut String) -> Result<(), AllocError> {
     match DirPath::parse(text) {
-        Ok(path) => Ok(format!(in alloc; "{}", path.as_str() == text)?),
-        Err(fault) => Ok(format!(in alloc; "{fault:?}")?),
+        Ok(path) => write!(found, " {}", path.as_str() == text),
+        Err(fault) => write!(found, " {fault:?}"),
     }
 }
 
 /// What a text is as the path of a key, and of a directory.
-pub(crate) fn path_read(alloc: Global, asked: &str) -> Result<String, Fail> {
-    let key = key_shown(alloc, asked)?;
-    let directory = directory_shown(alloc, asked)?;
-    Ok(format!(in alloc; " {key} {directory}")?)
+pub(crate) fn path_read(asked: &str, found: &mut String) -> Result<(), AllocError> {
+    show_key(asked, found)?;
+    show_directory(asked, found)
 }
 
 const PATHS: &str = "
@@ -57,41 +58,50 @@ a//\0/ => NotAbsolute NotAbsolute
 
 #[test]
 fn tells_keys_and_directories(rt: HostRuntime) -> Result<(), Fail> {
-    hold(rt.alloc(), PATHS, '\n', self::path_read)
+    hold(rt.alloc(), Question::Path, PATHS, '\n')
 }
 
+/// Whether bytes are a key's path, which is these bytes.
+pub(crate) fn key_of_bytes(
+    alloc: Global,
+    asked: &str,
+    found: &mut String,
+) -> Result<(), AllocError> {
+    let bytes = bytes_of_text(alloc, asked)?;
+    found.push_str(match KeyPath::of_bytes(&bytes) {
+        Some(path) if path.as_str().as_bytes() == bytes.as_slice() => " key",
+        Some(_) => " another key",
+        None => " none",
+    })
+}
+
+const BYTES: &str = "
+/k => key
+/org/gnome/desktop/cursor-size => key
+/org/gnome/desktop/\u{c3}\u{bc} => key
+/org/gnome/desktop/cursor-size\u{c3}\u{bc} => key
+/org/gnome/desktop/\u{ff} => none
+/org/gnome/desktop/cursor-size\0 => none
+/org/gnome/desktop/cursor-size/ => none
+/org/gnome/desktop//cursor-size => none
+org/gnome/desktop/cursor-size => none
+ => none
+";
+
 #[test]
-fn takes_bytes_that_are_a_keys_path(rt: HostRuntime) {
-    let rows: [(&[u8], bool); 10] = [
-        (b"/k", true),
-        (b"/org/gnome/desktop/cursor-size", true),
-        (b"/org/gnome/desktop/\xc3\xbc", true),
-        (b"/org/gnome/desktop/cursor-size\xc3\xbc", true),
-        (b"/org/gnome/desktop/\xff", false),
-        (b"/org/gnome/desktop/cursor-size\0", false),
-        (b"/org/gnome/desktop/cursor-size/", false),
-        (b"/org/gnome/desktop//cursor-size", false),
-        (b"org/gnome/desktop/cursor-size", false),
-        (b"", false),
-    ];
-    for (bytes, is_key) in rows {
-        let path = KeyPath::of_bytes(bytes);
-        let is_its_own = match path {
-            Some(path) => path.as_str().as_bytes() == bytes,
-            None => !is_key,
-        };
-        assert!(rt; is_its_own && path.is_some() == is_key);
-    }
+fn takes_bytes_that_are_a_keys_path(rt: HostRuntime) -> Result<(), Fail> {
+    hold(rt.alloc(), Question::KeyOfBytes, BYTES, '\n')
 }
 
 /// Whether a lock covers a key.
-fn covered(alloc: Global, asked: &str) -> Result<String, Fail> {
+pub(crate) fn covered(asked: &str, found: &mut String) -> Result<(), Fail> {
     let (lock, key) = asked.split_once(' ').unwrap_or((asked, ""));
     let key = KeyPath::parse(key)?;
     match LockPath::parse(lock) {
-        Ok(lock) => Ok(format!(in alloc; " {}", lock.covers(key))?),
-        Err(fault) => Ok(format!(in alloc; " {fault:?}")?),
+        Ok(lock) => write!(found, " {}", lock.covers(key))?,
+        Err(fault) => write!(found, " {fault:?}")?,
     }
+    Ok(())
 }
 
 const LOCKS: &str = "
@@ -107,5 +117,5 @@ a// /q => NotAbsolute
 
 #[test]
 fn a_lock_covers_its_key_or_what_is_below(rt: HostRuntime) -> Result<(), Fail> {
-    hold(rt.alloc(), LOCKS, '\n', self::covered)
+    hold(rt.alloc(), Question::Covered, LOCKS, '\n')
 }

@@ -1,58 +1,69 @@
 //! Texts of settings, lock files and profiles by example.
+use crate::questions::Question;
 use crate::rows::hold;
-use dconf_path::{DatabaseKind, LocksFault, TextFault, read_locks, read_profile, settings_text};
-use std::alloc::Global;
+use dconf_path::{
+    Database, DatabaseKind, Lock, LocksFault, TextFault, read_locks, read_profile, settings_text,
+};
+use std::alloc::{AllocError, Global};
 use std::fmt::Write;
 use std::test::Fail;
 
-/// The locks of a text, each as its line and its path; or its fault, as its name and its line.
-fn locks_shown(alloc: Global, text: &str) -> Result<String, Fail> {
-    let mut shown = String::new(alloc);
+/// Each lock as its line and its path.
+fn show_each_lock(locks: &[Lock<'_>], found: &mut String) -> Result<(), AllocError> {
+    for lock in locks {
+        write!(found, " {}{}", lock.line, lock.path.as_str())?;
+    }
+    Ok(())
+}
+
+/// The locks of a text; or its fault, as its name and its line.
+fn show_locks(alloc: Global, text: &str, found: &mut String) -> Result<(), AllocError> {
     match read_locks(alloc, text) {
-        Ok(locks) => {
-            for lock in &locks {
-                write!(shown, " {}{}", lock.line, lock.path.as_str())?;
-            }
-        }
-        Err(fault @ LocksFault::LockNotKey(line)) => write!(shown, " {fault} {line}")?,
-        Err(LocksFault::Memory) => {}
+        Ok(locks) => show_each_lock(&locks, found),
+        Err(fault @ LocksFault::LockNotKey(line)) => write!(found, " {fault} {line}"),
+        Err(LocksFault::Memory) => Ok(()),
     }
-    Ok(shown)
 }
 
-/// The databases of a profile, each as the letter of its kind and its name; or its fault, as its name and its line.
-fn databases_shown(alloc: Global, text: &str) -> Result<String, Fail> {
-    let mut shown = String::new(alloc);
+/// Each database as the letter of its kind and its name.
+fn show_each_database(databases: &[Database<'_>], found: &mut String) -> Result<(), AllocError> {
+    for database in databases {
+        let letter = match database.kind {
+            DatabaseKind::User => 'u',
+            DatabaseKind::System => 's',
+            DatabaseKind::File => 'f',
+        };
+        write!(found, " {letter}={};", database.name)?;
+    }
+    Ok(())
+}
+
+/// The databases of a profile; or its fault, as its name and its line.
+fn show_databases(alloc: Global, text: &str, found: &mut String) -> Result<(), AllocError> {
     match read_profile(alloc, text) {
-        Ok(profile) => {
-            for database in profile.databases() {
-                let letter = match database.kind {
-                    DatabaseKind::User => 'u',
-                    DatabaseKind::System => 's',
-                    DatabaseKind::File => 'f',
-                };
-                write!(shown, " {letter}={};", database.name)?;
-            }
-        }
-        Err(fault) => write!(shown, " {fault} {}", fault.line().unwrap_or(0))?,
+        Ok(profile) => show_each_database(profile.databases(), found),
+        Err(fault) => write!(found, " {fault} {}", fault.line().unwrap_or(0)),
     }
-    Ok(shown)
 }
 
-/// What a file is read as: a text of any kind, a lock file, a profile, or one whose lines come
-/// after 64 databases with a comment after each.
-fn text_read(alloc: Global, asked: &str) -> Result<String, Fail> {
+/// The databases of a profile whose lines come after 64 databases with a comment after each.
+fn show_many_databases(alloc: Global, text: &str, found: &mut String) -> Result<(), AllocError> {
+    let mut many = "system-db:a\n# c\n".repeat(alloc, 64)?;
+    many.push_str(text)?;
+    show_databases(alloc, many.as_str(), found)
+}
+
+/// What a file is read as: a text of any kind, a lock file, a profile, or one of many databases.
+pub(crate) fn text_read(alloc: Global, asked: &str, found: &mut String) -> Result<(), Fail> {
     let (kind, rest) = asked.split_once(':').unwrap_or(("", asked));
     let text = settings_text(rest.as_bytes())?;
-    match kind {
-        "text" => Ok(format!(in alloc; " {text}")?),
-        "locks" => locks_shown(alloc, text),
-        "profile" => databases_shown(alloc, text),
-        _ => {
-            let many = "system-db:a\n# c\n".repeat(alloc, 64)?;
-            databases_shown(alloc, &format!(in alloc; "{many}{text}")?)
-        }
-    }
+    let shown = match kind {
+        "text" => write!(found, " {text}"),
+        "locks" => show_locks(alloc, text, found),
+        "profile" => show_databases(alloc, text, found),
+        _ => show_many_databases(alloc, text, found),
+    };
+    Ok(shown?)
 }
 
 const TEXTS: &str = "
@@ -118,8 +129,8 @@ fn is_no_text(bytes: &[u8], line: usize) -> bool {
 
 #[test]
 fn texts_locks_and_profiles_are_read(rt: HostRuntime) -> Result<(), Fail> {
-    hold(rt.alloc(), TEXTS, '$', self::text_read)?;
-    hold(rt.alloc(), PROFILES, '$', self::text_read)?;
+    hold(rt.alloc(), Question::Text, TEXTS, '$')?;
+    hold(rt.alloc(), Question::Text, PROFILES, '$')?;
     assert!(rt; is_no_text(b"\xff", 1) && is_no_text(b"[a]\nk='\xc3'\n", 2));
     Ok(())
 }
