@@ -1,5 +1,5 @@
 //! Folders and `replace`: each call failing in turn, a crash after each call, and files of the host.
 pub(crate) mod crashes;
 pub(crate) mod failures;
-pub(crate) mod host;
+mod host;
 mod steps;

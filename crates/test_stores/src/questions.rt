@@ -9,7 +9,6 @@ use crate::databases::writing::written;
 use crate::databases::written::{directory_locked, map_written};
 use crate::folders::crashes::crash_cases;
 use crate::folders::failures::replaced_so;
-use crate::folders::host::folder_named;
 use crate::layers::again::seen_after;
 use crate::layers::differing::differing;
 use crate::layers::keeping::bytes_kept;
@@ -29,7 +28,6 @@ pub(crate) enum Question {
     Crash,
     Differing,
     DirectoryLocked,
-    FolderNamed,
     Hash,
     Item,
     Kept,
@@ -63,7 +61,6 @@ pub(crate) fn answer(
         Question::Crash => crash_cases(alloc, asked, found),
         Question::Differing => differing(alloc, asked, found),
         Question::DirectoryLocked => directory_locked(alloc, asked, found),
-        Question::FolderNamed => Ok(folder_named(asked, found)?),
         Question::Hash => Ok(hashed(asked, found)?),
         Question::Item => item_shown(alloc, asked, found),
         Question::Kept => bytes_kept(alloc, asked, found),

@@ -1,10 +1,7 @@
 //! The host's folder: files of some size, none, empty ones, and what is no file.
 use super::steps::calls;
-use crate::questions::Question;
-use crate::rows::hold;
 use dconf_disk::{Folder, FolderLock, StdFolder, folder_of, replace};
 use std::alloc::{AllocError, Global};
-use std::fmt::Write;
 use std::fs;
 use std::fs::Permissions;
 use std::os::unix::fs::PermissionsExt;
@@ -172,29 +169,29 @@ fn who_only_reads_makes_no_file(rt: HostRuntime) -> Result<(), Fail> {
     calls(rt.alloc(), &mut StdFolder::read_only(rt), READ_ONLY)
 }
 
-/// The folder of a file's name.
-pub(crate) fn folder_named(asked: &str, found: &mut String) -> Result<(), AllocError> {
-    write!(found, " {}", folder_of(asked))
-}
-
-const FOLDERS: &str = "
-me.user => .
-./me.user => .
-a/me.user => a
-a/b/me.user => a/b
-/me.user => /
-";
-
-/// Whether a folder can be locked, which is given up again.
-fn is_locked(rt: HostRuntime, folder: &str) -> bool {
-    FolderLock::take(&rt, folder).is_ok()
-}
-
 #[test]
-fn a_folder_is_locked_by_any_name_and_given_up(rt: HostRuntime) -> Result<(), Fail> {
-    hold(rt.alloc(), Question::FolderNamed, FOLDERS, '\n')?;
-    let locked = is_locked(rt, ".") && is_locked(rt, "./.") && is_locked(rt, ".");
-    assert!(rt; locked);
-    assert!(rt; !is_locked(rt, "store_tests_none") && !is_locked(rt, "/proc/self/comm/x"));
-    Ok(())
+fn a_folder_is_locked_by_any_name_and_given_up(rt: HostRuntime) {
+    let rows = [
+        ("me.user", "."),
+        ("./me.user", "."),
+        ("a/me.user", "a"),
+        ("a/b/me.user", "a/b"),
+        ("/me.user", "/"),
+    ];
+    for (name, wanted) in rows {
+        let folder = folder_of(name);
+        assert!(rt; folder == wanted, "{name}: {folder}");
+    }
+    for folder in [".", "./.", "."] {
+        assert!(rt;
+            FolderLock::take(&rt, folder).is_ok(),
+            "{folder} can't be locked"
+        );
+    }
+    for folder in ["store_tests_none", "/proc/self/comm/x"] {
+        assert!(rt;
+            FolderLock::take(&rt, folder).is_err(),
+            "{folder} is locked"
+        );
+    }
 }
