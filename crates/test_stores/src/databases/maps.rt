@@ -77,14 +77,14 @@ fn insert_five(alloc: Global, map: &mut Map, path: &str) -> Result<(), Fail> {
     Ok(())
 }
 
-/// What a map has at a path, whether that is locked, and how many keys and locks there are.
+/// What a map has at a path, whether that is locked, how many keys and locks there are, and how the map is shown.
 fn show_place(map: &Map, path: &str, found: &mut String) -> Result<(), Fail> {
     if !path.ends_with('/') {
         write!(found, " {:?}", map.get(KeyPath::parse(path)?))?;
     }
     let locked = map.is_locked(LockPath::parse(path)?);
     let (keys, locks) = (map.key_count(), map.lock_count());
-    write!(found, " {locked} {keys} {locks}")?;
+    write!(found, " {locked} {keys} {locks} {map:?}")?;
     Ok(())
 }
 
@@ -109,13 +109,13 @@ pub(crate) fn map_shown(alloc: Global, asked: &str, found: &mut String) -> Resul
 }
 
 const ROWS: &str = "
-/a/k=5; /a/k => Some([5, 0, 0, 0, 0, 105]) false 1 0
-/a/k=5; /a/kk => None false 1 0
-/a/k=5 /a/k=; /a/k => Some([]) false 1 0
-/a/k=5 /a/k= +; /a/k => Some([5, 0, 0, 0, 0, 105]) false 1 0
-/a/k /a/k; /a/k => None true 0 1 /a/k
-/a/k /a/k; /a/kk => None false 0 1 /a/k
-/a/k /a/k; /a/ => false 0 1 /a/k
+/a/k=5; /a/k => Some([5, 0, 0, 0, 0, 105]) false 1 0 Map { values: 1, locks: 0 }
+/a/k=5; /a/kk => None false 1 0 Map { values: 1, locks: 0 }
+/a/k=5 /a/k=; /a/k => Some([]) false 1 0 Map { values: 1, locks: 0 }
+/a/k=5 /a/k= +; /a/k => Some([5, 0, 0, 0, 0, 105]) false 1 0 Map { values: 1, locks: 0 }
+/a/k /a/k; /a/k => None true 0 1 Map { values: 0, locks: 1 } /a/k
+/a/k /a/k; /a/kk => None false 0 1 Map { values: 0, locks: 1 } /a/k
+/a/k /a/k; /a/ => false 0 1 Map { values: 0, locks: 1 } /a/k
 ";
 
 #[test]
