@@ -9,8 +9,8 @@ use Rattle.gv_model.specs.TypeFault.{Fault, IsFault}
 use Rattle.gv_model.specs.Decode.{decode}
 use Rattle.gv_model.specs.Tree.{Tree}
 use Rattle.gv_model.specs.Printed.{printed, is_too_large, holds_double}
-use Rattle.gv_text.specs.declared.printing.PrintFault.{PrintFault}
-use Rattle.gv_text.specs.declared.printing.PrintFault.TheVariants.{TooLarge, DoubleText, Memory}
+use Rattle.gv_text.specs.declared.print_fault.PrintFault.{PrintFault}
+use Rattle.gv_text.specs.declared.print_fault.PrintFault.TheVariants.{TooLarge, DoubleText, Memory}
 use Rattle.gv_text.specs.PrintFaults.{print_fault_name}
 use Rattle.gv_text.specs.Printing.{IsUnprintable}
 use Rattle.gv_model.specs.FaultTexts.{type_fault_text}

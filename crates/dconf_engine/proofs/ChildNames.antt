@@ -9,7 +9,7 @@ use Rattle.std.specs.declared.string.String.{String}
 use Rattle.std.proofs.lemmas.Bool.{eqb-true}
 use Rattle.dconf_model.specs.Layers.{parts_below}
 use Rattle.dconf_model.specs.Locks.{is_below}
-use Rattle.dconf_model.specs.SoundLaws.{first_part}
+use Rattle.dconf_model.specs.Paths.{first_part}
 use Rattle.dconf_engine.specs.TextSets.{TextSet, has_text, Adds}
 use Rattle.dconf_engine.proofs.TextSetLaws.{added}
 

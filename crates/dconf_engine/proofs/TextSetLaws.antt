@@ -26,7 +26,7 @@ use Rattle.dconf_model.specs.Databases.{gathered}
 use Rattle.dconf_model.specs.Layers.{parts_below}
 use Rattle.dconf_model.specs.Locks.{is_below}
 use Rattle.dconf_model.specs.Order.{in_order, listing}
-use Rattle.dconf_model.specs.SoundLaws.{first_part}
+use Rattle.dconf_model.specs.Paths.{first_part}
 use Rattle.dconf_model.proofs.ListingOrder.{listing_is_once_each}
 use Rattle.dconf_model.proofs.OneSortedList.{in_order-map, sorted_is_in_order}
 use Rattle.dconf_model.proofs.OrderLaws.{order_is_stable}

@@ -2,7 +2,7 @@
 ghost use Rattle.std.specs.Prelude.{◌≡◌, [], ◌∷◌, IfOk, OnOk, map, string_bytes};
 ghost use Rattle.dconf_model.specs.Layers.{parts_below};
 ghost use Rattle.dconf_model.specs.Order.{listing};
-ghost use Rattle.dconf_model.specs.SoundLaws.{first_part};
+ghost use Rattle.dconf_model.specs.Paths.{first_part};
 ghost use Rattle.dconf_engine.specs.TextSets.{Adds};
 
 use std::alloc::{AllocError, Global};

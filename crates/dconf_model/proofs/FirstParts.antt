@@ -5,7 +5,7 @@ use Rattle.std.proofs.lemmas.List.Elements.{All-weaker, All-contains_itself, Con
 use Rattle.std.proofs.BufReadLemmas.{take_through-append}
 use Rattle.gv_model.proofs.ListLaws.{same_head, same_tail}
 use Rattle.dconf_model.specs.Sound.{IsDirectoryPart}
-use Rattle.dconf_model.specs.SoundLaws.{first_part}
+use Rattle.dconf_model.specs.Paths.{first_part}
 
 -- ---- two cuts
 

@@ -8,7 +8,7 @@ use Rattle.std.proofs.lemmas.List.Kept.{Contains-dedup, Contains-from_dedup}
 use Rattle.std.proofs.lemmas.List.{take-append-drop}
 use Rattle.std.proofs.Math.Seq.{take-append_seam, drop-append_seam}
 use Rattle.std.proofs.lemmas.List.Elements.{Contains-append_right}
-use Rattle.dconf_model.specs.SoundLaws.{first_part}
+use Rattle.dconf_model.specs.Paths.{first_part}
 use Rattle.dconf_model.proofs.ParentLaws.{by_bool}
 use Rattle.dconf_model.specs.Locks.{is_below}
 use Rattle.dconf_model.specs.Order.{put_by, in_order, listing, is_at_most}

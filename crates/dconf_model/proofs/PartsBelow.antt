@@ -6,7 +6,8 @@ use Rattle.dconf_model.specs.Table.{Table, item, key, bytes_of, value_kind, list
 use Rattle.dconf_model.specs.Names.{HasName, HasParents, IsRow, joined}
 use Rattle.dconf_model.specs.Sound.{IsSound, IsPart, HasParent, IsChild, list_length, listed}
 use Rattle.dconf_model.specs.Sound.Rule.{chain, place, lists}
-use Rattle.dconf_model.specs.SoundLaws.{first_part, IsPartBelow}
+use Rattle.dconf_model.specs.SoundLaws.{IsPartBelow}
+use Rattle.dconf_model.specs.Paths.{first_part}
 use Rattle.dconf_model.proofs.NameSteps.{parents_item}
 use Rattle.dconf_model.proofs.RowLaws.{counted, one_item}
 use Rattle.dconf_model.proofs.LaidNames.{one_name, shorter}

@@ -8,8 +8,7 @@ use Rattle.std.proofs.lemmas.List.Elements.{Contains-append_left, Contains-appen
 use Rattle.std.proofs.lemmas.List.Sums.{sum_by-cons, sum_by-append}
 use Rattle.dconf_model.specs.Layers.{parts_below}
 use Rattle.dconf_model.specs.Locks.{is_below}
-use Rattle.dconf_model.specs.Paths.{is_path, is_key_path, is_directory_path, ends_with_slash}
-use Rattle.dconf_model.specs.SoundLaws.{first_part}
+use Rattle.dconf_model.specs.Paths.{is_path, is_key_path, is_directory_path, ends_with_slash, first_part}
 use Rattle.dconf_model.specs.Walks.{AreKeyPaths, WalkFindsEachKey, WalkEnds, names_in, keys_below, keys_at, work_at}
 use Rattle.dconf_model.proofs.FirstParts.{EndsInSlash, still_ends, first_of_prefix}
 use Rattle.dconf_model.proofs.FirstPartLaws.{cut_rest, first_again, less_below, some_first}

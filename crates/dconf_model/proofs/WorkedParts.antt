@@ -1,7 +1,7 @@
 -- Worked first parts.
 use Rattle.std.proofs.Common.{◌≡◌, refl}
 use Rattle.std.specs.Prelude.{codes}
-use Rattle.dconf_model.specs.SoundLaws.{first_part}
+use Rattle.dconf_model.specs.Paths.{first_part}
 
 of_a_key : first_part (codes "k") ≡ codes "k"
 of_a_key = refl

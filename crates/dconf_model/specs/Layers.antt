@@ -6,7 +6,7 @@ use Rattle.std.specs.List.{list_any}
 use Rattle.std.specs.FinMap.{empty, get, keys}
 use Rattle.gv_model.specs.Tree.{Tree}
 use Rattle.dconf_model.specs.Settings.{Settings}
-use Rattle.dconf_model.specs.SoundLaws.{first_part}
+use Rattle.dconf_model.specs.Paths.{first_part}
 use Rattle.dconf_model.specs.Locks.{covers, is_below}
 use Rattle.dconf_model.specs.Order.{listing}
 use Rattle.dconf_model.specs.Values.{held_value}
@@ -78,7 +78,7 @@ without_user l = if l.writable then record { layers = emptied l.layers; writable
 
 -- ---- listings
 
--- the first part of what follows the directory in a path that starts with it
+-- of each path that starts with the directory, the first part of what follows it
 abbrev pub parts_below : List ℕ → List (List ℕ) → List (List ℕ)
 parts_below directory [] = []
 parts_below directory (path ∷ more) =

@@ -3,6 +3,7 @@
 -- A path starts with `/`, has no zero byte and no `//`, and has at most 65,535 bytes. A key's path doesn't end in
 -- `/`; a directory's does, and `/` is a directory.
 use Rattle.std.specs.Prelude.{◌≡◌, ℕ, Bool, false, List, [], ◌∷◌, ◌++◌, length, Option, Some, None, is_none, nat_le, ◌==◌, ◌&&◌, ◌||◌, not, eqb, if◌then◌else◌}
+use Rattle.std.specs.Io.BufRead.{take_through}
 use Rattle.std.specs.List.{starts_with, ends_with}
 pub use Rattle.gv_model.specs.Texts.{has_zero_byte}
 
@@ -27,6 +28,10 @@ is_key_path text = is_path text && not (ends_with_slash text)
 
 abbrev pub is_directory_path : List ℕ → Bool
 is_directory_path text = is_path text && ends_with_slash text
+
+-- the first part of what follows a directory's path: up to and with the first `/`, or all of it where there is none
+abbrev pub first_part : List ℕ → List ℕ
+first_part rest = take_through 47 rest
 
 -- ---- why a text is refused
 

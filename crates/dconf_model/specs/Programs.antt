@@ -5,8 +5,7 @@ use Rattle.std.specs.List.{AllByRecursion}
 use Rattle.std.specs.Str.{is_utf8, bytes_eq}
 use Rattle.gv_model.specs.Tree.{Tree}
 use Rattle.dconf_model.specs.Bytes.{MaybeBytes}
-use Rattle.dconf_model.specs.Paths.{key_fault, directory_fault}
-use Rattle.dconf_model.specs.SoundLaws.{first_part}
+use Rattle.dconf_model.specs.Paths.{key_fault, directory_fault, first_part}
 use Rattle.dconf_model.specs.Causes.{SettingsCause}
 use Rattle.dconf_model.specs.Lines.{LineFault}
 use Rattle.dconf_model.specs.Locks.{is_below}

@@ -1,7 +1,6 @@
 -- Laws of sound tables: what a search of one finds, what `.locks` holds, and what the list of a directory gives.
 use Rattle.std.specs.Prelude.{◌≡◌, ◌≢◌, ◌<◌, ◌↔◌, ℕ, List, ◌++◌, Some, None, Contains, AllPairs, IsTrue, IsUtf8, codes}
-use Rattle.std.specs.Io.BufRead.{take_through}
-use Rattle.dconf_model.specs.Paths.{is_key_path, ends_with_slash}
+use Rattle.dconf_model.specs.Paths.{is_key_path, ends_with_slash, first_part}
 use Rattle.dconf_model.specs.Table.{Table, Opens, item, item_count, key, value_kind, list_kind, table_kind, table_of}
 use Rattle.dconf_model.specs.Names.{HasName, IsRow, Rows}
 use Rattle.dconf_model.specs.Search.{Finds}
@@ -47,10 +46,6 @@ DirectoriesAreListed =
     HasName t v (directory ++ rest) → (item t v).kind ≡ value_kind → (i : ℕ) × IsRow t directory list_kind i
 
 -- ---- the list of a directory
-
--- the first part of what follows a directory's name: up to and with the first `/`, or all of it where there is none
-abbrev pub first_part : List ℕ → List ℕ
-first_part rest = take_through 47 rest
 
 -- the name of a value starts with the directory's, and this is the first part of what follows
 abbrev pub IsPartBelow : Table → List ℕ → List ℕ → Type 0

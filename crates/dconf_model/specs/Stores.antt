@@ -11,7 +11,7 @@ use Rattle.gv_model.specs.TypeText.{IsWithinLimits}
 use Rattle.gv_model.specs.Typed.{IsValue}
 use Rattle.gv_model.specs.Tree.{Tree, type_of}
 use Rattle.dconf_model.specs.Bytes.{MaybeBytes}
-use Rattle.dconf_model.specs.SoundLaws.{first_part}
+use Rattle.dconf_model.specs.Paths.{first_part}
 use Rattle.dconf_model.specs.Opening.{IsDatabase, root_of}
 use Rattle.dconf_model.specs.Sound.{IsSound}
 use Rattle.dconf_model.specs.Settings.{Settings}

@@ -8,7 +8,7 @@ use Rattle.dconf_model.specs.Databases.{AreLayers, IsFirstBad, Verdict}
 use Rattle.dconf_model.specs.Layers.{Layers, visible, child_names}
 use Rattle.dconf_model.specs.Changes.{Change, saved}
 use Rattle.dconf_model.specs.Sources.{Given, last_value}
-use Rattle.dconf_model.specs.SoundLaws.{first_part}
+use Rattle.dconf_model.specs.Paths.{first_part}
 use Rattle.dconf_model.specs.Stores.{Deed, Did, Does, FilesGive, changes_of, value_given, own_after, IsNamed}
 use Rattle.dconf_model.specs.Stores.Deed.{changed, reopened}
 use Rattle.dconf_engine.specs.declared.fault.EngineFault.{EngineFault}

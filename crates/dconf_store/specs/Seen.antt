@@ -5,7 +5,7 @@ use Rattle.dconf_model.specs.Bytes.{MaybeBytes}
 use Rattle.dconf_model.specs.Databases.{AreLayers, IsDatabaseOf}
 use Rattle.dconf_model.specs.Layers.{Layers}
 use Rattle.dconf_model.specs.Changes.{Change, saved}
-use Rattle.dconf_model.specs.SoundLaws.{first_part}
+use Rattle.dconf_model.specs.Paths.{first_part}
 use Rattle.dconf_model.specs.Sources.{Given, last_value}
 use Rattle.dconf_model.specs.Stores.{Did, FilesGive, IsNamed, own_after, value_given}
 use Rattle.dconf_model.specs.Stores.Deed.{changed}

@@ -5,8 +5,11 @@ use crate::buffer::MAX_LEN;
 use gv_layout::fixed_size;
 use gv_tree::{Basic, Shape, Tree};
 
-/// So many bytes at least: all of a value of a fixed size, of a text and of an array of these; of
-/// other values none.
+/// How many of an array's texts are looked at.
+const MEASURED: usize = 16;
+
+/// So many bytes at least: all of a value of a fixed size, of a text and of an array of values of a
+/// fixed size, and those of the first texts of an array; of other values none.
 pub(crate) fn room(tree: &Tree) -> usize {
     let room = match tree.shape() {
         Shape::Basic(value) => basic_room(value, tree),
@@ -29,10 +32,12 @@ fn basic_room(value: &Basic, tree: &Tree) -> usize {
     }
 }
 
-/// The bytes of the texts among the elements of an array, and an offset of one byte for each.
+/// The bytes of the first texts of an array, and an offset of one byte for each. A long array's buffer
+/// grows, which costs less than a look at each text.
 fn texts_room(elements: &[Tree]) -> usize {
+    let first = &elements[..elements.len().min(MEASURED)];
     let mut room: usize = 0;
-    for element in elements {
+    for element in first {
         if let Shape::Basic(value) = element.shape() {
             room = room
                 .saturating_add(basic_room(value, element))

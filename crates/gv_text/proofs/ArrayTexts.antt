@@ -16,7 +16,7 @@ use Rattle.gv_model.specs.Printed.{Text, comma, holds_double, hold_double, is_em
 use Rattle.gv_types.specs.Classes.{class_of}
 use Rattle.gv_types.specs.TypeStr.{element_of}
 use Rattle.gv_types.specs.declared.class.Class.TheVariants as classes
-use Rattle.gv_text.specs.declared.printing.PrintFault.{PrintFault}
+use Rattle.gv_text.specs.declared.print_fault.PrintFault.{PrintFault}
 use Rattle.gv_text.specs.Printing.{AreFaultOf, brackets_of, byte_string_of, child_texts}
 use Rattle.gv_text.proofs.Containers.{fault_of_children, value_node}
 use Rattle.gv_text.proofs.ContainerTexts.{IsWritten, array_doubles, marked_text}

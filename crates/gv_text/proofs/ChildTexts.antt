@@ -5,8 +5,8 @@ use Rattle.gv_model.specs.Tree.{Tree, Trees, children, trees_len, depth, greates
 use Rattle.gv_model.specs.Tree.Trees.{none, first}
 use Rattle.gv_model.specs.Quoted.{between}
 use Rattle.gv_model.specs.Printed.{Text, comma, holds_double, hold_double, joined_by, text_of, texts, tuple_text}
-use Rattle.gv_text.specs.declared.printing.PrintFault.{PrintFault}
-use Rattle.gv_text.specs.declared.printing.PrintFault.TheVariants.{TooLarge, DoubleText, Memory}
+use Rattle.gv_text.specs.declared.print_fault.PrintFault.{PrintFault}
+use Rattle.gv_text.specs.declared.print_fault.PrintFault.TheVariants.{TooLarge, DoubleText, Memory}
 use Rattle.gv_text.specs.Printing.{AreFaultOf, IsElementFault, child_texts, following, rest_annotated}
 use Rattle.gv_text.proofs.Containers.{deeper}
 

@@ -13,7 +13,7 @@ use Rattle.gv_model.specs.Normal.{IsContainer}
 use Rattle.gv_types.specs.Classes.{class_of, basic_type}
 use Rattle.gv_types.specs.declared.class.BasicType.{BasicType}
 use Rattle.gv_types.specs.declared.class.Class.TheVariants as classes
-use Rattle.gv_text.specs.declared.printing.PrintFault.{PrintFault}
+use Rattle.gv_text.specs.declared.print_fault.PrintFault.{PrintFault}
 use Rattle.gv_text.specs.Printing.{AreFaultOf, IsElementFault, child_texts}
 use Rattle.gv_text.proofs.Containers.{doubles_in, fault_of_children, value_node}
 use Rattle.gv_text.proofs.Figures.{of_basic}

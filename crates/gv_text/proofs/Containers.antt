@@ -13,8 +13,8 @@ use Rattle.gv_model.proofs.ChildLaws.{children_count}
 use Rattle.gv_model.proofs.ValueBound.{length-ordered, length_just}
 use Rattle.gv_model.proofs.NormalLaws.{decode_node}
 use Rattle.gv_model.specs.Normal.{IsContainer}
-use Rattle.gv_text.specs.declared.printing.PrintFault.{PrintFault}
-use Rattle.gv_text.specs.declared.printing.PrintFault.TheVariants.{TooLarge, DoubleText, Memory}
+use Rattle.gv_text.specs.declared.print_fault.PrintFault.{PrintFault}
+use Rattle.gv_text.specs.declared.print_fault.PrintFault.TheVariants.{TooLarge, DoubleText, Memory}
 use Rattle.gv_text.specs.Printing.{AreFaultOf, IsElementFault}
 
 -- ---- a value and its children

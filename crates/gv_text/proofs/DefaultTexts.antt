@@ -28,8 +28,8 @@ use Rattle.gv_text.specs.Printing.{IsElementFault, brackets_of, child_texts, fig
 use Rattle.gv_model.specs.TypeText.{seen}
 use Rattle.gv_types.specs.FirstTypes.{after, after_close, first_type, types_inside, BeginsInside, IsAfterFirst}
 use Rattle.gv_types.proofs.FirstTypes.{HasInside, HasMember, HasPair, inside_end, inside_first_type, inside_more, inside_next, inside_types, key_type, value_type}
-use Rattle.gv_text.specs.declared.printing.PrintFault.{PrintFault}
-use Rattle.gv_text.specs.declared.printing.PrintFault.TheVariants.{TooLarge, DoubleText, Memory}
+use Rattle.gv_text.specs.declared.print_fault.PrintFault.{PrintFault}
+use Rattle.gv_text.specs.declared.print_fault.PrintFault.TheVariants.{TooLarge, DoubleText, Memory}
 use Rattle.gv_text.specs.Defaults.{default_in, AreFigures, IsEmptied, IsLevelFault, Writes, WritesJoined}
 use Rattle.gv_text.proofs.Containers.{child_deeper, first_deep}
 use Rattle.gv_text.proofs.ContainerTexts.{marked_text}

@@ -14,8 +14,8 @@ use Rattle.gv_model.specs.Decode.{decode}
 use Rattle.gv_model.specs.Printed.{Text, ends_in_nothing, holds_double, text_of, type_mark, when}
 use Rattle.gv_types.specs.Classes.{class_of}
 use Rattle.gv_types.specs.declared.class.Class.TheVariants as classes
-use Rattle.gv_text.specs.declared.printing.PrintFault.{PrintFault}
-use Rattle.gv_text.specs.declared.printing.PrintFault.TheVariants.{TooLarge, DoubleText, Memory}
+use Rattle.gv_text.specs.declared.print_fault.PrintFault.{PrintFault}
+use Rattle.gv_text.specs.declared.print_fault.PrintFault.TheVariants.{TooLarge, DoubleText, Memory}
 use Rattle.gv_text.specs.Printing.{IsElementFault, IsNothing, IsPrintedAs}
 use Rattle.gv_text.proofs.Containers.{one_or_none, value_node}
 use Rattle.gv_text.proofs.ContainerTexts.{IsWritten, marked_text}

@@ -6,8 +6,8 @@ use Rattle.gv_model.specs.Ty.{Ty, types_from}
 use Rattle.gv_model.specs.Tree.{Tree, Trees, default, defaults, depth, greatest_depth, trees_len}
 use Rattle.gv_model.specs.Tree.Trees.{none, first}
 use Rattle.gv_model.specs.Printed.{Text, joined_by, hold_double, text_of, texts}
-use Rattle.gv_text.specs.declared.printing.PrintFault.{PrintFault}
-use Rattle.gv_text.specs.declared.printing.PrintFault.TheVariants.{TooLarge, DoubleText, Memory}
+use Rattle.gv_text.specs.declared.print_fault.PrintFault.{PrintFault}
+use Rattle.gv_text.specs.declared.print_fault.PrintFault.TheVariants.{TooLarge, DoubleText, Memory}
 use Rattle.gv_text.specs.Printing.{AreFaultOf, child_texts, following, rest_annotated}
 use Rattle.gv_text.specs.Defaults.{rest_text, AreLeft, AreLevelFault, IsLevelFault, WriteRest, Writes}
 use Rattle.gv_text.proofs.ChildCounts.{IsAlone}

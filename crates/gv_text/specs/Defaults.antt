@@ -9,8 +9,8 @@ use Rattle.gv_types.specs.declared.class.Class.TheVariants as classes
 use Rattle.gv_types.specs.FirstTypes.{first_type}
 use Rattle.gv_types.specs.declared.members.Members.{Members}
 use Rattle.gv_types.specs.Members.{members_left}
-use Rattle.gv_text.specs.declared.printing.PrintFault.{PrintFault}
-use Rattle.gv_text.specs.declared.printing.PrintFault.TheVariants.{TooLarge, DoubleText, Memory}
+use Rattle.gv_text.specs.declared.print_fault.PrintFault.{PrintFault}
+use Rattle.gv_text.specs.declared.print_fault.PrintFault.TheVariants.{TooLarge, DoubleText, Memory}
 use Rattle.gv_text.specs.Printing.{child_texts, figures_of, following}
 
 -- the default of the type at the start of a text

@@ -8,8 +8,8 @@ use Rattle.gv_model.specs.Tree.Tree.{number, text, node}
 use Rattle.gv_model.specs.BasicValue.{text_in}
 use Rattle.gv_model.specs.Quoted.{quoted}
 use Rattle.gv_model.specs.Printed.{Text, comma, ends_in_nothing, figures, holds_double, hold_double, is_too_large, numbers, text_of, texts}
-use Rattle.gv_text.specs.declared.printing.PrintFault.{PrintFault}
-use Rattle.gv_text.specs.declared.printing.PrintFault.TheVariants.{TooLarge, DoubleText, Memory}
+use Rattle.gv_text.specs.declared.print_fault.PrintFault.{PrintFault}
+use Rattle.gv_text.specs.declared.print_fault.PrintFault.TheVariants.{TooLarge, DoubleText, Memory}
 
 -- why the value isn't printed: its size comes first
 abbrev pub IsUnprintable : Tree → PrintFault → Type 0

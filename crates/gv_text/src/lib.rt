@@ -13,6 +13,7 @@
 mod fault;
 mod lexing;
 mod parsing;
+mod print_fault;
 mod printing;
 mod syntax;
 mod token;
@@ -21,7 +22,8 @@ mod type_text;
 pub use fault::{TextCause, TextFault};
 pub use lexing::tokens;
 pub use parsing::parse;
-pub use printing::{PrintFault, print};
+pub use print_fault::PrintFault;
+pub use printing::print;
 pub use syntax::{Syntax, SyntaxKind, SyntaxNode};
 pub use token::{Mark, Span, Token, TokenKind, Word};
 pub use type_text::TypeText;

@@ -1,6 +1,6 @@
 //! The text of a value (GLib, "GVariant Text Format"), annotated so that its type can be read back.
 ghost use Rattle.std.specs.Prelude.{◌≡◌, ◌≤◌, ◌<◌, ◌++◌, true, false, IfOk, IfErr, MatchResult, OnOk, string_bytes};
-ghost use Rattle.gv_text.specs.declared.printing.PrintFault.TheVariants.{TooLarge, Memory};
+ghost use Rattle.gv_text.specs.declared.print_fault.PrintFault.TheVariants.{TooLarge, Memory};
 ghost use Rattle.gv_model.specs.Tree.{depth};
 ghost use Rattle.gv_model.specs.Printed.{printed, text_of, is_too_large, holds_double};
 ghost use Rattle.gv_view.specs.Views.{value};
@@ -21,59 +21,14 @@ use basic::push_basic;
 use default::push_default;
 use gv_types::Class;
 use gv_view::View;
+use crate::print_fault::PrintFault;
 use maybe::push_maybe;
-use std::alloc::{AllocError, Global};
-use std::error::Error;
-use std::fmt;
+use std::alloc::Global;
 use tuple::{push_entry, push_tuple};
 use variant::push_variant;
 
-/// Why a value is not printed.
-#[derive(Clone, Copy, Debug, PartialEq, Eq)]
-pub enum PrintFault {
-    /// It is more than 128 levels deep.
-    TooLarge,
-    /// A double is to be printed.
-    DoubleText,
-    /// A growth was refused.
-    Memory,
-}
-
-impl PrintFault {
-    ghost use Rattle.gv_text.specs.PrintFaults.{print_fault_name};
-
-    /// How the fault is printed.
-    fn name(self) -> &'static str
-        ensures { result.now ≡ print_fault_name self }
-    {
-        match self {
-            PrintFault::TooLarge => "TooLarge",
-            PrintFault::DoubleText => "DoubleText",
-            PrintFault::Memory => "Memory",
-        }
-    }
-}
-
-impl fmt::Display for PrintFault {
-    ghost use Rattle.std.specs.Prelude.{Some};
-    ghost use Rattle.gv_text.specs.PrintFaults.{print_fault_name};
-
-    ghost output = { λ fault. Some (print_fault_name fault) };
-
-    fn fmt<W: fmt::Write>(&self, f: &mut fmt::Formatter<W>) -> fmt::Result {
-        f.write_str(self.name())
-    }
-}
-
-impl Error for PrintFault {}
-
-impl From<AllocError> for PrintFault {
-    ghost from_gives = { λ _ e. e ≡ Memory };
-
-    fn from(_error: AllocError) -> PrintFault {
-        PrintFault::Memory
-    }
-}
+/// How many bytes a text has room for at first: as many as most settings have.
+const ROOM: usize = 24;
 
 /// The text of the value that the view reads, annotated.
 ///
@@ -84,7 +39,7 @@ pub fn print(alloc: Global, view: View<'_>) -> Result<String, PrintFault>
     ensures printable { OnOk result ((is_too_large (value view.entry) ≡ false) × (holds_double (value view.entry) ≡ false)) }
     ensures fault { IfErr result (IsUnprintable (value view.entry)) }
 {
-    let mut text = String::new(alloc);
+    let mut text = String::with_capacity(alloc, ROOM)?;
     match push_value(&mut text, view, View::MAX_LEVELS, true, false) {
         Ok(()) => Ok(text),
         // A value that is too deep behind the double comes first.

@@ -13,13 +13,14 @@ ghost use Rattle.gv_model.specs.Quoted.{between};
 ghost use Rattle.gv_types.specs.Classes.{class_of};
 ghost use Rattle.gv_types.specs.TypeStr.{ty, element_of};
 ghost use Rattle.gv_types.specs.declared.class.Class.TheVariants.{Array};
-ghost use Rattle.gv_text.specs.declared.printing.PrintFault.TheVariants.{TooLarge};
+ghost use Rattle.gv_text.specs.declared.print_fault.PrintFault.TheVariants.{TooLarge};
 ghost use Rattle.gv_view.specs.Views.{value, view_ty};
 ghost use Rattle.gv_text.specs.Printing.{AreFaultOf, IsElementFault, IsNoted, brackets_of, byte_string_of, child_texts};
 
 use super::quoted::push_byte_string;
 use super::type_mark::push_type_mark;
-use super::{PrintFault, push_value};
+use super::push_value;
+use crate::print_fault::PrintFault;
 use gv_types::{Class, TypeStr};
 use gv_view::View;
 

@@ -3,11 +3,11 @@ ghost use Rattle.std.specs.Prelude.{◌≡◌, ◌≢◌, IfErr, ◌++◌, false
 ghost use Rattle.gv_model.specs.Ty.{Ty.basic};
 ghost use Rattle.gv_model.specs.Printed.{word, hex_byte, text_of, holds_double};
 ghost use Rattle.gv_types.specs.Classes.{basic_of};
-ghost use Rattle.gv_text.specs.declared.printing.PrintFault.TheVariants.{TooLarge};
+ghost use Rattle.gv_text.specs.declared.print_fault.PrintFault.TheVariants.{TooLarge};
 ghost use Rattle.gv_view.specs.Views.{value, view_ty};
 ghost use Rattle.gv_text.specs.Printing.{IsElementFault, figures_of};
 
-use super::PrintFault;
+use crate::print_fault::PrintFault;
 use super::quoted::{digit, push_quoted};
 use gv_types::{BasicType, Class};
 use gv_view::View;

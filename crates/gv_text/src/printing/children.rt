@@ -3,12 +3,13 @@ ghost use Rattle.std.specs.Prelude.{◌≡◌, ◌↔◌, ◌<◌, ◌≤◌, �
 ghost use Rattle.gv_model.specs.Tree.{children, depth, trees_len};
 ghost use Rattle.gv_model.specs.Printed.{comma, joined_by, hold_double};
 ghost use Rattle.gv_model.specs.Quoted.{between};
-ghost use Rattle.gv_text.specs.declared.printing.PrintFault.TheVariants.{TooLarge};
+ghost use Rattle.gv_text.specs.declared.print_fault.PrintFault.TheVariants.{TooLarge};
 ghost use Rattle.gv_view.specs.Views.{value};
 ghost use Rattle.gv_text.specs.Printing.{AreFaultOf, child_texts};
 
 use super::default::push_rest;
-use super::{PrintFault, push_value};
+use super::push_value;
+use crate::print_fault::PrintFault;
 use gv_view::View;
 
 /// Writes a value's children with commas between them, in brackets.

@@ -12,11 +12,11 @@ ghost use Rattle.gv_types.specs.TypeStr.{ty};
 ghost use Rattle.gv_types.specs.Members.{members_left};
 ghost use Rattle.gv_types.specs.FirstTypes.{first_type, HasFirstType, IsAfterFirst};
 ghost use Rattle.gv_types.specs.declared.class.Class.TheVariants.{Tuple, Entry};
-ghost use Rattle.gv_text.specs.declared.printing.PrintFault.TheVariants.{TooLarge, Memory};
+ghost use Rattle.gv_text.specs.declared.print_fault.PrintFault.TheVariants.{TooLarge, Memory};
 ghost use Rattle.gv_text.specs.Printing.{IsElementFault};
 ghost use Rattle.gv_text.specs.Defaults.{default_in, defaults_left, AreFigures, AreLeft, AreLevelFault, IsEmptied, IsLevelFault, WriteRest, Writes, WritesJoined};
 
-use super::PrintFault;
+use crate::print_fault::PrintFault;
 use super::array::brackets;
 use super::basic::push_word;
 use super::type_mark::push_type_mark;

@@ -7,12 +7,13 @@ ghost use Rattle.gv_model.specs.Tree.{depth};
 ghost use Rattle.gv_model.specs.Printed.{text_of, holds_double, ends_in_nothing};
 ghost use Rattle.gv_types.specs.Classes.{class_of};
 ghost use Rattle.gv_types.specs.declared.class.Class.TheVariants.{Maybe};
-ghost use Rattle.gv_text.specs.declared.printing.PrintFault.TheVariants.{TooLarge};
+ghost use Rattle.gv_text.specs.declared.print_fault.PrintFault.TheVariants.{TooLarge};
 ghost use Rattle.gv_view.specs.Views.{value, view_ty};
 ghost use Rattle.gv_text.specs.Printing.{IsElementFault, IsNothing, IsPrintedAs};
 
 use super::type_mark::push_type_mark;
-use super::{PrintFault, push_value};
+use super::push_value;
+use crate::print_fault::PrintFault;
 use gv_types::Class;
 use gv_view::View;
 use std::alloc::AllocError;

@@ -4,11 +4,11 @@ ghost use Rattle.gv_model.specs.Tree.{depth};
 ghost use Rattle.gv_model.specs.Printed.{text_of, holds_double};
 ghost use Rattle.gv_types.specs.Classes.{class_of};
 ghost use Rattle.gv_types.specs.declared.class.Class.TheVariants.{Variant};
-ghost use Rattle.gv_text.specs.declared.printing.PrintFault.TheVariants.{TooLarge};
+ghost use Rattle.gv_text.specs.declared.print_fault.PrintFault.TheVariants.{TooLarge};
 ghost use Rattle.gv_view.specs.Views.{value, view_ty};
 ghost use Rattle.gv_text.specs.Printing.{IsElementFault};
 
-use super::PrintFault;
+use crate::print_fault::PrintFault;
 use super::children::push_between;
 use gv_view::View;
 
