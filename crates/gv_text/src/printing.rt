@@ -16,12 +16,12 @@ mod tuple;
 mod type_mark;
 mod variant;
 
+use crate::print_fault::PrintFault;
 use array::push_array;
 use basic::push_basic;
 use default::push_default;
 use gv_types::Class;
 use gv_view::View;
-use crate::print_fault::PrintFault;
 use maybe::push_maybe;
 use std::alloc::Global;
 use tuple::{push_entry, push_tuple};

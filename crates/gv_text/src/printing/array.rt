@@ -17,9 +17,9 @@ ghost use Rattle.gv_text.specs.declared.print_fault.PrintFault.TheVariants.{TooL
 ghost use Rattle.gv_view.specs.Views.{value, view_ty};
 ghost use Rattle.gv_text.specs.Printing.{AreFaultOf, IsElementFault, IsNoted, brackets_of, byte_string_of, child_texts};
 
+use super::push_value;
 use super::quoted::push_byte_string;
 use super::type_mark::push_type_mark;
-use super::push_value;
 use crate::print_fault::PrintFault;
 use gv_types::{Class, TypeStr};
 use gv_view::View;

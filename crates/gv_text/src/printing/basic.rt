@@ -7,8 +7,8 @@ ghost use Rattle.gv_text.specs.declared.print_fault.PrintFault.TheVariants.{TooL
 ghost use Rattle.gv_view.specs.Views.{value, view_ty};
 ghost use Rattle.gv_text.specs.Printing.{IsElementFault, figures_of};
 
-use crate::print_fault::PrintFault;
 use super::quoted::{digit, push_quoted};
+use crate::print_fault::PrintFault;
 use gv_types::{BasicType, Class};
 use gv_view::View;
 use std::alloc::AllocError;

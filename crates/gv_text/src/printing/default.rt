@@ -16,10 +16,10 @@ ghost use Rattle.gv_text.specs.declared.print_fault.PrintFault.TheVariants.{TooL
 ghost use Rattle.gv_text.specs.Printing.{IsElementFault};
 ghost use Rattle.gv_text.specs.Defaults.{default_in, defaults_left, AreFigures, AreLeft, AreLevelFault, IsEmptied, IsLevelFault, WriteRest, Writes, WritesJoined};
 
-use crate::print_fault::PrintFault;
 use super::array::brackets;
 use super::basic::push_word;
 use super::type_mark::push_type_mark;
+use crate::print_fault::PrintFault;
 use gv_types::{BasicType, Class, Members, TypeStr};
 use std::alloc::AllocError;
 

@@ -11,8 +11,8 @@ ghost use Rattle.gv_text.specs.declared.print_fault.PrintFault.TheVariants.{TooL
 ghost use Rattle.gv_view.specs.Views.{value, view_ty};
 ghost use Rattle.gv_text.specs.Printing.{IsElementFault, IsNothing, IsPrintedAs};
 
-use super::type_mark::push_type_mark;
 use super::push_value;
+use super::type_mark::push_type_mark;
 use crate::print_fault::PrintFault;
 use gv_types::Class;
 use gv_view::View;

@@ -8,8 +8,8 @@ ghost use Rattle.gv_text.specs.declared.print_fault.PrintFault.TheVariants.{TooL
 ghost use Rattle.gv_view.specs.Views.{value, view_ty};
 ghost use Rattle.gv_text.specs.Printing.{IsElementFault};
 
-use crate::print_fault::PrintFault;
 use super::children::push_between;
+use crate::print_fault::PrintFault;
 use gv_view::View;
 
 /// Writes a variant.
