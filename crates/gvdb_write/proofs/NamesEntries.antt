@@ -6,7 +6,7 @@ use Rattle.std.specs.Ordering.{nat_cmp}
 use Rattle.std.proofs.lemmas.Bool.{cases_lt}
 use Rattle.std.proofs.lemmas.Cmp.{nat_list_cmp_total, tied_itself}
 use Rattle.std.proofs.lemmas.List.{take_all, take_more, take_at, take-take, take-append-drop, length-drop, length-take-le, get_or-drop, get_or-take, get_or_default, get_or_at}
-use Rattle.dconf_model.specs.Table.{list_kind}
+use Rattle.dconf_model.specs.Table.{value_kind, list_kind}
 use Rattle.dconf_model.specs.Settings.{Settings}
 use Rattle.dconf_model.specs.Searchable.{IsKind}
 use Rattle.dconf_model.specs.Entries.{IsSpelled, IsEntry, AreEntries, IsTopEntry, IsPartEntry, EntryHasParent, IsRootEntry, EachEntry}
@@ -18,6 +18,9 @@ use Rattle.gvdb_write.specs.declared.names.Named.{Named}
 use Rattle.gvdb_write.specs.PlanWords.{kind_of, entry_of, entries_of}
 use Rattle.gvdb_write.specs.Names.{named, name_at, kind_at, IsSlash, HasNoSlash, EndsAs, IsFit, NameHasParent, IsPlaced, ArePlaced, AreAscending, HasChild, AreGood, IsThere, AreNamesOf}
 use Rattle.gvdb_write.proofs.PathTexts.{end_is}
+use Rattle.gvdb_write.proofs.KeysRise.{kept_at}
+use Rattle.std.specs.Prelude.{IsTrue}
+use Rattle.std.specs.FinMap.{contains_key}
 
 -- ---- entries
 
@@ -201,12 +204,16 @@ prefix_slash d path is =
     sym (get_or-take (length d - 1 + 1) path (length d - 1) 0 (omega arith)) ∙ (ap (λ (x : List ℕ). get_or x (length d - 1) 0) prefix ∙ at_d) in
     (length d - 1, record { here = omega (arith, long, some); slash = at_path }, sym prefix)
 
+-- the path of each value is there
+pub path_there : (s : Settings) (names : List Named) → AreNamesOf s names → (path : List ℕ) → IsTrue (contains_key s.values path) → IsThere names path value_kind
+path_there s names are path kept = let at = kept_at s.values path kept in subst (λ (x : List ℕ). IsThere names x value_kind) at.2 (are.keys at.0 [] at.1)
+
 -- each name that a root table has to have is there
 pub all_there : (s : Settings) (names : List Named) → AreNamesOf s names → (name : List ℕ) → IsRootName s name → (i : ℕ) × (i < length names) × (name_at names i ≡ name)
 all_there s names are name (top is) = (are.top.at, are.top.counted, are.top.named ∙ sym is)
-all_there s names are name (key kept) = let t = are.keys name kept in (t.at, t.counted, t.named)
+all_there s names are name (key kept) = let t = path_there s names are name kept in (t.at, t.counted, t.named)
 all_there s names are name (directory path kept is) =
-    let t = are.keys path kept in
+    let t = path_there s names are path kept in
     let f = prefix_slash name path is in
     let d = closed names are.good.placed t.at f.0 t.counted (subst (λ (x : List ℕ). IsSlash x f.0) (sym t.named) f.1) in
     (d.at, d.counted, d.named ∙ (ap (λ (x : List ℕ). take (f.0 + 1) x) t.named ∙ sym f.2))

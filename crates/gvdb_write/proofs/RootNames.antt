@@ -1,9 +1,10 @@
--- The names of a root table, path by path.
-use Rattle.std.proofs.Common.{◌≡◌, ◌≢◌, ◌<◌, ◌≤◌, ◌+◌, ◌-◌, ℕ, suc, List, [], ◌∷◌, ◌++◌, length, get_or, take, drop, Some, sym, ap, ◌∙◌, subst, arith, ⊎_elim, codes, length-append}
+-- The names of a root table: before the first path, path by path, and after the last.
+use Rattle.std.proofs.Common.{◌≡◌, ◌≢◌, ◌<◌, ◌≤◌, ◌+◌, ◌-◌, ℕ, suc, List, [], ◌∷◌, ◌++◌, length, get_or, take, drop, Some, sym, ap, ◌∙◌, subst, arith, codes, length-append}
 use Rattle.std.specs.Prelude.{IsTrue}
 use Rattle.std.specs.FinMap.{keys, get, contains_key}
-use Rattle.std.proofs.lemmas.Bool.{cases_lt}
-use Rattle.std.proofs.lemmas.List.{append_assoc, take-take, take_at, take_more, length-take-le, take-append-drop, get_or-take, get_or_append_left, get_or_push, length_push, get_or-append-add}
+use Rattle.std.proofs.lemmas.Grind.{common_steps}
+use Rattle.std.proofs.lemmas.List.{append-nil, append_assoc, take-take, take_at, take_more, length-take-le, take-append-drop, get_or-take, length_push}
+use Rattle.std.proofs.lemmas.List.Elements.{All-append, All-push}
 use Rattle.dconf_model.specs.Table.{value_kind, list_kind, table_kind}
 use Rattle.dconf_model.specs.Settings.{Settings}
 use Rattle.dconf_model.specs.Plans.{HasLocks, IsDirectoryOf, IsRootName}
@@ -11,26 +12,20 @@ use Rattle.dconf_model.specs.Plans.IsRootName.{key, directory}
 use Rattle.dconf_model.proofs.NameOrder.{before_prefix}
 use Rattle.dconf_model.proofs.PathLaws.{ends_in}
 use Rattle.gvdb_write.specs.declared.names.Named.{Named}
-use Rattle.gvdb_write.specs.PlanWords.{kind_of, content_bytes, no_name}
-use Rattle.gvdb_write.specs.Names.{named, name_at, IsBefore, IsSlash, AreGood, AreRootNames, HoldValues, IsThere, IsDirectoryAt, IsBeyond, last_name, IsNewDirectory, IsAdded}
+use Rattle.gvdb_write.specs.PlanWords.{kind_of, content_bytes}
+use Rattle.gvdb_write.specs.Names.{name_at, IsBefore, IsSlash, AreRootNames, HoldsValue, HoldValues, IsThere, IsDirectoryAt, IsBeyond, last_name, IsNewDirectory, IsAdded, AreNamesWith, AreNamesOf}
 use Rattle.gvdb_write.proofs.PathTexts.{IsText}
-use Rattle.gvdb_write.proofs.PushedNames.{kept, pushed, old_or_last, last_pushed}
+use Rattle.gvdb_write.proofs.PushedNames.{pushed, last_pushed}
 use Rattle.gvdb_write.proofs.KeysRise.{Rise, rise_rest, first_before, listed_is_kept}
 
 -- with these paths left; `last` is the last that is done, or `/`
 pub record AreNamesSoFar (s : Settings) (names : List Named) (at : ℕ) (last : List ℕ) (left : List (List ℕ)) : Type 0 where
   pub done : List (List ℕ)
   pub listed : keys s.values ≡ done ++ left
-  pub good : AreGood names
-  pub each : AreRootNames s names
-  pub values : HoldValues s names
-  pub paths : (k : ℕ) → k < length done → IsThere names (get_or done k []) value_kind
+  pub of_done : AreNamesWith s names done
   pub last_is : last_name names ≡ last
   pub lies : IsDirectoryAt names last at
   pub innermost : (i : ℕ) → IsSlash last i → i < length (name_at names at)
-  pub first : IsSlash last 0
-  pub top : IsThere names (codes "/") list_kind
-  pub locks : HasLocks s → IsThere names (codes ".locks") table_kind
   pub rising : Rise left
   pub before : (k : ℕ) → k < length left → IsBefore last (get_or left k [])
 
@@ -38,10 +33,7 @@ pub record AreNamesSoFar (s : Settings) (names : List Named) (at : ℕ) (last : 
 
 -- a slash of a text is one of the other's, as far as they are in common
 slash_in_prefix : (text prefix : List ℕ) (i : ℕ) → take (length prefix) text ≡ prefix → i < length prefix → IsSlash text i → IsSlash prefix i
-slash_in_prefix text prefix i is less s = record {
-  here = less;
-  slash = sym (ap (λ (x : List ℕ). get_or x i 0) is) ∙ (get_or-take (length prefix) text i 0 less ∙ s.slash);
-}
+slash_in_prefix text prefix i is less s = grind (arith, common_steps)
 
 -- of each slash of the directory's name up to which it is as the text, the other's name has it too
 abbrev pub IsMost : List Named → ℕ → List ℕ → ℕ → Type 0
@@ -79,33 +71,16 @@ next_beyond s names at last text left rest result so is most =
 
 -- ---- one path more
 
-there_kept : (names more : List Named) (name : List ℕ) (kind : ℕ) → IsThere names name kind → IsThere (names ++ more) name kind
-there_kept names more name kind t =
-    let here = t.counted in
-    let len = length-append names more in
-    record {
-      at = t.at;
-      counted = omega (arith, here, len);
-      named = ap (λ (x : Named). x.name.now) (kept names more t.at here) ∙ t.named;
-      of_kind = ap (λ (x : Named). kind_of x.content) (kept names more t.at here) ∙ t.of_kind;
-    }
+pub there_kept : (names more : List Named) (name : List ℕ) (kind : ℕ) → IsThere names name kind → IsThere (names ++ more) name kind
+there_kept names more name kind t = grind (arith, common_steps)
 
--- what holds of each old one, and of each new one
-each_of_more : (P : Named → Type 0) (old more : List Named) → ((i : ℕ) → i < length old → P (named old i)) → ((k : ℕ) → k < length more → P (named more k)) → (i : ℕ) → i < length (old ++ more) → P (named (old ++ more) i)
-each_of_more P old more a b i here =
-    let len = length-append old more in
-    ⊎_elim (λ (l : i < length old). subst P (sym (kept old more i l)) (a i l))
-    (λ (ge : length old ≤ i).
-    let e : length old + (i - length old) ≡ i = omega (arith, ge) in
-    subst (λ (k : ℕ). P (named (old ++ more) k)) e
-    (subst P (sym (get_or-append-add old more (i - length old) no_name)) (b (i - length old) (omega (arith, here, len, ge)))))
-    (cases_lt i (length old))
-
-each_new : (P : Named → Type 0) (more : List Named) (path : Named) → ((k : ℕ) → k < length more → P (named more k)) → P path → (k : ℕ) → k < length (more ++ path ∷ []) → P (named (more ++ path ∷ []) k)
-each_new P more path a b k here =
-    ⊎_elim (λ (l : k < length more). subst P (sym (kept more (path ∷ []) k l)) (a k l))
-    (λ (e : k ≡ length more). subst (λ (j : ℕ). P (named (more ++ path ∷ []) j)) (sym e) (subst P (sym (pushed more path)) b))
-    (old_or_last more path k here)
+pub there_pushed : (names : List Named) (n : Named) → IsThere (names ++ n ∷ []) n.name.now (kind_of n.content)
+there_pushed names n = record {
+  at = length names;
+  counted = omega (arith, length_push names n);
+  named = ap (λ (x : Named). x.name.now) (pushed names n);
+  of_kind = ap (λ (x : Named). kind_of x.content) (pushed names n);
+}
 
 -- a prefix that ends at a slash is a directory
 pub prefix_is_directory : (text : List ℕ) (i : ℕ) → IsSlash text i → IsDirectoryOf (take (i + 1) text) text
@@ -118,71 +93,56 @@ prefix_is_directory text i s = record {
 new_name : (s : Settings) (text : List ℕ) → IsTrue (contains_key s.values text) → (n : Named) → IsNewDirectory text n → IsRootName s n.name.now
 new_name s text kept n new = directory text kept (subst (λ (x : List ℕ). IsDirectoryOf x text) (sym new.1.2) (prefix_is_directory text new.1.0 new.1.1))
 
-abbrev HoldsValue : Settings → Named → Type 0
-HoldsValue s n = kind_of n.content ≡ value_kind → get s.values n.name.now ≡ Some (content_bytes n.content)
-
 module _ (s : Settings) (old names : List Named) (last text value : List ℕ) (rest : List (List ℕ)) (at next : ℕ) (so : AreNamesSoFar s old at last (text ∷ rest)) (added : IsAdded old names text value next) (value_is : IsTrue (contains_key s.values text) → get s.values text ≡ Some value) where
   kept_here : IsTrue (contains_key s.values text)
   kept_here = listed_is_kept s.values so.done rest text so.listed
 
+  abbrev new : List Named
+  new = added.more ++ added.path ∷ []
+
   each_root : AreRootNames s names
   each_root =
-      subst (λ (l : List Named). AreRootNames s l) (sym added.whole)
-      (each_of_more (λ n. IsRootName s n.name.now) old (added.more ++ added.path ∷ []) so.each
-      (each_new (λ n. IsRootName s n.name.now) added.more added.path
-      (λ k here. new_name s text kept_here (named added.more k) (added.directories k here))
-      (subst (λ (x : List ℕ). IsRootName s x) (sym added.is_path.0) (key kept_here))))
+      rw added.whole
+      (All-append (λ n. IsRootName s n.name.now) old new so.of_done.each
+      (All-push (λ n. IsRootName s n.name.now) added.more added.path (λ k d here. new_name s text kept_here (get_or added.more k d) (added.directories k d here)) (rw added.is_path.0 (key kept_here))))
 
   each_value : HoldValues s names
   each_value =
-      subst (λ (l : List Named). HoldValues s l) (sym added.whole)
-      (each_of_more (HoldsValue s) old (added.more ++ added.path ∷ []) so.values
-      (each_new (HoldsValue s) added.more added.path
-      (λ k here kind. let list = (added.directories k here).0 in let bad : 118 ≡ 76 = sym kind ∙ list in absurd (omega (arith, bad)))
-      (λ kind. ap (λ (x : List ℕ). get s.values x) added.is_path.0 ∙ (value_is kept_here ∙ ap (λ (b : List ℕ). Some b) (sym added.is_path.2)))))
+      rw added.whole
+      (All-append (HoldsValue s) old new so.of_done.values
+      (All-push (HoldsValue s) added.more added.path
+      (λ k d here kind. let list = (added.directories k d here).0 in let bad : 118 ≡ 76 = sym kind ∙ list in absurd (omega (arith, bad)))
+      (λ kind. ap (get s.values) added.is_path.0 ∙ (value_is kept_here ∙ ap (λ (b : List ℕ). Some b) (sym added.is_path.2)))))
 
   still_there : (name : List ℕ) (kind : ℕ) → IsThere old name kind → IsThere names name kind
-  still_there name kind t = subst (λ (l : List Named). IsThere l name kind) (sym added.whole) (there_kept old (added.more ++ added.path ∷ []) name kind t)
+  still_there name kind t = rw added.whole (there_kept old new name kind t)
 
   assoc : names ≡ (old ++ added.more) ++ added.path ∷ []
   assoc = added.whole ∙ sym (append_assoc old added.more (added.path ∷ []))
 
   path_there : IsThere names text value_kind
-  path_there =
-      let len = length_push (old ++ added.more) added.path in
-      subst (λ (l : List Named). IsThere l text value_kind) (sym assoc)
-      (record {
-        at = length (old ++ added.more);
-        counted = omega (arith, len);
-        named = ap (λ (x : Named). x.name.now) (pushed (old ++ added.more) added.path) ∙ added.is_path.0;
-        of_kind = ap (λ (x : Named). kind_of x.content) (pushed (old ++ added.more) added.path) ∙ added.is_path.1;
-      })
-
-  paths_there : (k : ℕ) → k < length (so.done ++ text ∷ []) → IsThere names (get_or (so.done ++ text ∷ []) k []) value_kind
-  paths_there k here =
-      let len = length_push so.done text in
-      ⊎_elim
-      (λ (l : k < length so.done).
-      subst (λ (x : List ℕ). IsThere names x value_kind) (sym (get_or_append_left so.done (text ∷ []) [] k l)) (still_there (get_or so.done k []) value_kind (so.paths k l)))
-      (λ (ge : length so.done ≤ k).
-      let e : length so.done ≡ k = omega (arith, ge, here, len) in
-      subst (λ (x : List ℕ). IsThere names x value_kind) (sym (get_or_push so.done text [] k e)) path_there)
-      (cases_lt k (length so.done))
+  path_there = rw (assoc, sym added.is_path.0, sym added.is_path.1) (there_pushed (old ++ added.more) added.path)
 
   pub names_more : IsText text → AreNamesSoFar s names next text rest
   names_more path = record {
     done = so.done ++ text ∷ [];
     listed = so.listed ∙ sym (append_assoc so.done (text ∷ []) rest);
-    good = added.good;
-    each = each_root;
-    values = each_value;
-    paths = paths_there;
+    of_done = record {
+      good = added.good;
+      each = each_root;
+      values = each_value;
+      keys = All-push (λ p. IsThere names p value_kind) so.done text (λ k d here. still_there _ value_kind (so.of_done.keys k d here)) path_there;
+      top = still_there (codes "/") list_kind so.of_done.top;
+      locks = λ some. still_there (codes ".locks") table_kind (so.of_done.locks some);
+    };
     last_is = ap (λ (l : List Named). last_name l) assoc ∙ (last_pushed (old ++ added.more) added.path ∙ added.is_path.0);
     lies = added.lies;
     innermost = added.innermost;
-    first = path.first;
-    top = still_there (codes "/") list_kind so.top;
-    locks = λ some. still_there (codes ".locks") table_kind (so.locks some);
     rising = rise_rest text rest so.rising;
     before = first_before text rest so.rising;
   }
+
+-- ---- after the last path
+
+pub all_names : (s : Settings) (names : List Named) (at : ℕ) (last : List ℕ) (left : List (List ℕ)) → left ≡ [] → AreNamesSoFar s names at last left → AreNamesOf s names
+all_names s names at last left none so = subst (AreNamesWith s names) (sym (so.listed ∙ (ap (λ (l : List (List ℕ)). so.done ++ l) none ∙ append-nil so.done))) so.of_done

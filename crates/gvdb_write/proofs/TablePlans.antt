@@ -15,10 +15,10 @@ use Rattle.dconf_model.proofs.Renumbered.{name_at as name_by_number, kind_at as 
 use Rattle.gvdb_write.specs.declared.names.Named.{Named}
 use Rattle.gvdb_write.specs.declared.table.TablePlan.{TablePlan}
 use Rattle.gvdb_write.specs.Groups.{ComesFirst}
-use Rattle.gvdb_write.specs.PlanWords.{kind_of, content_bytes, entries_of, plan_of}
+use Rattle.gvdb_write.specs.PlanWords.{kind_of, content_bytes, no_name, entries_of, plan_of}
 use Rattle.gvdb_write.specs.Names.{named, name_at, IsBefore, AreAscending, NameHasParent, AreNamesOf, AreLockNames}
 use Rattle.gvdb_write.specs.ItemOrder.{IsTableOf}
-use Rattle.gvdb_write.proofs.NamesEntries.{are_entries, once_each, are_root_entries, all_there}
+use Rattle.gvdb_write.proofs.NamesEntries.{are_entries, once_each, are_root_entries, path_there, all_there}
 use Rattle.gvdb_write.proofs.PathTexts.{IsPathText, path_text}
 use Rattle.gvdb_write.proofs.KeysRise.{keys_rise, kept_is_listed, kept_at}
 
@@ -72,11 +72,11 @@ module _ (s : Settings) (names : List Named) (t : TablePlan) (are : AreNamesOf s
       let same = is.contents i here in
       let there = is.renumbered.ordered i (here_in_names names t is i here) in
       ap (λ (x : List ℕ). get s.values x) (name_of_item names t is i here)
-      ∙ (are.values (is.order i) there (ap (λ c. kind_of c) (sym same) ∙ kind) ∙ ap (λ c. Some (content_bytes c)) (sym same))
+      ∙ (are.values (is.order i) no_name there (ap (λ c. kind_of c) (sym same) ∙ kind) ∙ ap (λ c. Some (content_bytes c)) (sym same))
 
   root_keys : (locks : TablePlan) (path bytes : List ℕ) → get s.values path ≡ Some bytes → HasValueEntry (plan_of t locks) path bytes
   root_keys locks path bytes at =
-      let f = are.keys path (ap (λ (o : Option (List ℕ)). is_some o) at) in
+      let f = path_there s names are path (ap (λ (o : Option (List ℕ)). is_some o) at) in
       let i = is.number f.at in
       let here : is.number f.at < length t.items.items = subst (λ (n : ℕ). is.number f.at < n) (sym is.renumbered.counted) (is.renumbered.numbered f.at f.counted) in
       let name : name_at t.items.items (is.number f.at) ≡ path = name_by_number (entries_of names) (entries_of t.items.items) is.order is.number f.at is.renumbered f.counted ∙ f.named in
@@ -91,7 +91,7 @@ module _ (s : Settings) (names : List Named) (t : TablePlan) (are : AreNamesOf s
       )
 
   pub root_named : AreNamed (IsRootName s) (entries_of t.items.items)
-  root_named = are_named names t is (IsRootName s) are.good.ascending are.each (all_there s names are)
+  root_named = are_named names t is (IsRootName s) are.good.ascending (λ i here. are.each i no_name here) (all_there s names are)
 
   pub root_entries : AreEntries (entries_of t.items.items)
   root_entries = entries_renumbered (entries_of names) (entries_of t.items.items) is.order is.number is.renumbered (are_entries names are.good.placed are.good.ascending)

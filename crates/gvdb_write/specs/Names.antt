@@ -1,9 +1,10 @@
 -- Names in the order of their bytes, each after its directory: what holds of the names that a table is made of.
-use Rattle.std.specs.Prelude.{ℕ, ◌+◌, ◌-◌, ◌<◌, ◌≤◌, ◌≡◌, ◌≢◌, ◌⊎◌, List, [], ◌∷◌, ◌++◌, length, take, drop, slice_index, slice_index_or, Option, Some, None, Contains, IsUtf8, IsTrue, codes}
+use Rattle.std.specs.Prelude.{ℕ, ◌+◌, ◌-◌, ◌<◌, ◌≤◌, ◌≡◌, ◌≢◌, ◌⊎◌, List, [], ◌∷◌, ◌++◌, length, take, drop, slice_index, slice_index_or, Option, Some, None, Contains, IsUtf8, codes}
 use Rattle.std.specs.Cmp.Lexicographic.{slice_cmp}
 use Rattle.std.specs.Ordering.{nat_cmp}
+use Rattle.std.specs.List.{All}
 use Rattle.std.specs.declared.cmp.Ordering.TheVariants.{Less}
-use Rattle.std.specs.FinMap.{contains_key, get, keys}
+use Rattle.std.specs.FinMap.{get, keys}
 use Rattle.dconf_model.specs.Bytes.{hash_of}
 use Rattle.dconf_model.specs.Table.{value_kind, list_kind, table_kind}
 use Rattle.dconf_model.specs.Settings.{Settings}
@@ -83,11 +84,13 @@ HaveChildren names =
     (i : ℕ) → i < length names → kind_at names i ≡ list_kind → (name_at names i ≡ codes "/") ⊎ HasChild names i
 
 abbrev pub AreRootNames : Settings → List Named → Type 0
-AreRootNames s names = (i : ℕ) → i < length names → IsRootName s (name_at names i)
+AreRootNames s names = All (λ n. IsRootName s n.name.now) names
+
+abbrev pub HoldsValue : Settings → Named → Type 0
+HoldsValue s n = kind_of n.content ≡ value_kind → get s.values n.name.now ≡ Some (content_bytes n.content)
 
 abbrev pub HoldValues : Settings → List Named → Type 0
-HoldValues s names =
-    (i : ℕ) → i < length names → kind_at names i ≡ value_kind → get s.values (name_at names i) ≡ Some (content_bytes (named names i).content)
+HoldValues s names = All (HoldsValue s) names
 
 -- the name is there, and stands for something of the kind
 pub record IsThere (names : List Named) (name : List ℕ) (kind : ℕ) : Type 0 where
@@ -95,15 +98,6 @@ pub record IsThere (names : List Named) (name : List ℕ) (kind : ℕ) : Type 0 
   pub counted : at < length names
   pub named : name_at names at ≡ name
   pub of_kind : kind_at names at ≡ kind
-
--- ---- the names of a root table
-
-pub record AreRoot (s : Settings) (names : List Named) : Type 0 where
-  pub placed : ArePlaced names
-  pub ascending : AreAscending names
-  pub children : HaveChildren names
-  pub each : AreRootNames s names
-  pub values : HoldValues s names
 
 -- ---- a path that is added
 
@@ -141,19 +135,22 @@ pub record IsAdded (old new : List Named) (text value : List ℕ) (directory : �
   pub more : List Named
   pub path : Named
   pub whole : new ≡ old ++ (more ++ path ∷ [])
-  pub directories : (k : ℕ) → k < length more → IsNewDirectory text (named more k)
+  pub directories : All (IsNewDirectory text) more
   pub is_path : IsNewPath text value path
   pub lies : IsDirectoryAt new text directory
   pub innermost : (i : ℕ) → IsSlash text i → i < length (name_at new directory)
 
--- the names of a root table: `/`, `.locks` where there are locks, the paths that have a value and their directories
-pub record AreNamesOf (s : Settings) (names : List Named) : Type 0 where
+-- the names of a root table, as far as these paths go: `/`, `.locks` where there are locks, paths that have a value and their directories
+pub record AreNamesWith (s : Settings) (names : List Named) (paths : List (List ℕ)) : Type 0 where
   pub good : AreGood names
   pub each : AreRootNames s names
   pub values : HoldValues s names
-  pub keys : (path : List ℕ) → IsTrue (contains_key s.values path) → IsThere names path value_kind
+  pub keys : All (λ path. IsThere names path value_kind) paths
   pub top : IsThere names (codes "/") list_kind
   pub locks : HasLocks s → IsThere names (codes ".locks") table_kind
+
+abbrev pub AreNamesOf : Settings → List Named → Type 0
+AreNamesOf s names = AreNamesWith s names (keys s.values)
 
 -- ---- the names of a table of locks
 

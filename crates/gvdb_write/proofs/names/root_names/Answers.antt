@@ -1,4 +1,4 @@
-use Rattle.std.proofs.Common.{◌≡◌, ℕ, List, [], ◌∷◌, ◌++◌, codes, sym, ap, ◌∙◌, subst}
+use Rattle.std.proofs.Common.{rules, ◌≡◌, ℕ, List, ◌∷◌, length, codes, sym, ap, ◌∙◌, subst}
 use Rattle.std.specs.FinMap.{keys}
 use Rattle.dconf_model.specs.Settings.{Settings}
 use Rattle.dconf_model.specs.Table.{list_kind, table_kind}
@@ -9,8 +9,8 @@ use Rattle.gvdb_write.specs.Maps.{AreKeyPaths, ArePaths, paths_of}
 use Rattle.gvdb_write.proofs.HeldEntries.{first_path, first_is_path, first_value, rest_held}
 use Rattle.gvdb_write.proofs.KeysRise.{are_settings}
 use Rattle.gvdb_write.proofs.PathTexts.{text_of_key}
-use Rattle.gvdb_write.proofs.RootNames.{AreNamesSoFar, IsMost, next_beyond, names_more}
-use Rattle.gvdb_write.proofs.RootStart.{IsTopName, is_top, vec_counted, as_said, start_without, start_with, all_names, some_lock, no_lock}
+use Rattle.gvdb_write.proofs.RootNames.{AreNamesSoFar, IsMost, next_beyond, names_more, all_names}
+use Rattle.gvdb_write.proofs.RootStart.{is_top, AreBeforeSlash, none_before, locks_before, start, some_lock, no_lock}
 use Rattle.gvdb_write.proofs.names.root_names.Goals as goal
 use Rattle.gvdb_write.proofs.names.root_names.Goals.{then-is_some+in_ok-push, else-is_some}
 
@@ -22,35 +22,24 @@ loop-path-init c =
     let same = ap (λ e. entries_left e) c.into_iter-path-iterator.ensures.into_iter_gives in
     let left : paths_of (entries_left c.into_iter-path-iterator.result) ≡ keys s.values = ap paths_of same ∙ c.entries-path-items.ensures.paths in
     let held : AreHeld s.values (entries_left c.into_iter-path-iterator.result) = subst (λ (es : List (List ℕ × List ℕ)). AreHeld s.values es) (sym same) c.entries-path-items.ensures.held in
-    let is_slash : IsTopName slash (codes "/") list_kind = is_top slash (codes "/") list_kind c.top-2.ensures.hash c.top-2.ensures.from c.top-2.ensures.entry in
-    elim c.if-is_some.branch [
+    let before : AreBeforeSlash s c.if-is_some.names.items = elim c.if-is_some.branch [
       | then-is_some+in_ok-push w ↦
-          let locks : Named = w.top.result in
-          let first : c.if-is_some.names.items ≡ locks ∷ [] =
-          ap (λ v. v.items) w.names-is ∙ (w.in_ok-push.ensures.items ∙ ap (λ (l : List Named). l ++ locks ∷ []) c.new-names.ensures.items) in
-          record {
-            last = codes "/";
-            so_far =
-                as_said s (locks ∷ slash ∷ []) _ 1 _ (codes "/") _ _ (c.in_ok-push-2.ensures.items ∙ ap (λ (l : List Named). l ++ slash ∷ []) first)
-                (c.len-directory.ensures ∙ vec_counted c.if-is_some.names (locks ∷ []) first) left
-                (start_with s paths slash is_slash locks (is_top locks (codes ".locks") table_kind w.top.ensures.hash w.top.ensures.from w.top.ensures.entry)
-                (some_lock s _ _ c.next.result c.locks.ensures c.next.ensures.steps (sym w.if-is_some.ensures)));
-            held = held;
-          }
-      | else-is_some w ↦
-          let first : c.if-is_some.names.items ≡ [] = ap (λ v. v.items) w.names-is ∙ c.new-names.ensures.items in
-          record {
-            last = codes "/";
-            so_far =
-                as_said s (slash ∷ []) _ 0 _ (codes "/") _ _ (c.in_ok-push-2.ensures.items ∙ ap (λ (l : List Named). l ++ slash ∷ []) first)
-                (c.len-directory.ensures ∙ vec_counted c.if-is_some.names [] first) left
-                (start_without s paths slash is_slash (no_lock s _ _ c.next.result c.locks.ensures c.next.ensures.steps (sym w.if-is_some.ensures)));
-            held = held;
-          }
-    ]
+          rw (w.names-is, w.in_ok-push.ensures.items, c.new-names.ensures.items)
+          (locks_before s w.top.result (is_top w.top.result (codes ".locks") table_kind w.top.ensures.hash w.top.ensures.from w.top.ensures.entry)
+          (some_lock s _ _ c.next.result c.locks.ensures c.next.ensures.steps (sym w.if-is_some.ensures)))
+      | else-is_some w ↦ rw (w.names-is, c.new-names.ensures.items) (none_before s (no_lock s _ _ c.next.result c.locks.ensures c.next.ensures.steps (sym w.if-is_some.ensures)))
+    ] in
+    let counted : c.len-directory.result ≡ length c.if-is_some.names.items = search rules in
+    record {
+      last = codes "/";
+      so_far =
+          rw (c.in_ok-push-2.ensures.items, counted, left)
+          (start s c.if-is_some.names.items slash before (is_top slash (codes "/") list_kind c.top-2.ensures.hash c.top-2.ensures.from c.top-2.ensures.entry) paths);
+      held = held;
+    }
 
 pub innermost-directory-requires-clause-placed : goal.innermost-directory-requires-clause-placed
-innermost-directory-requires-clause-placed c = subst (λ (l : List Named). ArePlaced l) (sym c.deref.ensures.value) c.loop-path.invariant.so_far.good.placed
+innermost-directory-requires-clause-placed c = subst (λ (l : List Named). ArePlaced l) (sym c.deref.ensures.value) c.loop-path.invariant.so_far.of_done.good.placed
 
 pub innermost-directory-requires-clause-first : goal.innermost-directory-requires-clause-first
 innermost-directory-requires-clause-first c =
