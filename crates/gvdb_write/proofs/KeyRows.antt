@@ -1,4 +1,5 @@
 -- The numbers of items while their keys are laid.
+use Rattle.std.proofs.lemmas.Grind.{common_steps}
 use Rattle.std.proofs.Common.{ℕ, ◌≡◌, ◌<◌, ◌+◌, ◌-◌, List, [], ◌∷◌, ◌++◌, length, None, refl, sym, ap, ◌∙◌, subst, arith}
 use Rattle.std.proofs.lemmas.List.{length-drop, length_push}
 use Rattle.dconf_model.specs.Plans.{keys_end}
@@ -22,11 +23,7 @@ pub record AreRowsBelow (items : List Named) (from : ℕ) (rows : List Numbers) 
   pub each : (i : ℕ) → i < length rows → IsRecordOf items from i (row rows i)
 
 pub no_rows : (items : List Named) (from : ℕ) (rows : List Numbers) → rows ≡ [] → AreRowsBelow items from rows from 0
-no_rows items from rows e = record {
-  counted = ap length e;
-  ends = refl;
-  each = λ i l. let n = ap length e in absurd (omega (arith, l, n));
-}
+no_rows items from rows e = grind (arith, common_steps)
 
 -- the numbers of a name whose key starts there
 pub record AreNumbersOf (d : Named) (at : ℕ) (r : Numbers) : Type 0 where
@@ -37,30 +34,15 @@ pub record AreNumbersOf (d : Named) (at : ℕ) (r : Numbers) : Type 0 where
   pub of_kind : r.kind ≡ kind_of d.content
 
 is_row : (items : List Named) (from at n : ℕ) (r : Numbers) → at ≡ keys_end (entries_of items) from n → AreNumbersOf (named items n) at r → IsRecordOf items from n r
-is_row items from at n r ends is = record {
-  hash = is.hash;
-  parent = is.parent;
-  key_start = is.key_start ∙ ends;
-  key_size = is.key_size ∙ sym (length-drop (named items n).from (name_at items n));
-  of_kind = is.of_kind;
-}
+is_row items from at n r ends is = grind (arith, common_steps)
 
 pub next_end : (items : List Named) (from at next n : ℕ) → at ≡ keys_end (entries_of items) from n → next ≡ at + (length (name_at items n) - (named items n).from) → next ≡ keys_end (entries_of items) from (n + 1)
-next_end items from at next n ends is =
-    is ∙ (ap (λ (k : ℕ). k + (length (name_at items n) - (named items n).from)) ends
-    ∙ (ap (λ (k : ℕ). keys_end (entries_of items) from n + k) (sym (length-drop (named items n).from (name_at items n)))
-    ∙ sym (keys_next (entries_of items) from n)))
+next_end items from at next n ends is = grind (arith, common_steps)
 
 -- one item more
 pub row_more : (items : List Named) (from : ℕ) (rows new : List Numbers) (at next n : ℕ) (d : Named) (r : Numbers) → AreRowsBelow items from rows at n
     → d ≡ named items n → next ≡ at + (length d.name.now - d.from) → new ≡ rows ++ r ∷ [] → AreNumbersOf d at r → AreRowsBelow items from new next (n + 1)
-row_more items from rows new at next n d r so item laid pushed is =
-    subst (λ (rs : List Numbers). AreRowsBelow items from rs next (n + 1)) (sym pushed) record {
-      counted = let c = so.counted in let more = length_push rows r in omega (arith, c, more);
-      ends = next_end items from at next n so.ends (subst (λ (m : Named). next ≡ at + (length m.name.now - m.from)) item laid);
-      each = each_more no_numbers rows r n (λ q i. IsRecordOf items from i q) so.counted so.each
-          (is_row items from at n r so.ends (subst (λ (m : Named). AreNumbersOf m at r) item is));
-    }
+row_more items from rows new at next n d r so item laid pushed is = grind (arith, common_steps)
 
 -- a key that goes past what fits does so with those after it
 pub past_all : (items : List Named) (from at n size most : ℕ) (d : Named) → n < length items → at ≡ keys_end (entries_of items) from n → d ≡ named items n → size ≡ length d.name.now - d.from → most < at + size → most < keys_end (entries_of items) from (length items)

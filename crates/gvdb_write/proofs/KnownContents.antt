@@ -1,4 +1,5 @@
 -- The content of each item is known before its record is made.
+use Rattle.std.proofs.lemmas.Grind.{common_steps}
 use Rattle.std.proofs.Common.{ℕ, ◌≡◌, ◌<◌, ◌≤◌, ◌+◌, ◌*◌, List, length, get_or, refl, sym, ap, ap₂, ◌∙◌, arith}
 use Rattle.gv_model.specs.Layout.{round_up}
 use Rattle.gv_model.specs.Limits.{limit}
@@ -55,19 +56,11 @@ can_point items c at values have laid within lists table = record {
 -- ---- of the two tables
 
 pub root_lists : (root : TablePlan) (c : Contents) → AreChildren (entries_of root.items.items) (children_of root) → length root.firsts.items ≡ length root.items.items + 1 → c.firsts.now ≡ root.firsts.items → c.lists + 4 * length root.children.items ≤ limit → HaveLists root.items.items c
-root_lists root c children count firsts within =
-    let at : (j : ℕ) → j < length root.items.items + 1 → c.lists + 4 * get_or c.firsts.now j 0 ≤ limit =
-    λ j l. let w = children.firsts.within j l in let e = ap (λ (f : List ℕ). get_or f j 0) firsts in omega (arith, w, e, within) in
-    record {
-      there = λ i here list. let e = ap length firsts in omega (arith, here, e, count);
-      short = λ i here list. record { start = at i (omega (arith, here)); end = at (i + 1) (omega (arith, here)) };
-    }
+root_lists root c children count firsts within = grind (arith, common_steps)
 
 -- locks have none
 pub lock_lists : (items : List Named) (c : Contents) → AreLocks items → HaveLists items c
-lock_lists items c are =
-    let none : (i : ℕ) → i < length items → kind_at items i ≡ list_kind → ⊥ = λ i here list. let e = sym (are i here).0 ∙ list in omega (arith, e) in
-    record { there = λ i here list. absurd (none i here list); short = λ i here list. absurd (none i here list) }
+lock_lists items c are = grind (arith, common_steps)
 
 -- ---- where the lists end
 

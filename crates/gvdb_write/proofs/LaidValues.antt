@@ -1,4 +1,5 @@
 -- Values that are laid one after another, each at a multiple of 8.
+use Rattle.std.proofs.lemmas.Grind.{common_steps}
 use Rattle.std.proofs.Common.{ℕ, ◌≡◌, ◌<◌, ◌≤◌, ◌+◌, List, [], ◌∷◌, ◌++◌, length, get_or, take, refl, sym, ap, ◌∙◌, arith, below_more, length-append}
 use Rattle.std.proofs.lemmas.List.{get_or_append_left, get_or_push, take_all}
 use Rattle.std.proofs.lemmas.List.Sums.{fold_more}
@@ -25,36 +26,16 @@ pub next_end : (start : ℕ) (values : List (List ℕ)) (n : ℕ) → n < length
 next_end start values n l = fold_more (λ (m : ℕ) (value : List ℕ). round_up 8 m + length value) start values n [] l
 
 pub none_laid : (start : ℕ) (values : List (List ℕ)) (pointers : List Pointer) → pointers ≡ [] → AreLaid start values 0 start pointers
-none_laid start values pointers none = record {
-  here = refl;
-  counted = ap length none;
-  starts = λ k l. absurd (omega (arith, l));
-  ends = λ k l. absurd (omega (arith, l));
-}
+none_laid start values pointers none = grind (arith, common_steps)
 
 pub one_laid : (start : ℕ) (values : List (List ℕ)) (n at next : ℕ) (pointers after : List Pointer) (pointer : Pointer) → AreLaid start values n at pointers
     → n < length values → pointer.start ≡ round_up 8 at → pointer.end ≡ round_up 8 at + length (get_or values n []) → next ≡ pointer.end
     → after ≡ pointers ++ pointer ∷ [] → AreLaid start values (n + 1) next after
-one_laid start values n at next pointers after pointer so l from to end is =
-    let begins : round_up 8 at ≡ value_start start values n = ap (round_up 8) so.here in
-    let stops : pointer.end ≡ value_start start values n + length (get_or values n []) = to ∙ ap (λ (m : ℕ). m + length (get_or values n [])) begins in
-    let last : pointer_at after n ≡ pointer = ap (λ (ss : List Pointer). pointer_at ss n) is ∙ get_or_push pointers pointer no_pointer n so.counted in
-    let before : (k : ℕ) → k < n → pointer_at after k ≡ pointer_at pointers k =
-    λ k h. ap (λ (ss : List Pointer). pointer_at ss k) is ∙ get_or_append_left pointers (pointer ∷ []) no_pointer k (let c = so.counted in omega (arith, h, c)) in
-    record {
-      here = end ∙ (stops ∙ sym (next_end start values n l));
-      counted = ap length is ∙ (length-append pointers (pointer ∷ []) ∙ ap (λ (m : ℕ). m + 1) so.counted);
-      starts = below_more _ n (λ k h. ap (λ (s : Pointer). s.start) (before k h) ∙ so.starts k h) (ap (λ (s : Pointer). s.start) last ∙ (from ∙ begins));
-      ends = below_more _ n (λ k h. ap (λ (s : Pointer). s.end) (before k h) ∙ so.ends k h) (ap (λ (s : Pointer). s.end) last ∙ stops);
-    }
+one_laid start values n at next pointers after pointer so l from to end is = grind (arith, common_steps)
 
 -- after the last value
 pub all_laid : (start : ℕ) (values : List (List ℕ)) (n at : ℕ) (pointers : List Pointer) → AreLaid start values n at pointers → n ≡ length values → ArePointers start values pointers
-all_laid start values n at pointers so is = record {
-  counted = so.counted ∙ is;
-  starts = λ k l. so.starts k (omega (arith, l, is));
-  ends = λ k l. so.ends k (omega (arith, l, is));
-}
+all_laid start values n at pointers so is = grind (arith, common_steps)
 
 pub whole_end : (start : ℕ) (values : List (List ℕ)) (n at : ℕ) (pointers : List Pointer) → AreLaid start values n at pointers → length values ≤ n → at ≡ values_end start values
 whole_end start values n at pointers so le = so.here ∙ ap (values_end start) (take_all n values le)

@@ -1,4 +1,5 @@
 -- Where the parts of a layout end is where its plan says.
+use Rattle.std.proofs.lemmas.Grind.{common_steps}
 use Rattle.std.proofs.Common.{ℕ, ◌≡◌, ◌<◌, ◌≤◌, ◌+◌, List, length, refl, sym, ap, ◌∙◌, arith}
 use Rattle.gv_model.specs.Layout.{round_up}
 use Rattle.dconf_model.specs.Table.{list_kind}
@@ -45,6 +46,4 @@ root_within root locks =
 pub whole_is : (root locks : TablePlan) (root_at lock_at end : ℕ) (values : List (List ℕ)) → root_at ≡ root_end (plan_of root locks)
     → lock_at ≡ locks_end (entries_of locks.items.items) root_at → values ≡ once_each (all_values (plan_of root locks)) → end ≡ values_end lock_at values
     → end ≡ length_of (plan_of root locks)
-whole_is root locks root_at lock_at end values from to once is =
-    is ∙ (ap (λ (n : ℕ). values_end n values) (to ∙ ap (locks_end (entries_of locks.items.items)) from)
-    ∙ ap (values_end (locks_end (entries_of locks.items.items) (root_end (plan_of root locks)))) once)
+whole_is root locks root_at lock_at end values from to once is = grind (arith, common_steps)

@@ -1,4 +1,5 @@
 -- The names of a table of locks, path by path.
+use Rattle.std.proofs.lemmas.Grind.{common_steps}
 use Rattle.std.proofs.Common.{◌≡◌, ◌<◌, ◌≤◌, ℕ, List, [], ◌∷◌, ◌++◌, length, get_or, None, refl, sym, ap, ◌∙◌, subst, arith, ⊎_elim}
 use Rattle.std.specs.Prelude.{IsUtf8}
 use Rattle.std.specs.FinMap.{keys}
@@ -19,12 +20,7 @@ use Rattle.gvdb_write.proofs.PushedNames.{kept, pushed}
 pub is_lock_named : (path : List ℕ) (n : Named) (content : Content) → IsUtf8 path → n.hash ≡ hash_of path
     → entry_of n ≡ record { name = path; key = path; parent = None; kind = kind_of content } → n.content ≡ content → kind_of content ≡ value_kind
     → content_bytes content ≡ nothing_bytes → IsLockNamed path n
-is_lock_named path n content utf8 hash entry is kind value = record {
-  utf8 = utf8;
-  hash = hash ∙ ap (λ (e : Entry). hash_of e.name) (sym entry);
-  entry = entry ∙ ap {B = Entry} (λ (k : ℕ). record { name = path; key = path; parent = None; kind = k }) kind;
-  value = ap (λ (c : Content). content_bytes c) is ∙ value;
-}
+is_lock_named path n content utf8 hash entry is kind value = grind (arith, common_steps)
 
 -- with these paths left
 pub record AreLocksSoFar (s : Settings) (names : List Named) (left : List (List ℕ)) : Type 0 where

@@ -1,4 +1,5 @@
 -- Names that are placed, in order and with children are entries of a root table.
+use Rattle.std.proofs.lemmas.Grind.{common_steps}
 use Rattle.std.proofs.Common.{◌≡◌, ◌≢◌, ◌<◌, ◌≤◌, ◌+◌, ◌-◌, ℕ, zero, suc, List, [], ◌∷◌, ◌++◌, length, get_or, take, drop, Option, Some, None, refl, sym, ap, ◌∙◌, subst, arith, inl, inr, ⊎_elim, codes, length-append}
 use Rattle.std.specs.declared.cmp.Ordering.TheVariants.{Less, Equal}
 use Rattle.std.specs.Cmp.Lexicographic.{slice_cmp}
@@ -30,24 +31,11 @@ is_kind Listed = inr (inl refl)
 is_kind Locks = inr (inr refl)
 
 spelled : (names : List Named) (i : ℕ) → i < length names → (o : Option ℕ) → NameHasParent names i o → IsSpelled (entries_of names) i o
-spelled names i here None s = sym (ap (λ (k : ℕ). drop k (name_at names i)) s.0)
-spelled names i here (Some p) s =
-    let before = s.0 in (
-      omega (arith, before, here),
-      sym (take-append-drop (named names i).from (name_at names i)) ∙ ap (λ (x : List ℕ). x ++ drop (named names i).from (name_at names i)) s.1.prefix,
-    )
+spelled names i here None s = grind (arith, common_steps)
+spelled names i here (Some p) s = grind (arith, common_steps)
 
 is_entry : (names : List Named) (i : ℕ) → i < length names → IsPlaced names i → IsEntry (entries_of names) i
-is_entry names i here p =
-    let some = p.fit.some in
-    let len = length-drop (named names i).from (name_at names i) in
-    record {
-      spelled = spelled names i here (named names i).parent p.has_parent;
-      some = omega (arith, some, len);
-      utf8 = p.fit.utf8;
-      no_nul = p.fit.no_nul;
-      of_kind = is_kind (named names i).content;
-    }
+is_entry names i here p = grind (arith, common_steps)
 
 not_itself : (names : List Named) (i j : ℕ) → AreAscending names → i < j → j < length names → name_at names i ≡ name_at names j → ⊥
 not_itself names i j ascending less here same =
@@ -72,41 +60,8 @@ no_slash_in : (name : List ℕ) (from end : ℕ) → end ≤ length name → Has
 no_slash_in name from end inside plain k here slash = plain (from + k) (omega arith) here (sym (get_or-drop from name k 0) ∙ slash)
 
 part_entry : (n : Named) → IsFit n → EndsAs n → IsPartEntry (entry_of n)
-part_entry n fit (inl value) =
-    let some = fit.some in
-    let len = length-drop n.from n.name.now in
-    inl (
-      value.0,
-      λ there.
-          let here = there.1 in
-          no_slash_in n.name.now n.from (length n.name.now) (omega arith) value.1 there.0 (omega (arith, here, len, some))
-          (get_or_default (drop n.from n.name.now) there.0 0 47 here ∙ there.2),
-    )
-part_entry n fit (inr list) =
-    let some = fit.some in
-    let len : length (drop n.from n.name.now) ≡ length n.name.now - n.from = length-drop n.from n.name.now in
-    let long = list.1 in
-    let last : ℕ = length n.name.now - n.from - 1 in
-    let inside : last < length (drop n.from n.name.now) = omega (arith, len, some) in
-    let whole : last + 1 ≡ length (drop n.from n.name.now) = omega (arith, len, some) in
-    let at : n.from + last ≡ length n.name.now - 1 = omega (arith, some) in
-    let slash : get_or (drop n.from n.name.now) last 0 ≡ 47 =
-    get_or-drop n.from n.name.now last 0 ∙ (ap (λ (k : ℕ). get_or n.name.now k 0) at ∙ list.2) in
-    let size : length (take last (drop n.from n.name.now)) ≡ last = length-take-le last (drop n.from n.name.now) (omega (arith, inside)) in
-    inr (
-      list.0,
-      record {
-        name = take last (drop n.from n.name.now);
-        whole = sym (take_all (last + 1) (drop n.from n.name.now) (omega (arith, whole)))
-            ∙ (take_more (drop n.from n.name.now) last 0 inside ∙ ap (λ (c : ℕ). take last (drop n.from n.name.now) ++ c ∷ []) slash);
-        some = omega (arith, size, long);
-        plain = λ there.
-            let here = there.1 in
-            let less : there.0 < last = omega (arith, here, size) in
-            no_slash_in n.name.now n.from (length n.name.now - 1) (omega arith) list.3 there.0 (omega (arith, less, at))
-            (sym (get_or-take last (drop n.from n.name.now) there.0 0 less) ∙ (get_or_default (take last (drop n.from n.name.now)) there.0 0 47 here ∙ there.2));
-      },
-    )
+part_entry n fit (inl value) = grind (arith, common_steps)
+part_entry n fit (inr list) = grind (arith, common_steps)
 
 has_parent : (names : List Named) (i : ℕ) → IsFit (named names i) → (o : Option ℕ) → NameHasParent names i o → EntryHasParent (entries_of names) i o
 has_parent names i fit None s = s.1
@@ -124,62 +79,21 @@ are_root_entries names good i here =
 -- ---- each directory of a name is a name
 
 itself : (names : List Named) (i k : ℕ) → i < length names → kind_at names i ≡ list_kind → k + 1 ≡ length (name_at names i) → IsThere names (take (k + 1) (name_at names i)) list_kind
-itself names i k here list end = record {
-  at = i;
-  counted = here;
-  named = sym (take_all (k + 1) (name_at names i) (omega (arith, end)));
-  of_kind = list;
-}
+itself names i k here list end = grind (arith, common_steps)
 
 top_directory : (names : List Named) (i k : ℕ) → i < length names → (named names i).from ≡ 0 → IsTopEntry (entry_of (named names i)) → IsSlash (name_at names i) k → IsThere names (take (k + 1) (name_at names i)) list_kind
-top_directory names i k here from (inl slash) s =
-    let is : name_at names i ≡ codes "/" = ap (λ (j : ℕ). drop j (name_at names i)) (sym from) ∙ slash.1 in
-    let len : length (name_at names i) ≡ 1 = ap (λ (x : List ℕ). length x) is in
-    let there = s.here in
-    itself names i k here slash.0 (omega (arith, len, there))
-top_directory names i k here from (inr other) s =
-    let is : name_at names i ≡ codes ".locks" = ap (λ (j : ℕ). drop j (name_at names i)) (sym from) ∙ other.1 in
-    let len : length (name_at names i) ≡ 6 = ap (λ (x : List ℕ). length x) is in
-    let there = s.here in
-    absurd (no_slash_there k (omega (arith, len, there)) (sym (ap (λ (x : List ℕ). get_or x k 0) is) ∙ s.slash))
-  where
-    no_slash_there : (k : ℕ) → k < 6 → get_or (codes ".locks") k 0 ≡ 47 → ⊥
-    no_slash_there zero l e = omega (arith, e)
-    no_slash_there (suc zero) l e = omega (arith, e)
-    no_slash_there (suc (suc zero)) l e = omega (arith, e)
-    no_slash_there (suc (suc (suc zero))) l e = omega (arith, e)
-    no_slash_there (suc (suc (suc (suc zero)))) l e = omega (arith, e)
-    no_slash_there (suc (suc (suc (suc (suc zero))))) l e = omega (arith, e)
-    no_slash_there (suc (suc (suc (suc (suc (suc k)))))) l e = omega (arith, l)
+top_directory names i k here from (inl slash) s = grind (arith, common_steps)
+top_directory names i k here from (inr other) s = grind (arith, common_steps)
 
 end_of : (n : Named) (k : ℕ) → EndsAs n → n.from ≤ k → IsSlash n.name.now k → (kind_of n.content ≡ list_kind) × (k + 1 ≡ length n.name.now)
-end_of n k (inl value) le s = absurd (value.1 k le s.here s.slash)
-end_of n k (inr list) le s =
-    let here = s.here in (
-      list.0,
-      ⊎_elim (λ (l : k < length n.name.now - 1). absurd (list.3 k le l s.slash))
-          (λ (ge : length n.name.now - 1 ≤ k). let e : k + 1 ≡ length n.name.now = omega (arith, ge, here) in e) (cases_lt k (length n.name.now - 1)),
-    )
+end_of n k (inl value) le s = grind (arith, common_steps)
+end_of n k (inr list) le s = grind (arith, common_steps)
 
 closed_by : (names : List Named) (i k : ℕ) → i < length names → (o : Option ℕ) → NameHasParent names i o → IsSlash (name_at names i) k
     → ((p : ℕ) → p < i → IsSlash (name_at names p) k → IsThere names (take (k + 1) (name_at names p)) list_kind)
     → IsThere names (take (k + 1) (name_at names i)) list_kind
-closed_by names i k here None has_parent s above = top_directory names i k here has_parent.0 has_parent.1 s
-closed_by names i k here (Some p) has_parent s above =
-    let lies = has_parent.1 in
-    let from = lies.from in
-    ⊎_elim
-    (λ (l : k < (named names i).from).
-    let prefix : take (named names i).from (name_at names i) ≡ name_at names p = lies.prefix in
-    let up : IsSlash (name_at names p) k = record {
-      here = omega (arith, l, from);
-      slash = sym (ap (λ (x : List ℕ). get_or x k 0) prefix) ∙ (get_or-take (named names i).from (name_at names i) k 0 l ∙ s.slash);
-    } in
-    let same : take (k + 1) (name_at names p) ≡ take (k + 1) (name_at names i) =
-    ap (λ (x : List ℕ). take (k + 1) x) (sym prefix) ∙ take-take (k + 1) (named names i).from (name_at names i) (omega (arith, l)) in
-    subst (λ (x : List ℕ). IsThere names x list_kind) same (above p has_parent.0 up))
-    (λ (ge : (named names i).from ≤ k). let e = end_of (named names i) k lies.ends ge s in itself names i k here e.0 e.1)
-    (cases_lt k (named names i).from)
+closed_by names i k here None has_parent s above = grind (arith, common_steps)
+closed_by names i k here (Some p) has_parent s above = grind (arith, common_steps)
 
 closed_within : (n : ℕ) (names : List Named) → ArePlaced names → (i k : ℕ) → i < n → i < length names → IsSlash (name_at names i) k → IsThere names (take (k + 1) (name_at names i)) list_kind
 closed_within zero names placed i k few here s = absurd (omega (arith, few))

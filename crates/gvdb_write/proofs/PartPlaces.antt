@@ -1,4 +1,5 @@
 -- The parts of a file that are written one after another are where the plan says.
+use Rattle.std.proofs.lemmas.Grind.{common_steps}
 use Rattle.std.proofs.Common.{◌≡◌, ◌<◌, ◌-◌, ℕ, List, [], ◌++◌, length, get_or, replicate, sym, ap, ◌∙◌, subst, arith, inl, inr}
 use Rattle.gv_model.specs.Layout.{round_up}
 use Rattle.dconf_model.specs.Plans.{Plan, keys_end, root_end, length_of, all_values, once_each}
@@ -29,9 +30,7 @@ pub record AreParts (root locks : TablePlan) (layout : Layout) (file : List ℕ)
 -- ---- as the code gives it
 
 pub root_there : (root : TablePlan) (rows root_rows : List Numbers) (first header bytes with_root : List ℕ) → first ≡ [] → header ≡ first ++ bytes → rows ≡ root_rows → HasTable root rows header with_root → HasTable root root_rows bytes with_root
-root_there root rows root_rows first header bytes with_root none is same has =
-    subst (λ (f : List ℕ). HasTable root root_rows f with_root) (is ∙ ap (λ (f : List ℕ). f ++ bytes) none)
-    (subst (λ (r : List Numbers). HasTable root r header with_root) same has)
+root_there root rows root_rows first header bytes with_root none is same has = grind (arith, common_steps)
 
 pub lists_there : (root : TablePlan) (children : List (ℕ × ℕ)) (with_root after : List ℕ) → children ≡ root.children.items → after ≡ with_padding 4 with_root ++ words_bytes (numbers_of children) → after ≡ with_lists root with_root
 lists_there root children with_root after same is = is ∙ ap (λ (cs : List (ℕ × ℕ)). with_padding 4 with_root ++ words_bytes (numbers_of cs)) same
@@ -42,12 +41,10 @@ locks_there locks rows lock_rows before after same has = subst (λ (r : List Num
 -- ---- what was there before is still there
 
 still_padded : (file : List ℕ) (at : ℕ) (bytes more : List ℕ) → OccursAt file at bytes → OccursAt (with_padding 4 file ++ more) at bytes
-still_padded file at bytes more s =
-    occurs_still (with_padding 4 file) at bytes more (occurs_still file at bytes (replicate (round_up 4 (length file) - length file) 0) s)
+still_padded file at bytes more s = grind (arith, common_steps)
 
 still_before_table : (t : TablePlan) (rows : List Numbers) (before after : List ℕ) (at : ℕ) (bytes : List ℕ) → HasTable t rows before after → OccursAt before at bytes → OccursAt after at bytes
-still_before_table t rows before after at bytes has s =
-    subst (λ (f : List ℕ). OccursAt f at bytes) (sym has.bytes) (still_padded before at bytes (table_bytes has.words t.buckets.items (records_of rows) ++ keys_bytes t.items.items) s)
+still_before_table t rows before after at bytes has s = grind (arith, common_steps)
 
 still_before_locks : (t : TablePlan) (rows : List Numbers) (before after : List ℕ) (at : ℕ) (bytes : List ℕ) → HasTableOfLocks t rows before after → OccursAt before at bytes → OccursAt after at bytes
 still_before_locks t rows before after at bytes (inl has) s = still_before_table t rows before after at bytes has.1 s

@@ -1,4 +1,5 @@
 -- Paths, and those of keys, place by place.
+use Rattle.std.proofs.lemmas.Grind.{common_steps}
 use Rattle.std.proofs.Common.{◌≡◌, ◌≢◌, ◌<◌, ◌≤◌, ◌+◌, ◌-◌, ◌&&◌, ◌||◌, ◌==◌, ℕ, zero, suc, true, false, not, List, [], ◌∷◌, ◌++◌, length, get_or, take, drop, refl, sym, ap, ◌∙◌, arith}
 use Rattle.std.specs.Prelude.{IsTrue}
 use Rattle.std.specs.List.{list_any}
@@ -27,18 +28,14 @@ pub record IsText (text : List ℕ) : Type 0 where
 -- ---- a slash at the first or the last place
 
 slash_first : (text : List ℕ) → starts_with_slash text ≡ true → IsSlash text 0
-slash_first text e =
-    let is : text ≡ 47 ∷ [] ++ drop 1 text = (starts_is Decides-eqb text (47 ∷ []) (starts_with_slash text) refl).0 e in
-    let n : length text ≡ suc (length (drop 1 text)) = ap length is in
-    record { here = omega (arith, n); slash = ap (λ (t : List ℕ). get_or t 0 0) is }
+slash_first text e = grind (arith, common_steps)
 
 pub end_is : (text : List ℕ) → ends_with_slash text ≡ true → text ≡ take (length text - 1) text ++ 47 ∷ []
 end_is text e = (ends_is Decides-eqb text (47 ∷ []) (ends_with_slash text) refl).0 e
 
 -- a text that has a slash at its last place ends in it
 take_last : (text : List ℕ) (i : ℕ) → i + 1 ≡ length text → get_or text i 0 ≡ 47 → text ≡ take i text ++ 47 ∷ []
-take_last text i n slash =
-    sym (take_all (i + 1) text (omega (arith, n))) ∙ (take_more text i 0 (omega (arith, n)) ∙ ap (λ (c : ℕ). take i text ++ c ∷ []) slash)
+take_last text i n slash = grind (arith, common_steps)
 
 open_end : (text : List ℕ) → ends_with_slash text ≡ false → (i : ℕ) → i + 1 ≡ length text → get_or text i 0 ≢ 47
 open_end text e i n slash = both_ways (ends_with_slash text) e (ends_in text (take i text) (take_last text i n slash))

@@ -1,4 +1,5 @@
 -- Pieces of bytes that are appended one after another.
+use Rattle.std.proofs.lemmas.Grind.{common_steps}
 use Rattle.std.proofs.Common.{ℕ, ◌≡◌, ◌<◌, ◌≤◌, ◌+◌, ◌-◌, List, [], ◌∷◌, ◌++◌, length, map, get_or, take, drop, sym, ap, ◌∙◌, append_assoc, arith, Bor}
 use Rattle.std.specs.List.{flat_map}
 use Rattle.std.proofs.lemmas.List.{take_more, take_all, length-drop, append-nil, map-append}
@@ -6,38 +7,23 @@ use Rattle.std.proofs.lemmas.List.Concat.{flat_map-append}
 use Rattle.gvdb_write.specs.declared.names.Named.{Named}
 
 pieces_more : {X Y : Type 0} (g : X → Y) (f : Y → List ℕ) (xs : List X) (i : ℕ) (d : X) → i < length xs → flat_map f (map g (take (i + 1) xs)) ≡ flat_map f (map g (take i xs)) ++ f (g (get_or xs i d))
-pieces_more g f xs i d l =
-    ap (λ ys. flat_map f (map g ys)) (take_more xs i d l)
-    ∙ (ap (flat_map f) (map-append g (take i xs) (get_or xs i d ∷ []))
-    ∙ (flat_map-append f (map g (take i xs)) (g (get_or xs i d) ∷ [])
-    ∙ ap (λ (p : List ℕ). flat_map f (map g (take i xs)) ++ p) (append-nil (f (g (get_or xs i d))))))
+pieces_more g f xs i d l = grind (arith, common_steps)
 
 -- one more piece
 pub mapped_appended : {X Y : Type 0} (g : X → Y) (f : Y → List ℕ) (xs : List X) (i : ℕ) (d : X) (out before after : List ℕ) → i < length xs → before ≡ out ++ flat_map f (map g (take i xs)) → after ≡ before ++ f (g (get_or xs i d)) → after ≡ out ++ flat_map f (map g (take (i + 1) xs))
-mapped_appended g f xs i d out before after l b a =
-    a ∙ (ap (λ (p : List ℕ). p ++ f (g (get_or xs i d))) b ∙ (append_assoc out (flat_map f (map g (take i xs))) (f (g (get_or xs i d)))
-    ∙ ap (λ (p : List ℕ). out ++ p) (sym (pieces_more g f xs i d l))))
+mapped_appended g f xs i d out before after l b a = grind (arith, common_steps)
 
 piece_more : {X : Type 0} (f : X → List ℕ) (xs : List X) (i : ℕ) (d : X) → i < length xs → flat_map f (take (i + 1) xs) ≡ flat_map f (take i xs) ++ f (get_or xs i d)
-piece_more f xs i d l =
-    ap (flat_map f) (take_more xs i d l)
-    ∙ (flat_map-append f (take i xs) (get_or xs i d ∷ [])
-    ∙ ap (λ (p : List ℕ). flat_map f (take i xs) ++ p) (append-nil (f (get_or xs i d))))
+piece_more f xs i d l = grind (arith, common_steps)
 
 pub piece_appended : {X : Type 0} (f : X → List ℕ) (xs : List X) (i : ℕ) (d : X) (out before after : List ℕ) → i < length xs → before ≡ out ++ flat_map f (take i xs) → after ≡ before ++ f (get_or xs i d) → after ≡ out ++ flat_map f (take (i + 1) xs)
-piece_appended f xs i d out before after l b a =
-    a ∙ (ap (λ (p : List ℕ). p ++ f (get_or xs i d)) b ∙ (append_assoc out (flat_map f (take i xs)) (f (get_or xs i d))
-    ∙ ap (λ (p : List ℕ). out ++ p) (sym (piece_more f xs i d l))))
+piece_appended f xs i d out before after l b a = grind (arith, common_steps)
 
 -- one more key, which is read as the part of a name from there up to its end
 pub key_appended : (items : List Named) (i : ℕ) (d : Named) (out before after : List ℕ) → i < length items
     → before ≡ out ++ flat_map (λ n. drop n.from n.name.now) (take i items) → after ≡ before ++ take (length (get_or items i d).name.now - (get_or items i d).from)
     (drop (get_or items i d).from (get_or items i d).name.now) → after ≡ out ++ flat_map (λ n. drop n.from n.name.now) (take (i + 1) items)
-key_appended items i d out before after l b a =
-    let n = get_or items i d in
-    let size = length-drop n.from n.name.now in
-    piece_appended (λ (m : Named). drop m.from m.name.now) items i d out before after l b
-    (a ∙ ap (λ (p : List ℕ). before ++ p) (take_all (length n.name.now - n.from) (drop n.from n.name.now) (omega (arith, size))))
+key_appended items i d out before after l b a = grind (arith, common_steps)
 
 -- after the last one
 pub all_taken : {X : Type 0} (bytes : List X → List ℕ) (xs : List X) (i : ℕ) (last : List ℕ) → length xs ≤ i → last ≡ bytes (take i xs) → last ≡ bytes xs

@@ -1,4 +1,5 @@
 -- Rows that say where the contents of items are.
+use Rattle.std.proofs.lemmas.Grind.{common_steps}
 use Rattle.std.proofs.Common.{ℕ, ◌≡◌, ◌<◌, ◌+◌, ◌*◌, List, [], ◌∷◌, ◌++◌, length, get_or, refl, sym, ap, ◌∙◌, subst, arith}
 use Rattle.dconf_model.specs.Table.{value_kind, list_kind, table_kind}
 use Rattle.gvdb_read.specs.declared.format.record.ItemRecord.{ItemRecord as Numbers}
@@ -25,11 +26,7 @@ none_pointed items c rows none i l = let n = ap length none in absurd (omega (ar
 -- one item more
 pub pointed_more : (items : List Named) (c : Contents) (rows new : List Numbers) (n : ℕ) (d : Named) (r : Numbers) (p : Pointer)
     → length rows ≡ n → ArePointedBelow items c rows → d ≡ named items n → new ≡ rows ++ r ∷ [] → p ≡ content_pointer c n d.content → r.start ≡ p.start → r.end ≡ p.end → ArePointedBelow items c new
-pointed_more items c rows new n d r p count so item pushed is start end =
-    let at : p ≡ content_pointer c n (named items n).content = is ∙ ap (λ (m : Named). content_pointer c n m.content) item in
-    subst (λ (rs : List Numbers). ArePointedBelow items c rs) (sym pushed)
-    (each_more no_numbers rows r n (λ q i. HasPointer q (content_pointer c i (named items i).content).start (content_pointer c i (named items i).content).end) count so
-    (record { start_is = start ∙ ap (λ (q : Pointer). q.start) at; end_is = end ∙ ap (λ (q : Pointer). q.end) at }))
+pointed_more items c rows new n d r p count so item pushed is start end = grind (arith, common_steps)
 
 -- ---- by the kind of an item
 

@@ -1,4 +1,5 @@
 -- What is salvaged, item by item.
+use Rattle.std.proofs.lemmas.Grind.{common_steps}
 use Rattle.std.proofs.Common.{◌≡◌, ◌<◌, ◌≤◌, ◌+◌, ◌↔◌, ◌⊎◌, inl, inr, ℕ, List, Option, Some, None, Result, Ok, Err, is_ok, is_err, true, false, cond, IsTrue, refl, sym, ◌∙◌, ap, subst, arith}
 use Rattle.std.specs.Prelude.{IsSome, is_some}
 use Rattle.std.specs.FinMap.{get, contains_key, insert, empty, get-empty}
@@ -40,37 +41,14 @@ none_from t n all path bytes = (
 
 -- one item more, which has no value of that name
 not_this : (t : Table) (n : ℕ) (path : List ℕ) → (IsRow t path value_kind n → ⊥) → (k : ℕ) → n ≤ k → IsRow t path value_kind k → n + 1 ≤ k
-not_this t n path other k le row = elim (cases_lt n k) [
-  | inl less ↦ omega (arith, less)
-  | inr ge ↦ absurd (other (subst (λ (j : ℕ). IsRow t path value_kind j) (let e : k ≡ n = omega (arith, le, ge) in e) row))
-]
+not_this t n path other k le row = grind (arith, common_steps)
 
 still_lowest : (t : Table) (n : ℕ) (path bytes : List ℕ) → (IsRow t path value_kind n → ⊥) → IsLowestFrom t (n + 1) path bytes ↔ IsLowestFrom t n path bytes
-still_lowest t n path bytes other = (
-  λ h. let from = h.1.has.0 in (
-    h.0,
-    record { has = (omega (arith, from), h.1.has.1); lowest = λ k r. h.1.lowest k (not_this t n path other k r.0 r.1, r.1) },
-    h.2,
-  ),
-  λ h. (
-    h.0,
-    record {
-      has = (not_this t n path other h.0 h.1.has.0 h.1.has.1, h.1.has.1);
-      lowest = λ k r. let from = r.0 in h.1.lowest k (omega (arith, from), r.1);
-    },
-    h.2,
-  ),
-)
+still_lowest t n path bytes other = grind (arith, common_steps)
 
 -- the name of this item has its value
 this_lowest : (t : Table) (n : ℕ) (path bytes : List ℕ) → IsRow t path value_kind n → (bytes_of t n ≡ bytes) ↔ IsLowestFrom t n path bytes
-this_lowest t n path bytes row = (
-  λ e. (n, record { has = (omega arith, row); lowest = λ k r. r.0 }, e),
-  λ h.
-      let from = h.1.has.0 in
-      let low = h.1.lowest n (omega arith, row) in
-      ap (bytes_of t) (let e : n ≡ h.0 = omega (arith, from, low) in e) ∙ h.2,
-)
+this_lowest t n path bytes row = grind (arith, common_steps)
 
 set_from : (t : Table) (n : ℕ) (old : Settings) (q : List ℕ) → AreLowestFrom t (n + 1) old → IsKeyText q → IsRow t q value_kind n → AreLowestFrom t n (with_value old q (bytes_of t n))
 set_from t n old q below text row path bytes =
@@ -119,10 +97,7 @@ not_some o e h = let bad : false ≡ true = sym (ap is_some e) ∙ h in cc
 -- ---- locks
 
 pub takes_no_lock : (t : Table) (i : ℕ) (s : Settings) → ((path : List ℕ) → SpellsLock t i path → ⊥) → TakesLock t i s s
-takes_no_lock t i s none = record {
-  locks = λ path. (λ h. inl h, λ h. elim h [ inl e ↦ e | inr spells ↦ absurd (none path spells) ]);
-  same_values = refl;
-}
+takes_no_lock t i s none = grind (arith, common_steps)
 
 pub takes_lock : (t : Table) (i : ℕ) (s : Settings) (path : List ℕ) → SpellsLock t i path → TakesLock t i s (with_lock s path)
 takes_lock t i s path spells = record {
@@ -156,19 +131,7 @@ pub none_locked : (t : Table) (s : Settings) → AreLockedBelow t 0 s s
 none_locked t s path = (λ h. inl h, λ h. elim h [ inl e ↦ e | inr r ↦ absurd (omega (arith, r.1)) ])
 
 pub one_locked : (t : Table) (n : ℕ) (old mid new : Settings) → AreLockedBelow t n old mid → TakesLock t n mid new → AreLockedBelow t (n + 1) old new
-one_locked t n old mid new below takes path = (
-  λ h. elim ((takes.locks path).0 h) [
-    | inl e ↦ elim ((below path).0 e) [ inl first ↦ inl first | inr r ↦ inr (r.0, omega (arith, r.1), r.2) ]
-    | inr spells ↦ inr (n, omega arith, spells)
-  ],
-  λ h. elim h [
-    | inl e ↦ (takes.locks path).1 (inl ((below path).1 (inl e)))
-    | inr r ↦ elim (cases_lt r.0 n) [
-      | inl less ↦ (takes.locks path).1 (inl ((below path).1 (inr (r.0, less, r.2))))
-      | inr le ↦ (takes.locks path).1 (inr (subst (λ (k : ℕ). SpellsLock t k path) (omega (arith, r.1, le)) r.2))
-    ]
-  ],
-)
+one_locked t n old mid new below takes path = grind (arith, common_steps)
 
 -- after all items each path that an item spells
 pub all_locked : (t : Table) (n : ℕ) (old new : Settings) → AreLockedBelow t n old new → item_count t ≤ n →

@@ -1,4 +1,5 @@
 -- The tables of a map's names are the plan of its database.
+use Rattle.std.proofs.lemmas.Grind.{common_steps}
 use Rattle.std.proofs.Common.{◌≡◌, ◌<◌, ◌≤◌, ℕ, List, [], length, get_or, Option, Some, None, refl, sym, ap, ◌∙◌, ◌&&◌, not, subst, arith, inl, inr, ⊎_elim, is_some}
 use Rattle.std.specs.Prelude.{IsTrue, IsUtf8, Contains, option_map}
 use Rattle.std.specs.FinMap.{get, keys}
@@ -99,10 +100,7 @@ module _ (s : Settings) (names : List Named) (t : TablePlan) (are : AreNamesOf s
 -- ---- the locks
 
 starts : (path : List ℕ) → IsTrue (is_path path) → IsTrue (starts_with_slash path)
-starts path is =
-    let q = and_parts (starts_with_slash path && not (has_zero_byte path) && not (has_two_slashes path)) (is_short path) is in
-    let r = and_parts (starts_with_slash path && not (has_zero_byte path)) (not (has_two_slashes path)) q.0 in
-    (and_parts (starts_with_slash path) (not (has_zero_byte path)) r.0).0
+starts path is = grind (arith, common_steps)
 
 abbrev lock_entry : List ℕ → Entry
 lock_entry path = record { name = path; key = path; parent = None; kind = value_kind }
@@ -111,11 +109,7 @@ is_lock_entry : (path : List ℕ) → IsTrue (is_path path) → IsLockEntry (loc
 is_lock_entry path is = record { value = refl; whole = refl; absolute = starts path is }
 
 renumbered_lock : (number : ℕ → ℕ) (x : Entry) → IsLockEntry x → IsLockEntry (renumbered number x)
-renumbered_lock number x is = record {
-  value = is.value;
-  whole = ap (λ (o : Option ℕ). option_map number o) is.whole;
-  absolute = is.absolute;
-}
+renumbered_lock number x is = grind (arith, common_steps)
 
 -- what an entry has to be, where it is the entry of a lock
 lock_is_entry : (e : Entries) (i : ℕ) (path : List ℕ) → e.entry i ≡ lock_entry path → IsPathText path → IsUtf8 path → IsEntry e i
@@ -180,11 +174,8 @@ module _ (s : Settings) (names : List Named) (t : TablePlan) (settings : IsSetti
 -- ---- hashes and directories, as a table is made of names that have them
 
 parent_within : (names : List Named) (i : ℕ) → i < length names → (o : Option ℕ) → NameHasParent names i o → (p : ℕ) → o ≡ Some p → p < length names
-parent_within names i here None has_parent p is = absurd (none-some p is)
-parent_within names i here (Some q) has_parent p is =
-    let before = has_parent.0 in
-    let same : q ≡ p = cc in
-    omega (arith, before, here, same)
+parent_within names i here None has_parent p is = grind (arith, common_steps)
+parent_within names i here (Some q) has_parent p is = grind (arith, common_steps)
 
 module _ (s : Settings) (names : List Named) where
   pub root_hashes : AreNamesOf s names → (k : ℕ) → k < length names → (named names k).hash ≡ hash_of (named names k).name.now

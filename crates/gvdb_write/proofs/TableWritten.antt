@@ -1,4 +1,5 @@
 -- A table that occurs in a file with its keys, and whose contents are where its rows say, is written.
+use Rattle.std.proofs.lemmas.Grind.{common_steps}
 use Rattle.std.proofs.Common.{◌≡◌, ◌<◌, ◌≤◌, ◌+◌, ◌-◌, ◌*◌, ◌/◌, ◌%◌, ◌^◌, ℕ, List, ◌++◌, length, get_or, replicate, sym, ap, ◌∙◌, subst, arith, length-append}
 use Rattle.std.proofs.Math.ListN.{get_or-map}
 use Rattle.std.proofs.lemmas.List.{length-map, length-drop, length-replicate}
@@ -86,16 +87,10 @@ pub few_items : (at n m : ℕ) → at + size_of_table n ≤ m → m ≤ limit �
 few_items at n m le within = omega (arith, le, within)
 
 pub have_buckets : (t : TablePlan) → AreItems t → 28 * length t.items.items ≤ limit → HaveFourBytes t.buckets.items
-have_buckets t are few i here =
-    let n = are.bucketed in
-    let le = are.firsts.within i (omega (arith, here, n)) in
-    omega (arith, le, few)
+have_buckets t are few i here = grind (arith, common_steps)
 
 pub key_begins : (items : List Named) → AreEntries (entries_of items) → (i : ℕ) → i < length items → (named items i).from ≤ length (name_at items i)
-key_begins items are i here =
-    let some = (are.each i here).some in
-    let n = length-drop (named items i).from (name_at items i) in
-    omega (arith, some, n)
+key_begins items are i here = grind (arith, common_steps)
 
 -- ---- it is written
 

@@ -70,9 +70,3 @@ is_layout root locks layout root_at c from to are pointed has ends lock_pointer 
 
 pub added_seen : (items items' : List Named) (seen seen' all : List (List ℕ)) → items' ≡ items → seen ≡ seen' → all ≡ fold with_new seen (own_values items') → all ≡ fold with_new seen' (own_values items)
 added_seen items items' seen seen' all i s is = is ∙ (ap (λ (vs : List (List ℕ)). fold with_new vs (own_values items')) s ∙ ap (λ (ns : List Named). fold with_new seen' (own_values ns)) i)
-
-pub places_seen : (items items' : List Named) (values : List (List ℕ)) (places : List ℕ) → items' ≡ items → HavePlaces items' values places → HavePlaces items values places
-places_seen items items' values places i have = subst (λ (ns : List Named). HavePlaces ns values places) i have
-
-pub pointers_seen : (at : ℕ) (values values' : List (List ℕ)) (pointers : List Pointer) → values' ≡ values → ArePointers at values' pointers → ArePointers at values pointers
-pointers_seen at values values' pointers v laid = subst (λ (vs : List (List ℕ)). ArePointers at vs pointers) v laid

@@ -1,4 +1,5 @@
 -- Values that are appended, each at a multiple of 8, occur in the file.
+use Rattle.std.proofs.lemmas.Grind.{common_steps}
 use Rattle.std.proofs.Common.{ℕ, zero, suc, ◌≡◌, ◌<◌, ◌≤◌, ◌+◌, ◌-◌, ◌%◌, List, [], ◌∷◌, ◌++◌, length, get_or, take, replicate, refl, sym, ap, ◌∙◌, subst, arith, length-append}
 use Rattle.std.proofs.lemmas.List.{length-replicate}
 use Rattle.std.proofs.lemmas.List.Sums.{fold_more}
@@ -73,7 +74,4 @@ pub padded_is : (to : ℕ) (file after : List ℕ) (len n : ℕ) → len ≡ len
 padded_is to file after len n is e a = a ∙ ap (λ (m : ℕ). file ++ replicate (m - length file) 0) (e ∙ ap (round_up to) is)
 
 pub value_appended : (values : List (List ℕ)) (i : ℕ) (out before pad after : List ℕ) → i < length values → before ≡ with_values out (take i values) → pad ≡ with_padding 8 before → after ≡ pad ++ get_or values i [] → after ≡ with_values out (take (i + 1) values)
-value_appended values i out before pad after l b p a =
-    a ∙ (ap (λ (f : List ℕ). f ++ get_or values i []) p
-    ∙ (ap (λ (f : List ℕ). with_padding 8 f ++ get_or values i []) b
-    ∙ sym (fold_more (λ (f : List ℕ) (value : List ℕ). with_padding 8 f ++ value) out values i [] l)))
+value_appended values i out before pad after l b p a = grind (arith, common_steps)

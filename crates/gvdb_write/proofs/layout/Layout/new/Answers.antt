@@ -19,7 +19,7 @@ use Rattle.gvdb_write.proofs.LaidContents.{are_valued}
 use Rattle.gvdb_write.proofs.LayoutEnds.{locks_within, root_within, whole_is}
 use Rattle.gvdb_write.proofs.PastEnds.{past_is_over, still_over}
 use Rattle.gvdb_write.proofs.PlanValues.{all_once}
-use Rattle.gvdb_write.proofs.WholeLayout.{is_layout, added_seen, places_seen, pointers_seen}
+use Rattle.gvdb_write.proofs.WholeLayout.{is_layout, added_seen}
 use Rattle.gvdb_write.proofs.layout.Layout.new.Goals as goal
 
 pub returns-in_err-root_at-clause-fault : goal.returns-in_err-root_at-clause-fault
@@ -75,13 +75,6 @@ returns-in_err-pointers-clause-fault c =
 end_fits : (at end : ℕ) (values : List (List ℕ)) (given : List (Bor (List ℕ))) → end ≡ values_end at (bytes_of_each given) → bytes_of_each given ≡ values → end ≤ limit → values_end at values ≤ limit
 end_fits at end values given is same within = let e = is ∙ ap (values_end at) same in omega (arith, e, within)
 
--- places and pointers as they are lent
-places_lent : (items items' : List Named) (values : List (List ℕ)) (places lent : List ℕ) → items' ≡ items → lent ≡ places → HavePlaces items' values places → HavePlaces items values lent
-places_lent items items' values places lent same is have = subst (λ (ps : List ℕ). HavePlaces items values ps) (sym is) (places_seen items items' values places same have)
-
-pointers_lent : (at : ℕ) (values values' : List (List ℕ)) (pointers lent : List Pointer) → values' ≡ values → lent ≡ pointers → ArePointers at values' pointers → ArePointers at values lent
-pointers_lent at values values' pointers lent same is are = subst (λ (ps : List Pointer). ArePointers at values ps) (sym is) (pointers_seen at values values' pointers same are)
-
 pub records-requires-clause-contents : goal.records-requires-clause-contents
 records-requires-clause-contents c =
     let root = c.args.root.now in
@@ -91,16 +84,13 @@ records-requires-clause-contents c =
     let first : List (List ℕ) = bytes_of_each c.value_places.new.values.distinct.items in
     let all : List (List ℕ) = bytes_of_each c.value_places-2.new.values.distinct.items in
     let same = ap bytes_of_each c.deref-5.ensures.value in
-    let have = places_lent root.items.items c.deref-3.result.now first c.in_ok-root_places.root_places.items c.deref-7.result.now c.deref-3.ensures.value c.deref-7.ensures.value c.in_ok-root_places.ensures.places in
-    let still : HavePlaces root.items.items all c.deref-7.result.now =
-    subst (λ (vs : List (List ℕ)). HavePlaces root.items.items vs c.deref-7.result.now)
-    (sym (added_seen locks.items.items c.deref-4.result.now first first all c.deref-4.ensures.value refl c.in_ok-lock_places.ensures.distinct))
-    (places_stay root.items.items first c.deref-7.result.now have (own_values locks.items.items)) in
+    let have : HavePlaces root.items.items first c.deref-7.result.now = rw (c.deref-7.ensures.value, sym c.deref-3.ensures.value) c.in_ok-root_places.ensures.places in
+    let still : HavePlaces root.items.items all c.deref-7.result.now = rw c.in_ok-lock_places.ensures.distinct (places_stay root.items.items first c.deref-7.result.now have (own_values c.deref-4.result.now)) in
+    let laid : ArePointers at all c.deref-8.result.now = rw (c.deref-8.ensures.value, sym same) c.in_ok-pointers.ensures.pointers in
     let count = c.len.ensures ∙ root.children.ok.0 in
     let within = c.in_ok-lists.ensures.within in
-    subst (λ (items : List Named). CanPoint items k) (sym c.deref-10.ensures.value)
-    (can_point root.items.items k at all still
-    (pointers_lent at all (bytes_of_each c.deref-5.result.now) c.in_ok-pointers.pointers.items c.deref-8.result.now same c.deref-8.ensures.value c.in_ok-pointers.ensures.pointers)
+    rw c.deref-10.ensures.value
+    (can_point root.items.items k at all still laid
     (end_fits at c.lay_values.new.cursor.at all c.deref-5.result.now c.in_ok-pointers.ensures.at same c.lay_values.new.cursor.within)
     (root_lists root k c.requires.children c.requires.lists c.deref-6.ensures.value (omega (arith, count, within))) c.in_ok-table.ensures.short)
 
@@ -111,10 +101,10 @@ records-requires-2-clause-contents c =
     let at = c.lay_locks.new.cursor.at in
     let all : List (List ℕ) = bytes_of_each c.value_places-2.new.values.distinct.items in
     let same = ap bytes_of_each c.deref-5.ensures.value in
-    subst (λ (items : List Named). CanPoint items k) (sym c.deref-11.ensures.value)
-    (can_point locks.items.items k at all
-    (places_lent locks.items.items c.deref-4.result.now all c.in_ok-lock_places.lock_places.items c.deref-9.result.now c.deref-4.ensures.value c.deref-9.ensures.value c.in_ok-lock_places.ensures.places)
-    (pointers_lent at all (bytes_of_each c.deref-5.result.now) c.in_ok-pointers.pointers.items c.deref-8.result.now same c.deref-8.ensures.value c.in_ok-pointers.ensures.pointers)
+    let have : HavePlaces locks.items.items all c.deref-9.result.now = rw (c.deref-9.ensures.value, sym c.deref-4.ensures.value) c.in_ok-lock_places.ensures.places in
+    let laid : ArePointers at all c.deref-8.result.now = rw (c.deref-8.ensures.value, sym same) c.in_ok-pointers.ensures.pointers in
+    rw c.deref-11.ensures.value
+    (can_point locks.items.items k at all have laid
     (end_fits at c.lay_values.new.cursor.at all c.deref-5.result.now c.in_ok-pointers.ensures.at same c.lay_values.new.cursor.within)
     (lock_lists locks.items.items k c.requires.nothing) c.in_ok-table.ensures.short)
 
@@ -134,15 +124,15 @@ returns-clause-layout c =
     ∙ lists_end_there root locks c.deref.result.now c.lay_items.new.cursor.at c.len.result c.requires.root c.requires.entries c.requires.children c.requires.top
     c.deref.ensures.value c.in_ok-root_at.ensures.at (c.len.ensures ∙ root.children.ok.0) in
     let lock_at = c.in_ok-table.ensures.at ∙ ap (λ (items : List Named). locks_end (entries_of items) c.lay_lists.new.cursor.at) c.deref-2.ensures.value in
-    let laid = pointers_lent at all (bytes_of_each c.deref-5.result.now) c.in_ok-pointers.pointers.items c.deref-8.result.now same c.deref-8.ensures.value c.in_ok-pointers.ensures.pointers in
+    let have : HavePlaces root.items.items first c.deref-7.result.now = rw (c.deref-7.ensures.value, sym c.deref-3.ensures.value) c.in_ok-root_places.ensures.places in
+    let lock_have : HavePlaces locks.items.items all c.deref-9.result.now = rw (c.deref-9.ensures.value, sym c.deref-4.ensures.value) c.in_ok-lock_places.ensures.places in
+    let laid : ArePointers at all c.deref-8.result.now = rw (c.deref-8.ensures.value, sym same) c.in_ok-pointers.ensures.pointers in
     let pointed = subst (λ (items : List Named). ArePointed items k rows) c.deref-10.ensures.value c.in_ok-records.ensures.pointers in
     let lock_pointed = subst (λ (items : List Named). ArePointed items l lock_rows) c.deref-11.ensures.value c.in_ok-records-2.ensures.pointers in
     let valued = are_valued root locks at k l rows lock_rows first all c.requires.nothing
     (added_seen root.items.items c.deref-3.result.now _ [] first c.deref-3.ensures.value (ap bytes_of_each c.in_ok-values.ensures.empty) c.in_ok-root_places.ensures.distinct)
     (added_seen locks.items.items c.deref-4.result.now first first all c.deref-4.ensures.value refl c.in_ok-lock_places.ensures.distinct)
-    (places_lent root.items.items c.deref-3.result.now first c.in_ok-root_places.root_places.items c.deref-7.result.now c.deref-3.ensures.value c.deref-7.ensures.value c.in_ok-root_places.ensures.places)
-    (places_lent locks.items.items c.deref-4.result.now all c.in_ok-lock_places.lock_places.items c.deref-9.result.now c.deref-4.ensures.value c.deref-9.ensures.value c.in_ok-lock_places.ensures.places)
-    laid laid pointed lock_pointed (lock_at ∙ ap (locks_end (entries_of locks.items.items)) root_at) in
+    have lock_have laid laid pointed lock_pointed (lock_at ∙ ap (locks_end (entries_of locks.items.items)) root_at) in
     let some : length c.deref-2.result.now ≡ length locks.items.items = ap length c.deref-2.ensures.value in
     is_layout root locks _ c.lay_lists.new.cursor.at k c.in_ok-root_at.ensures.start (c.in_ok-root_at.ensures.end ∙ ap (λ (items : List Named). table_end 24 (length items)) c.deref.ensures.value)
     (subst (λ (items : List Named). AreRecords items c.in_ok-root_at.root_at.end rows) c.deref-10.ensures.value c.in_ok-records.ensures.rows) pointed
