@@ -1,6 +1,6 @@
 -- A path that is added to names: its directories, one at each slash after the one that is there, and then the path.
 use Rattle.std.proofs.Common.{◌≡◌, ◌≢◌, ◌<◌, ◌≤◌, ◌+◌, ◌-◌, ℕ, List, [], ◌∷◌, ◌++◌, length, get_or, take, drop, Option, Some, None, refl, sym, ap, ◌∙◌, subst, arith, inl, inr, ⊎_elim}
-use Rattle.std.specs.Prelude.{Contains, IsUtf8}
+use Rattle.std.specs.Prelude.{IsUtf8}
 use Rattle.std.specs.List.{All}
 use Rattle.std.proofs.lemmas.Bool.{cases_lt}
 use Rattle.std.proofs.lemmas.Grind.{common_steps}
@@ -17,7 +17,7 @@ use Rattle.gvdb_write.specs.declared.names.Content.{Content}
 use Rattle.gvdb_write.specs.declared.names.Content.TheVariants.{Value, List as Listed}
 use Rattle.gvdb_write.specs.declared.names.Named.{Named}
 use Rattle.gvdb_write.specs.PlanWords.{kind_of, entry_of}
-use Rattle.gvdb_write.specs.Names.{named, name_at, kind_at, IsBefore, HasNoSlash, EndsAs, IsFit, LiesIn, NameHasParent, ArePlaced, AreGood, IsDirectoryAt, IsBeyond, last_name, IsNewDirectory, IsAdded}
+use Rattle.gvdb_write.specs.Names.{named, name_at, kind_at, IsBefore, HasNoSlash, EndsAs, IsFit, NameHasParent, ArePlaced, AreGood, IsDirectoryAt, IsBeyond, last_name, IsNewDirectory, IsAdded}
 use Rattle.gvdb_write.proofs.PathTexts.{IsText}
 use Rattle.gvdb_write.proofs.PushedNames.{kept, pushed, last_pushed, AreGoodBut, placed_within, before_last, good_push, none_missing, all_good, directory_kept}
 

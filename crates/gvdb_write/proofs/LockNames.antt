@@ -6,15 +6,14 @@ use Rattle.std.specs.FinMap.{keys}
 use Rattle.std.proofs.lemmas.List.{append-nil, append_assoc, get_or_append_left, get_or_push, length_push}
 use Rattle.std.proofs.lemmas.Bool.{cases_lt}
 use Rattle.dconf_model.specs.Bytes.{hash_of}
-use Rattle.dconf_model.specs.Entries.{Entry}
 use Rattle.dconf_model.specs.Plans.{nothing_bytes}
 use Rattle.dconf_model.specs.Settings.{Settings}
 use Rattle.dconf_model.specs.Table.{value_kind}
 use Rattle.gvdb_write.specs.declared.names.Content.{Content}
 use Rattle.gvdb_write.specs.declared.names.Named.{Named}
-use Rattle.gvdb_write.specs.PlanWords.{kind_of, content_bytes, entry_of}
+use Rattle.gvdb_write.specs.PlanWords.{kind_of, content_bytes, no_name, entry_of}
 use Rattle.gvdb_write.specs.Names.{named, IsLockNamed, AreLockNames}
-use Rattle.gvdb_write.proofs.PushedNames.{kept, pushed}
+use Rattle.gvdb_write.proofs.ItemOrders.{each_more}
 
 -- a name without a directory, with the value at a lock
 pub is_lock_named : (path : List ℕ) (n : Named) (content : Content) → IsUtf8 path → n.hash ≡ hash_of path
@@ -34,25 +33,14 @@ no_locks_yet s = record { done = []; listed = refl; counted = refl; each = λ i 
 
 pub one_lock_more : (s : Settings) (names : List Named) (path : List ℕ) (rest : List (List ℕ)) (n : Named) → AreLocksSoFar s names (path ∷ rest) → IsLockNamed path n → AreLocksSoFar s (names ++ n ∷ []) rest
 one_lock_more s names path rest n so new =
-    let a = length_push names n in
-    let b = length_push so.done path in
     let c = so.counted in
     record {
       done = so.done ++ path ∷ [];
       listed = so.listed ∙ sym (append_assoc so.done (path ∷ []) rest);
-      counted = omega (arith, a, b, c);
-      each = λ i here.
-          ⊎_elim
-          (λ (l : i < length names).
-          subst (λ (x : List ℕ). IsLockNamed x (named (names ++ n ∷ []) i)) (sym (get_or_append_left so.done (path ∷ []) [] i (omega (arith, l, c))))
-          (subst (λ (x : Named). IsLockNamed (get_or so.done i []) x) (sym (kept names (n ∷ []) i l)) (so.each i l)))
-          (λ (ge : length names ≤ i).
-          let e : i ≡ length names = omega (arith, ge, here, a) in
-          let f : length so.done ≡ i = omega (arith, e, c) in
-          subst (λ (x : List ℕ). IsLockNamed x (named (names ++ n ∷ []) i)) (sym (get_or_push so.done path [] i f))
-          (subst (λ (k : ℕ). IsLockNamed path (named (names ++ n ∷ []) k)) (sym e)
-          (subst (λ (x : Named). IsLockNamed path x) (sym (pushed names n)) new)))
-          (cases_lt i (length names));
+      counted = omega (arith, length_push names n, length_push so.done path, c);
+      each = each_more no_name names n (length names) (λ q i. IsLockNamed (get_or (so.done ++ path ∷ []) i []) q) refl
+          (λ i l. rw (get_or_append_left so.done (path ∷ []) [] i (omega (arith, l, c))) (so.each i l))
+          (rw (get_or_push so.done path [] (length names) (sym c)) new);
     }
 
 pub all_locks : (s : Settings) (names : List Named) (left : List (List ℕ)) → left ≡ [] → AreLocksSoFar s names left → AreLockNames s names

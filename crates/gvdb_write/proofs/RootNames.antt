@@ -1,5 +1,5 @@
 -- The names of a root table: before the first path, path by path, and after the last.
-use Rattle.std.proofs.Common.{◌≡◌, ◌≢◌, ◌<◌, ◌≤◌, ◌+◌, ◌-◌, ℕ, suc, List, [], ◌∷◌, ◌++◌, length, get_or, take, drop, Some, sym, ap, ◌∙◌, subst, arith, codes, length-append}
+use Rattle.std.proofs.Common.{◌≡◌, ◌≢◌, ◌<◌, ◌≤◌, ◌+◌, ℕ, suc, List, [], ◌∷◌, ◌++◌, length, get_or, take, drop, Some, sym, ap, ◌∙◌, subst, arith, codes, length-append}
 use Rattle.std.specs.Prelude.{IsTrue}
 use Rattle.std.specs.FinMap.{keys, get, contains_key}
 use Rattle.std.proofs.lemmas.Grind.{common_steps}
@@ -7,12 +7,12 @@ use Rattle.std.proofs.lemmas.List.{append-nil, append_assoc, take-take, take_at,
 use Rattle.std.proofs.lemmas.List.Elements.{All-append, All-push}
 use Rattle.dconf_model.specs.Table.{value_kind, list_kind, table_kind}
 use Rattle.dconf_model.specs.Settings.{Settings}
-use Rattle.dconf_model.specs.Plans.{HasLocks, IsDirectoryOf, IsRootName}
+use Rattle.dconf_model.specs.Plans.{IsDirectoryOf, IsRootName}
 use Rattle.dconf_model.specs.Plans.IsRootName.{key, directory}
 use Rattle.dconf_model.proofs.NameOrder.{before_prefix}
 use Rattle.dconf_model.proofs.PathLaws.{ends_in}
 use Rattle.gvdb_write.specs.declared.names.Named.{Named}
-use Rattle.gvdb_write.specs.PlanWords.{kind_of, content_bytes}
+use Rattle.gvdb_write.specs.PlanWords.{kind_of}
 use Rattle.gvdb_write.specs.Names.{name_at, IsBefore, IsSlash, AreRootNames, HoldsValue, HoldValues, IsThere, IsDirectoryAt, IsBeyond, last_name, IsNewDirectory, IsAdded, AreNamesWith, AreNamesOf}
 use Rattle.gvdb_write.proofs.PathTexts.{IsText}
 use Rattle.gvdb_write.proofs.PushedNames.{pushed, last_pushed}

@@ -1,9 +1,8 @@
 -- The names of a root table before its first path.
-use Rattle.std.proofs.Common.{◌≡◌, true, false, is_some, ◌<◌, ◌≤◌, ◌+◌, ℕ, zero, suc, List, [], ◌∷◌, ◌++◌, length, get_or, take, drop, Option, Some, None, refl, sym, ap, ◌∙◌, subst, arith, inl, inr, ⊎_elim, codes}
+use Rattle.std.proofs.Common.{◌≡◌, true, false, is_some, ◌<◌, ◌≤◌, ◌+◌, ℕ, zero, suc, List, [], ◌∷◌, ◌++◌, length, get_or, take, drop, Option, Some, None, refl, sym, ap, ◌∙◌, subst, arith, inl, inr, codes}
 use Rattle.std.specs.Prelude.{IsUtf8, Contains, slice_index}
 use Rattle.std.specs.Option.{MatchOption}
 use Rattle.std.specs.FinMap.{keys}
-use Rattle.std.proofs.lemmas.Bool.{cases_lt}
 use Rattle.std.proofs.lemmas.Grind.{common_steps}
 use Rattle.std.proofs.lemmas.List.{take_all, take_more}
 use Rattle.std.proofs.lemmas.List.Elements.{All-nil, All-push}
@@ -11,7 +10,6 @@ use Rattle.std.proofs.lemmas.Str.{IsUtf8-from_ascii}
 use Rattle.dconf_model.specs.Bytes.{hash_of}
 use Rattle.dconf_model.specs.Table.{value_kind, list_kind, table_kind}
 use Rattle.dconf_model.specs.Settings.{Settings}
-use Rattle.dconf_model.specs.Entries.{Entry}
 use Rattle.dconf_model.specs.Plans.{HasLocks, IsRootName}
 use Rattle.dconf_model.specs.Plans.IsRootName.{top, locks}
 use Rattle.dconf_model.proofs.PathLaws.{slash_is_ascii, slash_no_zero}
