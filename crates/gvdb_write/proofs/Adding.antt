@@ -42,10 +42,8 @@ list_ends n (inl value) list = let bad : 76 ≡ 118 = sym list ∙ value.0 in ab
 list_ends n (inr ends) list = ends.2
 
 top_ends : (n : Named) → n.from ≡ 0 → IsTopEntry (entry_of n) → kind_of n.content ≡ list_kind → get_or n.name.now (length n.name.now - 1) 0 ≡ 47
-top_ends n from (inl top) list =
-    let is : n.name.now ≡ 47 ∷ [] = ap (λ (k : ℕ). drop k n.name.now) (sym from) ∙ top.1 in
-    ap (λ (x : List ℕ). get_or x (length x - 1) 0) is
-top_ends n from (inr locks) list = let bad : 76 ≡ 72 = sym list ∙ locks.0 in absurd (omega (arith, bad))
+top_ends n from (inl top) list = grind (arith, common_steps)
+top_ends n from (inr locks) list = grind (arith, common_steps)
 
 directory_ends : (names : List Named) (at : ℕ) → kind_at names at ≡ list_kind → (o : Option ℕ) → NameHasParent names at o → get_or (name_at names at) (length (name_at names at) - 1) 0 ≡ 47
 directory_ends names at list None s = top_ends (named names at) s.0 s.1 list
@@ -151,15 +149,7 @@ from_less text from at path after le here slash =
     (cases_lt from at)
 
 list_ending : (text : List ℕ) (r : ℕ × ℕ) (from at hash parent : ℕ) → from < at → at < length text → get_or text at 0 ≡ 47 → HasNoSlash text from at → EndsAs (part r (take (at + 1) text) from hash parent Listed)
-list_ending text r from at hash parent less here slash plain =
-    let len : length (take (at + 1) text) ≡ at + 1 = length-take-le (at + 1) text (omega (arith, here)) in
-    let end : length (take (at + 1) text) - 1 ≡ at = omega (arith, len) in
-    inr (
-      refl,
-      omega (arith, len, less),
-      rw end (get_or-take (at + 1) text at 0 (omega arith) ∙ slash),
-      λ i l m. let less : i < at = omega (arith, m, end) in λ there. plain i l less (sym (get_or-take (at + 1) text i 0 (omega (arith, less))) ∙ there),
-    )
+list_ending text r from at hash parent less here slash plain = grind (arith, common_steps, length-take-le, get_or-take, plain, slash)
 
 -- a prefix of a text precedes each longer one
 pub prefix_before : (text : List ℕ) (m k : ℕ) → m < k → k ≤ length text → IsBefore (take m text) (take k text)
@@ -171,9 +161,7 @@ prefix_before text m k less inside =
     subst (IsBefore (take m text)) split (before_longer (take m text) (get_or (take k text) m 0) (drop (m + 1) (take k text)))
 
 pub not_last : (text : List ℕ) (at : ℕ) → IsText text → at < length text → get_or text at 0 ≡ 47 → at + 1 < length text
-not_last text at path here slash =
-    ⊎_elim (λ (l : at + 1 < length text). l)
-    (λ (ge : length text ≤ at + 1). absurd (path.unended at (omega (arith, ge, here)) slash)) (cases_lt (at + 1) (length text))
+not_last text at path here slash = grind (arith, common_steps, cases_lt, slash)
 
 beyond_prefix : (text : List ℕ) (at : ℕ) → IsText text → at < length text → get_or text at 0 ≡ 47 → IsBeyond (take (at + 1) text) text (at + 1)
 beyond_prefix text at path here slash = record {

@@ -1,4 +1,5 @@
 -- Bits of a bloom word.
+use Rattle.std.proofs.lemmas.Grind.{common_steps}
 use Rattle.std.proofs.Common.{ℕ, ◌≡◌, ◌<◌, ◌≤◌, ◌*◌, ◌^◌, ap, ◌∙◌, arith, ⊎_elim}
 use Rattle.std.specs.Int.{IsBitSet, bit_at}
 use Rattle.std.specs.Int.RustNames.{bit_or}
@@ -8,10 +9,7 @@ use Rattle.std.proofs.lemmas.Nat.{pow_pos}
 
 -- a bit is set where it is 1
 pub bit_is_set : (n k : ℕ) → bit_at n k ≡ 1 → IsBitSet n k
-bit_is_set n k one zero =
-    let p = and_pow n k ∙ ap (λ (b : ℕ). b * 2 ^ k) one in
-    let some : 0 < 2 ^ k = pow_pos k in
-    absurd (omega (arith, p, some, zero))
+bit_is_set n k one zero = grind (arith, common_steps, and_pow, pow_pos)
 
 pub set_bit_is : (n k : ℕ) → IsBitSet n k → bit_at n k ≡ 1
 set_bit_is n k set =

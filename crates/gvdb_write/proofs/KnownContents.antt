@@ -67,5 +67,4 @@ lock_lists items c are = grind (arith, common_steps)
 pub lists_end_there : (root locks : TablePlan) (items : List Named) (at count : ℕ) → CanBeLaid root.items.items → EachEntry (entries_of root.items.items) (IsRootEntry (entries_of root.items.items))
     → AreChildren (entries_of root.items.items) (children_of root) → (i : ℕ) × (i < length root.items.items) × (kind_at root.items.items i ≡ list_kind)
     → items ≡ root.items.items → at ≡ laid_end 24 items → count ≡ length root.children.items → round_up 4 at + 4 * count ≡ root_end (plan_of root locks)
-lists_end_there root locks items at count can entries children top same is counted =
-    ap₂ (λ (a k : ℕ). round_up 4 a + 4 * k) (is ∙ ap (laid_end 24) same) counted ∙ root_ends root locks can entries children top
+lists_end_there root locks items at count can entries children top same is counted = grind (arith, common_steps, ap₂, root_ends)

@@ -42,10 +42,7 @@ whole_end start values n at pointers so le = so.here ∙ ap (values_end start) (
 
 -- where a value starts and ends is not past the end of all
 pub ends_below : (start : ℕ) (values : List (List ℕ)) (n : ℕ) → n < length values → value_start start values n + length (get_or values n []) ≤ values_end start values
-ends_below start values n l =
-    let e = next_end start values n l in
-    let le = prefix_ends_below values (n + 1) start in
-    omega (arith, e, le)
+ends_below start values n l = grind (arith, common_steps, prefix_ends_below, next_end)
 
 pub past_is_over : (n m : ℕ) (e : WriteFault) → n ≤ m → IsPast n e → IsOver m e
 past_is_over n m TooBig le past = omega (arith, le, past)

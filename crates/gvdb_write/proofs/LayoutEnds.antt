@@ -37,10 +37,7 @@ pub locks_within : (root locks : TablePlan) → locks_end (entries_of locks.item
 locks_within root locks = values_rise (once_each (all_values (plan_of root locks))) (locks_end (entries_of locks.items.items) (root_end (plan_of root locks)))
 
 pub root_within : (root locks : TablePlan) → root_end (plan_of root locks) ≤ length_of (plan_of root locks)
-root_within root locks =
-    let up = locks_rise (entries_of locks.items.items) (root_end (plan_of root locks)) in
-    let rest = locks_within root locks in
-    omega (arith, up, rest)
+root_within root locks = grind (arith, common_steps, locks_rise, locks_within)
 
 -- all of it
 pub whole_is : (root locks : TablePlan) (root_at lock_at end : ℕ) (values : List (List ℕ)) → root_at ≡ root_end (plan_of root locks)

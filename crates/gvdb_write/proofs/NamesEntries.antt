@@ -45,11 +45,7 @@ not_itself names i j ascending less here same =
     cc
 
 pub once_each : (names : List Named) → AreAscending names → (i j : ℕ) → i < length names → j < length names → name_at names i ≡ name_at names j → i ≡ j
-once_each names ascending i j a b same =
-    ⊎_elim (λ (l : i < j). absurd (not_itself names i j ascending l b same))
-    (λ (ge : j ≤ i).
-    ⊎_elim (λ (l : j < i). absurd (not_itself names j i ascending l a (sym same))) (λ (le : i ≤ j). let e : i ≡ j = omega (arith, ge, le) in e) (cases_lt j i))
-    (cases_lt i j)
+once_each names ascending i j a b same = grind (arith, common_steps, cases_lt, not_itself)
 
 pub are_entries : (names : List Named) → ArePlaced names → AreAscending names → AreEntries (entries_of names)
 are_entries names placed ascending = record { each = λ i here. is_entry names i here (placed i here); once = once_each names ascending }

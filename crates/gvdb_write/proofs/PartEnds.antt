@@ -1,4 +1,5 @@
 -- Where the parts of a file end that are written one after another: where the plan says.
+use Rattle.std.proofs.lemmas.Grind.{common_steps}
 use Rattle.std.proofs.Common.{◌≡◌, ◌<◌, ◌≤◌, ◌+◌, ◌*◌, ℕ, List, [], ◌++◌, length, sym, ap, ◌∙◌, arith, inl, inr, ⊎_elim, Bor, length-append}
 use Rattle.std.proofs.lemmas.Bool.{cases_lt}
 use Rattle.std.proofs.lemmas.List.{length-map}
@@ -27,10 +28,7 @@ unfolding round_up
 header_ends start end = let n = length-header start end in omega (arith, n)
 
 pub header_long : (start end : ℕ) (first header : List ℕ) → first ≡ [] → header ≡ first ++ header_bytes start end → length header ≤ limit
-header_long start end first header none is =
-    let n = length-header start end in
-    let m : length header ≡ length (header_bytes start end) = ap length (is ∙ ap (λ (f : List ℕ). f ++ header_bytes start end) none) in
-    omega (arith, n, m)
+header_long start end first header none is = grind (arith, common_steps, length-header)
 
 module _ (root locks : TablePlan) (layout : Layout) (tables : AreTables root locks) (laid : IsLayoutOf root locks layout) where
   abbrev P : Plan
@@ -60,11 +58,7 @@ module _ (root locks : TablePlan) (layout : Layout) (tables : AreTables root loc
       omega (arith, a, b, c, d)
 
   pub locks_fit : 0 < length locks.items.items → lock_keys_at (plan_of root locks) ≤ length_of (plan_of root locks)
-  locks_fit some =
-      let a = keys_rise P.locks (lock_keys_at P) P.locks.count in
-      let b = some_locks_end P.locks (root_end P) some in
-      let c = locks_below in
-      omega (arith, a, b, c)
+  locks_fit some = grind (arith, common_steps, keys_rise, some_locks_end, locks_below)
 
   pub few_root : 28 * length root.items.items ≤ limit
   few_root = few_items 24 (length root.items.items) (length_of P) root_fits laid.within
@@ -90,13 +84,7 @@ module _ (root locks : TablePlan) (layout : Layout) (tables : AreTables root loc
       ∙ ap (λ (n : ℕ). keys_end (entries_of root.items.items) (n + size_of_table (length root.items.items)) (length root.items.items)) (header_ends layout.root.pointer.start layout.root.pointer.end)
 
   pub lists_long : (with_root : List ℕ) → length with_root ≡ keys_end (entries_of root.items.items) (root_keys_at (plan_of root locks)) (length root.items.items) → length (with_lists root with_root) ≡ root_end (plan_of root locks)
-  lists_long with_root long =
-      let a = length-append (with_padding 4 with_root) (words_bytes (numbers_of root.children.items)) in
-      let b = length-padded_4 with_root ∙ ap (round_up 4) long in
-      let c = length-words (numbers_of root.children.items) in
-      let d = length-map root.children.items (λ (m : ℕ × ℕ). m.1) in
-      let e = lists_are_all in
-      omega (arith, a, b, c, d, e)
+  lists_long with_root long = grind (arith, common_steps, length-append, length-map, length-padded_4, length-words, lists_are_all)
 
   pub locks_long : (before after : List ℕ) → length before ≡ root_end (plan_of root locks) → HasTableOfLocks locks layout.locks.rows.items before after → length after ≡ values_at (plan_of root locks)
   locks_long before after long (inl has) =
@@ -112,13 +100,7 @@ module _ (root locks : TablePlan) (layout : Layout) (tables : AreTables root loc
   -- ---- no end is past the limit
 
   pub root_within : (with_root : List ℕ) → HasTable root layout.root.rows.items (header_bytes layout.root.pointer.start layout.root.pointer.end) with_root → length with_root ≤ limit
-  root_within with_root has =
-      let long = root_long with_root has in
-      let a = root_below in
-      let b = lists_below in
-      let c = locks_below in
-      let d = laid.within in
-      omega (arith, long, a, b, c, d)
+  root_within with_root has = grind (arith, common_steps, root_below, lists_below, locks_below, root_long)
 
   lists_ends : (with_root lists : List ℕ) → HasTable root layout.root.rows.items (header_bytes layout.root.pointer.start layout.root.pointer.end) with_root → lists ≡ with_lists root with_root → length lists ≡ root_end P
   lists_ends with_root lists has is = ap length is ∙ lists_long with_root (root_long with_root has)

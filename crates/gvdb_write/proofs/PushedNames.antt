@@ -21,8 +21,7 @@ last_pushed names n = grind (arith, common_steps)
 
 -- what holds at the place of each name, and at that of the next one
 pub each_pushed : (P : ℕ → Type 0) (names : List Named) (n : Named) → ((i : ℕ) → i < length names → P i) → P (length names) → (i : ℕ) → i < length (names ++ n ∷ []) → P i
-each_pushed P names n old new i here =
-    ⊎_elim (old i) (λ (le : length names ≤ i). let e : length names ≡ i = omega (arith, here, length_push names n, le) in subst P e new) (cases_lt i (length names))
+each_pushed P names n old new i here = grind (arith, common_steps, length_push, cases_lt)
 
 -- names that are placed and in order; each directory but `/` and that one has a child
 pub record AreGoodBut (names : List Named) (but : ℕ) : Type 0 where
@@ -35,19 +34,11 @@ parent_kept names more i here None s = rw (kept names more i here) s
 parent_kept names more i here (Some p) s = let before = s.0 in (before, rw (kept names more i here, kept names more p (omega (arith, before, here))) s.1)
 
 placed_kept : (names more : List Named) (i : ℕ) → i < length names → IsPlaced names i → IsPlaced (names ++ more) i
-placed_kept names more i here p = record {
-  fit = rw (kept names more i here) p.fit;
-  has_parent = subst (λ (x : Named). NameHasParent (names ++ more) i x.parent) (sym (kept names more i here)) (parent_kept names more i here _ p.has_parent);
-}
+placed_kept names more i here p = grind (arith, common_steps, kept, parent_kept)
 
 -- each precedes what the last one precedes
 pub before_last : (names : List Named) (text : List ℕ) → AreAscending names → IsBefore (last_name names) text → (i : ℕ) → i < length names → IsBefore (name_at names i) text
-before_last names text ascending before i here =
-    ⊎_elim
-    (λ (l : i < length names - 1).
-    nat_list_cmp_total.trans (name_at names i) (last_name names) text (ascending i (length names - 1) l (omega (arith, l))) before)
-    (λ (le : length names - 1 ≤ i). let e : i ≡ length names - 1 = omega (arith, le, here) in rw e before)
-    (cases_lt i (length names - 1))
+before_last names text ascending before i here = grind (arith, common_steps, cases_lt, nat_list_cmp_total, ascending)
 
 child_kept : (names : List Named) (n : Named) (i : ℕ) → HasChild names i → HasChild (names ++ n ∷ []) i
 child_kept names n i child = grind (arith, common_steps)
@@ -65,11 +56,7 @@ placed_within names n p here up fit lies = record {
 
 -- one without
 pub placed_top : (names : List Named) (n : Named) → n.parent ≡ None → IsFit n → n.from ≡ 0 → IsTopEntry (entry_of n) → IsPlaced (names ++ n ∷ []) (length names)
-placed_top names n up fit from is = record {
-  fit = rw (pushed names n) fit;
-  has_parent = subst (λ (x : Named). NameHasParent (names ++ n ∷ []) (length names) x.parent) (sym (pushed names n))
-      (subst (NameHasParent (names ++ n ∷ []) (length names)) (sym up) (rw (pushed names n) (from, is)));
-}
+placed_top names n up fit from is = grind (arith, common_steps, pushed)
 
 -- the next name, which lies in the directory that may have no child: the next such is the new one
 pub good_push : (names : List Named) (n : Named) (but : ℕ) → AreGoodBut names but → IsPlaced (names ++ n ∷ []) (length names) → ((i : ℕ) → i < length names → IsBefore (name_at names i) n.name.now) → (but < length names → n.parent ≡ Some but) → AreGoodBut (names ++ n ∷ []) (length names)

@@ -75,12 +75,7 @@ pub there_kept : (names more : List Named) (name : List ℕ) (kind : ℕ) → Is
 there_kept names more name kind t = grind (arith, common_steps)
 
 pub there_pushed : (names : List Named) (n : Named) → IsThere (names ++ n ∷ []) n.name.now (kind_of n.content)
-there_pushed names n = record {
-  at = length names;
-  counted = omega (arith, length_push names n);
-  named = ap (λ (x : Named). x.name.now) (pushed names n);
-  of_kind = ap (λ (x : Named). kind_of x.content) (pushed names n);
-}
+there_pushed names n = grind (arith, common_steps, length_push, pushed)
 
 -- a prefix that ends at a slash is a directory
 pub prefix_is_directory : (text : List ℕ) (i : ℕ) → IsSlash text i → IsDirectoryOf (take (i + 1) text) text

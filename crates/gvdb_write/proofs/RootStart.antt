@@ -44,11 +44,7 @@ fit_slash n t = fit_top n (codes "/") list_kind t (omega arith) (omega arith) (I
 
 -- `/` comes before each path
 root_before : (text : List ℕ) → IsText text → IsBefore (codes "/") text
-root_before text path =
-    let first = path.first.here in
-    let one : take (0 + 1) text ≡ codes "/" = take_more text 0 0 first ∙ ap (λ (c : ℕ). take 0 text ++ c ∷ []) path.first.slash in
-    subst (λ (x : List ℕ). IsBefore x text) one
-    (subst (IsBefore (take (0 + 1) text)) (take_all (length text) text (omega arith)) (prefix_before text (0 + 1) (length text) (not_last text 0 path first path.first.slash) (omega arith)))
+root_before text path = grind (arith, common_steps, take_all, take_more, prefix_before, not_last)
 
 root_before_keys : (s : Settings) → AreKeyPaths (keys s.values) → (k : ℕ) → k < length (keys s.values) → IsBefore (codes "/") (get_or (keys s.values) k [])
 root_before_keys s paths k here = root_before (get_or (keys s.values) k []) (text_of_key (get_or (keys s.values) k []) (paths k [] here))
@@ -155,9 +151,5 @@ some_lock s left after None is steps some = let bad : false ≡ true = some in c
 some_lock s left after (Some path) is steps some = (lock_text path, listed_is_kept s.locks [] after (lock_text path) (sym is ∙ steps))
 
 pub no_lock : (s : Settings) (left after : List (List ℕ)) (first : Option LockPath) → left ≡ keys s.locks → IsFirst left after first → is_some first ≡ false → HasLocks s → ⊥
-no_lock s left after None is steps none locked =
-    let at = kept_at s.locks locked.0 locked.1 in
-    let here = at.1 in
-    let len : length (keys s.locks) ≡ 0 = ap (λ (l : List (List ℕ)). length l) (sym is ∙ steps.0) in
-    omega (arith, here, len)
-no_lock s left after (Some path) is steps none locked = let bad : true ≡ false = none in cc
+no_lock s left after None is steps none locked = grind (arith, common_steps, kept_at, locks)
+no_lock s left after (Some path) is steps none locked = grind (arith, common_steps, kept_at, locks)

@@ -31,15 +31,7 @@ module _ (names : List Named) (t : TablePlan) (is : IsTableOf names t) where
   name_of_item i here = name_is (entries_of names) (entries_of t.items.items) is.order is.number i is.renumbered (here_in_names i here)
 
   later : (i j : ℕ) → i < j → j < length t.items.items → is.order i ≤ is.order j → is.order i < is.order j
-  later i j less here le =
-      let a = is.renumbered.forth i (here_in_names i (omega (arith, less, here))) in
-      let b = is.renumbered.forth j (here_in_names j here) in
-      ⊎_elim (λ (l : is.order i < is.order j). l)
-      (λ (ge : is.order j ≤ is.order i).
-      let same : is.order i ≡ is.order j = omega (arith, le, ge) in
-      let bad : i ≡ j = sym a ∙ (ap is.number same ∙ b) in
-      absurd (omega (arith, bad, less)))
-      (cases_lt (is.order i) (is.order j))
+  later i j less here le = grind (arith, common_steps, cases_lt, here_in_names)
 
   precedes : AreAscending names → (i j : ℕ) → i < j → j < length t.items.items → Precedes (entries_of t.items.items) i j
   precedes ascending i j less here = by (is.ordered i j less here)
@@ -69,11 +61,7 @@ module _ (names : List Named) (t : TablePlan) (is : IsTableOf names t) where
 
 module _ (s : Settings) (names : List Named) (t : TablePlan) (are : AreNamesOf s names) (is : IsTableOf names t) where
   pub root_values : (i : ℕ) → i < length t.items.items → kind_of (named t.items.items i).content ≡ value_kind → get s.values (name_at t.items.items i) ≡ Some (content_bytes (named t.items.items i).content)
-  root_values i here kind =
-      let same = is.contents i here in
-      let there = is.renumbered.ordered i (here_in_names names t is i here) in
-      ap (λ (x : List ℕ). get s.values x) (name_of_item names t is i here)
-      ∙ (are.values (is.order i) no_name there (ap (λ c. kind_of c) (sym same) ∙ kind) ∙ ap (λ c. Some (content_bytes c)) (sym same))
+  root_values i here kind = grind (arith, common_steps, here_in_names, name_of_item)
 
   root_keys : (locks : TablePlan) (path bytes : List ℕ) → get s.values path ≡ Some bytes → HasValueEntry (plan_of t locks) path bytes
   root_keys locks path bytes at =
@@ -149,10 +137,7 @@ module _ (s : Settings) (names : List Named) (t : TablePlan) (settings : IsSetti
   }
 
   all_locks_there : (name : List ℕ) → IsLockName s name → (i : ℕ) × (i < length names) × (name_at names i ≡ name)
-  all_locks_there name kept =
-      let f = kept_at s.locks name kept in
-      let here : f.0 < length names = subst (λ (n : ℕ). f.0 < n) (sym are.counted) f.1 in
-      (f.0, here, lock_name f.0 here ∙ f.2)
+  all_locks_there name kept = grind (arith, common_steps, kept_at, lock_name)
 
   pub locks_named : AreNamed (IsLockName s) (entries_of t.items.items)
   locks_named =

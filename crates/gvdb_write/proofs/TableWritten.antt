@@ -30,27 +30,13 @@ use Rattle.gvdb_write.proofs.KeyPlaces.{key_occurs, keys_length}
 -- ---- how long it is
 
 pub length-padded_4 : (file : List ℕ) → length (with_padding 4 file) ≡ round_up 4 (length file)
-length-padded_4 file =
-    let n = length-append file (replicate (round_up 4 (length file) - length file) 0) in
-    let m = length-replicate {A = ℕ} (round_up 4 (length file) - length file) 0 in
-    let le = not_below (length file) in
-    omega (arith, n, m, le)
+length-padded_4 file = grind (arith, common_steps, replicate, length-append, length-replicate, not_below)
 
 pub length-words : (words : List ℕ) → length (words_bytes words) ≡ 4 * length words
 length-words words = length-pieces (number_bytes 4) 4 (length-number_bytes 4) words
 
 length-table : (words buckets : List ℕ) (rows : List ItemRecord) → length (table_bytes words buckets rows) ≡ table_size (length words) (length buckets) (length rows)
-length-table words buckets rows =
-    let a = length-number_bytes 4 (length words + 5 * 2 ^ 27) in
-    let b = length-number_bytes 4 (length buckets) in
-    let h = length-append (number_bytes 4 (length words + 5 * 2 ^ 27)) (number_bytes 4 (length buckets)) in
-    let w = length-words words in
-    let n = length-words buckets in
-    let r = length-pieces record_bytes 24 length-row rows in
-    let x = length-append (head_bytes (length words) (length buckets)) (words_bytes words ++ (words_bytes buckets ++ records_bytes rows)) in
-    let y = length-append (words_bytes words) (words_bytes buckets ++ records_bytes rows) in
-    let z = length-append (words_bytes buckets) (records_bytes rows) in
-    omega (arith, a, b, h, w, n, r, x, y, z)
+length-table words buckets rows = grind (arith, common_steps, length-append, length-number_bytes, length-pieces, length-row, length-words)
 
 -- as many words, buckets and rows as its items need
 sized : (a b c n : ℕ) → a ≡ (n + 15) / 16 → b ≡ n → c ≡ n → table_size a b c ≡ size_of_table n
@@ -65,15 +51,7 @@ module _ (t : TablePlan) (rows : List Numbers) (keys_at : ℕ) (are : AreItems t
 
   -- its keys end where the file does
   pub table_length : (before after : List ℕ) → HasTable t rows before after → length after ≡ keys_end (entries_of t.items.items) (round_up 4 (length before) + size_of_table (length t.items.items)) (length t.items.items)
-  table_length before after has =
-      let table = table_bytes has.words t.buckets.items (records_of rows) in
-      let n = length-padded_4 before in
-      let m = length-table has.words t.buckets.items (records_of rows) ∙ size_is has.words has.counted in
-      let x = length-append (with_padding 4 before) (table ++ keys_bytes t.items.items) in
-      let y = length-append table (keys_bytes t.items.items) in
-      ap length has.bytes
-      ∙ (let e : length (with_padding 4 before ++ (table ++ keys_bytes t.items.items)) ≡ round_up 4 (length before) + size_of_table (length t.items.items) + length (keys_bytes t.items.items) = omega (arith, n, m, x, y) in e)
-      ∙ keys_length t.items.items (round_up 4 (length before) + size_of_table (length t.items.items))
+  table_length before after has = grind (arith, common_steps, length-append, keys_length, length-padded_4, length-table, size_is)
 
   pub table_occurs : (before after : List ℕ) (has : HasTable t rows before after) → OccursAt after (round_up 4 (length before)) (table_bytes has.words t.buckets.items (records_of rows) ++ keys_bytes t.items.items)
   table_occurs before after has =

@@ -14,11 +14,7 @@ unfolding round_up
 not_below n = omega arith
 
 pub length-padded : (file : List ℕ) → length (with_padding 8 file) ≡ round_up 8 (length file)
-length-padded file =
-    let n = length-append file (replicate (round_up 8 (length file) - length file) 0) in
-    let m = length-replicate {A = ℕ} (round_up 8 (length file) - length file) 0 in
-    let le = not_below (length file) in
-    omega (arith, n, m, le)
+length-padded file = grind (arith, common_steps, replicate, length-append, length-replicate, not_below)
 
 length-next : (file value : List ℕ) → length (with_padding 8 file ++ value) ≡ round_up 8 (length file) + length value
 length-next file value = length-append (with_padding 8 file) value ∙ ap (λ (n : ℕ). n + length value) (length-padded file)
