@@ -1,4 +1,5 @@
 -- Bits of a bloom word.
+use Rattle.std.proofs.Common.{rules, arith}
 use Rattle.std.proofs.lemmas.Grind.{common_steps}
 use Rattle.std.proofs.Common.{ℕ, ◌≡◌, ◌<◌, ◌≤◌, ◌*◌, ◌^◌, ap, ◌∙◌, arith, ⊎_elim}
 use Rattle.std.specs.Int.{IsBitSet, bit_at}
@@ -12,13 +13,7 @@ pub bit_is_set : (n k : ℕ) → bit_at n k ≡ 1 → IsBitSet n k
 bit_is_set n k one zero = grind (arith, common_steps, and_pow, pow_pos)
 
 pub set_bit_is : (n k : ℕ) → IsBitSet n k → bit_at n k ≡ 1
-set_bit_is n k set =
-    ⊎_elim
-    (λ (l : bit_at n k < 1).
-    let none : bit_at n k ≡ 0 = omega (arith, l) in
-    let p = and_pow n k ∙ ap (λ (b : ℕ). b * 2 ^ k) none in
-    absurd (set (omega (arith, p))))
-    (λ (le : 1 ≤ bit_at n k). let less = bit_at-lt n k in let one : bit_at n k ≡ 1 = omega (arith, le, less) in one) (cases_lt (bit_at n k) 1)
+set_bit_is n k set = search (rules, arith, cases_lt, bit_at-lt, and_pow)
 
 -- it stays where others are set
 pub set_in_left : (a b k : ℕ) → IsBitSet a k → IsBitSet (bit_or a b) k

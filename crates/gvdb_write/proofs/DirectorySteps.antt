@@ -1,4 +1,5 @@
 -- The directory that a path lies in, of a directory and those above it: what a step up keeps.
+use Rattle.std.proofs.Common.{rules, arith}
 use Rattle.std.proofs.Common.{◌≡◌, ◌<◌, ◌≤◌, ◌+◌, ◌-◌, ℕ, Bool, true, false, List, [], ◌∷◌, ◌++◌, length, get_or, take, drop, Option, Some, None, refl, sym, ap, ◌∙◌, subst, arith, inl, inr, ⊎_elim, codes, length-append}
 use Rattle.std.specs.List.{starts_with}
 use Rattle.std.specs.Prelude.{nat_eq}
@@ -25,9 +26,7 @@ module _ (text prefix : List ℕ) (r : Bool) (m : r ≡ starts_with nat_eq text 
   begins t = (starts_is Decides-eqb text prefix r m).0 t
 
   begins_not : r ≡ false → take (length prefix) text ≡ prefix → ⊥
-  begins_not f e =
-      both_ways r f ((starts_is Decides-eqb text prefix r m).1 (drop (length prefix) text)
-      (sym (take-append-drop (length prefix) text) ∙ ap (λ (x : List ℕ). x ++ drop (length prefix) text) e))
+  begins_not f e = search (rules, arith, take-append-drop, both_ways, Decides-eqb, starts_is, prefix)
 
 -- the last part of a list's name
 list_end : (n : Named) → kind_of n.content ≡ list_kind → EndsAs n → HasNoSlash n.name.now n.from (length n.name.now - 1)

@@ -1,4 +1,5 @@
 -- Names that are placed, in order and with children are entries of a root table.
+use Rattle.std.proofs.Common.{rules, arith}
 use Rattle.std.proofs.lemmas.Grind.{common_steps}
 use Rattle.std.proofs.Common.{◌≡◌, ◌≢◌, ◌<◌, ◌≤◌, ◌+◌, ◌-◌, ℕ, zero, suc, List, [], ◌∷◌, ◌++◌, length, get_or, take, drop, Option, Some, None, refl, sym, ap, ◌∙◌, subst, arith, inl, inr, ⊎_elim, codes, length-append}
 use Rattle.std.specs.declared.cmp.Ordering.TheVariants.{Less, Equal}
@@ -64,13 +65,7 @@ has_parent names i fit None s = s.1
 has_parent names i fit (Some p) s = (s.1.directory, part_entry (named names i) fit s.1.ends)
 
 pub are_root_entries : (names : List Named) → AreGood names → EachEntry (entries_of names) (IsRootEntry (entries_of names))
-are_root_entries names good i here =
-    let p = good.placed i here in
-    record {
-      has_parent = has_parent names i p.fit (named names i).parent p.has_parent;
-      short = p.fit.short;
-      child = λ list. ⊎_elim (λ (slash : name_at names i ≡ codes "/"). inl slash) (λ (c : HasChild names i). inr (c.0, (c.1, c.2))) (good.children i here list);
-    }
+are_root_entries names good i here = search (rules, arith, has_parent)
 
 -- ---- each directory of a name is a name
 

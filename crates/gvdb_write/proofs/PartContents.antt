@@ -1,4 +1,5 @@
 -- The content of each item of a file is where the item's numbers say.
+use Rattle.std.proofs.Common.{rules, arith}
 use Rattle.std.proofs.Common.{◌≡◌, ◌<◌, ◌≤◌, ◌+◌, ◌-◌, ◌*◌, ◌%◌, ℕ, List, length, sym, ap, ◌∙◌, subst, arith, inl, inr}
 use Rattle.std.proofs.lemmas.List.{length-map}
 use Rattle.gv_model.specs.Layout.{round_up}
@@ -45,10 +46,7 @@ module _ (root locks : TablePlan) (layout : Layout) (file : List ℕ) (tables : 
   -- ---- a value
 
   pub placed_occurs : (value : List ℕ) (r : Numbers) → HasPlacedValue (values_at (plan_of root locks)) (once_each (all_values (plan_of root locks))) value r → OccursAt file r.start value
-  placed_occurs value r is =
-      let at = value_start (values_at P) Stored is.place in
-      occurs_at file at r.start value (sym is.pointed.start_is)
-      (subst (λ (b : List ℕ). OccursAt file at b) is.is (value_in root locks layout file tables laid parts is.place is.within))
+  placed_occurs value r is = search (rules, arith, occurs_at, value_in)
 
   pub placed_ends : (value : List ℕ) (r : Numbers) → HasPlacedValue (values_at (plan_of root locks)) (once_each (all_values (plan_of root locks))) value r → r.end ≡ r.start + length value
   placed_ends value r is = is.pointed.end_is ∙ ap (λ (n : ℕ). n + length value) (sym is.pointed.start_is)

@@ -1,4 +1,5 @@
 -- One name more after names that are placed, in order, and have children.
+use Rattle.std.proofs.Common.{rules, arith}
 use Rattle.std.proofs.Common.{◌≡◌, ◌<◌, ◌≤◌, ◌-◌, ◌⊎◌, ℕ, List, [], ◌∷◌, ◌++◌, length, Option, Some, None, refl, sym, ap, ◌∙◌, subst, arith, inl, inr, ⊎_elim, codes}
 use Rattle.std.proofs.lemmas.Grind.{common_steps}
 use Rattle.std.proofs.lemmas.List.{get_or_append_left, get_or_push, length_push}
@@ -48,11 +49,7 @@ child_pushed names n p is = grind (arith, common_steps)
 
 -- one in a directory of those before it
 pub placed_within : (names : List Named) (n : Named) (p : ℕ) → p < length names → n.parent ≡ Some p → IsFit n → LiesIn (named names p) n → IsPlaced (names ++ n ∷ []) (length names)
-placed_within names n p here up fit lies = record {
-  fit = rw (pushed names n) fit;
-  has_parent = subst (λ (x : Named). NameHasParent (names ++ n ∷ []) (length names) x.parent) (sym (pushed names n))
-      (subst (NameHasParent (names ++ n ∷ []) (length names)) (sym up) (here, rw (pushed names n, kept names (n ∷ []) p here) lies));
-}
+placed_within names n p here up fit lies = search (rules, arith, kept, pushed)
 
 -- one without
 pub placed_top : (names : List Named) (n : Named) → n.parent ≡ None → IsFit n → n.from ≡ 0 → IsTopEntry (entry_of n) → IsPlaced (names ++ n ∷ []) (length names)

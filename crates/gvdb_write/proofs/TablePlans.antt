@@ -1,4 +1,5 @@
 -- The tables of a map's names are the plan of its database.
+use Rattle.std.proofs.Common.{rules, arith}
 use Rattle.std.proofs.lemmas.Grind.{common_steps}
 use Rattle.std.proofs.Common.{◌≡◌, ◌<◌, ◌≤◌, ℕ, List, [], length, get_or, Option, Some, None, refl, sym, ap, ◌∙◌, ◌&&◌, not, subst, arith, inl, inr, ⊎_elim, is_some}
 use Rattle.std.specs.Prelude.{IsTrue, IsUtf8, Contains, option_map}
@@ -101,16 +102,7 @@ renumbered_lock number x is = grind (arith, common_steps)
 
 -- what an entry has to be, where it is the entry of a lock
 lock_is_entry : (e : Entries) (i : ℕ) (path : List ℕ) → e.entry i ≡ lock_entry path → IsPathText path → IsUtf8 path → IsEntry e i
-lock_is_entry e i path is text utf8 =
-    let first = text.first.here in
-    let key : path ≡ (e.entry i).key = sym (ap (λ (x : Entry). x.key) is) in
-    record {
-      spelled = subst (λ (o : Option ℕ). IsSpelled e i o) (sym (ap (λ (x : Entry). x.parent) is)) (ap (λ (x : Entry). x.name) is ∙ key);
-      some = subst (λ (k : List ℕ). 0 < length k) key first;
-      utf8 = subst (λ (k : List ℕ). IsUtf8 k) key utf8;
-      no_nul = subst (λ (k : List ℕ). ¬ Contains k 0) key (λ there. text.no_nul there.0 there.1 there.2);
-      of_kind = inl (ap (λ (x : Entry). x.kind) is);
-    }
+lock_is_entry e i path is text utf8 = search (rules, arith)
 
 module _ (s : Settings) (names : List Named) (t : TablePlan) (settings : IsSettings s) (are : AreLockNames s names) (is : IsTableOf names t) where
   abbrev LockAt : ℕ → List ℕ
@@ -178,14 +170,4 @@ module _ (s : Settings) (names : List Named) where
 -- ---- the plan
 
 pub tables_are_plan : (s : Settings) (names lock_names : List Named) (root locks : TablePlan) → IsSettings s → AreNamesOf s names → IsTableOf names root → AreLockNames s lock_names → IsTableOf lock_names locks → IsPlanOf s (plan_of root locks)
-tables_are_plan s names lock_names root locks settings are is locks_of is_locks = record {
-  names = root_named s names root are is;
-  entries = root_entries s names root are is;
-  places = root_renumbered (entries_of names) (entries_of root.items.items) is.order is.number is.renumbered (are_entries names are.good.placed are.good.ascending) (are_root_entries names are.good);
-  children = is.children;
-  values = root_values s names root are is;
-  keys = root_keys s names root are is locks;
-  lock_names = locks_named s lock_names locks settings locks_of is_locks;
-  lock_entries = locks_entries s lock_names locks settings locks_of is_locks;
-  locks = locks_are s lock_names locks settings locks_of is_locks;
-}
+tables_are_plan s names lock_names root locks settings are is locks_of is_locks = search (rules, arith, root_renumbered, are_entries, are_root_entries, root_values, root_keys, root_named, root_entries, lock_entries, locks_named, locks_entries, locks_are)

@@ -1,4 +1,5 @@
 -- A table that occurs in a file with its keys, and whose contents are where its rows say, is written.
+use Rattle.std.proofs.Common.{rules, arith}
 use Rattle.std.proofs.lemmas.Grind.{common_steps}
 use Rattle.std.proofs.Common.{◌≡◌, ◌<◌, ◌≤◌, ◌+◌, ◌-◌, ◌*◌, ◌/◌, ◌%◌, ◌^◌, ℕ, List, ◌++◌, length, get_or, replicate, sym, ap, ◌∙◌, subst, arith, length-append}
 use Rattle.std.proofs.Math.ListN.{get_or-map}
@@ -54,10 +55,7 @@ module _ (t : TablePlan) (rows : List Numbers) (keys_at : ℕ) (are : AreItems t
   table_length before after has = grind (arith, common_steps, length-append, keys_length, length-padded_4, length-table, size_is)
 
   pub table_occurs : (before after : List ℕ) (has : HasTable t rows before after) → OccursAt after (round_up 4 (length before)) (table_bytes has.words t.buckets.items (records_of rows) ++ keys_bytes t.items.items)
-  table_occurs before after has =
-      let bytes = table_bytes has.words t.buckets.items (records_of rows) ++ keys_bytes t.items.items in
-      subst (λ (f : List ℕ). OccursAt f (round_up 4 (length before)) bytes) (sym has.bytes)
-      (occurs_at (with_padding 4 before ++ bytes) (length (with_padding 4 before)) (round_up 4 (length before)) bytes (length-padded_4 before) (occurs_last (with_padding 4 before) bytes))
+  table_occurs before after has = search (rules, arith, occurs_at, occurs_last, length-padded_4)
 
 -- ---- what the writing functions require of it
 
