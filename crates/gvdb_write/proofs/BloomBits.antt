@@ -22,10 +22,3 @@ set_in_left a b k set =
     let both = bit_at_or a b k in
     let less = bit_at-lt b k in
     bit_is_set (bit_or a b) k (omega (arith, one, both, less))
-
-pub set_in_right : (a b k : ℕ) → IsBitSet b k → IsBitSet (bit_or a b) k
-set_in_right a b k set =
-    let one = set_bit_is b k set in
-    let both = bit_at_or a b k in
-    let less = bit_at-lt a k in
-    bit_is_set (bit_or a b) k (omega (arith, one, both, less))

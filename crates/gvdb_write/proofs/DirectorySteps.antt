@@ -33,10 +33,6 @@ list_end : (n : Named) → kind_of n.content ≡ list_kind → EndsAs n → HasN
 list_end n list (inl value) = let bad : list_kind ≡ 118 = sym list ∙ value.0 in absurd (omega (arith, bad))
 list_end n list (inr ends) = ends.3
 
-top_name : (n : Named) → kind_of n.content ≡ list_kind → n.from ≡ 0 → IsTopEntry (entry_of n) → n.name.now ≡ codes "/"
-top_name n list from (inl slash) = ap (λ (k : ℕ). drop k n.name.now) (sym from) ∙ slash.1
-top_name n list from (inr locks) = let bad : list_kind ≡ 72 = sym list ∙ locks.0 in absurd (omega (arith, bad))
-
 module _ (names : List Named) (name text : List ℕ) (at : ℕ) (placed : ArePlaced names) (u : IsUpFrom names name text at) (r : Bool) (m : r ≡ starts_with nat_eq text (name_at names at)) where
   -- a step up, from a list whose name the text does not begin with
   up : (p : ℕ) → r ≡ false → (p < at) × LiesIn (named names p) (named names at) → IsUpFrom names name text p
@@ -73,14 +69,6 @@ module _ (names : List Named) (name text : List ℕ) (at : ℕ) (placed : ArePla
   up_one p other is =
       let lies = subst (λ (o : Option ℕ). NameHasParent names at o) is (placed at u.within).has_parent in
       (lies.0, up p other lies)
-
-  -- a list without directory is `/`, with which each path begins
-  pub not_top : IsSlash text 0 → r ≡ false → (named names at).parent ≡ None → ⊥
-  not_top first other is =
-      let top = subst (λ (o : Option ℕ). NameHasParent names at o) is (placed at u.within).has_parent in
-      let slash : name_at names at ≡ codes "/" = top_name (named names at) u.list top.0 top.1 in
-      let one : take (0 + 1) text ≡ codes "/" = take_more text 0 0 first.here ∙ ap (λ (c : ℕ). take 0 text ++ c ∷ []) first.slash in
-      begins_not text (name_at names at) r m other (ap (λ (x : List ℕ). take (length x) text) slash ∙ (one ∙ sym slash))
 
   pub lies_there : r ≡ true → IsDirectoryAt names text at
   lies_there is =

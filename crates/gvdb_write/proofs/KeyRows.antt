@@ -22,9 +22,6 @@ pub record AreRowsBelow (items : List Named) (from : ℕ) (rows : List Numbers) 
   pub ends : at ≡ keys_end (entries_of items) from n
   pub each : (i : ℕ) → i < length rows → IsRecordOf items from i (row rows i)
 
-pub no_rows : (items : List Named) (from : ℕ) (rows : List Numbers) → rows ≡ [] → AreRowsBelow items from rows from 0
-no_rows items from rows e = grind (arith, common_steps)
-
 -- the numbers of a name whose key starts there
 pub record AreNumbersOf (d : Named) (at : ℕ) (r : Numbers) : Type 0 where
   pub hash : r.hash ≡ d.hash
@@ -32,9 +29,6 @@ pub record AreNumbersOf (d : Named) (at : ℕ) (r : Numbers) : Type 0 where
   pub key_start : r.key_start ≡ at
   pub key_size : r.key_size ≡ length d.name.now - d.from
   pub of_kind : r.kind ≡ kind_of d.content
-
-is_row : (items : List Named) (from at n : ℕ) (r : Numbers) → at ≡ keys_end (entries_of items) from n → AreNumbersOf (named items n) at r → IsRecordOf items from n r
-is_row items from at n r ends is = grind (arith, common_steps)
 
 pub next_end : (items : List Named) (from at next n : ℕ) → at ≡ keys_end (entries_of items) from n → next ≡ at + (length (name_at items n) - (named items n).from) → next ≡ keys_end (entries_of items) from (n + 1)
 next_end items from at next n ends is = grind (arith, common_steps)

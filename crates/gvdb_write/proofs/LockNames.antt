@@ -28,9 +28,6 @@ pub record AreLocksSoFar (s : Settings) (names : List Named) (left : List (List 
   pub counted : length names ≡ length done
   pub each : (i : ℕ) → i < length names → IsLockNamed (get_or done i []) (named names i)
 
-pub no_locks_yet : (s : Settings) → AreLocksSoFar s [] (keys s.locks)
-no_locks_yet s = record { done = []; listed = refl; counted = refl; each = λ i here. absurd (omega (arith, here)) }
-
 pub one_lock_more : (s : Settings) (names : List Named) (path : List ℕ) (rest : List (List ℕ)) (n : Named) → AreLocksSoFar s names (path ∷ rest) → IsLockNamed path n → AreLocksSoFar s (names ++ n ∷ []) rest
 one_lock_more s names path rest n so new =
     let c = so.counted in

@@ -26,11 +26,6 @@ use Rattle.std.specs.FinMap.{contains_key}
 
 -- ---- entries
 
-is_kind : (c : Content) → IsKind (kind_of c)
-is_kind (Value bytes) = inl refl
-is_kind Listed = inr (inl refl)
-is_kind Locks = inr (inr refl)
-
 spelled : (names : List Named) (i : ℕ) → i < length names → (o : Option ℕ) → NameHasParent names i o → IsSpelled (entries_of names) i o
 spelled names i here None s = grind (arith, common_steps)
 spelled names i here (Some p) s = grind (arith, common_steps)
@@ -53,9 +48,6 @@ are_entries names placed ascending = record { each = λ i here. is_entry names i
 
 -- ---- of a root table
 
-no_slash_in : (name : List ℕ) (from end : ℕ) → end ≤ length name → HasNoSlash name from end → (k : ℕ) → from + k < end → get_or (drop from name) k 0 ≢ 47
-no_slash_in name from end inside plain k here slash = plain (from + k) (omega arith) here (sym (get_or-drop from name k 0) ∙ slash)
-
 part_entry : (n : Named) → IsFit n → EndsAs n → IsPartEntry (entry_of n)
 part_entry n fit (inl value) = grind (arith, common_steps)
 part_entry n fit (inr list) = grind (arith, common_steps)
@@ -71,14 +63,6 @@ are_root_entries names good i here = search (rules, arith, has_parent)
 
 itself : (names : List Named) (i k : ℕ) → i < length names → kind_at names i ≡ list_kind → k + 1 ≡ length (name_at names i) → IsThere names (take (k + 1) (name_at names i)) list_kind
 itself names i k here list end = grind (arith, common_steps)
-
-top_directory : (names : List Named) (i k : ℕ) → i < length names → (named names i).from ≡ 0 → IsTopEntry (entry_of (named names i)) → IsSlash (name_at names i) k → IsThere names (take (k + 1) (name_at names i)) list_kind
-top_directory names i k here from (inl slash) s = grind (arith, common_steps)
-top_directory names i k here from (inr other) s = grind (arith, common_steps)
-
-end_of : (n : Named) (k : ℕ) → EndsAs n → n.from ≤ k → IsSlash n.name.now k → (kind_of n.content ≡ list_kind) × (k + 1 ≡ length n.name.now)
-end_of n k (inl value) le s = grind (arith, common_steps)
-end_of n k (inr list) le s = grind (arith, common_steps)
 
 closed_by : (names : List Named) (i k : ℕ) → i < length names → (o : Option ℕ) → NameHasParent names i o → IsSlash (name_at names i) k
     → ((p : ℕ) → p < i → IsSlash (name_at names p) k → IsThere names (take (k + 1) (name_at names p)) list_kind)

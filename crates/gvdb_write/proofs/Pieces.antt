@@ -6,15 +6,9 @@ use Rattle.std.proofs.lemmas.List.{take_more, take_all, length-drop, append-nil,
 use Rattle.std.proofs.lemmas.List.Concat.{flat_map-append}
 use Rattle.gvdb_write.specs.declared.names.Named.{Named}
 
-pieces_more : {X Y : Type 0} (g : X → Y) (f : Y → List ℕ) (xs : List X) (i : ℕ) (d : X) → i < length xs → flat_map f (map g (take (i + 1) xs)) ≡ flat_map f (map g (take i xs)) ++ f (g (get_or xs i d))
-pieces_more g f xs i d l = grind (arith, common_steps)
-
 -- one more piece
 pub mapped_appended : {X Y : Type 0} (g : X → Y) (f : Y → List ℕ) (xs : List X) (i : ℕ) (d : X) (out before after : List ℕ) → i < length xs → before ≡ out ++ flat_map f (map g (take i xs)) → after ≡ before ++ f (g (get_or xs i d)) → after ≡ out ++ flat_map f (map g (take (i + 1) xs))
 mapped_appended g f xs i d out before after l b a = grind (arith, common_steps)
-
-piece_more : {X : Type 0} (f : X → List ℕ) (xs : List X) (i : ℕ) (d : X) → i < length xs → flat_map f (take (i + 1) xs) ≡ flat_map f (take i xs) ++ f (get_or xs i d)
-piece_more f xs i d l = grind (arith, common_steps)
 
 pub piece_appended : {X : Type 0} (f : X → List ℕ) (xs : List X) (i : ℕ) (d : X) (out before after : List ℕ) → i < length xs → before ≡ out ++ flat_map f (take i xs) → after ≡ before ++ f (get_or xs i d) → after ≡ out ++ flat_map f (take (i + 1) xs)
 piece_appended f xs i d out before after l b a = grind (arith, common_steps)

@@ -20,9 +20,6 @@ abbrev pub ArePointedBelow : List Named → Contents → List Numbers → Type 0
 ArePointedBelow items c rows =
     (i : ℕ) → i < length rows → HasPointer (row rows i) (content_pointer c i (named items i).content).start (content_pointer c i (named items i).content).end
 
-pub none_pointed : (items : List Named) (c : Contents) (rows : List Numbers) → rows ≡ [] → ArePointedBelow items c rows
-none_pointed items c rows none i l = let n = ap length none in absurd (omega (arith, l, n))
-
 -- one item more
 pub pointed_more : (items : List Named) (c : Contents) (rows new : List Numbers) (n : ℕ) (d : Named) (r : Numbers) (p : Pointer)
     → length rows ≡ n → ArePointedBelow items c rows → d ≡ named items n → new ≡ rows ++ r ∷ [] → p ≡ content_pointer c n d.content → r.start ≡ p.start → r.end ≡ p.end → ArePointedBelow items c new

@@ -39,10 +39,6 @@ none_from t n all path bytes = (
       absurd (omega (arith, from, counted, all)),
 )
 
--- one item more, which has no value of that name
-not_this : (t : Table) (n : ℕ) (path : List ℕ) → (IsRow t path value_kind n → ⊥) → (k : ℕ) → n ≤ k → IsRow t path value_kind k → n + 1 ≤ k
-not_this t n path other k le row = grind (arith, common_steps)
-
 still_lowest : (t : Table) (n : ℕ) (path bytes : List ℕ) → (IsRow t path value_kind n → ⊥) → IsLowestFrom t (n + 1) path bytes ↔ IsLowestFrom t n path bytes
 still_lowest t n path bytes other = grind (arith, common_steps)
 

@@ -148,25 +148,6 @@ module _ (s : Settings) (names : List Named) (t : TablePlan) (settings : IsSetti
       (renumbered_lock is.number ((entries_of names).entry (is.order i))
       (subst (λ (x : Entry). IsLockEntry x) (sym (are.each (is.order i) o).entry) (is_lock_entry (LockAt (is.order i)) (lock_path (is.order i) o))))
 
--- ---- hashes and directories, as a table is made of names that have them
-
-parent_within : (names : List Named) (i : ℕ) → i < length names → (o : Option ℕ) → NameHasParent names i o → (p : ℕ) → o ≡ Some p → p < length names
-parent_within names i here None has_parent p is = grind (arith, common_steps)
-parent_within names i here (Some q) has_parent p is = grind (arith, common_steps)
-
-module _ (s : Settings) (names : List Named) where
-  pub root_hashes : AreNamesOf s names → (k : ℕ) → k < length names → (named names k).hash ≡ hash_of (named names k).name.now
-  root_hashes are k here = (are.good.placed k here).fit.hash
-
-  pub root_parents : AreNamesOf s names → (k p : ℕ) → k < length names → (named names k).parent ≡ Some p → p < length names
-  root_parents are k p here is = parent_within names k here (named names k).parent (are.good.placed k here).has_parent p is
-
-  pub lock_hashes : AreLockNames s names → (k : ℕ) → k < length names → (named names k).hash ≡ hash_of (named names k).name.now
-  lock_hashes are k here = (are.each k here).hash
-
-  pub lock_parents : AreLockNames s names → (k p : ℕ) → k < length names → (named names k).parent ≡ Some p → p < length names
-  lock_parents are k p here is = absurd (none-some p (sym (ap (λ (x : Entry). x.parent) (are.each k here).entry) ∙ is))
-
 -- ---- the plan
 
 pub tables_are_plan : (s : Settings) (names lock_names : List Named) (root locks : TablePlan) → IsSettings s → AreNamesOf s names → IsTableOf names root → AreLockNames s lock_names → IsTableOf lock_names locks → IsPlanOf s (plan_of root locks)

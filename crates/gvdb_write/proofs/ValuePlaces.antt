@@ -27,9 +27,6 @@ there values value k is =
     let e : bytes_eq value (get_or values k []) ≡ true = ap (λ (v : List ℕ). bytes_eq value v) is.1 ∙ itself value in
     ap (λ (b : Bool). cond b values (values ++ value ∷ [])) (list_any_at (bytes_eq value) values k [] is.0 e)
 
-pub not_there : (values : List (List ℕ)) (value : List ℕ) → IsPlaceOf values value None → with_new values value ≡ values ++ value ∷ []
-not_there values value is = ap (λ (b : Bool). cond b values (values ++ value ∷ [])) is
-
 -- what is found where the slot has something
 pub placed : (others : Others) (values : List (List ℕ)) (q : Bor (List ℕ)) (first : ℕ) (b : Bool) → first ≢ 0 → bytes_eq (get_or values (first - 1) []) q.now ≡ b → place_by others values q first ≡ cond b (Some (first - 1)) (get by_bytes others q)
 placed others values q zero b some e = absurd (some refl)
