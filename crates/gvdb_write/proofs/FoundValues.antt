@@ -1,4 +1,5 @@
 -- The place of each item's value among values that are stored once.
+use Rattle.std.proofs.lemmas.Grind.{common_steps}
 use Rattle.std.proofs.Common.{ℕ, ◌≡◌, ◌≢◌, ◌<◌, ◌≤◌, ◌+◌, List, [], ◌∷◌, ◌++◌, length, get_or, take, fold, refl, sym, ap, ◌∙◌, arith, below_more, length-append, Bor}
 use Rattle.std.proofs.lemmas.List.{get_or_append_left, get_or_default, get_or_push, take_more, take_all, append-nil}
 use Rattle.std.proofs.lemmas.List.Concat.{flat_map-append}
@@ -14,10 +15,7 @@ use Rattle.gvdb_write.specs.Contents.{own_value, own_values, HavePlaces}
 use Rattle.gvdb_write.proofs.OnceEach.{kept, all_kept}
 
 pub values_more : (items : List Named) (n : ℕ) → n < length items → own_values (take (n + 1) items) ≡ own_values (take n items) ++ own_value (named items n).content
-values_more items n l =
-    ap own_values (take_more items n no_name l)
-    ∙ (flat_map-append (λ (m : Named). own_value m.content) (take n items) (named items n ∷ [])
-    ∙ ap (λ (vs : List (List ℕ)). own_values (take n items) ++ vs) (append-nil (own_value (named items n).content)))
+values_more items n l = grind (arith, common_steps, take_more, append-nil, flat_map-append)
 
 -- an item read at another default is the same
 same_content : (items : List Named) (n : ℕ) (d : Named) → n < length items → (named items n).content ≡ (get_or items n d).content

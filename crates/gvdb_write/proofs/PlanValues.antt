@@ -1,4 +1,5 @@
 -- The values of a plan, once each, from those of the items of its tables.
+use Rattle.std.proofs.lemmas.Grind.{common_steps}
 use Rattle.std.proofs.Common.{ℕ, zero, suc, ◌≡◌, ◌≤◌, ◌+◌, Bool, cond, List, [], ◌∷◌, ◌++◌, length, take, fold, refl, sym, ap, ◌∙◌, arith, if◌then◌else◌, ◌==◌, ne_eqb}
 use Rattle.std.proofs.lemmas.List.{take_all}
 use Rattle.std.proofs.lemmas.List.Sums.{fold-append}
@@ -32,9 +33,7 @@ values_so_far root locks (suc i) l =
     ∙ (sym (values_more items i (omega (arith, l))) ∙ ap (λ (n : ℕ). own_values (take n items)) next))
 
 pub root_values : (root locks : TablePlan) → item_values (plan_of root locks) (length root.items.items) ≡ own_values root.items.items
-root_values root locks =
-    let items = root.items.items in
-    values_so_far root locks (length items) (omega arith) ∙ ap own_values (take_all (length items) items (omega arith))
+root_values root locks = grind (arith, common_steps, take_all, values_so_far)
 
 -- ---- the values of locks, of which one is laid
 
@@ -50,9 +49,7 @@ own_of_lock Listed k e = absurd (omega (arith, k))
 own_of_lock Locks k e = absurd (omega (arith, k))
 
 first_of_locks : (item : Named) (items : List Named) → AreLocks (item ∷ items) → own_values (item ∷ items) ≡ nothing_bytes ∷ own_values items
-first_of_locks item items locks =
-    let lock = locks 0 (omega arith) in
-    ap (λ (vs : List (List ℕ)). vs ++ own_values items) (own_of_lock item.content lock.0 lock.1)
+first_of_locks item items locks = grind (arith, common_steps, own_of_lock)
 
 other_locks : (item : Named) (items : List Named) → AreLocks (item ∷ items) → AreLocks items
 other_locks item items locks i l = locks (suc i) (omega (arith, l))
@@ -75,10 +72,4 @@ locks_add_one (item ∷ items) seen locks =
 
 -- those of the root table, and after them those of the locks, are all values once each
 pub all_once : (root locks : TablePlan) (first all : List (List ℕ)) → AreLocks locks.items.items → first ≡ fold with_new [] (own_values root.items.items) → all ≡ fold with_new first (own_values locks.items.items) → all ≡ once_each (all_values (plan_of root locks))
-all_once root locks first all are of_root of_locks =
-    let items = locks.items.items in
-    let own = item_values (plan_of root locks) (length root.items.items) in
-    of_locks
-    ∙ (locks_add_one items first are
-    ∙ (ap (λ (vs : List (List ℕ)). fold with_new vs (lock_values (length items))) (of_root ∙ ap (fold with_new []) (sym (root_values root locks)))
-    ∙ sym (fold-append with_new [] own (lock_values (length items)))))
+all_once root locks first all are of_root of_locks = grind (arith, common_steps, fold-append, root_values, locks_add_one)

@@ -1,4 +1,5 @@
 -- The places of values that are stored once.
+use Rattle.std.proofs.lemmas.Grind.{common_steps}
 use Rattle.std.proofs.Common.{ℕ, zero, suc, ◌≡◌, ◌≢◌, ◌<◌, ◌≤◌, ◌-◌, ◌%◌, ◌⊎◌, Bool, true, false, cond, ◌||◌, List, [], ◌∷◌, ◌++◌, length, get_or, set, Option, is_some, Some, None, Bor, refl, sym, ap, ◌∙◌, subst, arith, length-append, inl, inr}
 use Rattle.std.specs.List.{list_any}
 use Rattle.std.specs.Str.{bytes_eq}
@@ -23,9 +24,7 @@ IsPlaceOf values value (Some k) = (k < length values) × (get_or values k [] ≡
 
 -- what is there already
 pub there : (values : List (List ℕ)) (value : List ℕ) (k : ℕ) → IsPlaceOf values value (Some k) → with_new values value ≡ values
-there values value k is =
-    let e : bytes_eq value (get_or values k []) ≡ true = ap (λ (v : List ℕ). bytes_eq value v) is.1 ∙ itself value in
-    ap (λ (b : Bool). cond b values (values ++ value ∷ [])) (list_any_at (bytes_eq value) values k [] is.0 e)
+there values value k is = grind (arith, common_steps, list_any_at, itself)
 
 -- what is found where the slot has something
 pub placed : (others : Others) (values : List (List ℕ)) (q : Bor (List ℕ)) (first : ℕ) (b : Bool) → first ≢ 0 → bytes_eq (get_or values (first - 1) []) q.now ≡ b → place_by others values q first ≡ cond b (Some (first - 1)) (get by_bytes others q)
@@ -80,19 +79,15 @@ module _ (slots : List ℕ) (others : Others) (values : List (List ℕ)) (value 
   last = (let l = length-append values (value.now ∷ []) in omega (arith, l), get_or_push values value.now [] (length values) refl)
 
   still : (q : List ℕ) (k : ℕ) → IsPlaceOf values q (Some k) → IsPlaceOf (values ++ value.now ∷ []) q (Some k)
-  still q k is =
-      (let l = length-append values (value.now ∷ []) in let h = is.0 in omega (arith, l, h), get_or_append_left values (value.now ∷ []) [] k is.0 ∙ is.1)
+  still q k is = grind (arith, common_steps, length-append, get_or_append_left)
 
   absent_still : (q : Bor (List ℕ)) → q.now ≢ value.now → place_by others values q (slot_of slots q.now) ≡ None → list_any (bytes_eq q.now) (values ++ value.now ∷ []) ≡ false
-  absent_still q other none =
-      list_any-append (bytes_eq q.now) values (value.now ∷ [])
-      ∙ (ap (λ (b : Bool). b || (bytes_eq q.now value.now || false)) (are.absent q none) ∙ ap (λ (b : Bool). b || false) (other_path q.now value.now other))
+  absent_still q other none = grind (arith, common_steps, list_any-append, other_path)
 
   -- a value that was there is found as before
   as_before : (q : Bor (List ℕ)) (first : ℕ) → first ≤ length values → place_by others (values ++ value.now ∷ []) q first ≡ place_by others values q first
-  as_before q zero within = refl
-  as_before q (suc k) within =
-      ap (λ (v : List ℕ). cond (bytes_eq v q.now) (Some k) (get by_bytes others q)) (get_or_append_left values (value.now ∷ []) [] k (omega (arith, within)))
+  as_before q zero within = grind (arith, common_steps, get_or_append_left, within)
+  as_before q (suc k) within = grind (arith, common_steps, get_or_append_left, within)
 
   -- the value at its slot, which had none
   pub slot_filled : (i : ℕ) → i ≡ hash_of value.now % length slots → i < length slots → get_or slots i 0 ≡ 0 → ArePlaces (set slots i (suc (length values))) others (values ++ value.now ∷ [])
