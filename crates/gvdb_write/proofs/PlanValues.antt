@@ -13,8 +13,7 @@ use Rattle.gvdb_write.specs.LayoutParts.{AreLocks}
 use Rattle.gvdb_write.specs.Names.{named, kind_at}
 use Rattle.gvdb_write.specs.PlanWords.{kind_of, content_bytes, plan_of}
 use Rattle.gvdb_write.specs.Contents.{own_value, own_values}
-use Rattle.gvdb_write.proofs.OnceEach.{twice_is_once}
-use Rattle.gvdb_write.proofs.FoundValues.{values_more}
+use Rattle.gvdb_write.proofs.FoundValues.{twice_is_once, values_more}
 
 -- ---- the values of the root table
 

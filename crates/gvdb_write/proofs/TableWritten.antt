@@ -1,7 +1,6 @@
 -- A table that occurs in a file with its keys, and whose contents are where its rows say, is written.
-use Rattle.std.proofs.Common.{rules, arith}
+use Rattle.std.proofs.Common.{rules, arith, ◌≡◌, ◌<◌, ◌≤◌, ◌+◌, ◌-◌, ◌*◌, ◌/◌, ◌%◌, ◌^◌, ℕ, List, ◌++◌, length, get_or, replicate, sym, ap, ◌∙◌, subst, length-append, zero, suc, [], ◌∷◌, drop, refl}
 use Rattle.std.proofs.lemmas.Grind.{common_steps}
-use Rattle.std.proofs.Common.{◌≡◌, ◌<◌, ◌≤◌, ◌+◌, ◌-◌, ◌*◌, ◌/◌, ◌%◌, ◌^◌, ℕ, List, ◌++◌, length, get_or, replicate, sym, ap, ◌∙◌, subst, arith, length-append}
 use Rattle.std.proofs.Math.ListN.{get_or-map}
 use Rattle.std.proofs.lemmas.List.{length-map, length-drop, length-replicate}
 use Rattle.gv_model.specs.Encode.{number_bytes}
@@ -14,7 +13,7 @@ use Rattle.dconf_model.specs.Entries.{AreEntries}
 use Rattle.dconf_model.specs.Plans.{size_of_table, keys_end}
 use Rattle.dconf_model.specs.TableBytes.{OccursAt, ItemRecord, record_bytes, records_bytes, words_bytes, head_bytes, table_bytes, table_size}
 use Rattle.dconf_model.specs.TableEncoding.{EncodesItem, HasBits, IsWritten, no_row}
-use Rattle.dconf_model.proofs.Occurrences.{occurs_at, occurs_last, occurs_prefix, occurs_next, length-pieces}
+use Rattle.dconf_model.proofs.Occurrences.{occurs_at, occurs_last, occurs_prefix, occurs_next, length-pieces, occurs_suffix}
 use Rattle.dconf_model.proofs.TableNumbers.{length-row}
 use Rattle.dconf_model.proofs.PlanEnds.{not_below}
 use Rattle.gvdb_read.specs.declared.format.record.ItemRecord.{ItemRecord as Numbers}
@@ -26,7 +25,31 @@ use Rattle.gvdb_write.specs.Names.{named, name_at, kind_at}
 use Rattle.gvdb_write.specs.LayoutParts.{AreRecords, IsRecordOf, row, no_numbers}
 use Rattle.gvdb_write.specs.WrittenParts.{HaveFourBytes, HaveBits, HasTable, keys_bytes, records_of, with_padding}
 use Rattle.gvdb_write.specs.PlannedTables.{AreItems}
-use Rattle.gvdb_write.proofs.KeyPlaces.{key_occurs, keys_length}
+
+abbrev pub key_of : Named → List ℕ
+key_of n = drop n.from n.name.now
+
+-- the keys after the first end as those of the rest do
+after_first : (n : Named) (items : List Named) (at i : ℕ) → keys_end (entries_of (n ∷ items)) at (suc i) ≡ keys_end (entries_of items) (at + length (key_of n)) i
+after_first n items at zero = refl
+after_first n items at (suc i) = ap (λ (m : ℕ). m + length (key_of (named items i))) (after_first n items at i)
+
+-- each key is where those before it end
+pub key_occurs : (items : List Named) (i : ℕ) (file : List ℕ) (at : ℕ) → i < length items → OccursAt file at (keys_bytes items) → OccursAt file (keys_end (entries_of items) at i) (key_of (named items i))
+key_occurs [] i file at here s = absurd (omega (arith, here))
+key_occurs (n ∷ items) zero file at here s = occurs_prefix file at (key_of n) (keys_bytes items) s
+key_occurs (n ∷ items) (suc i) file at here s =
+    occurs_at file (keys_end (entries_of items) (at + length (key_of n)) i) (keys_end (entries_of (n ∷ items)) at (suc i)) (key_of (named items i)) (sym (after_first n items at i))
+    (key_occurs items i file (at + length (key_of n)) (omega (arith, here)) (occurs_suffix file at (key_of n) (keys_bytes items) s))
+
+-- they are as long as their ends say
+pub keys_length : (items : List Named) (at : ℕ) → at + length (keys_bytes items) ≡ keys_end (entries_of items) at (length items)
+keys_length [] at = let e : at + 0 ≡ at = omega arith in e
+keys_length (n ∷ items) at =
+    let both = length-append (key_of n) (keys_bytes items) in
+    let rest = keys_length items (at + length (key_of n)) in
+    let more = after_first n items at (length items) in
+    omega (arith, both, rest, more)
 
 -- ---- how long it is
 

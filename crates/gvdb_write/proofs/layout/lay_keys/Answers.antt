@@ -5,7 +5,7 @@ use Rattle.gvdb_write.specs.declared.names.Named.{Named}
 use Rattle.gvdb_write.specs.CursorPlaces.{all_keys_end}
 use Rattle.gvdb_write.specs.PlanWords.{no_name}
 use Rattle.gvdb_write.proofs.PastEnds.{still_past}
-use Rattle.gvdb_write.proofs.KeyRows.{no_item, past_all}
+use Rattle.gvdb_write.proofs.LaidRows.{no_item, past_all}
 use Rattle.gvdb_write.proofs.layout.lay_keys.Goals as goal
 
 pub returns-in_err-lay-clause-fault : goal.returns-in_err-lay-clause-fault

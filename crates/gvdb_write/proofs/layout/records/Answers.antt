@@ -8,8 +8,7 @@ use Rattle.gvdb_write.specs.ContentPlaces.{CanPoint, content_pointer}
 use Rattle.gvdb_write.specs.Contents.{IsShort}
 use Rattle.gvdb_write.specs.Names.{named}
 use Rattle.gvdb_write.specs.PlanWords.{entries_of, no_name}
-use Rattle.gvdb_write.proofs.KeyRows.{no_item, next_end, row_more}
-use Rattle.gvdb_write.proofs.PointedRows.{pointed_more}
+use Rattle.gvdb_write.proofs.LaidRows.{no_item, next_end, row_more, pointed_more}
 use Rattle.gvdb_write.proofs.layout.records.Goals as goal
 
 pub short_parent-requires : goal.short_parent-requires

@@ -1,5 +1,4 @@
-use Rattle.gvdb_write.proofs.KeyRows.{AreRowsBelow}
-use Rattle.gvdb_write.proofs.PointedRows.{ArePointedBelow}
+use Rattle.gvdb_write.proofs.LaidRows.{AreRowsBelow, ArePointedBelow}
 use Rattle.gvdb_write.proofs.layout.records.Given as goal
 
 abbrev pub invariant-loop-named : goal.invariant-loop-named

@@ -9,8 +9,7 @@ use Rattle.gvdb_write.specs.Maps.{AreKeyPaths, ArePaths, paths_of}
 use Rattle.gvdb_write.proofs.HeldEntries.{first_path, first_is_path, first_value, rest_held}
 use Rattle.gvdb_write.proofs.KeysRise.{are_settings}
 use Rattle.gvdb_write.proofs.PathTexts.{text_of_key}
-use Rattle.gvdb_write.proofs.RootNames.{AreNamesSoFar, IsMost, next_beyond, names_more, all_names}
-use Rattle.gvdb_write.proofs.RootStart.{is_top, AreBeforeSlash, none_before, locks_before, start, some_lock, no_lock}
+use Rattle.gvdb_write.proofs.RootNames.{AreNamesSoFar, IsMost, next_beyond, names_more, all_names, is_top, AreBeforeSlash, none_before, locks_before, start, some_lock, no_lock}
 use Rattle.gvdb_write.proofs.names.root_names.Goals as goal
 use Rattle.gvdb_write.proofs.names.root_names.Goals.{then-is_some+in_ok-push, else-is_some}
 

@@ -1,8 +1,19 @@
-use Rattle.std.proofs.Common.{rules, ◌∙◌, subst}
+use Rattle.std.proofs.Common.{rules, ◌∙◌, subst, ℕ, ◌≡◌, ◌≢◌, ◌<◌, ◌+◌, ◌-◌, ◌*◌, ◌/◌, ◌%◌, ap, arith, div-add-mod'}
 use Rattle.std.specs.Result.{IfErr}
 use Rattle.gvdb_write.specs.Limits.{IsPast}
-use Rattle.gvdb_write.proofs.Rounding.{rounded_past, rounded_whole}
+use Rattle.std.proofs.lemmas.Grind.{common_steps}
+use Rattle.std.proofs.Math.Nat.{mod-lt}
+use Rattle.std.proofs.lemmas.Nat.{div-mul-add}
+use Rattle.gv_model.specs.Layout.{round_up}
 use Rattle.gvdb_write.proofs.layout.Cursor.align.Goals as goal
+
+rounded_whole : (to at : ℕ) → 0 < to → at % to ≡ 0 → at ≡ round_up to at
+unfolding round_up
+rounded_whole to at some whole = grind (arith, common_steps)
+
+rounded_past : (to at : ℕ) → 0 < to → at % to ≢ 0 → at + (to - at % to) ≡ round_up to at
+unfolding round_up
+rounded_past to at some past = grind (arith, common_steps)
 
 pub returns-in_err-lay-clause-fault : goal.returns-in_err-lay-clause-fault
 returns-in_err-lay-clause-fault c =

@@ -15,11 +15,10 @@ use Rattle.gvdb_write.specs.ContentPlaces.{ArePointed, CanPoint}
 use Rattle.gvdb_write.specs.Contents.{own_values, HavePlaces, ArePointers}
 use Rattle.gvdb_write.proofs.FoundValues.{places_stay}
 use Rattle.gvdb_write.proofs.KnownContents.{can_point, root_lists, lock_lists, lists_end_there}
-use Rattle.gvdb_write.proofs.LaidContents.{are_valued}
+use Rattle.gvdb_write.proofs.WholeLayout.{are_valued, is_layout, added_seen}
 use Rattle.gvdb_write.proofs.LayoutEnds.{locks_within, root_within, whole_is}
 use Rattle.gvdb_write.proofs.PastEnds.{past_is_over, still_over}
 use Rattle.gvdb_write.proofs.PlanValues.{all_once}
-use Rattle.gvdb_write.proofs.WholeLayout.{is_layout, added_seen}
 use Rattle.gvdb_write.proofs.layout.Layout.new.Goals as goal
 
 pub returns-in_err-root_at-clause-fault : goal.returns-in_err-root_at-clause-fault
