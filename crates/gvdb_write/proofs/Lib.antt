@@ -3,6 +3,7 @@ pub mod GroupPlaces
 pub mod PushedBytes
 pub mod Order
 pub mod KeyPaths
+pub mod BuiltMaps
 pub mod DirectorySteps
 pub mod PathTexts
 pub mod PushedNames
