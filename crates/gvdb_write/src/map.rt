@@ -56,10 +56,7 @@ impl Map {
     }
 
     /// The map of rows, a later one in the place of an earlier one of its path, without a lock.
-    pub(crate) fn of_rows(
-        alloc: Global,
-        rows: Vec<(String, Vec<u8>)>,
-    ) -> Result<Map, AllocError>
+    pub(crate) fn of_rows(alloc: Global, rows: Vec<(String, Vec<u8>)>) -> Result<Map, AllocError>
         requires { IsSettings (settings_of_rows rows.items) }
         ensures { IfOk result (λ map. map ≡ settings_of_rows rows.items) }
     {
