@@ -9,7 +9,7 @@ use crate::fault::{CompileCause, CompileFault};
 use crate::locking::add_lock_files;
 use crate::order::{Numbered, first_file, in_order};
 use crate::source::Source;
-use gvdb_write::{Map, WriteFault, write};
+use gvdb_write::{Map, MapBuilder, WriteFault, write};
 use std::alloc::Global;
 
 /// The bytes of the database that keyfiles and lock files give, or their first fault.
@@ -52,8 +52,9 @@ fn settings(
     ensures given { IfOk result (λ map. AreGivenBy (given_by files.now locks.now) map) }
     ensures fault { IfErr result (StopsAt (given_by files.now locks.now)) }
 {
-    let mut map = Map::new(alloc);
-    add_keyfiles(alloc, files, &mut map)?;
+    let mut values = MapBuilder::new(alloc);
+    add_keyfiles(alloc, files, &mut values)?;
+    let mut map = values.build()?;
     add_lock_files(alloc, locks, &mut map)?;
     Ok(map)
 }

@@ -1,4 +1,4 @@
-//! A row of a keyfile, put into a map: its path, and the bytes that are stored for its value.
+//! A row of a keyfile, put among settings: its path, and the bytes that are stored for its value.
 ghost use Rattle.std.specs.Prelude.{◌≡◌, ◌≤◌, IfOk, IfErr, IfSome, OnOk, Err, codes, length, string_bytes};
 ghost use Rattle.dconf_model.specs.Keyfiles.{path_of};
 ghost use Rattle.dconf_model.specs.Lines.LineReading.{wrong};
@@ -10,17 +10,17 @@ use crate::fault::CompileCause;
 use crate::value::value_of_text;
 use dconf_path::KeyPath;
 use gv_build::variant_bytes;
-use gvdb_write::Map;
+use gvdb_write::MapBuilder;
 use keyfile_core::Row;
 use std::alloc::{AllocError, Global};
 
-/// Puts a row's value into a map, in the place of the one that its path had. The path is written
+/// Puts a row's value among settings, in the place of the one that its path had. The path is written
 /// over a text, so that many rows need room for one path.
 pub(crate) fn add_row(
     alloc: Global,
     row: &Row<'_>,
     path: &mut String,
-    settings: &mut Map,
+    settings: &mut MapBuilder,
 ) -> Result<(), CompileCause>
     requires { IsReadRow (row_meant row.now) }
     ensures added { OnOk result (AddsRow (row_compiled (row_meant row.now)) settings.old settings.new) }

@@ -31,7 +31,7 @@ use Rattle.dconf_model.specs.Settings.{AtPaths, Lock, Settings, IsSettings, no_s
 abbrev KeptAt : {X : Type 0} → (List ℕ → Bool) → AtPaths X → Type 0
 KeptAt test m = (path : List ℕ) → IsTrue (contains_key m path) → IsTrue (test path)
 
-no_paths : IsSettings no_settings
+pub no_paths : IsSettings no_settings
 no_paths = record {
   valued = λ q h. absurd (true≢false (sym h ∙ ap is_some (get-empty (slice_cmp nat_cmp) q)));
   locked = λ q h. absurd (true≢false (sym h ∙ ap is_some (get-empty (slice_cmp nat_cmp) q)));

@@ -2,6 +2,7 @@ pub mod Read
 pub mod GroupPlaces
 pub mod Order
 pub mod KeyPaths
+pub mod BuiltMaps
 pub mod DirectorySteps
 pub mod PathTexts
 pub mod PushedNames

@@ -16,7 +16,7 @@ use Rattle.std.specs.Cmp.{eq_by_cmp_equiv}
 use Rattle.std.proofs.lemmas.Cmp.{nat_list_cmp_total}
 use Rattle.std.proofs.lemmas.Map.Text.{btree_map_updates_text, btree_set_updates_text, is_eq-slice_cmp}
 use Rattle.std.proofs.lemmas.Bool.{true≢false}
-use Rattle.dconf_model.specs.Settings.{Lock}
+use Rattle.dconf_model.specs.Settings.{AtPaths, Lock}
 use Rattle.gvdb_write.specs.Maps.{values_of, locks_of, value_entries, lock_entries}
 
 -- equal texts are the same path
@@ -35,12 +35,16 @@ find_value (e ∷ es) q = ap (cond (eq_by_cmp (slice_cmp nat_cmp) q (string_byte
 pub get_values : (m : BTreeMap (String Global) (Vec ℕ Global)) (q : List ℕ) → get (values_of m) q ≡ option_map (λ w. w.items) (get_by_text m q)
 get_values m q = get-from_entries nat_list_cmp_total (value_entries m.entries) q ∙ find_value m.entries q
 
+-- a value that is inserted is found at its path, and elsewhere what was found before
+pub inserted_at : (m : AtPaths (List ℕ)) (f : List ℕ → Option (Vec ℕ Global)) → ((q : List ℕ) → get m q ≡ option_map (λ w. w.items) (f q)) → (path : List ℕ) (v : Vec ℕ Global) (q : List ℕ)
+    → get (insert m path v.items) q ≡ option_map (λ w. w.items) (update bytes_eq f path (Some v) q)
+inserted_at m f same path v q =
+    get-insert nat_list_cmp_total m path v.items q ∙ ap (λ b. cond b (Some v.items) (get m q)) (sym (same_path path q))
+    ∙ ap (cond (bytes_eq path q) (Some v.items)) (same q) ∙ items_if (bytes_eq path q) v (f q)
+
 insert_values : (m n : BTreeMap (String Global) (Vec ℕ Global)) (path : List ℕ) (v : Vec ℕ Global) → ((q : List ℕ) → get_by_text n q ≡ update bytes_eq (get_by_text m) path (Some v) q) → values_of n ≡ insert (values_of m) path v.items
 insert_values m n path v h = same_map nat_list_cmp_total (slice_cmp-IsAntisymmetric nat_cmp-IsAntisymmetric) _ _ (λ q.
-    get_values n q ∙ ap (option_map (λ w. w.items)) (h q) ∙ sym (items_if (bytes_eq path q) v (get_by_text m q))
-    ∙ ap (cond (bytes_eq path q) (Some v.items)) (sym (get_values m q))
-    ∙ ap (λ b. cond b (Some v.items) (get (values_of m) q)) (same_path path q)
-    ∙ sym (get-insert nat_list_cmp_total (values_of m) path v.items q))
+    get_values n q ∙ ap (option_map (λ w. w.items)) (h q) ∙ sym (inserted_at (values_of m) (get_by_text m) (get_values m) path v q))
 
 -- a map that takes a value at a path
 pub inserted : (m n : BTreeMap (String Global) (Vec ℕ Global)) (key : String Global) (v : Vec ℕ Global) (path value : List ℕ) → UpdatesBy string_cmp (string_cmp key) m n (Some v) → string_bytes key ≡ path → v.items ≡ value → values_of n ≡ insert (values_of m) path value

@@ -13,5 +13,6 @@ pub mod Contents
 pub mod ContentPlaces
 pub mod CursorPlaces
 pub mod PlannedTables
+pub mod Rows
 pub mod Salvaged
 pub mod SalvageFaults

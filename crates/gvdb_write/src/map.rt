@@ -1,5 +1,5 @@
 //! A map of paths to the bytes of their values, and a set of locked paths.
-ghost use Rattle.std.specs.Prelude.{◌≡◌, IsTrue, OnOk, OnErr, option_map, string_bytes};
+ghost use Rattle.std.specs.Prelude.{◌≡◌, IsTrue, IfOk, OnOk, OnErr, option_map, string_bytes};
 ghost use Rattle.std.specs.FinMap.{contains_key, get, keys, len};
 ghost use Rattle.dconf_model.specs.Paths.{is_key_path};
 ghost use Rattle.dconf_model.specs.Settings.{no_settings, with_value, with_lock};
@@ -38,7 +38,9 @@ impl Model for Map {
 }
 
 impl Map {
+    ghost use Rattle.dconf_model.specs.Settings.{IsSettings};
     ghost use Rattle.gvdb_write.specs.PathsLeft.{AreHeld, entries_left, keys_left, locks_left};
+    ghost use Rattle.gvdb_write.specs.Rows.{settings_of_rows};
 
     /// A map with no value and no lock. It takes no memory.
     pub fn new(alloc: Global) -> Map
@@ -51,6 +53,18 @@ impl Map {
             values,
             locks,
         }
+    }
+
+    /// The map of rows, a later one in the place of an earlier one of its path, without a lock.
+    pub(crate) fn of_rows(alloc: Global, rows: Vec<(String, Vec<u8>)>) -> Result<Map, AllocError>
+        requires { IsSettings (settings_of_rows rows.items) }
+        ensures { IfOk result (λ map. map ≡ settings_of_rows rows.items) }
+    {
+        Ok(Map {
+            alloc,
+            values: rows.into_iter().collect(alloc)?,
+            locks: BTreeSet::new(alloc),
+        })
     }
 
     /// Sets the bytes of the value at a path, in the place of those that it had.

@@ -10,6 +10,7 @@ ghost use Rattle.gvdb_read.specs.Tables.{region};
 ghost use Rattle.gvdb_write.specs.Salvaged.{HasLowestValues, HasNoShortText, IsLowestLocks, IsPointed, IsSalvageRefusal, SpellsLock, TakesLock, TakesValue};
 
 use crate::map::Map;
+use crate::map_builder::MapBuilder;
 use crate::salvage_fault::SalvageFault;
 use dconf_path::{KeyPath, LockPath, MAX_PATH_LEN};
 use gvdb_read::Table;
@@ -26,7 +27,7 @@ const LOCKS: &str = ".locks";
 /// looked into.
 ///
 /// `Open` comes where the bytes are no database, and `Memory` where a growth is refused. It walks from each item up its
-/// parents, for at most 65,536 items, and compares each path with as many as the map is deep.
+/// parents, for at most 65,536 items, and sorts the paths.
 pub fn salvage(alloc: Global, file: &[u8]) -> Result<Map, SalvageFault>
     ensures opens { IfOk result (λ _. IsDatabase file.now) }
     ensures salvaged { IfOk result (λ map. IsSalvaged file.now map) }
@@ -45,19 +46,24 @@ fn salvaged_values(alloc: Global, root: Table<'_>) -> Result<Map, AllocError>
     ensures values { IfOk result (HasLowestValues (region root.entry)) }
     ensures no_locks { IfOk result (λ map. map.locks ≡ empty) }
 {
-    let mut values = Map::new(alloc);
+    let mut values = MapBuilder::new(alloc);
     // From the last item on: the lowest value of a path is the one that is set last.
     let mut i = root.n_items();
     while i > 0 {
         i -= 1;
         salvage_value(alloc, root, i, &mut values)?;
     }
-    Ok(values)
+    values.build()
 }
 
 /// Sets item `i`'s value at its name, where it is a value and its name is the path of a key.
-fn salvage_value(alloc: Global, root: Table<'_>, i: u32, map: &mut Map) -> Result<(), AllocError>
-    ensures takes { OnOk result (TakesValue (region root.entry) i map.old map.new) }
+fn salvage_value(
+    alloc: Global,
+    root: Table<'_>,
+    i: u32,
+    values: &mut MapBuilder,
+) -> Result<(), AllocError>
+    ensures takes { OnOk result (TakesValue (region root.entry) i values.old values.new) }
 {
     let Some(bytes) = pointed_value(root, i) else {
         return Ok(());
@@ -68,7 +74,7 @@ fn salvage_value(alloc: Global, root: Table<'_>, i: u32, map: &mut Map) -> Resul
     if KeyPath::parse(name.as_str()).is_err() {
         return Ok(());
     }
-    map.put(name, bytes.to_vec(alloc)?)
+    values.put(name, bytes.to_vec(alloc)?)
 }
 
 /// The bytes of item `i`, where it is a value whose pointer is valid.

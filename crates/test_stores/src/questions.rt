@@ -3,7 +3,7 @@ use crate::databases::checking::file_checked;
 use crate::databases::dconf_made::value_read;
 use crate::databases::finding::{hashed, looked_up, searched};
 use crate::databases::items::item_shown;
-use crate::databases::maps::map_shown;
+use crate::databases::maps::{map_built, map_shown};
 use crate::databases::salvaging::salvaged;
 use crate::databases::writing::written;
 use crate::databases::written::{directory_locked, map_written};
@@ -23,6 +23,7 @@ use std::test::Fail;
 #[derive(Clone, Copy)]
 pub(crate) enum Question {
     After,
+    Built,
     Checked,
     Covered,
     Crash,
@@ -56,6 +57,7 @@ pub(crate) fn answer(
 ) -> Result<(), Fail> {
     match question {
         Question::After => seen_after(alloc, asked, found),
+        Question::Built => map_built(alloc, asked, found),
         Question::Checked => file_checked(alloc, asked, found),
         Question::Covered => covered(asked, found),
         Question::Crash => crash_cases(alloc, asked, found),

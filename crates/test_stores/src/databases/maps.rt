@@ -5,7 +5,7 @@
 use crate::questions::Question;
 use crate::rows::hold;
 use dconf_path::{KeyPath, LockPath};
-use gvdb_write::{Map, write};
+use gvdb_write::{Map, MapBuilder, write};
 use std::alloc::{AllocError, Global};
 use std::fmt::Write;
 use std::test::Fail;
@@ -108,6 +108,40 @@ pub(crate) fn map_shown(alloc: Global, asked: &str, found: &mut String) -> Resul
     Ok(())
 }
 
+/// Puts a word's value among those that a map is built of; no bytes are handed over, others are copied.
+fn add_word(alloc: Global, values: &mut MapBuilder, word: &str) -> Result<(), Fail> {
+    let (path, value) = word.split_once('=').unwrap_or((word, ""));
+    let path = KeyPath::parse(path)?;
+    let mut bytes = Vec::new(alloc);
+    push_value(&mut bytes, value)?;
+    if bytes.is_empty() {
+        values.insert_owned(path, bytes)?;
+    } else {
+        values.insert(path, &bytes)?;
+    }
+    Ok(())
+}
+
+/// The map that is built of words.
+fn built_of(alloc: Global, words: &str) -> Result<Map, Fail> {
+    let mut values = MapBuilder::new(alloc);
+    for word in words.split_terminator(' ') {
+        add_word(alloc, &mut values, word)?;
+    }
+    Ok(values.build()?)
+}
+
+/// What a map that is built of words has at a path, and its paths.
+pub(crate) fn map_built(alloc: Global, asked: &str, found: &mut String) -> Result<(), Fail> {
+    let (words, path) = asked.split_once("; ").unwrap_or((asked, ""));
+    let map = built_of(alloc, words)?;
+    show_place(&map, path, found)?;
+    for path in map.keys() {
+        write!(found, " {}", path.as_str())?;
+    }
+    Ok(())
+}
+
 const ROWS: &str = "
 /a/k=5; /a/k => Some([5, 0, 0, 0, 0, 105]) false 1 0 Map { values: 1, locks: 0 }
 /a/k=5; /a/kk => None false 1 0 Map { values: 1, locks: 0 }
@@ -121,4 +155,17 @@ const ROWS: &str = "
 #[test]
 fn values_and_locks_are_where_they_were_put(rt: HostRuntime) -> Result<(), Fail> {
     hold(rt.alloc(), Question::Map, ROWS, '\n')
+}
+
+const BUILT: &str = "
+; /a/k => None false 0 0 Map { values: 0, locks: 0 }
+/a/k=5; /a/k => Some([5, 0, 0, 0, 0, 105]) false 1 0 Map { values: 1, locks: 0 } /a/k
+/b=5 /a/k=; /a/k => Some([]) false 2 0 Map { values: 2, locks: 0 } /a/k /b
+/a/k=5 /a/k=; /a/k => Some([]) false 1 0 Map { values: 1, locks: 0 } /a/k
+/a/k= /b=5 /a/k=5 /b=; /a/k => Some([5, 0, 0, 0, 0, 105]) false 2 0 Map { values: 2, locks: 0 } /a/k /b
+";
+
+#[test]
+fn of_rows_of_one_path_the_last_counts(rt: HostRuntime) -> Result<(), Fail> {
+    hold(rt.alloc(), Question::Built, BUILT, '\n')
 }

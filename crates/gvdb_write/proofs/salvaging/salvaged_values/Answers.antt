@@ -1,6 +1,8 @@
 use Rattle.std.proofs.Common.{◌≡◌, ◌+◌, ◌-◌, ℕ, ◌∙◌, ap, sym, subst, arith}
+use Rattle.std.proofs.lemmas.Result.{IfOk-weaker}
 use Rattle.dconf_model.specs.Settings.{Settings}
 use Rattle.gvdb_read.specs.Tables.{region}
+use Rattle.gvdb_write.specs.Salvaged.{HasLowestValues}
 use Rattle.gvdb_write.proofs.SalvagedSteps.{AreLowestFrom, none_from, one_from, all_lowest, same_locks}
 use Rattle.gvdb_write.proofs.salvaging.salvaged_values.Goals as goal
 
@@ -15,7 +17,7 @@ loop-i-init c = record {
 pub loop-i-preserved : goal.loop-i-preserved
 loop-i-preserved c = record {
   lowest =
-      one_from (region c.args.root) (c.loop-i.i - 1) c.loop-i.values c.salvage_value.new.map
+      one_from (region c.args.root) (c.loop-i.i - 1) c.loop-i.values c.salvage_value.new.values
       (subst (λ (n : ℕ). AreLowestFrom (region c.args.root) n c.loop-i.values) (let some = c.loop-i-test.true in let e : c.loop-i.i ≡ c.loop-i.i - 1 + 1 = omega (arith, some) in e) c.loop-i.invariant.lowest)
       c.in_ok-salvage_value.ensures.takes;
   no_locks = same_locks c.in_ok-salvage_value.ensures.takes ∙ c.loop-i.invariant.no_locks;
@@ -23,5 +25,7 @@ loop-i-preserved c = record {
 
 pub returns-clause-values : goal.returns-clause-values
 returns-clause-values c =
+    let lowest =
     all_lowest (region c.args.root) c.loop-i.values
-    (subst (λ (n : ℕ). AreLowestFrom (region c.args.root) n c.loop-i.values) (let none = c.loop-i-test.false in let e : c.loop-i.i ≡ 0 = omega (arith, none) in e) c.loop-i.invariant.lowest)
+    (subst (λ (n : ℕ). AreLowestFrom (region c.args.root) n c.loop-i.values) (let none = c.loop-i-test.false in let e : c.loop-i.i ≡ 0 = omega (arith, none) in e) c.loop-i.invariant.lowest) in
+    IfOk-weaker c.build.result (λ map. map ≡ c.loop-i.values) (HasLowestValues (region c.args.root)) (λ map is. subst (HasLowestValues (region c.args.root)) (sym is) lowest) c.build.ensures

@@ -1,0 +1,83 @@
+//! What a map is made of, in any order: rows are kept as they come, and sorted once.
+ghost use Rattle.std.specs.Prelude.{◌≡◌, IsTrue, IfOk, OnOk, OnErr, string_bytes};
+ghost use Rattle.dconf_model.specs.Paths.{is_key_path};
+ghost use Rattle.dconf_model.specs.Settings.{no_settings, with_value};
+ghost use Rattle.dconf_path.specs.Paths.{key_text};
+
+use crate::map::Map;
+use dconf_path::KeyPath;
+use std::alloc::{AllocError, Global};
+use std::marker::Model;
+
+/// Paths and the bytes of their values, in the order in which they are given: of those of one path the last count.
+///
+/// To make a map of many paths by it costs less than to insert them one by one.
+#[derive(Drop)]
+pub struct MapBuilder {
+    alloc: Global,
+    rows: Vec<(String, Vec<u8>)>,
+}
+
+impl Model for MapBuilder {
+    ghost use Rattle.dconf_model.specs.Settings.{IsSettings, Settings, settings_code};
+    ghost use Rattle.gvdb_write.specs.Rows.{settings_of_rows};
+
+    ghost Value = { Settings };
+
+    ghost coded = { settings_code };
+
+    ghost view = { λ b. settings_of_rows b.rows.items };
+
+    ghost invariant = { λ b. IsSettings (settings_of_rows b.rows.items) };
+}
+
+impl MapBuilder {
+    /// No value. It takes no memory.
+    pub fn new(alloc: Global) -> MapBuilder
+        ensures { result ≡ no_settings }
+    {
+        let rows = Vec::new(alloc);
+        MapBuilder { alloc, rows }
+    }
+
+    /// Sets the bytes of the value at a path, in the place of those that it had.
+    ///
+    /// An error comes where a growth is refused, and then all stays as it was. It copies the path and the bytes.
+    pub fn insert(&mut self, path: KeyPath<'_>, value: &[u8]) -> Result<(), AllocError>
+        ensures ok { OnOk result (self.new ≡ with_value self.old (key_text path.entry) value.now) }
+        ensures err { OnErr result (self.new ≡ self.old) }
+    {
+        let value = value.to_vec(self.alloc)?;
+        self.insert_owned(path, value)
+    }
+
+    /// Sets the bytes of the value at a path, in the place of those that it had, and keeps them where they are.
+    ///
+    /// An error comes where a growth is refused, and then all stays as it was. It copies the path.
+    pub fn insert_owned(&mut self, path: KeyPath<'_>, value: Vec<u8>) -> Result<(), AllocError>
+        ensures ok { OnOk result (self.new ≡ with_value self.old (key_text path.entry) value.items) }
+        ensures err { OnErr result (self.new ≡ self.old) }
+    {
+        let path = String::from_str(self.alloc, path.as_str())?;
+        self.put(path, value)
+    }
+
+    /// Sets the bytes of the value at the path of a key, and keeps both where they are.
+    pub(crate) fn put(&mut self, path: String, value: Vec<u8>) -> Result<(), AllocError>
+        requires { IsTrue (is_key_path (string_bytes path)) }
+        ensures ok { OnOk result (self.new ≡ with_value self.old (string_bytes path) value.items) }
+        ensures err { OnErr result (self.new ≡ self.old) }
+    {
+        self.rows.push((path, value))?;
+        Ok(())
+    }
+
+    /// The map of these paths and values, without a lock.
+    ///
+    /// An error comes where a growth is refused. It sorts the paths.
+    pub fn build(self) -> Result<Map, AllocError>
+        ensures { IfOk result (λ map. map ≡ self) }
+    {
+        Map::of_rows(self.alloc, self.rows)
+    }
+}
