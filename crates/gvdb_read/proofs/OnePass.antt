@@ -13,7 +13,7 @@ use Rattle.gvdb_read.specs.Unsounds.{KeepsBelow}
 use Rattle.gvdb_read.proofs.CountedLists.{IsFound, lists_kept}
 use Rattle.gvdb_read.proofs.HashAbove.{hashes_kept}
 use Rattle.gvdb_read.proofs.NameChecks.{only_of_hash}
-use Rattle.gvdb_read.proofs.NotedLengths.{short_name}
+use Rattle.gvdb_read.proofs.NameLengths.{short_name}
 
 module _ (t : Table) (each : EachItem t (ItemKeeps t)) where
   good : KeepsAll t keys

@@ -1,6 +1,6 @@
 use Rattle.std.proofs.Common.{arith}
 use Rattle.gvdb_read.specs.Tables.{region}
-use Rattle.gvdb_read.proofs.NotedLengths.{key_long}
+use Rattle.gvdb_read.proofs.NameLengths.{key_long}
 use Rattle.gvdb_read.proofs.table.Table.has_end.Goals as goal
 
 pub returns-then-key_size_at-gt0 : goal.returns-then-key_size_at-gt0

@@ -5,7 +5,7 @@ use Rattle.dconf_model.specs.Names.{HasName, full_name}
 use Rattle.dconf_model.specs.Sound.{HasParent, HasPlace}
 use Rattle.dconf_model.proofs.FullNames.{has_full_name}
 use Rattle.gvdb_read.specs.Tables.{region}
-use Rattle.gvdb_read.proofs.NotedLengths.{short_name}
+use Rattle.gvdb_read.proofs.NameLengths.{short_name}
 use Rattle.gvdb_read.proofs.table.Table.placed_len.Goals as goal
 
 -- an item with a right parent keeps the rule where its name is short

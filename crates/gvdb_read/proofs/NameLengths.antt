@@ -1,12 +1,11 @@
--- Lengths of full names along a walk up the parents, and those that are noted.
-use Rattle.std.proofs.Common.{◌≡◌, ◌<◌, ◌≤◌, ◌+◌, ℕ, Option, length, Some, None, refl, ap, arith, length-append}
+-- Lengths of full names along a walk up the parents.
+use Rattle.std.proofs.Common.{List, ◌≡◌, ◌<◌, ◌≤◌, ◌+◌, ℕ, Option, length, Some, None, refl, ap, arith, length-append}
 use Rattle.dconf_model.specs.Table.{Table, item, item_count, key}
-use Rattle.dconf_model.specs.Names.{full_name}
+use Rattle.dconf_model.specs.Names.{HasName, full_name}
 use Rattle.dconf_model.specs.Sound.{KeepsAll}
 use Rattle.dconf_model.specs.Sound.Rule.{keys, chain}
 use Rattle.dconf_model.proofs.FullNames.{full_name_is, full_name_at_root, full_name_below, parent_counted}
 use Rattle.dconf_model.proofs.Occurrences.{range_length}
-use Rattle.gvdb_read.specs.NotedLengths.{HasShortName}
 
 -- ---- a walk up from item i, with so many bytes left of 65,535
 
@@ -61,5 +60,5 @@ pub too_long : (t : Table) (i at left size : ℕ) → KeepsAll t keys → KeepsA
 too_long t i at left size good ends walk e none = omega (arith, name_holds_key t at size (item t at).parent good ends walk.counted e refl, walk.whole, none)
 
 -- the length of the one name tells
-pub short_name : (t : Table) (i : ℕ) → length (full_name t i) ≤ 65535 → HasShortName t i
+pub short_name : (t : Table) (i : ℕ) → length (full_name t i) ≤ 65535 → (name : List ℕ) → HasName t i name → length name ≤ 65535
 short_name t i le name h = omega (arith, ap length (full_name_is t i name h), le)
