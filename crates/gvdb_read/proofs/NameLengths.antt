@@ -1,10 +1,11 @@
 -- Lengths of full names along a walk up the parents.
-use Rattle.std.proofs.Common.{List, ◌≡◌, ◌<◌, ◌≤◌, ◌+◌, ℕ, Option, length, Some, None, refl, ap, arith, length-append}
+use Rattle.std.proofs.Common.{List, ◌≡◌, ◌<◌, ◌≤◌, ◌+◌, ℕ, Option, length, Some, None, true, false, ◌↔◌, refl, ap, arith, length-append}
+use Rattle.std.specs.Prelude.{IfNone, IfSome, IsSome}
 use Rattle.dconf_model.specs.Table.{Table, item, item_count, key}
 use Rattle.dconf_model.specs.Names.{HasName, full_name}
-use Rattle.dconf_model.specs.Sound.{KeepsAll}
+use Rattle.dconf_model.specs.Sound.{HasParent, HasPlace, KeepsAll}
 use Rattle.dconf_model.specs.Sound.Rule.{keys, chain}
-use Rattle.dconf_model.proofs.FullNames.{full_name_is, full_name_at_root, full_name_below, parent_counted}
+use Rattle.dconf_model.proofs.FullNames.{has_full_name, full_name_is, full_name_at_root, full_name_below, parent_counted}
 use Rattle.dconf_model.proofs.Occurrences.{range_length}
 
 -- ---- a walk up from item i, with so many bytes left of 65,535
@@ -62,3 +63,10 @@ too_long t i at left size good ends walk e none = omega (arith, name_holds_key t
 -- the length of the one name tells
 pub short_name : (t : Table) (i : ℕ) → length (full_name t i) ≤ 65535 → (name : List ℕ) → HasName t i name → length name ≤ 65535
 short_name t i le name h = omega (arith, ap length (full_name_is t i name h), le)
+
+-- an item with a right parent keeps the rule where its name is short
+pub placed_where_short : (t : Table) (i : ℕ) (o : Option ℕ) → HasParent t i (item t i).parent → KeepsAll t keys → KeepsAll t chain → i < item_count t → IfSome o (λ len. length (full_name t i) ≡ len)
+    → IfSome o (λ len. len ≤ 65535) → IfNone o (65535 < length (full_name t i)) → IsSome o ↔ HasPlace t i
+placed_where_short t i (Some n) up good ends counted len short long = (λ _. record { has_parent = up; short = short_name t i (omega (arith, len, short)) }, λ _. refl)
+placed_where_short t i None up good ends counted len short long =
+    (λ h. let bad : false ≡ true = h in cc, λ place. absurd (omega (arith, place.short (full_name t i) (has_full_name t i good ends counted), long)))

@@ -161,6 +161,7 @@ impl Table<'_> {
     /// Asks S10. Where no list is seen to hold a number twice, and all of them together hold as many numbers as they should, it looks
     /// at each item once, and at each number once or for each 32,768 items. Else it looks at each item once for each list, and
     /// compares each number of a list with its children and with the numbers before it.
+    #[tactic(auto, using(crate::proofs::RuleOrder::one_more))]
     fn check_lists(self) -> Result<(), Unsound>
         requires earlier { KeepsBelow (region self) 10 }
         ensures kept { IfOk result (λ _. KeepsBelow (region self.entry) 11) }

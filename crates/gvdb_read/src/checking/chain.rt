@@ -37,6 +37,7 @@ impl Table<'_> {
     }
 
     /// Whether item `i` keeps the rule, where each lower item does.
+    #[tactic(auto, using(crate::proofs::NameLengths::key_long))]
     fn has_end(self, i: u32, noted: &NotedItems) -> bool
         requires counted { i < item_count (region self) }
         requires keys { KeepsAll (region self) keys }

@@ -39,6 +39,7 @@ impl Table<'_> {
     }
 
     /// How many bytes item `i`'s full name has. None where it doesn't keep the rule.
+    #[tactic(auto, using(crate::proofs::NameLengths::placed_where_short))]
     fn placed_len(self, i: u32, noted: &NotedItems) -> Option<u16>
         requires keys { KeepsAll (region self) keys }
         requires chain { KeepsAll (region self) chain }
