@@ -3,7 +3,7 @@ use Rattle.std.proofs.Common.{ℕ, ◌+◌, ◌*◌, ◌/◌, ◌%◌, ◌≡◌
 use Rattle.std.specs.Prelude.{fold}
 use Rattle.std.proofs.Math.Nat.{add-mul-mod_self_right, mod-add-div'}
 use Rattle.dconf_model.specs.Bytes.{hash_step}
-use Rattle.gvdb_read.proofs.HashFours.{Counts, four_at_once}
+use Rattle.gvdb_read.proofs.HashFours.{Counts, four_in_sum}
 
 -- as many times 2^32 as a sum is more than what is left of it
 over : ℕ → ℕ → ℕ
@@ -31,35 +31,12 @@ lanes_joined a b c d w x y z =
     let s = parts (d * 1185921) z in
     same_rest _ _ (over (a * 1185921) w * 35937 + over (b * 1185921) x * 1089 + over (c * 1185921) y * 33 + over (d * 1185921) z) (omega (arith, p, q, r, s))
 
--- the hash with four bytes more, all at once
-hash_joined : (h w x y z : ℕ)
-    → ((((h % 4294967296 * 1185921 % 4294967296 + w * 35937 % 4294967296) % 4294967296 + x * 1089 % 4294967296) % 4294967296 + y * 33 % 4294967296) % 4294967296 + z) % 4294967296
-    ≡ (h * 1185921 + w * 35937 + x * 1089 + y * 33 + z) % 4294967296
-hash_joined h w x y z =
-    let o = mod-add-div' h 4294967296 in
-    let p = parts (h % 4294967296 * 1185921) (w * 35937 % 4294967296) in
-    let w0 = mod-add-div' (w * 35937) 4294967296 in
-    let x0 = mod-add-div' (x * 1089) 4294967296 in
-    let y0 = mod-add-div' (y * 33) 4294967296 in
-    let first = (h % 4294967296 * 1185921 % 4294967296 + w * 35937 % 4294967296) % 4294967296 in
-    let q = mod-add-div' (first + x * 1089 % 4294967296) 4294967296 in
-    let second = (first + x * 1089 % 4294967296) % 4294967296 in
-    let r = mod-add-div' (second + y * 33 % 4294967296) 4294967296 in
-    same_rest _ _
-    (h / 4294967296 * 1185921 + over (h % 4294967296 * 1185921) (w * 35937 % 4294967296) + w * 35937 / 4294967296 + x * 1089 / 4294967296 + y * 33 / 4294967296
-    + (first + x * 1089 % 4294967296) / 4294967296 + (second + y * 33 % 4294967296) / 4294967296)
-    (omega (arith, o, p, w0, x0, y0, q, r))
-
-same_sum : (a b c d w x y z : ℕ)
-    → (a * 1185921 + w) * 35937 + (b * 1185921 + x) * 1089 + (c * 1185921 + y) * 33 + (d * 1185921 + z)
-    ≡ (a * 35937 + b * 1089 + c * 33 + d) * 1185921 + w * 35937 + x * 1089 + y * 33 + z
-same_sum a b c d w x y z = omega arith
-
 pub lanes_go_on : (a b c d : ℕ) (four : List ℕ) (w x y z : ℕ) → length four ≡ 4 → Counts (get_or four 0 0) w → Counts (get_or four 1 0) x → Counts (get_or four 2 0) y → Counts (get_or four 3 0) z
     → ((a * 1185921 % 4294967296 + w) % 4294967296 * 35937 + (b * 1185921 % 4294967296 + x) % 4294967296 * 1089 + (c * 1185921 % 4294967296 + y) % 4294967296 * 33 + (d * 1185921 % 4294967296 + z) % 4294967296) % 4294967296
     ≡ fold hash_step ((a * 35937 + b * 1089 + c * 33 + d) % 4294967296) four
 lanes_go_on a b c d four w x y z four_long ws xs ys zs =
     let h = a * 35937 + b * 1089 + c * 33 + d in
+    let o = mod-add-div' h 4294967296 in
     lanes_joined a b c d w x y z
-    ∙ (ap (λ (n : ℕ). n % 4294967296) (same_sum a b c d w x y z)
-    ∙ (sym (hash_joined h w x y z) ∙ sym (four_at_once (h % 4294967296) four w x y z four_long ws xs ys zs)))
+    ∙ (sym (same_rest (h % 4294967296 * 1185921 + w * 35937 + x * 1089 + y * 33 + z) _ (h / 4294967296 * 1185921) (omega (arith, o)))
+    ∙ sym (four_in_sum (h % 4294967296) four w x y z four_long ws xs ys zs))

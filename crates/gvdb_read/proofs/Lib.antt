@@ -20,7 +20,8 @@ pub mod KeyTexts
 pub mod ListNumbers
 pub mod NameWalks
 pub mod AppendedBytes
-pub mod NotedLengths
+pub mod NameLengths
+pub mod NotedWalks
 pub mod PlainKey
 pub mod OnePass
 pub mod SameEnds

@@ -1,19 +1,24 @@
 -- Where each item keeps what one pass asks of it, all rules before S11 are kept.
-use Rattle.std.proofs.Common.{ℕ, List, [], ◌∷◌, Option, Some, None, length, length-append, ◌≤◌, ◌<◌, ◌≡◌, refl, ap, arith}
+use Rattle.std.proofs.Common.{ℕ, List, [], ◌∷◌, Option, Some, None, Bool, true, false, IsTrue, length, length-append, ◌≤◌, ◌<◌, ◌≡◌, ◌∙◌, refl, sym, ap, arith}
+use Rattle.std.specs.Prelude.{IfSome, is_some}
 use Rattle.dconf_model.specs.Table.{Table, item, item_count, key}
-use Rattle.dconf_model.specs.Names.{full_name}
+use Rattle.dconf_model.specs.Names.{HasName, full_name}
 use Rattle.dconf_model.specs.Searchable.{EachItem, HasBuckets, LeadsUp}
 use Rattle.dconf_model.specs.Sound.{KeepsAll, HasParent}
 use Rattle.dconf_model.specs.Sound.Rule.{buckets, keys, chain, hash, span, bloom, once, content, place, lists, locks}
 use Rattle.dconf_model.proofs.ComputedNames.{leads_up}
 use Rattle.dconf_model.proofs.FullNames.{full_name_is, full_name_at_root, full_name_below, parent_counted}
-use Rattle.gvdb_read.specs.Counted.{HasListOnceIfAny}
-use Rattle.gvdb_read.specs.OnePass.{ItemKeeps}
+use Rattle.gvdb_read.specs.OnePass.{HasNameWithin, ItemKeeps}
 use Rattle.gvdb_read.specs.Unsounds.{KeepsBelow}
-use Rattle.gvdb_read.proofs.CountedLists.{IsFound, lists_kept}
 use Rattle.gvdb_read.proofs.HashAbove.{hashes_kept}
 use Rattle.gvdb_read.proofs.NameChecks.{only_of_hash}
-use Rattle.gvdb_read.proofs.NotedLengths.{short_name}
+use Rattle.gvdb_read.proofs.NameLengths.{short_name}
+
+-- a name is found to be short
+pub within_where_some : (t : Table) (i most : ℕ) (o : Option ℕ) (b : Bool) → b ≡ is_some o → IfSome o (λ n. (name : List ℕ) × HasName t i name × (length name ≡ n)) → IfSome o (λ n. n ≤ most)
+    → IsTrue b → HasNameWithin most t i
+within_where_some t i most None b e some short h = let bad : false ≡ true = sym e ∙ h in cc
+within_where_some t i most (Some n) b e some short h = (some.0, some.1, omega (arith, some.2, short))
 
 module _ (t : Table) (each : EachItem t (ItemKeeps t)) where
   good : KeepsAll t keys
@@ -63,15 +68,15 @@ module _ (t : Table) (each : EachItem t (ItemKeeps t)) where
       let has_parent = (each i counted).key_keeps.has_parent in
       record { has_parent = has_parent; short = short_name t i (short_from i (item t i).parent counted refl has_parent) }
 
-  pub all_kept : (h n m : ℕ) (xs : List ℕ) → HasBuckets t → IsFound t h n m xs → length xs ≡ item_count t → EachItem t (HasListOnceIfAny t) → KeepsBelow t 11
-  all_kept h n m xs has_buckets found all once_each buckets lt = has_buckets
-  all_kept h n m xs has_buckets found all once_each keys lt = good
-  all_kept h n m xs has_buckets found all once_each chain lt = ends
-  all_kept h n m xs has_buckets found all once_each hash lt = hashed
-  all_kept h n m xs has_buckets found all once_each span lt = in_span
-  all_kept h n m xs has_buckets found all once_each bloom lt = λ i counted. (each i counted).in_bloom
-  all_kept h n m xs has_buckets found all once_each once lt = only_named
-  all_kept h n m xs has_buckets found all once_each content lt = λ i counted. (each i counted).content
-  all_kept h n m xs has_buckets found all once_each place lt = placed
-  all_kept h n m xs has_buckets found all once_each lists lt = lists_kept t h n m xs found all once_each
-  all_kept h n m xs has_buckets found all once_each locks lt = absurd (omega (arith, lt))
+  pub all_kept : HasBuckets t → KeepsAll t lists → KeepsBelow t 11
+  all_kept has_buckets lists_kept buckets lt = has_buckets
+  all_kept has_buckets lists_kept keys lt = good
+  all_kept has_buckets lists_kept chain lt = ends
+  all_kept has_buckets lists_kept hash lt = hashed
+  all_kept has_buckets lists_kept span lt = in_span
+  all_kept has_buckets lists_kept bloom lt = λ i counted. (each i counted).in_bloom
+  all_kept has_buckets lists_kept once lt = only_named
+  all_kept has_buckets lists_kept content lt = λ i counted. (each i counted).content
+  all_kept has_buckets lists_kept place lt = placed
+  all_kept has_buckets lists_kept lists lt = lists_kept
+  all_kept has_buckets lists_kept locks lt = absurd (omega (arith, lt))

@@ -17,7 +17,6 @@ pub mod Counted
 pub mod HashAbove
 pub mod Records
 pub mod ListNumbers
-pub mod NotedEnds
-pub mod NotedLengths
+pub mod NotedItems
 pub mod PlainKey
 pub mod OnePass

@@ -24,6 +24,7 @@ mod locks;
 mod once;
 mod once_by_hash;
 mod one_pass;
+mod parents;
 mod place;
 mod plain_key;
 mod records;
@@ -43,16 +44,16 @@ impl Table<'_> {
     /// bucket, and each number of a list; a key's bytes are counted once. Where it says nothing, the rules are asked in order,
     /// some by a quick way first, which says that all items keep the rule, or nothing:
     ///
-    /// | Rule | Quick way | Slow way |
-    /// |---|---|---|
-    /// | S1, buckets | | each bucket |
-    /// | S2, keys; S5, span; S6, bloom; S8, content | each record and key once, with S4 | the same, one rule after the other |
-    /// | S3, chain | | from each item up to a parent of a lower number, or to one of 256 that are noted |
-    /// | S4, hash | the bytes of the keys: each goes on from its parent's hash | the bytes of the full names |
-    /// | S7, once | where buckets are long, each hash once for each 2,048 items | each item and the lower ones of its bucket |
-    /// | S9, place | | each item and its parent; its name's length up to one of 256 that are noted |
-    /// | S10, lists | each number once where they rise, else once for each 32,768 items | each list and all items; each number and those before it |
-    /// | S11, locks | | S1 to S8 of the table of locks |
+    /// | Rule | Quick way | Slow way | What it looks at |
+    /// |---|---|---|---|
+    /// | S1, buckets | | each by itself | each bucket once |
+    /// | S2, keys; S5, span; S6, bloom; S8, content | all of them together, with S4's quick way | one rule after the other | each record and each byte of the keys, once for each rule at most |
+    /// | S3, chain | | up the parents | from each item the parents up to one of a lower number, or to one of 256 that are noted |
+    /// | S4, hash | each goes on from its parent's | each by itself | quickly the bytes of the keys, slowly those of the full names |
+    /// | S7, once | by hashes, where buckets are long | by names | quickly each hash once for each 2,048 items, slowly each item and the lower ones of its bucket |
+    /// | S9, place | | the item and its parent, and its name's length | from each item the parents up to one of 256 that are noted |
+    /// | S10, lists | all lists together | list by list | quickly each number once where they rise, else once for each 32,768 items; slowly for each list all items, and for each number those before it |
+    /// | S11, locks | | | what S1 to S8 look at, of the table of locks |
     pub fn check(self) -> Result<(), Unsound>
         ensures sound { IfOk result (λ _. IsSound (region self.entry)) }
         ensures fault { IfErr result (λ e. IsFirstFault (region self.entry) (rule_of e.rule) e.item) }
@@ -160,6 +161,7 @@ impl Table<'_> {
     /// Asks S10. Where no list is seen to hold a number twice, and all of them together hold as many numbers as they should, it looks
     /// at each item once, and at each number once or for each 32,768 items. Else it looks at each item once for each list, and
     /// compares each number of a list with its children and with the numbers before it.
+    #[tactic(auto, using(crate::proofs::RuleOrder::one_more))]
     fn check_lists(self) -> Result<(), Unsound>
         requires earlier { KeepsBelow (region self) 10 }
         ensures kept { IfOk result (λ _. KeepsBelow (region self.entry) 11) }

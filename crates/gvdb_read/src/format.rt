@@ -11,7 +11,7 @@ mod record;
 pub(crate) use hashing::{HASH_OF_NOTHING, hash_on, signed};
 pub use hashing::{hash, hash_with};
 pub(crate) use header::{HEAD_LEN, WORD_LEN};
-pub use header::{HEADER_LEN, SIGNATURE};
+pub use header::{HEADER_LEN, LOCKS, SIGNATURE};
 pub use kind::Kind;
 pub(crate) use number::{NUMBER_LEN, number, read_u8, read_u16, read_u32};
 pub use record::ItemRecord;

@@ -7,7 +7,7 @@ ghost use Rattle.dconf_model.specs.Names.{HasName};
 ghost use Rattle.dconf_model.specs.Search.{Fits, IsLeast, IsWanted, PassesBloom, span_end, span_size, span_start};
 ghost use Rattle.gvdb_read.specs.Kinds.{letter_of};
 
-use crate::format::{Kind, WORD_LEN, hash, read_u32};
+use crate::format::{HEAD_LEN, Kind, WORD_LEN, hash, read_u32};
 use crate::suffix::before_suffix;
 use crate::table::Table;
 use gv_types::Steps;
@@ -87,7 +87,7 @@ impl<'a> Table<'a> {
             return true;
         }
         let k = (hash / 32 % self.bloom_words) as usize;
-        let word = read_u32(self.file, self.start + 8 + WORD_LEN * k);
+        let word = read_u32(self.file, self.start + HEAD_LEN + WORD_LEN * k);
         (word >> (hash % 32)) & 1 == 1 && (word >> ((hash >> self.bloom_shift) % 32)) & 1 == 1
     }
 
@@ -118,7 +118,7 @@ impl<'a> Table<'a> {
         requires { k < bucket_count (region self) }
         ensures { result ≡ bucket (region self.entry) k }
     {
-        let buckets = self.start + 8 + WORD_LEN * self.bloom_words as usize;
+        let buckets = self.start + HEAD_LEN + WORD_LEN * self.bloom_words as usize;
         read_u32(self.file, buckets + WORD_LEN * k as usize)
     }
 

@@ -57,6 +57,7 @@ fn are_many_same(one: &[u8], other: &[u8]) -> bool
 }
 
 /// The same, where the first `N` and the last `N` are all of them.
+#[tactic(auto, using(crate::proofs::SameEnds::same_ends))]
 #[inline(always)]
 fn have_same_ends<const N: usize>(one: &[u8], other: &[u8]) -> bool
     requires same_len { length one.now ≡ length other.now }

@@ -7,7 +7,9 @@ ghost use Rattle.gvdb_read.specs.Faults.{open_fault_of};
 ghost use Rattle.gvdb_read.specs.Opened.{IsOpened};
 
 use crate::fault::OpenFault;
-use crate::format::{HEAD_LEN, HEADER_LEN, ItemRecord, Kind, RECORD_LEN, SIGNATURE, read_u32};
+use crate::format::{
+    HEAD_LEN, HEADER_LEN, ItemRecord, Kind, RECORD_LEN, SIGNATURE, WORD_LEN, read_u32,
+};
 use crate::item::Item;
 
 /// A table that opened, in the file where it was found. It may be handed to C and back.
@@ -107,7 +109,10 @@ impl<'a> Table<'a> {
         let head = read_u32(file, start);
         let bloom_words = head % 0x800_0000;
         let buckets = read_u32(file, start + 4);
-        let first_item = start + HEAD_LEN + 4 * bloom_words as usize + 4 * buckets as usize;
+        let first_item = start
+            + HEAD_LEN
+            + WORD_LEN * bloom_words as usize
+            + WORD_LEN * buckets as usize;
         if first_item > end || (end - first_item) % RECORD_LEN != 0 {
             return None;
         }

@@ -1,26 +1,15 @@
 //! S3: the item's parents end, and its key isn't empty.
-//!
-//! The items that were seen last are noted, and those above them. A walk up the parents ends where it comes to one of these, and
-//! so a long chain of parents isn't walked again for each item of it, nor for each item below it.
-ghost use Rattle.std.specs.Prelude.{◌<◌, ◌≡◌, ◌↔◌, List, ℕ, IfErr, IfOk, IsTrue, length};
+ghost use Rattle.std.specs.Prelude.{◌<◌, ◌↔◌, List, ℕ, IfErr, IfOk, IsTrue};
 ghost use Rattle.dconf_model.specs.Table.{item_count};
 ghost use Rattle.dconf_model.specs.Searchable.{HasEnd, LeadsUp};
 ghost use Rattle.dconf_model.specs.Sound.{IsFirstFault, KeepsAll};
 ghost use Rattle.dconf_model.specs.Sound.Rule.{keys, chain};
-ghost use Rattle.gvdb_read.specs.NotedEnds.{DoEnd};
+ghost use Rattle.gvdb_read.specs.NotedItems.{DoEnd};
 ghost use Rattle.gvdb_read.specs.Unsounds.{KeepsBelow, KeptBefore, rule_of};
 
+use super::parents::NotedItems;
 use crate::table::Table;
 use crate::unsound::{Rule, Unsound};
-
-/// How many items are noted. An item's number tells its place, and there the last one counts.
-pub(super) const NOTED: usize = 256;
-
-/// An item whose parents end.
-#[derive(Clone, Copy)]
-struct NotedEnd {
-    item: u32,
-}
 
 impl Table<'_> {
     ghost use Rattle.gvdb_read.specs.Tables.{region};
@@ -34,7 +23,7 @@ impl Table<'_> {
         ensures fault { IfErr result (λ e. IsFirstFault (region self.entry) (rule_of e.rule) e.item) }
         ensures not_kept { IfErr result (λ _. ¬ KeepsAll (region self.entry) chain) }
     {
-        let mut noted = [None; NOTED];
+        let mut noted = NotedItems::none();
         for i in 0..self.n_items() {
             if !self.has_end(i, &noted) {
                 return Err(Unsound {
@@ -42,59 +31,34 @@ impl Table<'_> {
                     item: Some(i),
                 });
             }
-            self.note_ends(i, &mut noted);
+            self.note_up(i, 0, &mut noted);
         }
         Ok(())
     }
 
     /// Whether item `i` keeps the rule, where each lower item does.
-    fn has_end(self, i: u32, noted: &[Option<NotedEnd>]) -> bool
+    #[tactic(auto, using(crate::proofs::NameLengths::key_long))]
+    fn has_end(self, i: u32, noted: &NotedItems) -> bool
         requires counted { i < item_count (region self) }
         requires keys { KeepsAll (region self) keys }
-        requires places { 0 < length noted.now }
         requires noted { DoEnd (region self) noted.now }
         ensures { KeptBefore (region self.entry) chain i → IsTrue result ↔ HasEnd (region self.entry) i }
     {
         self.key_size_at(i) > 0 && self.ends_at_noted(i, noted)
     }
 
-    /// Notes item `i`, whose parents end, and those above it, up to one that is noted, and no more than have a place.
-    fn note_ends(self, i: u32, noted: &mut [Option<NotedEnd>])
-        requires counted { i < item_count (region self) }
-        requires keys { KeepsAll (region self) keys }
-        requires ends { (parents : List ℕ) × LeadsUp (region self) i parents }
-        requires places { 0 < length noted.old }
-        requires noted { DoEnd (region self) noted.old }
-        ensures noted { DoEnd (region self.entry) noted.new }
-        ensures len { length noted.new ≡ length noted.old }
-    {
-        let mut at = i;
-        for _ in 0..NOTED {
-            if self.is_noted(at, noted) {
-                return;
-            }
-            let place = at as usize % noted.len();
-            noted[place] = Some(NotedEnd { item: at });
-            let Some(parent) = self.parent_at(at) else {
-                return;
-            };
-            at = parent;
-        }
-    }
-
     /// Whether the parents of item `i` end, where those of each lower item do. As many steps as there are items are enough:
     /// more would come to an item for the second time, and go round in a circle.
-    fn ends_at_noted(self, i: u32, noted: &[Option<NotedEnd>]) -> bool
+    fn ends_at_noted(self, i: u32, noted: &NotedItems) -> bool
         requires counted { i < item_count (region self) }
         requires keys { KeepsAll (region self) keys }
-        requires places { 0 < length noted.now }
         requires noted { DoEnd (region self) noted.now }
         ensures { KeptBefore (region self.entry) chain i
             → IsTrue result ↔ ((parents : List ℕ) × LeadsUp (region self.entry) i parents) }
     {
         let mut at = i;
         for _ in 0..self.n_items() {
-            if self.is_noted(at, noted) {
+            if noted.get(at).is_some() {
                 return true;
             }
             let Some(parent) = self.parent_at(at) else {
@@ -106,18 +70,5 @@ impl Table<'_> {
             at = parent;
         }
         false
-    }
-
-    /// Whether item `i` is noted.
-    fn is_noted(self, i: u32, noted: &[Option<NotedEnd>]) -> bool
-        requires places { 0 < length noted.now }
-        requires noted { DoEnd (region self) noted.now }
-        ensures { IsTrue result → (parents : List ℕ) × LeadsUp (region self.entry) i parents }
-    {
-        let found = noted[i as usize % noted.len()];
-        match found {
-            Some(known) => known.item == i,
-            None => false,
-        }
     }
 }

@@ -8,7 +8,7 @@ ghost use Rattle.dconf_model.specs.Searchable.{HasHash};
 ghost use Rattle.dconf_model.specs.Sound.{KeepsAll};
 ghost use Rattle.dconf_model.specs.Sound.Rule.{keys, chain};
 
-use crate::format::signed;
+use crate::format::{HASH_OF_NOTHING, signed};
 use crate::table::Table;
 
 impl<'a> Table<'a> {
@@ -38,6 +38,6 @@ impl<'a> Table<'a> {
             sum = sum.wrapping_add(factor.wrapping_mul(signed(byte)));
             factor = factor.wrapping_mul(33);
         }
-        factor.wrapping_mul(5381).wrapping_add(sum)
+        factor.wrapping_mul(HASH_OF_NOTHING).wrapping_add(sum)
     }
 }

@@ -16,6 +16,7 @@ impl Table<'_> {
     ghost use Rattle.gvdb_read.specs.Tables.{region};
 
     /// Whether each item's hash goes on from its parent's. It looks at each byte of the keys once.
+    #[tactic(auto, using(crate::proofs::Below::below_next))]
     pub(super) fn hashes_go_on(self) -> bool
         requires keys { KeepsAll (region self) keys }
         ensures { IsTrue result ↔ EachItem (region self.entry) (GoesOn (region self.entry)) }

@@ -32,6 +32,7 @@ impl Table<'_> {
 }
 
 /// Whether the bytes are UTF-8 without a zero byte.
+#[tactic(auto, using(gv_view::proofs::ShortTexts::ascii_chars_are_utf8, crate::proofs::KeyTexts::no_zero, crate::proofs::KeyTexts::found_where_utf8))]
 #[inline(always)]
 fn is_text(key: &[u8]) -> bool
     ensures { IsTrue result ↔ IsUtf8 key.now × (¬ Contains key.now 0) }

@@ -6,9 +6,8 @@ ghost use Rattle.dconf_model.specs.Searchable.{EachItem};
 ghost use Rattle.dconf_model.specs.Sound.{HasLocksIfAny, IsLock, IsLockTable, KeepsAll};
 ghost use Rattle.dconf_model.specs.Sound.Rule.{keys, place};
 
-use crate::format::Kind;
+use crate::format::{Kind, LOCKS};
 use crate::table::Table;
-use gv_types::Steps;
 
 impl<'a> Table<'a> {
     ghost use Rattle.gvdb_read.specs.Tables.{region};
@@ -28,8 +27,7 @@ impl<'a> Table<'a> {
         requires place { KeepsAll (region self) place }
         ensures { IsTrue result ↔ HasLocksIfAny (region self.entry) i }
     {
-        let mut steps = Steps::new();
-        !self.is_named(i, b".locks", &mut steps) || self.points_to_locks(i)
+        !self.has_name(i, LOCKS) || self.points_to_locks(i)
     }
 
     /// Whether the item named `.locks` points to a sound table of locks.

@@ -110,6 +110,7 @@ impl Table<'_> {
     }
 
     /// Whether item `i`, if it is a list, has a full name, and not too long a one.
+    #[tactic(auto, using(crate::proofs::OnePass::within_where_some))]
     #[inline(always)]
     fn is_near_top(self, i: u32) -> bool
         requires { i < item_count (region self) }

@@ -5,7 +5,7 @@ ghost use Rattle.dconf_model.specs.Table.{item, item_count, key, list_kind, tabl
 ghost use Rattle.dconf_model.specs.Searchable.{HasGoodKey};
 ghost use Rattle.dconf_model.specs.Sound.{HasParent, IsDirectoryPart};
 
-use crate::format::Kind;
+use crate::format::{Kind, LOCKS};
 use crate::table::Table;
 
 impl<'a> Table<'a> {
@@ -44,7 +44,7 @@ fn is_top(kind: u8, key: &[u8]) -> bool
         ⊎ (kind ≡ table_kind) × (key.now ≡ codes ".locks")) }
 {
     kind == Kind::List.letter() && key == b"/".as_slice()
-        || kind == Kind::Table.letter() && key == b".locks".as_slice()
+        || kind == Kind::Table.letter() && key == LOCKS.as_bytes()
 }
 
 /// Whether this is the kind and the last part of the path of a key, or of a directory.

@@ -6,6 +6,7 @@ ghost use Rattle.dconf_model.specs.Bytes.{hash_of, hash_step};
 pub(crate) const HASH_OF_NOTHING: u32 = 5381;
 
 /// The hash of a name's bytes, by which a table's items are sorted into buckets. It looks at each byte once.
+#[tactic(auto, using(crate::proofs::HashFours::joined_fours))]
 pub fn hash(name: &[u8]) -> u32
     ensures { result ≡ hash_of name.now }
 {
@@ -27,6 +28,7 @@ impl Lanes {
     ghost use Rattle.gvdb_read.specs.HashLanes.{lanes_hash};
 
     /// The sums, with four bytes more.
+    #[tactic(auto, using(crate::proofs::HashLaneLaws::lanes_go_on))]
     #[inline(always)]
     fn with(self, four: &[u8; 4]) -> Lanes
         ensures { lanes_hash result ≡ fold hash_step (lanes_hash self) four.now }
@@ -83,6 +85,7 @@ fn hash_in_lanes(fours: &[[u8; 4]]) -> u32
 
 /// The hash of some bytes and of those after them, of the hash of the first. So a name's hash goes on from its
 /// directory's. It looks at each byte once, and takes them by fours where it can: that is fewer steps.
+#[tactic(auto, using(crate::proofs::HashFours::joined_fours))]
 pub(crate) fn hash_on(hash: u32, bytes: &[u8]) -> u32
     ensures { result ≡ fold hash_step hash bytes.now }
 {

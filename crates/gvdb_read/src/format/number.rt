@@ -29,6 +29,7 @@ pub(crate) fn read_u16(file: &[u8], at: usize) -> u16
 }
 
 /// The byte there.
+#[tactic(auto, unfolding(dconf_model::specs::Bytes::u8_at))]
 #[inline(always)]
 pub(crate) fn read_u8(file: &[u8], at: usize) -> u8
     requires { at < length file.now }
@@ -46,6 +47,7 @@ pub(crate) fn number(bytes: &[u8; NUMBER_LEN]) -> u32
 }
 
 /// Appends a number of four bytes, the lowest byte first.
+#[tactic(auto, using(crate::proofs::Numbers::appended, gv_model::proofs::NumberBytes::low_bytes))]
 pub(crate) fn push_u32(number: u32, out: &mut Vec<u8>) -> Result<(), AllocError>
     ensures { OnOk result (out.new.items ≡ out.old.items ++ number_bytes 4 number) }
 {
@@ -53,6 +55,7 @@ pub(crate) fn push_u32(number: u32, out: &mut Vec<u8>) -> Result<(), AllocError>
 }
 
 /// Appends a number of two bytes, the lowest byte first.
+#[tactic(auto, using(crate::proofs::Numbers::appended, gv_model::proofs::NumberBytes::low_bytes))]
 pub(crate) fn push_u16(number: u16, out: &mut Vec<u8>) -> Result<(), AllocError>
     ensures { OnOk result (out.new.items ≡ out.old.items ++ number_bytes 2 number) }
 {

@@ -1,6 +1,5 @@
-use Rattle.std.proofs.Common.{◌<◌, length}
 use Rattle.dconf_model.specs.Sound.Rule.{chain}
-use Rattle.gvdb_read.specs.NotedEnds.{DoEnd}
+use Rattle.gvdb_read.specs.NotedItems.{DoEnd}
 use Rattle.gvdb_read.specs.Tables.{region}
 use Rattle.gvdb_read.specs.Unsounds.{KeptBefore}
 use Rattle.gvdb_read.proofs.table.Table.check_chains.Given as goal
@@ -10,5 +9,4 @@ abbrev pub invariant-loop-i : goal.invariant-loop-i
 invariant-loop-i l = record {
   kept : KeptBefore (region l.fn.self) chain l.i;
   noted : DoEnd (region l.fn.self) l.noted;
-  some : 0 < length l.noted;
 }

@@ -1,4 +1,3 @@
--- proofs/table/Table/check_once/Answers.antt
 use Rattle.std.proofs.Common.{rules, arith}
 use Rattle.dconf_model.specs.Sound.{KeepsAll}
 use Rattle.dconf_model.specs.Sound.Rule.{keys, chain, hash, span, once}

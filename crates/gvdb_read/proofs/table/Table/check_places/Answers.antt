@@ -1,22 +1,24 @@
-use Rattle.std.proofs.Common.{None, refl, arith}
-use Rattle.std.proofs.lemmas.List.Elements.{All-replicate}
+use Rattle.std.proofs.Common.{refl, arith}
 use Rattle.dconf_model.specs.Sound.{HasPlace}
-use Rattle.dconf_model.specs.Sound.Rule.{place}
-use Rattle.gvdb_read.specs.NotedLengths.{IsNoted}
+use Rattle.dconf_model.specs.Sound.Rule.{chain, place}
+use Rattle.gvdb_read.specs.NotedItems.{IsLong}
 use Rattle.gvdb_read.specs.Tables.{region}
 use Rattle.gvdb_read.proofs.Below.{below_next}
+use Rattle.gvdb_read.proofs.NotedWalks.{none_are}
 use Rattle.gvdb_read.proofs.RuleOrder.{one_more}
 use Rattle.gvdb_read.proofs.table.Table.check_places.Goals as goal
 
 pub loop-i-init : goal.loop-i-init
-loop-i-init c = record { kept = λ j lt. absurd (omega (arith, lt)); noted = All-replicate (IsNoted (region c.args.self)) 256 None tt; some = omega arith }
+loop-i-init c = record { kept = λ j lt. absurd (omega (arith, lt)); noted = none_are (IsLong (region c.args.self)) _ c.none-noted.ensures }
 
 pub loop-i-preserved : goal.loop-i-preserved
 loop-i-preserved c = record {
   kept = below_next (HasPlace (region c.args.self)) c.loop-i.i c.loop-i.invariant.kept (c.in-Some.ensures.some.0 refl);
-  noted = c.note_lens.ensures.noted;
-  some = omega (arith, c.note_lens.ensures.len, c.loop-i.invariant.some);
+  noted = c.note_up.ensures.lens (c.requires.earlier chain (omega arith)) c.in-Some.ensures.len c.loop-i.invariant.noted;
 }
 
 pub returns-clause-kept : goal.returns-clause-kept
 returns-clause-kept c = one_more (region c.args.self) place c.requires.earlier (λ i counted. c.loop-i.invariant.kept i (omega (arith, counted, c.loop-i-test.false, c.n_items-i-end.ensures)))
+
+pub note_up-requires-clause-ends : goal.note_up-requires-clause-ends
+note_up-requires-clause-ends c = let end = c.requires.earlier chain (omega arith) c.loop-i.i (omega (arith, c.loop-i-test.true, c.n_items-i-end.ensures)) in (end.parents, end.ends)

@@ -1,6 +1,5 @@
-use Rattle.std.proofs.Common.{◌<◌, length}
 use Rattle.dconf_model.specs.Sound.Rule.{place}
-use Rattle.gvdb_read.specs.NotedLengths.{AreNoted}
+use Rattle.gvdb_read.specs.NotedItems.{AreLong}
 use Rattle.gvdb_read.specs.Tables.{region}
 use Rattle.gvdb_read.specs.Unsounds.{KeptBefore}
 use Rattle.gvdb_read.proofs.table.Table.check_places.Given as goal
@@ -9,6 +8,5 @@ use Rattle.gvdb_read.proofs.table.Table.check_places.Given as goal
 abbrev pub invariant-loop-i : goal.invariant-loop-i
 invariant-loop-i l = record {
   kept : KeptBefore (region l.fn.self) place l.i;
-  noted : AreNoted (region l.fn.self) l.noted;
-  some : 0 < length l.noted;
+  noted : AreLong (region l.fn.self) l.noted;
 }

@@ -1,11 +1,15 @@
 use Rattle.std.proofs.Common.{◌≡◌, Some, None, [], ◌∷◌, arith, sym, ◌∙◌, refl, true, false}
 use Rattle.dconf_model.specs.Table.{item}
+use Rattle.gvdb_read.specs.NotedItems.{Ends}
 use Rattle.gvdb_read.specs.Tables.{region}
 use Rattle.gvdb_read.proofs.ChainSteps.{climbs_more, in_a_circle}
+use Rattle.gvdb_read.proofs.NotedWalks.{some_known}
 use Rattle.gvdb_read.proofs.table.Table.ends_at_noted.Goals as goal
 
-pub returns-then-is_noted : goal.returns-then-is_noted
-returns-then-is_noted c = let up = c.is_noted.ensures c.if-is_noted.true in λ _. (λ _. c.loop.invariant.climbs.ahead up.0 up.1, λ _. refl)
+pub returns-then-is_some : goal.returns-then-is_some
+returns-then-is_some c =
+    let known = some_known (Ends (region c.args.self)) _ c.loop.at c.get.result c.requires.noted c.get.ensures (sym c.is_some.ensures ∙ c.if-is_some.true) in
+    λ _. (λ _. c.loop.invariant.climbs.ahead known.1.0 known.1.1, λ _. refl)
 
 pub returns-in_default : goal.returns-in_default
 returns-in_default c =

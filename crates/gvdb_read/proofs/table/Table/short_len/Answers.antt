@@ -1,7 +1,9 @@
 use Rattle.std.proofs.Common.{◌≡◌, Some, None, arith, rules, sym, ◌∙◌}
 use Rattle.dconf_model.specs.Table.{item}
+use Rattle.gvdb_read.specs.NotedItems.{IsLong}
 use Rattle.gvdb_read.specs.Tables.{region}
-use Rattle.gvdb_read.proofs.NotedLengths.{some_key, ends_here, goes_up, ends_noted, too_long}
+use Rattle.gvdb_read.proofs.NameLengths.{some_key, ends_here, goes_up, ends_noted, too_long}
+use Rattle.gvdb_read.proofs.NotedWalks.{known_of}
 use Rattle.gvdb_read.proofs.table.Table.short_len.Goals as goal
 
 pub loop-len-init : goal.loop-len-init
@@ -21,7 +23,7 @@ returns-in_default-parent_at-clause-len c =
 
 pub returns-in-Some-clause-len : goal.returns-in-Some-clause-len
 returns-in-Some-clause-len c =
-    let e = ends_noted (region c.args.self) c.args.i c.loop-len.at c.loop-len.left c.in-Some.len c.in_ok-checked_sub.field-0 c.loop-len.invariant c.in-Some.ensures (omega (arith, c.in_ok-checked_sub.ensures.0, c.in_ok-checked_sub.ensures.1)) in
+    let e = ends_noted (region c.args.self) c.args.i c.loop-len.at c.loop-len.left c.in-Some.len c.in_ok-checked_sub.field-0 c.loop-len.invariant (known_of (IsLong (region c.args.self)) _ c.loop-len.at c.in-Some.len c.requires.noted c.in-Some.ensures) (omega (arith, c.in_ok-checked_sub.ensures.0, c.in_ok-checked_sub.ensures.1)) in
     omega (arith, e)
 
 pub loop-len-smaller : goal.loop-len-smaller

@@ -1,5 +1,5 @@
 use Rattle.gvdb_read.specs.Tables.{region}
-use Rattle.gvdb_read.proofs.NotedLengths.{IsLeft}
+use Rattle.gvdb_read.proofs.NameLengths.{IsLeft}
 use Rattle.gvdb_read.proofs.table.Table.short_len.Given as goal
 
 -- what is left of 65,535 bytes after the keys that were passed
