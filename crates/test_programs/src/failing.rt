@@ -65,7 +65,7 @@ fn device_at(
     Ok(())
 }
 
-// What reads each database of the profile.
+/// What reads each database of the profile.
 const READS: [&str; 7] = [
     "read /a/k ",
     "read -d /a/k ",
@@ -103,7 +103,7 @@ const REPAIRED: [(u64, &str, usize); 6] = [
     (6, "empty", 110),
 ];
 
-// Where no call fails, and where the one that would isn't made.
+/// Where no call fails, and where the one that would isn't made.
 const CALM: [(u64, &str, &str, usize); 8] = [
     (0, "$ show au v => 0\n[uint32 1, 2]\n", "out.db", 110),
     (2, "$ show au v => 0\n[uint32 1, 2]\n", "out.db", 110),

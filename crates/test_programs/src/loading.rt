@@ -7,7 +7,7 @@ use std::alloc::Global;
 use std::io::ErrorKind;
 use std::test::Fail;
 
-// Of several locked rows the first is named.
+/// Of several locked rows the first is named.
 const REFUSED_ROWS: &str = "
 $ load /
 [a]
@@ -29,7 +29,7 @@ k=4
 ! error: Locked /a/k
 ";
 
-// The locked rows are left out.
+/// The locked rows are left out.
 const FORCED_ROWS: &str = "
 $ load -f /
 [b]
@@ -60,7 +60,7 @@ fn a_locked_row_refuses_all_rows(rt: HostRuntime) -> Result<(), Fail> {
     runs(alloc, FORCED_ROWS, &mut folder)
 }
 
-// What `dump` printed is loaded below another directory, and what no row names is kept.
+/// What `dump` printed is loaded below another directory, and what no row names is kept.
 const DUMPED: &str = "
 $ load /
 [/]
@@ -91,7 +91,7 @@ $ check me.user => 0
 sound
 ";
 
-// Of rows of one path the last counts.
+/// Of rows of one path the last counts.
 const NO_ROWS: &str = "
 $ load / => 0
 $ load -f /a/
@@ -113,7 +113,7 @@ $ read /a/k => 0
 9
 ";
 
-// There is no file of the user's, and then one without keys.
+/// There is no file of the user's, and then one without keys.
 const NO_KEYS: &str = "
 $ check me.user => 1
 ! error: NoFile me.user
@@ -134,7 +134,7 @@ fn loads_what_dump_printed_or_nothing(rt: HostRuntime) -> Result<(), Fail> {
     runs(alloc, NO_KEYS, &mut folder_of(alloc, &files)?)
 }
 
-// All lines come before any value.
+/// All lines come before any value.
 const BAD_LINES: &str = "
 $ load /
 k=1
@@ -186,7 +186,7 @@ nonsense
 ! error: input:3: BadLine
 ";
 
-// A layer that can't be written comes before a lock, and also without one.
+/// A layer that can't be written comes before a lock, and also without one.
 const BAD_LAYERS: &str = "
 $ load / -p none
 [a]
@@ -241,7 +241,7 @@ fn names_the_first_refusal_of_rows(rt: HostRuntime) -> Result<(), Fail> {
     runs(alloc, device, &mut folder)
 }
 
-// `@` stands for a value that is too deep. A row that a later one replaces counts too, and a locked row that is left out doesn't.
+/// `@` stands for a value that is too deep. A row that a later one replaces counts too, and a locked row that is left out doesn't.
 const TOO_DEEP: &str = "
 $ load / -p cut
 [a]
@@ -277,7 +277,7 @@ $ read /a/j => 0
 3
 ";
 
-// `@` stands for a name that just fits below `/a/`, and has one letter too many below `/aa/`.
+/// `@` stands for a name that just fits below `/a/`, and has one letter too many below `/aa/`.
 const TOO_LONG: &str = "
 $ load /a/
 [/]
@@ -334,7 +334,7 @@ fn each_on_marks(
     Ok(())
 }
 
-// The reads of this comment are of 4,096 bytes, of 4 and of none.
+/// The reads of this comment are of 4,096 bytes, of 4 and of none.
 const FAILING: [OnMarks<'_>; 4] = [
     ("load /", 4100, 1, 4100, "1\n! error: Device input\n"),
     ("load /", 4100, 2, 4, "1\n! error: Device input\n"),
@@ -342,7 +342,7 @@ const FAILING: [OnMarks<'_>; 4] = [
     ("load /", 1, 1, 1, "1\n! error: Device input\n"),
 ];
 
-// The directory is refused before the input is read, which is read no further than shows that it is too long.
+/// The directory is refused before the input is read, which is read no further than shows that it is too long.
 const REFUSED: [OnMarks<'_>; 4] = [
     ("load a/", 4, 0, 4, "1\n! error: NotAbsolute\n"),
     ("load /a", 4, 0, 4, "1\n! error: NoEndSlash\n"),

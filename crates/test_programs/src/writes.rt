@@ -42,7 +42,7 @@ impl Failing {
     }
 }
 
-// What each command writes to out; those that change a file write nothing, but for `repair`.
+/// What each command writes to out; those that change a file write nothing, but for `repair`.
 const TEXTS: [(&str, &str); 15] = [
     ("show au v", "[uint32 1, 2]\n"),
     ("read /a/k", "1\n"),
@@ -61,7 +61,7 @@ const TEXTS: [(&str, &str); 15] = [
     ("load /", ""),
 ];
 
-// And to err.
+/// And to err.
 const LINES: [(&str, &str); 14] = [
     ("show au missing", "error: NoFile missing\n"),
     ("read a", "error: NotAbsolute\n"),
