@@ -16,7 +16,7 @@ use Rattle.dconf_model.specs.Reads.{ReadResults}
 use Rattle.dconf_model.specs.Sources.{Assigned}
 use Rattle.dconf_model.specs.Values.{value_of_text}
 use Rattle.dconf_cli.specs.Answers.{Answered, GivesOutcome}
-use Rattle.dconf_cli.specs.Changing.{IsLockedPath, NoValue, RefusedCause, RefusedFor}
+use Rattle.dconf_cli.specs.Refusals.{IsLockedPath, NoValue, RefusedCause, RefusedFor}
 use Rattle.dconf_cli.specs.Readings.{Decides}
 use Rattle.dconf_cli.proofs.Decisions.{answers_also}
 

@@ -11,7 +11,7 @@ use Rattle.dconf_cli.specs.Answers.{line_of, outcome_of}
 use Rattle.dconf_cli.specs.Counted.{Grew, Leaves, Prints, Unfailed}
 use Rattle.dconf_cli.specs.Endings.{Ends}
 use Rattle.dconf_cli.specs.Streams.{Rose}
-use Rattle.dconf_cli.proofs.Leaving.{leaves_line, leaves_text}
+use Rattle.dconf_cli.proofs.StreamsLeft.{leaves_line, leaves_text}
 use Rattle.std.specs.Prelude.{codes, string_bytes}
 use Rattle.dconf_cli.specs.declared.refusal.Refusal.{Refusal}
 use Rattle.dconf_cli.specs.declared.refusal.Refusal.TheVariants.{Line, NoMemory}

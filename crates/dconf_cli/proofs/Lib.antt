@@ -1,5 +1,5 @@
 pub mod Puts
-pub mod Leaving
+pub mod StreamsLeft
 pub mod Decisions
 pub mod ManyFiles
 pub mod StoreReads
@@ -12,5 +12,5 @@ pub mod Given
 pub mod ChangeLaws
 pub mod InputLaws
 pub mod Walks
-pub mod Dumping
+pub mod DumpLaws
 pub mod LoadLaws

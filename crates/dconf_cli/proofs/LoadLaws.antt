@@ -7,7 +7,7 @@ use Rattle.gv_model.specs.Tree.{Tree}
 use Rattle.dconf_model.specs.Causes.{SettingsCause}
 use Rattle.dconf_model.specs.Causes.SettingsCause.{too_big}
 use Rattle.dconf_model.specs.Changes.{paths_of}
-use Rattle.dconf_model.specs.FaultTexts.{cause_text, device_text}
+use Rattle.dconf_model.specs.FaultTexts.{cause_text}
 use Rattle.dconf_model.specs.Folders.{Event}
 use Rattle.dconf_model.specs.Keyfiles.{rows_of as rows_in}
 use Rattle.dconf_model.specs.Lines.{LineFault, longest_text}
@@ -43,11 +43,6 @@ module _ {F : Type 0} (past : F → List Event → Type 0) (failures : F → ℕ
   decides_text old new read kept same d =
       subst (λ (b : Bool). Decides past failures old new 0 (λ reads. UnlessFailed b (OrLine (codes "input") (loaded directory i.bytes) (Go reads))) answer) (sym kept)
       (subst (λ (r : Result (List Assigned) LineFault). Decides past failures old new 0 (λ reads. OrLine (codes "input") r (Go reads)) answer) (same_loaded directory i.bytes read same) d)
-
-  pub decides_failed : (folder : F) → read_failed i ≡ true → RefusesFor answer (device_text (codes "input")) → Decides past failures folder folder 0 (λ reads. WithRows directory i (Go reads)) answer
-  decides_failed folder failing refuses =
-      subst (λ (b : Bool). Decides past failures folder folder 0 (λ reads. UnlessFailed b (OrLine (codes "input") (loaded directory i.bytes) (Go reads))) answer) (sym failing)
-      (decides_at_once past failures folder 0 answer (λ reads. UnlessFailed true (OrLine (codes "input") (loaded directory i.bytes) (Go reads))) (λ reads. refuses))
 
 -- ---- a line of it
 

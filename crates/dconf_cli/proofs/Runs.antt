@@ -22,7 +22,7 @@ use Rattle.dconf_cli.specs.Endings.{Ends, EndsBy}
 use Rattle.dconf_cli.specs.Readings.{AllRead, AreOf, Decides, Gave, Reading, Tells}
 use Rattle.dconf_cli.specs.Runs.{IsFormed, IsOwn, KeepsFiles, NamesFile, RanAnywhere, SaysFailedInput, Took}
 use Rattle.dconf_cli.specs.Streams.{NoneFailed}
-use Rattle.dconf_cli.proofs.Leaving.{not_rose}
+use Rattle.dconf_cli.proofs.StreamsLeft.{not_rose}
 
 -- ---- input that no command read
 

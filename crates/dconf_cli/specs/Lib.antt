@@ -8,6 +8,6 @@ pub mod Endings
 pub mod Runs
 pub mod Inputs
 pub mod Dumps
-pub mod Changing
+pub mod Refusals
 pub mod Loads
 pub mod InputFaults

@@ -4,7 +4,7 @@ ghost use Rattle.dconf_model.specs.Outcomes.{OrCause, UnlessFault, value_of_word
 ghost use Rattle.dconf_model.specs.Paths.{directory_fault, key_fault};
 ghost use Rattle.dconf_path.specs.Paths.{directory_text, key_text};
 ghost use Rattle.dconf_cli.specs.Answers.{GivesOutcome, NoOutcome};
-ghost use Rattle.dconf_cli.specs.Changing.{NoValue, RefusedCause};
+ghost use Rattle.dconf_cli.specs.Refusals.{NoValue, RefusedCause};
 ghost use Rattle.dconf_compile.specs.CompileFaults.{cause_of};
 
 use crate::refusal::{Refusal, refused};

@@ -36,7 +36,7 @@ impl<S> Counted<S> {
         self.failures
     }
 
-    // Counts one failure more.
+    /// Counts one failure more.
     fn count_failure(&mut self)
         ensures count { failures_of self.new ≡ one_more (failures_of self.old) }
         ensures inner { inner_of self.new ≡ inner_of self.old }

@@ -60,10 +60,10 @@ impl From<AllocError> for InputFault {
     }
 }
 
-// The most bytes that are read: one more than a text of settings may have.
+/// The most bytes that are read: one more than a text of settings may have.
 const MOST: usize = 16_777_217;
 
-// The most bytes that one read is asked for.
+/// The most bytes that one read is asked for.
 const PIECE: usize = 4096;
 
 /// All bytes of the input; or its first 16,777,217, which are one too many for a text of settings, whatever comes after them.
@@ -93,7 +93,7 @@ pub fn read_input<I: Read>(alloc: Global, input: &mut Counted<I>) -> Result<Vec<
     Ok(bytes)
 }
 
-// Reads once, by the buffer, and appends what came. Nothing is the end, where there is room.
+/// Reads once, by the buffer, and appends what came. Nothing is the end, where there is room.
 fn append_piece<I: Read>(
     input: &mut Counted<I>,
     piece: &mut [u8],

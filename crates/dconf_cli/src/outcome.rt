@@ -33,7 +33,7 @@ pub(crate) fn give<F: Folder, O: Write, E: Write>(
     }
 }
 
-/// The same of an answer.
+/// Brings about an answer, as `give` does, and gives the status.
 fn carry_out<F: Folder, O: Write, E: Write>(
     alloc: Global,
     answer: Answer,

@@ -82,7 +82,7 @@ pub(crate) fn unsound<D: Display + Drop>(alloc: Global, fault: D) -> Refusal
     }
 }
 
-/// The refusal for a device that failed, of a file or of the input.
+/// The refusal for a file whose device failed.
 pub(crate) fn device(alloc: Global, name: &str) -> Refusal
     ensures { RefusesFor (Err result) (device_text name.now) }
 {
@@ -92,7 +92,7 @@ pub(crate) fn device(alloc: Global, name: &str) -> Refusal
     }
 }
 
-/// The line of it.
+/// The line for a file whose device failed.
 pub(crate) fn device_line(alloc: Global, name: &str) -> Result<String, AllocError>
     ensures { IfOk result (λ line. string_bytes line ≡ codes "error: Device " ++ (name.now ++ 10 ∷ [])) }
 {

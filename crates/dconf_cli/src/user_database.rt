@@ -7,7 +7,7 @@ ghost use Rattle.dconf_model.specs.Profiles.{user_file};
 ghost use Rattle.dconf_path.specs.Profiles.{databases_of};
 ghost use Rattle.dconf_engine.specs.ChangeFaults.{refusal_of};
 ghost use Rattle.dconf_cli.specs.Answers.{GivesOutcome};
-ghost use Rattle.dconf_cli.specs.Changing.{IsLockedPath, RefusedFor};
+ghost use Rattle.dconf_cli.specs.Refusals.{IsLockedPath, RefusedFor};
 
 use crate::answer::Answer;
 use crate::refusal::{Refusal, refused};

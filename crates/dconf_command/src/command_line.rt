@@ -22,7 +22,7 @@ pub(crate) fn dconfdb<'a>(alloc: Global) -> Result<clap::Command<'a>, AllocError
     with_all(alloc, line, COMMANDS.as_slice())
 }
 
-// The line with these commands too.
+/// The line with these commands too.
 fn with_all<'a>(
     alloc: Global,
     line: clap::Command<'a>,
@@ -37,8 +37,8 @@ fn with_all<'a>(
     Ok(line)
 }
 
-// The line with one more command. It makes the command itself, so that a caller of many holds no
-// line across a `?`: that is dear to prove.
+/// The line with one more command. It makes the command itself, so that a caller of many holds no
+/// line across a `?`: that is dear to prove.
 fn with<'a>(
     alloc: Global,
     line: clap::Command<'a>,
@@ -55,7 +55,7 @@ fn with<'a>(
     )?)
 }
 
-// A command of this name with its words, what it does in a line, and `more` after its long help.
+/// A command of this name with its words, what it does in a line, and `more` after its long help.
 fn named<'a>(
     alloc: Global,
     name: &'a str,

@@ -24,7 +24,7 @@ pub fn command(alloc: Global, words: &[String]) -> Result<Command, clap::Error>
     Ok(asked(alloc, &matches)?)
 }
 
-// What clap gives the arguments.
+/// What clap gives the arguments.
 fn parsed<'a>(alloc: Global, words: &'a [String]) -> Result<ArgMatches<'a>, clap::Error>
     ensures ok { IfOk result (IsParsedBy (map string_bytes words.now)) }
     ensures err { FailsBy (fault_of command_line (map string_bytes words.now)) result }
@@ -32,7 +32,7 @@ fn parsed<'a>(alloc: Global, words: &'a [String]) -> Result<ArgMatches<'a>, clap
     dconfdb(alloc)?.try_get_matches_from(words)
 }
 
-// The command that was named, with its values.
+/// The command that was named, with its values.
 fn asked(alloc: Global, matches: &ArgMatches<'_>) -> Result<Command, AllocError>
     requires { (words : List Text) × IsParsedBy words matches.now }
     ensures { IfOk result (λ command. (words : List Text) → IsParsedBy words matches.now → IsAskedBy words command) }
@@ -73,7 +73,7 @@ fn asked(alloc: Global, matches: &ArgMatches<'_>) -> Result<Command, AllocError>
     show_asked(alloc, matches.subcommand_matches("show").unwrap())
 }
 
-// `check FILE`.
+/// `check FILE`.
 fn check_asked(alloc: Global, check: &ArgMatches<'_>) -> Result<Command, AllocError>
     requires { HasValue check.now (codes "FILE") }
     ensures { IfOk result (λ command. (words : List Text) → AreOf words (codes "check") check.now → IsAskedBy words command) }
@@ -83,7 +83,7 @@ fn check_asked(alloc: Global, check: &ArgMatches<'_>) -> Result<Command, AllocEr
     })
 }
 
-// `compile OUT [--locks FILE] [KEYFILE..]`.
+/// `compile OUT [--locks FILE] [KEYFILE..]`.
 fn compile_asked(alloc: Global, compile: &ArgMatches<'_>) -> Result<Command, AllocError>
     requires { HasValue compile.now (codes "OUT") }
     ensures { IfOk result (λ command. (words : List Text) → AreOf words (codes "compile") compile.now → IsAskedBy words command) }
@@ -95,7 +95,7 @@ fn compile_asked(alloc: Global, compile: &ArgMatches<'_>) -> Result<Command, All
     })
 }
 
-// `read [-d] [-p FILE] KEY`.
+/// `read [-d] [-p FILE] KEY`.
 fn read_asked(alloc: Global, read: &ArgMatches<'_>) -> Result<Command, AllocError>
     requires { HasValue read.now (codes "KEY") }
     ensures { IfOk result (λ command. (words : List Text) → AreOf words (codes "read") read.now → IsAskedBy words command) }
@@ -108,7 +108,7 @@ fn read_asked(alloc: Global, read: &ArgMatches<'_>) -> Result<Command, AllocErro
     })
 }
 
-// `origin [-p FILE] KEY`.
+/// `origin [-p FILE] KEY`.
 fn origin_asked(alloc: Global, origin: &ArgMatches<'_>) -> Result<Command, AllocError>
     requires { HasValue origin.now (codes "KEY") }
     ensures { IfOk result (λ command. (words : List Text) → AreOf words (codes "origin") origin.now → IsAskedBy words command) }
@@ -117,7 +117,7 @@ fn origin_asked(alloc: Global, origin: &ArgMatches<'_>) -> Result<Command, Alloc
     Ok(Command::Origin { key, profile })
 }
 
-// `repair FILE OUT`.
+/// `repair FILE OUT`.
 fn repair_asked(alloc: Global, repair: &ArgMatches<'_>) -> Result<Command, AllocError>
     requires file { HasValue repair.now (codes "FILE") }
     requires out { HasValue repair.now (codes "OUT") }
@@ -129,7 +129,7 @@ fn repair_asked(alloc: Global, repair: &ArgMatches<'_>) -> Result<Command, Alloc
     })
 }
 
-// `list [-p FILE] DIR`.
+/// `list [-p FILE] DIR`.
 fn list_asked(alloc: Global, list: &ArgMatches<'_>) -> Result<Command, AllocError>
     requires { HasValue list.now (codes "DIR") }
     ensures { IfOk result (λ command. (words : List Text) → AreOf words (codes "list") list.now → IsAskedBy words command) }
@@ -138,7 +138,7 @@ fn list_asked(alloc: Global, list: &ArgMatches<'_>) -> Result<Command, AllocErro
     Ok(Command::List { directory, profile })
 }
 
-// `list-locks [-p FILE] DIR`.
+/// `list-locks [-p FILE] DIR`.
 fn list_locks_asked(alloc: Global, list_locks: &ArgMatches<'_>) -> Result<Command, AllocError>
     requires { HasValue list_locks.now (codes "DIR") }
     ensures { IfOk result (λ command. (words : List Text) → AreOf words (codes "list-locks") list_locks.now → IsAskedBy words command) }
@@ -147,7 +147,7 @@ fn list_locks_asked(alloc: Global, list_locks: &ArgMatches<'_>) -> Result<Comman
     Ok(Command::ListLocks { directory, profile })
 }
 
-// `dump [-p FILE] DIR`.
+/// `dump [-p FILE] DIR`.
 fn dump_asked(alloc: Global, dump: &ArgMatches<'_>) -> Result<Command, AllocError>
     requires { HasValue dump.now (codes "DIR") }
     ensures { IfOk result (λ command. (words : List Text) → AreOf words (codes "dump") dump.now → IsAskedBy words command) }
@@ -156,7 +156,7 @@ fn dump_asked(alloc: Global, dump: &ArgMatches<'_>) -> Result<Command, AllocErro
     Ok(Command::Dump { directory, profile })
 }
 
-// `write [-p FILE] KEY VALUE`.
+/// `write [-p FILE] KEY VALUE`.
 fn write_asked(alloc: Global, write: &ArgMatches<'_>) -> Result<Command, AllocError>
     requires key { HasValue write.now (codes "KEY") }
     requires value { HasValue write.now (codes "VALUE") }
@@ -171,7 +171,7 @@ fn write_asked(alloc: Global, write: &ArgMatches<'_>) -> Result<Command, AllocEr
     })
 }
 
-// `reset [-f] [-p FILE] PATH`.
+/// `reset [-f] [-p FILE] PATH`.
 fn reset_asked(alloc: Global, reset: &ArgMatches<'_>) -> Result<Command, AllocError>
     requires { HasValue reset.now (codes "PATH") }
     ensures { IfOk result (λ command. (words : List Text) → AreOf words (codes "reset") reset.now → IsAskedBy words command) }
@@ -184,7 +184,7 @@ fn reset_asked(alloc: Global, reset: &ArgMatches<'_>) -> Result<Command, AllocEr
     })
 }
 
-// `load [-f] [-p FILE] DIR`.
+/// `load [-f] [-p FILE] DIR`.
 fn load_asked(alloc: Global, load: &ArgMatches<'_>) -> Result<Command, AllocError>
     requires { HasValue load.now (codes "DIR") }
     ensures { IfOk result (λ command. (words : List Text) → AreOf words (codes "load") load.now → IsAskedBy words command) }
@@ -197,7 +197,7 @@ fn load_asked(alloc: Global, load: &ArgMatches<'_>) -> Result<Command, AllocErro
     })
 }
 
-// `show TYPE FILE`.
+/// `show TYPE FILE`.
 fn show_asked(alloc: Global, show: &ArgMatches<'_>) -> Result<Command, AllocError>
     requires type_text { HasValue show.now (codes "TYPE") }
     requires file { HasValue show.now (codes "FILE") }
@@ -209,7 +209,7 @@ fn show_asked(alloc: Global, show: &ArgMatches<'_>) -> Result<Command, AllocErro
     })
 }
 
-// The value of an argument that has one.
+/// The value of an argument that has one.
 fn value(alloc: Global, matches: &ArgMatches<'_>, id: &str) -> Result<String, AllocError>
     requires { HasValue matches.now id.now }
     ensures { IfOk result (λ text.
@@ -218,7 +218,7 @@ fn value(alloc: Global, matches: &ArgMatches<'_>, id: &str) -> Result<String, Al
     String::from_str(alloc, matches.get_str(id).unwrap())
 }
 
-// The value of an argument that has one, and the name of the profile's file.
+/// The value of an argument that has one, and the name of the profile's file.
 fn value_and_profile(
     alloc: Global,
     matches: &ArgMatches<'_>,
@@ -232,7 +232,7 @@ fn value_and_profile(
     Ok((text, profile_value(alloc, matches)?))
 }
 
-// The value of an argument that may be left out.
+/// The value of an argument that may be left out.
 fn value_if_any(
     alloc: Global,
     matches: &ArgMatches<'_>,
@@ -246,7 +246,7 @@ fn value_if_any(
     }
 }
 
-// Whether a flag is among the words.
+/// Whether a flag is among the words.
 fn is_given(matches: &ArgMatches<'_>, id: &str) -> bool
     ensures { result ≡ is_set (first_value (found_of matches.now) id.now) }
 {
@@ -256,14 +256,14 @@ fn is_given(matches: &ArgMatches<'_>, id: &str) -> bool
     }
 }
 
-// The name of the profile's file.
+/// The name of the profile's file.
 fn profile_value(alloc: Global, matches: &ArgMatches<'_>) -> Result<String, AllocError>
     ensures { IfOk result (λ text. string_bytes text ≡ profile_file (first_value (found_of matches.now) (codes "profile"))) }
 {
     String::from_str(alloc, matches.get_str("profile").unwrap_or("profile"))
 }
 
-// The values of an argument that may have several, or none.
+/// The values of an argument that may have several, or none.
 fn values(alloc: Global, matches: &ArgMatches<'_>, id: &str) -> Result<Vec<String>, AllocError>
     ensures { IfOk result (λ texts. map string_bytes (vec_items texts)
         ≡ unwrap_or (option_map raw_values (matched_of (found_of matches.now) id.now)) []) }
@@ -271,7 +271,7 @@ fn values(alloc: Global, matches: &ArgMatches<'_>, id: &str) -> Result<Vec<Strin
     copies(alloc, matches.get_strs(id).unwrap_or(&[]))
 }
 
-// A copy of each text.
+/// A copy of each text.
 fn copies(alloc: Global, texts: &[&str]) -> Result<Vec<String>, AllocError>
     ensures { IfOk result (λ copies. map string_bytes (vec_items copies) ≡ map (λ text. text.now) texts.now) }
 {

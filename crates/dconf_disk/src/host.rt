@@ -129,7 +129,7 @@ impl<R: Files> Folder for StdFolder<R> {
     }
 }
 
-// A new file, in the place of any other: one of that name may be another name's too, so it is not written over.
+/// A new file, in the place of any other: one of that name may be another name's too, so it is not written over.
 fn make_new<R: Files>(rt: &R, name: &str) -> io::Result<()> {
     match fs::remove_file(rt, name) {
         Err(error) if error.kind() != ErrorKind::NotFound => return Err(error),
@@ -144,12 +144,12 @@ fn append_to<R: Files>(rt: &R, name: &str, bytes: &[u8]) -> io::Result<()> {
     file.write_all(bytes)
 }
 
-// A file's bytes, or a folder's names.
+/// A file's bytes, or a folder's names.
 fn sync_at<R: Files>(rt: &R, name: &str) -> io::Result<()> {
     fs::open(rt, name)?.sync_all()
 }
 
-// `sync_folder` syncs the current folder alone, so the names of any other are synced here.
+/// `sync_folder` syncs the current folder alone, so the names of any other are synced here.
 fn rename_to<R: Files>(rt: &R, from: &str, to: &str) -> io::Result<()> {
     keep_mode(rt, from, to)?;
     fs::rename(rt, from, to)?;
@@ -169,7 +169,7 @@ pub fn folder_of(name: &str) -> &str
     }
 }
 
-// A writing call's answer: whatever fails is the device.
+/// A writing call's answer: whatever fails is the device.
 fn written(answer: io::Result<()>) -> Result<(), FolderFault>
     ensures done { IsOk result ↔ IsOk answer }
     ensures only { OnErr result (IsErrOf result FolderFault.Device) }
@@ -180,7 +180,7 @@ fn written(answer: io::Result<()>) -> Result<(), FolderFault>
     }
 }
 
-// What was opened, read. Only a name that is not there is no file; any other failure is one.
+/// What was opened, read. Only a name that is not there is no file; any other failure is one.
 fn read_opened<F: OpenFile + Read + Drop>(
     alloc: Global,
     opened: io::Result<F>,
@@ -200,8 +200,8 @@ fn read_opened<F: OpenFile + Read + Drop>(
     }
 }
 
-// All of the file's bytes, held once. A file that says that it is too big is not read, and of one that never ends no more is
-// read than shows it.
+/// All of the file's bytes, held once. A file that says that it is too big is not read, and of one that never ends no more is
+/// read than shows it.
 fn whole<F: OpenFile + Read + Drop>(alloc: Global, file: F) -> Result<Vec<u8>, FolderFault>
     ensures fits { IfOk result (λ v. length v.items ≤ LARGEST_FILE) }
     ensures bytes { IfOk result (λ v. IfSome (F.remaining file) (λ rest. v.items ≡ rest)) }
@@ -225,7 +225,7 @@ fn is_too_big(length: u64) -> bool
     length > LARGEST_FILE
 }
 
-// What an error of the host is to one who reads.
+/// What an error of the host is to one who reads.
 fn fault_of(error: io::Error) -> FolderFault
     ensures memory { error_kind error ≡ ErrorKind.OutOfMemory → result ≡ FolderFault.Memory }
     ensures device { error_kind error ≢ ErrorKind.OutOfMemory → result ≡ FolderFault.Device }

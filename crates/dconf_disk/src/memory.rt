@@ -19,7 +19,7 @@ pub struct MemoryFolder {
     pub(crate) alloc: Global,
     pub(crate) calls: Vec<Call>,
     failures: u64,
-    // The call that fails, counted from the next one as 1. 0 is none.
+    /// The call that fails, counted from the next one as 1. 0 is none.
     fails_in: u64,
 }
 

@@ -20,7 +20,7 @@ $ read /b => 0
 3
 ";
 
-// A lock of a directory covers the keys below it alone.
+/// A lock of a directory covers the keys below it alone.
 const LOCKED_DIRECTORY: &str = "
 $ write -p own /a/j 1 => 0
 $ read /a/j => 0
@@ -67,7 +67,7 @@ $ check me.user => 0
 sound
 ";
 
-// What changes nothing is saved too, also where there was no file.
+/// What changes nothing is saved too, also where there was no file.
 const SAVED: &str = "
 $ read /k -p empty => 0
 $ reset /k => 0
@@ -83,7 +83,7 @@ fn sets_and_resets_keys(rt: HostRuntime) -> Result<(), Fail> {
     runs(alloc, SAVED, &mut folder_of(alloc, &files)?)
 }
 
-// The path comes before the value, and that before the profile; then come the profile's lines, the databases, and the engine.
+/// The path comes before the value, and that before the profile; then come the profile's lines, the databases, and the engine.
 const REFUSED: &str = "
 $ write a oops -p none => 1
 ! error: NotAbsolute

@@ -18,7 +18,7 @@ const FILES: [(&str, &str); 13] = [
     ("lock", "/a//\n"),
 ];
 
-// The later keyfile is handed in first. Equal values are stored once. The last database is its own keyfile.
+/// The later keyfile is handed in first. Equal values are stored once. The last database is its own keyfile.
 const MADE: &str = "
 $ compile layers 10-b 00-a => 0
 $ check layers => 0

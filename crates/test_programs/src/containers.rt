@@ -1,144 +1,91 @@
 //! `show` of every kind of container, of well-written bytes and of others.
-use crate::show::prints;
+use crate::show::each_prints;
 use std::test::Fail;
 
-#[test]
-fn prints_arrays_and_dictionaries(rt: HostRuntime) -> Result<(), Fail> {
-    let cases: [(&str, &[u8], &str); 20] = [
-        (
-            "as",
-            b"i\0can\0has\0strings?\0\x02\x06\x0a\x13",
-            "['i', 'can', 'has', 'strings?']",
-        ),
-        (
-            "a(si)",
-            b"hi\0\0\xfe\xff\xff\xff\x03\0\0\0bye\0\xff\xff\xff\xff\x04\x09\x15",
-            "[('hi', -2), ('bye', -1)]",
-        ),
-        // The last offset is past the end.
-        ("as", b"a\0\x05", "@as []"),
-        ("as", b"", "@as []"),
-        // The second element ends before it starts, so nothing behind it is read.
-        (
-            "aay",
-            b"\x01\x02\x03\x03\x01\x03",
-            "[[byte 0x01, 0x02, 0x03], [], []]",
-        ),
-        // Elements that overlap.
-        ("aaay", b"\0\x01\0\x01\x04\0\x04", "[[b'', [], []], [], []]"),
-        ("aau", b"\x01\0\0\0\x02\0\0\0\x04\x08", "[[uint32 1], [2]]"),
-        ("aas", b"a\0\x02\x03\x03", "[['a'], []]"),
-        ("aas", b"a\0\x02\0\x03", "[@as [], ['a']]"),
-        (
-            "a(yy)",
-            b"\x01\x02\x03\x04",
-            "[(byte 0x01, byte 0x02), (0x03, 0x04)]",
-        ),
-        ("a()", b"\0\0", "[(), ()]"),
-        ("ao", b"/a\0b\0\x03\x05", "[objectpath '/a', '/']"),
-        ("ag", b"as\0m\0\x03\x05", "[signature 'as', '']"),
-        ("amy", b"\x05\x01\x01", "[@my 0x05, nothing]"),
-        // Of equal keys each is printed.
-        (
-            "a{si}",
-            b"a\0\0\0\x01\0\0\0\x02\0\0\0a\0\0\0\x02\0\0\0\x02\x09\x15",
-            "{'a': 1, 'a': 2}",
-        ),
-        ("a{sv}", b"", "@a{sv} {}"),
-        (
-            "a{sv}",
-            b"k\0\0\0\0\0\0\0\x05\0\0\0\0i\x02\x0f",
-            "{'k': <5>}",
-        ),
-        ("{sv}", b"k\0\0\0\0\0\0\0\x05\0\0\0\0i\x02", "{'k', <5>}"),
-        (
-            "a{yy}",
-            b"\x01\x02\x03\x04",
-            "{byte 0x01: byte 0x02, 0x03: 0x04}",
-        ),
-        ("aa{sv}", b"\0\0", "[@a{sv} {}, {}]"),
-    ];
-    for (type_text, bytes, text) in cases {
-        prints(rt.alloc(), type_text, bytes, text)?;
-    }
-    Ok(())
-}
+const ARRAYS: &str = "
+as 'i' 00 'can' 00 'has' 00 'strings?' 00 02 06 0a 13 | ['i', 'can', 'has', 'strings?']
+a(si) 'hi' 00 00 fe ff ff ff 03 00 00 00 'bye' 00 ff ff ff ff 04 09 15 | [('hi', -2), ('bye', -1)]
+# The last offset is past the end.
+as 'a' 00 05 | @as []
+as | @as []
+# The second element ends before it starts, so nothing behind it is read.
+aay 01 02 03 03 01 03 | [[byte 0x01, 0x02, 0x03], [], []]
+# Elements that overlap.
+aaay 00 01 00 01 04 00 04 | [[b'', [], []], [], []]
+aau 01 00 00 00 02 00 00 00 04 08 | [[uint32 1], [2]]
+aas 'a' 00 02 03 03 | [['a'], []]
+aas 'a' 00 02 00 03 | [@as [], ['a']]
+a(yy) 01 02 03 04 | [(byte 0x01, byte 0x02), (0x03, 0x04)]
+a() 00 00 | [(), ()]
+ao '/a' 00 'b' 00 03 05 | [objectpath '/a', '/']
+ag 'as' 00 'm' 00 03 05 | [signature 'as', '']
+amy 05 01 01 | [@my 0x05, nothing]
+# Of equal keys each is printed.
+a{si} 'a' 00 00 00 01 00 00 00 02 00 00 00 'a' 00 00 00 02 00 00 00 02 09 15 | {'a': 1, 'a': 2}
+a{sv} | @a{sv} {}
+a{sv} 'k' 00 00 00 00 00 00 00 05 00 00 00 00 'i' 02 0f | {'k': <5>}
+{sv} 'k' 00 00 00 00 00 00 00 05 00 00 00 00 'i' 02 | {'k', <5>}
+a{yy} 01 02 03 04 | {byte 0x01: byte 0x02, 0x03: 0x04}
+aa{sv} 00 00 | [@a{sv} {}, {}]
+";
+
+const TUPLES: &str = "
+((ys)as) 'ican' 00 'has' 00 'strings?' 00 04 0d 05 | ((byte 0x69, 'can'), ['has', 'strings?'])
+# The array ends behind the framing offset.
+(ays) 'ab' 00 04 | (@ay [], '')
+() 00 | ()
+() | ()
+() 'ab' | ()
+(y) 05 | (byte 0x05,)
+(y) | (byte 0x00,)
+(iy) 01 00 00 00 02 00 00 00 | (1, byte 0x02)
+# A tuple of fixed size with a byte too few: each member is its default.
+(iy) 01 00 00 00 02 00 00 | (0, byte 0x00)
+(ss) 'a' 00 'b' 00 02 | ('a', 'b')
+# The offsets occur in reverse order.
+(sss) 'a' 00 'bc' 00 'd' 00 05 02 | ('a', 'bc', 'd')
+(sss) 07 | ('', '', '')
+(s(ii)s) 'a' 00 00 00 01 00 00 00 02 00 00 00 'b' 00 02 | ('a', (1, 2), 'b')
+";
+
+const MAYBES_AND_VARIANTS: &str = "
+mi | @mi nothing
+mi 05 00 00 00 | @mi 5
+mi 05 00 00 | @mi nothing
+my 05 | @my 0x05
+ms | @ms nothing
+ms 'a' 00 00 | @ms 'a'
+# The last byte may be any.
+ms 'a' 00 'x' | @ms 'a'
+mms | @mms nothing
+mms 00 | @mms just nothing
+mms 'a' 00 00 00 | @mms 'a'
+mmms 00 00 | @mmms just just nothing
+mv 05 00 'y' 00 | @mv <byte 0x05>
+m() 00 | @m() ()
+(msmi) 'a' 00 00 00 05 00 00 00 03 | (@ms 'a', @mi 5)
+# There is no zero byte.
+v 'i' | <()>
+v | <()>
+# The child has too few bytes for its type.
+v 05 00 'i' | <0>
+v 05 00 00 00 00 'i' | <5>
+# The type's text is what follows the last zero byte.
+v 'a' 00 00 's' | <'a'>
+v 05 00 'y' 00 'v' | <<byte 0x05>>
+v 01 00 'my' | <@my 0x01>
+# No type, two types, a bad one.
+v 05 00 | <()>
+v 05 00 'yy' | <()>
+v 05 00 'a{vs}' | <()>
+v 05 00 ff | <()>
+av 05 00 'y' 00 00 00 00 00 06 00 'y' 03 0b | [<byte 0x05>, <byte 0x06>]
+";
 
 #[test]
-fn prints_tuples(rt: HostRuntime) -> Result<(), Fail> {
-    let cases: [(&str, &[u8], &str); 13] = [
-        (
-            "((ys)as)",
-            b"ican\0has\0strings?\0\x04\x0d\x05",
-            "((byte 0x69, 'can'), ['has', 'strings?'])",
-        ),
-        // The array ends behind the framing offset.
-        ("(ays)", b"ab\0\x04", "(@ay [], '')"),
-        ("()", b"\0", "()"),
-        ("()", b"", "()"),
-        ("()", b"ab", "()"),
-        ("(y)", b"\x05", "(byte 0x05,)"),
-        ("(y)", b"", "(byte 0x00,)"),
-        ("(iy)", b"\x01\0\0\0\x02\0\0\0", "(1, byte 0x02)"),
-        // A tuple of fixed size with a byte too few: each member is its default.
-        ("(iy)", b"\x01\0\0\0\x02\0\0", "(0, byte 0x00)"),
-        ("(ss)", b"a\0b\0\x02", "('a', 'b')"),
-        // The offsets occur in reverse order.
-        ("(sss)", b"a\0bc\0d\0\x05\x02", "('a', 'bc', 'd')"),
-        ("(sss)", b"\x07", "('', '', '')"),
-        (
-            "(s(ii)s)",
-            b"a\0\0\0\x01\0\0\0\x02\0\0\0b\0\x02",
-            "('a', (1, 2), 'b')",
-        ),
-    ];
-    for (type_text, bytes, text) in cases {
-        prints(rt.alloc(), type_text, bytes, text)?;
-    }
-    Ok(())
-}
-
-#[test]
-fn prints_maybes_and_variants(rt: HostRuntime) -> Result<(), Fail> {
-    let cases: [(&str, &[u8], &str); 26] = [
-        ("mi", b"", "@mi nothing"),
-        ("mi", b"\x05\0\0\0", "@mi 5"),
-        ("mi", b"\x05\0\0", "@mi nothing"),
-        ("my", b"\x05", "@my 0x05"),
-        ("ms", b"", "@ms nothing"),
-        ("ms", b"a\0\0", "@ms 'a'"),
-        // The last byte may be any.
-        ("ms", b"a\0x", "@ms 'a'"),
-        ("mms", b"", "@mms nothing"),
-        ("mms", b"\0", "@mms just nothing"),
-        ("mms", b"a\0\0\0", "@mms 'a'"),
-        ("mmms", b"\0\0", "@mmms just just nothing"),
-        ("mv", b"\x05\0y\0", "@mv <byte 0x05>"),
-        ("m()", b"\0", "@m() ()"),
-        ("(msmi)", b"a\0\0\0\x05\0\0\0\x03", "(@ms 'a', @mi 5)"),
-        // There is no zero byte.
-        ("v", b"i", "<()>"),
-        ("v", b"", "<()>"),
-        // The child has too few bytes for its type.
-        ("v", b"\x05\0i", "<0>"),
-        ("v", b"\x05\0\0\0\0i", "<5>"),
-        // The type's text is what follows the last zero byte.
-        ("v", b"a\0\0s", "<'a'>"),
-        ("v", b"\x05\0y\0v", "<<byte 0x05>>"),
-        ("v", b"\x01\0my", "<@my 0x01>"),
-        // No type, two types, a bad one.
-        ("v", b"\x05\0", "<()>"),
-        ("v", b"\x05\0yy", "<()>"),
-        ("v", b"\x05\0a{vs}", "<()>"),
-        ("v", b"\x05\0\xff", "<()>"),
-        (
-            "av",
-            b"\x05\0y\0\0\0\0\0\x06\0y\x03\x0b",
-            "[<byte 0x05>, <byte 0x06>]",
-        ),
-    ];
-    for (type_text, bytes, text) in cases {
-        prints(rt.alloc(), type_text, bytes, text)?;
-    }
-    Ok(())
+fn prints_containers(rt: HostRuntime) -> Result<(), Fail> {
+    let alloc = rt.alloc();
+    each_prints(alloc, ARRAYS)?;
+    each_prints(alloc, TUPLES)?;
+    each_prints(alloc, MAYBES_AND_VARIANTS)
 }

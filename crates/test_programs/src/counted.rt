@@ -1,28 +1,37 @@
 //! Streams that count their failures.
 use crate::streams::{Sink, Writes};
 use dconf_cli::Counted;
+use std::alloc::Global;
 use std::io::ErrorKind;
 use std::test::Fail;
+
+/// What a writer of one byte a write, whose k-th write fails and all after it, says of no bytes and of five: whether each were written, and then
+/// how often it failed.
+fn told(alloc: Global, k: usize, kind: Option<ErrorKind>) -> Result<String, Fail> {
+    let writes = Writes {
+        most: 1,
+        fails_in: k,
+        kind,
+        lasting: true,
+    };
+    let mut out = Sink::counted(alloc, writes);
+    let nothing = out.put(b"").is_ok() && out.failures() == 0;
+    let five = out.put(b"12345").is_ok();
+    let failures = out.failures();
+    Ok(format!(in alloc; "{nothing} {five} {failures}")?)
+}
 
 #[test]
 fn counts_a_writer(rt: HostRuntime) -> Result<(), Fail> {
     let rows = [
-        (6, None, 0),
-        (5, None, 1),
-        (5, Some(ErrorKind::Interrupted), 1),
-        (1, Some(ErrorKind::BrokenPipe), 1),
+        (6, None, "true true 0"),
+        (5, None, "true false 1"),
+        (5, Some(ErrorKind::Interrupted), "true false 1"),
+        (1, Some(ErrorKind::BrokenPipe), "true false 1"),
     ];
-    for (fails_in, kind, failures) in rows {
-        let writes = Writes {
-            most: 1,
-            fails_in,
-            kind,
-            lasting: true,
-        };
-        let mut out = Sink::counted(rt.alloc(), writes);
-        assert!(rt; out.put(b"").is_ok() && out.failures() == 0);
-        assert!(rt; out.put(b"12345").is_err() == (failures == 1), "{fails_in}");
-        assert_eq!(rt; out.failures(), failures);
+    for (k, kind, wanted) in rows {
+        let told = told(rt.alloc(), k, kind)?;
+        assert!(rt; told.as_str() == wanted, "{k}: {told}");
     }
     Ok(())
 }

@@ -1,5 +1,6 @@
 //! `show` of values that are too deep, of those that just fit, and of those that would grow with each level.
-use crate::show::{prints, shows};
+use crate::script::halves;
+use crate::show::{bytes_of_words, prints, shows};
 use std::alloc::{AllocError, Global};
 use std::test::Fail;
 
@@ -66,22 +67,32 @@ fn prints_values_that_would_grow_with_each_level(rt: HostRuntime) -> Result<(), 
     prints(alloc, "ab", &trues, &text)
 }
 
+/// A line has the words of the lowest level, how many variants are around it, and how many bytes that are. The size is looked at before a double.
+const TOO_DEEP: &str = "
+05 00 00 00 00 'i' | 127 260
+05 00 00 00 00 'i' | 128 262
+05 00 00 00 00 'i' | 9999 20004
+05 00 00 00 00 'd' | 127 260
+";
+
+/// Runs `show` of such a value. An error says that it isn't refused.
+fn is_too_deep(alloc: Global, lowest: &str, numbers: &str) -> Result<(), Fail> {
+    let (levels, length) = numbers.split_once(' ').unwrap_or((numbers, ""));
+    let lowest = bytes_of_words(alloc, lowest)?;
+    let deeper = made(alloc, &lowest, b"\0v", levels.parse()?, length.parse()?)?;
+    shows(alloc, "v", &deeper, "1\n! error: TooLarge\n")
+}
+
 #[test]
 fn stops_at_128_levels(rt: HostRuntime) -> Result<(), Fail> {
     let alloc = rt.alloc();
     let deepest = made(alloc, b"\x05\0\0\0\0i", b"\0v", 126, 258)?;
     let text = around(alloc, "<", "5", ">", 127)?;
     prints(alloc, "v", &deepest, &text)?;
-    let rows: [(&[u8], usize, usize); 4] = [
-        (b"\x05\0\0\0\0i", 127, 260),
-        (b"\x05\0\0\0\0i", 128, 262),
-        (b"\x05\0\0\0\0i", 9999, 20_004),
-        // The size is looked at before the double.
-        (b"\x05\0\0\0\0d", 127, 260),
-    ];
-    for (lowest, levels, length) in rows {
-        let deeper = made(alloc, lowest, b"\0v", levels, length)?;
-        shows(alloc, "v", &deeper, "1\n! error: TooLarge\n")?;
+    for line in TOO_DEEP.split('\n') {
+        if let Some((lowest, numbers)) = halves(line, " | ")? {
+            is_too_deep(alloc, lowest, numbers)?;
+        }
     }
     Ok(())
 }

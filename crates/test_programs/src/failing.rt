@@ -1,7 +1,7 @@
 //! Runs where the k-th call of the folder fails, or where the folder refuses every read.
 use crate::layers::{settle, two_layers};
 use crate::sample::put_sample;
-use crate::script::{have_lengths, put, put_all, runs};
+use crate::script::{halves, have_lengths, put, put_all, runs};
 use crate::streams::Refusing;
 use dconf_disk::{Folder, FolderFault, MemoryFolder};
 use std::alloc::Global;
@@ -51,94 +51,124 @@ fn leaves_at(
     runs(alloc, &sound, &mut folder)
 }
 
-/// For each call that fails, the first counted as 1: the file that is named, and how many bytes the database then has.
-fn device_at(
-    alloc: Global,
-    asked: &str,
-    database: &str,
-    rows: &[(u64, &str, usize)],
-) -> Result<(), Fail> {
-    for (k, name, length) in rows {
-        let row = format!(in alloc; "$ {asked}=> 1\n! error: Device {name}\n")?;
-        leaves_at(alloc, *k, &row, 1, (database, *length))?;
+/// A line has the call that fails, the first counted as 1, the file that is named, and how many bytes the database then has.
+fn device_at(alloc: Global, asked: &str, database: &str, lines: &str) -> Result<(), Fail> {
+    for line in lines.split('\n') {
+        if let Some((k, left)) = halves(line, " ")? {
+            names_device(alloc, asked, database, k, left)?;
+        }
     }
     Ok(())
 }
 
-// What reads each database of the profile.
-const READS: [&str; 7] = [
-    "read /a/k ",
-    "read -d /a/k ",
-    "origin /a/k ",
-    "list /a/ ",
-    "list-locks / ",
-    "dump / ",
-    "dump /b/ ",
-];
+/// Does the run with such a call that fails.
+fn names_device(
+    alloc: Global,
+    asked: &str,
+    database: &str,
+    k: &str,
+    left: &str,
+) -> Result<(), Fail> {
+    let (name, length) = left.split_once(' ').unwrap_or((left, ""));
+    let row = format!(in alloc; "$ {asked} => 1\n! error: Device {name}\n")?;
+    leaves_at(alloc, k.parse()?, &row, 1, (database, length.parse()?))
+}
 
-const READ: [(u64, &str, usize); 3] = [
-    (1, "profile", 110),
-    (2, "me.user", 110),
-    (3, "site.db", 110),
-];
+/// What reads each database of the profile.
+const READS: &str = "
+read /a/k
+read -d /a/k
+origin /a/k
+list /a/
+list-locks /
+dump /
+dump /b/
+";
 
-const COMPILED: [(u64, &str, usize); 8] = [
-    (1, "k", 110),
-    (2, "g", 110),
-    (3, "locks", 110),
-    (4, "out.db", 110),
-    (5, "out.db", 110),
-    (6, "out.db", 110),
-    // A rename that fails is done all the same.
-    (7, "out.db", 187),
-    (8, "out.db", 187),
-];
+const READ: &str = "
+1 profile 110
+2 me.user 110
+3 site.db 110
+";
 
-const REPAIRED: [(u64, &str, usize); 6] = [
-    (1, "hash", 32),
-    (2, "empty", 32),
-    (3, "empty", 32),
-    (4, "empty", 32),
-    (5, "empty", 110),
-    (6, "empty", 110),
-];
+/// What reads the file `v` alone.
+const READS_OF_FILE: &str = "
+show q v
+show au v
+check v
+";
 
-// Where no call fails, and where the one that would isn't made.
-const CALM: [(u64, &str, &str, usize); 8] = [
-    (0, "$ show au v => 0\n[uint32 1, 2]\n", "out.db", 110),
-    (2, "$ show au v => 0\n[uint32 1, 2]\n", "out.db", 110),
-    (3, "$ show au v => 0\n[uint32 1, 2]\n", "out.db", 110),
-    (0, "$ check v => 1\n! error: Short\n", "out.db", 110),
-    (2, "$ check v => 1\n! error: Short\n", "out.db", 110),
-    (3, "$ check v => 1\n! error: Short\n", "out.db", 110),
-    (
-        0,
-        "$ compile --locks locks out.db k g => 0\n",
-        "out.db",
-        187,
-    ),
-    (
-        0,
-        "$ repair hash empty => 0\nkept 1 keys, 0 locks\n",
-        "empty",
-        110,
-    ),
-];
+/// A rename that fails is done all the same.
+const COMPILED: &str = "
+1 k 110
+2 g 110
+3 locks 110
+4 out.db 110
+5 out.db 110
+6 out.db 110
+7 out.db 187
+8 out.db 187
+";
+
+const REPAIRED: &str = "
+1 hash 32
+2 empty 32
+3 empty 32
+4 empty 32
+5 empty 110
+6 empty 110
+";
+
+/// Where no call fails, and where the one that would isn't made: its number, the database and its bytes, and the run.
+const CALM: &str = "
+% 0 out.db 110
+$ show au v => 0
+[uint32 1, 2]
+% 2 out.db 110
+$ show au v => 0
+[uint32 1, 2]
+% 3 out.db 110
+$ show au v => 0
+[uint32 1, 2]
+% 0 out.db 110
+$ check v => 1
+! error: Short
+% 2 out.db 110
+$ check v => 1
+! error: Short
+% 3 out.db 110
+$ check v => 1
+! error: Short
+% 0 out.db 187
+$ compile --locks locks out.db k g => 0
+% 0 empty 110
+$ repair hash empty => 0
+kept 1 keys, 0 locks
+";
+
+/// Does a run whose call of that number isn't made.
+fn leaves_calmly(alloc: Global, at: &str, row: &str) -> Result<(), Fail> {
+    let (k, left) = at.split_once(' ').unwrap_or((at, ""));
+    let (database, length) = left.split_once(' ').unwrap_or((left, ""));
+    leaves_at(alloc, k.parse()?, row, 0, (database, length.parse()?))
+}
 
 #[test]
 fn calls_of_the_folder_that_fail(rt: HostRuntime) -> Result<(), Fail> {
     let alloc = rt.alloc();
-    let compile = "compile --locks locks out.db k g ";
-    device_at(alloc, compile, "out.db", &COMPILED)?;
-    device_at(alloc, "repair hash empty ", "empty", &REPAIRED)?;
-    for asked in ["show q v ", "show au v ", "check v "] {
-        device_at(alloc, asked, "out.db", &[(1, "v", 110)])?;
+    let compile = "compile --locks locks out.db k g";
+    device_at(alloc, compile, "out.db", COMPILED)?;
+    device_at(alloc, "repair hash empty", "empty", REPAIRED)?;
+    for asked in READS_OF_FILE.trim().split('\n') {
+        device_at(alloc, asked, "out.db", "1 v 110")?;
     }
-    for asked in READS {
-        device_at(alloc, asked, "out.db", &READ)?;
+    for asked in READS.trim().split('\n') {
+        device_at(alloc, asked, "out.db", READ)?;
     }
-    for (k, row, database, length) in CALM {
-        leaves_at(alloc, k, row, 0, (database, length))?;
+    for row in CALM.trim_start().split('%') {
+        if let Some((at, run)) = halves(row, "\n")? {
+            leaves_calmly(alloc, at.trim(), run)?;
+        }
     }
     Ok(())
 }

@@ -1,28 +1,51 @@
 //! The input of a command, read to its end, to its first failure, or until it is too long.
+use crate::script::{halves, is_left};
 use crate::streams::Source;
-use dconf_cli::{Counted, InputFault, read_input};
+use dconf_cli::{Counted, read_input};
 use std::alloc::Global;
 use std::io::ErrorKind;
 use std::test::Fail;
 
-/// Reads an input of so many `#`, of which a read may fail. An error says that so many aren't read, or aren't left.
-fn reads(
-    alloc: Global,
-    (marks, fails_in, kind): (usize, usize, ErrorKind),
-    wanted: Result<usize, InputFault>,
-    left: usize,
-) -> Result<(), Fail> {
-    let mut input = Counted::new(Source::marks(marks, fails_in, kind));
-    let read = match read_input(alloc, &mut input) {
-        Ok(bytes) => Ok(bytes.len()),
-        Err(fault) => Err(fault),
-    };
-    let failures = u64::from(wanted.is_err());
-    if read == wanted && input.get_ref().marks == left && input.failures() == failures {
-        Ok(())
-    } else {
-        Err(Fail::from((marks, fails_in)))
+/// A line has how many `#` an input has, which of its reads fails, and how; then how many are read, or why none is, how many are left, and how
+/// often the input failed. The first read gives 4,096 bytes, the second of 4,100 gives 4, and the third is the end.
+const INPUTS: &str = "
+4097 0 Other => 4097, 0 left, 0 failed
+16777216 0 Other => 16777216, 0 left, 0 failed
+16777217 0 Other => 16777217, 0 left, 0 failed
+18446744073709551615 0 Other => 16777217, 18446744073692774398 left, 0 failed
+4100 1 Interrupted => Device input, 4100 left, 1 failed
+4100 2 Interrupted => Device input, 4 left, 1 failed
+4100 3 Interrupted => Device input, 0 left, 1 failed
+4100 1 OutOfMemory => Device input, 4100 left, 1 failed
+4100 2 OutOfMemory => Device input, 4 left, 1 failed
+4100 3 OutOfMemory => Device input, 0 left, 1 failed
+4100 1 Other => Device input, 4100 left, 1 failed
+4100 2 Other => Device input, 4 left, 1 failed
+4100 3 Other => Device input, 0 left, 1 failed
+";
+
+/// What comes of reading the input.
+fn outcome(alloc: Global, input: &mut Counted<Source<'_>>) -> Result<String, Fail> {
+    match read_input(alloc, input) {
+        Ok(bytes) => Ok(format!(in alloc; "{}", bytes.len())?),
+        Err(fault) => Ok(format!(in alloc; "{fault}")?),
     }
+}
+
+/// Reads such an input. An error says that something else comes of it.
+fn reads(alloc: Global, source: &str, wanted: &str) -> Result<(), Fail> {
+    let (marks, read) = source.split_once(' ').unwrap_or((source, ""));
+    let (fails_in, kind) = read.split_once(' ').unwrap_or((read, ""));
+    let kind = match kind {
+        "Interrupted" => ErrorKind::Interrupted,
+        "OutOfMemory" => ErrorKind::OutOfMemory,
+        _ => ErrorKind::Other,
+    };
+    let mut input = Counted::new(Source::marks(marks.parse()?, fails_in.parse()?, kind));
+    let read = outcome(alloc, &mut input)?;
+    let (left, failures) = (input.get_ref().marks, input.failures());
+    let got = format!(in alloc; "{read}, {left} left, {failures} failed")?;
+    is_left(alloc, source, &got, wanted)
 }
 
 #[test]
@@ -31,30 +54,10 @@ fn reads_the_input_as_far_as_it_may(rt: HostRuntime) -> Result<(), Fail> {
     let mut words = Counted::new(b"[/]\nk=5\n".as_slice());
     assert!(rt; read_input(alloc, &mut words)?.as_slice() == b"[/]\nk=5\n".as_slice());
     assert!(rt; read_input(alloc, &mut words)?.is_empty() && words.failures() == 0);
-    let other = ErrorKind::Other;
-    let device = Err(InputFault::Device);
-    let rows = [
-        ((4097, 0, other), Ok(4097), 0),
-        ((16_777_216, 0, other), Ok(16_777_216), 0),
-        ((16_777_217, 0, other), Ok(16_777_217), 0),
-        (
-            (usize::MAX, 0, other),
-            Ok(16_777_217),
-            usize::MAX - 16_777_217,
-        ),
-        // The first read gives 4,096 bytes, the second 4, and the third is the end.
-        ((4100, 1, ErrorKind::Interrupted), device, 4100),
-        ((4100, 2, ErrorKind::Interrupted), device, 4),
-        ((4100, 3, ErrorKind::Interrupted), device, 0),
-        ((4100, 1, ErrorKind::OutOfMemory), device, 4100),
-        ((4100, 2, ErrorKind::OutOfMemory), device, 4),
-        ((4100, 3, ErrorKind::OutOfMemory), device, 0),
-        ((4100, 1, other), device, 4100),
-        ((4100, 2, other), device, 4),
-        ((4100, 3, other), device, 0),
-    ];
-    for (input, wanted, left) in rows {
-        reads(alloc, input, wanted, left)?;
+    for line in INPUTS.split('\n') {
+        if let Some((source, wanted)) = halves(line, " => ")? {
+            reads(alloc, source, wanted)?;
+        }
     }
     Ok(())
 }

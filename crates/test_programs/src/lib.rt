@@ -19,6 +19,8 @@ mod deep;
 #[cfg(test)]
 mod failing;
 #[cfg(test)]
+mod faults;
+#[cfg(test)]
 mod input;
 #[cfg(test)]
 mod layers;

@@ -24,7 +24,7 @@ $ compile --locks locks base.db base => 0
 $ compile --locks no-locks s.db s => 0
 ";
 
-// What a lock hides is listed, and not dumped: nothing is seen below `/a/`.
+/// What a lock hides is listed, and not dumped: nothing is seen below `/a/`.
 const LAYERS: &str = "
 $ list / => 0
 a

@@ -1,13 +1,13 @@
 //! `load`: what it leaves, and which refusal comes first.
 use crate::layers::{DEEP, two_layers};
-use crate::script::{bytes_of, folder_of, leaves_on, runs};
+use crate::script::{bytes_of, folder_of, halves, leaves_on, runs};
 use crate::streams::{Source, Streams};
 use dconf_disk::{Folder, MemoryFolder};
 use std::alloc::Global;
 use std::io::ErrorKind;
 use std::test::Fail;
 
-// Of several locked rows the first is named.
+/// Of several locked rows the first is named.
 const REFUSED_ROWS: &str = "
 $ load /
 [a]
@@ -29,7 +29,7 @@ k=4
 ! error: Locked /a/k
 ";
 
-// The locked rows are left out.
+/// The locked rows are left out.
 const FORCED_ROWS: &str = "
 $ load -f /
 [b]
@@ -60,7 +60,7 @@ fn a_locked_row_refuses_all_rows(rt: HostRuntime) -> Result<(), Fail> {
     runs(alloc, FORCED_ROWS, &mut folder)
 }
 
-// What `dump` printed is loaded below another directory, and what no row names is kept.
+/// What `dump` printed is loaded below another directory, and what no row names is kept.
 const DUMPED: &str = "
 $ load /
 [/]
@@ -91,7 +91,7 @@ $ check me.user => 0
 sound
 ";
 
-// Of rows of one path the last counts.
+/// Of rows of one path the last counts.
 const NO_ROWS: &str = "
 $ load / => 0
 $ load -f /a/
@@ -113,7 +113,7 @@ $ read /a/k => 0
 9
 ";
 
-// There is no file of the user's, and then one without keys.
+/// There is no file of the user's, and then one without keys.
 const NO_KEYS: &str = "
 $ check me.user => 1
 ! error: NoFile me.user
@@ -134,7 +134,7 @@ fn loads_what_dump_printed_or_nothing(rt: HostRuntime) -> Result<(), Fail> {
     runs(alloc, NO_KEYS, &mut folder_of(alloc, &files)?)
 }
 
-// All lines come before any value.
+/// All lines come before any value.
 const BAD_LINES: &str = "
 $ load /
 k=1
@@ -186,7 +186,7 @@ nonsense
 ! error: input:3: BadLine
 ";
 
-// A layer that can't be written comes before a lock, and also without one.
+/// A layer that can't be written comes before a lock, and also without one.
 const BAD_LAYERS: &str = "
 $ load / -p none
 [a]
@@ -241,7 +241,7 @@ fn names_the_first_refusal_of_rows(rt: HostRuntime) -> Result<(), Fail> {
     runs(alloc, device, &mut folder)
 }
 
-// `@` stands for a value that is too deep. A row that a later one replaces counts too, and a locked row that is left out doesn't.
+/// `@` stands for a value that is too deep. A row that a later one replaces counts too, and a locked row that is left out doesn't.
 const TOO_DEEP: &str = "
 $ load / -p cut
 [a]
@@ -277,7 +277,7 @@ $ read /a/j => 0
 3
 ";
 
-// `@` stands for a name that just fits below `/a/`, and has one letter too many below `/aa/`.
+/// `@` stands for a name that just fits below `/a/`, and has one letter too many below `/aa/`.
 const TOO_LONG: &str = "
 $ load /a/
 [/]
@@ -311,50 +311,77 @@ fn rows_that_are_too_large(rt: HostRuntime) -> Result<(), Fail> {
     runs(alloc, &long, &mut two_layers(alloc, "")?)
 }
 
-/// The words, how many `#` the input has, which read fails, and how many `#` are left; then what the run leaves.
-type OnMarks<'a> = (&'a str, usize, usize, usize, &'a str);
-
-/// Runs each row, whose input then has failed so often. An error names the first that leaves something else.
-fn each_on_marks(
+/// Runs the words on an input of so many `#`, of which a read fails. An error says that they leave something else, that other `#` are left, or that
+/// the input hasn't failed so often.
+fn leaves_on_marks(
     alloc: Global,
-    rows: &[OnMarks<'_>],
+    (numbers, run): (&str, &str),
     kind: ErrorKind,
     failures: u64,
     folder: &mut MemoryFolder,
 ) -> Result<(), Fail> {
-    for (words, marks, fails_in, left, wanted) in rows {
-        let source = Source::marks(*marks, *fails_in, kind);
-        let mut streams = Streams::calm(alloc, source);
-        leaves_on(alloc, words, folder, &mut streams, wanted)?;
-        let input = &streams.input;
-        if input.get_ref().marks != *left || input.failures() != failures {
-            return Err(Fail::new(format!(in alloc; "the input of {words}")?));
+    let (marks, others) = numbers.split_once(' ').unwrap_or((numbers, ""));
+    let (fails_in, left) = others.split_once(' ').unwrap_or((others, ""));
+    let (words, wanted) = run.split_once(" => ").unwrap_or((run, ""));
+    let source = Source::marks(marks.parse()?, fails_in.parse()?, kind);
+    let mut streams = Streams::calm(alloc, source);
+    leaves_on(alloc, words, folder, &mut streams, wanted)?;
+    let input = &streams.input;
+    if input.get_ref().marks == left.parse::<usize>()? && input.failures() == failures {
+        Ok(())
+    } else {
+        Err(Fail::new(format!(in alloc; "the input of {words}")?))
+    }
+}
+
+/// Runs each row, whose input then has failed so often. A row has how many `#` the input has, which read fails, and how many `#` are left; then the words,
+/// and what they leave.
+fn each_on_marks(
+    alloc: Global,
+    rows: &str,
+    kind: ErrorKind,
+    failures: u64,
+    folder: &mut MemoryFolder,
+) -> Result<(), Fail> {
+    for row in rows.trim_start().split('%') {
+        if let Some((numbers, run)) = halves(row, "\n")? {
+            leaves_on_marks(alloc, (numbers.trim(), run), kind, failures, folder)?;
         }
     }
     Ok(())
 }
 
-// The reads of this comment are of 4,096 bytes, of 4 and of none.
-const FAILING: [OnMarks<'_>; 4] = [
-    ("load /", 4100, 1, 4100, "1\n! error: Device input\n"),
-    ("load /", 4100, 2, 4, "1\n! error: Device input\n"),
-    ("load /", 4100, 3, 0, "1\n! error: Device input\n"),
-    ("load /", 1, 1, 1, "1\n! error: Device input\n"),
-];
+/// The reads of this comment are of 4,096 bytes, of 4 and of none.
+const FAILING: &str = "
+% 4100 1 4100
+load / => 1
+! error: Device input
+% 4100 2 4
+load / => 1
+! error: Device input
+% 4100 3 0
+load / => 1
+! error: Device input
+% 1 1 1
+load / => 1
+! error: Device input
+";
 
-// The directory is refused before the input is read, which is read no further than shows that it is too long.
-const REFUSED: [OnMarks<'_>; 4] = [
-    ("load a/", 4, 0, 4, "1\n! error: NotAbsolute\n"),
-    ("load /a", 4, 0, 4, "1\n! error: NoEndSlash\n"),
-    ("load -f //", 4, 0, 4, "1\n! error: DoubleSlash\n"),
-    (
-        "load /",
-        usize::MAX,
-        0,
-        usize::MAX - 16_777_217,
-        "1\n! error: input:0: TooBig\n",
-    ),
-];
+/// The directory is refused before the input is read, which is read no further than shows that it is too long.
+const REFUSED: &str = "
+% 4 0 4
+load a/ => 1
+! error: NotAbsolute
+% 4 0 4
+load /a => 1
+! error: NoEndSlash
+% 4 0 4
+load -f // => 1
+! error: DoubleSlash
+% 18446744073709551615 0 18446744073692774398
+load / => 1
+! error: input:0: TooBig
+";
 
 const BAD_LINE: &str = "
 $ load /
@@ -371,9 +398,9 @@ fn looks_at_the_input_before_any_file(rt: HostRuntime) -> Result<(), Fail> {
     let before = bytes_of(alloc, &mut folder, "me.user")?;
     folder.fail_at(1);
     for kind in [ErrorKind::Other, ErrorKind::Interrupted] {
-        each_on_marks(alloc, &FAILING, kind, 1, &mut folder)?;
+        each_on_marks(alloc, FAILING, kind, 1, &mut folder)?;
     }
-    each_on_marks(alloc, &REFUSED, ErrorKind::Other, 0, &mut folder)?;
+    each_on_marks(alloc, REFUSED, ErrorKind::Other, 0, &mut folder)?;
     runs(alloc, BAD_LINE, &mut folder)?;
     // So far no call of the folder was made.
     assert_eq!(rt; folder.failures(), 0);
@@ -381,6 +408,6 @@ fn looks_at_the_input_before_any_file(rt: HostRuntime) -> Result<(), Fail> {
     runs(alloc, device, &mut folder)?;
     let after = bytes_of(alloc, &mut folder, "me.user")?;
     assert!(rt; before.as_slice() == after.as_slice());
-    let calm = [("load /", 4100, 4, 0, "0\n")];
-    each_on_marks(alloc, &calm, ErrorKind::Other, 0, &mut folder)
+    let calm = "% 4100 4 0\nload / => 0\n";
+    each_on_marks(alloc, calm, ErrorKind::Other, 0, &mut folder)
 }

@@ -33,7 +33,7 @@ $ check out => 1
 ! error: NoFile out
 ";
 
-// Each sound database is made twice, and one of the two is repaired in its own place.
+/// Each sound database is made twice, and one of the two is repaired in its own place.
 const SOUND: &str = "
 $ compile plain one => 0
 $ compile plain-2 one => 0

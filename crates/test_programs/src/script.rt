@@ -96,6 +96,17 @@ pub(crate) fn is_left(alloc: Global, words: &str, left: &str, wanted: &str) -> R
     }
 }
 
+/// The two parts of a line of a table, with this mark between them, or None of a line that is empty or begins with `#`.
+pub(crate) fn halves<'a>(line: &'a str, mark: &str) -> Result<Option<(&'a str, &'a str)>, Fail> {
+    if line.is_empty() || line.starts_with('#') {
+        return Ok(None);
+    }
+    match line.split_once(mark) {
+        Some(parts) => Ok(Some(parts)),
+        None => Err(Fail::new("a line without its mark")),
+    }
+}
+
 pub(crate) fn put(folder: &mut MemoryFolder, name: &str, bytes: &[u8]) -> Result<(), Fail> {
     folder.create(name)?;
     folder.append(name, bytes)?;

@@ -1,5 +1,8 @@
 //! `show` of basic values and of arrays of them.
-use crate::script::{is_left, left_by, put};
+//!
+//! A line of a table has a type and the words of the bytes, a bar, and what is printed of them. A word is a text in quotes, or a byte's two
+//! hexadecimal digits. A line that begins with `#` says what those below it are for.
+use crate::script::{halves, is_left, left_by, put};
 use crate::streams::{Source, Streams};
 use dconf_cli::Command;
 use dconf_disk::MemoryFolder;
@@ -30,79 +33,102 @@ pub(crate) fn prints(alloc: Global, type_text: &str, bytes: &[u8], text: &str) -
     shows(alloc, type_text, bytes, &wanted)
 }
 
-#[test]
-fn prints_values(rt: HostRuntime) -> Result<(), Fail> {
-    let cases: [(&str, &[u8], &str); 21] = [
-        ("au", b"\x01\0\0\0\x02\0\0\0", "[uint32 1, 2]"),
-        ("au", b"\x01\0\0\0\x02\0\0", "@au []"),
-        ("au", b"", "@au []"),
-        ("q", b"\x05", "uint16 0"),
-        ("s", b"", "''"),
-        ("s", b"it's\t\0", "\"it's\\t\""),
-        ("s", b"a\\'\"\0", "\"a\\\\'\\\"\""),
-        ("s", b"\x01\x7f\0", "'\\u0001\\u007f'"),
-        ("s", b"\xc2\x9f\xc2\xa0\xc3\xa9\0", "'\\u009f\u{a0}é'"),
-        ("s", b"\x07\x08\n\x0b\x0c\r\0", "'\\a\\b\\n\\v\\f\\r'"),
-        ("s", b"\xff\0", "''"),
-        ("i", b"\xff\xff\xff\xff", "-1"),
-        ("ab", b"\x01\0", "[true, false]"),
-        ("ai", b"\xff\xff\xff\xff\x02\0\0\0", "[-1, 2]"),
-        ("an", b"\x01\0\xff\xff", "[int16 1, -1]"),
-        ("ay", b"a\0", "b'a'"),
-        ("ay", b"\0", "b''"),
-        ("ay", b"a'\x80\n\0", "b\"a'\\200\\n\""),
-        ("ay", b"a\0b\0", "[byte 0x61, 0x00, 0x62, 0x00]"),
-        ("ay", b"", "@ay []"),
-        ("ad", b"", "@ad []"),
-    ];
-    for (type_text, bytes, text) in cases {
-        prints(rt.alloc(), type_text, bytes, text)?;
+/// The bytes of words.
+pub(crate) fn bytes_of_words(alloc: Global, words: &str) -> Result<Vec<u8>, Fail> {
+    let mut bytes = Vec::new(alloc);
+    for word in words.split_whitespace() {
+        push_word(&mut bytes, word)?;
+    }
+    Ok(bytes)
+}
+
+fn push_word(to: &mut Vec<u8>, word: &str) -> Result<(), Fail> {
+    match word.strip_prefix('\'') {
+        Some(text) => Ok(to.extend_from_slice(text.trim_end_matches('\'').as_bytes())?),
+        None => Ok(to.push(u8::from_str_radix(word, 16)?)?),
+    }
+}
+
+/// Runs `show` of a type and the words of the bytes. An error says that it doesn't print this text.
+fn prints_words(alloc: Global, value: &str, text: &str) -> Result<(), Fail> {
+    let (type_text, words) = value.split_once(' ').unwrap_or((value, ""));
+    let bytes = bytes_of_words(alloc, words)?;
+    prints(alloc, type_text, &bytes, text)
+}
+
+/// Runs `show` of each line of a table. An error names the first that prints something else.
+pub(crate) fn each_prints(alloc: Global, table: &str) -> Result<(), Fail> {
+    for line in table.split('\n') {
+        if let Some((value, text)) = halves(line, " | ")? {
+            prints_words(alloc, value, text)?;
+        }
     }
     Ok(())
 }
 
+const VALUES: &str = r#"
+au 01 00 00 00 02 00 00 00 | [uint32 1, 2]
+au 01 00 00 00 02 00 00 | @au []
+au | @au []
+q 05 | uint16 0
+s | ''
+s 'it' 27 's' 09 00 | "it's\t"
+s 'a' 5c 27 '"' 00 | "a\\'\""
+s 01 7f 00 | '\u0001\u007f'
+s 07 08 0a 0b 0c 0d 00 | '\a\b\n\v\f\r'
+s ff 00 | ''
+i ff ff ff ff | -1
+ab 01 00 | [true, false]
+ai ff ff ff ff 02 00 00 00 | [-1, 2]
+an 01 00 ff ff | [int16 1, -1]
+ay 'a' 00 | b'a'
+ay 00 | b''
+ay 'a' 27 80 0a 00 | b"a'\200\n"
+ay 'a' 00 'b' 00 | [byte 0x61, 0x00, 0x62, 0x00]
+ay | @ay []
+ad | @ad []
+"#;
+
+const EXTREMES: &str = "
+b 00 | false
+b 01 | true
+b 05 | true
+b ff | true
+y 00 | byte 0x00
+y ff | byte 0xff
+n 00 80 | int16 -32768
+n ff 7f | int16 32767
+q 00 00 | uint16 0
+q ff ff | uint16 65535
+i 00 00 00 80 | -2147483648
+i ff ff ff 7f | 2147483647
+u 00 00 00 00 | uint32 0
+u ff ff ff ff | uint32 4294967295
+h 00 00 00 80 | handle -2147483648
+h ff ff ff 7f | handle 2147483647
+x 00 00 00 00 00 00 00 80 | int64 -9223372036854775808
+x ff ff ff ff ff ff ff 7f | int64 9223372036854775807
+t 00 00 00 00 00 00 00 00 | uint64 0
+t ff ff ff ff ff ff ff ff | uint64 18446744073709551615
+s 00 | ''
+o '/' 00 | objectpath '/'
+o '/a/b_9' 00 | objectpath '/a/b_9'
+o '/a/' 00 | objectpath '/'
+g 00 | signature ''
+g 'a{sv}(ii)' 00 | signature 'a{sv}(ii)'
+g 'mi' 00 | signature ''
+";
+
+/// Characters that no editor shows.
+const CHARACTERS: &str = "
+s c2 9f c2 a0 c3 a9 00 | '\\u009f\u{a0}é'
+s f4 8f bf bf 00 | '\u{10ffff}'
+";
+
 #[test]
-fn prints_extremes(rt: HostRuntime) -> Result<(), Fail> {
-    let cases: [(&str, &[u8], &str); 28] = [
-        ("b", b"\0", "false"),
-        ("b", b"\x01", "true"),
-        ("b", b"\x05", "true"),
-        ("b", b"\xff", "true"),
-        ("y", b"\0", "byte 0x00"),
-        ("y", b"\xff", "byte 0xff"),
-        ("n", b"\0\x80", "int16 -32768"),
-        ("n", b"\xff\x7f", "int16 32767"),
-        ("q", b"\0\0", "uint16 0"),
-        ("q", b"\xff\xff", "uint16 65535"),
-        ("i", b"\0\0\0\x80", "-2147483648"),
-        ("i", b"\xff\xff\xff\x7f", "2147483647"),
-        ("u", b"\0\0\0\0", "uint32 0"),
-        ("u", b"\xff\xff\xff\xff", "uint32 4294967295"),
-        ("h", b"\0\0\0\x80", "handle -2147483648"),
-        ("h", b"\xff\xff\xff\x7f", "handle 2147483647"),
-        ("x", b"\0\0\0\0\0\0\0\x80", "int64 -9223372036854775808"),
-        (
-            "x",
-            b"\xff\xff\xff\xff\xff\xff\xff\x7f",
-            "int64 9223372036854775807",
-        ),
-        ("t", b"\0\0\0\0\0\0\0\0", "uint64 0"),
-        (
-            "t",
-            b"\xff\xff\xff\xff\xff\xff\xff\xff",
-            "uint64 18446744073709551615",
-        ),
-        ("s", b"\0", "''"),
-        ("s", b"\xf4\x8f\xbf\xbf\0", "'\u{10ffff}'"),
-        ("o", b"/\0", "objectpath '/'"),
-        ("o", b"/a/b_9\0", "objectpath '/a/b_9'"),
-        ("o", b"/a/\0", "objectpath '/'"),
-        ("g", b"\0", "signature ''"),
-        ("g", b"a{sv}(ii)\0", "signature 'a{sv}(ii)'"),
-        ("g", b"mi\0", "signature ''"),
-    ];
-    for (type_text, bytes, text) in cases {
-        prints(rt.alloc(), type_text, bytes, text)?;
-    }
-    Ok(())
+fn prints_values(rt: HostRuntime) -> Result<(), Fail> {
+    let alloc = rt.alloc();
+    each_prints(alloc, VALUES)?;
+    each_prints(alloc, EXTREMES)?;
+    each_prints(alloc, CHARACTERS)
 }

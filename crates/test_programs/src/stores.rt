@@ -9,7 +9,7 @@ use std::test::Fail;
 /// The files, and the runs.
 type Store<'a> = (&'a [(&'a str, &'a str)], &'a str);
 
-// The keyfiles are handed in in no order of their names.
+/// The keyfiles are handed in in no order of their names.
 const ONE_SITE: Store<'_> = (
     &[
         ("10-b", "[a]\nk=2\n"),
@@ -56,7 +56,7 @@ $ origin /a/k => 0
 ",
 );
 
-// What is locked in a later database is read from there, where it has no value.
+/// What is locked in a later database is read from there, where it has no value.
 const LOCKED_BELOW: Store<'_> = (
     &[
         ("s", "[a]\nk=5\n"),
@@ -99,7 +99,7 @@ j
 ",
 );
 
-// The lock of a directory covers the keys below it alone, and its own path is in no directory below it.
+/// The lock of a directory covers the keys below it alone, and its own path is in no directory below it.
 const LOCKED_DIRECTORY: Store<'_> = (
     &[
         ("u", "[a]\nj=1\n"),
@@ -148,7 +148,7 @@ kept 1 keys, 1 locks
 ",
 );
 
-// A path that no keyfile can name.
+/// A path that no keyfile can name.
 const UNNAMED: Store<'_> = (
     &[("profile", "user-db:me\n")],
     "
@@ -182,7 +182,7 @@ fn each_command_in_small_stores(rt: HostRuntime) -> Result<(), Fail> {
     Ok(())
 }
 
-// A value that no text can give, so that no keyfile makes it.
+/// A value that no text can give, so that no keyfile makes it.
 #[test]
 fn a_double_is_not_dumped(rt: HostRuntime) -> Result<(), Fail> {
     let alloc = rt.alloc();

@@ -1,7 +1,8 @@
 //! `show` where nothing is printed: a text that is no type, with the first fault and its place, a double, and a file that isn't there.
 use crate::deep::around;
-use crate::script::{folder_of, runs};
+use crate::script::{folder_of, halves, runs};
 use crate::show::shows;
+use std::alloc::Global;
 use std::test::Fail;
 
 const FAULTS: &str = "
@@ -66,23 +67,31 @@ fn names_the_first_fault(rt: HostRuntime) -> Result<(), Fail> {
     runs(alloc, REFUSED, &mut folder)
 }
 
+/// A line has a text and how often it is repeated, and what comes after that; then its fault. The length is looked at before all else, and a
+/// key is a level too.
+const LIMITS: &str = "
+a 128 | Unclosed at 128
+a 128 i | TooDeep at 128
+( 127 {s | TooDeep at 128
+rrrrrrrrrrrrrrrrrrrrrrrrrrrrrrrrrrrrrrrrrrrrrrrrrrrrrrrrrrrrrrrr 1048576 | BadChar at 0
+rrrrrrrrrrrrrrrrrrrrrrrrrrrrrrrrrrrrrrrrrrrrrrrrrrrrrrrrrrrrrrrr 1048576 r | TooLong
+";
+
+/// Runs `show` of a type that has such a text. An error says that it is refused for another fault.
+fn is_refused_for(alloc: Global, text: &str, fault: &str) -> Result<(), Fail> {
+    let (part, text) = text.split_once(' ').unwrap_or((text, ""));
+    let (times, after) = text.split_once(' ').unwrap_or((text, ""));
+    let type_text = around(alloc, part, after, "", times.parse()?)?;
+    let wanted = format!(in alloc; "1\n! error: {fault}\n")?;
+    shows(alloc, &type_text, b"", &wanted)
+}
+
 #[test]
 fn minds_the_limits_of_types(rt: HostRuntime) -> Result<(), Fail> {
-    let alloc = rt.alloc();
-    let long = "r".repeat(alloc, 65_536)?;
-    let long = long.as_str();
-    let rows = [
-        ("a", "", 128, "1\n! error: Unclosed at 128\n"),
-        ("a", "i", 128, "1\n! error: TooDeep at 128\n"),
-        // A key is a level too.
-        ("(", "{s", 127, "1\n! error: TooDeep at 128\n"),
-        // The length is looked at before all else.
-        (long, "", 1024, "1\n! error: BadChar at 0\n"),
-        (long, "r", 1024, "1\n! error: TooLong\n"),
-    ];
-    for (open, middle, times, wanted) in rows {
-        let text = around(alloc, open, middle, "", times)?;
-        shows(alloc, &text, b"", wanted)?;
+    for line in LIMITS.split('\n') {
+        if let Some((text, fault)) = halves(line, " | ")? {
+            is_refused_for(rt.alloc(), text, fault)?;
+        }
     }
     Ok(())
 }

@@ -1,5 +1,5 @@
 //! The words of a command line.
-use crate::script::{is_left, words_of};
+use crate::script::{halves, is_left, words_of};
 use dconf_command::{command, user_file};
 use std::alloc::Global;
 use std::test::Fail;
@@ -120,15 +120,13 @@ load --help => Usage: dconfdb load [OPTIONS] <DIR>
 /// An error has the first line of which something else comes: the outcome of its words, or what they replace.
 fn each_gives(alloc: Global, lines: &str, asks_replaced: bool) -> Result<(), Fail> {
     for line in lines.split('\n') {
-        if let Some((words, wanted)) = line.split_once(" => ") {
+        if let Some((words, wanted)) = halves(line, " => ")? {
             let got = if asks_replaced {
                 replaced(alloc, words)?
             } else {
                 outcome(alloc, words)?
             };
             is_left(alloc, words, &got, wanted)?;
-        } else if !line.is_empty() {
-            return Err(Fail::new("a line without an outcome"));
         }
     }
     Ok(())
@@ -137,13 +135,11 @@ fn each_gives(alloc: Global, lines: &str, asks_replaced: bool) -> Result<(), Fai
 /// An error has the first line whose message has no such part.
 fn each_says(alloc: Global, lines: &str) -> Result<(), Fail> {
     for line in lines.split('\n') {
-        if let Some((words, part)) = line.split_once(" => ") {
+        if let Some((words, part)) = halves(line, " => ")? {
             let said = message(alloc, words)?;
             if !said.contains(part) {
                 return Err(Fail::new(format!(in alloc; "{words} => {said}")?));
             }
-        } else if !line.is_empty() {
-            return Err(Fail::new("a line without its part"));
         }
     }
     Ok(())

@@ -1,6 +1,6 @@
 //! Runs where the k-th write to out or to err fails.
 use crate::failing::store;
-use crate::script::{have_lengths, is_left, left_on, runs};
+use crate::script::{halves, have_lengths, is_left, left_on, runs};
 use crate::streams::{Source, Streams, Writes};
 use dconf_disk::MemoryFolder;
 use std::alloc::Global;
@@ -42,42 +42,66 @@ impl Failing {
     }
 }
 
-// What each command writes to out; those that change a file write nothing, but for `repair`.
-const TEXTS: [(&str, &str); 15] = [
-    ("show au v", "[uint32 1, 2]\n"),
-    ("read /a/k", "1\n"),
-    ("read -d /a/k", "2\n"),
-    ("read /none", ""),
-    ("list /", "a/\n"),
-    ("list-locks /", "/x\n"),
-    ("dump /", "[a]\nk=1\n"),
-    ("origin /a/k", "0 user-db:me\n"),
-    ("check site.db", "sound\n"),
-    ("repair hash empty", "kept 1 keys, 0 locks\n"),
-    ("compile out.db k", ""),
-    ("write /a/k 1", ""),
-    ("reset /a/j", ""),
-    ("reset -f /b/", ""),
-    ("load /", ""),
-];
+/// What each command writes to out; those that change a file write nothing, but for `repair`.
+const TEXTS: &str = "
+$ show au v =>
+[uint32 1, 2]
+$ read /a/k =>
+1
+$ read -d /a/k =>
+2
+$ read /none =>
+$ list / =>
+a/
+$ list-locks / =>
+/x
+$ dump / =>
+[a]
+k=1
+$ origin /a/k =>
+0 user-db:me
+$ check site.db =>
+sound
+$ repair hash empty =>
+kept 1 keys, 0 locks
+$ compile out.db k =>
+$ write /a/k 1 =>
+$ reset /a/j =>
+$ reset -f /b/ =>
+$ load / =>
+";
 
-// And to err.
-const LINES: [(&str, &str); 14] = [
-    ("show au missing", "error: NoFile missing\n"),
-    ("read a", "error: NotAbsolute\n"),
-    ("read -d /a/", "error: EndsInSlash\n"),
-    ("list a", "error: NotAbsolute\n"),
-    ("list-locks /a", "error: NoEndSlash\n"),
-    ("dump /a", "error: NoEndSlash\n"),
-    ("origin a", "error: NotAbsolute\n"),
-    ("check v", "error: Short\n"),
-    ("compile out.db v", "error: v:1: BadLine\n"),
-    ("repair v empty", "error: Short\n"),
-    ("write /x 3", "error: Locked /x\n"),
-    ("reset /x", "error: Locked /x\n"),
-    ("reset -f /a", "error: NoEndSlash\n"),
-    ("load /a", "error: NoEndSlash\n"),
-];
+/// What each command writes to err.
+const LINES: &str = "
+$ show au missing =>
+error: NoFile missing
+$ read a =>
+error: NotAbsolute
+$ read -d /a/ =>
+error: EndsInSlash
+$ list a =>
+error: NotAbsolute
+$ list-locks /a =>
+error: NoEndSlash
+$ dump /a =>
+error: NoEndSlash
+$ origin a =>
+error: NotAbsolute
+$ check v =>
+error: Short
+$ compile out.db v =>
+error: v:1: BadLine
+$ repair v empty =>
+error: Short
+$ write /x 3 =>
+error: Locked /x
+$ reset /x =>
+error: Locked /x
+$ reset -f /a =>
+error: NoEndSlash
+$ load /a =>
+error: NoEndSlash
+";
 
 /// Runs the words on streams of which one fails. An error says that they leave something else, or that another number of writes failed.
 fn leaves_with(
@@ -102,34 +126,58 @@ fn leaves_with(
 }
 
 /// Each write of the text to out fails once: the status is 1 then, and nothing is on err.
-fn each_to_out(alloc: Global, folder: &mut MemoryFolder, failing: Failing) -> Result<(), Fail> {
+fn each_to_out(
+    alloc: Global,
+    folder: &mut MemoryFolder,
+    failing: Failing,
+    words: &str,
+    text: &str,
+) -> Result<(), Fail> {
     let calm = failing.at(0);
-    for (words, text) in TEXTS {
-        let writes = failing.writes_of(text);
-        for k in 1..=writes {
-            let left = format!(in alloc; "1\n{}", failing.before(k, text))?;
-            leaves_with(alloc, words, folder, (failing.at(k), calm), (&left, 1))?;
-        }
-        let left = format!(in alloc; "0\n{text}")?;
-        let after = failing.at(writes.saturating_add(1));
-        leaves_with(alloc, words, folder, (after, calm), (&left, 0))?;
+    let writes = failing.writes_of(text);
+    for k in 1..=writes {
+        let left = format!(in alloc; "1\n{}", failing.before(k, text))?;
+        leaves_with(alloc, words, folder, (failing.at(k), calm), (&left, 1))?;
     }
-    Ok(())
+    let left = format!(in alloc; "0\n{text}")?;
+    let after = failing.at(writes.saturating_add(1));
+    leaves_with(alloc, words, folder, (after, calm), (&left, 0))
 }
 
 /// Each write of the line to err fails once: that changes no status.
-fn each_to_err(alloc: Global, folder: &mut MemoryFolder, failing: Failing) -> Result<(), Fail> {
+fn each_to_err(
+    alloc: Global,
+    folder: &mut MemoryFolder,
+    failing: Failing,
+    words: &str,
+    line: &str,
+) -> Result<(), Fail> {
     let calm = failing.at(0);
-    for (words, line) in LINES {
-        let writes = failing.writes_of(line);
-        leaves_with(alloc, words, folder, (calm, failing.at(1)), ("1\n", 1))?;
-        for k in 2..=writes {
-            let left = format!(in alloc; "1\n! {}", failing.before(k, line))?;
-            leaves_with(alloc, words, folder, (calm, failing.at(k)), (&left, 1))?;
+    let writes = failing.writes_of(line);
+    leaves_with(alloc, words, folder, (calm, failing.at(1)), ("1\n", 1))?;
+    for k in 2..=writes {
+        let left = format!(in alloc; "1\n! {}", failing.before(k, line))?;
+        leaves_with(alloc, words, folder, (calm, failing.at(k)), (&left, 1))?;
+    }
+    let left = format!(in alloc; "1\n! {line}")?;
+    let after = failing.at(writes.saturating_add(1));
+    leaves_with(alloc, words, folder, (calm, after), (&left, 0))
+}
+
+/// Runs each command of both tables, with each of its writes failing once.
+fn each_write(alloc: Global, folder: &mut MemoryFolder, failing: Failing) -> Result<(), Fail> {
+    for row in TEXTS.trim_start().split('$') {
+        if let Some((words, text)) = halves(row, " =>\n")? {
+            each_to_out(alloc, folder, failing, words.trim(), text)?;
         }
-        let left = format!(in alloc; "1\n! {line}")?;
-        let after = failing.at(writes.saturating_add(1));
-        leaves_with(alloc, words, folder, (calm, after), (&left, 0))?;
+    }
+    // The database was replaced before its line was written.
+    have_lengths(alloc, folder, &[("empty", 110)])?;
+    runs(alloc, "$ check empty => 0\nsound\n", folder)?;
+    for row in LINES.trim_start().split('$') {
+        if let Some((words, line)) = halves(row, " =>\n")? {
+            each_to_err(alloc, folder, failing, words.trim(), line)?;
+        }
     }
     Ok(())
 }
@@ -149,12 +197,7 @@ fn writes_that_fail(rt: HostRuntime) -> Result<(), Fail> {
                 kind,
                 lasting,
             };
-            let mut folder = store(alloc)?;
-            each_to_out(alloc, &mut folder, failing)?;
-            // The database was replaced before its line was written.
-            have_lengths(alloc, &mut folder, &[("empty", 110)])?;
-            runs(alloc, "$ check empty => 0\nsound\n", &mut folder)?;
-            each_to_err(alloc, &mut folder, failing)?;
+            each_write(alloc, &mut store(alloc)?, failing)?;
         }
     }
     Ok(())

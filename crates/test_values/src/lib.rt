@@ -5,6 +5,8 @@
 #[cfg(test)]
 mod bytes;
 #[cfg(test)]
+mod debug;
+#[cfg(test)]
 mod examples;
 #[cfg(test)]
 mod layout;

@@ -2,7 +2,7 @@
 //! comes of it `~3×ab~` stands for `ababab`.
 use crate::samples::spelt_out;
 use crate::view_table::AskedOfView;
-use crate::{layout, long, syntax, tokens, trees, types, typing, values, views};
+use crate::{debug, layout, long, syntax, tokens, trees, types, typing, values, views};
 use std::alloc::Global;
 use std::test::Fail;
 
@@ -43,6 +43,12 @@ pub(crate) enum Asked {
     Fault,
     /// Whether it is an object path, and whether it is a signature.
     Names,
+    /// What the `Debug` of the tokens prints.
+    TokensShown,
+    /// What the `Debug` of the syntax prints, and of its first part's kind.
+    SyntaxShown,
+    /// Of a type and bytes: what the `Debug` of the tree prints, and of its shape.
+    TreeShown,
     /// What is asked of a view: the first word is its type, and the others are its bytes.
     View(AskedOfView),
 }
@@ -68,6 +74,9 @@ impl Asked {
             Asked::Prefix => types::prefix(alloc, text),
             Asked::Fault => types::fault(alloc, text),
             Asked::Names => types::names(alloc, text),
+            Asked::TokensShown => debug::tokens_shown(alloc, text),
+            Asked::SyntaxShown => debug::syntax_shown(alloc, text),
+            Asked::TreeShown => debug::tree_shown(alloc, text),
             Asked::View(asked) => asked.outcome(alloc, text),
         }
     }
@@ -100,7 +109,8 @@ impl Asked {
         self.each_part_gives(alloc, '\n', lines)
     }
 
-    /// The same of lines that end with another character.
+    /// An error says that something else comes of the text of a line, where each line ends with this character. Blanks at a
+    /// line's start are dropped.
     pub(crate) fn each_part_gives(self, alloc: Global, end: char, lines: &str) -> Result<(), Fail> {
         for line in lines.split(end) {
             let line = line.trim_start();

@@ -219,7 +219,7 @@ fn too_large_types_are_refused(rt: HostRuntime) -> Result<(), Fail> {
 }
 
 /// The tree of a type and of the words of its bytes.
-fn tree_of(alloc: Global, text: &str) -> Result<Tree, Fail> {
+pub(crate) fn tree_of(alloc: Global, text: &str) -> Result<Tree, Fail> {
     let (of, words) = text.split_once(' ').unwrap_or((text, ""));
     let bytes = bytes_of(alloc, words)?;
     Ok(view(of, bytes.as_slice())?.to_tree(alloc)?)

@@ -47,7 +47,7 @@ pub(crate) fn dump<F: Folder>(
     dumped(alloc, &engine, directory)
 }
 
-/// What it answers of a store.
+/// What `dump` answers of a store.
 fn dumped(alloc: Global, engine: &Engine<'_>, directory: DirPath<'_>) -> Result<Answer, Refusal>
     requires { AreKeyPaths (all_paths engine.now.layers) }
     ensures { GivesOutcome result (λ o. o ≡ dump_of (directory_text directory.entry) (settings_at engine.now (paths_below engine.now (directory_text directory.entry)))) }
@@ -107,7 +107,7 @@ fn settings<'a>(
     ensures err { IfErr result (λ refusal. (directory : List ℕ)
         → GivesOutcome (Err refusal) (λ o. o ≡ dump_of directory (settings_at engine.entry.now (map string_bytes keys.entry.now)))) }
 {
-    let mut settings = Vec::new(alloc);
+    let mut settings = Vec::with_capacity(alloc, keys.len())?;
     for key in keys {
         push_setting(alloc, engine, key.as_str(), &mut settings)?;
     }
@@ -136,7 +136,7 @@ fn push_setting<'a>(
     }
 }
 
-/// The same of a path.
+/// Adds the value that is seen at a path, printed; nothing where none is.
 fn push_value<'a>(
     alloc: Global,
     engine: &Engine<'_>,

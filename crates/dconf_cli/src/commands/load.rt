@@ -13,7 +13,7 @@ ghost use Rattle.dconf_compile.specs.LineStops.{line_fault_of};
 ghost use Rattle.dconf_engine.specs.ChangeFaults.{refusal_of};
 ghost use Rattle.dconf_engine.specs.Rows.{rows_of};
 ghost use Rattle.dconf_cli.specs.Answers.{GivesOutcome, RefusesFor};
-ghost use Rattle.dconf_cli.specs.Changing.{IsLockedPath};
+ghost use Rattle.dconf_cli.specs.Refusals.{IsLockedPath};
 ghost use Rattle.dconf_cli.specs.Counted.{failures_of, inner_of};
 ghost use Rattle.dconf_cli.specs.Inputs.{ConsumesText};
 ghost use Rattle.dconf_cli.specs.Loads.{RefusedLine};
@@ -25,7 +25,7 @@ use crate::argument::directory_path;
 use crate::counted::Counted;
 use crate::folder_files::named_file;
 use crate::input::{InputFault, read_input};
-use crate::refusal::{Refusal, device, refused_at};
+use crate::refusal::{Refusal, refused, refused_at};
 use crate::store_files::StoreFiles;
 use crate::user_database::{change_refused, saved};
 use dconf_compile::{CompileCause, LineStop, RowsBelow};
@@ -54,7 +54,7 @@ pub(crate) fn load<F: Folder, I: Read>(
     load_below(alloc, force, directory, profile, folder, input)
 }
 
-/// What it answers of a directory, by the input.
+/// What `load` answers of a directory, by the input.
 fn load_below<F: Folder, I: Read>(
     alloc: Global,
     force: bool,
@@ -71,12 +71,12 @@ fn load_below<F: Folder, I: Read>(
 {
     match read_input(alloc, input) {
         Ok(bytes) => load_bytes(alloc, force, directory, &bytes, profile, folder),
-        Err(InputFault::Device) => Err(device(alloc, "input")),
+        Err(InputFault::Device) => Err(refused(alloc, InputFault::Device)),
         Err(InputFault::Memory) => Err(Refusal::NoMemory),
     }
 }
 
-/// What it answers of these bytes of input.
+/// What `load` answers of these bytes of input.
 fn load_bytes<F: Folder>(
     alloc: Global,
     force: bool,
@@ -98,7 +98,7 @@ fn load_bytes<F: Folder>(
     }
 }
 
-/// What it answers of these rows.
+/// What `load` answers of these rows.
 fn load_rows<F: Folder>(
     alloc: Global,
     force: bool,
@@ -114,7 +114,7 @@ fn load_rows<F: Folder>(
     with_rows(alloc, &files.profile, engine, rows, force)
 }
 
-/// What it answers of a store. The rows are let go before the file is made, which takes as much memory.
+/// What `load` answers of a store. The rows are let go before the file is made, which takes as much memory.
 fn with_rows(
     alloc: Global,
     profile: &Profile<'_>,

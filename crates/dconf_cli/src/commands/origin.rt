@@ -34,7 +34,7 @@ pub(crate) fn origin<F: Folder>(
     named(alloc, &files.profile, engine.origin(key))
 }
 
-/// What it answers of the index of a database, if there is one.
+/// What `origin` answers of the index of a database, if there is one.
 fn named(alloc: Global, profile: &Profile<'_>, place: Option<usize>) -> Result<Answer, Refusal>
     ensures { GivesOutcome result (λ o. o ≡ done (origin_text (databases_of profile.now) place)) }
 {

@@ -37,7 +37,7 @@ pub(crate) fn read<F: Folder>(
     seen(alloc, &engine, key, default)
 }
 
-/// What it answers of a store.
+/// What `read` answers of a store.
 fn seen(
     alloc: Global,
     engine: &Engine<'_>,

@@ -40,7 +40,7 @@ pub(crate) fn reset<F: Folder>(
     }
 }
 
-/// What it answers of a key.
+/// What `reset` answers of a key.
 fn reset_key<F: Folder>(
     alloc: Global,
     key: &str,
@@ -57,7 +57,7 @@ fn reset_key<F: Folder>(
     without_key(alloc, &files.profile, engine, key)
 }
 
-/// What it answers of a directory.
+/// What `reset` answers of a directory.
 fn reset_below<F: Folder>(
     alloc: Global,
     directory: &str,
@@ -74,7 +74,7 @@ fn reset_below<F: Folder>(
     without_directory(alloc, &files.profile, engine, directory)
 }
 
-/// What it answers of a key and a store.
+/// What `reset` answers of a key and a store.
 fn without_key(
     alloc: Global,
     profile: &Profile<'_>,
@@ -89,7 +89,7 @@ fn without_key(
     }
 }
 
-/// What it answers of a directory and a store.
+/// What `reset` answers of a directory and a store.
 fn without_directory(
     alloc: Global,
     profile: &Profile<'_>,

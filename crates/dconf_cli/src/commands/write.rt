@@ -41,7 +41,7 @@ pub(crate) fn write<F: Folder>(
     with_value(alloc, &files.profile, engine, key, &value)
 }
 
-/// What it answers of a store.
+/// What `write` answers of a store.
 fn with_value(
     alloc: Global,
     profile: &Profile<'_>,

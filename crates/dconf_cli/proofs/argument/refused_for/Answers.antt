@@ -6,7 +6,7 @@ use Rattle.dconf_model.specs.FaultTexts.{cause_text}
 use Rattle.dconf_compile.specs.CompileFaults.{cause_of}
 use Rattle.dconf_compile.proofs.Causes.{is_of_files}
 use Rattle.dconf_cli.specs.Answers.{Answered, GivesOutcome, RefusesFor}
-use Rattle.dconf_cli.specs.Changing.{RefusedCause}
+use Rattle.dconf_cli.specs.Refusals.{RefusedCause}
 use Rattle.dconf_cli.proofs.argument.refused_for.Goals as goal
 
 cause_says : (answer : Answered) (o : Option SettingsCause) → is_none o ≡ false → RefusesFor answer (unwrap_or (option_map cause_text o) (codes "Memory"))

@@ -12,7 +12,7 @@ use Rattle.dconf_path.specs.Paths.{directory_text}
 use Rattle.dconf_path.specs.declared.path.KeyPath.{KeyPath}
 use Rattle.keyfile_core.specs.DumpRows.{AreBelow, setting_of}
 use Rattle.dconf_cli.specs.Answers.{GivesOutcome}
-use Rattle.dconf_cli.proofs.Dumping.{found_are_below, found_are_keys, settings_are_below}
+use Rattle.dconf_cli.proofs.DumpLaws.{found_are_below, found_are_keys, settings_are_below}
 use Rattle.dconf_cli.proofs.commands.dump.dumped.Goals as goal
 
 pub settings-requires : goal.settings-requires

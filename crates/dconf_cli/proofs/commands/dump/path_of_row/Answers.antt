@@ -1,6 +1,6 @@
 use Rattle.std.proofs.Common.{◌∙◌, length, refl}
 use Rattle.std.proofs.lemmas.Option.{slice_get_past, slice_get_read}
-use Rattle.dconf_cli.proofs.Dumping.{no_row_path, row_path}
+use Rattle.dconf_cli.proofs.DumpLaws.{no_row_path, row_path}
 use Rattle.dconf_cli.proofs.commands.dump.path_of_row.Goals as goal
 
 pub returns-in-Some : goal.returns-in-Some

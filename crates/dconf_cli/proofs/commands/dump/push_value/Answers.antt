@@ -7,7 +7,7 @@ use Rattle.dconf_path.specs.Paths.{key_text}
 use Rattle.keyfile_core.specs.DumpRows.{setting_of}
 use Rattle.dconf_cli.specs.Answers.{GivesOutcome}
 use Rattle.dconf_cli.specs.Dumps.{with_earlier}
-use Rattle.dconf_cli.proofs.Dumping.{nothing_pushed}
+use Rattle.dconf_cli.proofs.DumpLaws.{nothing_pushed}
 use Rattle.dconf_cli.proofs.commands.dump.push_value.Goals as goal
 
 pub returns-in-Some-clause-ok : goal.returns-in-Some-clause-ok

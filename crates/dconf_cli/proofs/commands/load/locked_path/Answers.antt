@@ -4,7 +4,7 @@ use Rattle.dconf_model.specs.Changes.{paths_of}
 use Rattle.dconf_engine.specs.ChangeFaults.{refusal_of}
 use Rattle.dconf_engine.specs.Rows.{rows_of}
 use Rattle.dconf_engine.specs.declared.change_fault.ChangeFault.{ChangeFault}
-use Rattle.dconf_cli.specs.Changing.{IsLockedPath}
+use Rattle.dconf_cli.specs.Refusals.{IsLockedPath}
 use Rattle.dconf_cli.proofs.LoadLaws.{load_path, no_load_path}
 use Rattle.dconf_cli.proofs.commands.load.locked_path.Goals as goal
 

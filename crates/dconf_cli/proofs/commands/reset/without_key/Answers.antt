@@ -1,7 +1,7 @@
 use Rattle.std.proofs.Common.{◌∷◌, [], Err, subst, sym}
 use Rattle.dconf_path.specs.Paths.{key_text}
 use Rattle.dconf_engine.specs.ChangeFaults.{refusal_of}
-use Rattle.dconf_cli.specs.Changing.{IsLockedPath}
+use Rattle.dconf_cli.specs.Refusals.{IsLockedPath}
 use Rattle.dconf_cli.proofs.ChangeLaws.{refuses_change, reset_locks}
 use Rattle.dconf_cli.proofs.commands.reset.without_key.Goals as goal
 

@@ -1,4 +1,4 @@
--- What a command that changes the user's values answers.
+-- How a command is refused.
 use Rattle.std.specs.Prelude.{◌≡◌, ℕ, List, Option, Some, None}
 use Rattle.gv_model.specs.Tree.{Tree}
 use Rattle.dconf_model.specs.Causes.{SettingsCause}
