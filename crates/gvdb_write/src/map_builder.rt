@@ -59,11 +59,13 @@ impl MapBuilder {
         ensures err { OnErr result (self.new ≡ self.old) }
     {
         let path = String::from_str(self.alloc, path.as_str())?;
-        self.put(path, value)
+        self.insert_text(path, value)
     }
 
-    /// Sets the bytes of the value at the path of a key, and keeps both where they are.
-    pub(crate) fn put(&mut self, path: String, value: Vec<u8>) -> Result<(), AllocError>
+    /// Sets the bytes of the value at the path of a key, in the place of those that it had, and keeps both where they are.
+    ///
+    /// An error comes where a growth is refused, and then all stays as it was. It copies nothing.
+    pub fn insert_text(&mut self, path: String, value: Vec<u8>) -> Result<(), AllocError>
         requires { IsTrue (is_key_path (string_bytes path)) }
         ensures ok { OnOk result (self.new ≡ with_value self.old (string_bytes path) value.items) }
         ensures err { OnErr result (self.new ≡ self.old) }

@@ -11,6 +11,7 @@ ghost use Rattle.gvdb_write.specs.declared.write_fault.WriteFault.TheVariants.{M
 
 use crate::map::Map;
 use crate::write_fault::WriteFault;
+use gvdb_read::format::LOCKS;
 use gvdb_read::{hash, hash_with};
 use std::alloc::Global;
 
@@ -51,7 +52,7 @@ pub(crate) fn root_names<'a>(alloc: Global, map: &'a Map) -> Result<Vec<Named<'a
 {
     let mut names = Vec::new(alloc);
     if map.locks().next().is_some() {
-        names.push(top(b".locks", Content::Locks))?;
+        names.push(top(LOCKS.as_bytes(), Content::Locks))?;
     }
     let mut directory = names.len();
     names.push(top(b"/", Content::List))?;

@@ -14,11 +14,8 @@ use crate::map_builder::MapBuilder;
 use crate::salvage_fault::SalvageFault;
 use dconf_path::{KeyPath, LockPath, MAX_PATH_LEN};
 use gvdb_read::Table;
-use gvdb_read::format::Kind;
+use gvdb_read::format::{Kind, LOCKS};
 use std::alloc::{AllocError, Global};
-
-/// The name of the table of locks.
-const LOCKS: &str = ".locks";
 
 /// What can be saved of a database, sound or not.
 ///
@@ -74,7 +71,7 @@ fn salvage_value(
     if KeyPath::parse(name.as_str()).is_err() {
         return Ok(());
     }
-    values.put(name, bytes.to_vec(alloc)?)
+    values.insert_text(name, bytes.to_vec(alloc)?)
 }
 
 /// The bytes of item `i`, where it is a value whose pointer is valid.

@@ -4,7 +4,7 @@ use Rattle.dconf_model.specs.Settings.{IsSettings, Settings, with_value}
 use Rattle.gvdb_write.specs.Rows.{settings_of_rows}
 use Rattle.gvdb_write.proofs.BuiltMaps.{pushed_row}
 use Rattle.gvdb_write.proofs.KeyPaths.{valued_at_path}
-use Rattle.gvdb_write.proofs.map_builder.MapBuilder.put.Goals as goal
+use Rattle.gvdb_write.proofs.map_builder.MapBuilder.insert_text.Goals as goal
 
 pub invariant_of-self-2 : goal.invariant_of-self-2
 invariant_of-self-2 c =
