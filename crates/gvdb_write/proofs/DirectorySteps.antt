@@ -1,16 +1,15 @@
 -- The directory that a path lies in, of a directory and those above it: what a step up keeps.
 use Rattle.std.proofs.Common.{rules, arith}
-use Rattle.std.proofs.Common.{◌≡◌, ◌<◌, ◌≤◌, ◌+◌, ◌-◌, ℕ, Bool, true, false, List, [], ◌∷◌, ◌++◌, length, get_or, take, drop, Option, Some, None, refl, sym, ap, ◌∙◌, subst, arith, inl, inr, ⊎_elim, codes, length-append}
+use Rattle.std.proofs.Common.{◌≡◌, ◌<◌, ◌≤◌, ◌+◌, ◌-◌, ℕ, Bool, true, false, List, ◌++◌, length, get_or, take, drop, Option, Some, refl, sym, ap, ◌∙◌, subst, arith, inl, inr, ⊎_elim, length-append}
 use Rattle.std.specs.List.{starts_with}
 use Rattle.std.specs.Prelude.{nat_eq}
-use Rattle.std.proofs.lemmas.List.{take-take, take_at, take_more, take-append-drop, get_or-take}
+use Rattle.std.proofs.lemmas.List.{take-take, take_at, take-append-drop, get_or-take}
 use Rattle.std.proofs.lemmas.Bool.{cases_lt, both_ways}
 use Rattle.std.proofs.lemmas.Bool.Decides.{Decides-eqb}
 use Rattle.std.proofs.lemmas.Slice.Eq.{starts_is}
 use Rattle.dconf_model.specs.Table.{list_kind}
-use Rattle.dconf_model.specs.Entries.{IsTopEntry}
 use Rattle.gvdb_write.specs.declared.names.Named.{Named}
-use Rattle.gvdb_write.specs.PlanWords.{kind_of, entry_of}
+use Rattle.gvdb_write.specs.PlanWords.{kind_of}
 use Rattle.gvdb_write.specs.Names.{named, name_at, kind_at, IsSlash, HasNoSlash, EndsAs, LiesIn, NameHasParent, ArePlaced, IsDirectoryAt}
 
 -- a list whose name begins another; where that has a slash up to which it is as the text, this has it too

@@ -1,6 +1,6 @@
 -- The rows of items while they are laid: the numbers of their keys, and where their contents are.
 use Rattle.std.proofs.lemmas.Grind.{common_steps}
-use Rattle.std.proofs.Common.{ℕ, ◌≡◌, ◌<◌, ◌+◌, ◌*◌, List, [], ◌∷◌, ◌++◌, length, get_or, refl, sym, ap, ◌∙◌, subst, arith, ◌-◌, None}
+use Rattle.std.proofs.Common.{ℕ, ◌≡◌, ◌<◌, ◌+◌, ◌*◌, List, [], ◌∷◌, ◌++◌, length, get_or, refl, ap, subst, arith, ◌-◌, None}
 use Rattle.dconf_model.specs.Table.{value_kind, list_kind, table_kind}
 use Rattle.gvdb_read.specs.declared.format.record.ItemRecord.{ItemRecord as Numbers}
 use Rattle.gvdb_write.specs.declared.layout.Contents.{Contents}
@@ -10,13 +10,11 @@ use Rattle.gvdb_write.specs.declared.names.Content.TheVariants.{Value, List as L
 use Rattle.gvdb_write.specs.declared.names.Named.{Named}
 use Rattle.gvdb_write.specs.ContentPlaces.{content_pointer}
 use Rattle.gvdb_write.specs.Contents.{pointer_at}
-use Rattle.gvdb_write.specs.LayoutParts.{row, no_numbers, HasPointer, IsRecordOf}
+use Rattle.gvdb_write.specs.LayoutParts.{row, HasPointer, IsRecordOf}
 use Rattle.gvdb_write.specs.Names.{named, name_at}
 use Rattle.gvdb_write.specs.PlanWords.{kind_of, entries_of}
-use Rattle.gvdb_write.proofs.ItemOrders.{each_more}
-use Rattle.std.proofs.lemmas.List.{length-drop, length_push}
 use Rattle.dconf_model.specs.Plans.{keys_end}
-use Rattle.dconf_model.proofs.PlanEnds.{keys_next, keys_grow}
+use Rattle.dconf_model.proofs.PlanEnds.{keys_grow}
 
 -- what goals read where there is no item
 abbrev pub no_item : Named

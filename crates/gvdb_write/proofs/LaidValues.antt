@@ -1,7 +1,7 @@
 -- Values that are laid one after another, each at a multiple of 8.
 use Rattle.std.proofs.lemmas.Grind.{common_steps}
-use Rattle.std.proofs.Common.{ℕ, ◌≡◌, ◌<◌, ◌≤◌, ◌+◌, List, [], ◌∷◌, ◌++◌, length, get_or, take, refl, sym, ap, ◌∙◌, arith, below_more, length-append}
-use Rattle.std.proofs.lemmas.List.{get_or_append_left, get_or_push, take_all}
+use Rattle.std.proofs.Common.{ℕ, ◌≡◌, ◌<◌, ◌≤◌, ◌+◌, List, [], ◌∷◌, ◌++◌, length, get_or, take, ap, ◌∙◌, arith}
+use Rattle.std.proofs.lemmas.List.{take_all}
 use Rattle.std.proofs.lemmas.List.Sums.{fold_more}
 use Rattle.gv_model.specs.Layout.{round_up}
 use Rattle.gv_model.specs.Limits.{limit}
@@ -11,7 +11,7 @@ use Rattle.gvdb_write.specs.declared.write_fault.WriteFault.{WriteFault}
 use Rattle.gvdb_write.specs.declared.write_fault.WriteFault.TheVariants.{TooBig, Memory}
 use Rattle.gvdb_write.specs.Limits.{IsPast, IsOver}
 use Rattle.gvdb_write.specs.LayoutParts.{value_start}
-use Rattle.gvdb_write.specs.Contents.{pointer_at, no_pointer, IsShort, ArePointers}
+use Rattle.gvdb_write.specs.Contents.{pointer_at, IsShort, ArePointers}
 use Rattle.gvdb_write.proofs.WithValues.{prefix_ends_below}
 
 -- so many values are laid, and end there

@@ -1,24 +1,21 @@
 -- Names that are placed, in order and with children are entries of a root table.
 use Rattle.std.proofs.Common.{rules, arith}
 use Rattle.std.proofs.lemmas.Grind.{common_steps}
-use Rattle.std.proofs.Common.{◌≡◌, ◌≢◌, ◌<◌, ◌≤◌, ◌+◌, ◌-◌, ℕ, zero, suc, List, [], ◌∷◌, ◌++◌, length, get_or, take, drop, Option, Some, None, refl, sym, ap, ◌∙◌, subst, arith, inl, inr, ⊎_elim, codes, length-append}
+use Rattle.std.proofs.Common.{◌≡◌, ◌<◌, ◌+◌, ◌-◌, ℕ, zero, suc, List, [], ◌∷◌, ◌++◌, length, get_or, take, Option, Some, None, sym, ap, ◌∙◌, subst, arith, inl, inr, length-append}
 use Rattle.std.specs.declared.cmp.Ordering.TheVariants.{Less, Equal}
 use Rattle.std.specs.Cmp.Lexicographic.{slice_cmp}
 use Rattle.std.specs.Ordering.{nat_cmp}
 use Rattle.std.proofs.lemmas.Bool.{cases_lt}
 use Rattle.std.proofs.lemmas.Cmp.{nat_list_cmp_total, tied_itself}
-use Rattle.std.proofs.lemmas.List.{take_all, take_more, take_at, take-take, take-append-drop, length-drop, length-take-le, get_or-drop, get_or-take, get_or_default, get_or_at}
+use Rattle.std.proofs.lemmas.List.{take_at, get_or-take, get_or_at}
 use Rattle.dconf_model.specs.Table.{value_kind, list_kind}
 use Rattle.dconf_model.specs.Settings.{Settings}
-use Rattle.dconf_model.specs.Searchable.{IsKind}
-use Rattle.dconf_model.specs.Entries.{IsSpelled, IsEntry, AreEntries, IsTopEntry, IsPartEntry, EntryHasParent, IsRootEntry, EachEntry}
+use Rattle.dconf_model.specs.Entries.{IsSpelled, IsEntry, AreEntries, IsPartEntry, EntryHasParent, IsRootEntry, EachEntry}
 use Rattle.dconf_model.specs.Plans.{IsDirectoryOf, IsRootName}
 use Rattle.dconf_model.specs.Plans.IsRootName.{top, key, directory, locks}
-use Rattle.gvdb_write.specs.declared.names.Content.{Content}
-use Rattle.gvdb_write.specs.declared.names.Content.TheVariants.{Value, List as Listed, Locks}
 use Rattle.gvdb_write.specs.declared.names.Named.{Named}
-use Rattle.gvdb_write.specs.PlanWords.{kind_of, entry_of, entries_of}
-use Rattle.gvdb_write.specs.Names.{named, name_at, kind_at, IsSlash, HasNoSlash, EndsAs, IsFit, NameHasParent, IsPlaced, ArePlaced, AreAscending, HasChild, AreGood, IsThere, AreNamesOf}
+use Rattle.gvdb_write.specs.PlanWords.{entry_of, entries_of}
+use Rattle.gvdb_write.specs.Names.{named, name_at, kind_at, IsSlash, EndsAs, IsFit, NameHasParent, IsPlaced, ArePlaced, AreAscending, AreGood, IsThere, AreNamesOf}
 use Rattle.gvdb_write.proofs.PathTexts.{end_is}
 use Rattle.gvdb_write.proofs.KeysRise.{kept_at}
 use Rattle.std.specs.Prelude.{IsTrue}

@@ -15,7 +15,7 @@ use Rattle.gvdb_write.specs.declared.layout.Layout.{Layout}
 use Rattle.gvdb_write.specs.declared.table.TablePlan.{TablePlan}
 use Rattle.gvdb_write.specs.PlanWords.{children_of, plan_of}
 use Rattle.gvdb_write.specs.Names.{kind_at}
-use Rattle.gvdb_write.specs.LayoutParts.{IsLayoutOf, HasPointer, HasPlacedValue, row, lists_at, locks_at, lock_keys_at, values_at, value_start}
+use Rattle.gvdb_write.specs.LayoutParts.{IsLayoutOf, HasPointer, HasPlacedValue, row, lists_at, locks_at, lock_keys_at, values_at}
 use Rattle.gvdb_write.specs.WrittenParts.{numbers_of}
 use Rattle.gvdb_write.specs.PlannedTables.{AreTables}
 use Rattle.gvdb_write.proofs.TableWritten.{HasContentAt, length-words}

@@ -1,10 +1,10 @@
 -- The parts of a file that are written one after another are where the plan says.
 use Rattle.std.proofs.lemmas.Grind.{common_steps}
-use Rattle.std.proofs.Common.{◌≡◌, ◌<◌, ◌-◌, ℕ, List, [], ◌++◌, length, get_or, replicate, sym, ap, ◌∙◌, subst, arith, inl, inr}
+use Rattle.std.proofs.Common.{◌≡◌, ◌<◌, ℕ, List, [], ◌++◌, length, get_or, sym, ap, ◌∙◌, subst, arith, inl, inr}
 use Rattle.gv_model.specs.Layout.{round_up}
 use Rattle.dconf_model.specs.Plans.{Plan, keys_end, root_end, length_of, all_values, once_each}
 use Rattle.dconf_model.specs.TableBytes.{OccursAt, words_bytes, header_bytes, table_bytes}
-use Rattle.dconf_model.proofs.Occurrences.{occurs_at, occurs_last, occurs_still}
+use Rattle.dconf_model.proofs.Occurrences.{occurs_at, occurs_last}
 use Rattle.gvdb_read.specs.declared.format.record.ItemRecord.{ItemRecord as Numbers}
 use Rattle.gvdb_write.specs.declared.layout.Layout.{Layout}
 use Rattle.gvdb_write.specs.declared.table.TablePlan.{TablePlan}

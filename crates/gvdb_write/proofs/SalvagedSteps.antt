@@ -6,7 +6,7 @@ use Rattle.std.specs.FinMap.{get, contains_key, insert, empty, get-empty}
 use Rattle.std.specs.Cmp.Lexicographic.{slice_cmp}
 use Rattle.std.specs.Ordering.{nat_cmp}
 use Rattle.std.specs.Str.{bytes_eq}
-use Rattle.std.proofs.lemmas.Bool.{both_ways, cases_lt}
+use Rattle.std.proofs.lemmas.Bool.{both_ways}
 use Rattle.std.proofs.lemmas.Option.{none-some, same_Some}
 use Rattle.dconf_model.specs.Settings.{Settings, AtPaths, Lock, no_settings, with_value, with_lock}
 use Rattle.dconf_model.specs.Table.{Table, item, item_count, bytes_of, value_kind, table_of}

@@ -1,24 +1,23 @@
 -- The tables of a map's names are the plan of its database.
 use Rattle.std.proofs.Common.{rules, arith}
 use Rattle.std.proofs.lemmas.Grind.{common_steps}
-use Rattle.std.proofs.Common.{◌≡◌, ◌<◌, ◌≤◌, ℕ, List, [], length, get_or, Option, Some, None, refl, sym, ap, ◌∙◌, ◌&&◌, not, subst, arith, inl, inr, ⊎_elim, is_some}
-use Rattle.std.specs.Prelude.{IsTrue, IsUtf8, Contains, option_map}
+use Rattle.std.proofs.Common.{◌≡◌, ◌<◌, ◌≤◌, ℕ, List, [], length, get_or, Option, Some, None, refl, sym, ap, ◌∙◌, subst, arith, inl, inr, is_some}
+use Rattle.std.specs.Prelude.{IsTrue, IsUtf8}
 use Rattle.std.specs.FinMap.{get, keys}
-use Rattle.std.proofs.lemmas.Bool.{cases_lt, and_parts}
-use Rattle.std.proofs.lemmas.Option.{same_Some, none-some}
-use Rattle.dconf_model.specs.Bytes.{hash_of}
+use Rattle.std.proofs.lemmas.Bool.{cases_lt}
+use Rattle.std.proofs.lemmas.Option.{same_Some}
 use Rattle.dconf_model.specs.Table.{value_kind}
 use Rattle.dconf_model.specs.Settings.{Settings, IsSettings}
-use Rattle.dconf_model.specs.Paths.{is_path, starts_with_slash, has_two_slashes, is_short, has_zero_byte}
+use Rattle.dconf_model.specs.Paths.{is_path, starts_with_slash}
 use Rattle.dconf_model.specs.Renumbered.{renumbered}
-use Rattle.dconf_model.specs.Entries.{Entry, Entries, bucket_of, IsSpelled, IsEntry, AreEntries, IsLockEntry, EachEntry}
+use Rattle.dconf_model.specs.Entries.{Entry, Entries, bucket_of, IsEntry, AreEntries, IsLockEntry, EachEntry}
 use Rattle.dconf_model.specs.Plans.{IsRootName, IsLockName, AreNamed, Precedes, HasValueEntry, IsPlanOf}
 use Rattle.dconf_model.proofs.Renumbered.{name_at as name_by_number, kind_at as kind_by_number, name_is, entries_renumbered, root_renumbered}
 use Rattle.gvdb_write.specs.declared.names.Named.{Named}
 use Rattle.gvdb_write.specs.declared.table.TablePlan.{TablePlan}
 use Rattle.gvdb_write.specs.Groups.{ComesFirst}
 use Rattle.gvdb_write.specs.PlanWords.{kind_of, content_bytes, no_name, entries_of, plan_of}
-use Rattle.gvdb_write.specs.Names.{named, name_at, IsBefore, AreAscending, NameHasParent, AreNamesOf, AreLockNames}
+use Rattle.gvdb_write.specs.Names.{named, name_at, IsBefore, AreAscending, AreNamesOf, AreLockNames}
 use Rattle.gvdb_write.specs.ItemOrder.{IsTableOf}
 use Rattle.gvdb_write.proofs.NamesEntries.{are_entries, once_each, are_root_entries, path_there, all_there}
 use Rattle.gvdb_write.proofs.PathTexts.{IsPathText, path_text}

@@ -2,7 +2,7 @@
 use Rattle.std.proofs.Common.{rules, arith, ◌≡◌, ◌<◌, ◌≤◌, ◌+◌, ◌-◌, ◌*◌, ◌/◌, ◌%◌, ◌^◌, ℕ, List, ◌++◌, length, get_or, replicate, sym, ap, ◌∙◌, subst, length-append, zero, suc, [], ◌∷◌, drop, refl}
 use Rattle.std.proofs.lemmas.Grind.{common_steps}
 use Rattle.std.proofs.Math.ListN.{get_or-map}
-use Rattle.std.proofs.lemmas.List.{length-map, length-drop, length-replicate}
+use Rattle.std.proofs.lemmas.List.{length-map, length-replicate}
 use Rattle.gv_model.specs.Encode.{number_bytes}
 use Rattle.gv_model.specs.Layout.{round_up}
 use Rattle.gv_model.proofs.NumberBytes.{length-number_bytes}
@@ -11,7 +11,7 @@ use Rattle.dconf_model.specs.Bytes.{hash_of}
 use Rattle.dconf_model.specs.Table.{Table as Place, IsValidPointer, alignment_of, list_kind}
 use Rattle.dconf_model.specs.Entries.{AreEntries}
 use Rattle.dconf_model.specs.Plans.{size_of_table, keys_end}
-use Rattle.dconf_model.specs.TableBytes.{OccursAt, ItemRecord, record_bytes, records_bytes, words_bytes, head_bytes, table_bytes, table_size}
+use Rattle.dconf_model.specs.TableBytes.{OccursAt, ItemRecord, words_bytes, table_bytes, table_size}
 use Rattle.dconf_model.specs.TableEncoding.{EncodesItem, HasBits, IsWritten, no_row}
 use Rattle.dconf_model.proofs.Occurrences.{occurs_at, occurs_last, occurs_prefix, occurs_next, length-pieces, occurs_suffix}
 use Rattle.dconf_model.proofs.TableNumbers.{length-row}

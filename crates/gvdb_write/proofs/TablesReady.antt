@@ -70,8 +70,8 @@ locks_are lock_names s root locks are is plan i here =
       ap (λ (c : Content). content_bytes c) (is.contents i here) ∙ (are.each (is.order i) (is.renumbered.ordered i l)).value,
     )
 
-ready_of : (s : Settings) (names lock_names : List Named) (root locks : TablePlan) → IsSettings s → AreNamesOf s names → IsTableOf names root → AreLockNames s lock_names → IsTableOf lock_names locks → AreReady s root locks
-ready_of s names lock_names root locks settings are is are_locks is_locks =
+pub ready : (s : Settings) (names lock_names : List Named) (root locks : TablePlan) → IsSettings s → AreNamesOf s names → IsTableOf names root → AreLockNames s lock_names → IsTableOf lock_names locks → AreReady s root locks
+ready s names lock_names root locks settings are is are_locks is_locks =
     let plan = tables_are_plan s names lock_names root locks settings are is are_locks is_locks in
     record {
       are_settings = settings;
@@ -90,12 +90,6 @@ ready_of s names lock_names root locks settings are is are_locks is_locks =
       firsts = is.lists;
       are_locks = locks_are lock_names s root locks are_locks is_locks plan;
     }
-
--- where the tables are made of slices of the names
-pub ready : (s : Settings) (named slice lock_named lock_slice : List Named) (root locks : TablePlan) → IsSettings s → AreNamesOf s named → slice ≡ named → IsTableOf slice root → AreLockNames s lock_named → lock_slice ≡ lock_named → IsTableOf lock_slice locks → AreReady s root locks
-ready s named slice lock_named lock_slice root locks settings are same is are_locks lock_same is_locks =
-    ready_of s slice lock_slice root locks settings (subst (λ (ns : List Named). AreNamesOf s ns) (sym same) are) is
-    (subst (λ (ns : List Named). AreLockNames s ns) (sym lock_same) are_locks) is_locks
 
 -- ---- what it leads to
 

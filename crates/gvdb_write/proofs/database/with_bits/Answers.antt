@@ -1,4 +1,4 @@
-use Rattle.std.proofs.Common.{◌%◌, ◌/◌, w32, arith, rules, ℕ, ◌≡◌, ◌<◌, ◌≤◌, ◌*◌, ◌^◌, ap, ◌∙◌, ⊎_elim}
+use Rattle.std.proofs.Common.{◌%◌, ◌/◌, w32, arith, rules, ℕ, ◌≡◌}
 use Rattle.std.proofs.lemmas.Nat.Bits.{bit_at_set_same, bit_at_or, bit_at-lt, and_pow}
 use Rattle.std.proofs.lemmas.Grind.{common_steps}
 use Rattle.std.specs.Int.{IsBitSet, bit_at}

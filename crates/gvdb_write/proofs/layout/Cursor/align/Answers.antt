@@ -1,9 +1,7 @@
-use Rattle.std.proofs.Common.{rules, ◌∙◌, subst, ℕ, ◌≡◌, ◌≢◌, ◌<◌, ◌+◌, ◌-◌, ◌*◌, ◌/◌, ◌%◌, ap, arith, div-add-mod'}
+use Rattle.std.proofs.Common.{rules, ◌∙◌, subst, ℕ, ◌≡◌, ◌≢◌, ◌<◌, ◌+◌, ◌-◌, ◌%◌, arith}
 use Rattle.std.specs.Result.{IfErr}
 use Rattle.gvdb_write.specs.Limits.{IsPast}
 use Rattle.std.proofs.lemmas.Grind.{common_steps}
-use Rattle.std.proofs.Math.Nat.{mod-lt}
-use Rattle.std.proofs.lemmas.Nat.{div-mul-add}
 use Rattle.gv_model.specs.Layout.{round_up}
 use Rattle.gvdb_write.proofs.layout.Cursor.align.Goals as goal
 

@@ -5,13 +5,12 @@ use Rattle.gv_model.specs.Limits.{limit}
 use Rattle.dconf_model.specs.Plans.{length_of, root_end, locks_end, values_end}
 use Rattle.gvdb_read.specs.declared.format.record.ItemRecord.{ItemRecord as Numbers}
 use Rattle.gvdb_write.specs.declared.layout.Contents.{Contents}
-use Rattle.gvdb_write.specs.declared.layout.Pointer.{Pointer}
 use Rattle.gvdb_write.specs.declared.names.Named.{Named}
 use Rattle.gvdb_write.specs.PlanWords.{plan_of, entries_of}
 use Rattle.gvdb_write.specs.Values.{bytes_of_each}
 use Rattle.gvdb_write.specs.CursorPlaces.{table_end, laid_end}
 use Rattle.gvdb_write.specs.LayoutParts.{AreRecords}
-use Rattle.gvdb_write.specs.ContentPlaces.{ArePointed, CanPoint}
+use Rattle.gvdb_write.specs.ContentPlaces.{ArePointed}
 use Rattle.gvdb_write.specs.Contents.{own_values, HavePlaces, ArePointers}
 use Rattle.gvdb_write.proofs.FoundValues.{places_stay}
 use Rattle.gvdb_write.proofs.KnownContents.{can_point, root_lists, lock_lists, lists_end_there}
