@@ -40,7 +40,6 @@ impl<'a> Table<'a> {
     ghost use Rattle.gvdb_read.specs.Tables.{region};
 
     /// The first key of the items whose numbers occur from there on, so many of them, and what is left of the numbers.
-    #[tactic(auto, using(crate::proofs::ListSteps::listed_item, crate::proofs::ListSteps::listed_none))]
     fn first_key(self, at: usize, left: usize) -> (Option<&'a [u8]>, usize, usize)
         requires { at + 4 * left ≤ length self.file.now }
         ensures key { MatchOption result.0
