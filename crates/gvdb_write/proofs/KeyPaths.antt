@@ -1,15 +1,14 @@
 -- The paths of values stay the paths of keys, those of locks paths.
-use Rattle.std.proofs.Common.{ℕ, ◌≡◌, Bool, true, false, cond, List, [], Option, Some, None, is_some, IsTrue, refl, sym, ◌∙◌, ap, subst, ◌||◌, not}
+use Rattle.std.proofs.Common.{ℕ, ◌≡◌, Bool, true, false, cond, List, [], Option, Some, None, is_some, IsTrue, refl, sym, ◌∙◌, ap, subst, ◌||◌, not, Vec, Bor, ◌∷◌, Result, Ok, Err}
 use Rattle.std.specs.List.{All}
 use Rattle.std.specs.Cmp.Lexicographic.{slice_cmp}
 use Rattle.std.specs.Ordering.{nat_cmp, eq_by_cmp}
 use Rattle.std.specs.Cmp.{eq_by_cmp_equiv}
-use Rattle.std.specs.FinMap.{contains_key, keys, insert, get-empty, get-insert, contains_key-keys, slice_cmp-IsAntisymmetric, nat_cmp-IsAntisymmetric}
+use Rattle.std.specs.FinMap.{contains_key, keys, insert, get-empty, get-insert, contains_key-keys, slice_cmp-IsAntisymmetric, nat_cmp-IsAntisymmetric, from_entries, empty}
 use Rattle.std.proofs.lemmas.Cmp.{nat_list_cmp_total}
 use Rattle.std.proofs.lemmas.List.Elements.{All-contains_itself, All-nil, All-rest, All-head}
 use Rattle.std.proofs.lemmas.Map.Views.{tells_apart, list_any-from_Contains}
 use Rattle.std.proofs.lemmas.Bool.{true≢false, and_parts}
-use Rattle.std.proofs.Common.{Vec, Bor, ◌∷◌, Result, Ok, Err}
 use Rattle.std.specs.Option.{MatchOption}
 use Rattle.std.specs.Result.{IsOk, IfOk, result_ok}
 use Rattle.dconf_path.specs.declared.lock_path.LockPath.{LockPath}
@@ -22,7 +21,6 @@ use Rattle.std.specs.BTreeMap.{BTreeMap}
 use Rattle.std.specs.BTreeSet.{BTreeSet}
 use Rattle.std.specs.declared.string.String.{String}
 use Rattle.std.specs.declared.alloc.Global.{Global}
-use Rattle.std.specs.FinMap.{from_entries, empty}
 use Rattle.gvdb_write.specs.Maps.{settings_of, values_of, locks_of, value_entries, lock_entries, texts}
 use Rattle.dconf_model.specs.Paths.{is_path, is_key_path, ends_with_slash}
 use Rattle.dconf_model.specs.Settings.{AtPaths, Lock, Settings, IsSettings, no_settings, with_value, with_lock}

@@ -1,6 +1,6 @@
 -- The paths at which something is kept are in the order of their bytes.
 use Rattle.std.proofs.Common.{◌≡◌, ◌<◌, ◌+◌, ℕ, zero, suc, Bool, true, false, T, List, [], ◌∷◌, ◌++◌, length, get_or, map, refl, sym, ap, ◌∙◌, subst, arith, length-append}
-use Rattle.std.specs.Prelude.{IsTrue}
+use Rattle.std.specs.Prelude.{IsTrue, Contains}
 use Rattle.std.specs.Cmp.Lexicographic.{slice_cmp}
 use Rattle.std.specs.Cmp.{eq_by_cmp_equiv}
 use Rattle.std.specs.Ordering.{nat_cmp, is_lt}
@@ -10,7 +10,6 @@ use Rattle.std.proofs.lemmas.Bool.{and_parts}
 use Rattle.std.proofs.lemmas.Cmp.{nat_list_cmp_total}
 use Rattle.std.proofs.lemmas.List.{get_or_at, get_or_default}
 use Rattle.std.proofs.lemmas.Map.Views.{tells_apart, Contains-from_any, list_any-from_Contains}
-use Rattle.std.specs.Prelude.{Contains}
 use Rattle.dconf_model.proofs.RisingTexts.{less_of}
 use Rattle.dconf_model.specs.Settings.{AtPaths, Settings, IsSettings}
 use Rattle.dconf_model.specs.Paths.{is_path, is_key_path}

@@ -1,8 +1,7 @@
 -- The paths of the settings that a map stands for are its keys, in order.
 use Rattle.std.proofs.Common.{ℕ, ◌≡◌, T, true, List, [], ◌∷◌, map, length, refl, sym, ◌∙◌, ap, subst, Vec, ◌&&◌}
 use Rattle.std.specs.BTreeMap.{BTreeMap, IsOrdered, btree_map_len, keys}
-use Rattle.std.specs.BTreeSet.{BTreeSet, btree_set_len}
-use Rattle.std.specs.BTreeSet.{IsOrdered as IsOrderedSet}
+use Rattle.std.specs.BTreeSet.{BTreeSet, btree_set_len, IsOrdered as IsOrderedSet}
 use Rattle.std.specs.List.Sorted.{IsStrictlySortedBy}
 use Rattle.std.specs.declared.string.String.{String}
 use Rattle.std.specs.declared.alloc.Global.{Global}

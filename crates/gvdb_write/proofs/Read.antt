@@ -1,8 +1,7 @@
 -- What the settings that collections stand for have at a path.
 use Rattle.std.proofs.Common.{ℕ, ◌≡◌, Bool, true, false, cond, List, [], ◌∷◌, Option, Some, None, option_map, is_some, refl, sym, ◌∙◌, ap, Vec, ◌||◌}
 use Rattle.std.specs.BTreeMap.{BTreeMap, is_at, get_by_text, UpdatesBy}
-use Rattle.std.specs.BTreeSet.{BTreeSet, contains_text}
-use Rattle.std.specs.BTreeSet.{UpdatesBy as UpdatesSet}
+use Rattle.std.specs.BTreeSet.{BTreeSet, contains_text, UpdatesBy as UpdatesSet}
 use Rattle.std.specs.Map.{lookup, update}
 use Rattle.std.specs.Str.{bytes_eq}
 use Rattle.std.specs.List.{list_any}
