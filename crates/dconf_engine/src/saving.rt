@@ -1,19 +1,18 @@
 //! The user's database.
-ghost use Rattle.std.specs.Prelude.{◌≡◌, [], ◌∷◌, IfOk, IfErr, OnOk};
+ghost use Rattle.std.specs.Prelude.{◌≡◌, ◌<◌, IfOk, IfErr, OnOk, Some, string_bytes};
 ghost use Rattle.std.specs.FinMap.{entries};
-ghost use Rattle.dconf_path.specs.Paths.{key_text};
 ghost use Rattle.dconf_model.specs.Changes.{saved};
 ghost use Rattle.dconf_model.specs.Databases.{IsDatabaseOf, IsTooBig};
 ghost use Rattle.gvdb_write.specs.Limits.{IsRefusal};
 ghost use Rattle.dconf_model.specs.Settings.{no_settings};
-ghost use Rattle.dconf_engine.specs.KeyNames.{items_of, key_name_at, key_names};
+ghost use Rattle.dconf_engine.specs.Entries.{items_of, layer_paths, path_at};
 ghost use Rattle.dconf_engine.specs.LayerSettings.{settings_of};
-ghost use Rattle.dconf_engine.specs.Saved.{and_unchanged, with_unchanged, with_sets};
+ghost use Rattle.dconf_engine.specs.Saved.{unless_changed, with_unchanged, with_sets};
 
 use crate::changes::Changes;
 use crate::engine::Engine;
+use crate::entry::Entry;
 use crate::layer::Layer;
-use dconf_path::KeyPath;
 use gvdb_write::{Map, WriteFault, write};
 use std::alloc::{AllocError, Global};
 
@@ -45,29 +44,16 @@ impl<'a> Engine<'a> {
 
 /// The values of a layer at paths that were not changed.
 fn unchanged(alloc: Global, layer: Layer<'_>, changes: &Changes) -> Result<Map, AllocError>
-    ensures { IfOk result (λ map. map ≡ with_unchanged (settings_of layer.entry).values changes.now (key_names layer.entry (items_of layer.entry)) no_settings) }
+    ensures { IfOk result (λ map. map ≡ with_unchanged (settings_of layer.entry).values changes.now (layer_paths layer.entry) no_settings) }
 {
     let mut map = Map::new(alloc);
-    add_unchanged(alloc, layer, changes, &mut map)?;
+    for i in 0..layer.n_items() {
+        add_item(alloc, layer, i, changes, &mut map)?;
+    }
     Ok(map)
 }
 
-/// Adds the values of a layer at paths that were not changed.
-fn add_unchanged(
-    alloc: Global,
-    layer: Layer<'_>,
-    changes: &Changes,
-    map: &mut Map,
-) -> Result<(), AllocError>
-    ensures { OnOk result (map.new ≡ with_unchanged (settings_of layer.entry).values changes.now (key_names layer.entry (items_of layer.entry)) map.old) }
-{
-    for i in 0..layer.n_items() {
-        add_item(alloc, layer, i, changes, map)?;
-    }
-    Ok(())
-}
-
-/// Adds the value of an item's name.
+/// Adds the value of an item, if it is an entry that was not changed.
 fn add_item(
     alloc: Global,
     layer: Layer<'_>,
@@ -75,33 +61,24 @@ fn add_item(
     changes: &Changes,
     map: &mut Map,
 ) -> Result<(), AllocError>
-    ensures { OnOk result (map.new ≡ with_unchanged (settings_of layer.entry).values changes.now (key_name_at layer.entry i) map.old) }
+    requires { i < items_of layer }
+    ensures { OnOk result (map.new ≡ with_unchanged (settings_of layer.entry).values changes.now (path_at layer.entry i) map.old) }
 {
-    let Some(name) = layer.name_at(alloc, i)? else {
-        return Ok(());
-    };
-    match KeyPath::parse(name.as_str()) {
-        Ok(path) => add_key(layer, i, path, changes, map),
-        Err(_) => Ok(()),
+    match layer.entry_at(alloc, i)? {
+        Some(entry) => add_unchanged(&entry, changes, map),
+        None => Ok(()),
     }
 }
 
-/// Adds the value of a key that was not changed, which is item `i`'s name.
-fn add_key(
-    layer: Layer<'_>,
-    i: u32,
-    path: KeyPath<'_>,
-    changes: &Changes,
-    map: &mut Map,
-) -> Result<(), AllocError>
-    requires named { key_name_at layer i ≡ key_text path ∷ [] }
-    ensures { OnOk result (map.new ≡ and_unchanged (settings_of layer.entry).values changes.now map.old (key_text path.entry)) }
+/// Adds the value of an entry, if it was not changed.
+fn add_unchanged(entry: &Entry<'_>, changes: &Changes, map: &mut Map) -> Result<(), AllocError>
+    ensures { OnOk result (map.new ≡ unless_changed changes.now map.old (string_bytes entry.now.text) (Some entry.now.bytes.now)) }
 {
-    if changes.get(path.as_str()).is_some() {
+    if changes.get(entry.as_str()).is_some() {
         return Ok(());
     }
-    match layer.value_at(i, path) {
-        Some(bytes) => map.insert(path, bytes),
+    match entry.path() {
+        Some(path) => map.insert(path, entry.bytes),
         None => Ok(()),
     }
 }
