@@ -12,7 +12,7 @@ use std::alloc::{AllocError, Global};
 /// A path at which a layer has a value, and the value's bytes.
 #[derive(Drop)]
 pub(crate) struct Entry<'a> {
-    text: String,
+    pub(crate) text: String,
     pub(crate) bytes: &'a [u8],
     ghost is_of_key: { IsTrue (is_key_path (string_bytes text)) },
 }

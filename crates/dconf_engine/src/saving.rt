@@ -13,7 +13,7 @@ use crate::changes::Changes;
 use crate::engine::Engine;
 use crate::entry::Entry;
 use crate::layer::Layer;
-use gvdb_write::{Map, WriteFault, write};
+use gvdb_write::{Map, MapBuilder, WriteFault, write};
 use std::alloc::{AllocError, Global};
 
 impl<'a> Engine<'a> {
@@ -36,21 +36,21 @@ impl<'a> Engine<'a> {
         let Some(first) = self.layers.first() else {
             return Ok(Map::new(self.alloc));
         };
-        let mut map = unchanged(self.alloc, *first, &self.changes)?;
-        add_sets(&self.changes, &mut map)?;
-        Ok(map)
+        let mut values = unchanged(self.alloc, *first, &self.changes)?;
+        add_sets(&self.changes, &mut values)?;
+        values.build()
     }
 }
 
 /// The values of a layer at paths that were not changed.
-fn unchanged(alloc: Global, layer: Layer<'_>, changes: &Changes) -> Result<Map, AllocError>
-    ensures { IfOk result (λ map. map ≡ with_unchanged (settings_of layer.entry).values changes.now (layer_paths layer.entry) no_settings) }
+fn unchanged(alloc: Global, layer: Layer<'_>, changes: &Changes) -> Result<MapBuilder, AllocError>
+    ensures { IfOk result (λ values. values ≡ with_unchanged (settings_of layer.entry).values changes.now (layer_paths layer.entry) no_settings) }
 {
-    let mut map = Map::new(alloc);
+    let mut values = MapBuilder::new(alloc);
     for i in 0..layer.n_items() {
-        add_item(alloc, layer, i, changes, &mut map)?;
+        add_item(alloc, layer, i, changes, &mut values)?;
     }
-    Ok(map)
+    Ok(values)
 }
 
 /// Adds the value of an item, if it is an entry that was not changed.
@@ -59,37 +59,39 @@ fn add_item(
     layer: Layer<'_>,
     i: u32,
     changes: &Changes,
-    map: &mut Map,
+    values: &mut MapBuilder,
 ) -> Result<(), AllocError>
     requires { i < items_of layer }
-    ensures { OnOk result (map.new ≡ with_unchanged (settings_of layer.entry).values changes.now (path_at layer.entry i) map.old) }
+    ensures { OnOk result (values.new ≡ with_unchanged (settings_of layer.entry).values changes.now (path_at layer.entry i) values.old) }
 {
     match layer.entry_at(alloc, i)? {
-        Some(entry) => add_unchanged(&entry, changes, map),
+        Some(entry) => add_unchanged(alloc, entry, changes, values),
         None => Ok(()),
     }
 }
 
 /// Adds the value of an entry, if it was not changed.
-fn add_unchanged(entry: &Entry<'_>, changes: &Changes, map: &mut Map) -> Result<(), AllocError>
-    ensures { OnOk result (map.new ≡ unless_changed changes.now map.old (string_bytes entry.now.text) (Some entry.now.bytes.now)) }
+fn add_unchanged(
+    alloc: Global,
+    entry: Entry<'_>,
+    changes: &Changes,
+    values: &mut MapBuilder,
+) -> Result<(), AllocError>
+    ensures { OnOk result (values.new ≡ unless_changed changes.now values.old (string_bytes entry.text) (Some entry.bytes.now)) }
 {
     if changes.get(entry.as_str()).is_some() {
         return Ok(());
     }
-    match entry.path() {
-        Some(path) => map.insert(path, entry.bytes),
-        None => Ok(()),
-    }
+    values.insert_text(entry.text, entry.bytes.to_vec(alloc)?)
 }
 
 /// Adds what was set.
-fn add_sets(changes: &Changes, map: &mut Map) -> Result<(), AllocError>
-    ensures { OnOk result (map.new ≡ with_sets (entries changes.now) map.old) }
+fn add_sets(changes: &Changes, values: &mut MapBuilder) -> Result<(), AllocError>
+    ensures { OnOk result (values.new ≡ with_sets (entries changes.now) values.old) }
 {
     for change in changes.iter() {
         if let Some(bytes) = change.bytes {
-            map.insert(change.path, bytes)?;
+            values.insert(change.path, bytes)?;
         }
     }
     Ok(())

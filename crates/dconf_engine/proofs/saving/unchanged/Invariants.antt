@@ -7,4 +7,4 @@ use Rattle.dconf_engine.proofs.saving.unchanged.Given as goal
 
 -- with the values of the entries before this one
 abbrev pub invariant-loop-i : goal.invariant-loop-i
-invariant-loop-i l = l.map ≡ with_unchanged (settings_of l.layer).values l.changes (paths_in l.layer l.i) no_settings
+invariant-loop-i l = l.values ≡ with_unchanged (settings_of l.layer).values l.changes (paths_in l.layer l.i) no_settings
