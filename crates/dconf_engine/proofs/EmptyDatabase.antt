@@ -1,11 +1,6 @@
 -- A database without items: it is sound, and says nothing.
 use Rattle.std.proofs.Common.{◌≡◌, ℕ, List, [], ◌∷◌, None, refl, sym, ap, ◌∙◌, subst, arith, codes}
-use Rattle.std.specs.Coded.{coded_option, coded_list, coded_ℕ}
-use Rattle.std.specs.Cmp.Lexicographic.{slice_cmp}
-use Rattle.std.specs.FinMap.{from_entries, get, get-empty}
-use Rattle.std.specs.Ordering.{nat_cmp}
-use Rattle.std.proofs.Math.Logic.{∥∥₁_elim}
-use base.Stored.{Coded-set}
+use Rattle.std.specs.FinMap.{from_entries}
 use Rattle.dconf_model.specs.Table.{Table as Region}
 use Rattle.dconf_model.specs.Table.{item_count, bucket_count}
 use Rattle.dconf_model.specs.Names.{name_of}
@@ -14,15 +9,12 @@ use Rattle.dconf_model.specs.Searchable.{EachItem}
 use Rattle.dconf_model.specs.Sound.{IsSound}
 use Rattle.dconf_model.specs.Sound.Rule.{buckets, keys, chain, hash, span, bloom, once, content, place, lists, locks}
 use Rattle.dconf_model.specs.Databases.{gathered, row_of_value, locks_of_item, settings_in}
-use Rattle.dconf_model.specs.Changes.{Values}
 use Rattle.dconf_model.specs.Settings.{no_settings}
 use Rattle.dconf_model.proofs.RowLaws.{counted}
 use Rattle.dconf_model.proofs.WorkedTables.{computing}
 use Rattle.gvdb_read.specs.declared.table.Table.{Table}
 use Rattle.gvdb_read.specs.Lookups.{IsTableAt}
 use Rattle.gvdb_read.specs.Tables.{region}
-use Rattle.dconf_engine.specs.declared.layer.Layer.{Layer}
-use Rattle.dconf_engine.specs.LayerSettings.{settings_of}
 use Rattle.dconf_engine.specs.SoundTables.{AreOfSoundDatabase}
 use Rattle.dconf_engine.proofs.SoundLayers.{locks_at}
 
@@ -30,16 +22,6 @@ use Rattle.dconf_engine.proofs.SoundLayers.{locks_at}
 
 no_item : (t : Region) (P : ℕ → Type 0) → item_count t ≡ 0 → EachItem t P
 no_item t P none i within = absurd (omega (arith, none, within))
-
-without_values : (t : Region) (path : List ℕ) → item_count t ≡ 0 → t ≡ root_of t.file → None ≡ get (settings_in t.file).values path
-without_values t path none root =
-    let r = root_of t.file in
-    let left : item_count r ≡ 0 = subst (λ (u : Region). item_count u ≡ 0) root none in
-    let values : ℕ → Values = (λ n. from_entries (gathered (λ i. row_of_value r i (name_of r i)) n)) in
-    sym (ap (λ n. get (values n) path) left ∙ get-empty (slice_cmp nat_cmp) path)
-
-pub nothing_in : (layer : Layer) (path : List ℕ) → item_count (region layer.values) ≡ 0 → None ≡ get (settings_of layer).values path
-nothing_in layer path none = ∥∥₁_elim layer.sound (Coded-set (coded_option (coded_list coded_ℕ)) _ _) (λ o. without_values (region layer.values) path none o.root)
 
 -- ---- the empty database
 

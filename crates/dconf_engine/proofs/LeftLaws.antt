@@ -1,39 +1,35 @@
 -- The paths at which the first layer has a value: those of its file that were not changed, and those that were set.
-use Rattle.std.proofs.Common.{◌≡◌, ◌||◌, ◌&&◌, ◌+◌, ℕ, suc, arith, Bool, true, false, cond, not, List, [], ◌∷◌, ◌++◌, Option, Some, None, is_some, refl, sym, ap, ◌∙◌, subst}
+use Rattle.std.proofs.Common.{◌≡◌, ◌||◌, ◌&&◌, ℕ, Bool, true, false, cond, not, List, [], ◌∷◌, ◌++◌, Option, Some, None, is_some, refl, sym, ap, ◌∙◌, subst}
+use Rattle.std.specs.Prelude.{flat_map}
 use Rattle.std.specs.Cmp.Lexicographic.{slice_cmp}
 use Rattle.std.specs.FinMap as fin
-use Rattle.std.specs.FinMap.{get, keys, entries, find}
+use Rattle.std.specs.FinMap.{contains_key, get, keys, entries, find}
 use Rattle.std.specs.FinMap.Entries.{is_sorted, below_all}
 use Rattle.std.specs.List.{list_any}
 use Rattle.std.specs.Option.{unwrap_or}
 use Rattle.std.specs.Ordering.{nat_cmp}
 use Rattle.std.specs.Str.{bytes_eq}
+use Rattle.std.proofs.Math.Bool.{or-false}
 use Rattle.std.proofs.lemmas.Bool.{and_parts}
-use Rattle.std.proofs.lemmas.List.Concat.{flat_map-cons}
-use Rattle.std.proofs.lemmas.List.Elements.{filter-append}
 use Rattle.std.proofs.lemmas.List.Folds.{list_any-append}
+use Rattle.std.proofs.lemmas.List.Sums.{fold-append}
 use Rattle.std.proofs.lemmas.Map.Text.{is_eq-slice_cmp}
-use Rattle.dconf_model.specs.Changes.{Values}
-use Rattle.dconf_model.specs.Databases.{gathered}
-use Rattle.dconf_model.specs.Layers.{parts_below}
 use Rattle.dconf_model.specs.Locks.{is_below}
-use Rattle.dconf_model.specs.Paths.{is_key_path}
 use Rattle.dconf_model.proofs.ParentLaws.{by_bool}
 use Rattle.dconf_model.proofs.PathMaps.{key_in, no_truth}
 use Rattle.dconf_model.proofs.SameBytes.{same_path}
 use Rattle.gvdb_write.proofs.KeysRise.{from_true}
 use Rattle.dconf_engine.specs.declared.layer.Layer.{Layer}
-use Rattle.dconf_engine.specs.KeyNames.{items_of, key_name, key_names}
+use Rattle.dconf_engine.specs.Entries.{layer_paths}
 use Rattle.dconf_engine.specs.LayerSettings.{settings_of}
-use Rattle.dconf_engine.specs.LeftPaths.{base_paths, has_reset_below, is_left, is_reset_below, left_of, left_parts, path_if_set, set_paths}
-use Rattle.dconf_engine.specs.TextSets.{TextSet, is_in, Adds}
+use Rattle.dconf_engine.specs.LeftPaths.{base_paths, has_reset_below, is_reset_below, unchanged_of, with_set_child, with_set_children}
+use Rattle.dconf_engine.specs.TextSets.{TextSet, with_child, with_children}
 use Rattle.dconf_engine.specs.Unsaved.{Unsaved, with_changes}
-use Rattle.dconf_engine.proofs.KeyNameLaws.{each_is_named}
-use Rattle.dconf_engine.proofs.PathTests.{any_passing, parts_alike}
+use Rattle.dconf_engine.proofs.EntryLaws.{has_path}
+use Rattle.dconf_engine.proofs.PathTests.{any_passing}
 use Rattle.dconf_engine.proofs.SavedLaws.{find_below}
-use Rattle.dconf_engine.proofs.TextSetLaws.{adds_alike, adds_more, adds_nothing, one_turn, parts_append}
+use Rattle.dconf_engine.proofs.TextSetLaws.{children_alike}
 use Rattle.dconf_engine.proofs.UnsavedLaws.{get_changed}
-use Rattle.std.proofs.Math.Bool.{or-false}
 
 abbrev pub Entries : Type 0
 Entries = List (List ℕ × Option (List ℕ))
@@ -42,6 +38,13 @@ found : List ℕ → Entries → Option (Option (List ℕ))
 found q es = find (slice_cmp nat_cmp) q es
 
 -- ---- what was set
+
+abbrev path_if_set : List ℕ → Option (List ℕ) → List (List ℕ)
+path_if_set path (Some bytes) = path ∷ []
+path_if_set path None = []
+
+abbrev set_paths : Entries → List (List ℕ)
+set_paths changes = flat_map (λ c. path_if_set c.0 c.1) changes
 
 abbrev is_set : Option (Option (List ℕ)) → Bool
 is_set (Some (Some bytes)) = true
@@ -108,16 +111,11 @@ not_reset d q c none below e = was_reset d q (entries c) none below (sym (fin.ge
 
 -- ---- both
 
-unchanged_or_set : (g : Option (Option (List ℕ))) (o : Option (List ℕ)) (listed : Bool) → ((bytes : List ℕ) → o ≡ Some bytes → listed ≡ true) →
-    (listed && (not (is_some g) && is_some o) || is_set g) ≡ is_some (unwrap_or g o)
-unchanged_or_set (Some (Some bytes)) o true each = refl
-unchanged_or_set (Some (Some bytes)) o false each = refl
-unchanged_or_set (Some None) o true each = refl
-unchanged_or_set (Some None) o false each = refl
-unchanged_or_set None None true each = refl
-unchanged_or_set None None false each = refl
-unchanged_or_set None (Some bytes) true each = refl
-unchanged_or_set None (Some bytes) false each = absurd (no_truth (each bytes refl))
+unchanged_or_set : (g : Option (Option (List ℕ))) (o : Option (List ℕ)) → (not (is_some g) && is_some o || is_set g) ≡ is_some (unwrap_or g o)
+unchanged_or_set (Some (Some bytes)) o = refl
+unchanged_or_set (Some None) o = refl
+unchanged_or_set None None = refl
+unchanged_or_set None (Some bytes) = refl
 
 there_or_set : (g : Option (Option (List ℕ))) (o : Option (List ℕ)) → (g ≡ Some None → ⊥) → (is_some o || is_set g) ≡ is_some (unwrap_or g o)
 there_or_set (Some (Some bytes)) None other = refl
@@ -131,78 +129,43 @@ base_or_set : (d : List ℕ) (c : Unsaved) (layer : Layer) (p : List ℕ) → is
     (list_any (bytes_eq p) (base_paths d c layer) || is_set (get c p)) ≡ is_some (unwrap_or (get c p) (get (settings_of layer).values p))
 base_or_set d c layer p below =
     let base = (settings_of layer).values in
-    let names = key_names layer (items_of layer) in
+    let paths = layer_paths layer in
     by_bool (has_reset_below d c) ((list_any (bytes_eq p) (base_paths d c layer) || is_set (get c p)) ≡ is_some (unwrap_or (get c p) (get base p)))
     (λ yes.
-    ap (λ b. list_any (bytes_eq p) (cond b (left_of base c names) (keys base)) || is_set (get c p)) yes
-    ∙ (ap (λ b. b || is_set (get c p)) (any_passing p (is_left base c) names)
-    ∙ unchanged_or_set (get c p) (get base p) (list_any (bytes_eq p) names) (λ bytes e. each_is_named layer p bytes e)))
+    ap (λ b. list_any (bytes_eq p) (cond b (unchanged_of c paths) (keys base)) || is_set (get c p)) yes
+    ∙ (ap (λ b. b || is_set (get c p)) (any_passing p (λ path. not (contains_key c path)) paths ∙ ap (λ b. not (contains_key c p) && b) (has_path layer p))
+    ∙ unchanged_or_set (get c p) (get base p)))
     (λ none.
-    ap (λ b. list_any (bytes_eq p) (cond b (left_of base c names) (keys base)) || is_set (get c p)) none
+    ap (λ b. list_any (bytes_eq p) (cond b (unchanged_of c paths) (keys base)) || is_set (get c p)) none
     ∙ (ap (λ b. b || is_set (get c p)) (sym (key_in base p))
     ∙ there_or_set (get c p) (get base p) (not_reset d p c none below)))
 
-left_there : (d : List ℕ) (c : Unsaved) (item : Layer) (p : List ℕ) → is_below p d ≡ true →
-    list_any (bytes_eq p) (base_paths d c item ++ set_paths (entries c)) ≡ list_any (bytes_eq p) (keys (with_changes c (settings_of item).values))
-left_there d c item p below =
-    let base = (settings_of item).values in
-    list_any-append (bytes_eq p) (base_paths d c item) (set_paths (entries c))
-    ∙ (ap (λ b. list_any (bytes_eq p) (base_paths d c item) || b) (set_there c p)
-    ∙ (base_or_set d c item p below
+left_there : (d : List ℕ) (c : Unsaved) (layer : Layer) (p : List ℕ) → is_below p d ≡ true →
+    list_any (bytes_eq p) (base_paths d c layer ++ set_paths (entries c)) ≡ list_any (bytes_eq p) (keys (with_changes c (settings_of layer).values))
+left_there d c layer p below =
+    let base = (settings_of layer).values in
+    list_any-append (bytes_eq p) (base_paths d c layer) (set_paths (entries c))
+    ∙ (ap (λ b. list_any (bytes_eq p) (base_paths d c layer) || b) (set_there c p)
+    ∙ (base_or_set d c layer p below
     ∙ (ap is_some (sym (get_changed c base p)) ∙ key_in (with_changes c base) p)))
 
+set_children_are : (d : List ℕ) (cs : Entries) (s : TextSet) → with_set_children d cs s ≡ with_children d (set_paths cs) s
+set_children_are d [] s = refl
+set_children_are d (c ∷ cs) s = go c.1 (set_children_are d cs)
+  where
+    go : (o : Option (List ℕ)) → ((s : TextSet) → with_set_children d cs s ≡ with_children d (set_paths cs) s) →
+        with_set_children d cs (with_set_child d s c.0 o) ≡ with_children d (path_if_set c.0 o ++ set_paths cs) s
+    go (Some bytes) later = later (with_child d s c.0)
+    go None later = later s
+
 -- a set that takes both takes what the directory has
-pub with_changes_added : (d : List ℕ) (c : Unsaved) (item : Layer) (a b e : TextSet) → Adds (parts_below d (base_paths d c item)) a b → Adds (parts_below d (set_paths (entries c))) b e →
-    Adds (parts_below d (keys (with_changes c (settings_of item).values))) a e
-with_changes_added d c item a b e first second =
-    let ps = base_paths d c item in
+pub both_taken : (d : List ℕ) (c : Unsaved) (layer : Layer) (s : TextSet) →
+    with_set_children d (entries c) (with_children d (base_paths d c layer) s) ≡ with_children d (keys (with_changes c (settings_of layer).values)) s
+both_taken d c layer s =
+    let ps = base_paths d c layer in
     let qs = set_paths (entries c) in
-    let all = keys (with_changes c (settings_of item).values) in
-    adds_alike (parts_below d ps ++ parts_below d qs) (parts_below d all) a e
-    (λ t. ap (λ (l : List (List ℕ)). list_any (bytes_eq t) l) (sym (parts_append d ps qs)) ∙ parts_alike d (ps ++ qs) all (λ p below. left_there d c item p below) t)
-    (adds_more (parts_below d ps) (parts_below d qs) a b e first second)
-
--- ---- in turns
-
-pub base_if_reset : (d : List ℕ) (c : Unsaved) (layer : Layer) → has_reset_below d c ≡ true → left_of (settings_of layer).values c (key_names layer (items_of layer)) ≡ base_paths d c layer
-base_if_reset d c layer reset = sym (ap (λ b. cond b (left_of (settings_of layer).values c (key_names layer (items_of layer))) (keys (settings_of layer).values)) reset)
-
-pub base_if_none : (d : List ℕ) (c : Unsaved) (layer : Layer) → has_reset_below d c ≡ false → keys (settings_of layer).values ≡ base_paths d c layer
-base_if_none d c layer none = sym (ap (λ b. cond b (left_of (settings_of layer).values c (key_names layer (items_of layer))) (keys (settings_of layer).values)) none)
-
--- of what is gathered from items
-pub left_more : (d : List ℕ) (values : Values) (c : Unsaved) (g : ℕ → List (List ℕ)) (n : ℕ) (x y z : TextSet) → Adds (left_parts d values c (gathered g n)) x y → Adds (left_parts d values c (g n)) y z →
-    Adds (left_parts d values c (gathered g (n + 1))) x z
-left_more d values c g n x y z first second =
-    let more : suc n ≡ n + 1 = omega arith in
-    let apart : left_parts d values c (gathered g n ++ g n) ≡ left_parts d values c (gathered g n) ++ left_parts d values c (g n) =
-    ap (parts_below d) (filter-append (is_left values c) (gathered g n) (g n)) ∙ parts_append d (left_of values c (gathered g n)) (left_of values c (g n)) in
-    subst (λ (m : ℕ). Adds (left_parts d values c (gathered g m)) x z) more
-    (subst (λ (l : List (List ℕ)). Adds l x z) (sym apart) (adds_more (left_parts d values c (gathered g n)) (left_parts d values c (g n)) x y z first second))
-
--- one path
-pub key_left : (values : Values) (c : Unsaved) (p : List ℕ) → (is_key_path p && is_left values c p) ≡ true → p ∷ [] ≡ left_of values c (key_name (Some p))
-key_left values c p e =
-    let parts = and_parts (is_key_path p) (is_left values c p) e in
-    sym (ap (λ b. left_of values c (cond b (p ∷ []) [])) parts.0 ∙ ap (λ b. cond b (p ∷ []) []) parts.1)
-
-no_key_left : (values : Values) (c : Unsaved) (p : List ℕ) → (is_key_path p && is_left values c p) ≡ false → [] ≡ left_of values c (key_name (Some p))
-no_key_left values c p e =
-    by_bool (is_key_path p) ([] ≡ left_of values c (key_name (Some p)))
-    (λ yes. let none : is_left values c p ≡ false = sym (ap (λ b. b && is_left values c p) yes) ∙ e in
-    sym (ap (λ b. left_of values c (cond b (p ∷ []) [])) yes ∙ ap (λ b. cond b (p ∷ []) []) none))
-    (λ other. sym (ap (λ b. left_of values c (cond b (p ∷ []) [])) other))
-
-pub none_left_added : (d : List ℕ) (values : Values) (c : Unsaved) (p : List ℕ) (a : TextSet) → (is_key_path p && is_left values c p) ≡ false → Adds (left_parts d values c (key_name (Some p))) a a
-none_left_added d values c p a e = subst (λ (l : List (List ℕ)). Adds (parts_below d l) a a) (no_key_left values c p e) (adds_nothing a)
-
--- one change
-pub set_turn : (d : List ℕ) (before after : Entries) (x : List ℕ × Option (List ℕ)) (a b : TextSet) (t : List ℕ) → before ≡ x ∷ after → Adds (parts_below d (path_if_set x.0 x.1)) a b →
-    is_in (parts_below d (set_paths after)) b t ≡ is_in (parts_below d (set_paths before)) a t
-set_turn d before after x a b t e h =
-    one_turn (parts_below d (set_paths before)) (parts_below d (path_if_set x.0 x.1)) (parts_below d (set_paths after)) a b t
-    (ap (λ (es : Entries). parts_below d (set_paths es)) e
-    ∙ (ap (parts_below d) (flat_map-cons (λ (c : List ℕ × Option (List ℕ)). path_if_set c.0 c.1) x after) ∙ parts_append d (path_if_set x.0 x.1) (set_paths after))) h
+    set_children_are d (entries c) (with_children d ps s) ∙ (sym (fold-append (with_child d) s ps qs)
+    ∙ children_alike d (ps ++ qs) (keys (with_changes c (settings_of layer).values)) s (left_there d c layer))
 
 -- a change that resets a path below the directory is found among all
 pub reset_found : (d : List ℕ) (before after all : Entries) (x : List ℕ × Option (List ℕ)) → before ≡ x ∷ after → is_reset_below d x.0 x.1 ≡ true →

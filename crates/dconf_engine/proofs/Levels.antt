@@ -4,16 +4,12 @@ use Rattle.std.proofs.lemmas.List.{get_or-map, drop_more, drop_all, length-map}
 use Rattle.std.specs.Cmp.Lexicographic.{slice_cmp}
 use Rattle.std.specs.Ordering.{nat_cmp}
 use Rattle.std.specs.FinMap.{get, get-empty}
-use Rattle.dconf_model.specs.Layers.{greatest_from, later_or, locks_path, first_from, place_or, place_of, emptied, without_user}
+use Rattle.dconf_model.specs.Layers.{Layers, greatest_from, later_or, level, locks_path, first_from, place_or, place_of, emptied, without_user}
 use Rattle.dconf_model.specs.Settings.{Settings, no_settings}
 use Rattle.dconf_engine.specs.declared.layer.Layer.{Layer}
 use Rattle.dconf_engine.specs.LayerSettings.{settings_of}
 
 -- ---- one layer
-
-pub layer_at : (items : List Layer) (i : ℕ) (item : Layer) → i < length items → item ≡ get_or items i item →
-    get_or (map settings_of items) i no_settings ≡ settings_of item
-layer_at items i item within is = get_or-map settings_of items i item no_settings within ∙ ap settings_of (sym is)
 
 pub layer_lent : (items : List Layer) (i : ℕ) (item : Layer) → i < length (map settings_of items) → settings_of (get_or items i item) ≡ get_or (map settings_of items) i no_settings
 layer_lent items i item within = let n = length-map items settings_of in sym (get_or-map settings_of items i item no_settings (omega (arith, n, within)))
@@ -78,32 +74,17 @@ place_later xs ys zero path some e = absurd (omega (arith, some))
 place_later xs ys (suc n) path some e =
     ap (λ (ss : List Settings). first_from (suc n) ss path) (drop_later xs n ∙ (ap (drop n) e ∙ sym (drop_later ys n)))
 
-pub place_nowhere : (xs : List Settings) (path : List ℕ) → length xs ≡ 0 → None ≡ first_from 0 xs path
-place_nowhere [] path none = refl
-place_nowhere (s ∷ xs) path none = absurd (omega (arith, none))
-
-pub first_has : (xs : List Settings) (path bytes : List ℕ) → 0 < length xs → Some bytes ≡ get (get_or xs 0 no_settings).values path → Some (0, bytes) ≡ first_from 0 xs path
-first_has [] path bytes some e = absurd (omega (arith, some))
-first_has (s ∷ xs) path bytes some e = ap (λ o. place_or 0 o (first_from 1 xs path)) e
-
-pub first_has_not : (xs : List Settings) (path : List ℕ) → 0 < length xs → None ≡ get (get_or xs 0 no_settings).values path → first_from 1 (drop 1 xs) path ≡ first_from 0 xs path
-first_has_not [] path some e = absurd (omega (arith, some))
-first_has_not (s ∷ xs) path some e = ap (λ o. place_or 0 o (first_from 1 xs path)) e
-
 -- ---- without the user's values
-
--- above the first layer nothing is other
-default_above : (s : Settings) (more : List Settings) (n : ℕ) (path : List ℕ) → first_from (suc n) (drop (suc n) (emptied (s ∷ more))) path ≡ first_from (suc n) (drop (suc n) (s ∷ more)) path
-default_above s more n path = refl
 
 default_first : (s : Settings) (more : List Settings) (path : List ℕ) → first_from 0 (emptied (s ∷ more)) path ≡ first_from 1 more path
 default_first s more path = ap (λ o. place_or 0 o (first_from 1 more path)) (get-empty (slice_cmp nat_cmp) path)
 
-pub default_low : (xs : List Settings) (path : List ℕ) (n : ℕ) → n ≡ 0 → greatest_from 1 (locks_path path) (drop 1 xs) ≡ n →
-    place_of (without_user (record { layers = xs; writable = true })) path ≡ first_from 1 (drop 1 xs) path
-default_low [] path n zero_ e = refl
-default_low (s ∷ more) path n zero_ e =
-    ap (λ k. first_from k (drop k (emptied (s ∷ more))) path) (e ∙ zero_) ∙ default_first s more path
+pub default_low : (l : Layers) (path : List ℕ) (n : ℕ) → l.writable ≡ true → n ≡ 0 → n ≡ level l path → first_from 1 (drop 1 l.layers) path ≡ place_of (without_user l) path
+default_low l path n writable low is = go l.layers (sym is ∙ low) ∙ sym (ap (λ b. place_of (cond b (record { layers = emptied l.layers; writable = true }) l) path) writable)
+  where
+    go : (xs : List Settings) → greatest_from 1 (locks_path path) (drop 1 xs) ≡ 0 → first_from 1 (drop 1 xs) path ≡ place_of (record { layers = emptied xs; writable = true }) path
+    go [] e = refl
+    go (s ∷ more) e = sym (ap (λ k. first_from k (drop k (emptied (s ∷ more))) path) e ∙ default_first s more path)
 
 pub default_high : (xs : List Settings) (path : List ℕ) (n : ℕ) → 0 < n → greatest_from 1 (locks_path path) (drop 1 xs) ≡ n →
     place_of (without_user (record { layers = xs; writable = true })) path ≡ first_from n (drop n xs) path

@@ -74,8 +74,8 @@ listed values locks d names part o h =
     let law = lists_first_parts t d i part o.sound row in
     same_bool (list_any (bytes_eq part) (filter is_utf8 names)) (list_any (bytes_eq part) (parts_below d (paths_at t)))
     (λ e.
-    let both = and_parts (list_any (bytes_eq part) names) (is_utf8 part) (sym (any_passing part is_utf8 names) ∙ e) in
-    find_text part (parts_below d (paths_at t)) (part_in values locks d part o (law.0 (subst (λ (l : List (List ℕ)). Contains l part) h.2 (found_text part names both.0)))))
+    let both = and_parts (is_utf8 part) (list_any (bytes_eq part) names) (sym (any_passing part is_utf8 names) ∙ e) in
+    find_text part (parts_below d (paths_at t)) (part_in values locks d part o (law.0 (subst (λ (l : List (List ℕ)). Contains l part) h.2 (found_text part names both.1)))))
     (λ e.
     let there : Contains (keys_in_list t i) part = law.1 (part_of values locks d part o (found_text part (parts_below d (paths_at t)) e)) in
     let text : is_utf8 part ≡ true = is_utf8-from_IsUtf8 part (lists_texts t d i part o.sound row there) in

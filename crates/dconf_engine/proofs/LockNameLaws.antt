@@ -28,11 +28,9 @@ use Rattle.dconf_engine.specs.declared.layer.Layer.{Layer}
 use Rattle.dconf_engine.specs.LayerSettings.{locks_of, settings_of}
 use Rattle.dconf_engine.specs.LockNames.{lock_name, lock_count, lock_name_at, lock_names, locks_under}
 use Rattle.dconf_engine.specs.SoundTables.{AreOfSoundDatabase}
-use Rattle.dconf_engine.specs.TextSets.{TextSet, Adds}
-use Rattle.dconf_engine.proofs.KeyNameLaws.{any_gathered, name_utf8, short_path}
-use Rattle.dconf_engine.proofs.PathTests.{any_of_gathered, any_passing}
+use Rattle.dconf_engine.proofs.EntryLaws.{name_utf8, short_path}
+use Rattle.dconf_engine.proofs.PathTests.{any_gathered, any_of_gathered}
 use Rattle.dconf_engine.proofs.SoundLayers.{item_of_lock, locks_at, none_is_named, said_of, settings_at}
-use Rattle.dconf_engine.proofs.TextSetLaws.{adds_alike, adds_nothing}
 
 -- ---- what the name of an item is found to be
 
@@ -96,27 +94,3 @@ locks_named values (Some locks) p o =
 
 pub locks_of_layer : (layer : Layer) (p : List ℕ) → list_any (bytes_eq p) (lock_names (locks_of layer) (lock_count (locks_of layer))) ≡ list_any (bytes_eq p) (keys (settings_of layer).locks)
 locks_of_layer layer p = ∥∥₁_elim layer.sound (Bool-set _ _) (λ o. locks_named layer.values (locks_of layer) p o)
-
--- ---- below a directory
-
-pub lock_under : (d p : List ℕ) → (is_path p && is_below p d) ≡ true → p ∷ [] ≡ locks_under d (lock_name (Some p))
-lock_under d p e = let parts = and_parts (is_path p) (is_below p d) e in rw (parts.0, parts.1) refl
-
-none_under : (d p : List ℕ) → (is_path p && is_below p d) ≡ false → [] ≡ locks_under d (lock_name (Some p))
-none_under d p e =
-    by_bool (is_path p) ([] ≡ locks_under d (lock_name (Some p)))
-    (λ yes. let none : is_below p d ≡ false = sym (ap (λ a. a && is_below p d) yes) ∙ e in rw (yes, none) refl)
-    (λ other. rw other refl)
-
-pub no_lock_added : (d p : List ℕ) (a : TextSet) → (is_path p && is_below p d) ≡ false → Adds (locks_under d (lock_name (Some p))) a a
-no_lock_added d p a e = subst (λ (l : List (List ℕ)). Adds l a a) (none_under d p e) (adds_nothing a)
-
-under_alike : (d : List ℕ) (xs ys : List (List ℕ)) → ((p : List ℕ) → list_any (bytes_eq p) xs ≡ list_any (bytes_eq p) ys) → (t : List ℕ) →
-    list_any (bytes_eq t) (locks_under d xs) ≡ list_any (bytes_eq t) (locks_under d ys)
-under_alike d xs ys same t =
-    any_passing t (λ lock. is_below lock d) xs ∙ (ap (λ b. b && is_below t d) (same t) ∙ sym (any_passing t (λ lock. is_below lock d) ys))
-
-pub layer_locks_added : (d : List ℕ) (layer : Layer) (a b : TextSet) → Adds (locks_under d (lock_names (locks_of layer) (lock_count (locks_of layer)))) a b → Adds (locks_under d (keys (settings_of layer).locks)) a b
-layer_locks_added d layer a b h =
-    adds_alike (locks_under d (lock_names (locks_of layer) (lock_count (locks_of layer)))) (locks_under d (keys (settings_of layer).locks)) a b
-    (under_alike d (lock_names (locks_of layer) (lock_count (locks_of layer))) (keys (settings_of layer).locks) (locks_of_layer layer)) h

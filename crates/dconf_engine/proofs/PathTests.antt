@@ -1,51 +1,24 @@
 -- Whether a path is among others: among those that pass a test, that are gathered, or below a directory.
 use Rattle.std.specs.Prelude.{Contains, filter}
-use Rattle.std.proofs.Common.{◌≡◌, ◌<◌, ℕ, zero, suc, Bool, true, false, cond, List, [], ◌∷◌, ◌++◌, ◌||◌, ◌&&◌, refl, sym, ap, ◌∙◌, subst, arith, inl, inr}
+use Rattle.std.proofs.Common.{◌≡◌, ◌<◌, ◌≤◌, ℕ, zero, suc, Bool, true, List, ◌++◌, ◌&&◌, sym, ap, ◌∙◌, subst, arith, inl, inr}
 use Rattle.std.specs.List.{list_any}
 use Rattle.std.specs.Str.{bytes_eq}
-use Rattle.std.proofs.lemmas.Bool.{or_cases}
+use Rattle.std.proofs.Math.Logic.{⊎_elim}
+use Rattle.std.proofs.lemmas.Bool.{cases_lt, or_cases, or_left, or_right}
 use Rattle.std.proofs.lemmas.List.Folds.{list_any-append}
+use Rattle.std.proofs.lemmas.Map.Views.{any-filter_same}
 use Rattle.dconf_model.specs.Databases.{gathered}
 use Rattle.dconf_model.specs.Layers.{parts_below}
 use Rattle.dconf_model.specs.Locks.{is_below}
 use Rattle.dconf_model.proofs.Listings.{path_of_part, part_of_path, below_itself}
-use Rattle.dconf_model.proofs.ParentLaws.{by_bool}
 use Rattle.dconf_model.proofs.PathMaps.{same_bool, no_truth}
 use Rattle.dconf_model.proofs.SameBytes.{same_path}
 use Rattle.dconf_model.proofs.ListingOrder.{find_text, found_text}
 
 -- ---- those that pass a test
 
-pub joined_if : (a b k : Bool) → (a && k || b && k) ≡ ((a || b) && k)
-joined_if true b true = refl
-joined_if true true false = refl
-joined_if true false false = refl
-joined_if false b k = refl
-
-and_true : (a b : Bool) → (a || b) ≡ (a && true || b)
-and_true true b = refl
-and_true false b = refl
-
-and_false : (a b : Bool) → b ≡ (a && false || b)
-and_false true b = refl
-and_false false b = refl
-
-pub any_passing : (t : List ℕ) (f : List ℕ → Bool) (ts : List (List ℕ)) → list_any (bytes_eq t) (filter f ts) ≡ (list_any (bytes_eq t) ts && f t)
-any_passing t f [] = refl
-any_passing t f (u ∷ ts) =
-    with_if (f u)
-    ∙ (ap (λ c. bytes_eq t u && f u || c) (any_passing t f ts)
-    ∙ (ap (λ c. c || list_any (bytes_eq t) ts && f t) same_test
-    ∙ joined_if (bytes_eq t u) (list_any (bytes_eq t) ts) (f t)))
-  where
-    with_if : (b : Bool) → list_any (bytes_eq t) (cond b (u ∷ filter f ts) (filter f ts)) ≡ (bytes_eq t u && b || list_any (bytes_eq t) (filter f ts))
-    with_if true = and_true (bytes_eq t u) (list_any (bytes_eq t) (filter f ts))
-    with_if false = and_false (bytes_eq t u) (list_any (bytes_eq t) (filter f ts))
-
-    same_test : (bytes_eq t u && f u) ≡ (bytes_eq t u && f t)
-    same_test = by_bool (bytes_eq t u) ((bytes_eq t u && f u) ≡ (bytes_eq t u && f t))
-        (λ same. ap (λ (p : List ℕ). bytes_eq t u && f p) (sym (same_path t u same)))
-        (λ other. rw other refl)
+pub any_passing : (t : List ℕ) (f : List ℕ → Bool) (ts : List (List ℕ)) → list_any (bytes_eq t) (filter f ts) ≡ (f t && list_any (bytes_eq t) ts)
+any_passing t f ts = any-filter_same (bytes_eq t) f (f t) (λ u same. ap f (sym (same_path t u same))) ts
 
 -- ---- those that are gathered
 
@@ -56,6 +29,16 @@ any_of_gathered t f (suc n) e =
       | inl earlier ↦ (let h = any_of_gathered t f n earlier in (h.0, omega (arith, h.1), h.2))
       | inr last ↦ (n, omega arith, last)
     ]
+
+pub any_gathered : (t : List ℕ) (f : ℕ → List (List ℕ)) (i n : ℕ) → i < n → list_any (bytes_eq t) (f i) ≡ true → list_any (bytes_eq t) (gathered f n) ≡ true
+any_gathered t f i zero within e = absurd (omega (arith, within))
+any_gathered t f i (suc n) within e =
+    let before = list_any (bytes_eq t) (gathered f n) in
+    let last = list_any (bytes_eq t) (f n) in
+    list_any-append (bytes_eq t) (gathered f n) (f n) ∙ ⊎_elim
+    (λ (l : i < n). or_left before last (any_gathered t f i n l e))
+    (λ (m : n ≤ i). let same : i ≡ n = omega (arith, within, m) in or_right before last (subst (λ (k : ℕ). list_any (bytes_eq t) (f k) ≡ true) same e))
+    (cases_lt i n)
 
 -- ---- below a directory
 

@@ -1,118 +1,106 @@
 -- Texts that are gathered, and the same in order, once each.
-use Rattle.std.specs.Prelude.{IfOk, IsUtf8, filter, map, string_bytes}
-use Rattle.std.proofs.Common.{◌≡◌, ◌||◌, ◌++◌, ℕ, Bool, true, false, cond, List, [], ◌∷◌, ◌+◌, suc, length, drop, refl, sym, ap, ◌∙◌, arith, subst, Result, Vec}
-use Rattle.std.specs.BTreeMap.{is_at}
-use Rattle.std.specs.BTreeSet.{BTreeSet}
+use Rattle.std.specs.Prelude.{Contains, IsUtf8, filter, map, string_bytes}
+use Rattle.std.proofs.Common.{◌≡◌, ◌||◌, ◌&&◌, ◌++◌, ℕ, Bool, true, false, cond, List, [], ◌∷◌, Option, Some, None, is_some, drop, length, refl, sym, ap, ◌∙◌, subst, inl, inr}
 use Rattle.std.specs.Cmp.Lexicographic.{slice_cmp}
-use Rattle.std.specs.List.{list_any}
-use Rattle.std.specs.List.{dedup, dedup_from}
-use Rattle.std.specs.List.Sorted.{IsSorted, IsStable, IsStrictlySortedBy}
-use Rattle.std.specs.Ordering.{nat_cmp}
+use Rattle.std.specs.FinMap as fin
+use Rattle.std.specs.FinMap.{get, insert, keys, entries, empty}
+use Rattle.std.specs.FinMap.Entries.{is_sorted, below_all}
+use Rattle.std.specs.List.{dedup, dedup_from, fold, list_any}
+use Rattle.std.specs.List.Sorted.{IsSorted, IsStable}
+use Rattle.std.specs.Ordering.{nat_cmp, is_lt}
 use Rattle.std.specs.Str.{bytes_eq, is_utf8}
 use Rattle.std.specs.String.{string_cmp}
 use Rattle.std.specs.declared.alloc.Global.{Global}
 use Rattle.std.specs.declared.string.String.{String}
-use Rattle.std.proofs.lemmas.Bool.{false_from_ne_true}
-use Rattle.std.proofs.lemmas.Cmp.{nat_list_cmp_total}
-use Rattle.std.proofs.lemmas.List.Elements.{filter-append}
-use Rattle.std.proofs.lemmas.List.Folds.{list_any-append}
-use Rattle.std.proofs.lemmas.List.Kept.{IsStrictlySortedBy-dedup}
-use Rattle.std.proofs.lemmas.Map.Lookups.{btree_set_from_contains, exact_bytes}
-use Rattle.std.proofs.lemmas.Map.Text.{is_eq-slice_cmp}
+use Rattle.std.proofs.lemmas.Bool.{and_parts}
 use Rattle.std.proofs.lemmas.List.{map-append}
-use Rattle.std.proofs.lemmas.Result.{IfOk-weaker}
-use Rattle.std.proofs.lemmas.Str.{is_utf8-from_IsUtf8, IsUtf8-from_is_utf8}
-use Rattle.dconf_model.specs.Databases.{gathered}
+use Rattle.std.proofs.lemmas.List.Sums.{fold-append}
 use Rattle.dconf_model.specs.Layers.{parts_below}
 use Rattle.dconf_model.specs.Locks.{is_below}
 use Rattle.dconf_model.specs.Order.{in_order, listing}
 use Rattle.dconf_model.specs.Paths.{first_part}
-use Rattle.dconf_model.proofs.ListingOrder.{listing_is_once_each}
+use Rattle.dconf_model.specs.Settings.{AtPaths}
+use Rattle.dconf_model.proofs.DatabaseLaws.{at_paths}
+use Rattle.dconf_model.proofs.ListingOrder.{find_text, found_text}
+use Rattle.dconf_model.proofs.Listings.{first_or_later, listing_from, listing_has, none_of_none}
 use Rattle.dconf_model.proofs.OneSortedList.{in_order-map, sorted_is_in_order}
-use Rattle.dconf_model.proofs.OrderLaws.{order_is_stable}
-use Rattle.dconf_model.proofs.PathMaps.{or_swap}
-use Rattle.dconf_engine.specs.TextSets.{TextSet, has_text, is_in, Adds}
+use Rattle.dconf_model.proofs.ParentLaws.{by_bool}
+use Rattle.dconf_model.proofs.PathMaps.{eq_turned, get_inserted, key_in}
+use Rattle.dconf_model.proofs.RisingTexts.{IsLess, Rises, less_of, listing_rises, one_rises}
+use Rattle.gvdb_write.proofs.KeysRise.{from_true}
+use Rattle.dconf_engine.specs.TextSets.{TextSet, text_set, with_child, with_children, with_text, with_texts}
+use Rattle.dconf_engine.proofs.PathTests.{any_passing, parts_alike}
 
--- ---- one text
+-- ---- one thing kept at each of these paths
 
-or_turned : (b c : Bool) → (b || c) ≡ (c || b)
-or_turned true true = refl
-or_turned true false = refl
-or_turned false true = refl
-or_turned false false = refl
+again : {X : Type 0} (b a : Bool) (x : X) (o : Option X) → cond a (Some x) (cond b (Some x) o) ≡ cond (b || a) (Some x) o
+again true true x o = refl
+again true false x o = refl
+again false a x o = refl
 
-pub added : (old new : TextSet) (key : String Global) (text : List ℕ) → string_bytes key ≡ text → new.items ≡ old.items ++ key ∷ [] → Adds (text ∷ []) old new
-added old new key text named pushed t =
-    ap (λ (ks : List (String Global)). list_any (bytes_eq t) (map string_bytes ks)) pushed
-    ∙ ap (list_any (bytes_eq t)) (map-append string_bytes old.items (key ∷ []))
-    ∙ list_any-append (bytes_eq t) (map string_bytes old.items) (string_bytes key ∷ [])
-    ∙ ap (λ (p : List ℕ). has_text old t || list_any (bytes_eq t) (p ∷ [])) named
-    ∙ or_turned (has_text old t) (list_any (bytes_eq t) (text ∷ []))
-
-pub adds_nothing : (set : TextSet) → Adds [] set set
-adds_nothing set t = refl
-
--- ---- more texts
-
--- what is left to add after some
-pub rest_after : (xs rest : List (List ℕ)) (a b : TextSet) (t : List ℕ) → Adds xs a b → is_in rest b t ≡ is_in (xs ++ rest) a t
-rest_after xs rest a b t h =
-    ap (λ c. list_any (bytes_eq t) rest || c) (h t) ∙ (or_swap (list_any (bytes_eq t) xs) (list_any (bytes_eq t) rest) (has_text a t)
-    ∙ ap (λ c. c || has_text a t) (sym (list_any-append (bytes_eq t) xs rest)))
-
-pub adds_more : (xs ys : List (List ℕ)) (a b c : TextSet) → Adds xs a b → Adds ys b c → Adds (xs ++ ys) a c
-adds_more xs ys a b c first second t = second t ∙ rest_after xs ys a b t first
+pub get_with_all : {X : Type 0} (x : X) (ps : List (List ℕ)) (m : AtPaths X) (q : List ℕ) → get (fold (λ m p. insert m p x) m ps) q ≡ cond (list_any (bytes_eq q) ps) (Some x) (get m q)
+get_with_all x [] m q = refl
+get_with_all x (p ∷ ps) m q =
+    get_with_all x ps (insert m p x) q
+    ∙ ap (cond (list_any (bytes_eq q) ps) (Some x)) (get_inserted m p x q ∙ ap (λ b. cond b (Some x) (get m q)) (eq_turned p q))
+    ∙ again (bytes_eq q p) (list_any (bytes_eq q) ps) x (get m q)
 
 -- other lists of the same texts
-pub adds_alike : (xs ys : List (List ℕ)) (a b : TextSet) → ((t : List ℕ) → list_any (bytes_eq t) xs ≡ list_any (bytes_eq t) ys) → Adds xs a b → Adds ys a b
-adds_alike xs ys a b same h t = h t ∙ ap (λ c. c || has_text a t) (same t)
+pub texts_alike : (xs ys : List (List ℕ)) (s : TextSet) → ((t : List ℕ) → list_any (bytes_eq t) xs ≡ list_any (bytes_eq t) ys) → with_texts xs s ≡ with_texts ys s
+texts_alike xs ys s same = at_paths (with_texts xs s) (with_texts ys s) (λ t.
+    get_with_all tt xs s t ∙ (ap (λ b. cond b (Some tt) (get s t)) (same t) ∙ sym (get_with_all tt ys s t)))
 
--- ---- in turns
+pub passing_alike : (f : List ℕ → Bool) (xs ys : List (List ℕ)) (s : TextSet) → ((t : List ℕ) → list_any (bytes_eq t) xs ≡ list_any (bytes_eq t) ys) →
+    with_texts (filter f xs) s ≡ with_texts (filter f ys) s
+passing_alike f xs ys s same = texts_alike (filter f xs) (filter f ys) s (λ t. any_passing t f xs ∙ (ap (λ b. f t && b) (same t) ∙ sym (any_passing t f ys)))
 
--- what is left to add before a turn and after it
-pub one_turn : (before one after : List (List ℕ)) (a b : TextSet) (t : List ℕ) → before ≡ one ++ after → Adds one a b → is_in after b t ≡ is_in before a t
-one_turn before one after a b t e h = rest_after one after a b t h ∙ ap (λ (l : List (List ℕ)). is_in l a t) (sym e)
-
--- nothing is left to add
-pub all_added : (rest whole : List (List ℕ)) (first last : TextSet) → rest ≡ [] → ((t : List ℕ) → is_in rest last t ≡ is_in whole first t) → Adds whole first last
-all_added rest whole first last none h t = sym (ap (λ (l : List (List ℕ)). is_in l last t) none) ∙ h t
-
--- those that pass a test, of what is gathered from items
-pub gathered_more : (f : List ℕ → Bool) (g : ℕ → List (List ℕ)) (n : ℕ) (a b c : TextSet) → Adds (filter f (gathered g n)) a b → Adds (filter f (g n)) b c → Adds (filter f (gathered g (n + 1))) a c
-gathered_more f g n a b c first second =
-    let more : suc n ≡ n + 1 = omega arith in
-    subst (λ (m : ℕ). Adds (filter f (gathered g m)) a c) more
-    (subst (λ (l : List (List ℕ)). Adds l a c) (sym (filter-append f (gathered g n) (g n)))
-    (adds_more (filter f (gathered g n)) (filter f (g n)) a b c first second))
+pub one_more : (texts : List (String Global)) (key : String Global) → text_set (texts ++ key ∷ []) ≡ with_text (text_set texts) (string_bytes key)
+one_more texts key =
+    ap (λ l. with_texts l empty) (map-append string_bytes texts (key ∷ [])) ∙ fold-append with_text empty (map string_bytes texts) (string_bytes key ∷ [])
 
 -- ---- below a directory
 
-pub parts_append : (d : List ℕ) (ps qs : List (List ℕ)) → parts_below d (ps ++ qs) ≡ parts_below d ps ++ parts_below d qs
-parts_append d [] qs = refl
-parts_append d (p ∷ ps) qs = go (is_below p d) (parts_append d ps qs)
+pub children_are : (d : List ℕ) (ps : List (List ℕ)) (s : TextSet) → with_children d ps s ≡ with_texts (parts_below d ps) s
+children_are d [] s = refl
+children_are d (p ∷ ps) s = children_are d ps (with_child d s p) ∙ go (is_below p d)
   where
-    go : (b : Bool) → parts_below d (ps ++ qs) ≡ parts_below d ps ++ parts_below d qs →
-        cond b (first_part (drop (length d) p) ∷ parts_below d (ps ++ qs)) (parts_below d (ps ++ qs)) ≡ cond b (first_part (drop (length d) p) ∷ parts_below d ps) (parts_below d ps) ++ parts_below d qs
-    go true later = ap (λ (l : List (List ℕ)). first_part (drop (length d) p) ∷ l) later
-    go false later = later
+    go : (b : Bool) → with_texts (parts_below d ps) (cond b (with_text s (first_part (drop (length d) p))) s)
+        ≡ with_texts (cond b (first_part (drop (length d) p) ∷ parts_below d ps) (parts_below d ps)) s
+    go true = refl
+    go false = refl
+
+-- lists of the same paths below the directory
+pub children_alike : (d : List ℕ) (ps qs : List (List ℕ)) (s : TextSet) → ((p : List ℕ) → is_below p d ≡ true → list_any (bytes_eq p) ps ≡ list_any (bytes_eq p) qs) →
+    with_children d ps s ≡ with_children d qs s
+children_alike d ps qs s same = children_are d ps s ∙ (texts_alike (parts_below d ps) (parts_below d qs) s (parts_alike d ps qs same) ∙ sym (children_are d qs s))
 
 -- ---- the set's texts in order
 
-at_text : (t : List ℕ) (xs : List (List ℕ)) → list_any (is_at (slice_cmp nat_cmp t)) xs ≡ list_any (bytes_eq t) xs
-at_text t [] = refl
-at_text t (x ∷ xs) = ap (λ b. b || list_any (is_at (slice_cmp nat_cmp t)) xs) (is_eq-slice_cmp t x) ∙ ap (λ b. bytes_eq t x || b) (at_text t xs)
+below : {X : Type 0} (p : List ℕ) (es : List (List ℕ × X)) → below_all (slice_cmp nat_cmp) p es ≡ true → (u : List ℕ) → Contains (map (λ e. e.0) es) u → IsLess p u
+below p [] h u there = absurd (none_of_none u there)
+below p (e ∷ es) h u there =
+    let both = and_parts (is_lt (slice_cmp nat_cmp p e.0)) (below_all (slice_cmp nat_cmp) p es) h in
+    elim (first_or_later e.0 (map (λ e. e.0) es) u there) [
+      | inl same ↦ subst (IsLess p) same (less_of _ both.0)
+      | inr later ↦ below p es both.1 u later
+    ]
 
-sorted_listing : (texts : List (List ℕ)) → IsStrictlySortedBy (slice_cmp nat_cmp) (listing texts)
-sorted_listing texts =
-    IsStrictlySortedBy-dedup nat_list_cmp_total (λ x y. sym (is_eq-slice_cmp x y)) (in_order (λ t. t) texts) ((order_is_stable (λ (t : List ℕ). t) texts).sorted)
+rise : {X : Type 0} (es : List (List ℕ × X)) → is_sorted (slice_cmp nat_cmp) es ≡ true → Rises (map (λ e. e.0) es)
+rise [] h = tt
+rise (e ∷ es) h = let both = and_parts (below_all (slice_cmp nat_cmp) e.0 es) (is_sorted (slice_cmp nat_cmp) es) h in (below e.0 es both.0, rise es both.1)
 
-listing_alike : (xs ys : List (List ℕ)) → ((t : List ℕ) → list_any (bytes_eq t) xs ≡ list_any (bytes_eq t) ys) → listing xs ≡ listing ys
-listing_alike xs ys same =
-    let one : BTreeSet (List ℕ) = record { keys = listing xs } in
-    let other : BTreeSet (List ℕ) = record { keys = listing ys } in
-    btree_set_from_contains nat_list_cmp_total one other (sorted_listing xs) (sorted_listing ys)
-    (λ t. at_text t (listing xs) ∙ ((listing_is_once_each xs).same t ∙ (same t ∙ (sym ((listing_is_once_each ys).same t) ∙ sym (at_text t (listing ys))))))
-    exact_bytes
+pub keys_are_listed : (texts : List (List ℕ)) → keys (with_texts texts empty) ≡ listing texts
+keys_are_listed texts =
+    let s = with_texts texts empty in
+    let has : (t : List ℕ) → list_any (bytes_eq t) (keys s) ≡ list_any (bytes_eq t) texts = (λ t.
+    sym (key_in s t) ∙ (ap is_some (get_with_all tt texts empty t ∙ ap (cond (list_any (bytes_eq t) texts) (Some tt)) (fin.get-empty (slice_cmp nat_cmp) t)) ∙ is_some_if tt (list_any (bytes_eq t) texts))) in
+    one_rises (keys s) (listing texts) (rise (entries s) (from_true _ (fin.entries_sorted s))) (listing_rises texts)
+    (λ t h. listing_has texts t (found_text t texts (sym (has t) ∙ find_text t (keys s) h)))
+    (λ t h. found_text t (keys s) (has t ∙ find_text t texts (listing_from texts t h)))
+  where
+    is_some_if : {X : Type 0} (x : X) (b : Bool) → is_some (cond b (Some x) None) ≡ b
+    is_some_if x true = refl
+    is_some_if x false = refl
 
 abbrev same_text : String Global → String Global → Bool
 same_text x y = bytes_eq (string_bytes x) (string_bytes y)
@@ -133,37 +121,8 @@ deduped (k ∷ ks) = deduped_from k ks
 
 -- sorted, and without what comes again
 pub listed : (texts sorted kept : List (String Global)) → IsSorted string_cmp sorted → IsStable string_cmp texts sorted → kept ≡ dedup same_text sorted →
-    map string_bytes kept ≡ listing (map string_bytes texts)
+    map string_bytes kept ≡ keys (text_set texts)
 listed texts sorted kept up keeps is =
     ap (map string_bytes) is ∙ (deduped sorted
     ∙ ap (dedup bytes_eq) (ap (map string_bytes) (sorted_is_in_order string_bytes texts sorted up keeps) ∙ in_order-map string_bytes (λ t. t) texts))
-
--- texts that were gathered where there were none
-pub listing_given : {E : Type 0} (none all : TextSet) (texts : List (List ℕ)) (r : Result (Vec (String Global) Global) E) → none.items ≡ [] → Adds texts none all →
-    IfOk r (λ v. map string_bytes v.items ≡ listing (map string_bytes all.items)) → IfOk r (λ v. map string_bytes v.items ≡ listing texts)
-listing_given none all texts r empty adds given = IfOk-weaker r _ _ (λ v e. e ∙ listing_alike (map string_bytes all.items) texts same) given
-  where
-    or_none : (b : Bool) → (b || false) ≡ b
-    or_none true = refl
-    or_none false = refl
-
-    same : (t : List ℕ) → list_any (bytes_eq t) (map string_bytes all.items) ≡ list_any (bytes_eq t) texts
-    same t = adds t ∙ (ap (λ (ks : List (String Global)). list_any (bytes_eq t) texts || list_any (bytes_eq t) (map string_bytes ks)) empty ∙ or_none (list_any (bytes_eq t) texts))
-
--- ---- texts among keys
-
-pub text_kept : (key name : List ℕ) → name ≡ key → IsUtf8 key → name ∷ [] ≡ filter is_utf8 (key ∷ [])
-text_kept key name same utf8 =
-    let text : is_utf8 key ≡ true = is_utf8-from_IsUtf8 key utf8 in
-    ap (λ (n : List ℕ). n ∷ []) same ∙ sym (ap (λ b. cond b (key ∷ []) []) text)
-
-pub no_text_added : (key : List ℕ) (a : TextSet) → (IsUtf8 key → ⊥) → Adds (filter is_utf8 (key ∷ [])) a a
-no_text_added key a other =
-    let none : is_utf8 key ≡ false = false_from_ne_true (is_utf8 key) (λ e. other (IsUtf8-from_is_utf8 key e)) in
-    subst (λ (l : List (List ℕ)). Adds l a a) (sym (ap (λ b. cond b (key ∷ []) []) none)) (adds_nothing a)
-
--- a key and then the others
-pub key_turn : (before after : List (List ℕ)) (key : List ℕ) (a b : TextSet) (t : List ℕ) → before ≡ key ∷ after → Adds (filter is_utf8 (key ∷ [])) a b →
-    is_in (filter is_utf8 after) b t ≡ is_in (filter is_utf8 before) a t
-key_turn before after key a b t e h =
-    one_turn (filter is_utf8 before) (filter is_utf8 (key ∷ [])) (filter is_utf8 after) a b t (ap (filter is_utf8) e ∙ filter-append is_utf8 (key ∷ []) after) h
+    ∙ sym (keys_are_listed (map string_bytes texts))

@@ -1,16 +1,18 @@
 -- Changes of the first layer: what they give where they are accepted, and by the changes beside it.
-use Rattle.std.proofs.Common.{ℕ, ◌≡◌, ◌+◌, Bool, true, false, cond, List, [], ◌∷◌, Option, Some, None, Result, Ok, Err, option_map, refl, sym, ◌∙◌, ap, IfSome, ◌&&◌}
+use Rattle.std.proofs.Common.{ℕ, ◌≡◌, ◌+◌, Bool, true, false, cond, List, [], ◌∷◌, Option, Some, None, Result, Ok, Err, map, option_map, refl, sym, ◌∙◌, ap, IfSome, ◌&&◌}
 use Rattle.std.specs.FinMap.{insert, remove}
 use Rattle.gv_model.specs.Tree.{Tree}
-use Rattle.dconf_model.specs.Settings.{Settings}
 use Rattle.dconf_model.specs.Layers.{Layers, is_locked}
 use Rattle.dconf_model.specs.Values.{stored, is_storable}
 use Rattle.dconf_model.specs.Sources.{Assigned}
-use Rattle.dconf_model.specs.Changes.{Values, Refusal, apply, changed, with_first_layer, with_all, first_locked, unless_locked, all_storable, set_all, load_all, paths_of}
+use Rattle.dconf_model.specs.Changes.{Values, Refusal, apply, changed, with_all, first_locked, unless_locked, all_storable, set_all, load_all, paths_of}
 use Rattle.dconf_model.specs.Changes.Change.{set_value, reset_value, load_values}
 use Rattle.dconf_model.specs.Changes.Refusal.{not_writable, locked, too_large}
 use Rattle.dconf_model.proofs.ParentLaws.{by_bool}
 use Rattle.dconf_engine.specs.declared.change_fault.ChangeFault.{ChangeFault}
+use Rattle.dconf_engine.specs.declared.layer.Layer.{Layer}
+use Rattle.dconf_engine.specs.EngineLayers.{layers_of}
+use Rattle.dconf_engine.specs.LayerSettings.{settings_of}
 use Rattle.dconf_engine.specs.ChangeFaults.{refusal_of, Refuses, path_refusal, rows_refusal}
 use Rattle.std.specs.List.{position_from}
 use Rattle.dconf_path.specs.declared.path.KeyPath.{KeyPath}
@@ -20,15 +22,13 @@ use Rattle.dconf_engine.specs.Unsaved.{Unsaved, with_changes}
 
 -- ---- the first layer's values
 
-changed_first : (f : Values → Values) (c new : Unsaved) (layers : List Settings) → ((v : Values) → with_changes new v ≡ f (with_changes c v)) →
-    with_first_layer f (with_first_layer (with_changes c) layers) ≡ with_first_layer (with_changes new) layers
-changed_first f c new [] h = refl
-changed_first f c new (s ∷ more) h = ap (λ (v : Values). record { values = v; locks = s.locks } ∷ more) (sym (h s.values))
-
 -- what a change of the first layer's values gives, where the changes beside it make the same of any values
-pub changed_beside : (f : Values → Values) (c new : Unsaved) (l : Layers) → ((v : Values) → with_changes new v ≡ f (with_changes c v)) →
-    changed f (changed (with_changes c) l) ≡ changed (with_changes new) l
-changed_beside f c new l h = ap (λ (ls : List Settings). record { layers = ls; writable = l.writable }) (changed_first f c new l.layers h)
+pub changed_beside : (f : Values → Values) (c new : Unsaved) (items : List Layer) (writable : Bool) (l : Layers) → layers_of c items writable ≡ l →
+    ((v : Values) → with_changes new v ≡ f (with_changes c v)) → changed f l ≡ layers_of new items writable
+changed_beside f c new [] writable l is h = ap (changed f) (sym is)
+changed_beside f c new (layer ∷ items) writable l is h =
+    let s = settings_of layer in
+    ap (changed f) (sym is) ∙ ap (λ (v : Values). record { layers = record { values = v; locks = s.locks } ∷ map settings_of items; writable = writable }) (sym (h s.values))
 
 -- ---- one path
 

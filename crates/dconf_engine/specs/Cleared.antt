@@ -3,7 +3,7 @@ use Rattle.std.specs.Prelude.{ℕ, List, [], ◌∷◌, Option, Bool, true, filt
 use Rattle.dconf_model.specs.Layers.{Layers, is_locked}
 use Rattle.dconf_model.specs.Locks.{is_below}
 use Rattle.dconf_engine.specs.declared.layer.Layer.{Layer}
-use Rattle.dconf_engine.specs.KeyNames.{all_key_names}
+use Rattle.dconf_engine.specs.Entries.{layer_paths}
 
 -- one elsewhere keeps its value, and a locked one does
 abbrev pub keeps : Layers → List ℕ → List ℕ → Bool
@@ -17,7 +17,7 @@ cleared l directory paths = filter (λ path. not (keeps l directory path)) paths
 abbrev pub changed_paths : List (List ℕ × Option (List ℕ)) → List (List ℕ)
 changed_paths changes = map (λ c. c.0) changes
 
--- the names of the first layer's items
-abbrev pub first_names : List Layer → List (List ℕ)
-first_names [] = []
-first_names (layer ∷ more) = all_key_names layer
+-- the paths of the first layer
+abbrev pub first_paths : List Layer → List (List ℕ)
+first_paths [] = []
+first_paths (layer ∷ more) = layer_paths layer

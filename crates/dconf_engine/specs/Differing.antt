@@ -1,7 +1,5 @@
 -- The keys that are seen otherwise through other layers.
-use Rattle.std.specs.Prelude.{◌≡◌, ◌≢◌, ◌⊎◌, ◌↔◌, List, ℕ, Bool, true, false, IsTrue, filter, is_some, not, take, ◌||◌, ◌&&◌}
-use Rattle.std.specs.FinMap.{get}
-use Rattle.dconf_model.specs.Changes.{Values}
+use Rattle.std.specs.Prelude.{◌≡◌, ◌≢◌, ◌⊎◌, ◌↔◌, List, ℕ, Bool, true, false, IsTrue, filter, not, take, ◌||◌}
 use Rattle.dconf_model.specs.Layers.{Layers, all_paths, is_locked, visible}
 use Rattle.dconf_model.specs.Order.{listing}
 use Rattle.dconf_engine.specs.SameValues.{same_value}
@@ -29,7 +27,3 @@ same_truth false b = not b
 -- the same, computed
 abbrev pub differs : Layers → Layers → List ℕ → Bool
 differs l m path = not (same_truth (is_locked l path) (is_locked m path)) || not (same_value (visible l path) (visible m path))
-
--- a key of these values
-abbrev pub is_other : Values → Layers → Layers → List ℕ → Bool
-is_other values l m path = is_some (get values path) && differs l m path

@@ -11,7 +11,7 @@ pub mod Rows
 pub mod TextMaps
 pub mod Unsaved
 pub mod UnsavedLeft
-pub mod KeyNames
+pub mod Entries
 pub mod Saved
 pub mod Cleared
 pub mod TextSets

@@ -9,9 +9,13 @@ abbrev pub set_if : Settings → List ℕ → Option (List ℕ) → Settings
 set_if s path (Some bytes) = with_value s path bytes
 set_if s path None = s
 
+-- with these bytes at a path, if there are any, unless it was changed
+abbrev pub unless_changed : Unsaved → Settings → List ℕ → Option (List ℕ) → Settings
+unless_changed changes s path bytes = set_if s path (cond (contains_key changes path) None bytes)
+
 -- with what the values have at a path, unless it was changed
 abbrev pub and_unchanged : Values → Unsaved → Settings → List ℕ → Settings
-and_unchanged values changes s path = cond (contains_key changes path) s (set_if s path (get values path))
+and_unchanged values changes s path = unless_changed changes s path (get values path)
 
 -- with what they have at these paths
 abbrev pub with_unchanged : Values → Unsaved → List (List ℕ) → Settings → Settings

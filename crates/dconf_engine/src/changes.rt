@@ -101,9 +101,7 @@ impl Changes {
         ensures ok { OnOk result (self.new ≡ insert self.old (key_text path.entry) (Some bytes.items)) }
         ensures err { OnErr result (self.new ≡ self.old) }
     {
-        let path = String::from_str(self.alloc, path.as_str())?;
-        self.edits.insert(path, Edit::Set(bytes))?;
-        Ok(())
+        self.put(path, Edit::Set(bytes))
     }
 
     /// Resets a path, whatever was changed there before.
@@ -114,8 +112,16 @@ impl Changes {
         ensures ok { OnOk result (self.new ≡ insert self.old (key_text path.entry) None) }
         ensures err { OnErr result (self.new ≡ self.old) }
     {
+        self.put(path, Edit::Reset)
+    }
+
+    /// Keeps what was done at a path, in the place of what was done there before.
+    fn put(&mut self, path: KeyPath<'_>, edit: Edit) -> Result<(), AllocError>
+        ensures ok { OnOk result (self.new ≡ insert self.old (key_text path.entry) (edit_bytes edit)) }
+        ensures err { OnErr result (self.new ≡ self.old) }
+    {
         let path = String::from_str(self.alloc, path.as_str())?;
-        self.edits.insert(path, Edit::Reset)?;
+        self.edits.insert(path, edit)?;
         Ok(())
     }
 

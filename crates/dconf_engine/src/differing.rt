@@ -1,20 +1,19 @@
 //! The keys that are seen otherwise through other layers.
-ghost use Rattle.std.specs.Prelude.{◌≡◌, ◌&&◌, ◌++◌, Some, IfOk, OnOk, filter, map, option_map, string_bytes};
+ghost use Rattle.std.specs.Prelude.{◌≡◌, [], ◌∷◌, ◌++◌, IfOk, OnOk, filter, map, option_map, string_bytes};
 ghost use Rattle.std.specs.FinMap.{keys};
 ghost use Rattle.gv_view.specs.Views.{value};
 ghost use Rattle.dconf_model.specs.Layers.{all_paths};
-ghost use Rattle.dconf_model.specs.Paths.{is_key_path};
 ghost use Rattle.dconf_path.specs.Paths.{key_text};
-ghost use Rattle.dconf_engine.specs.Differing.{AreDiffering, differs, first_keys, is_other};
-ghost use Rattle.dconf_engine.specs.KeyNames.{items_of, key_name, key_name_at, key_names};
+ghost use Rattle.dconf_engine.specs.Differing.{AreDiffering, differs, first_keys};
 ghost use Rattle.dconf_engine.specs.LayerSettings.{settings_of};
 ghost use Rattle.dconf_engine.specs.SameValues.{same_value};
-ghost use Rattle.dconf_engine.specs.TextSets.{Adds};
+ghost use Rattle.dconf_engine.specs.TextSets.{with_texts};
 
-use crate::children::{add_text, texts_of};
+use crate::entry::Entry;
 use crate::layer::Layer;
 use crate::lent::LentLayers;
 use crate::same_values::show_same;
+use crate::texts::Texts;
 use dconf_path::KeyPath;
 use gv_view::View;
 use std::alloc::{AllocError, Global};
@@ -38,14 +37,14 @@ impl<'a, 'l> LentLayers<'a, 'l> {
         ensures { IfOk result (λ paths. AreDiffering (seen_in self.entry) (seen_in other.entry)
             (first_keys count (seen_in self.entry) ++ first_keys count (seen_in other.entry)) (map string_bytes paths.items)) }
     {
-        let mut paths = Vec::new(alloc);
+        let mut paths = Texts::new(alloc);
         let pair = Pair {
             first: self,
             second: other,
         };
         pair.add_layers(alloc, self.prefix(count), &mut paths)?;
         pair.add_layers(alloc, other.prefix(count), &mut paths)?;
-        texts_of(paths)
+        paths.list()
     }
 }
 
@@ -64,9 +63,9 @@ impl<'a, 'l> Pair<'a, 'l> {
         self,
         alloc: Global,
         layers: LentLayers<'_, '_>,
-        paths: &mut Vec<String>,
+        paths: &mut Texts,
     ) -> Result<(), AllocError>
-        ensures { OnOk result (Adds (filter (differs (seen_in self.entry.first) (seen_in self.entry.second)) (all_paths (seen_in layers.entry).layers)) paths.old paths.new) }
+        ensures { OnOk result (paths.new ≡ with_texts (filter (differs (seen_in self.entry.first) (seen_in self.entry.second)) (all_paths (seen_in layers.entry).layers)) paths.old) }
     {
         for layer in layers.layers {
             self.add_layer(alloc, *layer, paths)?;
@@ -75,66 +74,33 @@ impl<'a, 'l> Pair<'a, 'l> {
     }
 
     /// Adds those of a layer.
-    fn add_layer(
-        self,
-        alloc: Global,
-        layer: Layer<'_>,
-        paths: &mut Vec<String>,
-    ) -> Result<(), AllocError>
-        ensures { OnOk result (Adds (filter (differs (seen_in self.entry.first) (seen_in self.entry.second)) (keys (settings_of layer.entry).values)) paths.old paths.new) }
+    fn add_layer(self, alloc: Global, layer: Layer<'_>, paths: &mut Texts) -> Result<(), AllocError>
+        ensures { OnOk result (paths.new ≡ with_texts (filter (differs (seen_in self.entry.first) (seen_in self.entry.second)) (keys (settings_of layer.entry).values)) paths.old) }
     {
         for i in 0..layer.n_items() {
-            self.add_item(alloc, layer, i, paths)?;
+            if let Some(entry) = layer.entry_at(alloc, i)? {
+                self.add_entry(alloc, &entry, paths)?;
+            }
         }
         Ok(())
     }
 
-    /// Adds the name of an item, if it is such a key.
-    fn add_item(
+    /// Adds an entry's path, if it is such a key.
+    fn add_entry(
         self,
         alloc: Global,
-        layer: Layer<'_>,
-        i: u32,
-        paths: &mut Vec<String>,
+        entry: &Entry<'_>,
+        paths: &mut Texts,
     ) -> Result<(), AllocError>
-        ensures { OnOk result (Adds (filter (is_other (settings_of layer.entry).values (seen_in self.entry.first) (seen_in self.entry.second)) (key_name_at layer.entry i)) paths.old paths.new) }
+        ensures { OnOk result (paths.new ≡ with_texts (filter (differs (seen_in self.entry.first) (seen_in self.entry.second)) (string_bytes entry.now.text ∷ [])) paths.old) }
     {
-        let Ok(found) = layer.name_at(alloc, i) else {
-            return Err(AllocError);
+        let Some(path) = entry.path() else {
+            return Ok(());
         };
-        match found {
-            Some(name) => self.add_name(alloc, layer, name.as_str(), paths),
-            None => Ok(()),
-        }
-    }
-
-    /// Adds a text, if it is the path of such a key.
-    fn add_name(
-        self,
-        alloc: Global,
-        layer: Layer<'_>,
-        text: &str,
-        paths: &mut Vec<String>,
-    ) -> Result<(), AllocError>
-        ensures { OnOk result (Adds (filter (is_other (settings_of layer.entry).values (seen_in self.entry.first) (seen_in self.entry.second)) (key_name (Some text.now))) paths.old paths.new) }
-    {
-        if !self.is_other(alloc, layer, text)? {
+        if !self.differs(alloc, path)? {
             return Ok(());
         }
-        add_text(alloc, text, paths)
-    }
-
-    /// Whether a text is the path of a key of the layer that is seen otherwise.
-    fn is_other(self, alloc: Global, layer: Layer<'_>, text: &str) -> Result<bool, AllocError>
-        ensures { IfOk result (λ other. other ≡ (is_key_path text.now && is_other (settings_of layer.entry).values (seen_in self.entry.first) (seen_in self.entry.second) text.now)) }
-    {
-        let Ok(path) = KeyPath::parse(text) else {
-            return Ok(false);
-        };
-        if layer.get(text).is_none() {
-            return Ok(false);
-        }
-        self.differs(alloc, path)
+        paths.add(entry.as_str())
     }
 
     /// Whether a key is seen otherwise through the second than through the first.

@@ -1,17 +1,17 @@
 //! The layers of a profile's databases, and what is seen through them.
-ghost use Rattle.std.specs.Prelude.{◌≡◌, ◌<◌, IfErr, IfNone, IfOk, IfSome, List, None, Some, length, map, option_map, slice_index_or, drop, ℕ};
+ghost use Rattle.std.specs.Prelude.{◌≡◌, IfErr, IfOk, IfSome, List, None, Some, length, map, option_map, drop, ℕ};
 ghost use Rattle.std.specs.FinMap.{get};
 ghost use Rattle.gv_view.specs.Views.{value};
 ghost use Rattle.gvdb_read.specs.Lookups.{ShowsHeld};
 ghost use Rattle.dconf_model.specs.Databases.{AreLayers, IsFirstBad};
 ghost use Rattle.dconf_model.specs.Layers.{first_from, is_locked, level, origin, place_of, visible, visible_bytes, without_user};
 ghost use Rattle.dconf_model.specs.Profiles.{has_writable};
-ghost use Rattle.dconf_model.specs.Settings.{no_settings};
 ghost use Rattle.dconf_path.specs.Paths.{key_text};
 ghost use Rattle.dconf_path.specs.Profiles.{databases_of};
 ghost use Rattle.dconf_engine.specs.Faults.{bad_of};
 ghost use Rattle.dconf_engine.specs.Files.{bytes_of_files};
 ghost use Rattle.dconf_engine.specs.LayerSettings.{settings_of};
+ghost use Rattle.dconf_engine.specs.Unsaved.{with_changes};
 
 use crate::changes::Changes;
 use crate::fault::EngineFault;
@@ -189,10 +189,10 @@ impl<'a> Engine<'a> {
     fn first_place(&self, path: KeyPath<'_>) -> Option<(usize, &[u8])>
         ensures { option_map {U = ℕ × List ℕ} (λ p. (p.0, p.1.now)) result ≡ first_from 0 self.now.layers (key_text path.entry) }
     {
-        if self.count() == 0 {
+        let Some(first) = self.layers.first() else {
             return None;
-        }
-        match self.first_bytes(path) {
+        };
+        match changed_bytes(&self.changes, *first, path) {
             Some(bytes) => Some((0, bytes)),
             None => self.lent().place_from(1, path),
         }
@@ -211,16 +211,15 @@ impl<'a> Engine<'a> {
     {
         self.layers.len()
     }
+}
 
-    /// The bytes of the first layer's value at a path: those of a change where there is one, else those of its file.
-    fn first_bytes(&self, path: KeyPath<'_>) -> Option<&[u8]>
-        requires { 0 < length self.now.layers }
-        ensures { option_map (λ bytes. bytes.now) result ≡ get (slice_index_or self.now.layers 0 no_settings).values (key_text path.entry) }
-    {
-        match self.changes.get(path.as_str()) {
-            Some(changed) => changed,
-            None => self.layers[0].get(path.as_str()),
-        }
+/// The bytes of a layer's value at a path: those of a change where there is one, else those of its file.
+fn changed_bytes<'l>(changes: &'l Changes, layer: Layer<'l>, path: KeyPath<'_>) -> Option<&'l [u8]>
+    ensures { option_map (λ bytes. bytes.now) result ≡ get (with_changes changes.now (settings_of layer.entry).values) (key_text path.entry) }
+{
+    match changes.get(path.as_str()) {
+        Some(changed) => changed,
+        None => layer.get(path.as_str()),
     }
 }
 

@@ -1,9 +1,8 @@
 //! A layer of settings: a sound database, lent from its file.
-ghost use Rattle.std.specs.Prelude.{◌≡◌, List, Some, IfErr, IfOk, false, option_map, true, ℕ};
+ghost use Rattle.std.specs.Prelude.{◌≡◌, Some, IfErr, IfOk, false, option_map, true};
 ghost use Rattle.std.specs.FinMap.{get};
 ghost use Rattle.dconf_model.specs.Databases.{IsBad, IsLayer, IsVerdict};
 ghost use Rattle.dconf_model.specs.Layers.{locks_path};
-ghost use Rattle.dconf_model.specs.Salvaging.{IsKeyText};
 ghost use Rattle.dconf_model.specs.Settings.{no_settings};
 ghost use Rattle.dconf_path.specs.Paths.{key_text};
 ghost use Rattle.gvdb_read.specs.Directories.{HasDirectoryValue};
@@ -35,7 +34,7 @@ pub struct Layer<'a> {
 }
 
 impl<'a> Layer<'a> {
-    ghost use Rattle.dconf_engine.specs.LayerSettings.{locks_of, settings_of};
+    ghost use Rattle.dconf_engine.specs.LayerSettings.{has_locks, locks_of, settings_of};
     ghost use Rattle.dconf_engine.specs.Files.{bytes_of_file};
     ghost use Rattle.gvdb_read.specs.HashedNames.{name_text};
 
@@ -135,7 +134,7 @@ impl<'a> Layer<'a> {
     /// Whether it has a table of locks. Without one it locks no key.
     #[inline(always)]
     pub(crate) fn has_locks(self) -> bool
-        ensures { result ≡ false → (path : List ℕ) → IsKeyText path → locks_path path (settings_of self.entry) ≡ false }
+        ensures { result ≡ has_locks self.entry }
     {
         self.has_locks
     }

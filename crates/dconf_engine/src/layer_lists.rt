@@ -1,17 +1,16 @@
 //! What a layer's file lists: the names of what a directory has, and the paths of its locks.
-ghost use Rattle.std.specs.Prelude.{◌≡◌, ◌&&◌, [], ◌∷◌, Some, IfOk, OnOk, filter, option_map, string_bytes};
+ghost use Rattle.std.specs.Prelude.{◌≡◌, [], ◌∷◌, Some, IfOk, OnOk, filter, option_map, string_bytes};
 ghost use Rattle.std.specs.FinMap.{keys};
 ghost use Rattle.std.specs.Str.{is_utf8};
-ghost use Rattle.dconf_model.specs.Layers.{parts_below};
 ghost use Rattle.dconf_model.specs.Locks.{is_below};
 ghost use Rattle.dconf_model.specs.Paths.{is_path};
 ghost use Rattle.dconf_path.specs.Paths.{directory_text};
 ghost use Rattle.gvdb_read.specs.NamesLeft.{names_left};
 ghost use Rattle.dconf_engine.specs.LockNames.{lock_count, lock_name, lock_name_at, locks_under};
-ghost use Rattle.dconf_engine.specs.TextSets.{Adds};
+ghost use Rattle.dconf_engine.specs.TextSets.{with_children, with_texts};
 
-use crate::children::{add_text, add_with_room};
 use crate::layer::Layer;
+use crate::texts::Texts;
 use dconf_path::{DirPath, LockPath};
 use gvdb_read::Names;
 use std::alloc::{AllocError, Global};
@@ -30,17 +29,13 @@ impl<'a> Layer<'a> {
     /// An error comes where a growth is refused. It is one search, and then it looks at these names alone.
     pub(crate) fn add_listed(
         self,
-        alloc: Global,
         directory: DirPath<'_>,
-        names: &mut Vec<String>,
+        names: &mut Texts,
     ) -> Result<(), AllocError>
-        ensures { OnOk result (Adds (parts_below (directory_text directory.entry) (keys (settings_of self.entry).values)) names.old names.new) }
+        ensures { OnOk result (names.new ≡ with_children (directory_text directory.entry) (keys (settings_of self.entry).values) names.old) }
     {
         match self.values.list(directory.as_str()) {
-            Some(listed) => {
-                let room = directory.as_str().len().min(ROOM);
-                add_keys(alloc, listed, room, names)
-            }
+            Some(listed) => add_keys(listed, directory.as_str().len().min(ROOM), names),
             None => Ok(()),
         }
     }
@@ -54,30 +49,16 @@ impl<'a> Layer<'a> {
         self,
         alloc: Global,
         directory: DirPath<'_>,
-        paths: &mut Vec<String>,
+        paths: &mut Texts,
     ) -> Result<(), AllocError>
-        ensures { OnOk result (Adds (locks_under (directory_text directory.entry) (keys (settings_of self.entry).locks)) paths.old paths.new) }
+        ensures { OnOk result (paths.new ≡ with_texts (locks_under (directory_text directory.entry) (keys (settings_of self.entry).locks)) paths.old) }
     {
         for i in 0..self.n_locks() {
-            self.add_lock(alloc, i, directory, paths)?;
+            if let Some(name) = self.lock_at(alloc, i)? {
+                add_if_lock(name.as_str(), directory, paths)?;
+            }
         }
         Ok(())
-    }
-
-    /// Adds the path of a lock, if it starts with a directory.
-    fn add_lock(
-        self,
-        alloc: Global,
-        i: u32,
-        directory: DirPath<'_>,
-        paths: &mut Vec<String>,
-    ) -> Result<(), AllocError>
-        ensures { OnOk result (Adds (locks_under (directory_text directory.entry) (lock_name_at (locks_of self.entry) i)) paths.old paths.new) }
-    {
-        match self.lock_at(alloc, i)? {
-            Some(name) => add_if_lock(alloc, name.as_str(), directory, paths),
-            None => Ok(()),
-        }
     }
 
     /// How many items its table of locks has.
@@ -102,25 +83,13 @@ impl<'a> Layer<'a> {
 }
 
 /// Adds a text, if it is the path of a lock that starts with a directory.
-fn add_if_lock(
-    alloc: Global,
-    text: &str,
-    directory: DirPath<'_>,
-    paths: &mut Vec<String>,
-) -> Result<(), AllocError>
-    ensures { OnOk result (Adds (locks_under (directory_text directory.entry) (lock_name (Some text.now))) paths.old paths.new) }
+fn add_if_lock(text: &str, directory: DirPath<'_>, paths: &mut Texts) -> Result<(), AllocError>
+    ensures { OnOk result (paths.new ≡ with_texts (locks_under (directory_text directory.entry) (lock_name (Some text.now))) paths.old) }
 {
-    if !is_listed_lock(text, directory) {
-        return Ok(());
+    if is_lock(text) && is_under(text, directory) {
+        return paths.add(text);
     }
-    add_text(alloc, text, paths)
-}
-
-/// Whether a text is the path of a lock that starts with a directory.
-fn is_listed_lock(text: &str, directory: DirPath<'_>) -> bool
-    ensures { result ≡ (is_path text.now && is_below text.now (directory_text directory.entry)) }
-{
-    is_lock(text) && is_under(text, directory)
+    Ok(())
 }
 
 /// Whether a text is the path of a lock.
@@ -138,31 +107,21 @@ pub(crate) fn is_under(path: &str, directory: DirPath<'_>) -> bool
 }
 
 /// Adds the keys that a list names, those that are texts, each with room for so many bytes more.
-fn add_keys(
-    alloc: Global,
-    listed: Names<'_>,
-    room: usize,
-    names: &mut Vec<String>,
-) -> Result<(), AllocError>
-    ensures { OnOk result (Adds (filter is_utf8 (names_left listed.entry)) names.old names.new) }
+fn add_keys(listed: Names<'_>, room: usize, names: &mut Texts) -> Result<(), AllocError>
+    ensures { OnOk result (names.new ≡ with_texts (filter is_utf8 (names_left listed.entry)) names.old) }
 {
     for key in listed {
-        add_key(alloc, key, room, names)?;
+        add_key(key, room, names)?;
     }
     Ok(())
 }
 
 /// Adds a key, if it is a text, with room for so many bytes more.
-fn add_key(
-    alloc: Global,
-    key: &[u8],
-    room: usize,
-    names: &mut Vec<String>,
-) -> Result<(), AllocError>
-    ensures { OnOk result (Adds (filter is_utf8 (key.now ∷ [])) names.old names.new) }
+fn add_key(key: &[u8], room: usize, names: &mut Texts) -> Result<(), AllocError>
+    ensures { OnOk result (names.new ≡ with_texts (filter is_utf8 (key.now ∷ [])) names.old) }
 {
     match str::from_utf8(key) {
-        Ok(name) => add_with_room(alloc, name, room, names),
+        Ok(name) => names.add_with_room(name, room),
         Err(_) => Ok(()),
     }
 }

@@ -1,13 +1,14 @@
 //! Layers that are lent, and what is seen through them.
 ghost use Rattle.std.specs.Prelude.{◌≡◌, ◌<◌, ◌&&◌, IfSome, IsSome, List, Some, drop, false, length, map, not, option_map, slice_index_or, ℕ, take};
 ghost use Rattle.std.specs.FinMap.{get};
+ghost use Rattle.std.specs.List.{list_any};
 ghost use Rattle.gv_view.specs.Views.{value};
 ghost use Rattle.gvdb_read.specs.Lookups.{ShowsHeld};
 ghost use Rattle.dconf_model.specs.Layers.{first_from, is_locked, level, locks_path, origin, place_of, visible, visible_bytes, without_user};
 ghost use Rattle.dconf_model.specs.Salvaging.{IsKeyText};
 ghost use Rattle.dconf_model.specs.Settings.{no_settings};
 ghost use Rattle.dconf_path.specs.Paths.{key_text};
-ghost use Rattle.dconf_engine.specs.LayerSettings.{settings_of};
+ghost use Rattle.dconf_engine.specs.LayerSettings.{has_locks, settings_of};
 
 use crate::layer::Layer;
 use dconf_path::KeyPath;
@@ -122,14 +123,13 @@ impl<'a, 'l> LentLayers<'a, 'l> {
     /// Whether a layer from the second on has locks. Where none has, no key is locked.
     #[inline(always)]
     fn have_locks(self) -> bool
-        ensures { result ≡ false → (path : List ℕ) → IsKeyText path → level (seen_in self.entry) path ≡ 0 }
+        ensures exact { result ≡ list_any has_locks (drop 1 self.entry.layers.now) }
+        ensures unlocked { result ≡ false → (path : List ℕ) → IsKeyText path → level (seen_in self.entry) path ≡ 0 }
     {
-        for i in 1..self.layers.len() {
-            if self.has_locks_at(i) {
-                return true;
-            }
+        match self.layers.split_first() {
+            Some((_, others)) => any_has_locks(others),
+            None => false,
         }
-        false
     }
 
     /// The greatest index of at least 1 whose layer locks the path; else 0.
@@ -169,15 +169,6 @@ impl<'a, 'l> LentLayers<'a, 'l> {
         None
     }
 
-    /// Whether a layer has locks.
-    #[inline(always)]
-    fn has_locks_at(self, i: usize) -> bool
-        requires { i < length (seen_in self).layers }
-        ensures { result ≡ false → (path : List ℕ) → IsKeyText path → locks_path path (slice_index_or (seen_in self.entry).layers i no_settings) ≡ false }
-    {
-        self.layers[i].has_locks()
-    }
-
     /// Whether a layer locks a path.
     #[inline(always)]
     fn locks_at(self, i: usize, path: KeyPath<'_>) -> bool
@@ -195,4 +186,17 @@ impl<'a, 'l> LentLayers<'a, 'l> {
     {
         self.layers[i].get_hashed(path)
     }
+}
+
+/// Whether one of these layers has locks.
+#[inline(always)]
+fn any_has_locks(layers: &[Layer<'_>]) -> bool
+    ensures { result ≡ list_any has_locks layers.now }
+{
+    for layer in layers {
+        if layer.has_locks() {
+            return true;
+        }
+    }
+    false
 }

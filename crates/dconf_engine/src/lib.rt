@@ -21,12 +21,10 @@
 
 mod change_fault;
 mod changes;
-mod children;
 mod differing;
 mod engine;
 mod entry;
 mod fault;
-mod key_names;
 mod layer;
 mod layer_lists;
 mod left;
@@ -36,6 +34,7 @@ mod resetting;
 mod same_values;
 mod saving;
 mod storing;
+mod texts;
 mod writing;
 
 pub use change_fault::ChangeFault;

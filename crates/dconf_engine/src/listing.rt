@@ -1,15 +1,15 @@
 //! What a directory has in any layer, and the locks below it.
-ghost use Rattle.std.specs.Prelude.{◌≡◌, ◌<◌, IfOk, OnOk, drop, length, map, slice_index_or, string_bytes};
-ghost use Rattle.std.specs.FinMap.{keys};
-ghost use Rattle.dconf_model.specs.Layers.{all_locks, all_paths, child_names, locks_below, parts_below};
-ghost use Rattle.dconf_model.specs.Settings.{no_settings};
+ghost use Rattle.std.specs.Prelude.{◌≡◌, IfOk, OnOk, drop, map, string_bytes};
+ghost use Rattle.dconf_model.specs.Layers.{all_locks, all_paths, child_names, locks_below};
 ghost use Rattle.dconf_path.specs.Paths.{directory_text};
+ghost use Rattle.dconf_engine.specs.LayerSettings.{settings_of};
 ghost use Rattle.dconf_engine.specs.LockNames.{locks_under};
-ghost use Rattle.dconf_engine.specs.TextSets.{Adds};
+ghost use Rattle.dconf_engine.specs.TextSets.{with_children, with_texts};
 
-use crate::children::texts_of;
 use crate::engine::Engine;
+use crate::layer::Layer;
 use crate::left::add_with_changes;
+use crate::texts::Texts;
 use dconf_path::DirPath;
 use std::alloc::{AllocError, Global};
 
@@ -20,14 +20,14 @@ impl<'a> Engine<'a> {
     /// the order of their bytes, once each.
     ///
     /// An error comes where a growth is refused. It asks each layer's file for the directory's list, and looks at these names
-    /// alone, and at each unsaved change. Where a key below the directory was reset and that is not saved, it looks at the
-    /// name of each item of the user's file instead of the list.
+    /// alone, and at each unsaved change. Where a key below the directory was reset and that is not saved, it looks at each
+    /// entry of the user's file instead of the list.
     pub fn list(&self, alloc: Global, directory: DirPath<'_>) -> Result<Vec<String>, AllocError>
         ensures { IfOk result (λ names. map string_bytes names.items ≡ child_names self.now (directory_text directory.entry)) }
     {
-        let mut names = Vec::new(alloc);
+        let mut names = Texts::new(alloc);
         self.add_children(alloc, directory, &mut names)?;
-        texts_of(names)
+        names.list()
     }
 
     /// Adds the names of what a directory has in any layer.
@@ -35,31 +35,15 @@ impl<'a> Engine<'a> {
         &self,
         alloc: Global,
         directory: DirPath<'_>,
-        names: &mut Vec<String>,
+        names: &mut Texts,
     ) -> Result<(), AllocError>
-        ensures { OnOk result (Adds (parts_below (directory_text directory.entry) (all_paths self.now.layers)) names.old names.new) }
+        ensures { OnOk result (names.new ≡ with_children (directory_text directory.entry) (all_paths self.now.layers) names.old) }
     {
-        for i in 0..self.count() {
-            self.add_children_at(alloc, i, directory, names)?;
-        }
-        Ok(())
-    }
-
-    /// Adds the names of what a directory has in a layer.
-    fn add_children_at(
-        &self,
-        alloc: Global,
-        i: usize,
-        directory: DirPath<'_>,
-        names: &mut Vec<String>,
-    ) -> Result<(), AllocError>
-        requires { i < length self.now.layers }
-        ensures { OnOk result (Adds (parts_below (directory_text directory.entry) (keys (slice_index_or self.now.layers i no_settings).values)) names.old names.new) }
-    {
-        if i == 0 {
-            return add_with_changes(alloc, self.layers[0], &self.changes, directory, names);
-        }
-        self.layers[i].add_listed(alloc, directory, names)
+        let Some((first, others)) = self.layers.split_first() else {
+            return Ok(());
+        };
+        add_with_changes(alloc, *first, &self.changes, directory, names)?;
+        add_listed(others, directory, names)
     }
 
     // ---- locks
@@ -71,9 +55,9 @@ impl<'a> Engine<'a> {
     pub fn locks(&self, alloc: Global, directory: DirPath<'_>) -> Result<Vec<String>, AllocError>
         ensures { IfOk result (λ paths. map string_bytes paths.items ≡ locks_below self.now (directory_text directory.entry)) }
     {
-        let mut paths = Vec::new(alloc);
+        let mut paths = Texts::new(alloc);
         self.add_locks(alloc, directory, &mut paths)?;
-        texts_of(paths)
+        paths.list()
     }
 
     /// Adds the paths of the locks of the layers from the second on that start with a directory.
@@ -81,27 +65,42 @@ impl<'a> Engine<'a> {
         &self,
         alloc: Global,
         directory: DirPath<'_>,
-        paths: &mut Vec<String>,
+        paths: &mut Texts,
     ) -> Result<(), AllocError>
-        ensures { OnOk result (Adds (locks_under (directory_text directory.entry) (all_locks (drop 1 self.now.layers))) paths.old paths.new) }
+        ensures { OnOk result (paths.new ≡ with_texts (locks_under (directory_text directory.entry) (all_locks (drop 1 self.now.layers))) paths.old) }
     {
-        for i in 1..self.count() {
-            self.add_locks_at(alloc, i, directory, paths)?;
+        match self.layers.split_first() {
+            Some((_, others)) => add_locks(alloc, others, directory, paths),
+            None => Ok(()),
         }
-        Ok(())
     }
+}
 
-    /// Adds the paths of the locks of a layer that start with a directory.
-    fn add_locks_at(
-        &self,
-        alloc: Global,
-        i: usize,
-        directory: DirPath<'_>,
-        paths: &mut Vec<String>,
-    ) -> Result<(), AllocError>
-        requires { i < length self.now.layers }
-        ensures { OnOk result (Adds (locks_under (directory_text directory.entry) (keys (slice_index_or self.now.layers i no_settings).locks)) paths.old paths.new) }
-    {
-        self.layers[i].add_locks(alloc, directory, paths)
+/// Adds the names of what a directory has in layers, by their lists.
+fn add_listed(
+    layers: &[Layer<'_>],
+    directory: DirPath<'_>,
+    names: &mut Texts,
+) -> Result<(), AllocError>
+    ensures { OnOk result (names.new ≡ with_children (directory_text directory.entry) (all_paths (map settings_of layers.now)) names.old) }
+{
+    for layer in layers {
+        layer.add_listed(directory, names)?;
     }
+    Ok(())
+}
+
+/// Adds the paths of the locks of layers that start with a directory.
+fn add_locks(
+    alloc: Global,
+    layers: &[Layer<'_>],
+    directory: DirPath<'_>,
+    paths: &mut Texts,
+) -> Result<(), AllocError>
+    ensures { OnOk result (paths.new ≡ with_texts (locks_under (directory_text directory.entry) (all_locks (map settings_of layers.now))) paths.old) }
+{
+    for layer in layers {
+        layer.add_locks(alloc, directory, paths)?;
+    }
+    Ok(())
 }

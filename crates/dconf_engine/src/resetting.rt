@@ -1,17 +1,19 @@
 //! Resetting all keys below a directory.
-ghost use Rattle.std.specs.Prelude.{◌≡◌, [], ◌∷◌, Ok, IfErr, OnErr, OnOk};
+ghost use Rattle.std.specs.Prelude.{◌≡◌, [], ◌∷◌, Ok, IfErr, OnErr, OnOk, string_bytes};
 ghost use Rattle.std.specs.FinMap.{entries};
 ghost use Rattle.dconf_path.specs.Paths.{directory_text, key_text};
 ghost use Rattle.dconf_model.specs.Changes.{apply, Change.reset_below_directory};
 ghost use Rattle.dconf_engine.specs.ChangeFaults.{Refuses};
-ghost use Rattle.dconf_engine.specs.Cleared.{changed_paths, cleared, first_names, keeps};
-ghost use Rattle.dconf_engine.specs.KeyNames.{items_of, key_name_at, key_names};
+ghost use Rattle.dconf_engine.specs.Cleared.{changed_paths, cleared, first_paths, keeps};
+ghost use Rattle.dconf_engine.specs.Entries.{layer_paths};
 ghost use Rattle.dconf_engine.specs.Unsaved.{and_resets};
 
 use crate::change_fault::ChangeFault;
 use crate::changes::Changes;
 use crate::engine::Engine;
+use crate::entry::Entry;
 use crate::layer::Layer;
+use crate::layer_lists::is_under;
 use dconf_path::{DirPath, KeyPath};
 use std::alloc::AllocError;
 
@@ -57,7 +59,7 @@ impl<'a> Engine<'a> {
         directory: DirPath<'_>,
         changes: &mut Changes,
     ) -> Result<(), AllocError>
-        ensures { OnOk result (changes.new ≡ and_resets (cleared self.now (directory_text directory.entry) (first_names layers.now)) changes.old) }
+        ensures { OnOk result (changes.new ≡ and_resets (cleared self.now (directory_text directory.entry) (first_paths layers.now)) changes.old) }
     {
         match layers.first() {
             Some(first) => self.reset_layer(*first, directory, changes),
@@ -72,30 +74,28 @@ impl<'a> Engine<'a> {
         directory: DirPath<'_>,
         changes: &mut Changes,
     ) -> Result<(), AllocError>
-        ensures { OnOk result (changes.new ≡ and_resets (cleared self.now (directory_text directory.entry) (key_names layer.entry (items_of layer.entry))) changes.old) }
+        ensures { OnOk result (changes.new ≡ and_resets (cleared self.now (directory_text directory.entry) (layer_paths layer.entry)) changes.old) }
     {
         for i in 0..layer.n_items() {
-            self.reset_item(layer, i, directory, changes)?;
+            if let Some(entry) = layer.entry_at(self.alloc, i)? {
+                self.reset_entry(&entry, directory, changes)?;
+            }
         }
         Ok(())
     }
 
-    /// Resets an item's name, where it is below a directory.
-    fn reset_item(
+    /// Resets an entry's path that is below a directory and not locked.
+    fn reset_entry(
         &self,
-        layer: Layer<'_>,
-        i: u32,
+        entry: &Entry<'_>,
         directory: DirPath<'_>,
         changes: &mut Changes,
     ) -> Result<(), AllocError>
-        ensures { OnOk result (changes.new ≡ and_resets (cleared self.now (directory_text directory.entry) (key_name_at layer.entry i)) changes.old) }
+        ensures { OnOk result (changes.new ≡ and_resets (cleared self.now (directory_text directory.entry) (string_bytes entry.now.text ∷ [])) changes.old) }
     {
-        let Some(name) = layer.name_at(self.alloc, i)? else {
-            return Ok(());
-        };
-        match KeyPath::parse(name.as_str()) {
-            Ok(path) => self.reset_below(path, directory, changes),
-            Err(_) => Ok(()),
+        match entry.path() {
+            Some(path) => self.reset_below(path, directory, changes),
+            None => Ok(()),
         }
     }
 
@@ -119,6 +119,6 @@ impl<'a> Engine<'a> {
     fn keeps(&self, path: KeyPath<'_>, directory: DirPath<'_>) -> bool
         ensures { result ≡ keeps self.now (directory_text directory.entry) (key_text path.entry) }
     {
-        !path.as_str().starts_with(directory.as_str()) || self.is_locked(path)
+        !is_under(path.as_str(), directory) || self.is_locked(path)
     }
 }

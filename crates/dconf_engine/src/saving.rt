@@ -1,20 +1,19 @@
 //! The user's database.
-ghost use Rattle.std.specs.Prelude.{◌≡◌, [], ◌∷◌, IfOk, IfErr, OnOk};
+ghost use Rattle.std.specs.Prelude.{◌≡◌, ◌<◌, IfOk, IfErr, OnOk, Some, string_bytes};
 ghost use Rattle.std.specs.FinMap.{entries};
-ghost use Rattle.dconf_path.specs.Paths.{key_text};
 ghost use Rattle.dconf_model.specs.Changes.{saved};
 ghost use Rattle.dconf_model.specs.Databases.{IsDatabaseOf, IsTooBig};
 ghost use Rattle.gvdb_write.specs.Limits.{IsRefusal};
 ghost use Rattle.dconf_model.specs.Settings.{no_settings};
-ghost use Rattle.dconf_engine.specs.KeyNames.{items_of, key_name_at, key_names};
+ghost use Rattle.dconf_engine.specs.Entries.{items_of, layer_paths, path_at};
 ghost use Rattle.dconf_engine.specs.LayerSettings.{settings_of};
-ghost use Rattle.dconf_engine.specs.Saved.{and_unchanged, with_unchanged, with_sets};
+ghost use Rattle.dconf_engine.specs.Saved.{unless_changed, with_unchanged, with_sets};
 
 use crate::changes::Changes;
 use crate::engine::Engine;
+use crate::entry::Entry;
 use crate::layer::Layer;
-use dconf_path::KeyPath;
-use gvdb_write::{Map, WriteFault, write};
+use gvdb_write::{Map, MapBuilder, WriteFault, write};
 use std::alloc::{AllocError, Global};
 
 impl<'a> Engine<'a> {
@@ -37,82 +36,62 @@ impl<'a> Engine<'a> {
         let Some(first) = self.layers.first() else {
             return Ok(Map::new(self.alloc));
         };
-        let mut map = unchanged(self.alloc, *first, &self.changes)?;
-        add_sets(&self.changes, &mut map)?;
-        Ok(map)
+        let mut values = unchanged(self.alloc, *first, &self.changes)?;
+        add_sets(&self.changes, &mut values)?;
+        values.build()
     }
 }
 
 /// The values of a layer at paths that were not changed.
-fn unchanged(alloc: Global, layer: Layer<'_>, changes: &Changes) -> Result<Map, AllocError>
-    ensures { IfOk result (λ map. map ≡ with_unchanged (settings_of layer.entry).values changes.now (key_names layer.entry (items_of layer.entry)) no_settings) }
+fn unchanged(alloc: Global, layer: Layer<'_>, changes: &Changes) -> Result<MapBuilder, AllocError>
+    ensures { IfOk result (λ values. values ≡ with_unchanged (settings_of layer.entry).values changes.now (layer_paths layer.entry) no_settings) }
 {
-    let mut map = Map::new(alloc);
-    add_unchanged(alloc, layer, changes, &mut map)?;
-    Ok(map)
-}
-
-/// Adds the values of a layer at paths that were not changed.
-fn add_unchanged(
-    alloc: Global,
-    layer: Layer<'_>,
-    changes: &Changes,
-    map: &mut Map,
-) -> Result<(), AllocError>
-    ensures { OnOk result (map.new ≡ with_unchanged (settings_of layer.entry).values changes.now (key_names layer.entry (items_of layer.entry)) map.old) }
-{
+    let mut values = MapBuilder::new(alloc);
     for i in 0..layer.n_items() {
-        add_item(alloc, layer, i, changes, map)?;
+        add_item(alloc, layer, i, changes, &mut values)?;
     }
-    Ok(())
+    Ok(values)
 }
 
-/// Adds the value of an item's name.
+/// Adds the value of an item, if it is an entry that was not changed.
 fn add_item(
     alloc: Global,
     layer: Layer<'_>,
     i: u32,
     changes: &Changes,
-    map: &mut Map,
+    values: &mut MapBuilder,
 ) -> Result<(), AllocError>
-    ensures { OnOk result (map.new ≡ with_unchanged (settings_of layer.entry).values changes.now (key_name_at layer.entry i) map.old) }
+    requires { i < items_of layer }
+    ensures { OnOk result (values.new ≡ with_unchanged (settings_of layer.entry).values changes.now (path_at layer.entry i) values.old) }
 {
-    let Some(name) = layer.name_at(alloc, i)? else {
-        return Ok(());
-    };
-    match KeyPath::parse(name.as_str()) {
-        Ok(path) => add_key(layer, i, path, changes, map),
-        Err(_) => Ok(()),
-    }
-}
-
-/// Adds the value of a key that was not changed, which is item `i`'s name.
-fn add_key(
-    layer: Layer<'_>,
-    i: u32,
-    path: KeyPath<'_>,
-    changes: &Changes,
-    map: &mut Map,
-) -> Result<(), AllocError>
-    requires named { key_name_at layer i ≡ key_text path ∷ [] }
-    ensures { OnOk result (map.new ≡ and_unchanged (settings_of layer.entry).values changes.now map.old (key_text path.entry)) }
-{
-    if changes.get(path.as_str()).is_some() {
-        return Ok(());
-    }
-    match layer.value_at(i, path) {
-        Some(bytes) => map.insert(path, bytes),
+    match layer.entry_at(alloc, i)? {
+        Some(entry) => add_unchanged(alloc, entry, changes, values),
         None => Ok(()),
     }
 }
 
+/// Adds the value of an entry, if it was not changed.
+fn add_unchanged(
+    alloc: Global,
+    entry: Entry<'_>,
+    changes: &Changes,
+    values: &mut MapBuilder,
+) -> Result<(), AllocError>
+    ensures { OnOk result (values.new ≡ unless_changed changes.now values.old (string_bytes entry.text) (Some entry.bytes.now)) }
+{
+    if changes.get(entry.as_str()).is_some() {
+        return Ok(());
+    }
+    values.insert_text(entry.text, entry.bytes.to_vec(alloc)?)
+}
+
 /// Adds what was set.
-fn add_sets(changes: &Changes, map: &mut Map) -> Result<(), AllocError>
-    ensures { OnOk result (map.new ≡ with_sets (entries changes.now) map.old) }
+fn add_sets(changes: &Changes, values: &mut MapBuilder) -> Result<(), AllocError>
+    ensures { OnOk result (values.new ≡ with_sets (entries changes.now) values.old) }
 {
     for change in changes.iter() {
         if let Some(bytes) = change.bytes {
-            map.insert(change.path, bytes)?;
+            values.insert(change.path, bytes)?;
         }
     }
     Ok(())

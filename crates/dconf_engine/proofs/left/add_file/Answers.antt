@@ -1,20 +1,25 @@
-use Rattle.std.proofs.Common.{◌≡◌, true, false, rules, subst, List, ℕ}
+use Rattle.std.proofs.Common.{◌≡◌, cond, sym, true, false, rules, subst}
 use Rattle.std.specs.Prelude.{OnOk}
-use Rattle.dconf_model.specs.Layers.{parts_below}
+use Rattle.std.specs.FinMap.{keys}
 use Rattle.dconf_path.specs.Paths.{directory_text}
-use Rattle.dconf_engine.specs.LeftPaths.{has_reset_below}
-use Rattle.dconf_engine.specs.TextSets.{Adds}
-use Rattle.dconf_engine.proofs.LeftLaws.{base_if_reset, base_if_none}
+use Rattle.dconf_engine.specs.Entries.{layer_paths}
+use Rattle.dconf_engine.specs.LayerSettings.{settings_of}
+use Rattle.dconf_engine.specs.LeftPaths.{has_reset_below, unchanged_of}
+use Rattle.dconf_engine.specs.TextSets.{with_children}
 use Rattle.dconf_engine.proofs.left.add_file.Goals as goal
 
 pub returns-then-has_reset_below : goal.returns-then-has_reset_below
 returns-then-has_reset_below c =
     let d = directory_text c.args.directory in
-    let yes : has_reset_below d c.args.changes.now ≡ true = search rules in
-    subst (λ (l : List (List ℕ)). OnOk c.add_unchanged.result (Adds (parts_below d l) c.args.names.now c.add_unchanged.new.names)) (base_if_reset d c.args.changes.now c.args.layer yes) c.add_unchanged.ensures
+    let changes = c.args.changes.now in
+    let yes : has_reset_below d changes ≡ true = search rules in
+    subst (λ b. OnOk c.add_unchanged.result (c.add_unchanged.new.names ≡ with_children d (cond b (unchanged_of changes (layer_paths c.args.layer)) (keys (settings_of c.args.layer).values)) c.args.names.now))
+    (sym yes) c.add_unchanged.ensures
 
 pub returns : goal.returns
 returns c =
     let d = directory_text c.args.directory in
-    let none : has_reset_below d c.args.changes.now ≡ false = search rules in
-    subst (λ (l : List (List ℕ)). OnOk c.add_listed.result (Adds (parts_below d l) c.args.names.now c.add_listed.new.names)) (base_if_none d c.args.changes.now c.args.layer none) c.add_listed.ensures
+    let changes = c.args.changes.now in
+    let none : has_reset_below d changes ≡ false = search rules in
+    subst (λ b. OnOk c.add_listed.result (c.add_listed.new.names ≡ with_children d (cond b (unchanged_of changes (layer_paths c.args.layer)) (keys (settings_of c.args.layer).values)) c.args.names.now))
+    (sym none) c.add_listed.ensures

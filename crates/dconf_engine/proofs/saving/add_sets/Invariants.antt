@@ -6,4 +6,4 @@ use Rattle.dconf_engine.proofs.saving.add_sets.Given as goal
 
 -- what is left to set gives what all changes give
 abbrev pub invariant-loop-change : goal.invariant-loop-change
-invariant-loop-change l = with_sets (changes_left l.change-iterator) l.map ≡ with_sets (entries l.changes) l.initial.map
+invariant-loop-change l = with_sets (changes_left l.change-iterator) l.values ≡ with_sets (entries l.changes) l.initial.values

@@ -1,21 +1,20 @@
-use Rattle.std.proofs.Common.{◌≤◌, ◌∙◌, drop, length, refl, rules}
-use Rattle.dconf_model.specs.Layers.{all_locks}
+use Rattle.std.proofs.Common.{◌≡◌, ◌∙◌, ◌∷◌, ap, drop, map, sym, List}
+use Rattle.std.proofs.lemmas.Result.{on_ok_weaker}
+use Rattle.dconf_model.specs.Changes.{with_first_layer}
+use Rattle.dconf_model.specs.Layers.{Layers, all_locks}
 use Rattle.dconf_path.specs.Paths.{directory_text}
+use Rattle.dconf_engine.specs.declared.layer.Layer.{Layer}
+use Rattle.dconf_engine.specs.LayerSettings.{settings_of}
 use Rattle.dconf_engine.specs.LockNames.{locks_under}
-use Rattle.dconf_engine.proofs.LayerTurns.{locks_turn, no_locks_left}
-use Rattle.dconf_engine.proofs.TextSetLaws.{all_added}
+use Rattle.dconf_engine.specs.TextSets.{with_texts}
+use Rattle.dconf_engine.specs.Unsaved.{with_changes}
 use Rattle.dconf_engine.proofs.engine.Engine.add_locks.Goals as goal
 
-pub loop-i-init : goal.loop-i-init
-loop-i-init c t = refl
-
-pub loop-i-preserved : goal.loop-i-preserved
-loop-i-preserved c t =
-    locks_turn (directory_text c.args.directory) c.args.self.now.layers c.loop-i.i c.loop-i.paths c.add_locks_at.new.paths t (search rules) c.in_ok-add_locks_at.ensures ∙ c.loop-i.invariant t
-
-pub returns : goal.returns
-returns c =
-    let d = directory_text c.args.directory in
-    let ls = c.args.self.now.layers in
-    let past : length ls ≤ c.loop-i.i = search rules in
-    all_added (locks_under d (all_locks (drop c.loop-i.i ls))) (locks_under d (all_locks (drop 1 ls))) c.args.paths.now c.loop-i.paths (no_locks_left d ls c.loop-i.i past) c.loop-i.invariant
+pub returns-in-Some : goal.returns-in-Some
+returns-in-Some c =
+    let i = c.self.inside in
+    let items = sym c.deref.ensures.value ∙ c.in-Some.ensures.cases.0 in
+    on_ok_weaker c.add_locks.result
+    (λ e. e ∙ ap (λ (l : Layers). with_texts (locks_under (directory_text c.args.directory) (all_locks (drop 1 l.layers))) c.args.paths.now)
+    (ap (λ (ls : List Layer). record { layers = with_first_layer (with_changes i.changes) (map settings_of ls); writable = i.writable }) (sym items) ∙ c.self.view_is))
+    c.add_locks.ensures

@@ -1,24 +1,32 @@
-use Rattle.std.proofs.Common.{◌≡◌, ◌<◌, ◌∙◌, ℕ, List, Option, Bor, ap, length, option_map, rules, sym}
-use Rattle.dconf_model.specs.Layers.{first_from}
+use Rattle.std.proofs.Common.{◌≡◌, ◌∙◌, drop, List, Option, Bor, None, Some, ap, option_map, slice_get, sym, ℕ}
+use Rattle.dconf_model.specs.Layers.{Layers, first_from, place_or}
 use Rattle.dconf_model.specs.Settings.{Settings}
 use Rattle.dconf_path.specs.Paths.{key_text}
-use Rattle.dconf_engine.proofs.Levels.{first_has, first_has_not, place_nowhere}
+use Rattle.dconf_engine.specs.declared.layer.Layer.{Layer}
+use Rattle.dconf_engine.proofs.FirstLayer.{place_first, place_nowhere}
 use Rattle.dconf_engine.proofs.engine.Engine.first_place.Goals as goal
 
-pub returns-then-count-eq0 : goal.returns-then-count-eq0
-returns-then-count-eq0 c =
-    let none : length c.args.self.now.layers ≡ 0 = search rules in
-    place_nowhere c.args.self.now.layers (key_text c.args.path) none
+pub returns-in_default : goal.returns-in_default
+returns-in_default c =
+    let i = c.self.inside in
+    place_nowhere i.changes i.layers.items (key_text c.args.path) c.args.self.now.layers
+    (ap (λ (l : List Layer). slice_get l 0) (sym c.deref.ensures.value) ∙ sym c.in_default.ensures.value) (ap (λ (l : Layers). l.layers) c.self.view_is)
 
-pub returns-in-Some : goal.returns-in-Some
-returns-in-Some c =
-    let some : 0 < length c.args.self.now.layers = search rules in
-    first_has c.args.self.now.layers (key_text c.args.path) c.in-Some.bytes.now some
-    (ap (λ (o : Option (Bor (List ℕ))). option_map (λ b. b.now) o) (sym c.in-Some.is) ∙ c.first_bytes.ensures)
+pub returns-in-Some-changed_bytes : goal.returns-in-Some-changed_bytes
+returns-in-Some-changed_bytes c =
+    let i = c.self.inside in
+    let path = key_text c.args.path in
+    let ls = c.args.self.now.layers in
+    ap (λ o. place_or 0 o (first_from 1 (drop 1 ls) path)) (ap (λ (o : Option (Bor (List ℕ))). option_map (λ b. b.now) o) (sym c.in-Some-changed_bytes.is) ∙ c.changed_bytes.ensures)
+    ∙ place_first i.changes i.layers.items c.in-Some.first.now path ls
+    (ap (λ (l : List Layer). slice_get l 0) (sym c.deref.ensures.value) ∙ sym c.in-Some.ensures.value) (ap (λ (l : Layers). l.layers) c.self.view_is)
 
 pub returns-in-None : goal.returns-in-None
 returns-in-None c =
-    let some : 0 < length c.args.self.now.layers = search rules in
-    c.place_from.ensures
-    ∙ (ap (λ (ss : List Settings). first_from 1 ss (key_text c.args.path)) c.lent.ensures
-    ∙ first_has_not c.args.self.now.layers (key_text c.args.path) some (ap (λ (o : Option (Bor (List ℕ))). option_map (λ b. b.now) o) (sym c.in-None.is) ∙ c.first_bytes.ensures))
+    let i = c.self.inside in
+    let path = key_text c.args.path in
+    let ls = c.args.self.now.layers in
+    c.place_from.ensures ∙ (ap (λ (ss : List Settings). first_from 1 ss path) c.lent.ensures
+    ∙ (ap (λ o. place_or 0 o (first_from 1 (drop 1 ls) path)) (ap (λ (o : Option (Bor (List ℕ))). option_map (λ b. b.now) o) (sym c.in-None.is) ∙ c.changed_bytes.ensures)
+    ∙ place_first i.changes i.layers.items c.in-Some.first.now path ls
+    (ap (λ (l : List Layer). slice_get l 0) (sym c.deref.ensures.value) ∙ sym c.in-Some.ensures.value) (ap (λ (l : Layers). l.layers) c.self.view_is)))

@@ -1,8 +1,7 @@
-use Rattle.std.proofs.Common.{◌≡◌, ◌∙◌, sym, ap, Ok, map}
+use Rattle.std.proofs.Common.{◌∙◌, ap, Ok}
 use Rattle.std.proofs.lemmas.Result.{err_from_is_err_and}
+use Rattle.dconf_model.specs.Changes.{with_all}
 use Rattle.dconf_model.specs.Layers.{Layers}
-use Rattle.dconf_model.specs.Changes.{Values, changed, with_all}
-use Rattle.dconf_engine.specs.LayerSettings.{settings_of}
 use Rattle.dconf_engine.specs.Rows.{rows_of, not_locked}
 use Rattle.dconf_engine.specs.Unsaved.{Unsaved, and_rows, with_changes}
 use Rattle.dconf_engine.proofs.UnsavedLaws.{rows_more}
@@ -17,11 +16,8 @@ returns-in_err-set_rows-clause-fault c =
 pub returns-clause-ok : goal.returns-clause-ok
 returns-clause-ok c =
     let i = c.self.inside in
-    let base : Layers = record { layers = map settings_of i.layers.items; writable = i.writable } in
-    let rows = not_locked c.args.self.now (rows_of c.args.rows.now) in
-    let f : Values → Values = with_all rows in
-    let made : c.set_rows.new.changes ≡ and_rows rows i.changes = c.in_ok-set_rows.ensures.ok ∙ ap (and_rows rows) c.in_ok-changes.ensures in
-    load_accepted c.args.self.now (rows_of c.args.rows.now) c.args.force c.in_ok-check_rows.ensures.ok c.in_ok-set_rows.ensures.storable
-    ∙ ap (λ (l : Layers). Ok (changed f l)) (sym c.self.view_is)
-    ∙ ap (λ (l : Layers). Ok l) (changed_beside f i.changes c.set_rows.new.changes base (λ v.
-    ap (λ (u : Unsaved). with_changes u v) made ∙ rows_more rows i.changes v))
+    let l = c.args.self.now in
+    let rows = not_locked l (rows_of c.args.rows.now) in
+    load_accepted l (rows_of c.args.rows.now) c.args.force c.in_ok-check_rows.ensures.ok c.in_ok-set_rows.ensures.storable
+    ∙ ap (λ (l : Layers). Ok l) (changed_beside (with_all rows) i.changes c.set_rows.new.changes i.layers.items i.writable l c.self.view_is (λ v.
+    ap (λ (u : Unsaved). with_changes u v) (c.in_ok-set_rows.ensures.ok ∙ ap (and_rows rows) c.in_ok-changes.ensures) ∙ rows_more rows i.changes v))

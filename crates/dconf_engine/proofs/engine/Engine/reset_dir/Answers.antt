@@ -5,7 +5,7 @@ use Rattle.dconf_model.specs.Changes.{Values, changed, with_first_layer}
 use Rattle.dconf_model.specs.Layers.{Layers}
 use Rattle.dconf_model.specs.Settings.{Settings}
 use Rattle.dconf_engine.specs.declared.layer.Layer.{Layer}
-use Rattle.dconf_engine.specs.Cleared.{keeps, cleared, changed_paths, first_names}
+use Rattle.dconf_engine.specs.Cleared.{keeps, cleared, changed_paths, first_paths}
 use Rattle.dconf_engine.specs.LayerSettings.{settings_of}
 use Rattle.dconf_engine.specs.Unsaved.{Unsaved, and_resets, with_changes}
 use Rattle.dconf_engine.proofs.ClearedLaws.{reset_all, reset_layers, reset_dir_accepted}
@@ -19,10 +19,10 @@ returns-clause-ok c =
     let items = i.layers.items in
     let writable : l.writable ≡ true = search rules in
     let f : Values → Values = (λ v. retain_keys v (keeps l d)) in
-    let made : c.reset_first.new.changes ≡ reset_all l d i.changes (first_names items) =
+    let made : c.reset_first.new.changes ≡ reset_all l d i.changes (first_paths items) =
     c.in_ok-reset_first.ensures
-    ∙ (ap (λ (ls : List Layer). and_resets (cleared l d (first_names ls)) c.reset_changed.new.changes) c.deref.ensures.value
-    ∙ ap (and_resets (cleared l d (first_names items)))
+    ∙ (ap (λ (ls : List Layer). and_resets (cleared l d (first_paths ls)) c.reset_changed.new.changes) c.deref.ensures.value
+    ∙ ap (and_resets (cleared l d (first_paths items)))
     (c.in_ok-reset_changed.ensures ∙ ap (and_resets (cleared l d (changed_paths (entries i.changes)))) c.in_ok-changes.ensures)) in
     reset_dir_accepted l d writable
     ∙ (ap (λ (m : Layers). Ok (changed f m)) (sym c.self.view_is)

@@ -1,4 +1,4 @@
-use Rattle.std.proofs.Common.{[], subst, ℕ, List, None}
+use Rattle.std.proofs.Common.{◌∙◌, [], subst, sym, ℕ, List, None}
 use Rattle.std.specs.FinMap.{keys}
 use Rattle.std.specs.Prelude.{filter, IsTrue}
 use Rattle.std.specs.Str.{is_utf8}
@@ -14,7 +14,7 @@ use Rattle.gvdb_read.specs.NamesLeft.{names_left}
 use Rattle.gvdb_read.specs.Tables.{region}
 use Rattle.dconf_engine.specs.LayerSettings.{locks_of, settings_of}
 use Rattle.dconf_engine.proofs.ListedNames.{listed_in, not_listed_in}
-use Rattle.dconf_engine.proofs.TextSetLaws.{adds_alike, adds_nothing}
+use Rattle.dconf_engine.proofs.TextSetLaws.{children_are, texts_alike}
 use Rattle.dconf_engine.proofs.layer.Layer.add_listed.Goals as goal
 
 pub returns-in-Some : goal.returns-in-Some
@@ -22,15 +22,18 @@ returns-in-Some c =
     let l = c.args.self in
     let d = directory_text c.args.directory in
     let names = names_left c.in-Some.listed in
+    let paths = keys (settings_of l).values in
     let list = subst (λ (p : List ℕ). IsListOf (region l.values) p names) c.as_str.ensures c.in-Some.ensures.found in
     on_ok_weaker c.add_keys.result
-    (adds_alike (filter is_utf8 names) (parts_below d (keys (settings_of l).values)) c.args.names.now c.add_keys.new.names (λ t. listed_in l.values (locks_of l) d names t l.sound list))
+    (λ e. e ∙ (texts_alike (filter is_utf8 names) (parts_below d paths) c.args.names.now (λ t. listed_in l.values (locks_of l) d names t l.sound list)
+    ∙ sym (children_are d paths c.args.names.now)))
     c.add_keys.ensures
 
 pub returns-in-None : goal.returns-in-None
 returns-in-None c =
     let l = c.args.self in
     let d = directory_text c.args.directory in
+    let paths = keys (settings_of l).values in
     let none = subst (λ (p : List ℕ). Finds (region l.values) p list_kind None) c.as_str.ensures c.in-None.ensures.none in
     let ends : IsTrue (ends_with_slash d) = (and_parts (is_path d) (ends_with_slash d) c.args.directory.is_of_directory).1 in
-    adds_alike [] (parts_below d (keys (settings_of l).values)) c.args.names.now c.args.names.now (λ t. not_listed_in l.values (locks_of l) d t l.sound ends none) (adds_nothing c.args.names.now)
+    texts_alike [] (parts_below d paths) c.args.names.now (λ t. not_listed_in l.values (locks_of l) d t l.sound ends none) ∙ sym (children_are d paths c.args.names.now)

@@ -1,6 +1,6 @@
 use Rattle.std.proofs.Common.{rules}
 use Rattle.dconf_engine.specs.LayerSettings.{locks_of}
-use Rattle.dconf_engine.proofs.EmptyDatabase.{nothing_in}
+use Rattle.dconf_engine.proofs.EntryLaws.{nothing_in}
 use Rattle.dconf_engine.proofs.SoundLayers.{found_in}
 use Rattle.dconf_engine.proofs.layer.Layer.get.Goals as goal
 

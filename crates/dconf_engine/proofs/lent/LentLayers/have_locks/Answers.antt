@@ -1,12 +1,14 @@
-use Rattle.std.proofs.Common.{arith}
-use Rattle.std.proofs.lemmas.List.{length-map}
-use Rattle.dconf_model.specs.Layers.{locks_path}
-use Rattle.dconf_engine.specs.LayerSettings.{settings_of}
-use Rattle.dconf_engine.specs.LentSettings.{seen_in}
-use Rattle.dconf_engine.proofs.Levels.{level_none}
+use Rattle.std.proofs.Common.{◌∙◌, ap, drop, sym, List}
+use Rattle.std.specs.List.{list_any}
+use Rattle.dconf_engine.specs.declared.layer.Layer.{Layer}
+use Rattle.dconf_engine.specs.LayerSettings.{has_locks}
+use Rattle.dconf_engine.proofs.LocksLaws.{nothing_locked, unlocked_level}
 use Rattle.dconf_engine.proofs.lent.LentLayers.have_locks.Goals as goal
 
-pub returns : goal.returns
-returns c none path key =
-    let n = length-map c.args.self.layers.now settings_of in
-    level_none (locks_path path) (seen_in c.args.self).layers (λ k from within. c.loop-i.invariant path key k from (omega (arith, n, within, c.loop-i-test.false)))
+pub returns-in-Some-clause-unlocked : goal.returns-in-Some-clause-unlocked
+returns-in-Some-clause-unlocked c none path key =
+    unlocked_level c.args.self.layers.now c.args.self.writable path key
+    (ap (λ (l : List Layer). list_any has_locks (drop 1 l)) c.in-Some.ensures.cases.0 ∙ (sym c.any_has_locks.ensures ∙ none))
+
+pub returns-in-None-clause-unlocked : goal.returns-in-None-clause-unlocked
+returns-in-None-clause-unlocked c none path key = nothing_locked c.args.self.layers.now c.args.self.writable path c.in-None.ensures.cases
