@@ -23,8 +23,9 @@ loop-path-init c =
     let held : AreHeld s.values (entries_left c.into_iter-path-iterator.result) = subst (λ (es : List (List ℕ × List ℕ)). AreHeld s.values es) (sym same) c.entries-path-items.ensures.held in
     let before : AreBeforeSlash s c.if-is_some.names.items = elim c.if-is_some.branch [
       | then-is_some+in_ok-push w ↦
+          let named : w.as_bytes.result.now ≡ codes ".locks" = w.as_bytes.ensures.value in
           rw (w.names-is, w.in_ok-push.ensures.items, c.new-names.ensures.items)
-          (locks_before s w.top.result (is_top w.top.result (codes ".locks") table_kind w.top.ensures.hash w.top.ensures.from w.top.ensures.entry)
+          (locks_before s w.top.result (is_top w.top.result (codes ".locks") table_kind (rw named at w.top.ensures.hash) w.top.ensures.from (rw named at w.top.ensures.entry))
           (some_lock s _ _ c.next.result c.locks.ensures c.next.ensures.steps (sym w.if-is_some.ensures)))
       | else-is_some w ↦ rw (w.names-is, c.new-names.ensures.items) (none_before s (no_lock s _ _ c.next.result c.locks.ensures c.next.ensures.steps (sym w.if-is_some.ensures)))
     ] in
