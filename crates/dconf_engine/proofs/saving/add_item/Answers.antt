@@ -1,4 +1,4 @@
-use Rattle.std.proofs.Common.{◌∙◌, ap}
+use Rattle.std.proofs.Common.{◌∙◌}
 use Rattle.std.proofs.lemmas.Result.{on_ok_weaker}
 use Rattle.dconf_engine.specs.Entries.{path_at}
 use Rattle.dconf_engine.specs.LayerSettings.{settings_of}
