@@ -1,9 +1,9 @@
 -- Resetting all below a directory: what was changed there and what the first layer has there.
-use Rattle.std.proofs.Common.{◌≡◌, ℕ, Bool, true, false, cond, not, List, [], ◌∷◌, Option, Some, None, Ok, Err, is_some, map, refl, sym, ap, ◌∙◌, ◌||◌, ◌&&◌}
+use Rattle.std.proofs.Common.{◌≡◌, ℕ, Bool, true, false, cond, not, List, [], ◌∷◌, Option, Some, None, Ok, Err, is_some, map, refl, sym, ap, ◌∙◌, ◌&&◌}
 use Rattle.std.specs.List.{list_any}
 use Rattle.std.specs.Option.{unwrap_or}
 use Rattle.std.specs.Str.{bytes_eq}
-use Rattle.std.specs.FinMap.{get, insert, entries, retain_keys, contains_key}
+use Rattle.std.specs.FinMap.{get, entries, retain_keys, contains_key}
 use Rattle.dconf_model.specs.Changes.{Values, apply, changed, with_first_layer}
 use Rattle.dconf_model.specs.Changes.Change.{reset_below_directory}
 use Rattle.dconf_model.specs.Changes.Refusal.{not_writable}

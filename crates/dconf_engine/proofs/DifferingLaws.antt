@@ -1,6 +1,6 @@
 -- What differs of what two ways to see layers show.
 use Rattle.std.specs.Prelude.{◌↔◌, IsTrue, filter}
-use Rattle.std.proofs.Common.{◌≡◌, ◌≢◌, ◌⊎◌, ◌||◌, ◌∙◌, ℕ, Bool, true, false, List, sym, refl, not, inl, inr}
+use Rattle.std.proofs.Common.{◌≡◌, ◌≢◌, ◌⊎◌, ◌||◌, ℕ, Bool, true, false, List, sym, refl, not, inl, inr}
 use Rattle.dconf_model.specs.Layers.{Layers, is_locked, visible}
 use Rattle.dconf_model.specs.Order.{listing}
 use Rattle.dconf_model.proofs.PathMaps.{no_truth}

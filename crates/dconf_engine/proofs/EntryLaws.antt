@@ -1,6 +1,6 @@
 -- What an item of a sound database gives as an entry, and that each path that has a value is an entry's.
 use Rattle.std.specs.Prelude.{IsTrue, IsUtf8}
-use Rattle.std.proofs.Common.{◌≡◌, ◌≢◌, ◌<◌, ◌≤◌, ℕ, zero, suc, Bool, true, false, cond, eqb, eqb-true, eq-eqb, ne_eqb, T, List, [], ◌∷◌, ◌++◌, ◌||◌, ◌&&◌, length, map, not, Option, Some, None, is_some, option_map, refl, sym, ap, ◌∙◌, subst, arith}
+use Rattle.std.proofs.Common.{◌≡◌, ◌≢◌, ◌<◌, ◌≤◌, ℕ, zero, suc, true, false, cond, eqb, eqb-true, eq-eqb, ne_eqb, T, List, [], ◌∷◌, ◌++◌, ◌||◌, ◌&&◌, length, map, not, Option, Some, None, is_some, option_map, refl, sym, ap, ◌∙◌, subst, arith}
 use Rattle.std.specs.Borrow.{Bor}
 use Rattle.std.specs.Coded.{coded_option, coded_list, coded_ℕ}
 use Rattle.std.specs.Cmp.Lexicographic.{slice_cmp, nat_list_cmp_total}
@@ -21,7 +21,6 @@ use Rattle.dconf_model.specs.Databases.{gathered, row_of_value, value_rows}
 use Rattle.dconf_model.specs.Names.{HasName, HasParents, joined, name_of, Rows}
 use Rattle.dconf_model.specs.Paths.{is_key_path, is_path, is_short, starts_with_slash, has_zero_byte, has_two_slashes, ends_with_slash}
 use Rattle.dconf_model.specs.Searchable.{IsSearchable}
-use Rattle.dconf_model.specs.Sound.{IsSound}
 use Rattle.dconf_model.specs.Sound.Rule.{content}
 use Rattle.dconf_model.specs.Table.{Table as Region, HasBytes, bytes_of, item, key, value_kind}
 use Rattle.dconf_model.proofs.ComputedNames.{name_of_named, named_of_name}

@@ -1,6 +1,6 @@
 -- The names of the items of a sound database's table of locks are its locks, as far as they are paths.
 use Rattle.std.specs.Prelude.{IfSome, IfNone, option_map, string_bytes}
-use Rattle.std.proofs.Common.{◌≡◌, ◌<◌, ◌||◌, ◌&&◌, ℕ, true, false, List, [], ◌∷◌, length, Option, Some, None, refl, sym, ap, ◌∙◌, subst, arith}
+use Rattle.std.proofs.Common.{◌≡◌, ◌<◌, ◌||◌, ℕ, true, false, List, [], length, Option, Some, None, refl, sym, ap, ◌∙◌, subst, arith}
 use Rattle.std.specs.Coded.{coded_list, coded_ℕ}
 use Rattle.std.specs.FinMap.{keys}
 use Rattle.std.specs.List.{list_any}
@@ -9,9 +9,8 @@ use Rattle.std.specs.declared.alloc.Global.{Global}
 use Rattle.std.specs.declared.string.String.{String}
 use Rattle.std.proofs.Math.Bool.{Bool-set, or-false}
 use Rattle.std.proofs.Math.Logic.{∥∥₁_elim}
-use Rattle.std.proofs.lemmas.Bool.{or_left, and_parts}
+use Rattle.std.proofs.lemmas.Bool.{or_left}
 use base.Stored.{Coded-set}
-use Rattle.dconf_model.specs.Locks.{is_below}
 use Rattle.dconf_model.specs.Names.{HasName, name_of}
 use Rattle.dconf_model.specs.Paths.{is_path}
 use Rattle.dconf_model.specs.Searchable.{IsSearchable}
@@ -26,7 +25,7 @@ use Rattle.gvdb_read.specs.Tables.{region}
 use Rattle.gvdb_write.specs.Salvaged.{HasNoShortText}
 use Rattle.dconf_engine.specs.declared.layer.Layer.{Layer}
 use Rattle.dconf_engine.specs.LayerSettings.{locks_of, settings_of}
-use Rattle.dconf_engine.specs.LockNames.{lock_name, lock_count, lock_name_at, lock_names, locks_under}
+use Rattle.dconf_engine.specs.LockNames.{lock_name, lock_count, lock_name_at, lock_names}
 use Rattle.dconf_engine.specs.SoundTables.{AreOfSoundDatabase}
 use Rattle.dconf_engine.proofs.EntryLaws.{name_utf8, short_path}
 use Rattle.dconf_engine.proofs.PathTests.{any_gathered, any_of_gathered}

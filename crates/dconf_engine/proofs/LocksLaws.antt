@@ -1,7 +1,7 @@
 -- Where no layer but the first has locks no key is locked.
-use Rattle.std.proofs.Common.{◌≡◌, ◌∙◌, ◌∷◌, [], ◌||◌, arith, length, ℕ, ◌+◌, Bool, true, false, List, drop, map, sym, subst, refl}
+use Rattle.std.proofs.Common.{◌≡◌, ◌∷◌, [], ◌||◌, arith, length, ℕ, ◌+◌, Bool, true, false, List, drop, map, sym, subst, refl}
 use Rattle.std.specs.List.{list_any}
-use Rattle.dconf_model.specs.Layers.{Layers, greatest_from, level, locks_path}
+use Rattle.dconf_model.specs.Layers.{greatest_from, level, locks_path}
 use Rattle.dconf_model.specs.Salvaging.{IsKeyText}
 use Rattle.dconf_model.proofs.PathMaps.{no_truth}
 use Rattle.dconf_engine.specs.declared.layer.Layer.{Layer}

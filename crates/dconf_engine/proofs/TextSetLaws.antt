@@ -1,5 +1,5 @@
 -- Texts that are gathered, and the same in order, once each.
-use Rattle.std.specs.Prelude.{Contains, IsUtf8, filter, map, string_bytes}
+use Rattle.std.specs.Prelude.{Contains, filter, map, string_bytes}
 use Rattle.std.proofs.Common.{◌≡◌, ◌||◌, ◌&&◌, ◌++◌, ℕ, Bool, true, false, cond, List, [], ◌∷◌, Option, Some, None, is_some, drop, length, refl, sym, ap, ◌∙◌, subst, inl, inr}
 use Rattle.std.specs.Cmp.Lexicographic.{slice_cmp}
 use Rattle.std.specs.FinMap as fin
@@ -8,7 +8,7 @@ use Rattle.std.specs.FinMap.Entries.{is_sorted, below_all}
 use Rattle.std.specs.List.{dedup, dedup_from, fold, list_any}
 use Rattle.std.specs.List.Sorted.{IsSorted, IsStable}
 use Rattle.std.specs.Ordering.{nat_cmp, is_lt}
-use Rattle.std.specs.Str.{bytes_eq, is_utf8}
+use Rattle.std.specs.Str.{bytes_eq}
 use Rattle.std.specs.String.{string_cmp}
 use Rattle.std.specs.declared.alloc.Global.{Global}
 use Rattle.std.specs.declared.string.String.{String}
@@ -17,14 +17,13 @@ use Rattle.std.proofs.lemmas.List.{map-append}
 use Rattle.std.proofs.lemmas.List.Sums.{fold-append}
 use Rattle.dconf_model.specs.Layers.{parts_below}
 use Rattle.dconf_model.specs.Locks.{is_below}
-use Rattle.dconf_model.specs.Order.{in_order, listing}
+use Rattle.dconf_model.specs.Order.{listing}
 use Rattle.dconf_model.specs.Paths.{first_part}
 use Rattle.dconf_model.specs.Settings.{AtPaths}
 use Rattle.dconf_model.proofs.DatabaseLaws.{at_paths}
 use Rattle.dconf_model.proofs.ListingOrder.{find_text, found_text}
 use Rattle.dconf_model.proofs.Listings.{first_or_later, listing_from, listing_has, none_of_none}
 use Rattle.dconf_model.proofs.OneSortedList.{in_order-map, sorted_is_in_order}
-use Rattle.dconf_model.proofs.ParentLaws.{by_bool}
 use Rattle.dconf_model.proofs.PathMaps.{eq_turned, get_inserted, key_in}
 use Rattle.dconf_model.proofs.RisingTexts.{IsLess, Rises, less_of, listing_rises, one_rises}
 use Rattle.gvdb_write.proofs.KeysRise.{from_true}

@@ -12,10 +12,8 @@ ghost use Rattle.dconf_engine.specs.SoundTables.{AreOfSoundDatabase, locks_if};
 
 use crate::fault::DatabaseFault;
 use dconf_path::KeyPath;
+use gvdb_read::format::LOCKS;
 use gvdb_read::{HashedName, Table};
-
-/// The name of the table of locks.
-const LOCKS: &str = ".locks";
 
 /// A database without items.
 const EMPTY: &[u8] = b"GVariant\0\0\0\0\0\0\0\0\x18\0\0\0\x20\0\0\0\0\0\0\0\0\0\0\0";

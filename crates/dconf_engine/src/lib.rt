@@ -21,21 +21,21 @@
 
 mod change_fault;
 mod changes;
-mod differing;
+mod differences;
 mod engine;
 mod entry;
 mod fault;
 mod layer;
 mod layer_lists;
-mod left;
 mod lent;
 mod listing;
-mod resetting;
+mod remaining;
+mod reset;
 mod same_values;
-mod saving;
-mod storing;
+mod stored_bytes;
 mod texts;
-mod writing;
+mod user_database;
+mod write;
 
 pub use change_fault::ChangeFault;
 pub use engine::Engine;

@@ -8,7 +8,7 @@ ghost use Rattle.dconf_engine.specs.TextSets.{with_children, with_texts};
 
 use crate::engine::Engine;
 use crate::layer::Layer;
-use crate::left::add_with_changes;
+use crate::remaining::add_with_changes;
 use crate::texts::Texts;
 use dconf_path::DirPath;
 use std::alloc::{AllocError, Global};

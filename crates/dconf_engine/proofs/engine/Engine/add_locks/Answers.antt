@@ -1,4 +1,4 @@
-use Rattle.std.proofs.Common.{◌≡◌, ◌∙◌, ◌∷◌, ap, drop, map, sym, List}
+use Rattle.std.proofs.Common.{◌∙◌, ap, drop, map, sym, List}
 use Rattle.std.proofs.lemmas.Result.{on_ok_weaker}
 use Rattle.dconf_model.specs.Changes.{with_first_layer}
 use Rattle.dconf_model.specs.Layers.{Layers, all_locks}

@@ -1,4 +1,4 @@
-use Rattle.std.proofs.Common.{◌≡◌, ◌∙◌, drop, List, Option, Bor, None, Some, ap, option_map, slice_get, sym, ℕ}
+use Rattle.std.proofs.Common.{◌∙◌, drop, List, Option, Bor, ap, option_map, slice_get, sym, ℕ}
 use Rattle.dconf_model.specs.Layers.{Layers, first_from, place_or}
 use Rattle.dconf_model.specs.Settings.{Settings}
 use Rattle.dconf_path.specs.Paths.{key_text}

@@ -1,4 +1,4 @@
-use Rattle.std.proofs.Common.{◌≡◌, rules, sym, ap, cond, false, Some, None}
+use Rattle.std.proofs.Common.{rules}
 use Rattle.dconf_engine.proofs.EntryLaws.{value_shown, no_value_shown}
 use Rattle.dconf_engine.proofs.layer.Layer.value_of.Goals as goal
 

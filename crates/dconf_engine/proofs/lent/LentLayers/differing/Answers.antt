@@ -5,7 +5,6 @@ use Rattle.std.proofs.lemmas.List.Elements.{filter-append}
 use Rattle.std.proofs.lemmas.List.Sums.{fold-append}
 use Rattle.std.proofs.lemmas.Result.{IfOk-weaker}
 use Rattle.dconf_model.specs.Layers.{all_paths}
-use Rattle.dconf_model.specs.Order.{listing}
 use Rattle.dconf_engine.specs.Differing.{AreDiffering, differs, first_keys}
 use Rattle.dconf_engine.specs.LentSettings.{seen_in}
 use Rattle.dconf_engine.specs.TextSets.{TextSet, with_text, with_texts}

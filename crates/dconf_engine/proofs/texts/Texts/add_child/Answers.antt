@@ -4,7 +4,7 @@ use Rattle.std.proofs.lemmas.Bool.Decides.{Decides-eqb}
 use Rattle.std.proofs.lemmas.Slice.Eq.{starts_is}
 use Rattle.dconf_model.specs.Locks.{is_below}
 use Rattle.dconf_model.specs.Paths.{first_part}
-use Rattle.dconf_engine.specs.TextSets.{TextSet, text_set, with_child, with_text}
+use Rattle.dconf_engine.specs.TextSets.{TextSet, text_set, with_text}
 use Rattle.dconf_engine.proofs.TextSetLaws.{one_more}
 use Rattle.dconf_engine.proofs.texts.Texts.add_child.Goals as goal
 

@@ -9,7 +9,7 @@ use Rattle.dconf_engine.specs.LentSettings.{seen_in}
 use Rattle.dconf_engine.specs.TextSets.{with_texts}
 use Rattle.dconf_engine.proofs.EntryLaws.{has_path}
 use Rattle.dconf_engine.proofs.TextSetLaws.{passing_alike}
-use Rattle.dconf_engine.proofs.differing.Pair.add_layer.Goals as goal
+use Rattle.dconf_engine.proofs.differences.Pair.add_layer.Goals as goal
 
 pub returns : goal.returns
 returns c =

@@ -5,7 +5,7 @@ use Rattle.dconf_engine.specs.Differing.{differs}
 use Rattle.dconf_engine.specs.LayerSettings.{settings_of}
 use Rattle.dconf_engine.specs.LentSettings.{seen_in}
 use Rattle.dconf_engine.specs.TextSets.{with_texts}
-use Rattle.dconf_engine.proofs.differing.Pair.add_layers.Given as goal
+use Rattle.dconf_engine.proofs.differences.Pair.add_layers.Given as goal
 
 -- what is left to add gives what all layers give
 abbrev pub invariant-loop-layer : goal.invariant-loop-layer

@@ -6,7 +6,7 @@ use Rattle.dconf_engine.specs.Entries.{layer_paths}
 use Rattle.dconf_engine.specs.LayerSettings.{settings_of}
 use Rattle.dconf_engine.specs.LeftPaths.{has_reset_below, unchanged_of}
 use Rattle.dconf_engine.specs.TextSets.{with_children}
-use Rattle.dconf_engine.proofs.left.add_file.Goals as goal
+use Rattle.dconf_engine.proofs.remaining.add_file.Goals as goal
 
 pub returns-then-has_reset_below : goal.returns-then-has_reset_below
 returns-then-has_reset_below c =

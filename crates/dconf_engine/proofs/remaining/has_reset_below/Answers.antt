@@ -3,7 +3,7 @@ use Rattle.std.specs.FinMap.{entries}
 use Rattle.dconf_path.specs.Paths.{directory_text}
 use Rattle.dconf_engine.specs.UnsavedLeft.{change_of, changes_left}
 use Rattle.dconf_engine.proofs.LeftLaws.{reset_found}
-use Rattle.dconf_engine.proofs.left.has_reset_below.Goals as goal
+use Rattle.dconf_engine.proofs.remaining.has_reset_below.Goals as goal
 
 pub returns-then-is_reset_below : goal.returns-then-is_reset_below
 returns-then-is_reset_below c =

@@ -3,7 +3,7 @@ use Rattle.dconf_model.specs.Settings.{no_settings}
 use Rattle.dconf_engine.specs.Entries.{paths_in}
 use Rattle.dconf_engine.specs.LayerSettings.{settings_of}
 use Rattle.dconf_engine.specs.Saved.{with_unchanged}
-use Rattle.dconf_engine.proofs.saving.unchanged.Given as goal
+use Rattle.dconf_engine.proofs.user_database.unchanged.Given as goal
 
 -- with the values of the entries before this one
 abbrev pub invariant-loop-i : goal.invariant-loop-i

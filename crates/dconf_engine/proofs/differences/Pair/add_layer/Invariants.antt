@@ -4,7 +4,7 @@ use Rattle.dconf_engine.specs.Differing.{differs}
 use Rattle.dconf_engine.specs.Entries.{paths_in}
 use Rattle.dconf_engine.specs.LentSettings.{seen_in}
 use Rattle.dconf_engine.specs.TextSets.{with_texts}
-use Rattle.dconf_engine.proofs.differing.Pair.add_layer.Given as goal
+use Rattle.dconf_engine.proofs.differences.Pair.add_layer.Given as goal
 
 -- the paths before this one were added
 abbrev pub invariant-loop-i : goal.invariant-loop-i

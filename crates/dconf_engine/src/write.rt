@@ -10,7 +10,7 @@ ghost use Rattle.dconf_engine.specs.Unsaved.{and_rows};
 use crate::change_fault::ChangeFault;
 use crate::changes::Changes;
 use crate::engine::Engine;
-use crate::storing::stored_bytes;
+use crate::stored_bytes::stored_bytes;
 use dconf_path::KeyPath;
 use gv_tree::Tree;
 

@@ -1,9 +1,9 @@
-use Rattle.std.proofs.Common.{◌∙◌, ap}
+use Rattle.std.proofs.Common.{◌∙◌}
 use Rattle.std.proofs.lemmas.Result.{on_ok_weaker}
 use Rattle.dconf_engine.specs.Entries.{path_at}
 use Rattle.dconf_engine.specs.LayerSettings.{settings_of}
 use Rattle.dconf_engine.proofs.SavedLaws.{entry_taken}
-use Rattle.dconf_engine.proofs.saving.add_item.Goals as goal
+use Rattle.dconf_engine.proofs.user_database.add_item.Goals as goal
 
 pub returns-in-Some : goal.returns-in-Some
 returns-in-Some c =

@@ -4,7 +4,7 @@ use Rattle.std.proofs.lemmas.Result.{on_ok_weaker}
 use Rattle.dconf_path.specs.Paths.{directory_text}
 use Rattle.dconf_engine.specs.LeftPaths.{with_set_children}
 use Rattle.dconf_engine.proofs.LeftLaws.{both_taken}
-use Rattle.dconf_engine.proofs.left.add_with_changes.Goals as goal
+use Rattle.dconf_engine.proofs.remaining.add_with_changes.Goals as goal
 
 pub returns : goal.returns
 returns c =

@@ -4,7 +4,7 @@ use Rattle.dconf_model.specs.Settings.{no_settings}
 use Rattle.dconf_engine.specs.Entries.{items_of, path_at, paths_in}
 use Rattle.dconf_engine.specs.LayerSettings.{settings_of}
 use Rattle.dconf_engine.specs.Saved.{and_unchanged, with_unchanged}
-use Rattle.dconf_engine.proofs.saving.unchanged.Goals as goal
+use Rattle.dconf_engine.proofs.user_database.unchanged.Goals as goal
 
 pub loop-i-preserved : goal.loop-i-preserved
 loop-i-preserved c =

@@ -4,7 +4,7 @@ use Rattle.std.specs.List.{list_any}
 use Rattle.dconf_path.specs.Paths.{directory_text}
 use Rattle.dconf_engine.specs.LeftPaths.{is_reset_below}
 use Rattle.dconf_engine.specs.UnsavedLeft.{changes_left}
-use Rattle.dconf_engine.proofs.left.has_reset_below.Given as goal
+use Rattle.dconf_engine.proofs.remaining.has_reset_below.Given as goal
 
 -- what is left to look at answers for all changes
 abbrev pub invariant-loop-change : goal.invariant-loop-change
