@@ -77,7 +77,7 @@ fn add_unchanged(
     changes: &Changes,
     values: &mut MapBuilder,
 ) -> Result<(), AllocError>
-    ensures { OnOk result (values.new ≡ unless_changed changes.now values.old (string_bytes entry.text) (Some entry.bytes.now)) }
+    ensures { OnOk result (values.new ≡ unless_changed changes.now values.old (string_bytes entry.entry.text) (Some entry.entry.bytes.now)) }
 {
     if changes.get(entry.as_str()).is_some() {
         return Ok(());

@@ -1,4 +1,5 @@
 use Rattle.std.proofs.Common.{◌≡◌, ◌∙◌, ap, sym, List, Some, slice_get}
+use Rattle.std.proofs.lemmas.Result.{IfOk-weaker}
 use Rattle.dconf_engine.specs.declared.layer.Layer.{Layer}
 use Rattle.std.specs.FinMap.{entries}
 use Rattle.dconf_model.specs.Changes.{saved}
@@ -12,5 +13,7 @@ pub returns : goal.returns
 returns c =
     let i = c.self.inside in
     let first : slice_get i.layers.items 0 ≡ Some c.in-Some.first.now = ap (λ (l : List Layer). slice_get l 0) (sym c.deref.ensures.value) ∙ sym c.in-Some.ensures.value in
-    c.in_ok-add_sets.ensures ∙ (ap (λ (s : Settings). with_sets (entries i.changes) s) c.in_ok-map.ensures
-    ∙ (saved_first i.changes i.layers.items c.in-Some.first.now first ∙ ap (λ (l : Layers). saved l.layers) c.self.view_is))
+    IfOk-weaker c.build.result (λ (map : Settings). map ≡ c.add_sets.new.values) (λ (map : Settings). map ≡ saved c.args.self.now.layers)
+    (λ map is. is ∙ (c.in_ok-add_sets.ensures ∙ (ap (λ (s : Settings). with_sets (entries i.changes) s) c.in_ok-values.ensures
+    ∙ (saved_first i.changes i.layers.items c.in-Some.first.now first ∙ ap (λ (l : Layers). saved l.layers) c.self.view_is))))
+    c.build.ensures
