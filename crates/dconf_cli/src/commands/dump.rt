@@ -107,7 +107,7 @@ fn settings<'a>(
     ensures err { IfErr result (λ refusal. (directory : List ℕ)
         → GivesOutcome (Err refusal) (λ o. o ≡ dump_of directory (settings_at engine.entry.now (map string_bytes keys.entry.now)))) }
 {
-    let mut settings = Vec::with_capacity(alloc, keys.len())?;
+    let mut settings = Vec::new(alloc);
     for key in keys {
         push_setting(alloc, engine, key.as_str(), &mut settings)?;
     }

@@ -15,7 +15,7 @@ use Rattle.dconf_cli.proofs.commands.dump.settings.Goals as goal
 pub loop-key-init : goal.loop-key-init
 loop-key-init c =
     let all = settings_at c.args.engine.now (map string_bytes c.args.keys.now) in
-    ap (λ (s : List (KeyPath × String Global)). with_earlier (map setting_of s) all) c.in_ok-settings.ensures.items ∙ no_earlier all
+    ap (λ (s : List (KeyPath × String Global)). with_earlier (map setting_of s) all) c.new-settings.ensures.items ∙ no_earlier all
 
 pub push_setting-requires : goal.push_setting-requires
 push_setting-requires c =
@@ -34,7 +34,7 @@ pub returns-in_err-push_setting-clause-err : goal.returns-in_err-push_setting-cl
 returns-in_err-push_setting-clause-err c =
     let keys = c.args.keys.now in
     let i = c.loop-key.key-index in
-    let p = err_from_is_err_and c.from_residual-in_err-push_setting.result c.from_residual-in_err-push_setting.ensures.1 in
+    let p = err_from_is_err_and c.from_residual.result c.from_residual.ensures.1 in
     rw (p.1, p.2) (λ directory. fault_ends c.args.engine.now keys i c.key-item.result c.as_str.result.now (map setting_of c.loop-key.settings.items)
     (settings_at c.args.engine.now (map string_bytes keys)) (Err c.in_err-push_setting.field-0.0) directory (drop_item keys i c.key-item.result c.loop-key-test.true c.key-item.is) c.as_str.ensures.value
     c.loop-key.invariant c.in_err-push_setting.ensures.err)
