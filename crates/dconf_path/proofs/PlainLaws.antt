@@ -1,6 +1,10 @@
 -- What plain bytes are.
-use Rattle.std.proofs.Common.{◌≡◌, ℕ, suc, ◌+◌, List, [], ◌∷◌, Bool, true, false, ◌||◌, ◌&&◌, ◌==◌, length, get_or, refl, ap, ◌∙◌, arith}
+use Rattle.std.proofs.Common.{◌≡◌, ◌<◌, ◌≤◌, ℕ, suc, ◌+◌, List, [], ◌∷◌, ◌++◌, Bool, true, false, ◌||◌, ◌&&◌, ◌==◌, length, get_or, refl, ap, ◌∙◌, arith, subst}
+use Rattle.std.proofs.Math.ListN.{get_or-append}
+use Rattle.std.proofs.Math.Logic.{⊎_elim}
+use Rattle.std.proofs.Math.Nat.{eq-or-lt_of_le}
 use Rattle.std.proofs.lemmas.Bool.{ne_eqb, eqb-true}
+use Rattle.std.proofs.lemmas.List.{get_or_past}
 use Rattle.dconf_model.specs.Paths.{has_zero_byte, has_two_slashes, starts_with_slash, ends_with_slash, is_short, is_key_path}
 use Rattle.dconf_path.specs.PlainBytes.{ArePlain}
 
@@ -30,3 +34,17 @@ plain_has_no_two_slashes (c ∷ d ∷ bytes) plain =
 pub plain_key : (bytes : List ℕ) → starts_with_slash bytes ≡ true → ends_with_slash bytes ≡ false → is_short bytes ≡ true → ArePlain bytes (length bytes) → is_key_path bytes ≡ true
 plain_key bytes starts ends short plain =
     rw (starts, ends, short, plain_has_no_zero bytes plain, plain_has_no_two_slashes bytes plain) refl
+
+-- bytes are plain where those are that go on with others
+pub plain_before : (bytes others : List ℕ) (end : ℕ) → length bytes ≤ end → ArePlain (bytes ++ others) end → ArePlain bytes (length bytes)
+plain_before bytes others end most plain k less =
+    let p = plain k (omega (arith, most, less)) in
+    let here = get_or-append bytes others 0 k less in
+    record {
+      ascii = subst (λ b. b < 128) here p.ascii;
+      not_zero = λ zero. p.not_zero (here ∙ zero);
+      one_slash = λ slash other. ⊎_elim
+          (λ (last : k + 1 ≡ length bytes). let past = get_or_past bytes (k + 1) 0 (omega (arith, last)) in omega (arith, past, other))
+          (λ within. p.one_slash (here ∙ slash) (get_or-append bytes others 0 (k + 1) within ∙ other))
+          (eq-or-lt_of_le (omega (arith, less)));
+    }

@@ -58,17 +58,15 @@ fn has_plain_blocks(bytes: &[u8]) -> bool
     is_plain_block(bytes, last - BLOCK_LEN) && is_plain_byte(bytes, last)
 }
 
-/// The same, byte by byte.
+/// The same of bytes that are no more than a block: others follow them there, which are plain.
 #[inline(always)]
 fn has_plain_bytes(bytes: &[u8]) -> bool
+    requires { length bytes.now ≤ 16 }
     ensures { IsTrue result → ArePlain bytes.now (length bytes.now) }
 {
-    for i in 0..bytes.len() {
-        if !is_plain_byte(bytes, i) {
-            return false;
-        }
-    }
-    true
+    let mut block = [b'a'; BLOCK_LEN + 1];
+    block[..bytes.len()].copy_from_slice(bytes);
+    is_plain_block(&block, 0)
 }
 
 /// Whether the byte at a place is of ASCII, not zero, and no `/` before another.
