@@ -16,13 +16,10 @@ use Rattle.std.proofs.lemmas.Cmp.{nat_list_cmp_total}
 use Rattle.std.proofs.lemmas.Map.Text.{is_eq-slice_cmp}
 use Rattle.std.proofs.lemmas.Map.Views.{tells_apart}
 use Rattle.std.proofs.lemmas.Bool.{true≢false}
-use Rattle.dconf_model.specs.Settings.{AtPaths, Settings, with_value}
+use Rattle.dconf_model.specs.Settings.{AtPaths, with_value}
 use Rattle.gvdb_write.specs.Maps.{lock_entries, locks_of, settings_of, values_of}
-use Rattle.gvdb_write.specs.Rows.{settings_of_rows, values_of_rows}
+use Rattle.gvdb_write.specs.Rows.{Row, settings_of_rows, values_of_rows}
 use Rattle.gvdb_write.proofs.Read.{get_values, inserted_at, same_path}
-
-abbrev Row : Type 0
-Row = String Global × Vec ℕ Global
 
 abbrev Found : Type 0
 Found = Option (Vec ℕ Global)

@@ -20,6 +20,7 @@ use Rattle.dconf_model.specs.Paths.{is_key_path}
 use Rattle.dconf_model.specs.Settings.{AtPaths}
 use Rattle.gvdb_write.specs.Maps.{AreKeyPaths, paths_of, values_of, value_entries}
 use Rattle.gvdb_write.specs.PathsLeft.{AreHeld}
+use Rattle.gvdb_write.specs.Rows.{Row}
 use Rattle.gvdb_write.proofs.Order.{sorted_values}
 
 no_entry : List ℕ × List ℕ
@@ -55,13 +56,10 @@ are_held m ordered =
 
 -- ---- as an iterator gives them
 
-abbrev Entry : Type 0
-Entry = String Global × Vec ℕ Global
-
 -- what is left after the first are paths of keys
-pub rest_are_paths : (before after : List Entry) (first : Option (Bor (String Global) × Bor (Vec ℕ Global))) → MatchOption first ((before ≡ []) × (after ≡ [])) (λ x. before ≡ (x.0.now, x.1.now) ∷ after) → AreKeyPaths (paths_of (value_entries before)) → AreKeyPaths (paths_of (value_entries after))
-rest_are_paths before after None none kept = subst (λ (es : List Entry). AreKeyPaths (paths_of (value_entries es))) (sym none.1) (All-nil (λ path. IsTrue (is_key_path path)))
-rest_are_paths before after (Some x) is kept = All-rest (λ path. IsTrue (is_key_path path)) (string_bytes x.0.now) (paths_of (value_entries after)) (paths_of (value_entries before)) (ap (λ (es : List Entry). paths_of (value_entries es)) is) kept
+pub rest_are_paths : (before after : List Row) (first : Option (Bor (String Global) × Bor (Vec ℕ Global))) → MatchOption first ((before ≡ []) × (after ≡ [])) (λ x. before ≡ (x.0.now, x.1.now) ∷ after) → AreKeyPaths (paths_of (value_entries before)) → AreKeyPaths (paths_of (value_entries after))
+rest_are_paths before after None none kept = subst (λ (es : List Row). AreKeyPaths (paths_of (value_entries es))) (sym none.1) (All-nil (λ path. IsTrue (is_key_path path)))
+rest_are_paths before after (Some x) is kept = All-rest (λ path. IsTrue (is_key_path path)) (string_bytes x.0.now) (paths_of (value_entries after)) (paths_of (value_entries before)) (ap (λ (es : List Row). paths_of (value_entries es)) is) kept
 
 -- ---- the first of them
 

@@ -10,7 +10,6 @@ ghost use Rattle.gvdb_read.specs.Tables.{region};
 ghost use Rattle.gvdb_write.specs.Salvaged.{HasLowestValues, HasNoShortText, IsLowestLocks, IsPointed, IsSalvageRefusal, SpellsLock, TakesLock, TakesValue};
 
 use crate::map::Map;
-use crate::map_builder::MapBuilder;
 use crate::salvage_fault::SalvageFault;
 use dconf_path::{KeyPath, LockPath, MAX_PATH_LEN};
 use gvdb_read::Table;
@@ -24,7 +23,7 @@ use std::alloc::{AllocError, Global};
 /// looked into.
 ///
 /// `Open` comes where the bytes are no database, and `Memory` where a growth is refused. It walks from each item up its
-/// parents, for at most 65,536 items, and sorts the paths.
+/// parents, for at most 65,536 items, and compares as many paths as the map is deep. Of a path it holds one value at a time.
 pub fn salvage(alloc: Global, file: &[u8]) -> Result<Map, SalvageFault>
     ensures opens { IfOk result (λ _. IsDatabase file.now) }
     ensures salvaged { IfOk result (λ map. IsSalvaged file.now map) }
@@ -43,23 +42,18 @@ fn salvaged_values(alloc: Global, root: Table<'_>) -> Result<Map, AllocError>
     ensures values { IfOk result (HasLowestValues (region root.entry)) }
     ensures no_locks { IfOk result (λ map. map.locks ≡ empty) }
 {
-    let mut values = MapBuilder::new(alloc);
+    let mut values = Map::new(alloc);
     // From the last item on: the lowest value of a path is the one that is set last.
     let mut i = root.n_items();
     while i > 0 {
         i -= 1;
         salvage_value(alloc, root, i, &mut values)?;
     }
-    values.build()
+    Ok(values)
 }
 
 /// Sets item `i`'s value at its name, where it is a value and its name is the path of a key.
-fn salvage_value(
-    alloc: Global,
-    root: Table<'_>,
-    i: u32,
-    values: &mut MapBuilder,
-) -> Result<(), AllocError>
+fn salvage_value(alloc: Global, root: Table<'_>, i: u32, values: &mut Map) -> Result<(), AllocError>
     ensures takes { OnOk result (TakesValue (region root.entry) i values.old values.new) }
 {
     let Some(bytes) = pointed_value(root, i) else {
@@ -71,7 +65,7 @@ fn salvage_value(
     if KeyPath::parse(name.as_str()).is_err() {
         return Ok(());
     }
-    values.insert_text(name, bytes.to_vec(alloc)?)
+    values.put(name, bytes.to_vec(alloc)?)
 }
 
 /// The bytes of item `i`, where it is a value whose pointer is valid.

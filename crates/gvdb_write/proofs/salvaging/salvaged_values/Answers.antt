@@ -1,8 +1,6 @@
 use Rattle.std.proofs.Common.{◌≡◌, ◌+◌, ◌-◌, ℕ, ◌∙◌, ap, sym, subst, arith}
-use Rattle.std.proofs.lemmas.Result.{IfOk-weaker}
 use Rattle.dconf_model.specs.Settings.{Settings}
 use Rattle.gvdb_read.specs.Tables.{region}
-use Rattle.gvdb_write.specs.Salvaged.{HasLowestValues}
 use Rattle.gvdb_write.proofs.SalvagedSteps.{AreLowestFrom, none_from, one_from, all_lowest, same_locks}
 use Rattle.gvdb_write.proofs.salvaging.salvaged_values.Goals as goal
 
@@ -25,7 +23,5 @@ loop-i-preserved c = record {
 
 pub returns-clause-values : goal.returns-clause-values
 returns-clause-values c =
-    let lowest =
     all_lowest (region c.args.root) c.loop-i.values
-    (subst (λ (n : ℕ). AreLowestFrom (region c.args.root) n c.loop-i.values) (let none = c.loop-i-test.false in let e : c.loop-i.i ≡ 0 = omega (arith, none) in e) c.loop-i.invariant.lowest) in
-    IfOk-weaker c.build.result (λ map. map ≡ c.loop-i.values) (HasLowestValues (region c.args.root)) (λ map is. subst (HasLowestValues (region c.args.root)) (sym is) lowest) c.build.ensures
+    (subst (λ (n : ℕ). AreLowestFrom (region c.args.root) n c.loop-i.values) (let none = c.loop-i-test.false in let e : c.loop-i.i ≡ 0 = omega (arith, none) in e) c.loop-i.invariant.lowest)
