@@ -11,8 +11,14 @@ use Rattle.std.specs.FinMap.Entries.{is_sorted, below_all}
 use Rattle.std.proofs.lemmas.Bool.{and_parts}
 use Rattle.dconf_model.specs.Settings.{Settings, no_settings}
 use Rattle.dconf_model.specs.Changes.{Values, saved, with_first_layer}
-use Rattle.std.proofs.Common.{slice_get, map}
-use Rattle.std.specs.Prelude.{IfSome, string_bytes}
+use Rattle.std.proofs.Common.{◌≤◌, length, slice_get, map, Result, Ok, Err, Vec}
+use Rattle.std.specs.Prelude.{IfOk, IfSome, string_bytes}
+use Rattle.std.specs.declared.alloc.Global.{Global}
+use Rattle.dconf_model.specs.Bytes.{longest_file}
+use Rattle.dconf_model.specs.Databases.{IsDatabaseOf}
+use Rattle.dconf_model.specs.Opening.{IsDatabase, root_of}
+use Rattle.dconf_model.specs.Plans.{HoldsValues, HoldsLocks, HasLength}
+use Rattle.dconf_model.specs.Sound.{IsSound}
 use Rattle.dconf_engine.specs.declared.entry.Entry.{Entry}
 use Rattle.dconf_engine.specs.declared.layer.Layer.{Layer}
 use Rattle.dconf_engine.specs.Entries.{layer_paths, path_of_entry}
@@ -152,3 +158,12 @@ pub entry_taken : (values : Values) (u : Unsaved) (s : Settings) (found : Option
 entry_taken values u s found e ps is path bytes =
     let there : get values (string_bytes e.text) ≡ Some e.bytes.now = subst (λ (o : Option Entry). IfSome o (λ e. get values (string_bytes e.text) ≡ Some e.bytes.now)) is bytes in
     ap (unless_changed u s (string_bytes e.text)) (sym there) ∙ ap (λ (ps : List (List ℕ)). with_unchanged values u ps s) (ap path_of_entry (sym is) ∙ path)
+
+-- ---- the file
+
+-- bytes that hold settings are their database
+pub whole : {E : Type 0} (s : Settings) (r : Result (Vec ℕ Global) E) → IfOk r (λ file. IsDatabase file.items) → IfOk r (λ file. IsSound (root_of file.items)) →
+    IfOk r (λ file. HoldsValues (root_of file.items) s) → IfOk r (λ file. HoldsLocks (root_of file.items) s) → IfOk r (λ file. HasLength s (length file.items)) →
+    IfOk r (λ file. length file.items ≤ longest_file) → IfOk r (λ file. IsDatabaseOf s file.items)
+whole s (Ok file) opens sound values locks size fits = record { opens = opens; sound = sound; values = values; locks = locks; size = size; fits = fits }
+whole s (Err e) opens sound values locks size fits = tt

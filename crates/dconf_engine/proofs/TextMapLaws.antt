@@ -128,11 +128,15 @@ each_at_keys m kept k d inside =
 -- ---- an iterator of texts and what is kept at them
 
 -- what is left after the first
+pub rest_after : {V X : Type 0} (read : V → X) (before after : List (String Global × V)) (k : String Global) (v : V) →
+    before ≡ (k, v) ∷ after → AreAtKeyPaths (entries_by read before) → AreAtKeyPaths (entries_by read after)
+rest_after {V} {X} read before after k v is kept =
+    All-rest (λ (e : List ℕ × X). IsTrue (is_key_path e.0)) (string_bytes k, read v) (entries_by read after) (entries_by read before) (ap (entries_by read) is) kept
+
 pub rest_at_keys : {V X : Type 0} (read : V → X) (before after : List (String Global × V)) (first : Option (Bor (String Global) × Bor V)) →
     TakesFirst deref_pair before first after → AreAtKeyPaths (entries_by read before) → AreAtKeyPaths (entries_by read after)
 rest_at_keys {V} {X} read before after None is kept = subst (λ (es : List (String Global × V)). AreAtKeyPaths (entries_by read es)) (sym is.1) (All-nil (λ (e : List ℕ × X). IsTrue (is_key_path e.0)))
-rest_at_keys {V} {X} read before after (Some x) is kept =
-    All-rest (λ (e : List ℕ × X). IsTrue (is_key_path e.0)) (string_bytes x.0.now, read x.1.now) (entries_by read after) (entries_by read before) (ap (entries_by read) is) kept
+rest_at_keys read before after (Some x) is kept = rest_after read before after x.0.now x.1.now is kept
 
 -- the first is at the path of a key
 pub first_at_key : {V X : Type 0} (read : V → X) (before after : List (String Global × V)) (k : String Global) (v : V) →

@@ -1,12 +1,15 @@
 //! Changes of the first layer that are not saved yet: at each path that was changed the bytes that it was set to, or
 //! that it was reset.
-ghost use Rattle.std.specs.Prelude.{◌≡◌, ◌↔◌, IsTrue, Some, None, OnOk, OnErr, IfOk, option_map};
+ghost use Rattle.std.specs.Prelude.{◌≡◌, ◌↔◌, IsTrue, Some, None, OnOk, OnErr, IfOk, option_map, string_bytes};
 ghost use Rattle.std.specs.FinMap.{empty, entries, get, insert};
+ghost use Rattle.dconf_model.specs.Paths.{is_key_path};
 ghost use Rattle.dconf_path.specs.Paths.{key_text};
 ghost use Rattle.dconf_engine.specs.Edits.{edit_bytes};
+ghost use Rattle.dconf_engine.specs.Saved.{set_if, with_sets};
 ghost use Rattle.dconf_engine.specs.TextMaps.{entries_by, AreAtKeyPaths};
 
 use dconf_path::KeyPath;
+use gvdb_write::MapBuilder;
 use std::alloc::{AllocError, Global};
 use std::collections::{BTreeMap, btree_map};
 use std::marker::Model;
@@ -28,6 +31,17 @@ impl Edit {
         match self {
             Edit::Set(bytes) => Some(bytes.as_slice()),
             Edit::Reset => None,
+        }
+    }
+
+    /// Sets the bytes at a path among values, where they were set. Both are kept where they are.
+    fn set_at(self, path: String, values: &mut MapBuilder) -> Result<(), AllocError>
+        requires { IsTrue (is_key_path (string_bytes path)) }
+        ensures { OnOk result (values.new ≡ set_if values.old (string_bytes path) (edit_bytes self)) }
+    {
+        match self {
+            Edit::Set(bytes) => values.insert_text(path, bytes),
+            Edit::Reset => Ok(()),
         }
     }
 }
@@ -134,6 +148,18 @@ impl Changes {
             alloc: self.alloc,
             edits,
         })
+    }
+
+    /// Sets among values what was set, and keeps its paths and bytes where they are.
+    ///
+    /// An error comes where a growth is refused.
+    pub(crate) fn move_sets(self, values: &mut MapBuilder) -> Result<(), AllocError>
+        ensures { OnOk result (values.new ≡ with_sets (entries self) values.old) }
+    {
+        for (path, edit) in self.edits {
+            edit.set_at(path, values)?;
+        }
+        Ok(())
     }
 
     /// The changes, in the order of the bytes of their paths.

@@ -120,6 +120,11 @@ fn add_keys(listed: Names<'_>, room: usize, names: &mut Texts) -> Result<(), All
 fn add_key(key: &[u8], room: usize, names: &mut Texts) -> Result<(), AllocError>
     ensures { OnOk result (names.new ≡ with_texts (filter is_utf8 (key.now ∷ [])) names.old) }
 {
+    // Nearly all are of ASCII, which is told with less.
+    if key.is_ascii() {
+        let name = unsafe { str::from_utf8_unchecked(key) };
+        return names.add_with_room(name, room);
+    }
     match str::from_utf8(key) {
         Ok(name) => names.add_with_room(name, room),
         Err(_) => Ok(()),

@@ -27,7 +27,7 @@ impl<'a, 'l> LentLayers<'a, 'l> {
     ghost use Rattle.dconf_engine.specs.LentSettings.{seen_in};
     ghost use Rattle.gvdb_read.specs.HashedNames.{name_text};
 
-    /// These layers. Where `written`, the first is the user's.
+    /// These layers. Where `writable`, the first is the user's.
     pub fn new(writable: bool, layers: &'l [Layer<'a>]) -> LentLayers<'a, 'l>
         ensures { seen_in result ≡ record { layers = map settings_of layers.entry.now; writable = writable } }
     {

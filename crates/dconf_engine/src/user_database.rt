@@ -1,13 +1,13 @@
 //! The user's database.
-ghost use Rattle.std.specs.Prelude.{◌≡◌, ◌<◌, IfOk, IfErr, OnOk, Some, string_bytes};
-ghost use Rattle.std.specs.FinMap.{entries};
-ghost use Rattle.dconf_model.specs.Changes.{saved};
+ghost use Rattle.std.specs.Prelude.{◌≡◌, ◌<◌, IfOk, IfErr, OnOk, Some, map, string_bytes};
+ghost use Rattle.dconf_model.specs.Changes.{saved, with_first_layer};
 ghost use Rattle.dconf_model.specs.Databases.{IsDatabaseOf, IsTooBig};
 ghost use Rattle.gvdb_write.specs.Limits.{IsRefusal};
 ghost use Rattle.dconf_model.specs.Settings.{no_settings};
 ghost use Rattle.dconf_engine.specs.Entries.{items_of, layer_paths, path_at};
 ghost use Rattle.dconf_engine.specs.LayerSettings.{settings_of};
-ghost use Rattle.dconf_engine.specs.Saved.{unless_changed, with_unchanged, with_sets};
+ghost use Rattle.dconf_engine.specs.Saved.{unless_changed, with_unchanged};
+ghost use Rattle.dconf_engine.specs.Unsaved.{with_changes};
 
 use crate::changes::Changes;
 use crate::engine::Engine;
@@ -25,21 +25,37 @@ impl<'a> Engine<'a> {
         ensures database { IfOk result (λ file. IsDatabaseOf (saved self.now.layers) file.items) }
         ensures fault { IfErr result (IsRefusal (saved self.now.layers)) }
     {
-        let map = self.user_map()?;
+        let changes = self.changes.try_copy()?;
+        let map = user_map(self.alloc, &self.layers, changes)?;
         write(self.alloc, &map)
     }
 
-    /// The user's values, without locks.
-    fn user_map(&self) -> Result<Map, AllocError>
-        ensures { IfOk result (λ map. map ≡ saved self.now.layers) }
+    /// As `save`, of an engine that is not needed any longer. What was set is not copied.
+    pub fn into_saved(self) -> Result<Vec<u8>, WriteFault>
+        ensures database { IfOk result (λ file. IsDatabaseOf (saved self.entry.layers) file.items) }
+        ensures fault { IfErr result (IsRefusal (saved self.entry.layers)) }
     {
-        let Some(first) = self.layers.first() else {
-            return Ok(Map::new(self.alloc));
-        };
-        let mut values = unchanged(self.alloc, *first, &self.changes)?;
-        add_sets(&self.changes, &mut values)?;
-        values.build()
+        let Engine {
+            alloc,
+            layers,
+            changes,
+            ..
+        } = self;
+        let map = user_map(alloc, &layers, changes)?;
+        write(alloc, &map)
     }
+}
+
+/// The user's values, without locks: those of the first layer, with changes.
+fn user_map(alloc: Global, layers: &[Layer<'_>], changes: Changes) -> Result<Map, AllocError>
+    ensures { IfOk result (λ user. user ≡ saved (with_first_layer (with_changes changes) (map settings_of layers.now))) }
+{
+    let Some(first) = layers.first() else {
+        return Ok(Map::new(alloc));
+    };
+    let mut values = unchanged(alloc, *first, &changes)?;
+    changes.move_sets(&mut values)?;
+    values.build()
 }
 
 /// The values of a layer at paths that were not changed.
@@ -83,16 +99,4 @@ fn add_unchanged(
         return Ok(());
     }
     values.insert_text(entry.text, entry.bytes.to_vec(alloc)?)
-}
-
-/// Adds what was set.
-fn add_sets(changes: &Changes, values: &mut MapBuilder) -> Result<(), AllocError>
-    ensures { OnOk result (values.new ≡ with_sets (entries changes.now) values.old) }
-{
-    for change in changes.iter() {
-        if let Some(bytes) = change.bytes {
-            values.insert(change.path, bytes)?;
-        }
-    }
-    Ok(())
 }

@@ -37,7 +37,7 @@ pub fn user_file_after(
 {
     let mut engine = Engine::open(alloc, profile, files)?;
     make_all(&mut engine, changes)?;
-    Ok(engine.save()?)
+    Ok(engine.into_saved()?)
 }
 
 /// The value that is seen at a path where the changes were made, saved, and opened again: None where none is seen.

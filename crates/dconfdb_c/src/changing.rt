@@ -82,7 +82,7 @@ fn changed(
         });
     };
     make_all(alloc, &mut engine, changes)?;
-    match engine.save() {
+    match engine.into_saved() {
         Ok(file) => Ok(file),
         Err(WriteFault::TooBig) => Err(Refused {
             fault: Fault::TooBig,
