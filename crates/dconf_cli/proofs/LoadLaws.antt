@@ -1,5 +1,5 @@
 -- What `load` answers by its input, its rows and the store.
-use Rattle.std.proofs.Common.{◌≡◌, ◌<◌, ◌++◌, ◌∷◌, ◌∙◌, inl, inr, ℕ, Bool, true, false, List, [], length, map, Option, Some, None, Result, Err, refl, sym, ap, subst}
+use Rattle.std.proofs.Common.{◌≡◌, ◌<◌, ◌++◌, ◌∷◌, ◌∙◌, inl, inr, ℕ, Bool, true, false, List, [], length, map, Option, Some, None, Result, Ok, Err, refl, sym, ap, subst}
 use Rattle.std.proofs.lemmas.Bool.{lt-ltb, true≢false}
 use Rattle.std.proofs.lemmas.Option.{slice_get-map}
 use Rattle.std.specs.Prelude.{IfSome, codes, decimal, is_none, nat_lt, option_map, slice_get, unwrap_or}
@@ -62,6 +62,14 @@ pub decides_line : {F : Type 0} (past : F → List Event → Type 0) (failures :
     → Decides past failures folder folder 0 (λ reads. OrLine (codes "input") r (Go reads)) answer
 decides_line past failures folder answer o r Go is h =
     decides_at_once past failures folder 0 answer (λ reads. OrLine (codes "input") r (Go reads)) (λ reads. refuses_line answer o r (Go reads) is h)
+
+-- ---- rows that are read
+
+pub decides_rows : {F : Type 0} (past : F → List Event → Type 0) (failures : F → ℕ) (old new : F) (answer : Answered) (r : Result (List Assigned) LineFault) (rows : List Assigned)
+    (Go : ReadResults → List Assigned → Gives) → r ≡ Ok rows → Decides past failures old new 0 (λ reads. Go reads rows) answer
+    → Decides past failures old new 0 (λ reads. OrLine (codes "input") r (Go reads)) answer
+decides_rows past failures old new answer r rows Go is d =
+    subst (λ (x : Result (List Assigned) LineFault). Decides past failures old new 0 (λ reads. OrLine (codes "input") x (Go reads)) answer) (sym is) d
 
 -- ---- the path of a row
 

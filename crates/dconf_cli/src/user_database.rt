@@ -21,11 +21,11 @@ use std::alloc::{AllocError, Global};
 pub(crate) fn saved(
     alloc: Global,
     profile: &Profile<'_>,
-    engine: &Engine<'_>,
+    engine: Engine<'_>,
 ) -> Result<Answer, Refusal>
-    ensures { GivesOutcome result (Writes (user_file (databases_of profile.now)) [] (saved engine.now.layers)) }
+    ensures { GivesOutcome result (Writes (user_file (databases_of profile.now)) [] (saved engine.entry.layers)) }
 {
-    match engine.save() {
+    match engine.into_saved() {
         Ok(bytes) => Ok(Answer::Changed {
             file: user_file(alloc, profile)?,
             bytes,

@@ -1,14 +1,13 @@
 //! `load [-f] DIR`: the user's values of the rows of a keyfile from input, below a directory. All rows are read before any is set.
-ghost use Rattle.std.specs.Prelude.{◌≢◌, Err, codes};
+ghost use Rattle.std.specs.Prelude.{◌≡◌, ◌≢◌, ℕ, List, Ok, Err, IfErr, OnOk, codes};
 ghost use Rattle.dconf_model.specs.Changes.{Change.load_values, apply, paths_of};
 ghost use Rattle.dconf_model.specs.Commands.Command.{load as load_of};
 ghost use Rattle.dconf_model.specs.FaultTexts.{device_text};
 ghost use Rattle.dconf_model.specs.Outcomes.{Changes, IsOutcome, OrLine, Saves, WithRows};
-ghost use Rattle.dconf_model.specs.Profiles.{user_file};
 ghost use Rattle.dconf_model.specs.Reads.{Input};
 ghost use Rattle.dconf_model.specs.Sources.{loaded};
 ghost use Rattle.dconf_path.specs.Paths.{directory_text};
-ghost use Rattle.dconf_path.specs.Profiles.{databases_of};
+ghost use Rattle.dconf_compile.specs.Loading.{rows_loaded};
 ghost use Rattle.dconf_compile.specs.LineStops.{line_fault_of};
 ghost use Rattle.dconf_engine.specs.ChangeFaults.{refusal_of};
 ghost use Rattle.dconf_engine.specs.Rows.{rows_of};
@@ -31,7 +30,7 @@ use crate::user_database::{change_refused, saved};
 use dconf_compile::{CompileCause, LineStop, RowsBelow};
 use dconf_disk::Folder;
 use dconf_engine::{ChangeFault, Engine};
-use dconf_path::{DirPath, KeyPath, Profile};
+use dconf_path::{DirPath, KeyPath};
 use gv_tree::Tree;
 use std::alloc::Global;
 use std::io::Read;
@@ -88,47 +87,48 @@ fn load_bytes<F: Folder>(
     ensures { Decides F.past F.failed folder.old folder.new 0 (λ reads. OrLine (codes "input") (loaded (directory_text directory.entry) bytes.entry.now)
         (λ rows. Changes reads profile.now (paths_of rows) (load_values rows force))) result }
 {
-    let rows = match RowsBelow::read(alloc, directory, bytes) {
-        Ok(rows) => rows,
-        Err(stop) => return Err(line_refused(alloc, stop)),
-    };
-    match rows.values(alloc) {
-        Ok(values) => load_rows(alloc, force, values, profile, folder),
+    match RowsBelow::read(alloc, directory, bytes) {
+        Ok(below) => load_rows(alloc, force, below, profile, folder),
         Err(stop) => Err(line_refused(alloc, stop)),
     }
 }
 
-/// What `load` answers of these rows.
+/// What `load` answers of these rows. They are let go before the file is made, which takes as much memory.
 fn load_rows<F: Folder>(
     alloc: Global,
     force: bool,
-    rows: Vec<(KeyPath<'_>, Tree)>,
+    below: RowsBelow<'_>,
     profile: &str,
     folder: &mut F,
 ) -> Result<Answer, Refusal>
-    ensures { Decides F.past F.failed folder.old folder.new 0 (λ reads. Changes reads profile.now (paths_of (rows_of rows.entry.items)) (load_values (rows_of rows.entry.items) force)) result }
+    ensures { Decides F.past F.failed folder.old folder.new 0 (λ reads. OrLine (codes "input") (rows_loaded below.entry)
+        (λ rows. Changes reads profile.now (paths_of rows) (load_values rows force))) result }
 {
+    let rows = match below.values(alloc) {
+        Ok(rows) => rows,
+        Err(stop) => return Err(line_refused(alloc, stop)),
+    };
     let profile = named_file(alloc, folder, profile)?;
     let files = StoreFiles::read(alloc, folder, &profile)?;
-    let engine = files.open(alloc)?;
-    with_rows(alloc, &files.profile, engine, rows, force)
+    let mut engine = files.open(alloc)?;
+    set_rows(alloc, &mut engine, rows, force)?;
+    drop(below);
+    saved(alloc, &files.profile, engine)
 }
 
-/// What `load` answers of a store. The rows are let go before the file is made, which takes as much memory.
-fn with_rows(
+/// Sets these rows, or says why they are refused.
+fn set_rows(
     alloc: Global,
-    profile: &Profile<'_>,
-    mut engine: Engine<'_>,
+    engine: &mut Engine<'_>,
     rows: Vec<(KeyPath<'_>, Tree)>,
     force: bool,
-) -> Result<Answer, Refusal>
-    ensures { GivesOutcome result (Saves (paths_of (rows_of rows.entry.items)) (user_file (databases_of profile.now)) (apply engine.entry (load_values (rows_of rows.entry.items) force))) }
+) -> Result<(), Refusal>
+    ensures ok { OnOk result (apply engine.old (load_values (rows_of rows.entry.items) force) ≡ Ok engine.new) }
+    ensures err { IfErr result (λ refusal. (file : List ℕ) → GivesOutcome (Err refusal)
+        (Saves (paths_of (rows_of rows.entry.items)) file (apply engine.old (load_values (rows_of rows.entry.items) force)))) }
 {
     match engine.load(&rows, force) {
-        Ok(()) => {
-            drop(rows);
-            saved(alloc, profile, &engine)
-        }
+        Ok(()) => Ok(()),
         Err(fault) => Err(change_refused(alloc, fault, locked_path(&rows, fault))),
     }
 }

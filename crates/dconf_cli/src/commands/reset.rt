@@ -84,7 +84,7 @@ fn without_key(
     ensures { GivesOutcome result (Saves (key_text key.entry ∷ []) (user_file (databases_of profile.now)) (apply engine.entry (reset_value (key_text key.entry)))) }
 {
     match engine.reset(key) {
-        Ok(()) => saved(alloc, profile, &engine),
+        Ok(()) => saved(alloc, profile, engine),
         Err(fault) => Err(change_refused(alloc, fault, key.as_str())),
     }
 }
@@ -99,7 +99,7 @@ fn without_directory(
     ensures { GivesOutcome result (Saves [] (user_file (databases_of profile.now)) (apply engine.entry (reset_below_directory (directory_text directory.entry)))) }
 {
     match engine.reset_dir(directory) {
-        Ok(()) => saved(alloc, profile, &engine),
+        Ok(()) => saved(alloc, profile, engine),
         // No path of it is looked at for locks.
         Err(fault) => Err(change_refused(alloc, fault, "")),
     }

@@ -52,7 +52,7 @@ fn with_value(
     ensures { GivesOutcome result (Saves (key_text key.entry ∷ []) (user_file (databases_of profile.now)) (apply engine.entry (set_value (key_text key.entry) value.now))) }
 {
     match engine.write(key, value) {
-        Ok(()) => saved(alloc, profile, &engine),
+        Ok(()) => saved(alloc, profile, engine),
         Err(fault) => Err(change_refused(alloc, fault, key.as_str())),
     }
 }

@@ -1,5 +1,4 @@
-use Rattle.std.proofs.Common.{◌≡◌, ◌∙◌, List, Result, Err, codes, sym, subst}
-use Rattle.std.specs.Prelude.{IfSome}
+use Rattle.std.proofs.Common.{List, Result, Err, codes, sym, subst}
 use Rattle.dconf_model.specs.Changes.{paths_of}
 use Rattle.dconf_model.specs.Changes.Change.{load_values}
 use Rattle.dconf_model.specs.Lines.{LineFault}
@@ -12,22 +11,14 @@ use Rattle.dconf_cli.specs.Readings.{Decides}
 use Rattle.dconf_cli.proofs.LoadLaws.{decides_line}
 use Rattle.dconf_cli.proofs.commands.load.load_bytes.Goals as goal
 
+pub returns-in-Ok : goal.returns-in-Ok
+returns-in-Ok g c =
+    let Go : ReadResults → List Assigned → Gives = λ reads rows. Changes reads c.args.profile.now (paths_of rows) (load_values rows c.args.force) in
+    subst (λ (r : Result (List Assigned) LineFault). Decides g.F.Folder.past g.F.Folder.failed c.args.folder.now c.load_rows.new.folder 0
+    (λ reads. OrLine (codes "input") r (Go reads)) c.load_rows.result) (sym c.in-Ok.ensures.found) c.load_rows.ensures
+
 pub returns-in-Err : goal.returns-in-Err
 returns-in-Err g c =
     let Go : ReadResults → List Assigned → Gives = λ reads rows. Changes reads c.args.profile.now (paths_of rows) (load_values rows c.args.force) in
     decides_line g.F.Folder.past g.F.Folder.failed c.args.folder.now (Err c.line_refused.result) (line_fault_of c.in-Err.stop)
     (loaded (directory_text c.args.directory) c.args.bytes.now) Go c.in-Err.ensures.fault c.line_refused.ensures
-
-pub returns-in-Ok-values : goal.returns-in-Ok-values
-returns-in-Ok-values g c =
-    let Go : ReadResults → List Assigned → Gives = λ reads rows. Changes reads c.args.profile.now (paths_of rows) (load_values rows c.args.force) in
-    subst (λ (r : Result (List Assigned) LineFault). Decides g.F.Folder.past g.F.Folder.failed c.args.folder.now c.load_rows.new.folder 0
-    (λ reads. OrLine (codes "input") r (Go reads)) c.load_rows.result) (sym (c.in-Ok.ensures.found ∙ c.in-Ok-values.ensures.found)) c.load_rows.ensures
-
-pub returns : goal.returns
-returns g c =
-    let Go : ReadResults → List Assigned → Gives = λ reads rows. Changes reads c.args.profile.now (paths_of rows) (load_values rows c.args.force) in
-    decides_line g.F.Folder.past g.F.Folder.failed c.args.folder.now (Err c.line_refused-in-Err-values.result) (line_fault_of c.in-Err-values.stop)
-    (loaded (directory_text c.args.directory) c.args.bytes.now) Go
-    (subst (λ (r : Result (List Assigned) LineFault). IfSome (line_fault_of c.in-Err-values.stop) (λ f. r ≡ Err f)) (sym c.in-Ok.ensures.found) c.in-Err-values.ensures.fault)
-    c.line_refused-in-Err-values.ensures

@@ -5,8 +5,8 @@ use Rattle.dconf_cli.specs.Refusals.{IsLockedPath}
 use Rattle.dconf_cli.proofs.ChangeLaws.{refuses_change, reset_locks}
 use Rattle.dconf_cli.proofs.commands.reset.without_key.Goals as goal
 
-pub returns : goal.returns
-returns c =
+pub returns-in-Err : goal.returns-in-Err
+returns-in-Err c =
     let path = key_text c.args.key in
     let why = refusal_of c.in-Err.fault in
     refuses_change (Err c.change_refused.result) (path ∷ []) _ _ why c.in-Err.ensures.fault
