@@ -108,7 +108,19 @@ pub(crate) fn map_shown(alloc: Global, asked: &str, found: &mut String) -> Resul
     Ok(())
 }
 
-/// Puts a word's value among those that a map is built of; no bytes are handed over, others are copied.
+/// Hands a path and bytes over to those that a map is built of.
+fn hand_over(
+    alloc: Global,
+    values: &mut MapBuilder,
+    path: KeyPath<'_>,
+    bytes: Vec<u8>,
+) -> Result<(), AllocError> {
+    let path = String::from_str(alloc, path.as_str())?;
+    values.insert_text(path, bytes)
+}
+
+/// Puts a word's value among those that a map is built of: no bytes are handed over, a text with its path, and others are
+/// copied.
 fn add_word(alloc: Global, values: &mut MapBuilder, word: &str) -> Result<(), Fail> {
     let (path, value) = word.split_once('=').unwrap_or((word, ""));
     let path = KeyPath::parse(path)?;
@@ -116,6 +128,8 @@ fn add_word(alloc: Global, values: &mut MapBuilder, word: &str) -> Result<(), Fa
     push_value(&mut bytes, value)?;
     if bytes.is_empty() {
         values.insert_owned(path, bytes)?;
+    } else if value.starts_with('\'') {
+        hand_over(alloc, values, path, bytes)?;
     } else {
         values.insert(path, &bytes)?;
     }
@@ -160,6 +174,7 @@ fn values_and_locks_are_where_they_were_put(rt: HostRuntime) -> Result<(), Fail>
 const BUILT: &str = "
 ; /a/k => None false 0 0 Map { values: 0, locks: 0 }
 /a/k=5; /a/k => Some([5, 0, 0, 0, 0, 105]) false 1 0 Map { values: 1, locks: 0 } /a/k
+/b='x' /a/k='y'; /a/k => Some([121, 0, 0, 115]) false 2 0 Map { values: 2, locks: 0 } /a/k /b
 /b=5 /a/k=; /a/k => Some([]) false 2 0 Map { values: 2, locks: 0 } /a/k /b
 /a/k=5 /a/k=; /a/k => Some([]) false 1 0 Map { values: 1, locks: 0 } /a/k
 /a/k= /b=5 /a/k=5 /b=; /a/k => Some([5, 0, 0, 0, 0, 105]) false 2 0 Map { values: 2, locks: 0 } /a/k /b

@@ -30,7 +30,7 @@ fn write_all(alloc: Global, engine: &mut Engine<'_>, path: &mut String) -> Resul
 fn saved_keys(alloc: Global, profile: &Profile<'_>) -> Result<Vec<u8>, Fail> {
     let mut engine = opened(alloc, profile, &[None])??;
     write_all(alloc, &mut engine, &mut String::new(alloc))?;
-    Ok(engine.save()?)
+    Ok(engine.into_saved()?)
 }
 
 /// Whether each key is its number. There is room for a path.
