@@ -18,3 +18,4 @@ pub mod NumberLaws
 pub mod ByteLaws
 pub mod ReadLaws
 pub mod PrintedReading
+pub mod PlainReading

@@ -3,9 +3,8 @@ use Rattle.std.proofs.Common.{◌≡◌, ℕ, true, List, Result, Ok, Err, refl,
 use Rattle.gv_model.specs.Ty.{Ty}
 use Rattle.gv_model.specs.Tree.{Tree}
 use Rattle.gv_model.specs.Printed.{printed}
-use Rattle.gv_model.specs.TextFault.{Fault}
 use Rattle.gv_model.specs.Syntax.{Syntax}
-use Rattle.gv_model.specs.Parsing.{IsTree, HasFault}
+use Rattle.gv_model.specs.Parsing.{IsTree}
 use Rattle.gv_model.specs.Chosen.{Choice}
 use Rattle.gv_model.specs.Chosen.Choice.{is, no_common_type, ambiguous}
 use Rattle.gv_model.specs.Literals.{ValueFault as TheFault}

@@ -30,3 +30,9 @@ pub record IsReadAs (text : List ℕ) (v : Tree) : Type 0 where
 -- no double and is at most 127 deep
 abbrev pub PrintedIsRead : Type 0
 PrintedIsRead = (t : Ty) (v : Tree) → HasType v t → IsWithinLimits t → holds_double v ≡ false → depth v ≤ 127 → IsReadAs (printed v true) v
+
+-- The text is what is printed for v, which is no double and not so deep that its text is too deep.
+pub record IsPrintedFor (text : List ℕ) (v : Tree) : Type 0 where
+  pub shown : printed v true ≡ text
+  pub no_double : holds_double v ≡ false
+  pub levels : depth v ≤ 127

@@ -24,6 +24,7 @@ mod least;
 mod literal;
 mod pattern;
 mod plain;
+mod plain_literal;
 mod printed;
 mod read;
 mod read_fault;

@@ -10,6 +10,7 @@ ghost use Rattle.gv_infer.specs.Reads.{Reads, IsReadFault};
 use crate::build::build;
 use crate::contents::check_contents;
 use crate::plain::plain_type;
+use crate::plain_literal::read_plain;
 use crate::read_fault::ReadFault;
 use crate::typing::type_of_root;
 use crate::value_fault::ValueFault;
@@ -24,15 +25,19 @@ use std::alloc::Global;
 /// is in one of its `<..>` has none; and `Value` where a literal is no value of the type that it gets, or the value
 /// would have over 128 levels. Each of them may also be running out of memory.
 ///
-/// It types the whole once and what is in each `<..>` once, each in time linear in its own syntax times the levels of its
-/// type, and asks nothing of a type that it has just chosen. Only where there is no value are the `<..>` typed once more, to
-/// find the first without a type. It takes memory for the syntax, the value, and the types of the `<..>` that lie around one
-/// another.
+/// A truth value, an `i` or a `u` that is printed so and has no minus sign, and a string in `'` of printable ASCII without a
+/// backslash are read at sight: in one look at the text, with memory for the string alone. Any other text it types once as a
+/// whole, and once what is in each `<..>`, each in time linear in its own syntax times the levels of its type, and asks
+/// nothing of a type that it has just chosen. Only where there is no value are the `<..>` typed once more, to find the first
+/// without a type. It takes memory for the syntax, the value, and the types of the `<..>` that lie around one another.
 pub fn read_value(alloc: Global, text: &str) -> Result<Tree, ReadFault>
     requires { length text.now ≤ 16777216 }
     ensures value { IfOk result (λ v. Reads text.now (Ok v)) }
     ensures fault { IfErr result (IsReadFault text.now) }
 {
+    if let Some(value) = read_plain(alloc, text)? {
+        return Ok(value);
+    }
     let syntax = parse(alloc, text)?;
     value_of(alloc, syntax.root())
 }

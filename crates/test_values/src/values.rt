@@ -114,6 +114,32 @@ fn values_at_given_types(rt: HostRuntime) -> Result<(), Fail> {
     )
 }
 
+/// What is read at sight, and what is nearly so and is read by its syntax.
+#[test]
+fn plain_literals_are_read_as_their_syntax_is(rt: HostRuntime) -> Result<(), Fail> {
+    Asked::Value.each_gives(
+        rt.alloc(),
+        r#"
+        0 | i 0
+        7 | i 7
+        07 | i 7
+        2147483648 | OutOfRange
+        4294967296 | OutOfRange
+        uint32 0 | u uint32 0
+        uint32 017 | u uint32 15
+        uint32  17 | u uint32 17
+        uint32 4294967295 | u uint32 4294967295
+        uint32 4294967296 | OutOfRange
+        '' | s ''
+        ' !' | s ' !'
+        'a "b" (c)' | s 'a "b" (c)'
+        'a\\b' | s 'a\\b'
+        'é' | s 'é'
+        'a', | Unexpected at 3..4
+    "#,
+    )
+}
+
 /// The README's table of faults is among these.
 #[test]
 fn texts_have_values_of_the_least_type(rt: HostRuntime) -> Result<(), Fail> {
