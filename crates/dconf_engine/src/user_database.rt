@@ -30,7 +30,8 @@ impl<'a> Engine<'a> {
         write(self.alloc, &map)
     }
 
-    /// As `save`, of an engine that is not needed any longer. What was set is not copied.
+    /// As [`Engine::save`], of an engine that is not needed any longer, with the same errors. It copies the paths and values of
+    /// the file, and moves what was set.
     pub fn into_saved(self) -> Result<Vec<u8>, WriteFault>
         ensures database { IfOk result (λ file. IsDatabaseOf (saved self.entry.layers) file.items) }
         ensures fault { IfErr result (IsRefusal (saved self.entry.layers)) }

@@ -3,6 +3,7 @@ use Rattle.std.proofs.Common.{◌≡◌, ◌<◌, ◌≤◌, ◌+◌, ℕ, List,
 use Rattle.std.proofs.lemmas.List.{append-nil}
 use Rattle.dconf_model.specs.Table.{Table, item, key}
 use Rattle.dconf_model.specs.Names.{HasName, IsItem}
+use Rattle.gvdb_read.specs.NameLinks.{MayLead}
 use Rattle.dconf_model.proofs.NameSteps.{is_item, ends_in_key, at_root, moves_up, empty_key}
 
 -- a test answers no where P can't be
@@ -24,6 +25,13 @@ leads_from t i = record {
 ends_so : (t : Table) (at : ℕ) (prefix : List ℕ) → HasName t at prefix → (above : List ℕ) × (prefix ≡ above ++ key t at)
 ends_so t at prefix h = let e = ends_in_key t at h.parents in (e.0, sym h.spelled ∙ e.1)
 
+-- an item that has a name may lead to it
+pub named_leads : (t : Table) (at : ℕ) (name : List ℕ) → HasName t at name → MayLead t at
+named_leads t at name h = record {
+  here = is_item t at name h;
+  takes = λ p some. let e = ends_so t at name h in empty_key t at p e.0 name some e.1 h;
+}
+
 -- so the whole name has the bytes of this key and those passed at its end
 pub ends_in_all : (t : Table) (i at : ℕ) (back name : List ℕ) → LeadsTo t i at back → HasName t i name → (above : List ℕ) × (name ≡ above ++ (key t at ++ back))
 ends_in_all t i at back name leads h =
@@ -36,17 +44,9 @@ is_as_long t i at back name leads h =
     let e = ends_in_all t i at back name leads h in
     omega (arith, ap (λ (l : List ℕ). length l) e.1, length-append e.0 (key t at ++ back), length-append (key t at) back)
 
--- where the item at hand is none, there is no name
-pub no_item : (t : Table) (i at : ℕ) (back name : List ℕ) → LeadsTo t i at back → (IsItem t at → ⊥) → HasName t i name → ⊥
-no_item t i at back name leads none h = let u = leads.up name h in none (is_item t at u.0 u.1)
-
--- nor where it has a parent and no key
-pub no_key : (t : Table) (i at p : ℕ) (back name : List ℕ) → LeadsTo t i at back → (item t at).parent ≡ Some p → length (key t at) ≡ 0 → HasName t i name → ⊥
-no_key t i at p back name leads some none h =
-    let u = leads.up name h in
-    let e = ends_so t at u.0 u.1 in
-    let long : 0 < length (key t at) = empty_key t at p e.0 u.0 some e.1 u.1 in
-    omega (arith, long, none)
+-- a name goes through the item at hand alone where that may lead
+pub no_way : (t : Table) (i at : ℕ) (back name : List ℕ) → LeadsTo t i at back → (MayLead t at → ⊥) → HasName t i name → ⊥
+no_way t i at back name leads none h = let u = leads.up name h in none (named_leads t at u.0 u.1)
 
 -- one item more
 pub leads_more : (t : Table) (i at p : ℕ) (back : List ℕ) → LeadsTo t i at back → IsItem t at → (item t at).parent ≡ Some p → 0 < length (key t at) → LeadsTo t i p (key t at ++ back)

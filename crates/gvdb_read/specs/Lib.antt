@@ -4,6 +4,7 @@ pub mod Tables
 pub mod Kinds
 pub mod ItemRecords
 pub mod NamesLeft
+pub mod NameLinks
 pub mod Lookups
 pub mod HashedNames
 pub mod HashLanes

@@ -3,6 +3,7 @@ ghost use Rattle.std.specs.Prelude.{◌≡◌, ◌+◌, ◌<◌, ◌↔◌, IfNo
 ghost use Rattle.dconf_model.specs.Names.{IsItem};
 ghost use Rattle.dconf_model.specs.Table.{HasBytes, bytes_of, item, item_count, key};
 ghost use Rattle.gvdb_read.specs.Kinds.{letter_of};
+ghost use Rattle.gvdb_read.specs.NameLinks.{MayLead};
 
 use crate::format::{Kind, RECORD_LEN, parent, read_u8, read_u16, read_u32};
 use crate::table::Table;
@@ -69,6 +70,21 @@ impl<'a> Table<'a> {
             parent: parent(read_u32(self.file, at + 4)),
             key,
         })
+    }
+
+    /// The link of item `i` in a full name. None also where it has a parent and takes no byte of the name, as items may whose
+    /// parents go round in a circle.
+    #[inline(always)]
+    pub(crate) fn name_link_at(self, i: u32) -> Option<Link<'a>>
+        ensures some { IfSome result (λ link. MayLead (region self.entry) i
+            × (link.parent ≡ (item (region self.entry) i).parent) × (link.key.now ≡ key (region self.entry) i)) }
+        ensures none { IfNone result (¬ MayLead (region self.entry) i) }
+    {
+        let link = self.link_at(i)?;
+        if link.parent.is_some() && link.key.is_empty() {
+            return None;
+        }
+        Some(link)
     }
 
     /// What item `i`, which is of this kind, points to. None where the pointer isn't valid.

@@ -21,14 +21,11 @@ impl<'a> Table<'a> {
         let mut at = i;
         let mut left = longest;
         loop {
-            let link = self.link_at(at)?;
+            let link = self.name_link_at(at)?;
             left = left.checked_sub(link.key.len())?;
             let Some(parent) = link.parent else {
                 return Some(longest - left);
             };
-            if link.key.is_empty() {
-                return None;
-            }
             at = parent;
         }
     }
@@ -46,7 +43,7 @@ impl<'a> Table<'a> {
         let mut at = i;
         let mut end = room.len();
         loop {
-            let Some(link) = self.link_at(at) else {
+            let Some(link) = self.name_link_at(at) else {
                 return false;
             };
             let Some(start) = end.checked_sub(link.key.len()) else {
@@ -56,9 +53,6 @@ impl<'a> Table<'a> {
             let Some(parent) = link.parent else {
                 return start == 0;
             };
-            if link.key.is_empty() {
-                return false;
-            }
             (at, end) = (parent, start);
         }
     }

@@ -147,7 +147,7 @@ impl<'a> Table<'a> {
         let mut rest = name;
         loop {
             steps.tick();
-            let Some(link) = self.link_at(at) else {
+            let Some(link) = self.name_link_at(at) else {
                 return false;
             };
             let Some(prefix) = before_suffix(rest, link.key) else {
@@ -156,9 +156,6 @@ impl<'a> Table<'a> {
             let Some(parent) = link.parent else {
                 return prefix.is_empty();
             };
-            if link.key.is_empty() {
-                return false;
-            }
             at = parent;
             rest = prefix;
         }

@@ -12,7 +12,7 @@ use std::marker::Model;
 /// Paths and the bytes of their values, in the order in which they are given: of those of one path the last count.
 ///
 /// Where paths come in groups, as those of a keyfile, to make a map by it costs less than to insert them one by one; in no
-/// order it costs as much. It holds each row that it was given until then.
+/// order it may cost more. It holds each row that it was given until then.
 #[derive(Drop)]
 pub struct MapBuilder {
     alloc: Global,

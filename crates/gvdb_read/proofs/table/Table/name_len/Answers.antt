@@ -1,10 +1,9 @@
 use Rattle.std.proofs.Common.{◌≡◌, ◌<◌, ℕ, List, ◌++◌, Option, Some, None, length, arith, sym, ◌∙◌, ap}
 use Rattle.std.specs.Prelude.{IfNone}
 use Rattle.std.proofs.lemmas.List.{length-append}
-use borrow.Author.Tests.{eqb-true, eqb-false}
 use Rattle.dconf_model.specs.Table.{key, item}
 use Rattle.gvdb_read.specs.Tables.{region}
-use Rattle.gvdb_read.proofs.NameWalks.{no_item, is_as_long, joined_name, no_key, leads_more}
+use Rattle.gvdb_read.proofs.NameWalks.{no_way, is_as_long, joined_name, leads_more}
 use Rattle.gvdb_read.proofs.table.Table.name_len.Goals as goal
 
 if_none : {X : Type 0} (o : Option X) (P : Type 0) → P → IfNone o P
@@ -17,7 +16,7 @@ key_len own key e = ap (λ (l : List ℕ). length l) e
 pub returns-in_err-link-clause-none : goal.returns-in_err-link-clause-none
 returns-in_err-link-clause-none c =
     let walk = c.loop-link.invariant in
-    if_none c.from_residual.result _ (λ name h. absurd (no_item (region c.args.self) c.args.i c.loop-link.at walk.0 name walk.1 c.in_err-link.ensures.none h))
+    if_none c.from_residual.result _ (λ name h. absurd (no_way (region c.args.self) c.args.i c.loop-link.at walk.0 name walk.1 c.in_err-link.ensures.none h))
 
 pub returns-in_err-left-clause-none : goal.returns-in_err-left-clause-none
 returns-in_err-left-clause-none c =
@@ -36,18 +35,9 @@ returns-in_default-clause-some c =
     let same = key_len c.in_ok-link.link.key.now _ some.2 in
     let own = key t c.loop-link.at in (
       own ++ walk.0,
-      joined_name t c.args.i c.loop-link.at walk.0 walk.1 some.0 orphan,
+      joined_name t c.args.i c.loop-link.at walk.0 walk.1 some.0.here orphan,
       omega (arith, walk.2, same, c.in_ok-left.ensures.0, c.in_ok-left.ensures.1, length-append own walk.0),
     )
-
-pub returns-then-is_empty-clause-none : goal.returns-then-is_empty-clause-none
-returns-then-is_empty-clause-none c =
-    let t = region c.args.self in
-    let walk = c.loop-link.invariant in
-    let some = c.in_ok-link.ensures.some in
-    let up : (item t c.loop-link.at).parent ≡ Some c.in-Some.parent = sym some.1 ∙ c.in-Some.is in
-    let empty : length (key t c.loop-link.at) ≡ 0 = sym (key_len c.in_ok-link.link.key.now _ some.2) ∙ eqb-true _ _ (sym c.is_empty.ensures ∙ c.if-is_empty.true) in
-    λ name h. absurd (no_key t c.args.i c.loop-link.at c.in-Some.parent walk.0 name walk.1 up empty h)
 
 pub loop-link-preserved : goal.loop-link-preserved
 loop-link-preserved c =
@@ -56,9 +46,8 @@ loop-link-preserved c =
     let some = c.in_ok-link.ensures.some in
     let up : (item t c.loop-link.at).parent ≡ Some c.in-Some.parent = sym some.1 ∙ c.in-Some.is in
     let same = key_len c.in_ok-link.link.key.now _ some.2 in
-    let long : 0 < length (key t c.loop-link.at) = let d = eqb-false _ _ (sym c.is_empty.ensures ∙ c.if-is_empty.false) in omega (arith, d, same) in
     let own = key t c.loop-link.at in (
       own ++ walk.0,
-      leads_more t c.args.i c.loop-link.at c.in-Some.parent walk.0 walk.1 some.0 up long,
+      leads_more t c.args.i c.loop-link.at c.in-Some.parent walk.0 walk.1 some.0.here up (some.0.takes c.in-Some.parent up),
       omega (arith, walk.2, same, c.in_ok-left.ensures.0, c.in_ok-left.ensures.1, length-append own walk.0),
     )

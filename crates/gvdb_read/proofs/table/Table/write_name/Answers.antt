@@ -1,12 +1,12 @@
 use Rattle.std.proofs.Common.{◌≡◌, ◌<◌, ◌≤◌, ◌+◌, ◌-◌, ℕ, List, ◌++◌, Some, None, length, arith, subst, sym, ◌∙◌, ap}
 use Rattle.std.specs.Prelude.{take, drop}
 use Rattle.std.proofs.lemmas.List.{length-append, length-drop, length-take-le, drop_at, drop-drop}
-use borrow.Author.Tests.{eqb-true, eqb-false, eq-eqb}
+use borrow.Author.Tests.{eqb-true, eq-eqb}
 use borrow.Rule.Slice.PartMut.{put_mid, post_of, same_len_mid}
 use Rattle.dconf_model.specs.Names.{HasName}
 use Rattle.dconf_model.specs.Table.{key, item}
 use Rattle.gvdb_read.specs.Tables.{region}
-use Rattle.gvdb_read.proofs.NameWalks.{never, LeadsTo, no_item, is_as_long, joined_name, only_name, no_key, leads_more}
+use Rattle.gvdb_read.proofs.NameWalks.{never, LeadsTo, no_way, is_as_long, joined_name, only_name, leads_more}
 use Rattle.gvdb_read.proofs.table.Table.write_name.Goals as goal
 
 -- a key that was put before the end
@@ -19,7 +19,7 @@ put_before start end room own le inside =
 
 pub returns-in_default-clause-fits : goal.returns-in_default-clause-fits
 returns-in_default-clause-fits c =
-    never (λ h. no_item (region c.args.self) c.args.i c.loop-link.at _ h.0 c.loop-link.invariant.walked c.in_default.ensures.none h.1)
+    never (λ h. no_way (region c.args.self) c.args.i c.loop-link.at _ h.0 c.loop-link.invariant.walked c.in_default.ensures.none h.1)
 
 pub returns-in_default-checked_sub-clause-fits : goal.returns-in_default-checked_sub-clause-fits
 returns-in_default-checked_sub-clause-fits c =
@@ -52,11 +52,11 @@ returns-in_default-parent-clause-fits c =
     let all = length-append own back in (
       λ e. (
         own ++ back,
-        joined_name t c.args.i c.loop-link.at back inv.walked some.0 orphan,
+        joined_name t c.args.i c.loop-link.at back inv.walked some.0.here orphan,
         omega (arith, eqb-true _ _ e, start.0, start.1, same, kept, all, inv.inside, inv.size),
       ),
       λ h.
-          let only = ap (λ (l : List ℕ). length l) (only_name t c.args.i c.loop-link.at back h.0 inv.walked some.0 orphan h.1) in
+          let only = ap (λ (l : List ℕ). length l) (only_name t c.args.i c.loop-link.at back h.0 inv.walked some.0.here orphan h.1) in
           eq-eqb _ _ (omega (arith, only, h.2, start.0, start.1, same, kept, all, inv.inside, inv.size)),
     )
 
@@ -66,7 +66,7 @@ returns-in_default-parent-clause-name c =
     let some = c.in-Some.ensures.some in
     let inv = c.loop-link.invariant in
     let orphan : (item t c.loop-link.at).parent ≡ None = sym some.1 ∙ c.in_default-parent.is in
-    let named = joined_name t c.args.i c.loop-link.at _ inv.walked some.0 orphan in
+    let named = joined_name t c.args.i c.loop-link.at _ inv.walked some.0.here orphan in
     let start = c.in-Some-checked_sub.ensures in
     let le : c.in-Some-checked_sub.start ≤ c.loop-link.end = omega (arith, start.0, start.1) in
     let k = c.loop-link.end - c.in-Some-checked_sub.start in
@@ -74,14 +74,6 @@ returns-in_default-parent-clause-name c =
     let put = put_before c.in-Some-checked_sub.start c.loop-link.end c.loop-link.room c.copy_from_slice.new.self le inv.inside in
     let is = put ∙ ap (λ (l : List ℕ). l ++ drop c.loop-link.end c.loop-link.room) (c.copy_from_slice.ensures.after ∙ some.2) in
     λ e. subst (HasName t c.args.i) (sym is ∙ ap (λ n. drop n room) (eqb-true _ _ e)) named
-
-pub returns-then-is_empty-clause-fits : goal.returns-then-is_empty-clause-fits
-returns-then-is_empty-clause-fits c =
-    let t = region c.args.self in
-    let some = c.in-Some.ensures.some in
-    let up : (item t c.loop-link.at).parent ≡ Some c.in-Some-parent.parent = sym some.1 ∙ c.in-Some-parent.is in
-    let empty : length (key t c.loop-link.at) ≡ 0 = sym (ap (λ (l : List ℕ). length l) some.2) ∙ eqb-true _ _ (sym c.is_empty.ensures ∙ c.if-is_empty.true) in
-    never (λ h. no_key t c.args.i c.loop-link.at c.in-Some-parent.parent _ h.0 c.loop-link.invariant.walked up empty h.1)
 
 pub loop-link-preserved : goal.loop-link-preserved
 loop-link-preserved c =
@@ -92,13 +84,12 @@ loop-link-preserved c =
     let start = c.in-Some-checked_sub.ensures in
     let up : (item t c.loop-link.at).parent ≡ Some c.in-Some-parent.parent = sym some.1 ∙ c.in-Some-parent.is in
     let same = ap (λ (l : List ℕ). length l) some.2 in
-    let long : 0 < length own = let d = eqb-false _ _ (sym c.is_empty.ensures ∙ c.if-is_empty.false) in omega (arith, d, same) in
     let le : c.in-Some-checked_sub.start ≤ c.loop-link.end = omega (arith, start.0, start.1) in
     let put = put_before c.in-Some-checked_sub.start c.loop-link.end c.loop-link.room c.copy_from_slice.new.self le inv.inside in
     let is = put ∙ ap (λ (l : List ℕ). l ++ drop c.loop-link.end c.loop-link.room) (c.copy_from_slice.ensures.after ∙ some.2) in
     let size = same_len_mid c.in-Some-checked_sub.start (c.loop-link.end - c.in-Some-checked_sub.start) c.loop-link.room c.copy_from_slice.new.self c.copy_from_slice.ensures.len in
     record {
-      walked = subst (LeadsTo t c.args.i c.in-Some-parent.parent) (sym is) (leads_more t c.args.i c.loop-link.at c.in-Some-parent.parent _ inv.walked some.0 up long);
+      walked = subst (LeadsTo t c.args.i c.in-Some-parent.parent) (sym is) (leads_more t c.args.i c.loop-link.at c.in-Some-parent.parent _ inv.walked some.0.here up (some.0.takes c.in-Some-parent.parent up));
       inside = omega (arith, le, size, inv.inside);
       size = size ∙ inv.size;
     }
