@@ -374,6 +374,15 @@ static GBytes *escapes(const char *type, size_t size) {
     return g_string_free_to_bytes(text);
 }
 
+static GBytes *plain_string(const char *type, size_t size) {
+    (void)type;
+    GString *text = g_string_new("'");
+    for (size_t i = 0; i < size; i++)
+        g_string_append_c(text, (char)('a' + next(26)));
+    g_string_append_c(text, '\'');
+    return g_string_free_to_bytes(text);
+}
+
 /* Each level has the one below as its first and as its last element. */
 static GBytes *tower(const char *type, size_t size) {
     (void)type;
@@ -455,6 +464,7 @@ static const Case CASES[] = {
     {"parse `ai`", "ai", GROWING, array_text, parse_ours, parse_glib, parsed_ours, parsed_glib, 0, PLAIN},
     {"parse nested brackets", "", BRACKETS, nested_brackets, parse_ours, parse_glib, parsed_ours, parsed_glib, 0, PLAIN},
     {"parse a string of escapes", "", GROWING, escapes, parse_ours, parse_glib, parsed_ours, parsed_glib, 0, PLAIN},
+    {"parse a plain string", "", GROWING, plain_string, parse_ours, parse_glib, parsed_ours, parsed_glib, 0, PLAIN},
     {"print a tower", NULL, TOWERS, tower, print_ours, print_glib, 0, 0, 0, PLAIN},
     {"normal test of a tower", NULL, TOWERS, tower, normal_ours, normal_glib, 0, 0, 0, PLAIN},
     {"print twins `(ssvsvs)`", "v", TWINS, twins, print_ours, print_glib, 0, 0, 0, PLAIN},
