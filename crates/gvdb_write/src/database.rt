@@ -48,8 +48,8 @@ fn tables<'a>(alloc: Global, map: &'a Map) -> Result<(TablePlan<'a>, TablePlan<'
     ensures tables { IfOk result (λ tables. AreReady map.now tables.0 tables.1) }
     ensures fault { IfErr result (λ e. e ≡ Memory) }
 {
-    let root = TablePlan::new(alloc, &root_names(alloc, map)?)?;
-    let locks = TablePlan::new(alloc, &lock_names(alloc, map)?)?;
+    let root = TablePlan::new(alloc, root_names(alloc, map)?)?;
+    let locks = TablePlan::new(alloc, lock_names(alloc, map)?)?;
     Ok((root, locks))
 }
 
@@ -207,7 +207,7 @@ fn write_keys(items: &[Named<'_>], out: &mut Vec<u8>) -> Result<(), WriteFault>
     ensures fault { IfErr result (λ e. e ≡ Memory) }
 {
     for named in items {
-        out.extend_from_slice(&named.name[named.from..])?;
+        out.extend_from_slice(&named.name[named.from as usize..])?;
     }
     Ok(())
 }

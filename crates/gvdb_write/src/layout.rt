@@ -107,7 +107,7 @@ fn lay_keys(cursor: &mut Cursor, items: &[Named<'_>]) -> Result<(), WriteFault>
     ensures fault { IfErr result (IsPast (all_keys_end cursor.old.at items.now)) }
 {
     for named in items {
-        cursor.lay(named.name.len() - named.from)?;
+        cursor.lay(named.name.len() - named.from as usize)?;
     }
     Ok(())
 }
@@ -275,7 +275,7 @@ fn records(
     let mut rows = Vec::with_capacity(alloc, items.len())?;
     let mut key_start = keys_at;
     for named in items {
-        let size = named.name.len() - named.from;
+        let size = named.name.len() - named.from as usize;
         let pointer = contents.pointer(rows.len(), named.content);
         rows.push(ItemRecord {
             hash: named.hash,

@@ -31,8 +31,8 @@ pub(crate) enum Content<'a> {
 pub(crate) struct Named<'a> {
     /// The full name.
     pub(crate) name: &'a [u8],
-    /// Where its own part of it begins, its key.
-    pub(crate) from: usize,
+    /// Where its own part of it begins, its key. A name has 65,535 bytes at most.
+    pub(crate) from: u16,
     pub(crate) hash: u32,
     /// The number of its directory among the names.
     pub(crate) parent: Option<usize>,
@@ -136,7 +136,7 @@ fn add<'a>(
             let place = names.len();
             names.push(Named {
                 name: &text[..i + 1],
-                from,
+                from: from as u16,
                 hash,
                 parent: Some(parent),
                 content: Content::List,
@@ -147,7 +147,7 @@ fn add<'a>(
     }
     names.push(Named {
         name: text,
-        from,
+        from: from as u16,
         hash,
         parent: Some(parent),
         content: Content::Value(value),
