@@ -16,7 +16,7 @@ use std::marker::Model;
 
 /// What was done at a path.
 #[derive(Drop)]
-enum Edit {
+pub(crate) enum Edit {
     /// It was set to these bytes.
     Set(Vec<u8>),
     /// Its value was taken away.
@@ -25,7 +25,7 @@ enum Edit {
 
 impl Edit {
     /// The bytes that were set, or None.
-    fn bytes(&self) -> Option<&[u8]>
+    pub(crate) fn bytes(&self) -> Option<&[u8]>
         ensures { option_map (λ bytes. bytes.now) result ≡ edit_bytes self.now }
     {
         match self {
@@ -96,15 +96,11 @@ impl Changes {
         self.edits.is_empty()
     }
 
-    /// What was changed at a path: the bytes that it was set to, or None within where it was reset. It compares as many
-    /// paths as the map is deep.
-    pub(crate) fn get(&self, path: &str) -> Option<Option<&[u8]>>
-        ensures { option_map (option_map (λ bytes. bytes.now)) result ≡ get self.now path.now }
+    /// What was done at a path, if anything was. It compares as many paths as the map is deep.
+    pub(crate) fn get(&self, path: &str) -> Option<&Edit>
+        ensures { option_map (λ edit. edit_bytes edit.now) result ≡ get self.now path.now }
     {
-        match self.edits.get(path) {
-            Some(edit) => Some(edit.bytes()),
-            None => None,
-        }
+        self.edits.get(path)
     }
 
     /// Sets a path to these bytes, whatever was changed there before.

@@ -218,7 +218,7 @@ fn changed_bytes<'l>(changes: &'l Changes, layer: Layer<'l>, path: KeyPath<'_>) 
     ensures { option_map (λ bytes. bytes.now) result ≡ get (with_changes changes.now (settings_of layer.entry).values) (key_text path.entry) }
 {
     match changes.get(path.as_str()) {
-        Some(changed) => changed,
+        Some(edit) => edit.bytes(),
         None => layer.get(path.as_str()),
     }
 }

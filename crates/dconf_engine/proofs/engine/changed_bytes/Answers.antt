@@ -11,7 +11,7 @@ pub returns-in-Some : goal.returns-in-Some
 returns-in-Some c =
     let base = (settings_of c.args.layer).values in
     let path = key_text c.args.path in
-    let found : get c.args.changes.now path ≡ Some (option_map (λ (b : Bor (List ℕ)). b.now) c.in-Some.changed) = search rules in
+    let found : get c.args.changes.now path ≡ Some (option_map (λ (b : Bor (List ℕ)). b.now) c.bytes.result) = search rules in
     sym (get_changed c.args.changes.now base path ∙ ap (λ o. unwrap_or o (get base path)) found)
 
 pub returns-in-None : goal.returns-in-None
