@@ -161,41 +161,46 @@ module _ (d before : List ℕ) (s : IsStart d before) where
       go true a b c f = rw (a, b, c, f) refl
       go false a b c f = rw (a, b, c) refl
 
--- ---- what a row gives
+pub key_where_short : (d : List ℕ) → is_directory_path d ≡ true → (r : Row) → IsReadRow r → is_key_path (path_of d r) ≡ is_short (path_of d r)
+key_where_short d directory r h = path_if_short d (take (length d - 1) d) (directory_start d directory) r h
 
-module _ (d : List ℕ) (directory : is_directory_path d ≡ true) (read : List ℕ → Result Tree SettingsCause) (r : Row) (h : IsReadRow r) (p : List ℕ)
-    (same : p ≡ path_of d r) where
-  row_short : is_key_path (path_of d r) ≡ is_short (path_of d r)
-  row_short = path_if_short d (take (length d - 1) d) (directory_start d directory) r h
+-- ---- what a row gives, by its path
 
-  pub long_row : (IsTrue (is_key_path p) → false ≡ true) → row_read read (path_of d r) r.text ≡ wrong (path_fault too_long)
-  long_row refuted = go (is_short (path_of d r)) (sym row_short ∙ sym (ap is_key_path same))
+module _ (read : List ℕ → Result Tree SettingsCause) (p text : List ℕ) (key : is_key_path p ≡ is_short p) where
+  pub long_row : (IsTrue (is_key_path p) → false ≡ true) → row_read read p text ≡ wrong (path_fault too_long)
+  long_row refuted = go (is_short p) (sym key)
     where
-      go : (b : Bool) → b ≡ is_key_path p → cond b (assigned (path_of d r) (read r.text)) (wrong (path_fault too_long)) ≡ wrong (path_fault too_long)
+      go : (b : Bool) → b ≡ is_key_path p → cond b (assigned p (read text)) (wrong (path_fault too_long)) ≡ wrong (path_fault too_long)
       go true e = absurd (no_truth (refuted (sym e)))
       go false e = refl
 
-  pub short_row : IsTrue (is_key_path p) → row_read read (path_of d r) r.text ≡ assigned (path_of d r) (read r.text)
-  short_row is = let short : is_short (path_of d r) ≡ true = sym row_short ∙ (sym (ap is_key_path same) ∙ is) in rw short refl
+  pub short_row : IsTrue (is_key_path p) → row_read read p text ≡ assigned p (read text)
+  short_row is = let short : is_short p ≡ true = sym key ∙ is in rw short refl
 
-  pub refused_row : (o : Option SettingsCause) → IsTrue (is_key_path p) → IfSome o (λ c. read r.text ≡ Err c)
-      → IfSome o (λ c. row_read read (path_of d r) r.text ≡ wrong c)
+  pub refused_row : (o : Option SettingsCause) → IsTrue (is_key_path p) → IfSome o (λ c. read text ≡ Err c) → IfSome o (λ c. row_read read p text ≡ wrong c)
   refused_row None is k = tt
-  refused_row (Some c) is k = short_row is ∙ ap (assigned (path_of d r)) k
+  refused_row (Some c) is k = short_row is ∙ ap (assigned p) k
 
 -- ---- a row that is compiled
 
 module _ (r : Row) (h : IsReadRow r) (p : List ℕ) (same : p ≡ path_of (codes "/") r) where
+  key : is_key_path p ≡ is_short p
+  key = ap is_key_path same ∙ (key_where_short (codes "/") root_is_a_directory r h ∙ sym (ap is_short same))
+
+  by_path : row_compiled r ≡ row_read text_compiled p r.text
+  by_path = ap (λ (x : List ℕ). row_read text_compiled x r.text) (sym same)
+
   pub too_long_row : (IsTrue (is_key_path p) → false ≡ true) → row_compiled r ≡ wrong (path_fault too_long)
-  too_long_row refuted = long_row (codes "/") root_is_a_directory text_compiled r h p same refuted
+  too_long_row refuted = by_path ∙ long_row text_compiled p r.text key refuted
 
   pub row_refused : (o : Option SettingsCause) → IsTrue (is_key_path p) → IfSome o (λ c. text_compiled r.text ≡ Err c) → IfSome o (λ c. row_compiled r ≡ wrong c)
-  row_refused o is k = refused_row (codes "/") root_is_a_directory text_compiled r h p same o is k
+  row_refused None is k = tt
+  row_refused (Some c) is k = by_path ∙ refused_row text_compiled p r.text key (Some c) is k
 
   pub row_stored : (bytes : List ℕ) (old new : Settings) → IsTrue (is_key_path p) → IsStoredFor (text_compiled r.text) bytes → new ≡ with_value old p bytes → AddsRow (row_compiled r) old new
   row_stored bytes old new is s added = record {
-    row = record { path = path_of (codes "/") r; value = s.value };
-    found = short_row (codes "/") root_is_a_directory text_compiled r h p same is ∙ ap (assigned (path_of (codes "/") r)) s.read;
+    row = record { path = p; value = s.value };
+    found = by_path ∙ (short_row text_compiled p r.text key is ∙ ap (assigned p) s.read);
     limited = s.limited;
-    added = added ∙ (ap (λ (x : List ℕ). with_value old x bytes) same ∙ ap (with_value old (path_of (codes "/") r)) s.bytes);
+    added = added ∙ ap (with_value old p) s.bytes;
   }

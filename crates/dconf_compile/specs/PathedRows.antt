@@ -1,30 +1,40 @@
--- A row of a keyfile with a path, and the rows that are loaded.
-use Rattle.std.specs.Prelude.{◌≡◌, ◌≤◌, ℕ, true, List, length, map, string_bytes}
+-- The rows of a keyfile by their paths, and what they load.
+use Rattle.std.specs.Prelude.{◌≡◌, ◌≤◌, ℕ, List, [], ◌∷◌, length, map, string_bytes, Result, Ok}
 use Rattle.gv_model.specs.Tree.{Tree}
-use Rattle.dconf_model.specs.Keyfiles.{Row as TheRow, is_group, is_key, path_of}
-use Rattle.dconf_model.specs.Lines.{LineReading, longest_text}
+use Rattle.dconf_model.specs.Keyfiles.{Row, path_of}
+use Rattle.dconf_model.specs.Lines.{LineFault, LineReading, longest_text, put_first}
+use Rattle.dconf_model.specs.Paths.{is_key_path, is_short}
 use Rattle.dconf_model.specs.Sources.{Assigned, row_read}
 use Rattle.dconf_model.specs.Values.{value_of_text}
 use Rattle.dconf_path.specs.declared.path.KeyPath.{KeyPath}
 use Rattle.dconf_path.specs.Paths.{key_text}
-use Rattle.keyfile_core.specs.Rows.{row_meant}
 use Rattle.dconf_compile.specs.declared.loading.PathedRow.{PathedRow}
 
-abbrev pub pathed_meant : PathedRow → TheRow
-pathed_meant row = row_meant row.row
+-- a row by the path of its key
+pub record AtPath : Type 0 where
+  pub line : ℕ
+  pub path : List ℕ
+  pub text : List ℕ
 
-abbrev pub pathed_path : PathedRow → List ℕ
-pathed_path row = string_bytes row.path
+abbrev pub at_path : List ℕ → Row → AtPath
+at_path directory r = record { line = r.line; path = path_of directory r; text = r.text }
 
--- the row is as the rules of keyfiles want it, and has the path of its key below the directory
-abbrev pub IsPathed : List ℕ → PathedRow → Type 0
-IsPathed directory row =
-    (is_group (pathed_meant row).group ≡ true) × (is_key (pathed_meant row).key ≡ true) × (length (pathed_meant row).text ≤ longest_text)
-    × (pathed_path row ≡ path_of directory (pathed_meant row))
+abbrev pub pathed_meant : PathedRow → AtPath
+pathed_meant row = record { line = row.line; path = string_bytes row.path; text = row.text.now }
 
--- what a row gives that is loaded below a directory
-abbrev pub row_loaded : List ℕ → TheRow → LineReading Assigned
-row_loaded directory r = row_read value_of_text (path_of directory r) r.text
+-- the path is that of a key unless it is too long, and the text is no longer than a keyfile
+pub record IsPathed (row : PathedRow) : Type 0 where
+  pub key : is_key_path (string_bytes row.path) ≡ is_short (string_bytes row.path)
+  pub short : length row.text.now ≤ longest_text
+
+-- what a row gives that is loaded
+abbrev pub row_loaded : AtPath → LineReading Assigned
+row_loaded r = row_read value_of_text r.path r.text
+
+-- what they give: their paths and values, or the first line at fault
+abbrev pub rows_given : List AtPath → Result (List Assigned) LineFault
+rows_given [] = Ok []
+rows_given (r ∷ more) = put_first r.line (row_loaded r) (rows_given more)
 
 abbrev pub assigned_of : KeyPath × Tree → Assigned
 assigned_of row = record { path = key_text row.0; value = row.1 }

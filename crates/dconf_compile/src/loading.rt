@@ -8,7 +8,7 @@ ghost use Rattle.keyfile_core.specs.Rows.{row_meant};
 ghost use Rattle.dconf_compile.specs.Added.{IsReadRow};
 ghost use Rattle.dconf_compile.specs.CompileFaults.{cause_of};
 ghost use Rattle.dconf_compile.specs.LineStops.{line_fault_of};
-ghost use Rattle.dconf_compile.specs.PathedRows.{IsPathed, assigned_of, pathed_meant, row_loaded, values_of};
+ghost use Rattle.dconf_compile.specs.PathedRows.{IsPathed, assigned_of, at_path, pathed_meant, row_loaded, values_of};
 
 use crate::fault::CompileCause;
 use crate::line_stop::LineStop;
@@ -19,20 +19,21 @@ use gv_tree::Tree;
 use keyfile_core::{Row, read};
 use std::alloc::{AllocError, Global};
 
-/// A row of a keyfile, and the path of its key.
+/// A row of a keyfile by the path of its key.
 #[derive(Drop)]
 struct PathedRow<'a> {
-    row: Row<'a>,
+    /// The number of its line.
+    line: usize,
     path: String,
+    text: &'a str,
 }
 
-/// The rows of a keyfile, with the paths of their keys below a directory. Their values are not read yet.
+/// The rows of a keyfile by the paths of their keys below a directory. Their values are not read yet.
 #[derive(Drop)]
 pub struct RowsBelow<'a> {
-    directory: DirPath<'a>,
     rows: Vec<PathedRow<'a>>,
 
-    ghost are_pathed: { All (IsPathed (directory_text directory)) rows.items },
+    ghost are_pathed: { All IsPathed rows.items },
 }
 
 impl<'a> RowsBelow<'a> {
@@ -40,10 +41,10 @@ impl<'a> RowsBelow<'a> {
 
     /// Reads the lines of a keyfile, and puts the path of each row's key below a directory.
     ///
-    /// The refusals are those of [`read`], with their line. The rows are lent from the bytes; the paths are copied.
+    /// The refusals are those of [`read`], with their line. The texts of the rows are lent from the bytes; the paths are copied.
     pub fn read(
         alloc: Global,
-        directory: DirPath<'a>,
+        directory: DirPath<'_>,
         bytes: &'a [u8],
     ) -> Result<RowsBelow<'a>, LineStop>
         ensures found { IfOk result (λ rows. loaded (directory_text directory.entry) bytes.entry.now ≡ rows_loaded rows) }
@@ -51,7 +52,7 @@ impl<'a> RowsBelow<'a> {
     {
         let rows = read(alloc, bytes)?;
         let rows = with_paths(alloc, directory, &rows)?;
-        Ok(RowsBelow { directory, rows })
+        Ok(RowsBelow { rows })
     }
 
     /// The key and the value of each row, in their order, or the first line at fault: its path is `TooLong`, or its text has no value.
@@ -61,13 +62,13 @@ impl<'a> RowsBelow<'a> {
         ensures found { IfOk result (λ values. rows_loaded self.now ≡ Ok (values_of values.items)) }
         ensures fault { IfErr result (λ stop. IfSome (line_fault_of stop) (λ fault. rows_loaded self.now ≡ Err fault)) }
     {
-        let mut values = Vec::new(alloc);
+        let mut values = Vec::with_capacity(alloc, self.rows.len())?;
         for row in &self.rows {
-            match self.value_of(alloc, row) {
+            match row.value(alloc) {
                 Ok(value) => values.push(value)?,
                 Err(cause) => {
                     return Err(LineStop {
-                        line: row.row.line,
+                        line: row.line,
                         cause,
                     });
                 }
@@ -75,39 +76,41 @@ impl<'a> RowsBelow<'a> {
         }
         Ok(values)
     }
+}
 
-    /// The key and the value of a row, or what is wrong with it.
-    fn value_of<'p>(
-        &self,
-        alloc: Global,
-        row: &'p PathedRow<'_>,
-    ) -> Result<(KeyPath<'p>, Tree), CompileCause>
-        requires { IsPathed (directory_text self.now.directory) row.now }
-        ensures found { IfOk result (λ value. row_loaded (directory_text self.now.directory) (pathed_meant row.entry.now) ≡ found (assigned_of value)) }
-        ensures fault { IfErr result (λ cause. IfSome (cause_of cause) (λ c. row_loaded (directory_text self.now.directory) (pathed_meant row.entry.now) ≡ wrong c)) }
+impl PathedRow<'_> {
+    /// The key and the value of the row, or what is wrong with it.
+    fn value(&self, alloc: Global) -> Result<(KeyPath<'_>, Tree), CompileCause>
+        requires { IsPathed self.now }
+        ensures found { IfOk result (λ value. row_loaded (pathed_meant self.now) ≡ found (assigned_of value)) }
+        ensures fault { IfErr result (λ cause. IfSome (cause_of cause) (λ c. row_loaded (pathed_meant self.now) ≡ wrong c)) }
     {
-        match KeyPath::parse(&row.path) {
-            Ok(path) => Ok((path, value_of_text(alloc, row.row.text)?)),
+        match KeyPath::parse(&self.path) {
+            Ok(path) => Ok((path, value_of_text(alloc, self.text)?)),
             // The rules of keyfiles leave no other fault.
             Err(_) => Err(CompileCause::TooLong),
         }
     }
 }
 
-/// Rows with the paths of their keys below a directory.
+/// Rows by the paths of their keys below a directory.
 fn with_paths<'a>(
     alloc: Global,
     directory: DirPath<'_>,
     rows: &[Row<'a>],
 ) -> Result<Vec<PathedRow<'a>>, AllocError>
     requires { AllByRecursion IsReadRow (map row_meant rows.now) }
-    ensures rows { IfOk result (λ pathed. map pathed_meant pathed.items ≡ map row_meant rows.entry.now) }
-    ensures paths { IfOk result (λ pathed. All (IsPathed (directory_text directory.entry)) pathed.items) }
+    ensures rows { IfOk result (λ pathed. map pathed_meant pathed.items ≡ map (at_path (directory_text directory.entry)) (map row_meant rows.entry.now)) }
+    ensures paths { IfOk result (λ pathed. All IsPathed pathed.items) }
 {
-    let mut pathed = Vec::new(alloc);
+    let mut pathed = Vec::with_capacity(alloc, rows.len())?;
     for row in rows {
         let path = path_of(alloc, directory.as_str(), row)?;
-        pathed.push(PathedRow { row: *row, path })?;
+        pathed.push(PathedRow {
+            line: row.line,
+            path,
+            text: row.text,
+        })?;
     }
     Ok(pathed)
 }

@@ -1,12 +1,13 @@
--- The content of each item is known before its record is made.
+-- The content of each item is known where a layout has everything.
 use Rattle.std.proofs.lemmas.Grind.{common_steps}
-use Rattle.std.proofs.Common.{ℕ, ◌≡◌, ◌<◌, ◌≤◌, ◌+◌, ◌*◌, List, length, get_or, refl, ap₂, arith}
+use Rattle.std.proofs.Common.{ℕ, ◌≡◌, ◌<◌, ◌≤◌, ◌+◌, ◌*◌, List, length, get_or, refl, sym, ◌∙◌, subst, ap₂, arith}
 use Rattle.gv_model.specs.Layout.{round_up}
 use Rattle.gv_model.specs.Limits.{limit}
 use Rattle.dconf_model.specs.Table.{value_kind, list_kind}
 use Rattle.dconf_model.specs.Entries.{EachEntry, IsRootEntry, AreChildren}
-use Rattle.dconf_model.specs.Plans.{root_end, values_end}
-use Rattle.gvdb_write.specs.declared.layout.Contents.{Contents}
+use Rattle.dconf_model.specs.Plans.{Plan, root_end, values_end, all_values, once_each}
+use Rattle.gvdb_write.specs.declared.contents.Contents.{Contents}
+use Rattle.gvdb_write.specs.declared.layout.Layout.{Layout}
 use Rattle.gvdb_write.specs.declared.layout.Pointer.{Pointer}
 use Rattle.gvdb_write.specs.declared.names.Content.{Content}
 use Rattle.gvdb_write.specs.declared.names.Content.TheVariants.{Value, List as Listed, Locks}
@@ -14,7 +15,9 @@ use Rattle.gvdb_write.specs.declared.names.Named.{Named}
 use Rattle.gvdb_write.specs.declared.table.TablePlan.{TablePlan}
 use Rattle.gvdb_write.specs.Names.{named, kind_at}
 use Rattle.gvdb_write.specs.PlanWords.{kind_of, entries_of, children_of, plan_of}
-use Rattle.gvdb_write.specs.LayoutParts.{CanBeLaid, AreLocks}
+use Rattle.gvdb_write.specs.LayoutParts.{CanBeLaid, AreLocks, values_at}
+use Rattle.gvdb_write.specs.Layouts.{AreContentsOf, IsLayoutOf}
+use Rattle.gvdb_write.specs.Values.{bytes_of_each}
 use Rattle.gvdb_write.specs.CursorPlaces.{laid_end}
 use Rattle.gvdb_write.specs.ContentPlaces.{CanPoint, CanPointAt, content_pointer}
 use Rattle.gvdb_write.specs.Contents.{pointer_at, IsShort, HavePlaces, ArePointers}
@@ -61,6 +64,32 @@ root_lists root c children count firsts within = grind (arith, common_steps)
 -- locks have none
 pub lock_lists : (items : List Named) (c : Contents) → AreLocks items → HaveLists items c
 lock_lists items c are = grind (arith, common_steps)
+
+-- ---- of a layout
+
+-- the same of lists that are handed on
+pub contents_are : (layout : Layout) (firsts first_list places place_list : List ℕ) (c : Contents) → firsts ≡ first_list → places ≡ place_list → AreContentsOf layout firsts places c → AreContentsOf layout first_list place_list c
+contents_are layout firsts first_list places place_list c f p are = record {
+  lists_is = are.lists_is;
+  firsts_is = are.firsts_is ∙ f;
+  table_is = are.table_is;
+  places_is = are.places_is ∙ p;
+  pointers_is = are.pointers_is;
+}
+
+module _ (root locks : TablePlan) (layout : Layout) (is : IsLayoutOf root locks layout) (firsts places : List ℕ) (c : Contents) (contents : AreContentsOf layout firsts places c) where
+  abbrev P : Plan
+  P = plan_of root locks
+
+  pub places_known : (items : List Named) → HavePlaces items (bytes_of_each layout.values.distinct.items) places → HavePlaces items (once_each (all_values (plan_of root locks))) c.places.now
+  places_known items have = rw (sym is.values, contents.places_is) have
+
+  pub pointers_known : ArePointers (values_at (plan_of root locks)) (once_each (all_values (plan_of root locks))) c.pointers.now
+  pointers_known = rw (sym is.values, contents.pointers_is) is.pointers
+
+  pub contents_known : (items : List Named) → HavePlaces items (bytes_of_each layout.values.distinct.items) places → HaveLists items c → CanPoint items c
+  contents_known items have lists =
+      can_point items c (values_at P) (once_each (all_values P)) (places_known items have) pointers_known is.within lists (subst IsShort (sym contents.table_is) is.locks_short)
 
 -- ---- where the lists end
 

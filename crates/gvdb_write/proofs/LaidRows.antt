@@ -1,18 +1,23 @@
--- The rows of items while they are laid: the numbers of their keys, and where their contents are.
+-- The records of items while they are written: the numbers of their keys, and where their contents are.
 use Rattle.std.proofs.lemmas.Grind.{common_steps}
-use Rattle.std.proofs.Common.{ℕ, ◌≡◌, ◌<◌, ◌+◌, ◌*◌, List, [], ◌∷◌, ◌++◌, length, get_or, refl, ap, subst, arith, ◌-◌, None}
+use Rattle.std.proofs.Common.{ℕ, ◌≡◌, ◌<◌, ◌+◌, ◌*◌, List, [], ◌∷◌, ◌++◌, length, get_or, refl, sym, ap, ◌∙◌, append_assoc, subst, arith, ◌-◌, None}
+use Rattle.std.proofs.lemmas.List.{append-nil, map-append}
+use Rattle.std.proofs.lemmas.List.Concat.{flat_map-append}
 use Rattle.dconf_model.specs.Table.{value_kind, list_kind, table_kind}
+use Rattle.dconf_model.specs.TableBytes.{record_bytes, records_bytes}
+use Rattle.gvdb_read.specs.ItemRecords.{record_of}
 use Rattle.gvdb_read.specs.declared.format.record.ItemRecord.{ItemRecord as Numbers}
-use Rattle.gvdb_write.specs.declared.layout.Contents.{Contents}
+use Rattle.gvdb_write.specs.declared.contents.Contents.{Contents}
 use Rattle.gvdb_write.specs.declared.layout.Pointer.{Pointer}
 use Rattle.gvdb_write.specs.declared.names.Content.{Content}
 use Rattle.gvdb_write.specs.declared.names.Content.TheVariants.{Value, List as Listed, Locks}
 use Rattle.gvdb_write.specs.declared.names.Named.{Named}
 use Rattle.gvdb_write.specs.ContentPlaces.{content_pointer}
 use Rattle.gvdb_write.specs.Contents.{pointer_at}
-use Rattle.gvdb_write.specs.LayoutParts.{row, HasPointer, IsRecordOf}
+use Rattle.gvdb_write.specs.LayoutParts.{row, HasPointer, IsRecordOf, AreNumbersOf}
 use Rattle.gvdb_write.specs.Names.{named, name_at}
 use Rattle.gvdb_write.specs.PlanWords.{kind_of, entries_of}
+use Rattle.gvdb_write.specs.WrittenParts.{HasRecords, records_of}
 use Rattle.dconf_model.specs.Plans.{keys_end}
 use Rattle.dconf_model.proofs.PlanEnds.{keys_grow}
 
@@ -25,14 +30,6 @@ pub record AreRowsBelow (items : List Named) (from : ℕ) (rows : List Numbers) 
   pub counted : length rows ≡ n
   pub ends : at ≡ keys_end (entries_of items) from n
   pub each : (i : ℕ) → i < length rows → IsRecordOf items from i (row rows i)
-
--- the numbers of a name whose key starts there
-pub record AreNumbersOf (d : Named) (at : ℕ) (r : Numbers) : Type 0 where
-  pub hash : r.hash ≡ d.hash
-  pub parent : r.parent ≡ d.parent
-  pub key_start : r.key_start ≡ at
-  pub key_size : r.key_size ≡ length d.name.now - d.from
-  pub of_kind : r.kind ≡ kind_of d.content
 
 pub next_end : (items : List Named) (from at next n : ℕ) → at ≡ keys_end (entries_of items) from n → next ≡ at + (length (name_at items n) - (named items n).from) → next ≡ keys_end (entries_of items) from (n + 1)
 next_end items from at next n ends is = grind (arith, common_steps)
@@ -58,6 +55,49 @@ ArePointedBelow items c rows =
 pub pointed_more : (items : List Named) (c : Contents) (rows new : List Numbers) (n : ℕ) (d : Named) (r : Numbers) (p : Pointer)
     → length rows ≡ n → ArePointedBelow items c rows → d ≡ named items n → new ≡ rows ++ r ∷ [] → p ≡ content_pointer c n d.content → r.start ≡ p.start → r.end ≡ p.end → ArePointedBelow items c new
 pointed_more items c rows new n d r p count so item pushed is start end = grind (arith, common_steps)
+
+-- the records of so many items, which come after what was there
+pub record AreWrittenBelow (items : List Named) (from : ℕ) (c : Contents) (before after : List ℕ) (at n : ℕ) : Type 0 where
+  pub rows : List Numbers
+  pub below : AreRowsBelow items from rows at n
+  pub pointed : ArePointedBelow items c rows
+  pub bytes : after ≡ before ++ records_bytes (records_of rows)
+
+pub none_written : (items : List Named) (from : ℕ) (c : Contents) (before : List ℕ) → AreWrittenBelow items from c before before from 0
+none_written items from c before = record {
+  rows = [];
+  below = record { counted = refl; ends = refl; each = λ i l. absurd (omega (arith, l)) };
+  pointed = λ i l. absurd (omega (arith, l));
+  bytes = sym (append-nil before);
+}
+
+one_record : (rows : List Numbers) (r : Numbers) → records_bytes (records_of (rows ++ r ∷ [])) ≡ records_bytes (records_of rows) ++ record_bytes (record_of r)
+one_record rows r = grind (arith, common_steps, map-append, flat_map-append, append-nil)
+
+-- one item more
+pub record_more : (items : List Named) (from : ℕ) (c : Contents) (before now new : List ℕ) (at next n : ℕ) (d : Named) (r : Numbers)
+    → AreWrittenBelow items from c before now at n → d ≡ named items n → next ≡ at + r.key_size → AreNumbersOf d at r
+    → HasPointer r (content_pointer c n d.content).start (content_pointer c n d.content).end → new ≡ now ++ record_bytes (record_of r) → AreWrittenBelow items from c before new next (n + 1)
+record_more items from c before now new at next n d r so item size is pointer pushed = record {
+  rows = so.rows ++ r ∷ [];
+  below = row_more items from so.rows _ at next n d r so.below item (size ∙ ap (λ (m : ℕ). at + m) is.key_size) refl is;
+  pointed = pointed_more items c so.rows _ n d r (content_pointer c n d.content) so.below.counted so.pointed item refl refl pointer.start_is pointer.end_is;
+  bytes = pushed
+      ∙ (ap (λ (l : List ℕ). l ++ record_bytes (record_of r)) so.bytes
+      ∙ (append_assoc before (records_bytes (records_of so.rows)) (record_bytes (record_of r)) ∙ ap (λ (l : List ℕ). before ++ l) (sym (one_record so.rows r))));
+}
+
+pub all_written : (items : List Named) (from : ℕ) (c : Contents) (before after : List ℕ) (at n : ℕ) → AreWrittenBelow items from c before after at n → n ≡ length items → HasRecords items from c before after
+all_written items from c before after at n so all =
+    let count = so.below.counted in
+    record {
+      rows = so.rows;
+      are = record {
+        are = record { counted = count ∙ all; each = λ i l. so.below.each i (omega (arith, l, count, all)) };
+        pointed = λ i l. so.pointed i (omega (arith, l, count, all));
+      };
+      bytes = so.bytes;
+    }
 
 -- ---- by the kind of an item
 

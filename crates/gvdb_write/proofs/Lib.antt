@@ -26,6 +26,7 @@ pub mod LayoutEnds
 pub mod WholeLayout
 pub mod TableWritten
 pub mod PartEnds
+pub mod WritableTables
 pub mod PartPlaces
 pub mod PartContents
 pub mod PartsLaid

@@ -1,5 +1,5 @@
 -- The content of each item of a file is where the item's numbers say.
-use Rattle.std.proofs.Common.{rules, arith, ◌≡◌, ◌<◌, ◌≤◌, ◌+◌, ◌-◌, ◌*◌, ◌%◌, ℕ, List, length, sym, ap, ◌∙◌, subst, inl, inr}
+use Rattle.std.proofs.Common.{arith, ◌≡◌, ◌<◌, ◌≤◌, ◌+◌, ◌-◌, ◌*◌, ◌%◌, ℕ, List, length, sym, ap, ◌∙◌, subst, inl, inr}
 use Rattle.std.proofs.lemmas.List.{length-map}
 use Rattle.gv_model.specs.Layout.{round_up}
 use Rattle.dconf_model.specs.Table.{value_kind, list_kind, table_kind}
@@ -14,11 +14,12 @@ use Rattle.gvdb_write.specs.declared.layout.Layout.{Layout}
 use Rattle.gvdb_write.specs.declared.table.TablePlan.{TablePlan}
 use Rattle.gvdb_write.specs.PlanWords.{children_of, plan_of}
 use Rattle.gvdb_write.specs.Names.{kind_at}
-use Rattle.gvdb_write.specs.LayoutParts.{IsLayoutOf, HasPointer, HasPlacedValue, row, lists_at, locks_at, lock_keys_at, values_at}
+use Rattle.gvdb_write.specs.LayoutParts.{HasPointer, HasPlacedValue, row, lists_at, locks_at, lock_keys_at, value_start, values_at}
 use Rattle.gvdb_write.specs.WrittenParts.{numbers_of}
 use Rattle.gvdb_write.specs.PlannedTables.{AreTables}
 use Rattle.gvdb_write.proofs.TableWritten.{HasContentAt, length-words}
 use Rattle.gvdb_write.proofs.PartEnds.{locks_fit}
+use Rattle.gvdb_write.proofs.WholeLayout.{IsLaid}
 use Rattle.gvdb_write.proofs.PartPlaces.{AreParts, file_length, lists_occur, value_in}
 
 whole_8 : (n : ℕ) → round_up 8 n % 8 ≡ 0
@@ -35,7 +36,7 @@ run_is_whole base a b start end e f = omega (arith, e, f)
 starts_whole : (base a start : ℕ) → base % 4 ≡ 0 → start ≡ base + 4 * a → start % 4 ≡ 0
 starts_whole base a start e f = omega (arith, e, f)
 
-module _ (root locks : TablePlan) (layout : Layout) (file : List ℕ) (tables : AreTables root locks) (laid : IsLayoutOf root locks layout) (parts : AreParts root locks layout file) where
+module _ (root locks : TablePlan) (layout : Layout) (root_rows lock_rows : List Numbers) (file : List ℕ) (tables : AreTables root locks) (laid : IsLaid root locks layout root_rows lock_rows) (parts : AreParts root locks layout root_rows lock_rows file) where
   abbrev P : Plan
   P = plan_of root locks
 
@@ -45,7 +46,9 @@ module _ (root locks : TablePlan) (layout : Layout) (file : List ℕ) (tables : 
   -- ---- a value
 
   pub placed_occurs : (value : List ℕ) (r : Numbers) → HasPlacedValue (values_at (plan_of root locks)) (once_each (all_values (plan_of root locks))) value r → OccursAt file r.start value
-  placed_occurs value r is = search (rules, arith, occurs_at, value_in)
+  placed_occurs value r is =
+      occurs_at file (value_start (values_at P) Stored is.place) r.start value (sym is.pointed.start_is)
+      (subst (λ (v : List ℕ). OccursAt file (value_start (values_at P) Stored is.place) v) is.is (value_in root locks layout root_rows lock_rows file tables laid parts is.place is.within))
 
   pub placed_ends : (value : List ℕ) (r : Numbers) → HasPlacedValue (values_at (plan_of root locks)) (once_each (all_values (plan_of root locks))) value r → r.end ≡ r.start + length value
   placed_ends value r is = is.pointed.end_is ∙ ap (λ (n : ℕ). n + length value) (sym is.pointed.start_is)
@@ -80,7 +83,7 @@ module _ (root locks : TablePlan) (layout : Layout) (file : List ℕ) (tables : 
       let within = list_within i here in
       let n = length-words (numbers_of root.children.items) in
       let m = length-map root.children.items (λ (c : ℕ × ℕ). c.1) in
-      let inside = occurs_inside file (lists_at P) (words_bytes (numbers_of root.children.items)) (lists_occur root locks layout file tables laid parts) in
+      let inside = occurs_inside file (lists_at P) (words_bytes (numbers_of root.children.items)) (lists_occur root locks layout root_rows lock_rows file tables laid parts) in
       record {
         valid = record {
           ordered = omega (arith, from, to, rise);
@@ -96,8 +99,8 @@ module _ (root locks : TablePlan) (layout : Layout) (file : List ℕ) (tables : 
   table_content r some pointer =
       let from = pointer.start_is in
       let to = pointer.end_is in
-      let fit = locks_fit root locks layout tables laid some in
-      let n = file_length root locks layout file tables laid parts in
+      let fit = locks_fit root locks layout tables laid.is some in
+      let n = file_length root locks layout root_rows lock_rows file tables laid parts in
       record {
         valid = record {
           ordered = omega (arith, from, to);
@@ -112,16 +115,16 @@ module _ (root locks : TablePlan) (layout : Layout) (file : List ℕ) (tables : 
   of_kind : (kind k : ℕ) (r : Numbers) → kind ≡ k → HasContentAt file k r → HasContentAt file kind r
   of_kind kind k r is content = subst (λ (n : ℕ). HasContentAt file n r) (sym is) content
 
-  root_content : (i : ℕ) → i < length root.items.items → IsKind (kind_at root.items.items i) → HasContentAt file (kind_at root.items.items i) (row layout.root.rows.items i)
-  root_content i here (inl v) = of_kind _ value_kind _ v (value_content (P.value i) (row layout.root.rows.items i) (laid.root_values i here v))
-  root_content i here (inr (inl l)) = of_kind _ list_kind _ l (list_content i (row layout.root.rows.items i) here (laid.lists i here l))
+  root_content : (i : ℕ) → i < length root.items.items → IsKind (kind_at root.items.items i) → HasContentAt file (kind_at root.items.items i) (row root_rows i)
+  root_content i here (inl v) = of_kind _ value_kind _ v (value_content (P.value i) (row root_rows i) (laid.root_values i here v))
+  root_content i here (inr (inl l)) = of_kind _ list_kind _ l (list_content i (row root_rows i) here (laid.lists i here l))
   root_content i here (inr (inr h)) =
       let some = table_has_locks tables.settings P i tables.are_settings tables.plan here h in
-      of_kind _ table_kind _ h (table_content (row layout.root.rows.items i) some (laid.tables i here h some))
+      of_kind _ table_kind _ h (table_content (row root_rows i) some (laid.tables i here h some))
 
-  pub root_contents : (i : ℕ) → i < length root.items.items → HasContentAt file (kind_at root.items.items i) (row layout.root.rows.items i)
+  pub root_contents : (i : ℕ) → i < length root.items.items → HasContentAt file (kind_at root.items.items i) (row root_rows i)
   root_contents i here = root_content i here (tables.plan.entries.each i here).of_kind
 
-  pub lock_contents : (i : ℕ) → i < length locks.items.items → HasContentAt file (kind_at locks.items.items i) (row layout.locks.rows.items i)
+  pub lock_contents : (i : ℕ) → i < length locks.items.items → HasContentAt file (kind_at locks.items.items i) (row lock_rows i)
   lock_contents i here =
-      of_kind _ value_kind _ (tables.plan.locks i here).value (value_content nothing_bytes (row layout.locks.rows.items i) (laid.lock_values i here))
+      of_kind _ value_kind _ (tables.plan.locks i here).value (value_content nothing_bytes (row lock_rows i) (laid.lock_values i here))

@@ -1,6 +1,6 @@
 -- Where the parts of a file end that are written one after another: where the plan says.
 use Rattle.std.proofs.lemmas.Grind.{common_steps}
-use Rattle.std.proofs.Common.{◌≡◌, ◌<◌, ◌≤◌, ◌+◌, ◌*◌, ℕ, List, [], ◌++◌, length, sym, ap, ◌∙◌, arith, inl, inr, ⊎_elim, Bor, length-append}
+use Rattle.std.proofs.Common.{◌≡◌, ◌<◌, ◌≤◌, ◌+◌, ◌*◌, ℕ, List, [], ◌++◌, length, sym, ap, ◌∙◌, subst, arith, inl, inr, ⊎_elim, Bor, length-append}
 use Rattle.std.proofs.lemmas.Bool.{cases_lt}
 use Rattle.std.proofs.lemmas.List.{length-map}
 use Rattle.gv_model.specs.Layout.{round_up}
@@ -9,12 +9,15 @@ use Rattle.dconf_model.specs.Plans.{Plan, size_of_table, keys_end, values_end, r
 use Rattle.dconf_model.specs.TableBytes.{words_bytes, header_bytes}
 use Rattle.dconf_model.proofs.HeaderBytes.{length-header}
 use Rattle.dconf_model.proofs.PlanEnds.{keys_rise, lists_rise, all_lists_end, locks_rise, some_locks_end, no_locks_end}
+use Rattle.gvdb_read.specs.declared.format.record.ItemRecord.{ItemRecord as Numbers}
+use Rattle.gvdb_write.specs.declared.contents.Contents.{Contents}
 use Rattle.gvdb_write.specs.declared.layout.Layout.{Layout}
 use Rattle.gvdb_write.specs.declared.table.TablePlan.{TablePlan}
 use Rattle.gvdb_write.specs.PlanWords.{entries_of, plan_of}
 use Rattle.gvdb_write.specs.Values.{bytes_of_each}
-use Rattle.gvdb_write.specs.LayoutParts.{IsLayoutOf, root_keys_at, lists_at, locks_at, lock_keys_at, values_at}
-use Rattle.gvdb_write.specs.WrittenParts.{HaveNumbers, HasTable, HasTableOfLocks, numbers_of, with_padding}
+use Rattle.gvdb_write.specs.LayoutParts.{AreRecords, root_keys_at, lists_at, locks_at, lock_keys_at, values_at}
+use Rattle.gvdb_write.specs.Layouts.{IsLayoutOf}
+use Rattle.gvdb_write.specs.WrittenParts.{HaveNumbers, HasLocksOf, HasTable, HasTableOf, HasTableOfLocks, numbers_of, with_padding}
 use Rattle.gvdb_write.specs.PlannedTables.{AreTables}
 use Rattle.gvdb_write.proofs.WithValues.{values_rise}
 use Rattle.gvdb_write.proofs.TableWritten.{length-padded_4, length-words, table_length, few_items}
@@ -76,48 +79,85 @@ module _ (root locks : TablePlan) (layout : Layout) (tables : AreTables root loc
       let few = few_root in
       omega (arith, within, few)
 
+  -- the keys of the root table end in the file, and so do the lists
+  pub root_keys_fit : keys_end (entries_of root.items.items) layout.root.end (length root.items.items) ≤ limit
+  root_keys_fit =
+      let at = ap (λ (n : ℕ). keys_end P.root n P.root.count) laid.end_is in
+      let a = root_below in
+      let b = lists_below in
+      let c = locks_below in
+      let d = laid.within in
+      omega (arith, at, a, b, c, d)
+
+  pub lists_fit : layout.lists + 4 * length root.children.items ≤ limit
+  lists_fit =
+      let at = laid.lists_is in
+      let a = lists_are_all in
+      let b = lists_below in
+      let c = locks_below in
+      let d = laid.within in
+      omega (arith, at, a, b, c, d)
+
   -- ---- as they are written
 
-  pub root_long : (with_root : List ℕ) → HasTable root layout.root.rows.items (header_bytes layout.root.pointer.start layout.root.pointer.end) with_root → length with_root ≡ keys_end (entries_of root.items.items) (root_keys_at (plan_of root locks)) (length root.items.items)
-  root_long with_root has =
-      table_length root layout.root.rows.items (root_keys_at P) tables.root_items laid.root_rows (header_bytes layout.root.pointer.start layout.root.pointer.end) with_root has
-      ∙ ap (λ (n : ℕ). keys_end (entries_of root.items.items) (n + size_of_table (length root.items.items)) (length root.items.items)) (header_ends layout.root.pointer.start layout.root.pointer.end)
+  abbrev Header : List ℕ
+  Header = header_bytes layout.root.start layout.root.end
+
+  module _ (rows : List Numbers) (are : AreRecords root.items.items (root_keys_at P) rows) where
+    pub root_long : (with_root : List ℕ) → HasTable root rows (header_bytes layout.root.start layout.root.end) with_root → length with_root ≡ keys_end (entries_of root.items.items) (root_keys_at (plan_of root locks)) (length root.items.items)
+    root_long with_root has =
+        table_length root rows (root_keys_at P) tables.root_items are Header with_root has
+        ∙ ap (λ (n : ℕ). keys_end (entries_of root.items.items) (n + size_of_table (length root.items.items)) (length root.items.items)) (header_ends layout.root.start layout.root.end)
+
+    pub root_within : (with_root : List ℕ) → HasTable root rows (header_bytes layout.root.start layout.root.end) with_root → length with_root ≤ limit
+    root_within with_root has =
+        let long = root_long with_root has in
+        let a = root_below in
+        let b = lists_below in
+        let c = locks_below in
+        let d = laid.within in
+        omega (arith, long, a, b, c, d)
 
   pub lists_long : (with_root : List ℕ) → length with_root ≡ keys_end (entries_of root.items.items) (root_keys_at (plan_of root locks)) (length root.items.items) → length (with_lists root with_root) ≡ root_end (plan_of root locks)
   lists_long with_root long = grind (arith, common_steps, length-append, length-map, length-padded_4, length-words, lists_are_all)
 
-  pub locks_long : (before after : List ℕ) → length before ≡ root_end (plan_of root locks) → HasTableOfLocks locks layout.locks.rows.items before after → length after ≡ values_at (plan_of root locks)
-  locks_long before after long (inl has) =
-      table_length locks layout.locks.rows.items (lock_keys_at P) tables.lock_items (laid.lock_rows has.0) before after has.1
-      ∙ (ap (λ (n : ℕ). keys_end P.locks (round_up 4 n + size_of_table P.locks.count) P.locks.count) long
-      ∙ sym (some_locks_end P.locks (root_end P) has.0))
-  locks_long before after long (inr none) = ap length none.1 ∙ (long ∙ sym (no_locks_end P.locks (root_end P) none.0))
-
-  -- the values end where the file does
-  pub values_long : (n : ℕ) → n ≡ values_at (plan_of root locks) → values_end n (bytes_of_each layout.values.items) ≡ length_of (plan_of root locks)
-  values_long n long = ap (λ (m : ℕ). values_end m (bytes_of_each layout.values.items)) long ∙ ap (λ (vs : List (List ℕ)). values_end (values_at P) vs) laid.values
-
-  -- ---- no end is past the limit
-
-  pub root_within : (with_root : List ℕ) → HasTable root layout.root.rows.items (header_bytes layout.root.pointer.start layout.root.pointer.end) with_root → length with_root ≤ limit
-  root_within with_root has = grind (arith, common_steps, root_below, lists_below, locks_below, root_long)
-
-  lists_ends : (with_root lists : List ℕ) → HasTable root layout.root.rows.items (header_bytes layout.root.pointer.start layout.root.pointer.end) with_root → lists ≡ with_lists root with_root → length lists ≡ root_end P
-  lists_ends with_root lists has is = ap length is ∙ lists_long with_root (root_long with_root has)
-
-  pub lists_within : (with_root lists : List ℕ) → HasTable root layout.root.rows.items (header_bytes layout.root.pointer.start layout.root.pointer.end) with_root → lists ≡ with_lists root with_root → length lists ≤ limit
-  lists_within with_root lists has is =
-      let long = lists_ends with_root lists has is in
+  pub lists_within : (lists : List ℕ) → length lists ≡ root_end (plan_of root locks) → length lists ≤ limit
+  lists_within lists long =
       let b = lists_below in
       let c = locks_below in
       let d = laid.within in
       omega (arith, long, b, c, d)
 
-  pub values_within : (with_root lists with_locks : List ℕ) (values : List (Bor (List ℕ)))
-      → HasTable root layout.root.rows.items (header_bytes layout.root.pointer.start layout.root.pointer.end) with_root → lists ≡ with_lists root with_root
-      → HasTableOfLocks locks layout.locks.rows.items lists with_locks → values ≡ layout.values.items → values_end (length with_locks) (bytes_of_each values) ≤ limit
-  values_within with_root lists with_locks values has is locked same =
-      let long = locks_long lists with_locks (lists_ends with_root lists has is) locked in
-      let end : values_end (length with_locks) (bytes_of_each values) ≡ length_of P = ap (λ (vs : List (Bor (List ℕ))). values_end (length with_locks) (bytes_of_each vs)) same ∙ values_long (length with_locks) long in
+  module _ (rows : List Numbers) (are : 0 < length locks.items.items → AreRecords locks.items.items (lock_keys_at P) rows) where
+    pub locks_long : (before after : List ℕ) → length before ≡ root_end (plan_of root locks) → HasTableOfLocks locks rows before after → length after ≡ values_at (plan_of root locks)
+    locks_long before after long (inl has) =
+        table_length locks rows (lock_keys_at P) tables.lock_items (are has.0) before after has.1
+        ∙ (ap (λ (n : ℕ). keys_end P.locks (round_up 4 n + size_of_table P.locks.count) P.locks.count) long
+        ∙ sym (some_locks_end P.locks (root_end P) has.0))
+    locks_long before after long (inr none) = ap length none.1 ∙ (long ∙ sym (no_locks_end P.locks (root_end P) none.0))
+
+  -- the values end where the file does
+  pub values_long : (n : ℕ) → n ≡ values_at (plan_of root locks) → values_end n (bytes_of_each layout.values.distinct.items) ≡ length_of (plan_of root locks)
+  values_long n long = ap (λ (m : ℕ). values_end m (bytes_of_each layout.values.distinct.items)) long ∙ ap (λ (vs : List (List ℕ)). values_end (values_at P) vs) laid.values
+
+  pub values_within : (n : ℕ) (values : List (Bor (List ℕ))) → n ≡ values_at (plan_of root locks) → values ≡ layout.values.distinct.items → values_end n (bytes_of_each values) ≤ limit
+  values_within n values long same =
+      let end : values_end n (bytes_of_each values) ≡ length_of P = ap (λ (vs : List (Bor (List ℕ))). values_end n (bytes_of_each vs)) same ∙ values_long n long in
       let d = laid.within in
       omega (arith, end, d)
+
+  -- ---- as the code gives it
+
+  module _ (c : Contents) (with_root : List ℕ) (has : HasTableOf root layout.root.end c (header_bytes layout.root.start layout.root.end) with_root) where
+    root_records : AreRecords root.items.items (root_keys_at P) has.rows
+    root_records = subst (λ (n : ℕ). AreRecords root.items.items n has.rows) laid.end_is has.are.are
+
+    pub root_given : length with_root ≤ limit
+    root_given = root_within has.rows root_records with_root has.written
+
+    pub lists_given : (listed : List ℕ) → listed ≡ with_lists root with_root → length listed ≡ root_end (plan_of root locks)
+    lists_given listed is = ap length is ∙ lists_long with_root (root_long has.rows root_records with_root has.written)
+
+  pub locks_given : (c : Contents) (listed with_locks : List ℕ) → length listed ≡ root_end (plan_of root locks) → HasLocksOf locks layout.locks.end c listed with_locks → length with_locks ≡ values_at (plan_of root locks)
+  locks_given c listed with_locks long has =
+      locks_long has.rows (λ some. subst (λ (n : ℕ). AreRecords locks.items.items n has.rows) (laid.locks_end_is some) has.are.are) listed with_locks long has.written

@@ -72,3 +72,11 @@ locks_add_one (item ∷ items) seen locks =
 -- those of the root table, and after them those of the locks, are all values once each
 pub all_once : (root locks : TablePlan) (first all : List (List ℕ)) → AreLocks locks.items.items → first ≡ fold with_new [] (own_values root.items.items) → all ≡ fold with_new first (own_values locks.items.items) → all ≡ once_each (all_values (plan_of root locks))
 all_once root locks first all are of_root of_locks = grind (arith, common_steps, fold-append, root_values, locks_add_one)
+
+-- the same of lists of items that are handed on
+pub placed_once : (root locks : TablePlan) (root_items lock_items : List Named) (all : List (List ℕ)) → AreLocks locks.items.items → root_items ≡ root.items.items → lock_items ≡ locks.items.items
+    → all ≡ fold with_new (fold with_new [] (own_values root_items)) (own_values lock_items) → all ≡ once_each (all_values (plan_of root locks))
+placed_once root locks root_items lock_items all are r l is =
+    all_once root locks (fold with_new [] (own_values root.items.items)) all are refl
+    (is ∙ (ap (λ (items : List Named). fold with_new (fold with_new [] (own_values items)) (own_values lock_items)) r
+    ∙ ap (λ (items : List Named). fold with_new (fold with_new [] (own_values root.items.items)) (own_values items)) l))

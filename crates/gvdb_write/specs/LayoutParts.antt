@@ -1,16 +1,12 @@
 -- Where the parts of a database are laid, in the words of its plan.
-use Rattle.std.specs.Prelude.{ℕ, ◌+◌, ◌*◌, ◌<◌, ◌≤◌, ◌≡◌, List, [], length, take, slice_index_or, Some, None}
+use Rattle.std.specs.Prelude.{ℕ, ◌+◌, ◌-◌, ◌<◌, ◌≤◌, ◌≡◌, List, [], length, take, slice_index_or, Some, None}
 use Rattle.gv_model.specs.Layout.{round_up}
-use Rattle.gv_model.specs.Limits.{limit}
-use Rattle.dconf_model.specs.Table.{value_kind, list_kind, table_kind}
-use Rattle.dconf_model.specs.Plans.{Plan, size_of_table, keys_end, locks_end, values_end, root_end, length_of, nothing_bytes, all_values, once_each}
+use Rattle.dconf_model.specs.Table.{value_kind}
+use Rattle.dconf_model.specs.Plans.{Plan, size_of_table, keys_end, locks_end, values_end, root_end, nothing_bytes}
 use Rattle.gvdb_read.specs.declared.format.record.ItemRecord.{ItemRecord as Numbers}
-use Rattle.gvdb_write.specs.declared.layout.Layout.{Layout}
 use Rattle.gvdb_write.specs.declared.names.Named.{Named}
-use Rattle.gvdb_write.specs.declared.table.TablePlan.{TablePlan}
 use Rattle.gvdb_write.specs.Names.{named, name_at, kind_at}
-use Rattle.gvdb_write.specs.PlanWords.{content_bytes, entries_of, plan_of}
-use Rattle.gvdb_write.specs.Values.{bytes_of_each}
+use Rattle.gvdb_write.specs.PlanWords.{content_bytes, entries_of, kind_of}
 
 -- what stands for the numbers of an item where there is none
 abbrev pub no_numbers : Numbers
@@ -40,6 +36,14 @@ pub record IsRecordOf (items : List Named) (keys_at i : ℕ) (r : Numbers) : Typ
   pub key_start : r.key_start ≡ keys_end (entries_of items) keys_at i
   pub key_size : r.key_size ≡ length ((entries_of items).entry i).key
   pub of_kind : r.kind ≡ kind_at items i
+
+-- those of a name whose key starts there
+pub record AreNumbersOf (d : Named) (at : ℕ) (r : Numbers) : Type 0 where
+  pub hash : r.hash ≡ d.hash
+  pub parent : r.parent ≡ d.parent
+  pub key_start : r.key_start ≡ at
+  pub key_size : r.key_size ≡ length d.name.now - d.from
+  pub of_kind : r.kind ≡ kind_of d.content
 
 pub record AreRecords (items : List Named) (keys_at : ℕ) (rows : List Numbers) : Type 0 where
   pub counted : length rows ≡ length items
@@ -77,26 +81,3 @@ pub record HasPlacedValue (at : ℕ) (values : List (List ℕ)) (value : List �
   pub within : place < length values
   pub is : slice_index_or values place [] ≡ value
   pub pointed : HasPointer r (value_start at values place) (value_start at values place + length value)
-
--- ---- all of it
-
-pub record IsLayoutOf (root locks : TablePlan) (layout : Layout) : Type 0 where
-  pub start_is : layout.root.pointer.start ≡ 24
-  pub end_is : layout.root.pointer.end ≡ root_keys_at (plan_of root locks)
-  pub root_rows : AreRecords root.items.items (root_keys_at (plan_of root locks)) layout.root.rows.items
-  pub lists : (i : ℕ) → i < length root.items.items → kind_at root.items.items i ≡ list_kind →
-      HasPointer (row layout.root.rows.items i)
-      (lists_at (plan_of root locks) + 4 * (plan_of root locks).children.first i)
-      (lists_at (plan_of root locks) + 4 * (plan_of root locks).children.first (i + 1))
-  pub tables : (i : ℕ) → i < length root.items.items → kind_at root.items.items i ≡ table_kind → 0 < length locks.items.items →
-      HasPointer (row layout.root.rows.items i) (locks_at (plan_of root locks)) (lock_keys_at (plan_of root locks))
-  pub lock_rows : 0 < length locks.items.items → AreRecords locks.items.items (lock_keys_at (plan_of root locks)) layout.locks.rows.items
-  pub values : bytes_of_each layout.values.items ≡ once_each (all_values (plan_of root locks))
-  pub root_values : (i : ℕ) → i < length root.items.items → kind_at root.items.items i ≡ value_kind →
-      HasPlacedValue (values_at (plan_of root locks)) (once_each (all_values (plan_of root locks)))
-      ((plan_of root locks).value i) (row layout.root.rows.items i)
-  pub lock_values : (i : ℕ) → i < length locks.items.items →
-      HasPlacedValue (values_at (plan_of root locks)) (once_each (all_values (plan_of root locks))) nothing_bytes
-      (row layout.locks.rows.items i)
-  pub whole : layout.end ≡ length_of (plan_of root locks)
-  pub within : length_of (plan_of root locks) ≤ limit

@@ -12,6 +12,7 @@ pub mod LayoutParts
 pub mod Contents
 pub mod ContentPlaces
 pub mod CursorPlaces
+pub mod Layouts
 pub mod PlannedTables
 pub mod Rows
 pub mod Salvaged

@@ -1,14 +1,18 @@
 -- What the writing functions append to a file.
-use Rattle.std.specs.Prelude.{ℕ, ◌+◌, ◌-◌, ◌/◌, ◌≤◌, ◌<◌, ◌≡◌, ◌⊎◌, List, ◌++◌, length, map, fold, drop, replicate, slice_index, slice_index_or}
+use Rattle.std.specs.Prelude.{ℕ, ◌+◌, ◌-◌, ◌*◌, ◌/◌, ◌≤◌, ◌<◌, ◌≡◌, ◌⊎◌, List, ◌++◌, length, map, fold, drop, replicate, slice_index, slice_index_or}
 use Rattle.std.specs.List.{flat_map}
 use Rattle.gv_model.specs.Layout.{round_up}
 use Rattle.gv_model.specs.Limits.{limit}
-use Rattle.dconf_model.specs.TableBytes.{ItemRecord, table_bytes}
+use Rattle.dconf_model.specs.TableBytes.{ItemRecord, records_bytes, table_bytes}
 use Rattle.dconf_model.specs.TableEncoding.{HasBits}
 use Rattle.gvdb_read.specs.declared.format.record.ItemRecord.{ItemRecord as Numbers}
+use Rattle.gvdb_write.specs.declared.contents.Contents.{Contents}
 use Rattle.gvdb_write.specs.declared.names.Named.{Named}
 use Rattle.gvdb_write.specs.declared.table.TablePlan.{TablePlan}
 use Rattle.gvdb_read.specs.ItemRecords.{record_of}
+use Rattle.gvdb_write.specs.ContentPlaces.{ArePointed, CanPoint}
+use Rattle.gvdb_write.specs.CursorPlaces.{all_keys_end}
+use Rattle.gvdb_write.specs.LayoutParts.{AreRecords, CanBeLaid}
 use Rattle.gvdb_write.specs.PlanWords.{no_name}
 
 -- each has four bytes
@@ -40,6 +44,26 @@ numbers_of members = map (λ m. m.1) members
 abbrev pub with_padding : ℕ → List ℕ → List ℕ
 with_padding to file = file ++ replicate (round_up to (length file) - length file) 0
 
+-- the items of a table and its buckets fit in four bytes, its keys in a file, and the content of each item is known
+pub record CanBeWritten (table : TablePlan) (keys_at : ℕ) (c : Contents) : Type 0 where
+  pub few : 28 * length table.items.items ≤ limit
+  pub buckets : HaveFourBytes table.buckets.items
+  pub bucketed : length table.buckets.items ≡ length table.items.items
+  pub items : CanBeLaid table.items.items
+  pub keys : all_keys_end keys_at table.items.items ≤ limit
+  pub contents : CanPoint table.items.items c
+
+-- the records of items, whose keys and contents are there
+pub record AreRowsOf (items : List Named) (keys_at : ℕ) (c : Contents) (rows : List Numbers) : Type 0 where
+  pub are : AreRecords items keys_at rows
+  pub pointed : ArePointed items c rows
+
+-- they come after what was there
+pub record HasRecords (items : List Named) (keys_at : ℕ) (c : Contents) (before after : List ℕ) : Type 0 where
+  pub rows : List Numbers
+  pub are : AreRowsOf items keys_at c rows
+  pub bytes : after ≡ before ++ records_bytes (records_of rows)
+
 -- the bytes of a table come after what was there, and its keys after them
 pub record HasTable (table : TablePlan) (rows : List Numbers) (before after : List ℕ) : Type 0 where
   pub words : List ℕ
@@ -52,6 +76,17 @@ abbrev pub HasTableOfLocks : TablePlan → List Numbers → List ℕ → List �
 HasTableOfLocks locks rows before after =
     (0 < length locks.items.items) × HasTable locks rows before after
     ⊎ (length locks.items.items ≡ 0) × (after ≡ before)
+
+-- a table of these records
+pub record HasTableOf (table : TablePlan) (keys_at : ℕ) (c : Contents) (before after : List ℕ) : Type 0 where
+  pub rows : List Numbers
+  pub are : AreRowsOf table.items.items keys_at c rows
+  pub written : HasTable table rows before after
+
+pub record HasLocksOf (locks : TablePlan) (keys_at : ℕ) (c : Contents) (before after : List ℕ) : Type 0 where
+  pub rows : List Numbers
+  pub are : AreRowsOf locks.items.items keys_at c rows
+  pub written : HasTableOfLocks locks rows before after
 
 -- values after what was there, each at a multiple of 8
 abbrev pub with_values : List ℕ → List (List ℕ) → List ℕ

@@ -2,23 +2,28 @@
 //! them.
 ghost use Rattle.std.specs.Prelude.{ℕ, ◌≡◌, ◌++◌, ◌+◌, ◌-◌, ◌*◌, ◌/◌, ◌%◌, ◌^◌, ◌≤◌, ◌<◌, length, OnOk, IfOk, IfErr, replicate, IsBitSet};
 ghost use Rattle.gv_model.specs.Encode.{number_bytes};
-ghost use Rattle.dconf_model.specs.TableBytes.{records_bytes, words_bytes, head_bytes, header_bytes};
+ghost use Rattle.dconf_model.specs.Settings.{Settings};
+ghost use Rattle.dconf_model.specs.TableBytes.{words_bytes, head_bytes, header_bytes};
 ghost use Rattle.dconf_model.specs.Opening.{IsDatabase, root_of};
 ghost use Rattle.dconf_model.specs.Sound.{IsSound};
 ghost use Rattle.dconf_model.specs.Plans.{values_end, HoldsValues, HoldsLocks, HasLength};
 ghost use Rattle.gvdb_write.specs.Limits.{limit, IsRefusal};
 ghost use Rattle.gvdb_write.specs.Values.{bytes_of_each};
-ghost use Rattle.gvdb_write.specs.LayoutParts.{IsLayoutOf};
-ghost use Rattle.gvdb_write.specs.PlannedTables.{AreTables, AreReady, IsFileOf};
-ghost use Rattle.gvdb_write.specs.WrittenParts.{HaveFourBytes, HaveNumbers, HaveKeys, HaveBits, HasTable, HasTableOfLocks, keys_bytes, numbers_of, records_of, with_padding, with_values};
+ghost use Rattle.gvdb_write.specs.ContentPlaces.{CanPoint};
+ghost use Rattle.gvdb_write.specs.CursorPlaces.{all_keys_end};
+ghost use Rattle.gvdb_write.specs.LayoutParts.{CanBeLaid};
+ghost use Rattle.gvdb_write.specs.Layouts.{IsLayoutOf};
+ghost use Rattle.gvdb_write.specs.PlannedTables.{AreReady, IsFileOf};
+ghost use Rattle.gvdb_write.specs.WrittenParts.{CanBeWritten, HaveFourBytes, HaveNumbers, HaveKeys, HaveBits, HasLocksOf, HasRecords, HasTableOf, keys_bytes, numbers_of, with_padding, with_values};
 ghost use Rattle.gvdb_write.specs.declared.write_fault.WriteFault.TheVariants.{Memory};
 
+use crate::contents::Contents;
 use crate::layout::{Layout, Pointer, bloom_words};
 use crate::map::Map;
 use crate::names::{Named, lock_names, root_names};
 use crate::table::TablePlan;
 use crate::write_fault::WriteFault;
-use gvdb_read::format::{ItemRecord, SIGNATURE};
+use gvdb_read::format::SIGNATURE;
 use std::alloc::Global;
 
 /// The second hash of a bloom word is the hash after so many bits.
@@ -60,17 +65,19 @@ fn write_parts(
     locks: &TablePlan<'_>,
     layout: &Layout<'_>,
 ) -> Result<Vec<u8>, WriteFault>
-    requires tables { AreTables root.now locks.now }
+    requires tables { (s : Settings) × AreReady s root.now locks.now }
     requires layout { IsLayoutOf root.now locks.now layout.now }
     ensures file { IfOk result (λ file. IsFileOf root.now locks.now file.items) }
     ensures fault { IfErr result (λ e. e ≡ Memory) }
 {
+    let contents = layout.contents(&root.firsts, &layout.values.root);
+    let lock_contents = layout.contents(&root.firsts, &layout.values.locks);
     let mut out = Vec::with_capacity(alloc, layout.end)?;
-    write_header(layout.root.pointer, &mut out)?;
-    write_table(root, &layout.root.rows, &mut out)?;
+    write_header(layout.root, &mut out)?;
+    write_table(root, layout.root.end, contents, &mut out)?;
     write_children(&root.children, &mut out)?;
-    write_locks(locks, &layout.locks.rows, &mut out)?;
-    write_values(&layout.values, &mut out)?;
+    write_locks(locks, layout.locks.end, lock_contents, &mut out)?;
+    write_values(&layout.values.distinct, &mut out)?;
     Ok(out)
 }
 
@@ -88,18 +95,16 @@ fn write_header(root: Pointer, out: &mut Vec<u8>) -> Result<(), WriteFault>
     push(root.end as u32, out)
 }
 
-/// Appends a table and its keys, at a multiple of 4.
+/// Appends a table and its keys, which come from there on, at a multiple of 4.
 fn write_table(
     table: &TablePlan<'_>,
-    rows: &[ItemRecord],
+    keys_at: usize,
+    contents: Contents<'_>,
     out: &mut Vec<u8>,
 ) -> Result<(), WriteFault>
-    requires few { 28 * length table.now.items.items ≤ limit }
     requires out { length out.old.items ≤ limit }
-    requires buckets { HaveFourBytes table.now.buckets.items }
-    requires bucketed { length table.now.buckets.items ≡ length table.now.items.items }
-    requires keys { HaveKeys table.now.items.items }
-    ensures bytes { OnOk result (HasTable table.now rows.now out.old.items out.new.items) }
+    requires table { CanBeWritten table.now keys_at contents }
+    ensures bytes { OnOk result (HasTableOf table.now keys_at contents.entry out.old.items out.new.items) }
     ensures fault { IfErr result (λ e. e ≡ Memory) }
 {
     pad(out.len().next_multiple_of(4), out)?;
@@ -107,28 +112,26 @@ fn write_table(
     write_head(words.len(), table.buckets.len(), out)?;
     write_words(&words, out)?;
     write_numbers(&table.buckets, out)?;
-    write_rows(rows, out)?;
+    write_records(&table.items, keys_at, contents, out)?;
     write_keys(&table.items, out)
 }
 
 /// Appends the table of locks and its keys, where there are locks.
 fn write_locks(
     locks: &TablePlan<'_>,
-    rows: &[ItemRecord],
+    keys_at: usize,
+    contents: Contents<'_>,
     out: &mut Vec<u8>,
 ) -> Result<(), WriteFault>
-    requires few { 28 * length locks.now.items.items ≤ limit }
     requires out { length out.old.items ≤ limit }
-    requires buckets { HaveFourBytes locks.now.buckets.items }
-    requires bucketed { length locks.now.buckets.items ≡ length locks.now.items.items }
-    requires keys { HaveKeys locks.now.items.items }
-    ensures bytes { OnOk result (HasTableOfLocks locks.now rows.now out.old.items out.new.items) }
+    requires table { CanBeWritten locks.now keys_at contents }
+    ensures bytes { OnOk result (HasLocksOf locks.now keys_at contents.entry out.old.items out.new.items) }
     ensures fault { IfErr result (λ e. e ≡ Memory) }
 {
     if locks.items.is_empty() {
         return Ok(());
     }
-    write_table(locks, rows, out)
+    write_table(locks, keys_at, contents, out)
 }
 
 /// Appends the two first numbers of a table of so many bloom words and buckets.
@@ -189,13 +192,25 @@ fn write_numbers(numbers: &[usize], out: &mut Vec<u8>) -> Result<(), WriteFault>
     Ok(())
 }
 
-/// Appends the numbers that the items of a table have.
-fn write_rows(rows: &[ItemRecord], out: &mut Vec<u8>) -> Result<(), WriteFault>
-    ensures bytes { OnOk result (out.new.items ≡ out.old.items ++ records_bytes (records_of rows.now)) }
+/// Appends the records of items, whose keys come one after another from there on.
+fn write_records(
+    items: &[Named<'_>],
+    keys_at: usize,
+    contents: Contents<'_>,
+    out: &mut Vec<u8>,
+) -> Result<(), WriteFault>
+    requires items { CanBeLaid items.now }
+    requires few { length items.now ≤ limit }
+    requires keys { all_keys_end keys_at items.now ≤ limit }
+    requires contents { CanPoint items.now contents }
+    ensures bytes { OnOk result (HasRecords items.now keys_at contents.entry out.old.items out.new.items) }
     ensures fault { IfErr result (λ e. e ≡ Memory) }
 {
-    for row in rows {
-        row.push(out)?;
+    let mut key_start = keys_at;
+    for (number, named) in items.iter().enumerate() {
+        let item = contents.item_record(number, *named, key_start);
+        item.push(out)?;
+        key_start += item.key_size as usize;
     }
     Ok(())
 }

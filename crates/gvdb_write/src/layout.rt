@@ -1,25 +1,25 @@
 //! Where everything occurs in a database's bytes: header; root table; its keys; its lists; the table of locks and its
 //! keys; values, the root table's and then the locks', equal bytes once.
-ghost use Rattle.std.specs.Prelude.{ℕ, ◌≡◌, ◌+◌, ◌*◌, ◌/◌, ◌<◌, ◌≤◌, length, fold, Some, OnOk, IfOk, IfErr};
+ghost use Rattle.std.specs.Prelude.{ℕ, ◌≡◌, ◌+◌, ◌*◌, ◌/◌, ◌<◌, ◌≤◌, length, OnOk, IfOk, IfErr};
 ghost use Rattle.gv_model.specs.Layout.{round_up};
 ghost use Rattle.dconf_model.specs.Table.{list_kind};
 ghost use Rattle.dconf_model.specs.Entries.{EachEntry, IsRootEntry, AreChildren};
-ghost use Rattle.dconf_model.specs.Plans.{length_of, locks_end, values_end, with_new};
+ghost use Rattle.dconf_model.specs.Plans.{length_of, locks_end, values_end};
 ghost use Rattle.gvdb_write.specs.Limits.{limit, IsPast, IsOver};
 ghost use Rattle.gvdb_write.specs.Names.{kind_at};
-ghost use Rattle.gvdb_write.specs.PlanWords.{kind_of, entries_of, children_of, plan_of};
-ghost use Rattle.gvdb_write.specs.LayoutParts.{CanBeLaid, AreLocks, AreRecords, IsLayoutOf};
+ghost use Rattle.gvdb_write.specs.PlanWords.{entries_of, children_of, plan_of};
+ghost use Rattle.gvdb_write.specs.LayoutParts.{CanBeLaid, AreLocks};
 ghost use Rattle.gvdb_write.specs.CursorPlaces.{table_end, all_keys_end, laid_end, all_lists_end};
-ghost use Rattle.gvdb_write.specs.Contents.{IsShort, own_values, HavePlaces, ArePointers};
-ghost use Rattle.gvdb_write.specs.ContentPlaces.{ArePointed, CanPoint, CanPointAt, content_pointer};
-ghost use Rattle.gvdb_write.specs.Values.{bytes_of_each, ArePlaces};
-ghost use Rattle.gvdb_write.specs.declared.write_fault.WriteFault.TheVariants.{Memory};
+ghost use Rattle.gvdb_write.specs.Contents.{IsShort, ArePointers};
+ghost use Rattle.gvdb_write.specs.Layouts.{AreContentsOf, IsLayoutOf};
+ghost use Rattle.gvdb_write.specs.Values.{bytes_of_each};
 
-use crate::names::{Content, Named};
+use crate::contents::Contents;
+use crate::names::Named;
 use crate::table::TablePlan;
-use crate::values::Values;
+use crate::values::PlacedValues;
 use crate::write_fault::WriteFault;
-use gvdb_read::format::{HEADER_LEN, ItemRecord, Kind};
+use gvdb_read::format::HEADER_LEN;
 use std::alloc::Global;
 
 /// How many bytes a database has at most.
@@ -30,13 +30,6 @@ pub const MAX_DATABASE_LEN: usize = 4_294_967_295;
 pub(crate) struct Pointer {
     pub(crate) start: usize,
     pub(crate) end: usize,
-}
-
-/// Where a table is, and the numbers of its items.
-#[derive(Drop)]
-pub(crate) struct TableRecords {
-    pub(crate) pointer: Pointer,
-    pub(crate) rows: Vec<ItemRecord>,
 }
 
 /// Where the bytes go that are laid next.
@@ -128,28 +121,6 @@ fn lay_items(cursor: &mut Cursor, items: &[Named<'_>]) -> Result<Pointer, WriteF
     Ok(pointer)
 }
 
-/// The number of a directory's item, in four bytes.
-fn short_parent(parent: Option<usize>) -> Option<u32>
-    requires { (p : ℕ) → parent ≡ Some p → p ≤ limit }
-    ensures { result ≡ parent }
-{
-    match parent {
-        Some(number) => Some(number as u32),
-        None => None,
-    }
-}
-
-/// The letter of an item's kind.
-fn kind(content: Content<'_>) -> u8
-    ensures { result ≡ kind_of content.entry }
-{
-    match content {
-        Content::Value(_) => Kind::Value.letter(),
-        Content::List => Kind::List.letter(),
-        Content::Locks => Kind::Table.letter(),
-    }
-}
-
 /// Lays so many numbers in lists, which come one after another, since each has whole numbers. Gives where they start.
 fn lay_lists(cursor: &mut Cursor, numbers: usize) -> Result<usize, WriteFault>
     ensures start { IfOk result (λ start. start ≡ round_up 4 cursor.old.at) }
@@ -182,30 +153,6 @@ fn lay_locks(cursor: &mut Cursor, locks: &[Named<'_>]) -> Result<Pointer, WriteF
     lay_items(cursor, locks)
 }
 
-/// The place of the value of each item among all values; of another item, 0.
-fn value_places<'a>(
-    alloc: Global,
-    items: &[Named<'a>],
-    values: &mut Values<'a>,
-) -> Result<Vec<usize>, WriteFault>
-    requires { ArePlaces values.old.slots.items values.old.others (bytes_of_each values.old.distinct.items) }
-    ensures known { OnOk result (ArePlaces values.new.slots.items values.new.others (bytes_of_each values.new.distinct.items)) }
-    ensures distinct { OnOk result (bytes_of_each values.new.distinct.items
-        ≡ fold with_new (bytes_of_each values.old.distinct.items) (own_values items.now)) }
-    ensures places { IfOk result (λ places. HavePlaces items.now (bytes_of_each values.new.distinct.items) places.items) }
-    ensures fault { IfErr result (λ e. e ≡ Memory) }
-{
-    let mut places = Vec::with_capacity(alloc, items.len())?;
-    for named in items {
-        let place = match named.content {
-            Content::Value(bytes) => values.add(bytes)?,
-            _ => 0,
-        };
-        places.push(place)?;
-    }
-    Ok(places)
-}
-
 /// Lays values, each at a multiple of 8.
 fn lay_values(
     alloc: Global,
@@ -224,81 +171,19 @@ fn lay_values(
     Ok(pointers)
 }
 
-/// Where the contents of a table's items are.
-#[derive(Clone, Copy)]
-struct Contents<'a> {
-    /// Where all lists start.
-    lists: usize,
-    /// The place of each item's first child in them.
-    firsts: &'a [usize],
-    /// Where the table of locks is.
-    table: Pointer,
-    /// The place of each item's value among all values.
-    places: &'a [usize],
-    /// Where each value is.
-    pointers: &'a [Pointer],
-}
-
-impl Contents<'_> {
-    /// Where the content of an item is.
-    fn pointer(self, number: usize, content: Content<'_>) -> Pointer
-        requires there { CanPointAt self number content }
-        requires short { IsShort (content_pointer self number content) }
-        ensures { result ≡ content_pointer self.entry number content.entry }
-    {
-        match content {
-            Content::Value(_) => self.pointers[self.places[number]],
-            Content::List => Pointer {
-                start: self.lists + 4 * self.firsts[number],
-                end: self.lists + 4 * self.firsts[number + 1],
-            },
-            Content::Locks => self.table,
-        }
-    }
-}
-
-/// The records of items, whose keys come one after another from there on.
-fn records(
-    alloc: Global,
-    items: &[Named<'_>],
-    keys_at: usize,
-    contents: Contents<'_>,
-) -> Result<Vec<ItemRecord>, WriteFault>
-    requires items { CanBeLaid items.now }
-    requires few { length items.now ≤ limit }
-    requires keys { all_keys_end keys_at items.now ≤ limit }
-    requires contents { CanPoint items.now contents }
-    ensures rows { IfOk result (λ rows. AreRecords items.now keys_at rows.items) }
-    ensures pointers { IfOk result (λ rows. ArePointed items.now contents.entry rows.items) }
-    ensures fault { IfErr result (λ e. e ≡ Memory) }
-{
-    let mut rows = Vec::with_capacity(alloc, items.len())?;
-    let mut key_start = keys_at;
-    for named in items {
-        let size = named.name.len() - named.from as usize;
-        let pointer = contents.pointer(rows.len(), named.content);
-        rows.push(ItemRecord {
-            hash: named.hash,
-            parent: short_parent(named.parent),
-            key_start: key_start as u32,
-            key_size: size as u16,
-            kind: kind(named.content),
-            start: pointer.start as u32,
-            end: pointer.end as u32,
-        })?;
-        key_start += size;
-    }
-    Ok(rows)
-}
-
 /// Where everything is.
 #[derive(Drop)]
 pub(crate) struct Layout<'a> {
-    pub(crate) root: TableRecords,
-    /// Of no item where there are no locks.
-    pub(crate) locks: TableRecords,
-    /// The values that are stored.
-    pub(crate) values: Vec<&'a [u8]>,
+    /// Where the root table is.
+    pub(crate) root: Pointer,
+    /// Where all lists start.
+    pub(crate) lists: usize,
+    /// Where the table of locks is. Without locks it says nothing, and no item has their table.
+    pub(crate) locks: Pointer,
+    /// The values that are stored, and which of them each item has.
+    pub(crate) values: PlacedValues<'a>,
+    /// Where each value is.
+    pub(crate) pointers: Vec<Pointer>,
     /// How many bytes there are.
     pub(crate) end: usize,
 }
@@ -316,42 +201,35 @@ impl<'a> Layout<'a> {
         requires top { (i : ℕ) × (i < length root.now.items.items) × (kind_at root.now.items.items i ≡ list_kind) }
         requires entries { EachEntry (entries_of root.now.items.items) (IsRootEntry (entries_of root.now.items.items)) }
         requires children { AreChildren (entries_of root.now.items.items) (children_of root.now) }
-        requires lists { length root.now.firsts.items ≡ length root.now.items.items + 1 }
         ensures layout { IfOk result (IsLayoutOf root.now locks.now) }
         ensures fault { IfErr result (IsOver (length_of (plan_of root.now locks.now))) }
     {
         let mut cursor = Cursor { at: HEADER_LEN };
         let root_at = lay_items(&mut cursor, &root.items)?;
         let lists = lay_lists(&mut cursor, root.children.len())?;
-        let table = lay_locks(&mut cursor, &locks.items)?;
-        let mut values = Values::new(alloc, root.items.len())?;
-        let root_places = value_places(alloc, &root.items, &mut values)?;
-        let lock_places = value_places(alloc, &locks.items, &mut values)?;
-        let values = values.distinct;
-        let pointers = lay_values(alloc, &mut cursor, &values)?;
-        let contents = Contents {
-            lists,
-            firsts: &root.firsts,
-            // Without locks no item has their table.
-            table,
-            places: &root_places,
-            pointers: &pointers,
-        };
-        let lock_contents = Contents {
-            places: &lock_places,
-            ..contents
-        };
+        let locks_at = lay_locks(&mut cursor, &locks.items)?;
+        let values = PlacedValues::new(alloc, &root.items, &locks.items)?;
+        let pointers = lay_values(alloc, &mut cursor, &values.distinct)?;
         Ok(Layout {
-            root: TableRecords {
-                pointer: root_at,
-                rows: records(alloc, &root.items, root_at.end, contents)?,
-            },
-            locks: TableRecords {
-                pointer: table,
-                rows: records(alloc, &locks.items, table.end, lock_contents)?,
-            },
+            root: root_at,
+            lists,
+            locks: locks_at,
             values,
+            pointers,
             end: cursor.at,
         })
+    }
+
+    /// Where the contents of a table's items are, by the places of their first children and of their values.
+    pub(crate) fn contents<'b>(&'b self, firsts: &'b [usize], places: &'b [usize]) -> Contents<'b>
+        ensures { AreContentsOf self.now firsts.entry.now places.entry.now result }
+    {
+        Contents {
+            lists: self.lists,
+            firsts,
+            table: self.locks,
+            places,
+            pointers: &self.pointers,
+        }
     }
 }

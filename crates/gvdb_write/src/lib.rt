@@ -15,6 +15,7 @@
 //! ```
 #![tactic(auto)]
 
+mod contents;
 mod database;
 mod groups;
 mod layout;

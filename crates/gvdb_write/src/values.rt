@@ -1,11 +1,13 @@
 //! The values of a database: equal ones are stored once, at the first place. A value is looked for at the slot of its hash,
 //! where most are alone; those that come to a slot that is taken are in a map. So its bytes are compared with those of one
 //! value, and else with as many as that map is deep, whatever their hashes are.
-ghost use Rattle.std.specs.Prelude.{◌≡◌, ◌<◌, ◌≤◌, [], length, slice_index_or, OnOk, IfOk, IfErr};
+ghost use Rattle.std.specs.Prelude.{◌≡◌, ◌<◌, ◌≤◌, [], fold, length, slice_index_or, OnOk, IfOk, IfErr};
 ghost use Rattle.dconf_model.specs.Plans.{with_new};
+ghost use Rattle.gvdb_write.specs.Contents.{own_values, HavePlaces};
 ghost use Rattle.gvdb_write.specs.Values.{bytes_of_each, place_by, ArePlaces};
 ghost use Rattle.gvdb_write.specs.declared.write_fault.WriteFault.TheVariants.{Memory};
 
+use crate::names::{Content, Named};
 use crate::write_fault::WriteFault;
 use gvdb_read::hash;
 use std::alloc::Global;
@@ -74,4 +76,63 @@ impl<'a> Values<'a> {
         }
         self.others.get(&value).copied()
     }
+}
+
+/// The values of a database that are stored, and which of them each item has.
+#[derive(Drop)]
+pub(crate) struct PlacedValues<'a> {
+    /// Each value once, in the order in which the items have them.
+    pub(crate) distinct: Vec<&'a [u8]>,
+    /// The place of the value of each item of the root table among them; of an item without one, 0.
+    pub(crate) root: Vec<usize>,
+    /// The same of the table of locks.
+    pub(crate) locks: Vec<usize>,
+}
+
+impl<'a> PlacedValues<'a> {
+    /// The values of the items of the root table, and then of those of the table of locks.
+    pub(crate) fn new(
+        alloc: Global,
+        root: &[Named<'a>],
+        locks: &[Named<'a>],
+    ) -> Result<PlacedValues<'a>, WriteFault>
+        ensures distinct { IfOk result (λ placed. bytes_of_each placed.distinct.items
+            ≡ fold with_new (fold with_new [] (own_values root.now)) (own_values locks.now)) }
+        ensures root { IfOk result (λ placed. HavePlaces root.now (bytes_of_each placed.distinct.items) placed.root.items) }
+        ensures locks { IfOk result (λ placed. HavePlaces locks.now (bytes_of_each placed.distinct.items) placed.locks.items) }
+        ensures fault { IfErr result (λ e. e ≡ Memory) }
+    {
+        let mut values = Values::new(alloc, root.len())?;
+        let root = value_places(alloc, root, &mut values)?;
+        let locks = value_places(alloc, locks, &mut values)?;
+        Ok(PlacedValues {
+            distinct: values.distinct,
+            root,
+            locks,
+        })
+    }
+}
+
+/// The place of the value of each item among all values; of another item, 0.
+fn value_places<'a>(
+    alloc: Global,
+    items: &[Named<'a>],
+    values: &mut Values<'a>,
+) -> Result<Vec<usize>, WriteFault>
+    requires { ArePlaces values.old.slots.items values.old.others (bytes_of_each values.old.distinct.items) }
+    ensures known { OnOk result (ArePlaces values.new.slots.items values.new.others (bytes_of_each values.new.distinct.items)) }
+    ensures distinct { OnOk result (bytes_of_each values.new.distinct.items
+        ≡ fold with_new (bytes_of_each values.old.distinct.items) (own_values items.now)) }
+    ensures places { IfOk result (λ places. HavePlaces items.now (bytes_of_each values.new.distinct.items) places.items) }
+    ensures fault { IfErr result (λ e. e ≡ Memory) }
+{
+    let mut places = Vec::with_capacity(alloc, items.len())?;
+    for named in items {
+        let place = match named.content {
+            Content::Value(bytes) => values.add(bytes)?,
+            _ => 0,
+        };
+        places.push(place)?;
+    }
+    Ok(places)
 }

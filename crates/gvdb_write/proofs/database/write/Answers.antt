@@ -22,9 +22,6 @@ new-requires-clause-children c = c.in_ok-root.ensures.tables.plan.children
 pub new-requires-clause-entries : goal.new-requires-clause-entries
 new-requires-clause-entries c = c.in_ok-root.ensures.tables.plan.places
 
-pub new-requires-clause-lists : goal.new-requires-clause-lists
-new-requires-clause-lists c = c.in_ok-root.ensures.tables.firsts
-
 pub returns-in_err-layout-clause-fault : goal.returns-in_err-layout-clause-fault
 returns-in_err-layout-clause-fault c =
     let p = err_from_is_err_and c.from_residual-in_err-layout.result c.from_residual-in_err-layout.ensures.1 in
@@ -33,7 +30,7 @@ returns-in_err-layout-clause-fault c =
 -- ---- the file
 
 pub write_parts-requires-clause-tables : goal.write_parts-requires-clause-tables
-write_parts-requires-clause-tables c = c.in_ok-root.ensures.tables.tables
+write_parts-requires-clause-tables c = (_, c.in_ok-root.ensures.tables)
 
 pub returns-clause-opens : goal.returns-clause-opens
 returns-clause-opens c =

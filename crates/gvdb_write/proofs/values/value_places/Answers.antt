@@ -3,8 +3,8 @@ use Rattle.std.proofs.lemmas.List.{length-map}
 use Rattle.gvdb_write.specs.declared.values.Values.{Values}
 use Rattle.gvdb_write.specs.Values.{bytes_of_each, ArePlaces}
 use Rattle.gvdb_write.proofs.FoundValues.{AreFound, none_found, value_found, other_found, all_found, all_distinct}
-use Rattle.gvdb_write.proofs.layout.value_places.Goals as goal
-use Rattle.gvdb_write.proofs.layout.value_places.Goals.{in-Value+in_ok-place-in-Value, in_default}
+use Rattle.gvdb_write.proofs.values.value_places.Goals as goal
+use Rattle.gvdb_write.proofs.values.value_places.Goals.{in-Value+in_ok-place-in-Value, in_default}
 
 pub loop-named-init : goal.loop-named-init
 loop-named-init c = record {

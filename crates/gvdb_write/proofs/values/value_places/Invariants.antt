@@ -1,6 +1,6 @@
 use Rattle.gvdb_write.specs.Values.{bytes_of_each, ArePlaces}
 use Rattle.gvdb_write.proofs.FoundValues.{AreFound}
-use Rattle.gvdb_write.proofs.layout.value_places.Given as goal
+use Rattle.gvdb_write.proofs.values.value_places.Given as goal
 
 abbrev pub invariant-loop-named : goal.invariant-loop-named
 invariant-loop-named l = record {
