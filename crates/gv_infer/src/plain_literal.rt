@@ -2,15 +2,14 @@
 #![tactic(auto, unfolding(gv_model::specs::Printed::text_of, gv_model::specs::Printed::holds_double, gv_model::specs::Tree::depth))]
 
 ghost use Rattle.std.specs.Prelude.{◌≡◌, ◌≢◌, ◌≤◌, ◌-◌, IfOk, IfErr, IfSome, IsTrue, Ok, decimal, get_or, length};
-ghost use Rattle.std.specs.List.{list_all};
 ghost use Rattle.gv_model.specs.Quoted.{quoted};
-ghost use Rattle.gv_text.specs.Printing.{is_printable};
 ghost use Rattle.gv_tree.specs.Basics.{basic_tree};
 ghost use Rattle.gv_infer.specs.PrintedTexts.{IsPrintedFor};
 ghost use Rattle.gv_infer.specs.Reads.{Reads};
 ghost use Rattle.gv_infer.specs.declared.value_fault.ValueFault.TheVariants.{Memory};
 
 use crate::value_fault::ValueFault;
+use gv_text::is_plain;
 use gv_tree::{Basic, Tree};
 use std::alloc::Global;
 
@@ -60,7 +59,7 @@ fn between_quotes(text: &str) -> Option<&str>
         return None;
     }
     let inner = text.get(1..text.len() - 1)?;
-    if are_plain(inner.as_bytes()) {
+    if is_plain(inner.as_bytes(), '\'') {
         Some(inner)
     } else {
         None
@@ -74,20 +73,6 @@ fn is_in_quotes(text: &[u8]) -> bool
     ensures last { IsTrue result → get_or text.now (length text.now - 1) 0 ≡ 39 }
 {
     matches!(text, [b'\'', .., b'\''])
-}
-
-/// Whether each byte stands for itself between two `'`.
-fn are_plain(bytes: &[u8]) -> bool
-    ensures { result ≡ list_all (is_printable 39) bytes.now }
-{
-    bytes.iter().all(|byte| is_plain(*byte))
-}
-
-/// Whether a byte is a character that stands for itself between two `'`.
-fn is_plain(byte: u8) -> bool
-    ensures { result ≡ is_printable 39 byte }
-{
-    byte >= b' ' && byte <= b'~' && byte != b'\\' && byte != b'\''
 }
 
 /// A number of an `i` without a sign.

@@ -26,7 +26,7 @@ use std::alloc::Global;
 /// would have over 128 levels. Each of them may also be running out of memory.
 ///
 /// A truth value, an `i` or a `u` that is printed so and has no minus sign, and a string in `'` of printable ASCII without a
-/// backslash are read at sight: in one look at the text, with memory for the string alone. Any other text it types once as a
+/// backslash are read at sight: in time linear in the text, with memory for the string alone. Any other text it types once as a
 /// whole, and once what is in each `<..>`, each in time linear in its own syntax times the levels of its type, and asks
 /// nothing of a type that it has just chosen. Only where there is no value are the `<..>` typed once more, to find the first
 /// without a type. It takes memory for the syntax, the value, and the types of the `<..>` that lie around one another.

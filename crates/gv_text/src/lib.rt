@@ -23,7 +23,7 @@ pub use fault::{TextCause, TextFault};
 pub use lexing::tokens;
 pub use parsing::parse;
 pub use print_fault::PrintFault;
-pub use printing::print;
+pub use printing::{is_plain, print};
 pub use syntax::{Syntax, SyntaxKind, SyntaxNode};
 pub use token::{Mark, Span, Token, TokenKind, Word};
 pub use type_text::TypeText;

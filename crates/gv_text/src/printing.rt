@@ -23,6 +23,7 @@ use default::push_default;
 use gv_types::Class;
 use gv_view::View;
 use maybe::push_maybe;
+pub use quoted::is_plain;
 use std::alloc::Global;
 use tuple::{push_entry, push_tuple};
 use variant::push_variant;

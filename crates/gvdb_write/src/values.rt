@@ -24,7 +24,7 @@ pub(crate) struct Values<'a> {
 }
 
 impl<'a> Values<'a> {
-    /// No values. So many are looked for fast.
+    /// No values. There is room for so many, and they are looked for fast.
     pub(crate) fn new(alloc: Global, many: usize) -> Result<Values<'a>, WriteFault>
         ensures empty { IfOk result (λ values. values.distinct.items ≡ []) }
         ensures places { IfOk result (λ values. ArePlaces values.slots.items values.others (bytes_of_each values.distinct.items)) }
@@ -34,7 +34,7 @@ impl<'a> Values<'a> {
         // With two slots for each value, one value in six comes to a slot that is taken.
         slots.resize(many.saturating_mul(2).max(1), 0usize)?;
         Ok(Values {
-            distinct: Vec::new(alloc),
+            distinct: Vec::with_capacity(alloc, many)?,
             slots,
             others: BTreeMap::new(alloc),
         })

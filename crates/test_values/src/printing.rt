@@ -1,7 +1,8 @@
-//! Values that lie nowhere, printed as the defaults of their types; and what is not printed.
+//! Values that lie nowhere, printed as the defaults of their types; what is not printed; and what stands for itself in quotes.
 use crate::samples::value;
+use crate::table::Asked;
 use crate::view_table::AskedOfView;
-use gv_text::print;
+use gv_text::{is_plain, print};
 use gv_view::View;
 use std::alloc::Global;
 use std::test::Fail;
@@ -33,6 +34,28 @@ pub(crate) fn attempt(alloc: Global, view: View<'_>) -> Result<String, Fail> {
         Ok(text) => Ok(text),
         Err(fault) => Ok(format!(in alloc; "{fault:?}")?),
     }
+}
+
+/// Whether a text stands for itself in each of the two quotes.
+pub(crate) fn plain(alloc: Global, text: &str) -> Result<String, Fail> {
+    let single = is_plain(text.as_bytes(), '\'');
+    let double = is_plain(text.as_bytes(), '"');
+    Ok(format!(in alloc; "{single} {double}")?)
+}
+
+/// Printable ASCII does, but for the backslash and the quote in use (GLib, "GVariant Text Format", "Strings").
+#[test]
+fn plain_texts_stand_for_themselves(rt: HostRuntime) -> Result<(), Fail> {
+    Asked::Plain.each_gives(
+        rt.alloc(),
+        r#"
+        plain text! | true true
+        it's | false true
+        say "x" | true false
+        back\slash | false false
+        café | false false
+        "#,
+    )
 }
 
 /// Of two elements that both end at the start, the second one is not annotated. Members behind one

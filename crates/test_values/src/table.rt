@@ -2,7 +2,7 @@
 //! comes of it `~3×ab~` stands for `ababab`.
 use crate::samples::spelt_out;
 use crate::view_table::AskedOfView;
-use crate::{debug, layout, long, syntax, tokens, trees, types, typing, values, views};
+use crate::{debug, layout, long, printing, syntax, tokens, trees, types, typing, values, views};
 use std::alloc::Global;
 use std::test::Fail;
 
@@ -31,6 +31,8 @@ pub(crate) enum Asked {
     Equal,
     /// Of a view, ` ?` and a key: the number that the key leads to.
     Key,
+    /// Whether it stands for itself between two `'`, and between two `"`.
+    Plain,
     /// Of a type, ` behind ` and a place: the alignment, the size and the place of a value.
     Layout,
     /// What the letter's basic type is.
@@ -68,6 +70,7 @@ impl Asked {
             Asked::Container => trees::container(alloc, text),
             Asked::Equal => trees::compared(alloc, text),
             Asked::Key => views::keyed(alloc, text),
+            Asked::Plain => printing::plain(alloc, text),
             Asked::Layout => layout::laid_out(alloc, text),
             Asked::Spelling => types::spelling(alloc, text),
             Asked::Parts => types::parts(alloc, text),

@@ -74,8 +74,9 @@ fn push_each_byte(to: &mut String, quote: char, bytes: &[u8]) -> Result<(), Allo
     Ok(())
 }
 
-/// Whether each byte stands for itself in this quote.
-fn is_plain(text: &[u8], quote: char) -> bool
+/// Whether each byte of a text is a character that stands for itself in this quote: printable ASCII, but for the backslash and the
+/// quote. It looks at each byte once, up to the first that isn't.
+pub fn is_plain(text: &[u8], quote: char) -> bool
     ensures { result ≡ list_all (is_printable quote) text.now }
 {
     text.iter().all(|byte| is_printable(*byte, quote))
