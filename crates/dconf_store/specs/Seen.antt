@@ -27,6 +27,10 @@ AreChanged files writable changes m = (l : Layers) × AreOpened files writable l
 abbrev pub IsSavedAfter : List MaybeBytes → Bool → List Change → List ℕ → Type 0
 IsSavedAfter files writable changes file = (l : Layers) × AreChanged files writable changes l × IsDatabaseOf (saved l.layers) file
 
+-- each file is a sound database, each change is accepted, and what is saved is not too big
+abbrev pub AreAccepted : List MaybeBytes → Bool → List Change → Type 0
+AreAccepted files writable changes = (file : List ℕ) × IsSavedAfter files writable changes file
+
 -- the value of a path is what the rows and locks of its databases, the changes and the order of the databases give
 abbrev pub IsValueAfter : List MaybeBytes → List Change → List ℕ → Option Tree → Type 0
 IsValueAfter files changes path v =

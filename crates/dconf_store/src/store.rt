@@ -1,5 +1,5 @@
 //! What is saved of a store after changes, and what is seen when that is opened again.
-ghost use Rattle.std.specs.Prelude.{◌≡◌, [], IfErr, IfOk, None, OnErr, OnOk, length, map, string_bytes};
+ghost use Rattle.std.specs.Prelude.{◌≡◌, [], IfErr, IfOk, IsOk, None, OnErr, OnOk, length, map, string_bytes};
 ghost use Rattle.dconf_model.specs.Databases.{IsDatabaseOf};
 ghost use Rattle.dconf_model.specs.Changes.{saved};
 ghost use Rattle.dconf_model.specs.Layers.{Layers, visible};
@@ -10,7 +10,7 @@ ghost use Rattle.dconf_engine.specs.Files.{bytes_of_file, bytes_of_files};
 ghost use Rattle.dconf_store.specs.Changes.{asked_of};
 ghost use Rattle.dconf_store.specs.Faults.{IsFaultOf, IsNoValue, IsReadFault, IsRefusedAt};
 ghost use Rattle.dconf_store.specs.Files.{with_first_file};
-ghost use Rattle.dconf_store.specs.Seen.{AreChanged, AreChildrenAfter, HaveChanged, IsSavedAfter, IsValueAfter};
+ghost use Rattle.dconf_store.specs.Seen.{AreAccepted, AreChanged, AreChildrenAfter, HaveChanged, IsSavedAfter, IsValueAfter};
 
 use crate::change::Change;
 use crate::fault::StoreFault;
@@ -43,7 +43,8 @@ pub fn user_file_after(
 /// The value that is seen at a path where the changes were made, saved, and opened again: None where none is seen.
 ///
 /// It is the value that the rows and locks of the databases, the changes, and the order of the databases give. The faults are
-/// those of [`user_file_after`]; `TooLarge` comes of a value that is more than 128 levels deep.
+/// those of [`user_file_after`], so that an answer means that each database is sound and each change was accepted; `TooLarge`
+/// comes of a value that is more than 128 levels deep.
 pub fn value_after(
     alloc: Global,
     profile: &Profile<'_>,
@@ -54,10 +55,11 @@ pub fn value_after(
     requires { length files.now ≡ length (databases_of profile.now) }
     ensures value { IfOk result (λ v. IsValueAfter (bytes_of_files files.now) (asked_of changes.now) (key_text path.entry) v) }
     ensures none { length files.now ≡ 0 → IfOk result (λ v. v ≡ None) }
+    ensures accepted { IsOk result → AreAccepted (bytes_of_files files.now) (has_writable (databases_of profile.now)) (asked_of changes.now) }
     ensures fault { IfErr result (IsNoValue (bytes_of_files files.now) (has_writable (databases_of profile.now)) (asked_of changes.now) (key_text path.entry)) }
 {
-    let file = user_file_after(alloc, profile, files, changes)?;
-    let again = replaced(alloc, files, &file)?;
+    let saved = user_file_after(alloc, profile, files, changes)?;
+    let again = replaced(alloc, files, &saved)?;
     let engine = Engine::open(alloc, profile, &again)?;
     seen(alloc, &engine, path)
 }
@@ -77,6 +79,7 @@ pub fn children_after(
     requires { length files.now ≡ length (databases_of profile.now) }
     ensures names { IfOk result (λ names. AreChildrenAfter (bytes_of_files files.now) (asked_of changes.now) (directory_text directory.entry) (map string_bytes names.items)) }
     ensures none { length files.now ≡ 0 → IfOk result (λ names. names.items ≡ []) }
+    ensures accepted { IsOk result → AreAccepted (bytes_of_files files.now) (has_writable (databases_of profile.now)) (asked_of changes.now) }
     ensures fault { IfErr result (IsFaultOf (bytes_of_files files.now) (has_writable (databases_of profile.now)) (asked_of changes.now)) }
 {
     let file = user_file_after(alloc, profile, files, changes)?;

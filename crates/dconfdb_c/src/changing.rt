@@ -1,44 +1,16 @@
 //! The user's database with changes.
-ghost use Rattle.std.specs.Prelude.{◌≡◌, ◌≢◌, ℕ, List, IfErr, IfOk, OnOk, Ok};
-ghost use Rattle.gv_view.specs.Views.{value};
-ghost use Rattle.dconf_model.specs.Changes.{apply, Change.set_value};
-ghost use Rattle.dconf_path.specs.Paths.{key_text};
-ghost use Rattle.dconf_model.specs.Databases.{IsDatabaseOf};
-ghost use Rattle.dconf_model.specs.Stores.{IsLimitedValue, IsWholeChange};
-ghost use Rattle.dconfdb_c.specs.Changed.{HaveChanged, IsAskedInVain, IsChanged, IsMalformed, IsNoChange, IsNoChangeTold, IsRefusedFor, IsSetInVain, asked_change, change_of, with_fault};
-ghost use Rattle.dconfdb_c.specs.Given.{HandsOut};
-ghost use Rattle.dconfdb_c.specs.Seen.{layers_of};
+ghost use Rattle.std.specs.Prelude.{◌≡◌, ◌≢◌, ℕ, List};
+ghost use Rattle.dconfdb_calls.specs.Changed.{IsChanged, IsNoChangeTold};
+ghost use Rattle.dconfdb_calls.specs.Given.{HandsOut};
+ghost use Rattle.dconfdb_calls.specs.Seen.{layers_of};
 
-use crate::fault::Fault;
-use crate::given::{directory_path, hand_out, key_path, view_of};
-use dconf_engine::{ChangeFault, Engine, Layer};
-use dconf_path::{DirPath, KeyPath};
-use gv_view::{View, ViewFault};
-use gvdb_write::WriteFault;
+use dconf_engine::Layer;
+use dconfdb_calls::{DconfdbChange, hand_out, user_file};
 use std::alloc::Global;
 
-/// A change: sets the value of a key (`sets`), or takes the user's value away. A path that ends in
-/// `/` is a directory: the user's values of all keys below it go, except of those that are locked.
-#[repr(C)]
-#[derive(Clone, Copy)]
-pub struct DconfdbChange<'a> {
-    pub path: &'a [u8],
-    pub value: &'a [u8],
-    pub type_text: &'a [u8],
-    pub sets: bool,
-}
-
-/// The first fault of changes, and the index of the change that has it. Where none has it the index
-/// is their number.
-#[derive(Clone, Copy)]
-struct Refused {
-    fault: Fault,
-    at: usize,
-}
-
 /// The bytes of the first layer's database after all changes, each made in turn, without locks:
-/// handed out as `dconfdb_list` does. Else none is made, and the number of a fault comes, with the
-/// index of the change that has it; where it is no change's, their number.
+/// handed out as `dconfdb_list` does. Else the number of a fault, and nothing changes but `at`: the
+/// index of the change at fault, or 0 if none is.
 #[unsafe(no_mangle)]
 pub extern "C" fn dconfdb_change(
     alloc: Global,
@@ -49,10 +21,12 @@ pub extern "C" fn dconfdb_change(
     len: &mut usize,
     at: &mut usize,
 ) -> u32
-    ensures done { result ≡ 0 → (file : List ℕ) × IsChanged (layers_of layers.now writable) changes.now file × HandsOut file room.new len.new }
+    ensures done { result ≡ 0 → (file : List ℕ) × IsChanged (layers_of layers.now writable) changes.now file × HandsOut file room.old room.new len.new }
+    ensures silent { result ≡ 0 → at.new ≡ at.old }
     ensures refused { result ≢ 0 → IsNoChangeTold (layers_of layers.now writable) changes.now result at.new }
+    ensures kept { result ≢ 0 → (room.new ≡ room.old) × (len.new ≡ len.old) }
 {
-    match changed(alloc, layers, writable, changes) {
+    match user_file(alloc, layers, writable, changes) {
         Ok(file) => {
             *len = hand_out(file.as_slice(), room);
             0
@@ -61,145 +35,5 @@ pub extern "C" fn dconfdb_change(
             *at = refused.at;
             refused.fault.number()
         }
-    }
-}
-
-/// The bytes of the first layer's database after all changes.
-fn changed(
-    alloc: Global,
-    layers: &[Layer<'_>],
-    writable: bool,
-    changes: &[DconfdbChange<'_>],
-) -> Result<Vec<u8>, Refused>
-    ensures file { IfOk result (λ file. IsChanged (layers_of layers.now writable) changes.now file.items) }
-    ensures fault { IfErr result (λ e. IsNoChange (layers_of layers.now writable) changes.now e.fault e.at) }
-{
-    let at = changes.len();
-    let Ok(mut engine) = Engine::of_layers(alloc, writable, layers) else {
-        return Err(Refused {
-            fault: Fault::Memory,
-            at,
-        });
-    };
-    make_all(alloc, &mut engine, changes)?;
-    match engine.into_saved() {
-        Ok(file) => Ok(file),
-        Err(WriteFault::TooBig) => Err(Refused {
-            fault: Fault::TooBig,
-            at,
-        }),
-        Err(WriteFault::Memory) => Err(Refused {
-            fault: Fault::Memory,
-            at,
-        }),
-    }
-}
-
-/// Makes each change in turn, up to the first that is refused.
-fn make_all(
-    alloc: Global,
-    engine: &mut Engine<'_>,
-    changes: &[DconfdbChange<'_>],
-) -> Result<(), Refused>
-    ensures made { OnOk result (HaveChanged changes.now engine.old engine.new) }
-    ensures fault { IfErr result (λ e. IsNoChange engine.old changes.now e.fault e.at) }
-{
-    for at in 0..changes.len() {
-        if let Err(fault) = changes[at].make(alloc, engine) {
-            return Err(Refused { fault, at });
-        }
-    }
-    Ok(())
-}
-
-/// A change that can be made.
-#[derive(Clone, Copy)]
-enum Asked<'a> {
-    /// A key gets a value.
-    Set(KeyPath<'a>, View<'a>),
-    /// A key's value of the user's goes.
-    Reset(KeyPath<'a>),
-    /// The user's values of all keys below a directory go, except of those that are locked.
-    ResetBelow(DirPath<'a>),
-}
-
-impl<'a> DconfdbChange<'a> {
-    /// What is asked, or why it can't be.
-    fn asked(&self) -> Result<Asked<'a>, Fault>
-        ensures asked { IfOk result (λ asked. asked_change asked ≡ change_of self.now) }
-        ensures fault { IfErr result (IsMalformed self.now) }
-    {
-        if self.path.ends_with(b"/") {
-            return match directory_path(self.path) {
-                Some(directory) => Ok(Asked::ResetBelow(directory)),
-                None => Err(Fault::BadPath),
-            };
-        }
-        let Some(path) = key_path(self.path) else {
-            return Err(Fault::BadPath);
-        };
-        if !self.sets {
-            return Ok(Asked::Reset(path));
-        }
-        match view_of(self.type_text, self.value) {
-            Some(value) => Ok(Asked::Set(path, value)),
-            None => Err(Fault::BadType),
-        }
-    }
-
-    /// Makes the change, or leaves the engine as it was.
-    fn make(self, alloc: Global, engine: &mut Engine<'_>) -> Result<(), Fault>
-        ensures ok { OnOk result (apply engine.old (change_of self.entry) ≡ Ok engine.new) }
-        ensures whole { OnOk result (IsWholeChange (change_of self.entry)) }
-        ensures fault { IfErr result (IsRefusedFor engine.old self.entry) }
-    {
-        let asked = self.asked()?;
-        asked.make(alloc, engine)
-    }
-}
-
-impl Asked<'_> {
-    /// Makes the change, or leaves the engine as it was.
-    fn make(self, alloc: Global, engine: &mut Engine<'_>) -> Result<(), Fault>
-        ensures ok { OnOk result (apply engine.old (asked_change self.entry) ≡ Ok engine.new) }
-        ensures whole { OnOk result (IsWholeChange (asked_change self.entry)) }
-        ensures fault { IfErr result (IsAskedInVain engine.old self.entry) }
-    {
-        match self {
-            Asked::Set(path, value) => set(alloc, path, value, engine),
-            Asked::Reset(path) => or_fault(engine.reset(path)),
-            Asked::ResetBelow(directory) => or_fault(engine.reset_dir(directory)),
-        }
-    }
-}
-
-/// Sets a key, or leaves the engine as it was.
-fn set(
-    alloc: Global,
-    path: KeyPath<'_>,
-    view: View<'_>,
-    engine: &mut Engine<'_>,
-) -> Result<(), Fault>
-    ensures ok { OnOk result (apply engine.old (set_value (key_text path.entry) (value view.entry)) ≡ Ok engine.new) }
-    ensures whole { OnOk result (IsLimitedValue (value view.entry)) }
-    ensures fault { IfErr result (IsSetInVain engine.old (key_text path.entry) (value view.entry)) }
-{
-    match view.to_tree(alloc) {
-        Ok(tree) => or_fault(engine.write(path, &tree)),
-        Err(ViewFault::TooLarge) => Err(Fault::TooLarge),
-        Err(ViewFault::Memory) => Err(Fault::Memory),
-    }
-}
-
-/// Why a change is refused, if it is.
-fn or_fault(made: Result<(), ChangeFault>) -> Result<(), Fault>
-    ensures { result ≡ with_fault made }
-{
-    match made {
-        Ok(()) => Ok(()),
-        Err(ChangeFault::NotWritable) => Err(Fault::NotWritable),
-        Err(ChangeFault::Locked(_)) => Err(Fault::Locked),
-        Err(ChangeFault::TooLarge) => Err(Fault::TooLarge),
-        Err(ChangeFault::Memory) => Err(Fault::Memory),
     }
 }

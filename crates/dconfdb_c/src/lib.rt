@@ -1,18 +1,10 @@
-//! A settings store for C: what the layers of a store hold, and the user's database with changes.
+//! The calls of the library for C: each exports one of dconfdb_calls, and puts what that returns
+//! where C can take it.
 //!
-//! C owns all memory. It lends the bytes of files to [`opening::dconfdb_open`], keeps each layer
-//! that is opened as a value, and lends the layers to the other calls. No call keeps anything,
-//! frees anything of the caller's, or checks a layer anew.
+//! C owns all memory. A call keeps nothing and frees nothing of the caller's.
 #![tactic(auto)]
 
-mod after_changes;
 mod changing;
-mod differing;
-mod fault;
-mod given;
 mod listing;
 mod opening;
-mod profiles;
 mod reading;
-#[cfg(test)]
-mod tests;

@@ -1,22 +1,18 @@
-//! What a directory has, and the locks below it.
-ghost use Rattle.std.specs.Prelude.{◌≡◌, ◌≢◌, ◌++◌, ◌∷◌, [], true, IfErr, IfOk, OnOk, map, string_bytes};
+//! Names and paths that are listed: texts, a zero byte after each.
+ghost use Rattle.std.specs.Prelude.{◌≡◌, ◌≢◌, ◌++◌, ℕ, List, true};
 ghost use Rattle.dconf_model.specs.Layers.{child_names, locks_below};
-ghost use Rattle.dconf_path.specs.Paths.{directory_text};
-ghost use Rattle.dconf_engine.specs.LayerSettings.{settings_of};
-ghost use Rattle.dconfdb_c.specs.Given.{HandsOut, IsDirectory};
-ghost use Rattle.dconfdb_c.specs.Listed.{IsNoListing, ended};
-ghost use Rattle.dconfdb_c.specs.Seen.{layers_of};
+ghost use Rattle.dconf_engine.specs.Differing.{AreDiffering, first_keys};
+ghost use Rattle.dconfdb_calls.specs.Given.{HandsOut, IsDirectory};
+ghost use Rattle.dconfdb_calls.specs.Listed.{IsNoListingTold, ended};
+ghost use Rattle.dconfdb_calls.specs.Seen.{layers_of};
 
-use crate::fault::Fault;
-use crate::given::{directory_path, hand_out};
-use dconf_engine::{Engine, Layer};
-use dconf_path::DirPath;
-use std::alloc::{AllocError, Global};
+use dconf_engine::Layer;
+use dconfdb_calls::{differing_keys, directory_locks, directory_names, hand_out};
+use std::alloc::Global;
 
-/// The names of what a directory has in any layer, a zero byte after each: a key's name, and a
-/// directory's with its `/`. They are in the order of their bytes, once each. Where they don't fit
-/// into the room nothing is put into it; how many bytes there are is said either way. Else the
-/// number of a fault.
+/// The names of what a directory has in any layer: a key's name, and a directory's with its `/`.
+/// They are in the order of their bytes, once each. `len` says how many bytes they take; a room
+/// that is too short for them stays as it was. Else the number of a fault, and nothing changes.
 #[unsafe(no_mangle)]
 pub extern "C" fn dconfdb_list(
     alloc: Global,
@@ -25,24 +21,22 @@ pub extern "C" fn dconfdb_list(
     room: &mut [u8],
     len: &mut usize,
 ) -> u32
-    ensures done { result ≡ 0 → HandsOut (ended (child_names (layers_of layers.now true) directory.now)) room.new len.new }
-    ensures refused { result ≢ 0 → IsNoListing directory.now result }
+    ensures done { result ≡ 0 → HandsOut (ended (child_names (layers_of layers.now true) directory.now)) room.old room.new len.new }
+    ensures directory { result ≡ 0 → IsDirectory directory.now }
+    ensures refused { result ≢ 0 → IsNoListingTold directory.now result }
+    ensures kept { result ≢ 0 → (room.new ≡ room.old) × (len.new ≡ len.old) }
 {
-    let Some(directory) = directory_path(directory) else {
-        return Fault::BadPath.number();
-    };
-    match listed(alloc, layers, directory) {
+    match directory_names(alloc, layers, directory) {
         Ok(names) => {
             *len = hand_out(names.as_slice(), room);
             0
         }
-        Err(_) => Fault::Memory.number(),
+        Err(fault) => fault.number(),
     }
 }
 
-/// The paths of the locks that start with a directory, a zero byte after each: those of the layers
-/// from the second on. They are in the order of their bytes, once each, and handed out as
-/// `dconfdb_list` does.
+/// The paths of the locks that start with a directory: those of the layers from the second on. They
+/// are in the order of their bytes, once each, and handed out as `dconfdb_list` does.
 #[unsafe(no_mangle)]
 pub extern "C" fn dconfdb_locks(
     alloc: Global,
@@ -51,63 +45,43 @@ pub extern "C" fn dconfdb_locks(
     room: &mut [u8],
     len: &mut usize,
 ) -> u32
-    ensures done { result ≡ 0 → HandsOut (ended (locks_below (layers_of layers.now true) directory.now)) room.new len.new }
-    ensures refused { result ≢ 0 → IsNoListing directory.now result }
+    ensures done { result ≡ 0 → HandsOut (ended (locks_below (layers_of layers.now true) directory.now)) room.old room.new len.new }
+    ensures directory { result ≡ 0 → IsDirectory directory.now }
+    ensures refused { result ≢ 0 → IsNoListingTold directory.now result }
+    ensures kept { result ≢ 0 → (room.new ≡ room.old) × (len.new ≡ len.old) }
 {
-    let Some(directory) = directory_path(directory) else {
-        return Fault::BadPath.number();
-    };
-    match locked(alloc, layers, directory) {
+    match directory_locks(alloc, layers, directory) {
         Ok(paths) => {
             *len = hand_out(paths.as_slice(), room);
             0
         }
-        Err(_) => Fault::Memory.number(),
+        Err(fault) => fault.number(),
     }
 }
 
-/// The names of what a directory has, as they are handed out.
-fn listed(
+/// The paths of the keys that are seen otherwise through other layers: another value is seen, or one
+/// where none was, or only one side has the key locked. The same value in other bytes is no
+/// difference. Only the keys of the first `count` layers of each side are compared. They are handed
+/// out as `dconfdb_list` does.
+#[unsafe(no_mangle)]
+pub extern "C" fn dconfdb_differs(
     alloc: Global,
     layers: &[Layer<'_>],
-    directory: DirPath<'_>,
-) -> Result<Vec<u8>, AllocError>
-    ensures { IfOk result (λ all. all.items ≡ ended (child_names (layers_of layers.now true) (directory_text directory.entry))) }
+    other: &[Layer<'_>],
+    count: usize,
+    room: &mut [u8],
+    len: &mut usize,
+) -> u32
+    ensures done { result ≡ 0 → (paths : List (List ℕ)) × AreDiffering (layers_of layers.now true) (layers_of other.now true)
+        (first_keys count (layers_of layers.now true) ++ first_keys count (layers_of other.now true)) paths × HandsOut (ended paths) room.old room.new len.new }
+    ensures refused { result ≢ 0 → result ≡ 1 }
+    ensures kept { result ≢ 0 → (room.new ≡ room.old) × (len.new ≡ len.old) }
 {
-    let engine = Engine::of_layers(alloc, true, layers)?;
-    let names = engine.list(alloc, directory)?;
-    texts_of(alloc, names.as_slice())
-}
-
-/// The locks below a directory, as they are handed out.
-fn locked(
-    alloc: Global,
-    layers: &[Layer<'_>],
-    directory: DirPath<'_>,
-) -> Result<Vec<u8>, AllocError>
-    ensures { IfOk result (λ all. all.items ≡ ended (locks_below (layers_of layers.now true) (directory_text directory.entry))) }
-{
-    let engine = Engine::of_layers(alloc, true, layers)?;
-    let paths = engine.locks(alloc, directory)?;
-    texts_of(alloc, paths.as_slice())
-}
-
-/// The texts, a zero byte after each.
-pub(crate) fn texts_of(alloc: Global, texts: &[String]) -> Result<Vec<u8>, AllocError>
-    ensures { IfOk result (λ all. all.items ≡ ended (map string_bytes texts.now)) }
-{
-    let mut all = Vec::new(alloc);
-    for text in texts {
-        add_text(text.as_str(), &mut all)?;
+    match differing_keys(alloc, layers, other, count) {
+        Ok(paths) => {
+            *len = hand_out(paths.as_slice(), room);
+            0
+        }
+        Err(fault) => fault.number(),
     }
-    Ok(all)
-}
-
-/// Adds a text and a zero byte.
-fn add_text(text: &str, all: &mut Vec<u8>) -> Result<(), AllocError>
-    ensures { OnOk result (all.new.items ≡ all.old.items ++ (text.now ++ 0 ∷ [])) }
-{
-    all.extend_from_slice(text.as_bytes())?;
-    all.push(0)?;
-    Ok(())
 }

@@ -4,6 +4,7 @@ use dconf_disk::{Folder, MemoryFolder, replace};
 use dconf_engine::{Engine, Layer};
 use dconf_path::{KeyPath, LockPath, read_profile};
 use dconf_store::{Change, value_after};
+use dconfdb_calls::{is_key_writable, open_layer, read};
 use gv_tree::{Basic, Tree};
 use gv_view::View;
 use gvdb_read::Table;
@@ -59,6 +60,13 @@ fn of_dconf_store(alloc: Global, user: &[u8], site: &[u8]) -> Result<bool, Fail>
     Ok(value.is_some())
 }
 
+fn of_dconfdb_calls(user: &[u8], site: &[u8]) -> Option<bool> {
+    let layers = [open_layer(user, true).ok()?, open_layer(site, true).ok()?];
+    let found = read(&layers, b"/desk/size")?;
+    let is_own = found.origin == 0 && found.type_text == b"i".as_slice();
+    Some(is_own && is_key_writable(&layers, true, b"/desk/size"))
+}
+
 fn of_dconf_disk(alloc: Global) -> Result<bool, Fail> {
     let mut folder = MemoryFolder::new(alloc);
     replace(alloc, &mut folder, "me.user", b"new")?;
@@ -73,6 +81,8 @@ fn each_example_is_so(rt: HostRuntime) -> Result<(), Fail> {
     let (written, compiled) = (of_gvdb_write(alloc)?, of_dconf_compile(alloc)?);
     let files = of_gvdb_read(&written)? && of_gvdb_read(&compiled)?;
     let stores = of_dconf_engine(alloc, &compiled)? && of_dconf_store(alloc, &written, &compiled)?;
+    let calls = of_dconfdb_calls(&written, &compiled);
+    assert!(rt; calls == Some(true), "the calls for C");
     assert!(rt;
         files && stores && of_dconf_path()? && of_keyfile_core(alloc)? && of_dconf_disk(alloc)?
     );

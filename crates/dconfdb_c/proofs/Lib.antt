@@ -1,3 +1,0 @@
-mod ChangeTurns
-mod AfterTurns
-mod Refusals

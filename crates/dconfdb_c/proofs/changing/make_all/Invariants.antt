@@ -1,7 +1,0 @@
-use Rattle.std.proofs.Common.{take}
-use Rattle.dconfdb_c.specs.Changed.{HaveChanged}
-use Rattle.dconfdb_c.proofs.changing.make_all.Given as goal
-
--- the changes before this one are made
-abbrev pub invariant-loop-at : goal.invariant-loop-at
-invariant-loop-at l = HaveChanged (take l.at l.changes) l.initial.engine l.engine

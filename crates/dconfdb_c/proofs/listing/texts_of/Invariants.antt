@@ -1,8 +1,0 @@
-use Rattle.std.proofs.Common.{◌≡◌, take, map}
-use Rattle.std.specs.String.{string_bytes}
-use Rattle.dconfdb_c.specs.Listed.{ended}
-use Rattle.dconfdb_c.proofs.listing.texts_of.Given as goal
-
--- the texts so far
-abbrev pub invariant-loop-text : goal.invariant-loop-text
-invariant-loop-text l = l.all.items ≡ ended (map string_bytes (take l.text-index l.texts))

@@ -1,0 +1,4 @@
+mod ChangeTurns
+mod AfterTurns
+mod Refusals
+mod Stored

@@ -1,0 +1,137 @@
+-- The changes that C asks for, and the user's database with them.
+use Rattle.std.specs.Prelude.{◌≡◌, ◌⊎◌, ℕ, List, [], ◌∷◌, Result, Ok, Err, Some, Bool, true, false, IsTrue, slice_get, take, if◌then◌else◌}
+use Rattle.gv_view.specs.Views.{value}
+use Rattle.dconf_path.specs.Paths.{directory_text, key_text}
+use Rattle.dconf_engine.specs.declared.change_fault.ChangeFault.{ChangeFault}
+use Rattle.dconf_engine.specs.declared.change_fault.ChangeFault.TheVariants as refused
+use Rattle.dconfdb_calls.specs.declared.changes.Asked.{Asked}
+use Rattle.dconfdb_calls.specs.declared.changes.Asked.TheVariants.{Set, Reset, ResetBelow}
+use Rattle.gv_model.specs.Printed.{is_too_large}
+use Rattle.gv_model.specs.Tree.{Tree}
+use Rattle.gv_model.specs.TypeText.{type_at}
+use Rattle.gv_model.specs.Decode.{decode}
+use Rattle.dconf_model.specs.Paths.{ends_with_slash}
+use Rattle.dconf_model.specs.Changes.{Change, Refusal, apply, saved}
+use Rattle.dconf_model.specs.Changes.Change.{set_value, reset_value, reset_below_directory}
+use Rattle.dconf_model.specs.Changes.Refusal.{not_writable, locked, too_large}
+use Rattle.dconf_model.specs.Databases.{IsDatabaseOf, IsTooBig}
+use Rattle.dconf_model.specs.Layers.{Layers}
+use Rattle.dconf_model.specs.Salvaging.{IsKeyText}
+use Rattle.dconf_model.specs.Stores.{IsWholeChange}
+use Rattle.dconfdb_calls.specs.declared.changes.DconfdbChange.{DconfdbChange}
+use Rattle.dconfdb_calls.specs.declared.fault.Fault.{Fault}
+use Rattle.dconfdb_calls.specs.declared.fault.Fault.TheVariants.{Memory, BadPath, BadType, NotWritable, Locked, TooLarge, TooBig}
+use Rattle.dconfdb_calls.specs.Given.{IsDirectory, SpellsType}
+use Rattle.dconfdb_calls.specs.Numbers.{number_of}
+
+-- the value that a change sets
+abbrev pub value_of : DconfdbChange → Tree
+value_of c = decode (type_at c.type_text.now) c.value.now
+
+-- With a value the key at the path is set. Without one its value goes; a path that ends in `/` is a
+-- directory, and the values of all keys below it go.
+abbrev pub change_of : DconfdbChange → Change
+change_of c =
+    if c.sets then set_value c.path.now (value_of c) else
+    if ends_with_slash c.path.now then reset_below_directory c.path.now else reset_value c.path.now
+
+-- each change is accepted in its turn, and what it sets is a value of its type
+abbrev pub HaveChanged : List DconfdbChange → Layers → Layers → Type 0
+HaveChanged [] l m = l ≡ m
+HaveChanged (c ∷ cs) l m = (next : Layers) × IsWholeChange (change_of c) × (apply l (change_of c) ≡ Ok next) × HaveChanged cs next m
+
+-- the user's database with the changes
+pub record IsChanged (l : Layers) (changes : List DconfdbChange) (file : List ℕ) : Type 0 where
+  pub after : Layers
+  pub changed : HaveChanged changes l after
+  pub saved_is : IsDatabaseOf (saved after.layers) file
+
+-- what is asked
+abbrev pub asked_change : Asked → Change
+asked_change (Set path v) = set_value (key_text path) (value v)
+asked_change (Reset path) = reset_value (key_text path)
+asked_change (ResetBelow directory) = reset_below_directory (directory_text directory)
+
+-- ---- refusals
+
+-- the fault of a change that the engine refuses
+abbrev pub fault_of_change : ChangeFault → Fault
+fault_of_change refused.NotWritable = NotWritable
+fault_of_change (refused.Locked row) = Locked
+fault_of_change refused.TooLarge = TooLarge
+fault_of_change refused.Memory = Memory
+
+-- the index that is told of a change's fault: an allocation that failed is no change's
+abbrev pub at_of : Fault → ℕ → ℕ
+at_of Memory at = 0
+at_of _ at = at
+
+abbrev pub with_fault : Result (Unit {0}) ChangeFault → Result (Unit {0}) Fault
+with_fault (Ok u) = Ok u
+with_fault (Err e) = Err (fault_of_change e)
+
+-- what a change gives is this refusal, or an allocation failed
+abbrev pub IsRefusal : Result Layers Refusal → Fault → Type 0
+IsRefusal given Memory = Unit {0}
+IsRefusal given NotWritable = given ≡ Err not_writable
+IsRefusal given Locked = (row : ℕ) × (given ≡ Err (locked row))
+IsRefusal given TooLarge = given ≡ Err too_large
+IsRefusal given _ = ⊥
+
+-- a value is set in vain also where it is more than 128 levels deep
+abbrev pub IsSetInVain : Layers → List ℕ → Tree → Fault → Type 0
+IsSetInVain l path v TooLarge = (apply l (set_value path v) ≡ Err too_large) ⊎ (is_too_large v ≡ true)
+IsSetInVain l path v fault = IsRefusal (apply l (set_value path v)) fault
+
+abbrev pub IsChangedInVain : Layers → Change → Fault → Type 0
+IsChangedInVain l (set_value path v) fault = IsSetInVain l path v fault
+IsChangedInVain l change fault = IsRefusal (apply l change) fault
+
+abbrev pub IsAskedInVain : Layers → Asked → Fault → Type 0
+IsAskedInVain l asked fault = IsChangedInVain l (asked_change asked) fault
+
+-- the path of what is reset is no directory's, if it ends in `/`, and else no key's
+abbrev pub IsBadResetOf : Bool → List ℕ → Type 0
+IsBadResetOf true path = ¬ IsDirectory path
+IsBadResetOf false path = ¬ IsKeyText path
+
+-- only a key is set
+abbrev pub IsBadPathOf : Bool → List ℕ → Type 0
+IsBadPathOf true path = ¬ IsKeyText path
+IsBadPathOf false path = IsBadResetOf (ends_with_slash path) path
+
+-- a change has no such path; or it sets a key, and its type text spells no type
+abbrev pub IsMalformed : DconfdbChange → Fault → Type 0
+IsMalformed c BadPath = IsBadPathOf c.sets c.path.now
+IsMalformed c BadType = IsTrue c.sets × IsKeyText c.path.now × ¬ SpellsType c.type_text.now
+IsMalformed c _ = ⊥
+
+-- why a change of these layers is refused
+abbrev pub IsRefusedFor : Layers → DconfdbChange → Fault → Type 0
+IsRefusedFor l c BadPath = IsMalformed c BadPath
+IsRefusedFor l c BadType = IsMalformed c BadType
+IsRefusedFor l c fault = IsChangedInVain l (change_of c) fault
+
+-- the change of that index is refused, after those before it were accepted
+pub record IsRefusedAt (l : Layers) (changes : List DconfdbChange) (at : ℕ) (fault : Fault) : Type 0 where
+  pub before : Layers
+  pub changed : HaveChanged (take at changes) l before
+  pub change : DconfdbChange
+  pub is : slice_get changes at ≡ Some change
+  pub refused : IsRefusedFor before change fault
+
+-- the user's database would be too big after all changes
+pub record IsTooBigAfter (l : Layers) (changes : List DconfdbChange) : Type 0 where
+  pub after : Layers
+  pub changed : HaveChanged changes l after
+  pub big : IsTooBig (saved after.layers)
+
+-- the fault of changes, and the index of the one that has it; 0 if none has
+abbrev pub IsNoChange : Layers → List DconfdbChange → Fault → ℕ → Type 0
+IsNoChange l changes Memory at = at ≡ 0
+IsNoChange l changes TooBig at = IsTooBigAfter l changes × (at ≡ 0)
+IsNoChange l changes fault at = IsRefusedAt l changes at fault
+
+-- the number of the fault is told, and the index of the change that has it
+abbrev pub IsNoChangeTold : Layers → List DconfdbChange → ℕ → ℕ → Type 0
+IsNoChangeTold l changes number at = (fault : Fault) × (number_of fault ≡ number) × IsNoChange l changes fault at

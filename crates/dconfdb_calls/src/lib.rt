@@ -1,0 +1,36 @@
+//! The calls of the C library, as functions of Rust: opening a store's layers, reading values, names
+//! and locks through them, and the user's database with changes.
+//!
+//! The caller owns all memory: it lends the bytes of files, keeps each layer that was opened as a
+//! value, and lends the layers to the other calls. No call keeps anything, or checks a layer again.
+//! The crate dconfdb_c exports each of them to C.
+//!
+//! Where `user` and `site` are databases:
+//!
+//! ```
+//! let layers = [open_layer(user, true).ok()?, open_layer(site, true).ok()?];
+//! let found = read(&layers, b"/desk/size")?;
+//! let is_own = found.origin == 0 && found.type_text == b"i".as_slice();
+//! Some(is_own && is_key_writable(&layers, true, b"/desk/size"))
+//! ```
+#![tactic(auto)]
+
+mod changes;
+mod differences;
+mod fault;
+mod given;
+mod names;
+mod opened;
+mod profiles;
+mod turns;
+mod values;
+
+pub use changes::{DconfdbChange, Refused, user_file};
+pub use differences::differing_keys;
+pub use fault::Fault;
+pub use given::hand_out;
+pub use names::{directory_locks, directory_names};
+pub use opened::{BadFile, DconfdbUnsound, open_layer};
+pub use profiles::{BadProfile, DconfdbName, profile_databases};
+pub use turns::{Others, Seen, Turn, read_after};
+pub use values::{DconfdbFound, is_key_locked, is_key_writable, read, read_default, read_own};
