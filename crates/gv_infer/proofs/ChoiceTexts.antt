@@ -13,9 +13,9 @@ use Rattle.gv_model.specs.LeastTypes.{Least as TheLeast, least_in, choice_from, 
 use Rattle.gv_model.specs.LeastTypes.Least.{nowhere, least, many}
 use Rattle.gv_model.proofs.TypeTextLaws.{one_spelling}
 use Rattle.gv_model.proofs.TypeTextParts.{spelling-type_at, text_of_type}
-use Rattle.gv_infer.specs.declared.least.Found.{Found}
-use Rattle.gv_infer.specs.declared.least.Found.TheVariants.{Nowhere, Least, Many}
-use Rattle.gv_infer.specs.LeastTexts.{Written, Spelled, found_of}
+use Rattle.gv_patterns.specs.declared.least.Found.{Found}
+use Rattle.gv_patterns.specs.declared.least.Found.TheVariants.{Nowhere, Least, Many}
+use Rattle.gv_patterns.specs.LeastTexts.{Written, Spelled, found_of}
 use Rattle.gv_model.proofs.TypeWeights.{Short, short_choice}
 
 limits : (t : Ty) (w : List ℕ) → nat_le (nesting t) 128 ≡ true → length w ≤ 67108864 → is_within_limits t w ≡ true

@@ -1,7 +1,4 @@
-pub mod PatternLists
 pub mod PlainTypes
-pub mod ExactLaws
-pub mod FoundLaws
 pub mod WithinLaws
 pub mod ChoiceTexts
 pub mod ContentLaws
@@ -11,7 +8,6 @@ pub mod BuiltChildren
 pub mod ValueLaws
 pub mod BuildLaws
 pub mod MadeTrees
-pub mod Levels
 pub mod TypeShapes
 pub mod AdmitLaws
 pub mod NumberLaws

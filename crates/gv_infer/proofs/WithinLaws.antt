@@ -10,7 +10,7 @@ use Rattle.gv_model.specs.PlainTexts.{ArePlain, PairsPlain}
 use Rattle.gv_text.specs.Parsed.{IsWithin}
 use Rattle.gv_model.specs.Grammar.{syntaxes_bytes, pairs_bytes}
 use Rattle.gv_infer.specs.Within.{AreWithin, PairsWithin}
-use Rattle.gv_infer.proofs.Levels.{list_levels, tuple_levels, dictionary_levels, lone_levels, boxed_levels, just_levels, of_type_levels, keyword_levels}
+use Rattle.gv_patterns.proofs.Levels.{list_levels, tuple_levels, dictionary_levels, lone_levels, boxed_levels, just_levels, of_type_levels, keyword_levels}
 use Rattle.gv_model.proofs.TypeWeights.{list_bytes, tuple_bytes, dictionary_bytes, entry_bytes, box_bytes}
 
 each_within : (xs : Syntaxes) → greatest_levels xs ≤ 128 → syntaxes_bytes xs ≤ 16777216 → ArePlain xs → AreWithin xs

@@ -1,10 +1,3 @@
-pub mod BasicSets
-pub mod Forms
-pub mod Parts
-pub mod Codes
-pub mod Falls
-pub mod Orders
-pub mod LeastTexts
 pub mod Typings
 pub mod FaultTexts
 pub mod Building

@@ -11,18 +11,13 @@
 #![tactic(auto)]
 
 mod admits;
-mod admitted;
 mod bare;
-mod basic_set;
 mod build;
 mod children;
 mod containers;
 mod contents;
-mod exact;
 mod fault;
-mod least;
 mod literal;
-mod pattern;
 mod plain;
 mod plain_literal;
 mod printed;

@@ -1,21 +1,18 @@
 //! The type of a text: the least that its syntax admits.
-ghost use Rattle.std.specs.Prelude.{◌≡◌, ◌≤◌, IfOk, IfErr, string_bytes};
+ghost use Rattle.std.specs.Prelude.{◌≡◌, ◌≤◌, IfOk, IfErr};
 ghost use Rattle.gv_model.specs.Grammar.{text_bytes};
 ghost use Rattle.gv_model.specs.Chosen.{Choice.is};
-ghost use Rattle.gv_model.specs.LeastTypes.{choice, least_in};
-ghost use Rattle.gv_model.specs.Patterns.{pattern};
+ghost use Rattle.gv_model.specs.LeastTypes.{choice};
 ghost use Rattle.gv_model.specs.TextValues.{HasChoice};
 ghost use Rattle.gv_text.specs.TypeTexts.{type_of_owned};
-ghost use Rattle.gv_infer.specs.LeastTexts.{Written};
 ghost use Rattle.gv_infer.specs.Typings.{IsTypingFault, IsChoiceFault};
 
-use crate::admitted::pattern_of;
 use crate::contents::check_contents;
 use crate::fault::TypingFault;
-use crate::least::Found;
+use gv_patterns::{Found, write_least_type};
 use gv_text::{Syntax, SyntaxNode, TypeText};
 use gv_types::TypeStr;
-use std::alloc::{AllocError, Global};
+use std::alloc::Global;
 
 /// The type of a text, by its syntax.
 ///
@@ -55,7 +52,7 @@ pub(crate) fn type_of_node(alloc: Global, node: &SyntaxNode) -> Result<TypeText,
     ensures fault { IfErr result (IsChoiceFault (choice node.now)) }
 {
     let mut text = String::new(alloc);
-    let found = write_type(alloc, node, &mut text)?;
+    let found = write_least_type(alloc, node, &mut text)?;
     if TypeStr::parse(text.as_str()).is_err() {
         return Err(TypingFault::NoCommonType);
     }
@@ -64,11 +61,4 @@ pub(crate) fn type_of_node(alloc: Global, node: &SyntaxNode) -> Result<TypeText,
         Found::Many => Err(TypingFault::Ambiguous),
         Found::Least => Ok(TypeText::of_checked(text)),
     }
-}
-
-/// Writes the text of the least type that the syntax admits after a text, if there is one.
-fn write_type(alloc: Global, node: &SyntaxNode, text: &mut String) -> Result<Found, AllocError>
-    ensures { IfOk result (λ f. Written (least_in (pattern node.now)) (string_bytes text.old) (string_bytes text.new) f) }
-{
-    pattern_of(alloc, node)?.write_least(text)
 }

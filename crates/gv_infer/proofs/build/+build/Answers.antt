@@ -23,7 +23,7 @@ use Rattle.gv_text.specs.Parsed.{IsWithin as IsInLimits}
 use Rattle.gv_infer.specs.BareTypes.{bare_type}
 use Rattle.gv_infer.specs.Building.{IsBuilt, IsOfType, IsWithinLimits}
 use Rattle.gv_infer.specs.Within.{AreWithin, PairsWithin}
-use Rattle.gv_infer.proofs.Levels.{list_levels, tuple_levels, dictionary_levels, lone_levels, boxed_levels, just_levels, of_type_levels, keyword_levels, levels_at, pair_levels_at}
+use Rattle.gv_patterns.proofs.Levels.{list_levels, tuple_levels, dictionary_levels, lone_levels, boxed_levels, just_levels, of_type_levels, keyword_levels, levels_at, pair_levels_at}
 use Rattle.gv_infer.proofs.BuildLaws.{fits_bare, truth_value, maybe_holds, array_holds, bytes_at}
 use Rattle.gv_infer.proofs.MadeTrees.{within_type}
 use Rattle.gv_infer.proofs.BuiltChildren.{held_none, held_next, held_fault, held_all, elements_typed, entries_typed, all_of_type, are_members, just_built, entry_built, pair_fits}

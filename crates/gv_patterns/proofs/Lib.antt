@@ -1,0 +1,4 @@
+pub mod PatternLists
+pub mod ExactLaws
+pub mod FoundLaws
+pub mod Levels
