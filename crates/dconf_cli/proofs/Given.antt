@@ -6,15 +6,15 @@ use Rattle.dconf_model.specs.Folders.{Event}
 use Rattle.dconf_model.specs.FaultTexts.{device_text}
 use Rattle.dconf_model.specs.Replacing.{Replaced, MaybeReplaced}
 use Rattle.dconf_model.specs.Outcomes.{Outcome, Output, changing, done, done_output, refused_output}
-use Rattle.dconf_cli.specs.declared.counted.Counted.{Counted}
-use Rattle.dconf_cli.specs.Answers.{line_of, outcome_of}
-use Rattle.dconf_cli.specs.Counted.{Grew, Leaves, Prints, Unfailed}
+use Rattle.dconf_streams.specs.declared.counted.Counted.{Counted}
+use Rattle.dconf_streams.specs.Answers.{line_of, outcome_of}
+use Rattle.dconf_cli.specs.Outputs.{Grew, Leaves, Prints, Unfailed}
 use Rattle.dconf_cli.specs.Endings.{Ends}
-use Rattle.dconf_cli.specs.Streams.{Rose}
+use Rattle.dconf_streams.specs.Streams.{Rose}
 use Rattle.dconf_cli.proofs.StreamsLeft.{leaves_line, leaves_text}
 use Rattle.std.specs.Prelude.{codes, string_bytes}
-use Rattle.dconf_cli.specs.declared.refusal.Refusal.{Refusal}
-use Rattle.dconf_cli.specs.declared.refusal.Refusal.TheVariants.{Line, NoMemory}
+use Rattle.dconf_streams.specs.declared.refusal.Refusal.{Refusal}
+use Rattle.dconf_streams.specs.declared.refusal.Refusal.TheVariants.{Line, NoMemory}
 
 module _ {F O E : Type 0} (past : F → List Event → Type 0) (failures : F → ℕ) (contents : O → Option (List ℕ)) (err_contents : E → Option (List ℕ)) where
   -- the outcome was given: an output came about, and was left on out and err

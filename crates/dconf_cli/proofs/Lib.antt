@@ -1,16 +1,3 @@
-pub mod Puts
 pub mod StreamsLeft
-pub mod Decisions
-pub mod ManyFiles
-pub mod StoreReads
-pub mod Stores
-pub mod OpenStores
-pub mod PathArguments
 pub mod Runs
-pub mod Shows
 pub mod Given
-pub mod ChangeLaws
-pub mod InputLaws
-pub mod Walks
-pub mod DumpLaws
-pub mod LoadLaws

@@ -15,27 +15,14 @@ use Rattle.dconf_model.specs.Outcomes.{IsOutcome, Outcome, Output, Replacement, 
 use Rattle.dconf_model.specs.Runs.{Answers as AnswersAny, AnswersIn, Did, MayMake, NoMemory, Ran, RanCalmly, ReadsFrom, device_output}
 use Rattle.dconf_model.specs.Runs.{RunEnding}
 use Rattle.dconf_model.specs.Runs.RunEnding.{as_meant, device}
-use Rattle.dconf_cli.specs.declared.answer.Answer.TheVariants as answers
-use Rattle.dconf_cli.specs.declared.refusal.Refusal.TheVariants as refusals
-use Rattle.dconf_cli.specs.Answers.{Answered, RefusesFor, outcome_of}
+use Rattle.dconf_streams.specs.declared.answer.Answer.TheVariants as answers
+use Rattle.dconf_streams.specs.declared.refusal.Refusal.TheVariants as refusals
+use Rattle.dconf_streams.specs.Answers.{Answered, RefusesFor, outcome_of}
 use Rattle.dconf_cli.specs.Endings.{Ends, EndsBy}
-use Rattle.dconf_cli.specs.Readings.{AllRead, AreOf, Decides, Gave, Reading, Tells}
-use Rattle.dconf_cli.specs.Runs.{IsFormed, IsOwn, KeepsFiles, NamesFile, RanAnywhere, SaysFailedInput, Took}
-use Rattle.dconf_cli.specs.Streams.{NoneFailed}
+use Rattle.dconf_streams.specs.Readings.{AllRead, AreOf, Decides, Gave, Reading, Tells}
+use Rattle.dconf_cli.specs.Runs.{IsFormed, IsOwn, KeepsFiles, NamesFile, RanAnywhere, SaysFailedInput}
+use Rattle.dconf_streams.specs.Streams.{NoneFailed}
 use Rattle.dconf_cli.proofs.StreamsLeft.{not_rose}
-
--- ---- input that no command read
-
-pub input_of : Option (List ℕ) → Input
-input_of remaining = record { bytes = unwrap_or remaining []; fails = false }
-
-pub took : (remaining : Option (List ℕ)) (failures : ℕ) → Took remaining failures failures (input_of remaining)
-unfolding input_of
-took remaining failures = record { whole = λ _. all remaining; part = λ e. cc }
-  where
-    all : (o : Option (List ℕ)) → IfSome o (λ xs. unwrap_or o [] ≡ xs)
-    all None = tt
-    all (Some xs) = refl
 
 -- ---- reads of a folder of which some may fail
 

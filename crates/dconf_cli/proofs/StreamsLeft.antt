@@ -2,9 +2,10 @@
 use Rattle.std.proofs.Common.{◌≡◌, ◌⊎◌, inl, inr, ℕ, List, [], Option, refl, arith}
 use Rattle.std.proofs.KnownBytes.{Appends-nil}
 use Rattle.dconf_model.specs.Outcomes.{done_output}
-use Rattle.dconf_cli.specs.declared.counted.Counted.{Counted}
-use Rattle.dconf_cli.specs.Counted.{Grew, Leaves, Prints, Unfailed, failures_of, inner_of}
-use Rattle.dconf_cli.specs.Streams.{NoneFailed, Rose, one_more}
+use Rattle.dconf_streams.specs.declared.counted.Counted.{Counted}
+use Rattle.dconf_streams.specs.Counted.{failures_of, inner_of}
+use Rattle.dconf_cli.specs.Outputs.{Grew, Leaves, Prints, Unfailed}
+use Rattle.dconf_streams.specs.Streams.{NoneFailed, Rose, one_more}
 
 -- no count rises where nothing failed
 pub not_rose : (old new : ℕ) → NoneFailed old new → Rose old new → ⊥

@@ -5,7 +5,7 @@ use Rattle.dconf_model.specs.FaultTexts.{device_text}
 use Rattle.dconf_model.specs.Replacing.{Replaced, MaybeReplaced}
 use Rattle.dconf_model.specs.Outcomes.{Outcome, Output, Replacement, refused_output}
 use Rattle.dconf_model.specs.Runs.{NoMemory}
-use Rattle.dconf_cli.specs.Streams.{Rose}
+use Rattle.dconf_streams.specs.Streams.{Rose}
 
 module _ {F : Type 0} (past : F → List Event → Type 0) (failures : F → ℕ) (old new : F) where
   -- a file was replaced; or the device failed, and the file is the old one or the new one; or memory ran out, and nothing was done

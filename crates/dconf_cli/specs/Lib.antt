@@ -1,13 +1,3 @@
-pub mod Streams
-pub mod Counted
-pub mod Answers
-pub mod Readings
-pub mod StoreReads
-pub mod Stores
+pub mod Outputs
 pub mod Endings
 pub mod Runs
-pub mod Inputs
-pub mod Dumps
-pub mod Refusals
-pub mod Loads
-pub mod InputFaults

@@ -1,29 +1,17 @@
 -- What a run of a command does, by what is known of its folder and its input.
-use Rattle.std.specs.Prelude.{◌≡◌, ◌≢◌, ◌⊎◌, ℕ, Bool, true, false, List, [], Option, IfSome, codes, take}
+use Rattle.std.specs.Prelude.{◌≡◌, ◌≢◌, ◌⊎◌, ℕ, List, [], codes}
 use Rattle.dconf_model.specs.Folders.{Event, read_content}
 use Rattle.dconf_model.specs.FaultTexts.{device_text}
 use Rattle.dconf_model.specs.Replacing.{MaybeReplaced}
 use Rattle.dconf_model.specs.Commands.{Command}
-use Rattle.dconf_model.specs.Commands.Command.{load}
 use Rattle.dconf_model.specs.Reads.{Input, ReadResults}
 use Rattle.dconf_model.specs.Outcomes.{Output, refused_output}
 use Rattle.dconf_model.specs.Runs.{Answers, IsNewName, MayMake, NoMemory, ReadsFrom}
-use Rattle.dconf_cli.specs.Readings.{BreaksAt, Gave, Reading}
-use Rattle.dconf_cli.specs.Streams.{one_more}
-
--- the input that a run was given: all that the stream had, where it says that, or the first part of it where the stream failed
-pub record Took (remaining : Option (List ℕ)) (failures_old failures_new : ℕ) (i : Input) : Type 0 where
-  pub whole : i.fails ≡ false → IfSome remaining (λ xs. i.bytes ≡ xs)
-  pub part : i.fails ≡ true → IfSome remaining (λ xs. (n : ℕ) × (i.bytes ≡ take n xs)) × (failures_new ≡ one_more failures_old)
+use Rattle.dconf_streams.specs.Readings.{BreaksAt, Gave, Reading}
 
 -- the line for an input that failed, or the one for memory
 abbrev pub SaysFailedInput : Output → Type 0
 SaysFailedInput output = (output ≡ refused_output (device_text (codes "input"))) ⊎ NoMemory output
-
--- whether a command reads its input
-abbrev pub reads_input : Command → Bool
-reads_input (load force directory profile) = true
-reads_input other = false
 
 -- the file that a command is to replace, by the reads that it made
 abbrev pub IsToReplace : Command → Input → List Reading → List ℕ → Type 0

@@ -5,16 +5,18 @@ ghost use Rattle.dconf_model.specs.Outcomes.{Output};
 ghost use Rattle.dconf_model.specs.Reads.{Input};
 ghost use Rattle.dconf_model.specs.Runs.{Ran, RanCalmly};
 ghost use Rattle.dconf_command.specs.Commands.{command_of};
-ghost use Rattle.dconf_cli.specs.Counted.{Leaves, failures_of, inner_of};
-ghost use Rattle.dconf_cli.specs.Inputs.{ConsumesText};
-ghost use Rattle.dconf_cli.specs.Runs.{KeepsFiles, RanAnywhere, SaysFailedInput, Took, reads_input};
-ghost use Rattle.dconf_cli.specs.Streams.{NoneFailed};
+ghost use Rattle.dconf_streams.specs.Counted.{failures_of, inner_of};
+ghost use Rattle.dconf_streams.specs.Inputs.{ConsumesText, Took};
+ghost use Rattle.dconf_streams.specs.Streams.{NoneFailed};
+ghost use Rattle.dconf_commands.specs.Loads.{reads_input};
+ghost use Rattle.dconf_cli.specs.Outputs.{Leaves};
+ghost use Rattle.dconf_cli.specs.Runs.{KeepsFiles, RanAnywhere, SaysFailedInput};
 
-use crate::commands::answered;
-use crate::counted::Counted;
 use crate::outcome::give;
 use dconf_command::Command;
+use dconf_commands::answered;
 use dconf_disk::Folder;
+use dconf_streams::Counted;
 use std::alloc::Global;
 use std::io::{Read, Write};
 

@@ -1,14 +1,12 @@
 //! How an outcome comes about: first the file that changes, and then out or err.
 ghost use Rattle.std.specs.Prelude.{◌≡◌, Ok};
 ghost use Rattle.dconf_model.specs.Outcomes.{Output};
-ghost use Rattle.dconf_cli.specs.Answers.{line_of, outcome_of};
-ghost use Rattle.dconf_cli.specs.Counted.{Grew, Leaves, Prints, Unfailed};
+ghost use Rattle.dconf_streams.specs.Answers.{line_of, outcome_of};
+ghost use Rattle.dconf_cli.specs.Outputs.{Grew, Leaves, Prints, Unfailed};
 ghost use Rattle.dconf_cli.specs.Endings.{Ends};
 
-use crate::answer::Answer;
-use crate::counted::Counted;
-use crate::refusal::{Refusal, device_line};
 use dconf_disk::{Folder, FolderFault, replace};
+use dconf_streams::{Answer, Counted, Refusal, device_line};
 use std::alloc::Global;
 use std::io::Write;
 

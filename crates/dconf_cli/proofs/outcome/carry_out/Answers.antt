@@ -1,5 +1,5 @@
 use Rattle.std.proofs.Common.{◌++◌, ◌∷◌, ◌∙◌, [], ap, Err, Ok, refl, sym, subst, string_bytes, codes}
-use Rattle.dconf_cli.specs.Answers.{outcome_of}
+use Rattle.dconf_streams.specs.Answers.{outcome_of}
 use Rattle.dconf_cli.proofs.Given.{Gives, gives_change, gives_device, gives_no_memory_for_change, gives_text, never_too_big}
 use Rattle.dconf_cli.proofs.outcome.carry_out.Goals as goal
 

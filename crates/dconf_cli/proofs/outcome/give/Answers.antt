@@ -1,5 +1,5 @@
 use Rattle.std.proofs.Common.{subst, sym}
-use Rattle.dconf_cli.specs.Answers.{outcome_of}
+use Rattle.dconf_streams.specs.Answers.{outcome_of}
 use Rattle.dconf_cli.proofs.Given.{Gives, gives_refusal}
 use Rattle.dconf_cli.proofs.outcome.give.Goals as goal
 

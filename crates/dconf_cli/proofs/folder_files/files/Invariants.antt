@@ -1,8 +1,0 @@
-use Rattle.std.proofs.Common.{◌≡◌, ◌++◌, drop, map, string_bytes}
-use Rattle.dconf_cli.specs.Readings.{HasRead, named_sources, reads_of}
-use Rattle.dconf_cli.proofs.folder_files.files.Given as goal
-
-abbrev pub invariant-loop-name : goal.invariant-loop-name
-invariant-loop-name g l =
-    (map (λ s. s.name) (named_sources l.files.items) ++ map string_bytes (drop l.name-index l.names) ≡ map string_bytes l.names)
-    × HasRead g.F.Folder.past g.F.Folder.failed l.fn.folder l.folder (reads_of (named_sources l.files.items))

@@ -1,0 +1,105 @@
+-- What is answered of a change: what it gives is saved, or it is refused.
+use Rattle.std.proofs.Common.{◌≡◌, ◌≤◌, ◌<◌, ◌∷◌, ℕ, length, List, [], Bool, true, false, Option, Some, None, Result, Ok, Err, refl, sym, ap, subst}
+use Rattle.std.proofs.lemmas.Bool.{lt-ltb, le-ltb}
+use Rattle.std.specs.Prelude.{IfSome, nat_lt, if◌then◌else◌}
+use Rattle.gv_model.specs.Tree.{Tree}
+use Rattle.dconf_model.specs.Causes.{SettingsCause}
+use Rattle.dconf_model.specs.Causes.SettingsCause.{too_big}
+use Rattle.dconf_model.specs.Changes.{Refusal, all_storable, apply, saved, set_all, unless_locked}
+use Rattle.dconf_model.specs.Changes.Change.{reset_value, set_value}
+use Rattle.dconf_model.specs.Changes.Refusal.{locked, not_writable, too_large}
+use Rattle.dconf_model.specs.Folders.{Event}
+use Rattle.dconf_model.specs.Layers.{Layers, is_locked}
+use Rattle.dconf_model.specs.Lines.{longest_text}
+use Rattle.dconf_model.specs.Outcomes.{Gives, OrCause, Outcome, Saves, Writes, value_of_word}
+use Rattle.dconf_model.specs.Reads.{ReadResults}
+use Rattle.dconf_model.specs.Sources.{Assigned}
+use Rattle.dconf_model.specs.Values.{value_of_text}
+use Rattle.dconf_streams.specs.Answers.{Answered, GivesOutcome}
+use Rattle.dconf_commands.specs.Refusals.{IsLockedPath, NoValue, RefusedCause, RefusedFor}
+use Rattle.dconf_streams.specs.Readings.{Decides}
+use Rattle.dconf_streams.proofs.Decisions.{answers_also}
+
+-- ---- what is answered
+
+module _ (answer : Answered) (paths : List (List ℕ)) (name : List ℕ) (given : Result Layers Refusal) where
+  pub saves_change : (new : Layers) → given ≡ Ok new → GivesOutcome answer (Writes name [] (saved new.layers)) → GivesOutcome answer (Saves paths name given)
+  saves_change new is h = subst (λ (r : Result Layers Refusal). GivesOutcome answer (Saves paths name r)) (sym is) h
+
+  pub refuses_change : (r : Option Refusal) → IfSome r (λ why. given ≡ Err why) → GivesOutcome answer (RefusedFor paths r) → GivesOutcome answer (Saves paths name given)
+  refuses_change None is h = answers_also answer (RefusedFor paths None) (Saves paths name given) (λ o none. absurd none) h
+  refuses_change (Some why) is h = subst (λ (r : Result Layers Refusal). GivesOutcome answer (Saves paths name r)) (sym is) h
+
+-- ---- the path that is locked
+
+abbrev LocksFirst : List ℕ → Result Layers Refusal → Type 0
+LocksFirst path given = (r : Option Refusal) → IfSome r (λ why. given ≡ Err why) → IsLockedPath (path ∷ []) r path
+
+of_other : (path : List ℕ) (new : Layers) → LocksFirst path (Ok new)
+of_other path new None is = tt
+of_other path new (Some why) is = cc
+
+reason : Refusal → Result Layers Refusal → Refusal
+reason why (Ok new) = why
+reason why (Err r) = r
+
+of_refusal : (path : List ℕ) (why : Refusal) → IsLockedPath (path ∷ []) (Some why) path → LocksFirst path (Err why)
+unfolding reason
+of_refusal path why is None e = tt
+of_refusal path why is (Some other) e = subst (λ (r : Refusal). IsLockedPath (path ∷ []) (Some r) path) (ap (reason why) e) is
+
+storing : (path : List ℕ) (new : Layers) (fits : Bool) → LocksFirst path (if fits then Ok new else Err too_large)
+storing path new true = of_other path new
+storing path new false = of_refusal path too_large tt
+
+unlocking : (path : List ℕ) (is : Bool) (given : Result Layers Refusal) → LocksFirst path given
+    → LocksFirst path (unless_locked (if is then Some 0 else None) given)
+unlocking path true given h = of_refusal path (locked 0) refl
+unlocking path false given h = h
+
+writing : (path : List ℕ) (writable : Bool) (given : Result Layers Refusal) → LocksFirst path given → LocksFirst path (if writable then given else Err not_writable)
+writing path true given h = h
+writing path false given h = of_refusal path not_writable tt
+
+-- where a key is set or reset that is locked, it is the key's path
+pub set_locks : (l : Layers) (path : List ℕ) (v : Tree) → LocksFirst path (apply l (set_value path v))
+set_locks l path v =
+    let rows : List Assigned = record { path = path; value = v } ∷ [] in
+    writing path l.writable _ (unlocking path (is_locked l path) (set_all l rows) (storing path _ (all_storable rows)))
+
+pub reset_locks : (l : Layers) (path : List ℕ) → LocksFirst path (apply l (reset_value path))
+reset_locks l path = writing path l.writable _ (unlocking path (is_locked l path) _ (of_other path _))
+
+-- where there are no paths, none is
+pub none_is_locked : (r : Option Refusal) → IsLockedPath [] r []
+none_is_locked None = tt
+none_is_locked (Some not_writable) = tt
+none_is_locked (Some (locked n)) = refl
+none_is_locked (Some too_large) = tt
+
+-- ---- a value's text
+
+no_value_at : (r : Result Tree SettingsCause) (Go : Tree → Gives) (o : Outcome) → OrCause r NoValue o → OrCause r Go o
+no_value_at (Ok v) Go o h = absurd h
+no_value_at (Err c) Go o h = h
+
+pub no_value_is_any : (answer : Answered) (r : Result Tree SettingsCause) (Go : Tree → Gives) → GivesOutcome answer (OrCause r NoValue) → GivesOutcome answer (OrCause r Go)
+no_value_is_any answer r Go h = answers_also answer (OrCause r NoValue) (OrCause r Go) (λ o x. no_value_at r Go o x) h
+
+-- the text is no longer than may be read
+pub short_word : (text : List ℕ) → length text ≤ longest_text → value_of_word text ≡ value_of_text text
+short_word text short = let e : nat_lt longest_text (length text) ≡ false = le-ltb longest_text (length text) short in rw e refl
+
+pub long_word : (text : List ℕ) → longest_text < length text → value_of_word text ≡ Err too_big
+long_word text long = let e : nat_lt longest_text (length text) ≡ true = lt-ltb longest_text (length text) long in rw e refl
+
+pub refuses_word : (answer : Answered) (o : Option SettingsCause) (r : Result Tree SettingsCause) → IfSome o (λ c. r ≡ Err c) → GivesOutcome answer (RefusedCause o)
+    → GivesOutcome answer (OrCause r NoValue)
+refuses_word answer None r is h = answers_also answer (RefusedCause None) (OrCause r NoValue) (λ o none. absurd none) h
+refuses_word answer (Some c) r is h = subst (λ (x : Result Tree SettingsCause). GivesOutcome answer (OrCause x NoValue)) (sym is) h
+
+pub decides_with_value : {F : Type 0} (past : F → List Event → Type 0) (failures : F → ℕ) (old new : F) (answer : Answered) (r : Result Tree SettingsCause) (v : Tree)
+    (Go : ReadResults → Tree → Gives) → r ≡ Ok v → Decides past failures old new 0 (λ reads. Go reads v) answer
+    → Decides past failures old new 0 (λ reads. OrCause r (Go reads)) answer
+decides_with_value past failures old new answer r v Go is d =
+    subst (λ (x : Result Tree SettingsCause). Decides past failures old new 0 (λ reads. OrCause x (Go reads)) answer) (sym is) d

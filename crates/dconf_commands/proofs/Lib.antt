@@ -1,0 +1,11 @@
+pub mod StoreReads
+pub mod Stores
+pub mod OpenStores
+pub mod PathArguments
+pub mod UnreadInputs
+pub mod CompileLaws
+pub mod Shows
+pub mod ChangeLaws
+pub mod Walks
+pub mod DumpLaws
+pub mod LoadLaws

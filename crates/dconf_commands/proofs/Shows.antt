@@ -1,0 +1,96 @@
+-- What `show` and `check` decide.
+use Rattle.std.proofs.Common.{◌≡◌, ◌∷◌, ◌++◌, ◌∙◌, ℕ, List, [], Option, Some, None, true, false, refl, sym, ap, subst, is_some}
+use Rattle.std.specs.Prelude.{◌≢◌, unwrap_or, codes}
+use Rattle.gv_model.specs.Ty.{Ty}
+use Rattle.gv_model.specs.Ty.Ty.{tuple}
+use Rattle.gv_model.specs.Ty.Types.{end}
+use Rattle.gv_model.specs.TypeText.{is_type, type_at, type_of_text}
+use Rattle.gv_model.specs.TypeFault.{Fault, IsFault}
+use Rattle.gv_model.specs.Decode.{decode}
+use Rattle.gv_model.specs.Tree.{Tree}
+use Rattle.gv_model.specs.Printed.{printed, is_too_large, holds_double}
+use Rattle.gv_text.specs.declared.print_fault.PrintFault.{PrintFault}
+use Rattle.gv_text.specs.declared.print_fault.PrintFault.TheVariants.{TooLarge, DoubleText, Memory}
+use Rattle.gv_text.specs.PrintFaults.{print_fault_name}
+use Rattle.gv_text.specs.Printing.{IsUnprintable}
+use Rattle.gv_model.specs.FaultTexts.{type_fault_text}
+use Rattle.dconf_model.specs.Folders.{Event}
+use Rattle.dconf_model.specs.Commands.Command.{show}
+use Rattle.dconf_model.specs.Databases.{IsVerdict, Verdict}
+use Rattle.dconf_model.specs.Outcomes.{Checks, IsOutcome, Outcome, Refused, WithFile, WithType, check_output, done, refused, shown_outcome}
+use Rattle.dconf_model.specs.Reads.{Input, ReadResults}
+use Rattle.dconf_model.specs.Reads.FileRead.{holds}
+use Rattle.dconf_streams.specs.Answers.{Answered, GivesOutcome, RefusesFor}
+use Rattle.dconf_streams.specs.Readings.{Decides, HasRead, Nothing, one_read}
+use Rattle.dconf_streams.proofs.Decisions.{answers_also, decides_also, decides_at_once, decides_by_file, decides_without_file}
+
+-- ---- the type
+
+false_true : false ≡ true → ⊥
+false_true e = cc
+
+found_type : (w : List ℕ) → is_type w ≡ true → type_of_text w ≡ Some (type_at w)
+found_type w h = go (type_of_text w) h
+  where
+    go : (o : Option Ty) → is_some o ≡ true → o ≡ Some (unwrap_or o (tuple end))
+    go None e = absurd (false_true e)
+    go (Some t) e = refl
+
+-- the type of a text that was checked
+pub checked_type : (w asked : List ℕ) → w ≡ asked → is_type w ≡ true → type_of_text asked ≡ Some (type_at w)
+checked_type w asked same checked = ap type_of_text (sym same) ∙ found_type w checked
+
+pub no_type : (w : List ℕ) → (is_type w ≡ true → false ≡ true) → type_of_text w ≡ None
+no_type w none_found = go (type_of_text w) refl
+  where
+    go : (o : Option Ty) → type_of_text w ≡ o → o ≡ None
+    go None e = refl
+    go (Some t) e = absurd (false_true (none_found (ap is_some e)))
+
+-- ---- `show`
+
+module _ {F : Type 0} (past : F → List Event → Type 0) (failures : F → ℕ) (text name : List ℕ) (answer : Answered) (input : Input) where
+  abbrev Shows : F → F → Type 0
+  Shows old new = Decides past failures old new 0 (λ reads. IsOutcome (show text name) reads input) answer
+
+  pub shows_no_type : (folder : F) (f : Fault) → type_of_text text ≡ None → IsFault text f → RefusesFor answer (type_fault_text f) → Shows folder folder
+  shows_no_type folder f none is refuses =
+      decides_at_once past failures folder 0 answer (λ reads. IsOutcome (show text name) reads input)
+      (λ reads. answers_also answer (Refused (type_fault_text f)) (IsOutcome (show text name) reads input)
+      (λ o r. subst (λ u. WithType text u (λ t. WithFile reads 0 name (λ bytes p. p ≡ shown_outcome (decode t bytes))) o) (sym none)
+      (f, is, r)) refuses)
+
+  with_type : (t : Ty) → type_of_text text ≡ Some t → (reads : ReadResults) (o : Outcome) → WithFile reads 0 name (λ bytes p. p ≡ shown_outcome (decode t bytes)) o
+      → IsOutcome (show text name) reads input o
+  with_type t typed reads o h = subst (λ u. WithType text u (λ v. WithFile reads 0 name (λ bytes p. p ≡ shown_outcome (decode v bytes))) o) (sym typed) h
+
+  pub shows_file : (old new : F) (t : Ty) (bytes : List ℕ) → type_of_text text ≡ Some t → HasRead past failures old new (one_read name (holds bytes))
+      → GivesOutcome answer (λ o. o ≡ shown_outcome (decode t bytes)) → Shows old new
+  shows_file old new t bytes typed h is =
+      decides_also past failures old new 0 answer (λ reads. WithFile reads 0 name (λ bytes p. p ≡ shown_outcome (decode t bytes))) (λ reads. IsOutcome (show text name) reads input)
+      (with_type t typed) (decides_by_file past failures old new 0 name bytes answer (λ bytes p. p ≡ shown_outcome (decode t bytes)) h is)
+
+  pub shows_no_file : (old new : F) (t : Ty) → type_of_text text ≡ Some t → Decides past failures old new 0 (λ reads. WithFile reads 0 name Nothing) answer
+      → Shows old new
+  shows_no_file old new t typed d =
+      decides_also past failures old new 0 answer (λ reads. WithFile reads 0 name (λ bytes p. p ≡ shown_outcome (decode t bytes))) (λ reads. IsOutcome (show text name) reads input)
+      (with_type t typed) (decides_without_file past failures old new 0 name answer (λ bytes p. p ≡ shown_outcome (decode t bytes)) d)
+
+-- ---- `check`
+
+pub checks_as : (bytes : List ℕ) (answer : Answered) (v : Verdict) → IsVerdict bytes v → GivesOutcome answer (λ o. o ≡ check_output v) → GivesOutcome answer (Checks bytes)
+checks_as bytes answer v is h = answers_also answer (λ o. o ≡ check_output v) (Checks bytes) (λ o e. (v, is, e)) h
+
+-- ---- the value that `show` prints
+
+pub shows_text : (v : Tree) (text : List ℕ) → text ≡ printed v true ++ 10 ∷ [] → (is_too_large v ≡ false) × (holds_double v ≡ false) → done text ≡ shown_outcome v
+shows_text v text e fits = rw (e, fits.0, fits.1) refl
+
+refuses_as : (why : List ℕ) (v : Tree) (answer : Answered) → refused why ≡ shown_outcome v → RefusesFor answer why → GivesOutcome answer (λ o. o ≡ shown_outcome v)
+refuses_as why v answer same h = answers_also answer (Refused why) (λ o. o ≡ shown_outcome v) (λ o r. r ∙ same) h
+
+pub shows_fault : (v : Tree) (f : PrintFault) (answer : Answered) → IsUnprintable v f → f ≢ Memory → RefusesFor answer (print_fault_name f)
+    → GivesOutcome answer (λ o. o ≡ shown_outcome v)
+shows_fault v TooLarge answer is other h = refuses_as (codes "TooLarge") v answer (rw is refl) h
+shows_fault v DoubleText answer is other h = refuses_as (codes "DoubleText") v answer (rw (is.0, is.1) refl) h
+shows_fault v Memory answer is other h = absurd (other refl)

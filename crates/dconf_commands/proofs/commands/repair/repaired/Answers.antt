@@ -1,0 +1,10 @@
+use Rattle.std.proofs.Common.{inr}
+use Rattle.dconf_model.specs.Outcomes.{Repairs, Writes, kept_text}
+use Rattle.dconf_streams.proofs.Decisions.{answers_also}
+use Rattle.dconf_commands.proofs.commands.repair.repaired.Goals as goal
+
+pub returns-in-Ok : goal.returns-in-Ok
+returns-in-Ok c =
+    let s = c.in-Ok.map in
+    answers_also c.rewritten.result (Writes c.args.out.now (kept_text s) s) (Repairs c.args.out.now c.args.bytes.now)
+    (λ o w. inr (c.in-Ok.ensures.opens, (s, c.in-Ok.ensures.salvaged, w))) c.rewritten.ensures

@@ -1,0 +1,5 @@
+pub mod StoreReads
+pub mod Stores
+pub mod Dumps
+pub mod Refusals
+pub mod Loads

@@ -1,0 +1,154 @@
+//! `load [-f] DIR`: the user's values of the rows of a keyfile from input, below a directory. All rows are read before any is set.
+ghost use Rattle.std.specs.Prelude.{◌≡◌, ◌≢◌, ℕ, List, Ok, Err, IfErr, OnOk, codes};
+ghost use Rattle.dconf_model.specs.Changes.{Change.load_values, apply, paths_of};
+ghost use Rattle.dconf_model.specs.Commands.Command.{load as load_of};
+ghost use Rattle.dconf_model.specs.FaultTexts.{device_text};
+ghost use Rattle.dconf_model.specs.Outcomes.{Changes, IsOutcome, OrLine, Saves, WithRows};
+ghost use Rattle.dconf_model.specs.Reads.{Input};
+ghost use Rattle.dconf_model.specs.Sources.{loaded};
+ghost use Rattle.dconf_path.specs.Paths.{directory_text};
+ghost use Rattle.dconf_compile.specs.Loading.{rows_loaded};
+ghost use Rattle.dconf_compile.specs.LineStops.{line_fault_of};
+ghost use Rattle.dconf_engine.specs.ChangeFaults.{refusal_of};
+ghost use Rattle.dconf_engine.specs.Rows.{rows_of};
+ghost use Rattle.dconf_streams.specs.Answers.{GivesOutcome, RefusesFor};
+ghost use Rattle.dconf_streams.specs.Counted.{failures_of, inner_of};
+ghost use Rattle.dconf_streams.specs.Inputs.{ConsumesText, Took};
+ghost use Rattle.dconf_streams.specs.Readings.{Decides};
+ghost use Rattle.dconf_commands.specs.Refusals.{IsLockedPath};
+ghost use Rattle.dconf_commands.specs.Loads.{RefusedLine};
+
+use crate::argument::directory_path;
+use crate::store_files::StoreFiles;
+use crate::user_database::{change_refused, saved};
+use dconf_compile::{CompileCause, LineStop, RowsBelow};
+use dconf_disk::Folder;
+use dconf_engine::{ChangeFault, Engine};
+use dconf_path::{DirPath, KeyPath};
+use dconf_streams::{
+    Answer, Counted, InputFault, Refusal, named_file, read_input, refused, refused_at,
+};
+use gv_tree::Tree;
+use std::alloc::Global;
+use std::io::Read;
+
+/// What `load` answers. The directory is looked at before the input is read, and the input before any file.
+pub(crate) fn load<F: Folder, I: Read>(
+    alloc: Global,
+    force: bool,
+    directory: &str,
+    profile: &str,
+    folder: &mut F,
+    input: &mut Counted<I>,
+) -> Result<Answer, Refusal>
+    ensures answer { (i : Input) × Took (I.remaining (inner_of input.old)) (failures_of input.old) (failures_of input.new) i
+        × Decides F.past F.failed folder.old folder.new 0 (λ reads. IsOutcome (load_of force directory.now profile.now) reads i) result }
+    ensures device { failures_of input.new ≢ failures_of input.old → RefusesFor result (device_text (codes "input")) }
+    ensures limit { ConsumesText (I.remaining (inner_of input.old)) (I.remaining (inner_of input.new)) }
+{
+    let directory = directory_path(alloc, directory)?;
+    load_below(alloc, force, directory, profile, folder, input)
+}
+
+/// What `load` answers of a directory, by the input.
+fn load_below<F: Folder, I: Read>(
+    alloc: Global,
+    force: bool,
+    directory: DirPath<'_>,
+    profile: &str,
+    folder: &mut F,
+    input: &mut Counted<I>,
+) -> Result<Answer, Refusal>
+    ensures answer { (i : Input) × Took (I.remaining (inner_of input.old)) (failures_of input.old) (failures_of input.new) i
+        × Decides F.past F.failed folder.old folder.new 0 (λ reads. WithRows (directory_text directory.entry) i
+        (λ rows. Changes reads profile.now (paths_of rows) (load_values rows force))) result }
+    ensures device { failures_of input.new ≢ failures_of input.old → RefusesFor result (device_text (codes "input")) }
+    ensures limit { ConsumesText (I.remaining (inner_of input.old)) (I.remaining (inner_of input.new)) }
+{
+    match read_input(alloc, input) {
+        Ok(bytes) => load_bytes(alloc, force, directory, &bytes, profile, folder),
+        Err(InputFault::Device) => Err(refused(alloc, InputFault::Device)),
+        Err(InputFault::Memory) => Err(Refusal::NoMemory),
+    }
+}
+
+/// What `load` answers of these bytes of input.
+fn load_bytes<F: Folder>(
+    alloc: Global,
+    force: bool,
+    directory: DirPath<'_>,
+    bytes: &[u8],
+    profile: &str,
+    folder: &mut F,
+) -> Result<Answer, Refusal>
+    ensures { Decides F.past F.failed folder.old folder.new 0 (λ reads. OrLine (codes "input") (loaded (directory_text directory.entry) bytes.entry.now)
+        (λ rows. Changes reads profile.now (paths_of rows) (load_values rows force))) result }
+{
+    match RowsBelow::read(alloc, directory, bytes) {
+        Ok(below) => load_rows(alloc, force, below, profile, folder),
+        Err(stop) => Err(line_refused(alloc, stop)),
+    }
+}
+
+/// What `load` answers of these rows. They are let go before the file is made, which takes as much memory.
+fn load_rows<F: Folder>(
+    alloc: Global,
+    force: bool,
+    below: RowsBelow<'_>,
+    profile: &str,
+    folder: &mut F,
+) -> Result<Answer, Refusal>
+    ensures { Decides F.past F.failed folder.old folder.new 0 (λ reads. OrLine (codes "input") (rows_loaded below.entry)
+        (λ rows. Changes reads profile.now (paths_of rows) (load_values rows force))) result }
+{
+    let rows = match below.values(alloc) {
+        Ok(rows) => rows,
+        Err(stop) => return Err(line_refused(alloc, stop)),
+    };
+    let profile = named_file(alloc, folder, profile)?;
+    let files = StoreFiles::read(alloc, folder, &profile)?;
+    let mut engine = files.open(alloc)?;
+    set_rows(alloc, &mut engine, rows, force)?;
+    drop(below);
+    saved(alloc, &files.profile, engine)
+}
+
+/// Sets these rows, or says why they are refused.
+fn set_rows(
+    alloc: Global,
+    engine: &mut Engine<'_>,
+    rows: Vec<(KeyPath<'_>, Tree)>,
+    force: bool,
+) -> Result<(), Refusal>
+    ensures ok { OnOk result (apply engine.old (load_values (rows_of rows.entry.items) force) ≡ Ok engine.new) }
+    ensures err { IfErr result (λ refusal. (file : List ℕ) → GivesOutcome (Err refusal)
+        (Saves (paths_of (rows_of rows.entry.items)) file (apply engine.old (load_values (rows_of rows.entry.items) force)))) }
+{
+    match engine.load(&rows, force) {
+        Ok(()) => Ok(()),
+        Err(fault) => Err(change_refused(alloc, fault, locked_path(&rows, fault))),
+    }
+}
+
+/// The refusal of a line of the input.
+fn line_refused(alloc: Global, stop: LineStop) -> Refusal
+    ensures { GivesOutcome (Err result) (RefusedLine (line_fault_of stop)) }
+{
+    match stop.cause {
+        CompileCause::Memory => Refusal::NoMemory,
+        _ => refused_at(alloc, "input", stop.line, stop.cause),
+    }
+}
+
+/// The path of the row that is locked, or no text where the fault is another.
+fn locked_path<'a>(rows: &[(KeyPath<'a>, Tree)], fault: ChangeFault) -> &'a str
+    ensures { IsLockedPath (paths_of (rows_of rows.now)) (refusal_of fault) result.now }
+{
+    match fault {
+        ChangeFault::Locked(row) => match rows.get(row) {
+            Some(row) => row.0.as_str(),
+            None => "",
+        },
+        _ => "",
+    }
+}

@@ -1,0 +1,66 @@
+//! `origin KEY`: the database whose value is seen at a key.
+ghost use Rattle.std.specs.Prelude.{◌≡◌};
+ghost use Rattle.dconf_model.specs.Commands.Command.{origin as origin_of_key};
+ghost use Rattle.dconf_model.specs.Outcomes.{IsOutcome, done, origin_text, place_text};
+ghost use Rattle.dconf_model.specs.Profiles.{kind_text};
+ghost use Rattle.dconf_model.specs.Reads.{Input};
+ghost use Rattle.dconf_path.specs.Profiles.{databases_of, kind_of};
+ghost use Rattle.dconf_streams.specs.Answers.{GivesOutcome};
+ghost use Rattle.dconf_streams.specs.Readings.{Decides};
+
+use crate::argument::key_path;
+use crate::store_files::StoreFiles;
+use dconf_disk::Folder;
+use dconf_path::{DatabaseKind, Profile};
+use dconf_streams::{Answer, Refusal, named_file};
+use std::alloc::Global;
+
+/// What `origin` answers.
+pub(crate) fn origin<F: Folder>(
+    alloc: Global,
+    key: &str,
+    profile: &str,
+    folder: &mut F,
+) -> Result<Answer, Refusal>
+    ensures { (input : Input) → Decides F.past F.failed folder.old folder.new 0
+        (λ reads. IsOutcome (origin_of_key key.now profile.now) reads input) result }
+{
+    let key = key_path(alloc, key)?;
+    let profile = named_file(alloc, folder, profile)?;
+    let files = StoreFiles::read(alloc, folder, &profile)?;
+    let engine = files.open(alloc)?;
+    named(alloc, &files.profile, engine.origin(key))
+}
+
+/// What `origin` answers of the index of a database, if there is one.
+fn named(alloc: Global, profile: &Profile<'_>, place: Option<usize>) -> Result<Answer, Refusal>
+    ensures { GivesOutcome result (λ o. o ≡ done (origin_text (databases_of profile.now) place)) }
+{
+    match place {
+        Some(i) => placed(alloc, profile, i),
+        None => Ok(Answer::Done(String::new(alloc))),
+    }
+}
+
+/// The index of a database, and its line of the profile.
+fn placed(alloc: Global, profile: &Profile<'_>, i: usize) -> Result<Answer, Refusal>
+    ensures { GivesOutcome result (λ o. o ≡ done (place_text (databases_of profile.now) i)) }
+{
+    let (kind, name) = match profile.databases().get(i) {
+        Some(database) => (kind_word(database.kind), database.name),
+        None => ("", ""),
+    };
+    let line = format!(in alloc; "{i} {kind}{name}\n")?;
+    Ok(Answer::Done(line))
+}
+
+/// How a line of the profile begins.
+fn kind_word(kind: DatabaseKind) -> &'static str
+    ensures { result.now ≡ kind_text (kind_of kind) }
+{
+    match kind {
+        DatabaseKind::User => "user-db:",
+        DatabaseKind::System => "system-db:",
+        DatabaseKind::File => "file-db:",
+    }
+}

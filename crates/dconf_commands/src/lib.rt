@@ -1,0 +1,18 @@
+//! The commands of `dconfdb`: what each of them answers for what it reads. It writes nothing: dconf_cli brings the answer
+//! about. What the words of a command line ask for is dconf_command's.
+//!
+//! A command looks at its words first, then at the input, then at the files in the order of its profile or of its words,
+//! and at the bytes of all of them last.
+//!
+//! What a call costs: `answered` takes memory for the bytes of the files that it reads, once, for the text of the answer, and
+//! for what the command makes of them.
+#![tactic(auto)]
+
+mod argument;
+mod commands;
+mod printed_value;
+mod store_files;
+mod user_database;
+mod walk;
+
+pub use commands::answered;

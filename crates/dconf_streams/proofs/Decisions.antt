@@ -1,0 +1,152 @@
+-- What a command decides, put together from its reads and from what it makes of their bytes.
+use Rattle.std.proofs.Common.{◌≡◌, ◌≤◌, inl, inr, ℕ, List, [], length, true, false, Option, Some, None, Err, refl, sym, arith}
+use Rattle.std.specs.Prelude.{◌≢◌, IfSome, codes, nat_lt, option_map, vec_items}
+use Rattle.std.specs.declared.vec.Vec.{Vec}
+use Rattle.dconf_model.specs.Bytes.{longest_file}
+use Rattle.dconf_model.specs.Folders.{Event, read_content}
+use Rattle.dconf_model.specs.FaultTexts.{device_text, no_file_text}
+use Rattle.dconf_model.specs.Outcomes.{OrNoDatabase, OrNoRead, Outcome, Refused, WithFile}
+use Rattle.dconf_model.specs.Reads.{FileRead, IsOverSize, ReadResults, read_of}
+use Rattle.dconf_model.specs.Reads.FileRead.{no_file, holds, over_size, failed}
+use Rattle.dconf_streams.specs.declared.refusal.Refusal.TheVariants.{NoMemory}
+use Rattle.dconf_streams.specs.Answers.{Answered, GivesOutcome, RefusesFor, outcome_of}
+use Rattle.dconf_streams.specs.Readings.{Decides, HasRead, Nothing, NothingIfAny, found_read, one_read}
+use Rattle.dconf_streams.specs.Streams.{Rose}
+
+-- ---- answers
+
+also_some : (o : Option Outcome) (Makes Also : Outcome → Type 0) → ((x : Outcome) → Makes x → Also x) → IfSome o Makes → IfSome o Also
+also_some None Makes Also also h = tt
+also_some (Some x) Makes Also also h = also x h
+
+pub answers_also : (answer : Answered) (Makes Also : Outcome → Type 0) → ((o : Outcome) → Makes o → Also o) → GivesOutcome answer Makes → GivesOutcome answer Also
+answers_also answer Makes Also also h = also_some (outcome_of answer) Makes Also also h
+
+-- ---- what a read gave
+
+pub not_failed : (bytes : List ℕ) → holds bytes ≢ failed
+not_failed bytes e = cc
+
+pub nothing_is_any : (name : List ℕ) (gave : FileRead) (Go : List ℕ → Outcome → Type 0) (o : Outcome) → OrNoRead name gave Nothing o → OrNoRead name gave Go o
+nothing_is_any name (holds bytes) Go o h = absurd h
+nothing_is_any name no_file Go o h = h
+nothing_is_any name over_size Go o h = h
+nothing_is_any name failed Go o h = h
+
+-- ---- a command's decision
+
+module _ {F : Type 0} (past : F → List Event → Type 0) (failures : F → ℕ) where
+  -- the same, said of more outcomes
+  pub decides_also : (old new : F) (n : ℕ) (answer : Answered) (Makes Also : ReadResults → Outcome → Type 0) → ((reads : ReadResults) (o : Outcome) → Makes reads o → Also reads o)
+      → Decides past failures old new n Makes answer → Decides past failures old new n Also answer
+  decides_also old new n answer Makes Also also d = record {
+    log = d.log;
+    known = d.known;
+    tells = d.tells;
+    answers = λ reads gave. answers_also answer (Makes reads) (Also reads) (also reads) (d.answers reads gave);
+  }
+
+  -- before anything is read
+  pub decides_at_once : (folder : F) (n : ℕ) (answer : Answered) (Makes : ReadResults → Outcome → Type 0) → ((reads : ReadResults) → GivesOutcome answer (Makes reads))
+      → Decides past failures folder folder n Makes answer
+  decides_at_once folder n answer Makes each = record {
+    log = [];
+    known = λ es is. (is, tt);
+    tells = inl (tt, refl);
+    answers = λ reads _. each reads;
+  }
+
+  -- by the bytes of one file
+  pub decides_by_file : (old new : F) (n : ℕ) (name bytes : List ℕ) (answer : Answered) (Go : List ℕ → Outcome → Type 0)
+      → HasRead past failures old new (one_read name (holds bytes)) → GivesOutcome answer (Go bytes)
+      → Decides past failures old new n (λ reads. WithFile reads n name Go) answer
+  decides_by_file old new n name bytes answer Go has_read h = record {
+    log = one_read name (holds bytes);
+    known = has_read.known;
+    tells = inl ((not_failed bytes, tt), has_read.none_failed);
+    answers = λ reads gave. answers_also answer (Go bytes) (WithFile reads n name Go) (λ o g. rw gave.0 g) h;
+  }
+
+  -- without the bytes of the file
+  pub decides_without_file : (old new : F) (n : ℕ) (name : List ℕ) (answer : Answered) (Go : List ℕ → Outcome → Type 0)
+      → Decides past failures old new n (λ reads. WithFile reads n name Nothing) answer
+      → Decides past failures old new n (λ reads. WithFile reads n name Go) answer
+  decides_without_file old new n name answer Go d =
+      decides_also old new n answer (λ reads. WithFile reads n name Nothing) (λ reads. WithFile reads n name Go) (λ reads o h. nothing_is_any name (reads n name) Go o h) d
+
+-- ---- one read
+
+-- a file that was read is not too long
+pub read_whole : (held found : Option (List ℕ)) → found ≡ held → IfSome found (λ bytes. length bytes ≤ longest_file) → found_read found ≡ read_of held
+read_whole held None e short = rw (sym e) refl
+read_whole held (Some bytes) e short = let small : nat_lt longest_file (length bytes) ≡ false = grind arith in rw (sym e, small) refl
+
+pub read_over : (held : Option (List ℕ)) → IsOverSize held → over_size ≡ read_of held
+read_over None much = absurd much
+read_over (Some bytes) much = let large : nat_lt longest_file (length bytes) ≡ true = grind arith in rw large refl
+
+pub found_not_failed : (found : Option (List ℕ)) → found_read found ≢ failed
+found_not_failed None e = cc
+found_not_failed (Some bytes) e = cc
+
+module _ {F : Type 0} (past : F → List Event → Type 0) (failures : F → ℕ) (old new : F) (name : List ℕ) (keeps : (es : List Event) → past old es → past new es) where
+  pub has_read : (found : Option (List ℕ)) → ((es : List Event) → past old es → found ≡ read_content es name) → IfSome found (λ bytes. length bytes ≤ longest_file)
+      → failures new ≡ failures old → HasRead past failures old new (one_read name (found_read found))
+  has_read found is short same = record {
+    known = λ es p. (keeps es p, (inl (read_whole (read_content es name) found (is es p) short), tt));
+    none_failed = same;
+  }
+
+  pub decides_broken : (n : ℕ) (answer : Answered) → Rose (failures old) (failures new) → RefusesFor answer (device_text name)
+      → Decides past failures old new n (λ reads. OrNoDatabase name (reads n name) NothingIfAny) answer
+  decides_broken n answer rose refuses = record {
+    log = one_read name failed;
+    known = λ es p. (keeps es p, (inr refl, tt));
+    tells = inr (name, (refl, refl), rose, refuses);
+    answers = λ reads gave. answers_also answer (Refused (device_text name)) (OrNoDatabase name (reads n name) NothingIfAny) (λ o r. rw gave.0 r) refuses;
+  }
+
+  pub decides_over_size : (n : ℕ) (answer : Answered) → ((es : List Event) → past old es → IsOverSize (read_content es name)) → failures new ≡ failures old
+      → RefusesFor answer (codes "TooBig") → Decides past failures old new n (λ reads. OrNoDatabase name (reads n name) NothingIfAny) answer
+  decides_over_size n answer much same refuses = record {
+    log = one_read name over_size;
+    known = λ es p. (keeps es p, (inl (read_over (read_content es name) (much es p)), tt));
+    tells = inl (((λ e. cc), tt), same);
+    answers = λ reads gave. answers_also answer (Refused (codes "TooBig")) (OrNoDatabase name (reads n name) NothingIfAny) (λ o r. rw gave.0 r) refuses;
+  }
+
+  pub decides_no_memory : (n : ℕ) → failures new ≡ failures old → (Makes : ReadResults → Outcome → Type 0) → Decides past failures old new n Makes (Err NoMemory)
+  decides_no_memory n same Makes = record {
+    log = [];
+    known = λ es p. (keeps es p, tt);
+    tells = inl (tt, same);
+    answers = λ reads gave. tt;
+  }
+
+module _ {F : Type 0} (past : F → List Event → Type 0) (failures : F → ℕ) (old new : F) (name : List ℕ) where
+  -- a file that may not be missing
+  pub decides_no_file : (n : ℕ) (answer : Answered) → HasRead past failures old new (one_read name no_file) → RefusesFor answer (no_file_text name)
+      → Decides past failures old new n (λ reads. WithFile reads n name Nothing) answer
+  decides_no_file n answer h refuses = record {
+    log = one_read name no_file;
+    known = h.known;
+    tells = inl (((λ e. cc), tt), h.none_failed);
+    answers = λ reads gave. answers_also answer (Refused (no_file_text name)) (WithFile reads n name Nothing) (λ o r. rw gave.0 r) refuses;
+  }
+
+  none_needed : (gave : FileRead) (o : Outcome) → OrNoDatabase name gave NothingIfAny o → OrNoRead name gave Nothing o
+  none_needed (holds bytes) o h = h
+  none_needed no_file o h = absurd h
+  none_needed over_size o h = h
+  none_needed failed o h = h
+
+  pub decides_without : (n : ℕ) (answer : Answered) → Decides past failures old new n (λ reads. OrNoDatabase name (reads n name) NothingIfAny) answer
+      → Decides past failures old new n (λ reads. WithFile reads n name Nothing) answer
+  decides_without n answer d =
+      decides_also past failures old new n answer (λ reads. OrNoDatabase name (reads n name) NothingIfAny) (λ reads. WithFile reads n name Nothing)
+      (λ reads o h. none_needed (reads n name) o h) d
+
+pub short_items : {Z : Type 0} (found : Option (Vec ℕ Z)) → IfSome found (λ v. length (vec_items v) ≤ longest_file)
+    → IfSome (option_map vec_items found) (λ bytes. length bytes ≤ longest_file)
+short_items None short = tt
+short_items (Some v) short = short

@@ -1,0 +1,4 @@
+pub mod Puts
+pub mod Decisions
+pub mod ManyFiles
+pub mod InputLaws

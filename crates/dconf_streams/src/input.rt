@@ -1,0 +1,110 @@
+//! Reading the input of a command: up to its end or its first failure, and no further than shows that it is too long for a
+//! text of settings.
+ghost use Rattle.std.specs.Prelude.{◌≡◌, ◌+◌, ◌≤◌, ℕ, List, IfOk, IsErrOf, OnOk, OnErr, length, vec_items};
+ghost use Rattle.std.specs.Io.KnownBytes.{Consumes};
+ghost use Rattle.dconf_model.specs.Lines.{longest_text};
+ghost use Rattle.dconf_model.specs.Reads.{Input};
+ghost use Rattle.dconf_streams.specs.Counted.{failures_of, inner_of};
+ghost use Rattle.dconf_streams.specs.Inputs.{ConsumesText, IsReadOf, TakesPiece, Took};
+ghost use Rattle.dconf_streams.specs.Streams.{one_more};
+
+use crate::counted::Counted;
+use std::alloc::{AllocError, Global};
+use std::error::Error;
+use std::io::Read;
+use std::{fmt, io};
+
+/// Why the input was not read. It is printed as the reason that err is given: `Device input`, or `Memory`.
+#[derive(Clone, Copy, Debug, PartialEq, Eq)]
+pub enum InputFault {
+    /// A read failed. The stream has counted it.
+    Device,
+    /// Out of memory.
+    Memory,
+}
+
+impl fmt::Display for InputFault {
+    ghost use Rattle.std.specs.Prelude.{Some};
+    ghost use Rattle.dconf_streams.specs.InputFaults.{input_fault_text};
+
+    ghost output = { λ fault. Some (input_fault_text fault) };
+
+    fn fmt<W: fmt::Write>(&self, f: &mut fmt::Formatter<W>) -> fmt::Result {
+        match self {
+            InputFault::Device => f.write_str("Device input"),
+            InputFault::Memory => f.write_str("Memory"),
+        }
+    }
+}
+
+impl Error for InputFault {}
+
+impl From<io::Error> for InputFault {
+    ghost use Rattle.dconf_streams.specs.declared.input.InputFault.TheVariants.{Device};
+
+    ghost from_gives = { λ _ fault. fault ≡ Device };
+
+    fn from(_error: io::Error) -> Self {
+        InputFault::Device
+    }
+}
+
+impl From<AllocError> for InputFault {
+    ghost use Rattle.dconf_streams.specs.declared.input.InputFault.TheVariants.{Memory};
+
+    ghost from_gives = { λ _ fault. fault ≡ Memory };
+
+    fn from(_error: AllocError) -> Self {
+        InputFault::Memory
+    }
+}
+
+/// The most bytes that are read: one more than a text of settings may have.
+const MOST: usize = 16_777_217;
+
+/// The most bytes that one read is asked for.
+const PIECE: usize = 4096;
+
+/// All bytes of the input; or its first 16,777,217, which are one too many for a text of settings, whatever comes after them.
+///
+/// A read that fails is `Device`, whatever its error, and nothing is read after it. A read that a signal interrupted is such a
+/// failure too. A growth that is refused is `Memory`. What was read before an error is gone.
+///
+/// It holds the bytes once, and takes at most a read for each byte and one for the end.
+pub fn read_input<I: Read>(alloc: Global, input: &mut Counted<I>) -> Result<Vec<u8>, InputFault>
+    ensures took { (i : Input) × Took (I.remaining (inner_of input.old)) (failures_of input.old) (failures_of input.new) i
+        × IsReadOf i vec_items result }
+    ensures bytes { IfOk result (λ bytes. Consumes (I.remaining (inner_of input.old)) (I.remaining (inner_of input.new)) (vec_items bytes)) }
+    ensures limit { IfOk result (λ bytes. length (vec_items bytes) ≤ longest_text + 1) }
+    ensures consumed { OnErr result (ConsumesText (I.remaining (inner_of input.old)) (I.remaining (inner_of input.new))) }
+    ensures ok { OnOk result (failures_of input.new ≡ failures_of input.old) }
+    ensures device { IsErrOf result InputFault.Device → failures_of input.new ≡ one_more (failures_of input.old) }
+    ensures memory { IsErrOf result InputFault.Memory → failures_of input.new ≡ failures_of input.old }
+{
+    let mut bytes = Vec::new(alloc);
+    let mut piece = [0; PIECE];
+    while bytes.len() < MOST {
+        let room = PIECE.min(MOST - bytes.len());
+        if append_piece(input, &mut piece[..room], &mut bytes)? == 0 {
+            break;
+        }
+    }
+    Ok(bytes)
+}
+
+/// Reads once, by the buffer, and appends what came. Nothing is the end, where there is room.
+fn append_piece<I: Read>(
+    input: &mut Counted<I>,
+    piece: &mut [u8],
+    bytes: &mut Vec<u8>,
+) -> Result<usize, InputFault>
+    ensures took { TakesPiece (I.remaining (inner_of input.old)) (I.remaining (inner_of input.new)) (length piece.old)
+        (vec_items bytes.old) (vec_items bytes.new) result }
+    ensures ok { OnOk result (failures_of input.new ≡ failures_of input.old) }
+    ensures device { IsErrOf result InputFault.Device → failures_of input.new ≡ one_more (failures_of input.old) }
+    ensures memory { IsErrOf result InputFault.Memory → failures_of input.new ≡ failures_of input.old }
+{
+    let n = input.read_once(piece)?;
+    bytes.extend_from_slice(&piece[..n])?;
+    Ok(n)
+}
