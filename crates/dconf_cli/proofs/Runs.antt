@@ -1,6 +1,6 @@
 -- What a run did, by what its command decided and by how the answer came about.
 use Rattle.std.proofs.Common.{◌≡◌, ◌+◌, ◌∷◌, ◌⊎◌, ◌∙◌, inl, inr, ℕ, Bool, true, false, zero, suc, List, [], Option, Some, None, Ok, Err, refl, sym, ap, subst, arith}
-use Rattle.std.specs.Prelude.{◌≢◌, IfSome, codes, unwrap_or}
+use Rattle.std.specs.Prelude.{◌≢◌, IfSome, codes}
 use Rattle.std.specs.Str.{bytes_eq}
 use Rattle.std.proofs.Math.Dec.{eqb}
 use Rattle.std.proofs.lemmas.Bool.Decides.{eqb_tells}

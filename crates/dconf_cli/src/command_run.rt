@@ -1,5 +1,5 @@
 //! A run of a command: it reads, decides what it answers, and then writes.
-ghost use Rattle.std.specs.Prelude.{◌≡◌, ◌≢◌, ◌≤◌, ℕ, List, false};
+ghost use Rattle.std.specs.Prelude.{◌≡◌, ◌≢◌, ◌≤◌, List, false};
 ghost use Rattle.dconf_model.specs.Folders.{Event};
 ghost use Rattle.dconf_model.specs.Outcomes.{Output};
 ghost use Rattle.dconf_model.specs.Reads.{Input};
