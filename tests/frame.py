@@ -37,10 +37,10 @@ def wants(**tools):
 
 @functools.cache
 def program():
-    """The program that the variable DCONFDB names, else ./dconfdb, which is built where it isn't."""
+    """The program that the variable DCONFDB names, else this repository's, which is built where it isn't."""
     if 'DCONFDB' in os.environ:
         return Path(os.environ['DCONFDB']).resolve()
-    if subprocess.run([TOP / 'dconfdb', '--version'], stdout=subprocess.DEVNULL, check=False).returncode:
+    if subprocess.run([TOP / 'build'], check=False).returncode:
         raise Stop('dconfdb could not be built')
     return TOP / 'crates' / 'dconfdb' / 'out' / 'dconfdb'
 

@@ -2,7 +2,7 @@
 #   $script, $top  its name, and the top of the repository
 #   $work          a folder of its own, which is removed at the end
 #   needs TOOL PACKAGE     ends with 77 where there is no such tool, and says in which of Debian's packages it is
-#   finds_program          has the program in $DCONFDB: the one that the variable names, else ./dconfdb, which is built where it isn't
+#   finds_program          has the program in $DCONFDB: the one that the variable names, else this repository's, which is built where it isn't
 #   fail WORDS..           says what is not as it should be, and goes on
 #   verdict WORDS..        the last line; it ends with 0, or with 1 where something failed
 set -u
@@ -23,7 +23,7 @@ needs() {
 }
 finds_program() {
     if [ -z "${DCONFDB-}" ]; then
-        "$top/dconfdb" --version > /dev/null || exit 1
+        "$top/build" || exit 1
         DCONFDB=$top/crates/dconfdb/out/dconfdb
     fi
     DCONFDB=$(realpath "$DCONFDB")
