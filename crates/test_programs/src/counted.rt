@@ -1,6 +1,5 @@
 //! Streams that count their failures.
-use crate::streams::{Sink, Writes};
-use dconf_cli::Counted;
+use crate::streams::{Sink, Source, Streams, Writes};
 use std::alloc::Global;
 use std::io::ErrorKind;
 use std::test::Fail;
@@ -38,13 +37,17 @@ fn counts_a_writer(rt: HostRuntime) -> Result<(), Fail> {
 
 #[test]
 fn writes_into_memory_and_reads_to_the_end(rt: HostRuntime) -> Result<(), Fail> {
-    let mut out = Counted::new(Vec::new(rt.alloc()));
+    let Streams {
+        mut input,
+        mut out,
+        ..
+    } = Streams::calm(rt.alloc(), Source::bytes(b"ab"));
     out.put(b"au ")?;
     out.put(b"[1]\n")?;
     assert_eq!(rt; out.write_once(b"!")?, 1);
-    assert!(rt; out.get_ref().as_slice() == b"au [1]\n!".as_slice() && out.failures() == 0);
+    let taken = out.get_ref().taken.as_slice();
+    assert!(rt; taken == b"au [1]\n!".as_slice() && out.failures() == 0);
 
-    let mut input = Counted::new(b"ab".as_slice());
     let mut buf = [0; 4];
     assert_eq!(rt; input.read_once(&mut buf)?, 2);
     assert!(rt; input.read_once(&mut buf)? == 0 && input.failures() == 0);

@@ -1,6 +1,6 @@
 //! Runs where the k-th call of the folder fails, or where the folder refuses every read.
 use crate::layers::{settle, two_layers};
-use crate::sample::put_sample;
+use crate::sample::{EMPTY, HASH};
 use crate::script::{halves, have_lengths, put, put_all, runs};
 use crate::streams::Refusing;
 use dconf_disk::{Folder, FolderFault, MemoryFolder};
@@ -15,15 +15,14 @@ const FILES: [(&str, &str); 5] = [
     ("saved", "file-db:empty\n"),
 ];
 
-/// Two layers with a lock of `/x`, and besides the numbers 1 and 2 as `v`, two keyfiles, an older database `out.db` of the first, and two of the
-/// samples. A crash leaves all of them.
+/// Two layers with a lock of `/x`, and besides the numbers 1 and 2 as `v`, two keyfiles, an older database `out.db` of the first, and two
+/// databases by hand. A crash leaves all of them.
 pub(crate) fn store(alloc: Global) -> Result<MemoryFolder, Fail> {
     let mut folder = two_layers(alloc, "/x\n")?;
     put(&mut folder, "v", b"\x01\0\0\0\x02\0\0\0")?;
     put_all(&mut folder, &FILES)?;
-    for sample in ["hash", "empty"] {
-        put_sample(alloc, &mut folder, sample)?;
-    }
+    put(&mut folder, "hash", &HASH)?;
+    put(&mut folder, "empty", &EMPTY)?;
     runs(alloc, "$ compile out.db k => 0\n", &mut folder)?;
     settle(&mut folder, &FILES)?;
     settle(&mut folder, &[("v", ""), ("hash", ""), ("empty", "")])?;
@@ -159,6 +158,8 @@ fn calls_of_the_folder_that_fail(rt: HostRuntime) -> Result<(), Fail> {
     let compile = "compile --locks locks out.db k g";
     device_at(alloc, compile, "out.db", COMPILED)?;
     device_at(alloc, "repair hash empty", "empty", REPAIRED)?;
+    // All databases are read before one is opened.
+    device_at(alloc, "load / -p late", "out.db", "3 site.db 110")?;
     for asked in READS_OF_FILE.trim().split('\n') {
         device_at(alloc, asked, "out.db", "1 v 110")?;
     }

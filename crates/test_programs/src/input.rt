@@ -2,7 +2,7 @@
 use crate::script::{halves, is_left};
 use crate::streams::Source;
 use dconf_cli::{Counted, read_input};
-use std::alloc::Global;
+use std::alloc::{AllocError, Global};
 use std::io::ErrorKind;
 use std::test::Fail;
 
@@ -32,26 +32,40 @@ fn outcome(alloc: Global, input: &mut Counted<Source<'_>>) -> Result<String, Fai
     }
 }
 
-/// Reads such an input. An error says that something else comes of it.
-fn reads(alloc: Global, source: &str, wanted: &str) -> Result<(), Fail> {
-    let (marks, read) = source.split_once(' ').unwrap_or((source, ""));
+/// The input of so many `#`, of which a read fails: `4100 2 Interrupted`.
+pub(crate) fn source_of(text: &str) -> Result<Source<'static>, Fail> {
+    let (marks, read) = text.split_once(' ').unwrap_or((text, ""));
     let (fails_in, kind) = read.split_once(' ').unwrap_or((read, ""));
     let kind = match kind {
         "Interrupted" => ErrorKind::Interrupted,
         "OutOfMemory" => ErrorKind::OutOfMemory,
         _ => ErrorKind::Other,
     };
-    let mut input = Counted::new(Source::marks(marks.parse()?, fails_in.parse()?, kind));
-    let read = outcome(alloc, &mut input)?;
+    Ok(Source::marks(marks.parse()?, fails_in.parse()?, kind))
+}
+
+/// What comes of an input, how many `#` it has left, and how often it failed.
+pub(crate) fn told(
+    alloc: Global,
+    outcome: &str,
+    input: &Counted<Source<'_>>,
+) -> Result<String, AllocError> {
     let (left, failures) = (input.get_ref().marks, input.failures());
-    let got = format!(in alloc; "{read}, {left} left, {failures} failed")?;
+    format!(in alloc; "{outcome}, {left} left, {failures} failed")
+}
+
+/// Reads such an input. An error says that something else comes of it.
+fn reads(alloc: Global, source: &str, wanted: &str) -> Result<(), Fail> {
+    let mut input = Counted::new(source_of(source)?);
+    let read = outcome(alloc, &mut input)?;
+    let got = told(alloc, &read, &input)?;
     is_left(alloc, source, &got, wanted)
 }
 
 #[test]
 fn reads_the_input_as_far_as_it_may(rt: HostRuntime) -> Result<(), Fail> {
     let alloc = rt.alloc();
-    let mut words = Counted::new(b"[/]\nk=5\n".as_slice());
+    let mut words = Counted::new(Source::bytes(b"[/]\nk=5\n"));
     assert!(rt; read_input(alloc, &mut words)?.as_slice() == b"[/]\nk=5\n".as_slice());
     assert!(rt; read_input(alloc, &mut words)?.is_empty() && words.failures() == 0);
     for line in INPUTS.split('\n') {

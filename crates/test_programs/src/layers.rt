@@ -1,21 +1,17 @@
 //! A folder whose profile has a database of the user's and one of the site's, for runs that change settings.
-use crate::sample::PLAIN;
+use crate::sample::HASH;
 use crate::script::{folder_of, put, runs};
 use dconf_disk::{Folder, MemoryFolder};
 use std::alloc::Global;
 use std::test::Fail;
-
-/// A value that is 128 deep.
-pub(crate) const DEEP: &str =
-    "<<<<<<<<<<<<<<<<<<<<<<<<<<<<<<<<<<<<<<<<<<<<<<<<<<<<<<<<<<<<<<<<<<<<<<<<<<<<<<<<<<<<<<<<<<<<<<<<<<<<<<<<<<<<<<<<<<<<<<<<<<<<<<<1>>>>>>>>>>>>>>>>>>>>>>>>>>>>>>>>>>>>>>>>>>>>>>>>>>>>>>>>>>>>>>>>>>>>>>>>>>>>>>>>>>>>>>>>>>>>>>>>>>>>>>>>>>>>>>>>>>>>>>>>>>>>>>>";
 
 const MADE: &str = "
 $ compile me.user u => 0
 $ compile --locks l site.db s => 0
 ";
 
-/// A folder whose profile names the user's database `me`, with 1 at `/a/k`, and `site`, with 2 there. `own` names `me` alone, `theirs` names
-/// `site` alone, and `cut` names `me` and a database that is cut off; `late` names that one before `site`.
+/// A folder whose profile names the user's database `me`, with 1 at `/a/k`, and `site`, with 2 there. `own` names `me` alone; `late`
+/// names a database that is cut off before `site`.
 pub(crate) fn two_layers(alloc: Global, locks: &str) -> Result<MemoryFolder, Fail> {
     let files = [
         ("u", "[a]\nk=1\n"),
@@ -23,13 +19,10 @@ pub(crate) fn two_layers(alloc: Global, locks: &str) -> Result<MemoryFolder, Fai
         ("l", locks),
         ("profile", "user-db:me\nsystem-db:site\n"),
         ("own", "user-db:me\n"),
-        ("theirs", "system-db:site\n"),
-        ("cut", "user-db:me\nsystem-db:bad\n"),
-        ("worse", "system-db:bad\nlocal\n"),
         ("late", "system-db:bad\nsystem-db:site\n"),
     ];
     let mut folder = folder_of(alloc, &files)?;
-    put(&mut folder, "bad.db", PLAIN.get(..23).unwrap_or(&PLAIN))?;
+    put(&mut folder, "bad.db", HASH.get(..23).unwrap_or(&HASH))?;
     runs(alloc, MADE, &mut folder)?;
     settle(&mut folder, &files)?;
     settle(&mut folder, &[("bad.db", "")])?;

@@ -1,21 +1,11 @@
-//! Tests of the program: the words of command lines, and runs over a folder in memory and streams that fail.
-//! There is no other code here.
+//! Tests of the program that no run of the real one can ask: streams and folders that fail, crashes, counted calls, and single calls.
+//! All else is in tests/program.d. There is no other code here.
 #![tactic(auto)]
 
-#[cfg(test)]
-mod changes;
-#[cfg(test)]
-mod check;
-#[cfg(test)]
-mod compiling;
-#[cfg(test)]
-mod containers;
 #[cfg(test)]
 mod counted;
 #[cfg(test)]
 mod crashes;
-#[cfg(test)]
-mod deep;
 #[cfg(test)]
 mod failing;
 #[cfg(test)]
@@ -25,27 +15,15 @@ mod input;
 #[cfg(test)]
 mod layers;
 #[cfg(test)]
-mod listing;
-#[cfg(test)]
 mod loading;
 #[cfg(test)]
-mod repairing;
+mod long_type;
 #[cfg(test)]
 mod sample;
 #[cfg(test)]
 mod script;
 #[cfg(test)]
-mod settings;
-#[cfg(test)]
-mod show;
-#[cfg(test)]
-mod stores;
-#[cfg(test)]
 mod streams;
-#[cfg(test)]
-mod type_faults;
-#[cfg(test)]
-mod widths;
 #[cfg(test)]
 mod words;
 #[cfg(test)]

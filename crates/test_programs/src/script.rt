@@ -24,18 +24,7 @@ pub(crate) fn runs<F: Folder>(alloc: Global, script: &str, folder: &mut F) -> Re
 fn leaves<F: Folder>(alloc: Global, asked: &str, folder: &mut F, wanted: &str) -> Result<(), Fail> {
     let (words, input) = asked.split_once('\n').unwrap_or((asked, ""));
     let mut streams = Streams::calm(alloc, Source::bytes(input.as_bytes()));
-    leaves_on(alloc, words.trim(), folder, &mut streams, wanted)
-}
-
-/// Runs the words on these streams. An error says what they leave, if it isn't this.
-pub(crate) fn leaves_on<F: Folder>(
-    alloc: Global,
-    words: &str,
-    folder: &mut F,
-    streams: &mut Streams<'_>,
-    wanted: &str,
-) -> Result<(), Fail> {
-    let left = left_on(alloc, words, folder, streams)?;
+    let left = left_on(alloc, words.trim(), folder, &mut streams)?;
     is_left(alloc, words, &left, wanted)
 }
 
@@ -96,9 +85,9 @@ pub(crate) fn is_left(alloc: Global, words: &str, left: &str, wanted: &str) -> R
     }
 }
 
-/// The two parts of a line of a table, with this mark between them, or None of a line that is empty or begins with `#`.
+/// The two parts of a row of a table, with this mark between them, or None of a row that is empty.
 pub(crate) fn halves<'a>(line: &'a str, mark: &str) -> Result<Option<(&'a str, &'a str)>, Fail> {
-    if line.is_empty() || line.starts_with('#') {
+    if line.is_empty() {
         return Ok(None);
     }
     match line.split_once(mark) {
@@ -150,21 +139,6 @@ pub(crate) fn have_lengths(
         let length = bytes_of(alloc, folder, name)?.len();
         if length != *wanted {
             return Err(Fail::new(format!(in alloc; "{name} has {length} bytes")?));
-        }
-    }
-    Ok(())
-}
-
-/// An error names the first two files whose bytes differ.
-pub(crate) fn are_same(
-    alloc: Global,
-    folder: &mut MemoryFolder,
-    pairs: &[(&str, &str)],
-) -> Result<(), Fail> {
-    for (one, other) in pairs {
-        let bytes = bytes_of(alloc, folder, one)?;
-        if bytes.as_slice() != bytes_of(alloc, folder, other)?.as_slice() {
-            return Err(Fail::new(format!(in alloc; "{one} differs from {other}")?));
         }
     }
     Ok(())

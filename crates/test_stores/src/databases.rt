@@ -1,5 +1,4 @@
 //! Databases as they are read, checked, salvaged and written.
-pub(crate) mod checking;
 mod damaged;
 mod dconf_bytes;
 pub(crate) mod dconf_made;
@@ -8,8 +7,6 @@ pub(crate) mod items;
 pub(crate) mod maps;
 pub(crate) mod salvaging;
 pub(crate) mod samples;
-mod slow_check;
 mod slow_search;
-mod verdicts;
 pub(crate) mod writing;
 pub(crate) mod written;

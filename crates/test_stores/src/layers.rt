@@ -1,12 +1,6 @@
-//! Layers of settings: what is seen through the databases of a profile, and how it is changed.
+//! Layers of settings, by single calls. What is seen through the databases of a profile, and how it is changed, is in tests/program.d.
 pub(crate) mod again;
-mod calls;
-mod changing;
 pub(crate) mod differing;
-mod engines;
+mod engine;
 mod files;
-pub(crate) mod keeping;
-mod listing;
 mod many;
-mod seeing;
-mod store;

@@ -1,5 +1,4 @@
 //! The questions that rows of texts ask.
-use crate::databases::checking::file_checked;
 use crate::databases::dconf_made::value_read;
 use crate::databases::finding::{hashed, looked_up, searched};
 use crate::databases::items::item_shown;
@@ -11,7 +10,6 @@ use crate::folders::crashes::crash_cases;
 use crate::folders::failures::replaced_so;
 use crate::layers::again::seen_after;
 use crate::layers::differing::differing;
-use crate::layers::keeping::bytes_kept;
 use crate::texts::keyfiles::{keyfile_read, settings_written};
 use crate::texts::limits::limits;
 use crate::texts::paths::{covered, key_of_bytes, path_read};
@@ -24,14 +22,12 @@ use std::test::Fail;
 pub(crate) enum Question {
     After,
     Built,
-    Checked,
     Covered,
     Crash,
     Differing,
     DirectoryLocked,
     Hash,
     Item,
-    Kept,
     KeyOfBytes,
     Keyfile,
     Limits,
@@ -58,14 +54,12 @@ pub(crate) fn answer(
     match question {
         Question::After => seen_after(alloc, asked, found),
         Question::Built => map_built(alloc, asked, found),
-        Question::Checked => file_checked(alloc, asked, found),
         Question::Covered => covered(asked, found),
         Question::Crash => crash_cases(alloc, asked, found),
         Question::Differing => differing(alloc, asked, found),
         Question::DirectoryLocked => directory_locked(alloc, asked, found),
         Question::Hash => Ok(hashed(asked, found)?),
         Question::Item => item_shown(alloc, asked, found),
-        Question::Kept => bytes_kept(alloc, asked, found),
         Question::KeyOfBytes => Ok(key_of_bytes(alloc, asked, found)?),
         Question::Keyfile => keyfile_read(alloc, asked, found),
         Question::Limits => limits(alloc, asked, found),

@@ -3,4 +3,5 @@ mod faults;
 pub(crate) mod keyfiles;
 pub(crate) mod limits;
 pub(crate) mod paths;
+mod rows_below;
 pub(crate) mod settings;

@@ -4,34 +4,34 @@ use gvdb_read::{Names, Table, hash};
 
 /// What occurs in an item.
 #[derive(Clone, Copy)]
-pub(crate) struct Stored<'a> {
-    pub(crate) hash: u32,
-    pub(crate) parent: u32,
-    pub(crate) key: Option<&'a [u8]>,
-    pub(crate) kind: u8,
-    pub(crate) start: u32,
-    pub(crate) end: u32,
+struct Stored<'a> {
+    hash: u32,
+    parent: u32,
+    key: Option<&'a [u8]>,
+    kind: u8,
+    start: u32,
+    end: u32,
 }
 
 impl<'a> Stored<'a> {
     /// Its key; no bytes where they don't lie in the file.
-    pub(crate) fn key(self) -> &'a [u8] {
+    fn key(self) -> &'a [u8] {
         self.key.unwrap_or(&[])
     }
 }
 
 /// A table: the bytes of its parts.
 #[derive(Clone, Copy)]
-pub(crate) struct Slow<'a> {
-    pub(crate) file: &'a [u8],
+struct Slow<'a> {
+    file: &'a [u8],
     shift: u32,
     bloom: &'a [u8],
-    pub(crate) buckets: &'a [u8],
+    buckets: &'a [u8],
     items: &'a [u8],
 }
 
 /// The number that four bytes stand for.
-pub(crate) fn number(bytes: &[u8]) -> u32 {
+fn number(bytes: &[u8]) -> u32 {
     let mut number = 0u32;
     for byte in bytes.iter().rev() {
         number = (number << 8) | u32::from(*byte);
@@ -46,7 +46,7 @@ fn part(bytes: &[u8], at: usize, size: usize) -> Option<&[u8]> {
 }
 
 /// The number at a place of some.
-pub(crate) fn number_at(numbers: &[u8], at: usize) -> Option<u32> {
+fn number_at(numbers: &[u8], at: usize) -> Option<u32> {
     Some(number(part(numbers, at, 4)?))
 }
 
@@ -57,7 +57,7 @@ fn word(item: &[u8], at: usize) -> u32 {
 
 impl<'a> Slow<'a> {
     /// The table between two places of the file, where one opens there.
-    pub(crate) fn between(file: &'a [u8], start: u32, end: u32) -> Option<Slow<'a>> {
+    fn between(file: &'a [u8], start: u32, end: u32) -> Option<Slow<'a>> {
         if start % 4 != 0 {
             return None;
         }
@@ -79,7 +79,7 @@ impl<'a> Slow<'a> {
     }
 
     /// The root table of a database.
-    pub(crate) fn open(file: &'a [u8]) -> Option<Slow<'a>> {
+    fn open(file: &'a [u8]) -> Option<Slow<'a>> {
         if !file.starts_with(b"GVariant\0\0\0\0") {
             return None;
         }
@@ -87,12 +87,12 @@ impl<'a> Slow<'a> {
     }
 
     /// How many items there are.
-    pub(crate) fn count(self) -> u32 {
+    fn count(self) -> u32 {
         u32::try_from(self.items.len() / 24).unwrap_or(u32::MAX)
     }
 
     /// The item of this number.
-    pub(crate) fn item(self, number: u32) -> Option<Stored<'a>> {
+    fn item(self, number: u32) -> Option<Stored<'a>> {
         let item = part(self.items, number as usize, 24)?;
         let (start, sizes) = (word(item, 2) as usize, word(item, 3));
         Some(Stored {
@@ -106,7 +106,7 @@ impl<'a> Slow<'a> {
     }
 
     /// Whether this is an item's full name: the keys along its parents, the last parent's first.
-    pub(crate) fn is_named(self, item: Stored<'a>, name: &[u8]) -> bool {
+    fn is_named(self, item: Stored<'a>, name: &[u8]) -> bool {
         let (mut at, mut left) = (item, name);
         for _ in 0..self.count() {
             let Some(before) = left.strip_suffix(at.key()) else {
@@ -124,7 +124,7 @@ impl<'a> Slow<'a> {
     }
 
     /// Whether the bloom words let a hash pass.
-    pub(crate) fn passes(self, hash: u32) -> bool {
+    fn passes(self, hash: u32) -> bool {
         let words = self.bloom.len() / 4;
         if words == 0 {
             return true;
@@ -137,7 +137,7 @@ impl<'a> Slow<'a> {
     }
 
     /// Whether item i lies in the span of a hash.
-    pub(crate) fn spans(self, hash: u32, i: u32) -> bool {
+    fn spans(self, hash: u32, i: u32) -> bool {
         let buckets = self.buckets.len() / 4;
         if buckets == 0 {
             return false;
@@ -168,7 +168,7 @@ impl<'a> Slow<'a> {
     }
 
     /// The bytes of an item, where its pointer is valid.
-    pub(crate) fn content(self, item: Stored<'a>) -> Option<&'a [u8]> {
+    fn content(self, item: Stored<'a>) -> Option<&'a [u8]> {
         let alignment = if item.kind == b'v' { 8 } else { 4 };
         if item.start % alignment != 0 {
             return None;

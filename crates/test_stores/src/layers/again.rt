@@ -3,7 +3,6 @@
 //! A row is the user's words and the site's, a `;` after each, then changes, and what is asked. A
 //! change that ends in `=` sets a key to 7, one that ends in `/` resets all below it, and another
 //! resets a key.
-use super::calls::show_names;
 use super::files::{bytes_of, files_of};
 use crate::questions::Question;
 use crate::rows::hold;
@@ -55,6 +54,14 @@ fn show_number(
         Ok(value) => write!(found, " {:?}", number_of(value.as_ref())),
         Err(fault) => write!(found, " {fault}"),
     }
+}
+
+/// Each name with a blank before it.
+pub(super) fn show_names(names: &[String], found: &mut String) -> Result<(), AllocError> {
+    for name in names {
+        write!(found, " {name}")?;
+    }
+    Ok(())
 }
 
 /// What a directory has, or the fault.

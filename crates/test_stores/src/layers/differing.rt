@@ -1,11 +1,19 @@
 //! Which keys are seen otherwise through other layers.
-use super::keeping::user;
 use crate::questions::Question;
 use crate::rows::{bytes_of_text, hold};
 use dconf_engine::{Layer, LentLayers};
+use dconf_path::KeyPath;
+use gvdb_write::{Map, write};
 use std::alloc::Global;
 use std::fmt::Write;
 use std::test::Fail;
+
+/// The database in which these bytes of a variant are at `/a/k`.
+fn user(alloc: Global, bytes: &[u8]) -> Result<Vec<u8>, Fail> {
+    let mut map = Map::new(alloc);
+    map.insert(KeyPath::parse("/a/k")?, bytes)?;
+    Ok(write(alloc, &map)?)
+}
 
 /// The bytes of a variant in others, at `/a/k` of a database.
 fn file_of_variant(alloc: Global, variant: &str, others: &str) -> Result<Vec<u8>, Fail> {

@@ -1,22 +1,18 @@
 //! The files of a profile, each of a text.
-use super::store::site;
 use crate::databases::maps::file_of_words;
 use std::alloc::Global;
 use std::test::Fail;
 
-/// The file of a text: `/a/k=1 /a/ -3` is the database of these words without its last three bytes,
-/// `@` the one that is made of keyfiles. It is empty where the text is: then there is no file.
+/// The file of a text: `/a/k=1 /a/ -3` is the database of these words without its last three bytes.
+/// It is empty where the text is: then there is no file.
 fn file(alloc: Global, text: &str) -> Result<Vec<u8>, Fail> {
-    match text {
-        "" => Ok(Vec::new(alloc)),
-        "@" => site(alloc),
-        _ => {
-            let (words, lost) = text.split_once(" -").unwrap_or((text, "0"));
-            let mut file = file_of_words(alloc, words)?;
-            file.truncate(file.len().saturating_sub(lost.parse()?));
-            Ok(file)
-        }
+    if text.is_empty() {
+        return Ok(Vec::new(alloc));
     }
+    let (words, lost) = text.split_once(" -").unwrap_or((text, "0"));
+    let mut file = file_of_words(alloc, words)?;
+    file.truncate(file.len().saturating_sub(lost.parse()?));
+    Ok(file)
 }
 
 /// The files of these texts, after each of which comes a `;`.

@@ -1,5 +1,5 @@
 //! A thousand keys of the user's database.
-use super::engines::opened;
+use super::engine::opened;
 use dconf_engine::Engine;
 use dconf_path::{DirPath, KeyPath, Profile, read_profile};
 use gv_tree::{Basic, Tree};
