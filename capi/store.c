@@ -53,10 +53,17 @@ struct DconfdbStore {
 
 /* ---- errors */
 
-static bool refuse(DconfdbError *error, int number, int fault, size_t at, const char *format, ...)
+/* The edit, the database or the line that is at fault. */
+typedef struct {
+    size_t edit, database, line;
+} Place;
+
+static const Place nowhere = {0, 0, 0};
+
+static bool refuse(DconfdbError *error, int number, int fault, Place place, const char *format, ...)
     __attribute__((format(printf, 5, 6)));
 
-static bool refuse(DconfdbError *error, int number, int fault, size_t at, const char *format, ...)
+static bool refuse(DconfdbError *error, int number, int fault, Place place, const char *format, ...)
 {
     if (!error)
         return false;
@@ -70,47 +77,66 @@ static bool refuse(DconfdbError *error, int number, int fault, size_t at, const 
         memcpy(error->text + sizeof error->text - 4, "...", 4);
     error->number = number;
     error->system = fault;
-    error->at = at;
+    error->at = place.edit;
+    error->database = place.database;
+    error->line = place.line;
     return false;
 }
 
 static bool refuse_memory(DconfdbError *error)
 {
-    return refuse(error, DCONFDB_ERROR_MEMORY, 0, 0, "no memory is left");
+    return refuse(error, DCONFDB_ERROR_MEMORY, 0, nowhere, "no memory is left");
+}
+
+/* What the system says of a fault. */
+typedef struct {
+    char text[128];
+} Words;
+
+static Words words_of(int fault)
+{
+    Words words;
+    if (strerror_r(fault, words.text, sizeof words.text) != 0)
+        snprintf(words.text, sizeof words.text, "error %d", fault);
+    return words;
 }
 
 /* What a call of files.h answered. */
-static bool refuse_file(DconfdbError *error, int fault, const char *name, size_t at)
+static bool refuse_file(DconfdbError *error, int fault, const char *name, Place place)
 {
-    char why[128];
     if (fault == ENOMEM)
-        return refuse(error, DCONFDB_ERROR_MEMORY, 0, at, "%s: no memory is left", name);
+        return refuse(error, DCONFDB_ERROR_MEMORY, 0, place, "%s: no memory is left", name);
     if (fault == EOVERFLOW)
-        return refuse(error, DCONFDB_ERROR_TOO_BIG, 0, at, "%s: the file is too big", name);
-    if (strerror_r(fault, why, sizeof why) != 0)
-        snprintf(why, sizeof why, "error %d", fault);
-    return refuse(error, DCONFDB_ERROR_FILE, fault, at, "%s: %s", name, why);
+        return refuse(error, DCONFDB_ERROR_TOO_BIG, 0, place, "%s: the file is too big", name);
+    return refuse(error, DCONFDB_ERROR_FILE, fault, place, "%s: %s", name, words_of(fault).text);
 }
 
-/* What a proved call answered of a file, a line of it (not 0), or a key. */
-static bool refuse_call(DconfdbError *error, uint32_t number, const char *name, size_t line, size_t at)
+/* A fault after the name became the new file's: never one of the numbers that leave the old file. */
+static bool refuse_replaced(DconfdbError *error, int fault, const char *name)
+{
+    return refuse(error, DCONFDB_ERROR_FILE, fault, nowhere, "%s: it is replaced, but perhaps not on the disk yet: %s", name,
+                  words_of(fault).text);
+}
+
+/* What a proved call answered of a file, a line of it, or a key. */
+static bool refuse_call(DconfdbError *error, uint32_t number, const char *name, Place place)
 {
     DconfdbBytes text = DCONFDB_NOTHING;
-    char place[32] = "";
+    char line[32] = "";
     if (!dconfdb_fault_text(number, &text))
-        return refuse(error, (int)number, 0, at, "%s: fault %u", name, (unsigned)number);
-    if (line != 0)
-        snprintf(place, sizeof place, ":%zu", line);
-    return refuse(error, (int)number, 0, at, "%s%s: %.*s", name, place, (int)text.len, (const char *)text.at);
+        return refuse(error, (int)number, 0, place, "%s: fault %u", name, (unsigned)number);
+    if (place.line != 0)
+        snprintf(line, sizeof line, ":%zu", place.line);
+    return refuse(error, (int)number, 0, place, "%s%s: %.*s", name, line, (int)text.len, (const char *)text.at);
 }
 
-static bool refuse_database(DconfdbError *error, uint32_t number, const char *name, const DconfdbUnsound *broken, size_t at)
+static bool refuse_database(DconfdbError *error, uint32_t number, const char *name, const DconfdbUnsound *broken, Place place)
 {
     if (number != DCONFDB_UNSOUND)
-        return refuse_call(error, number, name, 0, at);
+        return refuse_call(error, number, name, place);
     if (!broken->has_item)
-        return refuse(error, (int)number, 0, at, "%s: the database breaks the rule S%u", name, (unsigned)broken->rule);
-    return refuse(error, (int)number, 0, at, "%s: the database breaks the rule S%u, at item %u", name, (unsigned)broken->rule,
+        return refuse(error, (int)number, 0, place, "%s: the database breaks the rule S%u", name, (unsigned)broken->rule);
+    return refuse(error, (int)number, 0, place, "%s: the database breaks the rule S%u, at item %u", name, (unsigned)broken->rule,
                   (unsigned)broken->item);
 }
 
@@ -158,7 +184,7 @@ static Part *part_ref(Part *part)
 }
 
 /* Opens what a file holds. The bytes are the part's, or are freed. */
-static Part *part_open(const char *name, FileState state, FileBytes bytes, size_t at, DconfdbError *error)
+static Part *part_open(const char *name, FileState state, FileBytes bytes, size_t database, DconfdbError *error)
 {
     Part *part = malloc(sizeof *part + strlen(name) + 1);
     if (!part) {
@@ -172,7 +198,7 @@ static Part *part_open(const char *name, FileState state, FileBytes bytes, size_
     uint32_t number = dconfdb_open(bytes_of(bytes.at), bytes.len, state.is_there, &part->layer, &broken);
     if (number == DCONFDB_OK)
         return part;
-    refuse_database(error, number, name, &broken, at);
+    refuse_database(error, number, name, &broken, (Place){.database = database});
     part_unref(part);
     return NULL;
 }
@@ -184,7 +210,7 @@ static bool has_bytes(const Part *part, const FileBytes *bytes)
 
 /* The file as it is now; `old` where that still is it. In a turn it is read in any case, in the
  * turn's folder, which may be moved meanwhile. */
-static Part *part_now(const char *name, bool maps, Part *old, int turn, size_t at, DconfdbError *error)
+static Part *part_now(const char *name, bool maps, Part *old, int turn, size_t database, DconfdbError *error)
 {
     FileState state;
     FileBytes bytes;
@@ -195,7 +221,7 @@ static Part *part_now(const char *name, bool maps, Part *old, int turn, size_t a
     if (fault == 0)
         fault = file_read(turn, turn == NO_FOLDER ? name : strrchr(name, '/') + 1, maps, LARGEST_FILE, &bytes, &state);
     if (fault != 0) {
-        refuse_file(error, fault, name, at);
+        refuse_file(error, fault, name, (Place){.database = database});
         return NULL;
     }
     /* The file was perhaps replaced, by one that is alike in all that stat() says. */
@@ -203,7 +229,7 @@ static Part *part_now(const char *name, bool maps, Part *old, int turn, size_t a
         file_release(&bytes);
         return part_ref(old);
     }
-    return part_open(name, state, bytes, at, error);
+    return part_open(name, state, bytes, database, error);
 }
 
 /* ---- snapshots */
@@ -351,7 +377,7 @@ static char *listed(Lists *lists, const DconfdbSnapshot *snapshot, const void *o
         }
         free(room);
     } while (number == DCONFDB_OK);
-    refuse_call(error, number, name, 0, 0);
+    refuse_call(error, number, name, nowhere);
     return NULL;
 }
 
@@ -383,8 +409,10 @@ static const char *variable(const char *name)
     return value && *value ? value : NULL;
 }
 
+/* A folder's absolute path, or NULL, and then errno. */
 static char *absolute(const char *folder)
 {
+    errno = ENOMEM;
     if (folder[0] == '/')
         return joined(folder, "", "");
     char *here = getcwd(NULL, 0);
@@ -393,21 +421,19 @@ static char *absolute(const char *folder)
     return text;
 }
 
-/* The folder's absolute path, or NULL, and then errno; it is ENOENT where the environment names
- * none. */
-static char *find_folder(const char *folder)
+/* The folder that the environment names; or NULL, and then errno, or `is_named` is false. */
+static char *environments_folder(bool *is_named)
 {
-    const char *base = variable("XDG_CONFIG_HOME"), *home = variable("HOME");
+    const char *store = variable("DCONFDB_STORE"), *base = variable("XDG_CONFIG_HOME"), *home = variable("HOME");
     errno = ENOMEM;
-    if (!folder)
-        folder = variable("DCONFDB_STORE");
-    if (folder)
-        return absolute(folder);
+    *is_named = true;
+    if (store)
+        return absolute(store);
     if (base && base[0] == '/')
         return joined(base, "/", "dconfdb");
     if (home && home[0] == '/')
         return joined(home, "/", ".config/dconfdb");
-    errno = ENOENT;
+    *is_named = false;
     return NULL;
 }
 
@@ -420,14 +446,15 @@ static bool read_profile(const char *name, FileBytes *text, DconfdbError *error)
     FileState state;
     int fault = file_read(NO_FOLDER, name, false, LARGEST_PROFILE, text, &state);
     if (fault != 0)
-        return refuse_file(error, fault, name, 0);
+        return refuse_file(error, fault, name, nowhere);
     /* A profile without a byte is there too. */
     if (state.is_there && !text->at && !(text->at = malloc(1)))
         return refuse_memory(error);
     return true;
 }
 
-/* The file of a database, or NULL. A name with a zero byte is one of no file. */
+/* The file of a database, or NULL. A name with a zero byte is one of no file. The path of a file-db
+ * alone may start with `/`. */
 static char *file_of(const DconfdbStore *store, const DconfdbName *database)
 {
     static const char *const ends[] = {".user", ".db", ""};
@@ -436,9 +463,10 @@ static char *file_of(const DconfdbStore *store, const DconfdbName *database)
         return NULL;
     errno = ENOMEM;
     char *name = start_of(database->name.at, database->name.len);
-    bool is_absolute = name && name[0] == '/';
-    char *with_end = name ? joined(name, ends[database->kind], "") : NULL;
-    char *file = with_end ? joined(is_absolute ? "" : store->folder, is_absolute ? "" : "/", with_end) : NULL;
+    if (!name || name[0] == '/')
+        return name;
+    char *with_end = joined(name, ends[database->kind], "");
+    char *file = with_end ? joined(store->folder, "/", with_end) : NULL;
     free(name);
     free(with_end);
     return file;
@@ -452,11 +480,11 @@ static bool name_files(DconfdbStore *store, const char *profile, const uint8_t *
         names[i] = (DconfdbName){0, DCONFDB_NOTHING};
     uint32_t number = dconfdb_profile(text, len, names, MOST_DATABASES, &count, &line);
     if (number != DCONFDB_OK)
-        return refuse_call(error, number, profile, line, line);
+        return refuse_call(error, number, profile, (Place){.line = line});
     for (size_t i = 0; i < count; i++) {
         char *file = file_of(store, &names[i]);
         if (!file)
-            return refuse_file(error, errno, profile, i);
+            return refuse_file(error, errno, profile, (Place){.database = i});
         store->files[store->count++] = file;
     }
     if (count > 0 && names[0].kind == 0)
@@ -513,6 +541,7 @@ static DconfdbSnapshot *look(const DconfdbStore *store, int turn, DconfdbError *
 /* A store of which the folder is known alone. */
 static DconfdbStore *store_of(const char *folder, DconfdbError *error)
 {
+    bool is_named = true;
     DconfdbStore *store = calloc(1, sizeof *store);
     if (!store) {
         refuse_memory(error);
@@ -520,13 +549,13 @@ static DconfdbStore *store_of(const char *folder, DconfdbError *error)
     }
     pthread_mutex_init(&store->refreshing, NULL);
     pthread_mutex_init(&store->handing, NULL);
-    store->folder = find_folder(folder);
+    store->folder = folder ? absolute(folder) : environments_folder(&is_named);
     if (store->folder)
         return store;
-    if (errno == ENOENT && !folder)
-        refuse(error, DCONFDB_ERROR_NO_FOLDER, 0, 0, "the environment names no folder of a store");
+    if (!is_named)
+        refuse(error, DCONFDB_ERROR_NO_FOLDER, 0, nowhere, "the environment names no folder of a store");
     else
-        refuse_file(error, errno, folder ? folder : "the store's folder", 0);
+        refuse_file(error, errno, folder ? folder : "the folder of $DCONFDB_STORE", nowhere);
     dconfdb_store_close(store);
     return NULL;
 }
@@ -626,25 +655,24 @@ static bool is_as_it_was(const DconfdbSnapshot *one, const DconfdbSnapshot *othe
 }
 
 /* `refreshing` is held. */
-static bool refresh(DconfdbStore *store, int turn, bool *changed, DconfdbError *error)
+static bool refresh(DconfdbStore *store, int turn, DconfdbError *error)
 {
     DconfdbSnapshot *newer = look(store, turn, error);
     if (!newer)
         return false;
-    bool differs = !is_as_it_was(newer, store->now);
-    if (differs)
-        renew(store, newer);
-    else
+    if (is_as_it_was(newer, store->now))
         dconfdb_snapshot_unref(newer);
-    if (changed)
-        *changed = differs;
+    else
+        renew(store, newer);
     return true;
 }
 
-bool dconfdb_store_refresh(DconfdbStore *store, bool *changed, DconfdbError *error)
+bool dconfdb_store_refresh(DconfdbStore *store, const DconfdbSnapshot *seen, bool *changed, DconfdbError *error)
 {
     pthread_mutex_lock(&store->refreshing);
-    bool done = refresh(store, NO_FOLDER, changed, error);
+    bool done = refresh(store, NO_FOLDER, error);
+    if (done && changed)
+        *changed = store->now != seen;
     pthread_mutex_unlock(&store->refreshing);
     return done;
 }
@@ -669,6 +697,12 @@ static size_t guess(const DconfdbStore *store, const DconfdbChange *changes, siz
     return len;
 }
 
+/* Whether a fault of a change is one of its edits. */
+static bool is_of_edit(uint32_t number)
+{
+    return number >= DCONFDB_BAD_PATH && number <= DCONFDB_TOO_LARGE;
+}
+
 /* The user's file with the changes: the caller's, to be released. */
 static bool make_file(const DconfdbStore *store, const DconfdbChange *changes, const DconfdbEdit *edits, size_t count,
                       FileBytes *file, DconfdbError *error)
@@ -687,8 +721,9 @@ static bool make_file(const DconfdbStore *store, const DconfdbChange *changes, c
             return true;
         file_release(file);
     } while (number == DCONFDB_OK);
-    const char *whole = store->user_file ? store->user_file : store->folder;
-    return refuse_call(error, number, at < count ? edits[at].path : whole, 0, at);
+    if (at < count && is_of_edit(number))
+        return refuse_call(error, number, edits[at].path, (Place){.edit = at});
+    return refuse_call(error, number, store->user_file ? store->user_file : store->folder, nowhere);
 }
 
 /* Puts the file in place. What has to be had for the newer snapshot is had before, so that nothing
@@ -712,7 +747,9 @@ static bool put_in_place(DconfdbStore *store, int turn, FileBytes file, DconfdbE
         renew(store, newer);
     else
         dconfdb_snapshot_unref(newer);
-    return fault == 0 || refuse_file(error, fault, store->user_file, 0);
+    if (fault == 0)
+        return true;
+    return has_replaced ? refuse_replaced(error, fault, store->user_file) : refuse_file(error, fault, store->user_file, nowhere);
 }
 
 /* The changes, while it is this program's turn. */
@@ -721,7 +758,7 @@ static bool change_in_turn(DconfdbStore *store, int turn, const DconfdbChange *c
 {
     FileBytes file;
     pthread_mutex_lock(&store->refreshing);
-    bool done = refresh(store, turn, NULL, error) && make_file(store, changes, edits, count, &file, error)
+    bool done = refresh(store, turn, error) && make_file(store, changes, edits, count, &file, error)
         && put_in_place(store, turn, file, error);
     pthread_mutex_unlock(&store->refreshing);
     return done;
@@ -740,8 +777,8 @@ static bool take_turn(const DconfdbStore *store, int *turn, DconfdbError *error)
         fault = folder_lock(path, turn);
     free(folder);
     if (fault == EWOULDBLOCK)
-        return refuse(error, DCONFDB_ERROR_BUSY, 0, 0, "%s: others have been changing it for ten seconds", name);
-    return fault == 0 || refuse_file(error, fault, name, 0);
+        return refuse(error, DCONFDB_ERROR_BUSY, 0, nowhere, "%s: others have been changing it for ten seconds", name);
+    return fault == 0 || refuse_file(error, fault, name, nowhere);
 }
 
 /* There is no user's file: only why that is a fault, and of which edit, has to be said. */

@@ -109,6 +109,14 @@ static void tries_changing(DconfdbStore *store)
     dconfdb_snapshot_unref(now);
 }
 
+/* Whether a refresh says that the newest snapshot is another one. */
+static bool is_renewed(DconfdbStore *store, const DconfdbSnapshot *seen)
+{
+    bool changed = false, again = false;
+    TRY(dconfdb_store_refresh(store, seen, &changed, &error) && dconfdb_store_refresh(store, seen, &again, NULL) && changed == again);
+    return changed;
+}
+
 static void makes_profile(const char *name, const char *text)
 {
     FILE *profile = fopen(name, "w");
@@ -132,15 +140,33 @@ static void tries_hidden_changes(DconfdbStore *store)
     DconfdbEdit edits[] = {sets_text("/org/desk/size", "hidden"), sets_text("/shut/k", "hidden"), sets_text("/seen", "")};
     TRY(mkdir("lockless", 0700) == 0);
     takes_file_of(edits, 3);
-    TRY(dconfdb_store_refresh(store, NULL, &error));
+    TRY(dconfdb_store_refresh(store, NULL, NULL, &error));
     now = dconfdb_store_snapshot(store);
     TRY(ARE(dconfdb_snapshot_differences(old, now, &size, &error), "/seen\0"));
     TRY(ARE(dconfdb_snapshot_differences(now, old, &size, &error), "/seen\0"));
     edits[0] = (DconfdbEdit){"/", NULL, NULL, 0};
     takes_file_of(edits, 1);
-    TRY(dconfdb_store_refresh(store, NULL, &error));
+    TRY(dconfdb_store_refresh(store, NULL, NULL, &error));
     dconfdb_snapshot_unref(old);
     dconfdb_snapshot_unref(now);
+}
+
+/* A change takes the locks of the user's file away: here that file is another store's site. */
+static void tries_losing_locks(void)
+{
+    TRY(mkdir("owner", 0700) == 0 && link("site.db", "owner/me.user") == 0 && mkdir("guest", 0700) == 0);
+    makes_profile("owner/profile", "user-db:me\n");
+    makes_profile("guest/profile", "user-db:me\nfile-db:../owner/me.user\n");
+    DconfdbStore *owner = dconfdb_store_open("owner", &error), *guest = dconfdb_store_open("guest", &error);
+    DconfdbSnapshot *old = guest ? dconfdb_store_snapshot(guest) : NULL;
+    TRY(owner && old && dconfdb_snapshot_is_locked(old, "/org/desk/size") && changes(owner, sets_text("/k", "1")));
+    TRY(is_renewed(guest, old));
+    DconfdbSnapshot *now = dconfdb_store_snapshot(guest);
+    TRY(has(now, "/k", "1") && has(now, "/org/desk/name", "desk") && !dconfdb_snapshot_is_locked(now, "/org/desk/size"));
+    dconfdb_snapshot_unref(old);
+    dconfdb_snapshot_unref(now);
+    dconfdb_store_close(owner);
+    dconfdb_store_close(guest);
 }
 
 /* A value of a million bytes, and data that isn't aligned. */
@@ -162,13 +188,13 @@ static void tries_sizes(DconfdbStore *store)
 /* What another program did is seen after a refresh, and not before. */
 static void tries_refreshing(DconfdbStore *store, const char *folder)
 {
-    bool changed = true;
-    TRY(dconfdb_store_refresh(store, &changed, &error) && !changed && dconfdb_store_refresh(store, NULL, NULL));
     DconfdbStore *other = dconfdb_store_open(folder, &error);
-    TRY(other && changes(other, sets_text("/by/other", "1")));
     DconfdbSnapshot *old = dconfdb_store_snapshot(store);
-    TRY(has(old, "/by/other", NULL) && dconfdb_store_refresh(store, &changed, &error) && changed);
+    TRY(!is_renewed(store, old) && is_renewed(store, NULL) && dconfdb_store_refresh(store, NULL, NULL, NULL));
+    TRY(other && changes(other, sets_text("/by/other", "1")));
+    TRY(has(old, "/by/other", NULL) && is_renewed(store, old));
     DconfdbSnapshot *now = dconfdb_store_snapshot(store);
+    TRY(now != old && !is_renewed(store, now) && is_renewed(store, old));
     TRY(has(old, "/by/other", NULL) && has(now, "/by/other", "1"));
     /* A change that begins with an old snapshot loses nothing of another's. */
     TRY(changes(other, sets_text("/by/other", "2")) && changes(store, sets_text("/by/us", "3")));
@@ -182,6 +208,25 @@ static void tries_refreshing(DconfdbStore *store, const char *folder)
     dconfdb_snapshot_unref(old);
 }
 
+/* What a change takes in of other databases, made or refused, a refresh tells who has an older
+ * snapshot. */
+static void tries_taking_in(DconfdbStore *store)
+{
+    DconfdbSnapshot *old = dconfdb_store_snapshot(store), *now;
+    TRY(link("site.db", "site.kept") == 0 && rename("next.db", "site.db") == 0);
+    TRY(!changes(store, (DconfdbEdit){"no path", NULL, NULL, 0}) && error.number == DCONFDB_ERROR_BAD_PATH);
+    now = dconfdb_store_snapshot(store);
+    TRY(now != old && has(now, "/org/desk/name", "next") && is_renewed(store, old) && !is_renewed(store, now));
+    dconfdb_snapshot_unref(old);
+    TRY(rename("site.db", "next.db") == 0 && rename("site.kept", "site.db") == 0 && changes(store, sets_text("/in", "1")));
+    TRY(is_renewed(store, now));
+    dconfdb_snapshot_unref(now);
+    now = dconfdb_store_snapshot(store);
+    TRY(has(now, "/org/desk/name", "desk") && has(now, "/in", "1") && changes(store, (DconfdbEdit){"/", NULL, NULL, 0}));
+    TRY(is_renewed(store, now));
+    dconfdb_snapshot_unref(now);
+}
+
 /* A file that is no database: the newest snapshot stays, and a change is refused. */
 static void tries_bad_files(DconfdbStore *store)
 {
@@ -189,11 +234,11 @@ static void tries_bad_files(DconfdbStore *store)
     TRY(changes(store, sets_text("/kept", "1")) && rename(name, "kept") == 0);
     FILE *file = fopen(name, "w");
     TRY(file && fputs("no database, but long enough to have its header", file) >= 0 && fclose(file) == 0);
-    TRY(!dconfdb_store_refresh(store, NULL, &error) && is_fault(DCONFDB_ERROR_BAD_SIGNATURE, "/me.user", "") && error.at == 0);
+    TRY(!dconfdb_store_refresh(store, NULL, NULL, &error) && is_fault(DCONFDB_ERROR_BAD_SIGNATURE, "/me.user", "") && error.at == 0);
     TRY(!changes(store, sets_text("/kept", "2")) && is_fault(DCONFDB_ERROR_BAD_SIGNATURE, "/me.user", ""));
-    TRY(truncate(name, 0) == 0 && !dconfdb_store_refresh(store, NULL, &error) && is_fault(DCONFDB_ERROR_SHORT, "/me.user", ""));
+    TRY(truncate(name, 0) == 0 && !dconfdb_store_refresh(store, NULL, NULL, &error) && is_fault(DCONFDB_ERROR_SHORT, "/me.user", ""));
     DconfdbSnapshot *now = dconfdb_store_snapshot(store);
-    TRY(has(now, "/kept", "1") && rename("kept", name) == 0 && dconfdb_store_refresh(store, NULL, &error));
+    TRY(has(now, "/kept", "1") && rename("kept", name) == 0 && dconfdb_store_refresh(store, NULL, NULL, &error));
     dconfdb_snapshot_unref(now);
     TRY(changes(store, (DconfdbEdit){"/", NULL, NULL, 0}));
 }
@@ -202,22 +247,21 @@ static void tries_bad_files(DconfdbStore *store)
  * is. */
 static void tries_replacing(DconfdbStore *store)
 {
-    bool changed;
     DconfdbValue lent, value;
     size_t size;
     DconfdbSnapshot *old = dconfdb_store_snapshot(store);
     TRY(dconfdb_snapshot_read(old, "/org/desk/name", &lent));
     TRY(link("site.db", "site.kept") == 0 && rename("next.db", "site.db") == 0);
-    TRY(dconfdb_store_refresh(store, &changed, &error) && changed && is_text(&lent, "desk"));
+    TRY(is_renewed(store, old) && is_text(&lent, "desk"));
     DconfdbSnapshot *now = dconfdb_store_snapshot(store);
     TRY(has(now, "/org/desk/name", "next") && dconfdb_snapshot_is_writable(now, "/org/desk/size"));
     TRY(ARE(dconfdb_snapshot_differences(now, old, &size, &error), "/org/desk/name\0/org/desk/size\0"));
+    TRY(unlink("site.db") == 0 && is_renewed(store, now));
     dconfdb_snapshot_unref(now);
-    TRY(unlink("site.db") == 0 && dconfdb_store_refresh(store, &changed, &error) && changed);
     now = dconfdb_store_snapshot(store);
     TRY(!dconfdb_snapshot_read(now, "/org/desk/name", &value) && is_text(&lent, "desk"));
     dconfdb_snapshot_unref(now);
-    TRY(rename("site.kept", "site.db") == 0 && dconfdb_store_refresh(store, NULL, &error));
+    TRY(rename("site.kept", "site.db") == 0 && dconfdb_store_refresh(store, NULL, NULL, &error));
     dconfdb_snapshot_unref(old);
 }
 
@@ -264,7 +308,7 @@ static void tries_files(void)
 /* Stores that can't be opened, or be written. */
 static void tries_other_stores(void)
 {
-    TRY(!dconfdb_store_open("bad", &error) && is_fault(DCONFDB_ERROR_BAD_LINE, "/bad/profile:2:", "") && error.at == 2);
+    TRY(!dconfdb_store_open("bad", &error) && is_fault(DCONFDB_ERROR_BAD_LINE, "/bad/profile:2:", "") && error.line == 2);
     TRY(!dconfdb_store_open("service", &error) && is_fault(DCONFDB_ERROR_SERVICE_DB, "/service/profile:1:", ""));
     TRY(!dconfdb_store_open("folder", &error) && is_fault(DCONFDB_ERROR_FILE, "/folder/me.user", "") && error.system == EISDIR);
     TRY(!dconfdb_store_open("bad", NULL));
@@ -337,13 +381,14 @@ static void tries_odd_files(void)
 /* The folder is moved: then its databases are empty, and the next change makes another one. */
 static void tries_moving(void)
 {
-    bool changed;
     TRY(mkdir("here", 0700) == 0);
     makes_profile("here/profile", "user-db:me\n");
     DconfdbStore *store = dconfdb_store_open("here", &error);
     TRY(store && changes(store, sets_text("/old", "1")) && rename("here", "there") == 0);
-    TRY(dconfdb_store_refresh(store, &changed, &error) && changed && changes(store, sets_text("/new", "2")));
     DconfdbSnapshot *now = dconfdb_store_snapshot(store);
+    TRY(is_renewed(store, now) && changes(store, sets_text("/new", "2")));
+    dconfdb_snapshot_unref(now);
+    now = dconfdb_store_snapshot(store);
     TRY(has(now, "/old", NULL) && has(now, "/new", "2"));
     dconfdb_snapshot_unref(now);
     dconfdb_store_close(store);
@@ -373,8 +418,10 @@ int main(int argc, char **argv)
     tries_reading(store);
     tries_changing(store);
     tries_hidden_changes(store);
+    tries_losing_locks();
     tries_sizes(store);
     tries_refreshing(store, ".");
+    tries_taking_in(store);
     tries_bad_files(store);
     tries_replacing(store);
     tries_modes(store);

@@ -83,7 +83,7 @@ static bool runs(const char *folder)
     if (!lacks_memory(store != NULL)) {
         edits[0] = (DconfdbEdit){"/", NULL, NULL, 0};
         lacks_memory(dconfdb_store_change(store, edits, 1, &error));
-        lacks_memory(dconfdb_store_refresh(store, NULL, &error));
+        lacks_memory(dconfdb_store_refresh(store, NULL, NULL, &error));
         dconfdb_store_close(store);
     }
     return growths >= refused;

@@ -1,0 +1,399 @@
+/* Makes each number of DCONFDB_ERROR_ but MEMORY, at each call that can answer it, on a store as
+ * calls.c has it: refusals FOLDER. Each time it asks what is said, and that nothing changed: no
+ * file, not the newest snapshot, and nothing that the call was to write to. `refusals FOLDER busy`
+ * has the folder's lock, and makes BUSY alone, which takes ten seconds. MEMORY is memory.c's. */
+#include "try.h"
+
+#include <errno.h>
+#include <fcntl.h>
+#include <stdint.h>
+#include <sys/file.h>
+#include <sys/stat.h>
+#include <unistd.h>
+
+static DconfdbError error;
+
+/* ---- what is said */
+
+/* What is to be said: the number, the errno, which edit, database and line, and words of the text. */
+typedef struct {
+    int number, system;
+    size_t at, database, line;
+    const char *name, *words;
+} Fault;
+
+static bool is_said(Fault fault)
+{
+    bool is = error.number == fault.number && error.system == fault.system && error.at == fault.at
+        && error.database == fault.database && error.line == fault.line && strstr(error.text, fault.name)
+        && strstr(error.text, fault.words);
+    if (!is)
+        fprintf(stderr, "number %d, system %d, at %zu, database %zu, line %zu: %s\n", error.number, error.system, error.at,
+                error.database, error.line, error.text);
+    return is;
+}
+
+/* So that each field that isn't written is seen. */
+static void forgets(void)
+{
+    memset(&error, 0x7f, sizeof error);
+}
+
+/* ---- what is to stay */
+
+enum { FILES = 3, MOST = 8192 };
+static const char *const files[FILES] = {"me.user", "site.db", "profile"};
+
+typedef struct {
+    bool is_there[FILES];
+    ino_t inode[FILES];
+    ssize_t size[FILES];
+    char bytes[FILES][MOST];
+    DconfdbSnapshot *newest;
+} State;
+
+/* What there is now. The snapshot is lent. */
+static void looks(DconfdbStore *store, State *state)
+{
+    struct stat found;
+    memset(state, 0, sizeof *state);
+    for (size_t i = 0; i < FILES; i++) {
+        int file = open(files[i], O_RDONLY | O_NONBLOCK);
+        if (file < 0)
+            continue;
+        TRY(fstat(file, &found) == 0);
+        state->is_there[i] = true;
+        state->inode[i] = found.st_ino;
+        state->size[i] = S_ISREG(found.st_mode) ? read(file, state->bytes[i], MOST) : 0;
+        TRY(close(file) == 0);
+    }
+    if (store) {
+        state->newest = dconfdb_store_snapshot(store);
+        dconfdb_snapshot_unref(state->newest);
+    }
+    TRY(access("me.user.new", F_OK) != 0);
+}
+
+static State before, after;
+
+static void begins(DconfdbStore *store)
+{
+    looks(store, &before);
+    forgets();
+}
+
+static bool nothing_changed(DconfdbStore *store)
+{
+    looks(store, &after);
+    return memcmp(&before, &after, sizeof before) == 0;
+}
+
+/* ---- each call */
+
+static bool refuses_open(const char *folder, Fault fault)
+{
+    begins(NULL);
+    return !dconfdb_store_open(folder, &error) && is_said(fault) && nothing_changed(NULL) && !dconfdb_store_open(folder, NULL);
+}
+
+static bool refuses_files(const char *folder, Fault fault)
+{
+    size_t size = 77;
+    begins(NULL);
+    return !dconfdb_store_files(folder, &size, &error) && is_said(fault) && size == 77 && nothing_changed(NULL);
+}
+
+static bool refuses_refresh(DconfdbStore *store, Fault fault)
+{
+    bool no = false, yes = true;
+    begins(store);
+    bool done = !dconfdb_store_refresh(store, NULL, &no, &error) && is_said(fault) && !no && nothing_changed(store);
+    forgets();
+    done = done && !dconfdb_store_refresh(store, before.newest, &yes, &error) && is_said(fault) && yes && nothing_changed(store);
+    return done && !dconfdb_store_refresh(store, NULL, NULL, NULL);
+}
+
+static bool refuses_change(DconfdbStore *store, const DconfdbEdit *edits, size_t count, Fault fault)
+{
+    begins(store);
+    bool done = !dconfdb_store_change(store, edits, count, &error) && is_said(fault) && nothing_changed(store);
+    return done && !dconfdb_store_change(store, edits, count, NULL) && nothing_changed(store);
+}
+
+/* ---- edits: each after one that could be made, alone, and before one */
+
+static void tries_edits(DconfdbStore *store)
+{
+    static const int32_t five = 5;
+    static char deep[2 * 128 + 8], too_deep[130], long_path[65537];
+    memset(too_deep, 'a', 128);
+    too_deep[128] = 'i';
+    /* A byte in 127 variants: 128 levels. */
+    size_t size = 1;
+    for (int i = 0; i < 127; i++, size += 2)
+        deep[size + 1] = i == 0 ? 'y' : 'v';
+    memset(long_path, 'a', sizeof long_path - 1);
+    long_path[0] = '/';
+    const struct {
+        DconfdbEdit edit;
+        int number;
+        const char *words;
+    } refused[] = {
+        {{"/a/", "i", &five, sizeof five}, DCONFDB_ERROR_BAD_PATH, "the path is not one of a key"},
+        {{"/", "i", &five, sizeof five}, DCONFDB_ERROR_BAD_PATH, "the path is not one of a key"},
+        {{"/none/", "no type", NULL, 0}, DCONFDB_ERROR_BAD_PATH, "the path is not one of a key"},
+        {{"/shut/", "i", &five, sizeof five}, DCONFDB_ERROR_BAD_PATH, "the path is not one of a key"},
+        {{"", "i", &five, sizeof five}, DCONFDB_ERROR_BAD_PATH, "the path is not one of a key"},
+        {{"a", "i", &five, sizeof five}, DCONFDB_ERROR_BAD_PATH, "the path is not one of a key"},
+        {{"/a//b", "i", &five, sizeof five}, DCONFDB_ERROR_BAD_PATH, "the path is not one of a key"},
+        {{"/\xff", "i", &five, sizeof five}, DCONFDB_ERROR_BAD_PATH, "the path is not one of a key"},
+        {{long_path, "i", &five, sizeof five}, DCONFDB_ERROR_BAD_PATH, "aaa..."},
+        {{"", NULL, NULL, 0}, DCONFDB_ERROR_BAD_PATH, "the path is not one of a key"},
+        {{"a/", NULL, NULL, 0}, DCONFDB_ERROR_BAD_PATH, "the path is not one of a key"},
+        {{"//", NULL, NULL, 0}, DCONFDB_ERROR_BAD_PATH, "the path is not one of a key"},
+        {{"/a/k", "", &five, sizeof five}, DCONFDB_ERROR_BAD_TYPE, "the type text spells no type"},
+        {{"/a/k", "z", &five, sizeof five}, DCONFDB_ERROR_BAD_TYPE, "the type text spells no type"},
+        {{"/a/k", "ii", &five, sizeof five}, DCONFDB_ERROR_BAD_TYPE, "the type text spells no type"},
+        {{"/a/k", too_deep, NULL, 0}, DCONFDB_ERROR_BAD_TYPE, "the type text spells no type"},
+        {{"/org/desk/size", "i", &five, sizeof five}, DCONFDB_ERROR_LOCKED, "the key is locked"},
+        {{"/org/desk/size", NULL, NULL, 0}, DCONFDB_ERROR_LOCKED, "the key is locked"},
+        {{"/shut/any", "i", &five, sizeof five}, DCONFDB_ERROR_LOCKED, "the key is locked"},
+        {{"/a/k", "v", deep, size}, DCONFDB_ERROR_TOO_LARGE, "the value is nested too deep or too long"},
+    };
+    for (size_t i = 0; i < sizeof refused / sizeof refused[0]; i++) {
+        DconfdbEdit good = sets_text("/good", "1"), edits[] = {good, refused[i].edit, good};
+        Fault fault = {refused[i].number, 0, 0, 0, 0, strlen(refused[i].edit.path) > 400 ? "/" : refused[i].edit.path, refused[i].words};
+        TRY(refuses_change(store, edits + 1, 1, fault) && refuses_change(store, edits + 1, 2, fault));
+        fault.at = 1;
+        TRY(refuses_change(store, edits, 2, fault) && refuses_change(store, edits, 3, fault));
+    }
+}
+
+/* ---- files: the user's (0) and the site's (1), bad in each way */
+
+static void writes(const char *name, const char *bytes, size_t size)
+{
+    FILE *file = fopen(name, "w");
+    TRY(file && fwrite(bytes, 1, size, file) == size && fclose(file) == 0);
+}
+
+static void sets_word(char *bytes, size_t at, uint32_t word)
+{
+    for (size_t i = 0; i < 4; i++)
+        bytes[at + i] = (char)(word >> (8 * i));
+}
+
+/* Where the root table starts, and its first item. */
+static size_t word_at(const char *bytes, size_t at)
+{
+    uint32_t word;
+    memcpy(&word, bytes + at, sizeof word);
+    return word;
+}
+
+static size_t first_item(const char *bytes)
+{
+    size_t start = word_at(bytes, 16);
+    return start + 8 + 4 * (word_at(bytes, start) & 0x7ffffff) + 4 * word_at(bytes, start + 4);
+}
+
+static const struct {
+    int number;
+    const char *words;
+} bad[] = {
+    {DCONFDB_ERROR_SHORT, "shorter than a database's header"},
+    {DCONFDB_ERROR_BAD_SIGNATURE, "does not start as a database does"},
+    {DCONFDB_ERROR_BAD_VERSION, "a version other than 0"},
+    {DCONFDB_ERROR_BAD_ROOT, "no root table"},
+    {DCONFDB_ERROR_BAD_TABLE, "root table does not fit"},
+    {DCONFDB_ERROR_UNSOUND, "breaks the rule S"},
+    {DCONFDB_ERROR_TOO_BIG, "the file is too big"},
+    {DCONFDB_ERROR_FILE, "Is a directory"},
+};
+
+/* Puts a file in place that is bad in that way. */
+static void makes_bad(const char *name, int number, char *bytes, size_t size)
+{
+    if (number == DCONFDB_ERROR_SHORT)
+        size = 23;
+    else if (number == DCONFDB_ERROR_BAD_SIGNATURE)
+        bytes[0] = 'g';
+    else if (number == DCONFDB_ERROR_BAD_VERSION)
+        bytes[8] = 1;
+    else if (number == DCONFDB_ERROR_BAD_ROOT)
+        sets_word(bytes, 20, (uint32_t)size + 1);
+    else if (number == DCONFDB_ERROR_BAD_TABLE)
+        sets_word(bytes, word_at(bytes, 16) + 4, 1 << 24);
+    else if (number == DCONFDB_ERROR_UNSOUND)
+        bytes[first_item(bytes)] = (char)(bytes[first_item(bytes)] + 1);
+    if (number == DCONFDB_ERROR_FILE) {
+        TRY(mkdir(name, 0700) == 0);
+        return;
+    }
+    writes(name, bytes, size);
+    if (number == DCONFDB_ERROR_TOO_BIG)
+        TRY(truncate(name, 4294967296) == 0);
+}
+
+static void tries_bad_file(DconfdbStore *store, size_t database, size_t which)
+{
+    static char bytes[MOST];
+    DconfdbEdit good = sets_text("/good", "1");
+    const char *name = files[database];
+    FILE *file = fopen(name, "r");
+    size_t size = file ? fread(bytes, 1, MOST, file) : 0;
+    TRY(size > 40 && size < MOST && fclose(file) == 0 && rename(name, "kept") == 0);
+    makes_bad(name, bad[which].number, bytes, size);
+    Fault fault = {bad[which].number, bad[which].number == DCONFDB_ERROR_FILE ? EISDIR : 0, 0, database, 0, name, bad[which].words};
+    TRY(refuses_open(".", fault) && refuses_refresh(store, fault) && refuses_change(store, &good, 1, fault));
+    TRY((bad[which].number == DCONFDB_ERROR_FILE ? rmdir(name) : unlink(name)) == 0 && rename("kept", name) == 0);
+    TRY(dconfdb_store_refresh(store, NULL, NULL, &error));
+}
+
+static void tries_bad_files(DconfdbStore *store)
+{
+    for (size_t database = 0; database < 2; database++) {
+        for (size_t which = 0; which < sizeof bad / sizeof bad[0]; which++)
+            tries_bad_file(store, database, which);
+    }
+}
+
+/* ---- profiles */
+
+static void tries_profiles(void)
+{
+    static char many[16 * 66], *end = many;
+    for (int i = 0; i < 65; i++)
+        end += sprintf(end, "system-db:s%d\n", i);
+    const struct {
+        const char *text;
+        int number;
+        size_t line;
+        const char *words;
+    } profiles[] = {
+        {"user-db:me\n\xff\n", DCONFDB_ERROR_NOT_TEXT, 0, "not UTF-8"},
+        {"user-db:me\n\nsystem\n", DCONFDB_ERROR_BAD_LINE, 3, "names no database"},
+        {"user-db:/home/me\n", DCONFDB_ERROR_BAD_LINE, 1, "names no database"},
+        {"service-db:keyfile/user\n", DCONFDB_ERROR_SERVICE_DB, 1, "service-db"},
+        {"system-db:site\nuser-db:me\n", DCONFDB_ERROR_USER_NOT_FIRST, 2, "user-db that is not the first"},
+        {many, DCONFDB_ERROR_TOO_MANY, 65, "the 65th database"},
+    };
+    TRY(rename("profile", "profile.kept") == 0);
+    for (size_t i = 0; i < sizeof profiles / sizeof profiles[0]; i++) {
+        char place[32];
+        snprintf(place, sizeof place, profiles[i].line ? "/profile:%zu:" : "/profile:", profiles[i].line);
+        writes("profile", profiles[i].text, strlen(profiles[i].text));
+        TRY(refuses_open(".", (Fault){profiles[i].number, 0, 0, 0, profiles[i].line, place, profiles[i].words}));
+        /* The files are named all the same, but for the databases. */
+        char *names = dconfdb_store_files("/none/such", NULL, &error);
+        TRY(names && unlink("profile") == 0);
+        free(names);
+    }
+    TRY(mkdir("profile", 0700) == 0);
+    TRY(refuses_open(".", (Fault){DCONFDB_ERROR_FILE, EISDIR, 0, 0, 0, "/profile", "Is a directory"}) && rmdir("profile") == 0);
+    writes("profile", "", 0);
+    TRY(truncate("profile", 16777217) == 0);
+    TRY(refuses_open(".", (Fault){DCONFDB_ERROR_TOO_BIG, 0, 0, 0, 0, "/profile", "too big"}) && unlink("profile") == 0);
+    /* A name below what is no folder is no missing file. */
+    writes("profile", "user-db:me\nfile-db:site.db/x\n", 29);
+    TRY(refuses_open(".", (Fault){DCONFDB_ERROR_FILE, ENOTDIR, 0, 1, 0, "/site.db/x", "Not a directory"}));
+    TRY(rename("profile.kept", "profile") == 0);
+}
+
+/* ---- lists, folders, stores that may not be written */
+
+static void tries_lists(DconfdbStore *store)
+{
+    static const char *const none[] = {"", "a", "/a", "/a//", "a/", "/\xff/"};
+    DconfdbSnapshot *now = dconfdb_store_snapshot(store);
+    for (size_t i = 0; i < sizeof none / sizeof none[0]; i++) {
+        size_t size = 77;
+        Fault fault = {DCONFDB_ERROR_BAD_PATH, 0, 0, 0, 0, none[i], "the path is not one"};
+        begins(store);
+        TRY(!dconfdb_snapshot_list(now, none[i], &size, &error) && is_said(fault) && size == 77);
+        forgets();
+        TRY(!dconfdb_snapshot_locks(now, none[i], &size, &error) && is_said(fault) && size == 77);
+        TRY(!dconfdb_snapshot_list(now, none[i], NULL, NULL) && !dconfdb_snapshot_locks(now, none[i], NULL, NULL));
+        TRY(nothing_changed(store));
+    }
+    dconfdb_snapshot_unref(now);
+}
+
+static void tries_no_user(void)
+{
+    DconfdbStore *store = dconfdb_store_open("writeless", &error);
+    DconfdbEdit edits[] = {sets_text("/good", "1"), {"/org/desk/size", NULL, NULL, 0}, {"/", NULL, NULL, 0}, {"/a/", "s", "x", 2}};
+    Fault fault = {DCONFDB_ERROR_NOT_WRITABLE, 0, 0, 0, 0, "/", "no user's database"};
+    TRY(store);
+    for (size_t i = 0; i < 3; i++) {
+        fault.name = edits[i].path;
+        TRY(refuses_change(store, edits + i, 1, fault));
+    }
+    TRY(refuses_change(store, edits + 3, 1, (Fault){DCONFDB_ERROR_BAD_PATH, 0, 0, 0, 0, "/a/", "the path is not one"}));
+    TRY(dconfdb_store_change(store, NULL, 0, &error));
+    dconfdb_store_close(store);
+}
+
+/* What the system refuses of a change: the file's place is taken by a folder; it is cut off. */
+static void tries_replacing(DconfdbStore *store)
+{
+    DconfdbEdit good = sets_text("/good", "1");
+    TRY(mkdir("me.user.new", 0700) == 0);
+    forgets();
+    TRY(!dconfdb_store_change(store, &good, 1, &error));
+    TRY(rmdir("me.user.new") == 0 && error.number == DCONFDB_ERROR_FILE && error.system != 0 && strstr(error.text, "/me.user"));
+    TRY(error.at == 0 && error.database == 0 && error.line == 0 && !strstr(error.text, "replaced"));
+    begins(store);
+    TRY(nothing_changed(store));
+}
+
+static void tries_no_folder(void)
+{
+    Fault none = {DCONFDB_ERROR_NO_FOLDER, 0, 0, 0, 0, "", "the environment names no folder"};
+    TRY(unsetenv("DCONFDB_STORE") == 0 && setenv("XDG_CONFIG_HOME", "relative", 1) == 0 && setenv("HOME", "", 1) == 0);
+    TRY(refuses_open(NULL, none) && refuses_files(NULL, none));
+    /* The current folder is gone, and a name that is relative with it. */
+    int here = open(".", O_RDONLY | O_DIRECTORY);
+    TRY(here >= 0 && mkdir("gone", 0700) == 0 && chdir("gone") == 0 && rmdir("../gone") == 0);
+    forgets();
+    Fault gone = {DCONFDB_ERROR_FILE, ENOENT, 0, 0, 0, "relative", "No such file"};
+    TRY(!dconfdb_store_open("relative", &error) && is_said(gone) && !dconfdb_store_files("relative", NULL, &error) && is_said(gone));
+    gone.name = "$DCONFDB_STORE";
+    TRY(setenv("DCONFDB_STORE", "relative", 1) == 0 && !dconfdb_store_open(NULL, &error) && is_said(gone));
+    TRY(!dconfdb_store_files(NULL, NULL, &error) && is_said(gone) && fchdir(here) == 0 && close(here) == 0);
+    TRY(unsetenv("DCONFDB_STORE") == 0);
+}
+
+static void tries_busy(DconfdbStore *store)
+{
+    DconfdbEdit good = sets_text("/good", "1");
+    int folder = open(".", O_RDONLY | O_DIRECTORY);
+    TRY(folder >= 0 && flock(folder, LOCK_EX) == 0);
+    begins(store);
+    TRY(!dconfdb_store_change(store, &good, 1, &error) && nothing_changed(store) && flock(folder, LOCK_UN) == 0 && close(folder) == 0);
+    TRY(is_said((Fault){DCONFDB_ERROR_BUSY, 0, 0, 0, 0, "/me.user", "for ten seconds"}));
+}
+
+int main(int argc, char **argv)
+{
+    TRY((argc == 2 || argc == 3) && chdir(argv[1]) == 0);
+    DconfdbStore *store = dconfdb_store_open(".", &error);
+    DconfdbEdit edits[] = {sets_text("/a/k", "1"), sets_text("/a/j", "2"), sets_text("/b", "3")};
+    TRY(store && dconfdb_store_change(store, edits, 3, &error));
+    if (argc == 3) {
+        tries_busy(store);
+    } else {
+        tries_edits(store);
+        tries_bad_files(store);
+        tries_profiles();
+        tries_lists(store);
+        tries_no_user();
+        tries_replacing(store);
+        tries_no_folder();
+    }
+    DconfdbSnapshot *now = dconfdb_store_snapshot(store);
+    TRY(has(now, "/a/k", "1") && has(now, "/a/j", "2") && has(now, "/b", "3") && has(now, "/good", NULL));
+    dconfdb_snapshot_unref(now);
+    dconfdb_store_close(store);
+    return 0;
+}
