@@ -146,7 +146,7 @@ typedef struct DconfdbEdit {
 } DconfdbEdit;
 
 /* Opens the store of a folder, or of the environment where NULL is given. Then getenv() is called, and
- * no other thread may change the environment meanwhile; where a folder is given it is never called.
+ * no other thread may change the environment meanwhile. Where a folder is given nothing calls it.
  * The folder need not be there. The profile is read now, and not again. NULL: it failed. */
 DconfdbStore *dconfdb_store_open(const char *folder, DconfdbError *error);
 

@@ -105,7 +105,7 @@ static Words words_of(int fault)
 static bool refuse_file(DconfdbError *error, int fault, const char *name, Place place)
 {
     if (fault == ENOMEM)
-        return refuse(error, DCONFDB_ERROR_MEMORY, 0, place, "%s: no memory is left", name);
+        return refuse(error, DCONFDB_ERROR_MEMORY, 0, nowhere, "%s: no memory is left", name);
     if (fault == EOVERFLOW)
         return refuse(error, DCONFDB_ERROR_TOO_BIG, 0, place, "%s: the file is too big", name);
     return refuse(error, DCONFDB_ERROR_FILE, fault, place, "%s: %s", name, words_of(fault).text);

@@ -1,7 +1,11 @@
 /* Refuses each growth of memory in turn to all that the library does: memory FOLDER. It is linked
  * with the static library, and with --wrap of malloc, calloc and realloc. Each call is done, or
- * says that memory is missing and has done nothing. */
+ * says that memory is missing and has done nothing: no edit, database or line is at fault, and the file,
+ * the newest snapshot and what the call was to write to stay as they were. */
 #include "try.h"
+
+#include <fcntl.h>
+#include <unistd.h>
 
 void *__real_malloc(size_t size);
 void *__real_calloc(size_t count, size_t size);
@@ -38,23 +42,75 @@ static DconfdbError error;
 static bool lacks_memory(bool done)
 {
     TRY(done || (error.number == DCONFDB_ERROR_MEMORY && growths >= refused));
+    TRY(done || (error.system == 0 && error.at == 0 && error.database == 0 && error.line == 0));
+    TRY(done || strstr(error.text, "no memory is left"));
+    memset(&error, 0x7f, sizeof error);
     return !done;
+}
+
+static void is_listed(char *names, size_t size)
+{
+    TRY(!lacks_memory(names != NULL) || size == 77);
+    free(names);
 }
 
 static void lists(const DconfdbSnapshot *now, const DconfdbSnapshot *old)
 {
-    char *names = dconfdb_snapshot_list(now, "/", NULL, &error);
-    lacks_memory(names != NULL);
-    free(names);
-    names = dconfdb_snapshot_locks(now, "/", NULL, &error);
-    lacks_memory(names != NULL);
-    free(names);
-    names = dconfdb_snapshot_differences(now, old, NULL, &error);
-    lacks_memory(names != NULL);
-    free(names);
-    names = dconfdb_store_files(".", NULL, &error);
-    lacks_memory(names != NULL);
-    free(names);
+    size_t size = 77;
+    char *names = dconfdb_snapshot_list(now, "/", &size, &error);
+    is_listed(names, size);
+    size = 77;
+    names = dconfdb_snapshot_locks(now, "/", &size, &error);
+    is_listed(names, size);
+    size = 77;
+    names = dconfdb_snapshot_differences(now, old, &size, &error);
+    is_listed(names, size);
+    size = 77;
+    names = dconfdb_store_files(".", &size, &error);
+    is_listed(names, size);
+}
+
+/* The bytes of the user's file, and the newest snapshot, which is lent. */
+typedef struct {
+    ssize_t size;
+    char bytes[4096];
+    const DconfdbSnapshot *newest;
+} State;
+
+static State state_of(DconfdbStore *store)
+{
+    State state = {.size = -1};
+    DconfdbSnapshot *newest = dconfdb_store_snapshot(store);
+    int file = open(dconfdb_store_user_file(store), O_RDONLY);
+    if (file >= 0)
+        state.size = read(file, state.bytes, sizeof state.bytes);
+    state.newest = newest;
+    dconfdb_snapshot_unref(newest);
+    TRY(file < 0 || close(file) == 0);
+    return state;
+}
+
+static bool is_as_before(DconfdbStore *store, const State *before)
+{
+    State now = state_of(store);
+    return now.size == before->size && now.newest == before->newest && memcmp(now.bytes, before->bytes, sizeof now.bytes) == 0;
+}
+
+/* Whether the edits are made; where not, nothing is. */
+static bool changes(DconfdbStore *store, const DconfdbEdit *edits, size_t count)
+{
+    State before = state_of(store);
+    bool done = dconfdb_store_change(store, edits, count, &error);
+    TRY(!lacks_memory(done) || is_as_before(store, &before));
+    return done;
+}
+
+static void refreshes(DconfdbStore *store)
+{
+    bool no = false, yes = true;
+    State before = state_of(store);
+    TRY(!lacks_memory(dconfdb_store_refresh(store, NULL, &no, &error)) || (!no && is_as_before(store, &before)));
+    TRY(!lacks_memory(dconfdb_store_refresh(store, before.newest, &yes, &error)) || (yes && is_as_before(store, &before)));
 }
 
 /* All that there is, with one growth refused; whether it was. */
@@ -66,14 +122,14 @@ static bool runs(const char *folder)
         return true;
     DconfdbSnapshot *old = dconfdb_store_snapshot(store);
     DconfdbEdit edits[] = {sets_text("/a/k", "1"), sets_text("/a/l", "2"), {"/org/", NULL, NULL, 0}};
-    bool done = dconfdb_store_change(store, edits, 3, &error);
-    lacks_memory(done);
+    bool done = changes(store, edits, 3);
     DconfdbSnapshot *now = dconfdb_store_snapshot(store);
     TRY(has(now, "/a/k", done ? "1" : NULL) && has(now, "/a/l", done ? "2" : NULL) && has(old, "/a/k", NULL));
     lists(now, old);
-    edits[1] = sets_text("no path", "");
+    edits[1] = sets_text("/a/", "");
     TRY(!dconfdb_store_change(store, edits, 2, &error));
-    TRY(error.number == DCONFDB_ERROR_BAD_PATH || error.number == DCONFDB_ERROR_MEMORY);
+    TRY(error.number == DCONFDB_ERROR_BAD_PATH ? error.at == 1 : error.number == DCONFDB_ERROR_MEMORY && error.at == 0);
+    memset(&error, 0x7f, sizeof error);
     dconfdb_snapshot_unref(old);
     dconfdb_snapshot_unref(now);
     dconfdb_store_close(store);
@@ -82,8 +138,8 @@ static bool runs(const char *folder)
     store = dconfdb_store_open(folder, &error);
     if (!lacks_memory(store != NULL)) {
         edits[0] = (DconfdbEdit){"/", NULL, NULL, 0};
-        lacks_memory(dconfdb_store_change(store, edits, 1, &error));
-        lacks_memory(dconfdb_store_refresh(store, NULL, NULL, &error));
+        changes(store, edits, 1);
+        refreshes(store);
         dconfdb_store_close(store);
     }
     return growths >= refused;
