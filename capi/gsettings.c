@@ -265,6 +265,7 @@ static void dconfdb_backend_init(DconfdbBackend *self)
     waiting_begin(&self->waiting);
     self->subscribed = g_hash_table_new_full(g_str_hash, g_str_equal, g_free, NULL);
     store_begin(self);
+    watch_prepare();
     g_mutex_lock(&living_lock);
     living = g_slist_prepend(living, g_object_ref(self));
     g_mutex_unlock(&living_lock);

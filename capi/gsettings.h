@@ -120,6 +120,10 @@ void worker_end(DconfdbBackend *self);
 
 /* ---- the files that are watched (gsettings_watch.c), by the worker */
 
+/* In the caller's thread: what GLib asks of the environment for a first watch, it asks now, and not while
+ * the program may change that. */
+void watch_prepare(void);
+
 void watch_begin(DconfdbBackend *self);
 void watch_end(DconfdbBackend *self);
 

@@ -51,12 +51,31 @@ static char *folder_above(const char *file)
     return folder;
 }
 
+/* A watch of a folder; g_file_new_for_path() would call the desktop's file service. */
+static GFileMonitor *monitor_of(const char *path, GError **error)
+{
+    GFile *folder = g_vfs_get_file_for_path(g_vfs_get_local(), path);
+    GFileMonitor *monitor = g_file_monitor_directory(folder, G_FILE_MONITOR_WATCH_MOVES, NULL, error);
+    g_object_unref(folder);
+    return monitor;
+}
+
+static void ignores(void)
+{
+}
+
+void watch_prepare(void)
+{
+    GFileMonitor *monitor = monitor_of("/", NULL);
+    if (monitor)
+        g_signal_connect(monitor, "changed", G_CALLBACK(ignores), NULL);
+    g_clear_object(&monitor);
+}
+
 static void watch_folder(DconfdbBackend *self, const char *path)
 {
     GError *error = NULL;
-    /* g_file_new_for_path() would call the desktop's file service. */
-    GFile *folder = g_vfs_get_file_for_path(g_vfs_get_local(), path);
-    GFileMonitor *monitor = g_file_monitor_directory(folder, G_FILE_MONITOR_WATCH_MOVES, NULL, &error);
+    GFileMonitor *monitor = monitor_of(path, &error);
     if (monitor) {
         g_signal_connect(monitor, "changed", G_CALLBACK(on_change), self);
         g_ptr_array_add(self->monitors, monitor);
@@ -64,7 +83,6 @@ static void watch_folder(DconfdbBackend *self, const char *path)
         g_warning("%s: it can't be watched: %s", path, error->message);
         g_error_free(error);
     }
-    g_object_unref(folder);
 }
 
 /* The names of the store's files, spelled as those of what is watched are. */
