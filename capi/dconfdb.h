@@ -23,15 +23,15 @@
  *
  * Compile it by `cc x.c $(pkg-config --cflags --libs dconfdb)`.
  *
- * WHERE A STORE IS. It is a folder: the one that is given, else $DCONFDB_STORE, else
- * $XDG_CONFIG_HOME/dconfdb, else $HOME/.config/dconfdb. An empty variable counts as none, and so does
- * one of the last two that doesn't start with `/`. The store's profile is the file `profile` there,
- * else /etc/dconfdb/profile, else the text `user-db:user`. Each line of it names a database, the
- * first first: `user-db:NAME` is the file NAME.user of the folder, `system-db:NAME` is NAME.db of the
- * folder, and `file-db:PATH` is PATH, which is of the folder where it doesn't start with `/`. A NAME
- * has no `/`. A `#` begins a comment, also inside a PATH; blanks at both ends of a line don't count.
- * A database without a file (ENOENT) is empty. Where the folder has a file `profile`, the program
- * dconfdb sees the same store when it runs in that folder.
+ * WHERE A STORE IS. A store is a folder: the one given, else $DCONFDB_STORE, else
+ * $XDG_CONFIG_HOME/dconfdb, else $HOME/.config/dconfdb. An empty variable counts as unset, and so
+ * does one of the last two that doesn't start with `/`. The profile is the file `profile` in the
+ * folder, else /etc/dconfdb/profile, else the text `user-db:user`. It names one database a line,
+ * the one that is asked first at the top: `user-db:NAME` is the file NAME.user in the folder,
+ * `system-db:NAME` is NAME.db in the folder, and `file-db:PATH` is the file PATH, relative to the
+ * folder. A NAME has no `/`. A `#` starts a comment, even inside a PATH; blanks at either end of a
+ * line are dropped. A database whose file doesn't exist (ENOENT) is empty. The program dconfdb, run
+ * in the folder, sees the same store if the folder has a file `profile`.
  *
  * SNAPSHOTS. A snapshot is what the files held when they were looked at. It never changes. Each
  * file is the old one or the new one, whole; the files are looked at one after another. All that a
@@ -43,12 +43,12 @@
  * give back snapshots; it opens a store of its own before it does anything else. No call may be
  * made in a signal handler.
  *
- * STACK. A call uses up to 256 KiB of its thread's stack, most of it for a value that is nested
- * deep. A thread with a smaller stack may die in a call.
+ * STACK. A call uses up to 256 KiB of its thread's stack, most of it for deeply nested values. A
+ * thread with less may die in a call.
  *
- * ERRORS. Calls that may fail take a DconfdbError, or NULL where nobody wants to know. Where
- * nothing failed it stays as it was. Where something failed, all else that the call writes to
- * (`changed`, `size`) stays as it was. Nothing here ends the process, or prints.
+ * ERRORS. Calls that may fail take a DconfdbError, or NULL where nobody wants to know. A call that
+ * succeeds leaves it as it was. A call that fails leaves everything else it would write to
+ * (`changed`, `size`) as it was. Nothing here ends the process, or prints.
  *
  * MAPPED FILES. Databases other than the user's are mapped. So they have to be replaced by a
  * rename, as `dconfdb compile` and `dconf update` do: who cuts one off in place kills the programs
@@ -62,11 +62,11 @@
  * used. Each reference is given back once. What a call says is to be freed is freed once, by
  * free().
  *
- * WHAT IS PROVED. What a database's bytes mean, which value is seen, what is locked, listed or
- * different, whether an edit may be made and which file it makes: the library asks proved calls.
- * All else that this header says is C. It is tested, not proved: where a store is, how its files are
- * read, mapped, locked and replaced, references, threads, the stack, the fields and text of an
- * error, and what a call does when memory or the system fails. */
+ * WHAT IS PROVED. The library asks proved calls what a database's bytes mean, which value is seen,
+ * what is locked, listed or different, whether an edit may be made, and which file it makes.
+ * Everything else that this header says is C, which is tested and not proved: where a store is; how
+ * files are read, mapped, locked and replaced; references, threads and stack; the fields and text
+ * of an error; what a call does when memory or the system fails. */
 #ifndef DCONFDB_H
 #define DCONFDB_H
 
@@ -99,7 +99,7 @@ enum {
     DCONFDB_ERROR_SERVICE_DB = 10,     /* .. a line names a service-db */
     DCONFDB_ERROR_USER_NOT_FIRST = 11, /* .. a line names a user-db that is not the first */
     DCONFDB_ERROR_TOO_MANY = 12,       /* .. a line names the 65th database */
-    DCONFDB_ERROR_BAD_PATH = 13,       /* a path is not one of a key, or of a directory, as the call wants it */
+    DCONFDB_ERROR_BAD_PATH = 13,       /* a path is not one of a key, or of a directory */
     DCONFDB_ERROR_BAD_TYPE = 14,       /* a type text spells no type of 128 levels at most */
     DCONFDB_ERROR_NOT_WRITABLE = 15,   /* the profile's first database is no user-db */
     DCONFDB_ERROR_LOCKED = 16,         /* the key is locked */
@@ -131,13 +131,13 @@ typedef struct DconfdbValue {
 
 /* An edit of the user's values.
  *
- * With a type, the key at the path gets a value. A path that ends in `/` is no key's: such an edit
- * is refused, DCONFDB_ERROR_BAD_PATH, and nothing changes. `data` may be NULL where `size` is 0, and
- * need not be aligned. Bytes that aren't normal at the type are stored as the value that GVariant
- * reads in them.
+ * With a type, the key at the path gets a value. A path that ends in `/` is no key's: the edit is
+ * refused with DCONFDB_ERROR_BAD_PATH, and nothing changes. `data` may be NULL where `size` is 0,
+ * and need not be aligned. Bytes that aren't in normal form at the type are stored as the value
+ * that GVariant reads in them.
  *
- * Without a type (NULL), the user's value at the path goes. If the path ends in `/`, it is a
- * directory, and all of the user's values below it go, except those of locked keys. */
+ * Without a type (NULL), the user's value at the path goes. A path that ends in `/` is a directory
+ * then: all of the user's values below it go, except those of locked keys. */
 typedef struct DconfdbEdit {
     const char *path;
     const char *type;
@@ -145,19 +145,19 @@ typedef struct DconfdbEdit {
     size_t size;
 } DconfdbEdit;
 
-/* Opens the store of a folder, or of the environment where NULL is given. Then getenv() is called, and
- * no other thread may change the environment meanwhile. Where a folder is given nothing calls it.
- * The folder need not be there. The profile is read now, and not again. NULL: it failed. */
+/* Opens the store of a folder, or of the environment if NULL is given. Only then is getenv()
+ * called, and no other thread may change the environment meanwhile. The folder need not exist. The
+ * profile is read now, and not again. NULL: it failed. */
 DconfdbStore *dconfdb_store_open(const char *folder, DconfdbError *error);
 
 /* Closes a store, or NULL. Its snapshots stay. */
 void dconfdb_store_close(DconfdbStore *store);
 
-/* The files that are looked at when the store of that folder, or of the environment, is opened: the
- * folder's profile, that of all users, and the databases that the profile names. No database is
- * named where the profile can't be read, or a line of it is at fault. So who can't open a store sees
- * what has to be mended. The form is that of dconfdb_snapshot_list. getenv() is called as by
- * dconfdb_store_open. NULL: it failed. */
+/* The files that opening the store of that folder, or of the environment, looks at: the folder's
+ * profile, that of all users, and the databases that the profile names. No database is named if the
+ * profile can't be read or a line of it is at fault. So someone who can't open a store sees what to
+ * mend. The form is that of dconfdb_snapshot_list, and getenv() is called as by dconfdb_store_open.
+ * NULL: it failed. */
 char *dconfdb_store_files(const char *folder, size_t *size, DconfdbError *error);
 
 /* The folder's absolute path, and the file of a user's database in it; NULL where there is none.
@@ -169,26 +169,27 @@ const char *dconfdb_store_user_file(const DconfdbStore *store);
  * waits for none. */
 DconfdbSnapshot *dconfdb_store_snapshot(DconfdbStore *store);
 
-/* Looks at the files again: a stat() each, and what was replaced is read. `seen` is the snapshot that
- * the caller has, or NULL; `changed`, where it isn't NULL, says whether the newest one is another, be
- * it by this call, by another thread's or by a change. False: it failed, and the newest snapshot
- * stays the newest. */
+/* Looks at the files again, by one stat() each, and reads those that were replaced. `seen` is the
+ * snapshot that the caller has, or NULL. `changed`, if it isn't NULL, says whether the newest
+ * snapshot is a different one, whether this call, another thread or a change made it. False: it
+ * failed, and the newest snapshot stays the newest. */
 bool dconfdb_store_refresh(DconfdbStore *store, const DconfdbSnapshot *seen, bool *changed, DconfdbError *error);
 
 /* Makes all edits, each in turn, or none. The user's file is read again, replaced whole, and on the
- * disk when this returns; the newest snapshot has the edits, and what others changed meanwhile, also
- * in other databases. No edits: true, and nothing is looked at.
+ * disk when this returns. The newest snapshot then has the edits, and what others changed
+ * meanwhile, in other databases too; a refused change may take that in as well. With no edits this
+ * returns true and looks at nothing.
  *
- * The new file has no locks: a change takes away those that the old one had. So a user-db is no place
- * for a site's database.
+ * The new file has no locks: a change drops those that the old one had. So a site's database must
+ * not be anybody's user-db.
  *
- * The folder is made where it is missing, also by a change that is refused then. Programs that change
- * the file take turns, by flock() on its folder: this waits ten seconds at most for the lock. Before
- * it is the turn of other threads that use the same store, however long they take.
+ * A missing folder is made, even if the change is then refused. Programs that change the file take
+ * turns by flock() on its folder. This call waits ten seconds at most for that lock; then it waits,
+ * without a limit, for threads that refresh the same store.
  *
- * False: it failed, and the file has its old bytes. Where the number is DCONFDB_ERROR_FILE it may have
- * the new ones: if it was replaced and then something failed, the text says so, and the newest
- * snapshot has the edits. */
+ * False: it failed, and the file has its old bytes. Only if the number is DCONFDB_ERROR_FILE may it
+ * have the new ones: if the fault came after the file was replaced, the text says so, and the
+ * newest snapshot has the edits. */
 bool dconfdb_store_change(DconfdbStore *store, const DconfdbEdit *edits, size_t count, DconfdbError *error);
 
 /* One reference more, and one less; the last one's return frees all. `ref` gives back what it is
@@ -214,18 +215,18 @@ bool dconfdb_snapshot_is_locked(const DconfdbSnapshot *snapshot, const char *pat
 bool dconfdb_snapshot_is_writable(const DconfdbSnapshot *snapshot, const char *path);
 
 /* What a directory (a path that ends in `/`) has in any database: names, in the order of their
- * bytes, each once; a directory's ends in `/`. And the locks of the databases after the first that
- * start with the directory's path, in the same order. A zero byte stands after each text, and one
+ * bytes, each once; a directory's ends in `/`. And the locks that start with the directory's path,
+ * of all databases but the first, in the same order. A zero byte stands after each text, and one
  * more after the last. `size`, where it isn't NULL, is how many bytes there are without that last
  * one. The caller frees them by free(). NULL: it failed. */
 char *dconfdb_snapshot_list(const DconfdbSnapshot *snapshot, const char *directory, size_t *size, DconfdbError *error);
 char *dconfdb_snapshot_locks(const DconfdbSnapshot *snapshot, const char *directory, size_t *size, DconfdbError *error);
 
-/* The paths of the keys at which another value is seen in one of two snapshots than in the other, or
- * one is seen in one alone, or which are locked in one alone; in the same form. What isn't seen
- * doesn't count: a default below the user's own value, or the user's own value of a locked key. A
+/* The paths of the keys that are seen differently in two snapshots, in the same form: another value
+ * is seen, one is seen in one snapshot alone, or the key is locked in one alone. What is hidden
+ * doesn't count, such as a default below the user's value, or the user's value at a locked key. A
  * value in other bytes is the same one. Each is a key that a database of one of them has: of keys
- * that none has, compare the locks. NULL for the other stands for one without a database. */
+ * that none has, compare the locks. NULL for the other stands for a snapshot without databases. */
 char *dconfdb_snapshot_differences(const DconfdbSnapshot *snapshot, const DconfdbSnapshot *other, size_t *size,
                                    DconfdbError *error);
 

@@ -63,8 +63,8 @@ typedef struct {
     DconfdbBytes name;
 } DconfdbName;
 
-/* A change. With `sets` it sets a key; a path that ends in '/' is BAD_PATH then. Without, it takes the
- * user's value away; a path that ends in '/' takes away all below it that is not locked. */
+/* A change. With `sets` it sets a key; a path that ends in '/' is BAD_PATH then. Without, it takes
+ * the user's value away; a path that ends in '/' takes away all below it that is not locked. */
 typedef struct {
     DconfdbBytes path, value, type_text;
     bool sets;
@@ -153,8 +153,8 @@ uint32_t dconfdb_differs(const DconfdbLayer *layers, size_t n, const DconfdbLaye
 uint32_t dconfdb_profile(const uint8_t *text, size_t len, DconfdbName *room, size_t room_len, size_t *names, size_t *line);
 
 /* The user's file after all changes, each made in turn, or none. `len` as dconfdb_list has it.
- * MEMORY, BAD_PATH to TOO_BIG; and `at`, of BAD_PATH to TOO_LARGE the index of the change at fault. Of
- * the others it says nothing. */
+ * MEMORY, BAD_PATH to TOO_BIG; for BAD_PATH to TOO_LARGE `at` is the index of the change at fault,
+ * and for the others it means nothing. */
 uint32_t dconfdb_change(const DconfdbLayer *layers, size_t n, bool writable, const DconfdbChange *changes, size_t changes_len,
                         uint8_t *room, size_t room_len, size_t *len, size_t *at);
 
