@@ -113,6 +113,20 @@ static void refreshes(DconfdbStore *store)
     TRY(!lacks_memory(dconfdb_store_refresh(store, before.newest, &yes, &error)) || (yes && is_as_before(store, &before)));
 }
 
+/* A store that has no user's database: why it may not be changed is said all the same. */
+static void tries_writeless(const char *folder)
+{
+    char name[4096];
+    DconfdbEdit edit = sets_text("/k", "1");
+    snprintf(name, sizeof name, "%s/writeless", folder);
+    DconfdbStore *store = dconfdb_store_open(name, &error);
+    if (lacks_memory(store != NULL))
+        return;
+    TRY(!dconfdb_store_change(store, &edit, 1, &error));
+    TRY(error.number == DCONFDB_ERROR_NOT_WRITABLE || (lacks_memory(false) && growths >= refused));
+    dconfdb_store_close(store);
+}
+
 /* All that there is, with one growth refused; whether it was. */
 static bool runs(const char *folder)
 {
@@ -142,6 +156,7 @@ static bool runs(const char *folder)
         refreshes(store);
         dconfdb_store_close(store);
     }
+    tries_writeless(folder);
     return growths >= refused;
 }
 
