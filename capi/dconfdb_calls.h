@@ -105,17 +105,15 @@ static const uint8_t dconfdb_empty_file[32] = {'G', 'V', 'a', 'r', 'i', 'a', 'n'
 bool dconfdb_fault_text(uint32_t number, DconfdbBytes *text);
 
 /* Opens a layer of a file's bytes, or an empty one where there is no file (is_there false: the
- * bytes are not looked at). Else SHORT to BAD_TABLE, or UNSOUND with what is broken; the layer is
- * as it was. It asks each rule of each item. */
+ * bytes are not looked at). Else SHORT to BAD_TABLE, or UNSOUND with what is broken, which is all
+ * zeros of the others; the layer is as it was. It asks each rule of each item. */
 uint32_t dconfdb_open(const uint8_t *file, size_t len, bool is_there, DconfdbLayer *layer, DconfdbUnsound *unsound);
 
-/* The value that is seen at a key's path through layers, the first first. `writable`: the first is
- * the user's. False, and `found` as it was, where nothing is seen and where the text is no key's
- * path. */
-bool dconfdb_read(const DconfdbLayer *layers, size_t n, bool writable, const uint8_t *path, size_t path_len,
-                  DconfdbFound *found);
+/* The value that is seen at a key's path through layers, the first first. False, and `found` as it
+ * was, where nothing is seen and where the text is no key's path. */
+bool dconfdb_read(const DconfdbLayer *layers, size_t n, const uint8_t *path, size_t path_len, DconfdbFound *found);
 
-/* The same without the user's values. */
+/* The same without the user's values. `writable`: the first layer is the user's. */
 bool dconfdb_read_default(const DconfdbLayer *layers, size_t n, bool writable, const uint8_t *path, size_t path_len,
                           DconfdbFound *found);
 
@@ -125,17 +123,17 @@ bool dconfdb_read_alone(const DconfdbLayer *layer, const uint8_t *path, size_t p
 /* Whether a layer from the second on locks the key. */
 bool dconfdb_is_locked(const DconfdbLayer *layers, size_t n, const uint8_t *path, size_t path_len);
 
-/* Whether the first layer is the user's, and the key is not locked. */
+/* Whether the first layer is the user's (`writable`), and the key is not locked. */
 bool dconfdb_is_writable(const DconfdbLayer *layers, size_t n, bool writable, const uint8_t *path, size_t path_len);
 
 /* What a directory has in any layer: names in the order of their bytes, a zero byte after each; a
  * directory's ends in '/'. `len` is how many bytes there are; where they are more than the room,
- * nothing is put into it. MEMORY or BAD_PATH. */
+ * nothing is put into it. MEMORY or BAD_PATH, and then nothing is written. */
 uint32_t dconfdb_list(const DconfdbLayer *layers, size_t n, const uint8_t *directory, size_t directory_len, uint8_t *room,
                       size_t room_len, size_t *len);
 
-/* The paths of the locks that start with a directory, of keys and of directories, in the same
- * form. */
+/* The paths of the locks that start with a directory, of keys and of directories, of the layers
+ * after the first, in the same form. */
 uint32_t dconfdb_locks(const DconfdbLayer *layers, size_t n, const uint8_t *directory, size_t directory_len, uint8_t *room,
                        size_t room_len, size_t *len);
 
@@ -149,12 +147,12 @@ uint32_t dconfdb_differs(const DconfdbLayer *layers, size_t n, const DconfdbLaye
 
 /* The databases that a profile's text names, 64 at most. `names` is how many; where they are more
  * than the room, nothing is put into it. MEMORY, NOT_TEXT, or BAD_LINE to TOO_MANY with the line,
- * counted from 1. */
+ * counted from 1; of the others it is 0. */
 uint32_t dconfdb_profile(const uint8_t *text, size_t len, DconfdbName *room, size_t room_len, size_t *names, size_t *line);
 
-/* The user's file after all changes, each made in turn, or none. `len` as dconfdb_list has it.
- * MEMORY, BAD_PATH to TOO_BIG; for BAD_PATH to TOO_LARGE `at` is the index of the change at fault,
- * and for the others it means nothing. */
+/* The user's file after all changes, each made in turn, or none, and without locks. `len` as
+ * dconfdb_list has it. MEMORY, BAD_PATH to TOO_BIG, and then only `at` is written: the index of the
+ * change at fault, or 0 where none is, of MEMORY and TOO_BIG. */
 uint32_t dconfdb_change(const DconfdbLayer *layers, size_t n, bool writable, const DconfdbChange *changes, size_t changes_len,
                         uint8_t *room, size_t room_len, size_t *len, size_t *at);
 

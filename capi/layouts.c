@@ -12,7 +12,7 @@
 #include <string.h>
 
 uint32_t dconfdb_open(const uint8_t *file, size_t len, bool is_there, void *layer, void *unsound);
-bool dconfdb_read(const void *layers, size_t n, bool writable, const uint8_t *path, size_t path_len, void *found);
+bool dconfdb_read(const void *layers, size_t n, const uint8_t *path, size_t path_len, void *found);
 bool dconfdb_fault_text(uint32_t number, void *text);
 uint32_t dconfdb_profile(const uint8_t *text, size_t len, void *room, size_t room_len, size_t *names, size_t *line);
 uint32_t dconfdb_change(const void *layers, size_t n, bool writable, const void *changes, size_t changes_len, uint8_t *room,
@@ -243,7 +243,7 @@ static size_t finds_found(size_t layer_size)
     Written room = room_of("DconfdbFound");
     opens(file, sizeof file, false, layers);
     opens(file, sizeof file, true, layers + layer_size);
-    is_so(dconfdb_read(layers, 2, false, (const uint8_t *)"/k", 2, room.bytes), "dconfdb_read");
+    is_so(dconfdb_read(layers, 2, (const uint8_t *)"/k", 2, room.bytes), "dconfdb_read");
     finds_word(&room, "origin", 1);
     finds_lent(&room, "type_text", file + TYPE, TYPE_LEN);
     size_t value = finds_lent(&room, "value", file + VALUE, VALUE_LEN);
@@ -285,7 +285,7 @@ static bool has(const uint8_t *layer, size_t value_in_found, const char *path, c
 {
     _Alignas(16) uint8_t found[ROOM];
     const char *at;
-    if (!dconfdb_read(layer, 1, true, (const uint8_t *)path, strlen(path), found))
+    if (!dconfdb_read(layer, 1, (const uint8_t *)path, strlen(path), found))
         return !bytes;
     memcpy(&at, found + value_in_found + at_in_lent, WORD);
     return bytes && memcmp(at, bytes, size) == 0;

@@ -293,7 +293,7 @@ static bool tell(bool is_found, const DconfdbFound *found, DconfdbValue *value)
 bool dconfdb_snapshot_read(const DconfdbSnapshot *snapshot, const char *path, DconfdbValue *value)
 {
     DconfdbFound found = nothing_found;
-    bool is_found = dconfdb_read(snapshot->layers, snapshot->count, snapshot->is_writable, bytes_of(path), strlen(path), &found);
+    bool is_found = dconfdb_read(snapshot->layers, snapshot->count, bytes_of(path), strlen(path), &found);
     return tell(is_found, &found, value);
 }
 
