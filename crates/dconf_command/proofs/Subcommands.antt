@@ -71,7 +71,7 @@ line = built command_line
 
 abbrev IsCommandName : Text → Type 0
 IsCommandName name =
-    (name ≡ codes "show") ⊎ ((name ≡ codes "check") ⊎ ((name ≡ codes "compile") ⊎ ((name ≡ codes "read") ⊎ ((name ≡ codes "origin") ⊎ ((name ≡ codes "repair") ⊎ ((name ≡ codes "list") ⊎ ((name ≡ codes "list-locks") ⊎ ((name ≡ codes "dump") ⊎ ((name ≡ codes "write") ⊎ ((name ≡ codes "reset") ⊎ (name ≡ codes "load")))))))))))
+    (name ≡ codes "read") ⊎ ((name ≡ codes "write") ⊎ ((name ≡ codes "reset") ⊎ ((name ≡ codes "list") ⊎ ((name ≡ codes "dump") ⊎ ((name ≡ codes "load") ⊎ ((name ≡ codes "origin") ⊎ ((name ≡ codes "list-locks") ⊎ ((name ≡ codes "compile") ⊎ ((name ≡ codes "check") ⊎ ((name ≡ codes "repair") ⊎ (name ≡ codes "show")))))))))))
 
 abbrev Each : {X : Type 0} → (X → Type 0) → List X → Type 0
 Each P [] = ⊤
@@ -116,44 +116,44 @@ each_found P test (s ∷ rest) each = go (test s) refl (each_found P test rest e
 abbrev shape_at : ℕ → Shape
 shape_at n = unwrap_or (slice_get line.subs n) show_line.top
 
-show_is_plain : IsPlainSub (shape_at 0)
-show_is_plain = record {
-  rules = (inl refl, (inl refl, (inr (inr (refl, λ rows. refl)), tt)));
+read_is_plain : IsPlainSub (shape_at 0)
+read_is_plain = record {
+  rules = (inl refl, (inr (inl refl), (inr (inl refl), (inr (inr (refl, λ rows. refl)), tt))));
   name = inl refl;
 }
 
-check_is_plain : IsPlainSub (shape_at 1)
-check_is_plain = record {
-  rules = (inl refl, (inr (inr (refl, λ rows. refl)), tt));
+write_is_plain : IsPlainSub (shape_at 1)
+write_is_plain = record {
+  rules = (inl refl, (inl refl, (inr (inl refl), (inr (inr (refl, λ rows. refl)), tt))));
   name = inr (inl refl);
 }
 
-compile_is_plain : IsPlainSub (shape_at 2)
-compile_is_plain = record {
-  rules = (inl refl, (inr (inl refl), (inl refl, (inr (inr (refl, λ rows. refl)), tt))));
+reset_is_plain : IsPlainSub (shape_at 2)
+reset_is_plain = record {
+  rules = (inl refl, (inr (inl refl), (inr (inl refl), (inr (inr (refl, λ rows. refl)), tt))));
   name = inr (inr (inl refl));
 }
 
-read_is_plain : IsPlainSub (shape_at 3)
-read_is_plain = record {
-  rules = (inl refl, (inr (inl refl), (inr (inl refl), (inr (inr (refl, λ rows. refl)), tt))));
+list_is_plain : IsPlainSub (shape_at 3)
+list_is_plain = record {
+  rules = (inl refl, (inr (inl refl), (inr (inr (refl, λ rows. refl)), tt)));
   name = inr (inr (inr (inl refl)));
 }
 
-origin_is_plain : IsPlainSub (shape_at 4)
-origin_is_plain = record {
+dump_is_plain : IsPlainSub (shape_at 4)
+dump_is_plain = record {
   rules = (inl refl, (inr (inl refl), (inr (inr (refl, λ rows. refl)), tt)));
   name = inr (inr (inr (inr (inl refl))));
 }
 
-repair_is_plain : IsPlainSub (shape_at 5)
-repair_is_plain = record {
-  rules = (inl refl, (inl refl, (inr (inr (refl, λ rows. refl)), tt)));
+load_is_plain : IsPlainSub (shape_at 5)
+load_is_plain = record {
+  rules = (inl refl, (inr (inl refl), (inr (inl refl), (inr (inr (refl, λ rows. refl)), tt))));
   name = inr (inr (inr (inr (inr (inl refl)))));
 }
 
-list_is_plain : IsPlainSub (shape_at 6)
-list_is_plain = record {
+origin_is_plain : IsPlainSub (shape_at 6)
+origin_is_plain = record {
   rules = (inl refl, (inr (inl refl), (inr (inr (refl, λ rows. refl)), tt)));
   name = inr (inr (inr (inr (inr (inr (inl refl))))));
 }
@@ -164,54 +164,54 @@ list_locks_is_plain = record {
   name = inr (inr (inr (inr (inr (inr (inr (inl refl)))))));
 }
 
-dump_is_plain : IsPlainSub (shape_at 8)
-dump_is_plain = record {
-  rules = (inl refl, (inr (inl refl), (inr (inr (refl, λ rows. refl)), tt)));
+compile_is_plain : IsPlainSub (shape_at 8)
+compile_is_plain = record {
+  rules = (inl refl, (inr (inl refl), (inl refl, (inr (inr (refl, λ rows. refl)), tt))));
   name = inr (inr (inr (inr (inr (inr (inr (inr (inl refl))))))));
 }
 
-write_is_plain : IsPlainSub (shape_at 9)
-write_is_plain = record {
-  rules = (inl refl, (inl refl, (inr (inl refl), (inr (inr (refl, λ rows. refl)), tt))));
+check_is_plain : IsPlainSub (shape_at 9)
+check_is_plain = record {
+  rules = (inl refl, (inr (inr (refl, λ rows. refl)), tt));
   name = inr (inr (inr (inr (inr (inr (inr (inr (inr (inl refl)))))))));
 }
 
-reset_is_plain : IsPlainSub (shape_at 10)
-reset_is_plain = record {
-  rules = (inl refl, (inr (inl refl), (inr (inl refl), (inr (inr (refl, λ rows. refl)), tt))));
+repair_is_plain : IsPlainSub (shape_at 10)
+repair_is_plain = record {
+  rules = (inl refl, (inl refl, (inr (inr (refl, λ rows. refl)), tt)));
   name = inr (inr (inr (inr (inr (inr (inr (inr (inr (inr (inl refl))))))))));
 }
 
-load_is_plain : IsPlainSub (shape_at 11)
-load_is_plain = record {
-  rules = (inl refl, (inr (inl refl), (inr (inl refl), (inr (inr (refl, λ rows. refl)), tt))));
+show_is_plain : IsPlainSub (shape_at 11)
+show_is_plain = record {
+  rules = (inl refl, (inl refl, (inr (inr (refl, λ rows. refl)), tt)));
   name = inr (inr (inr (inr (inr (inr (inr (inr (inr (inr (inr refl))))))))));
 }
 
 offered_subs : Each IsOffered line.subs
 offered_subs = (
-  record { alone = refl; ours = λ _. show_is_plain },
+  record { alone = refl; ours = λ _. read_is_plain },
   (
-    record { alone = refl; ours = λ _. check_is_plain },
+    record { alone = refl; ours = λ _. write_is_plain },
     (
-      record { alone = refl; ours = λ _. compile_is_plain },
+      record { alone = refl; ours = λ _. reset_is_plain },
       (
-        record { alone = refl; ours = λ _. read_is_plain },
+        record { alone = refl; ours = λ _. list_is_plain },
         (
-          record { alone = refl; ours = λ _. origin_is_plain },
+          record { alone = refl; ours = λ _. dump_is_plain },
           (
-            record { alone = refl; ours = λ _. repair_is_plain },
+            record { alone = refl; ours = λ _. load_is_plain },
             (
-              record { alone = refl; ours = λ _. list_is_plain },
+              record { alone = refl; ours = λ _. origin_is_plain },
               (
                 record { alone = refl; ours = λ _. list_locks_is_plain },
                 (
-                  record { alone = refl; ours = λ _. dump_is_plain },
+                  record { alone = refl; ours = λ _. compile_is_plain },
                   (
-                    record { alone = refl; ours = λ _. write_is_plain },
+                    record { alone = refl; ours = λ _. check_is_plain },
                     (
-                      record { alone = refl; ours = λ _. reset_is_plain },
-                      (record { alone = refl; ours = λ _. load_is_plain }, (record { alone = refl; ours = λ other. absurd (other refl) }, tt)),
+                      record { alone = refl; ours = λ _. repair_is_plain },
+                      (record { alone = refl; ours = λ _. show_is_plain }, (record { alone = refl; ours = λ other. absurd (other refl) }, tt)),
                     ),
                   ),
                 ),
@@ -331,18 +331,18 @@ pub named_show : (words : List Text) (m : ArgMatches) → IsParsedBy words m
 named_show words m p not_check not_compile not_read not_origin not_repair not_list not_list_locks not_dump not_write not_reset not_load = go (enters words p.sound).one
   where
     go : IsCommandName (enters words p.sound).name → subcommand_name_of m ≡ Some (codes "show")
-    go (inl show) = met_name words m p ∙ ap Some show
-    go (inr (inl check)) = absurd (not_check (met_name words m p ∙ ap Some check))
-    go (inr (inr (inl compile))) = absurd (not_compile (met_name words m p ∙ ap Some compile))
-    go (inr (inr (inr (inl read)))) = absurd (not_read (met_name words m p ∙ ap Some read))
-    go (inr (inr (inr (inr (inl origin))))) = absurd (not_origin (met_name words m p ∙ ap Some origin))
-    go (inr (inr (inr (inr (inr (inl repair)))))) = absurd (not_repair (met_name words m p ∙ ap Some repair))
-    go (inr (inr (inr (inr (inr (inr (inl list))))))) = absurd (not_list (met_name words m p ∙ ap Some list))
+    go (inl read) = absurd (not_read (met_name words m p ∙ ap Some read))
+    go (inr (inl write)) = absurd (not_write (met_name words m p ∙ ap Some write))
+    go (inr (inr (inl reset))) = absurd (not_reset (met_name words m p ∙ ap Some reset))
+    go (inr (inr (inr (inl list)))) = absurd (not_list (met_name words m p ∙ ap Some list))
+    go (inr (inr (inr (inr (inl dump))))) = absurd (not_dump (met_name words m p ∙ ap Some dump))
+    go (inr (inr (inr (inr (inr (inl load)))))) = absurd (not_load (met_name words m p ∙ ap Some load))
+    go (inr (inr (inr (inr (inr (inr (inl origin))))))) = absurd (not_origin (met_name words m p ∙ ap Some origin))
     go (inr (inr (inr (inr (inr (inr (inr (inl list_locks)))))))) = absurd (not_list_locks (met_name words m p ∙ ap Some list_locks))
-    go (inr (inr (inr (inr (inr (inr (inr (inr (inl dump))))))))) = absurd (not_dump (met_name words m p ∙ ap Some dump))
-    go (inr (inr (inr (inr (inr (inr (inr (inr (inr (inl write)))))))))) = absurd (not_write (met_name words m p ∙ ap Some write))
-    go (inr (inr (inr (inr (inr (inr (inr (inr (inr (inr (inl reset))))))))))) = absurd (not_reset (met_name words m p ∙ ap Some reset))
-    go (inr (inr (inr (inr (inr (inr (inr (inr (inr (inr (inr load))))))))))) = absurd (not_load (met_name words m p ∙ ap Some load))
+    go (inr (inr (inr (inr (inr (inr (inr (inr (inl compile))))))))) = absurd (not_compile (met_name words m p ∙ ap Some compile))
+    go (inr (inr (inr (inr (inr (inr (inr (inr (inr (inl check)))))))))) = absurd (not_check (met_name words m p ∙ ap Some check))
+    go (inr (inr (inr (inr (inr (inr (inr (inr (inr (inr (inl repair))))))))))) = absurd (not_repair (met_name words m p ∙ ap Some repair))
+    go (inr (inr (inr (inr (inr (inr (inr (inr (inr (inr (inr show))))))))))) = met_name words m p ∙ ap Some show
 
 -- the values are those of the subcommand of this name, and each of its required words has one
 pub record IsSub (words : List Text) (name : Text) (sub : ArgMatches) : Type 0 where

@@ -77,23 +77,23 @@ dconfdb_line = record (new_app (codes "dconfdb")) {
   };
 }
 
--- a line with `show`, `check` and `compile`
-abbrev pub with_files : App → App
-with_files line = with_subcommand (with_subcommand (with_subcommand line show_line.top) check_line.top) compile_line.top
-
--- with `read`, `origin` and `repair`
+-- a line with `read`, `write` and `reset`
 abbrev pub with_keys : App → App
-with_keys line = with_subcommand (with_subcommand (with_subcommand line read_line.top) origin_line.top) repair_line.top
+with_keys line = with_subcommand (with_subcommand (with_subcommand line read_line.top) write_line.top) reset_line.top
 
--- with `list`, `list-locks` and `dump`
+-- with `list`, `dump` and `load`
 abbrev pub with_directories : App → App
 with_directories line =
-    with_subcommand (with_subcommand (with_subcommand line (directory_line (codes "list")).top) (directory_line (codes "list-locks")).top)
-    (directory_line (codes "dump")).top
+    with_subcommand (with_subcommand (with_subcommand line (directory_line (codes "list")).top) (directory_line (codes "dump")).top) load_line.top
 
--- with `write`, `reset` and `load`
-abbrev pub with_changes : App → App
-with_changes line = with_subcommand (with_subcommand (with_subcommand line write_line.top) reset_line.top) load_line.top
+-- with `origin` and `list-locks`
+abbrev pub with_sources : App → App
+with_sources line = with_subcommand (with_subcommand line origin_line.top) (directory_line (codes "list-locks")).top
+
+-- with `compile`, `check`, `repair` and `show`
+abbrev pub with_files : App → App
+with_files line =
+    with_subcommand (with_subcommand (with_subcommand (with_subcommand line compile_line.top) check_line.top) repair_line.top) show_line.top
 
 abbrev pub command_line : App
-command_line = with_changes (with_directories (with_keys (with_files dconfdb_line)))
+command_line = with_files (with_sources (with_directories (with_keys dconfdb_line)))

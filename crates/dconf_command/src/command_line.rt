@@ -13,9 +13,7 @@ pub(crate) fn dconfdb<'a>(alloc: Global) -> Result<clap::Command<'a>, AllocError
     ensures { IfOk result (λ c. app_of c ≡ command_line) }
 {
     let line = clap::Command::new(alloc, "dconfdb")
-        .about(
-            "A settings store in the manner of dconf: reads, changes, makes and checks its databases",
-        )
+        .about("Read, change, compile and check dconf settings databases")
         .after_long_help(PROGRAM)
         .version("0.1.0")
         .subcommand_required(true);

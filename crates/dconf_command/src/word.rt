@@ -1,4 +1,4 @@
-//! The words that a command takes, as clap is told of them.
+//! The arguments of a command, as clap is told of them.
 ghost use Rattle.std.specs.Prelude.{◌≡◌, codes, false, Some};
 ghost use Rattle.clap.specs.Words.{new_rule, rule_of};
 ghost use Rattle.clap.specs.declared.builder.action.ArgAction.TheVariants.{SetTrue};
@@ -36,19 +36,19 @@ pub(crate) enum Word<'a> {
 /// The type of a value.
 pub(crate) const TYPE: Word<'static> = Word::Required {
     name: "TYPE",
-    help: "a GVariant type text, such as au or s",
+    help: "a GVariant type, such as s, au or a{sv}",
 };
 
 /// The file that is read.
 pub(crate) const FILE: Word<'static> = Word::Required {
     name: "FILE",
-    help: "the file to read, by its path from the current folder",
+    help: "the file to read",
 };
 
 /// The database that is made.
 pub(crate) const OUT: Word<'static> = Word::Required {
     name: "OUT",
-    help: "the database to make, in the place of any file there",
+    help: "the database to write; an existing file is replaced",
 };
 
 /// The path of a key.
@@ -66,40 +66,40 @@ pub(crate) const DIR: Word<'static> = Word::Required {
 /// The value that a key gets.
 pub(crate) const VALUE: Word<'static> = Word::Required {
     name: "VALUE",
-    help: "the value in GVariant text, such as 5 or \"'12h'\"; one that starts with - comes after --",
+    help: "the value as GVariant text, such as 5 or \"'12h'\"; put -- before one that starts with -",
 };
 
 /// The path of a key or of a directory.
 pub(crate) const PATH: Word<'static> = Word::Required {
     name: "PATH",
-    help: "the path of a key, or with -f of a directory, such as /org/gnome/",
+    help: "the path of a key or, with -f, of a directory such as /org/gnome/",
 };
 
 /// The keyfiles that are read.
 pub(crate) const KEYFILE: Word<'static> = Word::Further {
     name: "KEYFILE",
-    help: "a keyfile to read, by its path from the current folder",
+    help: "a keyfile to compile",
 };
 
 /// Whether the user's values are left aside.
 pub(crate) const DEFAULT: Word<'static> = Word::Flag {
     name: "default",
     letter: 'd',
-    help: "leave the user's values aside",
+    help: "ignore the user's value",
 };
 
 /// Whether PATH is a directory.
 pub(crate) const WHOLE: Word<'static> = Word::Flag {
     name: "force",
     letter: 'f',
-    help: "reset all keys below a directory, but for locked ones",
+    help: "reset every key below the directory PATH, except locked ones",
 };
 
 /// Whether locked keys are left out, in place of a refusal.
 pub(crate) const LEAVING: Word<'static> = Word::Flag {
     name: "force",
     letter: 'f',
-    help: "leave out the rows of locked keys",
+    help: "skip locked keys instead of failing",
 };
 
 impl<'a> Word<'a> {
@@ -153,7 +153,7 @@ fn locks<'a>(alloc: Global) -> Arg<'a>
         .long("locks")
         .value_name("FILE")
         .action(ArgAction::Set)
-        .help("a file of paths to lock, one on a line")
+        .help("a file of paths to lock, one per line")
 }
 
 fn profile<'a>(alloc: Global) -> Arg<'a>
@@ -164,5 +164,5 @@ fn profile<'a>(alloc: Global) -> Arg<'a>
         .short('p')
         .value_name("FILE")
         .action(ArgAction::Set)
-        .help("the file that lists the databases, in place of `profile`")
+        .help("the file that lists the databases [default: profile]")
 }
