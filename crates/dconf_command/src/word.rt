@@ -48,7 +48,7 @@ pub(crate) const FILE: Word<'static> = Word::Required {
 /// The database that is made.
 pub(crate) const OUT: Word<'static> = Word::Required {
     name: "OUT",
-    help: "the database to write; an existing file is replaced",
+    help: "the database to write",
 };
 
 /// The path of a key.
