@@ -1,0 +1,30 @@
+# Thin targets over ./build, ./install and capi/build, for those who type `make`.
+PREFIX = /usr/local
+LIBDIR = $(PREFIX)/lib
+
+all:
+	./build
+
+check:
+	.ci/run
+
+install:
+	DESTDIR='$(DESTDIR)' ./install '$(PREFIX)'
+
+uninstall:
+	DESTDIR='$(DESTDIR)' ./install --uninstall '$(PREFIX)'
+
+install-library:
+	DESTDIR='$(DESTDIR)' LIBDIR='$(LIBDIR)' ./install --library '$(PREFIX)'
+
+uninstall-library:
+	DESTDIR='$(DESTDIR)' LIBDIR='$(LIBDIR)' ./install --uninstall --library '$(PREFIX)'
+
+bench:
+	bench/settings
+
+docs:
+	share/make
+	tests/guarantees
+
+.PHONY: all check install uninstall install-library uninstall-library bench docs
