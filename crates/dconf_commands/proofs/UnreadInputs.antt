@@ -1,5 +1,5 @@
 -- Input that was left alone.
-use Rattle.std.proofs.Common.{◌≡◌, ℕ, List, [], Option, Some, None, refl, arith}
+use Rattle.std.proofs.Common.{◌≡◌, ℕ, List, [], false, Option, Some, None, refl, arith}
 use Rattle.std.specs.Prelude.{IfSome, unwrap_or}
 use Rattle.std.proofs.KnownBytes.{Consumes-nil}
 use Rattle.dconf_model.specs.Reads.{Input}
