@@ -80,7 +80,7 @@ static void our_snapshot(void) {
 }
 
 static void our_refresh(void) {
-    answer = dconfdb_store_refresh(store, NULL, NULL, NULL);
+    answer = dconfdb_store_refresh(store, NULL, NULL);
 }
 
 static void our_open(void) {

@@ -169,11 +169,12 @@ const char *dconfdb_store_user_file(const DconfdbStore *store);
  * waits for none. */
 DconfdbSnapshot *dconfdb_store_snapshot(DconfdbStore *store);
 
-/* Looks at the files again, by one stat() each, and reads those that were replaced. `seen` is the
- * snapshot that the caller has, or NULL. `changed`, if it isn't NULL, says whether the newest
- * snapshot is a different one, whether this call, another thread or a change made it. False: it
- * failed, and the newest snapshot stays the newest. */
-bool dconfdb_store_refresh(DconfdbStore *store, const DconfdbSnapshot *seen, bool *changed, DconfdbError *error);
+/* Looks at the files again, by one stat() each, and reads those that were replaced. `changed`, if it
+ * isn't NULL, says whether the newest snapshot has anything that others changed since `changed` was
+ * last asked for, or since the store was opened: what this call finds, and what a change in between
+ * took in. The store's own edits don't count. False: it failed, and the newest snapshot stays the
+ * newest. */
+bool dconfdb_store_refresh(DconfdbStore *store, bool *changed, DconfdbError *error);
 
 /* Makes all edits, each in turn, or none. The user's file is read again, replaced whole, and on the
  * disk when this returns. The newest snapshot then has the edits, and what others changed

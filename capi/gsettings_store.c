@@ -55,7 +55,7 @@ static void look(DconfdbBackend *self, Notice *notice)
 {
     DconfdbError error;
     bool opens = !self->store || self->is_stale;
-    bool done = opens ? open_store(self, &error) : dconfdb_store_refresh(self->store, NULL, NULL, &error);
+    bool done = opens ? open_store(self, &error) : dconfdb_store_refresh(self->store, NULL, &error);
     if (done)
         g_clear_pointer(&self->told, g_free);
     else

@@ -45,6 +45,7 @@ enum { LARGEST_PROFILE = 16777216, MOST_DATABASES = 64 };
 struct DconfdbStore {
     pthread_mutex_t refreshing; /* held while files are looked at, and put in place */
     pthread_mutex_t handing;    /* held for `now` alone */
+    bool has_news;              /* of others' changes, that no refresh has told; under `refreshing` */
     DconfdbSnapshot *now;
     char *folder, *user_file; /* absolute; no user_file: no user's database */
     size_t count;
@@ -660,19 +661,23 @@ static bool refresh(DconfdbStore *store, int turn, DconfdbError *error)
     DconfdbSnapshot *newer = look(store, turn, error);
     if (!newer)
         return false;
-    if (is_as_it_was(newer, store->now))
+    if (is_as_it_was(newer, store->now)) {
         dconfdb_snapshot_unref(newer);
-    else
+    } else {
         renew(store, newer);
+        store->has_news = true;
+    }
     return true;
 }
 
-bool dconfdb_store_refresh(DconfdbStore *store, const DconfdbSnapshot *seen, bool *changed, DconfdbError *error)
+bool dconfdb_store_refresh(DconfdbStore *store, bool *changed, DconfdbError *error)
 {
     pthread_mutex_lock(&store->refreshing);
     bool done = refresh(store, NO_FOLDER, error);
-    if (done && changed)
-        *changed = store->now != seen;
+    if (done && changed) {
+        *changed = store->has_news;
+        store->has_news = false;
+    }
     pthread_mutex_unlock(&store->refreshing);
     return done;
 }

@@ -182,7 +182,7 @@ static void unloaded(void)
 static void *refreshes(void *unused)
 {
     for (;;) {
-        dconfdb_store_refresh(store, NULL, NULL, NULL);
+        dconfdb_store_refresh(store, NULL, NULL);
         atomic_store(&has_begun, true);
     }
     return unused;
@@ -214,7 +214,7 @@ static void used_by_a_child(void)
         TRY(child >= 0);
         if (child == 0) {
             alarm(1);
-            dconfdb_store_refresh(store, NULL, NULL, NULL);
+            dconfdb_store_refresh(store, NULL, NULL);
             _exit(0);
         }
         TRY(waitpid(child, &status, 0) == child);
@@ -228,7 +228,7 @@ static volatile sig_atomic_t handled;
 static void handles(int number)
 {
     (void)number;
-    dconfdb_store_refresh(store, NULL, NULL, NULL);
+    dconfdb_store_refresh(store, NULL, NULL);
     handled++;
 }
 
@@ -238,7 +238,7 @@ static void called_by_a_handler(void)
     struct itimerval often = {{0, 1000}, {0, 1000}};
     TRY(signal(SIGALRM, handles) != SIG_ERR && setitimer(ITIMER_REAL, &often, NULL) == 0);
     while (handled < 100)
-        dconfdb_store_refresh(store, NULL, NULL, NULL);
+        dconfdb_store_refresh(store, NULL, NULL);
 }
 
 /* ---- files that are changed in place */

@@ -109,11 +109,11 @@ static void tries_changing(DconfdbStore *store)
     dconfdb_snapshot_unref(now);
 }
 
-/* Whether a refresh says that the newest snapshot is another one. */
-static bool is_renewed(DconfdbStore *store, const DconfdbSnapshot *seen)
+/* Whether a refresh says that others changed something. It is said once. */
+static bool is_renewed(DconfdbStore *store)
 {
-    bool changed = false, again = false;
-    TRY(dconfdb_store_refresh(store, seen, &changed, &error) && dconfdb_store_refresh(store, seen, &again, NULL) && changed == again);
+    bool changed = false, again = true;
+    TRY(dconfdb_store_refresh(store, &changed, &error) && dconfdb_store_refresh(store, &again, NULL) && !again);
     return changed;
 }
 
@@ -140,13 +140,13 @@ static void tries_hidden_changes(DconfdbStore *store)
     DconfdbEdit edits[] = {sets_text("/org/desk/size", "hidden"), sets_text("/shut/k", "hidden"), sets_text("/seen", "")};
     TRY(mkdir("lockless", 0700) == 0);
     takes_file_of(edits, 3);
-    TRY(dconfdb_store_refresh(store, NULL, NULL, &error));
+    TRY(dconfdb_store_refresh(store, NULL, &error));
     now = dconfdb_store_snapshot(store);
     TRY(ARE(dconfdb_snapshot_differences(old, now, &size, &error), "/seen\0"));
     TRY(ARE(dconfdb_snapshot_differences(now, old, &size, &error), "/seen\0"));
     edits[0] = (DconfdbEdit){"/", NULL, NULL, 0};
     takes_file_of(edits, 1);
-    TRY(dconfdb_store_refresh(store, NULL, NULL, &error));
+    TRY(dconfdb_store_refresh(store, NULL, &error));
     dconfdb_snapshot_unref(old);
     dconfdb_snapshot_unref(now);
 }
@@ -160,7 +160,7 @@ static void tries_losing_locks(void)
     DconfdbStore *owner = dconfdb_store_open("owner", &error), *guest = dconfdb_store_open("guest", &error);
     DconfdbSnapshot *old = guest ? dconfdb_store_snapshot(guest) : NULL;
     TRY(owner && old && dconfdb_snapshot_is_locked(old, "/org/desk/size") && changes(owner, sets_text("/k", "1")));
-    TRY(is_renewed(guest, old));
+    TRY(is_renewed(guest));
     DconfdbSnapshot *now = dconfdb_store_snapshot(guest);
     TRY(has(now, "/k", "1") && has(now, "/org/desk/name", "desk") && !dconfdb_snapshot_is_locked(now, "/org/desk/size"));
     dconfdb_snapshot_unref(old);
@@ -190,11 +190,12 @@ static void tries_refreshing(DconfdbStore *store, const char *folder)
 {
     DconfdbStore *other = dconfdb_store_open(folder, &error);
     DconfdbSnapshot *old = dconfdb_store_snapshot(store);
-    TRY(!is_renewed(store, old) && is_renewed(store, NULL) && dconfdb_store_refresh(store, NULL, NULL, NULL));
+    is_renewed(store);
+    TRY(!is_renewed(store) && dconfdb_store_refresh(store, NULL, NULL));
     TRY(other && changes(other, sets_text("/by/other", "1")));
-    TRY(has(old, "/by/other", NULL) && is_renewed(store, old));
+    TRY(has(old, "/by/other", NULL) && dconfdb_store_refresh(store, NULL, NULL) && is_renewed(store));
     DconfdbSnapshot *now = dconfdb_store_snapshot(store);
-    TRY(now != old && !is_renewed(store, now) && is_renewed(store, old));
+    TRY(now != old && !is_renewed(store));
     TRY(has(old, "/by/other", NULL) && has(now, "/by/other", "1"));
     /* A change that begins with an old snapshot loses nothing of another's. */
     TRY(changes(other, sets_text("/by/other", "2")) && changes(store, sets_text("/by/us", "3")));
@@ -208,22 +209,22 @@ static void tries_refreshing(DconfdbStore *store, const char *folder)
     dconfdb_snapshot_unref(old);
 }
 
-/* What a change takes in of other databases, made or refused, a refresh tells who has an older
- * snapshot. */
+/* What a change takes in of other databases, made or refused, the next refresh tells; what it makes
+ * itself is no news. */
 static void tries_taking_in(DconfdbStore *store)
 {
     DconfdbSnapshot *old = dconfdb_store_snapshot(store), *now;
     TRY(link("site.db", "site.kept") == 0 && rename("next.db", "site.db") == 0);
     TRY(!changes(store, (DconfdbEdit){"no path", NULL, NULL, 0}) && error.number == DCONFDB_ERROR_BAD_PATH);
     now = dconfdb_store_snapshot(store);
-    TRY(now != old && has(now, "/org/desk/name", "next") && is_renewed(store, old) && !is_renewed(store, now));
+    TRY(now != old && has(now, "/org/desk/name", "next") && is_renewed(store) && !is_renewed(store));
     dconfdb_snapshot_unref(old);
     TRY(rename("site.db", "next.db") == 0 && rename("site.kept", "site.db") == 0 && changes(store, sets_text("/in", "1")));
-    TRY(is_renewed(store, now));
+    TRY(is_renewed(store));
     dconfdb_snapshot_unref(now);
     now = dconfdb_store_snapshot(store);
     TRY(has(now, "/org/desk/name", "desk") && has(now, "/in", "1") && changes(store, (DconfdbEdit){"/", NULL, NULL, 0}));
-    TRY(is_renewed(store, now));
+    TRY(!is_renewed(store));
     dconfdb_snapshot_unref(now);
 }
 
@@ -234,11 +235,11 @@ static void tries_bad_files(DconfdbStore *store)
     TRY(changes(store, sets_text("/kept", "1")) && rename(name, "kept") == 0);
     FILE *file = fopen(name, "w");
     TRY(file && fputs("no database, but long enough to have its header", file) >= 0 && fclose(file) == 0);
-    TRY(!dconfdb_store_refresh(store, NULL, NULL, &error) && is_fault(DCONFDB_ERROR_BAD_SIGNATURE, "/me.user", "") && error.at == 0);
+    TRY(!dconfdb_store_refresh(store, NULL, &error) && is_fault(DCONFDB_ERROR_BAD_SIGNATURE, "/me.user", "") && error.at == 0);
     TRY(!changes(store, sets_text("/kept", "2")) && is_fault(DCONFDB_ERROR_BAD_SIGNATURE, "/me.user", ""));
-    TRY(truncate(name, 0) == 0 && !dconfdb_store_refresh(store, NULL, NULL, &error) && is_fault(DCONFDB_ERROR_SHORT, "/me.user", ""));
+    TRY(truncate(name, 0) == 0 && !dconfdb_store_refresh(store, NULL, &error) && is_fault(DCONFDB_ERROR_SHORT, "/me.user", ""));
     DconfdbSnapshot *now = dconfdb_store_snapshot(store);
-    TRY(has(now, "/kept", "1") && rename("kept", name) == 0 && dconfdb_store_refresh(store, NULL, NULL, &error));
+    TRY(has(now, "/kept", "1") && rename("kept", name) == 0 && dconfdb_store_refresh(store, NULL, &error));
     dconfdb_snapshot_unref(now);
     TRY(changes(store, (DconfdbEdit){"/", NULL, NULL, 0}));
 }
@@ -252,16 +253,16 @@ static void tries_replacing(DconfdbStore *store)
     DconfdbSnapshot *old = dconfdb_store_snapshot(store);
     TRY(dconfdb_snapshot_read(old, "/org/desk/name", &lent));
     TRY(link("site.db", "site.kept") == 0 && rename("next.db", "site.db") == 0);
-    TRY(is_renewed(store, old) && is_text(&lent, "desk"));
+    TRY(is_renewed(store) && is_text(&lent, "desk"));
     DconfdbSnapshot *now = dconfdb_store_snapshot(store);
     TRY(has(now, "/org/desk/name", "next") && dconfdb_snapshot_is_writable(now, "/org/desk/size"));
     TRY(ARE(dconfdb_snapshot_differences(now, old, &size, &error), "/org/desk/name\0/org/desk/size\0"));
-    TRY(unlink("site.db") == 0 && is_renewed(store, now));
+    TRY(unlink("site.db") == 0 && is_renewed(store));
     dconfdb_snapshot_unref(now);
     now = dconfdb_store_snapshot(store);
     TRY(!dconfdb_snapshot_read(now, "/org/desk/name", &value) && is_text(&lent, "desk"));
     dconfdb_snapshot_unref(now);
-    TRY(rename("site.kept", "site.db") == 0 && dconfdb_store_refresh(store, NULL, NULL, &error));
+    TRY(rename("site.kept", "site.db") == 0 && dconfdb_store_refresh(store, NULL, &error));
     dconfdb_snapshot_unref(old);
 }
 
@@ -386,7 +387,7 @@ static void tries_moving(void)
     DconfdbStore *store = dconfdb_store_open("here", &error);
     TRY(store && changes(store, sets_text("/old", "1")) && rename("here", "there") == 0);
     DconfdbSnapshot *now = dconfdb_store_snapshot(store);
-    TRY(is_renewed(store, now) && changes(store, sets_text("/new", "2")));
+    TRY(is_renewed(store) && changes(store, sets_text("/new", "2")));
     dconfdb_snapshot_unref(now);
     now = dconfdb_store_snapshot(store);
     TRY(has(now, "/old", NULL) && has(now, "/new", "2"));

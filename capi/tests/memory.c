@@ -109,8 +109,8 @@ static void refreshes(DconfdbStore *store)
 {
     bool no = false, yes = true;
     State before = state_of(store);
-    TRY(!lacks_memory(dconfdb_store_refresh(store, NULL, &no, &error)) || (!no && is_as_before(store, &before)));
-    TRY(!lacks_memory(dconfdb_store_refresh(store, before.newest, &yes, &error)) || (yes && is_as_before(store, &before)));
+    TRY(!lacks_memory(dconfdb_store_refresh(store, &no, &error)) || (!no && is_as_before(store, &before)));
+    TRY(!lacks_memory(dconfdb_store_refresh(store, &yes, &error)) || (yes && is_as_before(store, &before)));
 }
 
 /* A store that has no user's database: why it may not be changed is said all the same. */

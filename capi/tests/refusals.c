@@ -107,10 +107,10 @@ static bool refuses_refresh(DconfdbStore *store, Fault fault)
 {
     bool no = false, yes = true;
     begins(store);
-    bool done = !dconfdb_store_refresh(store, NULL, &no, &error) && is_said(fault) && !no && nothing_changed(store);
+    bool done = !dconfdb_store_refresh(store, &no, &error) && is_said(fault) && !no && nothing_changed(store);
     forgets();
-    done = done && !dconfdb_store_refresh(store, before.newest, &yes, &error) && is_said(fault) && yes && nothing_changed(store);
-    return done && !dconfdb_store_refresh(store, NULL, NULL, NULL);
+    done = done && !dconfdb_store_refresh(store, &yes, &error) && is_said(fault) && yes && nothing_changed(store);
+    return done && !dconfdb_store_refresh(store, NULL, NULL);
 }
 
 static bool refuses_change(DconfdbStore *store, const DconfdbEdit *edits, size_t count, Fault fault)
@@ -247,7 +247,7 @@ static void tries_bad_file(DconfdbStore *store, size_t database, size_t which)
     Fault fault = {bad[which].number, bad[which].number == DCONFDB_ERROR_FILE ? EISDIR : 0, 0, database, 0, name, bad[which].words};
     TRY(refuses_open(".", fault) && refuses_refresh(store, fault) && refuses_change(store, &good, 1, fault));
     TRY((bad[which].number == DCONFDB_ERROR_FILE ? rmdir(name) : unlink(name)) == 0 && rename("kept", name) == 0);
-    TRY(dconfdb_store_refresh(store, NULL, NULL, &error));
+    TRY(dconfdb_store_refresh(store, NULL, &error));
 }
 
 static void tries_bad_files(DconfdbStore *store)

@@ -96,7 +96,7 @@ static void tries(void)
     asks(now, old, "/deep/variants");
     asks(now, old, longest);
     free(dconfdb_store_files(folder, NULL, &error));
-    TRY(dconfdb_store_refresh(store, now, NULL, &error));
+    TRY(dconfdb_store_refresh(store, NULL, &error));
     edit = (DconfdbEdit){"/", NULL, NULL, 0};
     TRY(dconfdb_store_change(store, &edit, 1, &error));
     dconfdb_snapshot_unref(old);

@@ -23,7 +23,7 @@ static void *reads(void *seen)
 {
     long last = 0;
     while (!atomic_load(&has_ended)) {
-        TRY(dconfdb_store_refresh(store, NULL, NULL, NULL));
+        TRY(dconfdb_store_refresh(store, NULL, NULL));
         DconfdbSnapshot *now = dconfdb_store_snapshot(store);
         long one = number_at(now, "/one"), other = number_at(now, "/other");
         TRY(one == other && one >= last && dconfdb_snapshot_is_writable(now, "/one"));
