@@ -1,4 +1,4 @@
-"""What the scripts here that are written in Python have in common: the program, tools that may be missing, a folder of their own, one line at the end."""
+"""What the Python scripts here share: the program, tools that may be missing, a folder of their own, one line at the end."""
 import functools
 import os
 import shutil
@@ -12,21 +12,21 @@ NAME = Path(sys.argv[0]).name
 
 
 class Stop(Exception):
-    """Something is not as it should be."""
+    """A test failed."""
 
 
 class Missing(Exception):
-    """A tool is missing, so that nothing can be said."""
+    """A tool is missing, so the test is skipped."""
 
 
 def needs(tool, package):
-    """Stops where there is no such tool, and says in which of Debian's packages it is."""
+    """Stops if there is no such tool, and names Debian's package."""
     if not shutil.which(tool):
         raise Missing(f"there is no {tool} (Debian's package {package})")
 
 
 def wants(**tools):
-    """Ends the script with 77 where there is no such tool, each named with its package, and says so."""
+    """Exits with 77 if one of these tools, each given with its package, is missing, and says so."""
     try:
         for tool, package in tools.items():
             needs(tool.replace('_', '-'), package)
@@ -37,7 +37,7 @@ def wants(**tools):
 
 @functools.cache
 def program():
-    """The program that the variable DCONFDB names, else this repository's, which is built where it isn't."""
+    """The program that the variable DCONFDB names, else this repository's, which is built first."""
     if 'DCONFDB' in os.environ:
         return Path(os.environ['DCONFDB']).resolve()
     if subprocess.run([TOP / 'build'], check=False).returncode:
@@ -46,7 +46,7 @@ def program():
 
 
 def verdict(main):
-    """Calls `main` with a folder of its own, prints the line that it gives, and ends: with 0, with 1 after a Stop, with 77 where a tool is missing."""
+    """Calls `main` with a folder of its own, prints the line that it returns, and exits: with 0, with 1 after a Stop, with 77 if a tool is missing."""
     try:
         with tempfile.TemporaryDirectory() as folder:
             line, status = main(Path(folder)), 0

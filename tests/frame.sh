@@ -1,10 +1,10 @@
-# What the scripts here that are written for bash have in common. Each begins with `. "$(dirname "$0")/frame.sh"`, and then has
+# What the bash scripts here share. Each begins with `. "$(dirname "$0")/frame.sh"`, and then has
 #   $script, $top  its name, and the top of the repository
 #   $work          a folder of its own, which is removed at the end
-#   needs TOOL PACKAGE     ends with 77 where there is no such tool, and says in which of Debian's packages it is
-#   finds_program          has the program in $DCONFDB: the one that the variable names, else this repository's, which is built where it isn't
-#   fail WORDS..           says what is not as it should be, and goes on
-#   verdict WORDS..        the last line; it ends with 0, or with 1 where something failed
+#   needs TOOL PACKAGE     exits with 77 if there is no such tool, and names Debian's package
+#   finds_program          sets $DCONFDB: the program that the variable names, else this repository's, which is built first
+#   fail WORDS..           reports a failure, and goes on
+#   verdict WORDS..        prints the last line; exits with 0, or with 1 if something failed
 set -u
 script=${0##*/}
 top=$(cd "$(dirname "$0")/.." && pwd)
