@@ -1,4 +1,4 @@
-/* libdconfdb: reads and changes a settings store in the manner of dconf.
+/* libdconfdb: reads and changes settings stores with dconf's file formats.
  *
  *     #include <dconfdb.h>
  *     #include <stdio.h>
@@ -21,12 +21,12 @@
  *         return 0;
  *     }
  *
- * Compile it by `cc x.c $(pkg-config --cflags --libs dconfdb)`.
+ * Compile it with `cc x.c $(pkg-config --cflags --libs dconfdb)`.
  *
  * WHERE A STORE IS. A store is a folder: the one given, else $DCONFDB_STORE, else
  * $XDG_CONFIG_HOME/dconfdb, else $HOME/.config/dconfdb. An empty variable counts as unset, and so
  * does one of the last two that doesn't start with `/`. The profile is the file `profile` in the
- * folder, else /etc/dconfdb/profile, else the text `user-db:user`. It names one database a line,
+ * folder, else /etc/dconfdb/profile, else the text `user-db:user`. It names one database per line,
  * the one that is asked first at the top: `user-db:NAME` is the file NAME.user in the folder,
  * `system-db:NAME` is NAME.db in the folder, and `file-db:PATH` is the file PATH, relative to the
  * folder. A NAME has no `/`. A `#` starts a comment, even inside a PATH; blanks at either end of a
@@ -34,36 +34,35 @@
  * in the folder, sees the same store if the folder has a file `profile`.
  *
  * SNAPSHOTS. A snapshot is what the files held when they were looked at. It never changes. Each
- * file is the old one or the new one, whole; the files are looked at one after another. All that a
- * snapshot lends (values, texts) is valid until its last reference is given back, also after the
+ * file is the old one or the new one, complete; the files are looked at one after another. Everything
+ * that a snapshot lends (values, texts) is valid until its last reference is dropped, even after the
  * store is closed, and after the files are replaced or removed.
  *
- * THREADS. Any thread may call anything at any time, on the same store too. Nothing here starts a
- * thread. A store may not be closed while another thread uses it. After fork() a child may read and
- * give back snapshots; it opens a store of its own before it does anything else. No call may be
- * made in a signal handler.
+ * THREADS. Any thread may call anything at any time, on the same store, too. Nothing here starts a
+ * thread. A store must not be closed while another thread uses it. After fork() a child may read and
+ * drop snapshots; it must open a store of its own before it does anything else. No call may be made
+ * in a signal handler.
  *
  * STACK. A call uses up to 256 KiB of its thread's stack, most of it for deeply nested values. A
  * thread with less may die in a call.
  *
- * ERRORS. Calls that may fail take a DconfdbError, or NULL where nobody wants to know. A call that
+ * ERRORS. Calls that may fail take a DconfdbError, or NULL if you don't need it. A call that
  * succeeds leaves it as it was. A call that fails leaves everything else it would write to
  * (`changed`, `size`) as it was. Nothing here ends the process, or prints.
  *
  * MAPPED FILES. Databases other than the user's are mapped. So they have to be replaced by a
- * rename, as `dconfdb compile` and `dconf update` do: who cuts one off in place kills the programs
- * that read it, by SIGBUS, and who writes over one changes what they were lent. The user's file is
+ * rename, as `dconfdb compile` and `dconf update` do: truncating one in place kills the programs
+ * that read it, with SIGBUS, and overwriting one changes what they were lent. The user's file is
  * read into memory: it may be changed in any way.
  *
- * A CALLER'S DUTIES. Nothing checks them. Pointers are those of live objects, and none is NULL
- * where that isn't allowed here. Texts end in a zero byte. Memory that is given to a call is
- * changed by no other thread while the call runs. Memory that was lent is not written, and not used
- * after the snapshot's last reference is given back; the library stays loaded as long as it is
- * used. Each reference is given back once. What a call says is to be freed is freed once, by
- * free().
+ * A CALLER'S DUTIES. Nothing checks them. Pointers point to live objects, and are NULL only where
+ * that is allowed here. Texts end in a zero byte. No other thread changes memory that is passed to a
+ * call while the call runs. Lent memory is not written, and not used after the snapshot's last
+ * reference is dropped; the library stays loaded as long as it is used. Each reference is dropped
+ * once. What the caller has to free is freed once, with free().
  *
- * WHAT IS PROVED. The library asks proved calls what a database's bytes mean, which value is seen,
- * what is locked, listed or different, whether an edit may be made, and which file it makes.
+ * WHAT IS PROVED. The library asks proved calls what a database's bytes mean, what a key's effective
+ * value is, what is locked, listed or different, whether an edit may be made, and which file it makes.
  * Everything else that this header says is C, which is tested and not proved: where a store is; how
  * files are read, mapped, locked and replaced; references, threads and stack; the fields and text
  * of an error; what a call does when memory or the system fails. */
@@ -83,11 +82,10 @@ typedef struct DconfdbStore DconfdbStore;
 /* What the databases held at one moment. */
 typedef struct DconfdbSnapshot DconfdbSnapshot;
 
-/* Why something failed. Numbers are never given another meaning; there may be more of them one
- * day. */
+/* Why something failed. Numbers never change their meaning; there may be more of them one day. */
 enum {
     DCONFDB_ERROR_NONE = 0,
-    DCONFDB_ERROR_MEMORY = 1,          /* no memory is left */
+    DCONFDB_ERROR_MEMORY = 1,          /* an allocation failed */
     DCONFDB_ERROR_SHORT = 2,           /* a database: fewer bytes than a header */
     DCONFDB_ERROR_BAD_SIGNATURE = 3,   /* .. it does not start as a database does */
     DCONFDB_ERROR_BAD_VERSION = 4,     /* .. its version is not 0 */
@@ -110,38 +108,38 @@ enum {
     DCONFDB_ERROR_NO_FOLDER = 66       /* no folder is given, and the environment names none */
 };
 
-/* What failed. It is the caller's, and needs no release. */
+/* What failed. It belongs to the caller, and need not be freed. */
 typedef struct DconfdbError {
     int number;      /* one of the numbers above */
-    int system;      /* errno where the number is DCONFDB_ERROR_FILE, else 0 */
-    size_t at;       /* the index of the edit at fault: of BAD_PATH to TOO_LARGE; else 0 */
-    size_t database; /* the index of the database whose file is at fault, else 0 */
-    size_t line;     /* the profile's line at fault, from 1: of BAD_LINE to TOO_MANY; else 0 */
-    char text[512];  /* what failed, and of which file or key; one that is too long ends in "..." */
+    int system;      /* errno if the number is DCONFDB_ERROR_FILE, else 0 */
+    size_t at;       /* the index of the bad edit, for BAD_PATH to TOO_LARGE; else 0 */
+    size_t database; /* the index of the database whose file is bad, else 0 */
+    size_t line;     /* the profile's bad line, from 1, for BAD_LINE to TOO_MANY; else 0 */
+    char text[512];  /* what failed, and for which file or key; if too long, it ends in "..." */
 } DconfdbError;
 
 /* A value, lent from a snapshot. */
 typedef struct DconfdbValue {
-    const void *data; /* GVariant's bytes, little endian; never NULL */
+    const void *data; /* the bytes of a little-endian GVariant; never NULL */
     size_t size;
-    const char *type; /* GVariant's type text; there is no zero byte after it */
+    const char *type; /* GVariant's type text, without a zero byte after it */
     size_t type_size;
     size_t origin; /* the index of the database that has it */
 } DconfdbValue;
 
 /* An edit of the user's values.
  *
- * With a type, the key at the path gets a value. A path that ends in `/` is no key's: the edit is
- * refused with DCONFDB_ERROR_BAD_PATH, and nothing changes. `data` may be NULL where `size` is 0,
+ * With a type, it sets the key at the path. A path that ends in `/` is not a key's: the edit is
+ * refused with DCONFDB_ERROR_BAD_PATH, and nothing changes. `data` may be NULL if `size` is 0,
  * and need not be aligned. Bytes that aren't in normal form at the type are stored as the value
  * that GVariant reads in them.
  *
- * Without a type (NULL), the user's value at the path goes. A path that ends in `/` is a directory
- * then: all of the user's values below it go, except those of locked keys. */
+ * Without a type (NULL), it removes the user's value at the path. A path that ends in `/` is then a
+ * directory: all of the user's values below it are removed, except those of locked keys. */
 typedef struct DconfdbEdit {
     const char *path;
     const char *type;
-    const void *data; /* GVariant's bytes, little endian */
+    const void *data; /* the bytes of a little-endian GVariant */
     size_t size;
 } DconfdbEdit;
 
@@ -154,47 +152,47 @@ DconfdbStore *dconfdb_store_open(const char *folder, DconfdbError *error);
 void dconfdb_store_close(DconfdbStore *store);
 
 /* The files that opening the store of that folder, or of the environment, looks at: the folder's
- * profile, that of all users, and the databases that the profile names. No database is named if the
- * profile can't be read or a line of it is at fault. So someone who can't open a store sees what to
- * mend. The form is that of dconfdb_snapshot_list, and getenv() is called as by dconfdb_store_open.
+ * profile, that of all users, and the databases that the profile names. No database is named if
+ * the profile can't be read or has a bad line. So whoever can't open a store sees what to mend.
+ * The form is that of dconfdb_snapshot_list, and getenv() is called as by dconfdb_store_open.
  * NULL: it failed. */
 char *dconfdb_store_files(const char *folder, size_t *size, DconfdbError *error);
 
-/* The folder's absolute path, and the file of a user's database in it; NULL where there is none.
+/* The folder's absolute path, and the file of a user's database in it; NULL if there is none.
  * Valid until the store is closed. */
 const char *dconfdb_store_folder(const DconfdbStore *store);
 const char *dconfdb_store_user_file(const DconfdbStore *store);
 
-/* The newest snapshot: a reference that is to be given back. It never fails, looks at no file, and
+/* A reference to the newest snapshot, for the caller to drop. It never fails, looks at no file, and
  * waits for none. */
 DconfdbSnapshot *dconfdb_store_snapshot(DconfdbStore *store);
 
-/* Looks at the files again, by one stat() each, and reads those that were replaced. `changed`, if it
+/* Looks at the files again, with one stat() each, and reads those that were replaced. `changed`, if it
  * isn't NULL, says whether the newest snapshot has anything that others changed since `changed` was
  * last asked for, or since the store was opened: what this call finds, and what a change in between
  * took in. The store's own edits don't count. False: it failed, and the newest snapshot stays the
  * newest. */
 bool dconfdb_store_refresh(DconfdbStore *store, bool *changed, DconfdbError *error);
 
-/* Makes all edits, each in turn, or none. The user's file is read again, replaced whole, and on the
- * disk when this returns. The newest snapshot then has the edits, and what others changed
- * meanwhile, in other databases too; a refused change may take that in as well. With no edits this
- * returns true and looks at nothing.
+/* Makes all edits, in order, or none. The user's file is read again and replaced atomically, and
+ * is on the disk when this returns. The newest snapshot then has the edits, and what others
+ * changed meanwhile, in other databases too; a refused change may take that in as well. With no
+ * edits this returns true and looks at nothing.
  *
  * The new file has no locks: a change drops those that the old one had. So a site's database must
  * not be anybody's user-db.
  *
  * A missing folder is made, even if the change is then refused. Programs that change the file take
- * turns by flock() on its folder. This call waits ten seconds at most for that lock; then it waits,
- * without a limit, for threads that refresh the same store.
+ * turns with flock() on its folder. This call waits at most ten seconds for that lock; then it
+ * waits, without a limit, for threads that refresh the same store.
  *
- * False: it failed, and the file has its old bytes. Only if the number is DCONFDB_ERROR_FILE may it
- * have the new ones: if the fault came after the file was replaced, the text says so, and the
+ * False: it failed, and the file has its old bytes. Only if the number is DCONFDB_ERROR_FILE may
+ * it have the new ones: if the fault came after the file was replaced, the text says so, and the
  * newest snapshot has the edits. */
 bool dconfdb_store_change(DconfdbStore *store, const DconfdbEdit *edits, size_t count, DconfdbError *error);
 
-/* One reference more, and one less; the last one's return frees all. `ref` gives back what it is
- * given; `unref` takes NULL too. */
+/* Adds a reference, and drops one; dropping the last one frees everything. `ref` returns its
+ * argument; `unref` accepts NULL. */
 DconfdbSnapshot *dconfdb_snapshot_ref(DconfdbSnapshot *snapshot);
 void dconfdb_snapshot_unref(DconfdbSnapshot *snapshot);
 
@@ -202,32 +200,32 @@ void dconfdb_snapshot_unref(DconfdbSnapshot *snapshot);
 size_t dconfdb_snapshot_databases(const DconfdbSnapshot *snapshot);
 const char *dconfdb_snapshot_file(const DconfdbSnapshot *snapshot, size_t database);
 
-/* The value that is seen at a key: the first database's that has one, except where a later one
- * locks the key. `default` leaves the user's values out; `user` is the user's own value, also of a
- * locked key. False: there is none, or the text is no key's path; then `value` has 0 bytes. They
+/* The effective value of a key: that of the first database that has one, unless a later one locks
+ * the key. `default` ignores the user's value; `user` is the user's own, even if the key is
+ * locked. False: there is none, or the text is not a key's path; then `value` has 0 bytes. They
  * take no memory. */
 bool dconfdb_snapshot_read(const DconfdbSnapshot *snapshot, const char *path, DconfdbValue *value);
 bool dconfdb_snapshot_read_default(const DconfdbSnapshot *snapshot, const char *path, DconfdbValue *value);
 bool dconfdb_snapshot_read_user(const DconfdbSnapshot *snapshot, const char *path, DconfdbValue *value);
 
 /* Whether a database after the first locks the key; and whether there is a user's database and the
- * key isn't locked. Both are false where the text is no key's path. They take no memory. */
+ * key isn't locked. Both are false if the text is not a key's path. They take no memory. */
 bool dconfdb_snapshot_is_locked(const DconfdbSnapshot *snapshot, const char *path);
 bool dconfdb_snapshot_is_writable(const DconfdbSnapshot *snapshot, const char *path);
 
-/* What a directory (a path that ends in `/`) has in any database: names, in the order of their
- * bytes, each once; a directory's ends in `/`. And the locks that start with the directory's path,
- * of all databases but the first, in the same order. A zero byte stands after each text, and one
- * more after the last. `size`, where it isn't NULL, is how many bytes there are without that last
- * one. The caller frees them by free(). NULL: it failed. */
+/* What a directory (a path that ends in `/`) has in any database: names, in byte order, each once;
+ * a directory's ends in `/`. And the locks that start with the directory's path, of all databases
+ * but the first, in the same order. A zero byte stands after each text, and one more after the
+ * last. `size`, if it isn't NULL, is the number of bytes without that last one. The caller frees
+ * them with free(). NULL: it failed. */
 char *dconfdb_snapshot_list(const DconfdbSnapshot *snapshot, const char *directory, size_t *size, DconfdbError *error);
 char *dconfdb_snapshot_locks(const DconfdbSnapshot *snapshot, const char *directory, size_t *size, DconfdbError *error);
 
-/* The paths of the keys that are seen differently in two snapshots, in the same form: another value
- * is seen, one is seen in one snapshot alone, or the key is locked in one alone. What is hidden
- * doesn't count, such as a default below the user's value, or the user's value at a locked key. A
- * value in other bytes is the same one. Each is a key that a database of one of them has: of keys
- * that none has, compare the locks. NULL for the other stands for a snapshot without databases. */
+/* The paths of the keys that differ between two snapshots, in the same form: the effective value
+ * differs, only one snapshot has one, or the key is locked in only one. What is hidden doesn't
+ * count, such as a default below the user's value, or the user's value at a locked key. A value in
+ * other bytes is the same one. Each is a key that a database of one of them has: for keys that
+ * none has, compare the locks. NULL for the other stands for a snapshot without databases. */
 char *dconfdb_snapshot_differences(const DconfdbSnapshot *snapshot, const DconfdbSnapshot *other, size_t *size,
                                    DconfdbError *error);
 

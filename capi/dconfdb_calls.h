@@ -1,15 +1,15 @@
 /* The proved calls of libdconfdb, as crates/dconfdb_c exports them. What each promises is proved
- * for a caller that keeps what is asked here; nothing checks C.
+ * for a caller that meets these conditions; nothing checks C:
  *
  * - All memory is the caller's. No call keeps a pointer after it returns, and none frees anything.
- * - What is lent to a call does not change while it runs. A file's bytes don't change as long as a
- *   layer that was opened from them is used, or anything that was found in it.
- * - A file starts at a multiple of 8, if its values are to lie as GVariant aligns them.
- * - A pointer is never NULL, where there are 0 bytes or elements, too: DCONFDB_NOTHING.
+ * - What is lent to a call does not change while it runs. A file's bytes don't change while a layer
+ *   that was opened from them is in use, or anything that was found in it.
+ * - A file starts at a multiple of 8, so that its values are aligned as GVariant aligns them.
+ * - No pointer is NULL, not even for 0 bytes or elements: pass DCONFDB_NOTHING.
  * - What a call writes to holds valid values before: DCONFDB_EMPTY_LAYER, and DCONFDB_NOTHING for
  *   bytes.
- * - A layer is DCONFDB_EMPTY_LAYER, what dconfdb_open put there, or a copy of these. Nobody writes
- *   its fields.
+ * - A layer is DCONFDB_EMPTY_LAYER, what dconfdb_open put there, or a copy of these. Nobody else
+ *   writes its fields.
  * - Any thread may call at any time, with memory that no other thread writes.
  *
  * Texts are UTF-8, without a zero byte at their end. */
@@ -22,7 +22,7 @@
 extern "C" {
 #endif
 
-/* Bytes that are lent. */
+/* Lent bytes. */
 typedef struct {
     const uint8_t *at;
     size_t len;
@@ -70,7 +70,7 @@ typedef struct {
     bool sets;
 } DconfdbChange;
 
-/* Why a call has no answer. */
+/* Why a call failed. */
 enum {
     DCONFDB_OK,
     DCONFDB_MEMORY,
@@ -101,10 +101,10 @@ static const uint8_t dconfdb_empty_file[32] = {'G', 'V', 'a', 'r', 'i', 'a', 'n'
 #define DCONFDB_EMPTY_TABLE {{dconfdb_empty_file, 32}, 24, 32, 0, 0, 0, 32, 0}
 #define DCONFDB_EMPTY_LAYER {DCONFDB_EMPTY_TABLE, DCONFDB_EMPTY_TABLE, false, false}
 
-/* What the number of a fault says. False, and the text as it was, where no fault has the number. */
+/* The text of a fault's number. False, and the text unchanged, if no fault has the number. */
 bool dconfdb_fault_text(uint32_t number, DconfdbBytes *text);
 
-/* Opens a layer of a file's bytes, or an empty one where there is no file (is_there false: the
+/* Opens a layer of a file's bytes, or an empty one if there is no file (is_there false: the
  * bytes are not looked at). Else SHORT to BAD_TABLE, or UNSOUND with what is broken, which is all
  * zeros of the others; the layer is as it was. It asks each rule of each item. */
 uint32_t dconfdb_open(const uint8_t *file, size_t len, bool is_there, DconfdbLayer *layer, DconfdbUnsound *unsound);

@@ -1,5 +1,4 @@
-/* The files of a store, by calls of the system. Each call answers 0, or the errno of what
- * failed. */
+/* The files of a store, by system calls. Each function returns 0, or the errno of what failed. */
 #ifndef FILES_H
 #define FILES_H
 
@@ -11,7 +10,7 @@
 
 enum { NO_FOLDER = -1 };
 
-/* Which file a name stands for, and when that was written last. */
+/* Which file a name refers to, and when it was last written. */
 typedef struct {
     bool is_there;
     dev_t device;
@@ -22,18 +21,18 @@ typedef struct {
 
 /* A file's bytes: mapped, or from malloc(). */
 typedef struct {
-    uint8_t *at; /* NULL where there are none */
+    uint8_t *at; /* NULL if there are none */
     size_t len;
     bool is_mapped;
 } FileBytes;
 
-/* The state of a name. It is no fault that there is no file. */
+/* The state of a name. A missing file is not an error. */
 int file_look(const char *name, FileState *state);
 
 bool file_is_same(const FileState *one, const FileState *other);
 
-/* What a file holds, and its state; a name that isn't absolute is one of the folder. It is no fault
- * that there is none. EOVERFLOW: it has more than `most` bytes. EINVAL: it is no regular file. */
+/* What a file holds, and its state; a relative name is relative to the folder. A missing file is not
+ * an error. EOVERFLOW: it has more than `most` bytes. EINVAL: it is not a regular file. */
 int file_read(int folder, const char *name, bool maps, size_t most, FileBytes *bytes, FileState *state);
 
 void file_release(FileBytes *bytes);
@@ -44,13 +43,12 @@ int folder_lock(const char *folder, int *turn);
 
 void folder_unlock(int turn);
 
-/* Makes a folder, and those that it is in. It is no fault that there is one. */
+/* Makes a folder and its parents. It is not an error if it exists. */
 int folder_make(const char *folder);
 
-/* Puts bytes in the place of a file of a folder that is locked: as
- * crates/dconf_disk/src/replacing.rt does, so that a crash leaves the old bytes or the new ones.
- * `state` is that of the new file; where this fails, `has_replaced` says whether the name is the
- * new file's. */
+/* Replaces a file of a locked folder atomically, as crates/dconf_disk/src/replacing.rt does: a crash
+ * leaves the old bytes or the new ones. `state` is that of the new file; if this fails,
+ * `has_replaced` says whether the name is the new file's already. */
 int file_replace(int turn, const char *name, const uint8_t *bytes, size_t len, FileState *state, bool *has_replaced);
 
 #endif

@@ -1,4 +1,4 @@
-/* The GSettings module's parts: a backend of GSettings over libdconfdb. */
+/* The parts of the GSettings backend over libdconfdb. */
 #ifndef GSETTINGS_H
 #define GSETTINGS_H
 
@@ -10,8 +10,8 @@
 
 /* ---- changes that wait (gsettings_changes.c) */
 
-/* An edit of a key; without a value the user's goes. That of a locked key is left out: it isn't
- * seen, and the others of the change are made. */
+/* An edit of a key; without a value it removes the user's. An edit of a locked key is left out: it
+ * has no effect, and the others of the change are made. */
 typedef struct {
     char *path;
     GVariant *value;
@@ -34,8 +34,8 @@ Change *change_new(size_t most);
 void change_add(Change *change, const char *path, GVariant *value);
 void change_free(Change *change);
 
-/* Whether nothing that is to be set is locked, or without a snapshot or a user's database; what is to
- * be reset there is left out. */
+/* Whether everything that the change sets may be set: no key is locked, and there are a snapshot and a
+ * user's database. Resets of what may not be changed are left out. */
 bool change_may_be_made(Change *change, const DconfdbSnapshot *now);
 bool change_is_empty(const Change *change);
 void changes_free(GQueue *changes);
@@ -45,11 +45,11 @@ void waiting_end(Waiting *waiting);
 void waiting_add(Waiting *waiting, Change *change);
 const Edit *waiting_find(const Waiting *waiting, const char *path);
 
-/* All changes, which still are found, as long as they aren't forgotten. */
+/* All changes. They are still found until they are forgotten. */
 GQueue waiting_take(Waiting *waiting);
 void waiting_forget(Waiting *waiting, const GQueue *changes);
 
-/* Makes the changes. What was refused goes from `changes` to `refused`, and `error` has the first
+/* Makes the changes. Refused ones move from `changes` to `refused`, and `error` has the first
  * refusal. */
 bool changes_write(DconfdbStore *store, GQueue *changes, GQueue *refused, DconfdbError *error);
 
@@ -59,55 +59,55 @@ bool changes_write(DconfdbStore *store, GQueue *changes, GQueue *refused, Dconfd
  * sent or a warning printed. fork() takes `lock`; in the child `turn` is free, whoever had it. */
 typedef struct {
     GSettingsBackend parent;
-    pid_t process; /* after fork(), the child is another one */
+    pid_t process; /* differs in a child, after fork() */
     char *folder;  /* NULL: the environment names none; it goes with both locks held, after the worker */
     GVariant *types;
 
     GMutex turn;         /* held while files are looked at or changed. It guards: */
     DconfdbStore *store; /* NULL: it isn't opened yet, or could not be */
-    bool is_stale;       /* its profile has perhaps changed */
-    char *told;          /* the fault that was told last; NULL: there is none now */
+    bool is_stale;       /* its profile may have changed */
+    char *told;          /* the fault that was last reported; NULL: there is none now */
 
     /* Read with `turn` or `lock` held, changed with both. */
-    bool has_opened; /* the first opening is over; perhaps it failed */
+    bool has_opened; /* the first opening is over; it may have failed */
 
     GMutex lock;          /* held for moments. It guards: */
-    DconfdbSnapshot *now; /* NULL: no store is opened yet, or none could be */
+    DconfdbSnapshot *now; /* NULL: no store is open yet, or none could be opened */
     bool has_user;        /* there is a user's database */
     Waiting waiting;
     bool is_due, has_ended;
-    gint64 written; /* when changes were written last */
+    gint64 written; /* when changes were last written */
     GHashTable *subscribed;
     GThread *worker;
 
     GMainContext *context; /* the worker's */
     GMainLoop *loop;
-    GPtrArray *monitors; /* for the worker alone, as what follows */
+    GPtrArray *monitors; /* only for the worker, like what follows */
     GPtrArray *files;    /* names of the store's files */
 } DconfdbBackend;
 
 /* ---- the store (gsettings_store.c) */
 
-/* Finds its folder, by the environment. */
+/* Finds its folder, from the environment. */
 void store_begin(DconfdbBackend *self);
 
-/* Opens it for the first time, where nobody has: the worker does, or who needs a snapshot before. */
+/* Opens it for the first time, if nobody has: the worker does, or whoever needs a snapshot sooner. */
 void store_open(DconfdbBackend *self);
 
 /* Writes what waits, as one change; what is refused is taken back. */
 void store_write(DconfdbBackend *self);
 
-/* Looks at the files, and tells what is seen otherwise than before; of a first opening nothing. */
+/* Looks at the files, and notifies of every difference; of a first opening, of nothing. */
 void store_look(DconfdbBackend *self);
 
-/* The same where the profile may have changed. */
+/* The same, if the profile may have changed. */
 void store_look_anew(DconfdbBackend *self);
 
-/* Writes what waits, and frees what is held. Later calls find no store. */
+/* Writes what waits, and frees everything. Later calls find no store. */
 void store_end(DconfdbBackend *self);
 
-/* In a child of fork(), with `lock` held: what `turn` guards is the parent's, and perhaps half
- * changed. The child opens a store of its own, where it has no snapshot. */
+/* In a child of fork(), with `lock` held: what `turn` guards is the parent's, and may be half
+ * changed. The child opens a store of its own if it has no snapshot. */
 void store_leave(DconfdbBackend *self);
 
 /* ---- the thread that writes and watches (gsettings_worker.c); `lock` is held */
@@ -120,14 +120,14 @@ void worker_end(DconfdbBackend *self);
 
 /* ---- the files that are watched (gsettings_watch.c), by the worker */
 
-/* In the caller's thread: what GLib asks of the environment for a first watch, it asks now, and not while
- * the program may change that. */
+/* In the caller's thread: GLib reads the environment for its first watch now, and not later, when the
+ * program may be changing it. */
 void watch_prepare(void);
 
 void watch_begin(DconfdbBackend *self);
 void watch_end(DconfdbBackend *self);
 
-/* ---- who is told of what (gsettings_notice.c) */
+/* ---- notices (gsettings_notice.c) */
 
 /* What happened in a turn. */
 typedef struct {
@@ -135,10 +135,10 @@ typedef struct {
     bool is_first; /* the store was opened: nobody has seen another one */
     bool had_user, has_user;
     GQueue written, refused; /* changes of ours */
-    char *fault;             /* to be warned of */
+    char *fault;             /* to warn of */
 } Notice;
 
-/* Tells, and frees what the notice holds. */
+/* Notifies, and frees what the notice holds. */
 void notice_tell(DconfdbBackend *self, Notice *notice);
 
 #endif
