@@ -24,9 +24,10 @@
  * Compile it with `cc x.c $(pkg-config --cflags --libs dconfdb)`.
  *
  * WHERE A STORE IS. A store is a folder: the one given, else $DCONFDB_STORE, else
- * $XDG_CONFIG_HOME/dconfdb, else $HOME/.config/dconfdb. An empty variable counts as unset, and so
- * does one of the last two that doesn't start with `/`. The profile is the file `profile` in the
- * folder, else /etc/dconfdb/profile, else the text `user-db:user`. It names one database per line,
+ * $XDG_CONFIG_HOME/dconfdb, else $HOME/.config/dconfdb, else .config/dconfdb in the home that the
+ * system knows of the user (passwd(5)). An empty variable counts as unset, and so does one of the
+ * last two that doesn't start with `/`. The profile is the file `profile` in the folder, else
+ * /etc/dconfdb/profile, else the text `user-db:user`. It names one database per line,
  * the one that is asked first at the top: `user-db:NAME` is the file NAME.user in the folder,
  * `system-db:NAME` is NAME.db in the folder, and `file-db:PATH` is the file PATH, relative to the
  * folder. A NAME has no `/`. A `#` starts a comment, even inside a PATH; blanks at either end of a
@@ -105,7 +106,7 @@ enum {
     DCONFDB_ERROR_TOO_BIG = 18,        /* a file has more bytes than it may have, or would have */
     DCONFDB_ERROR_FILE = 64,           /* the system refused something: `system` is its errno */
     DCONFDB_ERROR_BUSY = 65,           /* others held the folder's lock for ten seconds */
-    DCONFDB_ERROR_NO_FOLDER = 66       /* no folder is given, and the environment names none */
+    DCONFDB_ERROR_NO_FOLDER = 66       /* no folder is given, and nobody names one */
 };
 
 /* What failed. It belongs to the caller, and need not be freed. */
@@ -178,6 +179,10 @@ bool dconfdb_store_refresh(DconfdbStore *store, bool *changed, DconfdbError *err
  * is on the disk when this returns. The newest snapshot then has the edits, and what others
  * changed meanwhile, in other databases too; a refused change may take that in as well. With no
  * edits this returns true and looks at nothing.
+ *
+ * The new file has the permission bits of the old one. A first file is its owner's alone (0600),
+ * whatever the umask. If root makes the change, the file keeps its owner and group; a first file, and
+ * each folder that is made, gets those of the folder that it is in.
  *
  * The new file has no locks: a change drops those that the old one had. So a site's database must
  * not be anybody's user-db.

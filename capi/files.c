@@ -14,7 +14,7 @@
 #include <sys/stat.h>
 #include <unistd.h>
 
-enum { LONGEST_WAIT = 10, PAUSE = 5000000, PERMISSION_BITS = 0777, READ_AND_WRITE = 0600 };
+enum { LONGEST_WAIT = 10, PAUSE = 5000000, PERMISSION_BITS = 0777, READ_AND_WRITE = 0600, HEAD = 24 };
 
 static FileState state_of(const struct stat *found)
 {
@@ -54,9 +54,25 @@ static int fill(int file, FileBytes *bytes, size_t wanted)
     return 0;
 }
 
-/* The bytes of an open file, of which there is at least one. */
-static int take(int file, bool maps, size_t len, FileBytes *bytes)
+/* How many bytes are to be read of an open file that has so many. */
+static int look_at_head(int file, FileWanted *is_wanted, size_t *len)
 {
+    uint64_t room[HEAD / sizeof(uint64_t)]; /* aligned as a file's bytes are */
+    FileBytes head = {(uint8_t *)room, 0, false};
+    if (!is_wanted || *len <= HEAD)
+        return 0;
+    int fault = fill(file, &head, HEAD);
+    if (fault == 0 && !is_wanted(head.at, head.len))
+        *len = head.len;
+    return fault == 0 && lseek(file, 0, SEEK_SET) != 0 ? errno : fault;
+}
+
+/* The bytes of an open file, of which there is at least one. */
+static int take(int file, bool maps, FileWanted *is_wanted, size_t len, FileBytes *bytes)
+{
+    int fault = maps ? 0 : look_at_head(file, is_wanted, &len);
+    if (fault != 0)
+        return fault;
     if (maps) {
         void *at = mmap(NULL, len, PROT_READ, MAP_PRIVATE, file, 0);
         if (at != MAP_FAILED) {
@@ -69,7 +85,7 @@ static int take(int file, bool maps, size_t len, FileBytes *bytes)
     return bytes->at ? fill(file, bytes, len) : ENOMEM;
 }
 
-int file_read(int folder, const char *name, bool maps, size_t most, FileBytes *bytes, FileState *state)
+int file_read(int folder, const char *name, bool maps, FileWanted *is_wanted, size_t most, FileBytes *bytes, FileState *state)
 {
     struct stat found;
     int fault = 0;
@@ -86,7 +102,7 @@ int file_read(int folder, const char *name, bool maps, size_t most, FileBytes *b
     else if ((uintmax_t)found.st_size > most)
         fault = EOVERFLOW;
     else if (found.st_size > 0)
-        fault = take(file, maps, (size_t)found.st_size, bytes);
+        fault = take(file, maps, is_wanted, (size_t)found.st_size, bytes);
     close(file);
     if (fault == 0)
         *state = state_of(&found);
@@ -155,18 +171,33 @@ static int sync_folder(const char *name)
     return fault;
 }
 
+/* The folder that root made in another user's is that user's. It is asked for as a folder, and no
+ * link is followed, since that user may have put one there meanwhile. */
+static int hand_over_folder(const char *folder, const struct stat *above)
+{
+    if (geteuid() != 0 || above->st_uid == 0)
+        return 0;
+    int made = open(folder, O_RDONLY | O_DIRECTORY | O_NOFOLLOW | O_CLOEXEC);
+    if (made < 0)
+        return errno;
+    int fault = fchown(made, above->st_uid, above->st_gid) != 0 ? errno : 0;
+    close(made);
+    return fault;
+}
+
 /* Makes one folder of an absolute path, so that its name is on the disk. */
 static int make_one(char *folder)
 {
+    struct stat above;
     char *last = strrchr(folder, '/');
     if (mkdir(folder, 0700) != 0)
         return errno == EEXIST ? 0 : errno;
     if (last == folder)
         return sync_folder("/");
     *last = 0;
-    int fault = sync_folder(folder);
+    int fault = stat(folder, &above) != 0 ? errno : sync_folder(folder);
     *last = '/';
-    return fault;
+    return fault == 0 ? hand_over_folder(folder, &above) : fault;
 }
 
 int folder_make(const char *folder)
@@ -191,8 +222,20 @@ int folder_make(const char *folder)
     return fault;
 }
 
-/* Writes all bytes, and has them and the permission bits on the disk. */
-static int fill_new(int file, const uint8_t *bytes, size_t len, const mode_t *mode, FileState *state)
+/* Gives the file the permission bits, whatever the umask. What root writes is the owner's. */
+static int hand_over(int file, mode_t mode, const struct stat *owner)
+{
+    struct stat made;
+    if (fstat(file, &made) != 0)
+        return errno;
+    bool is_others = made.st_uid != owner->st_uid || made.st_gid != owner->st_gid;
+    if (geteuid() == 0 && is_others && fchown(file, owner->st_uid, owner->st_gid) != 0)
+        return errno;
+    return (made.st_mode & PERMISSION_BITS) != mode && fchmod(file, mode) != 0 ? errno : 0;
+}
+
+/* Writes all bytes, and has them and whose they are on the disk. */
+static int fill_new(int file, const uint8_t *bytes, size_t len, mode_t mode, const struct stat *owner, FileState *state)
 {
     struct stat made;
     for (size_t at = 0; at < len;) {
@@ -202,10 +245,9 @@ static int fill_new(int file, const uint8_t *bytes, size_t len, const mode_t *mo
         else if (put == 0 || errno != EINTR)
             return put == 0 ? EIO : errno;
     }
-    if (fstat(file, &made) != 0)
-        return errno;
-    if (mode && (made.st_mode & PERMISSION_BITS) != *mode && fchmod(file, *mode) != 0)
-        return errno;
+    int fault = hand_over(file, mode, owner);
+    if (fault != 0)
+        return fault;
     if (fsync(file) != 0 || fstat(file, &made) != 0)
         return errno;
     *state = state_of(&made);
@@ -213,22 +255,20 @@ static int fill_new(int file, const uint8_t *bytes, size_t len, const mode_t *mo
 }
 
 /* Makes the new file. One that is to take another's place is at no time open to more users than
- * that. */
+ * that. A first one is open to its owner alone, who is the folder's where root makes it. */
 static int make_new(int folder, const char *name, const char *new_name, const uint8_t *bytes, size_t len, FileState *state)
 {
     struct stat old;
-    mode_t mode = 0;
     bool is_there = fstatat(folder, name, &old, 0) == 0;
-    if (!is_there && errno != ENOENT)
+    if (!is_there && (errno != ENOENT || fstat(folder, &old) != 0))
         return errno;
-    if (is_there)
-        mode = old.st_mode & PERMISSION_BITS;
+    mode_t mode = is_there ? old.st_mode & PERMISSION_BITS : READ_AND_WRITE;
     if (unlinkat(folder, new_name, 0) != 0 && errno != ENOENT)
         return errno;
-    int file = openat(folder, new_name, O_WRONLY | O_CREAT | O_EXCL | O_CLOEXEC, is_there ? mode | READ_AND_WRITE : 0666);
+    int file = openat(folder, new_name, O_WRONLY | O_CREAT | O_EXCL | O_CLOEXEC, mode | READ_AND_WRITE);
     if (file < 0)
         return errno;
-    int fault = fill_new(file, bytes, len, is_there ? &mode : NULL, state);
+    int fault = fill_new(file, bytes, len, mode, &old, state);
     if (close(file) != 0 && fault == 0)
         fault = errno;
     return fault;

@@ -31,9 +31,13 @@ int file_look(const char *name, FileState *state);
 
 bool file_is_same(const FileState *one, const FileState *other);
 
+/* Whether the rest of a file that begins with these bytes is wanted. */
+typedef bool FileWanted(const uint8_t *head, size_t len);
+
 /* What a file holds, and its state; a relative name is relative to the folder. A missing file is not
- * an error. EOVERFLOW: it has more than `most` bytes. EINVAL: it is not a regular file. */
-int file_read(int folder, const char *name, bool maps, size_t most, FileBytes *bytes, FileState *state);
+ * an error. EOVERFLOW: it has more than `most` bytes. EINVAL: it is not a regular file. One that isn't
+ * mapped is read no further than its head if the rest isn't wanted (NULL: it is). */
+int file_read(int folder, const char *name, bool maps, FileWanted *is_wanted, size_t most, FileBytes *bytes, FileState *state);
 
 void file_release(FileBytes *bytes);
 

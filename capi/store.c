@@ -9,6 +9,7 @@
 
 #include <errno.h>
 #include <pthread.h>
+#include <pwd.h>
 #include <stdarg.h>
 #include <stdatomic.h>
 #include <stdio.h>
@@ -39,7 +40,7 @@ struct DconfdbSnapshot {
 };
 
 /* A file and a profile have at most so many bytes, and a profile so many databases. */
-enum { LARGEST_PROFILE = 16777216, MOST_DATABASES = 64 };
+enum { LARGEST_PROFILE = 16777216, MOST_DATABASES = 64, ROOM_OF_PASSWD = 65536 };
 #define LARGEST_FILE 4294967295U
 
 struct DconfdbStore {
@@ -204,6 +205,16 @@ static Part *part_open(const char *name, FileState state, FileBytes bytes, size_
     return NULL;
 }
 
+/* Whether a file that begins so may be a database. A signature and a version aren't better with more
+ * bytes after them. */
+static bool may_be_database(const uint8_t *head, size_t len)
+{
+    DconfdbLayer layer = DCONFDB_EMPTY_LAYER;
+    DconfdbUnsound broken = {0, 0, false};
+    uint32_t number = dconfdb_open(head, len, true, &layer, &broken);
+    return number != DCONFDB_BAD_SIGNATURE && number != DCONFDB_BAD_VERSION;
+}
+
 static bool has_bytes(const Part *part, const FileBytes *bytes)
 {
     return part->bytes.len == bytes->len && (bytes->len == 0 || memcmp(part->bytes.at, bytes->at, bytes->len) == 0);
@@ -220,7 +231,8 @@ static Part *part_now(const char *name, bool maps, Part *old, int turn, size_t d
     if (fault == 0 && looks && file_is_same(&old->state, &state))
         return part_ref(old);
     if (fault == 0)
-        fault = file_read(turn, turn == NO_FOLDER ? name : strrchr(name, '/') + 1, maps, LARGEST_FILE, &bytes, &state);
+        fault = file_read(turn, turn == NO_FOLDER ? name : strrchr(name, '/') + 1, maps, may_be_database, LARGEST_FILE, &bytes,
+                          &state);
     if (fault != 0) {
         refuse_file(error, fault, name, (Place){.database = database});
         return NULL;
@@ -422,19 +434,38 @@ static char *absolute(const char *folder)
     return text;
 }
 
-/* The folder that the environment names; or NULL, and then errno, or `is_named` is false. */
-static char *environments_folder(bool *is_named)
+/* The store's folder in the home that the system knows of; or NULL, and then errno, which is 0 where it
+ * knows of none. */
+static char *folder_at_home(void)
+{
+    struct passwd entry, *found = NULL;
+    char *room = malloc(ROOM_OF_PASSWD), *folder = NULL;
+    int fault = room ? getpwuid_r(getuid(), &entry, room, ROOM_OF_PASSWD, &found) : ENOMEM;
+    bool has_home = fault == 0 && found && found->pw_dir && found->pw_dir[0] == '/';
+    if (has_home)
+        folder = joined(found->pw_dir, "/", ".config/dconfdb");
+    free(room);
+    errno = has_home ? ENOMEM : fault;
+    return folder;
+}
+
+/* The folder where none is given; or NULL, and then errno, which is 0 where nobody names one. `of` is
+ * what was asked last. */
+static char *folder_by_default(const char **of)
 {
     const char *store = variable("DCONFDB_STORE"), *base = variable("XDG_CONFIG_HOME"), *home = variable("HOME");
     errno = ENOMEM;
-    *is_named = true;
+    *of = "the folder of $DCONFDB_STORE";
     if (store)
         return absolute(store);
     if (base && base[0] == '/')
         return joined(base, "/", "dconfdb");
     if (home && home[0] == '/')
         return joined(home, "/", ".config/dconfdb");
-    *is_named = false;
+    *of = "the user's home";
+    if (!getauxval(AT_SECURE))
+        return folder_at_home();
+    errno = 0;
     return NULL;
 }
 
@@ -445,7 +476,7 @@ static char *environments_folder(bool *is_named)
 static bool read_profile(const char *name, FileBytes *text, DconfdbError *error)
 {
     FileState state;
-    int fault = file_read(NO_FOLDER, name, false, LARGEST_PROFILE, text, &state);
+    int fault = file_read(NO_FOLDER, name, false, NULL, LARGEST_PROFILE, text, &state);
     if (fault != 0)
         return refuse_file(error, fault, name, nowhere);
     /* A profile without a byte is there too. */
@@ -542,7 +573,7 @@ static DconfdbSnapshot *look(const DconfdbStore *store, int turn, DconfdbError *
 /* A store of which the folder is known alone. */
 static DconfdbStore *store_of(const char *folder, DconfdbError *error)
 {
-    bool is_named = true;
+    const char *of = folder;
     DconfdbStore *store = calloc(1, sizeof *store);
     if (!store) {
         refuse_memory(error);
@@ -550,13 +581,13 @@ static DconfdbStore *store_of(const char *folder, DconfdbError *error)
     }
     pthread_mutex_init(&store->refreshing, NULL);
     pthread_mutex_init(&store->handing, NULL);
-    store->folder = folder ? absolute(folder) : environments_folder(&is_named);
+    store->folder = folder ? absolute(folder) : folder_by_default(&of);
     if (store->folder)
         return store;
-    if (!is_named)
-        refuse(error, DCONFDB_ERROR_NO_FOLDER, 0, nowhere, "the environment names no folder of a store");
+    if (errno == 0)
+        refuse(error, DCONFDB_ERROR_NO_FOLDER, 0, nowhere, "the environment names no folder of a store, and the system no home");
     else
-        refuse_file(error, errno, folder ? folder : "the folder of $DCONFDB_STORE", nowhere);
+        refuse_file(error, errno, of, nowhere);
     dconfdb_store_close(store);
     return NULL;
 }

@@ -10,6 +10,9 @@
 #include <unistd.h>
 
 static DconfdbError error;
+static char *home;
+
+SYSTEMS_HOME(home)
 
 /* Whether the last fault is that one, and its text has both. */
 static bool is_fault(int number, const char *what, const char *also)
@@ -334,9 +337,15 @@ static void tries_places(void)
     TRY(unsetenv("DCONFDB_STORE") == 0 && unsetenv("XDG_CONFIG_HOME") == 0 && unsetenv("HOME") == 0);
     TRY(!dconfdb_store_open(NULL, &error) && error.number == DCONFDB_ERROR_NO_FOLDER);
     TRY(!dconfdb_store_files(NULL, NULL, NULL));
+    home = "relative";
+    TRY(!dconfdb_store_open(NULL, &error) && error.number == DCONFDB_ERROR_NO_FOLDER);
+    home = "/the system's";
+    DconfdbStore *store = dconfdb_store_open(NULL, &error);
+    TRY(store && strcmp(dconfdb_store_folder(store), "/the system's/.config/dconfdb") == 0);
+    dconfdb_store_close(store);
     snprintf(name, sizeof name, "%s/home", here);
     TRY(setenv("HOME", name, 1) == 0);
-    DconfdbStore *store = dconfdb_store_open(NULL, &error);
+    store = dconfdb_store_open(NULL, &error);
     TRY(store && strstr(dconfdb_store_folder(store), "/home/.config/dconfdb"));
     TRY(access("home", F_OK) != 0 && changes(store, sets_text("/first", "1")) && access("home/.config/dconfdb/user.user", R_OK) == 0);
     dconfdb_store_close(store);

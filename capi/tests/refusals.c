@@ -11,6 +11,10 @@
 #include <sys/stat.h>
 #include <unistd.h>
 
+static char *const home = NULL;
+
+SYSTEMS_HOME(home)
+
 static DconfdbError error;
 
 /* ---- what is said */
@@ -349,7 +353,7 @@ static void tries_replacing(DconfdbStore *store)
 
 static void tries_no_folder(void)
 {
-    Fault none = {DCONFDB_ERROR_NO_FOLDER, 0, 0, 0, 0, "", "the environment names no folder"};
+    Fault none = {DCONFDB_ERROR_NO_FOLDER, 0, 0, 0, 0, "", "the environment names no folder of a store, and the system no home"};
     TRY(unsetenv("DCONFDB_STORE") == 0 && setenv("XDG_CONFIG_HOME", "relative", 1) == 0 && setenv("HOME", "", 1) == 0);
     TRY(refuses_open(NULL, none) && refuses_files(NULL, none));
     /* The current folder is gone, and a name that is relative with it. */

@@ -4,6 +4,7 @@
 
 #include "dconfdb.h"
 
+#include <pwd.h>
 #include <stdio.h>
 #include <stdlib.h>
 #include <string.h>
@@ -38,5 +39,15 @@ static inline bool has(const DconfdbSnapshot *snapshot, const char *path, const 
         return !text && value.size == 0 && value.data && value.type;
     return text && is_text(&value, text);
 }
+
+/* A home that the system knows of, in the place of the C library's answer: NULL, none. A test that asks
+ * for one has `SYSTEMS_HOME(its variable)`. */
+#define SYSTEMS_HOME(home)                                                                                                     \
+    int getpwuid_r(uid_t user, struct passwd *entry, char *room, size_t len, struct passwd **found)                            \
+    {                                                                                                                          \
+        *entry = (struct passwd){.pw_name = room, .pw_uid = user, .pw_dir = home};                                             \
+        *found = home && len > 0 ? entry : NULL;                                                                               \
+        return 0;                                                                                                              \
+    }
 
 #endif

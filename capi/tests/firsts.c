@@ -1,0 +1,96 @@
+/* Whose a file is that the library makes, and what it reads of one that is no database: firsts FOLDER.
+ * It is tests/library's store, as capi/tests/calls.c says. */
+#define _FILE_OFFSET_BITS 64
+#include "try.h"
+
+#include <errno.h>
+#include <fcntl.h>
+#include <sys/stat.h>
+#include <time.h>
+#include <unistd.h>
+
+enum { NOBODY = 65534 };
+
+static DconfdbError error;
+
+/* Sets a key in the store of a folder. */
+static bool sets(const char *folder)
+{
+    DconfdbStore *store = dconfdb_store_open(folder, &error);
+    DconfdbEdit edit = sets_text("/key", "value");
+    bool done = store && dconfdb_store_change(store, &edit, 1, &error);
+    dconfdb_store_close(store);
+    return done;
+}
+
+static struct stat is_there(const char *file)
+{
+    struct stat found;
+    TRY(stat(file, &found) == 0);
+    return found;
+}
+
+static bool is_of(const char *file, uid_t owner, mode_t mode)
+{
+    struct stat found = is_there(file);
+    return found.st_uid == owner && found.st_gid == owner && (found.st_mode & 0777) == mode;
+}
+
+/* The first file is its owner's alone, whatever the umask; a later one has the bits of that before it. */
+static void tries_modes(void)
+{
+    static const mode_t masks[] = {0, 022, 077, 0277};
+    for (size_t i = 0; i < sizeof masks / sizeof masks[0]; i++) {
+        unlink("me.user");
+        umask(masks[i]);
+        TRY(sets(".") && (is_there("me.user").st_mode & 0777) == 0600);
+        TRY(chmod("me.user", 0640) == 0 && sets(".") && (is_there("me.user").st_mode & 0777) == 0640);
+    }
+    umask(022);
+    unlink("me.user");
+}
+
+/* What root writes is whose it was, or the folder's owner's. */
+static void tries_owners(void)
+{
+    if (geteuid() != 0)
+        return;
+    TRY(mkdir("theirs", 0700) == 0 && chown("theirs", NOBODY, NOBODY) == 0);
+    TRY(sets("theirs") && is_of("theirs/user.user", NOBODY, 0600));
+    TRY(chown("theirs/user.user", 1, 1) == 0 && chmod("theirs/user.user", 0640) == 0);
+    TRY(sets("theirs") && is_of("theirs/user.user", 1, 0640));
+    TRY(sets("theirs/more/folders") && is_of("theirs/more", NOBODY, 0700) && is_of("theirs/more/folders", NOBODY, 0700));
+    TRY(is_of("theirs/more/folders/user.user", NOBODY, 0600));
+    TRY(sets("own") && is_of("own/user.user", 0, 0600));
+}
+
+static double seconds(void)
+{
+    struct timespec now;
+    TRY(clock_gettime(CLOCK_MONOTONIC, &now) == 0);
+    return (double)now.tv_sec + (double)now.tv_nsec / 1e9;
+}
+
+/* A file of 4 GB that doesn't begin as a database isn't read to its end. */
+static void tries_long(const char *begin, size_t len, int number)
+{
+    int file = open("me.user", O_RDWR | O_CREAT | O_TRUNC, 0600);
+    TRY(file >= 0 && write(file, begin, len) == (ssize_t)len);
+    if (ftruncate(file, 4294967295) == 0) {
+        double began = seconds();
+        TRY(!dconfdb_store_open(".", &error) && error.number == number && strstr(error.text, "me.user"));
+        TRY(seconds() - began < 1);
+    }
+    TRY(close(file) == 0 && unlink("me.user") == 0);
+}
+
+int main(int argc, char **argv)
+{
+    TRY(argc == 2 && chdir(argv[1]) == 0);
+    tries_modes();
+    tries_owners();
+    tries_long("", 0, DCONFDB_ERROR_BAD_SIGNATURE);
+    tries_long("GVariant\1\0\0", 12, DCONFDB_ERROR_BAD_VERSION);
+    puts(geteuid() == 0 ? "what root writes is its owner's" : "what root writes isn't tried, since nobody here is root");
+    return 0;
+}
