@@ -88,16 +88,34 @@ static DconfdbSnapshot *snapshot_of(DconfdbBackend *self)
     return now;
 }
 
+static GVariant *read_default(DconfdbBackend *self, const char *key)
+{
+    return lend(snapshot_of(self), dconfdb_snapshot_read_default, key);
+}
+
+/* A user's value of another type than the schema's counts as none. Since only who reads knows that type, it
+ * is kept of which keys it was so: where their default changes, it is told. */
+static GVariant *read_past(DconfdbBackend *self, const char *key, GVariant *odd)
+{
+    g_variant_unref(odd);
+    g_mutex_lock(&self->lock);
+    if (!self->has_ended)
+        g_hash_table_add(self->odd, g_strdup(key));
+    g_mutex_unlock(&self->lock);
+    return read_default(self, key);
+}
+
 static GVariant *dconfdb_backend_read(GSettingsBackend *backend, const char *key, const GVariantType *expected,
                                       gboolean default_value)
 {
-    (void)expected;
+    DconfdbBackend *self = backend_of(backend);
     if (default_value)
-        return lend(snapshot_of(backend_of(backend)), dconfdb_snapshot_read_default, key);
-    Source source = source_of(backend_of(backend), key);
-    if (source.value)
-        return source.value;
-    return lend(source.now, source.is_edited ? dconfdb_snapshot_read_default : dconfdb_snapshot_read, key);
+        return read_default(self, key);
+    Source source = source_of(self, key);
+    GVariant *value = source.value;
+    if (!value)
+        value = lend(source.now, source.is_edited ? dconfdb_snapshot_read_default : dconfdb_snapshot_read, key);
+    return value && !g_variant_is_of_type(value, expected) ? read_past(self, key, value) : value;
 }
 
 static GVariant *dconfdb_backend_read_user_value(GSettingsBackend *backend, const char *key, const GVariantType *expected)
@@ -129,6 +147,8 @@ static gboolean dconfdb_backend_get_writable(GSettingsBackend *backend, const ch
 {
     DconfdbBackend *self = backend_of(backend);
     DconfdbSnapshot *now = snapshot_of(self);
+    if (getpid() != self->process)
+        g_clear_pointer(&now, dconfdb_snapshot_unref); /* a child of fork() sets nothing */
     bool is = now && dconfdb_snapshot_is_writable(now, name);
     if (now && !is && g_str_has_suffix(name, "/"))
         is = is_directory_writable(self, now, name);
@@ -264,6 +284,7 @@ static void dconfdb_backend_init(DconfdbBackend *self)
     g_mutex_init(&self->lock);
     waiting_begin(&self->waiting);
     self->subscribed = g_hash_table_new_full(g_str_hash, g_str_equal, g_free, NULL);
+    self->odd = g_hash_table_new_full(g_str_hash, g_str_equal, g_free, NULL);
     store_begin(self);
     watch_prepare();
     g_mutex_lock(&living_lock);

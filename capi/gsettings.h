@@ -24,7 +24,7 @@ typedef struct {
     Edit edits[];
 } Change;
 
-/* Changes, the oldest first, and the newest edit of each key. */
+/* Changes, the oldest first, and the newest edit of each key, but for those that are left out. */
 typedef struct {
     GQueue changes;
     GHashTable *newest;
@@ -45,9 +45,19 @@ void waiting_end(Waiting *waiting);
 void waiting_add(Waiting *waiting, Change *change);
 const Edit *waiting_find(const Waiting *waiting, const char *path);
 
+/* A key at the moment when changes are forgotten: what its newest edit said before, and what that of
+ * then says, if there is one. */
+typedef struct {
+    char *path;
+    GVariant *before, *after; /* NULL: a reset, or no edit */
+    bool is_edited;           /* an edit still waits */
+} Edited;
+
 /* All changes. They are still found until they are forgotten. */
 GQueue waiting_take(Waiting *waiting);
-void waiting_forget(Waiting *waiting, const GQueue *changes);
+
+/* Forgets both, and says what each key's newest edit was, and is now: an array of Edited, to be freed. */
+GArray *waiting_forget(Waiting *waiting, const GQueue *written, const GQueue *refused);
 
 /* Makes the changes. Refused ones move from `changes` to `refused`, and `error` has the first
  * refusal. */
@@ -75,6 +85,7 @@ typedef struct {
     DconfdbSnapshot *now; /* NULL: no store is open yet, or none could be opened */
     bool has_user;        /* there is a user's database */
     Waiting waiting;
+    GHashTable *odd; /* keys that were read past a user's value of another type */
     bool is_due, has_ended;
     gint64 written; /* when changes were last written */
     GHashTable *subscribed;
@@ -135,6 +146,8 @@ typedef struct {
     bool is_first; /* the store was opened: nobody has seen another one */
     bool had_user, has_user;
     GQueue written, refused; /* changes of ours */
+    GArray *edited;          /* keys that an edit of ours was for; NULL: none */
+    char **odd;              /* keys whose default may be seen below a user's value; NULL: none */
     char *fault;             /* to warn of */
 } Notice;
 

@@ -79,8 +79,10 @@ void waiting_add(Waiting *waiting, Change *change)
 {
     g_queue_push_tail(&waiting->changes, change);
     /* Replaced, so that the path is that of the edit which lives longest. */
-    for (size_t i = 0; i < change->count; i++)
-        g_hash_table_replace(waiting->newest, change->edits[i].path, &change->edits[i]);
+    for (size_t i = 0; i < change->count; i++) {
+        if (!change->edits[i].is_left_out)
+            g_hash_table_replace(waiting->newest, change->edits[i].path, &change->edits[i]);
+    }
 }
 
 const Edit *waiting_find(const Waiting *waiting, const char *path)
@@ -95,7 +97,35 @@ GQueue waiting_take(Waiting *waiting)
     return taken;
 }
 
-void waiting_forget(Waiting *waiting, const GQueue *changes)
+static GVariant *value_of(const Edit *edit)
+{
+    return edit && edit->value ? g_variant_ref(edit->value) : NULL;
+}
+
+static void free_edited(gpointer data)
+{
+    Edited *edited = data;
+    g_free(edited->path);
+    g_clear_pointer(&edited->before, g_variant_unref);
+    g_clear_pointer(&edited->after, g_variant_unref);
+}
+
+/* The newest edits, of which none is known to be gone. */
+static GArray *edited_of(const Waiting *waiting)
+{
+    GHashTableIter at;
+    gpointer path, edit;
+    GArray *all = g_array_new(FALSE, FALSE, sizeof(Edited));
+    g_array_set_clear_func(all, free_edited);
+    g_hash_table_iter_init(&at, waiting->newest);
+    while (g_hash_table_iter_next(&at, &path, &edit)) {
+        Edited one = {g_strdup(path), value_of(edit), NULL, false};
+        g_array_append_val(all, one);
+    }
+    return all;
+}
+
+static void forget(Waiting *waiting, const GQueue *changes)
 {
     for (const GList *at = changes->head; at; at = at->next) {
         const Change *change = at->data;
@@ -105,6 +135,22 @@ void waiting_forget(Waiting *waiting, const GQueue *changes)
                 g_hash_table_remove(waiting->newest, edit->path);
         }
     }
+}
+
+GArray *waiting_forget(Waiting *waiting, const GQueue *written, const GQueue *refused)
+{
+    if (g_hash_table_size(waiting->newest) == 0)
+        return NULL;
+    GArray *all = edited_of(waiting);
+    forget(waiting, written);
+    forget(waiting, refused);
+    for (guint i = 0; i < all->len; i++) {
+        Edited *one = &g_array_index(all, Edited, i);
+        const Edit *edit = waiting_find(waiting, one->path);
+        one->is_edited = edit != NULL;
+        one->after = value_of(edit);
+    }
+    return all;
 }
 
 /* ---- how they are written */

@@ -13,7 +13,7 @@ enum { MOST_KEYS = 255 };
 typedef struct {
     DconfdbBackend *backend;
     const Notice *notice;
-    GHashTable *ours; /* keys of our changes: who made them was told of them */
+    GHashTable *ours; /* keys of our edits, of which it is asked what was seen before and is seen now */
     GPtrArray *changed;
     GHashTable *writable;   /* keys that may be written, or no longer */
     GPtrArray *directories; /* the same of all that is in them */
@@ -21,18 +21,38 @@ typedef struct {
 
 /* ---- what differs */
 
-/* The value that is seen, in normal form: the same value has the same bytes then. NULL where there
- * is none. */
-static GVariant *seen_of(const DconfdbSnapshot *snapshot, const char *path)
+typedef bool Reads(const DconfdbSnapshot *snapshot, const char *path, DconfdbValue *value);
+
+/* What is read, in normal form: the same value has the same bytes then. NULL where there is none. */
+static GVariant *seen_by(Reads *reads, const DconfdbSnapshot *snapshot, const char *path)
 {
     DconfdbValue value;
-    if (!snapshot || !dconfdb_snapshot_read(snapshot, path, &value))
+    if (!snapshot || !reads(snapshot, path, &value))
         return NULL;
     const GVariantType *type = (const GVariantType *)value.type;
     GVariant *lent = g_variant_ref_sink(g_variant_new_from_data(type, value.data, value.size, FALSE, NULL, NULL));
     GVariant *normal = g_variant_get_normal_form(lent);
     g_variant_unref(lent);
     return normal;
+}
+
+static GVariant *seen_of(const DconfdbSnapshot *snapshot, const char *path)
+{
+    return seen_by(dconfdb_snapshot_read, snapshot, path);
+}
+
+static GVariant *default_of(const DconfdbSnapshot *snapshot, const char *path)
+{
+    return seen_by(dconfdb_snapshot_read_default, snapshot, path);
+}
+
+/* Frees both. */
+static bool are_alike(GVariant *one, GVariant *other)
+{
+    bool are = one && other ? g_variant_equal(one, other) : one == other;
+    g_clear_pointer(&one, g_variant_unref);
+    g_clear_pointer(&other, g_variant_unref);
+    return are;
 }
 
 static bool is_locked(const DconfdbSnapshot *snapshot, const char *path)
@@ -45,11 +65,17 @@ static bool is_seen_alike(const Notice *notice, const char *path)
 {
     if (is_locked(notice->before, path) == is_locked(notice->after, path))
         return false;
-    GVariant *before = seen_of(notice->before, path), *after = seen_of(notice->after, path);
-    bool is = before && after ? g_variant_equal(before, after) : before == after;
-    g_clear_pointer(&before, g_variant_unref);
-    g_clear_pointer(&after, g_variant_unref);
-    return is;
+    return are_alike(seen_of(notice->before, path), seen_of(notice->after, path));
+}
+
+/* An edit with a value hides what the files have; a reset shows their default. */
+static bool is_edited_alike(const Notice *notice, const Edited *edited)
+{
+    GVariant *before = edited->before ? g_variant_ref(edited->before) : default_of(notice->before, edited->path);
+    GVariant *after = !edited->is_edited ? seen_of(notice->after, edited->path)
+        : edited->after                  ? g_variant_ref(edited->after)
+                                         : default_of(notice->after, edited->path);
+    return are_alike(before, after);
 }
 
 static bool is_writable(const DconfdbSnapshot *snapshot, const char *path)
@@ -78,23 +104,13 @@ static bool is_subscribed(DconfdbBackend *self, const char *path)
     return is;
 }
 
-/* Whether a value of ours hides what the files have: it waits. */
-static bool is_waiting(DconfdbBackend *self, const char *path)
-{
-    g_mutex_lock(&self->lock);
-    bool is = self->now && waiting_find(&self->waiting, path);
-    g_mutex_unlock(&self->lock);
-    return is;
-}
-
 static void add_difference(Telling *telling, const char *path)
 {
     if (!is_subscribed(telling->backend, path))
         return;
     if (!is_as_writable(telling->notice, path))
         g_hash_table_add(telling->writable, (gpointer)path);
-    if (!g_hash_table_contains(telling->ours, path) && !is_waiting(telling->backend, path)
-        && !is_seen_alike(telling->notice, path))
+    if (!g_hash_table_contains(telling->ours, path) && !is_seen_alike(telling->notice, path))
         g_ptr_array_add(telling->changed, (gpointer)path);
 }
 
@@ -189,14 +205,26 @@ static void add_all(Telling *telling, const char *differences, const char *befor
         g_ptr_array_add(telling->directories, (gpointer)"/");
 }
 
-static void add_ours(Telling *telling, const GQueue *changes, bool is_told)
+/* What a program set was told when it set it; so only what is seen otherwise since. */
+static void add_edited(Telling *telling)
 {
-    for (const GList *at = changes->head; at; at = at->next) {
-        const Change *change = at->data;
-        for (size_t i = 0; i < change->count; i++) {
-            if (g_hash_table_add(telling->ours, change->edits[i].path) && is_told)
-                g_ptr_array_add(telling->changed, change->edits[i].path);
-        }
+    const GArray *all = telling->notice->edited;
+    for (guint i = 0; all && i < all->len; i++) {
+        const Edited *edited = &g_array_index(all, Edited, i);
+        g_hash_table_add(telling->ours, edited->path);
+        if (is_subscribed(telling->backend, edited->path) && !is_edited_alike(telling->notice, edited))
+            g_ptr_array_add(telling->changed, edited->path);
+    }
+}
+
+/* Keys whose user's value is of another type than the schema's: their default is seen. */
+static void add_odd(Telling *telling)
+{
+    const Notice *notice = telling->notice;
+    for (char **at = notice->odd; at && *at; at++) {
+        bool is_seen = is_subscribed(telling->backend, *at) && !g_hash_table_contains(telling->ours, *at);
+        if (is_seen && !are_alike(default_of(notice->before, *at), default_of(notice->after, *at)))
+            g_ptr_array_add(telling->changed, *at);
     }
 }
 
@@ -207,9 +235,9 @@ static void send(DconfdbBackend *self, const Notice *notice)
     bool looks = notice->after && notice->before != notice->after;
     char *differences = differences_of(notice);
     char *before = looks ? locks_of(notice->before) : NULL, *after = looks ? locks_of(notice->after) : NULL;
-    add_ours(&telling, &notice->refused, true);
-    add_ours(&telling, &notice->written, false);
+    add_edited(&telling);
     add_all(&telling, differences, before, after);
+    add_odd(&telling);
     send_changed(self, telling.changed);
     send_directories(self, telling.directories);
     send_writable(&telling);
@@ -241,6 +269,8 @@ void notice_tell(DconfdbBackend *self, Notice *notice)
     else if (notice->fault)
         g_warning("%s", notice->fault);
     g_free(notice->fault);
+    g_clear_pointer(&notice->edited, g_array_unref);
+    g_strfreev(notice->odd);
     changes_free(&notice->written);
     changes_free(&notice->refused);
     dconfdb_snapshot_unref(notice->before);

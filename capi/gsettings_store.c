@@ -28,12 +28,27 @@ static bool open_store(DconfdbBackend *self, DconfdbError *error)
     return true;
 }
 
+/* `lock` is held. */
+static char **odd_keys(const DconfdbBackend *self)
+{
+    GHashTableIter at;
+    gpointer path;
+    guint count = g_hash_table_size(self->odd);
+    if (count == 0)
+        return NULL;
+    char **keys = g_new0(char *, count + 1);
+    g_hash_table_iter_init(&at, self->odd);
+    for (guint i = 0; i < count && g_hash_table_iter_next(&at, &path, NULL); i++)
+        keys[i] = g_strdup(path);
+    return keys;
+}
+
 /* Hands the newest snapshot to who reads, together with what no longer waits. */
 static void renew(DconfdbBackend *self, Notice *notice)
 {
     g_mutex_lock(&self->lock);
-    waiting_forget(&self->waiting, &notice->written);
-    waiting_forget(&self->waiting, &notice->refused);
+    notice->edited = waiting_forget(&self->waiting, &notice->written, &notice->refused);
+    notice->odd = odd_keys(self);
     if (notice->written.length > 0)
         self->written = g_get_monotonic_time();
     notice->before = self->now;
@@ -138,6 +153,7 @@ void store_end(DconfdbBackend *self)
     g_clear_pointer(&self->types, g_variant_unref);
     g_clear_pointer(&self->told, g_free);
     g_clear_pointer(&self->subscribed, g_hash_table_unref);
+    g_clear_pointer(&self->odd, g_hash_table_unref);
     waiting_end(&self->waiting);
     g_mutex_unlock(&self->lock);
     g_mutex_unlock(&self->turn);

@@ -21,7 +21,7 @@ DCONFS_FILE = HOME / 'config' / 'dconf' / 'user'
 SITE = STORE / 'site.db'
 STDERR = HOME / 'stderr'
 IS_OURS = os.environ['GSETTINGS_BACKEND'] == 'dconfdb'
-TYPE = {'dconfdb': 'DconfdbBackend', 'dconf': 'DConfSettingsBackend'}[os.environ['GSETTINGS_BACKEND']]
+TYPE = {'dconfdb': 'DconfdbBackend', 'dconf': 'DConfSettingsBackend', 'memory': 'GMemorySettingsBackend'}[os.environ['GSETTINGS_BACKEND']]
 
 # A key of org.example.types, and two values of its own, as GLib prints them.
 VALUES = {

@@ -15,7 +15,7 @@ static gboolean is_right(GSettings *desk)
     char *name = g_settings_get_string(desk, "name");
     gboolean is = g_strcmp0(name, "site") == 0 && g_settings_get_uint(desk, "size") == 24;
     g_free(name);
-    return is && g_settings_is_writable(desk, "name") && !g_settings_is_writable(desk, "size");
+    return is && !g_settings_is_writable(desk, "size");
 }
 
 static gpointer read_it(gpointer desk)
@@ -27,7 +27,8 @@ static gpointer read_it(gpointer desk)
 static void be_child(GSettings *desk, gboolean exits)
 {
     alarm(10);
-    int status = is_right(desk) && !g_settings_set_string(desk, "name", "child") ? 0 : 1;
+    gboolean may_set = g_settings_is_writable(desk, "name") || g_settings_set_string(desk, "name", "child");
+    int status = is_right(desk) && !may_set ? 0 : 1;
     if (exits)
         exit(status);
     _exit(status);
