@@ -56,6 +56,13 @@ static void lock_opened(DconfdbBackend *self)
     g_mutex_lock(&self->lock);
 }
 
+/* Where nothing is watched, since no main loop has turned, each read may look at the files. */
+static void look_if_unwatched(DconfdbBackend *self)
+{
+    if (!g_atomic_int_get(&self->is_watching))
+        store_peek(self);
+}
+
 /* Where a key is read: an edit of it waits, which sets a value or none; or it is read in the newest
  * snapshot, if there is one. Each is a reference. */
 typedef struct {
@@ -67,6 +74,7 @@ typedef struct {
 static Source source_of(DconfdbBackend *self, const char *key)
 {
     Source source = {false, NULL, NULL};
+    look_if_unwatched(self);
     lock_opened(self);
     if (self->now) {
         const Edit *edit = waiting_find(&self->waiting, key);
@@ -82,6 +90,7 @@ static Source source_of(DconfdbBackend *self, const char *key)
 
 static DconfdbSnapshot *snapshot_of(DconfdbBackend *self)
 {
+    look_if_unwatched(self);
     lock_opened(self);
     DconfdbSnapshot *now = self->now ? dconfdb_snapshot_ref(self->now) : NULL;
     g_mutex_unlock(&self->lock);
@@ -182,16 +191,17 @@ static Outcome make(DconfdbBackend *self, Change *change)
     Outcome outcome = outcome_of(self, change);
     if (outcome == WAITS) {
         waiting_add(&self->waiting, change);
+        self->added++;
         worker_begin(self);
-        is_here = !self->worker;
-        if (self->worker)
-            worker_is_to_write(self);
+        is_here = !self->has_worker;
+        if (self->has_worker)
+            worker_wake(self);
     }
     g_mutex_unlock(&self->lock);
     if (outcome != WAITS)
         change_free(change);
     if (is_here)
-        store_write(self);
+        store_write(self, false);
     return outcome;
 }
 
@@ -231,11 +241,59 @@ static void dconfdb_backend_sync(GSettingsBackend *backend)
     DconfdbBackend *self = backend_of(backend);
     if (getpid() != self->process)
         return;
-    store_write(self);
-    store_look(self);
+    if (!store_sync(self))
+        g_warning("%s: what was set is not on the disk after ten seconds; it goes on waiting", self->folder);
 }
 
 /* ---- who listens */
+
+/* A main context that is to say that it turns. */
+typedef struct {
+    DconfdbBackend *backend;
+    GMainContext *context;
+} Asked;
+
+static void is_answered(gpointer data)
+{
+    Asked *asked = data;
+    g_mutex_lock(&asked->backend->lock);
+    g_hash_table_remove(asked->backend->asked, asked->context);
+    g_mutex_unlock(&asked->backend->lock);
+    g_free(asked);
+}
+
+/* Signals have somebody to come to: from now on the files are watched. */
+static gboolean has_turned(gpointer data)
+{
+    DconfdbBackend *self = ((Asked *)data)->backend;
+    g_mutex_lock(&self->lock);
+    worker_begin(self);
+    if (self->has_worker && !self->has_ended && !self->is_to_watch && getpid() == self->process) {
+        self->is_to_watch = true;
+        worker_wake(self);
+    }
+    g_mutex_unlock(&self->lock);
+    return G_SOURCE_REMOVE;
+}
+
+/* Each GSettings subscribes, also that of a program which only gets and sets: it runs no main loop. */
+static void ask_whether_it_turns(DconfdbBackend *self)
+{
+    GMainContext *context = g_main_context_ref_thread_default();
+    g_mutex_lock(&self->lock);
+    bool is_new = !self->has_ended && !self->is_to_watch && g_hash_table_add(self->asked, context);
+    g_mutex_unlock(&self->lock);
+    if (is_new) {
+        Asked *asked = g_new(Asked, 1);
+        *asked = (Asked){self, context};
+        GSource *source = g_idle_source_new();
+        g_source_set_priority(source, G_PRIORITY_HIGH);
+        g_source_set_callback(source, has_turned, asked, is_answered);
+        g_source_attach(source, context);
+        g_source_unref(source);
+    }
+    g_main_context_unref(context);
+}
 
 static void dconfdb_backend_subscribe(GSettingsBackend *backend, const char *name)
 {
@@ -245,8 +303,11 @@ static void dconfdb_backend_subscribe(GSettingsBackend *backend, const char *nam
         guint count = GPOINTER_TO_UINT(g_hash_table_lookup(self->subscribed, name));
         g_hash_table_insert(self->subscribed, g_strdup(name), GUINT_TO_POINTER(count + 1));
         worker_begin(self);
+        if (self->is_to_watch && self->has_worker && getpid() == self->process)
+            worker_wake(self);
     }
     g_mutex_unlock(&self->lock);
+    ask_whether_it_turns(self);
 }
 
 static void dconfdb_backend_unsubscribe(GSettingsBackend *backend, const char *name)
@@ -285,27 +346,30 @@ static void dconfdb_backend_init(DconfdbBackend *self)
     waiting_begin(&self->waiting);
     self->subscribed = g_hash_table_new_full(g_str_hash, g_str_equal, g_free, NULL);
     self->odd = g_hash_table_new_full(g_str_hash, g_str_equal, g_free, NULL);
+    self->asked = g_hash_table_new(NULL, NULL);
+    self->wakes = -1;
+    g_cond_init(&self->settles);
+    g_queue_init(&self->untold);
     store_begin(self);
-    watch_prepare();
     g_mutex_lock(&living_lock);
     living = g_slist_prepend(living, g_object_ref(self));
     g_mutex_unlock(&living_lock);
 }
 
 /* When the program ends by exit(), or main() returns. A child of fork() leaves all to its parent.
- * `living_lock` isn't held meanwhile, since a fork() of the program's wants it. */
+ * `living_lock` isn't held meanwhile, since a fork() of the program's wants it; nor waited for for long, since
+ * a handler of a signal may have called exit() in the thread that has it. What a backend holds is left to the
+ * system. */
 static void __attribute__((destructor)) end_all(void)
 {
-    g_mutex_lock(&living_lock);
+    if (!mutex_lock_until(&living_lock, g_get_monotonic_time() + G_USEC_PER_SEC))
+        return;
     GSList *all = living;
     g_mutex_unlock(&living_lock);
     if (!all || ((DconfdbBackend *)all->data)->process != getpid())
         return;
     for (GSList *at = all; at; at = at->next)
-        store_end(at->data);
-    g_mutex_lock(&living_lock);
-    g_clear_pointer(&living, g_slist_free);
-    g_mutex_unlock(&living_lock);
+        worker_end(at->data);
 }
 
 /* ---- fork(): the child has no thread but the one that called it */

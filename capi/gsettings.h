@@ -7,6 +7,8 @@
 
 #include <gio/gio.h>
 #include <gio/gsettingsbackend.h>
+#include <pthread.h>
+#include <sys/stat.h>
 
 /* ---- changes that wait (gsettings_changes.c) */
 
@@ -59,23 +61,35 @@ GQueue waiting_take(Waiting *waiting);
 /* Forgets both, and says what each key's newest edit was, and is now: an array of Edited, to be freed. */
 GArray *waiting_forget(Waiting *waiting, const GQueue *written, const GQueue *refused);
 
-/* Makes the changes. Refused ones move from `changes` to `refused`, and `error` has the first
- * refusal. */
-bool changes_write(DconfdbStore *store, GQueue *changes, GQueue *refused, DconfdbError *error);
+/* Changes that were taken wait again, before all others. */
+void waiting_put_back(Waiting *waiting, GQueue *changes);
+
+/* What became of changes. */
+typedef enum { WRITTEN, SOME_REFUSED, TO_TRY_AGAIN } Written;
+
+/* Makes the changes. Refused ones move from `changes` to `refused`, and `error` has the first refusal.
+ * TO_TRY_AGAIN, where that is wanted: `error` says what may be gone in a moment, and no change is made. */
+Written changes_write(DconfdbStore *store, GQueue *changes, GQueue *refused, bool tries_again, DconfdbError *error);
 
 /* ---- the backend */
+
+/* What the worker watches (gsettings_watch.c). */
+typedef struct Watch Watch;
 
 /* It lives as long as the program. `turn` is taken before `lock`, and neither while a signal is
  * sent or a warning printed. fork() takes `lock`; in the child `turn` is free, whoever had it. */
 typedef struct {
     GSettingsBackend parent;
     pid_t process; /* differs in a child, after fork() */
-    char *folder;  /* NULL: the environment names none; it goes with both locks held, after the worker */
+    char *folder;  /* NULL: the environment names none */
+    char *profiles[2];
     GVariant *types;
 
     GMutex turn;         /* held while files are looked at or changed. It guards: */
     DconfdbStore *store; /* NULL: it isn't opened yet, or could not be */
-    bool is_stale;       /* its profile may have changed */
+    struct stat seen[2]; /* the profiles as they were then; st_nlink is 0 where there is none */
+    gint64 failing;      /* since when writes fail by what may be gone in a moment; 0: they don't */
+    gint64 pause;        /* before the next try */
     char *told;          /* the fault that was last reported; NULL: there is none now */
 
     /* Read with `turn` or `lock` held, changed with both. */
@@ -86,16 +100,28 @@ typedef struct {
     bool has_user;        /* there is a user's database */
     Waiting waiting;
     GHashTable *odd; /* keys that were read past a user's value of another type */
-    bool is_due, has_ended;
-    gint64 written; /* when changes were last written */
+    guint64 added, settled; /* how many changes ever waited, and how many no longer do */
+    GCond settles;          /* the latter are more */
+    bool has_ended;
     GHashTable *subscribed;
-    GThread *worker;
+    GHashTable *asked;  /* main contexts that are to say whether they turn */
+    bool is_to_watch;   /* one has turned: somebody may be told */
+    gint64 looks;       /* when a read is to look at the files again */
+    GQueue untold;      /* notices that the worker is to tell */
+    bool has_worker;
+    pthread_t worker;
+    int wakes; /* what wakes it; -1: nothing yet */
 
-    GMainContext *context; /* the worker's */
-    GMainLoop *loop;
-    GPtrArray *monitors; /* only for the worker, like what follows */
-    GPtrArray *files;    /* names of the store's files */
+    gint is_writing;  /* the worker writes, or is to try again; atomic */
+    gint is_reopened; /* other files may be the store's, and are to be watched; atomic */
+    gint is_watching; /* what others change is noticed without a look at the files; atomic */
+
+    gint64 again; /* for the worker alone, as what follows: when a write is tried again; 0: none is */
+    Watch *watch;
 } DconfdbBackend;
+
+/* Takes a mutex, if that is possible until then. Nothing is waited for but the time. */
+bool mutex_lock_until(GMutex *mutex, gint64 end);
 
 /* ---- the store (gsettings_store.c) */
 
@@ -105,17 +131,18 @@ void store_begin(DconfdbBackend *self);
 /* Opens it for the first time, if nobody has: the worker does, or whoever needs a snapshot sooner. */
 void store_open(DconfdbBackend *self);
 
-/* Writes what waits, as one change; what is refused is taken back. */
-void store_write(DconfdbBackend *self);
+/* Writes what waits, as one change; what is refused is taken back. Gives when it is to be tried again, where
+ * that is wanted and the fault may be gone in a moment; else 0. */
+gint64 store_write(DconfdbBackend *self, bool tries_again);
 
 /* Looks at the files, and notifies of every difference; of a first opening, of nothing. */
 void store_look(DconfdbBackend *self);
 
-/* The same, if the profile may have changed. */
-void store_look_anew(DconfdbBackend *self);
+/* The same for who reads where nothing is watched, if nobody else looks: the worker tells. */
+void store_peek(DconfdbBackend *self);
 
-/* Writes what waits, and frees everything. Later calls find no store. */
-void store_end(DconfdbBackend *self);
+/* Until what waits is written, and the files are looked at: ten seconds at most. False: it isn't yet. */
+bool store_sync(DconfdbBackend *self);
 
 /* In a child of fork(), with `lock` held: what `turn` guards is the parent's, and may be half
  * changed. The child opens a store of its own if it has no snapshot. */
@@ -124,18 +151,23 @@ void store_leave(DconfdbBackend *self);
 /* ---- the thread that writes and watches (gsettings_worker.c); `lock` is held */
 
 void worker_begin(DconfdbBackend *self);
-void worker_is_to_write(DconfdbBackend *self);
+void worker_wake(DconfdbBackend *self);
 
-/* `lock` isn't held. */
+/* `lock` isn't held. At the program's end: until what waits is written, five seconds at most. */
 void worker_end(DconfdbBackend *self);
+bool worker_is_this(DconfdbBackend *self);
 
 /* ---- the files that are watched (gsettings_watch.c), by the worker */
 
-/* In the caller's thread: GLib reads the environment for its first watch now, and not later, when the
- * program may be changing it. */
-void watch_prepare(void);
+/* Begins, or looks at the files, where it is time. */
+void watch_turn(DconfdbBackend *self);
 
-void watch_begin(DconfdbBackend *self);
+/* What is readable when something happens, or -1; and the moment of the next turn, or 0. */
+int watch_file(const DconfdbBackend *self);
+gint64 watch_next(DconfdbBackend *self);
+
+/* Takes what happened. */
+void watch_take(DconfdbBackend *self);
 void watch_end(DconfdbBackend *self);
 
 /* ---- notices (gsettings_notice.c) */
@@ -153,5 +185,11 @@ typedef struct {
 
 /* Notifies, and frees what the notice holds. */
 void notice_tell(DconfdbBackend *self, Notice *notice);
+
+/* The same, and frees the notice. */
+void notice_tell_and_free(DconfdbBackend *self, Notice *notice);
+
+/* The worker does that. */
+void worker_tells(DconfdbBackend *self, Notice *notice);
 
 #endif

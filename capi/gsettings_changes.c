@@ -1,6 +1,8 @@
 /* Changes that wait to be written, and how they are. */
 #include "gsettings.h"
 
+#include <errno.h>
+
 Change *change_new(size_t most)
 {
     Change *change = g_malloc(sizeof *change + most * sizeof change->edits[0]);
@@ -137,6 +139,12 @@ static void forget(Waiting *waiting, const GQueue *changes)
     }
 }
 
+void waiting_put_back(Waiting *waiting, GQueue *changes)
+{
+    while (changes->length > 0)
+        g_queue_push_head_link(&waiting->changes, g_queue_pop_tail_link(changes));
+}
+
 GArray *waiting_forget(Waiting *waiting, const GQueue *written, const GQueue *refused)
 {
     if (g_hash_table_size(waiting->newest) == 0)
@@ -245,14 +253,32 @@ static bool try_to_write(DconfdbStore *store, const GQueue *changes, DconfdbErro
     return done;
 }
 
-bool changes_write(DconfdbStore *store, GQueue *changes, GQueue *refused, DconfdbError *error)
+/* What is perhaps so for a moment: that all files of the process are in use, say, or what a disk or a server
+ * answers once. */
+static bool is_momentary(const DconfdbError *fault)
+{
+    static const int faults[] = {EMFILE, ENFILE, ENOLCK, EIO, ESTALE, EAGAIN, EINTR};
+    if (fault->number == DCONFDB_ERROR_MEMORY)
+        return true;
+    for (size_t i = 0; i < G_N_ELEMENTS(faults); i++) {
+        if (fault->number == DCONFDB_ERROR_FILE && fault->system == faults[i])
+            return true;
+    }
+    return false;
+}
+
+Written changes_write(DconfdbStore *store, GQueue *changes, GQueue *refused, bool tries_again, DconfdbError *error)
 {
     DconfdbError fault;
     while (!try_to_write(store, changes, &fault)) {
         guint count = refused->length;
+        if (tries_again && is_momentary(&fault)) {
+            *error = fault;
+            return TO_TRY_AGAIN;
+        }
         refuse(store, &fault, changes, refused);
         if (count == 0 && refused->length > 0)
             *error = fault;
     }
-    return refused->length == 0;
+    return refused->length == 0 ? WRITTEN : SOME_REFUSED;
 }

@@ -276,3 +276,9 @@ void notice_tell(DconfdbBackend *self, Notice *notice)
     dconfdb_snapshot_unref(notice->before);
     dconfdb_snapshot_unref(notice->after);
 }
+
+void notice_tell_and_free(DconfdbBackend *self, Notice *notice)
+{
+    notice_tell(self, notice);
+    g_free(notice);
+}

@@ -1,8 +1,25 @@
 /* The backend's store: opened, looked at, changed. */
+#define _GNU_SOURCE
 #include "gsettings.h"
 
 #include <stdlib.h>
 #include <string.h>
+#include <unistd.h>
+
+/* In microseconds: how long g_settings_sync() waits, and a write is tried again; the pauses before that; how
+ * often who reads looks at the files; and how often a mutex is tried. */
+enum { LONGEST_SYNC = 10000000, LONGEST_FAILING = 10000000, SHORTEST_PAUSE = 50000, LONGEST_PAUSE = 2000000 };
+enum { BETWEEN_LOOKS = 1000, AFTER_A_FAULT = 1000000, TRY = 1000 };
+
+bool mutex_lock_until(GMutex *mutex, gint64 end)
+{
+    while (!g_mutex_trylock(mutex)) {
+        if (g_get_monotonic_time() >= end)
+            return false;
+        g_usleep(TRY);
+    }
+    return true;
+}
 
 /* ---- `turn` is held */
 
@@ -16,15 +33,32 @@ static char *news_of(DconfdbBackend *self, const DconfdbError *error)
     return g_strdup(error->text);
 }
 
+static void look_at_profiles(const DconfdbBackend *self, struct stat now[2])
+{
+    for (int i = 0; i < 2; i++) {
+        if (stat(self->profiles[i], &now[i]) != 0)
+            now[i] = (struct stat){.st_nlink = 0};
+    }
+}
+
+static bool is_same(const struct stat *one, const struct stat *other)
+{
+    bool is_there = one->st_nlink != 0;
+    if (!is_there || other->st_nlink == 0)
+        return is_there == (other->st_nlink != 0);
+    return one->st_dev == other->st_dev && one->st_ino == other->st_ino && one->st_size == other->st_size
+        && one->st_mtim.tv_sec == other->st_mtim.tv_sec && one->st_mtim.tv_nsec == other->st_mtim.tv_nsec;
+}
+
 /* Opens the store, also in the place of one that is open; where that fails, the old one stays. */
-static bool open_store(DconfdbBackend *self, DconfdbError *error)
+static bool open_store(DconfdbBackend *self, const struct stat profiles[2], DconfdbError *error)
 {
     DconfdbStore *store = dconfdb_store_open(self->folder, error);
     if (!store)
         return false;
     dconfdb_store_close(self->store);
     self->store = store;
-    self->is_stale = false;
+    memcpy(self->seen, profiles, sizeof self->seen);
     return true;
 }
 
@@ -49,8 +83,8 @@ static void renew(DconfdbBackend *self, Notice *notice)
     g_mutex_lock(&self->lock);
     notice->edited = waiting_forget(&self->waiting, &notice->written, &notice->refused);
     notice->odd = odd_keys(self);
-    if (notice->written.length > 0)
-        self->written = g_get_monotonic_time();
+    self->settled += notice->written.length + notice->refused.length;
+    g_cond_broadcast(&self->settles);
     notice->before = self->now;
     notice->had_user = self->has_user;
     notice->is_first = !self->has_opened;
@@ -66,16 +100,26 @@ static void renew(DconfdbBackend *self, Notice *notice)
     g_mutex_unlock(&self->lock);
 }
 
-static void look(DconfdbBackend *self, Notice *notice)
+static bool look(DconfdbBackend *self, Notice *notice)
 {
     DconfdbError error;
-    bool opens = !self->store || self->is_stale;
-    bool done = opens ? open_store(self, &error) : dconfdb_store_refresh(self->store, NULL, &error);
+    struct stat profiles[2];
+    look_at_profiles(self, profiles);
+    bool opens = !self->store || !is_same(&profiles[0], &self->seen[0]) || !is_same(&profiles[1], &self->seen[1]);
+    bool done = opens ? open_store(self, profiles, &error) : dconfdb_store_refresh(self->store, NULL, &error);
     if (done)
         g_clear_pointer(&self->told, g_free);
     else
         notice->fault = news_of(self, &error);
     renew(self, notice);
+    if (done && opens) {
+        g_atomic_int_set(&self->is_reopened, TRUE);
+        g_mutex_lock(&self->lock);
+        if (self->has_worker)
+            worker_wake(self);
+        g_mutex_unlock(&self->lock);
+    }
+    return done;
 }
 
 /* ---- `turn` isn't held */
@@ -84,9 +128,11 @@ void store_begin(DconfdbBackend *self)
 {
     DconfdbError error;
     /* The environment is read now, and not again: the program may change it. The first file is the
-     * folder's profile. */
+     * folder's profile, the second that of all users. */
     char *files = dconfdb_store_files(NULL, NULL, &error);
     self->folder = files ? g_path_get_dirname(files) : NULL;
+    self->profiles[0] = g_strdup(files);
+    self->profiles[1] = files ? g_strdup(files + strlen(files) + 1) : NULL;
     self->has_opened = !files;
     if (!files)
         g_warning("%s", error.text);
@@ -113,56 +159,117 @@ void store_look(DconfdbBackend *self)
     notice_tell(self, &notice);
 }
 
-void store_look_anew(DconfdbBackend *self)
+/* Whether it is time for a look, if that is no first opening; then it is again after so long. */
+static bool is_to_peek(DconfdbBackend *self)
 {
-    g_mutex_lock(&self->turn);
-    self->is_stale = true;
-    g_mutex_unlock(&self->turn);
-    store_look(self);
+    gint64 now = g_get_monotonic_time();
+    g_mutex_lock(&self->lock);
+    bool is = self->folder && self->has_opened && !self->has_ended && now >= self->looks;
+    if (is)
+        self->looks = now + BETWEEN_LOOKS;
+    g_mutex_unlock(&self->lock);
+    return is;
 }
 
-void store_write(DconfdbBackend *self)
+void store_peek(DconfdbBackend *self)
+{
+    if (!is_to_peek(self) || !g_mutex_trylock(&self->turn))
+        return;
+    Notice *notice = g_new0(Notice, 1);
+    /* A file that can't be read is read again and again. */
+    if (!look(self, notice)) {
+        g_mutex_lock(&self->lock);
+        self->looks = g_get_monotonic_time() + AFTER_A_FAULT;
+        g_mutex_unlock(&self->lock);
+    }
+    g_mutex_unlock(&self->turn);
+    /* A handler would run amid the read, if this thread told. */
+    if (notice->before != notice->after || notice->fault)
+        worker_tells(self, notice);
+    else
+        notice_tell_and_free(self, notice);
+}
+
+/* `turn` and `lock` aren't held. When what may be gone in a moment is to be tried again; 0: no more. */
+static gint64 next_try(DconfdbBackend *self)
+{
+    gint64 now = g_get_monotonic_time();
+    if (self->failing == 0)
+        self->failing = now;
+    self->pause = CLAMP(2 * self->pause, SHORTEST_PAUSE, LONGEST_PAUSE);
+    return now - self->failing < LONGEST_FAILING ? now + self->pause : 0;
+}
+
+/* `turn` is held. What is to be tried again waits again. */
+static gint64 write_it(DconfdbBackend *self, Notice *notice, bool tries_again)
+{
+    DconfdbError error;
+    Written done = changes_write(self->store, &notice->written, &notice->refused, tries_again, &error);
+    gint64 again = done == TO_TRY_AGAIN ? next_try(self) : 0;
+    if (done == TO_TRY_AGAIN && again == 0)
+        done = changes_write(self->store, &notice->written, &notice->refused, false, &error);
+    if (again == 0)
+        self->failing = self->pause = 0;
+    if (done == SOME_REFUSED)
+        notice->fault = g_strdup(error.text);
+    if (again != 0) {
+        g_mutex_lock(&self->lock);
+        waiting_put_back(&self->waiting, &notice->written);
+        g_mutex_unlock(&self->lock);
+    }
+    return again;
+}
+
+gint64 store_write(DconfdbBackend *self, bool tries_again)
 {
     Notice notice = {.fault = NULL};
-    DconfdbError error;
+    gint64 again = 0;
     g_mutex_lock(&self->turn);
     g_mutex_lock(&self->lock);
     notice.written = waiting_take(&self->waiting);
     g_mutex_unlock(&self->lock);
-    if (notice.written.length > 0 && !changes_write(self->store, &notice.written, &notice.refused, &error))
-        notice.fault = g_strdup(error.text);
+    if (notice.written.length > 0)
+        again = write_it(self, &notice, tries_again);
     if (notice.written.length + notice.refused.length > 0)
         renew(self, &notice);
     g_mutex_unlock(&self->turn);
     notice_tell(self, &notice);
+    return again;
 }
 
-void store_end(DconfdbBackend *self)
+/* Until all that waits now is settled. */
+static bool await_settled(DconfdbBackend *self, gint64 end)
 {
     g_mutex_lock(&self->lock);
-    self->has_ended = true;
+    guint64 added = self->added;
+    while (self->settled < added && g_cond_wait_until(&self->settles, &self->lock, end))
+        ;
+    bool is_settled = self->settled >= added;
     g_mutex_unlock(&self->lock);
-    worker_end(self);
-    store_write(self);
-    g_mutex_lock(&self->turn);
-    g_mutex_lock(&self->lock);
-    self->has_opened = true;
-    g_clear_pointer(&self->now, dconfdb_snapshot_unref);
-    g_clear_pointer(&self->store, dconfdb_store_close);
-    g_clear_pointer(&self->folder, g_free);
-    g_clear_pointer(&self->types, g_variant_unref);
-    g_clear_pointer(&self->told, g_free);
-    g_clear_pointer(&self->subscribed, g_hash_table_unref);
-    g_clear_pointer(&self->odd, g_hash_table_unref);
-    waiting_end(&self->waiting);
-    g_mutex_unlock(&self->lock);
+    return is_settled;
+}
+
+bool store_sync(DconfdbBackend *self)
+{
+    Notice notice = {.fault = NULL};
+    gint64 end = g_get_monotonic_time() + LONGEST_SYNC;
+    if (worker_is_this(self))
+        store_write(self, false);
+    if (!await_settled(self, end) || !mutex_lock_until(&self->turn, end))
+        return false;
+    if (self->folder)
+        look(self, &notice);
     g_mutex_unlock(&self->turn);
+    notice_tell(self, &notice);
+    return true;
 }
 
 void store_leave(DconfdbBackend *self)
 {
     g_mutex_init(&self->turn);
     self->store = NULL;
-    self->is_stale = false;
     self->told = NULL;
+    self->has_worker = false;
+    self->wakes = -1;
+    self->is_watching = true; /* its reads look at nothing, as its parent's store isn't its own */
 }

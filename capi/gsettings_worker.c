@@ -1,75 +1,186 @@
-/* The thread that writes what waits, and sees what others change. Its main loop is its own, so that
- * it runs nothing of the program's. */
+/* The thread that writes what waits, tells, and sees what others change. It has a main context of its own,
+ * so that no handler of the program's runs in it. */
+#define _GNU_SOURCE
 #include "gsettings.h"
 
-/* From the end of one write to the next: it is what a disk is spared of a slider that is drawn. */
-enum { PAUSE = 100000, MILLISECOND = 1000 };
+#include <errno.h>
+#include <poll.h>
+#include <signal.h>
+#include <stdint.h>
+#include <sys/eventfd.h>
+#include <time.h>
+#include <unistd.h>
 
-static gpointer work(gpointer data)
+/* In microseconds: how long the program's end waits for a write, and for a thread that writes nothing; and how
+ * often it asks. */
+enum { LONGEST_END = 5000000, LONGEST_REST = 2000000, TICK = 5000 };
+enum { MILLISECOND = 1000, NANOSECONDS = 1000, SECOND = 1000000000 };
+
+static Notice *take_untold(DconfdbBackend *self)
+{
+    g_mutex_lock(&self->lock);
+    Notice *notice = g_queue_pop_head(&self->untold);
+    g_mutex_unlock(&self->lock);
+    return notice;
+}
+
+/* ---- in the thread */
+
+/* Until it is woken, a file changes, or so many milliseconds have passed (-1: however many). */
+static void await(DconfdbBackend *self, int wait)
+{
+    uint64_t count;
+    struct pollfd files[] = {{self->wakes, POLLIN, 0}, {watch_file(self), POLLIN, 0}};
+    if (poll(files, 2, wait) < 0 || ((files[0].revents | files[1].revents) & POLLNVAL) != 0)
+        g_usleep(SECOND / NANOSECONDS); /* the program closed them, or no memory is left */
+    if (files[0].revents & POLLIN && read(self->wakes, &count, sizeof count) < 0)
+        return;
+    if (files[1].revents & POLLIN)
+        watch_take(self);
+}
+
+/* How many milliseconds there are until a moment, or -1 where it is none. */
+static int wait_until(gint64 moment)
+{
+    gint64 wait = moment - g_get_monotonic_time();
+    return moment == 0 ? -1 : wait <= 0 ? 0 : (int)((wait + MILLISECOND - 1) / MILLISECOND);
+}
+
+/* Does what is to be done. False: the program ends, and nothing waits. */
+static bool takes_turn(DconfdbBackend *self)
+{
+    Notice *notice;
+    g_mutex_lock(&self->lock);
+    bool ends = self->has_ended, is_to_watch = self->is_to_watch;
+    bool waits = self->waiting.changes.length > 0;
+    g_mutex_unlock(&self->lock);
+    while ((notice = take_untold(self)) != NULL)
+        notice_tell_and_free(self, notice);
+    if (is_to_watch && !ends)
+        watch_turn(self);
+    if (!waits)
+        self->again = 0;
+    else if (wait_until(self->again) <= 0) {
+        g_atomic_int_set(&self->is_writing, TRUE);
+        self->again = store_write(self, true);
+        g_atomic_int_set(&self->is_writing, self->again != 0);
+    }
+    return !ends || self->again != 0;
+}
+
+static void *work(void *data)
 {
     DconfdbBackend *self = data;
-    g_main_context_push_thread_default(self->context);
-    watch_begin(self);
-    /* Opens the store, since a program may listen and never read; or tells what changed after a
-     * read opened it, before anything was watched. */
-    store_look(self);
-    g_main_loop_run(self->loop);
+    GMainContext *own = g_main_context_new();
+    pthread_setname_np(pthread_self(), "dconfdb");
+    g_main_context_push_thread_default(own);
+    /* A program may listen and never read. */
+    store_open(self);
+    while (takes_turn(self)) {
+        int for_write = wait_until(self->again), for_watch = wait_until(watch_next(self));
+        await(self, for_write < 0 ? for_watch : for_watch < 0 ? for_write : MIN(for_write, for_watch));
+    }
     watch_end(self);
-    g_main_context_pop_thread_default(self->context);
+    g_main_context_pop_thread_default(own);
+    g_main_context_unref(own);
     return NULL;
 }
 
+/* ---- `lock` is held */
+
 void worker_begin(DconfdbBackend *self)
 {
-    if (self->worker || self->has_ended || !self->folder)
+    sigset_t all, before;
+    if (self->has_worker || self->has_ended || !self->folder || getpid() != self->process)
         return;
-    if (!self->context) {
-        self->context = g_main_context_new();
-        self->loop = g_main_loop_new(self->context, FALSE);
-    }
-    self->worker = g_thread_try_new("dconfdb", work, self, NULL);
+    if (self->wakes < 0)
+        self->wakes = eventfd(0, EFD_CLOEXEC | EFD_NONBLOCK);
+    if (self->wakes < 0)
+        return;
+    /* The program's signals are its other threads'. */
+    sigfillset(&all);
+    pthread_sigmask(SIG_SETMASK, &all, &before);
+    self->has_worker = pthread_create(&self->worker, NULL, work, self) == 0;
+    pthread_sigmask(SIG_SETMASK, &before, NULL);
 }
 
-/* Calls in the worker, after so many microseconds. */
-static void call_later(DconfdbBackend *self, gint64 wait, GSourceFunc function)
+void worker_wake(DconfdbBackend *self)
 {
-    GSource *source = g_timeout_source_new(wait > 0 ? (guint)((wait + MILLISECOND - 1) / MILLISECOND) : 0);
-    g_source_set_callback(source, function, self, NULL);
-    g_source_attach(source, self->context);
-    g_source_unref(source);
+    uint64_t one = 1;
+    /* Where that is full it is awake. */
+    while (write(self->wakes, &one, sizeof one) < 0 && errno == EINTR)
+        ;
 }
 
-static gboolean write_now(gpointer data)
+/* ---- `lock` isn't held */
+
+bool worker_is_this(DconfdbBackend *self)
 {
-    DconfdbBackend *self = data;
     g_mutex_lock(&self->lock);
-    self->is_due = false;
+    bool is = self->has_worker && pthread_equal(self->worker, pthread_self());
     g_mutex_unlock(&self->lock);
-    store_write(self);
-    return G_SOURCE_REMOVE;
+    return is;
 }
 
-void worker_is_to_write(DconfdbBackend *self)
+void worker_tells(DconfdbBackend *self, Notice *notice)
 {
-    if (self->is_due)
-        return;
-    self->is_due = true;
-    call_later(self, self->written == 0 ? 0 : self->written + PAUSE - g_get_monotonic_time(), write_now);
+    g_mutex_lock(&self->lock);
+    worker_begin(self);
+    bool tells = self->has_worker && !self->has_ended;
+    if (tells) {
+        g_queue_push_tail(&self->untold, notice);
+        worker_wake(self);
+    }
+    g_mutex_unlock(&self->lock);
+    if (!tells)
+        notice_tell_and_free(self, notice);
 }
 
-static gboolean end_now(gpointer data)
+/* ---- the program's end */
+
+static bool is_settled(DconfdbBackend *self)
 {
-    g_main_loop_quit(((DconfdbBackend *)data)->loop);
-    return G_SOURCE_REMOVE;
+    if (!g_mutex_trylock(&self->lock))
+        return false;
+    bool is = self->settled == self->added;
+    g_mutex_unlock(&self->lock);
+    return is;
 }
 
+/* Whether the thread has ended, or does so in a moment. */
+static bool is_joined(DconfdbBackend *self)
+{
+    struct timespec end;
+    if (clock_gettime(CLOCK_REALTIME, &end) != 0)
+        return false;
+    end.tv_nsec += TICK * NANOSECONDS;
+    end.tv_sec += end.tv_nsec / SECOND;
+    end.tv_nsec %= SECOND;
+    return pthread_timedjoin_np(self->worker, NULL, &end) == 0;
+}
+
+/* exit() may be called by a handler of a signal, amid anything that its thread does: in malloc(), say, or in
+ * a lock that the worker then waits for. So nothing here waits without a bound, or takes memory. */
 void worker_end(DconfdbBackend *self)
 {
-    if (self->worker) {
-        call_later(self, 0, end_now);
-        g_thread_join(self->worker);
+    static const char words[] = "dconfdb: what was set last isn't on the disk yet\n";
+    gint64 now = g_get_monotonic_time(), end = now + LONGEST_END, moved = now;
+    if (!mutex_lock_until(&self->lock, now + LONGEST_REST))
+        return; /* this very thread has it */
+    bool has_worker = self->has_worker;
+    self->has_ended = true;
+    g_mutex_unlock(&self->lock);
+    if (!has_worker)
+        return;
+    worker_wake(self);
+    while (!is_joined(self)) {
+        now = g_get_monotonic_time();
+        if (g_atomic_int_get(&self->is_writing))
+            moved = now;
+        if (now < end && now < moved + LONGEST_REST)
+            continue;
+        if (!is_settled(self) && write(STDERR_FILENO, words, sizeof words - 1) < 0)
+            return;
+        return;
     }
-    self->worker = NULL;
-    g_clear_pointer(&self->loop, g_main_loop_unref);
-    g_clear_pointer(&self->context, g_main_context_unref);
 }

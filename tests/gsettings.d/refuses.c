@@ -1,0 +1,52 @@
+/* Refuses calls of the system, for a program that is started with it in LD_PRELOAD: the first $TIMES calls of $CALL that are made for a store
+ * (flock; fsync; openat of a new file; inotify_init1), with the errno $ERRNO. */
+#define _GNU_SOURCE
+#include <dlfcn.h>
+#include <errno.h>
+#include <fcntl.h>
+#include <stdarg.h>
+#include <stdatomic.h>
+#include <stdlib.h>
+#include <string.h>
+#include <sys/file.h>
+#include <sys/inotify.h>
+#include <unistd.h>
+
+static atomic_int count;
+
+static int is_refused(const char *call)
+{
+    const char *refused = getenv("CALL"), *times = getenv("TIMES"), *fault = getenv("ERRNO");
+    if (!refused || !times || !fault || strcmp(refused, call) != 0 || atomic_fetch_add(&count, 1) >= atoi(times))
+        return 0;
+    errno = atoi(fault);
+    return 1;
+}
+
+int flock(int file, int operation)
+{
+    int (*real)(int, int) = (int (*)(int, int))dlsym(RTLD_NEXT, "flock");
+    return (operation & LOCK_EX) != 0 && is_refused("flock") ? -1 : real(file, operation);
+}
+
+int fsync(int file)
+{
+    int (*real)(int) = (int (*)(int))dlsym(RTLD_NEXT, "fsync");
+    return is_refused("fsync") ? -1 : real(file);
+}
+
+int inotify_init1(int flags)
+{
+    int (*real)(int) = (int (*)(int))dlsym(RTLD_NEXT, "inotify_init1");
+    return is_refused("inotify_init1") ? -1 : real(flags);
+}
+
+int openat(int folder, const char *name, int flags, ...)
+{
+    int (*real)(int, const char *, int, ...) = (int (*)(int, const char *, int, ...))dlsym(RTLD_NEXT, "openat");
+    va_list more;
+    va_start(more, flags);
+    mode_t mode = (flags & O_CREAT) != 0 ? va_arg(more, mode_t) : 0;
+    va_end(more);
+    return (flags & O_EXCL) != 0 && is_refused("openat") ? -1 : real(folder, name, flags, mode);
+}
