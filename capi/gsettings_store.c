@@ -9,7 +9,7 @@
 /* In microseconds: how long g_settings_sync() waits, and a write is tried again; the pauses before that; how
  * often who reads looks at the files; and how often a mutex is tried. */
 enum { LONGEST_SYNC = 10000000, LONGEST_FAILING = 10000000, SHORTEST_PAUSE = 50000, LONGEST_PAUSE = 2000000 };
-enum { BETWEEN_LOOKS = 1000, AFTER_A_FAULT = 1000000, TRY = 1000 };
+enum { BETWEEN_LOOKS = 10000, AFTER_A_FAULT = 1000000, TRY = 1000 };
 
 bool mutex_lock_until(GMutex *mutex, gint64 end)
 {
