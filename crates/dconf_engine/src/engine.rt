@@ -80,7 +80,7 @@ impl<'a> Engine<'a> {
         Ok(Engine::of_opened(alloc, is_of_user(profile), layers))
     }
 
-    /// The engine of layers that are open: it checks none of them anew. Where `written`, the first is the user's.
+    /// The engine of layers that are open: it checks none of them anew. If `writable`, the first is the user's.
     ///
     /// An error comes where a growth is refused. It copies the layers, and not their files.
     pub fn of_layers(
