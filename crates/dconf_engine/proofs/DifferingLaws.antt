@@ -18,7 +18,7 @@ either_told : (a b : Bool) (A B : Type 0) → IsTrue a ↔ A → IsTrue b ↔ B 
 either_told true b A B f g = (λ e. inl (f.0 refl), λ h. refl)
 either_told false b A B f g = (λ e. inr (g.0 e), λ h. elim h [ inl x ↦ absurd (no_truth (f.1 x)) | inr y ↦ g.1 y ])
 
-differs_told : (l m : Layers) (path : List ℕ) → IsTrue (differs l m path) ↔ Differs l m path
+pub differs_told : (l m : Layers) (path : List ℕ) → IsTrue (differs l m path) ↔ Differs l m path
 differs_told l m path =
     either_told (not (same_truth (is_locked l path) (is_locked m path))) (not (same_value (visible l path) (visible m path))) _ _
     (truths_told (is_locked l path) (is_locked m path)) (values_told (visible l path) (visible m path))

@@ -19,3 +19,4 @@ pub mod LockNameLaws
 pub mod LeftLaws
 pub mod SameValueLaws
 pub mod DifferingLaws
+pub mod TwinLaws

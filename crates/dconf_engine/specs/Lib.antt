@@ -20,3 +20,4 @@ pub mod LockNames
 pub mod SameValues
 pub mod Compared
 pub mod Differing
+pub mod Twins

@@ -1,19 +1,22 @@
 //! The keys that are seen otherwise through other layers.
-ghost use Rattle.std.specs.Prelude.{◌≡◌, [], ◌∷◌, ◌++◌, IfOk, OnOk, filter, map, option_map, string_bytes};
+ghost use Rattle.std.specs.Prelude.{◌≡◌, ◌<◌, [], ◌∷◌, ◌++◌, IfOk, IfSome, OnOk, filter, map, option_map, string_bytes};
 ghost use Rattle.std.specs.FinMap.{keys};
 ghost use Rattle.gv_view.specs.Views.{value};
 ghost use Rattle.dconf_model.specs.Layers.{all_paths};
 ghost use Rattle.dconf_path.specs.Paths.{key_text};
 ghost use Rattle.dconf_engine.specs.Differing.{AreDiffering, differs, first_keys};
+ghost use Rattle.dconf_engine.specs.Entries.{items_of, path_at};
 ghost use Rattle.dconf_engine.specs.LayerSettings.{settings_of};
 ghost use Rattle.dconf_engine.specs.SameValues.{same_value};
 ghost use Rattle.dconf_engine.specs.TextSets.{with_texts};
+ghost use Rattle.dconf_engine.specs.Twins.{AreTwins, PassesAlike};
 
 use crate::entry::Entry;
 use crate::layer::Layer;
 use crate::lent::LentLayers;
 use crate::same_values::show_same;
 use crate::texts::Texts;
+use crate::twins::{Twins, are_of_same_bytes};
 use dconf_path::KeyPath;
 use gv_view::View;
 use std::alloc::{AllocError, Global};
@@ -27,7 +30,9 @@ impl<'a, 'l> LentLayers<'a, 'l> {
     /// the same, its keys are enough. They are in the order of their bytes, once each.
     ///
     /// An error comes where a growth is refused. It looks at the name of each item of those layers,
-    /// and reads each key through all; it decodes values whose bytes are not the same.
+    /// and reads each key through all; it decodes values whose bytes are not the same. With `count`
+    /// 1, and files of the same bytes behind the first, it reads only those keys of the first layers
+    /// whose bytes aren't the same; and if these have the same items, names them alone.
     pub fn differing(
         self,
         alloc: Global,
@@ -42,9 +47,20 @@ impl<'a, 'l> LentLayers<'a, 'l> {
             first: self,
             second: other,
         };
-        pair.add_layers(alloc, self.prefix(count), &mut paths)?;
-        pair.add_layers(alloc, other.prefix(count), &mut paths)?;
+        pair.add_all(alloc, count, &mut paths)?;
         paths.list()
+    }
+
+    /// The first layers of both, if all others are of the same bytes.
+    fn twins(self, other: LentLayers<'a, 'l>) -> Option<(Layer<'a>, Layer<'a>)>
+        ensures { IfSome result (λ t. AreTwins (seen_in self.entry) (seen_in other.entry) (settings_of t.0) (settings_of t.1)) }
+    {
+        let (layer, others) = self.layers.split_first()?;
+        let (twin, same) = other.layers.split_first()?;
+        if are_of_same_bytes(others, same) {
+            return Some((*layer, *twin));
+        }
+        None
     }
 }
 
@@ -57,6 +73,57 @@ struct Pair<'a, 'l> {
 
 impl<'a, 'l> Pair<'a, 'l> {
     ghost use Rattle.dconf_engine.specs.LentSettings.{seen_in};
+
+    /// Adds the keys of the first `count` layers of both that are seen otherwise.
+    fn add_all(self, alloc: Global, count: usize, paths: &mut Texts) -> Result<(), AllocError>
+        ensures { OnOk result (paths.new ≡ with_texts (filter (differs (seen_in self.entry.first) (seen_in self.entry.second))
+            (first_keys count (seen_in self.entry.first) ++ first_keys count (seen_in self.entry.second))) paths.old) }
+    {
+        match self.first.twins(self.second) {
+            Some((layer, twin)) if count == 1 => {
+                self.add_twin(alloc, Twins::new(layer, twin), paths)?;
+                self.add_twin(alloc, Twins::new(twin, layer), paths)
+            }
+            _ => {
+                self.add_layers(alloc, self.first.prefix(count), paths)?;
+                self.add_layers(alloc, self.second.prefix(count), paths)
+            }
+        }
+    }
+
+    /// Adds those of a layer, where what the other has as it has it is seen alike.
+    fn add_twin(self, alloc: Global, twins: Twins<'_>, paths: &mut Texts) -> Result<(), AllocError>
+        requires { PassesAlike (differs (seen_in self.first) (seen_in self.second)) (settings_of twins.layer) (settings_of twins.other) }
+        ensures { OnOk result (paths.new ≡ with_texts (filter (differs (seen_in self.entry.first) (seen_in self.entry.second)) (keys (settings_of twins.entry.layer).values)) paths.old) }
+    {
+        for i in 0..twins.layer.n_items() {
+            if !twins.have_alike(i) {
+                self.add_item(alloc, twins, i, paths)?;
+            }
+        }
+        Ok(())
+    }
+
+    /// Adds the entry of item `i` of the layer, if it has one that is seen otherwise.
+    fn add_item(
+        self,
+        alloc: Global,
+        twins: Twins<'_>,
+        i: u32,
+        paths: &mut Texts,
+    ) -> Result<(), AllocError>
+        requires within { i < items_of twins.layer }
+        requires alike { PassesAlike (differs (seen_in self.first) (seen_in self.second)) (settings_of twins.layer) (settings_of twins.other) }
+        ensures { OnOk result (paths.new ≡ with_texts (filter (differs (seen_in self.entry.first) (seen_in self.entry.second)) (path_at twins.entry.layer i)) paths.old) }
+    {
+        let Some(entry) = twins.layer.entry_at(alloc, i)? else {
+            return Ok(());
+        };
+        match twins.other.get(entry.as_str()) {
+            Some(bytes) if bytes == entry.bytes => Ok(()),
+            _ => self.add_entry(alloc, &entry, paths),
+        }
+    }
 
     /// Adds the keys of layers that are seen otherwise through the second than through the first.
     fn add_layers(

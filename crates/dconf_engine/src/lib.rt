@@ -34,6 +34,7 @@ mod reset;
 mod same_values;
 mod stored_bytes;
 mod texts;
+mod twins;
 mod user_database;
 mod write;
 

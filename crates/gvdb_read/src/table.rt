@@ -58,6 +58,13 @@ impl<'a> Table<'a> {
         Table::within(file, start, end).ok_or(OpenFault::BadTable)
     }
 
+    /// The bytes of the file that the table is in.
+    pub fn file(self) -> &'a [u8]
+        ensures { result.now ≡ (region self.entry).file }
+    {
+        self.file
+    }
+
     /// How many items the table has.
     pub fn n_items(self) -> u32
         ensures { result ≡ item_count (region self.entry) }
