@@ -45,11 +45,10 @@ told_apart v w = (
   λ e. subst (λ (u : Tree). same_code (coded_tree.code v) (coded_tree.code u) ≡ true) e (code_itself (coded_tree.code v)),
 )
 
-pub is_same : (v w : Tree) → v ≡ w → true ≡ same_tree v w
-is_same v w e = sym ((told_apart v w).1 e)
-
-pub is_other : (v w : Tree) → ¬ (v ≡ w) → false ≡ same_tree v w
-is_other v w other = sym (false_from_ne_true (same_tree v w) (λ e. other ((told_apart v w).0 e)))
+-- what is asked of two values, in the words of `same_value`
+pub told_same : (same : Bool) (v w : Tree) → IsTrue same ↔ (v ≡ w) → same ≡ same_value (Some v) (Some w)
+told_same true v w h = sym ((told_apart v w).1 (h.0 refl))
+told_same false v w h = sym (false_from_ne_true (same_tree v w) (λ e. no_truth (h.1 ((told_apart v w).0 e))))
 
 -- values that may be missing
 pub values_told : (v w : Option Tree) → IsTrue (not (same_value v w)) ↔ (v ≢ w)

@@ -43,3 +43,4 @@ pub use engine::Engine;
 pub use fault::{DatabaseFault, EngineFault};
 pub use layer::Layer;
 pub use lent::LentLayers;
+pub use same_values::show_same;

@@ -3,7 +3,6 @@ ghost use Rattle.std.specs.Prelude.{◌≡◌, ◌≤◌, ◌<◌, ◌+◌, ◌�
 ghost use Rattle.gv_model.specs.Printed.{is_too_large};
 ghost use Rattle.gv_model.specs.Tree.{children, nodes, nodes_of};
 ghost use Rattle.gv_view.specs.Views.{value, view_ty};
-ghost use Rattle.dconf_engine.specs.SameValues.{same_tree};
 
 use gv_view::View;
 use std::alloc::{AllocError, Global};
@@ -20,12 +19,12 @@ struct Compared<'a, 'b> {
 /// An error comes where a growth is refused. The same bytes at one type are told without memory.
 /// Other values are copied, and those too deep for that are gone through child by child, so none is
 /// too deep to be told.
-pub(crate) fn show_same(
+pub fn show_same(
     alloc: Global,
     first: View<'_>,
     second: View<'_>,
 ) -> Result<bool, AllocError>
-    ensures { IfOk result (λ same. same ≡ same_tree (value first.entry) (value second.entry)) }
+    ensures { IfOk result (λ same. IsTrue same ↔ (value first.entry ≡ value second.entry)) }
 {
     let both = Compared { first, second };
     if both.are_alike() {

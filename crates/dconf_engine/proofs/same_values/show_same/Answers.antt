@@ -1,18 +1,18 @@
-use Rattle.std.proofs.Common.{◌≡◌, sym, ◌∙◌, subst, rules, []}
+use Rattle.std.proofs.Common.{◌≡◌, sym, ◌∙◌, refl, subst, rules, []}
 use Rattle.gv_view.specs.Views.{value}
 use Rattle.dconf_model.proofs.PathMaps.{no_truth}
 use Rattle.dconf_engine.specs.Compared.{AreSame}
-use Rattle.dconf_engine.proofs.SameValueLaws.{compared_one, is_other, is_same, less_work}
+use Rattle.dconf_engine.proofs.SameValueLaws.{compared_one, less_work}
 use Rattle.dconf_engine.proofs.same_values.show_same.Goals as goal
 
 pub returns-then-are_alike : goal.returns-then-are_alike
-returns-then-are_alike c = is_same (value c.args.first) (value c.args.second) (c.are_alike.ensures c.if-are_alike.true)
+returns-then-are_alike c = (λ t. c.are_alike.ensures c.if-are_alike.true, λ e. refl)
 
 pub returns-then-not-branch : goal.returns-then-not-branch
 returns-then-not-branch c =
     let told = compared_one c.loop-pair.left.items c.pop.new.self.items c.compare.new.left.items c.in-Some.pair c.in_ok-compare.field-0 (value c.args.first ≡ value c.args.second)
     c.in-Some.ensures.items c.in_ok-compare.ensures.same c.loop-pair.invariant in
-    is_other (value c.args.first) (value c.args.second) (λ e. no_truth (sym c.if-not-branch.true ∙ (told.1 e).0))
+    (λ t. absurd (no_truth t), λ e. absurd (no_truth (sym c.if-not-branch.true ∙ (told.1 e).0)))
 
 pub loop-pair-smaller : goal.loop-pair-smaller
 loop-pair-smaller c = less_work c.loop-pair.left.items c.pop.new.self.items c.compare.new.left.items c.in-Some.pair c.in-Some.ensures.items c.in_ok-compare.ensures.less
@@ -26,4 +26,4 @@ loop-pair-preserved c =
 pub returns : goal.returns
 returns c =
     let none : c.loop-pair.left.items ≡ [] = search rules in
-    is_same (value c.args.first) (value c.args.second) (c.loop-pair.invariant.0 (subst AreSame (sym none) tt))
+    (λ t. c.loop-pair.invariant.0 (subst AreSame (sym none) tt), λ e. refl)
