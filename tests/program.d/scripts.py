@@ -97,8 +97,8 @@ class Store:
         return done.returncode, done.stdout, done.stderr
 
     def files(self):
-        """Each file's number and bytes, by its name. A file that is replaced has another number."""
-        return {it.name: (it.stat().st_ino, it.read_bytes()) for it in self.folder.iterdir()}
+        """Each file's number and bytes, by its name, but for the lock, which comes with the first change. A file that is replaced has another number."""
+        return {it.name: (it.stat().st_ino, it.read_bytes()) for it in self.folder.iterdir() if it.name != '.lock'}
 
     def put(self, name, made):
         (self.folder / name).write_bytes(made)

@@ -54,7 +54,7 @@ fn main(rt: HostRuntime) -> ExitCode {
     }
 }
 
-/// Runs the command. One that replaces a file holds the lock on the file's folder from before its first read until it ends.
+/// Runs the command. One that replaces a file holds the lock of the file's folder from before its first read until it ends.
 fn run_in_turn(rt: &HostRuntime, asked: Command) -> u8 {
     let Some(replaced) = asked.replaced() else {
         return run_on(rt, asked, StdFolder::read_only(rt));
@@ -63,9 +63,13 @@ fn run_in_turn(rt: &HostRuntime, asked: Command) -> u8 {
         Replaced::File(name) => folder_of(name),
         Replaced::UserOf(_) => ".",
     };
-    match FolderLock::take(rt, folder) {
+    match FolderLock::take(rt, rt.alloc(), folder) {
         Ok(_lock) => run_on(rt, asked, StdFolder::new(rt)),
         Err(LockFault::Busy) => refuse_busy(rt, replaced),
+        Err(LockFault::Memory) => {
+            refuse(rt, NO_MEMORY);
+            REFUSED
+        }
         // Without the lock nothing may be replaced, but what else is wrong is said first.
         Err(LockFault::Device(_)) => run_on(rt, asked, StdFolder::read_only(rt)),
     }

@@ -14,14 +14,15 @@ fn printed(alloc: Global) -> Result<String, Fail> {
         cause: CompileCause::TooBig,
     };
     let inputs = format!(in alloc; "{}, {}", InputFault::Device, InputFault::Memory)?;
-    Ok(format!(in alloc; "{inputs}; {}, {lock}; {line}", LockFault::Busy)?)
+    let locks = format!(in alloc; "{}, {lock}, {}", LockFault::Busy, LockFault::Memory)?;
+    Ok(format!(in alloc; "{inputs}; {locks}; {line}")?)
 }
 
 #[test]
 fn each_is_printed_by_its_name(rt: HostRuntime) -> Result<(), Fail> {
     let said = printed(rt.alloc())?;
     assert!(rt;
-        said.as_str() == "Device input, Memory; Busy, Device; TooBig",
+        said.as_str() == "Device input, Memory; Busy, Device, Memory; TooBig",
         "{said}"
     );
     Ok(())

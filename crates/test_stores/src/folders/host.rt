@@ -184,13 +184,13 @@ fn a_folder_is_locked_by_any_name_and_given_up(rt: HostRuntime) {
     }
     for folder in [".", "./.", "."] {
         assert!(rt;
-            FolderLock::take(&rt, folder).is_ok(),
+            FolderLock::take(&rt, rt.alloc(), folder).is_ok(),
             "{folder} can't be locked"
         );
     }
     for folder in ["store_tests_none", "/proc/self/comm/x"] {
         assert!(rt;
-            FolderLock::take(&rt, folder).is_err(),
+            FolderLock::take(&rt, rt.alloc(), folder).is_err(),
             "{folder} is locked"
         );
     }
