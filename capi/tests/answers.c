@@ -40,7 +40,19 @@ static void prints_texts(char *texts)
     free(texts);
 }
 
-/* One answer for each word of `read`, `default`, `origin`, `list`, `locks`, `writable`. */
+/* The paths of the keys that differ in the store of another folder. */
+static void differs(const DconfdbSnapshot *now, const char *folder)
+{
+    DconfdbStore *store = dconfdb_store_open(folder, &error);
+    TRY(store);
+    DconfdbSnapshot *other = dconfdb_store_snapshot(store);
+    prints_texts(dconfdb_snapshot_differences(now, other, NULL, &error));
+    dconfdb_snapshot_unref(other);
+    dconfdb_store_close(store);
+}
+
+/* One answer for each word of `read`, `default`, `origin`, `list`, `locks`, `writable`, `differ`, whose
+ * path is another store's folder. */
 static void answers(const DconfdbSnapshot *now, const char *word, const char *path)
 {
     DconfdbValue value;
@@ -50,6 +62,8 @@ static void answers(const DconfdbSnapshot *now, const char *word, const char *pa
         prints_texts(dconfdb_snapshot_locks(now, path, NULL, &error));
     else if (strcmp(word, "writable") == 0)
         printf("%d\n", dconfdb_snapshot_is_writable(now, path));
+    else if (strcmp(word, "differ") == 0)
+        differs(now, path);
     else if (strcmp(word, "origin") == 0 && dconfdb_snapshot_read(now, path, &value))
         printf("%zu\n", value.origin);
     else if (strcmp(word, "read") == 0 && dconfdb_snapshot_read(now, path, &value))

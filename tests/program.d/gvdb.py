@@ -1,5 +1,5 @@
-"""A reader of databases by the format's own words (docs/FORMATS.md): it looks at every item of a table, and asks each rule of a sound
-database of each item, in the order of the rules. It shares nothing with the program."""
+"""A reader and a writer of databases by the format's own words (docs/FORMATS.md). The reader looks at every item of a table, and asks each rule
+of a sound database of each item, in the order of the rules. They share nothing with the program."""
 import struct
 from pathlib import Path
 
@@ -81,6 +81,20 @@ class Table:
             item = self.items[item.parent]
         return b''.join(reversed(keys))
 
+    def full_name(self, item):
+        """The same where it has one, else None."""
+        keys = []
+        for _ in self.items:
+            if item.key is None or (item.parent != NONE and not item.key):
+                return None
+            keys.append(item.key)
+            if item.parent == NONE:
+                return b''.join(reversed(keys))
+            if item.parent >= len(self.items):
+                return None
+            item = self.items[item.parent]
+        return None
+
     def content(self, item):
         """The bytes to which it points, where its pointer is valid."""
         aligned = item.start % (8 if item.kind == 'v' else 4) == 0
@@ -89,6 +103,26 @@ class Table:
     def value(self, name):
         """The bytes of the value of this name."""
         return next((self.content(item) for item in self.items if item.kind == 'v' and self.name(item) == name), None)
+
+    def found(self, name, kind):
+        """What a search for a name and kind finds: the bytes of the least item that fits, or None."""
+        hash_ = hashed(name)
+        if not self.items or not self.buckets or not self.passes(hash_):
+            return None
+        first, end = self.span(hash_)
+        fits = (item for item in self.items[first:end] if (item.hash, item.kind, self.full_name(item)) == (hash_, kind, name))
+        return next(map(self.content, fits), None)
+
+    def children(self, name):
+        """The keys of the items in the list of this name, in the order of their bytes."""
+        held = struct.iter_unpack('<I', self.found(name, 'L') or b'')
+        return sorted(self.items[number].key for number, in held if number < len(self.items))
+
+    def locked(self):
+        """The names in the table of locks."""
+        content = next((item for item in self.items if self.full_name(item) == b'.locks'), None)
+        locks = content and Table.between(self.file, content.start, content.end)
+        return {locks.full_name(item) for item in locks.items} if locks else set()
 
     def span(self, hash_):
         """From which item to which one those of a hash lie."""
@@ -201,3 +235,137 @@ def verdict(file):
         return 'error: BadVersion'
     start, end = struct.unpack_from('<II', file, 16)
     return 'error: BadTable' if start % 4 == 0 and start + 8 <= end <= len(file) else 'error: BadRoot'
+
+
+# ---- what is kept of a damaged database
+
+def is_path(name):
+    """Whether bytes are a path."""
+    try:
+        return name.decode().startswith('/') and b'\0' not in name and b'//' not in name and len(name) <= 65_535
+    except UnicodeDecodeError:
+        return False
+
+
+def salvaged(file):
+    """The values and locks that are kept of a database: of each key's path the lowest value with a valid pointer, and what the lowest table of locks
+    that opens names by values."""
+    table, values = Table.opened(file), {}
+    for item in table.items:
+        name = table.full_name(item)
+        if item.kind == 'v' and name and is_path(name) and name[-1:] != b'/' and table.content(item) is not None:
+            values.setdefault(name, table.content(item))
+    tables = (Table.between(file, it.start, it.end) for it in table.items if it.kind == 'H' and table.full_name(it) == b'.locks')
+    locks = next(filter(None, tables), None)
+    names = (locks.full_name(item) for item in locks.items if item.kind == 'v') if locks else ()
+    return values, {name for name in names if name and is_path(name)}
+
+
+# ---- written databases
+
+LOCK = b'\0\0s'
+
+
+def in_buckets(names):
+    """Names in the order of their buckets, and in a bucket in that of their bytes."""
+    return sorted(names, key=lambda it: (hashed(it) % len(names), it))
+
+
+def head(names):
+    """The head of a table of these names, with its bloom words and buckets."""
+    words = [0] * ((len(names) + 15) // 16)
+    for name in names:
+        words[hashed(name) // 32 % len(words)] |= 1 << hashed(name) % 32 | 1 << (hashed(name) >> 5) % 32
+    buckets = [sum(hashed(name) % len(names) < i for name in names) for i in range(len(names))]
+    return struct.pack(f'<II{len(words) + len(buckets)}I', len(words) | 5 << 27, len(names), *words, *buckets)
+
+
+def length(names):
+    """How many bytes a table of these names has without its keys."""
+    return len(head(names)) + 24 * len(names)
+
+
+def up(place, size):
+    return place + -place % size
+
+
+def parent_of(name):
+    """The directory in which a name is, or None."""
+    return None if name in (b'/', b'.locks') else name[:name[:-1].rindex(b'/') + 1]
+
+
+class Writer:
+    """The bytes of a database of values and locks, in the order of docs/FORMATS.md: first where each part is, and then the parts."""
+
+    def __init__(self, values, locks):
+        self.values, self.locks, self.made = values, in_buckets(locks), bytearray()
+        self.directories = {path[:i + 1] for path in [*values, b'/'] for i, byte in enumerate(path) if byte == ord('/')}
+        self.names = in_buckets([*self.directories, *values, *([b'.locks'] if locks else [])])
+        self.numbers = {name: i for i, name in enumerate(self.names)}
+        self.lists = {name: [] for name in self.names if name in self.directories}
+        for i, name in enumerate(self.names):
+            if parent_of(name):
+                self.lists[parent_of(name)].append(i)
+        self.places = {}
+        self.end = 24 + length(self.names) + sum(map(len, map(self.key, self.names)))
+
+    def key(self, name):
+        return name[len(parent_of(name) or b''):]
+
+    def take(self, name, size, alignment):
+        """Gives a part its place."""
+        start = up(self.end, alignment)
+        self.places[name], self.end = (start, start + size), start + size
+
+    def take_value(self, path, value, first):
+        if value not in first:
+            self.take(path, len(value), 8)
+        self.places[path] = first.setdefault(value, self.places.get(path))
+
+    def take_all(self):
+        for name, held in self.lists.items():
+            self.take(name, 4 * len(held), 4)
+        if self.locks:
+            self.take(b'.locks', length(self.locks), 4)
+            self.end += sum(map(len, self.locks))
+        first = {}
+        for name in self.names:
+            if name in self.values:
+                self.take_value(name, self.values[name], first)
+        if self.locks:
+            self.take_value('the lock', LOCK, first)
+
+    def put(self, place, part):
+        self.made += bytes(max(0, place - len(self.made)))
+        self.made[place:place + len(part)] = part
+
+    def put_table(self, place, names, keys, rests):
+        """A table and its keys. Of each item there is its parent's number, its kind, and where its content is."""
+        start = place + length(names)
+        made = head(names)
+        for name, key, (parent, kind, span) in zip(names, keys, rests):
+            made += struct.pack('<IIIHBxII', hashed(name), parent, start, len(key), ord(kind), *span)
+            start += len(key)
+        self.put(place, made + b''.join(keys))
+
+    def rest(self, name):
+        kind = 'L' if name in self.lists else 'v' if name in self.values else 'H'
+        return self.numbers.get(parent_of(name), NONE), kind, self.places[name]
+
+    def file(self):
+        self.take_all()
+        self.put(0, b'GVariant' + struct.pack('<IIII', 0, 0, 24, 24 + length(self.names)))
+        self.put_table(24, self.names, list(map(self.key, self.names)), map(self.rest, self.names))
+        for name, held in self.lists.items():
+            self.put(self.places[name][0], struct.pack(f'<{len(held)}I', *held))
+        if self.locks:
+            self.put_table(self.places[b'.locks'][0], self.locks, self.locks, [(NONE, 'v', self.places['the lock'])] * len(self.locks))
+            self.put(self.places['the lock'][0], LOCK)
+        for path, value in self.values.items():
+            self.put(self.places[path][0], value)
+        return bytes(self.made)
+
+
+def written(values, locks):
+    """The database of these values, each path with its bytes, and of these locks."""
+    return Writer(values, locks).file()

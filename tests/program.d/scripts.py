@@ -9,7 +9,7 @@ import gvdb
 from frame import Stop
 
 HERE = Path(__file__).resolve().parent
-KINDS = ('-- ', ': ', 'db ', '$ ', '! ', '~ ', '> ', '? ', '= ')
+KINDS = ('-- ', ': ', 'db ', 'mode ', '$ ', '! ', '~ ', '> ', '? ', '= ')
 TOO_DEEP = '<' * 127 + '1' + '>' * 127
 SECONDS = 120
 
@@ -97,8 +97,10 @@ class Store:
         return done.returncode, done.stdout, done.stderr
 
     def files(self):
-        """Each file's number and bytes, by its name, but for the lock, which comes with the first change. A file that is replaced has another number."""
-        return {it.name: (it.stat().st_ino, it.read_bytes()) for it in self.folder.iterdir() if it.name != '.lock'}
+        """Each file's number, bytes and permission bits, by its name, but for the lock, which comes with the first change. A file that is replaced has
+        another number."""
+        here = (it for it in self.folder.iterdir() if it.name != '.lock')
+        return {it.name: (it.stat().st_ino, it.read_bytes(), it.stat().st_mode & 0o777) for it in here}
 
     def put(self, name, made):
         (self.folder / name).write_bytes(made)
@@ -151,10 +153,12 @@ def written(lines):
 
 
 def replaces(store, before, wanted):
-    """The run has replaced these files, and no others are new, gone, or other ones."""
+    """The run has replaced these files, which have the permission bits of the old ones, and no others are new, gone, or other ones."""
     after = store.files()
     is_so('the files that are replaced', sorted(name for name in {*before, *after} if before.get(name) != after.get(name)), sorted(wanted))
     for name, more in wanted.items():
+        if name in before:
+            is_so(f'the permission bits of {name}', oct(after[name][2]), oct(before[name][2]))
         for length in more[:1]:
             is_so(f'how many bytes {name} has', len(after[name][1]), int(length))
         for other in more[2:]:
@@ -196,14 +200,16 @@ def row_of_bytes(store, line):
 
 
 def row_of_files(store, line, lines):
-    """Makes the file of a line, and says whether it made one."""
+    """Makes the file of a line, or gives it permission bits, and says whether the line is one of these."""
     kind, _, rest = line.partition(' ')
     name, _, words = rest.partition(' ')
     if kind == ':':
         store.put(name, bytes_of(words) if words else text_of(lines.until(is_kind)))
     elif kind == 'db':
         store.compile(name, words.split())
-    return kind in (':', 'db')
+    elif kind == 'mode':
+        (store.folder / name).chmod(int(words, 8))
+    return kind in (':', 'db', 'mode')
 
 
 def script(store, lines):
@@ -233,16 +239,48 @@ def script(store, lines):
 
 # ---- tables
 
-def row_of_table(store, line, kind):
+# What the program is asked of a file `f`, by the kind of the table.
+ASKED = {'check': ['check', 'f'], 'profile': ['origin', '-p', 'f', '/k'], 'keyfile': ['compile', 'out', 'f'],
+         'locks': ['compile', '--locks', 'f', 'site.db', 'none'], 'repair': ['repair', 'f', 'out']}
+
+
+def row_of_show(store, line):
     bytes_and_type, wanted = line.split(' | ')
-    asked, _, words = bytes_and_type.partition(' ') if kind == 'show' else ('', '', bytes_and_type)
-    made = bytes_of(words)
-    store.put('f', made)
-    found = store.run(['show', asked, 'f'] if kind == 'show' else ['check', 'f'])
-    text = text_of([wanted.removeprefix('! ')])
+    asked_type, _, words = bytes_and_type.partition(' ')
+    store.put('f', bytes_of(words))
+    is_left(store.run(['show', asked_type, 'f']), wanted)
+
+
+def is_left(found, wanted):
+    text = text_of([wanted.removeprefix('! ')] if wanted else [])
     is_so('it leaves', found, (1, b'', text) if wanted.startswith('! ') else (0, text, b''))
+
+
+def locked(store):
+    """The locks of a site's database, in a line."""
+    store.put('profile', b'user-db:none\nsystem-db:site\n')
+    return store.run(['list-locks', '/'])[1].decode().rstrip('\n').replace('\n', ' ').replace('\r', '\\r')
+
+
+def kept(store):
+    """What a database has: each path with the first byte of its value, and each lock."""
+    values, locks = gvdb.salvaged((store.folder / 'out').read_bytes())
+    return ' '.join([f'{path.decode()}={value[0]}' for path, value in sorted(values.items())] + [f'lock {path.decode()}' for path in sorted(locks)])
+
+
+def row_of_table(store, line, kind):
+    words, _, wanted = line.rpartition(' |')
+    wanted, made = wanted.strip(), bytes_of(words)
+    store.put('f', made)
+    store.put('none', b'')
+    answer, _, after = wanted.partition(': ') if kind == 'repair' and wanted[0] != '!' else (wanted, '', '')
+    if kind == 'locks' and not wanted.startswith('!'):
+        answer, after = '', wanted
+    is_left(store.run(ASKED[kind]), answer)
     if kind == 'check':
         is_so('the slow check says', gvdb.verdict(made), wanted.removeprefix('! '))
+    elif kind in ('locks', 'repair') and not wanted.startswith('!'):
+        is_so('it is', locked(store) if kind == 'locks' else kept(store), after)
 
 
 def table(store, lines, kind):
@@ -252,7 +290,7 @@ def table(store, lines, kind):
         if line and not line.startswith('-- '):
             rows += 1
             try:
-                row_of_table(store, line, kind)
+                row_of_show(store, line) if kind == 'show' else row_of_table(store, line, kind)
             except FAULTS as why:
                 faults.append(f'{lines.number()}: {line[:100]}: {why}')
     return rows, faults
@@ -287,7 +325,7 @@ def tried(folder, program, path, number, head, lines):
     """How many rows a script or a table has, and what is wrong."""
     store = Store(folder / f'{path.name}-{number}', program)
     kind = head.partition(': ')[0]
-    rows, faults = table(store, Lines(lines), kind) if kind in ('show', 'check') else script(store, Lines(lines))
+    rows, faults = table(store, Lines(lines), kind) if kind in ('show', *ASKED) else script(store, Lines(lines))
     return rows, [f'{path.name}:{fault}' for fault in faults]
 
 

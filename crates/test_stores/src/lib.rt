@@ -1,19 +1,26 @@
-//! Tests of a store's parts: texts of settings, databases, the layers of a profile, folders of files. There is no other code here.
+//! Tests of a store's parts: each public call with ample memory, and what the program can't be asked. There is no other code here; what
+//! the program can be asked is in tests/program.d.
 #![tactic(auto)]
 
 #[cfg(test)]
 mod calls;
 #[cfg(test)]
-mod databases;
+mod engines;
 #[cfg(test)]
 mod examples;
 #[cfg(test)]
 mod folders;
 #[cfg(test)]
-mod layers;
+mod maps;
 #[cfg(test)]
 mod questions;
 #[cfg(test)]
 mod rows;
+#[cfg(test)]
+mod samples;
+#[cfg(test)]
+mod stores;
+#[cfg(test)]
+mod tables;
 #[cfg(test)]
 mod texts;

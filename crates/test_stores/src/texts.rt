@@ -1,7 +1,4 @@
-//! Paths, lock files, profiles and keyfiles, and what faults are printed as.
-mod faults;
-pub(crate) mod keyfiles;
-pub(crate) mod limits;
+//! Paths, lock files, profiles, keyfiles and rows of them, and faults that no command prints.
+mod keyfiles;
 pub(crate) mod paths;
-mod rows_below;
-pub(crate) mod settings;
+mod settings;

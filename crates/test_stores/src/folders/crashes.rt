@@ -106,5 +106,5 @@ renamed 3 16: missing read a x; done read a x => [false, true, true, false]
 
 #[test]
 fn a_crash_leaves_what_was_synced_and_may_change_the_rest(rt: HostRuntime) -> Result<(), Fail> {
-    hold(rt.alloc(), Question::Crash, ROWS, '\n')
+    hold(rt.alloc(), Question::Crash, ROWS)
 }

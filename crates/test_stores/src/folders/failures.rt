@@ -2,42 +2,33 @@
 use super::steps::{answered, calls};
 use crate::questions::Question;
 use crate::rows::hold;
-use dconf_disk::{Folder, MemoryFolder};
+use dconf_disk::MemoryFolder;
 use std::alloc::{AllocError, Global};
-use std::fmt::Write;
 use std::test::Fail;
-
-/// The text of a file, or why it can't be read.
-fn show_text_of(
-    alloc: Global,
-    folder: &mut MemoryFolder,
-    name: &str,
-    found: &mut String,
-) -> Result<(), AllocError> {
-    match folder.read(alloc, name) {
-        Ok(Some(bytes)) => write!(found, " {}", str::from_utf8(&bytes).unwrap_or("no text")),
-        Ok(None) => write!(found, " missing"),
-        Err(fault) => write!(found, " {fault:?}"),
-    }
-}
 
 const AFTER: &str = "
 replace me.user => done
 read me.user => done
 ";
 
-/// How a replacement of `old` by `new` is answered, and the read after it; how many calls failed
-/// then, and what the file has.
+/// How a replacement of `old` by `new` is answered, and the read of `new` after it; whether one call failed
+/// then, and whether the file has `new`, and `old`.
 fn show_replaced(
     alloc: Global,
     folder: &mut MemoryFolder,
     found: &mut String,
 ) -> Result<(), AllocError> {
-    let replaced = answered(alloc, folder, "replace me.user new");
-    write!(found, " {replaced}")?;
-    show_text_of(alloc, folder, "me.user", found)?;
-    write!(found, " {}", folder.failures())?;
-    show_text_of(alloc, folder, "me.user", found)
+    for call in [
+        "replace me.user new",
+        "read me.user new",
+        "failures 1",
+        "read me.user new",
+        "read me.user old",
+    ] {
+        found.push(' ')?;
+        found.push_str(answered(alloc, folder, call))?;
+    }
+    Ok(())
 }
 
 /// What a replacement leaves whose call of this number fails.
@@ -52,13 +43,13 @@ pub(crate) fn replaced_so(alloc: Global, asked: &str, found: &mut String) -> Res
 // The fourth is the rename, which is done though it fails; the fifth is the sync of the folder. The
 // sixth is the first one after the replacement.
 const ROWS: &str = "
-0 => done new 0 new
-1 => device old 1 old
-2 => device old 1 old
-3 => device old 1 old
-4 => device new 1 new
-5 => device new 1 new
-6 => done Device 1 new
+0 => done done other done other
+1 => device other done other done
+2 => device other done other done
+3 => device other done other done
+4 => device done done done other
+5 => device done done done other
+6 => done device done done other
 ";
 
 const GROWN: &str = "
@@ -71,11 +62,12 @@ sync me.user => done
 settle => done
 create me.user => done
 read me.user => done
+failures 0 => done
 ";
 
 #[test]
 fn files_grow_and_each_call_fails_once(rt: HostRuntime) -> Result<(), Fail> {
     let alloc = rt.alloc();
     calls(alloc, &mut MemoryFolder::new(alloc), GROWN)?;
-    hold(alloc, Question::Replaced, ROWS, '\n')
+    hold(alloc, Question::Replaced, ROWS)
 }

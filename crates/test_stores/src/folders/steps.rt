@@ -41,7 +41,7 @@ fn answer_of_read<F: Folder>(
 fn answer_of_count(failures: u64, wanted: &str) -> &'static str {
     match wanted.parse() {
         Ok(wanted) if failures == wanted => "done",
-        _ => "another number",
+        _ => "other",
     }
 }
 

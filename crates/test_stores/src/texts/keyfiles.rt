@@ -1,105 +1,15 @@
-//! Keyfiles that are read and written: which texts have which rows, and the first fault of each.
+//! Rows of a keyfile that are written, and rows below a directory with their values.
 ghost use Rattle.std.specs.Prelude.{◌↔◌, IsTrue, nat_eq};
 ghost use Rattle.std.specs.List.{starts_with};
 ghost use Rattle.dconf_path.specs.Paths.{directory_text, key_text};
 ghost use Rattle.keyfile_core.specs.DumpRows.{AreBelow};
 
-use crate::questions::Question;
-use crate::rows::{bytes_of_text, hold};
+use dconf_compile::{CompileCause, LineStop, RowsBelow, value_of_text};
 use dconf_path::{DirPath, KeyPath};
-use keyfile_core::{Row, read, write_rows};
-use std::alloc::{AllocError, Global};
-use std::fmt::Write;
+use gv_tree::Tree;
+use keyfile_core::write_rows;
+use std::alloc::Global;
 use std::test::Fail;
-
-/// Each row as its line, its group, its key and its text.
-fn show_rows(rows: &[Row<'_>], found: &mut String) -> Result<(), AllocError> {
-    for row in rows {
-        write!(
-            found,
-            " {} [{}] {}={};",
-            row.line, row.group, row.key, row.text
-        )?;
-    }
-    Ok(())
-}
-
-/// The rows of a keyfile, or its first fault.
-fn show_keyfile(alloc: Global, file: &[u8], found: &mut String) -> Result<(), AllocError> {
-    match read(alloc, file) {
-        Ok(rows) => show_rows(&rows, found),
-        Err(fault) => write!(found, " {fault:?}"),
-    }
-}
-
-/// What a keyfile is read as. Its text follows on `file:`, or its bytes on `bytes:`.
-pub(crate) fn keyfile_read(alloc: Global, asked: &str, found: &mut String) -> Result<(), Fail> {
-    let (kind, file) = asked.split_once(':').unwrap_or(("", asked));
-    let shown = if kind == "bytes" {
-        show_keyfile(alloc, &bytes_of_text(alloc, file)?, found)
-    } else {
-        show_keyfile(alloc, file.as_bytes(), found)
-    };
-    Ok(shown?)
-}
-
-const FILES: &str = "
-file:# comment €\r
-[a]
-k=1.5\r
-\t k\t=\t'#'\x20
-
-[ b /c]
-é==
-[/]
-r='x' => 3 [a] k=1.5; 4 [a] k='#'; 7 [ b /c] é==; 9 [/] r='x';$
-file: =>$
-file:[a]
-#k=\0
-\r =>$
-file:[a]
-k[de]=1 => Refused { line: 2, cause: BadKeyName }$
-file:[a]
-b/c=1 => Refused { line: 2, cause: BadKeyName }$
-file:[a]
-=1 => Refused { line: 2, cause: BadKeyName }$
-file:[a]
-k\r=1
-k => Refused { line: 2, cause: BadKeyName }$
-file:k=1
-[ => Refused { line: 1, cause: NoGroup }$
-file:=1 => Refused { line: 1, cause: NoGroup }$
-file:
-[/a] => Refused { line: 2, cause: BadGroup }$
-file:[a//b] => Refused { line: 1, cause: BadGroup }$
-file:[a\0] => Refused { line: 1, cause: BadGroup }$
-file:[ => Refused { line: 1, cause: BadGroup }$
-file:[] => Refused { line: 1, cause: BadGroup }$
-file:[a]
-[b]c => Refused { line: 2, cause: BadGroup }$
-file:nonsense
-[/a] => Refused { line: 1, cause: BadLine }$
-file:[a]
-k=\0 => Refused { line: 2, cause: BadLine }$
-file:\r# c => Refused { line: 1, cause: BadLine }$";
-
-// A byte that is no part of a character.
-const NO_TEXTS: &str = "
-bytes:k=1
-#\u{ff}
- => Refused { line: 2, cause: NotUtf8 }$
-bytes:[\u{e2}\u{82}] => Refused { line: 1, cause: NotUtf8 }$
-bytes:[a]
-
-k\u{ff}=1 => Refused { line: 3, cause: NotUtf8 }$
-bytes:[a]
-k=\u{ed}\u{a0}\u{80} => Refused { line: 2, cause: NotUtf8 }$";
-
-#[test]
-fn a_keyfile_has_rows_or_a_first_fault(rt: HostRuntime) -> Result<(), Fail> {
-    hold(rt.alloc(), Question::Keyfile, FILES, '$')?;
-    hold(rt.alloc(), Question::Keyfile, NO_TEXTS, '$')
-}
 
 /// Whether a path starts with the directory's.
 fn is_below(path: KeyPath<'_>, directory: DirPath<'_>) -> bool
@@ -119,77 +29,55 @@ fn are_below(settings: &[(KeyPath<'_>, String)], directory: DirPath<'_>) -> bool
         .all(|setting| is_below(setting.0, directory))
 }
 
-/// Adds a setting, in whose text ` = ` is between a path and the text of its value.
-fn push_setting<'a>(
-    alloc: Global,
-    setting: &'a str,
-    settings: &mut Vec<(KeyPath<'a>, String)>,
-) -> Result<(), Fail> {
-    let (path, value) = setting.split_once(" = ").unwrap_or((setting, ""));
-    let path = KeyPath::parse(path)?;
-    settings.push((path, String::from_str(alloc, value)?))?;
-    Ok(())
-}
-
-/// Adds the settings of a text that are below a directory.
-fn push_settings<'a>(
-    alloc: Global,
-    text: &'a str,
-    directory: &str,
-    settings: &mut Vec<(KeyPath<'a>, String)>,
-) -> Result<(), Fail> {
-    for setting in text.split_terminator(", ") {
-        if setting.starts_with(directory) {
-            push_setting(alloc, setting, settings)?;
-        }
+/// How two settings are written below a directory.
+fn written(alloc: Global, directory: DirPath<'_>) -> Result<String, Fail> {
+    let paths = (KeyPath::parse("/a/x")?, KeyPath::parse("/a/b/k")?);
+    let settings = [
+        (paths.0, String::from_str(alloc, "'hi'")?),
+        (paths.1, String::from_str(alloc, "uint32 5")?),
+    ];
+    if !are_below(&settings, directory) {
+        return Err(Fail::new("a setting of another directory"));
     }
-    Ok(())
+    Ok(write_rows(alloc, &settings, directory)?)
 }
 
-/// How settings are written below a directory, or why they aren't.
-fn show_settings_written(
+/// The path of the one row of a keyfile below a directory, and whether its value is this one.
+fn only_row(
     alloc: Global,
-    settings: &[(KeyPath<'_>, String)],
     directory: DirPath<'_>,
-    found: &mut String,
-) -> Result<(), AllocError> {
-    if !are_below(settings, directory) {
-        return write!(found, " a setting of another directory");
-    }
-    match write_rows(alloc, settings, directory) {
-        Ok(text) => write!(found, "\n{text}"),
-        Err(fault) => write!(found, " {fault:?}"),
+    bytes: &[u8],
+    value: &Tree,
+) -> Result<String, LineStop> {
+    let rows = RowsBelow::read(alloc, directory, bytes)?;
+    let values = rows.values(alloc)?;
+    match values.as_slice() {
+        [(path, found)] if found.equal(value) => Ok(String::from_str(alloc, path.as_str())?),
+        _ => Ok(String::new(alloc)),
     }
 }
 
-/// How the settings of a text are written below a directory.
-pub(crate) fn settings_written(alloc: Global, asked: &str, found: &mut String) -> Result<(), Fail> {
-    let (directory, text) = asked.split_once(": ").unwrap_or((asked, ""));
-    let path = DirPath::parse(directory)?;
-    let mut settings = Vec::new(alloc);
-    push_settings(alloc, text, directory, &mut settings)?;
-    show_settings_written(alloc, &settings, path, found)?;
-    Ok(())
+/// Whether a row has its value below a directory, and the line of another is named, whose value is none.
+fn is_read(alloc: Global, directory: DirPath<'_>, value: &Tree) -> bool {
+    let found = match only_row(alloc, directory, b"[b]\nk=[1, 2]\n", value) {
+        Ok(path) => path.as_str() == "/a/b/k",
+        Err(_) => false,
+    };
+    let stopped = match only_row(alloc, directory, b"[b]\n\nk=oops\n", value) {
+        Ok(_) => false,
+        Err(stop) => stop.line == 3 && stop.cause != CompileCause::Memory,
+    };
+    found && stopped
 }
-
-const SETTINGS: &str = "
-/: /x = 'hi', /a/b/k = uint32 5 =>
-[/]
-x='hi'
-
-[a/b]
-k=uint32 5
-$
-/a/: /x = 'hi', /a/b/k = uint32 5 =>
-[b]
-k=uint32 5
-$
-/k/: /x = 'hi', /a/b/k = uint32 5 =>
-$
-/: /x = , /a=b =  => Refused { row: 1, cause: BadKeyName }$
-/: /x = , /[/k =  => Refused { row: 1, cause: BadGroup }$";
 
 #[test]
-fn settings_are_written_by_groups_and_keys(rt: HostRuntime) -> Result<(), Fail> {
-    hold(rt.alloc(), Question::Settings, SETTINGS, '$')
+fn rows_are_written_and_read_below_a_directory(rt: HostRuntime) -> Result<(), Fail> {
+    let alloc = rt.alloc();
+    let directory = DirPath::parse("/a/")?;
+    assert!(rt; written(alloc, directory)?.as_str() == "[/]\nx='hi'\n\n[b]\nk=uint32 5\n");
+    let Ok(value) = value_of_text(alloc, "[1, 2]") else {
+        return Err(Fail::from("the text has a value"));
+    };
+    assert!(rt; value.type_text().as_str() == "ai" && is_read(alloc, directory, &value));
+    Ok(())
 }

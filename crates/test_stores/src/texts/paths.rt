@@ -1,121 +1,63 @@
-//! The paths of keys, of directories and of locks.
+//! The paths of keys, of directories and of locks. Which keys a lock covers is in tests/program.d.
 use crate::questions::Question;
-use crate::rows::{bytes_of_text, hold};
+use crate::rows::hold;
 use dconf_path::{DirPath, KeyPath, LockPath};
 use std::alloc::{AllocError, Global};
 use std::fmt::Write;
 use std::test::Fail;
 
-/// What a text is as the path of a key: whether it is its own text, or its fault.
-fn show_key(text: &str, found: &mut String) -> Result<(), AllocError> {
-    match KeyPath::parse(text) {
-        Ok(path) => write!(found, " {}", path.as_str() == text),
-        Err(fault) => write!(found, " {fault:?}"),
+/// Whether bytes are a key's path, which is this text.
+fn is_key(bytes: &[u8], text: &str) -> bool {
+    match KeyPath::of_bytes(bytes) {
+        Some(path) => path.as_str() == text,
+        None => false,
     }
 }
 
-/// What it is as the path of a directory.
-fn show_directory(text: &str, found: &mut String) -> Result<(), AllocError> {
-    match DirPath::parse(text) {
-        Ok(path) => write!(found, " {}", path.as_str() == text),
-        Err(fault) => write!(found, " {fault:?}"),
-    }
-}
-
-/// What a text is as the path of a key, and of a directory.
+/// Why a text is no path of a key, of a directory and of a lock, and whether its bytes are a key's.
 pub(crate) fn path_read(asked: &str, found: &mut String) -> Result<(), AllocError> {
-    show_key(asked, found)?;
-    show_directory(asked, found)
+    let (key, directory) = (KeyPath::parse(asked).err(), DirPath::parse(asked).err());
+    let lock = LockPath::parse(asked).err();
+    let by_bytes = is_key(asked.as_bytes(), asked);
+    write!(found, " {key:?} {directory:?} {lock:?} {by_bytes}")
 }
 
 const PATHS: &str = "
-/k => true NoEndSlash
-/a => true NoEndSlash
-/a/k => true NoEndSlash
-/org/gnome/desktop/cursor-size => true NoEndSlash
-/a b/ü => true NoEndSlash
-/./.. => true NoEndSlash
-/ => EndsInSlash true
-/a/ => EndsInSlash true
-/org/gnome/ => EndsInSlash true
- => NotAbsolute NotAbsolute
-a/ => NotAbsolute NotAbsolute
-a/k => NotAbsolute NotAbsolute
-a//\0/ => NotAbsolute NotAbsolute
-/a//k\0 => HasNul HasNul
-/\0a//k => HasNul HasNul
-/a\0// => HasNul HasNul
-/a//k => DoubleSlash DoubleSlash
-// => DoubleSlash DoubleSlash
-/a// => DoubleSlash DoubleSlash
-/org/gnome/desktop/settings/ => EndsInSlash true
-/org/gnome/desktop/ü => true NoEndSlash
-/org/gnome/desktop/k\0 => HasNul HasNul
-/45678901234567//k => DoubleSlash DoubleSlash
-/456789012345678//k => DoubleSlash DoubleSlash
-/4567890123456789/k/ => EndsInSlash true
+/k => None Some(NoEndSlash) None true
+/a => None Some(NoEndSlash) None true
+/a/k => None Some(NoEndSlash) None true
+/org/gnome/desktop/cursor-size => None Some(NoEndSlash) None true
+/a b/ü => None Some(NoEndSlash) None true
+/./.. => None Some(NoEndSlash) None true
+/ => Some(EndsInSlash) None None false
+/a/ => Some(EndsInSlash) None None false
+/org/gnome/ => Some(EndsInSlash) None None false
+ => Some(NotAbsolute) Some(NotAbsolute) Some(NotAbsolute) false
+a/ => Some(NotAbsolute) Some(NotAbsolute) Some(NotAbsolute) false
+a/k => Some(NotAbsolute) Some(NotAbsolute) Some(NotAbsolute) false
+a//\0/ => Some(NotAbsolute) Some(NotAbsolute) Some(NotAbsolute) false
+/a//k\0 => Some(HasNul) Some(HasNul) Some(HasNul) false
+/\0a//k => Some(HasNul) Some(HasNul) Some(HasNul) false
+/a\0// => Some(HasNul) Some(HasNul) Some(HasNul) false
+/a//k => Some(DoubleSlash) Some(DoubleSlash) Some(DoubleSlash) false
+// => Some(DoubleSlash) Some(DoubleSlash) Some(DoubleSlash) false
+/a// => Some(DoubleSlash) Some(DoubleSlash) Some(DoubleSlash) false
+/org/gnome/desktop/settings/ => Some(EndsInSlash) None None false
+/org/gnome/desktop/ü => None Some(NoEndSlash) None true
+/org/gnome/desktop/cursor-sizeü => None Some(NoEndSlash) None true
+/org/gnome/desktop/k\0 => Some(HasNul) Some(HasNul) Some(HasNul) false
+/org/gnome/desktop/cursor-size\0 => Some(HasNul) Some(HasNul) Some(HasNul) false
+/org/gnome/desktop/cursor-size/ => Some(EndsInSlash) None None false
+/org/gnome/desktop//cursor-size => Some(DoubleSlash) Some(DoubleSlash) Some(DoubleSlash) false
+org/gnome/desktop/cursor-size => Some(NotAbsolute) Some(NotAbsolute) Some(NotAbsolute) false
+/45678901234567//k => Some(DoubleSlash) Some(DoubleSlash) Some(DoubleSlash) false
+/456789012345678//k => Some(DoubleSlash) Some(DoubleSlash) Some(DoubleSlash) false
+/4567890123456789/k/ => Some(EndsInSlash) None None false
 ";
 
 #[test]
 fn tells_keys_and_directories(rt: HostRuntime) -> Result<(), Fail> {
-    hold(rt.alloc(), Question::Path, PATHS, '\n')
-}
-
-/// Whether bytes are a key's path, which is these bytes.
-pub(crate) fn key_of_bytes(
-    alloc: Global,
-    asked: &str,
-    found: &mut String,
-) -> Result<(), AllocError> {
-    let bytes = bytes_of_text(alloc, asked)?;
-    found.push_str(match KeyPath::of_bytes(&bytes) {
-        Some(path) if path.as_str().as_bytes() == bytes.as_slice() => " key",
-        Some(_) => " another key",
-        None => " none",
-    })
-}
-
-const BYTES: &str = "
-/k => key
-/org/gnome/desktop/cursor-size => key
-/org/gnome/desktop/\u{c3}\u{bc} => key
-/org/gnome/desktop/cursor-size\u{c3}\u{bc} => key
-/org/gnome/desktop/\u{ff} => none
-/org/gnome/desktop/cursor-size\0 => none
-/org/gnome/desktop/cursor-size/ => none
-/org/gnome/desktop//cursor-size => none
-org/gnome/desktop/cursor-size => none
- => none
-";
-
-#[test]
-fn takes_bytes_that_are_a_keys_path(rt: HostRuntime) -> Result<(), Fail> {
-    hold(rt.alloc(), Question::KeyOfBytes, BYTES, '\n')
-}
-
-/// Whether a lock covers a key.
-pub(crate) fn covered(asked: &str, found: &mut String) -> Result<(), Fail> {
-    let (lock, key) = asked.split_once(' ').unwrap_or((asked, ""));
-    let key = KeyPath::parse(key)?;
-    match LockPath::parse(lock) {
-        Ok(lock) => write!(found, " {}", lock.covers(key))?,
-        Err(fault) => write!(found, " {fault:?}")?,
-    }
+    hold(rt.alloc(), Question::Path, PATHS)?;
+    assert!(rt; KeyPath::of_bytes(b"/org/gnome/desktop/\xff").is_none());
     Ok(())
-}
-
-const LOCKS: &str = "
-/a/k /a/k => true
-/a/k /a/kk => false
-/a/ /a/b/k => true
-/a/ /ab => false
-/ /q => true
-a// /q => NotAbsolute
-/\0// /q => HasNul
-/a// /q => DoubleSlash
-";
-
-#[test]
-fn a_lock_covers_its_key_or_what_is_below(rt: HostRuntime) -> Result<(), Fail> {
-    hold(rt.alloc(), Question::Covered, LOCKS, '\n')
 }

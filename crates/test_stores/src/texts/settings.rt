@@ -1,136 +1,73 @@
-//! Texts of settings, lock files and profiles by example.
-use crate::questions::Question;
-use crate::rows::hold;
+//! Lock files and profiles, and faults that no command prints.
 use dconf_path::{
-    Database, DatabaseKind, Lock, LocksFault, TextFault, read_locks, read_profile, settings_text,
+    Database, DatabaseKind, Lock, LocksFault, PathFault, ProfileFault, TextFault, read_locks,
+    read_profile, settings_text,
 };
+use gvdb_write::{SalvageFault, WriteFault};
 use std::alloc::{AllocError, Global};
 use std::fmt::Write;
 use std::test::Fail;
 
-/// Each lock as its line and its path.
-fn show_each_lock(locks: &[Lock<'_>], found: &mut String) -> Result<(), AllocError> {
-    for lock in locks {
-        write!(found, " {}{}", lock.line, lock.path.as_str())?;
-    }
-    Ok(())
-}
-
-/// The locks of a text; or its fault, as its name and its line.
-fn show_locks(alloc: Global, text: &str, found: &mut String) -> Result<(), AllocError> {
-    match read_locks(alloc, text) {
-        Ok(locks) => show_each_lock(&locks, found),
-        Err(fault @ LocksFault::LockNotKey(line)) => write!(found, " {fault} {line}"),
-        Err(LocksFault::Memory) => Ok(()),
+/// Whether these are the locks of a text of three lines.
+fn are_its_locks(locks: &[Lock<'_>]) -> bool {
+    match locks {
+        [key, directory] => {
+            key.line == 1
+                && key.path.as_str() == "/a/k"
+                && directory.line == 3
+                && directory.path.as_str() == "/a/"
+        }
+        _ => false,
     }
 }
 
-/// Each database as the letter of its kind and its name.
-fn show_each_database(databases: &[Database<'_>], found: &mut String) -> Result<(), AllocError> {
-    for database in databases {
-        let letter = match database.kind {
-            DatabaseKind::User => 'u',
-            DatabaseKind::System => 's',
-            DatabaseKind::File => 'f',
-        };
-        write!(found, " {letter}={};", database.name)?;
-    }
-    Ok(())
-}
-
-/// The databases of a profile; or its fault, as its name and its line.
-fn show_databases(alloc: Global, text: &str, found: &mut String) -> Result<(), AllocError> {
-    match read_profile(alloc, text) {
-        Ok(profile) => show_each_database(profile.databases(), found),
-        Err(fault) => write!(found, " {fault} {}", fault.line().unwrap_or(0)),
+/// Whether these are the databases of a profile.
+fn are_its_databases(databases: &[Database<'_>]) -> bool {
+    match databases {
+        [user, site, file] => {
+            matches!(user.kind, DatabaseKind::User)
+                && user.name == "me"
+                && matches!(site.kind, DatabaseKind::System)
+                && site.name == "site"
+                && matches!(file.kind, DatabaseKind::File)
+                && file.name == "/a/b"
+        }
+        _ => false,
     }
 }
 
-/// The databases of a profile whose lines come after 64 databases with a comment after each.
-fn show_many_databases(alloc: Global, text: &str, found: &mut String) -> Result<(), AllocError> {
-    let mut many = "system-db:a\n# c\n".repeat(alloc, 64)?;
-    many.push_str(text)?;
-    show_databases(alloc, many.as_str(), found)
-}
-
-/// What a file is read as: a text of any kind, a lock file, a profile, or one of many databases.
-pub(crate) fn text_read(alloc: Global, asked: &str, found: &mut String) -> Result<(), Fail> {
-    let (kind, rest) = asked.split_once(':').unwrap_or(("", asked));
-    let text = settings_text(rest.as_bytes())?;
-    let shown = match kind {
-        "text" => write!(found, " {text}"),
-        "locks" => show_locks(alloc, text, found),
-        "profile" => show_databases(alloc, text, found),
-        _ => show_many_databases(alloc, text, found),
-    };
-    Ok(shown?)
-}
-
-const TEXTS: &str = "
-text: => $
-text:[a]
-k='é'
- => [a]
-k='é'
-$
-locks: =>$
-locks:/a/k
-# c
-/a/ => 1/a/k 3/a/$
-locks:
-/a/k
-
- /b
-/
- => 2/a/k 5/$
-locks:/a/k # c
-/b\r
-c => 1/a/k # c 2/b\r$
-locks:/a// => LockNotKey 1$
-locks:/a/k
-/\0
-// => LockNotKey 2$";
-
-const PROFILES: &str = "
-profile: =>$
-profile:user-db:me
-system-db:site => u=me; s=site;$
-profile:# c\r
-\t user-db:me # c\r
-\r
-file-db:/a/b#c
- => u=me; f=/a/b;$
-profile:system-db: a
-system-db:a b => s= a; s=a b;$
-profile:system-db:a
-user-db:b => UserNotFirst 2$
-profile:service-db:x => ServiceDb 1$
-profile:local => BadLine 1$
-profile:
-service-db => BadLine 2$
-profile:system-db:a
-user-db:/ => BadLine 2$
-profile:user-db:a\0 => BadLine 1$
-profile:file-db:#b => BadLine 1$
-profile:system-db:a/b
-service-db: => BadLine 1$
-long:file-db:b => TooMany 129$
-long:user-db:b => UserNotFirst 129$
-long:
-local => BadLine 130$";
-
-/// Whether bytes are no text by this line.
-fn is_no_text(bytes: &[u8], line: usize) -> bool {
-    match settings_text(bytes) {
+/// Whether a profile and a text are refused by their second lines.
+fn are_refused(alloc: Global) -> bool {
+    let profile = match read_profile(alloc, "system-db:a\nuser-db:b") {
         Ok(_) => false,
-        Err(fault) => fault == TextFault::NotUtf8(line) && fault.line() == line,
-    }
+        Err(fault) => fault == ProfileFault::UserNotFirst(2) && fault.line() == Some(2),
+    };
+    let text = match settings_text(b"[a]\nk='\xc3'\n") {
+        Ok(_) => false,
+        Err(fault) => fault == TextFault::NotUtf8(2) && fault.line() == 2,
+    };
+    profile && text
+}
+
+/// The names of faults that no command prints.
+fn show_faults(names: &mut String) -> Result<(), AllocError> {
+    write!(names, "{} {} ", PathFault::HasNul, LocksFault::Memory)?;
+    write!(names, "{} {} ", ProfileFault::Memory, SalvageFault::Memory)?;
+    write!(names, "{} {}", WriteFault::TooBig, WriteFault::Memory)
 }
 
 #[test]
 fn texts_locks_and_profiles_are_read(rt: HostRuntime) -> Result<(), Fail> {
-    hold(rt.alloc(), Question::Text, TEXTS, '$')?;
-    hold(rt.alloc(), Question::Text, PROFILES, '$')?;
-    assert!(rt; is_no_text(b"\xff", 1) && is_no_text(b"[a]\nk='\xc3'\n", 2));
+    let alloc = rt.alloc();
+    let mut names = String::new(alloc);
+    show_faults(&mut names)?;
+    assert!(rt;
+        names.as_str() == "HasNul Memory Memory Memory TooBig Memory",
+        "{names}"
+    );
+    let locks = are_its_locks(&read_locks(alloc, settings_text(b"/a/k\n# c\n/a/\n")?)?);
+    let profile = read_profile(alloc, "user-db:me\nsystem-db:site\nfile-db:/a/b#c\n")?;
+    let databases = are_its_databases(profile.databases());
+    assert!(rt; locks && databases && are_refused(alloc));
     Ok(())
 }

@@ -1,5 +1,4 @@
 //! Files by hand: a header, a table and its items, keys, a list, values, in this order.
-use super::dconf_bytes::site;
 use std::alloc::Global;
 use std::test::Fail;
 
@@ -31,40 +30,13 @@ const LOCKED: &[u8] = &[
     47, 107, 0, 0, 5, 0, 0, 0, 0, 105, 0, 0, 0, 0, 115,
 ];
 
-/// The same, where the list of `/` is the two numbers at 172 and 176, and a key `k/` occurs at 180.
-const LISTED: &[u8] = &[
-    71, 86, 97, 114, 105, 97, 110, 116, 0, 0, 0, 0, 0, 0, 0, 0, 24, 0, 0, 0, 108, 0, 0, 0, 0, 0, 0,
-    0, 1, 0, 0, 0, 0, 0, 0, 0, 143, 57, 13, 123, 255, 255, 255, 255, 108, 0, 0, 0, 6, 0, 72, 0,
-    120, 0, 0, 0, 156, 0, 0, 0, 212, 181, 2, 0, 255, 255, 255, 255, 114, 0, 0, 0, 1, 0, 76, 0, 172,
-    0, 0, 0, 180, 0, 0, 0, 191, 112, 89, 0, 1, 0, 0, 0, 115, 0, 0, 0, 1, 0, 118, 0, 160, 0, 0, 0,
-    166, 0, 0, 0, 46, 108, 111, 99, 107, 115, 47, 107, 2, 0, 0, 0, 0, 0, 0, 0, 1, 0, 0, 0, 0, 0, 0,
-    0, 191, 112, 89, 0, 255, 255, 255, 255, 156, 0, 0, 0, 2, 0, 118, 0, 168, 0, 0, 0, 171, 0, 0, 0,
-    47, 107, 0, 0, 5, 0, 0, 0, 0, 105, 0, 0, 0, 0, 115, 0, 0, 0, 0, 0, 0, 0, 0, 0, 107, 47, 0, 0,
-];
-
-/// The same, where `/.` occurs in place of the table of locks, and is worth 5.
-const DOTTED: &[u8] = &[
-    71, 86, 97, 114, 105, 97, 110, 116, 0, 0, 0, 0, 0, 0, 0, 0, 24, 0, 0, 0, 108, 0, 0, 0, 0, 0, 0,
-    0, 1, 0, 0, 0, 0, 0, 0, 0, 130, 112, 89, 0, 1, 0, 0, 0, 108, 0, 0, 0, 1, 0, 118, 0, 160, 0, 0,
-    0, 166, 0, 0, 0, 212, 181, 2, 0, 255, 255, 255, 255, 114, 0, 0, 0, 1, 0, 76, 0, 172, 0, 0, 0,
-    180, 0, 0, 0, 191, 112, 89, 0, 1, 0, 0, 0, 115, 0, 0, 0, 1, 0, 118, 0, 160, 0, 0, 0, 166, 0, 0,
-    0, 46, 108, 111, 99, 107, 115, 47, 107, 2, 0, 0, 0, 0, 0, 0, 0, 1, 0, 0, 0, 0, 0, 0, 0, 191,
-    112, 89, 0, 255, 255, 255, 255, 156, 0, 0, 0, 2, 0, 118, 0, 168, 0, 0, 0, 171, 0, 0, 0, 47,
-    107, 0, 0, 5, 0, 0, 0, 0, 105, 0, 0, 0, 0, 115, 0, 0, 0, 0, 0, 0, 0, 0, 0, 107, 47, 0, 0,
-];
-
 /// The file of this name: `plain` has the key `/k`, worth 5; `buckets` is the same with buckets and
-/// a bloom word, `locked` with a lock, `listed` with a lock and a list of two numbers, and `dotted`
-/// with `/.` in place of the lock; `dconf` is the one that the real dconf made. A number is so many
-/// bytes of the plain one.
+/// a bloom word, and `locked` with a lock. A number is so many bytes of the plain one.
 pub(crate) fn sample(name: &str) -> &'static [u8] {
     match name {
         "plain" => PLAIN,
         "buckets" => BUCKETS,
         "locked" => LOCKED,
-        "listed" => LISTED,
-        "dotted" => DOTTED,
-        "dconf" => site(),
         _ => PLAIN.get(..name.parse().unwrap_or(0)).unwrap_or(&[]),
     }
 }

@@ -1,0 +1,159 @@
+//! What a table has of a name and of an item's number, by each call, also where the file is unsound: the program reads no such file.
+use crate::questions::Question;
+use crate::rows::hold;
+use crate::samples::{file_of, sample};
+use gv_types::Steps;
+use gv_view::View;
+use gvdb_read::{HashedName, Table, hash, hash_with};
+use std::alloc::{AllocError, Global};
+use std::fmt::Write;
+use std::test::Fail;
+
+/// Whether each other call finds these bytes of a name too.
+fn is_found_by_all(table: Table<'_>, name: &str, bytes: Option<&[u8]>) -> bool {
+    table.find_hashed_bytes(HashedName::new(name.as_bytes())) == bytes
+        && table.find(name).is_some() == bytes.is_some()
+        && table.has(name) == bytes.is_some()
+}
+
+/// The names in the list of `/`, each with a blank before it; `none` where there is no list.
+fn show_list(table: Table<'_>, found: &mut String) -> Result<(), AllocError> {
+    let Some(names) = table.list("/") else {
+        return write!(found, " none");
+    };
+    for name in names {
+        write!(found, " {}", str::from_utf8(name).unwrap_or("no text"))?;
+    }
+    Ok(())
+}
+
+/// What a search for a name finds with its steps counted, whether it took so many at most, the bytes, and the names in the list of `/`.
+fn show_search(
+    table: Table<'_>,
+    name: &str,
+    most: u128,
+    found: &mut String,
+) -> Result<(), AllocError> {
+    let mut steps = Steps::new();
+    let counted = table.find_counted(name, &mut steps).and_then(View::as_i32);
+    let bytes = table.find_bytes(name);
+    let ended = steps.count() <= most && is_found_by_all(table, name, bytes);
+    write!(found, " {counted:?} {bytes:?} {ended}")?;
+    show_list(table, found)
+}
+
+/// What a search for a name finds in a file, in so many steps at most.
+pub(crate) fn searched(alloc: Global, asked: &str, found: &mut String) -> Result<(), Fail> {
+    let (file, rest) = asked.split_once("; ").unwrap_or((asked, ""));
+    let (name, most) = rest.split_once("; ").unwrap_or((rest, ""));
+    let file = file_of(alloc, file)?;
+    show_search(Table::open(&file)?, name, most.parse()?, found)?;
+    Ok(())
+}
+
+const SEARCHES: &str = "
+plain; /k; 6 => Some(5) Some([5, 0, 0, 0, 0, 105]) true k
+buckets; /k; 3 => Some(5) Some([5, 0, 0, 0, 0, 105]) true k
+locked; /k; 6 => Some(5) Some([5, 0, 0, 0, 0, 105]) true k
+buckets; /j; 0 => None None true k
+plain; /; 6 => None None true k
+plain; ; 6 => None None true k
+plain; k; 6 => None None true k
+plain; /k/; 6 => None None true k
+locked; .locks; 6 => None None true k
+-- no bloom words, and a shift; no items either
+plain 27=40; /k; 6 => Some(5) Some([5, 0, 0, 0, 0, 105]) true k
+32 27=40 20=32 28=0; /k; 0 => None None true none
+-- each of the two items is the other's parent
+plain 40=1 41=0 42=0 43=0; /k; 6 => None None true none
+-- a file that ends before its last value does, and another hash
+101; /k; 6 => None None true k
+plain 60=190; /k; 6 => None None true k
+-- a list of no item
+plain 88=2; /k; 6 => Some(5) Some([5, 0, 0, 0, 0, 105]) true
+";
+
+/// The full name of an item, or `none` where it has none that fits this room.
+fn name_in<'a>(table: Table<'_>, i: u32, room: &'a mut [u8]) -> &'a str {
+    let len = table.name_len(i, room.len()).unwrap_or(usize::MAX);
+    let Some(name) = room.get_mut(..len) else {
+        return "none";
+    };
+    if !table.write_name(i, name) {
+        return "another";
+    }
+    str::from_utf8(name).unwrap_or("no text")
+}
+
+/// An item: its full name of six bytes at most, whether it is named so, its parent, key, kind and content, and how many items its
+/// table has.
+fn show_item(table: Table<'_>, i: u32, found: &mut String) -> Result<(), AllocError> {
+    let mut room = [0; 6];
+    let name = name_in(table, i, &mut room);
+    let named = table.has_name(i, name) && !table.has_name(i, "/j");
+    write!(found, " {name} {named}")?;
+    if let Some(item) = table.item(i) {
+        let (key, kind) = (item.key, char::from(item.kind));
+        write!(found, " {:?} {key:?} {kind} {:?}", item.parent, item.bytes)?;
+    }
+    let items = table.table_at(i).map(Table::n_items);
+    write!(found, " {items:?}")
+}
+
+/// An item of a file.
+pub(crate) fn item_shown(alloc: Global, asked: &str, found: &mut String) -> Result<(), Fail> {
+    let (file, i) = asked.split_once("; ").unwrap_or((asked, ""));
+    let file = file_of(alloc, file)?;
+    show_item(Table::open(&file)?, i.parse()?, found)?;
+    Ok(())
+}
+
+const ITEMS: &str = "
+plain; 0 => / true None Some([47]) L Some([1, 0, 0, 0]) None
+plain; 1 => /k true Some(0) Some([107]) v Some([5, 0, 0, 0, 0, 105]) None
+locked; 1 => / true None Some([47]) L Some([2, 0, 0, 0]) None
+locked; 2 => /k true Some(1) Some([107]) v Some([5, 0, 0, 0, 0, 105]) None
+locked; 3 => none false None
+locked; 4294967295 => none false None
+buckets; 1 => /k true Some(0) Some([107]) v Some([5, 0, 0, 0, 0, 105]) None
+-- each is the other's parent
+plain 40=1 41=0 42=0 43=0; 0 => none false Some(1) Some([47]) L Some([1, 0, 0, 0]) None
+plain 40=1 41=0 42=0 43=0; 1 => none false Some(0) Some([107]) v Some([5, 0, 0, 0, 0, 105]) None
+-- a key and a pointer that end past the file
+plain 68=102 76=97; 1 => none false Some(0) None v None None
+";
+
+/// Whether the item `.locks` is a table of one lock, `/k`, which has no text. A table of half an item is none.
+fn has_its_lock(file: &[u8], half: &[u8]) -> Result<bool, Fail> {
+    let (table, half) = (Table::open(file)?, Table::open(half)?);
+    Ok(match (table.table(".locks"), table.table_at(0)) {
+        (Some(locks), Some(at)) => {
+            locks.n_items() == 1
+                && locks.has("/k")
+                && !locks.has("/j")
+                && at.find("/k").and_then(View::as_str) == Some("")
+                && !locks.has_directory_value()
+                && half.table_at(0).is_none()
+        }
+        _ => false,
+    })
+}
+
+/// Whether bytes are hashed as signed numbers, in one call and byte by byte.
+fn are_hashed() -> bool {
+    hash(b"") == 5381
+        && hash(b"/") == 177_620
+        && hash(b"/k") == 5_861_567
+        && hash("\u{e9}".as_bytes()) == 5_857_809
+        && hash_with(hash_with(hash(&[]), b'/'), b'k') == hash(b"/k")
+}
+
+#[test]
+fn tables_are_searched_and_items_have_names(rt: HostRuntime) -> Result<(), Fail> {
+    let alloc = rt.alloc();
+    hold(alloc, Question::Searched, SEARCHES)?;
+    hold(alloc, Question::Item, ITEMS)?;
+    let half = file_of(alloc, "locked 56=155")?;
+    assert!(rt; has_its_lock(sample("locked"), &half)? && are_hashed());
+    Ok(())
+}
