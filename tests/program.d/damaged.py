@@ -1,6 +1,6 @@
 """Damaged copies of two databases, one that the real dconf made and one of the program's: what `check` says of each is compared with the slow check;
-of each fourth, what `repair` makes of it with the slow salvage; and of those that are sound, what is found of some names with the slow search. Each
-copy has one or two other bytes, half of them in its root table."""
+of each fourth, what `repair` makes of it with the slow salvage, and, if it is sound, what is found of some names with the slow search. Each copy has
+one or two other bytes, half of them in its root table."""
 import collections
 import os
 import random
@@ -11,7 +11,7 @@ import gvdb
 import scripts
 
 COPIES = 2000
-REPAIRED = 4  # one of so many
+REPAIRED = 4  # one of so many is repaired, and searched
 
 # The rules that the copies of a file break, and how often at least. The real dconf's has no bloom words for S6; for S7 a copy would need another
 # hash, another key and another bucket at once.
@@ -58,8 +58,8 @@ def kept(store, name, made):
 
 
 def found_otherwise(store, name, made):
-    """The first of three names of which the program finds something else in a sound file than the slow search, or None. Its locks count, since it is the
-    second database of a profile."""
+    """The first name of which the program finds something else in a sound file than the slow search, or None. The file is second in a profile,
+    so that its locks count."""
     table, rand = gvdb.Table.opened(made), random.Random(name)
     store.put(f'{name}.profile', f'user-db:none\nfile-db:{name}\n'.encode())
     names = {table.full_name(item) for item in table.items} - {b'.locks'}
@@ -77,8 +77,8 @@ def faults_of_copy(store, name, number, made):
     """What the slow check says of a copy, and what is wrong."""
     slow, found = gvdb.verdict(made), said(store, name, made)
     faults = [] if found == slow else [f'{name}: {found}, and the slow check says {slow}']
-    faults += [kept(store, name, made)] if number % REPAIRED == 0 else []
-    faults += [found_otherwise(store, name, made)] if slow == 'sound' else []
+    if number % REPAIRED == 0:
+        faults += [kept(store, name, made), found_otherwise(store, name, made) if slow == 'sound' else None]
     return slow, list(filter(None, faults))
 
 

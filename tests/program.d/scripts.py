@@ -1,4 +1,4 @@
-"""The scripts and tables of this folder: how they are read, and how the program is asked what they have. Their form is in the head of tests/program."""
+"""The scripts and tables of this folder: how they are read, and how the program is asked what they have. The head of tests/program has their form."""
 import os
 import re
 import subprocess
@@ -324,8 +324,8 @@ def cut(path):
 def tried(folder, program, path, number, head, lines):
     """How many rows a script or a table has, and what is wrong."""
     store = Store(folder / f'{path.name}-{number}', program)
-    kind = head.partition(': ')[0]
-    rows, faults = table(store, Lines(lines), kind) if kind in ('show', *ASKED) else script(store, Lines(lines))
+    kind, is_table, _ = head.partition(': ')
+    rows, faults = table(store, Lines(lines), kind) if is_table and kind in ('show', *ASKED) else script(store, Lines(lines))
     return rows, [f'{path.name}:{fault}' for fault in faults]
 
 
