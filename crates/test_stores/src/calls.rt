@@ -138,10 +138,11 @@ fn is_five_after(alloc: Global, turns: &[Turn<'_>]) -> bool {
     }
 }
 
-/// Whether changes are refused by the first that is at fault.
+/// Whether changes are made, and refused by the first that is at fault.
 fn are_refused(alloc: Global, layers: &[Layer<'_>]) -> bool {
     let set = change(b"/a/j", true);
-    refusal(alloc, layers, &[set, change(b"/k", false)]) == (16, 1)
+    refusal(alloc, layers, &[set]) == (0, 0)
+        && refusal(alloc, layers, &[set, change(b"/k", false)]) == (16, 1)
         && refusal(alloc, layers, &[set, set, change(b"/a/", true)]) == (13, 2)
 }
 
@@ -162,22 +163,28 @@ fn are_made(alloc: Global) -> bool {
         && !is_five_after(alloc, &[sets, below])
 }
 
+/// What is not as it should be.
+fn first_wrong(alloc: Global, user: Layer<'_>, site: Layer<'_>) -> &'static str {
+    let layers = [user, site];
+    if !are_read(user, site) || !are_locked(user, site) {
+        return "values or locks";
+    }
+    if !are_listed(alloc, &layers) || !is_handed_out() {
+        return "lists";
+    }
+    if !are_profiles(alloc) || !are_faults() {
+        return "profiles or faults";
+    }
+    if !are_refused(alloc, &layers) || !are_made(alloc) {
+        return "changes";
+    }
+    "nothing"
+}
+
 #[test]
 fn each_call_answers_and_refuses(rt: HostRuntime) -> Result<(), Fail> {
-    let alloc = rt.alloc();
     let (user, site) = (layer(sample("plain"))?, layer(sample("locked"))?);
-    let rows = [
-        ("values", are_read(user, site)),
-        ("locks", are_locked(user, site)),
-        ("lists", are_listed(alloc, &[user, site])),
-        ("a room", is_handed_out()),
-        ("profiles", are_profiles(alloc)),
-        ("faults", are_faults()),
-        ("refusals", are_refused(alloc, &[user, site])),
-        ("changes", are_made(alloc)),
-    ];
-    for (name, holds) in rows {
-        assert!(rt; holds, "{name}");
-    }
+    let wrong = first_wrong(rt.alloc(), user, site);
+    assert!(rt; wrong == "nothing", "{wrong}");
     Ok(())
 }

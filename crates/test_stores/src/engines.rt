@@ -1,109 +1,110 @@
-//! Each call of an engine and of layers, where there is memory enough: over a user's database of one key, and a site's that locks it.
+//! Each call of an engine and of layers, where there is memory enough: over a user's database of one key, and a site's that locks it. What
+//! is seen through layers is in tests/program.d.
 use crate::samples::sample;
-use dconf_engine::{Engine, Layer, LentLayers};
+use dconf_engine::{ChangeFault, Engine, Layer, LentLayers};
 use dconf_path::{DirPath, KeyPath, Profile, read_profile};
 use gv_tree::{Basic, Tree};
 use gv_view::View;
+use gvdb_write::WriteFault;
 use std::alloc::{AllocError, Global};
-use std::fmt::Write;
 use std::test::Fail;
 
-/// The engine of a profile and a user's file.
-fn opened<'a>(alloc: Global, profile: &Profile<'_>, user: &'a [u8]) -> Result<Engine<'a>, Fail> {
-    let files = [Some(user), Some(sample("locked"))];
+/// The engine of a profile.
+fn opened(alloc: Global, profile: &Profile<'_>) -> Result<Engine<'static>, Fail> {
+    let files = [Some(sample("plain")), Some(sample("locked"))];
     if profile.databases().len() != files.len() {
         return Err(Fail::new("a profile has as many files as databases"));
     }
     Ok(Engine::open(alloc, profile, &files)?)
 }
 
-/// Sets a key by rows.
-fn load(alloc: Global, engine: &mut Engine<'_>, path: KeyPath<'_>) -> Result<(), Fail> {
-    let rows = [(path, Tree::basic(alloc, Basic::Int32(7))?)];
-    engine.load(&rows, false)?;
-    Ok(())
+/// Whether a path has this value, of the database of this number, which locks it if it isn't the user's.
+fn is_seen(
+    engine: &Engine<'_>,
+    path: KeyPath<'_>,
+    value: Option<i32>,
+    origin: Option<usize>,
+) -> bool {
+    engine.read(path).and_then(View::as_i32) == value
+        && engine.origin(path) == origin
+        && engine.is_locked(path) == (origin == Some(1))
 }
 
-/// Sets and resets keys of the user's.
-fn change(engine: &mut Engine<'_>, seven: &Tree) -> Result<(), Fail> {
-    for path in ["/a/j", "/b/j", "/d"] {
-        engine.write(KeyPath::parse(path)?, seven)?;
-    }
-    engine.reset_dir(DirPath::parse("/b/")?)?;
-    engine.reset(KeyPath::parse("/d")?)?;
-    Ok(())
+/// Sets and resets the key of a row, and sets it at last. Whether that is seen each time.
+fn is_changed(
+    engine: &mut Engine<'_>,
+    rows: &[(KeyPath<'_>, Tree)],
+    directory: DirPath<'_>,
+) -> Result<bool, ChangeFault> {
+    let [(path, value)] = rows else {
+        return Ok(false);
+    };
+    engine.write(*path, value)?;
+    let is_set = is_seen(engine, *path, Some(7), Some(0));
+    engine.reset(*path)?;
+    let is_reset = is_seen(engine, *path, None, None);
+    engine.load(rows, false)?;
+    engine.reset_dir(directory)?;
+    let is_reset_below = is_seen(engine, *path, None, None);
+    engine.load(rows, false)?;
+    Ok(is_set && is_reset && is_reset_below && is_seen(engine, *path, Some(7), Some(0)))
 }
 
-/// Each name with a blank before it.
-pub(crate) fn show_names(names: &[String], found: &mut String) -> Result<(), AllocError> {
-    for name in names {
-        write!(found, " {name}")?;
-    }
-    Ok(())
+/// Whether the site's key is seen and locked, and the user may write.
+fn is_open(engine: &Engine<'_>, path: KeyPath<'_>) -> bool {
+    engine.is_writable()
+        && is_seen(engine, path, Some(5), Some(1))
+        && engine.read_default(path).and_then(View::as_i32) == Some(5)
 }
 
-/// What is seen at a path: its value, its value without the user's, and the number of its database.
-fn show_setting(engine: &Engine<'_>, path: &str, found: &mut String) -> Result<(), Fail> {
-    let path = KeyPath::parse(path)?;
-    let value = engine.read(path).and_then(View::as_i32);
-    let default = engine.read_default(path).and_then(View::as_i32);
-    let (origin, locked) = (engine.origin(path), engine.is_locked(path));
-    write!(found, " {value:?} {default:?} {origin:?} {locked};")?;
-    Ok(())
+/// Whether the root has a directory, and a key that is locked.
+fn is_listed(alloc: Global, engine: &Engine<'_>, root: DirPath<'_>) -> Result<bool, AllocError> {
+    let names = engine.list(alloc, root)?;
+    let locks = engine.locks(alloc, root)?;
+    Ok(match (names.as_slice(), locks.as_slice()) {
+        ([first, last], [lock]) => {
+            first.as_str() == "a/" && last.as_str() == "k" && lock.as_str() == "/k"
+        }
+        _ => false,
+    })
 }
 
-/// What is seen of keys and of directories.
-fn show_all(alloc: Global, engine: &Engine<'_>, found: &mut String) -> Result<(), Fail> {
-    for path in ["/a/j", "/b/j", "/c", "/d", "/k"] {
-        show_setting(engine, path, found)?;
-    }
-    let root = DirPath::parse("/")?;
-    show_names(&engine.list(alloc, root)?, found)?;
-    show_names(&engine.locks(alloc, root)?, found)?;
-    write!(found, " {}\n", engine.is_writable())?;
-    Ok(())
-}
-
-/// The user's file after changes. Both calls that save it give the same.
-fn saved(alloc: Global, profile: &Profile<'_>, found: &mut String) -> Result<Vec<u8>, Fail> {
-    let mut engine = opened(alloc, profile, sample("plain"))?;
-    change(&mut engine, &Tree::basic(alloc, Basic::Int32(7))?)?;
-    load(alloc, &mut engine, KeyPath::parse("/c")?)?;
-    show_all(alloc, &engine, found)?;
+/// Whether both calls that save it give the same file, of two keys.
+fn is_saved(engine: Engine<'_>) -> Result<bool, WriteFault> {
     let file = engine.save()?;
-    if engine.into_saved()?.as_slice() != file.as_slice() {
-        found.push_str("another file")?;
-    }
-    Ok(file)
+    let again = engine.into_saved()?;
+    Ok(again.as_slice() == file.as_slice() && file.len() == 182)
 }
 
-const SEEN: &str =
-    " Some(7) None Some(0) false; None None None false; Some(7) None Some(0) false; None None None false; Some(5) Some(5) Some(1) true; a/ c k /k true
- Some(7) None Some(0) false; None None None false; Some(7) None Some(0) false; None None None false; Some(5) Some(5) Some(1) true; a/ c k /k true
-";
+/// Whether an engine is changed, seen and saved.
+fn is_right(alloc: Global, mut engine: Engine<'_>) -> Result<bool, Fail> {
+    let rows = [(
+        KeyPath::parse("/a/j")?,
+        Tree::basic(alloc, Basic::Int32(7))?,
+    )];
+    let is_changed = is_changed(&mut engine, &rows, DirPath::parse("/a/")?)?;
+    let is_open = is_open(&engine, KeyPath::parse("/k")?);
+    let is_listed = is_listed(alloc, &engine, DirPath::parse("/")?)?;
+    Ok(is_changed && is_open && is_listed && is_saved(engine)?)
+}
 
-/// How many keys differ between these layers and none, and between two that are alike.
-fn counts(
+/// Whether one key differs between these layers and none, and none between two that are alike.
+fn are_told_apart(
     alloc: Global,
-    some: &[Layer<'_>],
-    none: &[Layer<'_>],
-) -> Result<(usize, usize), AllocError> {
-    let some = LentLayers::new(true, some);
-    let apart = some.differing(alloc, LentLayers::new(true, none), 1)?.len();
-    Ok((apart, some.differing(alloc, some, 1)?.len()))
+    some: LentLayers<'_, '_>,
+    none: LentLayers<'_, '_>,
+) -> Result<bool, AllocError> {
+    let apart = some.differing(alloc, none, 1)?.len();
+    Ok(apart == 1 && some.differing(alloc, some, 1)?.is_empty())
 }
 
 #[test]
-fn an_engine_is_changed_saved_and_seen_again(rt: HostRuntime) -> Result<(), Fail> {
-    let (alloc, some) = (rt.alloc(), [Layer::open(Some(sample("plain")))?]);
-    let differ = counts(alloc, &some, &[Layer::open(None)?])?;
-    let profile = read_profile(alloc, "user-db:me\nsystem-db:site")?;
-    let mut found = String::new(alloc);
-    let file = saved(alloc, &profile, &mut found)?;
-    show_all(alloc, &opened(alloc, &profile, &file)?, &mut found)?;
-    assert!(rt;
-        found.as_str() == SEEN && differ == (1, 0),
-        "{found} {differ:?}"
-    );
+fn an_engine_is_changed_seen_and_saved(rt: HostRuntime) -> Result<(), Fail> {
+    let alloc = rt.alloc();
+    let (some, none) = ([Layer::open(Some(sample("plain")))?], [Layer::open(None)?]);
+    let (some, none) = (LentLayers::new(true, &some), LentLayers::new(true, &none));
+    assert!(rt; are_told_apart(alloc, some, none)?);
+    let engine = opened(alloc, &read_profile(alloc, "user-db:me\nsystem-db:site")?)?;
+    assert!(rt; is_right(alloc, engine)?);
     Ok(())
 }

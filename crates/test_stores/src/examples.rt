@@ -75,16 +75,22 @@ fn of_dconf_disk(alloc: Global) -> Result<bool, Fail> {
     Ok(bytes.is_some_and(|it| it.as_slice() == b"new".as_slice()))
 }
 
+/// Whether those of the calls over two databases are so.
+fn of_databases(alloc: Global, written: &[u8], compiled: &[u8]) -> Result<bool, Fail> {
+    Ok(
+        of_gvdb_read(written)?
+            && of_gvdb_read(compiled)?
+            && of_dconf_engine(alloc, compiled)?
+            && of_dconf_store(alloc, written, compiled)?
+            && of_dconfdb_calls(written, compiled) == Some(true),
+    )
+}
+
 #[test]
 fn each_example_is_so(rt: HostRuntime) -> Result<(), Fail> {
     let alloc = rt.alloc();
+    let others = of_dconf_path()? && of_keyfile_core(alloc)? && of_dconf_disk(alloc)?;
     let (written, compiled) = (of_gvdb_write(alloc)?, of_dconf_compile(alloc)?);
-    let files = of_gvdb_read(&written)? && of_gvdb_read(&compiled)?;
-    let stores = of_dconf_engine(alloc, &compiled)? && of_dconf_store(alloc, &written, &compiled)?;
-    let calls = of_dconfdb_calls(&written, &compiled);
-    assert!(rt; calls == Some(true), "the calls for C");
-    assert!(rt;
-        files && stores && of_dconf_path()? && of_keyfile_core(alloc)? && of_dconf_disk(alloc)?
-    );
+    assert!(rt; others && of_databases(alloc, &written, &compiled)?);
     Ok(())
 }

@@ -1,88 +1,96 @@
-//! Stores that are changed, saved and opened again, by dconf_store's calls: over a user's database of one key, and a site's that locks it.
-use crate::engines::show_names;
+//! Each call of dconf_store: over a user's database of one key, and a site's that locks it.
 use crate::samples::sample;
 use dconf_path::{DirPath, KeyPath, Profile, read_profile};
-use dconf_store::{Change, StoreFault, children_after, user_file_after, value_after};
+use dconf_store::{Change, children_after, user_file_after, value_after};
 use gv_tree::{Basic, Tree};
+use gv_view::View;
 use gvdb_read::Table;
 use std::alloc::{AllocError, Global};
 use std::fmt::Write;
 use std::test::Fail;
 
-/// Whether a value is seen, or the fault.
-fn show_value(
-    answer: Result<Option<Tree>, StoreFault>,
-    found: &mut String,
-) -> Result<(), AllocError> {
-    match answer {
-        Ok(value) => write!(found, " {}", value.is_some()),
-        Err(fault) => write!(found, " {fault}"),
-    }
-}
-
-/// What a directory has, or the fault.
-fn show_children(
-    answer: Result<Vec<String>, StoreFault>,
-    found: &mut String,
-) -> Result<(), AllocError> {
-    match answer {
-        Ok(names) => show_names(&names, found),
-        Err(fault) => write!(found, " {fault}"),
-    }
-}
-
-/// Whether a file is sound, or the fault.
-fn show_saved(answer: Result<Vec<u8>, StoreFault>, found: &mut String) -> Result<(), Fail> {
-    match answer {
-        Ok(file) => write!(found, " {:?}", Table::open(&file)?.check())?,
-        Err(fault) => write!(found, " {fault}")?,
-    }
-    Ok(())
-}
-
-/// What is seen after changes: the file, the root, and a key.
-fn show_after(
+/// A store: its profile, and the bytes of its files.
+#[derive(Clone, Copy)]
+struct Store<'s> {
     alloc: Global,
-    profile: &Profile<'_>,
+    profile: &'s Profile<'s>,
+    files: &'s [Option<&'s [u8]>],
+}
+
+/// Whether the root has a directory and a key after changes.
+fn is_listed(store: Store<'_>, changes: &[Change<'_>], root: DirPath<'_>) -> bool {
+    if store.files.len() != store.profile.databases().len() {
+        return false;
+    }
+    match children_after(store.alloc, store.profile, store.files, changes, root) {
+        Ok(names) => match names.as_slice() {
+            [first, last] => first.as_str() == "a/" && last.as_str() == "k",
+            _ => false,
+        },
+        Err(_) => false,
+    }
+}
+
+/// Whether a file is sound, and has 7 at `/a/j`.
+fn has_seven(file: &[u8]) -> bool {
+    match Table::open(file) {
+        Ok(table) => {
+            table.check().is_ok() && table.find("/a/j").and_then(View::as_i32) == Some(7)
+        }
+        Err(_) => false,
+    }
+}
+
+/// Whether the user's file is sound, and has 7 at `/a/j` after changes.
+fn is_saved(store: Store<'_>, changes: &[Change<'_>]) -> bool {
+    if store.files.len() != store.profile.databases().len() {
+        return false;
+    }
+    match user_file_after(store.alloc, store.profile, store.files, changes) {
+        Ok(file) => has_seven(&file),
+        Err(_) => false,
+    }
+}
+
+/// Why no value is told at a path after changes.
+fn show_refusal(
+    store: Store<'_>,
     changes: &[Change<'_>],
+    path: KeyPath<'_>,
     found: &mut String,
-) -> Result<(), Fail> {
-    let files = [Some(sample("plain")), Some(sample("locked"))];
-    if files.len() != profile.databases().len() {
-        return Err(Fail::new("a profile has as many files as databases"));
+) -> Result<(), AllocError> {
+    if store.files.len() != store.profile.databases().len() {
+        return Ok(());
     }
-    show_saved(user_file_after(alloc, profile, &files, changes), found)?;
-    let (root, path) = (DirPath::parse("/")?, KeyPath::parse("/a/j")?);
-    show_children(children_after(alloc, profile, &files, changes, root), found)?;
-    show_value(value_after(alloc, profile, &files, changes, path), found)?;
-    Ok(())
+    match value_after(store.alloc, store.profile, store.files, changes, path) {
+        Ok(_) => found.push_str("none; "),
+        Err(fault) => write!(found, "{fault}"),
+    }
 }
 
-/// What is seen after changes of every kind, and after some of which the second is refused.
-fn show_both(
-    alloc: Global,
-    profile: &Profile<'_>,
-    seven: &Tree,
-    found: &mut String,
-) -> Result<(), Fail> {
+/// Whether a store has what changes leave, and refuses others.
+fn is_right(store: Store<'_>, seven: &Tree, found: &mut String) -> Result<bool, Fail> {
     let (path, locked) = (KeyPath::parse("/a/j")?, KeyPath::parse("/k")?);
-    let below = Change::ResetBelow(DirPath::parse("/a/")?);
+    let (below, root) = (DirPath::parse("/a/")?, DirPath::parse("/")?);
     let set = Change::Set(path, seven);
-    show_after(alloc, profile, &[set, below, set], found)?;
-    show_after(alloc, profile, &[set, Change::Reset(path)], found)?;
-    show_after(alloc, profile, &[set, Change::Reset(locked)], found)
+    let changes = [set, Change::ResetBelow(below), set];
+    show_refusal(store, &[set, Change::Reset(path)], path, found)?;
+    show_refusal(store, &[set, Change::Reset(locked)], path, found)?;
+    Ok(is_listed(store, &changes, root) && is_saved(store, &changes))
 }
-
-const SEEN: &str =
-    " Ok(()) a/ k true Ok(()) k false Refused 1: Locked Refused 1: Locked Refused 1: Locked";
 
 #[test]
 fn a_store_is_seen_again_after_its_changes(rt: HostRuntime) -> Result<(), Fail> {
     let alloc = rt.alloc();
     let profile = read_profile(alloc, "user-db:me\nsystem-db:site")?;
-    let mut found = String::new(alloc);
+    let store = Store {
+        alloc,
+        profile: &profile,
+        files: &[Some(sample("plain")), Some(sample("locked"))],
+    };
     let seven = Tree::basic(alloc, Basic::Int32(7))?;
-    show_both(alloc, &profile, &seven, &mut found)?;
-    assert!(rt; found.as_str() == SEEN, "{found}");
+    let mut found = String::new(alloc);
+    assert!(rt; is_right(store, &seven, &mut found)?);
+    assert!(rt; found.as_str() == "none; Refused 1: Locked", "{found}");
     Ok(())
 }

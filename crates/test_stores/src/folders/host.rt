@@ -65,39 +65,32 @@ fn remove_all(rt: HostRuntime) -> Result<(), Fail> {
     Ok(())
 }
 
+/// Whether each file's folder has its name.
+fn are_named() -> bool {
+    folder_of("me.user") == "."
+        && folder_of("./me.user") == "."
+        && folder_of("a/me.user") == "a"
+        && folder_of("a/b/me.user") == "a/b"
+        && folder_of("/me.user") == "/"
+}
+
+/// Whether a folder is locked by any name, and given up then; others can't be locked.
+fn are_locked(rt: HostRuntime) -> bool {
+    FolderLock::take(&rt, ".").is_ok()
+        && FolderLock::take(&rt, "./.").is_ok()
+        && FolderLock::take(&rt, ".").is_ok()
+        && FolderLock::take(&rt, "store_tests_none").is_err()
+        && FolderLock::take(&rt, "/proc/self/comm/x").is_err()
+}
+
 #[test]
-fn files_of_the_host_are_made_renamed_and_replaced(rt: HostRuntime) -> Result<(), Fail> {
+fn files_of_the_host_are_made_renamed_replaced_and_locked(rt: HostRuntime) -> Result<(), Fail> {
     let alloc = rt.alloc();
     fs::create_dir(&rt, "store_tests_folder")?;
     calls(alloc, &mut StdFolder::new(rt), FILES)?;
     fs::hard_link(&rt, "store_tests_linked", "store_tests_linked.new")?;
     calls(alloc, &mut StdFolder::new(rt), NO_FILES)?;
     calls(alloc, &mut StdFolder::read_only(rt), READ_ONLY)?;
+    assert!(rt; are_named() && are_locked(rt));
     remove_all(rt)
-}
-
-#[test]
-fn a_folder_is_locked_by_any_name_and_given_up(rt: HostRuntime) {
-    let rows = [
-        ("me.user", "."),
-        ("./me.user", "."),
-        ("a/me.user", "a"),
-        ("a/b/me.user", "a/b"),
-        ("/me.user", "/"),
-    ];
-    for (name, wanted) in rows {
-        let folder = folder_of(name);
-        assert!(rt; folder == wanted, "{name}: {folder}");
-    }
-    let folders = [
-        (".", true),
-        ("./.", true),
-        (".", true),
-        ("store_tests_none", false),
-        ("/proc/self/comm/x", false),
-    ];
-    for (folder, wanted) in folders {
-        let locked = FolderLock::take(&rt, rt.alloc(), folder).is_ok();
-        assert!(rt; locked == wanted, "{folder}: {locked}");
-    }
 }

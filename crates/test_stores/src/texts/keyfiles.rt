@@ -57,7 +57,7 @@ fn only_row(
     }
 }
 
-/// Whether a row has its value below a directory, and the line of another is named, whose value is none.
+/// Whether a row has this value below a directory, and the line of another is named, whose value is none.
 fn is_read(alloc: Global, directory: DirPath<'_>, value: &Tree) -> bool {
     let found = match only_row(alloc, directory, b"[b]\nk=[1, 2]\n", value) {
         Ok(path) => path.as_str() == "/a/b/k",
@@ -67,17 +67,22 @@ fn is_read(alloc: Global, directory: DirPath<'_>, value: &Tree) -> bool {
         Ok(_) => false,
         Err(stop) => stop.line == 3 && stop.cause != CompileCause::Memory,
     };
-    found && stopped
+    found && stopped && value.type_text().as_str() == "ai"
+}
+
+/// Whether rows are read that have a text's value.
+fn are_read(alloc: Global, directory: DirPath<'_>) -> bool {
+    match value_of_text(alloc, "[1, 2]") {
+        Ok(value) => is_read(alloc, directory, &value),
+        Err(_) => false,
+    }
 }
 
 #[test]
 fn rows_are_written_and_read_below_a_directory(rt: HostRuntime) -> Result<(), Fail> {
-    let alloc = rt.alloc();
-    let directory = DirPath::parse("/a/")?;
-    assert!(rt; written(alloc, directory)?.as_str() == "[/]\nx='hi'\n\n[b]\nk=uint32 5\n");
-    let Ok(value) = value_of_text(alloc, "[1, 2]") else {
-        return Err(Fail::from("the text has a value"));
-    };
-    assert!(rt; value.type_text().as_str() == "ai" && is_read(alloc, directory, &value));
+    let (alloc, directory) = (rt.alloc(), DirPath::parse("/a/")?);
+    assert!(rt; are_read(alloc, directory));
+    let text = written(alloc, directory)?;
+    assert!(rt; text.as_str() == "[/]\nx='hi'\n\n[b]\nk=uint32 5\n");
     Ok(())
 }

@@ -36,6 +36,19 @@ fn are_its_databases(databases: &[Database<'_>]) -> bool {
     }
 }
 
+/// Whether the texts of a lock file and of a profile are read.
+fn are_read(alloc: Global) -> bool {
+    let locks = match read_locks(alloc, "/a/k\n# c\n/a/\n") {
+        Ok(locks) => are_its_locks(&locks),
+        Err(_) => false,
+    };
+    let databases = match read_profile(alloc, "user-db:me\nsystem-db:site\nfile-db:/a/b#c\n") {
+        Ok(profile) => are_its_databases(profile.databases()),
+        Err(_) => false,
+    };
+    locks && databases && settings_text("é".as_bytes()) == Ok("é")
+}
+
 /// Whether a profile and a text are refused by their second lines.
 fn are_refused(alloc: Global) -> bool {
     let profile = match read_profile(alloc, "system-db:a\nuser-db:b") {
@@ -59,15 +72,12 @@ fn show_faults(names: &mut String) -> Result<(), AllocError> {
 #[test]
 fn texts_locks_and_profiles_are_read(rt: HostRuntime) -> Result<(), Fail> {
     let alloc = rt.alloc();
+    assert!(rt; are_read(alloc) && are_refused(alloc));
     let mut names = String::new(alloc);
     show_faults(&mut names)?;
     assert!(rt;
         names.as_str() == "HasNul Memory Memory Memory TooBig Memory",
         "{names}"
     );
-    let locks = are_its_locks(&read_locks(alloc, settings_text(b"/a/k\n# c\n/a/\n")?)?);
-    let profile = read_profile(alloc, "user-db:me\nsystem-db:site\nfile-db:/a/b#c\n")?;
-    let databases = are_its_databases(profile.databases());
-    assert!(rt; locks && databases && are_refused(alloc));
     Ok(())
 }
