@@ -9,6 +9,7 @@ import gvdb
 from frame import Stop
 
 HERE = Path(__file__).resolve().parent
+CONTROL = {0x2400 + byte: byte for byte in range(1, 32)}
 KINDS = ('-- ', ': ', 'db ', 'mode ', '$ ', '! ', '~ ', '> ', '? ', '= ')
 TOO_DEEP = '<' * 127 + '1' + '>' * 127
 SECONDS = 120
@@ -244,16 +245,38 @@ ASKED = {'check': ['check', 'f'], 'profile': ['origin', '-p', 'f', '/k'], 'keyfi
          'locks': ['compile', '--locks', 'f', 'site.db', 'none'], 'repair': ['repair', 'f', 'out']}
 
 
-def row_of_show(store, line):
-    bytes_and_type, wanted = line.split(' | ')
-    asked_type, _, words = bytes_and_type.partition(' ')
-    store.put('f', bytes_of(words))
-    is_left(store.run(['show', asked_type, 'f']), wanted)
-
-
 def is_left(found, wanted):
     text = text_of([wanted.removeprefix('! ')] if wanted else [])
     is_so('it leaves', found, (1, b'', text) if wanted.startswith('! ') else (0, text, b''))
+
+
+def stored(store, text):
+    """The bytes that `write` stores for a text: those of its value, a zero byte and its type."""
+    is_so(f'write of {text[:100]} leaves', store.run(['write', '--', '/k', text]), (0, b'', b''))
+    return gvdb.Table.opened((store.folder / 'me.user').read_bytes()).value(b'/k')
+
+
+def row_of_text(store, line):
+    text, wanted = line.translate(CONTROL).rsplit(' | ', 1)
+    store.put('profile', b'user-db:me\n')
+    if wanted.startswith('! '):
+        return is_left(store.run(['write', '--', '/k', text]), wanted)
+    value = stored(store, text)
+    status, out, err = store.run(['read', '/k'])
+    printed = out.decode()[:-1]
+    is_so('it reads', (status, value.rpartition(b'\0')[2].decode() + ' ' + printed, err), (0, wanted, b''))
+    return is_so('the bytes of what it reads', stored(store, printed), value)
+
+
+def row_shown(store, line, is_written):
+    bytes_and_type, wanted = line.split(' | ')
+    asked, _, words = bytes_and_type.partition(' ')
+    made = bytes_of(words)
+    store.put('f', made)
+    is_left(store.run(['show', asked, 'f']), wanted)
+    if is_written:
+        store.put('profile', b'user-db:me\n')
+        is_so('the bytes that are stored', stored(store, wanted), made + b'\0' + asked.encode())
 
 
 def locked(store):
@@ -283,6 +306,10 @@ def row_of_table(store, line, kind):
         is_so('it is', locked(store) if kind == 'locks' else kept(store), after)
 
 
+# What tries a row, by the kind of its table.
+ROWS = {'show': lambda store, line: row_shown(store, line, False), 'bytes': lambda store, line: row_shown(store, line, True), 'text': row_of_text}
+
+
 def table(store, lines, kind):
     rows, faults = 0, []
     while lines.more():
@@ -290,7 +317,7 @@ def table(store, lines, kind):
         if line and not line.startswith('-- '):
             rows += 1
             try:
-                row_of_show(store, line) if kind == 'show' else row_of_table(store, line, kind)
+                ROWS[kind](store, line) if kind in ROWS else row_of_table(store, line, kind)
             except FAULTS as why:
                 faults.append(f'{lines.number()}: {line[:100]}: {why}')
     return rows, faults
@@ -325,7 +352,7 @@ def tried(folder, program, path, number, head, lines):
     """How many rows a script or a table has, and what is wrong."""
     store = Store(folder / f'{path.name}-{number}', program)
     kind, is_table, _ = head.partition(': ')
-    rows, faults = table(store, Lines(lines), kind) if is_table and kind in ('show', *ASKED) else script(store, Lines(lines))
+    rows, faults = table(store, Lines(lines), kind) if is_table and kind in (*ROWS, *ASKED) else script(store, Lines(lines))
     return rows, [f'{path.name}:{fault}' for fault in faults]
 
 

@@ -76,11 +76,11 @@ fn are_named() -> bool {
 
 /// Whether a folder is locked by any name, and given up then; others can't be locked.
 fn are_locked(rt: HostRuntime) -> bool {
-    FolderLock::take(&rt, ".").is_ok()
-        && FolderLock::take(&rt, "./.").is_ok()
-        && FolderLock::take(&rt, ".").is_ok()
-        && FolderLock::take(&rt, "store_tests_none").is_err()
-        && FolderLock::take(&rt, "/proc/self/comm/x").is_err()
+    FolderLock::take(&rt, rt.alloc(), ".").is_ok()
+        && FolderLock::take(&rt, rt.alloc(), "./.").is_ok()
+        && FolderLock::take(&rt, rt.alloc(), ".").is_ok()
+        && FolderLock::take(&rt, rt.alloc(), "store_tests_none").is_err()
+        && FolderLock::take(&rt, rt.alloc(), "/proc/self/comm/x").is_err()
 }
 
 #[test]
