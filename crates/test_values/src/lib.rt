@@ -1,38 +1,26 @@
-//! Tests of types, of how values are laid out, of views and trees, and of texts and values. There
-//! is no other code here.
+//! Tests of types, of how values are laid out, of views and trees, and of texts and values: each public call, and what no run of the program
+//! shows. All else is in tests/program.d. There is no other code here.
 #![tactic(auto)]
 
 #[cfg(test)]
-mod bytes;
-#[cfg(test)]
-mod debug;
-#[cfg(test)]
 mod examples;
 #[cfg(test)]
+mod forms;
+#[cfg(test)]
+mod generated;
+#[cfg(test)]
 mod layout;
-#[cfg(test)]
-mod long;
-#[cfg(test)]
-mod normal;
 #[cfg(test)]
 mod printing;
 #[cfg(test)]
 mod samples;
 #[cfg(test)]
-mod syntax;
-#[cfg(test)]
 mod table;
 #[cfg(test)]
-mod tokens;
+mod texts;
 #[cfg(test)]
 mod trees;
 #[cfg(test)]
 mod types;
-#[cfg(test)]
-mod typing;
-#[cfg(test)]
-mod values;
-#[cfg(test)]
-mod view_table;
 #[cfg(test)]
 mod views;

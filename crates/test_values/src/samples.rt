@@ -38,7 +38,7 @@ fn push_piece(alloc: Global, to: &mut String, piece: &str) -> Result<(), Fail> {
     Ok(to.push_str(part.repeat(alloc, times)?.as_str())?)
 }
 
-/// The bytes of words: each is a text in quotes, or a byte's two hexadecimal digits.
+/// The bytes of words: each is a text in quotes, a byte's two hexadecimal digits, or `#` for a byte with the number of bytes so far.
 pub(crate) fn bytes_of(alloc: Global, words: &str) -> Result<Vec<u8>, Fail> {
     let mut bytes = Vec::new(alloc);
     for word in words.split_whitespace() {
@@ -50,6 +50,7 @@ pub(crate) fn bytes_of(alloc: Global, words: &str) -> Result<Vec<u8>, Fail> {
 fn push_word(to: &mut Vec<u8>, word: &str) -> Result<(), Fail> {
     match word.strip_prefix('\'') {
         Some(text) => Ok(to.extend_from_slice(text.trim_end_matches('\'').as_bytes())?),
+        None if word == "#" => Ok(to.push((to.len() % 256) as u8)?),
         None => Ok(to.push(u8::from_str_radix(word, 16)?)?),
     }
 }

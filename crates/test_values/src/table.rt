@@ -1,92 +1,93 @@
 //! Tables of texts: a line has a text, a bar, and what comes of the text. In the text and in what
 //! comes of it `~3×ab~` stands for `ababab`.
-use crate::samples::spelt_out;
-use crate::view_table::AskedOfView;
-use crate::{debug, layout, long, printing, syntax, tokens, trees, types, typing, values, views};
+use crate::samples::{bytes_of, spelt_out, view};
+use crate::{forms, layout, printing, texts, trees, types, views};
+use gv_view::View;
 use std::alloc::Global;
 use std::test::Fail;
 
-/// What a table asks of its texts.
+/// What a table asks of its texts. The text of a view is its type, and then the words of its bytes.
 #[derive(Clone, Copy)]
 pub(crate) enum Asked {
-    /// The tokens and where they are.
-    Tokens,
-    /// What the syntax is, and what its parts are.
-    Syntax,
-    /// The type.
+    /// The type at the start of the text.
     Type,
-    /// Of a text, ` at ` and a type: the value at that type.
+    /// The same, of a copy that was read.
+    CopiedType,
+    /// Of a type, ` after ` and a place: the alignment, the size and the place of a value.
+    Layout,
+    /// The tokens and where they are, or why there are none.
+    Tokens,
+    /// The syntax.
+    Syntax,
+    /// Of a text, ` at ` and a type: the text's own type, and its value at that type.
     ValueAt,
-    /// The type, and the value at it.
-    Value,
-    /// Of a text, ` at ` and its type: how many bytes the value has.
-    Size,
-    /// The bytes of the value as a serialised `v`.
-    Stored,
     /// Of a letter, and a value after it: the basic tree.
     Basic,
     /// Of a container's letter, an element's type and the texts of the parts: the tree.
     Container,
+    /// Of a type: how often an empty maybe of it can be doubled.
+    Doublings,
     /// Of two views with ` and ` between them: whether their trees are equal.
     Equal,
-    /// Of a view, ` ?` and a key: the number that the key leads to.
-    Key,
-    /// Whether it stands for itself between two `'`, and between two `"`.
-    Plain,
-    /// Of a type, ` behind ` and a place: the alignment, the size and the place of a value.
-    Layout,
-    /// What the letter's basic type is.
-    Spelling,
-    /// What the container type's parts are.
-    Parts,
-    /// The type at the start, and how many bytes follow it.
-    Prefix,
-    /// Whether it is a type, or what is at fault.
-    Fault,
-    /// Whether it is an object path, and whether it is a signature.
-    Names,
-    /// What the `Debug` of the tokens prints.
-    TokensShown,
-    /// What the `Debug` of the syntax prints, and of its first part's kind.
-    SyntaxShown,
-    /// Of a type and bytes: what the `Debug` of the tree prints, and of its shape.
-    TreeShown,
-    /// What is asked of a view: the first word is its type, and the others are its bytes.
-    View(AskedOfView),
+    /// The tree of a view.
+    Tree,
+    /// What the calls for a view's type read.
+    Read,
+    /// The text before its zero byte, and the text that all its bytes are.
+    Texts,
+    /// Where its children lie.
+    Places,
+    /// The bytes that are written for its value.
+    Form,
+    /// How many steps it takes to tell that the bytes are normal.
+    Steps,
+    /// How many bytes there are, whether they are normal, and how many levels and values they have.
+    Told,
+    /// The printed text, which is a text of its value.
+    Printed,
 }
 
 impl Asked {
-    /// What comes of a text, be it its fault.
-    fn outcome(self, alloc: Global, text: &str) -> Result<String, Fail> {
+    /// Pushes what comes of a text.
+    fn push_outcome(self, alloc: Global, to: &mut String, text: &str) -> Result<(), Fail> {
         match self {
-            Asked::Tokens => tokens::shown(alloc, text),
-            Asked::Syntax => syntax::shown(alloc, text),
-            Asked::Type => typing::shown(alloc, text),
-            Asked::ValueAt => values::shown_at(alloc, text),
-            Asked::Value => values::shown(alloc, text),
-            Asked::Size => long::size(alloc, text),
-            Asked::Stored => long::stored(alloc, text),
-            Asked::Basic => trees::basic(alloc, text),
-            Asked::Container => trees::container(alloc, text),
-            Asked::Equal => trees::compared(alloc, text),
-            Asked::Key => views::keyed(alloc, text),
-            Asked::Plain => printing::plain(alloc, text),
-            Asked::Layout => layout::laid_out(alloc, text),
-            Asked::Spelling => types::spelling(alloc, text),
-            Asked::Parts => types::parts(alloc, text),
-            Asked::Prefix => types::prefix(alloc, text),
-            Asked::Fault => types::fault(alloc, text),
-            Asked::Names => types::names(alloc, text),
-            Asked::TokensShown => debug::tokens_shown(alloc, text),
-            Asked::SyntaxShown => debug::syntax_shown(alloc, text),
-            Asked::TreeShown => debug::tree_shown(alloc, text),
-            Asked::View(asked) => asked.outcome(alloc, text),
+            Asked::Type => types::push_type(to, text),
+            Asked::CopiedType => types::push_copied(alloc, to, text),
+            Asked::Layout => layout::push_layout(to, text),
+            Asked::Tokens => texts::push_tokens(alloc, to, text),
+            Asked::Syntax => texts::push_syntax(alloc, to, text),
+            Asked::ValueAt => texts::push_value_at(alloc, to, text),
+            Asked::Basic => trees::push_basic(alloc, to, text),
+            Asked::Container => trees::push_container(alloc, to, text),
+            Asked::Doublings => trees::push_doublings(alloc, to, text),
+            Asked::Equal => trees::push_compared(alloc, to, text),
+            Asked::Tree => trees::push_read(alloc, to, text),
+            _ => self.push_of_words(alloc, to, text),
+        }
+    }
+
+    fn push_of_words(self, alloc: Global, to: &mut String, text: &str) -> Result<(), Fail> {
+        let (of, words) = text.split_once(' ').unwrap_or((text, ""));
+        let bytes = bytes_of(alloc, words)?;
+        self.push_of_view(alloc, to, view(of, bytes.as_slice())?)
+    }
+
+    fn push_of_view(self, alloc: Global, to: &mut String, view: View<'_>) -> Result<(), Fail> {
+        match self {
+            Asked::Read => views::push_read(to, view),
+            Asked::Texts => views::push_texts(to, view),
+            Asked::Places => layout::push_places(to, view),
+            Asked::Form => forms::push_form(alloc, to, view),
+            Asked::Steps => forms::push_steps(to, view),
+            Asked::Told => forms::push_told(alloc, to, view),
+            _ => printing::push_printed(alloc, to, view),
         }
     }
 
     /// An error says that something else comes of the text.
-    pub(crate) fn gives(self, alloc: Global, text: &str, wanted: &str) -> Result<(), Fail> {
-        let got = self.outcome(alloc, text)?;
+    fn gives(self, alloc: Global, text: &str, wanted: &str) -> Result<(), Fail> {
+        let mut got = String::new(alloc);
+        self.push_outcome(alloc, &mut got, text)?;
         if got.as_str() == wanted {
             Ok(())
         } else {
@@ -109,13 +110,7 @@ impl Asked {
     /// An error says that something else comes of the text of a line. Blanks at a line's start are
     /// dropped.
     pub(crate) fn each_gives(self, alloc: Global, lines: &str) -> Result<(), Fail> {
-        self.each_part_gives(alloc, '\n', lines)
-    }
-
-    /// An error says that something else comes of the text of a line, where each line ends with this character. Blanks at a
-    /// line's start are dropped.
-    pub(crate) fn each_part_gives(self, alloc: Global, end: char, lines: &str) -> Result<(), Fail> {
-        for line in lines.split(end) {
+        for line in lines.split('\n') {
             let line = line.trim_start();
             if !line.is_empty() {
                 self.line_gives(alloc, line)?;
