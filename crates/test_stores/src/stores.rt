@@ -9,20 +9,18 @@ use std::alloc::{AllocError, Global};
 use std::fmt::Write;
 use std::test::Fail;
 
-/// A store: its profile, and the bytes of its files.
-#[derive(Clone, Copy)]
-struct Store<'s> {
-    alloc: Global,
-    profile: &'s Profile<'s>,
-    files: &'s [Option<&'s [u8]>],
-}
-
 /// Whether the root has a directory and a key after changes.
-fn is_listed(store: Store<'_>, changes: &[Change<'_>], root: DirPath<'_>) -> bool {
-    if store.files.len() != store.profile.databases().len() {
+fn is_listed(
+    alloc: Global,
+    profile: &Profile<'_>,
+    changes: &[Change<'_>],
+    root: DirPath<'_>,
+) -> bool {
+    let files = [Some(sample("plain")), Some(sample("locked"))];
+    if files.len() != profile.databases().len() {
         return false;
     }
-    match children_after(store.alloc, store.profile, store.files, changes, root) {
+    match children_after(alloc, profile, &files, changes, root) {
         Ok(names) => match names.as_slice() {
             [first, last] => first.as_str() == "a/" && last.as_str() == "k",
             _ => false,
@@ -42,11 +40,12 @@ fn has_seven(file: &[u8]) -> bool {
 }
 
 /// Whether the user's file is sound, and has 7 at `/a/j` after changes.
-fn is_saved(store: Store<'_>, changes: &[Change<'_>]) -> bool {
-    if store.files.len() != store.profile.databases().len() {
+fn is_saved(alloc: Global, profile: &Profile<'_>, changes: &[Change<'_>]) -> bool {
+    let files = [Some(sample("plain")), Some(sample("locked"))];
+    if files.len() != profile.databases().len() {
         return false;
     }
-    match user_file_after(store.alloc, store.profile, store.files, changes) {
+    match user_file_after(alloc, profile, &files, changes) {
         Ok(file) => has_seven(&file),
         Err(_) => false,
     }
@@ -54,43 +53,44 @@ fn is_saved(store: Store<'_>, changes: &[Change<'_>]) -> bool {
 
 /// Why no value is told at a path after changes.
 fn show_refusal(
-    store: Store<'_>,
-    changes: &[Change<'_>],
-    path: KeyPath<'_>,
+    alloc: Global,
+    profile: &Profile<'_>,
+    (changes, path): (&[Change<'_>], KeyPath<'_>),
     found: &mut String,
 ) -> Result<(), AllocError> {
-    if store.files.len() != store.profile.databases().len() {
+    let files = [Some(sample("plain")), Some(sample("locked"))];
+    if files.len() != profile.databases().len() {
         return Ok(());
     }
-    match value_after(store.alloc, store.profile, store.files, changes, path) {
+    match value_after(alloc, profile, &files, changes, path) {
         Ok(_) => found.push_str("none; "),
         Err(fault) => write!(found, "{fault}"),
     }
 }
 
 /// Whether a store has what changes leave, and refuses others.
-fn is_right(store: Store<'_>, seven: &Tree, found: &mut String) -> Result<bool, Fail> {
+fn is_right(
+    alloc: Global,
+    profile: &Profile<'_>,
+    seven: &Tree,
+    found: &mut String,
+) -> Result<bool, Fail> {
     let (path, locked) = (KeyPath::parse("/a/j")?, KeyPath::parse("/k")?);
     let (below, root) = (DirPath::parse("/a/")?, DirPath::parse("/")?);
     let set = Change::Set(path, seven);
     let changes = [set, Change::ResetBelow(below), set];
-    show_refusal(store, &[set, Change::Reset(path)], path, found)?;
-    show_refusal(store, &[set, Change::Reset(locked)], path, found)?;
-    Ok(is_listed(store, &changes, root) && is_saved(store, &changes))
+    show_refusal(alloc, profile, (&[set, Change::Reset(path)], path), found)?;
+    show_refusal(alloc, profile, (&[set, Change::Reset(locked)], path), found)?;
+    Ok(is_listed(alloc, profile, &changes, root) && is_saved(alloc, profile, &changes))
 }
 
 #[test]
 fn a_store_is_seen_again_after_its_changes(rt: HostRuntime) -> Result<(), Fail> {
     let alloc = rt.alloc();
     let profile = read_profile(alloc, "user-db:me\nsystem-db:site")?;
-    let store = Store {
-        alloc,
-        profile: &profile,
-        files: &[Some(sample("plain")), Some(sample("locked"))],
-    };
     let seven = Tree::basic(alloc, Basic::Int32(7))?;
     let mut found = String::new(alloc);
-    assert!(rt; is_right(store, &seven, &mut found)?);
+    assert!(rt; is_right(alloc, &profile, &seven, &mut found)?);
     assert!(rt; found.as_str() == "none; Refused 1: Locked", "{found}");
     Ok(())
 }
