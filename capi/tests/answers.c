@@ -85,7 +85,7 @@ static void asks(const DconfdbSnapshot *now)
 
 enum { MOST = 64 };
 
-/* Makes the edits of the input. */
+/* Makes the edits of the input, and prints the paths of the keys that are seen differently then. */
 static int edits(DconfdbStore *store)
 {
     static char words[MOST][3][512];
@@ -105,9 +105,15 @@ static int edits(DconfdbStore *store)
             all[count] = (DconfdbEdit){path, "i", &numbers[count], sizeof numbers[count]};
         }
     }
+    DconfdbSnapshot *before = dconfdb_store_snapshot(store);
     bool done = dconfdb_store_change(store, all, count, &error);
-    if (!done)
+    DconfdbSnapshot *after = dconfdb_store_snapshot(store);
+    if (done)
+        prints_texts(dconfdb_snapshot_differences(after, before, NULL, &error));
+    else
         printf("%d %s\n", error.number, all[error.at].path);
+    dconfdb_snapshot_unref(before);
+    dconfdb_snapshot_unref(after);
     return done ? 0 : 1;
 }
 

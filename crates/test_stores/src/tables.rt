@@ -129,6 +129,7 @@ fn has_its_lock(file: &[u8], half: &[u8]) -> Result<bool, Fail> {
     Ok(match (table.table(".locks"), table.table_at(0)) {
         (Some(locks), Some(at)) => {
             locks.n_items() == 1
+                && locks.file() == file
                 && locks.has("/k")
                 && !locks.has("/j")
                 && at.find("/k").and_then(View::as_str) == Some("")
