@@ -1,3 +1,4 @@
+use Rattle.std.proofs.Common.{rules}
 use Rattle.std.proofs.lemmas.Result.{IfOk-weaker}
 use Rattle.dconf_engine.specs.Files.{bytes_of_file, bytes_of_files}
 use Rattle.dconfdb_calls.specs.Turns.{IsSeenAfter, IsSeenFrom}
@@ -10,3 +11,9 @@ returns-clause-value c =
     let others = bytes_of_files c.args.others.files.now in
     IfOk-weaker c.read_turns.result (IsSeenFrom first others c.args.turns.now c.args.path.now) (IsSeenAfter first others c.args.turns.now c.args.path.now)
     (seen_after first others c.args.turns.now c.args.path.now) c.read_turns.ensures.value
+
+pub returns-clause-accepted : goal.returns-clause-accepted
+returns-clause-accepted c = search rules
+
+pub returns-clause-fault : goal.returns-clause-fault
+returns-clause-fault c = search rules
