@@ -1,5 +1,9 @@
+use Rattle.std.proofs.Common.{rules}
 use Rattle.dconf_store.proofs.ReplacedFiles.{next_file}
 use Rattle.dconf_store.proofs.store.replaced.Goals as goal
+
+pub loop-file-init : goal.loop-file-init
+loop-file-init c = search rules
 
 pub loop-file-preserved : goal.loop-file-preserved
 loop-file-preserved c =
