@@ -2,12 +2,12 @@
 //! "Framing Offsets").
 ghost use Rattle.std.specs.Prelude.{◌≡◌, ◌+◌, ◌≤◌, ◌++◌, length, OnOk, IfErr};
 ghost use Rattle.std.specs.List.{AllByRecursion};
-ghost use Rattle.gv_model.specs.Encode.{least_width};
 ghost use Rattle.gv_build.specs.Faults.{limit, IsOverLimit};
 ghost use Rattle.gv_build.specs.Writing.{offsets_of};
 
 use crate::buffer::{MAX_LEN, push_number};
 use crate::fault::BuildFault;
+use gv_layout::least_width;
 
 /// Appends the offsets after a body of so many bytes.
 pub(crate) fn write_offsets(ends: &[u32], body: usize, out: &mut Vec<u8>) -> Result<(), BuildFault>
@@ -26,22 +26,4 @@ pub(crate) fn write_offsets(ends: &[u32], body: usize, out: &mut Vec<u8>) -> Res
         push_number(u64::from(*end), width, out)?;
     }
     Ok(())
-}
-
-/// The least width that serves for so many offsets after a body of so many bytes.
-#[tactic(auto, unfolding(gv_model::specs::Encode::least_width))]
-fn least_width(body: usize, count: usize) -> usize
-    requires room { body + count ≤ limit }
-    ensures width { result ≡ least_width body count }
-    ensures within { result ≤ 8 }
-{
-    if body + count <= 0xff {
-        1
-    } else if body + 2 * count <= 0xffff {
-        2
-    } else if body + 4 * count <= 0xffff_ffff {
-        4
-    } else {
-        8
-    }
 }

@@ -1,8 +1,8 @@
--- How large a number of some bytes gets.
-use Rattle.std.proofs.Common.{◌≡◌, ℕ, zero, suc, ◌+◌, ◌-◌, ◌*◌, ◌^◌, ◌<◌, ◌≤◌, List, [], ◌∷◌, length, get_or, take, drop, Fits, w8, refl, ap, ◌∙◌, arith}
+-- How large a number of some bytes gets, and what it is in a few.
+use Rattle.std.proofs.Common.{◌≡◌, ℕ, zero, suc, ◌+◌, ◌-◌, ◌*◌, ◌^◌, ◌<◌, ◌≤◌, List, [], ◌∷◌, length, get_or, take, drop, Bool, true, false, not, cond, ◌==◌, Fits, w8, refl, sym, ap, ◌∙◌, arith}
 use Rattle.std.proofs.Math.Seq.{take-length}
 use Rattle.std.proofs.Math.Nat.{pow-succ'}
-use Rattle.gv_model.specs.BasicValue.{number_in}
+use Rattle.gv_model.specs.BasicValue.{number_in, truth, truth_bits}
 
 abbrev pub AreBytes : List ℕ → Type 0
 AreBytes b = (k : ℕ) → Fits w8 (get_or b k 0)
@@ -70,3 +70,18 @@ four_bytes (x0 ∷ x1 ∷ []) x y z w h g e f i j = absurd (omega arith)
 four_bytes (x0 ∷ x1 ∷ x2 ∷ []) x y z w h g e f i j = absurd (omega arith)
 four_bytes (x0 ∷ x1 ∷ x2 ∷ x3 ∷ []) x y z w h g e f i j = rw (e, f, i, j) (four x0 x1 x2 x3)
 four_bytes (x0 ∷ x1 ∷ x2 ∷ x3 ∷ x4 ∷ b) x y z w h g e f i j = absurd (omega arith)
+
+-- ---- the number in one byte, and the truth value
+
+pub byte_number : (b : List ℕ) → length b ≡ 1 → number_in b ≡ get_or b 0 0
+unfolding number_in
+byte_number [] h = absurd (omega arith)
+byte_number (c ∷ []) h = omega arith
+byte_number (c ∷ d ∷ b) h = absurd (omega arith)
+
+pub truth_number : (b : List ℕ) → length b ≡ 1 → truth_bits (not (get_or b 0 0 == 0)) ≡ truth (number_in b)
+truth_number b h = go (get_or b 0 0 == 0) ∙ ap truth (sym (byte_number b h))
+  where
+    go : (c : Bool) → truth_bits (not c) ≡ cond c 0 1
+    go true = refl
+    go false = refl

@@ -16,10 +16,14 @@ mod bounds;
 mod offset;
 mod place;
 mod size;
+mod truth;
 mod tuple;
 mod walk;
 
 pub use bounds::{member_bounds, n_children, place_of, places};
 pub use offset::number;
 pub use place::{Place, Places};
-pub use size::{TypeInfo, aligned_after, alignment, fixed_size, offset_width, round_up, type_info};
+pub use size::{
+    TypeInfo, aligned_after, alignment, fixed_size, least_width, offset_width, round_up, type_info,
+};
+pub use truth::is_true;

@@ -3,6 +3,8 @@ ghost use Rattle.std.specs.Prelude.{◌≡◌, ◌<◌, ◌≤◌, ◌+◌, ◌^
 ghost use Rattle.std.specs.List.{list_any};
 ghost use Rattle.gv_model.specs.Ty.{members};
 ghost use Rattle.gv_model.specs.Layout.{basic_size, or_one, alignment, greatest_alignment, fixed_size, fixed_end, padded, round_up, offset_width};
+ghost use Rattle.gv_model.specs.Encode.{least_width};
+ghost use Rattle.gv_model.specs.Limits.{limit};
 ghost use Rattle.gv_model.specs.TypeText.{seen};
 ghost use Rattle.gv_types.specs.Classes.{basic_of, class_of};
 ghost use Rattle.gv_types.specs.declared.class.Class.TheVariants.{Tuple, Entry};
@@ -96,6 +98,24 @@ pub fn offset_width(len: usize) -> u8
         0x100..=0xffff => 2,
         0x1_0000..=0xffff_ffff => 4,
         _ => 8,
+    }
+}
+
+/// The least width that serves for so many framing offsets after a body of so many bytes.
+#[tactic(auto, unfolding(gv_model::specs::Encode::least_width))]
+pub fn least_width(body: usize, count: usize) -> usize
+    requires room { body + count ≤ limit }
+    ensures width { result ≡ least_width body count }
+    ensures within { result ≤ 8 }
+{
+    if body + count <= 0xff {
+        1
+    } else if body + 2 * count <= 0xffff {
+        2
+    } else if body + 4 * count <= 0xffff_ffff {
+        4
+    } else {
+        8
     }
 }
 

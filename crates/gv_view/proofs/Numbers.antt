@@ -1,5 +1,5 @@
 -- Numbers in the bytes of basic types.
-use Rattle.std.proofs.Common.{◌≡◌, ◌≢◌, ◌<◌, ◌+◌, ◌*◌, ◌^◌, ℕ, ℤ, zero, suc, List, [], ◌∷◌, length, get_or, take, drop, Some, Bool, true, false, refl, sym, ap, ◌∙◌, arith, eq-eqb, ne_eqb, ◌==◌, not, cond}
+use Rattle.std.proofs.Common.{◌≡◌, ◌≢◌, ◌<◌, ◌+◌, ◌*◌, ◌^◌, ℕ, ℤ, zero, suc, List, [], length, get_or, take, drop, Some, true, false, refl, sym, ap, ◌∙◌, arith, eq-eqb, ne_eqb, ◌==◌}
 use Rattle.std.specs.Prelude.{replicate}
 use Rattle.std.specs.Int.{Width, cast_signed, cast_unsigned}
 use mir.Val.{bits}
@@ -14,7 +14,7 @@ use Rattle.gv_model.specs.Ty.Basic.{boolean, string, path, signature}
 use Rattle.gv_model.specs.Layout.{basic_size}
 use Rattle.gv_model.specs.Tree.{basic_default}
 use Rattle.gv_model.specs.Tree.Tree.{number}
-use Rattle.gv_model.specs.BasicValue.{basic_value, basic_of_size, bits_of, number_in, truth, truth_bits}
+use Rattle.gv_model.specs.BasicValue.{basic_value, basic_of_size, bits_of, number_in}
 use Rattle.gv_model.specs.Decode.{decode}
 use Rattle.gv_model.proofs.DecodeLaws.{decode_children}
 
@@ -65,17 +65,3 @@ pub bits_of_signed : (w : Width) (n : ℕ) (z : ℤ) → z ≡ cast_signed w n �
 bits_of_signed w n z e h =
     let there : cast_unsigned w z ≡ n = ap (cast_unsigned w) e ∙ of_z-to_z w n h in
     ap (λ m. cast_unsigned w (cast_signed w m)) there ∙ of_z-to_z w n h
-
--- the one byte of a boolean, and of a byte
-pub byte_number : (b : List ℕ) → length b ≡ 1 → number_in b ≡ get_or b 0 0
-unfolding number_in
-byte_number [] h = absurd (omega arith)
-byte_number (c ∷ []) h = omega arith
-byte_number (c ∷ d ∷ b) h = absurd (omega arith)
-
-pub truth_number : (b : List ℕ) → length b ≡ 1 → truth_bits (not (get_or b 0 0 == 0)) ≡ truth (number_in b)
-truth_number b h = go (get_or b 0 0 == 0) ∙ ap truth (sym (byte_number b h))
-  where
-    go : (c : Bool) → truth_bits (not c) ≡ cond c 0 1
-    go true = refl
-    go false = refl

@@ -7,9 +7,10 @@ ghost use Rattle.gv_model.specs.BasicValue.{number_in, bits_of};
 ghost use Rattle.gv_model.specs.Layout.{basic_size};
 ghost use Rattle.gv_types.specs.Classes.{basic_of};
 
-use crate::number::{double_bits, is_true};
+use crate::number::double_bits;
 use crate::text::{object_path_in, signature_in, string_in};
 use byteorder::{ByteOrder, LittleEndian};
+use gv_layout::is_true;
 use gv_types::{BasicType, Class, TypeStr};
 
 /// The bytes of a number that reads as its default.
