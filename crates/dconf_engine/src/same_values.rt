@@ -19,11 +19,7 @@ struct Compared<'a, 'b> {
 /// An error comes where a growth is refused. The same bytes at one type are told without memory.
 /// Other values are copied, and those too deep for that are gone through child by child, so none is
 /// too deep to be told.
-pub fn show_same(
-    alloc: Global,
-    first: View<'_>,
-    second: View<'_>,
-) -> Result<bool, AllocError>
+pub fn show_same(alloc: Global, first: View<'_>, second: View<'_>) -> Result<bool, AllocError>
     ensures { IfOk result (λ same. IsTrue same ↔ (value first.entry ≡ value second.entry)) }
 {
     let both = Compared { first, second };
