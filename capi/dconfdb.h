@@ -105,7 +105,7 @@ enum {
     DCONFDB_ERROR_TOO_LARGE = 17,      /* a value is nested too deep, or too long */
     DCONFDB_ERROR_TOO_BIG = 18,        /* a file has more bytes than it may have, or would have */
     DCONFDB_ERROR_FILE = 64,           /* the system refused something: `system` is its errno */
-    DCONFDB_ERROR_BUSY = 65,           /* others held the folder's lock for ten seconds */
+    DCONFDB_ERROR_BUSY = 65,           /* others held the lock for ten seconds */
     DCONFDB_ERROR_NO_FOLDER = 66       /* no folder is given, and nobody names one */
 };
 
@@ -188,8 +188,9 @@ bool dconfdb_store_refresh(DconfdbStore *store, bool *changed, DconfdbError *err
  * not be anybody's user-db.
  *
  * A missing folder is made, even if the change is then refused. Programs that change the file take
- * turns with flock() on its folder. This call waits at most ten seconds for that lock; then it
- * waits, without a limit, for threads that refresh the same store.
+ * turns with flock() on the file `.lock` in its folder, which is made where it is missing, and which
+ * only those may open who may write in the folder. This call waits at most ten seconds for that lock;
+ * then it waits, without a limit, for threads that refresh the same store.
  *
  * False: it failed, and the file has its old bytes. Only if the number is DCONFDB_ERROR_FILE may
  * it have the new ones: if the fault came after the file was replaced, the text says so, and the

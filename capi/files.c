@@ -1,4 +1,4 @@
-/* The files of a store: found, read or mapped, locked and replaced. */
+/* The files of a store: found, read or mapped, and replaced. */
 #define _DEFAULT_SOURCE
 #define _POSIX_C_SOURCE 200809L
 #define _FILE_OFFSET_BITS 64
@@ -9,12 +9,11 @@
 #include <stdio.h>
 #include <stdlib.h>
 #include <string.h>
-#include <sys/file.h>
 #include <sys/mman.h>
 #include <sys/stat.h>
 #include <unistd.h>
 
-enum { LONGEST_WAIT = 10, PAUSE = 5000000, PERMISSION_BITS = 0777, READ_AND_WRITE = 0600, HEAD = 24 };
+enum { PERMISSION_BITS = 0777, READ_AND_WRITE = 0600, HEAD = 24 };
 
 static FileState state_of(const struct stat *found)
 {
@@ -118,45 +117,6 @@ void file_release(FileBytes *bytes)
     else
         free(bytes->at);
     *bytes = (FileBytes){NULL, 0, false};
-}
-
-/* Tries every five milliseconds, and sooner where a signal comes, for ten seconds; the first try
- * comes at once. */
-static int await_turn(int folder)
-{
-    struct timespec began, now, pause = {0, PAUSE};
-    if (clock_gettime(CLOCK_MONOTONIC, &began) != 0)
-        return errno;
-    for (;;) {
-        if (flock(folder, LOCK_EX | LOCK_NB) == 0)
-            return 0;
-        if (errno != EWOULDBLOCK && errno != EINTR)
-            return errno;
-        if (clock_gettime(CLOCK_MONOTONIC, &now) != 0)
-            return errno;
-        long long passed = (long long)(now.tv_sec - began.tv_sec) * 1000000000 + (now.tv_nsec - began.tv_nsec);
-        if (passed >= LONGEST_WAIT * 1000000000LL)
-            return EWOULDBLOCK;
-        nanosleep(&pause, NULL);
-    }
-}
-
-int folder_lock(const char *folder, int *turn)
-{
-    *turn = open(folder, O_RDONLY | O_DIRECTORY | O_CLOEXEC);
-    if (*turn < 0)
-        return errno;
-    int fault = await_turn(*turn);
-    if (fault != 0)
-        close(*turn);
-    return fault;
-}
-
-void folder_unlock(int turn)
-{
-    /* Closing is not enough: a child that was forked meanwhile has the descriptor too. */
-    flock(turn, LOCK_UN);
-    close(turn);
 }
 
 static int sync_folder(const char *name)

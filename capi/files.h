@@ -41,12 +41,6 @@ int file_read(int folder, const char *name, bool maps, FileWanted *is_wanted, si
 
 void file_release(FileBytes *bytes);
 
-/* Takes the turn to change files of a folder, as crates/dconf_disk/src/lock.rt does: EWOULDBLOCK
- * after ten seconds. */
-int folder_lock(const char *folder, int *turn);
-
-void folder_unlock(int turn);
-
 /* Makes a folder and its parents. It is not an error if it exists. */
 int folder_make(const char *folder);
 

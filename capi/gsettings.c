@@ -9,6 +9,9 @@
 
 G_STATIC_ASSERT(G_BYTE_ORDER == G_LITTLE_ENDIAN);
 
+/* In microseconds: how long a set waits for others where no worker can be had. */
+enum { LONGEST_WRITE = 10000000 };
+
 typedef struct {
     GSettingsBackendClass parent;
 } DconfdbBackendClass;
@@ -201,7 +204,7 @@ static Outcome make(DconfdbBackend *self, Change *change)
     if (outcome != WAITS)
         change_free(change);
     if (is_here)
-        store_write(self, false);
+        store_write(self, g_get_monotonic_time() + LONGEST_WRITE, false);
     return outcome;
 }
 

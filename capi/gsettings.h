@@ -4,6 +4,7 @@
 
 #define G_SETTINGS_ENABLE_BACKEND
 #include "dconfdb.h"
+#include "lock.h"
 
 #include <gio/gio.h>
 #include <gio/gsettingsbackend.h>
@@ -67,14 +68,24 @@ void waiting_put_back(Waiting *waiting, GQueue *changes);
 /* What became of changes. */
 typedef enum { WRITTEN, SOME_REFUSED, TO_TRY_AGAIN } Written;
 
+/* A turn to write: the lock of the store's folder is held, or can't be had by this fault. */
+typedef struct {
+    const FolderLock *lock;
+    int fault; /* errno; 0: it is held */
+} Turn;
+
 /* Makes the changes. Refused ones move from `changes` to `refused`, and `error` has the first refusal.
  * TO_TRY_AGAIN, where that is wanted: `error` says what may be gone in a moment, and no change is made. */
-Written changes_write(DconfdbStore *store, GQueue *changes, GQueue *refused, bool tries_again, DconfdbError *error);
+Written changes_write(DconfdbStore *store, const Turn *turn, GQueue *changes, GQueue *refused, bool tries_again,
+                      DconfdbError *error);
 
 /* ---- the backend */
 
 /* What the worker watches (gsettings_watch.c). */
 typedef struct Watch Watch;
+
+/* How it comes to its turn (gsettings_turn.c). */
+typedef struct Wait Wait;
 
 /* It lives as long as the program. `turn` is taken before `lock`, and neither while a signal is
  * sent or a warning printed. fork() takes `lock`; in the child `turn` is free, whoever had it. */
@@ -117,6 +128,7 @@ typedef struct {
     gint is_watching; /* what others change is noticed without a look at the files; atomic */
 
     gint64 again; /* for the worker alone, as what follows: when a write is tried again; 0: none is */
+    Wait *wait;   /* NULL: no turn is waited for */
     Watch *watch;
 } DconfdbBackend;
 
@@ -131,9 +143,12 @@ void store_begin(DconfdbBackend *self);
 /* Opens it for the first time, if nobody has: the worker does, or whoever needs a snapshot sooner. */
 void store_open(DconfdbBackend *self);
 
-/* Writes what waits, as one change; what is refused is taken back. Gives when it is to be tried again, where
- * that is wanted and the fault may be gone in a moment; else 0. */
-gint64 store_write(DconfdbBackend *self, bool tries_again);
+/* Writes what waits, as one change; what is refused is taken back. While others have their turn it goes on
+ * waiting: the worker comes back to it, and anybody else waits until then. Gives when the worker is to try it
+ * again, be it for a fault that may be gone in a moment, where that is wanted; else 0. */
+gint64 store_write(DconfdbBackend *self, gint64 end, bool tries_again);
+
+bool store_has_waiting(DconfdbBackend *self);
 
 /* Looks at the files, and notifies of every difference; of a first opening, of nothing. */
 void store_look(DconfdbBackend *self);
@@ -148,6 +163,18 @@ bool store_sync(DconfdbBackend *self);
  * changed. The child opens a store of its own if it has no snapshot. */
 void store_leave(DconfdbBackend *self);
 
+/* ---- the turn to write (gsettings_turn.c), by the worker; neither mutex is held */
+
+/* Takes the turn, or goes on waiting for it, until then. Its fault is EWOULDBLOCK as long as others have it: the
+ * worker is woken when it comes. */
+Turn turn_take(DconfdbBackend *self, gint64 end);
+
+/* When the worker is to ask again without being woken; 0: never. */
+gint64 turn_next(const DconfdbBackend *self);
+
+/* Ends a turn that turn_take gave, be it with a fault. */
+void turn_give(DconfdbBackend *self);
+
 /* ---- the thread that writes and watches (gsettings_worker.c); `lock` is held */
 
 void worker_begin(DconfdbBackend *self);
@@ -156,6 +183,7 @@ void worker_wake(DconfdbBackend *self);
 /* `lock` isn't held. At the program's end: until what waits is written, five seconds at most. */
 void worker_end(DconfdbBackend *self);
 bool worker_is_this(DconfdbBackend *self);
+bool worker_is_another(DconfdbBackend *self);
 
 /* ---- the files that are watched (gsettings_watch.c), by the worker */
 

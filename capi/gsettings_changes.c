@@ -245,10 +245,14 @@ static void refuse(DconfdbStore *store, const DconfdbError *fault, GQueue *chang
     }
 }
 
-static bool try_to_write(DconfdbStore *store, const GQueue *changes, DconfdbError *error)
+static bool try_to_write(DconfdbStore *store, const Turn *turn, const GQueue *changes, DconfdbError *error)
 {
+    if (changes->length == 0)
+        return true;
+    if (turn->fault != 0)
+        return refuse_lock(store, turn->fault, error);
     GArray *edits = edits_of(changes);
-    bool done = dconfdb_store_change(store, (const DconfdbEdit *)(const void *)edits->data, edits->len, error);
+    bool done = locked_change(store, turn->lock, (const DconfdbEdit *)(const void *)edits->data, edits->len, error);
     g_array_free(edits, TRUE);
     return done;
 }
@@ -267,10 +271,11 @@ static bool is_momentary(const DconfdbError *fault)
     return false;
 }
 
-Written changes_write(DconfdbStore *store, GQueue *changes, GQueue *refused, bool tries_again, DconfdbError *error)
+Written changes_write(DconfdbStore *store, const Turn *turn, GQueue *changes, GQueue *refused, bool tries_again,
+                      DconfdbError *error)
 {
     DconfdbError fault;
-    while (!try_to_write(store, changes, &fault)) {
+    while (!try_to_write(store, turn, changes, &fault)) {
         guint count = refused->length;
         if (tries_again && is_momentary(&fault)) {
             *error = fault;

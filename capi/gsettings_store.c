@@ -2,6 +2,7 @@
 #define _GNU_SOURCE
 #include "gsettings.h"
 
+#include <errno.h>
 #include <stdlib.h>
 #include <string.h>
 #include <unistd.h>
@@ -9,7 +10,7 @@
 /* In microseconds: how long g_settings_sync() waits, and a write is tried again; the pauses before that; how
  * often who reads looks at the files; and how often a mutex is tried. */
 enum { LONGEST_SYNC = 10000000, LONGEST_FAILING = 10000000, SHORTEST_PAUSE = 50000, LONGEST_PAUSE = 2000000 };
-enum { BETWEEN_LOOKS = 10000, AFTER_A_FAULT = 1000000, TRY = 1000 };
+enum { BETWEEN_LOOKS = 10000, AFTER_A_FAULT = 1000000, TRY = 1000, MILLISECOND = 1000 };
 
 bool mutex_lock_until(GMutex *mutex, gint64 end)
 {
@@ -201,13 +202,13 @@ static gint64 next_try(DconfdbBackend *self)
 }
 
 /* `turn` is held. What is to be tried again waits again. */
-static gint64 write_it(DconfdbBackend *self, Notice *notice, bool tries_again)
+static gint64 write_it(DconfdbBackend *self, const Turn *turn, Notice *notice, bool tries_again)
 {
     DconfdbError error;
-    Written done = changes_write(self->store, &notice->written, &notice->refused, tries_again, &error);
+    Written done = changes_write(self->store, turn, &notice->written, &notice->refused, tries_again, &error);
     gint64 again = done == TO_TRY_AGAIN ? next_try(self) : 0;
     if (done == TO_TRY_AGAIN && again == 0)
-        done = changes_write(self->store, &notice->written, &notice->refused, false, &error);
+        done = changes_write(self->store, turn, &notice->written, &notice->refused, false, &error);
     if (again == 0)
         self->failing = self->pause = 0;
     if (done == SOME_REFUSED)
@@ -220,19 +221,64 @@ static gint64 write_it(DconfdbBackend *self, Notice *notice, bool tries_again)
     return again;
 }
 
-gint64 store_write(DconfdbBackend *self, bool tries_again)
+/* `turn` isn't held: the turn between programs is had before. */
+static gint64 write_in(DconfdbBackend *self, const Turn *turn, Notice *notice, bool tries_again)
 {
-    Notice notice = {.fault = NULL};
     gint64 again = 0;
     g_mutex_lock(&self->turn);
     g_mutex_lock(&self->lock);
-    notice.written = waiting_take(&self->waiting);
+    notice->written = waiting_take(&self->waiting);
     g_mutex_unlock(&self->lock);
-    if (notice.written.length > 0)
-        again = write_it(self, &notice, tries_again);
-    if (notice.written.length + notice.refused.length > 0)
-        renew(self, &notice);
+    if (notice->written.length > 0)
+        again = write_it(self, turn, notice, tries_again);
+    if (notice->written.length + notice->refused.length > 0)
+        renew(self, notice);
     g_mutex_unlock(&self->turn);
+    return again;
+}
+
+/* Where no worker can be had. What can't be written goes on waiting, and is written with what is set next. */
+static void write_here(DconfdbBackend *self, Notice *notice, gint64 end)
+{
+    FolderLock lock;
+    DconfdbError error;
+    gint64 left = MAX(end - g_get_monotonic_time(), 0);
+    Turn turn = {&lock, folder_lock(self->folder, (int)(left / MILLISECOND), &lock)};
+    if (turn.fault != EWOULDBLOCK) {
+        write_in(self, &turn, notice, false);
+        if (turn.fault == 0)
+            folder_unlock(&lock);
+        return;
+    }
+    g_mutex_lock(&self->turn);
+    refuse_lock(self->store, turn.fault, &error);
+    notice->fault = news_of(self, &error);
+    g_mutex_unlock(&self->turn);
+}
+
+bool store_has_waiting(DconfdbBackend *self)
+{
+    g_mutex_lock(&self->lock);
+    bool has = self->waiting.changes.length > 0;
+    g_mutex_unlock(&self->lock);
+    return has;
+}
+
+gint64 store_write(DconfdbBackend *self, gint64 end, bool tries_again)
+{
+    Notice notice = {.fault = NULL};
+    gint64 again = 0;
+    if (!store_has_waiting(self))
+        return 0;
+    if (worker_is_this(self)) {
+        Turn turn = turn_take(self, end);
+        if (turn.fault == EWOULDBLOCK)
+            return turn_next(self);
+        again = write_in(self, &turn, &notice, tries_again);
+        turn_give(self);
+    } else {
+        write_here(self, &notice, end);
+    }
     notice_tell(self, &notice);
     return again;
 }
@@ -253,8 +299,8 @@ bool store_sync(DconfdbBackend *self)
 {
     Notice notice = {.fault = NULL};
     gint64 end = g_get_monotonic_time() + LONGEST_SYNC;
-    if (worker_is_this(self))
-        store_write(self, false);
+    if (!worker_is_another(self))
+        store_write(self, end, false);
     if (!await_settled(self, end) || !mutex_lock_until(&self->turn, end))
         return false;
     if (self->folder)

@@ -52,20 +52,21 @@ static bool takes_turn(DconfdbBackend *self)
     Notice *notice;
     g_mutex_lock(&self->lock);
     bool ends = self->has_ended, is_to_watch = self->is_to_watch;
-    bool waits = self->waiting.changes.length > 0;
     g_mutex_unlock(&self->lock);
+    bool waits = store_has_waiting(self);
     while ((notice = take_untold(self)) != NULL)
         notice_tell_and_free(self, notice);
     if (is_to_watch && !ends)
         watch_turn(self);
     if (!waits)
         self->again = 0;
-    else if (wait_until(self->again) <= 0) {
+    else if (self->wait || wait_until(self->again) <= 0) {
         g_atomic_int_set(&self->is_writing, TRUE);
-        self->again = store_write(self, true);
-        g_atomic_int_set(&self->is_writing, self->again != 0);
+        self->again = store_write(self, 0, true);
+        waits = store_has_waiting(self);
+        g_atomic_int_set(&self->is_writing, waits);
     }
-    return !ends || self->again != 0;
+    return !ends || waits;
 }
 
 static void *work(void *data)
@@ -118,6 +119,14 @@ bool worker_is_this(DconfdbBackend *self)
 {
     g_mutex_lock(&self->lock);
     bool is = self->has_worker && pthread_equal(self->worker, pthread_self());
+    g_mutex_unlock(&self->lock);
+    return is;
+}
+
+bool worker_is_another(DconfdbBackend *self)
+{
+    g_mutex_lock(&self->lock);
+    bool is = self->has_worker && !pthread_equal(self->worker, pthread_self());
     g_mutex_unlock(&self->lock);
     return is;
 }

@@ -6,6 +6,7 @@
 #include "dconfdb.h"
 #include "dconfdb_calls.h"
 #include "files.h"
+#include "lock.h"
 
 #include <errno.h>
 #include <pthread.h>
@@ -42,6 +43,9 @@ struct DconfdbSnapshot {
 /* A file and a profile have at most so many bytes, and a profile so many databases. */
 enum { LARGEST_PROFILE = 16777216, MOST_DATABASES = 64, ROOM_OF_PASSWD = 65536 };
 #define LARGEST_FILE 4294967295U
+
+/* How many milliseconds a change waits for the folder's lock. */
+enum { LONGEST_WAIT = 10000 };
 
 struct DconfdbStore {
     pthread_mutex_t refreshing; /* held while files are looked at, and put in place */
@@ -733,6 +737,12 @@ static size_t guess(const DconfdbStore *store, const DconfdbChange *changes, siz
     return len;
 }
 
+/* What a fault of a change is said of, if it is of no edit. */
+static const char *user_file_or_folder(const DconfdbStore *store)
+{
+    return store->user_file ? store->user_file : store->folder;
+}
+
 /* Whether a fault of a change is one of its edits. */
 static bool is_of_edit(uint32_t number)
 {
@@ -759,7 +769,7 @@ static bool make_file(const DconfdbStore *store, const DconfdbChange *changes, c
     } while (number == DCONFDB_OK);
     if (at < count && is_of_edit(number))
         return refuse_call(error, number, edits[at].path, (Place){.edit = at});
-    return refuse_call(error, number, store->user_file ? store->user_file : store->folder, nowhere);
+    return refuse_call(error, number, user_file_or_folder(store), nowhere);
 }
 
 /* Puts the file in place. What has to be had for the newer snapshot is had before, so that nothing
@@ -800,21 +810,27 @@ static bool change_in_turn(DconfdbStore *store, int turn, const DconfdbChange *c
     return done;
 }
 
-/* Waits for the turn to change the user's file. */
-static bool take_turn(const DconfdbStore *store, int *turn, DconfdbError *error)
+/* What is at fault is the lock's file, if there is one. */
+static bool refuse_lock_file(const DconfdbStore *store, int fault, DconfdbError *error)
 {
-    const char *name = store->user_file;
-    char *folder = start_of(name, (size_t)(strrchr(name, '/') - name));
-    if (!folder)
+    FileState found;
+    char *lock = joined(store->folder, "/", LOCK_NAME);
+    if (!lock)
         return refuse_memory(error);
-    const char *path = *folder ? folder : "/";
-    int fault = folder_lock(path, turn);
-    if (fault == ENOENT && (fault = folder_make(store->folder)) == 0)
-        fault = folder_lock(path, turn);
-    free(folder);
-    if (fault == EWOULDBLOCK)
-        return refuse(error, DCONFDB_ERROR_BUSY, 0, nowhere, "%s: others have been changing it for ten seconds", name);
-    return fault == 0 || refuse_file(error, fault, name, nowhere);
+    bool is_there = file_look(lock, &found) == 0 && found.is_there;
+    if (fault == EINVAL)
+        refuse(error, DCONFDB_ERROR_FILE, fault, nowhere, "%s: it is no regular file, and can't be locked", lock);
+    else
+        refuse_file(error, fault, is_there ? lock : user_file_or_folder(store), nowhere);
+    free(lock);
+    return false;
+}
+
+bool refuse_lock(const DconfdbStore *store, int fault, DconfdbError *error)
+{
+    if (fault != EWOULDBLOCK)
+        return refuse_lock_file(store, fault, error);
+    return refuse(error, DCONFDB_ERROR_BUSY, 0, nowhere, "%s: others have been changing it for ten seconds", user_file_or_folder(store));
 }
 
 /* There is no user's file: only why that is a fault, and of which edit, has to be said. */
@@ -830,10 +846,9 @@ static bool change_nothing(DconfdbStore *store, const DconfdbChange *changes, co
     return done;
 }
 
-bool dconfdb_store_change(DconfdbStore *store, const DconfdbEdit *edits, size_t count, DconfdbError *error)
+bool locked_change(DconfdbStore *store, const FolderLock *lock, const DconfdbEdit *edits, size_t count, DconfdbError *error)
 {
-    int turn;
-    bool done = false;
+    bool done;
     if (count == 0)
         return true;
     DconfdbChange *changes = calloc(count, sizeof *changes);
@@ -841,12 +856,23 @@ bool dconfdb_store_change(DconfdbStore *store, const DconfdbEdit *edits, size_t 
         return refuse_memory(error);
     for (size_t i = 0; i < count; i++)
         changes[i] = change_of(&edits[i]);
-    if (!store->user_file) {
+    if (store->user_file)
+        done = change_in_turn(store, lock->folder, changes, edits, count, error);
+    else
         done = change_nothing(store, changes, edits, count, error);
-    } else if (take_turn(store, &turn, error)) {
-        done = change_in_turn(store, turn, changes, edits, count, error);
-        folder_unlock(turn);
-    }
     free(changes);
+    return done;
+}
+
+bool dconfdb_store_change(DconfdbStore *store, const DconfdbEdit *edits, size_t count, DconfdbError *error)
+{
+    FolderLock lock;
+    if (count == 0 || !store->user_file)
+        return locked_change(store, NULL, edits, count, error);
+    int fault = folder_lock(store->folder, LONGEST_WAIT, &lock);
+    if (fault != 0)
+        return refuse_lock(store, fault, error);
+    bool done = locked_change(store, &lock, edits, count, error);
+    folder_unlock(&lock);
     return done;
 }

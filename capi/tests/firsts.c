@@ -1,5 +1,5 @@
-/* Whose a file is that the library makes, and what it reads of one that is no database: firsts FOLDER.
- * It is tests/library's store, as capi/tests/calls.c says. */
+/* Whose a file is that the library makes, who may open its lock, and what it reads of one that is no
+ * database: firsts FOLDER. It is tests/library's store, as capi/tests/calls.c says. */
 #define _FILE_OFFSET_BITS 64
 #include "try.h"
 
@@ -64,6 +64,23 @@ static void tries_owners(void)
     TRY(sets("own") && is_of("own/user.user", 0, 0600));
 }
 
+/* Who may write in the folder may open its lock, and nobody else, whatever the umask. */
+static void tries_locks(void)
+{
+    static const mode_t folders[] = {0700, 0755, 0775, 0757, 0777}, locks[] = {0600, 0600, 0660, 0606, 0666};
+    for (size_t i = 0; i < sizeof locks / sizeof locks[0]; i++) {
+        unlink(".lock");
+        umask(i % 2 == 0 ? 0 : 0277);
+        TRY(chmod(".", folders[i]) == 0 && sets(".") && (is_there(".lock").st_mode & 07777) == locks[i]);
+    }
+    umask(022);
+    TRY(chmod(".", 0755) == 0 && unlink(".lock") == 0);
+    if (geteuid() != 0)
+        return;
+    TRY(is_of("theirs/.lock", NOBODY, 0600) && is_of("own/.lock", 0, 0600));
+    TRY(chmod("theirs", 0770) == 0 && unlink("theirs/.lock") == 0 && sets("theirs") && is_of("theirs/.lock", NOBODY, 0660));
+}
+
 static double seconds(void)
 {
     struct timespec now;
@@ -89,6 +106,7 @@ int main(int argc, char **argv)
     TRY(argc == 2 && chdir(argv[1]) == 0);
     tries_modes();
     tries_owners();
+    tries_locks();
     tries_long("", 0, DCONFDB_ERROR_BAD_SIGNATURE);
     tries_long("GVariant\1\0\0", 12, DCONFDB_ERROR_BAD_VERSION);
     puts(geteuid() == 0 ? "what root writes is its owner's" : "what root writes isn't tried, since nobody here is root");

@@ -368,13 +368,31 @@ static void tries_no_folder(void)
     TRY(unsetenv("DCONFDB_STORE") == 0);
 }
 
+/* What has the lock's name and is no file is neither locked nor waited for. */
+static void tries_no_lock(DconfdbStore *store)
+{
+    Fault fault = {DCONFDB_ERROR_FILE, EINVAL, 0, 0, 0, "/.lock", "no regular file"};
+    DconfdbEdit good = sets_text("/good", "1");
+    TRY(unlink(".lock") == 0 && symlink("me.user", ".lock") == 0 && refuses_change(store, &good, 1, fault));
+    TRY(unlink(".lock") == 0 && symlink("none", ".lock") == 0 && refuses_change(store, &good, 1, fault));
+    TRY(access("none", F_OK) != 0 && unlink(".lock") == 0);
+    TRY(mkfifo(".lock", 0600) == 0 && refuses_change(store, &good, 1, fault) && unlink(".lock") == 0);
+    TRY(mkdir(".lock", 0700) == 0 && refuses_change(store, &good, 1, fault) && rmdir(".lock") == 0);
+    /* Another file isn't opened to more users, if it has a second name. */
+    TRY(chmod(".", 0777) == 0 && link("profile", ".lock") == 0 && chmod("profile", 0600) == 0);
+    DconfdbEdit other = sets_text("/b", "3");
+    struct stat found;
+    TRY(dconfdb_store_change(store, &other, 1, &error) && stat("profile", &found) == 0 && (found.st_mode & 0777) == 0600);
+    TRY(unlink(".lock") == 0 && chmod(".", 0755) == 0);
+}
+
 static void tries_busy(DconfdbStore *store)
 {
     DconfdbEdit good = sets_text("/good", "1");
-    int folder = open(".", O_RDONLY | O_DIRECTORY);
-    TRY(folder >= 0 && flock(folder, LOCK_EX) == 0);
+    int lock = open(".lock", O_RDWR);
+    TRY(lock >= 0 && flock(lock, LOCK_EX) == 0);
     begins(store);
-    TRY(!dconfdb_store_change(store, &good, 1, &error) && nothing_changed(store) && flock(folder, LOCK_UN) == 0 && close(folder) == 0);
+    TRY(!dconfdb_store_change(store, &good, 1, &error) && nothing_changed(store) && flock(lock, LOCK_UN) == 0 && close(lock) == 0);
     TRY(is_said((Fault){DCONFDB_ERROR_BUSY, 0, 0, 0, 0, "/me.user", "for ten seconds"}));
 }
 
@@ -393,6 +411,7 @@ int main(int argc, char **argv)
         tries_lists(store);
         tries_no_user();
         tries_replacing(store);
+        tries_no_lock(store);
         tries_no_folder();
     }
     DconfdbSnapshot *now = dconfdb_store_snapshot(store);

@@ -1,5 +1,5 @@
 /* Refuses calls of the system, for a program that is started with it in LD_PRELOAD: the first $TIMES calls of $CALL that are made for a store
- * (flock; fsync; openat of a new file; inotify_init1), with the errno $ERRNO. */
+ * (flock; fsync; openat of a new file; inotify_init1), with the errno $ERRNO. And each fsync takes $SLOW milliseconds longer. */
 #define _GNU_SOURCE
 #include <dlfcn.h>
 #include <errno.h>
@@ -32,6 +32,9 @@ int flock(int file, int operation)
 int fsync(int file)
 {
     int (*real)(int) = (int (*)(int))dlsym(RTLD_NEXT, "fsync");
+    const char *slow = getenv("SLOW");
+    if (slow)
+        usleep((useconds_t)atoi(slow) * 1000);
     return is_refused("fsync") ? -1 : real(file);
 }
 

@@ -1,0 +1,103 @@
+/* The worker's turn to write. As long as others have theirs a thread of its own waits in the kernel, where nobody is
+ * passed over, and the worker goes on seeing and telling what they change. */
+#define _GNU_SOURCE
+#include "gsettings.h"
+
+#include <errno.h>
+
+/* In microseconds: after how long it is warned of, and between two tries where no thread can be had. */
+enum { LONG = 10000000, PAUSE = 50000 };
+
+struct Wait {
+    DconfdbBackend *backend;
+    FolderLock lock;
+    gint64 began;
+    bool has_warned, has_thread;
+    pthread_t thread;
+    int fault;
+    bool is_over; /* the thread's; guarded by `lock` of the backend, as is `fault` until then */
+};
+
+static void *wait_in_kernel(void *data)
+{
+    Wait *wait = data;
+    DconfdbBackend *self = wait->backend;
+    pthread_setname_np(pthread_self(), "dconfdb-turn");
+    int fault = folder_lock(self->folder, WITHOUT_END, &wait->lock);
+    g_mutex_lock(&self->lock);
+    wait->fault = fault;
+    wait->is_over = true;
+    g_cond_broadcast(&self->settles);
+    worker_wake(self);
+    g_mutex_unlock(&self->lock);
+    return NULL;
+}
+
+/* Whether the thread ends by then; it is gone when this is so. */
+static bool is_thread_over(DconfdbBackend *self, Wait *wait, gint64 end)
+{
+    g_mutex_lock(&self->lock);
+    while (!wait->is_over && g_cond_wait_until(&self->settles, &self->lock, end))
+        ;
+    bool is_over = wait->is_over;
+    g_mutex_unlock(&self->lock);
+    if (is_over)
+        wait->has_thread = pthread_join(wait->thread, NULL) != 0;
+    return is_over;
+}
+
+/* The worker's signals are blocked, and so are its thread's. */
+static bool is_over(DconfdbBackend *self, Wait *wait, gint64 end)
+{
+    if (!wait->has_thread) {
+        wait->fault = folder_lock(self->folder, 0, &wait->lock);
+        if (wait->fault != EWOULDBLOCK)
+            return true;
+        wait->has_thread = pthread_create(&wait->thread, NULL, wait_in_kernel, wait) == 0;
+    }
+    return wait->has_thread && is_thread_over(self, wait, end);
+}
+
+/* When the program ends, it says by itself what isn't written. */
+static void warn(DconfdbBackend *self, Wait *wait)
+{
+    if (wait->has_warned || g_get_monotonic_time() < wait->began + LONG)
+        return;
+    wait->has_warned = true;
+    g_mutex_lock(&self->lock);
+    bool ends = self->has_ended;
+    g_mutex_unlock(&self->lock);
+    if (!ends)
+        g_warning("%s: others have been changing it for ten seconds; what is set waits until they have done", self->folder);
+}
+
+Turn turn_take(DconfdbBackend *self, gint64 end)
+{
+    Wait *wait = self->wait;
+    if (!wait) {
+        wait = self->wait = g_new0(Wait, 1);
+        wait->backend = self;
+        wait->began = g_get_monotonic_time();
+    }
+    if (is_over(self, wait, end))
+        return (Turn){&wait->lock, wait->fault};
+    warn(self, wait);
+    return (Turn){NULL, EWOULDBLOCK};
+}
+
+gint64 turn_next(const DconfdbBackend *self)
+{
+    const Wait *wait = self->wait;
+    if (!wait)
+        return 0;
+    if (!wait->has_thread)
+        return g_get_monotonic_time() + PAUSE;
+    return wait->has_warned ? 0 : wait->began + LONG;
+}
+
+void turn_give(DconfdbBackend *self)
+{
+    if (self->wait->fault == 0)
+        folder_unlock(&self->wait->lock);
+    g_clear_pointer(&self->wait, g_free);
+}

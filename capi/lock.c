@@ -1,0 +1,236 @@
+/* The lock by which programs take turns: waited for, handed over, and closed in a child of fork(). */
+#define _DEFAULT_SOURCE
+#define _POSIX_C_SOURCE 200809L
+#define _FILE_OFFSET_BITS 64
+#include "lock.h"
+#include "files.h"
+
+#include <errno.h>
+#include <fcntl.h>
+#include <pthread.h>
+#include <sys/file.h>
+#include <sys/stat.h>
+#include <unistd.h>
+
+/* Others may wait in the kernel, which hands the lock on to them within some tens of microseconds: who tries seldom
+ * hardly ever meets such a moment. So these are 0.2 milliseconds. */
+enum { PAUSE = 200000 };
+
+/* How often the folder, or the lock's file, may be made anew by others meanwhile. */
+enum { MOST_TRIES = 100 };
+
+enum { READ_AND_WRITE = 0600, PERMISSION_BITS = 0777, MILLISECOND = 1000000, SECOND = 1000 };
+
+/* Opened to be written, since a network's file system can lock no other file. No link is followed, and no pipe waited
+ * for. */
+enum { HOW = O_RDWR | O_CLOEXEC | O_NOFOLLOW | O_NONBLOCK | O_NOCTTY };
+
+/* ---- a child of fork() has each lock too, and would keep it when its parent is killed: it closes what it has of it */
+
+static pthread_mutex_t listing = PTHREAD_MUTEX_INITIALIZER;
+static FolderLock *first;
+
+static void before_fork(void)
+{
+    pthread_mutex_lock(&listing);
+}
+
+static void after_fork(void)
+{
+    pthread_mutex_unlock(&listing);
+}
+
+/* LOCK_UN would take it from the parent. */
+static void after_fork_in_child(void)
+{
+    for (const FolderLock *at = first; at; at = at->next) {
+        close(at->file);
+        close(at->folder);
+    }
+    first = NULL;
+    pthread_mutex_unlock(&listing);
+}
+
+static void heed_forks(void)
+{
+    pthread_atfork(before_fork, after_fork, after_fork_in_child);
+}
+
+/* `listing` is held. */
+static void unlist(const FolderLock *lock)
+{
+    FolderLock **at = &first;
+    while (*at && *at != lock)
+        at = &(*at)->next;
+    if (*at)
+        *at = lock->next;
+}
+
+/* ---- the lock's file */
+
+/* What a new file's bits are, by those of its folder. One of another group than its folder's is open to that where all
+ * may write. */
+static mode_t bits_for_writers(const struct stat *folder, const struct stat *file)
+{
+    bool all_write = (folder->st_mode & 02) != 0;
+    bool group_writes = file->st_gid == folder->st_gid ? (folder->st_mode & 020) != 0 : all_write;
+    return READ_AND_WRITE | (group_writes ? 060U : 0U) | (all_write ? 06U : 0U);
+}
+
+/* Gives a file that was just made the folder's owner and group, as far as this user may, and opens it to those who may
+ * write in the folder. What fails leaves it as it is: some file systems know no owners and bits. */
+static void hand_over(int folder, int file)
+{
+    struct stat above, made;
+    if (fstat(folder, &above) != 0 || fstat(file, &made) != 0)
+        return;
+    if (geteuid() == 0 && made.st_uid != above.st_uid && fchown(file, above.st_uid, (gid_t)-1) != 0)
+        return;
+    if (made.st_gid != above.st_gid && fchown(file, (uid_t)-1, above.st_gid) == 0)
+        made.st_gid = above.st_gid;
+    mode_t bits = bits_for_writers(&above, &made);
+    if ((made.st_mode & PERMISSION_BITS) != bits)
+        fchmod(file, bits);
+}
+
+static int open_old(int folder, int *file)
+{
+    struct stat found;
+    *file = openat(folder, LOCK_NAME, HOW);
+    if (*file < 0)
+        return errno == ELOOP || errno == EISDIR || errno == ENXIO ? EINVAL : errno;
+    int fault = fstat(*file, &found) != 0 ? errno : S_ISREG(found.st_mode) ? 0 : EINVAL;
+    if (fault != 0)
+        close(*file);
+    return fault;
+}
+
+/* Only what is made here is handed over: another file may have a second name elsewhere. */
+static int make_new(int folder, int *file)
+{
+    *file = openat(folder, LOCK_NAME, HOW | O_CREAT | O_EXCL, READ_AND_WRITE);
+    if (*file < 0)
+        return errno;
+    hand_over(folder, *file);
+    return 0;
+}
+
+/* Others may make or remove it meanwhile. */
+static int open_file(int folder, int *file)
+{
+    int fault = EEXIST;
+    for (int i = 0; fault == EEXIST && i < MOST_TRIES; i++) {
+        fault = open_old(folder, file);
+        if (fault == ENOENT)
+            fault = make_new(folder, file);
+    }
+    return fault;
+}
+
+/* Opens both. No child of fork() has them unlisted: who forks waits as long as this takes. */
+static int open_both(const char *folder, FolderLock *lock)
+{
+    int fault = 0;
+    pthread_mutex_lock(&listing);
+    lock->folder = open(folder, O_RDONLY | O_DIRECTORY | O_CLOEXEC);
+    if (lock->folder < 0)
+        fault = errno;
+    else if ((fault = open_file(lock->folder, &lock->file)) != 0)
+        close(lock->folder);
+    if (fault == 0) {
+        lock->next = first;
+        first = lock;
+    }
+    pthread_mutex_unlock(&listing);
+    return fault;
+}
+
+/* ---- the wait */
+
+static bool is_same(const struct stat *one, const struct stat *other)
+{
+    return one->st_dev == other->st_dev && one->st_ino == other->st_ino;
+}
+
+/* Whether the names still stand for what was opened: either may be another's after the wait. */
+static bool is_named(const char *folder, const FolderLock *lock)
+{
+    struct stat named, opened;
+    if (stat(folder, &named) != 0 || fstat(lock->folder, &opened) != 0 || !is_same(&named, &opened))
+        return false;
+    return fstatat(lock->folder, LOCK_NAME, &named, AT_SYMLINK_NOFOLLOW) == 0 && fstat(lock->file, &opened) == 0
+        && is_same(&named, &opened);
+}
+
+static bool is_over(const struct timespec *end)
+{
+    struct timespec now;
+    if (clock_gettime(CLOCK_MONOTONIC, &now) != 0)
+        return true;
+    return now.tv_sec > end->tv_sec || (now.tv_sec == end->tv_sec && now.tv_nsec >= end->tv_nsec);
+}
+
+/* Waits in the kernel if there is no end, and else tries again and again. */
+static int await(int file, const struct timespec *end)
+{
+    const struct timespec pause = {0, PAUSE};
+    while (flock(file, end ? LOCK_EX | LOCK_NB : LOCK_EX) != 0) {
+        if (errno != EWOULDBLOCK && errno != EINTR)
+            return errno;
+        if (end && is_over(end))
+            return EWOULDBLOCK;
+        if (end)
+            nanosleep(&pause, NULL);
+    }
+    return 0;
+}
+
+static int try_once(const char *folder, const struct timespec *end, FolderLock *lock)
+{
+    int fault = open_both(folder, lock);
+    if (fault == ENOENT && (fault = folder_make(folder)) == 0)
+        fault = open_both(folder, lock);
+    if (fault != 0)
+        return fault;
+    fault = await(lock->file, end);
+    if (fault == 0 && is_named(folder, lock))
+        return 0;
+    folder_unlock(lock);
+    return fault == 0 ? ESTALE : fault;
+}
+
+static struct timespec later(struct timespec moment, int milliseconds)
+{
+    moment.tv_sec += milliseconds / SECOND;
+    moment.tv_nsec += (long)(milliseconds % SECOND) * MILLISECOND;
+    if (moment.tv_nsec >= (long)SECOND * MILLISECOND) {
+        moment.tv_sec++;
+        moment.tv_nsec -= (long)SECOND * MILLISECOND;
+    }
+    return moment;
+}
+
+int folder_lock(const char *folder, int milliseconds, FolderLock *lock)
+{
+    static pthread_once_t once = PTHREAD_ONCE_INIT;
+    struct timespec end;
+    int fault = ESTALE;
+    pthread_once(&once, heed_forks);
+    if (clock_gettime(CLOCK_MONOTONIC, &end) != 0)
+        return errno;
+    end = later(end, milliseconds);
+    for (int i = 0; fault == ESTALE && i < MOST_TRIES; i++)
+        fault = try_once(folder, milliseconds == WITHOUT_END ? NULL : &end, lock);
+    return fault;
+}
+
+void folder_unlock(FolderLock *lock)
+{
+    pthread_mutex_lock(&listing);
+    unlist(lock);
+    /* Closing is not enough: a child that was made without fork() has the descriptors too. */
+    flock(lock->file, LOCK_UN);
+    close(lock->file);
+    close(lock->folder);
+    pthread_mutex_unlock(&listing);
+}
