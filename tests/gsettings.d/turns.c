@@ -29,8 +29,13 @@ static int forks(void)
 {
     g_usleep(AMID);
     pid_t child = fork();
-    if (child > 0)
-        printf("%d\n", (int)child);
+    if (child == 0) {
+        /* Nobody waits for what it says. */
+        close(STDOUT_FILENO);
+        close(STDERR_FILENO);
+        return pause();
+    }
+    printf("%d\n", (int)child);
     return child < 0 || fflush(stdout) != 0 ? 1 : pause();
 }
 
