@@ -88,7 +88,7 @@ typedef struct Watch Watch;
 typedef struct Wait Wait;
 
 /* It lives as long as the program. `turn` is taken before `lock`, and neither while a signal is
- * sent or a warning printed. fork() takes `lock`; in the child `turn` is free, whoever had it. */
+ * sent, a warning printed, or another program waited for. fork() takes `lock`; in the child `turn` is free, whoever had it. */
 typedef struct {
     GSettingsBackend parent;
     pid_t process; /* differs in a child, after fork() */

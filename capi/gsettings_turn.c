@@ -68,7 +68,7 @@ static void warn(DconfdbBackend *self, Wait *wait)
     bool ends = self->has_ended;
     g_mutex_unlock(&self->lock);
     if (!ends)
-        g_warning("%s: others have been changing it for ten seconds; what is set waits until they have done", self->folder);
+        g_warning("%s: others have been writing there for ten seconds; what was set goes on waiting", self->folder);
 }
 
 Turn turn_take(DconfdbBackend *self, gint64 end)

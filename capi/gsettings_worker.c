@@ -64,7 +64,7 @@ static bool takes_turn(DconfdbBackend *self)
         g_atomic_int_set(&self->is_writing, TRUE);
         self->again = store_write(self, 0, true);
         waits = store_has_waiting(self);
-        g_atomic_int_set(&self->is_writing, waits);
+        g_atomic_int_set(&self->is_writing, self->again != 0 || self->wait);
     }
     return !ends || waits;
 }
@@ -168,28 +168,31 @@ static bool is_joined(DconfdbBackend *self)
     return pthread_timedjoin_np(self->worker, NULL, &end) == 0;
 }
 
+static void say_what_waits(DconfdbBackend *self)
+{
+    static const char words[] = "dconfdb: what was set last isn't on the disk yet\n";
+    if (!is_settled(self) && write(STDERR_FILENO, words, sizeof words - 1) < 0)
+        return;
+}
+
 /* exit() may be called by a handler of a signal, amid anything that its thread does: in malloc(), say, or in
  * a lock that the worker then waits for. So nothing here waits without a bound, or takes memory. */
 void worker_end(DconfdbBackend *self)
 {
-    static const char words[] = "dconfdb: what was set last isn't on the disk yet\n";
     gint64 now = g_get_monotonic_time(), end = now + LONGEST_END, moved = now;
     if (!mutex_lock_until(&self->lock, now + LONGEST_REST))
         return; /* this very thread has it */
     bool has_worker = self->has_worker;
     self->has_ended = true;
     g_mutex_unlock(&self->lock);
-    if (!has_worker)
-        return;
-    worker_wake(self);
-    while (!is_joined(self)) {
+    if (has_worker)
+        worker_wake(self);
+    while (has_worker && now < end && now < moved + LONGEST_REST) {
+        if (is_joined(self))
+            return;
         now = g_get_monotonic_time();
         if (g_atomic_int_get(&self->is_writing))
             moved = now;
-        if (now < end && now < moved + LONGEST_REST)
-            continue;
-        if (!is_settled(self) && write(STDERR_FILENO, words, sizeof words - 1) < 0)
-            return;
-        return;
     }
+    say_what_waits(self);
 }
