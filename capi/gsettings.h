@@ -9,6 +9,7 @@
 #include <gio/gio.h>
 #include <gio/gsettingsbackend.h>
 #include <pthread.h>
+#include <stdatomic.h>
 #include <sys/stat.h>
 
 /* ---- changes that wait (gsettings_changes.c) */
@@ -117,7 +118,6 @@ typedef struct {
     GHashTable *subscribed;
     GHashTable *asked;  /* main contexts that are to say whether they turn */
     bool is_to_watch;   /* one has turned: somebody may be told */
-    gint64 looks;       /* when a read is to look at the files again */
     GQueue untold;      /* notices that the worker is to tell */
     bool has_worker;
     pthread_t worker;
@@ -126,6 +126,7 @@ typedef struct {
     gint is_writing;  /* the worker writes, or is to try again; atomic */
     gint is_reopened; /* other files may be the store's, and are to be watched; atomic */
     gint is_watching; /* what others change is noticed without a look at the files; atomic */
+    _Atomic gint64 looks; /* when a read is to look at the files again */
 
     gint64 again; /* for the worker alone, as what follows: when a write is tried again; 0: none is */
     Wait *wait;   /* NULL: no turn is waited for */

@@ -5,6 +5,7 @@
 #include <errno.h>
 #include <stdlib.h>
 #include <string.h>
+#include <time.h>
 #include <unistd.h>
 
 /* In microseconds: how long g_settings_sync() waits, and a write is tried again; the pauses before that; how
@@ -160,29 +161,38 @@ void store_look(DconfdbBackend *self)
     notice_tell(self, &notice);
 }
 
-/* Whether it is time for a look, if that is no first opening; then it is again after so long. */
-static bool is_to_peek(DconfdbBackend *self)
+/* The monotonic clock to some milliseconds, for a quarter of what the exact time costs. */
+static gint64 coarse_time(void)
 {
-    gint64 now = g_get_monotonic_time();
+    struct timespec now;
+    if (clock_gettime(CLOCK_MONOTONIC_COARSE, &now) != 0)
+        return g_get_monotonic_time();
+    return (gint64)now.tv_sec * G_USEC_PER_SEC + now.tv_nsec / 1000;
+}
+
+/* Whether this thread is to look, if that is no first opening; then one is again after so long. */
+static bool is_to_peek(DconfdbBackend *self, gint64 now)
+{
     g_mutex_lock(&self->lock);
-    bool is = self->folder && self->has_opened && !self->has_ended && now >= self->looks;
+    bool is = self->folder && self->has_opened && !self->has_ended && now >= atomic_load(&self->looks);
     if (is)
-        self->looks = now + BETWEEN_LOOKS;
+        atomic_store(&self->looks, now + BETWEEN_LOOKS);
     g_mutex_unlock(&self->lock);
     return is;
 }
 
 void store_peek(DconfdbBackend *self)
 {
-    if (!is_to_peek(self) || !g_mutex_trylock(&self->turn))
+    gint64 now = coarse_time();
+    /* Nearly all reads end here, without a lock. */
+    if (G_LIKELY(now < atomic_load_explicit(&self->looks, memory_order_relaxed)))
+        return;
+    if (!is_to_peek(self, now) || !g_mutex_trylock(&self->turn))
         return;
     Notice *notice = g_new0(Notice, 1);
     /* A file that can't be read is read again and again. */
-    if (!look(self, notice)) {
-        g_mutex_lock(&self->lock);
-        self->looks = g_get_monotonic_time() + AFTER_A_FAULT;
-        g_mutex_unlock(&self->lock);
-    }
+    if (!look(self, notice))
+        atomic_store(&self->looks, coarse_time() + AFTER_A_FAULT);
     g_mutex_unlock(&self->turn);
     /* A handler would run amid the read, if this thread told. */
     if (notice->before != notice->after || notice->fault)
