@@ -2,3 +2,4 @@ mod ChangeTurns
 mod AfterTurns
 mod Refusals
 mod Stored
+mod LineLaws

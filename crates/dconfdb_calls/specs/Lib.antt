@@ -4,5 +4,8 @@ pub mod Seen
 pub mod Opened
 pub mod Listed
 pub mod Named
+pub mod GoodLines
+pub mod Stored
+pub mod Salvaged
 pub mod Changed
 pub mod Turns

@@ -1,7 +1,7 @@
 -- What C is told of a profile.
 use Rattle.std.specs.Prelude.{◌≡◌, ◌⊎◌, ℕ, List, Ok, Err, IsUtf8, map}
 use Rattle.dconf_model.specs.Causes.{SettingsCause}
-use Rattle.dconf_model.specs.Causes.SettingsCause.{bad_line, service_db, user_not_first, too_many}
+use Rattle.dconf_model.specs.Causes.SettingsCause.{bad_line, service_db, not_utf8, user_not_first, too_many}
 use Rattle.dconf_model.specs.Lines.{LineFault}
 use Rattle.dconf_model.specs.Profiles.{Database, Kind, databases_in}
 use Rattle.dconf_model.specs.Profiles.Kind.{user_db, system_db, file_db}
@@ -29,6 +29,7 @@ abbrev pub AreNamed : List ℕ → List DconfdbName → List DconfdbName → ℕ
 AreNamed text old new n = (names : List DconfdbName) × AreNamesIn text names × HandsOut names old new n
 
 abbrev pub cause_number : SettingsCause → ℕ
+cause_number not_utf8 = 8
 cause_number bad_line = 9
 cause_number service_db = 10
 cause_number user_not_first = 11

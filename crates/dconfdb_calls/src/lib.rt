@@ -16,21 +16,27 @@
 #![tactic(auto)]
 
 mod changes;
+mod comparing;
 mod differences;
 mod fault;
 mod given;
+mod lines;
 mod names;
 mod opened;
 mod profiles;
+mod salvaged;
 mod turns;
 mod values;
 
 pub use changes::{DconfdbChange, Refused, user_file};
+pub use comparing::is_stored;
 pub use differences::differing_keys;
 pub use fault::Fault;
 pub use given::hand_out;
+pub use lines::{GoodLines, good_lines};
 pub use names::{directory_locks, directory_names};
 pub use opened::{BadFile, DconfdbUnsound, open_layer};
 pub use profiles::{BadProfile, DconfdbName, profile_databases};
+pub use salvaged::{Salvaged, salvaged_file};
 pub use turns::{Others, Seen, Turn, read_after};
 pub use values::{DconfdbFound, is_key_locked, is_key_writable, read, read_default, read_own};

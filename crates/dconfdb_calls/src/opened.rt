@@ -76,7 +76,7 @@ fn bad_file(fault: DatabaseFault) -> BadFile
 }
 
 /// The fault of bytes that are no database.
-fn fault_of(fault: OpenFault) -> Fault
+pub(crate) fn fault_of(fault: OpenFault) -> Fault
     ensures { number_of result ≡ open_number (open_fault_of fault) }
 {
     match fault {

@@ -53,7 +53,7 @@ pub fn profile_databases<'a>(
 }
 
 /// The databases that a profile's text names.
-fn named<'a>(alloc: Global, text: &'a str) -> Result<Vec<DconfdbName<'a>>, ProfileFault>
+pub(crate) fn named<'a>(alloc: Global, text: &'a str) -> Result<Vec<DconfdbName<'a>>, ProfileFault>
     ensures names { IfOk result (λ names. AreNamesIn text.entry.now names.items) }
     ensures fault { IfErr result (λ e. IfSome (profile_fault_of e) (λ fault. databases_in text.entry.now ≡ Err fault)) }
 {
@@ -87,7 +87,7 @@ fn name_of(database: Database<'_>) -> DconfdbName<'_>
 }
 
 /// The fault of a profile.
-fn fault_of(fault: ProfileFault) -> Fault
+pub(crate) fn fault_of(fault: ProfileFault) -> Fault
     ensures cause { IfSome (profile_fault_of fault) (λ f. number_of result ≡ cause_number f.cause) }
     ensures memory { IfNone (profile_fault_of fault) (number_of result ≡ 1) }
 {
