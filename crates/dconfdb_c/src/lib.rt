@@ -8,3 +8,4 @@ mod changing;
 mod listing;
 mod opening;
 mod reading;
+mod repairing;

@@ -1,13 +1,17 @@
 //! Opening the layers of a store, reading its profile, and what the numbers of faults say.
-ghost use Rattle.std.specs.Prelude.{◌≡◌, ◌≢◌, IsTrue, false};
+ghost use Rattle.std.specs.Prelude.{◌≡◌, ◌≢◌, IsTrue, false, option_map};
 ghost use Rattle.dconf_model.specs.Databases.{IsLayer};
 ghost use Rattle.dconf_engine.specs.LayerSettings.{settings_of};
+ghost use Rattle.dconfdb_calls.specs.GoodLines.{AreGoodNames, first_fault, line_fault, or_none};
 ghost use Rattle.dconfdb_calls.specs.Named.{AreNamed, IsNoProfile};
 ghost use Rattle.dconfdb_calls.specs.Numbers.{IsNumber, IsTextOf};
 ghost use Rattle.dconfdb_calls.specs.Opened.{IsToldOf, bytes_if};
 
 use dconf_engine::Layer;
-use dconfdb_calls::{DconfdbName, DconfdbUnsound, Fault, hand_out, open_layer, profile_databases};
+use dconfdb_calls::{
+    BadProfile, DconfdbName, DconfdbUnsound, Fault, good_lines, hand_out, open_layer,
+    profile_databases,
+};
 use std::alloc::Global;
 
 /// Opens a layer: a database of a file's bytes, or an empty one if there is no file. Else the number
@@ -61,6 +65,44 @@ pub extern "C" fn dconfdb_profile<'a>(
             *line = bad.line;
             bad.fault.number()
         }
+    }
+}
+
+/// The databases that the lines of a profile's text name, at most 64, where bad lines are passed over:
+/// handed out as `dconfdb_list` does. `fault` is the number of the first bad line's fault, and `line`
+/// its number, counted from 1; both are 0 if no line is bad. Else the number of a fault, and nothing
+/// changes.
+#[unsafe(no_mangle)]
+pub extern "C" fn dconfdb_profile_lines<'a>(
+    alloc: Global,
+    text: &'a [u8],
+    room: &mut [DconfdbName<'a>],
+    len: &mut usize,
+    fault: &mut u32,
+    line: &mut usize,
+) -> u32
+    ensures done { result ≡ 0 → AreGoodNames text.entry.now room.old room.new len.new }
+    ensures told { result ≡ 0 → (fault.new, line.new) ≡ or_none (first_fault text.entry.now) }
+    ensures refused { result ≢ 0 → result ≡ 1 }
+    ensures kept { result ≢ 0 → (room.new ≡ room.old) × (len.new ≡ len.old) × (fault.new ≡ fault.old) × (line.new ≡ line.old) }
+{
+    match good_lines(alloc, text) {
+        Ok(lines) => {
+            *len = hand_out(lines.names.as_slice(), room);
+            (*fault, *line) = number_and_line(lines.fault);
+            0
+        }
+        Err(fault) => fault.number(),
+    }
+}
+
+/// The number of a bad line's fault, and the line; zeros if there is none.
+fn number_and_line(bad: Option<BadProfile>) -> (u32, usize)
+    ensures { result ≡ or_none (option_map line_fault bad) }
+{
+    match bad {
+        Some(bad) => (bad.fault.number(), bad.line),
+        None => (0, 0),
     }
 }
 

@@ -11,7 +11,7 @@ use std::alloc::Global;
 use std::test::Fail;
 
 /// The layer of a file that is a sound database.
-fn layer(file: &[u8]) -> Result<Layer<'_>, Fail> {
+pub(crate) fn layer(file: &[u8]) -> Result<Layer<'_>, Fail> {
     match open_layer(file, true) {
         Ok(layer) => Ok(layer),
         Err(bad) => Err(Fail::new(bad.fault.text())),

@@ -5,6 +5,8 @@
 #[cfg(test)]
 mod calls;
 #[cfg(test)]
+mod calls_rows;
+#[cfg(test)]
 mod engines;
 #[cfg(test)]
 mod examples;

@@ -18,7 +18,7 @@ loop-rest-preserved c =
     record {
       names = names_on old new l more lines (good_names text) here c.in_ok-add.ensures.names c.loop-rest.invariant.names;
       fault = fault_on (option_map line_fault c.loop-rest.lines.fault) (option_map line_fault c.add.new.self.fault) c.loop-rest.number old new l more lines (first_fault text)
-        here c.in_ok-add.ensures.names c.in_ok-add.ensures.fault c.loop-rest.invariant.fault;
+          here c.in_ok-add.ensures.names c.in_ok-add.ensures.fault c.loop-rest.invariant.fault;
       room = omega (arith, less, before, c.loop-rest.invariant.room);
     }
 

@@ -11,7 +11,11 @@ returns-then-before-gt0-clause-fault c =
 
 pub returns-then-before-ge-MAX_DATABASES-clause-fault : goal.returns-then-before-ge-MAX_DATABASES-clause-fault
 returns-then-before-ge-MAX_DATABASES-clause-fault c =
-    inr (too_many, too_many_at c.args.before (told c.args.name) (λ user some. elim c.else-name-eq0.branch [
-      | else-name-eq0-via-then-name-eq0+else-before-gt0 w ↦ omega (arith, some, w.if-before-gt0.false)
-      | else-name-eq0-via-else-name-eq0 w ↦ omega (arith, user, w.if-name-eq0.false)
-    ]) (omega (arith, c.if-before-ge-MAX_DATABASES.true)), refl)
+    inr (
+      too_many,
+      too_many_at c.args.before (told c.args.name) (λ user some. elim c.else-name-eq0.branch [
+        | else-name-eq0-via-then-name-eq0+else-before-gt0 w ↦ omega (arith, some, w.if-before-gt0.false)
+        | else-name-eq0-via-else-name-eq0 w ↦ omega (arith, user, w.if-name-eq0.false)
+      ]) (omega (arith, c.if-before-ge-MAX_DATABASES.true)),
+      refl,
+    )
