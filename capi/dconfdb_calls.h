@@ -120,6 +120,12 @@ bool dconfdb_read_default(const DconfdbLayer *layers, size_t n, bool writable, c
 /* The value that one layer has, whatever is locked: of the first, the user's own. `origin` is 0. */
 bool dconfdb_read_alone(const DconfdbLayer *layer, const uint8_t *path, size_t path_len, DconfdbFound *found);
 
+/* Whether the value that a layer has is this one: of the type that the text spells, and with the same in
+ * it, whatever its bytes. False too where the text is no key's path, or spells no type. MEMORY, and then
+ * `is` stays. */
+uint32_t dconfdb_is_stored(const DconfdbLayer *layer, const uint8_t *path, size_t path_len, const uint8_t *value, size_t value_len,
+                           const uint8_t *type_text, size_t type_text_len, bool *is);
+
 /* Whether a layer from the second on locks the key. */
 bool dconfdb_is_locked(const DconfdbLayer *layers, size_t n, const uint8_t *path, size_t path_len);
 
@@ -145,10 +151,23 @@ uint32_t dconfdb_locks(const DconfdbLayer *layers, size_t n, const uint8_t *dire
 uint32_t dconfdb_differs(const DconfdbLayer *layers, size_t n, const DconfdbLayer *other, size_t other_n, size_t count,
                          uint8_t *room, size_t room_len, size_t *len);
 
+/* A sound database of what can be saved of a file, sound or not, and how many values and locks it has:
+ * for each path of a key its lowest value whose pointer is valid, and the locks of the lowest table of
+ * locks that opens. `len` as dconfdb_list has it. MEMORY, SHORT to BAD_TABLE, TOO_BIG, and then nothing is
+ * written. */
+uint32_t dconfdb_repair(const uint8_t *file, size_t len, uint8_t *room, size_t room_len, size_t *repaired_len, size_t *keys,
+                        size_t *locks);
+
 /* The databases that a profile's text names, 64 at most. `names` is how many; where they are more
  * than the room, nothing is put into it. MEMORY, NOT_TEXT, or BAD_LINE to TOO_MANY with the line,
  * counted from 1; of the others it is 0. */
 uint32_t dconfdb_profile(const uint8_t *text, size_t len, DconfdbName *room, size_t room_len, size_t *names, size_t *line);
+
+/* The same where bad lines are passed over: those that dconfdb_profile would refuse after the databases
+ * so far, and those that are not UTF-8. `fault` is the number of the first one's, NOT_TEXT to TOO_MANY, and
+ * `line` is its line; both are 0 where no line is bad. MEMORY, and then nothing is written. */
+uint32_t dconfdb_profile_lines(const uint8_t *text, size_t len, DconfdbName *room, size_t room_len, size_t *names, uint32_t *fault,
+                               size_t *line);
 
 /* The user's file after all changes, each made in turn, or none, and without locks. `len` as
  * dconfdb_list has it. MEMORY, BAD_PATH to TOO_BIG, and then only `at` is written: the index of the

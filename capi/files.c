@@ -1,6 +1,5 @@
 /* The files of a store: found, read or mapped, and replaced. */
-#define _DEFAULT_SOURCE
-#define _POSIX_C_SOURCE 200809L
+#define _GNU_SOURCE
 #define _FILE_OFFSET_BITS 64
 #include "files.h"
 
@@ -13,11 +12,11 @@
 #include <sys/stat.h>
 #include <unistd.h>
 
-enum { PERMISSION_BITS = 0777, READ_AND_WRITE = 0600, HEAD = 24 };
+enum { PERMISSION_BITS = 0777, READ_AND_WRITE = 0600, HEAD = 24, MOST_ASIDE = 999 };
 
 static FileState state_of(const struct stat *found)
 {
-    return (FileState){true, found->st_dev, found->st_ino, found->st_size, found->st_mtim};
+    return (FileState){true, found->st_dev, found->st_ino, found->st_size, found->st_mtim, found->st_ctim};
 }
 
 int file_look(const char *name, FileState *state)
@@ -36,6 +35,13 @@ bool file_is_same(const FileState *one, const FileState *other)
         return one->is_there == other->is_there;
     return one->device == other->device && one->inode == other->inode && one->size == other->size
         && one->written.tv_sec == other->written.tv_sec && one->written.tv_nsec == other->written.tv_nsec;
+}
+
+bool file_is_untouched(const FileState *one, const FileState *other)
+{
+    return file_is_same(one, other)
+        && (!one->is_there
+            || (one->touched.tv_sec == other->touched.tv_sec && one->touched.tv_nsec == other->touched.tv_nsec));
 }
 
 /* Reads so many bytes, or fewer where the file has become shorter. */
@@ -90,22 +96,30 @@ int file_read(int folder, const char *name, bool maps, FileWanted *is_wanted, si
     int fault = 0;
     *bytes = (FileBytes){NULL, 0, false};
     *state = (FileState){.is_there = false};
+    /* Before the file is opened: a state of later might be that of a newer file, which would never be read. */
+    if (fstatat(folder, name, &found, 0) == 0)
+        *state = state_of(&found);
     /* O_NONBLOCK: a pipe without a writer is not waited for. */
     int file = openat(folder, name, O_RDONLY | O_CLOEXEC | O_NONBLOCK | O_NOCTTY);
-    if (file < 0)
-        return errno == ENOENT ? 0 : errno;
-    if (fstat(file, &found) != 0)
+    if (file < 0) {
+        fault = errno == ENOENT ? 0 : errno;
+        state->is_there = state->is_there && fault != 0;
+        return fault;
+    }
+    if (fstat(file, &found) != 0) {
         fault = errno;
-    else if (!S_ISREG(found.st_mode))
+        close(file);
+        return fault;
+    }
+    *state = state_of(&found);
+    if (!S_ISREG(found.st_mode))
         fault = S_ISDIR(found.st_mode) ? EISDIR : EINVAL;
     else if ((uintmax_t)found.st_size > most)
         fault = EOVERFLOW;
     else if (found.st_size > 0)
         fault = take(file, maps, is_wanted, (size_t)found.st_size, bytes);
     close(file);
-    if (fault == 0)
-        *state = state_of(&found);
-    else
+    if (fault != 0)
         file_release(bytes);
     return fault;
 }
@@ -214,43 +228,98 @@ static int fill_new(int file, const uint8_t *bytes, size_t len, mode_t mode, con
     return 0;
 }
 
+/* Whose the new file is, and its permission bits: those of the old one, if that is a file. What is kept
+ * aside may not even be readable. */
+static int look_at_old(int folder, const char *name, bool keeps, struct stat *old, mode_t *mode)
+{
+    *mode = READ_AND_WRITE;
+    bool is_there = fstatat(folder, name, old, keeps ? AT_SYMLINK_NOFOLLOW : 0) == 0;
+    if (!is_there)
+        return errno != ENOENT || fstat(folder, old) != 0 ? errno : 0;
+    if (S_ISREG(old->st_mode))
+        *mode = (old->st_mode & PERMISSION_BITS) | (keeps ? READ_AND_WRITE : 0);
+    return 0;
+}
+
 /* Makes the new file. One that is to take another's place is at no time open to more users than
  * that. A first one is open to its owner alone, who is the folder's where root makes it. */
-static int make_new(int folder, const char *name, const char *new_name, const uint8_t *bytes, size_t len, FileState *state)
+static int make_new(int folder, const char *name, const char *new_name, const uint8_t *bytes, size_t len, bool keeps, FileState *state)
 {
     struct stat old;
-    bool is_there = fstatat(folder, name, &old, 0) == 0;
-    if (!is_there && (errno != ENOENT || fstat(folder, &old) != 0))
-        return errno;
-    mode_t mode = is_there ? old.st_mode & PERMISSION_BITS : READ_AND_WRITE;
+    mode_t mode;
+    int fault = look_at_old(folder, name, keeps, &old, &mode);
+    if (fault != 0)
+        return fault;
     if (unlinkat(folder, new_name, 0) != 0 && errno != ENOENT)
         return errno;
     int file = openat(folder, new_name, O_WRONLY | O_CREAT | O_EXCL | O_CLOEXEC, mode | READ_AND_WRITE);
     if (file < 0)
         return errno;
-    int fault = fill_new(file, bytes, len, mode, &old, state);
+    fault = fill_new(file, bytes, len, mode, &old, state);
     if (close(file) != 0 && fault == 0)
         fault = errno;
     return fault;
 }
 
-int file_replace(int turn, const char *name, const uint8_t *bytes, size_t len, FileState *state, bool *has_replaced)
+/* What can't be linked, as a folder can't, changes places with the new file, which is there by another name
+ * then: so the name is never without either. */
+static int change_places(int folder, const char *name, const char *new_name, const char *aside)
 {
-    *has_replaced = false;
+    if (renameat2(folder, new_name, folder, aside, RENAME_NOREPLACE) != 0)
+        return errno;
+    if (renameat2(folder, aside, folder, name, RENAME_EXCHANGE) == 0)
+        return 0;
+    int fault = errno;
+    unlinkat(folder, aside, 0);
+    return fault;
+}
+
+/* What the name is stays, by the first other name that is free. */
+static int set_aside(int folder, const char *name, const char *new_name, Replaced *replaced)
+{
+    size_t size = strlen(name) + sizeof "~999";
+    char *aside = malloc(size);
+    int fault = aside ? EEXIST : ENOMEM;
+    for (int n = 1; fault == EEXIST && n <= MOST_ASIDE; n++) {
+        snprintf(aside, size, "%s~%d", name, n);
+        fault = linkat(folder, name, folder, aside, 0) == 0 ? 0 : errno;
+    }
+    if (fault == EPERM || fault == EACCES) {
+        fault = change_places(folder, name, new_name, aside);
+        replaced->has_replaced = fault == 0;
+    }
+    if (fault == 0)
+        replaced->aside = aside;
+    else
+        free(aside);
+    return fault == ENOENT ? 0 : fault;
+}
+
+/* The new file takes the name. */
+static int put_in_place(int folder, const char *name, const char *new_name, bool keeps, Replaced *replaced)
+{
+    int fault = keeps ? set_aside(folder, name, new_name, replaced) : 0;
+    if (fault != 0 || replaced->has_replaced)
+        return fault;
+    if (renameat(folder, new_name, folder, name) != 0)
+        return errno;
+    replaced->has_replaced = true;
+    return 0;
+}
+
+int file_replace(int turn, const char *name, const uint8_t *bytes, size_t len, bool keeps, Replaced *replaced)
+{
+    *replaced = (Replaced){.has_replaced = false};
     char *new_name = malloc(strlen(name) + sizeof ".new");
     if (!new_name)
         return ENOMEM;
     strcat(strcpy(new_name, name), ".new");
-    int fault = make_new(turn, name, new_name, bytes, len, state);
-    if (fault == 0) {
-        if (renameat(turn, new_name, turn, name) != 0)
-            fault = errno;
-        else
-            *has_replaced = true;
-    }
-    if (*has_replaced && fsync(turn) != 0)
+    int fault = make_new(turn, name, new_name, bytes, len, keeps, &replaced->state);
+    if (fault == 0)
+        fault = put_in_place(turn, name, new_name, keeps, replaced);
+    if (replaced->has_replaced && fsync(turn) != 0)
         fault = errno;
-    if (!*has_replaced)
+    if (!replaced->has_replaced)
         unlinkat(turn, new_name, 0);
     free(new_name);
     return fault;

@@ -7,6 +7,7 @@
 #include "dconfdb_calls.h"
 #include "files.h"
 #include "lock.h"
+#include "mending.h"
 
 #include <errno.h>
 #include <pthread.h>
@@ -23,12 +24,20 @@ _Static_assert((int)DCONFDB_ERROR_MEMORY == (int)DCONFDB_MEMORY && (int)DCONFDB_
                    && (int)DCONFDB_ERROR_TOO_MANY == (int)DCONFDB_TOO_MANY && (int)DCONFDB_ERROR_TOO_BIG == (int)DCONFDB_TOO_BIG,
                "the header's numbers are those of the proved calls");
 
+/* What was wrong with a file, and what is read of it. */
+typedef struct {
+    DconfdbError error;
+    Saved saved;
+    char *aside; /* where it is now that a new one has its name; NULL: it has it */
+} Fault;
+
 /* A database's file at one moment. Snapshots share those that did not change. */
 typedef struct {
     atomic_size_t references;
     FileState state;
     FileBytes bytes;
     DconfdbLayer layer;
+    Fault *fault; /* NULL: there is none */
     char name[];
 } Part;
 
@@ -48,6 +57,8 @@ enum { LARGEST_PROFILE = 16777216, MOST_DATABASES = 64, ROOM_OF_PASSWD = 65536 }
 enum { LONGEST_WAIT = 10000 };
 
 struct DconfdbStore {
+    bool is_lenient;            /* a bad file is empty, or what is saved of it */
+    DconfdbError profile_fault; /* its number is 0 where there is none */
     pthread_mutex_t refreshing; /* held while files are looked at, and put in place */
     pthread_mutex_t handing;    /* held for `now` alone */
     bool has_news;              /* of others' changes, that no refresh has told; under `refreshing` */
@@ -175,10 +186,18 @@ static char *joined(const char *one, const char *between, const char *other)
 
 /* ---- parts: a file, opened */
 
+static void fault_free(Fault *fault)
+{
+    if (fault)
+        free(fault->aside);
+    free(fault);
+}
+
 static void part_unref(Part *part)
 {
     if (part && atomic_fetch_sub(&part->references, 1) == 1) {
         file_release(&part->bytes);
+        fault_free(part->fault);
         free(part);
     }
 }
@@ -189,8 +208,16 @@ static Part *part_ref(Part *part)
     return part;
 }
 
-/* Opens what a file holds. The bytes are the part's, or are freed. */
-static Part *part_open(const char *name, FileState state, FileBytes bytes, size_t database, DconfdbError *error)
+/* A database that is looked at. */
+typedef struct {
+    const char *name;
+    size_t index;
+    bool maps, is_lenient;
+    int turn; /* in a turn the folder in which it is read, which may be moved meanwhile; else NO_FOLDER */
+} Asked;
+
+/* A part without a file. The bytes are the part's, or are freed. */
+static Part *part_new(const char *name, FileState state, FileBytes bytes, DconfdbError *error)
 {
     Part *part = malloc(sizeof *part + strlen(name) + 1);
     if (!part) {
@@ -200,11 +227,62 @@ static Part *part_open(const char *name, FileState state, FileBytes bytes, size_
     }
     *part = (Part){.references = 1, .state = state, .bytes = bytes, .layer = DCONFDB_EMPTY_LAYER};
     strcpy(part->name, name);
+    return part;
+}
+
+/* Nothing is wrong any longer. */
+static void part_forgive(Part *part)
+{
+    fault_free(part->fault);
+    part->fault = NULL;
+}
+
+/* Keeps a fault. */
+static bool part_blame(Part *part, const DconfdbError *fault, DconfdbError *error)
+{
+    part->fault = malloc(sizeof *part->fault);
+    if (!part->fault)
+        return refuse_memory(error);
+    *part->fault = (Fault){*fault, {0, 0, false}, NULL};
+    return true;
+}
+
+/* Reads what can be read of a file that is no sound database, instead of its bytes. */
+static bool part_mend(Part *part, const DconfdbError *fault, DconfdbError *error)
+{
+    FileBytes mended = {NULL, 0, false};
     DconfdbUnsound broken = {0, 0, false};
+    Saved saved;
+    uint32_t number = mend(&part->bytes, &mended, &saved);
+    if (number == DCONFDB_MEMORY)
+        return refuse_memory(error);
+    file_release(&part->bytes);
+    part->bytes = mended;
+    /* Where nothing can be read the layer stays empty. */
+    if (number == DCONFDB_OK)
+        dconfdb_open(mended.at, mended.len, true, &part->layer, &broken);
+    if (saved.is_whole)
+        return true;
+    if (!part_blame(part, fault, error))
+        return false;
+    part->fault->saved = saved;
+    return true;
+}
+
+/* Opens what a file holds. The bytes are the part's, or are freed. */
+static Part *part_open(const Asked *asked, FileState state, FileBytes bytes, DconfdbError *error)
+{
+    DconfdbError fault;
+    DconfdbUnsound broken = {0, 0, false};
+    Part *part = part_new(asked->name, state, bytes, error);
+    if (!part)
+        return NULL;
     uint32_t number = dconfdb_open(bytes_of(bytes.at), bytes.len, state.is_there, &part->layer, &broken);
     if (number == DCONFDB_OK)
         return part;
-    refuse_database(error, number, name, &broken, (Place){.database = database});
+    refuse_database(asked->is_lenient ? &fault : error, number, asked->name, &broken, (Place){.database = asked->index});
+    if (asked->is_lenient && part_mend(part, &fault, error))
+        return part;
     part_unref(part);
     return NULL;
 }
@@ -224,29 +302,57 @@ static bool has_bytes(const Part *part, const FileBytes *bytes)
     return part->bytes.len == bytes->len && (bytes->len == 0 || memcmp(part->bytes.at, bytes->at, bytes->len) == 0);
 }
 
-/* The file as it is now; `old` where that still is it. In a turn it is read in any case, in the
- * turn's folder, which may be moved meanwhile. */
-static Part *part_now(const char *name, bool maps, Part *old, int turn, size_t database, DconfdbError *error)
+/* What is wrong for a moment with the process or the system, and not with the file. */
+static bool is_momentary(int fault)
+{
+    return fault == ENOMEM || fault == EMFILE || fault == ENFILE || fault == EIO || fault == ESTALE || fault == EINTR
+        || fault == EAGAIN;
+}
+
+/* A file that is bad is also another one where its permissions are. */
+static bool is_as_it_was_read(const Part *old, const FileState *state)
+{
+    bool is_bad = old->fault && !old->fault->aside;
+    return is_bad ? state->is_there && file_is_untouched(&old->state, state) : file_is_same(&old->state, state);
+}
+
+/* The part of a file that can't be read: it is empty, and says why. */
+static Part *part_without(const Asked *asked, FileState state, int fault, Part *old, DconfdbError *error)
+{
+    DconfdbError kept;
+    if (!asked->is_lenient || is_momentary(fault)) {
+        refuse_file(error, fault, asked->name, (Place){.database = asked->index});
+        return NULL;
+    }
+    refuse_file(&kept, fault, asked->name, (Place){.database = asked->index});
+    bool is_known = old && old->fault && !old->fault->aside && old->fault->error.number == kept.number;
+    if (is_known && old->fault->error.system == kept.system && file_is_untouched(&old->state, &state))
+        return part_ref(old);
+    Part *part = part_new(asked->name, state, (FileBytes){NULL, 0, false}, error);
+    if (part && part_blame(part, &kept, error))
+        return part;
+    part_unref(part);
+    return NULL;
+}
+
+/* The file as it is now; `old` where that still is it. In a turn it is read in any case. */
+static Part *part_now(const Asked *asked, Part *old, DconfdbError *error)
 {
     FileState state;
     FileBytes bytes;
-    bool looks = old && turn == NO_FOLDER;
-    int fault = looks ? file_look(name, &state) : 0;
-    if (fault == 0 && looks && file_is_same(&old->state, &state))
+    bool is_in_turn = asked->turn != NO_FOLDER, looks = old && !is_in_turn;
+    if (looks && file_look(asked->name, &state) == 0 && is_as_it_was_read(old, &state))
         return part_ref(old);
-    if (fault == 0)
-        fault = file_read(turn, turn == NO_FOLDER ? name : strrchr(name, '/') + 1, maps, may_be_database, LARGEST_FILE, &bytes,
-                          &state);
-    if (fault != 0) {
-        refuse_file(error, fault, name, (Place){.database = database});
-        return NULL;
-    }
+    int fault = file_read(asked->turn, is_in_turn ? strrchr(asked->name, '/') + 1 : asked->name, asked->maps, may_be_database,
+                          LARGEST_FILE, &bytes, &state);
+    if (fault != 0)
+        return part_without(asked, state, fault, old, error);
     /* The file was perhaps replaced, by one that is alike in all that stat() says. */
     if (old && !looks && file_is_same(&old->state, &state) && has_bytes(old, &bytes)) {
         file_release(&bytes);
         return part_ref(old);
     }
-    return part_open(name, state, bytes, database, error);
+    return part_open(asked, state, bytes, error);
 }
 
 /* ---- snapshots */
@@ -297,6 +403,32 @@ size_t dconfdb_snapshot_databases(const DconfdbSnapshot *snapshot)
 const char *dconfdb_snapshot_file(const DconfdbSnapshot *snapshot, size_t database)
 {
     return database < snapshot->count ? snapshot->parts[database]->name : NULL;
+}
+
+/* What becomes of a bad file, after what is wrong with it. */
+static int say_fate(char *text, size_t size, const Fault *fault, size_t database)
+{
+    const Saved *saved = &fault->saved;
+    if (fault->aside && saved->keys == 0)
+        return snprintf(text, size, "; it is %s now, and a new one is begun", fault->aside);
+    if (fault->aside)
+        return snprintf(text, size, "; it is %s now, and a new one has what can be read of it: %zu values", fault->aside, saved->keys);
+    if (saved->keys == 0 && (saved->locks == 0 || database == 0))
+        return snprintf(text, size, "; nothing is read of it");
+    return snprintf(text, size, "; read are %zu values and %zu locks of it", saved->keys, saved->locks);
+}
+
+bool dconfdb_snapshot_fault(const DconfdbSnapshot *snapshot, size_t database, DconfdbError *error)
+{
+    const Fault *fault = database < snapshot->count ? snapshot->parts[database]->fault : NULL;
+    if (!fault || !error)
+        return fault != NULL;
+    *error = fault->error;
+    size_t len = strlen(error->text), room = sizeof error->text - len;
+    int wanted = say_fate(error->text + len, room, fault, database);
+    if (wanted >= 0 && (size_t)wanted >= room)
+        memcpy(error->text + sizeof error->text - 4, "...", 4);
+    return true;
 }
 
 static const DconfdbFound nothing_found = {0, DCONFDB_NOTHING, DCONFDB_NOTHING};
@@ -475,12 +607,22 @@ static char *folder_by_default(const char **of)
 
 /* ---- opening a store */
 
+/* The first is kept. */
+static DconfdbError *profile_fault_of(DconfdbStore *store)
+{
+    return store->profile_fault.number == DCONFDB_ERROR_NONE ? &store->profile_fault : NULL;
+}
+
 /* The text of a profile, where there is a file of that name; `text` holds NULL where there is
- * none. */
-static bool read_profile(const char *name, FileBytes *text, DconfdbError *error)
+ * none, and in a lenient store where it can't be read. */
+static bool read_profile(DconfdbStore *store, const char *name, FileBytes *text, DconfdbError *error)
 {
     FileState state;
     int fault = file_read(NO_FOLDER, name, false, NULL, LARGEST_PROFILE, text, &state);
+    if (fault != 0 && store->is_lenient && !is_momentary(fault)) {
+        refuse_file(profile_fault_of(store), fault, name, nowhere);
+        return true;
+    }
     if (fault != 0)
         return refuse_file(error, fault, name, nowhere);
     /* A profile without a byte is there too. */
@@ -508,13 +650,27 @@ static char *file_of(const DconfdbStore *store, const DconfdbName *database)
     return file;
 }
 
+/* The databases that a profile names; of a lenient store those of its good lines, where the first bad one
+ * is kept as a fault. */
+static uint32_t read_names(DconfdbStore *store, const char *profile, const uint8_t *text, size_t len, DconfdbName *names,
+                           size_t *count, size_t *line)
+{
+    uint32_t fault = DCONFDB_OK;
+    if (!store->is_lenient)
+        return dconfdb_profile(text, len, names, MOST_DATABASES, count, line);
+    uint32_t number = dconfdb_profile_lines(text, len, names, MOST_DATABASES, count, &fault, line);
+    if (number == DCONFDB_OK && fault != DCONFDB_OK)
+        refuse_call(profile_fault_of(store), fault, profile, (Place){.line = *line});
+    return number;
+}
+
 static bool name_files(DconfdbStore *store, const char *profile, const uint8_t *text, size_t len, DconfdbError *error)
 {
     DconfdbName names[MOST_DATABASES];
     size_t count = 0, line = 0;
     for (size_t i = 0; i < MOST_DATABASES; i++)
         names[i] = (DconfdbName){0, DCONFDB_NOTHING};
-    uint32_t number = dconfdb_profile(text, len, names, MOST_DATABASES, &count, &line);
+    uint32_t number = read_names(store, profile, text, len, names, &count, &line);
     if (number != DCONFDB_OK)
         return refuse_call(error, number, profile, (Place){.line = line});
     for (size_t i = 0; i < count; i++) {
@@ -539,10 +695,10 @@ static bool find_files(DconfdbStore *store, DconfdbError *error)
     if (!own)
         return refuse_memory(error);
     const char *name = own;
-    bool done = read_profile(name, &text, error);
+    bool done = read_profile(store, name, &text, error);
     if (done && !text.at) {
         name = everyones;
-        done = read_profile(name, &text, error);
+        done = read_profile(store, name, &text, error);
     }
     if (done && !text.at)
         done = name_files(store, users, (const uint8_t *)users, sizeof users - 1, error);
@@ -564,7 +720,8 @@ static DconfdbSnapshot *look(const DconfdbStore *store, int turn, DconfdbError *
     }
     for (size_t i = 0; i < store->count; i++) {
         bool is_users = store->files[i] == store->user_file;
-        Part *part = part_now(store->files[i], !is_users, old ? old->parts[i] : NULL, is_users ? turn : NO_FOLDER, i, error);
+        Asked asked = {store->files[i], i, !is_users, store->is_lenient, is_users ? turn : NO_FOLDER};
+        Part *part = part_now(&asked, old ? old->parts[i] : NULL, error);
         if (!part) {
             dconfdb_snapshot_unref(snapshot);
             return NULL;
@@ -596,13 +753,34 @@ static DconfdbStore *store_of(const char *folder, DconfdbError *error)
     return NULL;
 }
 
-DconfdbStore *dconfdb_store_open(const char *folder, DconfdbError *error)
+static DconfdbStore *open_store(const char *folder, bool is_lenient, DconfdbError *error)
 {
     DconfdbStore *store = store_of(folder, error);
-    if (store && find_files(store, error) && (store->now = look(store, NO_FOLDER, error)) != NULL)
-        return store;
+    if (store) {
+        store->is_lenient = is_lenient;
+        if (find_files(store, error) && (store->now = look(store, NO_FOLDER, error)) != NULL)
+            return store;
+    }
     dconfdb_store_close(store);
     return NULL;
+}
+
+DconfdbStore *dconfdb_store_open(const char *folder, DconfdbError *error)
+{
+    return open_store(folder, false, error);
+}
+
+DconfdbStore *dconfdb_store_open_lenient(const char *folder, DconfdbError *error)
+{
+    return open_store(folder, true, error);
+}
+
+bool dconfdb_store_profile_fault(const DconfdbStore *store, DconfdbError *error)
+{
+    bool is = store->profile_fault.number != DCONFDB_ERROR_NONE;
+    if (is && error)
+        *error = store->profile_fault;
+    return is;
 }
 
 /* Both profiles and the databases, a zero byte after each, or NULL. */
@@ -630,6 +808,7 @@ char *dconfdb_store_files(const char *folder, size_t *size, DconfdbError *error)
     DconfdbStore *store = store_of(folder, error);
     if (!store)
         return NULL;
+    store->is_lenient = true;
     find_files(store, &fault);
     char *names = fault.number == DCONFDB_ERROR_MEMORY ? NULL : file_names(store, size);
     if (!names)
@@ -772,40 +951,118 @@ static bool make_file(const DconfdbStore *store, const DconfdbChange *changes, c
     return refuse_call(error, number, user_file_or_folder(store), nowhere);
 }
 
-/* Puts the file in place. What has to be had for the newer snapshot is had before, so that nothing
- * fails after. */
-static bool put_in_place(DconfdbStore *store, int turn, FileBytes file, DconfdbError *error)
+/* Whether a change leaves the user's own values as they are. */
+static bool is_made(const DconfdbSnapshot *now, const DconfdbChange *change)
 {
-    bool has_replaced = false;
-    DconfdbSnapshot *newer = snapshot_new(store->count, true);
-    Part *part = part_open(store->user_file, (FileState){.is_there = true}, file, 0, error);
-    if (!newer || !part) {
-        dconfdb_snapshot_unref(newer);
+    DconfdbFound found = nothing_found;
+    uint8_t room[1];
+    size_t len = 0;
+    bool is = false;
+    if (now->count == 0 || !now->is_writable)
+        return false;
+    const DconfdbLayer *own = &now->layers[0];
+    const uint8_t *path = change->path.at;
+    size_t path_len = change->path.len;
+    if (change->sets)
+        return dconfdb_is_stored(own, path, path_len, change->value.at, change->value.len, change->type_text.at,
+                                 change->type_text.len, &is) == DCONFDB_OK && is;
+    if (path_len > 0 && path[path_len - 1] == '/')
+        return dconfdb_list(own, 1, path, path_len, room, 0, &len) == DCONFDB_OK && len == 0;
+    return !dconfdb_read_alone(own, path, path_len, &found);
+}
+
+/* Each by itself leaves them, so all do. */
+static bool are_made(const DconfdbSnapshot *now, const DconfdbChange *changes, size_t count)
+{
+    bool are = true;
+    for (size_t i = 0; are && i < count; i++)
+        are = is_made(now, &changes[i]);
+    return are;
+}
+
+bool dconfdb_snapshot_has_edit(const DconfdbSnapshot *snapshot, const DconfdbEdit *edit)
+{
+    DconfdbChange change = change_of(edit);
+    return is_made(snapshot, &change);
+}
+
+/* The same file, or none both times: what a lenient store read of it, too. */
+bool dconfdb_snapshot_is_newest(const DconfdbSnapshot *snapshot)
+{
+    FileState state;
+    return !snapshot->is_writable
+        || (file_look(snapshot->parts[0]->name, &state) == 0 && is_as_it_was_read(snapshot->parts[0], &state));
+}
+
+/* The part of the new file. What was wrong with the old one is kept, as it is set aside. */
+static Part *part_of_new(const DconfdbStore *store, FileBytes file, DconfdbError *error)
+{
+    Asked asked = {store->user_file, 0, false, false, NO_FOLDER};
+    const Fault *bad = store->now->parts[0]->fault;
+    Part *part = part_open(&asked, (FileState){.is_there = true}, file, error);
+    if (!part || !bad || bad->aside)
+        return part;
+    if (part_blame(part, &bad->error, error)) {
+        part->fault->saved = bad->saved;
+        return part;
+    }
+    part_unref(part);
+    return NULL;
+}
+
+/* The newer snapshot, with the part of the user's file. */
+static DconfdbSnapshot *with_part(const DconfdbStore *store, Part *part, DconfdbError *error)
+{
+    DconfdbSnapshot *newer = part ? snapshot_new(store->count, true) : NULL;
+    if (!newer) {
         part_unref(part);
-        return newer ? false : refuse_memory(error);
+        if (part)
+            refuse_memory(error);
+        return NULL;
     }
     snapshot_put(newer, 0, part);
     for (size_t i = 1; i < store->count; i++)
         snapshot_put(newer, i, part_ref(store->now->parts[i]));
+    return newer;
+}
+
+/* Puts the file in place. What has to be had for the newer snapshot is had before, so that nothing
+ * fails after. */
+static bool put_in_place(DconfdbStore *store, int turn, FileBytes file, DconfdbError *error)
+{
+    Replaced replaced;
+    Part *part = part_of_new(store, file, error);
+    DconfdbSnapshot *newer = with_part(store, part, error);
+    if (!newer)
+        return false;
     const char *name = strrchr(store->user_file, '/') + 1;
-    int fault = file_replace(turn, name, file.at, file.len, &part->state, &has_replaced);
-    if (has_replaced)
+    int fault = file_replace(turn, name, file.at, file.len, part->fault != NULL, &replaced);
+    part->state = replaced.state;
+    if (part->fault && replaced.aside)
+        part->fault->aside = replaced.aside;
+    else
+        part_forgive(part);
+    if (replaced.has_replaced)
         renew(store, newer);
     else
         dconfdb_snapshot_unref(newer);
     if (fault == 0)
         return true;
-    return has_replaced ? refuse_replaced(error, fault, store->user_file) : refuse_file(error, fault, store->user_file, nowhere);
+    return replaced.has_replaced ? refuse_replaced(error, fault, store->user_file)
+                                 : refuse_file(error, fault, store->user_file, nowhere);
 }
 
-/* The changes, while it is this program's turn. */
+/* The changes, while it is this program's turn. Where they change nothing the file stays, as bad as it may be. */
 static bool change_in_turn(DconfdbStore *store, int turn, const DconfdbChange *changes, const DconfdbEdit *edits, size_t count,
                            DconfdbError *error)
 {
     FileBytes file;
     pthread_mutex_lock(&store->refreshing);
-    bool done = refresh(store, turn, error) && make_file(store, changes, edits, count, &file, error)
-        && put_in_place(store, turn, file, error);
+    bool done = refresh(store, turn, error) && make_file(store, changes, edits, count, &file, error);
+    if (done && are_made(store->now, changes, count))
+        file_release(&file);
+    else if (done)
+        done = put_in_place(store, turn, file, error);
     pthread_mutex_unlock(&store->refreshing);
     return done;
 }
@@ -833,13 +1090,13 @@ bool refuse_lock(const DconfdbStore *store, int fault, DconfdbError *error)
     return refuse(error, DCONFDB_ERROR_BUSY, 0, nowhere, "%s: others have been changing it for ten seconds", user_file_or_folder(store));
 }
 
-/* There is no user's file: only why that is a fault, and of which edit, has to be said. */
+/* No file is to be made: only why a change is at fault has to be said, and which edit. */
 static bool change_nothing(DconfdbStore *store, const DconfdbChange *changes, const DconfdbEdit *edits, size_t count,
                            DconfdbError *error)
 {
     FileBytes file;
     pthread_mutex_lock(&store->refreshing);
-    bool done = make_file(store, changes, edits, count, &file, error);
+    bool done = (!store->user_file || refresh(store, NO_FOLDER, error)) && make_file(store, changes, edits, count, &file, error);
     pthread_mutex_unlock(&store->refreshing);
     if (done)
         file_release(&file);
@@ -856,7 +1113,7 @@ bool locked_change(DconfdbStore *store, const FolderLock *lock, const DconfdbEdi
         return refuse_memory(error);
     for (size_t i = 0; i < count; i++)
         changes[i] = change_of(&edits[i]);
-    if (store->user_file)
+    if (store->user_file && lock)
         done = change_in_turn(store, lock->folder, changes, edits, count, error);
     else
         done = change_nothing(store, changes, edits, count, error);
@@ -864,10 +1121,24 @@ bool locked_change(DconfdbStore *store, const FolderLock *lock, const DconfdbEdi
     return done;
 }
 
+/* Whether there is nothing that could be changed: no user's database, or no file of it, and nothing is set. So no
+ * folder is made, and no lock's file. */
+static bool has_nothing(const DconfdbStore *store, const DconfdbEdit *edits, size_t count)
+{
+    FileState state;
+    if (!store->user_file)
+        return true;
+    for (size_t i = 0; i < count; i++) {
+        if (edits[i].type)
+            return false;
+    }
+    return file_look(store->user_file, &state) == 0 && !state.is_there;
+}
+
 bool dconfdb_store_change(DconfdbStore *store, const DconfdbEdit *edits, size_t count, DconfdbError *error)
 {
     FolderLock lock;
-    if (count == 0 || !store->user_file)
+    if (count == 0 || has_nothing(store, edits, count))
         return locked_change(store, NULL, edits, count, error);
     int fault = folder_lock(store->folder, LONGEST_WAIT, &lock);
     if (fault != 0)

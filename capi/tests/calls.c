@@ -147,8 +147,9 @@ static void tries_hidden_changes(DconfdbStore *store)
     now = dconfdb_store_snapshot(store);
     TRY(ARE(dconfdb_snapshot_differences(old, now, &size, &error), "/seen\0"));
     TRY(ARE(dconfdb_snapshot_differences(now, old, &size, &error), "/seen\0"));
-    edits[0] = (DconfdbEdit){"/", NULL, NULL, 0};
-    takes_file_of(edits, 1);
+    /* A file is made where something is set, though nothing is left of it. */
+    edits[1] = (DconfdbEdit){"/", NULL, NULL, 0};
+    takes_file_of(edits, 2);
     TRY(dconfdb_store_refresh(store, NULL, &error));
     dconfdb_snapshot_unref(old);
     dconfdb_snapshot_unref(now);
@@ -304,7 +305,7 @@ static void tries_files(void)
 {
     size_t size = 0;
     TRY(ARE(dconfdb_store_files("/none", &size, &error), "/none/profile\0/etc/dconfdb/profile\0/none/user.user\0"));
-    TRY(ARE_FILES("bad", "/bad/profile", "/etc/dconfdb/profile"));
+    TRY(ARE_FILES("bad", "/bad/profile", "/etc/dconfdb/profile", "/bad/me.user"));
     TRY(ARE_FILES("folder", "/folder/profile", "/etc/dconfdb/profile", "/folder/me.user"));
     TRY(ARE_FILES("writeless", "/writeless/profile", "/etc/dconfdb/profile", "/site.db"));
 }

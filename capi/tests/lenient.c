@@ -1,0 +1,395 @@
+/* Tries bad files in a lenient store, and changes that change nothing: lenient FOLDER, as calls.c has it.
+ * It says how many files it tried. */
+#define _GNU_SOURCE
+#include "try.h"
+
+#include <errno.h>
+#include <fcntl.h>
+#include <linux/capability.h>
+#include <stdint.h>
+#include <sys/stat.h>
+#include <sys/syscall.h>
+#include <unistd.h>
+
+static DconfdbError error;
+static char *const home = NULL;
+static size_t tried;
+
+SYSTEMS_HOME(home)
+
+enum { MOST = 65536 };
+
+typedef struct {
+    size_t len;
+    char bytes[MOST];
+} Bytes;
+
+static bool changes(DconfdbStore *store, DconfdbEdit edit)
+{
+    return dconfdb_store_change(store, &edit, 1, &error);
+}
+
+static void writes(const char *name, const void *bytes, size_t len)
+{
+    FILE *file = fopen(name, "w");
+    TRY(file && fwrite(bytes, 1, len, file) == len && fclose(file) == 0);
+}
+
+static void reads(const char *name, Bytes *bytes)
+{
+    FILE *file = fopen(name, "r");
+    TRY(file);
+    bytes->len = fread(bytes->bytes, 1, sizeof bytes->bytes, file);
+    TRY(fclose(file) == 0);
+}
+
+static bool holds(const char *name, const void *wanted, size_t len)
+{
+    static Bytes bytes;
+    reads(name, &bytes);
+    return bytes.len == len && memcmp(bytes.bytes, wanted, len) == 0;
+}
+
+static DconfdbStore *opens(void)
+{
+    DconfdbStore *store = dconfdb_store_open_lenient(".", &error);
+    if (!store)
+        fprintf(stderr, "%s\n", error.text);
+    TRY(store);
+    return store;
+}
+
+/* Whether a database has a fault whose text has these words; no words: none. */
+static bool has_fault(DconfdbStore *store, size_t database, const char *words, const char *also)
+{
+    DconfdbSnapshot *now = dconfdb_store_snapshot(store);
+    bool has = dconfdb_snapshot_fault(now, database, &error), as_well = dconfdb_snapshot_fault(now, database, NULL);
+    bool is = has == as_well && has == (words != NULL) && (!words || (strstr(error.text, words) && strstr(error.text, also)));
+    if (!is)
+        fprintf(stderr, "database %zu, %d: %s\n", database, has, has ? error.text : "no fault");
+    dconfdb_snapshot_unref(now);
+    return is;
+}
+
+/* Whether a string is seen; no string: nothing. */
+static bool sees(DconfdbStore *store, const char *path, const char *text)
+{
+    DconfdbSnapshot *now = dconfdb_store_snapshot(store);
+    bool is = has(now, path, text);
+    dconfdb_snapshot_unref(now);
+    return is;
+}
+
+static bool locks(DconfdbStore *store, const char *path)
+{
+    DconfdbSnapshot *now = dconfdb_store_snapshot(store);
+    bool is = dconfdb_snapshot_is_locked(now, path);
+    dconfdb_snapshot_unref(now);
+    return is;
+}
+
+/* ---- changes that change nothing */
+
+typedef struct {
+    ino_t inode;
+    struct timespec written;
+} Mark;
+
+static Mark mark_of(const char *name)
+{
+    struct stat found;
+    TRY(stat(name, &found) == 0);
+    return (Mark){found.st_ino, found.st_mtim};
+}
+
+static bool stays(const char *name, Mark mark)
+{
+    Mark now = mark_of(name);
+    return now.inode == mark.inode && now.written.tv_sec == mark.written.tv_sec && now.written.tv_nsec == mark.written.tv_nsec;
+}
+
+static bool has_edit(DconfdbStore *store, DconfdbEdit edit)
+{
+    DconfdbSnapshot *now = dconfdb_store_snapshot(store);
+    bool has = dconfdb_snapshot_has_edit(now, &edit);
+    dconfdb_snapshot_unref(now);
+    return has;
+}
+
+static bool is_newest(DconfdbStore *store)
+{
+    DconfdbSnapshot *now = dconfdb_store_snapshot(store);
+    bool is = dconfdb_snapshot_is_newest(now);
+    dconfdb_snapshot_unref(now);
+    return is;
+}
+
+static void tries_what_is_there(void)
+{
+    static const char pair[] = "\1\0\0\0\0\0\0\0\5\0\0\0\0\0\0\0", other[] = "\1\7\7\7\7\7\7\7\5\0\0\0\0\0\0\0";
+    DconfdbEdit reset = {"/none", NULL, NULL, 0}, below = {"/none/", NULL, NULL, 0}, root = {"/", NULL, NULL, 0};
+    DconfdbStore *store = opens(), *second = opens();
+    /* No file is made where there is none, nor a folder. */
+    TRY(changes(store, reset) && changes(store, below) && changes(store, root) && access("me.user", F_OK) != 0);
+    TRY(!changes(store, (DconfdbEdit){"none", NULL, NULL, 0}) && error.number == DCONFDB_ERROR_BAD_PATH);
+    TRY(!changes(store, (DconfdbEdit){"/org/desk/size", NULL, NULL, 0}) && error.number == DCONFDB_ERROR_LOCKED);
+    DconfdbEdit all[] = {sets_text("/k", "1"), {"/pair", "(bt)", pair, 16}};
+    TRY(!has_edit(store, all[0]) && dconfdb_store_change(store, all, 2, &error) && has_edit(store, all[0]) && is_newest(store));
+    Mark mark = mark_of("me.user");
+    TRY(dconfdb_store_change(store, all, 2, &error) && changes(store, reset) && changes(store, below) && stays("me.user", mark));
+    /* The same value in other bytes. */
+    all[1].data = other;
+    TRY(changes(store, all[1]) && has_edit(store, all[1]) && stays("me.user", mark));
+    /* A refusal is one also where another edit changes nothing. */
+    DconfdbEdit locked[] = {sets_text("/k", "1"), sets_text("/org/desk/size", "1")};
+    TRY(!dconfdb_store_change(store, locked, 2, &error) && error.number == DCONFDB_ERROR_LOCKED && error.at == 1);
+    TRY(has_edit(store, reset) && has_edit(store, below) && !has_edit(store, root) && !has_edit(store, sets_text("/k", "2")));
+    TRY(!has_edit(store, (DconfdbEdit){"/k", "o", "1", 2}) && stays("me.user", mark));
+    /* What another changed meanwhile is not there any longer. */
+    TRY(changes(second, sets_text("/k", "2")) && has_edit(store, all[0]) && !is_newest(store));
+    TRY(changes(store, all[0]) && sees(store, "/k", "1") && is_newest(store) && !is_newest(second));
+    dconfdb_store_close(second);
+    dconfdb_store_close(store);
+    TRY(unlink("me.user") == 0 && mkdir("other", 0700) == 0 && rmdir("other") == 0);
+    store = dconfdb_store_open("other", &error);
+    TRY(store && changes(store, reset) && access("other", F_OK) != 0 && changes(store, sets_text("/k", "1")));
+    dconfdb_store_close(store);
+}
+
+/* ---- a bad user's file */
+
+/* The other layers stand, and the first change begins a new file; what there was stays aside. */
+static void tries_it(const char *words, const char *also, bool is_file)
+{
+    static Bytes bad;
+    struct stat found, aside;
+    if (is_file)
+        reads("me.user", &bad);
+    TRY(lstat("me.user", &found) == 0);
+    TRY(!dconfdb_store_open(".", &error));
+    DconfdbStore *store = opens();
+    TRY(has_fault(store, 0, words, also) && has_fault(store, 1, NULL, NULL));
+    TRY(sees(store, "/org/desk/name", "desk") && locks(store, "/org/desk/size") && sees(store, "/far/key", "far"));
+    TRY(dconfdb_store_refresh(store, NULL, &error) && has_fault(store, 0, words, also));
+    TRY(!changes(store, sets_text("/org/desk/size", "1")) && error.number == DCONFDB_ERROR_LOCKED);
+    TRY(changes(store, (DconfdbEdit){"/not/there", NULL, NULL, 0}) && access("me.user~1", F_OK) != 0);
+    TRY(changes(store, sets_text("/new", "1")) && sees(store, "/new", "1") && has_fault(store, 0, words, "it is me.user~1 now"));
+    TRY(lstat("me.user~1", &aside) == 0 && aside.st_ino == found.st_ino && (!is_file || holds("me.user~1", bad.bytes, bad.len)));
+    TRY(access("me.user~2", F_OK) != 0 && access("me.user.new", F_OK) != 0);
+    TRY(dconfdb_store_refresh(store, NULL, &error) && changes(store, sets_text("/new", "2")) && has_fault(store, 0, NULL, NULL));
+    dconfdb_store_close(store);
+    store = dconfdb_store_open(".", &error);
+    TRY(store && sees(store, "/new", "2") && stat("me.user", &found) == 0 && S_ISREG(found.st_mode) && (found.st_mode & 0600) == 0600);
+    dconfdb_store_close(store);
+    TRY(unlink("me.user") == 0 && (unlink("me.user~1") == 0 || rmdir("me.user~1") == 0));
+    tried++;
+}
+
+enum { KEYS = 20 };
+
+static const char *path_of(int key)
+{
+    static char path[32];
+    snprintf(path, sizeof path, "/key%d", key);
+    return path;
+}
+
+static const char *value_of(int key)
+{
+    static char text[64];
+    snprintf(text, sizeof text, "a value of some length, of key %d", key);
+    return text;
+}
+
+/* What a lenient store reads of a cut file is in the file after a change. It says how many values. */
+static size_t keeps_what_it_reads(void)
+{
+    size_t count = 0;
+    DconfdbValue value;
+    DconfdbStore *store = opens();
+    DconfdbSnapshot *cut = dconfdb_store_snapshot(store);
+    TRY(changes(store, sets_text("/new", "1")) && sees(store, "/org/desk/name", "desk") && locks(store, "/shut/k"));
+    for (int key = 0; key < KEYS; key++) {
+        bool is = dconfdb_snapshot_read(cut, path_of(key), &value);
+        TRY(sees(store, path_of(key), is ? value_of(key) : NULL));
+        count += is;
+    }
+    dconfdb_snapshot_unref(cut);
+    dconfdb_store_close(store);
+    TRY(unlink("me.user") == 0 && unlink("me.user~1") == 0);
+    return count;
+}
+
+/* Cut at each multiple of 100 bytes. */
+static void tries_cut_files(void)
+{
+    static Bytes whole;
+    size_t kept = 0;
+    DconfdbStore *store = opens();
+    for (int key = 0; key < KEYS; key++)
+        TRY(changes(store, sets_text(path_of(key), value_of(key))));
+    dconfdb_store_close(store);
+    reads("me.user", &whole);
+    for (size_t len = 0; len < whole.len; len += 100) {
+        writes("me.user", whole.bytes, len);
+        kept += keeps_what_it_reads();
+        writes("me.user", whole.bytes, len);
+        tries_it("/me.user: ", "", true);
+    }
+    TRY(kept > KEYS);
+}
+
+static void tries_odd_files(void)
+{
+    static const char noise[] = "no database, but long enough to have a header of one, and more";
+    writes("me.user", "", 0);
+    tries_it("shorter than a database's header", "nothing is read of it", true);
+    writes("me.user", noise, sizeof noise);
+    tries_it("does not start as a database does", "nothing is read of it", true);
+    TRY(mkfifo("me.user", 0644) == 0);
+    tries_it("Invalid argument", "nothing is read of it", false);
+    TRY(mkdir("me.user", 0755) == 0);
+    tries_it("Is a directory", "nothing is read of it", false);
+    TRY(symlink("me.user", "me.user") == 0);
+    tries_it("symbolic links", "nothing is read of it", false);
+    writes("me.user", "", 0);
+    TRY(truncate("me.user", 4294967296) == 0);
+    tries_it("the file is too big", "nothing is read of it", false);
+}
+
+/* Root reads what its capabilities let it, and no more than others without them. */
+static void leaves_rights(void)
+{
+    struct __user_cap_header_struct head = {_LINUX_CAPABILITY_VERSION_3, 0};
+    struct __user_cap_data_struct rights[2] = {{0, 0, 0}, {0, 0, 0}};
+    TRY(syscall(SYS_capset, &head, rights) == 0);
+}
+
+static void tries_closed_files(void)
+{
+    writes("me.user", "", 0);
+    TRY(chmod("me.user", 0) == 0);
+    DconfdbStore *store = opens();
+    TRY(has_fault(store, 0, "Permission denied", "nothing is read of it"));
+    /* It is read as soon as it may be, though nothing was written. */
+    TRY(chmod("me.user", 0600) == 0 && dconfdb_store_refresh(store, NULL, &error) && has_fault(store, 0, "header", ""));
+    dconfdb_store_close(store);
+    TRY(chmod("me.user", 0) == 0);
+    tries_it("Permission denied", "nothing is read of it", false);
+}
+
+/* A name that is taken is passed over, and a file that is mended meanwhile is no bad one. */
+static void tries_names(void)
+{
+    static Bytes good;
+    writes("me.user~1", "x", 1);
+    writes("me.user", "", 0);
+    DconfdbStore *store = opens();
+    TRY(changes(store, sets_text("/new", "1")) && has_fault(store, 0, "", "it is me.user~2 now") && holds("me.user~1", "x", 1));
+    reads("me.user", &good);
+    writes("me.user", "", 0);
+    TRY(dconfdb_store_refresh(store, NULL, &error) && has_fault(store, 0, "header", "") && sees(store, "/new", NULL));
+    writes("me.user", good.bytes, good.len);
+    TRY(changes(store, sets_text("/more", "1")) && sees(store, "/new", "1") && has_fault(store, 0, NULL, NULL));
+    TRY(access("me.user~3", F_OK) != 0 && unlink("me.user~1") == 0 && unlink("me.user~2") == 0 && unlink("me.user") == 0);
+    dconfdb_store_close(store);
+}
+
+/* ---- a site's bad file */
+
+/* `/` and no more, as dconf writes it; and with locks of /a/b and /c/: the kind of `/` and its contents are what memory
+ * held. */
+static const uint8_t of_nothing[] = {
+    71, 86, 97, 114, 105, 97, 110, 116, 0, 0, 0, 0, 0, 0, 0, 0, 24, 0, 0, 0, 60, 0, 0, 0,
+    0, 0, 0, 40, 1, 0, 0, 0, 0, 0, 0, 0, 212, 181, 2, 0, 255, 255, 255, 255, 60, 0, 0, 0,
+    1, 0, 0, 0, 0, 0, 0, 0, 0, 0, 0, 0, 47,
+};
+static const uint8_t of_locks[] = {
+    71, 86, 97, 114, 105, 97, 110, 116, 0, 0, 0, 0, 0, 0, 0, 0, 24, 0, 0, 0, 88, 0, 0, 0,
+    0, 0, 0, 40, 2, 0, 0, 0, 0, 0, 0, 0, 1, 0, 0, 0, 212, 181, 2, 0, 255, 255, 255, 255,
+    88, 0, 0, 0, 1, 0, 237, 0, 155, 127, 255, 113, 234, 236, 126, 15, 143, 57, 13, 123, 255, 255, 255, 255,
+    89, 0, 0, 0, 6, 0, 72, 0, 96, 0, 0, 0, 160, 0, 0, 0, 47, 46, 108, 111, 99, 107, 115, 0,
+    0, 0, 0, 40, 2, 0, 0, 0, 0, 0, 0, 0, 2, 0, 0, 0, 102, 120, 120, 124, 255, 255, 255, 255,
+    160, 0, 0, 0, 4, 0, 118, 0, 168, 0, 0, 0, 171, 0, 0, 0, 198, 135, 135, 11, 255, 255, 255, 255,
+    171, 0, 0, 0, 3, 0, 118, 0, 176, 0, 0, 0, 179, 0, 0, 0, 47, 97, 47, 98, 0, 0, 0, 0,
+    0, 0, 115, 47, 99, 47, 0, 0, 0, 0, 115,
+};
+
+static void tries_bad_sites(void)
+{
+    static Bytes whole;
+    reads("site.db", &whole);
+    /* Without its last values it has its locks. */
+    writes("site.db", whole.bytes, whole.len - 16);
+    DconfdbStore *store = opens();
+    TRY(has_fault(store, 1, "/site.db: ", "2 locks") && locks(store, "/org/desk/size") && locks(store, "/shut/k"));
+    TRY(!changes(store, sets_text("/org/desk/size", "1")) && error.number == DCONFDB_ERROR_LOCKED);
+    TRY(changes(store, sets_text("/k", "mine")) && sees(store, "/k", "mine") && sees(store, "/far/key", "far"));
+    TRY(holds("site.db", whole.bytes, whole.len - 16) && access("site.db~1", F_OK) != 0);
+    writes("site.db", "noise", 5);
+    TRY(dconfdb_store_refresh(store, NULL, &error) && has_fault(store, 1, "header", "nothing is read") && sees(store, "/k", "mine"));
+    TRY(!locks(store, "/org/desk/size") && changes(store, sets_text("/k", "again")));
+    writes("site.db", of_locks, sizeof of_locks);
+    TRY(dconfdb_store_refresh(store, NULL, &error) && has_fault(store, 1, NULL, NULL) && locks(store, "/a/b") && locks(store, "/c/d"));
+    TRY(!locks(store, "/a/c") && !changes(store, sets_text("/a/b", "1")) && error.number == DCONFDB_ERROR_LOCKED);
+    writes("site.db", of_nothing, sizeof of_nothing);
+    TRY(dconfdb_store_refresh(store, NULL, &error) && has_fault(store, 1, NULL, NULL) && !locks(store, "/a/b"));
+    dconfdb_store_close(store);
+    TRY(!dconfdb_store_open(".", &error) && error.number == DCONFDB_ERROR_UNSOUND);
+    /* The same file with a key more in its header's table is none of dconf's. */
+    writes("site.db", of_locks, sizeof of_locks - 60);
+    store = opens();
+    TRY(has_fault(store, 1, "/site.db: ", ""));
+    dconfdb_store_close(store);
+    writes("site.db", whole.bytes, whole.len);
+    TRY(unlink("me.user") == 0);
+    tried += 5;
+}
+
+/* ---- the profile */
+
+static void tries_profile(const char *text, int number, size_t line, size_t count)
+{
+    writes("profile", text, strlen(text));
+    DconfdbStore *store = opens();
+    DconfdbSnapshot *now = dconfdb_store_snapshot(store);
+    bool is = dconfdb_store_profile_fault(store, &error), too = dconfdb_store_profile_fault(store, NULL);
+    TRY(is == (number != 0) && too == is && (!is || (error.number == number && error.line == line)));
+    TRY(dconfdb_snapshot_databases(now) == count && (number == 0 || !dconfdb_store_open(".", NULL)));
+    TRY(locks(store, "/org/desk/size") && dconfdb_snapshot_is_writable(now, "/k"));
+    dconfdb_snapshot_unref(now);
+    dconfdb_store_close(store);
+    tried++;
+}
+
+static void tries_profiles(void)
+{
+    static Bytes whole;
+    reads("profile", &whole);
+    tries_profile("user-db:me\nsystem-db:site\n", 0, 0, 2);
+    tries_profile("user-db:me\nnonsense\nsystem-db:site\n", DCONFDB_ERROR_BAD_LINE, 2, 2);
+    tries_profile("service-db:keyfile/user\nuser-db:me\nsystem-db:site", DCONFDB_ERROR_SERVICE_DB, 1, 2);
+    tries_profile("user-db:me\nuser-db:you\nsystem-db:site\nmore\n", DCONFDB_ERROR_USER_NOT_FIRST, 2, 2);
+    tries_profile("# \xe9\nuser-db:me\nsystem-db:site\n", DCONFDB_ERROR_NOT_TEXT, 1, 2);
+    TRY(unlink("profile") == 0 && mkdir("profile", 0700) == 0);
+    DconfdbStore *store = opens();
+    TRY(dconfdb_store_profile_fault(store, &error) && error.system == EISDIR && strstr(error.text, "/profile: "));
+    dconfdb_store_close(store);
+    TRY(rmdir("profile") == 0);
+    writes("profile", whole.bytes, whole.len);
+}
+
+int main(int argc, char **argv)
+{
+    TRY(argc == 2 && chdir(argv[1]) == 0);
+    tries_what_is_there();
+    tries_cut_files();
+    tries_odd_files();
+    tries_names();
+    tries_bad_sites();
+    tries_profiles();
+    leaves_rights();
+    tries_closed_files();
+    printf("%zu bad files and profiles\n", tried);
+    return 0;
+}
