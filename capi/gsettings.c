@@ -179,19 +179,35 @@ static GPermission *dconfdb_backend_get_permission(GSettingsBackend *backend, co
 typedef enum { REFUSED, EMPTY, WAITS } Outcome;
 
 /* `lock` is held. A child of fork() has no thread that writes, and its parent writes what waits. */
-static Outcome outcome_of(const DconfdbBackend *self, Change *change)
+static Outcome outcome_of(const DconfdbBackend *self, Change *change, const DconfdbSnapshot *stored)
 {
     if (self->has_ended || getpid() != self->process || !change_may_be_made(change, self->now))
         return REFUSED;
+    change_leave_out(change, &self->waiting, stored == self->now ? stored : NULL);
     return change_is_empty(change) ? EMPTY : WAITS;
 }
 
-/* Lets the change wait, or frees it. */
-static Outcome make(DconfdbBackend *self, Change *change)
+/* The newest snapshot, where it has the user's file as that is now: another program may have changed it, and
+ * nobody noticed yet. A look at it is no matter of moments, and is taken without `lock`. */
+static DconfdbSnapshot *stored_now(DconfdbBackend *self)
+{
+    lock_opened(self);
+    DconfdbSnapshot *now = self->now ? dconfdb_snapshot_ref(self->now) : NULL;
+    g_mutex_unlock(&self->lock);
+    if (now && !dconfdb_snapshot_is_newest(now))
+        g_clear_pointer(&now, dconfdb_snapshot_unref);
+    return now;
+}
+
+/* Lets the change wait, or frees it. `told`, if it isn't NULL, is what it changes, where it waits. */
+static Outcome make(DconfdbBackend *self, Change *change, GTree **told)
 {
     bool is_here = false;
-    lock_opened(self);
-    Outcome outcome = outcome_of(self, change);
+    DconfdbSnapshot *stored = stored_now(self);
+    g_mutex_lock(&self->lock);
+    Outcome outcome = outcome_of(self, change, stored);
+    if (outcome == WAITS && told)
+        *told = change_tree(change);
     if (outcome == WAITS) {
         waiting_add(&self->waiting, change);
         self->added++;
@@ -201,6 +217,7 @@ static Outcome make(DconfdbBackend *self, Change *change)
             worker_wake(self);
     }
     g_mutex_unlock(&self->lock);
+    dconfdb_snapshot_unref(stored);
     if (outcome != WAITS)
         change_free(change);
     if (is_here)
@@ -212,7 +229,7 @@ static gboolean dconfdb_backend_write(GSettingsBackend *backend, const char *key
 {
     Change *change = change_new(1);
     change_add(change, key, value);
-    Outcome outcome = make(backend_of(backend), change);
+    Outcome outcome = make(backend_of(backend), change, NULL);
     if (outcome == WAITS)
         g_settings_backend_changed(backend, key, origin_tag);
     return outcome != REFUSED;
@@ -232,10 +249,13 @@ static gboolean add_row(gpointer key, gpointer value, gpointer change)
 static gboolean dconfdb_backend_write_tree(GSettingsBackend *backend, GTree *tree, gpointer origin_tag)
 {
     Change *change = change_new((size_t)g_tree_nnodes(tree));
+    GTree *told = NULL;
     g_tree_foreach(tree, add_row, change);
-    Outcome outcome = make(backend_of(backend), change);
-    if (outcome == WAITS)
-        g_settings_backend_changed_tree(backend, tree, origin_tag);
+    Outcome outcome = make(backend_of(backend), change, &told);
+    if (told) {
+        g_settings_backend_changed_tree(backend, told, origin_tag);
+        g_tree_unref(told);
+    }
     return outcome != REFUSED;
 }
 

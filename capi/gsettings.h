@@ -14,8 +14,8 @@
 
 /* ---- changes that wait (gsettings_changes.c) */
 
-/* An edit of a key; without a value it removes the user's. An edit of a locked key is left out: it
- * has no effect, and the others of the change are made. */
+/* An edit of a key; without a value it removes the user's. One that has no effect is left out, and the others
+ * of the change are made: that of a locked key, and one that changes nothing. */
 typedef struct {
     char *path;
     GVariant *value;
@@ -42,6 +42,13 @@ void change_free(Change *change);
  * user's database. Resets of what may not be changed are left out. */
 bool change_may_be_made(Change *change, const DconfdbSnapshot *now);
 bool change_is_empty(const Change *change);
+
+/* Leaves out what changes nothing: where the newest edit of the key that waits is the same, or, where none
+ * waits, the user has that value. `stored` is NULL where nobody knows that. */
+void change_leave_out(Change *change, const Waiting *waiting, const DconfdbSnapshot *stored);
+
+/* The paths of the edits that are left, each with `value`: to be told. */
+GTree *change_tree(const Change *change);
 void changes_free(GQueue *changes);
 
 void waiting_begin(Waiting *waiting);
@@ -102,7 +109,7 @@ typedef struct {
     struct stat seen[2]; /* the profiles as they were then; st_nlink is 0 where there is none */
     gint64 failing;      /* since when writes fail by what may be gone in a moment; 0: they don't */
     gint64 pause;        /* before the next try */
-    char *told;          /* the fault that was last reported; NULL: there is none now */
+    GHashTable *told;    /* the faults that were reported and are there still */
 
     /* Read with `turn` or `lock` held, changed with both. */
     bool has_opened; /* the first opening is over; it may have failed */
@@ -209,7 +216,7 @@ typedef struct {
     GQueue written, refused; /* changes of ours */
     GArray *edited;          /* keys that an edit of ours was for; NULL: none */
     char **odd;              /* keys whose default may be seen below a user's value; NULL: none */
-    char *fault;             /* to warn of */
+    GPtrArray *faults;       /* to warn of; NULL: none */
 } Notice;
 
 /* Notifies, and frees what the notice holds. */

@@ -2,6 +2,7 @@
 #include "gsettings.h"
 
 #include <errno.h>
+#include <string.h>
 
 Change *change_new(size_t most)
 {
@@ -26,10 +27,10 @@ bool change_may_be_made(Change *change, const DconfdbSnapshot *now)
 {
     for (size_t i = 0; i < change->count; i++) {
         Edit *edit = &change->edits[i];
-        bool is_writable = now && dconfdb_snapshot_is_writable(now, edit->path);
+        bool is_writable = edit->is_left_out || (now && dconfdb_snapshot_is_writable(now, edit->path));
         if (!is_writable && edit->value)
             return false;
-        edit->is_left_out = !is_writable;
+        edit->is_left_out = edit->is_left_out || !is_writable;
     }
     return true;
 }
@@ -41,6 +42,60 @@ bool change_is_empty(const Change *change)
             return false;
     }
     return true;
+}
+
+static bool are_alike(GVariant *one, GVariant *other)
+{
+    return one && other ? g_variant_equal(one, other) : one == other;
+}
+
+static DconfdbEdit edit_of(const Edit *edit)
+{
+    if (!edit->value)
+        return (DconfdbEdit){edit->path, NULL, NULL, 0};
+    return (DconfdbEdit){edit->path, g_variant_get_type_string(edit->value), g_variant_get_data(edit->value),
+                         g_variant_get_size(edit->value)};
+}
+
+/* Of what waits, with the edits of this change before it, the newest counts: each is of another key. */
+static bool changes_nothing(const Edit *edit, const Waiting *waiting, const DconfdbSnapshot *stored)
+{
+    const Edit *newest = waiting_find(waiting, edit->path);
+    if (newest)
+        return are_alike(newest->value, edit->value);
+    DconfdbEdit asked = edit_of(edit);
+    return stored && dconfdb_snapshot_has_edit(stored, &asked);
+}
+
+void change_leave_out(Change *change, const Waiting *waiting, const DconfdbSnapshot *stored)
+{
+    for (size_t i = 0; i < change->count; i++) {
+        Edit *edit = &change->edits[i];
+        edit->is_left_out = edit->is_left_out || changes_nothing(edit, waiting, stored);
+    }
+}
+
+static int by_name(const void *one, const void *other, void *data)
+{
+    (void)data;
+    return strcmp(one, other);
+}
+
+static void unref_value(gpointer value)
+{
+    if (value)
+        g_variant_unref(value);
+}
+
+GTree *change_tree(const Change *change)
+{
+    GTree *tree = g_tree_new_full(by_name, NULL, g_free, unref_value);
+    for (size_t i = 0; i < change->count; i++) {
+        const Edit *edit = &change->edits[i];
+        if (!edit->is_left_out)
+            g_tree_insert(tree, g_strdup(edit->path), edit->value ? g_variant_ref(edit->value) : NULL);
+    }
+    return tree;
 }
 
 void change_free(Change *change)
@@ -162,14 +217,6 @@ GArray *waiting_forget(Waiting *waiting, const GQueue *written, const GQueue *re
 }
 
 /* ---- how they are written */
-
-static DconfdbEdit edit_of(const Edit *edit)
-{
-    if (!edit->value)
-        return (DconfdbEdit){edit->path, NULL, NULL, 0};
-    return (DconfdbEdit){edit->path, g_variant_get_type_string(edit->value), g_variant_get_data(edit->value),
-                         g_variant_get_size(edit->value)};
-}
 
 static GArray *edits_of(const GQueue *changes)
 {

@@ -258,17 +258,23 @@ static bool has_ended(DconfdbBackend *self)
     return has;
 }
 
+/* When the program ends, what it warns by may be gone. */
+static void warn(const char *fault, bool ends)
+{
+    if (ends)
+        fprintf(stderr, "dconfdb: %s\n", fault);
+    else
+        g_warning("%s", fault);
+}
+
 void notice_tell(DconfdbBackend *self, Notice *notice)
 {
     bool ends = has_ended(self);
     if (!ends && !notice->is_first)
         send(self, notice);
-    /* When the program ends, what it warns by may be gone. */
-    if (notice->fault && ends)
-        fprintf(stderr, "dconfdb: %s\n", notice->fault);
-    else if (notice->fault)
-        g_warning("%s", notice->fault);
-    g_free(notice->fault);
+    for (guint i = 0; notice->faults && i < notice->faults->len; i++)
+        warn(notice->faults->pdata[i], ends);
+    g_clear_pointer(&notice->faults, g_ptr_array_unref);
     g_clear_pointer(&notice->edited, g_array_unref);
     g_strfreev(notice->odd);
     changes_free(&notice->written);

@@ -25,14 +25,45 @@ bool mutex_lock_until(GMutex *mutex, gint64 end)
 
 /* ---- `turn` is held */
 
-/* What is to be warned of: each fault once, until nothing fails. */
-static char *news_of(DconfdbBackend *self, const DconfdbError *error)
+static void warn_of(Notice *notice, const char *text)
 {
-    if (self->told && strcmp(self->told, error->text) == 0)
-        return NULL;
-    g_free(self->told);
-    self->told = g_strdup(error->text);
-    return g_strdup(error->text);
+    if (!notice->faults)
+        notice->faults = g_ptr_array_new_with_free_func(g_free);
+    g_ptr_array_add(notice->faults, g_strdup(text));
+}
+
+/* The faults of the store's files. */
+static void add_faults(const DconfdbStore *store, GHashTable *faults)
+{
+    DconfdbError error;
+    DconfdbSnapshot *now = dconfdb_store_snapshot((DconfdbStore *)store);
+    if (dconfdb_store_profile_fault(store, &error))
+        g_hash_table_add(faults, g_strdup(error.text));
+    for (size_t i = 0; i < dconfdb_snapshot_databases(now); i++) {
+        if (dconfdb_snapshot_fault(now, i, &error))
+            g_hash_table_add(faults, g_strdup(error.text));
+    }
+    dconfdb_snapshot_unref(now);
+}
+
+/* What is to be warned of: each fault once, as long as it is there. `error` is that of a look that failed, or
+ * NULL. */
+static void warn_once(DconfdbBackend *self, Notice *notice, const DconfdbError *error)
+{
+    GHashTableIter at;
+    gpointer text;
+    GHashTable *faults = g_hash_table_new_full(g_str_hash, g_str_equal, g_free, NULL);
+    if (error)
+        g_hash_table_add(faults, g_strdup(error->text));
+    if (self->store)
+        add_faults(self->store, faults);
+    g_hash_table_iter_init(&at, faults);
+    while (g_hash_table_iter_next(&at, &text, NULL)) {
+        if (!self->told || !g_hash_table_contains(self->told, text))
+            warn_of(notice, text);
+    }
+    g_clear_pointer(&self->told, g_hash_table_unref);
+    self->told = faults;
 }
 
 static void look_at_profiles(const DconfdbBackend *self, struct stat now[2])
@@ -52,10 +83,11 @@ static bool is_same(const struct stat *one, const struct stat *other)
         && one->st_mtim.tv_sec == other->st_mtim.tv_sec && one->st_mtim.tv_nsec == other->st_mtim.tv_nsec;
 }
 
-/* Opens the store, also in the place of one that is open; where that fails, the old one stays. */
+/* Opens the store, also in the place of one that is open; where that fails, the old one stays. A bad file
+ * stops no program: it counts as what can be read of it. */
 static bool open_store(DconfdbBackend *self, const struct stat profiles[2], DconfdbError *error)
 {
-    DconfdbStore *store = dconfdb_store_open(self->folder, error);
+    DconfdbStore *store = dconfdb_store_open_lenient(self->folder, error);
     if (!store)
         return false;
     dconfdb_store_close(self->store);
@@ -109,10 +141,7 @@ static bool look(DconfdbBackend *self, Notice *notice)
     look_at_profiles(self, profiles);
     bool opens = !self->store || !is_same(&profiles[0], &self->seen[0]) || !is_same(&profiles[1], &self->seen[1]);
     bool done = opens ? open_store(self, profiles, &error) : dconfdb_store_refresh(self->store, NULL, &error);
-    if (done)
-        g_clear_pointer(&self->told, g_free);
-    else
-        notice->fault = news_of(self, &error);
+    warn_once(self, notice, done ? NULL : &error);
     renew(self, notice);
     if (done && opens) {
         g_atomic_int_set(&self->is_reopened, TRUE);
@@ -153,7 +182,7 @@ void store_open(DconfdbBackend *self)
 
 void store_look(DconfdbBackend *self)
 {
-    Notice notice = {.fault = NULL};
+    Notice notice = {.faults = NULL};
     g_mutex_lock(&self->turn);
     if (self->folder)
         look(self, &notice);
@@ -195,7 +224,7 @@ void store_peek(DconfdbBackend *self)
         atomic_store(&self->looks, coarse_time() + AFTER_A_FAULT);
     g_mutex_unlock(&self->turn);
     /* A handler would run amid the read, if this thread told. */
-    if (notice->before != notice->after || notice->fault)
+    if (notice->before != notice->after || notice->faults)
         worker_tells(self, notice);
     else
         notice_tell_and_free(self, notice);
@@ -222,7 +251,9 @@ static gint64 write_it(DconfdbBackend *self, const Turn *turn, Notice *notice, b
     if (again == 0)
         self->failing = self->pause = 0;
     if (done == SOME_REFUSED)
-        notice->fault = g_strdup(error.text);
+        warn_of(notice, error.text);
+    else if (done == WRITTEN)
+        warn_once(self, notice, NULL);
     if (again != 0) {
         g_mutex_lock(&self->lock);
         waiting_put_back(&self->waiting, &notice->written);
@@ -262,7 +293,7 @@ static void write_here(DconfdbBackend *self, Notice *notice, gint64 end)
     }
     g_mutex_lock(&self->turn);
     refuse_lock(self->store, turn.fault, &error);
-    notice->fault = news_of(self, &error);
+    warn_once(self, notice, &error);
     g_mutex_unlock(&self->turn);
 }
 
@@ -276,7 +307,7 @@ bool store_has_waiting(DconfdbBackend *self)
 
 gint64 store_write(DconfdbBackend *self, gint64 end, bool tries_again)
 {
-    Notice notice = {.fault = NULL};
+    Notice notice = {.faults = NULL};
     gint64 again = 0;
     if (!store_has_waiting(self))
         return 0;
@@ -307,7 +338,7 @@ static bool await_settled(DconfdbBackend *self, gint64 end)
 
 bool store_sync(DconfdbBackend *self)
 {
-    Notice notice = {.fault = NULL};
+    Notice notice = {.faults = NULL};
     gint64 end = g_get_monotonic_time() + LONGEST_SYNC;
     if (!worker_is_another(self))
         store_write(self, end, false);
