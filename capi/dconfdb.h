@@ -69,8 +69,8 @@
  * that read it, with SIGBUS, and overwriting one changes what they were lent. The user's file is
  * read into memory: it may be changed in any way.
  *
- * A CALLER'S DUTIES. Nothing checks them. Pointers point to live objects, and are NULL only where
- * that is allowed here. Texts end in a zero byte. No other thread changes memory that is passed to a
+ * A CALLER'S DUTIES. Nothing checks them. Pointers point to live objects, and are NULL only if
+ * this header allows it. Texts end in a zero byte. No other thread changes memory that is passed to a
  * call while the call runs. Lent memory is not written, and not used after the snapshot's last
  * reference is dropped; the library stays loaded as long as it is used. Each reference is dropped
  * once. What the caller has to free is freed once, with free().
@@ -98,7 +98,7 @@ typedef struct DconfdbStore DconfdbStore;
 /* What the databases held at one moment. */
 typedef struct DconfdbSnapshot DconfdbSnapshot;
 
-/* Why something failed. Numbers never change their meaning; there may be more of them one day. */
+/* Why something failed. Numbers never change their meaning; later versions may add some. */
 enum {
     DCONFDB_ERROR_NONE = 0,
     DCONFDB_ERROR_MEMORY = 1,          /* an allocation failed */
@@ -121,7 +121,7 @@ enum {
     DCONFDB_ERROR_TOO_BIG = 18,        /* a file has more bytes than it may have, or would have */
     DCONFDB_ERROR_FILE = 64,           /* the system refused something: `system` is its errno */
     DCONFDB_ERROR_BUSY = 65,           /* others held the lock for ten seconds */
-    DCONFDB_ERROR_NO_FOLDER = 66       /* no folder is given, and nobody names one */
+    DCONFDB_ERROR_NO_FOLDER = 66       /* no folder is given, and none is found */
 };
 
 /* What failed. It belongs to the caller, and need not be freed. */
@@ -175,8 +175,8 @@ bool dconfdb_store_profile_fault(const DconfdbStore *store, DconfdbError *error)
 void dconfdb_store_close(DconfdbStore *store);
 
 /* The files that opening the store of that folder, or of the environment, looks at: the folder's
- * profile, that of all users, and the databases that the profile's good lines name. So whoever can't
- * open a store sees what to mend.
+ * profile, that of all users, and the databases that the profile's good lines name. If opening a
+ * store fails, these are the files to check.
  * The form is that of dconfdb_snapshot_list, and getenv() is called as by dconfdb_store_open.
  * NULL: it failed. */
 char *dconfdb_store_files(const char *folder, size_t *size, DconfdbError *error);
@@ -258,19 +258,19 @@ bool dconfdb_snapshot_read_user(const DconfdbSnapshot *snapshot, const char *pat
 bool dconfdb_snapshot_is_locked(const DconfdbSnapshot *snapshot, const char *path);
 bool dconfdb_snapshot_is_writable(const DconfdbSnapshot *snapshot, const char *path);
 
-/* What a directory (a path that ends in `/`) has in any database: names, in byte order, each once;
- * a directory's ends in `/`. And the locks that start with the directory's path, of all databases
- * but the first, in the same order. A zero byte stands after each text, and one more after the
- * last. `size`, if it isn't NULL, is the number of bytes without that last one. The caller frees
- * them with free(). NULL: it failed. */
+/* The names directly below a directory (a path that ends in `/`) in any database, in byte order, each
+ * once; a directory's ends in `/`. And the locks that start with the directory's path, of all databases
+ * but the first, in the same order. Each text ends in a zero byte, and one more follows the last.
+ * `size`, if it isn't NULL, is the number of bytes without that last one. The caller frees them
+ * with free(). NULL: it failed. */
 char *dconfdb_snapshot_list(const DconfdbSnapshot *snapshot, const char *directory, size_t *size, DconfdbError *error);
 char *dconfdb_snapshot_locks(const DconfdbSnapshot *snapshot, const char *directory, size_t *size, DconfdbError *error);
 
 /* The paths of the keys that differ between two snapshots, in the same form: the effective value
- * differs, only one snapshot has one, or the key is locked in only one. What is hidden doesn't
- * count, such as a default below the user's value, or the user's value at a locked key. A value in
- * other bytes is the same one. Each is a key that a database of one of them has: for keys that
- * none has, compare the locks. NULL for the other stands for a snapshot without databases. */
+ * differs, only one snapshot has one, or the key is locked in only one. Hidden values don't count,
+ * such as a default below the user's value, or the user's value of a locked key. Equal values in
+ * other bytes don't differ. Only keys that a database of either snapshot has are listed: for others,
+ * compare the locks. NULL as `other` means a snapshot without databases. */
 char *dconfdb_snapshot_differences(const DconfdbSnapshot *snapshot, const DconfdbSnapshot *other, size_t *size,
                                    DconfdbError *error);
 
