@@ -119,7 +119,7 @@ enum {
     DCONFDB_ERROR_LOCKED = 16,         /* the key is locked */
     DCONFDB_ERROR_TOO_LARGE = 17,      /* a value is nested too deep, or too long */
     DCONFDB_ERROR_TOO_BIG = 18,        /* a file has more bytes than it may have, or would have */
-    DCONFDB_ERROR_FILE = 64,           /* the system refused something: `system` is its errno */
+    DCONFDB_ERROR_FILE = 64,           /* a system call failed: `system` is its errno */
     DCONFDB_ERROR_BUSY = 65,           /* others held the lock for ten seconds */
     DCONFDB_ERROR_NO_FOLDER = 66       /* no folder is given, and none is found */
 };
