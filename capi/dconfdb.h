@@ -193,14 +193,14 @@ DconfdbSnapshot *dconfdb_store_snapshot(DconfdbStore *store);
 /* Looks at the files again, with one stat() each, and reads those that were replaced. `changed`, if it
  * isn't NULL, says whether the newest snapshot has anything that others changed since `changed` was
  * last asked for, or since the store was opened: what this call finds, and what a change in between
- * took in. The store's own edits don't count. False: it failed, and the newest snapshot stays the
+ * has read. The store's own edits don't count. False: it failed, and the newest snapshot stays the
  * newest. */
 bool dconfdb_store_refresh(DconfdbStore *store, bool *changed, DconfdbError *error);
 
 /* Makes all edits, in order, or none. The user's file is read again and replaced atomically, and
  * is on the disk when this returns. The newest snapshot then has the edits, and what others
- * changed meanwhile, in other databases too; a refused change may take that in as well. With no
- * edits this returns true and looks at nothing.
+ * changed meanwhile, in other databases too. A refused change may update it as well. With no edits
+ * this returns true and looks at nothing.
  *
  * If each edit sets the value that the user has already, or removes what isn't there, the file stays
  * as it is, and none is made. Values are compared, not bytes.
