@@ -40,6 +40,7 @@ const MOST_OPENINGS: u32 = 100;
 /// this program. It binds nobody else, and no reader needs it: a renamed file is the old one or the new one, whole.
 #[derive(Drop)]
 pub struct FolderLock {
+    _folder: File,
     _lock: File,
 }
 
@@ -107,11 +108,19 @@ impl FolderLock {
         let mut name = String::from_str(alloc, folder)?;
         name.push_str(LOCK)?;
         let name = name.as_str();
+        // Where the program has no stdin, stdout or stderr, the first file that is opened is in its place. A folder can be neither read
+        // nor written; from the lock's file an input would be empty, and an output would be lost in it.
+        let above = fs::open(rt, folder)?;
         let mut lock = open_lock(rt, folder, name)?;
         let began = Instant::now(rt)?;
         for _ in 0..MOST_TRIES {
             match lock.try_lock() {
-                Ok(()) if is_named(rt, &lock, name)? => return Ok(FolderLock { _lock: lock }),
+                Ok(()) if is_named(rt, &lock, name)? => {
+                    return Ok(FolderLock {
+                        _folder: above,
+                        _lock: lock,
+                    });
+                }
                 Ok(()) => lock = open_lock(rt, folder, name)?,
                 Err(TryLockError::Error(error)) => return Err(LockFault::Device(error)),
                 Err(TryLockError::WouldBlock) => sleep(rt, Duration::from_micros(PAUSE)),
