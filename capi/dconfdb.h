@@ -51,18 +51,18 @@
  * succeeds leaves it as it was. A call that fails leaves everything else it would write to
  * (`changed`, `size`) as it was. Nothing here ends the process, or prints.
  *
- * BAD FILES. dconfdb_store_open refuses a store if a database's file, or a line of its profile, is bad.
- * dconfdb_store_open_lenient opens it: each database counts as its own file does. A file that is no
- * sound database counts as what the command `repair` would keep of it, its values and its locks;
- * one that is none at all, that is no file, or that can't be read, is empty. A database of no key, as
- * dconf makes it, isn't sound either, but lacks nothing: it is read without a word. A bad line of the
- * profile is passed over, and so is a profile that can't be read. What is wrong is kept:
- * dconfdb_snapshot_fault and dconfdb_store_profile_fault say it. Faults that aren't the file's (no memory
- * or no descriptor is left; the disk or the server doesn't answer) are refused as ever.
+ * BAD FILES. dconfdb_store_open refuses a store if a database, or a line of its profile, is bad.
+ * dconfdb_store_open_lenient opens it, and a bad file doesn't affect the others. A database that is
+ * not sound counts as what the command `repair` would keep of it, values and locks; a file that is no
+ * database, or that can't be read, counts as empty. A database without keys that dconf made is not
+ * sound either, but complete: it is read, and not reported. A bad line of the profile is skipped, and
+ * so is a profile that can't be read. dconfdb_snapshot_fault and dconfdb_store_profile_fault say what
+ * is wrong. Errors that aren't the file's (no memory or no descriptor is left; the disk or the server
+ * doesn't answer) make both calls fail.
  *
- * The first change of a bad user's file puts a new one in its place, with what could be read of the
- * old one. That stays, as NAME.user~1, or ~2 if there is one. A crash at any moment leaves the bad
- * file or the new one.
+ * The first change replaces a bad user's file by a new one, with what could be read of the old one,
+ * which is kept as NAME.user~1, or ~2 if there is one. A crash at any moment leaves the bad file or
+ * the new one.
  *
  * MAPPED FILES. Databases other than the user's are mapped. So they have to be replaced by a
  * rename, as `dconfdb compile` and `dconf update` do: truncating one in place kills the programs
@@ -77,11 +77,11 @@
  *
  * WHAT IS PROVED. The library asks proved calls what a database's bytes mean, what can be read of a bad
  * one, what a key's effective value is, what is locked, listed or different, whether an edit may be made,
- * whether its value is stored already, and which file it makes. The effective value is that of the layers
- * in their order, each as it is sound, or as salvaging keeps it.
- * Everything else that this header says is C, which is tested and not proved: where a store is; how
- * files are read, mapped, locked and replaced; references, threads and stack; the fields and text
- * of an error; what a call does when memory or the system fails. */
+ * whether its value is stored already, and which file it makes. The effective value is that of the
+ * databases in their order, each of them sound, or what `repair` keeps of it. Everything else that this
+ * header says is C, which is tested and not proved: where a store is; how files are read, mapped, locked
+ * and replaced; references, threads and stack; the fields and text of an error; what a call does when
+ * memory or the system fails. */
 #ifndef DCONFDB_H
 #define DCONFDB_H
 
@@ -164,11 +164,11 @@ typedef struct DconfdbEdit {
  * profile is read now, and not again. NULL: it failed. */
 DconfdbStore *dconfdb_store_open(const char *folder, DconfdbError *error);
 
-/* The same, but bad files and bad lines of the profile don't count, as BAD FILES says. */
+/* The same, but it opens a store that has bad files, or bad lines in its profile: see BAD FILES. */
 DconfdbStore *dconfdb_store_open_lenient(const char *folder, DconfdbError *error);
 
-/* Whether there was something wrong with the profile: its first bad line, or that it can't be read. Then
- * `error` says it, if it isn't NULL. */
+/* Whether the profile has a bad line, or couldn't be read. If so, `error`, if it isn't NULL, says which
+ * line is the first bad one, or why. */
 bool dconfdb_store_profile_fault(const DconfdbStore *store, DconfdbError *error);
 
 /* Closes a store, or NULL. Its snapshots stay. */
@@ -176,9 +176,8 @@ void dconfdb_store_close(DconfdbStore *store);
 
 /* The files that opening the store of that folder, or of the environment, looks at: the folder's
  * profile, that of all users, and the databases that the profile's good lines name. If opening a
- * store fails, these are the files to check.
- * The form is that of dconfdb_snapshot_list, and getenv() is called as by dconfdb_store_open.
- * NULL: it failed. */
+ * store fails, these are the files to check. The form is that of dconfdb_snapshot_list, and getenv()
+ * is called as by dconfdb_store_open. NULL: it failed. */
 char *dconfdb_store_files(const char *folder, size_t *size, DconfdbError *error);
 
 /* The folder's absolute path, and the file of a user's database in it; NULL if there is none.
@@ -202,8 +201,8 @@ bool dconfdb_store_refresh(DconfdbStore *store, bool *changed, DconfdbError *err
  * changed meanwhile, in other databases too. A refused change may update it as well. With no edits
  * this returns true and looks at nothing.
  *
- * If each edit sets the value that the user has already, or removes what isn't there, the file stays
- * as it is, and none is made. Values are compared, not bytes.
+ * If no edit changes anything, because the user has that value already, or none where one is removed,
+ * no file is written. Values are compared, not bytes.
  *
  * The new file has the permission bits of the old one. A first file is its owner's alone (0600),
  * whatever the umask. If root makes the change, the file keeps its owner and group; a first file, and
@@ -231,18 +230,18 @@ void dconfdb_snapshot_unref(DconfdbSnapshot *snapshot);
 size_t dconfdb_snapshot_databases(const DconfdbSnapshot *snapshot);
 const char *dconfdb_snapshot_file(const DconfdbSnapshot *snapshot, size_t database);
 
-/* Whether something is wrong with a database's file. Then `error` says what, if it isn't NULL, and the text
- * what is read of the file. After a change has put a new file in the place of a bad one, this says so of
- * its snapshot, and where the bad file is, until the file changes again. Only a lenient store has
- * such snapshots. */
+/* Whether a database's file is bad. If so, `error`, if it isn't NULL, says why, and its text how much of
+ * the file is read. If a change replaced a bad file, this is true of the new snapshot, too, until the
+ * file changes again, and the text says where the bad file is kept. Only snapshots of a lenient store
+ * have bad files. */
 bool dconfdb_snapshot_fault(const DconfdbSnapshot *snapshot, size_t database, DconfdbError *error);
 
-/* Whether the user has what an edit asks for: this value of the key, or, without a type, none, whatever is
- * locked. It is so of the snapshot; the file may be a newer one, as dconfdb_snapshot_is_newest says. */
+/* Whether the user already has what an edit asks for: this value of the key or, without a type, none.
+ * Locks don't matter. This is about the snapshot; dconfdb_snapshot_is_newest says if the file is newer. */
 bool dconfdb_snapshot_has_edit(const DconfdbSnapshot *snapshot, const DconfdbEdit *edit);
 
-/* Whether the user's file is still the one that the snapshot has. It looks at it, with one stat(). True if
- * there is no user's database. */
+/* Whether the user's file is still the snapshot's. This calls stat() once. True if there is no user's
+ * database. */
 bool dconfdb_snapshot_is_newest(const DconfdbSnapshot *snapshot);
 
 /* The effective value of a key: that of the first database that has one, unless a later one locks
