@@ -1,5 +1,6 @@
 /* Sets keys one after another, and says which are acknowledged: change FOLDER PREFIX COUNT. With
- * COUNT 0 it sets the one key PREFIX. With one word more signals interrupt it all the time. */
+ * COUNT 0 it sets the one key PREFIX. With the word `signals` more they interrupt it all the time, with `lenient` it opens
+ * the store leniently. */
 #include "try.h"
 
 #include <signal.h>
@@ -38,10 +39,12 @@ static void is_interrupted(void)
 int main(int argc, char **argv)
 {
     TRY(argc == 4 || argc == 5);
-    if (argc == 5)
+    const char *how = argc == 5 ? argv[4] : "";
+    if (strcmp(how, "signals") == 0)
         is_interrupted();
     long count = strtol(argv[3], NULL, 10);
-    DconfdbStore *store = dconfdb_store_open(argv[1], &error);
+    bool is_lenient = strcmp(how, "lenient") == 0;
+    DconfdbStore *store = is_lenient ? dconfdb_store_open_lenient(argv[1], &error) : dconfdb_store_open(argv[1], &error);
     if (!store) {
         fprintf(stderr, "%s\n", error.text);
         return 1;
