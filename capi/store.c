@@ -405,17 +405,17 @@ const char *dconfdb_snapshot_file(const DconfdbSnapshot *snapshot, size_t databa
     return database < snapshot->count ? snapshot->parts[database]->name : NULL;
 }
 
-/* What becomes of a bad file, after what is wrong with it. */
+/* What becomes of a bad file, after what is wrong with it: in the words of `dconfdb repair`. */
 static int say_fate(char *text, size_t size, const Fault *fault, size_t database)
 {
     const Saved *saved = &fault->saved;
     if (fault->aside && saved->keys == 0)
-        return snprintf(text, size, "; it is %s now, and a new one is begun", fault->aside);
+        return snprintf(text, size, "; it is now %s, and a new file was begun", fault->aside);
     if (fault->aside)
-        return snprintf(text, size, "; it is %s now, and a new one has what can be read of it: %zu values", fault->aside, saved->keys);
+        return snprintf(text, size, "; it is now %s, and a new file has the %zu keys that could be read", fault->aside, saved->keys);
     if (saved->keys == 0 && (saved->locks == 0 || database == 0))
-        return snprintf(text, size, "; nothing is read of it");
-    return snprintf(text, size, "; read are %zu values and %zu locks of it", saved->keys, saved->locks);
+        return snprintf(text, size, "; kept nothing of it");
+    return snprintf(text, size, "; kept %zu keys, %zu locks of it", saved->keys, saved->locks);
 }
 
 bool dconfdb_snapshot_fault(const DconfdbSnapshot *snapshot, size_t database, DconfdbError *error)

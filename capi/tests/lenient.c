@@ -173,7 +173,7 @@ static void tries_it(const char *words, const char *also, bool is_file)
     TRY(dconfdb_store_refresh(store, NULL, &error) && has_fault(store, 0, words, also));
     TRY(!changes(store, sets_text("/org/desk/size", "1")) && error.number == DCONFDB_ERROR_LOCKED);
     TRY(changes(store, (DconfdbEdit){"/not/there", NULL, NULL, 0}) && access("me.user~1", F_OK) != 0);
-    TRY(changes(store, sets_text("/new", "1")) && sees(store, "/new", "1") && has_fault(store, 0, words, "it is me.user~1 now"));
+    TRY(changes(store, sets_text("/new", "1")) && sees(store, "/new", "1") && has_fault(store, 0, words, "it is now me.user~1"));
     TRY(lstat("me.user~1", &aside) == 0 && aside.st_ino == found.st_ino && (!is_file || holds("me.user~1", bad.bytes, bad.len)));
     TRY(access("me.user~2", F_OK) != 0 && access("me.user.new", F_OK) != 0);
     TRY(dconfdb_store_refresh(store, NULL, &error) && changes(store, sets_text("/new", "2")) && has_fault(store, 0, NULL, NULL));
@@ -243,18 +243,18 @@ static void tries_odd_files(void)
 {
     static const char noise[] = "no database, but long enough to have a header of one, and more";
     writes("me.user", "", 0);
-    tries_it("shorter than a database's header", "nothing is read of it", true);
+    tries_it("shorter than a database's header", "kept nothing of it", true);
     writes("me.user", noise, sizeof noise);
-    tries_it("does not start as a database does", "nothing is read of it", true);
+    tries_it("does not start as a database does", "kept nothing of it", true);
     TRY(mkfifo("me.user", 0644) == 0);
-    tries_it("Invalid argument", "nothing is read of it", false);
+    tries_it("Invalid argument", "kept nothing of it", false);
     TRY(mkdir("me.user", 0755) == 0);
-    tries_it("Is a directory", "nothing is read of it", false);
+    tries_it("Is a directory", "kept nothing of it", false);
     TRY(symlink("me.user", "me.user") == 0);
-    tries_it("symbolic links", "nothing is read of it", false);
+    tries_it("symbolic links", "kept nothing of it", false);
     writes("me.user", "", 0);
     TRY(truncate("me.user", 4294967296) == 0);
-    tries_it("the file is too big", "nothing is read of it", false);
+    tries_it("the file is too big", "kept nothing of it", false);
 }
 
 /* Root reads what its capabilities let it, and no more than others without them. */
@@ -270,12 +270,12 @@ static void tries_closed_files(void)
     writes("me.user", "", 0);
     TRY(chmod("me.user", 0) == 0);
     DconfdbStore *store = opens();
-    TRY(has_fault(store, 0, "Permission denied", "nothing is read of it"));
+    TRY(has_fault(store, 0, "Permission denied", "kept nothing of it"));
     /* It is read as soon as it may be, though nothing was written. */
     TRY(chmod("me.user", 0600) == 0 && dconfdb_store_refresh(store, NULL, &error) && has_fault(store, 0, "header", ""));
     dconfdb_store_close(store);
     TRY(chmod("me.user", 0) == 0);
-    tries_it("Permission denied", "nothing is read of it", false);
+    tries_it("Permission denied", "kept nothing of it", false);
 }
 
 /* A name that is taken is passed over, and a file that is mended meanwhile is no bad one. */
@@ -285,7 +285,7 @@ static void tries_names(void)
     writes("me.user~1", "x", 1);
     writes("me.user", "", 0);
     DconfdbStore *store = opens();
-    TRY(changes(store, sets_text("/new", "1")) && has_fault(store, 0, "", "it is me.user~2 now") && holds("me.user~1", "x", 1));
+    TRY(changes(store, sets_text("/new", "1")) && has_fault(store, 0, "", "it is now me.user~2") && holds("me.user~1", "x", 1));
     reads("me.user", &good);
     writes("me.user", "", 0);
     TRY(dconfdb_store_refresh(store, NULL, &error) && has_fault(store, 0, "header", "") && sees(store, "/new", NULL));
@@ -327,7 +327,7 @@ static void tries_bad_sites(void)
     TRY(changes(store, sets_text("/k", "mine")) && sees(store, "/k", "mine") && sees(store, "/far/key", "far"));
     TRY(holds("site.db", whole.bytes, whole.len - 16) && access("site.db~1", F_OK) != 0);
     writes("site.db", "noise", 5);
-    TRY(dconfdb_store_refresh(store, NULL, &error) && has_fault(store, 1, "header", "nothing is read") && sees(store, "/k", "mine"));
+    TRY(dconfdb_store_refresh(store, NULL, &error) && has_fault(store, 1, "header", "kept nothing") && sees(store, "/k", "mine"));
     TRY(!locks(store, "/org/desk/size") && changes(store, sets_text("/k", "again")));
     writes("site.db", of_locks, sizeof of_locks);
     TRY(dconfdb_store_refresh(store, NULL, &error) && has_fault(store, 1, NULL, NULL) && locks(store, "/a/b") && locks(store, "/c/d"));
