@@ -5,6 +5,7 @@
 #include "try.h"
 
 #include <fcntl.h>
+#include <sys/stat.h>
 #include <unistd.h>
 
 void *__real_malloc(size_t size);
@@ -127,6 +128,62 @@ static void tries_writeless(const char *folder)
     dconfdb_store_close(store);
 }
 
+/* A store of bad files: a torn one of the user's, a site's that is no database, and a bad line of the profile. */
+typedef struct {
+    char folder[4096];
+    ssize_t size;
+    char torn[4096];
+} Bad;
+
+static Bad bad;
+
+static void writes(const char *name, const void *bytes, size_t size)
+{
+    char path[8192];
+    snprintf(path, sizeof path, "%s/%s", bad.folder, name);
+    int file = open(path, O_WRONLY | O_CREAT | O_TRUNC, 0600);
+    TRY(file >= 0 && write(file, bytes, size) == (ssize_t)size && close(file) == 0);
+}
+
+static void makes_bad(const char *folder)
+{
+    static const char profile[] = "user-db:me\nnonsense\nsystem-db:site\n";
+    char site[8192];
+    snprintf(site, sizeof site, "%s/site.db", folder);
+    snprintf(bad.folder, sizeof bad.folder, "%s/lenient", folder);
+    int file = open(site, O_RDONLY);
+    TRY(file >= 0 && (bad.size = read(file, bad.torn, sizeof bad.torn) - 16) > 0 && close(file) == 0);
+    TRY(mkdir(bad.folder, 0700) == 0);
+    writes("profile", profile, sizeof profile - 1);
+    writes("site.db", "noise", 5);
+}
+
+/* Whether the user's file is the torn one. */
+static bool is_torn(const State *state)
+{
+    return state->size == bad.size && memcmp(state->bytes, bad.torn, (size_t)bad.size) == 0;
+}
+
+/* The first change begins a new file, or leaves the torn one. */
+static void tries_lenient(void)
+{
+    DconfdbEdit edit = sets_text("/k", "1");
+    char aside[8192];
+    writes("me.user", bad.torn, (size_t)bad.size);
+    DconfdbStore *store = dconfdb_store_open_lenient(bad.folder, &error);
+    if (lacks_memory(store != NULL))
+        return;
+    bool done = dconfdb_store_change(store, &edit, 1, &error);
+    State state = state_of(store);
+    TRY(lacks_memory(done) == is_torn(&state));
+    DconfdbSnapshot *now = dconfdb_store_snapshot(store);
+    TRY(has(now, "/k", done ? "1" : NULL) && dconfdb_snapshot_fault(now, 0, NULL) && dconfdb_snapshot_fault(now, 1, NULL));
+    dconfdb_snapshot_unref(now);
+    dconfdb_store_close(store);
+    snprintf(aside, sizeof aside, "%s/me.user~1", bad.folder);
+    TRY((unlink(aside) == 0) == done);
+}
+
 /* All that there is, with one growth refused; whether it was. */
 static bool runs(const char *folder)
 {
@@ -157,6 +214,7 @@ static bool runs(const char *folder)
         dconfdb_store_close(store);
     }
     tries_writeless(folder);
+    tries_lenient();
     return growths >= refused;
 }
 
@@ -174,6 +232,7 @@ int main(int argc, char **argv)
 {
     TRY(argc == 2);
     long turn = 0;
+    makes_bad(argv[1]);
     do {
         clears(argv[1]);
         refused = ++turn;
