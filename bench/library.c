@@ -92,10 +92,43 @@ static void our_open(void) {
     dconfdb_store_close(opened);
 }
 
-static void our_change(void) {
-    DconfdbEdit edit = {path, "s", "changed", sizeof "changed"};
+/* Sets another value each time, since the same one would change nothing. */
+static void set(const char *at) {
+    static char text[] = "changed 0";
+    DconfdbEdit edit = {at, "s", text, sizeof text};
+    text[sizeof text - 2] ^= 1;
     answer = dconfdb_store_change(store, &edit, 1, NULL);
     needs(answer, "a change is refused");
+}
+
+static void our_change(void) {
+    set(path);
+}
+
+/* What the store was before a change of the key, or of one that wasn't there. */
+static DconfdbSnapshot *before;
+
+static void start_changed(const char *changed) {
+    our_start();
+    our_change();
+    before = dconfdb_store_snapshot(store);
+    set(changed);
+    dconfdb_snapshot_unref(now);
+    now = dconfdb_store_snapshot(store);
+}
+
+static void our_changed_start(void) {
+    start_changed(path);
+}
+
+static void our_added_start(void) {
+    start_changed("/a/key/that/was/not/there");
+}
+
+static void our_differences(void) {
+    char *differences = dconfdb_snapshot_differences(now, before, NULL, NULL);
+    answer = differences && *differences;
+    free(differences);
 }
 
 /* ---- dconf's */
@@ -188,6 +221,8 @@ static const Work works[] = {
     {"refresh", our_start, our_refresh, 1000, false},
     {"open", our_start, our_open, 1, false},
     {"change", our_start, our_change, 1, false},
+    {"changed", our_changed_start, our_differences, 1, false},
+    {"added", our_added_start, our_differences, 1, false},
     {"dconf-read", their_start, their_read, 1000, false},
     {"dconf-writable", their_start, their_writable, 1000, false},
     {"dconf-open", their_start, their_open, 1, false},
