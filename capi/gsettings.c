@@ -143,12 +143,12 @@ static GVariant *dconfdb_backend_read_user_value(GSettingsBackend *backend, cons
 /* ---- what may be written */
 
 /* A directory may be, where no lock covers all that is in it. */
-static bool is_directory_writable(DconfdbBackend *self, const DconfdbSnapshot *now, const char *directory)
+static bool is_directory_writable(DconfdbBackend *self, const char *directory)
 {
-    char *locks = dconfdb_snapshot_locks(now, "/", NULL, NULL);
     g_mutex_lock(&self->lock);
-    bool is = locks && self->has_user;
+    char *locks = self->has_user ? dconfdb_snapshot_locks(self->now, "/", NULL, NULL) : NULL;
     g_mutex_unlock(&self->lock);
+    bool is = locks != NULL;
     for (const char *lock = locks; is && *lock; lock += strlen(lock) + 1)
         is = !g_str_has_suffix(lock, "/") || !g_str_has_prefix(directory, lock);
     free(locks);
@@ -158,14 +158,12 @@ static bool is_directory_writable(DconfdbBackend *self, const DconfdbSnapshot *n
 static gboolean dconfdb_backend_get_writable(GSettingsBackend *backend, const char *name)
 {
     DconfdbBackend *self = backend_of(backend);
-    DconfdbSnapshot *now = snapshot_of(self);
-    if (getpid() != self->process)
-        g_clear_pointer(&now, dconfdb_snapshot_unref); /* a child of fork() sets nothing */
-    bool is = now && dconfdb_snapshot_is_writable(now, name);
-    if (now && !is && g_str_has_suffix(name, "/"))
-        is = is_directory_writable(self, now, name);
-    dconfdb_snapshot_unref(now);
-    return is;
+    look_if_unwatched(self);
+    lock_opened(self);
+    bool may_be = self->now && getpid() == self->process; /* a child of fork() sets nothing */
+    bool is = may_be && dconfdb_snapshot_is_writable(self->now, name);
+    g_mutex_unlock(&self->lock);
+    return is || (may_be && g_str_has_suffix(name, "/") && is_directory_writable(self, name));
 }
 
 static GPermission *dconfdb_backend_get_permission(GSettingsBackend *backend, const char *path)
@@ -187,15 +185,18 @@ static Outcome outcome_of(const DconfdbBackend *self, Change *change, const Dcon
     return change_is_empty(change) ? EMPTY : WAITS;
 }
 
-/* The newest snapshot, where it has the user's file as that is now: another program may have changed it, and
- * nobody noticed yet. A look at it is no matter of moments, and is taken without `lock`. */
-static DconfdbSnapshot *stored_now(DconfdbBackend *self)
+/* `lock` is held, but not while the file is looked at. Gives the newest snapshot, where what the user has set is as
+ * there: another program may have changed the file, and nobody noticed yet. Where each key has an edit that
+ * waits, the file isn't asked for, and none is given. */
+static DconfdbSnapshot *stored_now(DconfdbBackend *self, const Change *change)
 {
-    lock_opened(self);
-    DconfdbSnapshot *now = self->now ? dconfdb_snapshot_ref(self->now) : NULL;
+    if (!self->now || waiting_has(&self->waiting, change))
+        return NULL;
+    DconfdbSnapshot *now = dconfdb_snapshot_ref(self->now);
     g_mutex_unlock(&self->lock);
-    if (now && !dconfdb_snapshot_is_newest(now))
+    if (!dconfdb_snapshot_is_newest(now))
         g_clear_pointer(&now, dconfdb_snapshot_unref);
+    g_mutex_lock(&self->lock);
     return now;
 }
 
@@ -203,8 +204,8 @@ static DconfdbSnapshot *stored_now(DconfdbBackend *self)
 static Outcome make(DconfdbBackend *self, Change *change, GTree **told)
 {
     bool is_here = false;
-    DconfdbSnapshot *stored = stored_now(self);
-    g_mutex_lock(&self->lock);
+    lock_opened(self);
+    DconfdbSnapshot *stored = stored_now(self, change);
     Outcome outcome = outcome_of(self, change, stored);
     if (outcome == WAITS && told)
         *told = change_tree(change);

@@ -18,12 +18,15 @@
  * of the change are made: that of a locked key, and one that changes nothing. */
 typedef struct {
     char *path;
+    guint hash; /* of the path */
     GVariant *value;
+    DconfdbEdit asked; /* the same for the library: it lends the path and the value's bytes */
     bool is_left_out;
 } Edit;
 
 /* Edits of which all are made, or none. */
 typedef struct {
+    GList link; /* in the queue that has it */
     size_t count, most;
     Edit edits[];
 } Change;
@@ -31,7 +34,7 @@ typedef struct {
 /* Changes, the oldest first, and the newest edit of each key, but for those that are left out. */
 typedef struct {
     GQueue changes;
-    GHashTable *newest;
+    GHashTable *newest; /* a set of edits, by their paths */
 } Waiting;
 
 Change *change_new(size_t most);
@@ -55,6 +58,9 @@ void waiting_begin(Waiting *waiting);
 void waiting_end(Waiting *waiting);
 void waiting_add(Waiting *waiting, Change *change);
 const Edit *waiting_find(const Waiting *waiting, const char *path);
+
+/* Whether an edit waits for each key of a change. */
+bool waiting_has(const Waiting *waiting, const Change *change);
 
 /* A key at the moment when changes are forgotten: what its newest edit said before, and what that of
  * then says, if there is one. */

@@ -7,9 +7,19 @@
 Change *change_new(size_t most)
 {
     Change *change = g_malloc(sizeof *change + most * sizeof change->edits[0]);
+    change->link = (GList){.data = change};
     change->count = 0;
     change->most = most;
     return change;
+}
+
+/* What the library is asked for. */
+static DconfdbEdit edit_of(const Edit *edit)
+{
+    if (!edit->value)
+        return (DconfdbEdit){edit->path, NULL, NULL, 0};
+    return (DconfdbEdit){edit->path, g_variant_get_type_string(edit->value), g_variant_get_data(edit->value),
+                         g_variant_get_size(edit->value)};
 }
 
 void change_add(Change *change, const char *path, GVariant *value)
@@ -17,9 +27,11 @@ void change_add(Change *change, const char *path, GVariant *value)
     g_assert(change->count < change->most);
     Edit *edit = &change->edits[change->count++];
     edit->path = g_strdup(path);
+    edit->hash = g_str_hash(path);
     /* Bytes of a program that aren't normal may be as deep as they like; normal ones say the
      * same. */
     edit->value = value ? g_variant_get_normal_form(value) : NULL;
+    edit->asked = edit_of(edit);
     edit->is_left_out = false;
 }
 
@@ -44,27 +56,26 @@ bool change_is_empty(const Change *change)
     return true;
 }
 
-static bool are_alike(GVariant *one, GVariant *other)
+/* Normal forms of one type are alike where their bytes are. */
+static bool are_alike(const DconfdbEdit *one, const DconfdbEdit *other)
 {
-    return one && other ? g_variant_equal(one, other) : one == other;
+    if (!one->type || !other->type)
+        return one->type == other->type;
+    return one->size == other->size && strcmp(one->type, other->type) == 0 && memcmp(one->data, other->data, one->size) == 0;
 }
 
-static DconfdbEdit edit_of(const Edit *edit)
+static const Edit *newest_of(const Waiting *waiting, const Edit *edit)
 {
-    if (!edit->value)
-        return (DconfdbEdit){edit->path, NULL, NULL, 0};
-    return (DconfdbEdit){edit->path, g_variant_get_type_string(edit->value), g_variant_get_data(edit->value),
-                         g_variant_get_size(edit->value)};
+    return g_hash_table_lookup(waiting->newest, edit);
 }
 
 /* Of what waits, with the edits of this change before it, the newest counts: each is of another key. */
 static bool changes_nothing(const Edit *edit, const Waiting *waiting, const DconfdbSnapshot *stored)
 {
-    const Edit *newest = waiting_find(waiting, edit->path);
+    const Edit *newest = newest_of(waiting, edit);
     if (newest)
-        return are_alike(newest->value, edit->value);
-    DconfdbEdit asked = edit_of(edit);
-    return stored && dconfdb_snapshot_has_edit(stored, &asked);
+        return are_alike(&newest->asked, &edit->asked);
+    return stored && dconfdb_snapshot_has_edit(stored, &edit->asked);
 }
 
 void change_leave_out(Change *change, const Waiting *waiting, const DconfdbSnapshot *stored)
@@ -108,22 +119,28 @@ void change_free(Change *change)
     g_free(change);
 }
 
-static void free_one(gpointer change)
-{
-    change_free(change);
-}
-
 void changes_free(GQueue *changes)
 {
-    g_queue_clear_full(changes, free_one);
+    for (GList *at; (at = g_queue_pop_head_link(changes));)
+        change_free(at->data);
 }
 
 /* ---- what waits */
 
+static guint hash_of(gconstpointer edit)
+{
+    return ((const Edit *)edit)->hash;
+}
+
+static gboolean are_of_one_key(gconstpointer one, gconstpointer other)
+{
+    return strcmp(((const Edit *)one)->path, ((const Edit *)other)->path) == 0;
+}
+
 void waiting_begin(Waiting *waiting)
 {
     g_queue_init(&waiting->changes);
-    waiting->newest = g_hash_table_new(g_str_hash, g_str_equal);
+    waiting->newest = g_hash_table_new(hash_of, are_of_one_key);
 }
 
 void waiting_end(Waiting *waiting)
@@ -134,17 +151,28 @@ void waiting_end(Waiting *waiting)
 
 void waiting_add(Waiting *waiting, Change *change)
 {
-    g_queue_push_tail(&waiting->changes, change);
-    /* Replaced, so that the path is that of the edit which lives longest. */
+    g_queue_push_tail_link(&waiting->changes, &change->link);
     for (size_t i = 0; i < change->count; i++) {
         if (!change->edits[i].is_left_out)
-            g_hash_table_replace(waiting->newest, change->edits[i].path, &change->edits[i]);
+            g_hash_table_add(waiting->newest, &change->edits[i]);
     }
 }
 
 const Edit *waiting_find(const Waiting *waiting, const char *path)
 {
-    return g_hash_table_size(waiting->newest) == 0 ? NULL : g_hash_table_lookup(waiting->newest, path);
+    if (g_hash_table_size(waiting->newest) == 0)
+        return NULL;
+    Edit sought = {.path = (char *)path, .hash = g_str_hash(path)};
+    return newest_of(waiting, &sought);
+}
+
+bool waiting_has(const Waiting *waiting, const Change *change)
+{
+    for (size_t i = 0; i < change->count; i++) {
+        if (!newest_of(waiting, &change->edits[i]))
+            return false;
+    }
+    return true;
 }
 
 GQueue waiting_take(Waiting *waiting)
@@ -171,12 +199,12 @@ static void free_edited(gpointer data)
 static GArray *edited_of(const Waiting *waiting)
 {
     GHashTableIter at;
-    gpointer path, edit;
+    gpointer edit;
     GArray *all = g_array_new(FALSE, FALSE, sizeof(Edited));
     g_array_set_clear_func(all, free_edited);
     g_hash_table_iter_init(&at, waiting->newest);
-    while (g_hash_table_iter_next(&at, &path, &edit)) {
-        Edited one = {g_strdup(path), value_of(edit), NULL, false};
+    while (g_hash_table_iter_next(&at, &edit, NULL)) {
+        Edited one = {g_strdup(((const Edit *)edit)->path), value_of(edit), NULL, false};
         g_array_append_val(all, one);
     }
     return all;
@@ -188,8 +216,8 @@ static void forget(Waiting *waiting, const GQueue *changes)
         const Change *change = at->data;
         for (size_t i = 0; i < change->count; i++) {
             const Edit *edit = &change->edits[i];
-            if (g_hash_table_lookup(waiting->newest, edit->path) == edit)
-                g_hash_table_remove(waiting->newest, edit->path);
+            if (newest_of(waiting, edit) == edit)
+                g_hash_table_remove(waiting->newest, edit);
         }
     }
 }
@@ -224,9 +252,8 @@ static GArray *edits_of(const GQueue *changes)
     for (const GList *at = changes->head; at; at = at->next) {
         const Change *change = at->data;
         for (size_t i = 0; i < change->count; i++) {
-            DconfdbEdit edit = edit_of(&change->edits[i]);
             if (!change->edits[i].is_left_out)
-                g_array_append_val(edits, edit);
+                g_array_append_val(edits, change->edits[i].asked);
         }
     }
     return edits;
