@@ -7,6 +7,7 @@ use Rattle.dconf_model.specs.Causes.SettingsCause.{not_utf8, too_many, user_not_
 use Rattle.dconf_model.specs.Lines.{LineFault, LineReading}
 use Rattle.dconf_model.specs.Lines.LineReading.{nothing, found, wrong}
 use Rattle.dconf_model.specs.Profiles.{Database, databases_in}
+use Rattle.keyfile_core.specs.Feeds.{is_feed}
 use Rattle.dconfdb_calls.specs.declared.fault.Fault.{Fault}
 use Rattle.dconfdb_calls.specs.declared.fault.Fault.TheVariants.{Memory}
 use Rattle.dconfdb_calls.specs.declared.profiles.BadProfile.{BadProfile}
@@ -74,11 +75,7 @@ fault_from fault n names [] = fault
 fault_from fault n names (l ∷ more) =
     fault_from (or_later fault (n + 1) (line_says (length names) l)) (n + 1) (with_named names (line_says (length names) l)) more
 
--- a line ends at a line feed; what follows the last one is a line too
-abbrev pub is_feed : ℕ → Bool
-is_feed c = c == 10
-
--- the databases that a text's good lines name, and its first bad line
+-- the databases that a text's good lines name, and its first bad line; a line ends at a line feed, and what follows the last one is a line too
 abbrev pub good_names : List ℕ → List (ℕ × List ℕ)
 good_names text = names_from [] (slice_split is_feed text)
 
@@ -95,11 +92,6 @@ or_none (Some fault) = fault
 or_none None = (0, 0)
 
 -- ---- words of private parts
-
--- the lines that follow a line feed, if there was one
-abbrev pub lines_in : Option (List ℕ) → List (List ℕ)
-lines_in None = []
-lines_in (Some text) = slice_split is_feed text
 
 abbrev pub line_fault : BadProfile → Told
 line_fault bad = (number_of bad.fault, bad.line)

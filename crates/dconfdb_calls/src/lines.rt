@@ -1,7 +1,8 @@
 //! The databases that a profile names, where bad lines are passed over.
 ghost use Rattle.std.specs.Prelude.{◌≡◌, ◌≤◌, ◌<◌, ◌∷◌, ◌+◌, IfErr, IfOk, IfSome, OnOk, length, map, option_map};
 ghost use Rattle.std.specs.List.{slice_split};
-ghost use Rattle.dconfdb_calls.specs.GoodLines.{IsLineFault, first_fault, good_names, is_feed, line_fault, line_says, lines_in, or_later, own_line, place_said, reading_of, with_named};
+ghost use Rattle.keyfile_core.specs.Feeds.{is_feed, lines_in};
+ghost use Rattle.dconfdb_calls.specs.GoodLines.{IsLineFault, first_fault, good_names, line_fault, line_says, or_later, own_line, place_said, reading_of, with_named};
 ghost use Rattle.dconfdb_calls.specs.Named.{told};
 ghost use Rattle.dconfdb_calls.specs.Numbers.{number_of};
 ghost use Rattle.dconfdb_calls.specs.declared.fault.Fault.TheVariants.{Memory};

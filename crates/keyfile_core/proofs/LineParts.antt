@@ -1,5 +1,7 @@
--- What a search of a line, or of a text, says of its parts.
-use Rattle.std.proofs.Common.{◌≡◌, ℕ, ◌+◌, ◌<◌, Bool, true, false, List, [], ◌∷◌, length, get_or, take, drop, ◌∙◌, arith}
+-- What a search of a line, or of a text, says of its parts, and what is left behind a line.
+use Rattle.std.proofs.Common.{◌≡◌, ◌≤◌, ℕ, ◌+◌, ◌<◌, Bool, true, false, List, [], ◌∷◌, length, get_or, take, drop, Option, Some, None, IfSome, refl, ap, ◌∙◌, arith}
+use Rattle.std.specs.Prelude.{option_map}
+use denote.Ref.{Bor}
 use Rattle.std.specs.List.{list_any, position_or_len, slice_split}
 use Rattle.std.proofs.lemmas.List.Elements.{All-from_get_or}
 use Rattle.std.proofs.lemmas.List.Folds.{list_any_at, list_any_none}
@@ -7,7 +9,7 @@ use Rattle.std.proofs.lemmas.List.Splits.{slice_split_first, slice_split_none}
 use Rattle.std.proofs.lemmas.List.Sums.{fails_before_first, passes_at_first, position_or_len_is}
 use Rattle.std.proofs.lemmas.Bool.{false_from_ne_true}
 use Rattle.memchr.specs.Find.{Nowhere, NoneBefore, Passes, is_byte}
-use Rattle.keyfile_core.specs.Feeds.{is_feed}
+use Rattle.keyfile_core.specs.Feeds.{is_feed, lines_in}
 
 -- ---- the first `=`
 
@@ -30,3 +32,26 @@ at_feed text end none is =
 
 pub no_feed : (text : List ℕ) → Nowhere (Passes (is_byte 10) text) 0 (length text) → slice_split is_feed text ≡ text ∷ []
 no_feed text none = slice_split_none is_feed text (All-from_get_or (λ c. is_feed c ≡ false) text 0 (fails_before text (length text) none))
+
+-- ---- what is left
+
+-- the bytes that are left, and one for the line in which they begin
+abbrev pub left : Option (List ℕ) → ℕ
+left None = 0
+left (Some rest) = length rest + 1
+
+abbrev pub text_of : Option (Bor (List ℕ)) → Option (List ℕ)
+text_of o = option_map (λ text. text.now) o
+
+pub nothing_left : (o : Option (Bor (List ℕ))) → ((x : Bor (List ℕ)) → o ≡ Some x → ⊥) → lines_in (text_of o) ≡ []
+nothing_left None not = refl
+nothing_left (Some x) not = absurd (not x refl)
+
+pub less_left : (o : Option (Bor (List ℕ))) (n : ℕ) → IfSome o (λ rest. length rest.now < n) → left (text_of o) ≤ n
+less_left None n less = omega arith
+less_left (Some x) n less = omega arith
+
+-- what is left is the next line, and those after it
+pub at_next : (o : Option (Bor (List ℕ))) (text : Bor (List ℕ)) (l : List ℕ) (more : List (List ℕ)) → o ≡ Some text → slice_split is_feed text.now ≡ l ∷ more →
+    lines_in (text_of o) ≡ l ∷ more
+at_next o text l more some parts = ap (λ t. lines_in (text_of t)) some ∙ parts

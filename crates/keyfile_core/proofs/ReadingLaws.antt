@@ -14,6 +14,7 @@ use Rattle.dconf_model.specs.Keyfiles.LineKind.{empty, bracket, entry}
 use Rattle.dconf_model.proofs.KeyfileLines.{group_comes, group_stays, named, read_one}
 use Rattle.dconf_path.proofs.TextFaults.{reads_lines, reads_no_lines}
 use Rattle.keyfile_core.specs.Feeds.{is_feed, lines_in}
+use Rattle.keyfile_core.proofs.LineParts.{at_next, text_of}
 use Rattle.keyfile_core.specs.Readings.{group_after, kind_meant, line_meant, or_before, read_below}
 
 -- ---- the lines before matter by their number and their last group alone
@@ -87,26 +88,8 @@ module _ (rows : List Row) (group : Option (List ℕ)) (n : ℕ) (l : List ℕ) 
   pub is_wrong : (cause : SettingsCause) → line_meant group (n + 1) (without_blanks l) ≡ wrong cause → with_rows rows (read_below group n (l ∷ more)) ≡ Err (record { line = n + 1; cause = cause })
   is_wrong cause e = ap (λ r. with_rows rows (put_first (n + 1) r later)) e ∙ with_fault rows (record { line = n + 1; cause = cause })
 
--- ---- what is left
-
--- the bytes that are left, and one for the line in which they begin
-abbrev pub left : Option (List ℕ) → ℕ
-left None = 0
-left (Some rest) = length rest + 1
-
-abbrev pub text_of : Option (Bor (List ℕ)) → Option (List ℕ)
-text_of o = option_map (λ text. text.now) o
-
-pub nothing_left : (o : Option (Bor (List ℕ))) → ((x : Bor (List ℕ)) → o ≡ Some x → ⊥) → lines_in (text_of o) ≡ []
-nothing_left None not = refl
-nothing_left (Some x) not = absurd (not x refl)
-
-pub less_left : (o : Option (Bor (List ℕ))) (n : ℕ) → IfSome o (λ rest. length rest.now < n) → left (text_of o) ≤ n
-less_left None n less = omega arith
-less_left (Some x) n less = omega arith
-
 -- the next line, and those after it
 pub at_line : (rows : List Row) (group : Option (List ℕ)) (n : ℕ) (o : Option (Bor (List ℕ))) (text : Bor (List ℕ)) (l : List ℕ) (more : List (List ℕ)) →
     o ≡ Some text → slice_split is_feed text.now ≡ l ∷ more →
     with_rows rows (read_below group n (l ∷ more)) ≡ with_rows rows (read_below group n (lines_in (text_of o)))
-at_line rows group n o text l more some parts = λ i. with_rows rows (read_below group n (sym (ap (λ t. lines_in (text_of t)) some ∙ parts) i))
+at_line rows group n o text l more some parts = λ i. with_rows rows (read_below group n (sym (at_next o text l more some parts) i))

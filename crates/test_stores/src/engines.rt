@@ -1,9 +1,10 @@
 //! Each call of an engine and of layers, where there is memory enough: over a user's database of one key, and a site's that locks it. What
 //! is seen through layers is in tests/program.d.
 use crate::samples::sample;
-use dconf_engine::{ChangeFault, Engine, Layer, LentLayers};
+use dconf_engine::{ChangeFault, Engine, Layer, LentLayers, show_same};
 use dconf_path::{DirPath, KeyPath, Profile, read_profile};
 use gv_tree::{Basic, Tree};
+use gv_types::TypeStr;
 use gv_view::View;
 use gvdb_write::WriteFault;
 use std::alloc::{AllocError, Global};
@@ -98,12 +99,19 @@ fn are_told_apart(
     Ok(apart == 1 && some.differing(alloc, some, 1)?.is_empty())
 }
 
+/// Whether a value shows the same as itself, and another than a longer one.
+fn shows_itself(alloc: Global) -> Result<bool, Fail> {
+    let of = TypeStr::parse("s")?;
+    let (first, second) = (View::new(of, b"a\0"), View::new(of, b"ab\0"));
+    Ok(show_same(alloc, first, first)? && !show_same(alloc, first, second)?)
+}
+
 #[test]
 fn an_engine_is_changed_seen_and_saved(rt: HostRuntime) -> Result<(), Fail> {
     let alloc = rt.alloc();
     let (some, none) = ([Layer::open(Some(sample("plain")))?], [Layer::open(None)?]);
     let (some, none) = (LentLayers::new(true, &some), LentLayers::new(true, &none));
-    assert!(rt; are_told_apart(alloc, some, none)?);
+    assert!(rt; are_told_apart(alloc, some, none)? && shows_itself(alloc)?);
     let engine = opened(alloc, &read_profile(alloc, "user-db:me\nsystem-db:site")?)?;
     assert!(rt; is_right(alloc, engine)?);
     Ok(())

@@ -3,8 +3,8 @@
 use crate::table::Asked;
 use crate::views::is_same;
 use gv_layout::{
-    Place, aligned_after, alignment, fixed_size, member_bounds, n_children, number, offset_width,
-    place_of, places, round_up, type_info,
+    Place, aligned_after, alignment, fixed_size, is_true, least_width, member_bounds, n_children,
+    number, offset_width, place_of, places, round_up, type_info,
 };
 use gv_types::{Class, Members, TypeStr};
 use gv_view::View;
@@ -79,6 +79,24 @@ fn widths_are_right() -> bool {
     for (len, width) in rows {
         let read = number(&len.to_le_bytes());
         wrong |= read as u64 != len || offset_width(read) != width;
+    }
+    !wrong
+}
+
+/// Whether so many offsets after a body of so many bytes have this width: the least that reaches the end of both.
+fn least_widths_are_right() -> bool {
+    let rows: [(u32, u8, usize); 7] = [
+        (0, 0, 1),
+        (254, 1, 1),
+        (255, 1, 2),
+        (65_531, 2, 2),
+        (65_532, 2, 4),
+        (4_294_967_291, 1, 4),
+        (4_294_967_292, 1, 8),
+    ];
+    let mut wrong = false;
+    for (body, count, width) in rows {
+        wrong |= least_width(body as usize, usize::from(count)) != width;
     }
     !wrong
 }
@@ -207,7 +225,8 @@ fn children_lie_at_their_bounds(rt: HostRuntime) -> Result<(), Fail> {
     Asked::Layout.each_gives(alloc, LAYOUTS)?;
     Asked::Places.each_gives(alloc, PLACES)?;
     let unplaced = is_unplaced_after(TypeStr::parse("(ysas)")?, b"\x05\xff\xff", "as");
-    assert!(rt; unplaced && widths_are_right() && number(b"\x01\x02") == 513);
+    assert!(rt; unplaced && widths_are_right() && least_widths_are_right());
+    assert!(rt; number(b"\x01\x02") == 513 && is_true(b"\x02") && !is_true(b"\x00"));
     assert!(rt; (round_up(9, 8), round_up(8, 8), round_up(7, 1)) == (16, 8, 7));
     Ok(())
 }

@@ -1,7 +1,9 @@
 use Rattle.std.proofs.Common.{◌≡◌, ◌∙◌, arith, ap, sym, length}
 use Rattle.std.specs.Prelude.{option_map}
-use Rattle.dconfdb_calls.specs.GoodLines.{fault_from, first_fault, good_names, line_fault, lines_in, names_from}
-use Rattle.dconfdb_calls.proofs.LineLaws.{at_line, fault_on, left, less_left, names_on, nothing_left, pairs, text_of}
+use Rattle.keyfile_core.specs.Feeds.{lines_in}
+use Rattle.dconfdb_calls.specs.GoodLines.{fault_from, first_fault, good_names, line_fault, names_from}
+use Rattle.keyfile_core.proofs.LineParts.{at_next, left, less_left, nothing_left, text_of}
+use Rattle.dconfdb_calls.proofs.LineLaws.{fault_on, names_on, pairs}
 use Rattle.dconfdb_calls.proofs.lines.good_lines.Goals as goal
 
 pub loop-rest-preserved : goal.loop-rest-preserved
@@ -12,7 +14,7 @@ loop-rest-preserved c =
     let l = c.split_line.result.0.now in
     let more = lines_in (text_of c.split_line.result.1) in
     let lines = lines_in (text_of c.loop-rest.rest) in
-    let here = at_line c.loop-rest.rest c.in-Some.text l more c.in-Some.is c.split_line.ensures.parts in
+    let here = at_next c.loop-rest.rest c.in-Some.text l more c.in-Some.is c.split_line.ensures.parts in
     let less = less_left c.split_line.result.1 (length c.in-Some.text.now) c.split_line.ensures.shorter in
     let before = ap (λ o. left (text_of o)) c.in-Some.is in
     record {

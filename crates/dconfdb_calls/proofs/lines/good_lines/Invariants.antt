@@ -1,8 +1,9 @@
 use Rattle.std.proofs.Common.{◌≡◌, ◌≤◌, ◌+◌, length, map, ℕ, List}
 use Rattle.std.specs.Prelude.{option_map}
-use Rattle.dconfdb_calls.specs.GoodLines.{fault_from, first_fault, good_names, line_fault, lines_in, names_from}
+use Rattle.keyfile_core.specs.Feeds.{lines_in}
+use Rattle.dconfdb_calls.specs.GoodLines.{fault_from, first_fault, good_names, line_fault, names_from}
 use Rattle.dconfdb_calls.specs.Named.{told}
-use Rattle.dconfdb_calls.proofs.LineLaws.{left, text_of}
+use Rattle.keyfile_core.proofs.LineParts.{left, text_of}
 use Rattle.dconfdb_calls.proofs.lines.good_lines.Given as goal
 
 -- what is known so far and what is left are the whole text

@@ -1,4 +1,5 @@
-use Rattle.dconfdb_calls.proofs.LineLaws.{at_feed, no_feed}
+use Rattle.keyfile_core.proofs.LineParts.{no_feed}
+use Rattle.dconfdb_calls.proofs.LineLaws.{at_feed}
 use Rattle.dconfdb_calls.proofs.lines.split_line.Goals as goal
 
 pub returns-in-Some-clause-parts : goal.returns-in-Some-clause-parts

@@ -5,7 +5,8 @@ use Rattle.keyfile_core.specs.Feeds.{lines_in}
 use Rattle.keyfile_core.specs.KeyfileFaults.{cause_of}
 use Rattle.keyfile_core.specs.Readings.{read_below}
 use Rattle.keyfile_core.specs.Rows.{row_meant}
-use Rattle.keyfile_core.proofs.ReadingLaws.{with_rows, with_none, says_row, is_wrong, at_line, left, less_left, nothing_left, text_of}
+use Rattle.keyfile_core.proofs.LineParts.{left, less_left, nothing_left, text_of}
+use Rattle.keyfile_core.proofs.ReadingLaws.{with_rows, with_none, says_row, is_wrong, at_line}
 use Rattle.keyfile_core.proofs.rows.read_text.Goals as goal
 
 pub returns-in-Err-clause-fault : goal.returns-in-Err-clause-fault

@@ -4,7 +4,8 @@ use Rattle.std.specs.List.{slice_split}
 use Rattle.keyfile_core.specs.Feeds.{is_feed, lines_in}
 use Rattle.keyfile_core.specs.Readings.{read_below}
 use Rattle.keyfile_core.specs.Rows.{row_meant}
-use Rattle.keyfile_core.proofs.ReadingLaws.{with_rows, left}
+use Rattle.keyfile_core.proofs.LineParts.{left}
+use Rattle.keyfile_core.proofs.ReadingLaws.{with_rows}
 use Rattle.keyfile_core.proofs.rows.read_text.Given as goal
 
 abbrev pub invariant-loop-rest : goal.invariant-loop-rest
