@@ -271,25 +271,32 @@ static void dconfdb_backend_sync(GSettingsBackend *backend)
 
 /* ---- who listens */
 
-/* A main context that is to say that it turns. */
+/* A main context that is to say that it turns. It may never do so, and the backend be gone by then. */
 typedef struct {
-    DconfdbBackend *backend;
+    GWeakRef backend;
     GMainContext *context;
 } Asked;
 
 static void is_answered(gpointer data)
 {
     Asked *asked = data;
-    g_mutex_lock(&asked->backend->lock);
-    g_hash_table_remove(asked->backend->asked, asked->context);
-    g_mutex_unlock(&asked->backend->lock);
+    DconfdbBackend *self = g_weak_ref_get(&asked->backend);
+    if (self) {
+        g_mutex_lock(&self->lock);
+        g_hash_table_remove(self->asked, asked->context);
+        g_mutex_unlock(&self->lock);
+        g_object_unref(self);
+    }
+    g_weak_ref_clear(&asked->backend);
     g_free(asked);
 }
 
 /* Signals have somebody to come to: from now on the files are watched. */
 static gboolean has_turned(gpointer data)
 {
-    DconfdbBackend *self = ((Asked *)data)->backend;
+    DconfdbBackend *self = g_weak_ref_get(&((Asked *)data)->backend);
+    if (!self)
+        return G_SOURCE_REMOVE;
     g_mutex_lock(&self->lock);
     worker_begin(self);
     if (self->has_worker && !self->has_ended && !self->is_to_watch && getpid() == self->process) {
@@ -297,6 +304,7 @@ static gboolean has_turned(gpointer data)
         worker_wake(self);
     }
     g_mutex_unlock(&self->lock);
+    g_object_unref(self);
     return G_SOURCE_REMOVE;
 }
 
@@ -309,7 +317,8 @@ static void ask_whether_it_turns(DconfdbBackend *self)
     g_mutex_unlock(&self->lock);
     if (is_new) {
         Asked *asked = g_new(Asked, 1);
-        *asked = (Asked){self, context};
+        g_weak_ref_init(&asked->backend, self);
+        asked->context = context;
         GSource *source = g_idle_source_new();
         g_source_set_priority(source, G_PRIORITY_HIGH);
         g_source_set_callback(source, has_turned, asked, is_answered);
@@ -348,10 +357,10 @@ static void dconfdb_backend_unsubscribe(GSettingsBackend *backend, const char *n
     g_mutex_unlock(&self->lock);
 }
 
-/* ---- its life: as long as the program's */
+/* ---- its life: as long as somebody holds it, and its worker has something to write */
 
 static GMutex living_lock; /* taken before a backend's `lock` */
-static GSList *living;
+static GSList *living;     /* each has a reference of somebody's, as long as `living_lock` is held */
 
 /* GSettings reads a schema's default as a tuple of the key's type at each read; and what GLib knows of
  * a type goes with the last value that has it in its own. This one keeps that of common keys. */
@@ -376,8 +385,38 @@ static void dconfdb_backend_init(DconfdbBackend *self)
     g_queue_init(&self->untold);
     store_begin(self);
     g_mutex_lock(&living_lock);
-    living = g_slist_prepend(living, g_object_ref(self));
+    living = g_slist_prepend(living, self);
     g_mutex_unlock(&living_lock);
+}
+
+/* Nobody holds it: what waits is written, and its worker ends. A worker that can't within some seconds, or that let
+ * go of it last, holds it until then. */
+static void dconfdb_backend_dispose(GObject *object)
+{
+    DconfdbBackend *self = (DconfdbBackend *)object;
+    if (worker_let_go(self)) {
+        g_mutex_lock(&living_lock);
+        living = g_slist_remove(living, self);
+        g_mutex_unlock(&living_lock);
+    }
+    G_OBJECT_CLASS(dconfdb_backend_parent_class)->dispose(object);
+}
+
+static void dconfdb_backend_finalize(GObject *object)
+{
+    DconfdbBackend *self = (DconfdbBackend *)object;
+    store_end(self);
+    waiting_end(&self->waiting);
+    g_hash_table_unref(self->subscribed);
+    g_hash_table_unref(self->odd);
+    g_hash_table_unref(self->asked);
+    if (self->wakes >= 0)
+        close(self->wakes);
+    g_variant_unref(self->types);
+    g_cond_clear(&self->settles);
+    g_mutex_clear(&self->lock);
+    g_mutex_clear(&self->turn);
+    G_OBJECT_CLASS(dconfdb_backend_parent_class)->finalize(object);
 }
 
 /* When the program ends by exit(), or main() returns. A child of fork() leaves all to its parent.
@@ -389,9 +428,11 @@ static void __attribute__((destructor)) end_all(void)
     if (!mutex_lock_until(&living_lock, g_get_monotonic_time() + G_USEC_PER_SEC))
         return;
     GSList *all = living;
+    if (all && ((DconfdbBackend *)all->data)->process != getpid())
+        all = NULL;
+    for (GSList *at = all; at; at = at->next)
+        g_object_ref(at->data);
     g_mutex_unlock(&living_lock);
-    if (!all || ((DconfdbBackend *)all->data)->process != getpid())
-        return;
     for (GSList *at = all; at; at = at->next)
         worker_end(at->data);
 }
@@ -423,6 +464,9 @@ static void after_fork_in_child(void)
 
 static void dconfdb_backend_class_init(DconfdbBackendClass *class)
 {
+    GObjectClass *object = (GObjectClass *)class;
+    object->dispose = dconfdb_backend_dispose;
+    object->finalize = dconfdb_backend_finalize;
     class->parent.read = dconfdb_backend_read;
     class->parent.read_user_value = dconfdb_backend_read_user_value;
     class->parent.get_writable = dconfdb_backend_get_writable;

@@ -101,8 +101,9 @@ typedef struct Watch Watch;
 /* How it comes to its turn (gsettings_turn.c). */
 typedef struct Wait Wait;
 
-/* It lives as long as the program. `turn` is taken before `lock`, and neither while a signal is
- * sent, a warning printed, or another program waited for. fork() takes `lock`; in the child `turn` is free, whoever had it. */
+/* It lives as long as somebody has a reference. GLib keeps one to that which GSETTINGS_BACKEND names. `turn` is
+ * taken before `lock`, and neither while a signal is sent, a warning printed, or another program waited for. fork()
+ * takes `lock`; in the child `turn` is free, whoever had it. */
 typedef struct {
     GSettingsBackend parent;
     pid_t process; /* differs in a child, after fork() */
@@ -133,11 +134,14 @@ typedef struct {
     bool is_to_watch;   /* one has turned: somebody may be told */
     GQueue untold;      /* notices that the worker is to tell */
     bool has_worker;
+    bool is_over; /* it does nothing more */
+    bool is_left; /* nobody else holds the backend: the worker does, as long as something waits */
     pthread_t worker;
     int wakes; /* what wakes it; -1: nothing yet */
 
     gint is_writing;  /* the worker writes, or is to try again; atomic */
     gint is_reopened; /* other files may be the store's, and are to be watched; atomic */
+    gint is_let_go;   /* nobody holds the backend any longer; atomic */
     gint is_watching; /* what others change is noticed without a look at the files; atomic */
     _Atomic gint64 looks; /* when a read is to look at the files again */
 
@@ -173,6 +177,9 @@ void store_peek(DconfdbBackend *self);
 /* Until what waits is written, and the files are looked at: ten seconds at most. False: it isn't yet. */
 bool store_sync(DconfdbBackend *self);
 
+/* Frees all that it holds. */
+void store_end(DconfdbBackend *self);
+
 /* In a child of fork(), with `lock` held: what `turn` guards is the parent's, and may be half
  * changed. The child opens a store of its own if it has no snapshot. */
 void store_leave(DconfdbBackend *self);
@@ -196,6 +203,9 @@ void worker_wake(DconfdbBackend *self);
 
 /* `lock` isn't held. At the program's end: until what waits is written, five seconds at most. */
 void worker_end(DconfdbBackend *self);
+
+/* The same where nobody holds the backend any longer. False: the worker holds it as long as something waits. */
+bool worker_let_go(DconfdbBackend *self);
 bool worker_is_this(DconfdbBackend *self);
 bool worker_is_another(DconfdbBackend *self);
 

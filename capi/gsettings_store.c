@@ -351,6 +351,19 @@ bool store_sync(DconfdbBackend *self)
     return true;
 }
 
+void store_end(DconfdbBackend *self)
+{
+    Notice *notice;
+    while ((notice = g_queue_pop_head(&self->untold)) != NULL)
+        notice_tell_and_free(self, notice);
+    g_clear_pointer(&self->told, g_hash_table_unref);
+    dconfdb_snapshot_unref(self->now);
+    dconfdb_store_close(self->store);
+    for (int i = 0; i < 2; i++)
+        g_free(self->profiles[i]);
+    g_free(self->folder);
+}
+
 void store_leave(DconfdbBackend *self)
 {
     g_mutex_init(&self->turn);

@@ -69,6 +69,21 @@ static bool takes_turn(DconfdbBackend *self)
     return !ends || waits;
 }
 
+/* Who let go of the backend waits for that, or has left it to this thread. */
+static void is_over(DconfdbBackend *self)
+{
+    g_mutex_lock(&self->lock);
+    bool is_left = self->is_left;
+    self->is_over = true;
+    self->has_worker = !is_left;
+    g_cond_broadcast(&self->settles);
+    g_mutex_unlock(&self->lock);
+    if (is_left) {
+        pthread_detach(pthread_self());
+        g_object_unref(self);
+    }
+}
+
 static void *work(void *data)
 {
     DconfdbBackend *self = data;
@@ -84,6 +99,7 @@ static void *work(void *data)
     watch_end(self);
     g_main_context_pop_thread_default(own);
     g_main_context_unref(own);
+    is_over(self);
     return NULL;
 }
 
@@ -145,7 +161,7 @@ void worker_tells(DconfdbBackend *self, Notice *notice)
         notice_tell_and_free(self, notice);
 }
 
-/* ---- the program's end */
+/* ---- the end of the program, or of the backend */
 
 static bool is_settled(DconfdbBackend *self)
 {
@@ -168,6 +184,15 @@ static bool is_joined(DconfdbBackend *self)
     return pthread_timedjoin_np(self->worker, NULL, &end) == 0;
 }
 
+/* The thread is another one's to wait for, where the backend was let go. */
+static bool has_done(DconfdbBackend *self)
+{
+    if (!g_atomic_int_get(&self->is_let_go))
+        return is_joined(self);
+    g_usleep(TICK);
+    return is_settled(self);
+}
+
 static void say_what_waits(DconfdbBackend *self)
 {
     static const char words[] = "dconfdb: what was set last isn't on the disk yet\n";
@@ -188,11 +213,31 @@ void worker_end(DconfdbBackend *self)
     if (has_worker)
         worker_wake(self);
     while (has_worker && now < end && now < moved + LONGEST_REST) {
-        if (is_joined(self))
+        if (has_done(self))
             return;
         now = g_get_monotonic_time();
         if (g_atomic_int_get(&self->is_writing))
             moved = now;
     }
     say_what_waits(self);
+}
+
+bool worker_let_go(DconfdbBackend *self)
+{
+    gint64 end = g_get_monotonic_time() + LONGEST_END;
+    g_mutex_lock(&self->lock);
+    bool has_worker = self->has_worker, is_this = has_worker && pthread_equal(self->worker, pthread_self());
+    self->has_ended = true;
+    g_atomic_int_set(&self->is_let_go, TRUE);
+    if (has_worker)
+        worker_wake(self);
+    while (has_worker && !is_this && !self->is_over && g_cond_wait_until(&self->settles, &self->lock, end))
+        ;
+    self->is_left = has_worker && !self->is_over;
+    if (self->is_left)
+        g_object_ref(self);
+    g_mutex_unlock(&self->lock);
+    if (has_worker && !self->is_left && pthread_join(self->worker, NULL) == 0)
+        self->has_worker = false;
+    return !self->is_left;
 }
