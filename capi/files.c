@@ -241,6 +241,48 @@ static int look_at_old(int folder, const char *name, bool keeps, struct stat *ol
     return 0;
 }
 
+/* A step to another name, which is refused with EEXIST where that is taken. */
+typedef int Moves(int folder, const char *name, const char *aside);
+
+static int by_a_link(int folder, const char *name, const char *aside)
+{
+    return linkat(folder, name, folder, aside, 0);
+}
+
+static int by_a_rename(int folder, const char *name, const char *aside)
+{
+    return renameat2(folder, name, folder, aside, RENAME_NOREPLACE);
+}
+
+/* The first other name that is free; it is to be freed, whatever the fault. */
+static int to_other_name(int folder, const char *name, Moves *moves, char **aside)
+{
+    size_t size = strlen(name) + sizeof "~999";
+    int fault = EEXIST;
+    *aside = malloc(size);
+    if (!*aside)
+        return ENOMEM;
+    for (int n = 1; fault == EEXIST && n <= MOST_ASIDE; n++) {
+        snprintf(*aside, size, "%s~%d", name, n);
+        fault = moves(folder, name, *aside) == 0 ? 0 : errno;
+    }
+    return fault;
+}
+
+/* What has the new file's name goes: it is what a program left that was killed. A folder is nobody's that writes here, and
+ * gets another name. */
+static int make_room(int folder, const char *new_name)
+{
+    char *aside;
+    if (unlinkat(folder, new_name, 0) == 0 || errno == ENOENT)
+        return 0;
+    if (errno != EISDIR)
+        return errno;
+    int fault = to_other_name(folder, new_name, by_a_rename, &aside);
+    free(aside);
+    return fault;
+}
+
 /* Makes the new file. One that is to take another's place is at no time open to more users than
  * that. A first one is open to its owner alone, who is the folder's where root makes it. */
 static int make_new(int folder, const char *name, const char *new_name, const uint8_t *bytes, size_t len, bool keeps, FileState *state)
@@ -250,8 +292,8 @@ static int make_new(int folder, const char *name, const char *new_name, const ui
     int fault = look_at_old(folder, name, keeps, &old, &mode);
     if (fault != 0)
         return fault;
-    if (unlinkat(folder, new_name, 0) != 0 && errno != ENOENT)
-        return errno;
+    if ((fault = make_room(folder, new_name)) != 0)
+        return fault;
     int file = openat(folder, new_name, O_WRONLY | O_CREAT | O_EXCL | O_CLOEXEC, mode | READ_AND_WRITE);
     if (file < 0)
         return errno;
@@ -277,13 +319,8 @@ static int change_places(int folder, const char *name, const char *new_name, con
 /* What the name is stays, by the first other name that is free. */
 static int set_aside(int folder, const char *name, const char *new_name, Replaced *replaced)
 {
-    size_t size = strlen(name) + sizeof "~999";
-    char *aside = malloc(size);
-    int fault = aside ? EEXIST : ENOMEM;
-    for (int n = 1; fault == EEXIST && n <= MOST_ASIDE; n++) {
-        snprintf(aside, size, "%s~%d", name, n);
-        fault = linkat(folder, name, folder, aside, 0) == 0 ? 0 : errno;
-    }
+    char *aside;
+    int fault = to_other_name(folder, name, by_a_link, &aside);
     if (fault == EPERM || fault == EACCES) {
         fault = change_places(folder, name, new_name, aside);
         replaced->has_replaced = fault == 0;
