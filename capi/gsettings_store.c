@@ -8,9 +8,9 @@
 #include <time.h>
 #include <unistd.h>
 
-/* In microseconds: how long g_settings_sync() waits, and a write is tried again; the pauses before that; how
- * often who reads looks at the files; and how often a mutex is tried. */
-enum { LONGEST_SYNC = 10000000, LONGEST_FAILING = 10000000, SHORTEST_PAUSE = 50000, LONGEST_PAUSE = 2000000 };
+/* In microseconds: how long g_settings_sync() waits, and a write is tried again, also by a disk that answers EIO; the pauses
+ * before that; how often who reads looks at the files; and how often a mutex is tried. */
+enum { LONGEST_SYNC = 10000000, LONGEST_FAILING = 10000000, LONGEST_EIO = 1500000, SHORTEST_PAUSE = 50000, LONGEST_PAUSE = 2000000 };
 enum { BETWEEN_LOOKS = 10000, AFTER_A_FAULT = 1000000, TRY = 1000, MILLISECOND = 1000 };
 
 bool mutex_lock_until(GMutex *mutex, gint64 end)
@@ -231,13 +231,13 @@ void store_peek(DconfdbBackend *self)
 }
 
 /* `turn` and `lock` aren't held. When what may be gone in a moment is to be tried again; 0: no more. */
-static gint64 next_try(DconfdbBackend *self)
+static gint64 next_try(DconfdbBackend *self, const DconfdbError *fault)
 {
-    gint64 now = g_get_monotonic_time();
+    gint64 now = g_get_monotonic_time(), longest = fault->system == EIO ? LONGEST_EIO : LONGEST_FAILING;
     if (self->failing == 0)
         self->failing = now;
     self->pause = CLAMP(2 * self->pause, SHORTEST_PAUSE, LONGEST_PAUSE);
-    return now - self->failing < LONGEST_FAILING ? now + self->pause : 0;
+    return now - self->failing < longest ? now + self->pause : 0;
 }
 
 /* `turn` is held. What is to be tried again waits again. */
@@ -245,7 +245,7 @@ static gint64 write_it(DconfdbBackend *self, const Turn *turn, Notice *notice, b
 {
     DconfdbError error;
     Written done = changes_write(self->store, turn, &notice->written, &notice->refused, tries_again, &error);
-    gint64 again = done == TO_TRY_AGAIN ? next_try(self) : 0;
+    gint64 again = done == TO_TRY_AGAIN ? next_try(self, &error) : 0;
     if (done == TO_TRY_AGAIN && again == 0)
         done = changes_write(self->store, turn, &notice->written, &notice->refused, false, &error);
     if (again == 0)
