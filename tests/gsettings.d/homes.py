@@ -61,7 +61,7 @@ def bus(folder):
 
 def environment(home, backend, modules, schema):
     """That of a program at home there."""
-    kept = {name: os.environ[name] for name in ['PATH', 'DCONFDB', 'DCONFDB_CALLS', 'SHOT', 'SEED', 'STEPS', 'EXITS'] if name in os.environ}
+    kept = {name: os.environ[name] for name in ['PATH', 'DCONFDB', 'DCONFDB_CALLS', 'SHOT', 'SEED', 'STEPS', 'EXITS', 'KILLS', 'ROWS'] if name in os.environ}
     (home / 'run').mkdir(parents=True, mode=0o700)
     return kept | {
         'LC_ALL': 'C.UTF-8',
