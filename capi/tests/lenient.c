@@ -346,6 +346,82 @@ static void tries_bad_sites(void)
     tried += 5;
 }
 
+/* ---- each bad thing in the place of each file */
+
+typedef enum { EMPTY, NOISE, A_FOLDER, A_PIPE, CLOSED, TO_NOTHING, THINGS } Thing;
+
+/* What a change does where such a thing has the file's place. */
+static const struct {
+    const char *file;
+    bool is_made[THINGS];
+} PLACES[] = {
+    {"me.user", {true, true, true, true, true, true}},
+    {"me.user.new", {true, true, true, true, true, true}},
+    {"me.user~1", {true, true, true, true, true, true}},
+    {"site.db", {true, true, true, true, true, true}},
+    /* Without a line that says so there is no user's database; a profile that can't be read, or isn't there, is that of all users. */
+    {"profile", {false, false, true, true, true, true}},
+    /* What is no file, and what may not be opened, is nobody's turn. */
+    {".lock", {true, true, false, false, false, false}},
+};
+
+static void puts_there(const char *file, Thing thing)
+{
+    static const char noise[] = "no database, but long enough to have a header of one, and more";
+    unlink(file);
+    if (thing == EMPTY || thing == NOISE || thing == CLOSED)
+        writes(file, noise, thing == EMPTY ? 0 : sizeof noise);
+    TRY(thing != A_FOLDER || mkdir(file, 0700) == 0);
+    TRY(thing != A_PIPE || mkfifo(file, 0600) == 0);
+    TRY(thing != CLOSED || chmod(file, 0) == 0);
+    TRY(thing != TO_NOTHING || symlink("nothing", file) == 0);
+}
+
+/* The rest of the store is read, and a change is made or refused; of what no store is of, the user's other file is another's. */
+static void tries_in_place(size_t place, Thing thing)
+{
+    const char *file = PLACES[place].file;
+    bool is_of_all = strcmp(file, "profile") == 0, is_made = PLACES[place].is_made[thing];
+    DconfdbStore *store = opens();
+    TRY(changes(store, sets_text("/before", "1")));
+    dconfdb_store_close(store);
+    if (strcmp(file, "me.user~1") == 0)
+        puts_there("me.user", NOISE);
+    puts_there(file, thing);
+    store = opens();
+    TRY(is_of_all || sees(store, "/far/key", "far"));
+    TRY(changes(store, sets_text("/new", "1")) == is_made && sees(store, "/new", is_made ? "1" : NULL));
+    TRY(is_made || error.number == DCONFDB_ERROR_FILE || error.number == DCONFDB_ERROR_NOT_WRITABLE);
+    dconfdb_store_close(store);
+    TRY(access("nothing", F_OK) != 0 || (strcmp(file, "me.user") != 0 && unlink("nothing") == 0));
+    tried++;
+}
+
+/* Whatever is left of them. */
+static void removes_all(void)
+{
+    static const char *const names[] = {"me.user", "me.user~1", "me.user~2", "me.user.new", "me.user.new~1", "user.user", ".lock"};
+    for (size_t i = 0; i < sizeof names / sizeof names[0]; i++)
+        TRY(unlink(names[i]) == 0 || errno == ENOENT || rmdir(names[i]) == 0);
+}
+
+static void tries_places(void)
+{
+    static Bytes site, profile;
+    reads("site.db", &site);
+    reads("profile", &profile);
+    for (size_t place = 0; place < sizeof PLACES / sizeof PLACES[0]; place++) {
+        for (Thing thing = EMPTY; thing < THINGS; thing++) {
+            tries_in_place(place, thing);
+            removes_all();
+            TRY(unlink("site.db") == 0 || rmdir("site.db") == 0);
+            TRY(unlink("profile") == 0 || rmdir("profile") == 0);
+            writes("site.db", site.bytes, site.len);
+            writes("profile", profile.bytes, profile.len);
+        }
+    }
+}
+
 /* ---- the profile */
 
 static void tries_profile(const char *text, int number, size_t line, size_t count)
@@ -390,6 +466,7 @@ int main(int argc, char **argv)
     tries_profiles();
     leaves_rights();
     tries_closed_files();
+    tries_places();
     printf("%zu bad files and profiles\n", tried);
     return 0;
 }

@@ -6,8 +6,10 @@
 
 #include <errno.h>
 #include <fcntl.h>
+#include <signal.h>
 #include <stdint.h>
 #include <sys/file.h>
+#include <sys/resource.h>
 #include <sys/stat.h>
 #include <unistd.h>
 
@@ -338,14 +340,17 @@ static void tries_no_user(void)
     dconfdb_store_close(store);
 }
 
-/* What the system refuses of a change: the file's place is taken by a folder; it is cut off. */
+/* What the system refuses of a change: no file may be as long as the new one. */
 static void tries_replacing(DconfdbStore *store)
 {
     DconfdbEdit good = sets_text("/good", "1");
-    TRY(mkdir("me.user.new", 0700) == 0);
+    struct rlimit usual, none = {0, RLIM_INFINITY};
+    TRY(getrlimit(RLIMIT_FSIZE, &usual) == 0 && signal(SIGXFSZ, SIG_IGN) != SIG_ERR);
+    none.rlim_max = usual.rlim_max;
+    TRY(setrlimit(RLIMIT_FSIZE, &none) == 0);
     forgets();
     TRY(!dconfdb_store_change(store, &good, 1, &error));
-    TRY(rmdir("me.user.new") == 0 && error.number == DCONFDB_ERROR_FILE && error.system != 0 && strstr(error.text, "/me.user"));
+    TRY(setrlimit(RLIMIT_FSIZE, &usual) == 0 && error.number == DCONFDB_ERROR_FILE && error.system == EFBIG && strstr(error.text, "/me.user"));
     TRY(error.at == 0 && error.database == 0 && error.line == 0 && !strstr(error.text, "replaced"));
     begins(store);
     TRY(nothing_changed(store));
