@@ -174,7 +174,8 @@ void store_look(DconfdbBackend *self);
 /* The same for who reads where nothing is watched, if nobody else looks: the worker tells. */
 void store_peek(DconfdbBackend *self);
 
-/* Until what waits is written, and the files are looked at: ten seconds at most. False: it isn't yet. */
+/* Until what waits is written, and the files are looked at: ten seconds at most, and as long again after each
+ * turn of other programs, up to a minute. False: it isn't yet. */
 bool store_sync(DconfdbBackend *self);
 
 /* Frees all that it holds. */
@@ -196,12 +197,25 @@ gint64 turn_next(const DconfdbBackend *self);
 /* Ends a turn that turn_take gave, be it with a fault. */
 void turn_give(DconfdbBackend *self);
 
+/* How long something that waits for its turn is waited for: so long after each turn that a program has, but not
+ * for ever. Neither call takes a lock or memory. */
+typedef struct {
+    gint64 end, each, latest;
+    struct timespec changed; /* the folder, then: a turn makes a file in it, and renames it */
+} Patience;
+
+Patience patience_of(const DconfdbBackend *self, gint64 each);
+
+/* Moves the end, where there was a turn since the last call. */
+void patience_renew(Patience *patience, const DconfdbBackend *self);
+
 /* ---- the thread that writes and watches (gsettings_worker.c); `lock` is held */
 
 void worker_begin(DconfdbBackend *self);
 void worker_wake(DconfdbBackend *self);
 
-/* `lock` isn't held. At the program's end: until what waits is written, five seconds at most. */
+/* `lock` isn't held. At the program's end: until what waits is written, five seconds at most, and as long again
+ * after each turn of other programs, up to a minute. */
 void worker_end(DconfdbBackend *self);
 
 /* The same where nobody holds the backend any longer. False: the worker holds it as long as something waits. */

@@ -9,9 +9,9 @@
 #include <unistd.h>
 
 /* In microseconds: how long g_settings_sync() waits, and a write is tried again, also by a disk that answers EIO; the pauses
- * before that; how often who reads looks at the files; and how often a mutex is tried. */
+ * before that; how often who waits looks for turns of others, and who reads at the files; and how often a mutex is tried. */
 enum { LONGEST_SYNC = 10000000, LONGEST_FAILING = 10000000, LONGEST_EIO = 1500000, SHORTEST_PAUSE = 50000, LONGEST_PAUSE = 2000000 };
-enum { BETWEEN_LOOKS = 10000, AFTER_A_FAULT = 1000000, TRY = 1000, MILLISECOND = 1000 };
+enum { BETWEEN_TURNS = 500000, BETWEEN_LOOKS = 10000, AFTER_A_FAULT = 1000000, TRY = 1000, MILLISECOND = 1000 };
 
 bool mutex_lock_until(GMutex *mutex, gint64 end)
 {
@@ -325,12 +325,17 @@ gint64 store_write(DconfdbBackend *self, gint64 end, bool tries_again)
 }
 
 /* Until all that waits now is settled. */
-static bool await_settled(DconfdbBackend *self, gint64 end)
+static bool await_settled(DconfdbBackend *self, Patience *patience)
 {
     g_mutex_lock(&self->lock);
     guint64 added = self->added;
-    while (self->settled < added && g_cond_wait_until(&self->settles, &self->lock, end))
-        ;
+    for (gint64 now; self->settled < added && (now = g_get_monotonic_time()) < patience->end;) {
+        if (g_cond_wait_until(&self->settles, &self->lock, MIN(patience->end, now + BETWEEN_TURNS)))
+            continue;
+        g_mutex_unlock(&self->lock);
+        patience_renew(patience, self);
+        g_mutex_lock(&self->lock);
+    }
     bool is_settled = self->settled >= added;
     g_mutex_unlock(&self->lock);
     return is_settled;
@@ -339,10 +344,10 @@ static bool await_settled(DconfdbBackend *self, gint64 end)
 bool store_sync(DconfdbBackend *self)
 {
     Notice notice = {.faults = NULL};
-    gint64 end = g_get_monotonic_time() + LONGEST_SYNC;
+    Patience patience = patience_of(self, LONGEST_SYNC);
     if (!worker_is_another(self))
-        store_write(self, end, false);
-    if (!await_settled(self, end) || !mutex_lock_until(&self->turn, end))
+        store_write(self, patience.end, false);
+    if (!await_settled(self, &patience) || !mutex_lock_until(&self->turn, patience.end))
         return false;
     if (self->folder)
         look(self, &notice);

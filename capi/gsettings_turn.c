@@ -5,8 +5,9 @@
 
 #include <errno.h>
 
-/* In microseconds: after how long it is warned of, and between two tries where no thread can be had. */
-enum { LONG = 10000000, PAUSE = 50000 };
+/* In microseconds: after how long it is warned of, between two tries where no thread can be had, and how long is
+ * waited at most while others have their turns. */
+enum { LONG = 10000000, PAUSE = 50000, LONGEST_CROWD = 60000000 };
 
 struct Wait {
     DconfdbBackend *backend;
@@ -100,4 +101,29 @@ void turn_give(DconfdbBackend *self)
     if (self->wait->fault == 0)
         folder_unlock(&self->wait->lock);
     g_clear_pointer(&self->wait, g_free);
+}
+
+/* ---- how long it is waited for */
+
+static struct timespec changed_at(const DconfdbBackend *self)
+{
+    struct stat folder;
+    if (!self->folder || stat(self->folder, &folder) != 0)
+        return (struct timespec){0, 0};
+    return folder.st_mtim;
+}
+
+Patience patience_of(const DconfdbBackend *self, gint64 each)
+{
+    gint64 now = g_get_monotonic_time();
+    return (Patience){now + each, each, now + LONGEST_CROWD, changed_at(self)};
+}
+
+void patience_renew(Patience *patience, const DconfdbBackend *self)
+{
+    struct timespec changed = changed_at(self);
+    if (changed.tv_sec == patience->changed.tv_sec && changed.tv_nsec == patience->changed.tv_nsec)
+        return;
+    patience->changed = changed;
+    patience->end = MIN(g_get_monotonic_time() + patience->each, patience->latest);
 }

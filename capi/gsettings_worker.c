@@ -204,7 +204,8 @@ static void say_what_waits(DconfdbBackend *self)
  * a lock that the worker then waits for. So nothing here waits without a bound, or takes memory. */
 void worker_end(DconfdbBackend *self)
 {
-    gint64 now = g_get_monotonic_time(), end = now + LONGEST_END, moved = now;
+    gint64 now = g_get_monotonic_time(), moved = now;
+    Patience patience = patience_of(self, LONGEST_END);
     if (!mutex_lock_until(&self->lock, now + LONGEST_REST))
         return; /* this very thread has it */
     bool has_worker = self->has_worker;
@@ -212,9 +213,10 @@ void worker_end(DconfdbBackend *self)
     g_mutex_unlock(&self->lock);
     if (has_worker)
         worker_wake(self);
-    while (has_worker && now < end && now < moved + LONGEST_REST) {
+    while (has_worker && now < patience.end && now < moved + LONGEST_REST) {
         if (has_done(self))
             return;
+        patience_renew(&patience, self);
         now = g_get_monotonic_time();
         if (g_atomic_int_get(&self->is_writing))
             moved = now;
