@@ -5,7 +5,7 @@ use Rattle.std.specs.Str.{bytes_eq}
 use Rattle.std.specs.Cmp.Lexicographic.{bytes_decides}
 use Rattle.dconf_model.specs.Bytes.{MaybeBytes}
 use Rattle.dconf_model.specs.Folders.{Event, StoodFor, MayLeave, MayLeaveOf, MayHaveLeft, Grows, read_content, file_of, content_of}
-use Rattle.dconf_model.specs.Folders.Event.{create, append, sync, touch, rename, sync_folder}
+use Rattle.dconf_model.specs.Folders.Event.{create, append, sync, touch, rename, remove, link, exchange, sync_folder}
 
 after_create : (es : List Event) (made name : List ℕ) → StoodFor es name (file_of es name) → StoodFor (create made ∷ es) name (file_of (create made ∷ es) name)
 after_create es made name before = go (bytes_eq name made) refl
@@ -22,11 +22,36 @@ after_rename es from to name before = go (bytes_eq name to) refl (bytes_eq name 
     go false e true f = rw (e, f) (inr (inl ((bytes_decides name from).0 f, refl)))
     go false e false f = rw (e, f) (inr (inr before))
 
+after_remove : (es : List Event) (gone name : List ℕ) → StoodFor es name (file_of es name) → StoodFor (remove gone ∷ es) name (file_of (remove gone ∷ es) name)
+after_remove es gone name before = go (bytes_eq name gone) refl
+  where
+    go : (b : Bool) → bytes_eq name gone ≡ b → StoodFor (remove gone ∷ es) name (file_of (remove gone ∷ es) name)
+    go true e = rw e (inl ((bytes_decides name gone).0 e, refl))
+    go false e = rw e (inr before)
+
+after_link : (es : List Event) (from to name : List ℕ) → StoodFor es name (file_of es name) → StoodFor (link from to ∷ es) name (file_of (link from to ∷ es) name)
+after_link es from to name before = go (bytes_eq name to) refl
+  where
+    go : (b : Bool) → bytes_eq name to ≡ b → StoodFor (link from to ∷ es) name (file_of (link from to ∷ es) name)
+    go true e = rw e (inl ((bytes_decides name to).0 e, refl))
+    go false e = rw e (inr before)
+
+after_exchange : (es : List Event) (one two name : List ℕ) → StoodFor es name (file_of es name) → StoodFor (exchange one two ∷ es) name (file_of (exchange one two ∷ es) name)
+after_exchange es one two name before = go (bytes_eq name two) refl (bytes_eq name one) refl
+  where
+    go : (b : Bool) → bytes_eq name two ≡ b → (d : Bool) → bytes_eq name one ≡ d → StoodFor (exchange one two ∷ es) name (file_of (exchange one two ∷ es) name)
+    go true e d f = rw e (inl ((bytes_decides name two).0 e, refl))
+    go false e true f = rw (e, f) (inr (inl ((bytes_decides name one).0 f, refl)))
+    go false e false f = rw (e, f) (inr (inr before))
+
 -- a name stood for what it stands for
 pub current : (es : List Event) (name : List ℕ) → StoodFor es name (file_of es name)
 current [] name = refl
 current (create made ∷ es) name = after_create es made name (current es name)
 current (rename from to ∷ es) name = after_rename es from to name (current es name)
+current (remove gone ∷ es) name = after_remove es gone name (current es name)
+current (link from to ∷ es) name = after_link es from to name (current es name)
+current (exchange one two ∷ es) name = after_exchange es one two name (current es name)
 current (sync_folder ∷ es) name = refl
 current (append other bytes ∷ es) name = current es name
 current (sync other ∷ es) name = current es name

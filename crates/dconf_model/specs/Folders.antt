@@ -1,7 +1,8 @@
 -- A folder is the list of what was done to it, the last call first. What a name stands for, and what a crash may leave under
 -- it, follow from that list.
 --
--- POSIX, rename: a name stands for the old file or for the new one. POSIX, fsync: what was synced stays. POSIX lays down no
+-- POSIX, rename: a name stands for the old file or for the new one. POSIX, unlink: a name stands for none. POSIX, link: a name
+-- more for a file. Linux, renameat2: an exchange is atomic as a rename is. POSIX, fsync: what was synced stays. POSIX lays down no
 -- more, so a file whose bytes are not all synced may hold any, and a name may occur for any file that it stood for since the
 -- folder itself was synced.
 use Rattle.std.specs.Prelude.{ℕ, ◌+◌, ◌≤◌, ◌≡◌, ◌⊎◌, Bool, true, false, List, [], ◌∷◌, ◌++◌, length, Option, Some, None, if◌then◌else◌, ◌==◌, IsSome}
@@ -15,6 +16,12 @@ pub data Event : Type 0 where
   -- an append or a sync that failed: the file's bytes count as unsynced
   touch : List ℕ → Event
   rename : List ℕ → List ℕ → Event
+  -- the name stands for no file any more
+  remove : List ℕ → Event
+  -- the second name stands for the file of the first one too
+  link : List ℕ → List ℕ → Event
+  -- each of the names stands for the other's file
+  exchange : List ℕ → List ℕ → Event
   sync_folder : Event
 
 -- ---- what names stand for now
@@ -29,6 +36,9 @@ abbrev pub file_of : List Event → List ℕ → Option ℕ
 file_of [] name = None
 file_of (create made ∷ es) name = if bytes_eq name made then Some (files_made es) else file_of es name
 file_of (rename from to ∷ es) name = if bytes_eq name to then file_of es from else if bytes_eq name from then None else file_of es name
+file_of (remove gone ∷ es) name = if bytes_eq name gone then None else file_of es name
+file_of (link from to ∷ es) name = if bytes_eq name to then file_of es from else file_of es name
+file_of (exchange one two ∷ es) name = if bytes_eq name two then file_of es one else if bytes_eq name one then file_of es two else file_of es name
 file_of (_ ∷ es) name = file_of es name
 
 abbrev pub is_file : Option ℕ → ℕ → Bool
@@ -65,6 +75,10 @@ StoodFor (sync_folder ∷ es) name file = file ≡ file_of es name
 StoodFor (create made ∷ es) name file = ((name ≡ made) × (file ≡ Some (files_made es))) ⊎ StoodFor es name file
 StoodFor (rename from to ∷ es) name file =
     ((name ≡ to) × (file ≡ file_of es from)) ⊎ (((name ≡ from) × (file ≡ None)) ⊎ StoodFor es name file)
+StoodFor (remove gone ∷ es) name file = ((name ≡ gone) × (file ≡ None)) ⊎ StoodFor es name file
+StoodFor (link from to ∷ es) name file = ((name ≡ to) × (file ≡ file_of es from)) ⊎ StoodFor es name file
+StoodFor (exchange one two ∷ es) name file =
+    ((name ≡ two) × (file ≡ file_of es one)) ⊎ (((name ≡ one) × (file ≡ file_of es two)) ⊎ StoodFor es name file)
 StoodFor (_ ∷ es) name file = StoodFor es name file
 
 -- a file's content, or any bytes where some of its own aren't synced
