@@ -1,0 +1,9 @@
+pub mod Fresh
+pub mod ApartLaws
+pub mod OwnNames
+pub mod PlacedLaws
+pub mod SayingLaws
+pub mod TurnLaws
+pub mod HistoryLaws
+pub mod WrongTurns
+pub mod SurvivalLaws

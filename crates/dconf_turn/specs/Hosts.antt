@@ -1,0 +1,51 @@
+-- What a host may have done to a folder, by the step that it was told and the answer that it gave. A no says little: the call
+-- may have had its effect. It is also what a call may have done that was cut off.
+use Rattle.std.specs.Prelude.{ℕ, ◌≡◌, ◌⊎◌, ◌<◌, List, ◌∷◌, Option, Some, length, take, drop}
+use Rattle.dconf_model.specs.Folders.{Event}
+use Rattle.dconf_model.specs.Folders.Event.{create, append, sync, touch, rename, remove, link, exchange, sync_folder}
+use Rattle.dconf_model.specs.Replacing.{new_name}
+use Rattle.dconf_turn.specs.declared.step.Step.{Step}
+use Rattle.dconf_turn.specs.declared.step.Step.TheVariants.{Lock, Make, Create, Append, Sync, SetAside, Exchange, Rename, SyncFolder, Remove, Note}
+use Rattle.dconf_turn.specs.declared.step.Answer.{Answer}
+use Rattle.dconf_turn.specs.declared.step.Answer.TheVariants.{Yes, No}
+use Rattle.dconf_turn.specs.Jobs.{Job, IsFree}
+
+-- the lock's own file was made
+abbrev pub IsLockMade : Option (List ℕ) → List Event → List Event → Type 0
+IsLockMade lock es now = (own : List ℕ) × (lock ≡ Some own) × (now ≡ create own ∷ es)
+
+-- It may hold any bytes from then on, and none of them need be synced.
+abbrev pub IsNoted : Option (List ℕ) → List Event → List Event → Type 0
+IsNoted lock es now = (own : List ℕ) × (some : List ℕ) × (lock ≡ Some own) × (now ≡ append own some ∷ create own ∷ es)
+
+-- the old file has a name more, which was free
+abbrev pub IsLinked : Job → List Event → List Event → Type 0
+IsLinked job es now = (aside : List ℕ) × IsFree job es aside × (now ≡ link job.name aside ∷ es)
+
+abbrev pub Did : Step → Answer → Job → List Event → List Event → Type 0
+Did Lock answer job es now = (now ≡ es) ⊎ IsLockMade job.lock es now
+-- these are the bytes that were made
+Did Make (Yes n) job es now = (now ≡ es) × (n ≡ length job.bytes)
+Did (Create mode) (Yes n) job es now = now ≡ create (new_name job.name) ∷ es
+-- also where it removed another file of that name, and then made none
+Did (Create mode) (No fault) job es now = (now ≡ es) ⊎ ((now ≡ create (new_name job.name) ∷ es) ⊎ (now ≡ remove (new_name job.name) ∷ es))
+-- so many of the bytes from that one on
+Did (Append at) (Yes n) job es now = now ≡ append (new_name job.name) (take n (drop at job.bytes)) ∷ es
+Did (Append at) (No fault) job es now = (now ≡ touch (new_name job.name) ∷ es) ⊎ ((some : List ℕ) × (now ≡ append (new_name job.name) some ∷ es))
+Did (Sync bits) (Yes n) job es now = now ≡ sync (new_name job.name) ∷ es
+Did (Sync bits) (No fault) job es now = now ≡ touch (new_name job.name) ∷ es
+-- a number but 0: it can't have another name
+Did SetAside (Yes n) job es now = ((n ≡ 0) × IsLinked job es now) ⊎ ((0 < n) × (now ≡ es))
+Did SetAside (No fault) job es now = (now ≡ es) ⊎ IsLinked job es now
+-- The new file takes the free name, and then changes places with the old one.
+Did Exchange (Yes n) job es now = (aside : List ℕ) × IsFree job es aside × (now ≡ exchange aside job.name ∷ rename (new_name job.name) aside ∷ es)
+Did Exchange (No fault) job es now =
+    (now ≡ es) ⊎ ((aside : List ℕ) × IsFree job es aside × ((now ≡ rename (new_name job.name) aside ∷ es)
+    ⊎ ((now ≡ exchange aside job.name ∷ rename (new_name job.name) aside ∷ es) ⊎ (now ≡ remove aside ∷ rename (new_name job.name) aside ∷ es))))
+Did Rename (Yes n) job es now = now ≡ rename (new_name job.name) job.name ∷ es
+Did Rename (No fault) job es now = (now ≡ es) ⊎ (now ≡ rename (new_name job.name) job.name ∷ es)
+Did SyncFolder (Yes n) job es now = now ≡ sync_folder ∷ es
+Did Remove (Yes n) job es now = now ≡ remove (new_name job.name) ∷ es
+Did Remove (No fault) job es now = (now ≡ es) ⊎ (now ≡ remove (new_name job.name) ∷ es)
+Did Note answer job es now = (now ≡ es) ⊎ IsNoted job.lock es now
+Did _ _ job es now = now ≡ es
