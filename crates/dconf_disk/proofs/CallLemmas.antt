@@ -103,3 +103,10 @@ named_by cs c k name lt is same = ap (λ (l : List Event). was_named l name) (ne
 -- a text that was compared with a name
 pub same_text : (a b name : List ℕ) (r : Bool) → r ≡ bytes_eq a b → b ≡ name → r ≡ true → a ≡ name
 same_text a b name r is named same = (bytes_eq-Decides a b).0 (sym is ∙ same) ∙ named
+
+pub newest_remove : (cs : List Call) (gone : String Global) (name : List ℕ) (c : Call) → 0 < length cs → c ≡ get_or cs (length cs - 1) c → c ≡ call.Remove gone
+    → file_of (events_of cs) name ≡ cond (bytes_eq name (string_bytes gone)) None (file_of (events_of (take (length cs - 1) cs)) name)
+newest_remove cs gone name c lt is same = ap (λ (l : List Event). file_of l name) (newest cs c _ lt is same)
+
+pub content_remove : (cs : List Call) (n : String Global) (file : ℕ) (c : Call) → 0 < length cs → c ≡ get_or cs (length cs - 1) c → c ≡ call.Remove n → content (events_of cs) file ≡ content (events_of (take (length cs - 1) cs)) file
+content_remove cs n file c lt is same = ap (λ (l : List Event). content l file) (newest cs c _ lt is same)

@@ -1,7 +1,7 @@
 -- A crash by the noted calls is one that the past allows.
 use Rattle.std.proofs.Common.{ℕ, ◌≡◌, Option, Some, None, List, [], ◌∷◌, sym, ◌∙◌, ap, subst, inl, inr, ⊎_elim}
 use Rattle.dconf_model.specs.Folders.{Event, files_made, file_of, content, StoodFor, MayLeaveOf, MayLeave, IsLeft, read_content}
-use Rattle.dconf_model.specs.Folders.Event.{create, append, sync, touch, rename, sync_folder}
+use Rattle.dconf_model.specs.Folders.Event.{create, append, sync, touch, rename, remove, link, exchange, sync_folder}
 use Rattle.dconf_disk.specs.MemoryFolders.{untouched, AddsTouches}
 use Rattle.dconf_disk.proofs.Untouched.{files_untouched, file_untouched, content_untouched}
 
@@ -13,6 +13,13 @@ to_untouched (create made ∷ es) name file s =
 to_untouched (rename from to ∷ es) name file s =
     ⊎_elim (λ (e : (name ≡ to) × (file ≡ file_of es from)). inl (e.0, e.1 ∙ sym (file_untouched es from)))
     (λ r. inr (⊎_elim (λ (e : (name ≡ from) × (file ≡ None)). inl e) (λ t. inr (to_untouched es name file t)) r)) s
+to_untouched (remove gone ∷ es) name file s =
+    ⊎_elim (λ (e : (name ≡ gone) × (file ≡ None)). inl e) (λ t. inr (to_untouched es name file t)) s
+to_untouched (link from to ∷ es) name file s =
+    ⊎_elim (λ (e : (name ≡ to) × (file ≡ file_of es from)). inl (e.0, e.1 ∙ sym (file_untouched es from))) (λ t. inr (to_untouched es name file t)) s
+to_untouched (exchange one two ∷ es) name file s =
+    ⊎_elim (λ (e : (name ≡ two) × (file ≡ file_of es one)). inl (e.0, e.1 ∙ sym (file_untouched es one)))
+    (λ r. inr (⊎_elim (λ (e : (name ≡ one) × (file ≡ file_of es two)). inl (e.0, e.1 ∙ sym (file_untouched es two))) (λ t. inr (to_untouched es name file t)) r)) s
 to_untouched (append _ _ ∷ es) name file s = to_untouched es name file s
 to_untouched (sync _ ∷ es) name file s = to_untouched es name file s
 to_untouched (touch _ ∷ es) name file s = to_untouched es name file s
@@ -25,6 +32,13 @@ from_untouched (create made ∷ es) name file s =
 from_untouched (rename from to ∷ es) name file s =
     ⊎_elim (λ (e : (name ≡ to) × (file ≡ file_of (untouched es) from)). inl (e.0, e.1 ∙ file_untouched es from))
     (λ r. inr (⊎_elim (λ (e : (name ≡ from) × (file ≡ None)). inl e) (λ t. inr (from_untouched es name file t)) r)) s
+from_untouched (remove gone ∷ es) name file s =
+    ⊎_elim (λ (e : (name ≡ gone) × (file ≡ None)). inl e) (λ t. inr (from_untouched es name file t)) s
+from_untouched (link from to ∷ es) name file s =
+    ⊎_elim (λ (e : (name ≡ to) × (file ≡ file_of (untouched es) from)). inl (e.0, e.1 ∙ file_untouched es from)) (λ t. inr (from_untouched es name file t)) s
+from_untouched (exchange one two ∷ es) name file s =
+    ⊎_elim (λ (e : (name ≡ two) × (file ≡ file_of (untouched es) one)). inl (e.0, e.1 ∙ file_untouched es one))
+    (λ r. inr (⊎_elim (λ (e : (name ≡ one) × (file ≡ file_of (untouched es) two)). inl (e.0, e.1 ∙ file_untouched es two)) (λ t. inr (from_untouched es name file t)) r)) s
 from_untouched (append _ _ ∷ es) name file s = from_untouched es name file s
 from_untouched (sync _ ∷ es) name file s = from_untouched es name file s
 from_untouched (touch _ ∷ es) name file s = from_untouched es name file s

@@ -1,6 +1,4 @@
 pub mod Fresh
-pub mod Staged
-pub mod Renamed
 pub mod Results
 pub mod CallLemmas
 pub mod Untouched
@@ -10,3 +8,4 @@ pub mod Made
 pub mod MadeAgain
 pub mod Wholes
 pub mod WorkedFolders
+pub mod DrivingLaws

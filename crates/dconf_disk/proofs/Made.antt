@@ -4,7 +4,8 @@ use Rattle.dconf_model.specs.Folders.{Event, files_made, file_of, is_file, conte
 use Rattle.dconf_model.specs.Folders.Event.{create, append}
 use Rattle.dconf_disk.specs.Staging.{staged_onto}
 use Rattle.dconf_model.proofs.SameBytes.{itself}
-use Rattle.dconf_disk.proofs.Fresh.{Apart, same_file, fresh_content, created, appended, synced_now, reads}
+use Rattle.dconf_turn.proofs.Fresh.{same_file, fresh_content}
+use Rattle.dconf_disk.proofs.Fresh.{Apart, created, appended, synced_now, reads}
 
 module _ (old : List Event) (name bytes : List ℕ) where
   abbrev made : List Event

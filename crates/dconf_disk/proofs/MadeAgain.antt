@@ -2,7 +2,7 @@
 use Rattle.std.proofs.Common.{ℕ, ◌≡◌, ◌≢◌, Bool, true, false, cond, List, [], ◌∷◌, Option, Some, None, refl, sym, ◌∙◌, ap, subst, inr}
 use Rattle.std.specs.Str.{bytes_eq}
 use Rattle.dconf_model.specs.Folders.{Event, files_made, file_of, content_of, is_synced, read_content, StoodFor, MayLeaveOf, MayLeave, IsLeft}
-use Rattle.dconf_model.specs.Folders.Event.{create, append, sync, touch, rename, sync_folder}
+use Rattle.dconf_model.specs.Folders.Event.{create, append, sync, touch, rename, remove, link, exchange, sync_folder}
 use Rattle.dconf_model.proofs.ParentLaws.{by_bool}
 use Rattle.dconf_model.proofs.SameBytes.{same_path, path_itself}
 use Rattle.dconf_disk.specs.Staging.{staged_onto}
@@ -30,6 +30,13 @@ no_file (create made ∷ es) name e =
 no_file (rename from to ∷ es) name e =
     ap (λ b. cond b (file_of es from) (cond (bytes_eq name from) None (file_of es name))) (not_first (bytes_eq name to) (was_named es name) e)
     ∙ none_either_way (bytes_eq name from) (file_of es name) (no_file es name (not_later (bytes_eq name to) (was_named es name) e))
+no_file (remove gone ∷ es) name e = none_either_way (bytes_eq name gone) (file_of es name) (no_file es name e)
+no_file (link from to ∷ es) name e =
+    ap (λ b. cond b (file_of es from) (file_of es name)) (not_first (bytes_eq name to) (was_named es name) e) ∙ no_file es name (not_later (bytes_eq name to) (was_named es name) e)
+no_file (exchange one two ∷ es) name e =
+    let rest = not_later (bytes_eq name two) (cond (bytes_eq name one) true (was_named es name)) e in
+    ap (λ b. cond b (file_of es one) (cond (bytes_eq name one) (file_of es two) (file_of es name))) (not_first (bytes_eq name two) (cond (bytes_eq name one) true (was_named es name)) e)
+    ∙ ap (λ b. cond b (file_of es two) (file_of es name)) (not_first (bytes_eq name one) (was_named es name) rest) ∙ no_file es name (not_later (bytes_eq name one) (was_named es name) rest)
 no_file (append _ _ ∷ es) name e = no_file es name e
 no_file (sync _ ∷ es) name e = no_file es name e
 no_file (touch _ ∷ es) name e = no_file es name e
@@ -39,6 +46,10 @@ stood_for_none : (es : List Event) (name : List ℕ) → was_named es name ≡ f
 stood_for_none [] name e = refl
 stood_for_none (create made ∷ es) name e = inr (stood_for_none es name (not_later (bytes_eq name made) (was_named es name) e))
 stood_for_none (rename from to ∷ es) name e = inr (inr (stood_for_none es name (not_later (bytes_eq name to) (was_named es name) e)))
+stood_for_none (remove gone ∷ es) name e = inr (stood_for_none es name e)
+stood_for_none (link from to ∷ es) name e = inr (stood_for_none es name (not_later (bytes_eq name to) (was_named es name) e))
+stood_for_none (exchange one two ∷ es) name e =
+    inr (inr (stood_for_none es name (not_later (bytes_eq name one) (was_named es name) (not_later (bytes_eq name two) (cond (bytes_eq name one) true (was_named es name)) e))))
 stood_for_none (append _ _ ∷ es) name e = stood_for_none es name e
 stood_for_none (sync _ ∷ es) name e = stood_for_none es name e
 stood_for_none (touch _ ∷ es) name e = stood_for_none es name e

@@ -2,13 +2,16 @@
 use Rattle.std.proofs.Common.{ℕ, Result, Ok, Err, OnOk, OnErr, IfSome, IsSome, ◌+◌, ◌≡◌, ◌⊎◌, inl, inr, Bool, true, false, cond, Option, Some, None, List, [], ◌∷◌, ◌++◌, refl, sym, ◌∙◌, ap, subst}
 use Rattle.std.specs.Str.{bytes_eq}
 use Rattle.dconf_model.specs.Folders.{Event, files_made, file_of, content, content_of, is_file, is_synced, read_content}
-use Rattle.dconf_model.specs.Folders.Event.{create, append, sync, touch, rename, sync_folder}
+use Rattle.dconf_model.specs.Folders.Event.{create, append, sync, touch, rename, remove, link, exchange, sync_folder}
 use Rattle.dconf_disk.specs.MemoryFolders.{event_of, events_of, untouched, AddsTouches}
 use Rattle.dconf_disk.specs.declared.calls.Call.{Call}
 
 pub files_untouched : (es : List Event) → files_made (untouched es) ≡ files_made es
 files_untouched [] = refl
 files_untouched (create made ∷ es) = ap (λ n. n + 1) (files_untouched es)
+files_untouched (remove _ ∷ es) = files_untouched es
+files_untouched (link _ _ ∷ es) = files_untouched es
+files_untouched (exchange _ _ ∷ es) = files_untouched es
 files_untouched (append _ _ ∷ es) = files_untouched es
 files_untouched (sync _ ∷ es) = files_untouched es
 files_untouched (touch _ ∷ es) = files_untouched es
@@ -23,6 +26,14 @@ file_untouched (create made ∷ es) name =
 file_untouched (rename from to ∷ es) name =
     ap (λ o. cond (bytes_eq name to) o (cond (bytes_eq name from) None (file_of (untouched es) name))) (file_untouched es from)
     ∙ ap (λ o. cond (bytes_eq name to) (file_of es from) (cond (bytes_eq name from) None o)) (file_untouched es name)
+file_untouched (remove gone ∷ es) name = ap (λ o. cond (bytes_eq name gone) None o) (file_untouched es name)
+file_untouched (link from to ∷ es) name =
+    ap (λ o. cond (bytes_eq name to) o (file_of (untouched es) name)) (file_untouched es from)
+    ∙ ap (λ o. cond (bytes_eq name to) (file_of es from) o) (file_untouched es name)
+file_untouched (exchange one two ∷ es) name =
+    ap (λ o. cond (bytes_eq name two) o (cond (bytes_eq name one) (file_of (untouched es) two) (file_of (untouched es) name))) (file_untouched es one)
+    ∙ ap (λ o. cond (bytes_eq name two) (file_of es one) (cond (bytes_eq name one) o (file_of (untouched es) name))) (file_untouched es two)
+    ∙ ap (λ o. cond (bytes_eq name two) (file_of es one) (cond (bytes_eq name one) (file_of es two) o)) (file_untouched es name)
 file_untouched (append _ _ ∷ es) name = file_untouched es name
 file_untouched (sync _ ∷ es) name = file_untouched es name
 file_untouched (touch _ ∷ es) name = file_untouched es name
@@ -34,6 +45,9 @@ content_untouched (append name bytes ∷ es) file =
     ap (λ o. cond (is_file o file) (content (untouched es) file ++ bytes) (content (untouched es) file)) (file_untouched es name)
     ∙ ap (λ (x : List ℕ). cond (is_file (file_of es name) file) (x ++ bytes) x) (content_untouched es file)
 content_untouched (create _ ∷ es) file = content_untouched es file
+content_untouched (remove _ ∷ es) file = content_untouched es file
+content_untouched (link _ _ ∷ es) file = content_untouched es file
+content_untouched (exchange _ _ ∷ es) file = content_untouched es file
 content_untouched (sync _ ∷ es) file = content_untouched es file
 content_untouched (touch _ ∷ es) file = content_untouched es file
 content_untouched (rename _ _ ∷ es) file = content_untouched es file
@@ -69,6 +83,9 @@ module _ (ds es : List Event) (a : AddsTouches ds es) where
   one_event (sync name) = record { others = ap (λ (x : List Event). sync name ∷ x) a.others; synced = λ file h. at_file name true file h }
   one_event (touch name) = record { others = a.others; synced = λ file h. at_file name false file h }
   one_event (rename from to) = record { others = ap (λ (x : List Event). rename from to ∷ x) a.others; synced = a.synced }
+  one_event (remove gone) = record { others = ap (λ (x : List Event). remove gone ∷ x) a.others; synced = a.synced }
+  one_event (link from to) = record { others = ap (λ (x : List Event). link from to ∷ x) a.others; synced = a.synced }
+  one_event (exchange one two) = record { others = ap (λ (x : List Event). exchange one two ∷ x) a.others; synced = a.synced }
   one_event sync_folder = record { others = ap (λ (x : List Event). sync_folder ∷ x) a.others; synced = a.synced }
 
   was_synced : (b x : Bool) → cond b false x ≡ true → x ≡ true

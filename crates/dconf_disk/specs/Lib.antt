@@ -5,3 +5,4 @@ pub mod Crashes
 pub mod StdFolders
 pub mod FolderFaults
 pub mod LockFaults
+pub mod Driving

@@ -2,7 +2,7 @@
 use Rattle.std.specs.Prelude.{ℕ, ◌≡◌, true, List, [], ◌∷◌}
 use Rattle.std.specs.String.{string_bytes}
 use Rattle.dconf_model.specs.Folders.{Event, is_synced}
-use Rattle.dconf_model.specs.Folders.Event.{create, append, sync, touch, rename, sync_folder}
+use Rattle.dconf_model.specs.Folders.Event.{create, append, sync, touch, rename, remove, link, exchange, sync_folder}
 use Rattle.dconf_disk.specs.declared.calls.Call.{Call}
 use Rattle.dconf_disk.specs.declared.memory.MemoryFolder.{MemoryFolder}
 use Rattle.dconf_disk.specs.declared.calls.Call.TheVariants as call
@@ -13,6 +13,7 @@ event_of (call.Append name bytes) = append (string_bytes name) bytes.items
 event_of (call.Sync name) = sync (string_bytes name)
 event_of (call.Touch name) = touch (string_bytes name)
 event_of (call.Rename from to) = rename (string_bytes from) (string_bytes to)
+event_of (call.Remove name) = remove (string_bytes name)
 event_of call.SyncFolder = sync_folder
 
 abbrev pub events_onto : List Event → List Call → List Event
@@ -31,6 +32,9 @@ untouched (append name bytes ∷ es) = append name bytes ∷ untouched es
 untouched (sync name ∷ es) = sync name ∷ untouched es
 untouched (touch name ∷ es) = untouched es
 untouched (rename from to ∷ es) = rename from to ∷ untouched es
+untouched (remove gone ∷ es) = remove gone ∷ untouched es
+untouched (link from to ∷ es) = link from to ∷ untouched es
+untouched (exchange one two ∷ es) = exchange one two ∷ untouched es
 untouched (sync_folder ∷ es) = sync_folder ∷ untouched es
 
 -- The second events are the first ones, and maybe more appends and syncs that failed. So a crash after the first leaves only

@@ -15,6 +15,7 @@ pub(crate) enum Call {
     /// An append or a sync that failed.
     Touch(String),
     Rename(String, String),
+    Remove(String),
     SyncFolder,
 }
 
@@ -33,6 +34,7 @@ pub(crate) fn files_made(calls: &[Call]) -> usize
         Call::Sync(_) => before,
         Call::Touch(_) => before,
         Call::Rename(_, _) => before,
+        Call::Remove(_) => before,
         Call::SyncFolder => before,
     }
 }
@@ -56,6 +58,12 @@ pub(crate) fn file_of(calls: &[Call], name: &str) -> Option<usize>
                 return file_of(earlier, from.as_str());
             }
             if name == from.as_str() {
+                return None;
+            }
+            file_of(earlier, name)
+        }
+        Call::Remove(gone) => {
+            if name == gone.as_str() {
                 return None;
             }
             file_of(earlier, name)
@@ -85,6 +93,7 @@ pub(crate) fn content(alloc: Global, calls: &[Call], file: usize) -> Result<Vec<
         }
         Call::Create(_) => Ok(bytes),
         Call::Rename(_, _) => Ok(bytes),
+        Call::Remove(_) => Ok(bytes),
         Call::Sync(_) => Ok(bytes),
         Call::Touch(_) => Ok(bytes),
         Call::SyncFolder => Ok(bytes),
@@ -128,6 +137,7 @@ pub(crate) fn is_synced(calls: &[Call], file: usize) -> bool
         }
         Call::Create(_) => is_synced(earlier, file),
         Call::Rename(_, _) => is_synced(earlier, file),
+        Call::Remove(_) => is_synced(earlier, file),
         Call::SyncFolder => is_synced(earlier, file),
     }
 }
@@ -152,6 +162,7 @@ pub(crate) fn was_named(calls: &[Call], name: &str) -> bool
             }
             was_named(earlier, name)
         }
+        Call::Remove(_) => was_named(earlier, name),
         Call::Append(_, _) => was_named(earlier, name),
         Call::Sync(_) => was_named(earlier, name),
         Call::Touch(_) => was_named(earlier, name),

@@ -53,6 +53,7 @@ fn made_again(
     match last {
         Call::Create(name) => make_again(alloc, earlier, all, name.as_str(), left, number),
         Call::Rename(_, name) => make_again(alloc, earlier, all, name.as_str(), left, number),
+        Call::Remove(_) => Ok(left),
         Call::Append(_, _) => Ok(left),
         Call::Sync(_) => Ok(left),
         Call::Touch(_) => Ok(left),
@@ -122,6 +123,12 @@ fn stood_for(calls: &[Call], name: &str, number: &mut u64) -> Option<usize>
                 return file_of(earlier, from.as_str());
             }
             if name == from.as_str() && pick(number, 2) == 0 {
+                return None;
+            }
+            stood_for(earlier, name, number)
+        }
+        Call::Remove(gone) => {
+            if name == gone.as_str() && pick(number, 2) == 0 {
                 return None;
             }
             stood_for(earlier, name, number)

@@ -1,7 +1,7 @@
 //! A folder of files, which counts the failures of its device.
-ghost use Rattle.std.specs.Prelude.{◌≡◌, ◌⊎◌, ◌≤◌, ◌∷◌, ℕ, List, None, IfOk, OnOk, OnErr, IsErrOf, IfSome, option_map, length};
+ghost use Rattle.std.specs.Prelude.{◌≡◌, ◌⊎◌, ◌≤◌, ◌∷◌, ℕ, List, None, IfOk, IsTrue, OnOk, OnErr, IsErrOf, IfSome, option_map, length};
 ghost use Rattle.dconf_model.specs.Folders.{Event, read_content};
-ghost use Rattle.dconf_model.specs.Folders.Event.{create, append, sync, touch, rename, sync_folder};
+ghost use Rattle.dconf_model.specs.Folders.Event.{create, append, sync, touch, rename, remove, sync_folder};
 ghost use Rattle.dconf_model.specs.Reads.{IsOverSize};
 ghost use Rattle.dconf_disk.specs.Failures.{HasCause};
 
@@ -38,10 +38,11 @@ pub trait Folder {
         ensures too_big { (es : List Event) → past self.old es → IsErrOf result FolderFault.TooBig → IsOverSize (read_content es name.now) }
         ensures cause { HasCause (failed self.old) (failed self.new) result };
 
-    /// Makes an empty file, in the place of any other of that name. It never fails for want of a file.
+    /// Makes an empty file, in the place of any other of that name. It never fails for want of a file. If it fails, it may have removed the other
+    /// one and made none.
     fn create(&mut self, name: &str) -> Result<(), FolderFault>
         ensures ok { (es : List Event) → past self.old es → OnOk result (past self.new (create name.now ∷ es)) }
-        ensures err { (es : List Event) → past self.old es → OnErr result (past self.new es ⊎ past self.new (create name.now ∷ es)) }
+        ensures err { (es : List Event) → past self.old es → OnErr result (past self.new es ⊎ (past self.new (create name.now ∷ es) ⊎ past self.new (remove name.now ∷ es))) }
         ensures only { OnErr result (IsErrOf result FolderFault.Device) }
         ensures cause { HasCause (failed self.old) (failed self.new) result };
 
@@ -69,6 +70,12 @@ pub trait Folder {
         ensures missing { (es : List Event) → past self.old es → read_content es from.now ≡ None → IsErrOf result FolderFault.Device }
         ensures only { OnErr result (IsErrOf result FolderFault.Device) }
         ensures cause { HasCause (failed self.old) (failed self.new) result };
+
+    /// Takes a name from its file (POSIX, `unlink`), and says whether it did. It tidies up after a fault, so a failure is not counted.
+    fn remove(&mut self, name: &str) -> bool
+        ensures done { (es : List Event) → past self.old es → IsTrue result → past self.new (remove name.now ∷ es) }
+        ensures any { (es : List Event) → past self.old es → past self.new es ⊎ past self.new (remove name.now ∷ es) }
+        ensures failed { failed self.new ≡ failed self.old };
 
     /// Makes sure that after a crash each name stands for the file that it stands for now (POSIX, `fsync` of a folder).
     fn sync_folder(&mut self) -> Result<(), FolderFault>

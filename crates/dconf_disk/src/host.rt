@@ -123,6 +123,10 @@ impl<R: Files> Folder for StdFolder<R> {
         self.counted(answer)
     }
 
+    fn remove(&mut self, name: &str) -> bool {
+        self.can_write && fs::remove_file(&self.rt, name).is_ok()
+    }
+
     fn sync_folder(&mut self) -> Result<(), FolderFault> {
         let answer = written(sync_at(&self.rt, "."));
         self.counted(answer)

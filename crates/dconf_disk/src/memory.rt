@@ -6,7 +6,7 @@ ghost use Rattle.dconf_model.specs.Reads.{IsOverSize};
 ghost use Rattle.dconf_disk.specs.Failures.{HasCause, failed_by};
 ghost use Rattle.dconf_disk.specs.MemoryFolders.{event_of, events_of, IsPast, failures_of, failing_call};
 
-use crate::calls::{Call, append_call, content, file_of, rename_call};
+use crate::calls::{Call, append_call, content, file_of, push, rename_call};
 use crate::{Folder, FolderFault, LARGEST_FILE};
 use std::alloc::Global;
 
@@ -194,6 +194,16 @@ impl Folder for MemoryFolder {
             self.rename_though_it_failed(from, to);
         }
         noted
+    }
+
+    fn remove(&mut self, name: &str) -> bool {
+        if self.is_failing() {
+            return false;
+        }
+        let Ok(name) = String::from_str(self.alloc, name) else {
+            return false;
+        };
+        push(&mut self.calls, Call::Remove(name)).is_ok()
     }
 
     fn sync_folder(&mut self) -> Result<(), FolderFault> {

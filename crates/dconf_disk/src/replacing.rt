@@ -1,35 +1,73 @@
 //! Replaces a file, so that a crash leaves the old bytes or the new ones.
-ghost use Rattle.std.specs.Prelude.{◌≡◌, ◌⊎◌, ◌∷◌, List, OnOk, OnErr, IsErrOf};
+ghost use Rattle.std.specs.Prelude.{◌≡◌, ◌⊎◌, ◌∷◌, ℕ, List, OnOk, OnErr, IsErrOf, length};
 ghost use Rattle.dconf_model.specs.Folders.{Event};
-ghost use Rattle.dconf_model.specs.Folders.Event.{rename};
 ghost use Rattle.dconf_model.specs.Replacing.{Replaced, MaybeReplaced, new_name};
-ghost use Rattle.dconf_disk.specs.Staging.{Stages, staged_onto, settled_onto};
+ghost use Rattle.dconf_turn.specs.Hosts.{Did};
+ghost use Rattle.dconf_disk.specs.Staging.{staged_onto, settled_onto};
 ghost use Rattle.dconf_disk.specs.Failures.{HasCause};
+ghost use Rattle.dconf_disk.specs.Driving.{IsCounted, IsWhole, IsWithin, answer_of, job_of, result_of};
 
 use crate::{Folder, FolderFault};
+use dconf_turn::{Answer, Outcome, Step, Turn};
 use std::alloc::Global;
 
-/// Writes the bytes to a new file, all of them on the disk.
-fn stage<F: Folder>(folder: &mut F, new: &str, bytes: &[u8]) -> Result<(), FolderFault>
-    ensures ok { (es : List Event) → F.past folder.old es → OnOk result (F.past folder.new (staged_onto es new.now bytes.now)) }
-    ensures err { (es : List Event) → F.past folder.old es → OnErr result ((now : List Event) × F.past folder.new now × Stages es now new.now bytes.now) }
-    ensures only { OnErr result (IsErrOf result FolderFault.Device) }
-    ensures cause { HasCause (F.failed folder.old) (F.failed folder.new) result }
+/// A number that says that there is no old file: the folder itself keeps permission bits.
+const NO_FILE: usize = usize::MAX;
+
+/// The only fault of a folder's writing call.
+const DEVICE: u32 = 1;
+
+/// Carries out a step of a turn. The turn itself is the caller's, and the bytes are made.
+fn carry_out<F: Folder>(folder: &mut F, new: &str, name: &str, bytes: &[u8], step: Step) -> Answer
+    requires new { new.now ≡ new_name name.now }
+    requires within { IsWithin step (length bytes.now) }
+    ensures did { (es : List Event) → F.past folder.old es → (now : List Event) × F.past folder.new now × Did step result (job_of name.now bytes.now) es now }
+    ensures whole { IsWhole step result (length bytes.now) }
+    ensures count { IsCounted (F.failed folder.old) (F.failed folder.new) step result }
 {
-    folder.create(new)?;
-    folder.append(new, bytes)?;
-    folder.sync(new)
+    match step {
+        Step::Lock => Answer::Yes(0),
+        Step::Read => Answer::Yes(NO_FILE),
+        Step::Make => Answer::Yes(bytes.len()),
+        Step::Create(_) => answer_of(folder.create(new), 0),
+        Step::Append(at) => answer_of(folder.append(new, &bytes[at..]), bytes.len() - at),
+        Step::Sync(_) => answer_of(folder.sync(new), 0),
+        Step::SetAside => Answer::No(DEVICE),
+        Step::Exchange => Answer::No(DEVICE),
+        Step::Rename => answer_of(folder.rename(new, name), 0),
+        Step::SyncFolder => answer_of(folder.sync_folder(), 0),
+        Step::Remove => {
+            if folder.remove(new) {
+                Answer::Yes(0)
+            } else {
+                Answer::No(DEVICE)
+            }
+        }
+        Step::Note => Answer::Yes(0),
+        Step::Unlock => Answer::Yes(0),
+        Step::Done(_) => Answer::Yes(0),
+    }
 }
 
-/// Puts the staged file in the place of the one of that name.
-fn settle<F: Folder>(folder: &mut F, new: &str, name: &str) -> Result<(), FolderFault>
-    ensures ok { (es : List Event) → F.past folder.old es → OnOk result (F.past folder.new (settled_onto es new.now name.now)) }
-    ensures err { (es : List Event) → F.past folder.old es → OnErr result (F.past folder.new es ⊎ F.past folder.new (rename new.now name.now ∷ es)) }
-    ensures only { OnErr result (IsErrOf result FolderFault.Device) }
-    ensures cause { HasCause (F.failed folder.old) (F.failed folder.new) result }
+/// The answer to a call, with the number that its step asks for.
+fn answer_of(done: Result<(), FolderFault>, n: usize) -> Answer
+    ensures { result ≡ answer_of done n }
 {
-    folder.rename(new, name)?;
-    folder.sync_folder()
+    match done {
+        Ok(()) => Answer::Yes(n),
+        Err(_) => Answer::No(DEVICE),
+    }
+}
+
+fn result_of(outcome: Outcome) -> Result<(), FolderFault>
+    ensures { result ≡ result_of outcome }
+{
+    match outcome {
+        Outcome::Made => Ok(()),
+        Outcome::Kept(_) => Err(FolderFault::Device),
+        Outcome::Either(_) => Err(FolderFault::Device),
+        Outcome::Unsettled(_) => Err(FolderFault::Device),
+    }
 }
 
 fn replace_by<F: Folder>(
@@ -45,15 +83,23 @@ fn replace_by<F: Folder>(
     ensures only { OnErr result (IsErrOf result FolderFault.Device) }
     ensures cause { HasCause (F.failed folder.old) (F.failed folder.new) result }
 {
-    stage(folder, new, bytes)?;
-    settle(folder, new, name)
+    let mut turn = Turn::begin();
+    'steps: loop {
+        let step = turn.next();
+        if let Step::Done(outcome) = step {
+            return result_of(outcome);
+        }
+        let answer = carry_out(folder, new, name, bytes, step);
+        turn.answered(answer);
+    }
 }
 
 /// Replaces the file of that name, so that a crash leaves the old bytes or the new ones, whole.
 ///
 /// It writes the file `NAME.new` and renames it, so what that name held is lost. There may be no file of either name before.
-/// `Memory` comes before anything is done. `Device` comes where a call of the folder failed: then the file holds the old bytes
-/// or the new ones, and `NAME.new` may be left. `TooBig` can't happen. It makes five calls, and copies the name and no byte.
+/// `Memory` comes before anything is done. `Device` comes if a call of the folder failed: then the file holds the old bytes or the new
+/// ones, and `NAME.new` is removed, unless that fails too. `TooBig` can't happen. It makes five calls, after a fault one more, and copies
+/// the name and no byte.
 pub fn replace<F: Folder>(
     alloc: Global,
     folder: &mut F,

@@ -2,7 +2,7 @@ use Rattle.std.proofs.Common.{ℕ, Some, ◌-◌, length, take, sym, ap, ◌∙�
 use Rattle.std.specs.Str.{bytes_eq}
 use Rattle.dconf_model.specs.Folders.{file_of}
 use Rattle.dconf_disk.specs.MemoryFolders.{events_of}
-use Rattle.dconf_disk.proofs.CallLemmas.{newest_create, newest_rename, newest_append, newest_sync, newest_touch, newest_sync_folder, by_true, by_false}
+use Rattle.dconf_disk.proofs.CallLemmas.{newest_create, newest_rename, newest_append, newest_sync, newest_touch, newest_remove, newest_sync_folder, by_true, by_false}
 use Rattle.dconf_disk.proofs.calls.+file_of.Goals as goal
 
 pub returns-then-eq : goal.returns-then-eq
@@ -44,3 +44,13 @@ returns-in-SyncFolder t c = c.file_of-in-SyncFolder.ensures ∙ sym (newest_sync
 
 pub returns-in-Touch : goal.returns-in-Touch
 returns-in-Touch t c = c.file_of-in-Touch.ensures ∙ sym (newest_touch c.args.calls.now _ c.args.name.now c.last-item.result (omega arith) c.last-item.is c.in-Touch.is)
+
+pub returns-then-eq-4 : goal.returns-then-eq-4
+returns-then-eq-4 t c =
+    by_true _ _ _ _ (newest_remove c.args.calls.now c.in-Remove.gone c.args.name.now c.last-item.result (omega arith) c.last-item.is c.in-Remove.is)
+    (ap (bytes_eq c.args.name.now) (sym c.as_str-in-Remove.ensures.value) ∙ (sym c.eq-in-Remove.ensures ∙ c.if-eq-4.true))
+
+pub returns-else-eq-4 : goal.returns-else-eq-4
+returns-else-eq-4 t c =
+    c.file_of-in-Remove.ensures ∙ by_false _ _ _ _ (newest_remove c.args.calls.now c.in-Remove.gone c.args.name.now c.last-item.result (omega arith) c.last-item.is c.in-Remove.is)
+    (ap (bytes_eq c.args.name.now) (sym c.as_str-in-Remove.ensures.value) ∙ (sym c.eq-in-Remove.ensures ∙ c.if-eq-4.false))

@@ -19,3 +19,6 @@ returns-in-Rename-clause-is t c = c.files_made-before.ensures.is ∙ sym (made_b
 
 pub returns-in-SyncFolder-clause-is : goal.returns-in-SyncFolder-clause-is
 returns-in-SyncFolder-clause-is t c = c.files_made-before.ensures.is ∙ sym (made_by c.args.calls.now c.last-item.result _ (omega arith) c.last-item.is c.in-SyncFolder.is)
+
+pub returns-in-Remove-clause-is : goal.returns-in-Remove-clause-is
+returns-in-Remove-clause-is t c = c.files_made-before.ensures.is ∙ sym (made_by c.args.calls.now c.last-item.result _ (omega arith) c.last-item.is c.in-Remove.is)

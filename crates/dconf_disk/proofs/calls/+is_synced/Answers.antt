@@ -67,3 +67,6 @@ returns-in-Rename t c = c.is_synced-in-Rename.ensures ∙ sym (synced_by c.args.
 
 pub returns-in-SyncFolder : goal.returns-in-SyncFolder
 returns-in-SyncFolder t c = c.is_synced-in-SyncFolder.ensures ∙ sym (synced_by c.args.calls.now c.last-item.result _ c.args.file (omega arith) c.last-item.is c.in-SyncFolder.is)
+
+pub returns-in-Remove : goal.returns-in-Remove
+returns-in-Remove t c = c.is_synced-in-Remove.ensures ∙ sym (synced_by c.args.calls.now c.last-item.result _ c.args.file (omega arith) c.last-item.is c.in-Remove.is)

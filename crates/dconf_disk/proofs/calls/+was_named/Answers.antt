@@ -49,3 +49,6 @@ returns-in-Touch t c = c.was_named-in-Touch.ensures ∙ sym (named_by c.args.cal
 
 pub returns-in-SyncFolder : goal.returns-in-SyncFolder
 returns-in-SyncFolder t c = c.was_named-in-SyncFolder.ensures ∙ sym (named_by c.args.calls.now c.last-item.result _ c.args.name.now (omega arith) c.last-item.is c.in-SyncFolder.is)
+
+pub returns-in-Remove : goal.returns-in-Remove
+returns-in-Remove t c = c.was_named-in-Remove.ensures ∙ sym (named_by c.args.calls.now c.last-item.result _ c.args.name.now (omega arith) c.last-item.is c.in-Remove.is)

@@ -51,3 +51,9 @@ returns-in-SyncFolder t c =
     let a = c.in_ok-left.ensures in
     subst (λ (es : List Event). AreMadeAgain es (events_of c.args.all.now) (events_of c.in_ok-left.left.items)) (sym (newest c.args.calls.now c.last-item.result _ (omega arith) c.last-item.is c.in-SyncFolder.is))
     (record { synced = a.synced; named = a.named; others = a.others })
+
+pub returns-in-Remove : goal.returns-in-Remove
+returns-in-Remove t c =
+    let a = c.in_ok-left.ensures in
+    subst (λ (es : List Event). AreMadeAgain es (events_of c.args.all.now) (events_of c.in_ok-left.left.items)) (sym (newest c.args.calls.now c.last-item.result _ (omega arith) c.last-item.is c.in-Remove.is))
+    (record { synced = a.synced; named = a.named; others = a.others })

@@ -48,3 +48,13 @@ pub returns-in-Touch : goal.returns-in-Touch
 returns-in-Touch t c =
     subst (λ es. StoodFor es c.args.name.now c.stood_for-in-Touch.result) (sym (newest c.args.calls.now c.last-item.result _ (omega arith) c.last-item.is c.in-Touch.is))
     (c.stood_for-in-Touch.ensures)
+
+pub returns-then-pick-eq0-4 : goal.returns-then-pick-eq0-4
+returns-then-pick-eq0-4 t c =
+    subst (λ es. StoodFor es c.args.name.now None) (sym (newest c.args.calls.now c.last-item.result _ (omega arith) c.last-item.is c.in-Remove.is))
+    (inl (same_text _ _ _ _ c.eq-in-Remove.ensures c.as_str-in-Remove.ensures.value c.if-eq-4.true, refl))
+
+pub returns-else-eq-4 : goal.returns-else-eq-4
+returns-else-eq-4 t c =
+    subst (λ es. StoodFor es c.args.name.now c.stood_for-in-Remove.result) (sym (newest c.args.calls.now c.last-item.result _ (omega arith) c.last-item.is c.in-Remove.is))
+    (inr c.stood_for-in-Remove.ensures)

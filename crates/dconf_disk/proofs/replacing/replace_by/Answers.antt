@@ -1,40 +1,74 @@
-use Rattle.std.proofs.Common.{◌⊎◌, ◌∷◌, List, ⊎_elim, subst, sym}
+use Rattle.std.proofs.Common.{◌≡◌, ◌<◌, ℕ, List, [], length, subst, sym, ◌∙◌, ⊎_elim}
 use Rattle.dconf_model.specs.Folders.{Event}
-use Rattle.dconf_model.specs.Folders.Event.{rename}
 use Rattle.dconf_model.specs.Replacing.{Replaced, MaybeReplaced}
-use Rattle.dconf_disk.specs.Staging.{Stages, staged_onto, settled_onto}
-use Rattle.dconf_disk.proofs.Results.{always_err, on_err, on_ok}
-use Rattle.dconf_disk.proofs.Staged.{after_sync}
-use Rattle.dconf_disk.proofs.Renamed.{staged_only, renamed_only, replaced}
+use Rattle.dconf_turn.specs.declared.step.Step.TheVariants.{Append}
+use Rattle.dconf_turn.specs.Steps.{step_of, steps_left, IsDone}
+use Rattle.dconf_turn.specs.Hosts.{Did}
+use Rattle.dconf_turn.proofs.HistoryLaws.{len_at}
+use Rattle.dconf_disk.specs.Driving.{IsCounted, IsWhole, job_of}
+use Rattle.dconf_disk.proofs.DrivingLaws.{can, keeps_on, straight_on, counts_on, lock_apart, end_replaced, end_maybe, ok_of, err_of, is_done}
 use Rattle.dconf_disk.proofs.replacing.replace_by.Goals as goal
 
-pub returns-in_err-stage-clause-err : goal.returns-in_err-stage-clause-err
-returns-in_err-stage-clause-err g c es k =
-    let P = g.F.Folder.past c.stage.new.folder in
+pub steps-preserved : goal.steps-preserved
+steps-preserved g c =
+    let t = c.steps.turn in
+    let u = c.answered.new.self in
+    let answer = c.carry_out-answer.result in
     let name = c.args.name.now in
     let bytes = c.args.bytes.now in
-    let h = c.in_err-stage.ensures.err es k in
-    always_err c.from_residual.result ((x : List Event) × P x × MaybeReplaced es x name bytes)
-    (h.0, h.1, staged_only es name bytes h.0 (subst (λ n. Stages es h.0 n bytes) c.requires h.2))
+    let job = job_of name bytes in
+    let apart = lock_apart name bytes in
+    let i = c.steps.invariant in
+    let a = c.answered.ensures in
+    let failed = g.F.Folder.failed in
+    let size : (at : ℕ) → step_of t ≡ Append at → t.len ≡ length bytes = λ at e. (len_at t job [] i.some.0 t.state i.some.1 at e).0 in
+    let whole : IsWhole (step_of t) answer (length bytes) = subst (λ s. IsWhole s answer (length bytes)) c.next-step.ensures c.carry_out-answer.ensures.whole in
+    let counted : IsCounted (failed c.steps.folder) (failed c.carry_out-answer.new.folder) (step_of t) answer =
+    subst (λ s. IsCounted (failed c.steps.folder) (failed c.carry_out-answer.new.folder) s answer) c.next-step.ensures c.carry_out-answer.ensures.count in
+    record {
+      keeps = keeps_on (step_of t) answer (length bytes) t u whole a.knows i.keeps;
+      some = (let d = can (step_of t) answer name bytes i.some.0 whole in (d.0, a.stands job [] i.some.0 d.0 apart i.some.1 d.1));
+      known = λ es p.
+          (let k = i.known es p in
+          let d = c.carry_out-answer.ensures.did k.0 k.1 in
+          let did : Did (step_of t) answer job k.0 d.0 = subst (λ s. Did s answer job k.0 d.0) c.next-step.ensures d.2 in (
+            d.0,
+            d.1,
+            a.stands job es k.0 d.0 apart k.2 did,
+            straight_on t i.keeps (step_of u) t.outcome u.outcome es k.0 d.0 name bytes (step_of t) answer size a.on a.order a.said whole did k.3,
+          ));
+      counts = counts_on t i.keeps (step_of u) t.outcome u.outcome (failed c.args.folder.now) (failed c.steps.folder) (failed c.carry_out-answer.new.folder) bytes (step_of t) answer size
+          a.on a.order a.said whole counted i.counts;
+    }
 
-pub returns-clause-err : goal.returns-clause-err
-returns-clause-err g c es k =
-    let P = g.F.Folder.past c.settle.new.folder in
-    let new = c.args.new.now in
+pub returns-in-Done-clause-ok : goal.returns-in-Done-clause-ok
+returns-in-Done-clause-ok g c es p =
+    let i = c.steps.invariant in
+    let k = i.known es p in
     let name = c.args.name.now in
     let bytes = c.args.bytes.now in
-    let staged = staged_onto es new bytes in
-    on_err c.settle.result (P staged ⊎ P (rename new name ∷ staged)) ((x : List Event) × P x × MaybeReplaced es x name bytes)
-    (c.settle.ensures.err staged (c.in_ok-stage.ensures.ok es k))
-    (⊎_elim (λ (p : P staged). (staged, p, staged_only es name bytes staged (subst (λ n. Stages es staged n bytes) c.requires (after_sync es new bytes))))
-    (λ (p : P (rename new name ∷ staged)). (rename new name ∷ staged, p, subst (λ n. MaybeReplaced es (rename n name ∷ staged_onto es n bytes) name bytes) (sym c.requires) (renamed_only es name bytes))))
+    let over = sym c.next-step.ensures ∙ c.in-Done.is in
+    ok_of ((x : List Event) × g.F.Folder.past c.steps.folder x × Replaced es x name bytes) c.in-Done.outcome c.result_of.result c.result_of.ensures
+    (λ made. (k.0, k.1, end_replaced c.steps.turn es k.0 name bytes c.in-Done.outcome i.keeps k.2 over made))
 
-pub returns-clause-ok : goal.returns-clause-ok
-returns-clause-ok g c es k =
-    let P = g.F.Folder.past c.settle.new.folder in
-    let new = c.args.new.now in
+pub returns-in-Done-clause-err : goal.returns-in-Done-clause-err
+returns-in-Done-clause-err g c es p =
+    let i = c.steps.invariant in
+    let k = i.known es p in
     let name = c.args.name.now in
     let bytes = c.args.bytes.now in
-    on_ok c.settle.result (P (settled_onto (staged_onto es new bytes) new name)) ((x : List Event) × P x × Replaced es x name bytes)
-    (c.settle.ensures.ok (staged_onto es new bytes) (c.in_ok-stage.ensures.ok es k))
-    (λ p. (settled_onto (staged_onto es new bytes) new name, p, subst (λ n. Replaced es (settled_onto (staged_onto es n bytes) n name) name bytes) (sym c.requires) (replaced es name bytes)))
+    let over = sym c.next-step.ensures ∙ c.in-Done.is in
+    err_of ((x : List Event) × g.F.Folder.past c.steps.folder x × MaybeReplaced es x name bytes) c.in-Done.outcome c.result_of.result c.result_of.ensures
+    (k.0, k.1, end_maybe c.steps.turn es k.0 name bytes c.in-Done.outcome i.keeps k.2 over)
+
+pub steps-smaller : goal.steps-smaller
+steps-smaller g c =
+    let t = c.steps.turn in
+    let u = c.answered.new.self in
+    let answer = c.carry_out-answer.result in
+    let bytes = c.args.bytes.now in
+    let i = c.steps.invariant in
+    let whole : IsWhole (step_of t) answer (length bytes) = subst (λ s. IsWhole s answer (length bytes)) c.next-step.ensures c.carry_out-answer.ensures.whole in
+    let d = can (step_of t) answer c.args.name.now bytes i.some.0 whole in
+    ⊎_elim (λ (h : IsDone (step_of t)). (let o = is_done (step_of t) h in absurd (c.in_default.not-Done o.0 (c.next-step.ensures ∙ o.1))))
+    (λ (lt : steps_left u (length bytes) < steps_left t (length bytes)). lt) (c.answered.ensures.fewer (job_of c.args.name.now bytes) [] i.some.0 d.0 i.some.1 d.1)

@@ -1,0 +1,19 @@
+use Rattle.std.proofs.Common.{◌≡◌, false, List, [], length}
+use Rattle.dconf_model.specs.Folders.{Event}
+use Rattle.dconf_turn.specs.Steps.{step_of, steps_left}
+use Rattle.dconf_turn.specs.Progress.{Stands}
+use Rattle.dconf_disk.specs.Driving.{IsStraight, CountsSo, job_of}
+use Rattle.dconf_disk.proofs.replacing.replace_by.Given as goal
+
+-- It stands at the folder, where that is known, and at some folder in any case.
+abbrev pub invariant-steps : goal.invariant-steps
+invariant-steps g l = record {
+  keeps : l.turn.keeps ≡ false;
+  some : (es : List Event) × Stands l.turn (job_of l.name l.bytes) [] es;
+  known : (es : List Event) → g.F.Folder.past l.fn.folder es → (now : List Event) × g.F.Folder.past l.folder now × Stands l.turn (job_of l.name l.bytes) es now
+      × IsStraight (step_of l.turn) l.turn.outcome es now l.name l.bytes;
+  counts : CountsSo (step_of l.turn) l.turn.outcome (g.F.Folder.failed l.fn.folder) (g.F.Folder.failed l.folder);
+}
+
+abbrev pub decreases-steps : goal.decreases-steps
+decreases-steps g l = steps_left l.turn (length l.bytes)
