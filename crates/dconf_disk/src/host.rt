@@ -5,7 +5,7 @@ ghost use Rattle.dconf_disk.specs.Failures.{HasCause};
 ghost use Rattle.dconf_disk.specs.StdFolders.{folder_of};
 
 use crate::modes::{keep_mode, open_new};
-use crate::{Folder, FolderFault, LARGEST_FILE};
+use crate::{Folder, FolderFault, FolderLock, LARGEST_FILE};
 use std::alloc::Global;
 use std::fs::{OpenFile, OpenOptions};
 use std::io::{ErrorKind, Read, Write};
@@ -25,6 +25,8 @@ pub struct StdFolder<R> {
     rt: R,
     failures: u64,
     can_write: bool,
+    /// It is held as long as the folder is.
+    _lock: Option<FolderLock>,
 }
 
 /// It shows nothing of the host, which no proof speaks of.
@@ -41,8 +43,9 @@ impl<R> fmt::Debug for StdFolder<R> {
 impl<R: Files> StdFolder<R> {
     ghost use Rattle.dconf_disk.specs.StdFolders.{failures_of, can_write};
 
-    /// The current folder, with no failure yet. It asks nothing of the host, so it can't fail.
-    pub fn new(rt: R) -> StdFolder<R>
+    /// The current folder, whose files are replaced by the turn that this lock is, with no failure yet. The lock is taken before the first
+    /// read so, and given back with the folder, after the last call. It asks nothing of the host, so it can't fail.
+    pub fn in_turn(rt: R, lock: FolderLock) -> StdFolder<R>
         ensures failures { failures_of result ≡ 0 }
         ensures writes { can_write result ≡ true }
     {
@@ -50,6 +53,7 @@ impl<R: Files> StdFolder<R> {
             rt,
             failures: 0,
             can_write: true,
+            _lock: Some(lock),
         }
     }
 
@@ -63,6 +67,7 @@ impl<R: Files> StdFolder<R> {
             rt,
             failures: 0,
             can_write: false,
+            _lock: None,
         }
     }
 

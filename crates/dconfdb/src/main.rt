@@ -54,7 +54,8 @@ fn main(rt: HostRuntime) -> ExitCode {
     }
 }
 
-/// Runs the command. One that replaces a file holds the lock of the file's folder from before its first read until it ends.
+/// Runs the command. A folder in which files can be replaced is had by its lock alone, and holds it until it is dropped: so a command that
+/// replaces one has its turn from before its first read until it ends.
 fn run_in_turn(rt: &HostRuntime, asked: Command) -> u8 {
     let Some(replaced) = asked.replaced() else {
         return run_on(rt, asked, StdFolder::read_only(rt));
@@ -64,7 +65,7 @@ fn run_in_turn(rt: &HostRuntime, asked: Command) -> u8 {
         Replaced::UserOf(_) => ".",
     };
     match FolderLock::take(rt, rt.alloc(), folder) {
-        Ok(_lock) => run_on(rt, asked, StdFolder::new(rt)),
+        Ok(lock) => run_on(rt, asked, StdFolder::in_turn(rt, lock)),
         Err(LockFault::Busy) => refuse_busy(rt, replaced),
         Err(LockFault::Memory) => {
             refuse(rt, NO_MEMORY);

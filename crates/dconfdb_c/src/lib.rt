@@ -9,3 +9,4 @@ mod listing;
 mod opening;
 mod reading;
 mod repairing;
+mod turning;

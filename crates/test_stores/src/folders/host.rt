@@ -95,9 +95,11 @@ fn are_locked(rt: HostRuntime) -> bool {
 fn files_of_the_host_are_made_renamed_replaced_and_locked(rt: HostRuntime) -> Result<(), Fail> {
     let alloc = rt.alloc();
     fs::create_dir(&rt, "store_tests_folder")?;
-    calls(alloc, &mut StdFolder::new(rt), FILES)?;
+    let lock = FolderLock::take(&rt, alloc, ".")?;
+    calls(alloc, &mut StdFolder::in_turn(rt, lock), FILES)?;
     fs::hard_link(&rt, "store_tests_linked", "store_tests_linked.new")?;
-    calls(alloc, &mut StdFolder::new(rt), NO_FILES)?;
+    let lock = FolderLock::take(&rt, alloc, ".")?;
+    calls(alloc, &mut StdFolder::in_turn(rt, lock), NO_FILES)?;
     calls(alloc, &mut StdFolder::read_only(rt), READ_ONLY)?;
     assert!(rt; are_named() && are_locked(rt));
     remove_all(rt)
