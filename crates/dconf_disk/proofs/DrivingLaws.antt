@@ -11,12 +11,12 @@ use Rattle.dconf_turn.specs.declared.step.Step.{Step}
 use Rattle.dconf_turn.specs.declared.step.Step.TheVariants.{Lock, Read, Make, Create, Append, Sync, SetAside, Exchange, Rename, SyncFolder, Remove, Note, Unlock, Done}
 use Rattle.dconf_turn.specs.declared.step.Answer.{Answer}
 use Rattle.dconf_turn.specs.declared.step.Answer.TheVariants.{Yes, No}
-use Rattle.dconf_turn.specs.Jobs.{Job, IsFree, IsLockApart, IsOwn}
-use Rattle.dconf_turn.specs.Sayings.{IsMade, IsUnsettled, Says}
+use Rattle.dconf_turn.specs.Jobs.{IsFree, IsLockApart, IsOwn}
+use Rattle.dconf_turn.specs.Sayings.{IsMade, Says}
 use Rattle.dconf_turn.specs.Sayings.{IsWhole as IsWholeFile}
-use Rattle.dconf_turn.specs.Steps.{place, step_of, GoesOn, Follows, IsSaid, IsRead, IsDone, KnowsAfter}
+use Rattle.dconf_turn.specs.Steps.{place, step_of, GoesOn, Follows, IsSaid, IsDone, KnowsAfter}
 use Rattle.dconf_turn.specs.Progress.{Stands}
-use Rattle.dconf_turn.specs.Hosts.{Did, IsLockMade, IsNoted, IsLinked}
+use Rattle.dconf_turn.specs.Hosts.{Did, IsLockMade, IsNoted}
 use Rattle.dconf_turn.proofs.ApartLaws.{nothing_yet}
 use Rattle.dconf_turn.proofs.SayingLaws.{kept, kept_whole, whole_of}
 use Rattle.dconf_turn.proofs.HistoryLaws.{end_at}

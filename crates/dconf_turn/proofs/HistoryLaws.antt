@@ -17,7 +17,6 @@ use Rattle.dconf_turn.specs.Hosts.{Did}
 use Rattle.dconf_turn.specs.Sayings.{IsWhole, Says}
 use Rattle.dconf_turn.specs.Progress.{Apart, StandsAt, Stands, IsEarly, IsCleared, IsBegun, IsAnswered}
 use Rattle.dconf_turn.specs.Histories.{Taken, Ran, first_of, AreInOrder, HasDone, HasFault, HasRefusal, HasAsked, WhateverIsAnswered}
-use Rattle.dconf_turn.proofs.ApartLaws.{nothing_yet}
 use Rattle.dconf_turn.proofs.SayingLaws.{kept, early_apart, kept_whole, placed_whole, whole_of}
 
 -- ---- at any moment

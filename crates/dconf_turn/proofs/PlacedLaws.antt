@@ -1,7 +1,7 @@
 -- The new file has the name.
-use Rattle.std.proofs.Common.{ℕ, ◌<◌, ◌≡◌, ◌≢◌, true, cond, List, ◌∷◌, length, Option, Some, None, refl, sym, ◌∙◌, ap, subst, ⊎_elim, inl, inr, ◌⊎◌}
+use Rattle.std.proofs.Common.{ℕ, ◌≡◌, ◌≢◌, true, cond, List, ◌∷◌, length, Option, Some, None, refl, sym, ◌∙◌, ap, subst, ⊎_elim, inl, inr, ◌⊎◌}
 use Rattle.std.specs.Str.{bytes_eq}
-use Rattle.dconf_model.specs.Folders.{Event, files_made, file_of, content, is_synced, StoodFor, MayLeaveOf, MayLeave}
+use Rattle.dconf_model.specs.Folders.{Event, file_of, content, is_synced, StoodFor, MayLeaveOf, MayLeave}
 use Rattle.dconf_model.specs.Folders.Event.{rename, exchange}
 use Rattle.dconf_model.proofs.SameBytes.{itself, other_path}
 use Rattle.dconf_turn.specs.Progress.{Staged, Placed}

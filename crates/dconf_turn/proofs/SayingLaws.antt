@@ -8,7 +8,7 @@ use Rattle.dconf_model.proofs.SameBytes.{itself, other_path}
 use Rattle.dconf_model.proofs.FolderLaws.{current, counts_now, longer}
 use Rattle.dconf_turn.specs.declared.step.Outcome.{Outcome}
 use Rattle.dconf_turn.specs.declared.step.Outcome.TheVariants.{Made, Kept, Either, Unsettled}
-use Rattle.dconf_turn.specs.Jobs.{Job, IsAside, IsFree, IsOwn, IsLockApart}
+use Rattle.dconf_turn.specs.Jobs.{Job, IsAside, IsOwn, IsLockApart}
 use Rattle.dconf_turn.specs.Progress.{Apart, Placed, IsAsideAt, IsEarly}
 use Rattle.dconf_turn.specs.Sayings.{IsKept, IsWhole, HasAside, IsMade, IsUnsettled, Says}
 use Rattle.dconf_turn.proofs.Fresh.{bounded, stood_bounded, not_file, goes_on}

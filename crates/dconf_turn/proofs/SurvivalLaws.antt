@@ -1,5 +1,5 @@
 -- No turn that said made is lost, whatever comes after it.
-use Rattle.std.proofs.Common.{ℕ, ◌≡◌, ◌⊎◌, false, List, [], ◌∷◌, length, Option, Some, None, refl, sym, ◌∙◌, ap, subst, arith, ⊎_elim, inl, inr}
+use Rattle.std.proofs.Common.{ℕ, ◌≡◌, false, List, [], ◌∷◌, length, Option, Some, None, refl, sym, ap, subst, arith, ⊎_elim, inl, inr}
 use Rattle.dconf_model.specs.Bytes.{MaybeBytes}
 use Rattle.dconf_model.specs.Folders.{Event, IsLeft, read_content}
 use Rattle.dconf_model.proofs.Histories.{Ending, MayRun, KeepsFirst, IsWholeAtAnyMoment, Step, History, KeptBy, Kept as KeptOf}
@@ -13,11 +13,11 @@ use Rattle.dconf_turn.specs.Jobs.{Job, IsLockApart}
 use Rattle.dconf_turn.specs.Sayings.{IsKept, IsWhole}
 use Rattle.dconf_turn.specs.Progress.{IsEarly}
 use Rattle.dconf_turn.specs.Histories.{IsGoodTurn}
-use Rattle.dconf_turn.specs.Survivals.{TurnEnd, Happening, Drove, job_of, DroveFor, SaidSo, WasCut, CameTo, Happened, CameInTurn, IsKeptBy, AreKept, NoTurnIsLost}
+use Rattle.dconf_turn.specs.Survivals.{TurnEnd, Happening, Drove, job_of, DroveFor, SaidSo, WasCut, CameTo, CameInTurn, IsKeptBy, AreKept, NoTurnIsLost}
 use Rattle.dconf_turn.specs.Survivals.TurnEnd.{said, killed, crashed}
 use Rattle.dconf_turn.specs.Survivals.Happening.{turn, crash}
 use Rattle.dconf_turn.proofs.OwnNames.{name_not_own}
-use Rattle.dconf_turn.proofs.SayingLaws.{kept, early_apart, kept_whole}
+use Rattle.dconf_turn.proofs.SayingLaws.{kept, early_apart}
 use Rattle.dconf_turn.proofs.HistoryLaws.{whatever_is_answered}
 
 good : (u : Turn) (job : Job) (old now : List Event) → IsLockApart job → (d : Drove u job old now) → IsGoodTurn d.taken u job old now

@@ -1,11 +1,10 @@
 -- A turn after each answer: what it stands at, and that fewer steps are left.
 use Rattle.std.proofs.Common.{ℕ, ◌+◌, ◌-◌, ◌<◌, ◌≤◌, ◌≡◌, ◌≢◌, Bool, true, false, cond, List, [], ◌∷◌, length, take, drop, Option, refl, sym, ◌∙◌, ap, subst, arith, ⊎_elim, inl, inr, ◌⊎◌, None}
 use Rattle.std.specs.Bool.{IsTrue}
-use Rattle.std.specs.Str.{bytes_eq}
 use Rattle.std.proofs.Math.Seq.{take-add}
 use Rattle.std.proofs.lemmas.List.{take_all}
 use Rattle.dconf_model.specs.Folders.{Event, file_of}
-use Rattle.dconf_model.specs.Folders.Event.{create, append, touch, rename, remove, link, exchange, sync_folder}
+use Rattle.dconf_model.specs.Folders.Event.{create, append, touch, rename, remove, link, exchange}
 use Rattle.dconf_model.specs.Replacing.{new_name}
 use Rattle.dconf_model.proofs.SameBytes.{itself}
 use Rattle.dconf_turn.specs.declared.turn.Turn.{Turn}
@@ -15,12 +14,11 @@ use Rattle.dconf_turn.specs.declared.step.Outcome.TheVariants.{Made, Kept, Eithe
 use Rattle.dconf_turn.specs.declared.step.Answer.{Answer}
 use Rattle.dconf_turn.specs.declared.step.Answer.TheVariants.{Yes, No}
 use Rattle.dconf_turn.specs.Jobs.{Job, IsFree, IsOwn, IsLockApart}
-use Rattle.dconf_turn.specs.Next.{after_sync}
-use Rattle.dconf_turn.specs.Hosts.{Did, IsLockMade, IsLinked, IsNoted}
+use Rattle.dconf_turn.specs.Hosts.{IsLockMade, IsLinked, IsNoted}
 use Rattle.dconf_turn.specs.Steps.{IsRead}
 use Rattle.dconf_turn.specs.Sayings.{IsKept, IsWhole, Says}
 use Rattle.dconf_turn.specs.Progress.{Apart, Holds, Staged, Placed, IsAsideAt, IsEarly, IsCleared, IsAnswered}
-use Rattle.dconf_turn.proofs.ApartLaws.{created_apart, removed_apart, linked_apart, renamed_apart, made, appended, appended_apart, touched_apart, synced, linked, moved}
+use Rattle.dconf_turn.proofs.ApartLaws.{created_apart, removed_apart, linked_apart, made, appended, appended_apart, touched_apart, synced, linked, moved}
 use Rattle.dconf_turn.proofs.OwnNames.{differs, aside_is_not_name, aside_is_not_new, new_own, aside_own, name_not_own, was_free}
 use Rattle.dconf_turn.proofs.PlacedLaws.{by_rename, by_exchange, changed, gone, beside_rename, beside_exchange}
 use Rattle.dconf_turn.proofs.SayingLaws.{kept, early_apart, kept_whole, placed_whole, unsettled, settled_made, says_removed, says_noted, is_gone, named_noted}
@@ -266,13 +264,6 @@ module _ (t : Turn) where
     knows = (refl, refl);
     leaves = λ l. inl l;
   })
-
-  pub done_syncing : (n : ℕ) → t.state ≡ Syncing → IsAnswered t (Yes n) (at_state t (after_sync t.keeps))
-  done_syncing n e = go t.keeps refl
-    where
-      go : (b : Bool) → t.keeps ≡ b → IsAnswered t (Yes n) (at_state t (after_sync t.keeps))
-      go true k = subst (λ s. IsAnswered t (Yes n) (at_state t s)) (sym (ap after_sync k)) (synced_sets_aside n e k)
-      go false k = subst (λ s. IsAnswered t (Yes n) (at_state t s)) (sym (ap after_sync k)) (synced_renames n e k)
 
   pub was_set_aside : (n : ℕ) → (e : t.state ≡ SettingAside) → (z : n ≡ 0) → IsAnswered t (Yes n) (at_state t Renaming)
   was_set_aside n e z = as_known t (at_state t Renaming) (Yes n) SettingAside e (record {

@@ -1,13 +1,13 @@
 -- Wrong machines, of each of which it is proved that it has not the promise of an answer: in an empty folder and a file `a` of
 -- one byte, or whatever the folder.
-use Rattle.std.proofs.Common.{ℕ, ◌≡◌, ◌⊎◌, ◌<◌, true, false, List, [], ◌∷◌, Option, Some, None, refl, sym, ◌∙◌, ap, arith, ⊎_elim, inl, inr}
+use Rattle.std.proofs.Common.{ℕ, ◌≡◌, ◌⊎◌, true, false, List, [], ◌∷◌, Some, None, refl, sym, ◌∙◌, ap, arith, ⊎_elim, inl, inr}
 use Rattle.std.specs.Bool.{IsTrue}
 use Rattle.dconf_model.specs.Folders.{Event, file_of, content, is_synced, MayLeave}
 use Rattle.dconf_model.specs.Folders.Event.{create, append, sync, touch, rename}
 use Rattle.dconf_model.specs.Replacing.{new_name}
 use Rattle.dconf_turn.specs.declared.turn.Turn.{Turn}
 use Rattle.dconf_turn.specs.declared.turn.State.{State}
-use Rattle.dconf_turn.specs.declared.turn.State.TheVariants.{Locking, Reading, Making, Creating, Writing, Syncing, SettingAside, Renaming, SyncingFolder, Removing, Noting, Unlocking}
+use Rattle.dconf_turn.specs.declared.turn.State.TheVariants.{Locking, Reading, Making, Writing, Syncing, Renaming, SyncingFolder, Removing, Noting, Unlocking}
 use Rattle.dconf_turn.specs.declared.step.Outcome.TheVariants.{Made, Kept}
 use Rattle.dconf_turn.specs.declared.step.Answer.TheVariants.{Yes, No}
 use Rattle.dconf_turn.specs.declared.step.Step.TheVariants.{Rename, SetAside}

@@ -1,5 +1,4 @@
 pub mod Jobs
-pub mod Next
 pub mod Steps
 pub mod Hosts
 pub mod Sayings

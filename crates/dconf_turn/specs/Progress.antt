@@ -1,5 +1,5 @@
 -- How far a turn came: what holds of the folder at each state. It is what the proof keeps, and no promise of its own.
-use Rattle.std.specs.Prelude.{ℕ, ◌≡◌, ◌≢◌, ◌≤◌, ◌<◌, ◌⊎◌, ◌+◌, true, false, List, ◌∷◌, length, take, Option, Some, None, IsTrue}
+use Rattle.std.specs.Prelude.{ℕ, ◌≡◌, ◌≢◌, ◌≤◌, ◌<◌, ◌⊎◌, ◌+◌, true, false, List, length, take, Option, Some, None, IsTrue}
 use Rattle.dconf_model.specs.Folders.{Event, files_made, file_of, content, is_synced, StoodFor, MayLeave, MayHaveLeft, Grows}
 use Rattle.dconf_model.specs.Replacing.{new_name}
 use Rattle.dconf_turn.specs.declared.turn.Turn.{Turn}

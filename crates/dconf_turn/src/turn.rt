@@ -2,7 +2,6 @@
 ghost use Rattle.std.specs.Prelude.{◌≡◌};
 ghost use Rattle.dconf_turn.specs.declared.step.Answer.TheVariants.{Yes, No};
 ghost use Rattle.dconf_turn.specs.Steps.{IsRead, open_mode, step_of};
-ghost use Rattle.dconf_turn.specs.Next.{after_sync};
 ghost use Rattle.dconf_turn.specs.Progress.{IsAnswered, IsBegun};
 
 use crate::{Answer, Outcome, Step};
@@ -119,7 +118,7 @@ impl Turn {
                 ..self
             },
             State::Writing => self.written(n),
-            State::Syncing => self.to(after_sync(self.keeps)),
+            State::Syncing => self.synced(n),
             State::SettingAside => self.set_aside(n),
             State::Exchanging => self.to(State::SyncingFolder),
             State::Renaming => self.to(State::SyncingFolder),
@@ -165,6 +164,17 @@ impl Turn {
             at: self.at + n,
             ..self
         }
+    }
+
+    /// What comes of the new file's being on the disk.
+    fn synced(self, n: usize) -> Turn
+        requires { self.state ≡ State.Syncing }
+        ensures { IsAnswered self (Yes n) result }
+    {
+        if self.keeps {
+            return self.to(State::SettingAside);
+        }
+        self.to(State::Renaming)
     }
 
     /// What comes of the old file's having another name, or that it can't have one.
@@ -232,17 +242,6 @@ fn read_of(n: usize) -> (Option<u32>, bool)
         return (Some((n - ALL_BITS) as u32), true);
     }
     (None, false)
-}
-
-/// What comes after the new file is on the disk.
-fn after_sync(keeps: bool) -> State
-    ensures { result ≡ after_sync keeps }
-{
-    if keeps {
-        State::SettingAside
-    } else {
-        State::Renaming
-    }
 }
 
 /// A new file that is to take another's place is open to nobody but its owner and whom that one is open to.

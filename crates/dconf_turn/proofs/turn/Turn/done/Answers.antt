@@ -1,7 +1,5 @@
-use Rattle.dconf_turn.proofs.TurnLaws.{by_equal, unlocked, noted, stayed, done_locking, done_making, done_creating, done_syncing, done_exchanging, done_renaming, done_syncing_folder, done_removing}
-use Rattle.dconf_turn.specs.Next.{after_sync}
+use Rattle.dconf_turn.proofs.TurnLaws.{by_equal, unlocked, noted, done_locking, done_making, done_creating, done_exchanging, done_renaming, done_syncing_folder, done_removing}
 use Rattle.dconf_turn.specs.declared.step.Answer.TheVariants.{Yes}
-use Rattle.std.proofs.Common.{◌∙◌, ap}
 use Rattle.dconf_turn.proofs.turn.Turn.done.Goals as goal
 
 pub returns-in-Locking : goal.returns-in-Locking
@@ -12,10 +10,6 @@ returns-in-Making c = done_making c.args.self c.args.n c.in-Making.is
 
 pub returns-in-Creating : goal.returns-in-Creating
 returns-in-Creating c = done_creating c.args.self c.args.n c.in-Creating.is
-
-pub returns-in-Syncing : goal.returns-in-Syncing
-returns-in-Syncing c =
-    by_equal c.args.self _ _ (Yes c.args.n) (c.to-in-Syncing.ensures ∙ ap (λ s. record c.args.self { state = s }) c.after_sync.ensures) (done_syncing c.args.self c.args.n c.in-Syncing.is)
 
 pub returns-in-Exchanging : goal.returns-in-Exchanging
 returns-in-Exchanging c = by_equal c.args.self _ _ (Yes c.args.n) c.to-in-Exchanging.ensures (done_exchanging c.args.self c.args.n c.in-Exchanging.is)

@@ -1,4 +1,4 @@
-use Rattle.std.proofs.Common.{◌≡◌, ◌-◌, ◌<◌, ◌∙◌, arith, sym, inl, inr}
+use Rattle.std.proofs.Common.{◌≡◌, ◌-◌, ◌∙◌, arith, sym, inl, inr}
 use Rattle.dconf_turn.proofs.TurnLaws.{by_equal, all_written, some_written, badly_written}
 use Rattle.dconf_turn.specs.declared.step.Answer.TheVariants.{Yes}
 use Rattle.dconf_turn.proofs.turn.Turn.written.Goals as goal
