@@ -4,6 +4,7 @@ use dconf_disk::{Folder, MemoryFolder, replace};
 use dconf_engine::{Engine, Layer};
 use dconf_path::{KeyPath, LockPath, read_profile};
 use dconf_store::{Change, value_after};
+use dconf_turn::{Answer, Outcome, Step, Turn};
 use dconfdb_calls::{is_key_writable, open_layer, read};
 use gv_tree::{Basic, Tree};
 use gv_view::View;
@@ -75,6 +76,12 @@ fn of_dconf_disk(alloc: Global) -> Result<bool, Fail> {
     Ok(bytes.is_some_and(|it| it.as_slice() == b"new".as_slice()))
 }
 
+fn of_dconf_turn() -> bool {
+    let mut turn = Turn::begin();
+    turn.answered(Answer::No(5));
+    turn.next() == Step::Done(Outcome::Kept(5))
+}
+
 /// Whether those of the calls over two databases are so.
 fn of_databases(alloc: Global, written: &[u8], compiled: &[u8]) -> Result<bool, Fail> {
     Ok(
@@ -89,7 +96,10 @@ fn of_databases(alloc: Global, written: &[u8], compiled: &[u8]) -> Result<bool, 
 #[test]
 fn each_example_is_so(rt: HostRuntime) -> Result<(), Fail> {
     let alloc = rt.alloc();
-    let others = of_dconf_path()? && of_keyfile_core(alloc)? && of_dconf_disk(alloc)?;
+    let others = of_dconf_path()?
+        && of_keyfile_core(alloc)?
+        && of_dconf_disk(alloc)?
+        && of_dconf_turn();
     let (written, compiled) = (of_gvdb_write(alloc)?, of_dconf_compile(alloc)?);
     assert!(rt; others && of_databases(alloc, &written, &compiled)?);
     Ok(())

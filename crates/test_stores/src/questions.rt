@@ -3,6 +3,7 @@ use crate::folders::crashes::crash_cases;
 use crate::folders::failures::replaced_so;
 use crate::tables::{item_shown, searched};
 use crate::texts::paths::path_read;
+use crate::turns::steps_shown;
 use std::alloc::Global;
 use std::test::Fail;
 
@@ -14,6 +15,7 @@ pub(crate) enum Question {
     Path,
     Replaced,
     Searched,
+    Steps,
 }
 
 /// Adds the answer of a question.
@@ -29,5 +31,6 @@ pub(crate) fn answer(
         Question::Path => Ok(path_read(asked, found)?),
         Question::Replaced => replaced_so(alloc, asked, found),
         Question::Searched => searched(alloc, asked, found),
+        Question::Steps => steps_shown(asked, found),
     }
 }

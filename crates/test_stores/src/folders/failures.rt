@@ -12,7 +12,7 @@ read me.user => done
 ";
 
 /// How a replacement of `old` by `new` is answered, and the read of `new` after it; whether one call failed
-/// then, and whether the file has `new`, and `old`.
+/// then, whether the file has `new`, and `old`, and that none is left by the other name.
 fn show_replaced(
     alloc: Global,
     folder: &mut MemoryFolder,
@@ -24,6 +24,7 @@ fn show_replaced(
         "failures 1",
         "read me.user new",
         "read me.user old",
+        "read me.user.new",
     ] {
         found.push(' ')?;
         found.push_str(answered(alloc, folder, call))?;
@@ -43,13 +44,13 @@ pub(crate) fn replaced_so(alloc: Global, asked: &str, found: &mut String) -> Res
 // The fourth is the rename, which is done though it fails; the fifth is the sync of the folder. The
 // sixth is the first one after the replacement.
 const ROWS: &str = "
-0 => done done other done other
-1 => device other done other done
-2 => device other done other done
-3 => device other done other done
-4 => device done done done other
-5 => device done done done other
-6 => done device done done other
+0 => done done other done other missing
+1 => device other done other done missing
+2 => device other done other done missing
+3 => device other done other done missing
+4 => device done done done other missing
+5 => device done done done other missing
+6 => done device done done other missing
 ";
 
 const GROWN: &str = "
@@ -62,6 +63,8 @@ sync me.user => done
 settle => done
 create me.user => done
 read me.user => done
+remove me.user => done
+read me.user => missing
 failures 0 => done
 ";
 

@@ -57,6 +57,11 @@ pub(crate) fn answered<F: Folder>(alloc: Global, folder: &mut F, call: &str) -> 
         "rename" => folder.rename(name, other),
         "settle" => folder.sync_folder(),
         "replace" => replace(alloc, folder, name, other.as_bytes()),
+        "remove" => return if folder.remove(name) {
+            "done"
+        } else {
+            "device"
+        },
         "read" => return answer_of_read(alloc, folder, name, bytes_of(other)),
         "failures" => return answer_of_count(folder.failures(), name),
         _ => return "no call",
