@@ -10,6 +10,8 @@
  *   bytes.
  * - A layer is DCONFDB_EMPTY_LAYER, what dconfdb_open put there, or a copy of these. Nobody else
  *   writes its fields.
+ * - A turn is {0} at first, and then what dconfdb_turn_begin and dconfdb_turn_answered put there. Nobody
+ *   else writes its fields. Each step is carried out as it says, and answered by what the system said.
  * - Any thread may call at any time, with memory that no other thread writes.
  *
  * Texts are UTF-8, without a zero byte at their end. */
@@ -69,6 +71,46 @@ typedef struct {
     DconfdbBytes path, value, type_text;
     bool sets;
 } DconfdbChange;
+
+/* A change of a file NAME, in the folder that has it: what comes next, and what is known so far. */
+typedef struct {
+    uint32_t state, outcome, fault, bits;
+    size_t len, at;
+    bool has_bits, keeps, leaves_new;
+} DconfdbTurn;
+
+/* What is to be done next. */
+typedef struct {
+    uint32_t kind, fault;
+    size_t number;
+    bool has_number;
+} DconfdbStep;
+
+enum {
+    DCONFDB_TURN_LOCK,        /* wait for the turn to change files of the folder */
+    DCONFDB_TURN_READ,        /* read NAME; answer the permission bits of the new file, 512 more if the old one is to be
+                               * set aside, or 1024 if the system is to choose them */
+    DCONFDB_TURN_MAKE,        /* make the new bytes; answer how many there are */
+    DCONFDB_TURN_CREATE,      /* make NAME.new, empty, in the place of any other, with the permission bits `number` */
+    DCONFDB_TURN_APPEND,      /* write the bytes from `number` on to it, or some of them; answer how many */
+    DCONFDB_TURN_SYNC,        /* give it the permission bits `number`, if `has_number`, and have it on the disk */
+    DCONFDB_TURN_SET_ASIDE,   /* give NAME another name too, NAME~1 or so, that is free; answer 0, or 1 if it can't have one */
+    DCONFDB_TURN_EXCHANGE,    /* give NAME.new such a free name, and have it change places with NAME */
+    DCONFDB_TURN_RENAME,      /* rename NAME.new to NAME */
+    DCONFDB_TURN_SYNC_FOLDER, /* have the folder's names on the disk */
+    DCONFDB_TURN_REMOVE,      /* remove NAME.new */
+    DCONFDB_TURN_NOTE,        /* write to the lock's own file what others are to know of the change */
+    DCONFDB_TURN_UNLOCK,      /* give the turn back */
+    DCONFDB_TURN_DONE         /* nothing: `number` is the outcome, and `fault` the first fault */
+};
+
+/* What became of NAME. The fault 0 is a write that wrote nothing, or more than there was. */
+enum {
+    DCONFDB_TURN_MADE,     /* it holds the new bytes, also after a crash */
+    DCONFDB_TURN_KEPT,     /* it is as it was */
+    DCONFDB_TURN_EITHER,   /* it is as it was, or holds the new bytes */
+    DCONFDB_TURN_UNSETTLED /* it holds the new bytes, but a crash may leave it as it was */
+};
 
 /* Why a call failed. */
 enum {
@@ -174,6 +216,17 @@ uint32_t dconfdb_profile_lines(const uint8_t *text, size_t len, DconfdbName *roo
  * change at fault, or 0 where none is, of MEMORY and TOO_BIG. */
 uint32_t dconfdb_change(const DconfdbLayer *layers, size_t n, bool writable, const DconfdbChange *changes, size_t changes_len,
                         uint8_t *room, size_t room_len, size_t *len, size_t *at);
+
+/* A turn of which nothing is done yet. */
+void dconfdb_turn_begin(DconfdbTurn *turn);
+
+/* What comes next. Whatever is answered, and wherever it is cut off: a crash at any moment leaves the old bytes
+ * or the new ones under NAME, whole. It ends after at most 11 steps and one for each byte. */
+void dconfdb_turn_next(const DconfdbTurn *turn, DconfdbStep *step);
+
+/* Takes the answer to the step: a fault, or 0 and the number that the step asks for. A fault says little: the step
+ * may have been done. */
+void dconfdb_turn_answered(DconfdbTurn *turn, uint32_t fault, size_t n);
 
 #ifdef __cplusplus
 }

@@ -15,6 +15,9 @@ uint32_t dconfdb_open(const uint8_t *file, size_t len, bool is_there, void *laye
 bool dconfdb_read(const void *layers, size_t n, const uint8_t *path, size_t path_len, void *found);
 bool dconfdb_fault_text(uint32_t number, void *text);
 uint32_t dconfdb_profile(const uint8_t *text, size_t len, void *room, size_t room_len, size_t *names, size_t *line);
+void dconfdb_turn_begin(void *turn);
+void dconfdb_turn_next(const void *turn, void *step);
+void dconfdb_turn_answered(void *turn, uint32_t fault, size_t n);
 uint32_t dconfdb_change(const void *layers, size_t n, bool writable, const void *changes, size_t changes_len, uint8_t *room,
                         size_t room_len, size_t *len, size_t *at);
 
@@ -267,6 +270,73 @@ static void finds_name(void)
     is_so(ends(&one) == size, "DconfdbName");
 }
 
+/* ---- a turn, and its steps: of a new file of 7,777 bytes, of which 1,234 are written */
+
+enum { BITS = 63, SET_ASIDE = 512, NO_BITS = 1024, WHOLE = 7777, PART = 1234, FAULT = 77 };
+enum { REMOVING = 10, KEPT = 1, APPEND = 4, DONE = 13 };
+
+/* A turn that came so far, whose read was answered so. */
+static Written turn_of(size_t read)
+{
+    Written turn = room_of("DconfdbTurn");
+    const size_t answers[] = {0, read, WHOLE, 0, PART};
+    dconfdb_turn_begin(turn.bytes);
+    for (size_t i = 0; i < sizeof answers / sizeof answers[0]; i++)
+        dconfdb_turn_answered(turn.bytes, 0, answers[i]);
+    return turn;
+}
+
+/* The one place at which a turn or a step has 1 and another one 0. */
+static size_t flag_of(const Written *one, const Written *other)
+{
+    size_t found = ROOM, count = 0;
+    for (size_t at = 0; at < ROOM; at++) {
+        if (!one->is_taken[at] && one->bytes[at] == 1 && other->bytes[at] == 0) {
+            found = at;
+            count++;
+        }
+    }
+    is_so(count == 1, one->type);
+    return found;
+}
+
+static void finds_turn(void)
+{
+    Written one = turn_of(BITS), chosen = turn_of(NO_BITS), keeps = turn_of(SET_ASIDE + BITS);
+    dconfdb_turn_answered(one.bytes, FAULT, 0);
+    dconfdb_turn_answered(keeps.bytes, FAULT, 0);
+    dconfdb_turn_answered(chosen.bytes, FAULT, 0);
+    finds_number(&one, "state", REMOVING);
+    finds_number(&one, "outcome", KEPT);
+    finds_number(&one, "fault", FAULT);
+    finds_number(&one, "bits", BITS);
+    finds_word(&one, "len", WHOLE);
+    finds_word(&one, "at", PART);
+    takes(&one, "has_bits", flag_of(&one, &chosen), FLAG);
+    takes(&one, "keeps", flag_of(&keeps, &one), FLAG);
+    Written left = one;
+    dconfdb_turn_answered(left.bytes, FAULT, 0);
+    takes(&one, "leaves_new", flag_of(&left, &one), FLAG);
+    ends(&one);
+}
+
+static void finds_step(void)
+{
+    Written turn = turn_of(BITS), append = room_of("DconfdbStep"), sync = append, done = append;
+    dconfdb_turn_next(turn.bytes, append.bytes);
+    dconfdb_turn_answered(turn.bytes, 0, WHOLE - PART);
+    dconfdb_turn_next(turn.bytes, sync.bytes);
+    for (size_t i = 0; i < 3; i++)
+        dconfdb_turn_answered(turn.bytes, FAULT, 0);
+    dconfdb_turn_next(turn.bytes, done.bytes);
+    finds_number(&append, "kind", APPEND);
+    finds_word(&append, "number", PART);
+    uint32_t fault = FAULT;
+    takes(&append, "fault", place_of(&done, 0, ROOM, &fault, NUMBER), NUMBER);
+    takes(&append, "has_number", flag_of(&sync, &append), FLAG);
+    ends(&append);
+}
+
 /* ---- what the calls read: two changes, the second a reset, in a store that has this file */
 
 enum { PATH = 0, NEW_VALUE = 16, NEW_TYPE = 32, SETS = 48, CHANGE = 56 };
@@ -323,5 +393,7 @@ int main(void)
     size_t value = finds_found(layer_size);
     finds_name();
     tries_change(value);
+    finds_turn();
+    finds_step();
     return 0;
 }
