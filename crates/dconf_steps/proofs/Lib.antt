@@ -1,0 +1,4 @@
+pub mod WaitProofs
+pub mod LookProofs
+pub mod EditLaws
+pub mod QueueProofs

@@ -1,0 +1,37 @@
+//! What comes next where a file may have changed, a lock may be another's, and changes wait: three machines that do nothing
+//! themselves.
+//!
+//! Each says its next step; its caller carries that out and gives the answer, until the step is `Done`. They are a few numbers: they
+//! hold no bytes, no name and no file, take no memory, and can be copied. A [`LockWait`] takes a lock that others may have, a
+//! [`Refresh`] looks at the files of a store, and a [`Queue`] writes the changes that wait.
+#![tactic(auto)]
+
+ghost use Rattle.dconf_steps.specs.WaitLaws.{HoweverLongItWaits};
+ghost use Rattle.dconf_steps.specs.RefreshLaws.{WhateverIsSeen};
+ghost use Rattle.dconf_steps.specs.QueueLaws.{WhateverIsWritten};
+
+mod queue;
+mod refresh;
+mod wait;
+
+pub use queue::{Queue, QueueAnswer, QueueEnd, QueueStep, QueuedEdit};
+pub use refresh::{LookEnd, LookStep, Refresh};
+pub use wait::{LockWait, WaitAnswer, WaitEnd, WaitStep};
+
+/// Whatever is answered, a wait begins with a try, pauses between two tries at a lock that others have, says that it is had only
+/// where a try had it, and gives up only where the time or the tries have run out.
+pub fn however_long_it_waits()
+    ensures { HoweverLongItWaits }
+{}
+
+/// Whatever is answered, a look keeps a part only where the file was said to be as it was, has all parts of the newer snapshot or
+/// none, and says that the snapshot is newer exactly where a part is another one.
+pub fn whatever_is_seen()
+    ensures { WhateverIsSeen }
+{}
+
+/// Whatever is answered, a change that waits is refused only for a fault of its own, only a reset of what is locked is left out, all
+/// others are written by one call, in their order, or none, and there is an end.
+pub fn whatever_is_written()
+    ensures { WhateverIsWritten }
+{}
