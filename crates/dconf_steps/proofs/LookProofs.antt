@@ -377,8 +377,11 @@ same_end (s ∷ more) r u h e =
     let next = h.2.0 in
     let a : IsLookAnswered r s.said next = h.2.1 in
     ⊎_elim (λ (end : look_step next ≡ Done Same). ⊎_elim (λ was. inl was)
-    (λ it. inr (it.0, λ o. ⊎_elim (λ here. it.1 (is_opening s (look_step r) h.0 here))
-    (λ later. subst HasOpened (ended_at more next u Same h.2.2 end).1 later) o))
+    (λ it. inr (
+      it.0,
+      λ o. ⊎_elim (λ here. it.1 (is_opening s (look_step r) h.0 here))
+          (λ later. subst HasOpened (ended_at more next u Same h.2.2 end).1 later) o,
+    ))
     (same_by r (look_step r) s.said (look_step next) a.goes end))
     (λ it. (let was = newer_false (look_step r) s.said r.is_newer (sym a.newer ∙ it.0) in
     inr (was.0, λ o. ⊎_elim (λ here. was.1 (is_opening s (look_step r) h.0 here)) (λ later. it.1 later) o)))

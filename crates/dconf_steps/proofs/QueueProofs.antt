@@ -128,11 +128,11 @@ module _ (s : Asked) (more : List Asked) (q u next : Queue) (es then_are after :
       let n : next ≡ record q { at = q.at + 1 } = next_is Taking t ∙ ap (λ x. cond x (record q { at = q.at + 1 }) (after_write es s.answer)) b in
       let stepped : s.step ≡ cond (goes es q.at) (Take q.at) (Pass q.at) = step_at Taking t ∙ ap (λ x. cond x (cond (goes es q.at) (Take q.at) (Pass q.at)) Write) b in
       ⊎_elim (λ (g : goes es q.at ≡ true).
-          let is : s.step ≡ Take q.at = stepped ∙ ap (λ x. cond x (Take q.at) (Pass q.at)) g in
-          written_at held (Take q.at) is ∙ ap (λ x. written_of more (held ++ with_edit x q.at)) (sym g) ∙ moved held t h lt n (then_by (Take q.at) is))
+      let is : s.step ≡ Take q.at = stepped ∙ ap (λ x. cond x (Take q.at) (Pass q.at)) g in
+      written_at held (Take q.at) is ∙ ap (λ x. written_of more (held ++ with_edit x q.at)) (sym g) ∙ moved held t h lt n (then_by (Take q.at) is))
       (λ (g : goes es q.at ≡ false).
-          let is : s.step ≡ Pass q.at = stepped ∙ ap (λ x. cond x (Take q.at) (Pass q.at)) g in
-          written_at held (Pass q.at) is ∙ ap (λ l. written_of more l) (sym (no_more held)) ∙ ap (λ x. written_of more (held ++ with_edit x q.at)) (sym g) ∙ moved held t h lt n (then_by (Pass q.at) is))
+      let is : s.step ≡ Pass q.at = stepped ∙ ap (λ x. cond x (Take q.at) (Pass q.at)) g in
+      written_at held (Pass q.at) is ∙ ap (λ l. written_of more l) (sym (no_more held)) ∙ ap (λ x. written_of more (held ++ with_edit x q.at)) (sym g) ∙ moved held t h lt n (then_by (Pass q.at) is))
       (true_or_false (goes es q.at))
 
   -- it goes on from the first edit, or the first key
@@ -232,7 +232,7 @@ unwritten (s ∷ more) q u es after h w held =
     let a : IsQueueAnswered q es s.answer next h.3.1 = h.3.2 in
     unwritten_by q next es h.3.1 held s.step s.answer more
     (λ step yes. (let n : next ≡ at_first (Over Written) = a.next ∙ ap (λ x. queue_after_at q.stage q es x) yes ∙ write_at q es (sym h.0 ∙ step) in
-        written_is_not_waiting (sym (over_at more next u h.3.1 after Written h.3.3 n).0 ∙ w)))
+    written_is_not_waiting (sym (over_at more next u h.3.1 after Written h.3.3 n).0 ∙ w)))
     (λ l. unwritten more next u h.3.1 after h.3.3 w l)
 
 -- ---- how many steps

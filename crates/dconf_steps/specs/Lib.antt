@@ -4,3 +4,6 @@ pub mod Looks
 pub mod RefreshLaws
 pub mod Queues
 pub mod QueueLaws
+pub mod LookRecords
+pub mod WaitRecords
+pub mod QueueRecords

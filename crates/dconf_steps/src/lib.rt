@@ -10,13 +10,21 @@ ghost use Rattle.dconf_steps.specs.WaitLaws.{HoweverLongItWaits};
 ghost use Rattle.dconf_steps.specs.RefreshLaws.{WhateverIsSeen};
 ghost use Rattle.dconf_steps.specs.QueueLaws.{WhateverIsWritten};
 
+mod next_step;
 mod queue;
+mod queue_record;
 mod refresh;
+mod refresh_record;
 mod wait;
+mod wait_record;
 
+pub use next_step::NextStep;
 pub use queue::{Queue, QueueAnswer, QueueEnd, QueueStep, QueuedEdit};
+pub use queue_record::QueueRecord;
 pub use refresh::{LookEnd, LookStep, Refresh};
+pub use refresh_record::RefreshRecord;
 pub use wait::{LockWait, WaitAnswer, WaitEnd, WaitStep};
+pub use wait_record::WaitRecord;
 
 /// Whatever is answered, a wait begins with a try, pauses between two tries at a lock that others have, says that it is had only
 /// where a try had it, and gives up only where the time or the tries have run out.
