@@ -1,5 +1,5 @@
 -- Edits that wait, after one of them was left out, or its change refused.
-use Rattle.std.proofs.Common.{ℕ, zero, suc, ◌+◌, ◌<◌, ◌≤◌, ◌≡◌, ◌≢◌, ◌⊎◌, Bool, true, false, not, ◌&&◌, cond, List, [], ◌∷◌, length, Option, Some, None, refl, sym, ◌∙◌, ap, subst, arith, ⊎_elim, inl, inr}
+use Rattle.std.proofs.Common.{ℕ, zero, suc, ◌+◌, ◌<◌, ◌≤◌, ◌≡◌, ◌≢◌, ◌⊎◌, Bool, true, false, not, ◌&&◌, cond, List, [], ◌∷◌, length, map, Option, Some, None, refl, sym, ◌∙◌, ap, subst, arith, ⊎_elim, inl, inr}
 use Rattle.std.specs.Prelude.{slice_get, slice_set}
 use Rattle.dconf_steps.specs.declared.queue.QueuedEdit.{QueuedEdit}
 use Rattle.dconf_steps.specs.declared.queue.QueueStep.{QueueStep}
@@ -7,7 +7,7 @@ use Rattle.dconf_steps.specs.declared.queue.QueueStep.TheVariants.{Take, Pass, W
 use Rattle.dconf_steps.specs.declared.queue.QueueAnswer.{QueueAnswer}
 use Rattle.dconf_steps.specs.declared.queue.QueueAnswer.TheVariants.{Yes, Locked, Fault, Later}
 use Rattle.dconf_steps.specs.Queues.{is_open_by, is_open, goes_by, goes, refused, refused_by, unmade, unmade_by, faulted_by, refused_for, marked}
-use Rattle.dconf_steps.specs.QueueLaws.{is_refused_by, is_refused, is_left_out_by, is_left_out, IsOf, Sets, IsOwnFault, IsLockedReset, flag, unmarked}
+use Rattle.dconf_steps.specs.QueueLaws.{is_refused_by, is_refused, is_left_out_by, is_left_out, IsOf, Sets, IsOwnFault, IsLockedReset, flag, unmarked, asked_of}
 
 pub true_or_false : (b : Bool) → (b ≡ true) ⊎ (b ≡ false)
 true_or_false true = inl refl
@@ -231,3 +231,47 @@ module _ (es : List QueuedEdit) where
   reset_by k (Take at) answer r = inl r
   reset_by k (Pass at) answer r = inl r
   reset_by k (Done end) answer r = inl r
+
+-- ---- what is asked stays
+
+set_map : (es : List QueuedEdit) (i : ℕ) (x y : QueuedEdit) → slice_get es i ≡ Some x → asked_of y ≡ asked_of x → map asked_of (slice_set es i y) ≡ map asked_of es
+set_map [] i x y e s = refl
+set_map (z ∷ more) zero x y e s = let one : Some z ≡ Some x = e in let same : x ≡ z = cc in ap (λ (w : QueuedEdit). w ∷ map asked_of more) (s ∙ ap asked_of same)
+set_map (z ∷ more) (suc i) x y e s = ap (λ l. asked_of z ∷ l) (set_map more i x y e s)
+
+module _ (es : List QueuedEdit) where
+  abbrev Same : List QueuedEdit → Type 0
+  Same after = map asked_of after ≡ map asked_of es
+
+  refused_asked : (change : ℕ) (o : Option QueuedEdit) → slice_get es change ≡ o → Same (refused_by es change o)
+  refused_asked change None e = refl
+  refused_asked change (Some first) e = set_map es change first (with_refusal first) e refl
+
+  unmade_asked : (at : ℕ) (o : Option QueuedEdit) → slice_get es at ≡ o → Same (unmade_by es at o)
+  unmade_asked at None e = refl
+  unmade_asked at (Some edit) e = either edit.sets
+    where
+      either : (b : Bool) → Same (cond b (refused es edit.change) (slice_set es at (without_it edit)))
+      either true = refused_asked edit.change (slice_get es edit.change) refl
+      either false = set_map es at edit (without_it edit) e refl
+
+  faulted_asked : (o : Option QueuedEdit) → Same (faulted_by es o)
+  faulted_asked None = refl
+  faulted_asked (Some edit) = refused_asked edit.change (slice_get es edit.change) refl
+
+  for_asked : (at : ℕ) (b : Bool) → Same (cond b (faulted_by es (slice_get es at)) es)
+  for_asked at true = faulted_asked (slice_get es at)
+  for_asked at false = refl
+
+  pub marked_asked : (step : QueueStep) (answer : QueueAnswer) → Same (marked es step answer)
+  marked_asked (Ask at) Locked = unmade_asked at (slice_get es at) refl
+  marked_asked (Ask at) Yes = refl
+  marked_asked (Ask at) (Fault i) = refl
+  marked_asked (Ask at) Later = refl
+  marked_asked Write (Fault at) = for_asked at (goes es at)
+  marked_asked Write Yes = refl
+  marked_asked Write Locked = refl
+  marked_asked Write Later = refl
+  marked_asked (Take at) answer = refl
+  marked_asked (Pass at) answer = refl
+  marked_asked (Done end) answer = refl

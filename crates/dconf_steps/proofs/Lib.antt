@@ -2,3 +2,4 @@ pub mod WaitProofs
 pub mod LookProofs
 pub mod EditLaws
 pub mod QueueProofs
+pub mod WrongMachines

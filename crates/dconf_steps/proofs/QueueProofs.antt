@@ -1,5 +1,5 @@
 -- What holds of the changes that wait after any answers.
-use Rattle.std.proofs.Common.{ℕ, zero, suc, ◌+◌, ◌*◌, ◌-◌, ◌<◌, ◌≤◌, ◌≡◌, ◌⊎◌, Bool, true, false, not, ◌&&◌, ◌||◌, cond, List, [], ◌∷◌, ◌++◌, length, Option, Some, None, refl, sym, ◌∙◌, ap, subst, arith, ⊎_elim, inl, inr, ltb}
+use Rattle.std.proofs.Common.{ℕ, zero, suc, ◌+◌, ◌*◌, ◌-◌, ◌<◌, ◌≤◌, ◌≡◌, ◌⊎◌, Bool, true, false, not, ◌&&◌, ◌||◌, cond, List, [], ◌∷◌, ◌++◌, length, map, Option, Some, None, refl, sym, ◌∙◌, ap, subst, arith, ⊎_elim, inl, inr, ltb}
 use Rattle.std.proofs.lemmas.Bool.{ltb-true, ltb-false}
 use Rattle.dconf_steps.specs.declared.queue.QueuedEdit.{QueuedEdit}
 use Rattle.dconf_steps.specs.declared.queue.Queue.{Queue}
@@ -12,8 +12,8 @@ use Rattle.dconf_steps.specs.declared.queue.QueueStep.TheVariants.{Take, Pass, W
 use Rattle.dconf_steps.specs.declared.queue.QueueAnswer.{QueueAnswer}
 use Rattle.dconf_steps.specs.declared.queue.QueueAnswer.TheVariants.{Yes, Locked, Fault, Later}
 use Rattle.dconf_steps.specs.Queues.{goes, is_locked, unmade, refused_for, marked, taking_step, asking_step, queue_step_at, queue_step, at_first, taking, after_key, after_fault, after_write, queue_after_at, IsQueueAnswered}
-use Rattle.dconf_steps.specs.QueueLaws.{Asked, IsQueueDone, RanQueue, is_refused, is_left_out, IsOwnFault, HasOwnFault, IsLockedReset, HasLockedReset, with_edit, going_first, going, written_of, written_by, unmarked, rounds, IsGoodQueue, WhateverIsWritten}
-use Rattle.dconf_steps.proofs.EditLaws.{true_or_false, Going, going_is, unmade_fewer, refused_for_fewer, unmade_length, refused_for_length, own_by, reset_by}
+use Rattle.dconf_steps.specs.QueueLaws.{Asked, IsQueueDone, RanQueue, is_refused, is_left_out, IsOwnFault, HasOwnFault, IsLockedReset, HasLockedReset, with_edit, going_first, going, written_of, written_by, unmarked, rounds, IsHeld, HasHeld, asked_of, IsGoodQueue, WhateverIsWritten}
+use Rattle.dconf_steps.proofs.EditLaws.{true_or_false, Going, going_is, unmade_fewer, refused_for_fewer, unmade_length, refused_for_length, own_by, reset_by, marked_asked}
 
 -- ---- what is refused, and what is left out
 
@@ -235,6 +235,111 @@ unwritten (s ∷ more) q u es after h w held =
     written_is_not_waiting (sym (over_at more next u h.3.1 after Written h.3.3 n).0 ∙ w)))
     (λ l. unwritten more next u h.3.1 after h.3.3 w l)
 
+-- ---- what nothing is written for
+
+-- where it stands, and nothing is written in the end
+abbrev Waits : QueueStage → Queue → List QueuedEdit → List QueuedEdit → List Asked → Type 0
+Waits Taking q es after taken = HasHeld after taken
+Waits Asking q es after taken = HasHeld after taken ⊎ ((q.has_marked ≡ false) × (after ≡ es))
+Waits (Over end) q es after taken = Unit {0}
+
+or_left : (a b : Bool) → (a || b) ≡ false → a ≡ false
+or_left false b e = refl
+or_left true b e = let bad : true ≡ false = e in cc
+
+or_right : (a b : Bool) → (a || b) ≡ false → b ≡ false
+or_right false b e = e
+or_right true b e = let bad : true ≡ false = e in cc
+
+nothing_marked : (es : List QueuedEdit) (at : ℕ) (answer : QueueAnswer) → (goes es at && is_locked answer) ≡ false → marked es (asking_step at es) answer ≡ es
+nothing_marked es at answer e = by (goes es at) answer e
+  where
+    by : (c : Bool) (answer : QueueAnswer) → (c && is_locked answer) ≡ false → marked es (cond c (Ask at) (Pass at)) answer ≡ es
+    by false answer e = refl
+    by true Locked e = let bad : true ≡ false = e in cc
+    by true Yes e = refl
+    by true (Fault i) e = refl
+    by true Later e = refl
+
+module _ (s : Asked) (more : List Asked) (q u next : Queue) (es then_are after : List QueuedEdit) (step_is : s.step ≡ queue_step q es) (edits_are : s.edits ≡ es)
+    (a : IsQueueAnswered q es s.answer next then_are) (ran : RanQueue more next then_are u after) (later : Waits next.stage next then_are after more)
+    (waits : queue_step u after ≡ Done Waiting) where
+  abbrev Held : Type 0
+  Held = HasHeld after (s ∷ more)
+
+  here : (answer : QueueAnswer) → s.step ≡ Write → s.answer ≡ answer → IsHeld after Write es answer → Held
+  here answer w e h =
+      inl (subst (λ x. IsHeld after x s.edits s.answer) (sym w) (subst (λ l. IsHeld after Write l s.answer) (sym edits_are) (subst (λ x. IsHeld after Write es x) (sym e) h)))
+
+  again : (stage : QueueStage) → next.stage ≡ stage → Waits stage next then_are after more
+  again stage e = subst (λ x. Waits x next then_are after more) e later
+
+  by_answer : (answer : QueueAnswer) → s.answer ≡ answer → s.step ≡ Write → next ≡ after_write es answer → then_are ≡ marked es Write answer → Held
+  by_answer Yes e w n t = absurd (written_is_not_waiting (sym (over_at more next u then_are after Written ran n).0 ∙ waits))
+  by_answer Later e w n t = here Later w e tt
+  by_answer Locked e w n t =
+      ⊎_elim (λ found. inr found) (λ (none : (next.has_marked ≡ false) × (after ≡ then_are)). here Locked w e (none.1 ∙ t)) (again Asking (ap (λ x. x.stage) n))
+  by_answer (Fault at) e w n t =
+      ⊎_elim (λ (g : goes es at ≡ true). inr (again Taking (ap (λ x. x.stage) (n ∙ ap (λ x. cond x (at_first Taking) (at_first (Over Waiting))) g))))
+      (λ (g : goes es at ≡ false). here (Fault at) w e g) (true_or_false (goes es at))
+
+  held_taking : q.stage ≡ Taking → Held
+  held_taking t = by (ltb q.at (length es)) refl
+    where
+      stepped : s.step ≡ taking_step q.at es
+      stepped = step_is ∙ ap (λ x. queue_step_at x q.at es) t
+
+      next_is : next ≡ queue_after_at Taking q es s.answer
+      next_is = a.next ∙ ap (λ x. queue_after_at x q es s.answer) t
+
+      by : (b : Bool) → ltb q.at (length es) ≡ b → Held
+      by true e = inr (again Taking (ap (λ x. x.stage) (next_is ∙ ap (λ x. cond x (record q { at = q.at + 1 }) (after_write es s.answer)) e) ∙ t))
+      by false e =
+          let w : s.step ≡ Write = stepped ∙ ap (λ x. cond x (cond (goes es q.at) (Take q.at) (Pass q.at)) Write) e in
+          by_answer s.answer refl w (next_is ∙ ap (λ x. cond x (record q { at = q.at + 1 }) (after_write es s.answer)) e)
+          (a.edits_are ∙ ap (λ x. marked es x s.answer) (sym step_is ∙ w))
+
+  held_asking : q.stage ≡ Asking → Held ⊎ ((q.has_marked ≡ false) × (after ≡ es))
+  held_asking t = by (ltb (q.at + 1) (length es)) (q.has_marked || (goes es q.at && is_locked s.answer)) refl next_is
+    where
+      next_is : next ≡ queue_after_at Asking q es s.answer
+      next_is = a.next ∙ ap (λ x. queue_after_at x q es s.answer) t
+
+      none : (q.has_marked || (goes es q.at && is_locked s.answer)) ≡ false → after ≡ then_are → Held ⊎ ((q.has_marked ≡ false) × (after ≡ es))
+      none m e = inr (
+        or_left q.has_marked (goes es q.at && is_locked s.answer) m,
+        e ∙ a.edits_are ∙ ap (λ x. marked es (queue_step_at x q.at es) s.answer) t ∙ nothing_marked es q.at s.answer (or_right q.has_marked (goes es q.at && is_locked s.answer) m),
+      )
+
+      by : (b k : Bool) → (q.has_marked || (goes es q.at && is_locked s.answer)) ≡ k
+          → next ≡ cond b (record q { at = q.at + 1; has_marked = k }) (cond k (at_first Taking) (at_first (Over Waiting))) → Held ⊎ ((q.has_marked ≡ false) × (after ≡ es))
+      by true k m n =
+          ⊎_elim (λ found. inl (inr found)) (λ (r : (next.has_marked ≡ false) × (after ≡ then_are)). none (m ∙ sym (ap (λ x. x.has_marked) n) ∙ r.0) r.1)
+          (again Asking (ap (λ x. x.stage) n ∙ t))
+      by false true m n = inl (inr (again Taking (ap (λ x. x.stage) n)))
+      by false false m n = none m (over_at more next u then_are after Waiting ran n).1
+
+  held_at : (stage : QueueStage) → q.stage ≡ stage → Waits stage q es after (s ∷ more)
+  held_at Taking t = held_taking t
+  held_at Asking t = held_asking t
+  held_at (Over end) t = tt
+
+not_waiting : (stage : QueueStage) (q : Queue) (es after : List QueuedEdit) → queue_step_at stage q.at es ≡ Done Waiting → Waits stage q es after []
+not_waiting Taking q es after e = absurd (taking_not_done q.at es Waiting e)
+not_waiting Asking q es after e = absurd (asking_not_done q.at es Waiting e)
+not_waiting (Over end) q es after e = tt
+
+held : (taken : List Asked) (q u : Queue) (es after : List QueuedEdit) → RanQueue taken q es u after → queue_step u after ≡ Done Waiting → Waits q.stage q es after taken
+held [] q u es after h w = not_waiting q.stage q es after (sym (ap (λ x. queue_step x after) h.0 ∙ ap (λ l. queue_step q l) h.1) ∙ w)
+held (s ∷ more) q u es after h w =
+    held_at s more q u h.3.0 es h.3.1 after h.0 h.1 h.3.2 h.3.3 (held more h.3.0 u h.3.1 after h.3.3 w) w q.stage refl
+
+asked : (taken : List Asked) (q u : Queue) (es after : List QueuedEdit) → RanQueue taken q es u after → map asked_of after ≡ map asked_of es
+asked [] q u es after h = ap (λ l. map asked_of l) h.1
+asked (s ∷ more) q u es after h =
+    let a : IsQueueAnswered q es s.answer h.3.0 h.3.1 = h.3.2 in
+    asked more h.3.0 u h.3.1 after h.3.3 ∙ ap (λ l. map asked_of l) a.edits_are ∙ marked_asked es (queue_step q es) s.answer
+
 -- ---- how many steps
 
 abbrev extra : Bool → ℕ → ℕ
@@ -389,6 +494,8 @@ whatever_is_written taken u es after ran = record {
   resets = λ k r. resets taken taking u es after ran k r;
   written = λ d. written taken taking u es after ran [] (refl, omega arith) d;
   waiting = λ w. unwritten taken taking u es after ran w [];
+  held = λ w. held taken taking u es after ran w;
+  asked = asked taken taking u es after ran;
   count = (let c : length taken ≤ left_of taking es = counted taken taking u es after ran in first c);
 }
   where

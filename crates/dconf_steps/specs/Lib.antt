@@ -7,3 +7,4 @@ pub mod QueueLaws
 pub mod LookRecords
 pub mod WaitRecords
 pub mod QueueRecords
+pub mod Dues

@@ -1,5 +1,5 @@
 -- The changes that wait, whatever is answered.
-use Rattle.std.specs.Prelude.{ℕ, zero, suc, ◌≡◌, ◌⊎◌, ◌+◌, ◌*◌, ◌≤◌, Bool, true, false, not, if◌then◌else◌, List, [], ◌∷◌, ◌++◌, length, Option, Some, None, slice_get}
+use Rattle.std.specs.Prelude.{ℕ, zero, suc, ◌≡◌, ◌⊎◌, ◌+◌, ◌*◌, ◌≤◌, Bool, true, false, not, if◌then◌else◌, List, [], ◌∷◌, ◌++◌, length, map, Option, Some, None, slice_get}
 use Rattle.dconf_steps.specs.declared.queue.QueuedEdit.{QueuedEdit}
 use Rattle.dconf_steps.specs.declared.queue.Queue.{Queue}
 use Rattle.dconf_steps.specs.declared.queue.QueueEnd.TheVariants.{Written, Waiting}
@@ -96,6 +96,23 @@ abbrev pub written_of : List Asked → List ℕ → Option (List ℕ)
 written_of [] held = None
 written_of (s ∷ more) held = written_by s.step s.answer (written_of more) held
 
+-- ---- what nothing is written for
+
+-- It is no fault of an edit; or a key was locked, and then nothing was found that is; or the fault is of no edit that goes.
+abbrev pub IsHeld : List QueuedEdit → QueueStep → List QueuedEdit → QueueAnswer → Type 0
+IsHeld after Write edits Later = Unit {0}
+IsHeld after Write edits Locked = after ≡ edits
+IsHeld after Write edits (Fault at) = goes edits at ≡ false
+IsHeld after step edits answer = ⊥
+
+abbrev pub HasHeld : List QueuedEdit → List Asked → Type 0
+HasHeld after [] = ⊥
+HasHeld after (s ∷ more) = IsHeld after s.step s.edits s.answer ⊎ HasHeld after more
+
+-- what an edit asks for, whatever became of it
+abbrev pub asked_of : QueuedEdit → QueuedEdit
+asked_of edit = record edit { is_left_out = false; is_refused = false }
+
 -- ---- how many steps
 
 abbrev pub flag : Bool → ℕ
@@ -121,8 +138,10 @@ pub record IsGoodQueue (taken : List Asked) (u : Queue) (edits after : List Queu
   pub resets : (edit : ℕ) → is_left_out after edit ≡ true → (is_left_out edits edit ≡ true) ⊎ HasLockedReset edit taken
   -- what is written are, in their order, the edits of all changes that are not refused, but for those that are left out
   pub written : queue_step u after ≡ Done Written → written_of taken [] ≡ Some (going after)
-  -- and else nothing is
+  -- and else nothing is, and not for a fault of a change's own
   pub waiting : queue_step u after ≡ Done Waiting → written_of taken [] ≡ None
+  pub held : queue_step u after ≡ Done Waiting → HasHeld after taken
+  pub asked : map asked_of after ≡ map asked_of edits
   pub count : length taken ≤ rounds (unmarked edits + 1) (length edits)
 
 abbrev pub WhateverIsWritten : Type 0

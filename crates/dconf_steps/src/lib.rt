@@ -10,6 +10,7 @@ ghost use Rattle.dconf_steps.specs.WaitLaws.{HoweverLongItWaits};
 ghost use Rattle.dconf_steps.specs.RefreshLaws.{WhateverIsSeen};
 ghost use Rattle.dconf_steps.specs.QueueLaws.{WhateverIsWritten};
 
+mod due;
 mod next_step;
 mod queue;
 mod queue_record;
@@ -18,6 +19,7 @@ mod refresh_record;
 mod wait;
 mod wait_record;
 
+pub use due::{exit_goes_on, is_to_write, pause_after, sleep_until, sync_goes_on};
 pub use next_step::NextStep;
 pub use queue::{Queue, QueueAnswer, QueueEnd, QueueStep, QueuedEdit};
 pub use queue_record::QueueRecord;

@@ -1,0 +1,108 @@
+-- Wrong machines: of what each would do it is proved that the laws alone exclude it.
+use Rattle.std.proofs.Common.{ℕ, ◌≡◌, ◌⊎◌, ◌≤◌, Bool, true, false, List, [], ◌∷◌, length, Option, Some, None, refl, ap, arith, ⊎_elim, inl, inr}
+use Rattle.dconf_steps.specs.declared.queue.QueuedEdit.{QueuedEdit}
+use Rattle.dconf_steps.specs.declared.queue.Queue.{Queue}
+use Rattle.dconf_steps.specs.declared.queue.QueueEnd.TheVariants.{Written}
+use Rattle.dconf_steps.specs.declared.queue.QueueStep.TheVariants as queue
+use Rattle.dconf_steps.specs.declared.queue.QueueStep.{QueueStep}
+use Rattle.dconf_steps.specs.declared.queue.QueueAnswer.TheVariants.{Yes, Locked, Fault, Later}
+use Rattle.dconf_steps.specs.declared.queue.QueueAnswer.{QueueAnswer}
+use Rattle.dconf_steps.specs.declared.refresh.Refresh.{Refresh}
+use Rattle.dconf_steps.specs.declared.refresh.LookEnd.TheVariants.{Same, Newer}
+use Rattle.dconf_steps.specs.declared.refresh.LookStep.TheVariants.{Stat, Read, Compare, Keep, Open, Done}
+use Rattle.dconf_steps.specs.declared.refresh.LookStep.{LookStep}
+use Rattle.dconf_steps.specs.declared.wait.LockWait.{LockWait}
+use Rattle.dconf_steps.specs.declared.wait.WaitEnd.TheVariants.{Had, Busy}
+use Rattle.dconf_steps.specs.declared.wait.WaitStep.TheVariants as wait
+use Rattle.dconf_steps.specs.declared.wait.WaitAnswer.TheVariants.{Taken, Got}
+use Rattle.dconf_steps.specs.Queues.{queue_step}
+use Rattle.dconf_steps.specs.QueueLaws.{Asked, HasOwnFault, IsGoodQueue}
+use Rattle.dconf_steps.specs.Looks.{look_step}
+use Rattle.dconf_steps.specs.RefreshLaws.{Looked, IsGoodLook}
+use Rattle.dconf_steps.specs.Waits.{wait_step}
+use Rattle.dconf_steps.specs.WaitLaws.{Waited, HasPast, IsGoodWait}
+
+abbrev numbers_differ : ℕ → ℕ → Type 0
+numbers_differ a b = a ≡ b → ⊥
+
+one_is_not_none : numbers_differ 1 0
+one_is_not_none e = omega arith
+
+none_is_not_one : numbers_differ 0 1
+none_is_not_one e = omega arith
+
+one_is_not_two : numbers_differ 1 2
+one_is_not_two e = omega arith
+
+-- ---- the queue: two changes, of an edit each
+
+abbrev edit : ℕ → Bool → Bool → QueuedEdit
+edit change sets is_refused = record { change = change; sets = sets; is_left_out = false; is_refused = is_refused }
+
+abbrev two : List QueuedEdit
+two = edit 0 true false ∷ edit 1 true false ∷ []
+
+abbrev asked : QueueStep → QueueAnswer → Asked
+asked step answer = record { step = step; edits = two; answer = answer }
+
+abbrev first_of : Option (List ℕ) → ℕ
+first_of None = 9
+first_of (Some []) = 9
+first_of (Some (x ∷ more)) = x
+
+-- the second is refused for the first one's fault
+pub anothers_fault : (u : Queue) → IsGoodQueue (asked queue.Write (Fault 0) ∷ []) u two (edit 0 true false ∷ edit 1 true true ∷ []) → ⊥
+anothers_fault u g =
+    ⊎_elim (λ (was : false ≡ true). cc) (λ r. ⊎_elim (λ (it : 0 ≡ 1). omega arith) (λ none. none) r) (g.own 1 refl)
+
+-- the second is written before the first
+pub out_of_order : (u : Queue) → IsGoodQueue (asked (queue.Take 1) Yes ∷ asked (queue.Take 0) Yes ∷ asked queue.Write Yes ∷ []) u two two
+    → queue_step u two ≡ queue.Done Written → ⊥
+out_of_order u g done = one_is_not_none (ap first_of (g.written done))
+
+-- the first is written, and refused
+pub written_and_refused : (u : Queue)
+    → IsGoodQueue (asked (queue.Take 0) Yes ∷ asked (queue.Take 1) Yes ∷ asked queue.Write Yes ∷ []) u two (edit 0 true true ∷ edit 1 true false ∷ [])
+    → queue_step u (edit 0 true true ∷ edit 1 true false ∷ []) ≡ queue.Done Written → ⊥
+written_and_refused u g done = none_is_not_one (ap first_of (g.written done))
+
+-- the first is neither written nor refused
+pub lost : (u : Queue) → IsGoodQueue (asked (queue.Take 1) Yes ∷ asked queue.Write Yes ∷ []) u two two → queue_step u two ≡ queue.Done Written → ⊥
+lost u g done = one_is_not_none (ap first_of (g.written done))
+
+-- both are refused, since others write
+pub refused_while_busy : (u : Queue) → IsGoodQueue (asked queue.Write Later ∷ []) u two (edit 0 true true ∷ edit 1 true true ∷ []) → ⊥
+refused_while_busy u g = ⊎_elim (λ (was : false ≡ true). cc) (λ r. ⊎_elim (λ none. none) (λ none. none) r) (g.own 0 refl)
+
+-- ---- a look at files
+
+abbrev looked : LookStep → Bool → Looked
+looked step said = record { step = step; said = said }
+
+-- a part is kept though the host said that the file is another one
+pub kept_otherwise : (u : Refresh) → IsGoodLook 1 true false (looked (Stat 0) false ∷ looked (Keep 0) true ∷ []) u → ⊥
+kept_otherwise u g = let bad : false ≡ true = g.kept.1.0.1 in cc
+
+-- the newer snapshot has one part of two
+pub half_a_snapshot : (u : Refresh) → IsGoodLook 2 true false (looked (Stat 0) false ∷ looked (Read 0) true ∷ looked (Compare 0) false ∷ looked (Open 0) true ∷ []) u
+    → look_step u ≡ Done Newer → ⊥
+half_a_snapshot u g e = one_is_not_two (ap (λ (l : List ℕ). length l) (g.newer e).0)
+
+-- in a turn the host's word is taken for the file
+pub unread_in_turn : (u : Refresh) → IsGoodLook 1 true true (looked (Stat 0) true ∷ looked (Keep 0) true ∷ []) u → ⊥
+unread_in_turn u g = g.unasked refl true (inl (refl, refl))
+
+-- the snapshot is called newer though each part is the old one
+pub called_newer : (u : Refresh) → IsGoodLook 1 true false (looked (Stat 0) true ∷ looked (Keep 0) true ∷ []) u → look_step u ≡ Done Newer → ⊥
+called_newer u g e =
+    ⊎_elim (λ (none : true ≡ false). cc) (λ o. ⊎_elim (λ x. x) (λ r. ⊎_elim (λ x. x) (λ x. x) r) o) (g.newer e).1
+
+-- ---- the wait
+
+-- it gives up after three milliseconds of ten, and one try
+pub too_early : (u : LockWait) → IsGoodWait 10 (record { step = wait.Try; answer = Taken 3 } ∷ []) u → wait_step u ≡ wait.Done Busy → ⊥
+too_early u g e = ⊎_elim (λ past. ⊎_elim (λ (le : 10 ≤ 3). omega arith) (λ x. x) past) (λ (all : 1 ≡ 51). omega arith) (g.busy e)
+
+-- it says that the lock is had though no try had it
+pub never_had : (u : LockWait) → IsGoodWait 10 (record { step = wait.Try; answer = Taken 3 } ∷ []) u → wait_step u ≡ wait.Done Had → ⊥
+never_had u g e = ⊎_elim (λ it. (let bad : Taken 3 ≡ Got = it.1 in cc)) (λ x. x) (g.had e)
