@@ -228,6 +228,123 @@ void dconfdb_turn_next(const DconfdbTurn *turn, DconfdbStep *step);
  * may have been done. */
 void dconfdb_turn_answered(DconfdbTurn *turn, uint32_t fault, size_t n);
 
+/* ---- machines: each says its next step, C carries that out and gives the answer. C owns them, and nobody but
+ * these calls writes their fields; begin with all bits 0. They can be copied. Which steps may come, whatever is
+ * answered, is proved (crates/dconf_steps). */
+
+/* A step: which one, and the file, the edit or the fault that it names, or 0. */
+typedef struct {
+    uint32_t kind;
+    size_t number;
+} DconfdbNext;
+
+/* A look at the files of a store. */
+typedef struct {
+    uint32_t stage;
+    size_t at, count;
+    bool has_old, in_turn, is_newer;
+} DconfdbRefresh;
+
+/* Its steps. `number` is the file. */
+enum {
+    DCONFDB_LOOK_STAT,    /* is it the file of which the old part was made, as far as stat() says? */
+    DCONFDB_LOOK_READ,    /* yes: what it holds is had, be it nothing */
+    DCONFDB_LOOK_COMPARE, /* is what was read what the old part was made of? */
+    DCONFDB_LOOK_KEEP,    /* take the old part */
+    DCONFDB_LOOK_OPEN,    /* make a part of what was read */
+    DCONFDB_LOOK_FAILED,  /* over: the old snapshot stays */
+    DCONFDB_LOOK_SAME,    /* over: each part is the old one */
+    DCONFDB_LOOK_NEWER    /* over: all parts are had, and are the newer snapshot */
+};
+
+/* A look at so many files. `has_old`: there is an old snapshot. `in_turn`: the first file is read whatever stat()
+ * says, since it is this program's turn to change it. */
+void dconfdb_refresh_begin(DconfdbRefresh *refresh, size_t count, bool has_old, bool in_turn);
+void dconfdb_refresh_next(const DconfdbRefresh *refresh, DconfdbNext *step);
+void dconfdb_refresh_answered(DconfdbRefresh *refresh, bool yes);
+
+/* An edit that waits, and what became of it. Of each change the first edit says whether it is refused. */
+typedef struct {
+    size_t change; /* the number of its change's first edit */
+    bool sets, is_left_out, is_refused;
+} DconfdbQueued;
+
+/* The changes that wait to be written. */
+typedef struct {
+    uint32_t stage;
+    size_t at;
+    bool has_marked;
+} DconfdbQueue;
+
+/* Its steps. `number` is the edit. */
+enum {
+    DCONFDB_QUEUE_TAKE,    /* take it for the change that is to be written next */
+    DCONFDB_QUEUE_PASS,    /* don't */
+    DCONFDB_QUEUE_WRITE,   /* write those that were taken since the last time, as one change */
+    DCONFDB_QUEUE_ASK,     /* may its key be written? */
+    DCONFDB_QUEUE_WRITTEN, /* over: all changes that are not refused are written */
+    DCONFDB_QUEUE_WAITING  /* over: none is written, and those that are not refused go on waiting */
+};
+
+/* Its answers. */
+enum {
+    DCONFDB_QUEUE_YES,
+    DCONFDB_QUEUE_LOCKED, /* of a write: a key was locked. Of a key: it may not be written */
+    DCONFDB_QUEUE_FAULT,  /* the edit `at` has a fault of its own */
+    DCONFDB_QUEUE_LATER   /* nothing was written, by no fault of an edit */
+};
+
+void dconfdb_queue_begin(DconfdbQueue *queue);
+void dconfdb_queue_next(const DconfdbQueue *queue, const DconfdbQueued *edits, size_t count, DconfdbNext *step);
+
+/* It marks edits that are left out, and changes that are refused. */
+void dconfdb_queue_answered(DconfdbQueue *queue, DconfdbQueued *edits, size_t count, uint32_t answer, size_t at);
+
+/* The wait for a lock that others may have. */
+typedef struct {
+    uint32_t stage, fault;
+    uint64_t longest, tries;
+} DconfdbWait;
+
+/* Its steps. */
+enum {
+    DCONFDB_WAIT_TRY,
+    DCONFDB_WAIT_PAUSE,
+    DCONFDB_WAIT_HAD,    /* over */
+    DCONFDB_WAIT_BUSY,   /* over: others had it all the time */
+    DCONFDB_WAIT_STOPPED /* over: a try failed, by the fault `number` */
+};
+
+/* The answers to a try. */
+enum {
+    DCONFDB_WAIT_GOT,
+    DCONFDB_WAIT_TAKEN, /* others have it */
+    DCONFDB_WAIT_MOVED, /* its name is another file's by now */
+    DCONFDB_WAIT_FAILED
+};
+
+/* A wait of so many milliseconds at most. */
+void dconfdb_wait_begin(DconfdbWait *wait, uint32_t longest);
+void dconfdb_wait_next(const DconfdbWait *wait, DconfdbNext *step);
+
+/* `passed`: the milliseconds since it began, of TAKEN and MOVED. `fault`: of FAILED. Of a pause any answer will do. */
+void dconfdb_wait_answered(DconfdbWait *wait, uint32_t answer, uint64_t passed, uint32_t fault);
+
+/* ---- when what waits is written. All moments are of one clock, in microseconds; 0 is none. */
+
+/* Whether a write begins now. */
+bool dconfdb_is_to_write(bool waits, bool is_in_line, uint64_t again, uint64_t now);
+
+/* The pause before a write is tried again, by the one before it; 0 before the first. */
+uint64_t dconfdb_pause_after(uint64_t pause);
+
+/* How many milliseconds there are until the first of two moments. False, and `wait` as it was, where neither is one. */
+bool dconfdb_sleep_until(uint64_t again, uint64_t look, uint64_t now, uint64_t *wait);
+
+/* Whether who asks that all is written goes on waiting, and whether the program's end does. */
+bool dconfdb_sync_goes_on(uint64_t settled, uint64_t added, uint64_t now, uint64_t end);
+bool dconfdb_exit_goes_on(uint64_t now, uint64_t end, uint64_t moved);
+
 #ifdef __cplusplus
 }
 #endif

@@ -1,6 +1,7 @@
 //! The lock by which the programs that replace files in a folder take turns.
 ghost use Rattle.std.specs.Prelude.{◌≡◌};
 
+use dconf_steps::{LockWait, WaitAnswer, WaitEnd, WaitStep};
 use std::alloc::{AllocError, Global};
 use std::error::Error;
 use std::fs::{File, Metadata, OpenOptions, Permissions, TryLockError};
@@ -20,15 +21,17 @@ const READ_AND_WRITE: u32 = 0o600;
 /// Who may read, write and run a file.
 const PERMISSION_BITS: u32 = 0o777;
 
-/// How many seconds a program waits for its turn, at most.
-const LONGEST_WAIT: u64 = 10;
+/// How many milliseconds a program waits for its turn, at most.
+const LONGEST_WAIT: u32 = 10_000;
 
 /// How many microseconds it waits between two tries. Others may wait in the kernel, which hands the lock on to them within some
 /// tens of microseconds: who tries seldom hardly ever meets such a moment.
 const PAUSE: u64 = 200;
 
-/// More tries than fit into the longest wait.
-const MOST_TRIES: u32 = 50_001;
+/// More steps than the longest wait has: its tries and pauses, five of each in a millisecond, the first try, and the end.
+const MOST_STEPS: u32 = 10 * LONGEST_WAIT + 2;
+
+const SECOND: u64 = 1_000;
 
 /// How often the file may be made or removed by others while it is being opened.
 const MOST_OPENINGS: u32 = 100;
@@ -113,24 +116,52 @@ impl FolderLock {
         let above = fs::open(rt, folder)?;
         let mut lock = open_lock(rt, folder, name)?;
         let began = Instant::now(rt)?;
-        for _ in 0..MOST_TRIES {
-            match lock.try_lock() {
-                Ok(()) if is_named(rt, &lock, name)? => {
+        let mut wait = LockWait::begin(LONGEST_WAIT);
+        for _ in 0..MOST_STEPS {
+            match wait.next() {
+                WaitStep::Try => {
+                    let answer = try_once(rt, &mut lock, folder, name, &began)?;
+                    wait.answered(answer);
+                }
+                WaitStep::Pause => {
+                    sleep(rt, Duration::from_micros(PAUSE));
+                    wait.answered(WaitAnswer::Got);
+                }
+                WaitStep::Done(WaitEnd::Had) => {
                     return Ok(FolderLock {
                         _folder: above,
                         _lock: lock,
                     });
                 }
-                Ok(()) => lock = open_lock(rt, folder, name)?,
-                Err(TryLockError::Error(error)) => return Err(LockFault::Device(error)),
-                Err(TryLockError::WouldBlock) => sleep(rt, Duration::from_micros(PAUSE)),
-            }
-            if began.elapsed(rt)?.as_secs() >= LONGEST_WAIT {
-                return Err(LockFault::Busy);
+                WaitStep::Done(_) => return Err(LockFault::Busy),
             }
         }
         Err(LockFault::Busy)
     }
+}
+
+/// Tries to take the lock. Where its name is another file's by now, that is the one to be tried next.
+fn try_once<R: Files<File = File> + Clock>(
+    rt: &R,
+    lock: &mut File,
+    folder: &str,
+    name: &str,
+    began: &Instant,
+) -> Result<WaitAnswer, LockFault> {
+    match lock.try_lock() {
+        Ok(()) if is_named(rt, lock, name)? => Ok(WaitAnswer::Got),
+        Ok(()) => {
+            *lock = open_lock(rt, folder, name)?;
+            Ok(WaitAnswer::Moved(passed(rt, began)?))
+        }
+        Err(TryLockError::Error(error)) => Err(LockFault::Device(error)),
+        Err(TryLockError::WouldBlock) => Ok(WaitAnswer::Taken(passed(rt, began)?)),
+    }
+}
+
+/// How many milliseconds have passed, to the second below.
+fn passed<R: Clock>(rt: &R, began: &Instant) -> io::Result<u64> {
+    Ok(began.elapsed(rt)?.as_secs().saturating_mul(SECOND))
 }
 
 /// The lock's file, opened. It is made where it is missing. A folder that can't be opened can't be synced, so it isn't locked.

@@ -5,8 +5,12 @@
 #![tactic(auto)]
 
 mod changing;
+mod due;
 mod listing;
+mod looking;
 mod opening;
+mod queueing;
 mod reading;
 mod repairing;
 mod turning;
+mod waiting;

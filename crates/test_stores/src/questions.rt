@@ -1,6 +1,7 @@
 //! The questions that rows of texts ask.
 use crate::folders::crashes::crash_cases;
 use crate::folders::failures::replaced_so;
+use crate::machines::{looked, queued, waited};
 use crate::tables::{item_shown, searched};
 use crate::texts::paths::path_read;
 use crate::turns::steps_shown;
@@ -12,10 +13,13 @@ use std::test::Fail;
 pub(crate) enum Question {
     Crash,
     Item,
+    Looked,
     Path,
+    Queued,
     Replaced,
     Searched,
     Steps,
+    Waited,
 }
 
 /// Adds the answer of a question.
@@ -28,9 +32,12 @@ pub(crate) fn answer(
     match question {
         Question::Crash => crash_cases(alloc, asked, found),
         Question::Item => item_shown(alloc, asked, found),
+        Question::Looked => looked(asked, found),
         Question::Path => Ok(path_read(asked, found)?),
+        Question::Queued => queued(asked, found),
         Question::Replaced => replaced_so(alloc, asked, found),
         Question::Searched => searched(alloc, asked, found),
         Question::Steps => steps_shown(asked, found),
+        Question::Waited => waited(asked, found),
     }
 }

@@ -1,0 +1,56 @@
+//! When what waits is written, and how long who asks for that waits for it.
+ghost use Rattle.std.specs.Prelude.{ℕ, ◌≡◌, ◌≤◌, ◌<◌, ◌+◌, ◌*◌, ◌↔◌, ◌⊎◌, IsTrue, false};
+ghost use Rattle.dconf_steps.specs.Dues.{IsDue, IsFirstOf, next_pause};
+
+use dconf_steps::{exit_goes_on, is_to_write, pause_after, sleep_until, sync_goes_on};
+
+/// Whether a write begins now: something waits, and it is in line for its turn already, or no later
+/// moment was said.
+#[unsafe(no_mangle)]
+pub extern "C" fn dconfdb_is_to_write(waits: bool, is_in_line: bool, again: u64, now: u64) -> bool
+    ensures { IsTrue result ↔ (IsTrue waits × IsDue is_in_line again now) }
+{
+    is_to_write(waits, is_in_line, again, now)
+}
+
+/// The pause before a write is tried again, by the one before it; 0 before the first.
+#[unsafe(no_mangle)]
+pub extern "C" fn dconfdb_pause_after(pause: u64) -> u64
+    ensures { result ≡ next_pause pause }
+{
+    pause_after(pause)
+}
+
+/// How many milliseconds there are until the first of two moments, rounded up. False, and `wait` as
+/// it was, where neither is one.
+#[unsafe(no_mangle)]
+pub extern "C" fn dconfdb_sleep_until(again: u64, look: u64, now: u64, wait: &mut u64) -> bool
+    ensures some { IsTrue result → (moment : ℕ) × IsFirstOf again look moment × (moment ≤ now + 1000 * wait.new) × ((wait.new ≡ 0) ⊎ (now + 1000 * wait.new < moment + 1000)) }
+    ensures none { result ≡ false → (again ≡ 0) × (look ≡ 0) × (wait.new ≡ wait.old) }
+{
+    match sleep_until(again, look, now) {
+        Some(found) => {
+            *wait = found;
+            true
+        }
+        None => false,
+    }
+}
+
+/// Whether who asks that all is written goes on waiting: fewer changes are settled than there were
+/// then, and the time isn't over.
+#[unsafe(no_mangle)]
+pub extern "C" fn dconfdb_sync_goes_on(settled: u64, added: u64, now: u64, end: u64) -> bool
+    ensures { IsTrue result ↔ ((settled < added) × (now < end)) }
+{
+    sync_goes_on(settled, added, now, end)
+}
+
+/// Whether the program's end goes on waiting: the time isn't over, and something moved within two
+/// seconds.
+#[unsafe(no_mangle)]
+pub extern "C" fn dconfdb_exit_goes_on(now: u64, end: u64, moved: u64) -> bool
+    ensures { IsTrue result ↔ ((now < end) × (now < moved + 2000000)) }
+{
+    exit_goes_on(now, end, moved)
+}

@@ -1,0 +1,36 @@
+//! The changes that wait to be written: what comes next, and what came of it. C carries out each step, and answers.
+ghost use Rattle.std.specs.Prelude.{◌≡◌};
+ghost use Rattle.dconf_steps.specs.QueueRecords.{IsQueueTold, queue_answer_of, queue_of};
+ghost use Rattle.dconf_steps.specs.Queues.{IsQueueAnswered, queue_step, taking};
+
+use dconf_steps::{NextStep, QueueRecord, QueuedEdit};
+
+/// Nothing is done yet.
+#[unsafe(no_mangle)]
+pub extern "C" fn dconfdb_queue_begin(queue: &mut QueueRecord)
+    ensures { queue_of queue.new ≡ taking }
+{
+    *queue = QueueRecord::begin();
+}
+
+/// What comes next, of these edits.
+#[unsafe(no_mangle)]
+pub extern "C" fn dconfdb_queue_next(queue: &QueueRecord, edits: &[QueuedEdit], step: &mut NextStep)
+    ensures { IsQueueTold (queue_step (queue_of queue.now) edits.now) step.new }
+{
+    *step = queue.next(edits);
+}
+
+/// Takes the answer to the step: 0 yes, 1 locked, 2 a fault of the edit `at`, else later. It marks
+/// edits that are left out, and changes that are refused.
+#[unsafe(no_mangle)]
+pub extern "C" fn dconfdb_queue_answered(
+    queue: &mut QueueRecord,
+    edits: &mut [QueuedEdit],
+    answer: u32,
+    at: usize,
+)
+    ensures { IsQueueAnswered (queue_of queue.old) edits.old (queue_answer_of answer at) (queue_of queue.new) edits.new }
+{
+    queue.answered(edits, answer, at);
+}

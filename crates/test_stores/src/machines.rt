@@ -1,0 +1,151 @@
+//! The machines that C drives, as it drives them: which steps come after which answers.
+use crate::questions::Question;
+use crate::rows::hold;
+use dconf_steps::{
+    NextStep, QueueRecord, QueuedEdit, RefreshRecord, WaitRecord, exit_goes_on, is_to_write,
+    pause_after, sleep_until, sync_goes_on,
+};
+use std::alloc::AllocError;
+use std::fmt::Write;
+use std::test::Fail;
+
+/// A step: its kind and its number.
+fn show(step: NextStep, found: &mut String) -> Result<(), AllocError> {
+    write!(found, " {}.{}", step.kind, step.number)
+}
+
+/// A look at so many files, without an old snapshot, with one, or in a turn, by answers yes and no.
+pub(crate) fn looked(asked: &str, found: &mut String) -> Result<(), Fail> {
+    let (count, rest) = asked.split_once(' ').unwrap_or((asked, ""));
+    let (how, answers) = rest.split_once(' ').unwrap_or((rest, ""));
+    let mut refresh = RefreshRecord::begin(count.parse()?, how != "new", how == "turn");
+    for answer in answers.bytes() {
+        show(refresh.next(), found)?;
+        refresh.answered(answer == b'y');
+    }
+    show(refresh.next(), found)?;
+    Ok(())
+}
+
+/// Of an answer its kind and its number.
+fn cut(answer: &str) -> (&str, &str) {
+    answer.split_once(':').unwrap_or((answer, "0"))
+}
+
+/// A wait of so many milliseconds, by answers.
+pub(crate) fn waited(asked: &str, found: &mut String) -> Result<(), Fail> {
+    let (longest, answers) = asked.split_once(' ').unwrap_or((asked, ""));
+    let mut wait = WaitRecord::begin(longest.parse()?);
+    for answer in answers.split_terminator(' ') {
+        let (kind, number) = cut(answer);
+        show(wait.next(), found)?;
+        wait.answered(kind.parse()?, number.parse()?, number.parse()?);
+    }
+    show(wait.next(), found)?;
+    Ok(())
+}
+
+/// Three edits: the first two are one change, of which the second is a reset.
+fn three() -> [QueuedEdit; 3] {
+    let set = QueuedEdit {
+        change: 0,
+        sets: true,
+        is_left_out: false,
+        is_refused: false,
+    };
+    let reset = QueuedEdit { sets: false, ..set };
+    let other = QueuedEdit { change: 2, ..set };
+    [set, reset, other]
+}
+
+/// Three edits that wait, by answers; and the flags of each.
+pub(crate) fn queued(asked: &str, found: &mut String) -> Result<(), Fail> {
+    let (mut edits, mut queue) = (three(), QueueRecord::begin());
+    for answer in asked.split_terminator(' ') {
+        let (kind, number) = cut(answer);
+        show(queue.next(&edits), found)?;
+        queue.answered(&mut edits, kind.parse()?, number.parse()?);
+    }
+    show(queue.next(&edits), found)?;
+    for edit in edits.iter() {
+        write!(
+            found,
+            " {}{}",
+            edit.is_left_out as u8, edit.is_refused as u8
+        )?;
+    }
+    Ok(())
+}
+
+/// 0 stat, 1 read, 2 compare, 3 keep, 4 open; 5 failed, 6 same, 7 newer.
+const LOOKS: &str = "
+0 new => 7.0
+0 old => 6.0
+1 new yy => 1.0 4.0 7.0
+1 new n => 1.0 5.0
+1 new yn => 1.0 4.0 5.0
+1 old yyyy => 0.0 3.0 6.0 6.0 6.0
+1 old ynn => 0.0 3.0 6.0 6.0
+1 old nyyy => 0.0 1.0 2.0 3.0 6.0
+1 turn yyy => 1.0 2.0 3.0 6.0
+1 turn n => 1.0 5.0
+2 old yynyny => 0.0 3.0 0.1 1.1 2.1 4.1 7.0
+2 turn ynyyy => 1.0 2.0 4.0 0.1 3.1 7.0
+2 turn ynyyyn => 1.0 2.0 4.0 0.1 3.1 7.0 7.0
+";
+
+/// 0 try, 1 pause; 2 had, 3 busy, 4 stopped. An answer: 0 got, 1 taken, 2 moved, 3 failed.
+const WAITS: &str = "
+0 0 => 0.0 2.0
+0 1:0 => 0.0 3.0
+10 1:3 0 2:4 1:10 => 0.0 1.0 0.0 0.0 3.0
+10 1:3 0 3:28 => 0.0 1.0 0.0 4.28
+-- a clock that stands still
+1 1 0 1 0 1 0 1 0 1 0 1 => 0.0 1.0 0.0 1.0 0.0 1.0 0.0 1.0 0.0 1.0 0.0 3.0
+";
+
+/// 0 take, 1 pass, 2 write, 3 ask; 4 written, 5 waiting. An answer: 0 yes, 1 locked, 2 fault, 3 later.
+const QUEUES: &str = "
+0 0 0 0 => 0.0 0.1 0.2 2.0 4.0 00 00 00
+0 0 0 3 => 0.0 0.1 0.2 2.0 5.0 00 00 00
+-- the fault of the reset refuses its change alone
+0 0 0 2:1 0 0 0 0 => 0.0 0.1 0.2 2.0 1.0 1.1 0.2 2.0 4.0 01 00 00
+-- a reset of what is locked is left out
+0 0 0 1 0 1 0 0 0 0 0 => 0.0 0.1 0.2 2.0 3.0 3.1 3.2 0.0 1.1 0.2 2.0 4.0 00 10 00
+-- a set of what is locked is refused with its change
+0 0 0 1 1 0 0 0 0 0 0 => 0.0 0.1 0.2 2.0 3.0 1.1 3.2 1.0 1.1 0.2 2.0 4.0 01 00 00
+-- a refusal that took nothing away
+0 0 0 1 0 0 0 => 0.0 0.1 0.2 2.0 3.0 3.1 3.2 5.0 00 00 00
+0 0 0 2:9 => 0.0 0.1 0.2 2.0 5.0 00 00 00
+";
+
+/// Whether what waits is written when it is due, and is waited for as long as that is promised.
+fn are_due() -> bool {
+    is_to_write(true, false, 5, 5)
+        && is_to_write(true, true, 9, 5)
+        && !is_to_write(true, false, 6, 5)
+        && !is_to_write(false, true, 0, 5)
+        && pause_after(0) == 50_000
+        && pause_after(50_000) == 100_000
+        && pause_after(u64::MAX) == 2_000_000
+        && sleep_until(0, 0, 5).is_none()
+        && sleep_until(0, 1_006, 5) == Some(2)
+        && sleep_until(1_005, 9_000, 5) == Some(1)
+        && sleep_until(1, 9_000, 5) == Some(0)
+        && sync_goes_on(1, 2, 5, 6)
+        && !sync_goes_on(2, 2, 5, 6)
+        && !sync_goes_on(1, 2, 6, 6)
+        && exit_goes_on(5, 6, 5)
+        && !exit_goes_on(6, 6, 5)
+        && !exit_goes_on(2_000_005, 9_000_000, 5)
+}
+
+#[test]
+fn machines_go_by_their_answers(rt: HostRuntime) -> Result<(), Fail> {
+    let alloc = rt.alloc();
+    hold(alloc, Question::Looked, LOOKS)?;
+    hold(alloc, Question::Waited, WAITS)?;
+    hold(alloc, Question::Queued, QUEUES)?;
+    assert!(rt; are_due());
+    Ok(())
+}
