@@ -20,6 +20,13 @@ void dconfdb_turn_next(const void *turn, void *step);
 void dconfdb_turn_answered(void *turn, uint32_t fault, size_t n);
 uint32_t dconfdb_change(const void *layers, size_t n, bool writable, const void *changes, size_t changes_len, uint8_t *room,
                         size_t room_len, size_t *len, size_t *at);
+void dconfdb_refresh_begin(void *refresh, size_t count, bool has_old, bool in_turn);
+void dconfdb_refresh_next(const void *refresh, void *step);
+void dconfdb_refresh_answered(void *refresh, bool yes);
+void dconfdb_queue_begin(void *queue);
+void dconfdb_queue_answered(void *queue, void *edits, size_t count, uint32_t answer, size_t at);
+void dconfdb_wait_begin(void *wait, uint32_t longest);
+void dconfdb_wait_answered(void *wait, uint32_t answer, uint64_t passed, uint32_t fault);
 
 /* How many bytes a field takes: a bool, a uint32_t, a size_t or pointer, and bytes that are lent. */
 enum { FLAG = 1, NUMBER = 4, WORD = 8, LENT = 16 };
@@ -380,6 +387,111 @@ static void tries_change(size_t value)
     printf("TAKES(DconfdbChange, %d);\n", CHANGE);
 }
 
+/* ---- the machines */
+
+/* The one place from `from` on where a struct and another one have these bytes. */
+static size_t flag_of(const Written *one, const Written *other, size_t from, uint8_t in_one, uint8_t in_other)
+{
+    size_t found = ROOM, count = 0;
+    for (size_t at = from; at < ROOM; at++) {
+        if (one->bytes[at] == in_one && other->bytes[at] == in_other) {
+            found = at;
+            count++;
+        }
+    }
+    is_so(count == 1, one->type);
+    return found;
+}
+
+/* A look at nine files without an old snapshot, at the one after the sixth; and two of which nothing is done. */
+static void finds_refresh(void)
+{
+    Written look = room_of("DconfdbRefresh"), step = room_of("DconfdbNext"), in_turn = look, plain = look;
+    dconfdb_refresh_begin(in_turn.bytes, 9, true, true);
+    dconfdb_refresh_begin(plain.bytes, 9, true, false);
+    dconfdb_refresh_begin(look.bytes, 9, false, false);
+    for (int i = 0; i < 12; i++)
+        dconfdb_refresh_answered(look.bytes, true);
+    finds_number(&look, "stage", 1);
+    finds_word(&look, "at", 6);
+    finds_word(&look, "count", 9);
+    size_t from = look.end;
+    takes(&look, "has_old", flag_of(&look, &plain, from, 0, 1), FLAG);
+    takes(&look, "in_turn", flag_of(&in_turn, &plain, from, 1, 0), FLAG);
+    takes(&look, "is_newer", flag_of(&look, &plain, from, 1, 0), FLAG);
+    ends(&look);
+    dconfdb_refresh_next(look.bytes, step.bytes);
+    finds_number(&step, "kind", 1);
+    finds_word(&step, "number", 6);
+    ends(&step);
+}
+
+static void finds_wait(void)
+{
+    Written wait = room_of("DconfdbWait");
+    dconfdb_wait_begin(wait.bytes, 10);
+    dconfdb_wait_answered(wait.bytes, 3, 0, 28);
+    finds_number(&wait, "stage", 4);
+    finds_number(&wait, "fault", 28);
+    finds_word(&wait, "longest", 10);
+    finds_word(&wait, "tries", 50);
+    ends(&wait);
+}
+
+/* Edits are read and written: a set, and a reset that is of the same change. */
+enum { OF_CHANGE = 0, EDIT_SETS = 8, IS_LEFT_OUT = 9, IS_REFUSED = 10, EDIT = 16, EDITS = 6 };
+
+static void makes_edit(uint8_t *edit, size_t change, bool sets)
+{
+    memset(edit, 0, EDIT);
+    memcpy(edit + OF_CHANGE, &change, WORD);
+    edit[EDIT_SETS] = sets;
+}
+
+/* A queue whose edits were all taken, and which found a key locked; then so many keys were asked about. */
+static void asks(uint8_t *queue, uint8_t *edits, size_t count)
+{
+    dconfdb_queue_begin(queue);
+    for (int i = 0; i < EDITS; i++)
+        dconfdb_queue_answered(queue, edits, EDITS, 0, 0);
+    dconfdb_queue_answered(queue, edits, EDITS, 1, 0);
+    for (size_t i = 0; i < count; i++)
+        dconfdb_queue_answered(queue, edits, EDITS, 0, 0);
+}
+
+static void finds_queue(void)
+{
+    _Alignas(16) uint8_t edits[EDITS * EDIT], wanted[EDITS * EDIT];
+    Written queue = room_of("DconfdbQueue"), marked = queue;
+    for (size_t i = 0; i < EDITS; i++)
+        makes_edit(edits + i * EDIT, i < 2 ? 0 : i, i != 1);
+    memcpy(wanted, edits, sizeof edits);
+    asks(queue.bytes, edits, 1);
+    memcpy(marked.bytes, queue.bytes, ROOM);
+    dconfdb_queue_answered(marked.bytes, edits, EDITS, 1, 0); /* the reset is locked */
+    wanted[EDIT + IS_LEFT_OUT] = 1;
+    is_so(memcmp(edits, wanted, sizeof edits) == 0, "DconfdbQueued");
+    dconfdb_queue_answered(marked.bytes, edits, EDITS, 1, 0); /* and the third edit */
+    wanted[2 * EDIT + IS_REFUSED] = 1;
+    is_so(memcmp(edits, wanted, sizeof edits) == 0, "DconfdbQueued");
+    asks(queue.bytes, edits, 0);
+    dconfdb_queue_answered(queue.bytes, edits, EDITS, 1, 0); /* the first one, of the change of two */
+    wanted[IS_REFUSED] = 1;
+    is_so(memcmp(edits, wanted, sizeof edits) == 0, "DconfdbQueued");
+    lies("DconfdbQueued", "change", OF_CHANGE, WORD);
+    lies("DconfdbQueued", "sets", EDIT_SETS, FLAG);
+    lies("DconfdbQueued", "is_left_out", IS_LEFT_OUT, FLAG);
+    lies("DconfdbQueued", "is_refused", IS_REFUSED, FLAG);
+    printf("TAKES(DconfdbQueued, %d);\n", EDIT);
+    asks(queue.bytes, edits, 5);
+    asks(marked.bytes, edits, 3);
+    dconfdb_queue_answered(marked.bytes, edits, EDITS, 1, 0);
+    finds_number(&queue, "stage", 1);
+    finds_word(&queue, "at", 5);
+    takes(&queue, "has_marked", flag_of(&queue, &marked, queue.end, 0, 1), FLAG);
+    ends(&queue);
+}
+
 int main(void)
 {
     puts("#include \"dconfdb_calls.h\"\n\n"
@@ -395,5 +507,8 @@ int main(void)
     tries_change(value);
     finds_turn();
     finds_step();
+    finds_refresh();
+    finds_wait();
+    finds_queue();
     return 0;
 }
