@@ -1,4 +1,5 @@
 /* Changes that wait to be written, and how they are. */
+#include "dconfdb_calls.h"
 #include "gsettings.h"
 
 #include <errno.h>
@@ -246,17 +247,45 @@ GArray *waiting_forget(Waiting *waiting, const GQueue *written, const GQueue *re
 
 /* ---- how they are written */
 
-static GArray *edits_of(const GQueue *changes)
+/* The edits of all changes, in their order: what becomes of them, and those that were taken for the next write. */
+typedef struct {
+    size_t count, taken;
+    DconfdbQueued *queued;
+    Edit **edits;
+    DconfdbEdit *asked; /* those that were taken, and the number of each */
+    size_t *numbers;
+} Batch;
+
+static size_t edits_in(const GQueue *changes)
 {
-    GArray *edits = g_array_new(FALSE, FALSE, sizeof(DconfdbEdit));
-    for (const GList *at = changes->head; at; at = at->next) {
-        const Change *change = at->data;
+    size_t count = 0;
+    for (const GList *at = changes->head; at; at = at->next)
+        count += ((const Change *)at->data)->count;
+    return count;
+}
+
+static Batch batch_of(const GQueue *changes)
+{
+    size_t count = edits_in(changes), first = 0;
+    Batch batch = {0, 0, g_new(DconfdbQueued, count), g_new(Edit *, count), g_new(DconfdbEdit, count), g_new(size_t, count)};
+    for (const GList *at = changes->head; at; at = at->next, first = batch.count) {
+        Change *change = at->data;
         for (size_t i = 0; i < change->count; i++) {
-            if (!change->edits[i].is_left_out)
-                g_array_append_val(edits, change->edits[i].asked);
+            Edit *edit = &change->edits[i];
+            batch.queued[batch.count] = (DconfdbQueued){first, edit->value != NULL, edit->is_left_out, false};
+            batch.edits[batch.count++] = edit;
         }
     }
-    return edits;
+    return batch;
+}
+
+static bool has_refused(const Batch *batch)
+{
+    for (size_t i = 0; i < batch->count; i++) {
+        if (batch->queued[i].is_refused)
+            return true;
+    }
+    return false;
 }
 
 static void move(GQueue *from, GList *change, GQueue *to)
@@ -265,70 +294,99 @@ static void move(GQueue *from, GList *change, GQueue *to)
     g_queue_push_tail_link(to, change);
 }
 
-static size_t edits_in(const Change *change)
+/* Tells each edit that it is left out, and takes away the changes that are refused. */
+static void batch_end(Batch *batch, GQueue *changes, GQueue *refused)
 {
-    size_t count = 0;
-    for (size_t i = 0; i < change->count; i++)
-        count += !change->edits[i].is_left_out;
-    return count;
-}
-
-/* Refuses the change that has the edit of that index. */
-static void refuse_one(GQueue *changes, GQueue *refused, size_t index)
-{
-    GList *at = changes->head;
-    while (at && index >= edits_in(at->data)) {
-        index -= edits_in(at->data);
-        at = at->next;
-    }
-    if (at)
-        move(changes, at, refused);
-}
-
-/* Refuses all that is locked now, so that not each costs a try. */
-static void refuse_locked(DconfdbStore *store, GQueue *changes, GQueue *refused)
-{
-    DconfdbSnapshot *now = dconfdb_store_snapshot(store);
+    size_t first = 0;
+    for (size_t i = 0; i < batch->count; i++)
+        batch->edits[i]->is_left_out = batch->queued[i].is_left_out;
     for (GList *at = changes->head, *next; at; at = next) {
+        size_t count = ((const Change *)at->data)->count;
         next = at->next;
-        if (!change_may_be_made(at->data, now))
+        if (count > 0 && batch->queued[first].is_refused)
             move(changes, at, refused);
+        first += count;
     }
-    dconfdb_snapshot_unref(now);
+    g_free(batch->queued);
+    g_free(batch->edits);
+    g_free(batch->asked);
+    g_free(batch->numbers);
 }
 
-static void refuse_all(GQueue *changes, GQueue *refused)
+static void take(Batch *batch, size_t number)
 {
-    while (changes->length > 0)
-        move(changes, changes->head, refused);
+    batch->asked[batch->taken] = batch->edits[number]->asked;
+    batch->numbers[batch->taken++] = number;
 }
 
-static void refuse(DconfdbStore *store, const DconfdbError *fault, GQueue *changes, GQueue *refused)
+static bool try_to_write(DconfdbStore *store, const Turn *turn, const Batch *batch, DconfdbError *fault)
 {
+    if (batch->taken == 0)
+        return true;
+    if (turn->fault != 0)
+        return refuse_lock(store, turn->fault, fault);
+    return locked_change(store, turn->lock, batch->asked, batch->taken, fault);
+}
+
+/* What became of a write, as dconfdb_queue_answered has it. The first fault for which a change is refused is kept. */
+static uint32_t write_taken(DconfdbStore *store, const Turn *turn, Batch *batch, size_t *at, DconfdbError *first, DconfdbError *fault)
+{
+    bool done = try_to_write(store, turn, batch, fault);
+    size_t taken = batch->taken;
+    batch->taken = 0;
+    if (done)
+        return DCONFDB_QUEUE_YES;
+    if (!has_refused(batch))
+        *first = *fault;
     switch (fault->number) {
     case DCONFDB_ERROR_LOCKED:
-        refuse_locked(store, changes, refused);
-        break;
+    case DCONFDB_ERROR_NOT_WRITABLE:
+        return DCONFDB_QUEUE_LOCKED;
     case DCONFDB_ERROR_TOO_LARGE:
     case DCONFDB_ERROR_BAD_PATH:
     case DCONFDB_ERROR_BAD_TYPE:
-        refuse_one(changes, refused, fault->at);
-        break;
+        *at = fault->at < taken ? batch->numbers[fault->at] : batch->count;
+        return DCONFDB_QUEUE_FAULT;
     default:
-        refuse_all(changes, refused);
+        return DCONFDB_QUEUE_LATER;
     }
 }
 
-static bool try_to_write(DconfdbStore *store, const Turn *turn, const GQueue *changes, DconfdbError *error)
+static bool is_writable(DconfdbStore *store, const Edit *edit)
 {
-    if (changes->length == 0)
-        return true;
-    if (turn->fault != 0)
-        return refuse_lock(store, turn->fault, error);
-    GArray *edits = edits_of(changes);
-    bool done = locked_change(store, turn->lock, (const DconfdbEdit *)(const void *)edits->data, edits->len, error);
-    g_array_free(edits, TRUE);
-    return done;
+    DconfdbSnapshot *now = dconfdb_store_snapshot(store);
+    bool is = dconfdb_snapshot_is_writable(now, edit->path);
+    dconfdb_snapshot_unref(now);
+    return is;
+}
+
+/* Goes by the proved steps. False: nothing is written, for that fault. */
+static bool write_batch(DconfdbStore *store, const Turn *turn, Batch *batch, DconfdbError *first, DconfdbError *fault)
+{
+    DconfdbQueue queue = {.has_marked = false};
+    DconfdbNext next = {0, 0};
+    dconfdb_queue_begin(&queue);
+    for (;;) {
+        uint32_t answer = DCONFDB_QUEUE_YES;
+        size_t at = 0;
+        dconfdb_queue_next(&queue, batch->queued, batch->count, &next);
+        switch (next.kind) {
+        case DCONFDB_QUEUE_TAKE:
+            take(batch, next.number);
+            break;
+        case DCONFDB_QUEUE_PASS:
+            break;
+        case DCONFDB_QUEUE_WRITE:
+            answer = write_taken(store, turn, batch, &at, first, fault);
+            break;
+        case DCONFDB_QUEUE_ASK:
+            answer = is_writable(store, batch->edits[next.number]) ? DCONFDB_QUEUE_YES : DCONFDB_QUEUE_LOCKED;
+            break;
+        default:
+            return next.kind == DCONFDB_QUEUE_WRITTEN;
+        }
+        dconfdb_queue_answered(&queue, batch->queued, batch->count, answer, at);
+    }
 }
 
 /* What is perhaps so for a moment: that all files of the process are in use, say, or what a disk or a server
@@ -348,16 +406,18 @@ static bool is_momentary(const DconfdbError *fault)
 Written changes_write(DconfdbStore *store, const Turn *turn, GQueue *changes, GQueue *refused, bool tries_again,
                       DconfdbError *error)
 {
-    DconfdbError fault;
-    while (!try_to_write(store, turn, changes, &fault)) {
-        guint count = refused->length;
-        if (tries_again && is_momentary(&fault)) {
-            *error = fault;
-            return TO_TRY_AGAIN;
-        }
-        refuse(store, &fault, changes, refused);
-        if (count == 0 && refused->length > 0)
-            *error = fault;
+    DconfdbError first, fault;
+    Batch batch = batch_of(changes);
+    bool is_first = refused->length == 0, done = write_batch(store, turn, &batch, &first, &fault);
+    batch_end(&batch, changes, refused);
+    if (!done && tries_again && is_momentary(&fault)) {
+        *error = fault;
+        return TO_TRY_AGAIN;
     }
+    /* The disk goes on failing, or is full: the program is to be told. */
+    while (!done && changes->length > 0)
+        move(changes, changes->head, refused);
+    if (is_first && refused->length > 0)
+        *error = first;
     return refused->length == 0 ? WRITTEN : SOME_REFUSED;
 }

@@ -1,5 +1,6 @@
 /* The backend's store: opened, looked at, changed. */
 #define _GNU_SOURCE
+#include "dconfdb_calls.h"
 #include "gsettings.h"
 
 #include <errno.h>
@@ -8,9 +9,9 @@
 #include <time.h>
 #include <unistd.h>
 
-/* In microseconds: how long g_settings_sync() waits, and a write is tried again, also by a disk that answers EIO; the pauses
- * before that; how often who waits looks for turns of others, and who reads at the files; and how often a mutex is tried. */
-enum { LONGEST_SYNC = 10000000, LONGEST_FAILING = 10000000, LONGEST_EIO = 1500000, SHORTEST_PAUSE = 50000, LONGEST_PAUSE = 2000000 };
+/* In microseconds: how long g_settings_sync() waits, and a write is tried again, also by a disk that answers EIO; how often
+ * who waits looks for turns of others, and who reads at the files; and how often a mutex is tried. */
+enum { LONGEST_SYNC = 10000000, LONGEST_FAILING = 10000000, LONGEST_EIO = 1500000 };
 enum { BETWEEN_TURNS = 500000, BETWEEN_LOOKS = 10000, AFTER_A_FAULT = 1000000, TRY = 1000, MILLISECOND = 1000 };
 
 bool mutex_lock_until(GMutex *mutex, gint64 end)
@@ -236,7 +237,7 @@ static gint64 next_try(DconfdbBackend *self, const DconfdbError *fault)
     gint64 now = g_get_monotonic_time(), longest = fault->system == EIO ? LONGEST_EIO : LONGEST_FAILING;
     if (self->failing == 0)
         self->failing = now;
-    self->pause = CLAMP(2 * self->pause, SHORTEST_PAUSE, LONGEST_PAUSE);
+    self->pause = (gint64)dconfdb_pause_after((uint64_t)self->pause);
     return now - self->failing < longest ? now + self->pause : 0;
 }
 
@@ -329,7 +330,7 @@ static bool await_settled(DconfdbBackend *self, Patience *patience)
 {
     g_mutex_lock(&self->lock);
     guint64 added = self->added;
-    for (gint64 now; self->settled < added && (now = g_get_monotonic_time()) < patience->end;) {
+    for (gint64 now; now = g_get_monotonic_time(), dconfdb_sync_goes_on(self->settled, added, (uint64_t)now, (uint64_t)patience->end);) {
         if (g_cond_wait_until(&self->settles, &self->lock, MIN(patience->end, now + BETWEEN_TURNS)))
             continue;
         g_mutex_unlock(&self->lock);

@@ -1,9 +1,11 @@
 /* The thread that writes what waits, tells, and sees what others change. It has a main context of its own,
  * so that no handler of the program's runs in it. */
 #define _GNU_SOURCE
+#include "dconfdb_calls.h"
 #include "gsettings.h"
 
 #include <errno.h>
+#include <limits.h>
 #include <poll.h>
 #include <signal.h>
 #include <stdint.h>
@@ -14,7 +16,7 @@
 /* In microseconds: how long the program's end waits for a write, and for a thread that writes nothing; and how
  * often it asks. */
 enum { LONGEST_END = 5000000, LONGEST_REST = 2000000, TICK = 5000 };
-enum { MILLISECOND = 1000, NANOSECONDS = 1000, SECOND = 1000000000 };
+enum { NANOSECONDS = 1000, SECOND = 1000000000 };
 
 static Notice *take_untold(DconfdbBackend *self)
 {
@@ -39,11 +41,12 @@ static void await(DconfdbBackend *self, int wait)
         watch_take(self);
 }
 
-/* How many milliseconds there are until a moment, or -1 where it is none. */
-static int wait_until(gint64 moment)
+/* How many milliseconds there are until it is to do something, or -1 where nobody has said when. */
+static int sleep_of(DconfdbBackend *self)
 {
-    gint64 wait = moment - g_get_monotonic_time();
-    return moment == 0 ? -1 : wait <= 0 ? 0 : (int)((wait + MILLISECOND - 1) / MILLISECOND);
+    uint64_t wait;
+    bool is = dconfdb_sleep_until((uint64_t)self->again, (uint64_t)watch_next(self), (uint64_t)g_get_monotonic_time(), &wait);
+    return is ? (int)MIN(wait, INT_MAX) : -1;
 }
 
 /* Does what is to be done. False: the program ends, and nothing waits. */
@@ -60,7 +63,7 @@ static bool takes_turn(DconfdbBackend *self)
         watch_turn(self);
     if (!waits)
         self->again = 0;
-    else if (self->wait || wait_until(self->again) <= 0) {
+    if (dconfdb_is_to_write(waits, self->wait != NULL, (uint64_t)self->again, (uint64_t)g_get_monotonic_time())) {
         g_atomic_int_set(&self->is_writing, TRUE);
         self->again = store_write(self, 0, true);
         waits = store_has_waiting(self);
@@ -92,10 +95,8 @@ static void *work(void *data)
     g_main_context_push_thread_default(own);
     /* A program may listen and never read. */
     store_open(self);
-    while (takes_turn(self)) {
-        int for_write = wait_until(self->again), for_watch = wait_until(watch_next(self));
-        await(self, for_write < 0 ? for_watch : for_watch < 0 ? for_write : MIN(for_write, for_watch));
-    }
+    while (takes_turn(self))
+        await(self, sleep_of(self));
     watch_end(self);
     g_main_context_pop_thread_default(own);
     g_main_context_unref(own);
@@ -213,7 +214,7 @@ void worker_end(DconfdbBackend *self)
     g_mutex_unlock(&self->lock);
     if (has_worker)
         worker_wake(self);
-    while (has_worker && now < patience.end && now < moved + LONGEST_REST) {
+    while (has_worker && dconfdb_exit_goes_on((uint64_t)now, (uint64_t)patience.end, (uint64_t)moved)) {
         if (has_done(self))
             return;
         patience_renew(&patience, self);

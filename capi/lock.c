@@ -3,6 +3,7 @@
 #define _POSIX_C_SOURCE 200809L
 #define _FILE_OFFSET_BITS 64
 #include "lock.h"
+#include "dconfdb_calls.h"
 #include "files.h"
 
 #include <errno.h>
@@ -16,7 +17,7 @@
  * hardly ever meets such a moment. So these are 0.2 milliseconds. */
 enum { PAUSE = 200000 };
 
-/* How often the folder, or the lock's file, may be made anew by others meanwhile. */
+/* How often others may make or remove the lock's file while it is being opened. */
 enum { MOST_TRIES = 100 };
 
 enum { READ_AND_WRITE = 0600, PERMISSION_BITS = 0777, MILLISECOND = 1000000, SECOND = 1000 };
@@ -162,65 +163,106 @@ static bool is_named(const char *folder, const FolderLock *lock)
         && is_same(&named, &opened);
 }
 
-static bool is_over(const struct timespec *end)
+/* A lock that is waited for. */
+typedef struct {
+    const char *folder;
+    bool has_end, is_open;
+    struct timespec began;
+    FolderLock *lock;
+} Awaited;
+
+/* The milliseconds since the wait began; none count where it has no end. */
+static uint64_t passed(const Awaited *awaited)
 {
     struct timespec now;
+    if (!awaited->has_end)
+        return 0;
     if (clock_gettime(CLOCK_MONOTONIC, &now) != 0)
-        return true;
-    return now.tv_sec > end->tv_sec || (now.tv_sec == end->tv_sec && now.tv_nsec >= end->tv_nsec);
+        return UINT64_MAX;
+    int64_t nanoseconds = (int64_t)(now.tv_sec - awaited->began.tv_sec) * SECOND * MILLISECOND + (now.tv_nsec - awaited->began.tv_nsec);
+    return (uint64_t)(nanoseconds / MILLISECOND);
 }
 
-/* Waits in the kernel if there is no end, and else tries again and again. */
-static int await(int file, const struct timespec *end)
+static int open_awaited(Awaited *awaited)
 {
-    const struct timespec pause = {0, PAUSE};
-    while (flock(file, end ? LOCK_EX | LOCK_NB : LOCK_EX) != 0) {
-        if (errno != EWOULDBLOCK && errno != EINTR)
+    int fault = open_both(awaited->folder, awaited->lock);
+    if (fault == ENOENT && (fault = folder_make(awaited->folder)) == 0)
+        fault = open_both(awaited->folder, awaited->lock);
+    awaited->is_open = fault == 0;
+    return fault;
+}
+
+/* Waits in the kernel if there is no end. */
+static int lock_it(const Awaited *awaited)
+{
+    int how = awaited->has_end ? LOCK_EX | LOCK_NB : LOCK_EX;
+    while (flock(awaited->lock->file, how) != 0) {
+        if (errno != EINTR)
             return errno;
-        if (end && is_over(end))
-            return EWOULDBLOCK;
-        if (end)
-            nanosleep(&pause, NULL);
     }
     return 0;
 }
 
-static int try_once(const char *folder, const struct timespec *end, FolderLock *lock)
+static void close_awaited(Awaited *awaited)
 {
-    int fault = open_both(folder, lock);
-    if (fault == ENOENT && (fault = folder_make(folder)) == 0)
-        fault = open_both(folder, lock);
-    if (fault != 0)
-        return fault;
-    fault = await(lock->file, end);
-    if (fault == 0 && is_named(folder, lock))
-        return 0;
-    folder_unlock(lock);
-    return fault == 0 ? ESTALE : fault;
+    if (awaited->is_open)
+        folder_unlock(awaited->lock);
+    awaited->is_open = false;
 }
 
-static struct timespec later(struct timespec moment, int milliseconds)
+/* What became of a try, as dconfdb_wait_answered has it. */
+static uint32_t try_it(Awaited *awaited, int *fault)
 {
-    moment.tv_sec += milliseconds / SECOND;
-    moment.tv_nsec += (long)(milliseconds % SECOND) * MILLISECOND;
-    if (moment.tv_nsec >= (long)SECOND * MILLISECOND) {
-        moment.tv_sec++;
-        moment.tv_nsec -= (long)SECOND * MILLISECOND;
+    *fault = awaited->is_open ? 0 : open_awaited(awaited);
+    if (*fault == 0)
+        *fault = lock_it(awaited);
+    if (*fault != 0)
+        return *fault == EWOULDBLOCK ? DCONFDB_WAIT_TAKEN : DCONFDB_WAIT_FAILED;
+    if (is_named(awaited->folder, awaited->lock))
+        return DCONFDB_WAIT_GOT;
+    close_awaited(awaited);
+    return DCONFDB_WAIT_MOVED;
+}
+
+/* Goes by the proved steps. */
+static int await(Awaited *awaited, uint32_t longest)
+{
+    static const struct timespec pause = {0, PAUSE};
+    DconfdbWait wait = {0};
+    DconfdbNext next = {0, 0};
+    uint32_t answer = DCONFDB_WAIT_GOT;
+    int fault = 0;
+    dconfdb_wait_begin(&wait, longest);
+    for (;;) {
+        dconfdb_wait_next(&wait, &next);
+        switch (next.kind) {
+        case DCONFDB_WAIT_TRY:
+            answer = try_it(awaited, &fault);
+            break;
+        case DCONFDB_WAIT_PAUSE:
+            nanosleep(&pause, NULL);
+            break;
+        case DCONFDB_WAIT_HAD:
+            return 0;
+        case DCONFDB_WAIT_BUSY:
+            return EWOULDBLOCK;
+        default:
+            return (int)next.number;
+        }
+        dconfdb_wait_answered(&wait, answer, passed(awaited), (uint32_t)fault);
     }
-    return moment;
 }
 
 int folder_lock(const char *folder, int milliseconds, FolderLock *lock)
 {
     static pthread_once_t once = PTHREAD_ONCE_INIT;
-    struct timespec end;
-    int fault = ESTALE;
+    Awaited awaited = {.folder = folder, .has_end = milliseconds != WITHOUT_END, .lock = lock};
     pthread_once(&once, heed_forks);
-    if (clock_gettime(CLOCK_MONOTONIC, &end) != 0)
+    if (clock_gettime(CLOCK_MONOTONIC, &awaited.began) != 0)
         return errno;
-    end = later(end, milliseconds);
-    for (int i = 0; fault == ESTALE && i < MOST_TRIES; i++)
-        fault = try_once(folder, milliseconds == WITHOUT_END ? NULL : &end, lock);
+    int fault = await(&awaited, awaited.has_end ? (uint32_t)milliseconds : UINT32_MAX);
+    if (fault != 0)
+        close_awaited(&awaited);
     return fault;
 }
 

@@ -316,45 +316,6 @@ static bool is_as_it_was_read(const Part *old, const FileState *state)
     return is_bad ? state->is_there && file_is_untouched(&old->state, state) : file_is_same(&old->state, state);
 }
 
-/* The part of a file that can't be read: it is empty, and says why. */
-static Part *part_without(const Asked *asked, FileState state, int fault, Part *old, DconfdbError *error)
-{
-    DconfdbError kept;
-    if (!asked->is_lenient || is_momentary(fault)) {
-        refuse_file(error, fault, asked->name, (Place){.database = asked->index});
-        return NULL;
-    }
-    refuse_file(&kept, fault, asked->name, (Place){.database = asked->index});
-    bool is_known = old && old->fault && !old->fault->aside && old->fault->error.number == kept.number;
-    if (is_known && old->fault->error.system == kept.system && file_is_untouched(&old->state, &state))
-        return part_ref(old);
-    Part *part = part_new(asked->name, state, (FileBytes){NULL, 0, false}, error);
-    if (part && part_blame(part, &kept, error))
-        return part;
-    part_unref(part);
-    return NULL;
-}
-
-/* The file as it is now; `old` where that still is it. In a turn it is read in any case. */
-static Part *part_now(const Asked *asked, Part *old, DconfdbError *error)
-{
-    FileState state;
-    FileBytes bytes;
-    bool is_in_turn = asked->turn != NO_FOLDER, looks = old && !is_in_turn;
-    if (looks && file_look(asked->name, &state) == 0 && is_as_it_was_read(old, &state))
-        return part_ref(old);
-    int fault = file_read(asked->turn, is_in_turn ? strrchr(asked->name, '/') + 1 : asked->name, asked->maps, may_be_database,
-                          LARGEST_FILE, &bytes, &state);
-    if (fault != 0)
-        return part_without(asked, state, fault, old, error);
-    /* The file was perhaps replaced, by one that is alike in all that stat() says. */
-    if (old && !looks && file_is_same(&old->state, &state) && has_bytes(old, &bytes)) {
-        file_release(&bytes);
-        return part_ref(old);
-    }
-    return part_open(asked, state, bytes, error);
-}
-
 /* ---- snapshots */
 
 static DconfdbSnapshot *snapshot_new(size_t count, bool is_writable)
@@ -709,26 +670,114 @@ static bool find_files(DconfdbStore *store, DconfdbError *error)
     return done;
 }
 
-/* What the files hold now; in a turn, which is one of the user's file, that is read. */
-static DconfdbSnapshot *look(const DconfdbStore *store, int turn, DconfdbError *error)
+/* A look at the files of a store: the snapshot that comes of it, and what was read of the file that it is at. */
+typedef struct {
+    const DconfdbStore *store;
+    DconfdbSnapshot *newer;
+    int turn;
+    FileState state;
+    FileBytes bytes;
+    DconfdbError fault; /* why it can't be read; its number is 0 where it can */
+} Look;
+
+/* In a turn, which is one of the user's file, that is read in its folder. */
+static Asked asked_of(const Look *look, size_t at)
 {
-    const DconfdbSnapshot *old = store->now;
-    DconfdbSnapshot *snapshot = snapshot_new(store->count, store->user_file != NULL);
-    if (!snapshot) {
+    const DconfdbStore *store = look->store;
+    bool is_users = store->files[at] == store->user_file;
+    return (Asked){store->files[at], at, !is_users, store->is_lenient, is_users ? look->turn : NO_FOLDER};
+}
+
+static bool is_as_said(const Look *look, const Part *old, size_t at)
+{
+    FileState state;
+    return file_look(look->store->files[at], &state) == 0 && is_as_it_was_read(old, &state);
+}
+
+/* In a lenient store a file counts as nothing if it can't be read, and not for a moment alone. */
+static bool read_at(Look *look, size_t at, DconfdbError *error)
+{
+    Asked asked = asked_of(look, at);
+    bool is_in_turn = asked.turn != NO_FOLDER;
+    int fault = file_read(asked.turn, is_in_turn ? strrchr(asked.name, '/') + 1 : asked.name, asked.maps, may_be_database,
+                          LARGEST_FILE, &look->bytes, &look->state);
+    look->fault.number = DCONFDB_ERROR_NONE;
+    if (fault == 0)
+        return true;
+    bool is_lasting = asked.is_lenient && !is_momentary(fault);
+    refuse_file(is_lasting ? &look->fault : error, fault, asked.name, (Place){.database = at});
+    return is_lasting;
+}
+
+/* Whether what was read is what the old part is of. A file may be replaced by one that is alike in all that stat() says. */
+static bool is_as_read(const Look *look, const Part *old)
+{
+    const Fault *bad = old->fault && !old->fault->aside ? old->fault : NULL;
+    if (look->fault.number == DCONFDB_ERROR_NONE)
+        return !bad && file_is_same(&old->state, &look->state) && has_bytes(old, &look->bytes);
+    return bad && bad->error.number == look->fault.number && bad->error.system == look->fault.system
+        && file_is_untouched(&old->state, &look->state);
+}
+
+/* The part of what was read: where that can't be it is empty, and says why. The bytes are the part's, or are freed. */
+static Part *part_of_read(Look *look, size_t at, DconfdbError *error)
+{
+    Asked asked = asked_of(look, at);
+    FileBytes bytes = look->bytes;
+    look->bytes = (FileBytes){NULL, 0, false};
+    if (look->fault.number == DCONFDB_ERROR_NONE)
+        return part_open(&asked, look->state, bytes, error);
+    Part *part = part_new(asked.name, look->state, bytes, error);
+    if (part && part_blame(part, &look->fault, error))
+        return part;
+    part_unref(part);
+    return NULL;
+}
+
+/* Carries out a step, and gives its answer. */
+static bool look_at(Look *look, const DconfdbNext *step, DconfdbError *error)
+{
+    Part *old = look->store->now ? look->store->now->parts[step->number] : NULL, *part;
+    switch (step->kind) {
+    case DCONFDB_LOOK_STAT:
+        return is_as_said(look, old, step->number);
+    case DCONFDB_LOOK_READ:
+        return read_at(look, step->number, error);
+    case DCONFDB_LOOK_COMPARE:
+        return is_as_read(look, old);
+    case DCONFDB_LOOK_KEEP:
+        file_release(&look->bytes);
+        snapshot_put(look->newer, step->number, part_ref(old));
+        return true;
+    default:
+        part = part_of_read(look, step->number, error);
+        if (part)
+            snapshot_put(look->newer, step->number, part);
+        return part != NULL;
+    }
+}
+
+/* What the files hold now, by the proved steps. Gives how it ended; where that is NEWER `newer` is the snapshot. */
+static uint32_t look(const DconfdbStore *store, int turn, DconfdbSnapshot **newer, DconfdbError *error)
+{
+    Look looking = {.store = store, .newer = snapshot_new(store->count, store->user_file != NULL), .turn = turn};
+    DconfdbRefresh refresh = {.has_old = false};
+    DconfdbNext step = {0, 0};
+    if (!looking.newer) {
         refuse_memory(error);
-        return NULL;
+        return DCONFDB_LOOK_FAILED;
     }
-    for (size_t i = 0; i < store->count; i++) {
-        bool is_users = store->files[i] == store->user_file;
-        Asked asked = {store->files[i], i, !is_users, store->is_lenient, is_users ? turn : NO_FOLDER};
-        Part *part = part_now(&asked, old ? old->parts[i] : NULL, error);
-        if (!part) {
-            dconfdb_snapshot_unref(snapshot);
-            return NULL;
-        }
-        snapshot_put(snapshot, i, part);
+    dconfdb_refresh_begin(&refresh, store->count, store->now != NULL, turn != NO_FOLDER);
+    dconfdb_refresh_next(&refresh, &step);
+    while (step.kind < DCONFDB_LOOK_FAILED) {
+        dconfdb_refresh_answered(&refresh, look_at(&looking, &step, error));
+        dconfdb_refresh_next(&refresh, &step);
     }
-    return snapshot;
+    if (step.kind == DCONFDB_LOOK_NEWER)
+        *newer = looking.newer;
+    else
+        dconfdb_snapshot_unref(looking.newer);
+    return step.kind;
 }
 
 /* A store of which the folder is known alone. */
@@ -758,7 +807,7 @@ static DconfdbStore *open_store(const char *folder, bool is_lenient, DconfdbErro
     DconfdbStore *store = store_of(folder, error);
     if (store) {
         store->is_lenient = is_lenient;
-        if (find_files(store, error) && (store->now = look(store, NO_FOLDER, error)) != NULL)
+        if (find_files(store, error) && look(store, NO_FOLDER, &store->now, error) == DCONFDB_LOOK_NEWER)
             return store;
     }
     dconfdb_store_close(store);
@@ -860,28 +909,16 @@ static void renew(DconfdbStore *store, DconfdbSnapshot *newer)
     dconfdb_snapshot_unref(old);
 }
 
-static bool is_as_it_was(const DconfdbSnapshot *one, const DconfdbSnapshot *other)
-{
-    for (size_t i = 0; i < one->count; i++) {
-        if (one->parts[i] != other->parts[i])
-            return false;
-    }
-    return true;
-}
-
 /* `refreshing` is held. */
 static bool refresh(DconfdbStore *store, int turn, DconfdbError *error)
 {
-    DconfdbSnapshot *newer = look(store, turn, error);
-    if (!newer)
-        return false;
-    if (is_as_it_was(newer, store->now)) {
-        dconfdb_snapshot_unref(newer);
-    } else {
+    DconfdbSnapshot *newer = NULL;
+    uint32_t end = look(store, turn, &newer, error);
+    if (end == DCONFDB_LOOK_NEWER) {
         renew(store, newer);
         store->has_news = true;
     }
-    return true;
+    return end != DCONFDB_LOOK_FAILED;
 }
 
 bool dconfdb_store_refresh(DconfdbStore *store, bool *changed, DconfdbError *error)
