@@ -132,7 +132,8 @@ enum {
     DCONFDB_NOT_WRITABLE,
     DCONFDB_LOCKED,
     DCONFDB_TOO_LARGE,
-    DCONFDB_TOO_BIG
+    DCONFDB_TOO_BIG,
+    DCONFDB_DOUBLE_TEXT = 19 /* of dconfdb_value_print alone; dconfdb_fault_text has no text of it */
 };
 
 /* A database without items. */
@@ -145,6 +146,12 @@ static const uint8_t dconfdb_empty_file[32] = {'G', 'V', 'a', 'r', 'i', 'a', 'n'
 
 /* The text of a fault's number. False, and the text unchanged, if no fault has the number. */
 bool dconfdb_fault_text(uint32_t number, DconfdbBytes *text);
+
+/* The text of the value that bytes have at the type that the text spells, annotated: what `dconfdb read`
+ * prints. `len` as dconfdb_list has it. MEMORY, BAD_TYPE, TOO_LARGE of more than 128 levels, DOUBLE_TEXT of a
+ * value that holds a double, and then nothing is written. */
+uint32_t dconfdb_value_print(const uint8_t *type_text, size_t type_text_len, const uint8_t *value, size_t value_len, uint8_t *room,
+                             size_t room_len, size_t *len);
 
 /* Opens a layer of a file's bytes, or an empty one if there is no file (is_there false: the
  * bytes are not looked at). Else SHORT to BAD_TABLE, or UNSOUND with what is broken, which is all

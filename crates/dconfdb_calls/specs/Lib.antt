@@ -3,6 +3,7 @@ pub mod Given
 pub mod Seen
 pub mod Opened
 pub mod Listed
+pub mod Printed
 pub mod Named
 pub mod GoodLines
 pub mod Stored
