@@ -1,0 +1,266 @@
+/* dconfdb watch: what changes in a store, by the library, and the proved text of values. */
+#define _GNU_SOURCE
+#include "../dconfdb.h"
+#include "../dconfdb_calls.h"
+#include "places.h"
+
+#include <errno.h>
+#include <getopt.h>
+#include <poll.h>
+#include <stdio.h>
+#include <stdlib.h>
+#include <string.h>
+
+enum { LONGEST_PATH = 65535, EACH_SECOND = 1000 };
+
+/* Of share/help/commands, by capi/command. */
+static const char help[] =
+#include "help_watch.h"
+;
+
+/* What is watched. */
+typedef struct {
+    const char *folder; /* of --store; NULL: the user's */
+    const char *path;
+    Places *places;
+    DconfdbStore *store;
+    DconfdbSnapshot *before; /* what was told last */
+    bool is_late;            /* not all is watched, or a look has failed: each second there is another */
+    char said_of_profile[512], said_of_look[512];
+} Watch;
+
+/* ---- words on stderr */
+
+static void warn(const char *text)
+{
+    fprintf(stderr, "error: %s\n", text);
+}
+
+/* The same fault is said once, until there is another one, or none. */
+static void warn_once(char (*said)[512], const char *text)
+{
+    if (*text && strcmp(*said, text) != 0)
+        warn(text);
+    snprintf(*said, sizeof *said, "%s", text);
+}
+
+/* The files that are bad, of which what can be read counts. */
+static void warn_of_faults(Watch *watch, const DconfdbSnapshot *now)
+{
+    DconfdbError fault = {.text = ""};
+    const DconfdbSnapshot *before = watch->before;
+    dconfdb_store_profile_fault(watch->store, &fault);
+    warn_once(&watch->said_of_profile, fault.text);
+    for (size_t i = 0; i < dconfdb_snapshot_databases(now); i++) {
+        DconfdbError old = {.text = ""};
+        bool was = before && i < dconfdb_snapshot_databases(before) && dconfdb_snapshot_fault(before, i, &old);
+        if (dconfdb_snapshot_fault(now, i, &fault) && !(was && strcmp(old.text, fault.text) == 0))
+            warn(fault.text);
+    }
+}
+
+/* ---- what is told */
+
+static bool is_asked(const char *path, const char *asked)
+{
+    size_t len = strlen(asked);
+    return strcmp(path, asked) == 0 || (asked[len - 1] == '/' && strncmp(path, asked, len) == 0);
+}
+
+/* The same bytes: what differs is a lock. */
+static bool is_same(const DconfdbValue *one, const DconfdbValue *other)
+{
+    return one->size == other->size && one->type_size == other->type_size && memcmp(one->data, other->data, one->size) == 0
+        && memcmp(one->type, other->type, one->type_size) == 0;
+}
+
+static bool is_seen_otherwise(const DconfdbSnapshot *now, const DconfdbSnapshot *before, const char *path)
+{
+    DconfdbValue value, old;
+    bool is = dconfdb_snapshot_read(now, path, &value), was = dconfdb_snapshot_read(before, path, &old);
+    return is != was || (is && !is_same(&value, &old));
+}
+
+static uint32_t print_into(const DconfdbValue *value, char *room, size_t room_len, size_t *len)
+{
+    return dconfdb_value_print((const uint8_t *)value->type, value->type_size, value->data, value->size, (uint8_t *)room,
+                               room_len, len);
+}
+
+/* The path of a key, and the text of its value, or why there is none. False: no memory. */
+static bool put_value(const char *path, const DconfdbValue *value)
+{
+    char first[512], *room = first;
+    size_t len = sizeof first, room_len = len;
+    uint32_t number = print_into(value, room, room_len, &len);
+    if (number == DCONFDB_OK && len > room_len) {
+        room_len = len;
+        room = malloc(room_len);
+        number = room ? print_into(value, room, room_len, &len) : (uint32_t)DCONFDB_MEMORY;
+    }
+    if (number == DCONFDB_OK)
+        printf("%s\n  %.*s\n", path, (int)len, room);
+    else if (number != DCONFDB_MEMORY)
+        printf("%s\n  %s\n", path, number == DCONFDB_DOUBLE_TEXT ? "double" : "too deep");
+    if (room != first)
+        free(room);
+    return number != DCONFDB_MEMORY;
+}
+
+static bool put_key(const DconfdbSnapshot *now, const char *path)
+{
+    DconfdbValue value;
+    if (dconfdb_snapshot_read(now, path, &value))
+        return put_value(path, &value);
+    printf("%s\n  unset\n", path);
+    return true;
+}
+
+/* Tells what is otherwise. False: it can't be found out. */
+static bool tell(const Watch *watch, const DconfdbSnapshot *now, DconfdbError *error)
+{
+    bool any = false, is_told = true;
+    char *paths = dconfdb_snapshot_differences(now, watch->before, NULL, error);
+    if (!paths)
+        return false;
+    for (const char *at = paths; is_told && *at; at += strlen(at) + 1) {
+        if (is_asked(at, watch->path) && is_seen_otherwise(now, watch->before, at)) {
+            is_told = put_key(now, at);
+            any = any || is_told;
+        }
+    }
+    free(paths);
+    if (any)
+        puts("");
+    if (!is_told)
+        snprintf(error->text, sizeof error->text, "no memory is left");
+    return is_told;
+}
+
+/* ---- looking */
+
+/* The files that are the store's now, watched. */
+static void begin(Watch *watch)
+{
+    DconfdbError error;
+    char *files = dconfdb_store_files(watch->folder, NULL, &error);
+    watch->is_late = !files || !places_watch(watch->places, files);
+    free(files);
+}
+
+/* The store, opened anew: another profile may name other databases. */
+static bool open_anew(Watch *watch, DconfdbError *error)
+{
+    DconfdbStore *store = dconfdb_store_open_lenient(watch->folder, error);
+    if (!store)
+        return false;
+    dconfdb_store_close(watch->store);
+    watch->store = store;
+    return true;
+}
+
+/* Looks at the files, and tells. What fails is tried again in a second. */
+static void look(Watch *watch, bool is_anew)
+{
+    DconfdbError error = {.text = ""};
+    bool is_done = is_anew ? open_anew(watch, &error) : dconfdb_store_refresh(watch->store, NULL, &error);
+    DconfdbSnapshot *now = is_done ? dconfdb_store_snapshot(watch->store) : NULL;
+    if (now && tell(watch, now, &error)) {
+        warn_of_faults(watch, now);
+        warn_once(&watch->said_of_look, "");
+        dconfdb_snapshot_unref(watch->before);
+        watch->before = now;
+        return;
+    }
+    dconfdb_snapshot_unref(now);
+    warn_once(&watch->said_of_look, error.text);
+    watch->is_late = true;
+}
+
+/* Waits for what happens, and looks. */
+static void wait_and_look(Watch *watch)
+{
+    struct pollfd file = {.fd = places_file(watch->places), .events = POLLIN};
+    bool was_late = watch->is_late;
+    int count = poll(&file, 1, was_late ? EACH_SECOND : -1);
+    Happened what = count > 0 ? places_take(watch->places) : NOTHING;
+    bool is_anew = what == A_FOLDER || (was_late && count == 0);
+    if (is_anew)
+        begin(watch);
+    if (is_anew || what != NOTHING)
+        look(watch, is_anew);
+}
+
+static int watch_until_interrupted(Watch *watch)
+{
+    while (fflush(stdout) == 0 && !ferror(stdout))
+        wait_and_look(watch);
+    return 1;
+}
+
+static int start(Watch *watch)
+{
+    DconfdbError error;
+    watch->places = places_new();
+    if (!watch->places) {
+        warn("Memory");
+        return 1;
+    }
+    /* Before the files are read: what changes meanwhile is told of. */
+    begin(watch);
+    watch->store = dconfdb_store_open_lenient(watch->folder, &error);
+    if (!watch->store) {
+        warn(error.number == DCONFDB_ERROR_NO_FOLDER ? "NoFolder" : error.text);
+        return 1;
+    }
+    DconfdbSnapshot *now = dconfdb_store_snapshot(watch->store);
+    warn_of_faults(watch, now);
+    watch->before = now;
+    return watch_until_interrupted(watch);
+}
+
+/* ---- words */
+
+static const char *fault_of_path(const char *path)
+{
+    if (path[0] != '/')
+        return "NotAbsolute";
+    if (strstr(path, "//"))
+        return "DoubleSlash";
+    return strlen(path) > LONGEST_PATH ? "TooLong" : NULL;
+}
+
+static int refuse_words(const char *why)
+{
+    fprintf(stderr, "error: %s\n\nUsage: dconfdb watch [OPTIONS] <PATH>\n\nFor more information, try '--help'.\n", why);
+    return 2;
+}
+
+int main(int count, char **words)
+{
+    static const struct option options[] = {
+        {"store", required_argument, NULL, 's'}, {"user", no_argument, NULL, 'u'}, {"help", no_argument, NULL, 'h'}, {0}};
+    Watch watch = {.folder = NULL};
+    bool is_users = false;
+    int option;
+    while ((option = getopt_long(count, words, "h", options, NULL)) != -1) {
+        if (option == 'h')
+            return fputs(help, stdout) < 0 || fflush(stdout) != 0;
+        if (option == '?')
+            return refuse_words("an option is wrong");
+        if (option == 'u' ? is_users : watch.folder != NULL)
+            return refuse_words("an option is given twice");
+        is_users = is_users || option == 'u';
+        watch.folder = option == 's' ? optarg : watch.folder;
+    }
+    if (is_users && watch.folder)
+        return refuse_words("--user and --store exclude each other");
+    if (count - optind != 1)
+        return refuse_words(count == optind ? "no PATH is given" : "more than one PATH is given");
+    watch.path = words[optind];
+    const char *fault = fault_of_path(watch.path);
+    if (!fault)
+        return start(&watch);
+    warn(fault);
+    return 1;
+}
