@@ -1,0 +1,112 @@
+/* Databases, by the proved calls: their keys, their values, their locks. */
+#include "lint.h"
+
+#include "../dconfdb_calls.h"
+#include "../mending.h"
+
+#include <stdlib.h>
+#include <string.h>
+
+/* Texts that a proved call lists, a zero byte after each, and one more: to be freed; or NULL, where nothing
+ * could be listed, or memory is not left. */
+typedef uint32_t Lists(const DconfdbLayer *layers, uint8_t *room, size_t room_len, size_t *len);
+
+static uint32_t lists_keys(const DconfdbLayer *layers, uint8_t *room, size_t room_len, size_t *len)
+{
+    return dconfdb_differs(layers + 1, 1, layers, 1, 1, room, room_len, len);
+}
+
+static uint32_t lists_locks(const DconfdbLayer *layers, uint8_t *room, size_t room_len, size_t *len)
+{
+    return dconfdb_locks(layers, 2, (const uint8_t *)"/", 1, room, room_len, len);
+}
+
+static char *listed(Lists *lists, const DconfdbLayer *layers)
+{
+    size_t len = 4096, room_len;
+    uint32_t number = DCONFDB_MEMORY;
+    char *room = NULL;
+    do {
+        free(room);
+        room_len = len;
+        room = malloc(room_len + 1);
+        if (room)
+            number = lists(layers, (uint8_t *)room, room_len, &len);
+    } while (room && number == DCONFDB_OK && len > room_len);
+    if (!room || number != DCONFDB_OK) {
+        free(room);
+        return NULL;
+    }
+    room[len] = 0;
+    return room;
+}
+
+/* The value of a key, or NULL if GLib has none of its type. */
+static GVariant *value_of(const DconfdbLayer *layer, const char *path)
+{
+    DconfdbFound found = {0, DCONFDB_NOTHING, DCONFDB_NOTHING};
+    if (!dconfdb_read_alone(layer, (const uint8_t *)path, strlen(path), &found))
+        return NULL;
+    char *type = g_strndup((const char *)found.type_text.at, found.type_text.len);
+    GVariant *value = NULL;
+    if (g_variant_type_string_is_valid(type)) {
+        GBytes *bytes = g_bytes_new(found.value.at, found.value.len);
+        GVariant *read = g_variant_ref_sink(g_variant_new_from_bytes((const GVariantType *)type, bytes, FALSE));
+        value = g_variant_get_normal_form(read);
+        g_variant_unref(read);
+        g_bytes_unref(bytes);
+    }
+    g_free(type);
+    return value;
+}
+
+/* layers[1] is the database; the first is empty, since a first database's locks don't count. */
+static void check_layer(const Lint *lint, Place at, const DconfdbLayer *layers)
+{
+    char *keys = listed(lists_keys, layers), *locks = listed(lists_locks, layers);
+    if (!keys || !locks)
+        find(at, "no memory is left");
+    for (const char *path = keys; path && *path; path += strlen(path) + 1) {
+        GVariant *value = value_of(&layers[1], path);
+        check_row(lint, at, path, value);
+        if (value)
+            g_variant_unref(value);
+    }
+    for (const char *path = locks; path && *path; path += strlen(path) + 1)
+        check_lock(lint, at, path);
+    free(keys);
+    free(locks);
+}
+
+static void find_fault(Place at, uint32_t number, const DconfdbUnsound *broken)
+{
+    DconfdbBytes text = DCONFDB_NOTHING;
+    if (number == DCONFDB_UNSOUND && broken->has_item)
+        find(at, "unsound: S%u item %u; what 'repair' keeps is looked at", (unsigned)broken->rule, (unsigned)broken->item);
+    else if (number == DCONFDB_UNSOUND)
+        find(at, "unsound: S%u; what 'repair' keeps is looked at", (unsigned)broken->rule);
+    else if (dconfdb_fault_text(number, &text))
+        find(at, "%.*s", (int)text.len, (const char *)text.at);
+    else
+        find(at, "fault %u", (unsigned)number);
+}
+
+void check_database(const Lint *lint, const char *file, FileBytes *bytes)
+{
+    const Lint alone = {lint->schemas, NULL};
+    DconfdbLayer layers[2] = {DCONFDB_EMPTY_LAYER, DCONFDB_EMPTY_LAYER};
+    DconfdbUnsound broken = {0, 0, false}, nothing = {0, 0, false};
+    FileBytes mended = {NULL, 0, false};
+    Saved saved = {0, 0, true};
+    Place at = {file, 0};
+    uint32_t number = dconfdb_open(bytes->at, bytes->len, true, &layers[1], &broken), is_mended = DCONFDB_OK;
+    if (number != DCONFDB_OK)
+        is_mended = mend(bytes, &mended, &saved);
+    if (number != DCONFDB_OK && (is_mended != DCONFDB_OK || !saved.is_whole))
+        find_fault(at, number, &broken);
+    if (number != DCONFDB_OK && is_mended == DCONFDB_OK)
+        dconfdb_open(mended.at, mended.len, true, &layers[1], &nothing);
+    if (number == DCONFDB_OK || is_mended == DCONFDB_OK)
+        check_layer(&alone, at, layers);
+    file_release(&mended);
+}

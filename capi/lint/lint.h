@@ -1,0 +1,95 @@
+/* `dconfdb lint`: keyfiles, lock files and databases, looked at beside the schemas that are installed. */
+#ifndef LINT_H
+#define LINT_H
+
+#include "../files.h"
+
+#include <gio/gio.h>
+
+/* ---- findings.c: what is printed */
+
+/* A place in a file; the line is 0 for a file as a whole, and for a database, which has no lines. */
+typedef struct {
+    const char *file;
+    size_t line;
+} Place;
+
+/* Prints a finding: FILE:LINE: TEXT. Control characters are printed as `\` and three octal digits. */
+void find(Place at, const char *format, ...) G_GNUC_PRINTF(2, 3);
+
+size_t findings_count(void);
+
+/* ---- nearest.c: names that are alike */
+
+/* Whether one letter more, less or otherwise, or two that change places, make a name one of these. */
+bool has_slip(const GPtrArray *names, const char *name);
+
+/* The one of these names that is the least number of letters away, which are put in, left out, replaced, or
+ * swapped with the next one; NULL if none is within `most`. A run compares so much of names, in which 1,000 are
+ * looked for with ease, and finds none after that: 100,000 findings take no minute. */
+const char *nearest(const GPtrArray *names, const char *name, int most);
+
+/* ---- schemas.c: which keys there are */
+
+typedef struct Schemas Schemas;
+
+/* The schemas of a folder (NULL: GIO's own). NULL: there are none, and `error` says why. */
+Schemas *schemas_open(const char *folder, GError **error);
+
+void schemas_close(Schemas *schemas);
+
+/* A relocatable schema has this path, too: `ID:PATH`. What is wrong with these words, or NULL. */
+const char *schemas_place(Schemas *schemas, const char *words);
+
+/* What there is at a path. */
+typedef enum { A_KEY, PASSED_OVER, MISSING } Kind;
+
+/* A key, of a schema that has a path, or was given one. */
+typedef struct {
+    GSettingsSchema *schema;
+    GSettingsSchemaKey *key;
+    char *takes; /* what it takes, in words, once they were wanted */
+} Known;
+
+/* A key's path, and the keys that it is: schemas may share a path. */
+Kind schemas_key(const Schemas *schemas, const char *path, const GPtrArray **known);
+
+/* The path of a directory, whether a key is below it. */
+Kind schemas_directory(const Schemas *schemas, const char *path);
+
+/* The key, or the directory, that is nearest to what is missing: to be freed; or NULL. */
+char *schemas_nearest(const Schemas *schemas, const char *path);
+
+/* ---- values.c: whether a key takes a value */
+
+/* Finds what is wrong with the value of a key, unless one of those that it is takes it. */
+void check_value(Place at, const char *path, const GPtrArray *known, GVariant *value);
+
+/* Frees what was kept. */
+void values_end(void);
+
+/* ---- rows.c: a key that is set, and a lock, wherever they stand */
+
+typedef struct {
+    const Schemas *schemas;
+    GHashTable *set; /* the keys that this folder's keyfiles set, and the first place of each; NULL in a database */
+} Lint;
+
+/* A key is set. Of a value that is none, NULL, the key alone is looked at. */
+void check_row(const Lint *lint, Place at, const char *path, GVariant *value);
+
+void check_lock(const Lint *lint, Place at, const char *path);
+
+/* ---- texts.c, database.c: what stands in a file */
+
+void check_keyfile(const Lint *lint, const char *file, const char *text, size_t len);
+void check_locks(const Lint *lint, const char *file, const char *text, size_t len);
+void check_database(const Lint *lint, const char *file, FileBytes *bytes);
+
+/* What a text is, by the first line that begins with `[`, or with `/`. One of comments alone is empty, and
+ * a keyfile without keys. */
+typedef enum { KEYFILE, LOCKS, EMPTY, NEITHER } TextKind;
+
+TextKind kind_of_text(const char *text, size_t len);
+
+#endif

@@ -1,0 +1,182 @@
+/* dconfdb lint: its words, and the files in their order. */
+#define _GNU_SOURCE
+#include "lint.h"
+
+#include <errno.h>
+#include <fcntl.h>
+#include <getopt.h>
+#include <stdio.h>
+#include <stdlib.h>
+#include <string.h>
+
+static const size_t largest_file = UINT32_MAX, largest_text = 16777216;
+
+static const char signature[] = "GVariant";
+
+/* Of share/help/commands, by capi/command. */
+static const char help[] =
+#include "help_lint.h"
+;
+
+/* ---- files */
+
+static bool is_database(const uint8_t *head, size_t len)
+{
+    return len >= sizeof signature - 1 && memcmp(head, signature, sizeof signature - 1) == 0;
+}
+
+static void find_no_file(const char *file, int fault)
+{
+    Place at = {file, 0};
+    if (fault == 0)
+        find(at, "NoFile: there is no such file");
+    else if (fault == EINVAL)
+        find(at, "Device: it is no regular file");
+    else
+        find(at, "Device: %s", g_strerror(fault));
+}
+
+/* What a file holds. A text past its largest size is not read, of which there are a few bytes then. */
+static int read_file(const char *file, FileBytes *bytes, FileState *state)
+{
+    int fault = file_read(AT_FDCWD, file, false, NULL, largest_text, bytes, state);
+    if (fault == EOVERFLOW)
+        fault = file_read(AT_FDCWD, file, false, is_database, largest_file, bytes, state);
+    return fault;
+}
+
+static void check_text(const Lint *lint, const char *file, const FileBytes *bytes)
+{
+    const char *text = bytes->at ? (const char *)bytes->at : "";
+    TextKind kind = kind_of_text(text, bytes->len);
+    if (kind == KEYFILE || kind == EMPTY)
+        check_keyfile(lint, file, text, bytes->len);
+    else if (kind == LOCKS)
+        check_locks(lint, file, text, bytes->len);
+    else if (kind == NEITHER)
+        find((Place){file, 0}, "it is neither a keyfile, nor a file of locks, nor a database");
+}
+
+static void check_file(const Lint *lint, const char *file)
+{
+    FileBytes bytes;
+    FileState state;
+    int fault = read_file(file, &bytes, &state);
+    if (fault == EOVERFLOW)
+        find((Place){file, 0}, "TooBig: it has more than 4,294,967,295 bytes");
+    else if (fault != 0 || !state.is_there)
+        find_no_file(file, fault);
+    else if (is_database(bytes.at, bytes.len))
+        check_database(lint, file, &bytes);
+    else if ((uintmax_t)state.size > largest_text)
+        find((Place){file, 0}, "TooBig: it has more than 16,777,216 bytes");
+    else
+        check_text(lint, file, &bytes);
+    file_release(&bytes);
+}
+
+static bool is_of_folder(const char *file, const char *other)
+{
+    const char *end = strrchr(file, '/'), *other_end = strrchr(other, '/');
+    size_t len = end ? (size_t)(end - file) : 0, other_len = other_end ? (size_t)(other_end - other) : 0;
+    return !end == !other_end && len == other_len && memcmp(file, other, len) == 0;
+}
+
+static int in_order(const void *one, const void *other)
+{
+    return strcmp(*(char *const *)one, *(char *const *)other);
+}
+
+/* The files of a folder are those of one database, in the order of their names. */
+static void check_files(const Schemas *schemas, char **files, size_t count)
+{
+    Lint lint = {schemas, NULL};
+    qsort(files, count, sizeof *files, in_order);
+    for (size_t i = 0; i < count; i++) {
+        if (i > 0 && strcmp(files[i], files[i - 1]) == 0)
+            continue;
+        if (i == 0 || !is_of_folder(files[i], files[i - 1])) {
+            g_clear_pointer(&lint.set, g_hash_table_unref);
+            lint.set = g_hash_table_new_full(g_str_hash, g_str_equal, g_free, g_free);
+        }
+        check_file(&lint, files[i]);
+    }
+    g_clear_pointer(&lint.set, g_hash_table_unref);
+}
+
+/* ---- words */
+
+static int refuse_words(const char *words, const char *why)
+{
+    fprintf(stderr, "error: %s%s%s\n\nUsage: dconfdb lint [OPTIONS] <FILE>...\n\nFor more information, try '--help'.\n", words,
+            *words ? ": " : "", why);
+    return 2;
+}
+
+static int finish(int status)
+{
+    return fflush(stdout) == 0 && !ferror(stdout) ? status : 1;
+}
+
+/* Takes the options. Its answer is a status, or GOES_ON. */
+enum { GOES_ON = -1 };
+
+static int take_options(int count, char **words, const char **folder, GPtrArray *placed)
+{
+    static const struct option options[] = {
+        {"schemas", required_argument, NULL, 'f'}, {"schema", required_argument, NULL, 's'}, {"help", no_argument, NULL, 'h'}, {0}};
+    int option;
+    while ((option = getopt_long(count, words, "h", options, NULL)) != -1) {
+        if (option == 'h')
+            return fputs(help, stdout) < 0 ? 1 : finish(0);
+        if (option == 's')
+            g_ptr_array_add(placed, optarg);
+        else if (option != 'f')
+            return refuse_words("", "an option is wrong");
+        else if (*folder)
+            return refuse_words("--schemas", "it is given twice");
+        else
+            *folder = optarg;
+    }
+    return optind < count ? GOES_ON : refuse_words("", "no FILE is given");
+}
+
+static int place_all(Schemas *schemas, const GPtrArray *placed)
+{
+    for (guint i = 0; i < placed->len; i++) {
+        const char *words = g_ptr_array_index(placed, i), *why = schemas_place(schemas, words);
+        if (why)
+            return refuse_words(words, why);
+    }
+    return GOES_ON;
+}
+
+static int lint_with(const char *folder, const GPtrArray *placed, char **files, size_t count)
+{
+    GError *error = NULL;
+    Schemas *schemas = schemas_open(folder, &error);
+    if (!schemas) {
+        fprintf(stderr, "error: NoSchemas %s: %s\n", folder ? folder : "installed", error->message);
+        g_error_free(error);
+        return 1;
+    }
+    int status = place_all(schemas, placed);
+    if (status == GOES_ON) {
+        check_files(schemas, files, count);
+        status = findings_count() > 0;
+    }
+    values_end();
+    schemas_close(schemas);
+    return finish(status);
+}
+
+int main(int count, char **words)
+{
+    const char *folder = NULL;
+    GPtrArray *placed = g_ptr_array_new();
+    int status = take_options(count, words, &folder, placed);
+    if (status == GOES_ON)
+        status = lint_with(folder, placed, words + optind, (size_t)(count - optind));
+    g_ptr_array_unref(placed);
+    return status;
+}

@@ -1,0 +1,268 @@
+/* Which keys the installed schemas have, by their paths. */
+#include "lint.h"
+
+#include <string.h>
+
+struct Schemas {
+    GSettingsSchemaSource *source;
+    GHashTable *at;          /* of a path the schemas that have it: an array */
+    GHashTable *keys;        /* .. and the names of their keys */
+    GHashTable *known;       /* of a key's path the keys that there are, once they were asked for: GIO takes a while to find one */
+    GHashTable *with;        /* of a key's name the paths that have it */
+    GHashTable *relocatable; /* the names of keys of relocatable schemas */
+    GPtrArray *paths;
+    GHashTable *is_directory; /* the paths, and each directory above one */
+    GPtrArray *directories;
+};
+
+static GPtrArray *array_at(GHashTable *table, const char *name, GDestroyNotify frees)
+{
+    GPtrArray *found = g_hash_table_lookup(table, name);
+    if (!found) {
+        found = g_ptr_array_new_with_free_func(frees);
+        g_hash_table_insert(table, g_strdup(name), found);
+    }
+    return found;
+}
+
+static void drop_array(gpointer array)
+{
+    g_ptr_array_unref(array);
+}
+
+static void drop_schema(gpointer schema)
+{
+    g_settings_schema_unref(schema);
+}
+
+/* A path, and the directories above it. */
+static void add_path(Schemas *schemas, const char *path)
+{
+    g_ptr_array_add(schemas->paths, g_strdup(path));
+    for (const char *end = strchr(path, '/'); end; end = strchr(end + 1, '/')) {
+        char *directory = g_strndup(path, (size_t)(end + 1 - path));
+        if (g_hash_table_add(schemas->is_directory, g_strdup(directory)))
+            g_ptr_array_add(schemas->directories, directory);
+        else
+            g_free(directory);
+    }
+}
+
+static void add_fixed(Schemas *schemas, GSettingsSchema *schema, const char *path)
+{
+    if (!g_hash_table_contains(schemas->at, path))
+        add_path(schemas, path);
+    g_ptr_array_add(array_at(schemas->at, path, drop_schema), g_settings_schema_ref(schema));
+    char **keys = g_settings_schema_list_keys(schema);
+    for (char **key = keys; *key; key++) {
+        g_ptr_array_add(array_at(schemas->keys, path, g_free), g_strdup(*key));
+        g_ptr_array_add(array_at(schemas->with, *key, g_free), g_strdup(path));
+    }
+    g_strfreev(keys);
+}
+
+static void add_relocatable(Schemas *schemas, GSettingsSchema *schema)
+{
+    char **keys = g_settings_schema_list_keys(schema);
+    for (char **key = keys; *key; key++)
+        g_hash_table_add(schemas->relocatable, g_strdup(*key));
+    g_strfreev(keys);
+}
+
+static void add_all(Schemas *schemas, char **names)
+{
+    for (char **name = names; *name; name++) {
+        GSettingsSchema *schema = g_settings_schema_source_lookup(schemas->source, *name, TRUE);
+        const char *path = schema ? g_settings_schema_get_path(schema) : NULL;
+        if (path)
+            add_fixed(schemas, schema, path);
+        else if (schema)
+            add_relocatable(schemas, schema);
+        if (schema)
+            g_settings_schema_unref(schema);
+    }
+}
+
+static GSettingsSchemaSource *source_of(const char *folder, GError **error)
+{
+    if (folder)
+        return g_settings_schema_source_new_from_directory(folder, NULL, FALSE, error);
+    GSettingsSchemaSource *source = g_settings_schema_source_get_default();
+    if (!source)
+        g_set_error(error, G_FILE_ERROR, G_FILE_ERROR_NOENT, "no schemas are installed");
+    return source ? g_settings_schema_source_ref(source) : NULL;
+}
+
+Schemas *schemas_open(const char *folder, GError **error)
+{
+    char **fixed = NULL, **relocatable = NULL;
+    GSettingsSchemaSource *source = source_of(folder, error);
+    if (!source)
+        return NULL;
+    Schemas *schemas = g_new0(Schemas, 1);
+    schemas->source = source;
+    schemas->at = g_hash_table_new_full(g_str_hash, g_str_equal, g_free, drop_array);
+    schemas->keys = g_hash_table_new_full(g_str_hash, g_str_equal, g_free, drop_array);
+    schemas->known = g_hash_table_new_full(g_str_hash, g_str_equal, g_free, drop_array);
+    schemas->with = g_hash_table_new_full(g_str_hash, g_str_equal, g_free, drop_array);
+    schemas->relocatable = g_hash_table_new_full(g_str_hash, g_str_equal, g_free, NULL);
+    schemas->is_directory = g_hash_table_new_full(g_str_hash, g_str_equal, g_free, NULL);
+    schemas->paths = g_ptr_array_new_with_free_func(g_free);
+    schemas->directories = g_ptr_array_new_with_free_func(g_free);
+    g_settings_schema_source_list_schemas(source, TRUE, &fixed, &relocatable);
+    add_all(schemas, fixed);
+    add_all(schemas, relocatable);
+    g_strfreev(fixed);
+    g_strfreev(relocatable);
+    return schemas;
+}
+
+void schemas_close(Schemas *schemas)
+{
+    g_hash_table_unref(schemas->at);
+    g_hash_table_unref(schemas->keys);
+    g_hash_table_unref(schemas->known);
+    g_hash_table_unref(schemas->with);
+    g_hash_table_unref(schemas->relocatable);
+    g_hash_table_unref(schemas->is_directory);
+    g_ptr_array_unref(schemas->paths);
+    g_ptr_array_unref(schemas->directories);
+    g_settings_schema_source_unref(schemas->source);
+    g_free(schemas);
+}
+
+const char *schemas_place(Schemas *schemas, const char *words)
+{
+    const char *path = strchr(words, ':');
+    if (!path)
+        return "there is no ':' between a schema and a path";
+    path++;
+    if (path[0] != '/' || !g_str_has_suffix(path, "/") || strstr(path, "//"))
+        return "the path is not a directory's";
+    char *id = g_strndup(words, (size_t)(path - 1 - words));
+    GSettingsSchema *schema = g_settings_schema_source_lookup(schemas->source, id, TRUE);
+    g_free(id);
+    if (!schema)
+        return "there is no such schema";
+    bool is_fixed = g_settings_schema_get_path(schema) != NULL;
+    if (!is_fixed)
+        add_fixed(schemas, schema, path);
+    g_settings_schema_unref(schema);
+    return is_fixed ? "the schema has a path of its own" : NULL;
+}
+
+/* ---- what there is at a path */
+
+/* The directory of a key, to be freed. */
+static char *directory_of(const char *path)
+{
+    return g_strndup(path, (size_t)(strrchr(path, '/') + 1 - path));
+}
+
+static void drop_known(gpointer known)
+{
+    g_settings_schema_key_unref(((Known *)known)->key);
+    g_free(((Known *)known)->takes);
+    g_free(known);
+}
+
+/* The keys of that name, of the schemas of a directory; or NULL. */
+static GPtrArray *find_known(const Schemas *schemas, const char *directory, const char *name)
+{
+    const GPtrArray *there = g_hash_table_lookup(schemas->at, directory);
+    GPtrArray *found = NULL;
+    for (guint i = 0; there && i < there->len; i++) {
+        GSettingsSchema *schema = g_ptr_array_index(there, i);
+        if (!g_settings_schema_has_key(schema, name))
+            continue;
+        Known *known = g_new(Known, 1);
+        *known = (Known){schema, g_settings_schema_get_key(schema, name), NULL};
+        if (!found)
+            found = g_ptr_array_new_with_free_func(drop_known);
+        g_ptr_array_add(found, known);
+    }
+    return found;
+}
+
+/* Whether only a relocatable schema may have the key. */
+static bool may_be_relocatable(const Schemas *schemas, const char *directory, const char *name)
+{
+    return !g_hash_table_contains(schemas->at, directory) && g_hash_table_contains(schemas->relocatable, name)
+        && !has_slip(g_hash_table_lookup(schemas->with, name), directory);
+}
+
+Kind schemas_key(const Schemas *schemas, const char *path, const GPtrArray **known)
+{
+    GPtrArray *found = g_hash_table_lookup(schemas->known, path);
+    Kind kind = A_KEY;
+    if (!found) {
+        char *directory = directory_of(path);
+        const char *name = path + strlen(directory);
+        found = find_known(schemas, directory, name);
+        if (found)
+            g_hash_table_insert(schemas->known, g_strdup(path), found);
+        else
+            kind = may_be_relocatable(schemas, directory, name) ? PASSED_OVER : MISSING;
+        g_free(directory);
+    }
+    *known = found;
+    return kind;
+}
+
+Kind schemas_directory(const Schemas *schemas, const char *path)
+{
+    if (g_hash_table_contains(schemas->is_directory, path))
+        return A_KEY;
+    bool may_be_there = g_hash_table_size(schemas->relocatable) > 0;
+    return may_be_there && !has_slip(schemas->directories, path) ? PASSED_OVER : MISSING;
+}
+
+/* ---- what is nearest */
+
+/* So much may be otherwise in a name of that length. */
+static int some(const char *name)
+{
+    return (int)MIN(1 + strlen(name) / 5, 64);
+}
+
+static char *nearest_directory(const Schemas *schemas, const char *directory)
+{
+    return g_strdup(nearest(schemas->directories, directory, some(directory)));
+}
+
+/* The nearest key of a directory. */
+static char *nearest_key(const Schemas *schemas, const char *directory, const char *name)
+{
+    const char *key = nearest(g_hash_table_lookup(schemas->keys, directory), name, some(name));
+    return key ? g_strconcat(directory, key, NULL) : NULL;
+}
+
+/* The nearest directory that has a key of the name. */
+static char *nearest_with(const Schemas *schemas, const char *directory, const char *name)
+{
+    const char *found = nearest(g_hash_table_lookup(schemas->with, name), directory, (int)strlen(directory) / 2);
+    return found ? g_strconcat(found, name, NULL) : NULL;
+}
+
+/* Both names are unknown: the nearest path of a schema, and its nearest key. */
+static char *nearest_path(const Schemas *schemas, const char *directory, const char *name)
+{
+    const char *found = nearest(schemas->paths, directory, some(directory));
+    return found ? nearest_key(schemas, found, name) : NULL;
+}
+
+char *schemas_nearest(const Schemas *schemas, const char *path)
+{
+    char *directory = directory_of(path), *found = NULL;
+    const char *name = path + strlen(directory);
+    if (*name == 0)
+        found = nearest_directory(schemas, path);
+    else
+        found = nearest_key(schemas, directory, name);
+    if (*name && !found)
+        found = nearest_with(schemas, directory, name);
+    if (*name && !found)
+        found = nearest_path(schemas, directory, name);
+    g_free(directory);
+    return found;
+}

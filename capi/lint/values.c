@@ -1,0 +1,155 @@
+/* Whether a key takes a value: its type, and its range, enumeration or flags. */
+#define G_SETTINGS_ENABLE_BACKEND
+#include "lint.h"
+
+#include <gio/gsettingsbackend.h>
+
+/* ---- what GSettings itself makes of a value: an enumeration may have other names, which no public call lists */
+
+/* A backend that has this value at every path. */
+typedef struct {
+    GSettingsBackend parent;
+    GVariant *value;
+} OneValue;
+
+typedef GSettingsBackendClass OneValueClass;
+
+GType one_value_get_type(void);
+
+G_DEFINE_TYPE(OneValue, one_value, G_TYPE_SETTINGS_BACKEND)
+
+static GVariant *read_one(GSettingsBackend *backend, const char *path, const GVariantType *type, gboolean is_default)
+{
+    (void)path, (void)type, (void)is_default;
+    return g_variant_ref(((OneValue *)backend)->value);
+}
+
+static gboolean is_writable(GSettingsBackend *backend, const char *path)
+{
+    (void)backend, (void)path;
+    return FALSE;
+}
+
+static void one_value_class_init(OneValueClass *class)
+{
+    class->read = read_one;
+    class->get_writable = is_writable;
+}
+
+static void one_value_init(OneValue *self)
+{
+    (void)self;
+}
+
+/* The settings of a schema at a directory. Those asked for last are kept, since a group's rows come together. */
+static GSettings *settings_of(GSettingsSchema *schema, const char *path, size_t len)
+{
+    static GSettingsSchema *last;
+    static char *directory;
+    static GSettings *settings;
+    if (schema == last && path && strlen(directory) == len && strncmp(directory, path, len) == 0)
+        return settings;
+    g_clear_object(&settings);
+    g_clear_pointer(&directory, g_free);
+    last = schema;
+    if (!schema)
+        return NULL;
+    GSettingsBackend *backend = g_object_new(one_value_get_type(), NULL);
+    directory = g_strndup(path, len);
+    settings = g_settings_new_full(schema, backend, directory);
+    g_object_unref(backend);
+    return settings;
+}
+
+void values_end(void)
+{
+    settings_of(NULL, NULL, 0);
+}
+
+/* Whether GSettings takes a value that is no name of the range's. Only texts may have other names. */
+static bool is_other_name(GSettingsSchema *schema, const char *path, GVariant *value)
+{
+    const char *name = strrchr(path, '/') + 1;
+    if (!strchr(g_variant_get_type_string(value), 's'))
+        return false;
+    GSettings *settings = settings_of(schema, path, (size_t)(name - path));
+    GSettingsBackend *backend = NULL;
+    g_object_get(settings, "backend", &backend, NULL);
+    ((OneValue *)backend)->value = value;
+    GVariant *taken = g_settings_get_user_value(settings, name);
+    bool is = taken != NULL;
+    if (taken)
+        g_variant_unref(taken);
+    g_object_unref(backend);
+    return is;
+}
+
+/* ---- what is said of it */
+
+enum { LONGEST = 200 };
+
+/* A value as text, so much of it: to be freed. */
+static char *shown(GVariant *value)
+{
+    char *text = g_variant_print(value, FALSE);
+    if (strlen(text) <= LONGEST)
+        return text;
+    char *end = text + LONGEST;
+    while (end > text && ((unsigned char)*end & 0xc0) == 0x80)
+        end--;
+    *end = 0;
+    char *cut = g_strconcat(text, "..", NULL);
+    g_free(text);
+    return cut;
+}
+
+/* What a key takes, in words: to be freed. */
+static char *words_of_range(GSettingsSchemaKey *key)
+{
+    const char *kind = NULL;
+    GVariant *what = NULL, *range = g_settings_schema_key_get_range(key);
+    g_variant_get(range, "(&sv)", &kind, &what);
+    char *text = shown(what), *words;
+    if (strcmp(kind, "range") == 0)
+        words = g_strconcat("in the range ", text, NULL);
+    else if (strcmp(kind, "flags") == 0)
+        words = g_strconcat("made of the flags ", text, NULL);
+    else
+        words = g_strconcat("one of ", text, NULL);
+    g_variant_unref(what);
+    g_variant_unref(range);
+    g_free(text);
+    return words;
+}
+
+static void find_range(Place at, Known *known, const char *path, GVariant *value)
+{
+    if (!known->takes)
+        known->takes = words_of_range(known->key);
+    char *text = shown(value);
+    find(at, "%s: %s is not %s", path, text, known->takes);
+    g_free(text);
+}
+
+static bool is_taken(const Known *known, const char *path, GVariant *value)
+{
+    return g_variant_is_of_type(value, g_settings_schema_key_get_value_type(known->key))
+        && (g_settings_schema_key_range_check(known->key, value) || is_other_name(known->schema, path, value));
+}
+
+void check_value(Place at, const char *path, const GPtrArray *known, GVariant *value)
+{
+    for (guint i = 0; i < known->len; i++) {
+        if (is_taken(g_ptr_array_index(known, i), path, value))
+            return;
+    }
+    Known *first = g_ptr_array_index(known, 0);
+    const GVariantType *type = g_settings_schema_key_get_value_type(first->key);
+    if (g_variant_is_of_type(value, type)) {
+        find_range(at, first, path, value);
+        return;
+    }
+    char *text = g_variant_type_dup_string(type);
+    find(at, "%s: the value is of type %s, and the key of type %s", path, g_variant_get_type_string(value), text);
+    g_free(text);
+}

@@ -1,0 +1,67 @@
+"""Small files, and all that `dconfdb lint` says of them."""
+
+DESK = '[org/example/desk]\n'
+NO_KEY = 'no schema has the key '
+NEAR = '; the nearest is /org/example/desk/'
+
+
+def desk(lines, *found):
+    """Lines of a keyfile below its group, which is line 1, and what is said of each."""
+    return {'k': DESK + lines}, [(f'k:{line}', text) for line, text in found]
+
+
+# Files by name, and what is said, by place. The names are in the order of a command line, and in another one where that matters.
+CASES = {
+    'all is right': desk("name='x'\non=true\nscale=1.5\nsize='large'\nsides=['left', 'right']\nvolume=10\norder=@as []\n"),
+    'two schemas have a path': desk('wide=true\non=false\n'),
+    'a key of two types': desk('volume=uint32 11\n'),
+    'neither of two types': desk("volume='x'\n", (2, '/org/example/desk/volume: the value is of type s, and the key of type i')),
+    'another name of a choice': desk("colour='gray'\n"),
+    'comments and blanks': ({'k': '# x\n\n  # y\n \t[org/example/desk]\r\n \ton\t=\t true \t\r\n'}, []),
+    'comments alone': ({'k': '# x\n\n'}, []),
+    'nothing': ({'k': ''}, []),
+    'no line feed at the end': desk('onn=true', (2, f'{NO_KEY}/org/example/desk/onn{NEAR}on')),
+    'a name with a slip': desk('naem=1\n', (2, f'{NO_KEY}/org/example/desk/naem{NEAR}name')),
+    'a name that nothing is near to': desk('quite-otherwise=1\n', (2, f'{NO_KEY}/org/example/desk/quite-otherwise')),
+    'a key of another group': ({'k': "[org/example]\nname='x'\n"}, [('k:2', f'{NO_KEY}/org/example/name{NEAR}name')]),
+    'a group with a slip': ({'k': '[org/exampel/desk]\non=true\n'}, [('k:2', f'{NO_KEY}/org/exampel/desk/on{NEAR}on')]),
+    'two slips': ({'k': '[org/exampel/desk]\nvolum=1\n'}, [('k:2', f'{NO_KEY}/org/exampel/desk/volum{NEAR}volume')]),
+    'another type': desk("on='true'\nname=uint32 5\nscale=1\norder='x'\n", (2, '/org/example/desk/on: the value is of type s, and the key of type b'),
+                         (3, '/org/example/desk/name: the value is of type u, and the key of type s'),
+                         (4, '/org/example/desk/scale: the value is of type i, and the key of type d'),
+                         (5, '/org/example/desk/order: the value is of type s, and the key of type as')),
+    'an enumeration': desk("size='middle'\n", (2, "/org/example/desk/size: 'middle' is not one of ['small', 'large']")),
+    'a choice': desk("colour='blue'\n", (2, "/org/example/desk/colour: 'blue' is not one of ['grey', 'red']")),
+    'flags': desk("sides=['left', 'top']\n", (2, "/org/example/desk/sides: ['left', 'top'] is not made of the flags ['left', 'right']")),
+    'a range': desk('volume=11\nvolume=-1\n', (2, '/org/example/desk/volume: 11 is not in the range (0, 10)'),
+                    (3, '/org/example/desk/volume: -1 is not in the range (0, 10)'), (3, '/org/example/desk/volume is set already, at k:2')),
+    'a text that is no value': desk('name=x y\norder=[]\n', (2, '/org/example/desk/name: the text is no value: 0:expected value'),
+                                    (3, '/org/example/desk/order: the text is no value: 0-2:unable to infer type')),
+    'what only a relocatable schema has': ({'k': "[org/example/lamps/1]\nlabel='x'\nwatts='x'\n"}, []),
+    'a relocatable one has no such key': ({'k': '[org/example/lamps/1]\nwats=1\n'}, [('k:2', f'{NO_KEY}/org/example/lamps/1/wats')]),
+    'a slip, though a relocatable one has the key': (
+        {'k': "[org/example/desk/drawer/left]\nlabel='x'\n"},
+        [('k:2', f'{NO_KEY}/org/example/desk/drawer/left/label{NEAR}drawers/left/label')]),
+    'a path of a schema, where another is relocatable': desk('watts=uint32 1\n', (2, f'{NO_KEY}/org/example/desk/watts')),
+    'twice in a file': desk('on=true\non=false\n', (3, '/org/example/desk/on is set already, at k:2')),
+    'in two files, in the order of their names': ({'b': DESK + 'on=true\n', 'a': DESK + '\non=true\n'},
+                                                  [('b:2', '/org/example/desk/on is set already, at a:3')]),
+    'in two folders': ({'b/k': DESK + 'on=true\n', 'a/k': DESK + 'on=true\n', 'k': DESK + 'on=true\n'}, []),
+    'lines that are none': ({'k': 'on=true\n[a//b]\nx=1\n[org/example/desk]\non\n=1\na/b=1\n[org/example/desk\n'}, [
+        ('k:1', 'NoGroup: the key comes before the first group'), ('k:2', 'BadGroup: the line names no group; its keys are left out here'),
+        ('k:5', "BadLine: the line is no 'key=value'"), ('k:6', 'BadKeyName: the key is empty, or has a slash, a bracket or a control character'),
+        ('k:7', 'BadKeyName: the key is empty, or has a slash, a bracket or a control character'),
+        ('k:8', 'BadGroup: the line names no group; its keys are left out here')]),
+    'bytes that are no text': ({'k': b'# \xff\n' + DESK.encode() + b"name='\xe9'\non=true\n"},
+                               [('k:1', 'NotUtf8: the line is not UTF-8'), ('k:3', 'NotUtf8: the line is not UTF-8')]),
+    'a zero byte in a line': ({'k': DESK.encode() + b"name='\0'\n"}, [('k:2', "BadLine: the line is no 'key=value'")]),
+    'a path that is too long': ({'k': '[' + 'a' * 65530 + ']\nbcdef=1\n'}, [('k:2', 'TooLong: the path of the key has more than 65,535 bytes')]),
+    'locks': ({'l': '# x\n/org/example/desk/on\n\n/org/example/\n/\n/org/example/lamps/1/watts\n/org/example/lamps/\n'}, []),
+    'locks of nothing': ({'l': '/org/example/desk/onn\n/org/example/desc/\n/org/example/desk/on \norg/example/desk/on\n/a//b\n'}, [
+        ('l:1', f'no schema has the locked key /org/example/desk/onn{NEAR}on'),
+        ('l:2', f'no schema has a key below the locked directory /org/example/desc/{NEAR}'),
+        ('l:3', f'no schema has the locked key /org/example/desk/on {NEAR}on'),
+        ('l:4', "the line locks nothing: it doesn't start with '/'"), ('l:5', "LockNotKey: the line starts with '/' and is not a path")]),
+    'neither': ({'x': 'hello\n'}, [('x:0', 'it is neither a keyfile, nor a file of locks, nor a database')]),
+    'a control character in a name of a file': ({'k\n1': DESK + 'onn=1\n'}, [('k\\0121:2', f'{NO_KEY}/org/example/desk/onn{NEAR}on')]),
+}
