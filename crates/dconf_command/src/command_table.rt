@@ -61,6 +61,10 @@ macro_rules! change_help {
 /// What comes after the long help of the program.
 pub(crate) const PROGRAM: &str = "It works in the current directory.
 
+Installed beside it:
+  watch       Print what changes in a store, until it is interrupted
+  lint        Compare keyfiles, locks and databases with the installed schemas
+
 Files:
   profile     lists the databases, one per line: user-db:NAME, system-db:NAME
               or file-db:PATH; the first with a value for a key wins, unless a
