@@ -1,6 +1,7 @@
 # Thin targets over ./build, ./install and capi/build, for those who type `make`.
 PREFIX = /usr/local
 LIBDIR = $(PREFIX)/lib
+LIBEXEC = $(PREFIX)/libexec/dconfdb
 
 all:
 	./build
@@ -9,10 +10,10 @@ check:
 	.ci/run
 
 install:
-	DESTDIR='$(DESTDIR)' ./install '$(PREFIX)'
+	DESTDIR='$(DESTDIR)' LIBEXEC='$(LIBEXEC)' ./install '$(PREFIX)'
 
 uninstall:
-	DESTDIR='$(DESTDIR)' ./install --uninstall '$(PREFIX)'
+	DESTDIR='$(DESTDIR)' LIBEXEC='$(LIBEXEC)' ./install --uninstall '$(PREFIX)'
 
 install-library:
 	DESTDIR='$(DESTDIR)' LIBDIR='$(LIBDIR)' ./install --library '$(PREFIX)'
