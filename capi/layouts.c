@@ -390,7 +390,7 @@ static void tries_change(size_t value)
 /* ---- the machines */
 
 /* The one place from `from` on where a struct and another one have these bytes. */
-static size_t flag_of(const Written *one, const Written *other, size_t from, uint8_t in_one, uint8_t in_other)
+static size_t bit_of(const Written *one, const Written *other, size_t from, uint8_t in_one, uint8_t in_other)
 {
     size_t found = ROOM, count = 0;
     for (size_t at = from; at < ROOM; at++) {
@@ -416,9 +416,9 @@ static void finds_refresh(void)
     finds_word(&look, "at", 6);
     finds_word(&look, "count", 9);
     size_t from = look.end;
-    takes(&look, "has_old", flag_of(&look, &plain, from, 0, 1), FLAG);
-    takes(&look, "in_turn", flag_of(&in_turn, &plain, from, 1, 0), FLAG);
-    takes(&look, "is_newer", flag_of(&look, &plain, from, 1, 0), FLAG);
+    takes(&look, "has_old", bit_of(&look, &plain, from, 0, 1), FLAG);
+    takes(&look, "in_turn", bit_of(&in_turn, &plain, from, 1, 0), FLAG);
+    takes(&look, "is_newer", bit_of(&look, &plain, from, 1, 0), FLAG);
     ends(&look);
     dconfdb_refresh_next(look.bytes, step.bytes);
     finds_number(&step, "kind", 1);
@@ -488,7 +488,7 @@ static void finds_queue(void)
     dconfdb_queue_answered(marked.bytes, edits, EDITS, 1, 0);
     finds_number(&queue, "stage", 1);
     finds_word(&queue, "at", 5);
-    takes(&queue, "has_marked", flag_of(&queue, &marked, queue.end, 0, 1), FLAG);
+    takes(&queue, "has_marked", bit_of(&queue, &marked, queue.end, 0, 1), FLAG);
     ends(&queue);
 }
 
