@@ -734,6 +734,23 @@ static Part *part_of_read(Look *look, size_t at, DconfdbError *error)
     return NULL;
 }
 
+/* The newer snapshot is made with the first part that is another one: the parts before that were kept. */
+static bool put_newer(Look *look, size_t at, Part *part, DconfdbError *error)
+{
+    const DconfdbStore *store = look->store;
+    if (!look->newer) {
+        look->newer = snapshot_new(store->count, store->user_file != NULL);
+        for (size_t i = 0; look->newer && i < at; i++)
+            snapshot_put(look->newer, i, part_ref(store->now->parts[i]));
+    }
+    if (look->newer) {
+        snapshot_put(look->newer, at, part);
+        return true;
+    }
+    part_unref(part);
+    return refuse_memory(error);
+}
+
 /* Carries out a step, and gives its answer. */
 static bool look_at(Look *look, const DconfdbNext *step, DconfdbError *error)
 {
@@ -747,37 +764,41 @@ static bool look_at(Look *look, const DconfdbNext *step, DconfdbError *error)
         return is_as_read(look, old);
     case DCONFDB_LOOK_KEEP:
         file_release(&look->bytes);
-        snapshot_put(look->newer, step->number, part_ref(old));
+        if (look->newer)
+            snapshot_put(look->newer, step->number, part_ref(old));
         return true;
     default:
         part = part_of_read(look, step->number, error);
-        if (part)
-            snapshot_put(look->newer, step->number, part);
-        return part != NULL;
+        return part && put_newer(look, step->number, part, error);
     }
 }
 
 /* What the files hold now, by the proved steps. Gives how it ended; where that is NEWER `newer` is the snapshot. */
 static uint32_t look(const DconfdbStore *store, int turn, DconfdbSnapshot **newer, DconfdbError *error)
 {
-    Look looking = {.store = store, .newer = snapshot_new(store->count, store->user_file != NULL), .turn = turn};
+    Look looking;
     DconfdbRefresh refresh = {.has_old = false};
     DconfdbNext step = {0, 0};
-    if (!looking.newer) {
-        refuse_memory(error);
-        return DCONFDB_LOOK_FAILED;
-    }
+    /* A fault has room for a long text: it is written where there is one. */
+    looking.store = store;
+    looking.newer = NULL;
+    looking.turn = turn;
+    looking.bytes = (FileBytes){NULL, 0, false};
     dconfdb_refresh_begin(&refresh, store->count, store->now != NULL, turn != NO_FOLDER);
     dconfdb_refresh_next(&refresh, &step);
     while (step.kind < DCONFDB_LOOK_FAILED) {
         dconfdb_refresh_answered(&refresh, look_at(&looking, &step, error));
         dconfdb_refresh_next(&refresh, &step);
     }
-    if (step.kind == DCONFDB_LOOK_NEWER)
-        *newer = looking.newer;
-    else
+    if (step.kind != DCONFDB_LOOK_NEWER) {
         dconfdb_snapshot_unref(looking.newer);
-    return step.kind;
+        return step.kind;
+    }
+    /* A store may have no files. */
+    *newer = looking.newer ? looking.newer : snapshot_new(0, false);
+    if (!*newer)
+        refuse_memory(error);
+    return *newer ? DCONFDB_LOOK_NEWER : DCONFDB_LOOK_FAILED;
 }
 
 /* A store of which the folder is known alone. */
