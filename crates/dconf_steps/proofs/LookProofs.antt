@@ -2,14 +2,13 @@
 use Rattle.std.proofs.Common.{ℕ, zero, suc, ◌+◌, ◌*◌, ◌-◌, ◌<◌, ◌≤◌, ◌≡◌, ◌⊎◌, Bool, true, false, not, ◌&&◌, List, [], ◌∷◌, length, Option, Some, None, refl, sym, ◌∙◌, ap, subst, arith, ⊎_elim, inl, inr}
 use Rattle.std.specs.Prelude.{if◌then◌else◌, ◌==◌, IsTrue}
 use Rattle.dconf_steps.specs.declared.refresh.Refresh.{Refresh}
-use Rattle.dconf_steps.specs.declared.refresh.LookStage.{LookStage}
 use Rattle.dconf_steps.specs.declared.refresh.LookStage.TheVariants.{Asking, Reading}
 use Rattle.dconf_steps.specs.declared.refresh.LookEnd.{LookEnd}
 use Rattle.dconf_steps.specs.declared.refresh.LookEnd.TheVariants.{Failed, Same, Newer}
 use Rattle.dconf_steps.specs.declared.refresh.LookStep.{LookStep}
 use Rattle.dconf_steps.specs.declared.refresh.LookStep.TheVariants.{Stat, Read, Compare, Keep, Open, Done}
 use Rattle.dconf_steps.specs.Looks.{look_step_at, look_step, IsLookDone, first_look, after_reading, end_of, AreNext, LookGoes, newer_after, IsRefreshBegun, IsLookAnswered}
-use Rattle.dconf_steps.specs.RefreshLaws.{Looked, RanLook, HasLooked, SaysSame, IsKeptWell, AreKeptWell, had_by, had_of, numbers_from, IsOpening, HasOpened, IsRefusal, HasRefused, Files, StatTells, IsTrueOf, AreTrueOf, IsPartOf, IsGoodLook, WhateverIsSeen}
+use Rattle.dconf_steps.specs.RefreshLaws.{Looked, RanLook, HasLooked, SaysSame, IsKeptWell, AreKeptWell, had_by, had_of, numbers_from, IsOpening, HasOpened, IsRefusal, HasRefused, Files, StatTells, IsTrueOf, AreTrueOf, WhateverIsSeen}
 
 lt_or_le : (a b : ℕ) → (a < b) ⊎ (b ≤ a)
 lt_or_le a zero = inr (omega arith)

@@ -1,5 +1,5 @@
 -- What holds of the changes that wait after any answers.
-use Rattle.std.proofs.Common.{ℕ, zero, suc, ◌+◌, ◌*◌, ◌-◌, ◌<◌, ◌≤◌, ◌≡◌, ◌⊎◌, Bool, true, false, not, ◌&&◌, ◌||◌, cond, List, [], ◌∷◌, ◌++◌, length, map, Option, Some, None, refl, sym, ◌∙◌, ap, subst, arith, ⊎_elim, inl, inr, ltb}
+use Rattle.std.proofs.Common.{ℕ, suc, ◌+◌, ◌*◌, ◌-◌, ◌<◌, ◌≤◌, ◌≡◌, ◌⊎◌, Bool, true, false, ◌&&◌, ◌||◌, cond, List, [], ◌∷◌, ◌++◌, length, map, Some, None, refl, sym, ◌∙◌, ap, subst, arith, ⊎_elim, inl, inr, ltb}
 use Rattle.std.proofs.lemmas.Bool.{ltb-true, ltb-false}
 use Rattle.dconf_steps.specs.declared.queue.QueuedEdit.{QueuedEdit}
 use Rattle.dconf_steps.specs.declared.queue.Queue.{Queue}
@@ -11,9 +11,9 @@ use Rattle.dconf_steps.specs.declared.queue.QueueStep.{QueueStep}
 use Rattle.dconf_steps.specs.declared.queue.QueueStep.TheVariants.{Take, Pass, Write, Ask, Done}
 use Rattle.dconf_steps.specs.declared.queue.QueueAnswer.{QueueAnswer}
 use Rattle.dconf_steps.specs.declared.queue.QueueAnswer.TheVariants.{Yes, Locked, Fault, Later}
-use Rattle.dconf_steps.specs.Queues.{goes, is_locked, unmade, refused_for, marked, taking_step, asking_step, queue_step_at, queue_step, at_first, taking, after_key, after_fault, after_write, queue_after_at, IsQueueAnswered}
-use Rattle.dconf_steps.specs.QueueLaws.{Asked, IsQueueDone, RanQueue, is_refused, is_left_out, IsOwnFault, HasOwnFault, IsLockedReset, HasLockedReset, with_edit, going_first, going, written_of, written_by, unmarked, rounds, IsHeld, HasHeld, asked_of, IsGoodQueue, WhateverIsWritten}
-use Rattle.dconf_steps.proofs.EditLaws.{true_or_false, Going, going_is, unmade_fewer, refused_for_fewer, unmade_length, refused_for_length, own_by, reset_by, marked_asked}
+use Rattle.dconf_steps.specs.Queues.{goes, is_locked, unmade, refused_for, marked, taking_step, asking_step, queue_step_at, queue_step, at_first, taking, after_key, after_write, queue_after_at, IsQueueAnswered}
+use Rattle.dconf_steps.specs.QueueLaws.{Asked, IsQueueDone, RanQueue, is_refused, is_left_out, IsOwnFault, HasOwnFault, IsLockedReset, HasLockedReset, with_edit, going_first, going, written_of, written_by, unmarked, rounds, IsHeld, HasHeld, asked_of, WhateverIsWritten}
+use Rattle.dconf_steps.proofs.EditLaws.{true_or_false, going_is, unmade_fewer, refused_for_fewer, unmade_length, refused_for_length, own_by, reset_by, marked_asked}
 
 -- ---- what is refused, and what is left out
 

@@ -1,13 +1,13 @@
 -- What holds of a wait for a lock after any answers.
-use Rattle.std.proofs.Common.{ℕ, ◌+◌, ◌*◌, ◌<◌, ◌≤◌, ◌≡◌, ◌⊎◌, List, [], ◌∷◌, length, refl, sym, ◌∙◌, ap, subst, arith, ⊎_elim, inl, inr}
+use Rattle.std.proofs.Common.{◌+◌, ◌<◌, ◌≤◌, ◌≡◌, ◌⊎◌, List, [], ◌∷◌, length, refl, sym, ◌∙◌, ap, subst, arith, ⊎_elim, inl, inr}
 use Rattle.dconf_steps.specs.declared.wait.LockWait.{LockWait}
 use Rattle.dconf_steps.specs.declared.wait.WaitEnd.TheVariants.{Had, Busy, Stopped}
 use Rattle.dconf_steps.specs.declared.wait.WaitStep.{WaitStep}
 use Rattle.dconf_steps.specs.declared.wait.WaitStep.TheVariants.{Try, Pause, Done}
 use Rattle.dconf_steps.specs.declared.wait.WaitAnswer.{WaitAnswer}
 use Rattle.dconf_steps.specs.declared.wait.WaitAnswer.TheVariants.{Got, Taken, Moved, Failed}
-use Rattle.dconf_steps.specs.Waits.{wait_step, wait_left, IsWaitDone, WaitGoes, IsPast, tries_of, IsWaitBegun, IsWaitAnswered}
-use Rattle.dconf_steps.specs.WaitLaws.{Waited, RanWait, first_waited, AreWaitsInOrder, tries_in, HasGot, HasPast, IsGoodWait, HoweverLongItWaits}
+use Rattle.dconf_steps.specs.Waits.{wait_step, wait_left, IsWaitDone, WaitGoes, IsPast, tries_of, IsWaitAnswered}
+use Rattle.dconf_steps.specs.WaitLaws.{Waited, RanWait, first_waited, AreWaitsInOrder, tries_in, HasGot, HasPast, HoweverLongItWaits}
 
 first_is : (taken : List Waited) (w u : LockWait) → RanWait taken w u → first_waited taken u ≡ wait_step w
 first_is [] w u h = ap wait_step h

@@ -1,14 +1,14 @@
 -- Wrong machines: of what each would do it is proved that the laws alone exclude it.
-use Rattle.std.proofs.Common.{ℕ, ◌≡◌, ◌⊎◌, ◌≤◌, Bool, true, false, List, [], ◌∷◌, length, Option, Some, None, refl, ap, arith, ⊎_elim, inl, inr}
+use Rattle.std.proofs.Common.{ℕ, ◌≡◌, ◌≤◌, Bool, true, false, List, [], ◌∷◌, length, Option, Some, None, refl, ap, arith, ⊎_elim, inl}
 use Rattle.dconf_steps.specs.declared.queue.QueuedEdit.{QueuedEdit}
 use Rattle.dconf_steps.specs.declared.queue.Queue.{Queue}
 use Rattle.dconf_steps.specs.declared.queue.QueueEnd.TheVariants.{Written}
 use Rattle.dconf_steps.specs.declared.queue.QueueStep.TheVariants as queue
 use Rattle.dconf_steps.specs.declared.queue.QueueStep.{QueueStep}
-use Rattle.dconf_steps.specs.declared.queue.QueueAnswer.TheVariants.{Yes, Locked, Fault, Later}
+use Rattle.dconf_steps.specs.declared.queue.QueueAnswer.TheVariants.{Yes, Fault, Later}
 use Rattle.dconf_steps.specs.declared.queue.QueueAnswer.{QueueAnswer}
 use Rattle.dconf_steps.specs.declared.refresh.Refresh.{Refresh}
-use Rattle.dconf_steps.specs.declared.refresh.LookEnd.TheVariants.{Same, Newer}
+use Rattle.dconf_steps.specs.declared.refresh.LookEnd.TheVariants.{Newer}
 use Rattle.dconf_steps.specs.declared.refresh.LookStep.TheVariants.{Stat, Read, Compare, Keep, Open, Done}
 use Rattle.dconf_steps.specs.declared.refresh.LookStep.{LookStep}
 use Rattle.dconf_steps.specs.declared.wait.LockWait.{LockWait}
@@ -16,11 +16,11 @@ use Rattle.dconf_steps.specs.declared.wait.WaitEnd.TheVariants.{Had, Busy}
 use Rattle.dconf_steps.specs.declared.wait.WaitStep.TheVariants as wait
 use Rattle.dconf_steps.specs.declared.wait.WaitAnswer.TheVariants.{Taken, Got}
 use Rattle.dconf_steps.specs.Queues.{queue_step}
-use Rattle.dconf_steps.specs.QueueLaws.{Asked, HasOwnFault, IsGoodQueue}
+use Rattle.dconf_steps.specs.QueueLaws.{Asked, IsGoodQueue}
 use Rattle.dconf_steps.specs.Looks.{look_step}
 use Rattle.dconf_steps.specs.RefreshLaws.{Looked, IsGoodLook}
 use Rattle.dconf_steps.specs.Waits.{wait_step}
-use Rattle.dconf_steps.specs.WaitLaws.{Waited, HasPast, IsGoodWait}
+use Rattle.dconf_steps.specs.WaitLaws.{IsGoodWait}
 
 abbrev numbers_differ : ℕ → ℕ → Type 0
 numbers_differ a b = a ≡ b → ⊥

@@ -1,5 +1,5 @@
 -- The steps of a look at the files of a store: what may follow which.
-use Rattle.std.specs.Prelude.{ℕ, ◌≡◌, ◌⊎◌, ◌+◌, ◌*◌, ◌-◌, ◌≤◌, ◌<◌, Bool, true, false, not, ◌&&◌, if◌then◌else◌, ◌==◌, IsTrue}
+use Rattle.std.specs.Prelude.{ℕ, ◌≡◌, ◌+◌, ◌≤◌, ◌<◌, Bool, true, false, not, ◌&&◌, if◌then◌else◌, ◌==◌}
 use Rattle.dconf_steps.specs.declared.refresh.Refresh.{Refresh}
 use Rattle.dconf_steps.specs.declared.refresh.LookStage.{LookStage}
 use Rattle.dconf_steps.specs.declared.refresh.LookStage.TheVariants.{Asking, Reading, Comparing, Keeping, Opening, Over}

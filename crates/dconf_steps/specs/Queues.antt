@@ -1,10 +1,9 @@
 -- The changes that wait: which edits go, and what becomes of them by each answer. It is what the proof keeps; what it promises is in QueueLaws.
-use Rattle.std.specs.Prelude.{ℕ, ◌≡◌, ◌+◌, ◌<◌, Bool, true, false, not, ◌&&◌, ◌||◌, if◌then◌else◌, List, length, Option, Some, None, slice_get, slice_set, nat_lt}
+use Rattle.std.specs.Prelude.{ℕ, ◌≡◌, ◌+◌, Bool, true, false, not, ◌&&◌, ◌||◌, if◌then◌else◌, List, length, Option, Some, None, slice_get, slice_set, nat_lt}
 use Rattle.dconf_steps.specs.declared.queue.QueuedEdit.{QueuedEdit}
 use Rattle.dconf_steps.specs.declared.queue.Queue.{Queue}
 use Rattle.dconf_steps.specs.declared.queue.QueueStage.{QueueStage}
 use Rattle.dconf_steps.specs.declared.queue.QueueStage.TheVariants.{Taking, Asking, Over}
-use Rattle.dconf_steps.specs.declared.queue.QueueEnd.{QueueEnd}
 use Rattle.dconf_steps.specs.declared.queue.QueueEnd.TheVariants.{Written, Waiting}
 use Rattle.dconf_steps.specs.declared.queue.QueueStep.{QueueStep}
 use Rattle.dconf_steps.specs.declared.queue.QueueStep.TheVariants.{Take, Pass, Write, Ask, Done}

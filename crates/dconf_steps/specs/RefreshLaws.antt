@@ -1,5 +1,5 @@
 -- A look at the files of a store, whatever is answered; and what the newer snapshot holds where the answers are true.
-use Rattle.std.specs.Prelude.{ℕ, zero, suc, ◌≡◌, ◌⊎◌, ◌+◌, ◌*◌, ◌≤◌, ◌<◌, List, [], ◌∷◌, length, Option, Some, None, Bool, true, false, IsTrue}
+use Rattle.std.specs.Prelude.{ℕ, zero, suc, ◌≡◌, ◌⊎◌, ◌*◌, ◌≤◌, ◌<◌, List, [], ◌∷◌, length, Option, Some, None, Bool, true, false, IsTrue}
 use Rattle.dconf_steps.specs.declared.refresh.Refresh.{Refresh}
 use Rattle.dconf_steps.specs.declared.refresh.LookEnd.TheVariants.{Failed, Same, Newer}
 use Rattle.dconf_steps.specs.declared.refresh.LookStep.{LookStep}

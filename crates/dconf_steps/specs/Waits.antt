@@ -1,9 +1,8 @@
 -- The steps of a wait for a lock: what may follow which, and when it gives up.
-use Rattle.std.specs.Prelude.{ℕ, ◌≡◌, ◌≢◌, ◌⊎◌, ◌+◌, ◌*◌, ◌≤◌, ◌<◌}
+use Rattle.std.specs.Prelude.{ℕ, ◌≡◌, ◌⊎◌, ◌+◌, ◌*◌, ◌≤◌, ◌<◌}
 use Rattle.dconf_steps.specs.declared.wait.LockWait.{LockWait}
 use Rattle.dconf_steps.specs.declared.wait.WaitStage.{WaitStage}
 use Rattle.dconf_steps.specs.declared.wait.WaitStage.TheVariants.{Trying, Pausing, Over}
-use Rattle.dconf_steps.specs.declared.wait.WaitEnd.{WaitEnd}
 use Rattle.dconf_steps.specs.declared.wait.WaitEnd.TheVariants.{Had, Busy, Stopped}
 use Rattle.dconf_steps.specs.declared.wait.WaitStep.{WaitStep}
 use Rattle.dconf_steps.specs.declared.wait.WaitStep.TheVariants.{Try, Pause, Done}
