@@ -5,6 +5,7 @@
 #define G_SETTINGS_ENABLE_BACKEND
 #include "dconfdb.h"
 #include "lock.h"
+#include "watching.h"
 
 #include <gio/gio.h>
 #include <gio/gsettingsbackend.h>
@@ -94,9 +95,6 @@ Written changes_write(DconfdbStore *store, const Turn *turn, GQueue *changes, GQ
                       DconfdbError *error);
 
 /* ---- the backend */
-
-/* What the worker watches (gsettings_watch.c). */
-typedef struct Watch Watch;
 
 /* How it comes to its turn (gsettings_turn.c). */
 typedef struct Wait Wait;

@@ -1,0 +1,334 @@
+/* DConfChangeset: changes of keys, and resets of directories. */
+#include "libdconf.h"
+
+#include <string.h>
+
+struct _DConfChangeset {
+    gatomicrefcount references;
+    GTree *rows; /* of paths and values, NULL: a reset */
+    guint reset_directories;
+    gboolean is_database; /* it has values alone */
+    gboolean is_sealed;
+
+    /* Once it is sealed: what all paths begin with, what is behind that, and their values; NULL if it is empty. */
+    gchar *prefix;
+    const gchar **paths;
+    GVariant **values;
+};
+
+static int by_bytes(const void *one, const void *other, void *data)
+{
+    (void)data;
+    return strcmp(one, other);
+}
+
+static void unref_value(gpointer value)
+{
+    if (value)
+        g_variant_unref(value);
+}
+
+static bool is_directory(const gchar *path)
+{
+    return g_str_has_suffix(path, "/");
+}
+
+/* ---- its life */
+
+static DConfChangeset *new_of(gboolean is_database)
+{
+    DConfChangeset *self = g_new0(DConfChangeset, 1);
+    g_atomic_ref_count_init(&self->references);
+    self->rows = g_tree_new_full(by_bytes, NULL, g_free, unref_value);
+    self->is_database = is_database;
+    return self;
+}
+
+DConfChangeset *dconf_changeset_new(void)
+{
+    return new_of(FALSE);
+}
+
+DConfChangeset *dconf_changeset_new_database(DConfChangeset *copy_of)
+{
+    GTreeNode *at = NULL;
+    Row row;
+    g_return_val_if_fail (copy_of == NULL || copy_of->is_database, NULL);
+    DConfChangeset *self = new_of(TRUE);
+    while (copy_of && changeset_next(copy_of, &at, &row))
+        changeset_put(self, row.path, row.value);
+    return self;
+}
+
+DConfChangeset *dconf_changeset_new_write(const gchar *path, GVariant *value)
+{
+    DConfChangeset *self = new_of(FALSE);
+    dconf_changeset_set(self, path, value);
+    return self;
+}
+
+DConfChangeset *dconf_changeset_ref(DConfChangeset *changeset)
+{
+    g_return_val_if_fail (changeset != NULL, NULL);
+    g_atomic_ref_count_inc(&changeset->references);
+    return changeset;
+}
+
+void dconf_changeset_unref(DConfChangeset *changeset)
+{
+    g_return_if_fail (changeset != NULL);
+    if (!g_atomic_ref_count_dec(&changeset->references))
+        return;
+    g_tree_unref(changeset->rows);
+    g_free(changeset->prefix);
+    g_free(changeset->paths);
+    g_free(changeset->values);
+    g_free(changeset);
+}
+
+/* ---- its rows */
+
+gboolean changeset_next(DConfChangeset *self, GTreeNode **at, Row *row)
+{
+    *at = *at ? g_tree_node_next(*at) : g_tree_node_first(self->rows);
+    if (*at)
+        *row = (Row){g_tree_node_key(*at), g_tree_node_value(*at)};
+    return *at != NULL;
+}
+
+static gboolean has_row(DConfChangeset *self, const gchar *path)
+{
+    return g_tree_lookup_extended(self->rows, path, NULL, NULL);
+}
+
+void changeset_put(DConfChangeset *self, const gchar *path, GVariant *value)
+{
+    self->reset_directories += is_directory(path) && !has_row(self, path);
+    g_tree_replace(self->rows, g_strdup(path), value ? g_variant_ref_sink(value) : NULL);
+}
+
+/* The first row that isn't before the path, if it is below the directory. */
+static const gchar *first_below(DConfChangeset *self, const gchar *directory)
+{
+    GTreeNode *node = g_tree_lower_bound(self->rows, directory);
+    const gchar *path = node ? g_tree_node_key(node) : NULL;
+    return path && g_str_has_prefix(path, directory) ? path : NULL;
+}
+
+/* Takes out what is set or reset below a directory, and its own reset. */
+static void clear_below(DConfChangeset *self, const gchar *directory)
+{
+    for (const gchar *path; (path = first_below(self, directory)) != NULL;) {
+        self->reset_directories -= is_directory(path);
+        g_tree_remove(self->rows, path);
+    }
+}
+
+void dconf_changeset_set(DConfChangeset *changeset, const gchar *path, GVariant *value)
+{
+    g_return_if_fail (changeset != NULL);
+    g_return_if_fail (!changeset->is_sealed);
+    g_return_if_fail (dconf_is_path (path, NULL));
+    if (is_directory(path)) {
+        g_return_if_fail (value == NULL);
+        clear_below(changeset, path);
+    }
+    if (value || !changeset->is_database)
+        changeset_put(changeset, path, value);
+    else
+        g_tree_remove(changeset->rows, path);
+}
+
+/* Whether the path's directory, or one above that, is reset. */
+static gboolean is_below_reset(DConfChangeset *self, const gchar *path)
+{
+    g_autofree gchar *directory = self->reset_directories > 0 ? g_strdup(path) : NULL;
+    for (gchar *slash; directory && (slash = strrchr(directory, '/')) != NULL; *slash = 0) {
+        slash[1] = 0;
+        if (has_row(self, directory))
+            return TRUE;
+    }
+    return FALSE;
+}
+
+gboolean dconf_changeset_get(DConfChangeset *changeset, const gchar *key, GVariant **value)
+{
+    gpointer found = NULL;
+    g_return_val_if_fail (changeset != NULL, FALSE);
+    g_return_val_if_fail (key != NULL, FALSE);
+    if (!g_tree_lookup_extended(changeset->rows, key, NULL, &found) && !is_below_reset(changeset, key))
+        return FALSE;
+    if (value)
+        *value = found ? g_variant_ref(found) : NULL;
+    return TRUE;
+}
+
+gboolean dconf_changeset_is_empty(DConfChangeset *changeset)
+{
+    g_return_val_if_fail (changeset != NULL, TRUE);
+    return g_tree_nnodes(changeset->rows) == 0;
+}
+
+gboolean dconf_changeset_all(DConfChangeset *changeset, DConfChangesetPredicate predicate, gpointer user_data)
+{
+    GTreeNode *at = NULL;
+    Row row;
+    g_return_val_if_fail (changeset != NULL, TRUE);
+    while (changeset_next(changeset, &at, &row)) {
+        if (!predicate(row.path, row.value, user_data))
+            return FALSE;
+    }
+    return TRUE;
+}
+
+/* The same paths, whatever their values. */
+gboolean dconf_changeset_is_similar_to(DConfChangeset *changeset, DConfChangeset *other)
+{
+    GTreeNode *at = NULL, *other_at = NULL;
+    Row row, other_row;
+    g_return_val_if_fail (changeset != NULL && other != NULL, FALSE);
+    if (g_tree_nnodes(changeset->rows) != g_tree_nnodes(other->rows))
+        return FALSE;
+    while (changeset_next(changeset, &at, &row) && changeset_next(other, &other_at, &other_row)) {
+        if (strcmp(row.path, other_row.path) != 0)
+            return FALSE;
+    }
+    return TRUE;
+}
+
+/* ---- sealed, and described */
+
+/* How many bytes both paths begin with, up to a slash. Those between them begin with these, too. */
+static size_t common(const gchar *first, const gchar *last)
+{
+    size_t whole = 0;
+    for (size_t at = 0; first[at] && first[at] == last[at]; at++)
+        whole = first[at] == '/' ? at + 1 : whole;
+    return whole;
+}
+
+void dconf_changeset_seal(DConfChangeset *changeset)
+{
+    g_return_if_fail (changeset != NULL);
+    size_t count = (size_t)g_tree_nnodes(changeset->rows), done = 0;
+    GTreeNode *at = NULL;
+    Row row;
+    if (changeset->is_sealed)
+        return;
+    changeset->is_sealed = TRUE;
+    if (count == 0)
+        return;
+    changeset->paths = g_new0(const gchar *, count + 1);
+    changeset->values = g_new0(GVariant *, count + 1);
+    for (; changeset_next(changeset, &at, &row); done++) {
+        changeset->paths[done] = row.path;
+        changeset->values[done] = row.value;
+    }
+    const gchar *first = changeset->paths[0], *last = changeset->paths[count - 1];
+    size_t prefix = count == 1 ? strlen(first) : common(first, last);
+    changeset->prefix = g_strndup(first, prefix);
+    for (size_t i = 0; i < count; i++)
+        changeset->paths[i] += prefix;
+}
+
+guint dconf_changeset_describe(DConfChangeset *changeset, const gchar **prefix, const gchar *const **paths, GVariant *const **values)
+{
+    g_return_val_if_fail (changeset != NULL, 0);
+    dconf_changeset_seal(changeset);
+    if (prefix)
+        *prefix = changeset->prefix;
+    if (paths)
+        *paths = changeset->paths;
+    if (values)
+        *values = changeset->values;
+    return (guint)g_tree_nnodes(changeset->rows);
+}
+
+GVariant *dconf_changeset_serialise(DConfChangeset *changeset)
+{
+    GVariantBuilder builder;
+    GTreeNode *at = NULL;
+    Row row;
+    g_return_val_if_fail (changeset != NULL, NULL);
+    g_variant_builder_init(&builder, G_VARIANT_TYPE("a{smv}"));
+    while (changeset_next(changeset, &at, &row))
+        g_variant_builder_add(&builder, "{smv}", row.path, row.value);
+    return g_variant_builder_end(&builder);
+}
+
+DConfChangeset *dconf_changeset_deserialise(GVariant *serialised)
+{
+    GVariantIter iter;
+    const gchar *path;
+    GVariant *value;
+    g_return_val_if_fail (serialised != NULL && g_variant_is_of_type(serialised, G_VARIANT_TYPE("a{smv}")), NULL);
+    DConfChangeset *self = new_of(FALSE);
+    g_variant_iter_init(&iter, serialised);
+    while (g_variant_iter_loop(&iter, "{&smv}", &path, &value)) {
+        if (value ? dconf_is_key(path, NULL) : dconf_is_path(path, NULL))
+            changeset_put(self, path, value);
+    }
+    return self;
+}
+
+/* ---- of two */
+
+void dconf_changeset_change(DConfChangeset *changeset, DConfChangeset *changes)
+{
+    GTreeNode *at = NULL;
+    Row row;
+    g_return_if_fail (changeset != NULL && changes != NULL);
+    g_return_if_fail (!changeset->is_sealed);
+    dconf_changeset_seal(changes);
+    while (changeset_next(changes, &at, &row))
+        dconf_changeset_set(changeset, row.path, row.value);
+}
+
+/* Whether the change makes a difference to the database. What is below a directory that `found` resets does. */
+static gboolean differs(DConfChangeset *base, DConfChangeset *found, const Row *row)
+{
+    if (is_directory(row->path))
+        return first_below(base, row->path) != NULL;
+    GVariant *had = is_below_reset(found, row->path) ? NULL : g_tree_lookup(base->rows, row->path);
+    if (!row->value)
+        return has_row(base, row->path);
+    return !had || !g_variant_equal(had, row->value);
+}
+
+static DConfChangeset *unless_empty(DConfChangeset *self)
+{
+    if (!dconf_changeset_is_empty(self))
+        return self;
+    dconf_changeset_unref(self);
+    return NULL;
+}
+
+DConfChangeset *dconf_changeset_filter_changes(DConfChangeset *base, DConfChangeset *changes)
+{
+    GTreeNode *at = NULL;
+    Row row;
+    g_return_val_if_fail (base != NULL && changes != NULL, NULL);
+    g_return_val_if_fail (base->is_database, NULL);
+    DConfChangeset *found = new_of(FALSE);
+    while (changeset_next(changes, &at, &row)) {
+        if (differs(base, found, &row))
+            changeset_put(found, row.path, row.value);
+    }
+    return unless_empty(found);
+}
+
+DConfChangeset *dconf_changeset_diff(DConfChangeset *from, DConfChangeset *to)
+{
+    GTreeNode *at = NULL;
+    Row row;
+    g_return_val_if_fail (from != NULL && to != NULL, NULL);
+    g_return_val_if_fail (from->is_database, NULL);
+    g_return_val_if_fail (to->is_database, NULL);
+    DConfChangeset *found = dconf_changeset_filter_changes(from, to);
+    found = found ? found : new_of(FALSE);
+    while (changeset_next(from, &at, &row)) {
+        if (!has_row(to, row.path))
+            changeset_put(found, row.path, NULL);
+    }
+    return unless_empty(found);
+}

@@ -1,0 +1,188 @@
+/* A client's store, and what is read of it. */
+#include "libdconf.h"
+
+#include <stdlib.h>
+#include <string.h>
+
+G_STATIC_ASSERT(G_BYTE_ORDER == G_LITTLE_ENDIAN);
+
+/* ---- the store */
+
+static void warn_once(Engine *self, const char *text)
+{
+    g_mutex_lock(&self->lock);
+    gboolean is_new = g_hash_table_add(self->warned, g_strdup(text));
+    g_mutex_unlock(&self->lock);
+    if (is_new)
+        g_warning("%s", text);
+}
+
+static void warn_of_faults(Engine *self, const DconfdbStore *store, const DconfdbSnapshot *now)
+{
+    DconfdbError error;
+    if (dconfdb_store_profile_fault(store, &error))
+        warn_once(self, error.text);
+    for (size_t i = 0; i < dconfdb_snapshot_databases(now); i++) {
+        if (dconfdb_snapshot_fault(now, i, &error))
+            warn_once(self, error.text);
+    }
+}
+
+/* A bad file counts as what can be read of it. */
+static DconfdbStore *open_store(Engine *self)
+{
+    DconfdbError error;
+    DconfdbStore *store = dconfdb_store_open_lenient(NULL, &error), *unused = store;
+    if (!store)
+        warn_once(self, error.text);
+    g_mutex_lock(&self->lock);
+    if (!self->store)
+        self->store = g_steal_pointer(&unused);
+    store = self->store;
+    g_mutex_unlock(&self->lock);
+    dconfdb_store_close(unused);
+    return store;
+}
+
+DconfdbStore *engine_store(Engine *self)
+{
+    g_mutex_lock(&self->lock);
+    DconfdbStore *store = self->store;
+    g_mutex_unlock(&self->lock);
+    return store ? store : open_store(self);
+}
+
+DconfdbSnapshot *engine_look(Engine *self)
+{
+    DconfdbError error;
+    DconfdbStore *store = engine_store(self);
+    bool has_changed = false;
+    if (!store)
+        return NULL;
+    if (!dconfdb_store_refresh(store, &has_changed, &error))
+        warn_once(self, error.text);
+    DconfdbSnapshot *now = dconfdb_store_snapshot(store);
+    if (has_changed)
+        warn_of_faults(self, store, now);
+    return now;
+}
+
+/* ---- its life */
+
+Engine *engine_new(DConfClient *client)
+{
+    Engine *self = g_atomic_rc_box_new0(Engine);
+    g_weak_ref_init(&self->client, client);
+    self->context = g_main_context_ref_thread_default();
+    g_mutex_init(&self->turn);
+    g_mutex_init(&self->lock);
+    self->warned = g_hash_table_new_full(g_str_hash, g_str_equal, g_free, NULL);
+    self->watched = g_hash_table_new_full(g_str_hash, g_str_equal, g_free, NULL);
+    DconfdbSnapshot *now = engine_look(self);
+    if (now)
+        warn_of_faults(self, self->store, now);
+    dconfdb_snapshot_unref(now);
+    return self;
+}
+
+Engine *engine_ref(Engine *self)
+{
+    return g_atomic_rc_box_acquire(self);
+}
+
+static void clear(gpointer data)
+{
+    Engine *self = data;
+    g_weak_ref_clear(&self->client);
+    g_main_context_unref(self->context);
+    g_mutex_clear(&self->turn);
+    g_mutex_clear(&self->lock);
+    g_hash_table_unref(self->warned);
+    g_hash_table_unref(self->watched);
+    g_clear_pointer(&self->waiting, dconf_changeset_unref);
+    dconfdb_snapshot_unref(self->told);
+    dconfdb_store_close(self->store);
+}
+
+void engine_unref(Engine *self)
+{
+    g_atomic_rc_box_release_full(self, clear);
+}
+
+/* ---- reading */
+
+typedef bool Reads(const DconfdbSnapshot *snapshot, const char *path, DconfdbValue *value);
+
+static void give_back(gpointer snapshot)
+{
+    dconfdb_snapshot_unref(snapshot);
+}
+
+/* The value in place, which gives the reference to the snapshot back when it goes. */
+static GVariant *lend(DconfdbSnapshot *snapshot, Reads *reads, const char *key)
+{
+    DconfdbValue value;
+    if (!snapshot || !reads(snapshot, key, &value)) {
+        dconfdb_snapshot_unref(snapshot);
+        return NULL;
+    }
+    /* A GVariantType is the text of a type, and needs no zero byte after it. */
+    const GVariantType *type = (const GVariantType *)value.type;
+    return g_variant_ref_sink(g_variant_new_from_data(type, value.data, value.size, FALSE, give_back, snapshot));
+}
+
+/* Whether the sets, or what waits, have the key. */
+static gboolean find_edit(Engine *self, const gchar *key, const GQueue *read_through, GVariant **value)
+{
+    for (const GList *at = read_through ? read_through->head : NULL; at; at = at->next) {
+        if (dconf_changeset_get(at->data, key, value))
+            return TRUE;
+    }
+    g_mutex_lock(&self->lock);
+    gboolean is = (self->waiting && dconf_changeset_get(self->waiting, key, value))
+        || (self->flying && dconf_changeset_get(self->flying, key, value));
+    g_mutex_unlock(&self->lock);
+    return is;
+}
+
+GVariant *engine_read(Engine *self, const gchar *key, DConfReadFlags flags, const GQueue *read_through)
+{
+    gboolean is_user = (flags & DCONF_READ_USER_VALUE) != 0, is_default = (flags & DCONF_READ_DEFAULT_VALUE) != 0;
+    GVariant *value = NULL;
+    if (!key || (is_user && is_default))
+        return NULL;
+    /* Before the look: what is written meanwhile is in one of the two. */
+    gboolean is_edited = !is_default && find_edit(self, key, read_through, &value);
+    DconfdbSnapshot *now = engine_look(self);
+    if (is_edited && !is_user && !engine_is_writable(self, now, key))
+        is_edited = FALSE;
+    if (is_edited && (value || is_user)) {
+        dconfdb_snapshot_unref(now);
+        return value;
+    }
+    g_clear_pointer(&value, g_variant_unref);
+    is_default = is_default || is_edited;
+    return lend(now, is_default ? dconfdb_snapshot_read_default : is_user ? dconfdb_snapshot_read_user : dconfdb_snapshot_read, key);
+}
+
+/* Whether no lock covers the directory. */
+static gboolean is_uncovered(const DconfdbSnapshot *now, const gchar *path)
+{
+    char *locks = dconfdb_snapshot_locks(now, "/", NULL, NULL);
+    gboolean is = TRUE;
+    for (const char *lock = locks; is && lock && *lock; lock += strlen(lock) + 1)
+        is = !g_str_has_suffix(lock, "/") || !g_str_has_prefix(path, lock);
+    free(locks);
+    return is;
+}
+
+gboolean engine_is_writable(Engine *self, const DconfdbSnapshot *now, const gchar *path)
+{
+    DconfdbStore *store = engine_store(self);
+    if (!now || !store || !dconfdb_store_user_file(store))
+        return FALSE;
+    if (dconf_is_key(path, NULL))
+        return dconfdb_snapshot_is_writable(now, path);
+    /* What is no path is locked by nobody, as dconf has it. */
+    return !path || is_uncovered(now, path);
+}

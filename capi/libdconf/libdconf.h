@@ -1,0 +1,90 @@
+/* The parts of libdconf.so.1 over libdconfdb. What a program calls is in dconf's own headers, <dconf.h>. */
+#ifndef LIBDCONF_H
+#define LIBDCONF_H
+
+#include "../dconfdb.h"
+
+#include <dconf.h>
+
+/* ---- sets of changes (changeset.c) */
+
+/* A path of the set, and its value; NULL: a reset. */
+typedef struct {
+    const gchar *path;
+    GVariant *value;
+} Row;
+
+/* The next row, or the first one of a NULL; in byte order, so that a directory comes before what is in it. False:
+ * there is none. */
+gboolean changeset_next(DConfChangeset *self, GTreeNode **at, Row *row);
+
+/* Adds a row, and leaves those below a directory. */
+void changeset_put(DConfChangeset *self, const gchar *path, GVariant *value);
+
+/* ---- a client's store (engine.c) */
+
+/* It outlives its client as long as something waits. `turn` is taken before `lock`, and neither is held while a
+ * signal is emitted or a message logged. */
+typedef struct {
+    GWeakRef client;
+    GMainContext *context; /* signals come in it */
+
+    GMutex turn; /* held while the store is changed, which may take long */
+
+    GMutex lock;             /* held for moments. It guards: */
+    DconfdbStore *store;     /* NULL: it could not be opened yet. It stays the same */
+    GHashTable *warned;      /* the faults that were logged */
+    DConfChangeset *waiting; /* fast changes that nobody writes yet; NULL: none */
+    DConfChangeset *flying;  /* fast changes that a thread writes */
+    DConfChangeset *writing; /* what a thread writes, fast or not */
+    gboolean has_thread;     /* one writes what waits */
+    GHashTable *watched;     /* paths, and how often each is watched */
+    GSource *source;         /* NULL: nothing is watched */
+    DconfdbSnapshot *told;   /* what listeners know of; NULL: nothing is watched */
+} Engine;
+
+/* Signals come in the context that is the thread's now. */
+Engine *engine_new(DConfClient *client);
+Engine *engine_ref(Engine *self);
+void engine_unref(Engine *self);
+
+/* The store; NULL: it can't be opened. One warning says why. */
+DconfdbStore *engine_store(Engine *self);
+
+/* The files as they are now, a reference; NULL: the store can't be opened. */
+DconfdbSnapshot *engine_look(Engine *self);
+
+GVariant *engine_read(Engine *self, const gchar *key, DConfReadFlags flags, const GQueue *read_through);
+
+/* Whether the path, a key's or a directory's, is locked by nobody, and there is a user's database. */
+gboolean engine_is_writable(Engine *self, const DconfdbSnapshot *now, const gchar *path);
+
+/* ---- changes (writing.c) */
+
+gboolean engine_change_fast(Engine *self, DConfChangeset *changes, GError **error);
+gboolean engine_change_sync(Engine *self, DConfChangeset *changes, gchar **tag, GError **error);
+
+/* Until what waits is written, or others have kept it from that for ten seconds. */
+void engine_sync(Engine *self);
+
+/* ---- who listens (watches.c) */
+
+void engine_watch(Engine *self, const gchar *path);
+
+/* False: it isn't watched. */
+gboolean engine_unwatch(Engine *self, const gchar *path);
+void engine_unwatch_all(Engine *self);
+
+/* Whether what changed below this path, or at it, is told. */
+gboolean engine_is_watched(Engine *self, const gchar *path);
+
+/* ---- signals (notice.c) */
+
+/* A set's paths, in one `changed`: in the client's context, later; or before this returns, if the tag is NULL and
+ * this thread may run that context. */
+void notice_changed(Engine *self, DConfChangeset *changes, const gchar *tag);
+
+/* What others changed since the last notice, but for what is being written: who writes that tells it. */
+void notice_others(Engine *self);
+
+#endif

@@ -1,0 +1,128 @@
+/* Signals: who is told of what, in the client's context. */
+#include "libdconf.h"
+
+#include <stdlib.h>
+#include <string.h>
+
+typedef struct {
+    Engine *engine;
+    gchar *path;     /* what all changed paths begin with, or what is locked or no longer */
+    gchar **changes; /* the rest of each; NULL: `writability-changed` */
+    gchar *tag;
+} Notice;
+
+static gboolean emit(gpointer data)
+{
+    const Notice *notice = data;
+    DConfClient *client = g_weak_ref_get(&notice->engine->client);
+    if (client && notice->changes)
+        g_signal_emit_by_name(client, "changed", notice->path, notice->changes, notice->tag);
+    else if (client)
+        g_signal_emit_by_name(client, "writability-changed", notice->path);
+    g_clear_object(&client);
+    return G_SOURCE_REMOVE;
+}
+
+static void free_notice(gpointer data)
+{
+    Notice *notice = data;
+    engine_unref(notice->engine);
+    g_free(notice->path);
+    g_strfreev(notice->changes);
+    g_free(notice->tag);
+    g_free(notice);
+}
+
+static void send(Engine *self, const gchar *path, const gchar *const *changes, const gchar *tag)
+{
+    Notice *notice = g_new(Notice, 1);
+    *notice = (Notice){engine_ref(self), g_strdup(path), g_strdupv((gchar **)(gpointer)changes), g_strdup(tag)};
+    if (changes && !tag) {
+        g_main_context_invoke_full(self->context, G_PRIORITY_DEFAULT, emit, notice, free_notice);
+        return;
+    }
+    GSource *source = g_idle_source_new();
+    g_source_set_priority(source, G_PRIORITY_DEFAULT);
+    g_source_set_callback(source, emit, notice, free_notice);
+    g_source_attach(source, self->context);
+    g_source_unref(source);
+}
+
+void notice_changed(Engine *self, DConfChangeset *changes, const gchar *tag)
+{
+    const gchar *prefix, *const *paths;
+    if (dconf_changeset_describe(changes, &prefix, &paths, NULL) > 0)
+        send(self, prefix, paths, tag);
+}
+
+/* ---- what differs */
+
+/* The paths that only one of the lists has, each at most once in each: locks. */
+static void add_locks(GHashTable *into, const char *locks)
+{
+    for (const char *at = locks; at && *at; at += strlen(at) + 1) {
+        if (!g_hash_table_remove(into, at))
+            g_hash_table_add(into, g_strdup(at));
+    }
+}
+
+/* Paths of which it changed whether they may be written: those whose lock came or went, and keys below. */
+static void send_writable(Engine *self, GHashTable *paths)
+{
+    static const gchar *const itself[] = {"", NULL};
+    GHashTableIter at;
+    gpointer path;
+    g_hash_table_iter_init(&at, paths);
+    while (g_hash_table_iter_next(&at, &path, NULL)) {
+        if (!engine_is_watched(self, path))
+            continue;
+        send(self, path, NULL, NULL);
+        send(self, path, itself, "");
+    }
+}
+
+/* Sorts the keys that differ into those that others changed, and those that became locked or unlocked. */
+static void sort(const char *differences, const DconfdbSnapshot *snapshots[2], DConfChangeset *own, DConfChangeset *changed,
+                 GHashTable *writable)
+{
+    for (const char *at = differences; at && *at; at += strlen(at) + 1) {
+        if (dconfdb_snapshot_is_writable(snapshots[0], at) != dconfdb_snapshot_is_writable(snapshots[1], at))
+            g_hash_table_add(writable, g_strdup(at));
+        else if (!own || !dconf_changeset_get(own, at, NULL))
+            changeset_put(changed, at, NULL);
+    }
+}
+
+static void tell_differences(Engine *self, const DconfdbSnapshot *before, const DconfdbSnapshot *now, DConfChangeset *own)
+{
+    const gchar *prefix;
+    DConfChangeset *changed = dconf_changeset_new();
+    GHashTable *writable = g_hash_table_new_full(g_str_hash, g_str_equal, g_free, NULL);
+    char *differences = dconfdb_snapshot_differences(now, before, NULL, NULL);
+    char *locks = dconfdb_snapshot_locks(now, "/", NULL, NULL), *locks_before = dconfdb_snapshot_locks(before, "/", NULL, NULL);
+    add_locks(writable, locks);
+    add_locks(writable, locks_before);
+    sort(differences, (const DconfdbSnapshot *[]){before, now}, own, changed, writable);
+    send_writable(self, writable);
+    if (dconf_changeset_describe(changed, &prefix, NULL, NULL) > 0 && engine_is_watched(self, prefix))
+        notice_changed(self, changed, "");
+    dconf_changeset_unref(changed);
+    g_hash_table_unref(writable);
+    free(differences);
+    free(locks);
+    free(locks_before);
+}
+
+void notice_others(Engine *self)
+{
+    g_mutex_lock(&self->lock);
+    DconfdbSnapshot *before = self->told, *now = before ? dconfdb_store_snapshot(self->store) : NULL;
+    self->told = now ? dconfdb_snapshot_ref(now) : NULL;
+    DConfChangeset *own = self->writing ? dconf_changeset_ref(self->writing) : NULL;
+    g_mutex_unlock(&self->lock);
+    if (before && before != now)
+        tell_differences(self, before, now, own);
+    g_clear_pointer(&own, dconf_changeset_unref);
+    dconfdb_snapshot_unref(before);
+    dconfdb_snapshot_unref(now);
+}

@@ -1,0 +1,149 @@
+/* Which paths a client watches, and the source that watches the store's files in its context. */
+#include "libdconf.h"
+
+#include "../watching.h"
+
+typedef struct {
+    GSource source;
+    Engine *engine;
+    Watch *watch;
+    gpointer descriptor; /* GLib's, of inotify; NULL: there is none yet */
+} FileSource;
+
+/* ---- the source */
+
+static void begin(FileSource *self, const char *folder)
+{
+    watch_begin(self->watch, folder);
+    gint64 next = watch_next_look(self->watch);
+    int descriptor = watch_descriptor(self->watch);
+    if (descriptor >= 0 && !self->descriptor)
+        self->descriptor = g_source_add_unix_fd(&self->source, descriptor, G_IO_IN);
+    g_source_set_ready_time(&self->source, next == 0 ? -1 : next);
+}
+
+static gboolean dispatch(GSource *source, GSourceFunc callback, gpointer data)
+{
+    FileSource *self = (FileSource *)source;
+    (void)callback, (void)data;
+    WatchedKind kind = watch_read(self->watch);
+    gint64 next = watch_next_look(self->watch);
+    gboolean is_late = next != 0 && next <= g_get_monotonic_time();
+    DconfdbStore *store = engine_store(self->engine);
+    if (store && (kind == WATCHED_FOLDER || is_late))
+        begin(self, dconfdb_store_folder(store));
+    if (store && (kind != WATCHED_NOTHING || is_late)) {
+        dconfdb_snapshot_unref(engine_look(self->engine));
+        notice_others(self->engine);
+    }
+    return G_SOURCE_CONTINUE;
+}
+
+static void finalize(GSource *source)
+{
+    FileSource *self = (FileSource *)source;
+    watch_free(self->watch);
+    engine_unref(self->engine);
+}
+
+static GSource *source_new(Engine *engine, const char *folder)
+{
+    static GSourceFuncs functions = {.dispatch = dispatch, .finalize = finalize};
+    GSource *source = g_source_new(&functions, sizeof(FileSource));
+    FileSource *self = (FileSource *)source;
+    g_source_set_name(source, "dconf");
+    self->engine = engine_ref(engine);
+    self->watch = watch_new();
+    begin(self, folder);
+    return source;
+}
+
+/* ---- the paths */
+
+/* Watches the files, and looks at them before and after: what changes in between is told. */
+static void begin_watching(Engine *self, DconfdbStore *store)
+{
+    DconfdbSnapshot *now = engine_look(self);
+    GSource *source = source_new(self, dconfdb_store_folder(store));
+    g_mutex_lock(&self->lock);
+    gboolean is_first = !self->source;
+    if (is_first) {
+        self->source = g_source_ref(source);
+        self->told = g_steal_pointer(&now);
+    }
+    g_mutex_unlock(&self->lock);
+    if (is_first) {
+        g_source_attach(source, self->context);
+        dconfdb_snapshot_unref(engine_look(self));
+        notice_others(self);
+    }
+    g_source_unref(source);
+    dconfdb_snapshot_unref(now);
+}
+
+void engine_watch(Engine *self, const gchar *path)
+{
+    DconfdbStore *store = engine_store(self);
+    g_mutex_lock(&self->lock);
+    guint count = GPOINTER_TO_UINT(g_hash_table_lookup(self->watched, path));
+    g_hash_table_replace(self->watched, g_strdup(path), GUINT_TO_POINTER(count + 1));
+    gboolean is_new = !self->source;
+    g_mutex_unlock(&self->lock);
+    if (is_new && store)
+        begin_watching(self, store);
+}
+
+static void end_watching(Engine *self)
+{
+    g_mutex_lock(&self->lock);
+    gboolean is_last = g_hash_table_size(self->watched) == 0;
+    GSource *source = is_last ? g_steal_pointer(&self->source) : NULL;
+    DconfdbSnapshot *told = is_last ? g_steal_pointer(&self->told) : NULL;
+    g_mutex_unlock(&self->lock);
+    if (source) {
+        g_source_destroy(source);
+        g_source_unref(source);
+    }
+    dconfdb_snapshot_unref(told);
+}
+
+gboolean engine_unwatch(Engine *self, const gchar *path)
+{
+    g_mutex_lock(&self->lock);
+    guint count = GPOINTER_TO_UINT(g_hash_table_lookup(self->watched, path));
+    if (count > 1)
+        g_hash_table_replace(self->watched, g_strdup(path), GUINT_TO_POINTER(count - 1));
+    else
+        g_hash_table_remove(self->watched, path);
+    g_mutex_unlock(&self->lock);
+    end_watching(self);
+    return count > 0;
+}
+
+void engine_unwatch_all(Engine *self)
+{
+    g_mutex_lock(&self->lock);
+    g_hash_table_remove_all(self->watched);
+    g_mutex_unlock(&self->lock);
+    end_watching(self);
+}
+
+/* Whether one is the other, or a directory above it: dconf asks its bus for such. */
+static gboolean meet(const gchar *one, const gchar *other)
+{
+    return g_str_equal(one, other) || (g_str_has_suffix(one, "/") && g_str_has_prefix(other, one))
+        || (g_str_has_suffix(other, "/") && g_str_has_prefix(one, other));
+}
+
+gboolean engine_is_watched(Engine *self, const gchar *path)
+{
+    GHashTableIter at;
+    gpointer watched;
+    gboolean is = FALSE;
+    g_mutex_lock(&self->lock);
+    g_hash_table_iter_init(&at, self->watched);
+    while (!is && g_hash_table_iter_next(&at, &watched, NULL))
+        is = meet(watched, path);
+    g_mutex_unlock(&self->lock);
+    return is;
+}
