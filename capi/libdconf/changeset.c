@@ -284,15 +284,13 @@ void dconf_changeset_change(DConfChangeset *changeset, DConfChangeset *changes)
         dconf_changeset_set(changeset, row.path, row.value);
 }
 
-/* Whether the change makes a difference to the database. What is below a directory that `found` resets does. */
+/* Whether the change makes a difference to the database, in which nothing is below what `found` resets. */
 static gboolean differs(DConfChangeset *base, DConfChangeset *found, const Row *row)
 {
     if (is_directory(row->path))
         return first_below(base, row->path) != NULL;
     GVariant *had = is_below_reset(found, row->path) ? NULL : g_tree_lookup(base->rows, row->path);
-    if (!row->value)
-        return has_row(base, row->path);
-    return !had || !g_variant_equal(had, row->value);
+    return had && row->value ? !g_variant_equal(had, row->value) : had != row->value;
 }
 
 static DConfChangeset *unless_empty(DConfChangeset *self)

@@ -62,13 +62,13 @@ static void print_set(DConfChangeset *set)
 static DConfClient *client;
 static int number;
 
-/* A case in a child: how it ends is printed. */
+/* A case in a child, since some end it. */
 #define CASE(...) \
     do { \
+        printf("case %d %s\n", number++, #__VA_ARGS__); \
         fflush(stdout); \
         pid_t child = fork(); \
         if (child == 0) { \
-            printf("%d %s\n", number, #__VA_ARGS__); \
             __VA_ARGS__; \
             fflush(stdout); \
             _exit(0); \
@@ -77,7 +77,6 @@ static int number;
         waitpid(child, &status, 0); \
         if (status != 0) \
             printf("  ended by %s %d\n", WIFSIGNALED(status) ? "signal" : "status", WIFSIGNALED(status) ? WTERMSIG(status) : WEXITSTATUS(status)); \
-        number++; \
     } while (0)
 
 static GVariant *five(void) { return g_variant_new_int32(5); }
@@ -90,7 +89,7 @@ static void of_paths(void)
     for (size_t i = 0; i < G_N_ELEMENTS(TEXTS); i++) {
         for (size_t j = 0; j < G_N_ELEMENTS(calls); j++) {
             GError *error = NULL;
-            printf("path %s %zu\n", TEXTS[i] ? TEXTS[i] : "NULL", j);
+            printf("case path %s %zu\n", TEXTS[i] ? TEXTS[i] : "NULL", j);
             gboolean is = calls[j](TEXTS[i], &error);
             print_error(is, error);
             if (is != calls[j](TEXTS[i], NULL))
@@ -106,7 +105,7 @@ static void of_client(DConfClient *it)
         gint length = -1;
         GError *error = NULL;
         gchar *tag = NULL;
-        printf("client %d %s\n", it != NULL, text ? text : "NULL");
+        printf("case client %d %s\n", it != NULL, text ? text : "NULL");
         CASE(print_value(dconf_client_read(it, text)));
         CASE(print_value(dconf_client_read_full(it, text, DCONF_READ_USER_VALUE, NULL)));
         CASE(print_value(dconf_client_read_full(it, text, DCONF_READ_DEFAULT_VALUE, NULL)));
@@ -134,7 +133,7 @@ static void of_changesets(void)
     for (size_t i = 0; i < G_N_ELEMENTS(TEXTS); i++) {
         const char *text = TEXTS[i];
         GVariant *value = NULL;
-        printf("changeset %s\n", text ? text : "NULL");
+        printf("case changeset %s\n", text ? text : "NULL");
         CASE(DConfChangeset *set = dconf_changeset_new(); dconf_changeset_set(set, text, five()); print_set(set));
         CASE(DConfChangeset *set = dconf_changeset_new(); dconf_changeset_set(set, text, NULL); print_set(set));
         CASE(DConfChangeset *set = dconf_changeset_new_database(NULL); dconf_changeset_set(set, text, five()); print_set(set));
@@ -208,15 +207,11 @@ static void of_pairs(void)
     CASE(dconf_client_sync(NULL));
 }
 
-int main(int count, char **words)
+int main(void)
 {
     g_log_set_default_handler(print_message, NULL);
     g_log_set_writer_func(write_message, NULL, NULL);
     client = dconf_client_new();
-    if (count > 1 && strcmp(words[1], "client") == 0) {
-        of_client(client);
-        return 0;
-    }
     of_paths();
     of_changesets();
     of_pairs();
