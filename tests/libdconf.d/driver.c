@@ -204,6 +204,7 @@ int main(void)
     client = dconf_client_new();
     g_signal_connect(client, "changed", G_CALLBACK(on_changed), NULL);
     g_signal_connect(client, "writability-changed", G_CALLBACK(on_writability_changed), NULL);
+    setvbuf(stdout, NULL, _IOFBF, 65536);
     while (fgets(line, sizeof line, stdin)) {
         gchar **words = g_strsplit(g_strchomp(line), " ", -1);
         printf("%s\n", line);

@@ -1,0 +1,78 @@
+"""valgrind over programs with the library, and the library with the programs, made with clang's sanitizers: nothing is lost, read past its end, or undefined.
+And many threads at once over one client."""
+import os
+import shutil
+import subprocess
+from pathlib import Path
+
+import both as shared
+import frame
+from frame import Stop, needs
+
+SCRIPT = '''watch sync /
+write sync /v/k 1
+settle 20
+write fast /v/k 2
+write fast /v/d/k 'text'
+read 0 /v/k
+read 0 /v/k /v/k=9
+read 1 /a/k
+read 2 /a/k /a/=-
+change sync /v/k=- /v/l=[1,2] /x/locked=3
+change sync /v/k=- /v/l=[1,2]
+settle 20
+change fast /v/d/=- /v/m=<5>
+sync
+list /
+list /v/
+locks /
+writable /x/locked
+writable /v/
+watch fast /v/
+unwatch sync /
+unwatch fast /v/
+watch fast /v/
+write fast /v/z 1
+anew
+write sync /v/ -
+settle 50
+'''
+VALGRIND = ['valgrind', '-q', '--error-exitcode=9', '--leak-check=full', '--errors-for-leak-kinds=definite,indirect', f'--suppressions={shared.HERE}/glib.supp']
+
+
+def sanitized(both, name, what):
+    """The program and the library in one, made with a sanitizer."""
+    capi = frame.TOP / 'capi'
+    kit = Path(subprocess.run(['rt', 'doc'], capture_output=True, text=True, check=True).stdout.strip()).parent / 'c' / 'liblibc_c.a'
+    files = [*sorted((capi / 'libdconf').glob('*.c')), *(capi / f'{it}.c' for it in ('watching', 'store', 'lock', 'files', 'mending'))]
+    program = both.folder / f'{name}.{what.replace(",", ".")}'
+    words = ['clang', '-std=gnu11', '-g', '-O1', f'-fsanitize={what}', '-fno-sanitize-recover=undefined', '-DG_LOG_DOMAIN="dconf"']
+    glib = shared.flags('gio-2.0', words=('--libs',))
+    calls = os.environ.get('DCONFDB_CALLS', frame.TOP / 'crates' / 'dconfdb_c' / 'out' / 'libdconfdb_c.a')
+    subprocess.run([*words, *shared.flags('gio-2.0', 'dconf', words=('--cflags',)), shared.HERE / f'{name}.c', *files, calls, kit, *glib, '-pthread', '-o', program], check=True)
+    return program
+
+
+def asked(both, words, given='', **env):
+    status, out, err = both.ran('ours', words, given, timeout=600, **env)
+    if status or 'ERROR' in err:
+        raise Stop(f'{words[0]} {Path(words[-1]).name}: status {status}, {out[-1000:]}\n{err[-3000:]}')
+    return out
+
+
+def main(both):
+    needs('valgrind', 'valgrind')
+    needs('clang', 'clang')
+    driver, changesets, threads = (both.compiled(it) for it in ('driver', 'changesets', 'threads'))
+    quiet = {'G_SLICE': 'always-malloc', 'G_DEBUG': 'gc-friendly'}
+    plain = asked(both, [driver], SCRIPT)
+    subprocess.run(['rm', '-rf', both.homes['ours'] / 'config' / 'dconfdb' / 'user.user'], check=True)
+    if asked(both, [*VALGRIND, driver], SCRIPT, **quiet).count('changed') < 8 or not plain:
+        raise Stop('under valgrind: other signals')
+    asked(both, [*VALGRIND, changesets, '40'], **quiet)
+    asked(both, [*VALGRIND, threads, '40'], **quiet)
+    asked(both, [threads, '2000'])
+    for what in ('address,undefined', 'undefined'):
+        for name, words, given in (('driver', [], SCRIPT), ('changesets', ['200'], ''), ('threads', ['300'], '')):
+            asked(both, [sanitized(both, name, what), *words], given, **quiet, ASAN_OPTIONS='detect_leaks=0')
+    return 'valgrind and clang\'s address and undefined-behaviour sanitizers see nothing; six threads over one client lose nothing'

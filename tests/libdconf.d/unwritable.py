@@ -1,0 +1,85 @@
+"""A store that can't be written, one that is damaged, and one that others hold: what a sync change answers, and what becomes of a fast one."""
+import fcntl
+import subprocess
+
+from frame import Stop
+
+WRITES = '''watch sync /
+write sync /u/k 1
+write fast /u/k 2
+read 0 /u/k
+sync
+settle 50
+read 0 /u/k
+'''
+
+
+def asked(both, driver, given, setup, **how):
+    """What the driver says in a store of its own, made by `setup`."""
+    store = both.folder / 'unwritable'
+    subprocess.run(['rm', '-rf', store], check=True)
+    store.mkdir()
+    setup(store)
+    env = both.environment('ours') | {'DCONFDB_STORE': str(store)}
+    done = subprocess.run([driver], env=env, input=given, capture_output=True, text=True, timeout=60, check=False, **how)
+    if done.returncode:
+        raise Stop(f'the driver: status {done.returncode}, {done.stdout}{done.stderr}')
+    return done.stdout, done.stderr
+
+
+def same(what, found, wanted):
+    if found != wanted:
+        raise Stop(f'{what}: {found!r}, not {wanted!r}')
+
+
+def no_file_there(both, driver):
+    """A folder has the user's file's place: nothing can be written."""
+    out, err = asked(both, driver, WRITES, lambda store: (store / 'user.user.new').mkdir())
+    same('a sync change that fails', out.split('\n')[2], '  0 dconf_error 0 ' + out.split('\n')[2].removeprefix('  0 dconf_error 0 '))
+    same('a fast one', out.split('\n')[3:7], ['write fast /u/k 2', '  changed /u/k [] NULL', '  1', 'read 0 /u/k'])
+    same('is taken back, and told', out.split('\n')[8:], ['sync', 'settle 50', '  changed /u/k [] empty', 'read 0 /u/k', '  NULL', ''])
+    if err.count('failed to commit changes to dconf: ') != 1:
+        raise Stop(f'a fast change that fails: {err}')
+
+
+def no_user(both, driver):
+    """A profile without a user's database: nothing is writable."""
+    given = 'writable /u/k\nwrite sync /u/k 1\nwrite fast /u/k 1\nwrite sync /u/k -\nwrite fast /u/k -\nlocks /\n'
+    out, err = asked(both, driver, given, lambda store: (store / 'profile').write_text('system-db:site\n'))
+    refused = '  0 dconf_error 2 The operation attempted to modify one or more non-writable keys'
+    same('without a user', [line for line in out.split('\n') if line.startswith('  ')], ['  0', refused, refused, refused, '  1', '  1 /'])
+    same('without a user, on stderr', err, '')
+
+
+def damaged(both, driver):
+    """A user's file that is no database is set aside at the first change."""
+    out, err = asked(both, driver, 'read 0 /u/k\nwrite sync /u/k 1\nread 0 /u/k\n', lambda store: (store / 'user.user').write_bytes(b'no database' * 100))
+    same('a damaged file', [line for line in out.split('\n') if line.startswith('  ')], ['  NULL', '  1', '  1'])
+    if not (both.folder / 'unwritable' / 'user.user~1').exists() or err.count('WARNING') < 1:
+        raise Stop(f'a damaged file: {err}')
+
+
+def held(both, driver):
+    """Others hold the store's lock for two seconds: a fast change waits and is read, a sync one comes after it."""
+    def setup(store):
+        with open(store / '.lock', 'w', encoding='utf-8') as file:
+            fcntl.flock(file, fcntl.LOCK_EX)
+            subprocess.Popen(['sleep', '2'], pass_fds=[file.fileno()])
+    out, err = asked(both, driver, 'write fast /u/k 1\nread 0 /u/k\nread 2 /u/k\nread 1 /u/k\nwrite sync /u/l 2\nread 2 /u/k\nread 0 /u/l\nlist /u/\n', setup)
+    wanted = ['  changed /u/k [] NULL', '  1', '  1', '  1', '  NULL', '  1', '  1', '  2', '  2 k l']
+    same('a held lock', [line for line in out.split('\n') if line.startswith('  ')], wanted)
+    same('a held lock, on stderr', err, '')
+
+
+def left(both, driver):
+    """A client that goes while something waits: it is written all the same, if the program lives that long."""
+    asked(both, driver, 'write fast /u/k 1\nanew\nsettle 500\n', lambda store: None)
+    if b'/u/k' not in (both.folder / 'unwritable' / 'user.user').read_bytes():
+        raise Stop('what waited when its client went is lost')
+
+
+def main(both):
+    driver = both.compiled('driver')
+    for part in (no_file_there, no_user, damaged, held, left):
+        part(both, driver)
+    return 'stores that can\'t be written, have no user, are damaged or held: the right errors, warnings and signals'
