@@ -67,6 +67,12 @@ DconfdbSnapshot *engine_look(Engine *self)
     return now;
 }
 
+static gboolean has_user(Engine *self)
+{
+    DconfdbStore *store = engine_store(self);
+    return store && dconfdb_store_user_file(store);
+}
+
 /* ---- its life */
 
 Engine *engine_new(DConfClient *client)
@@ -154,8 +160,8 @@ GVariant *engine_read(Engine *self, const gchar *key, DConfReadFlags flags, cons
     /* Before the look: what is written meanwhile is in one of the two. */
     gboolean is_edited = !is_default && find_edit(self, key, read_through, &value);
     DconfdbSnapshot *now = engine_look(self);
-    if (is_edited && !is_user && !engine_is_writable(self, now, key))
-        is_edited = FALSE;
+    if (is_edited)
+        is_edited = is_user ? has_user(self) : engine_is_writable(self, now, key);
     if (is_edited && (value || is_user)) {
         dconfdb_snapshot_unref(now);
         return value;
@@ -178,8 +184,7 @@ static gboolean is_uncovered(const DconfdbSnapshot *now, const gchar *path)
 
 gboolean engine_is_writable(Engine *self, const DconfdbSnapshot *now, const gchar *path)
 {
-    DconfdbStore *store = engine_store(self);
-    if (!now || !store || !dconfdb_store_user_file(store))
+    if (!now || !has_user(self))
         return FALSE;
     if (dconf_is_key(path, NULL))
         return dconfdb_snapshot_is_writable(now, path);

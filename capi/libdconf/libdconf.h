@@ -80,9 +80,9 @@ gboolean engine_is_watched(Engine *self, const gchar *path);
 
 /* ---- signals (notice.c) */
 
-/* A set's paths, in one `changed`: in the client's context, later; or before this returns, if the tag is NULL and
- * this thread may run that context. */
-void notice_changed(Engine *self, DConfChangeset *changes, const gchar *tag);
+/* A set's paths, in one `changed`, later in the client's context; or before this returns, if it may be now, and this
+ * thread may run that context. */
+void notice_changed(Engine *self, DConfChangeset *changes, const gchar *tag, gboolean may_be_now);
 
 /* What others changed since the last notice, but for what is being written: who writes that tells it. */
 void notice_others(Engine *self);

@@ -33,11 +33,11 @@ static void free_notice(gpointer data)
     g_free(notice);
 }
 
-static void send(Engine *self, const gchar *path, const gchar *const *changes, const gchar *tag)
+static void send(Engine *self, const gchar *path, const gchar *const *changes, const gchar *tag, gboolean may_be_now)
 {
     Notice *notice = g_new(Notice, 1);
     *notice = (Notice){engine_ref(self), g_strdup(path), g_strdupv((gchar **)(gpointer)changes), g_strdup(tag)};
-    if (changes && !tag) {
+    if (may_be_now) {
         g_main_context_invoke_full(self->context, G_PRIORITY_DEFAULT, emit, notice, free_notice);
         return;
     }
@@ -48,11 +48,11 @@ static void send(Engine *self, const gchar *path, const gchar *const *changes, c
     g_source_unref(source);
 }
 
-void notice_changed(Engine *self, DConfChangeset *changes, const gchar *tag)
+void notice_changed(Engine *self, DConfChangeset *changes, const gchar *tag, gboolean may_be_now)
 {
     const gchar *prefix, *const *paths;
     if (dconf_changeset_describe(changes, &prefix, &paths, NULL) > 0)
-        send(self, prefix, paths, tag);
+        send(self, prefix, paths, tag, may_be_now);
 }
 
 /* ---- what differs */
@@ -76,8 +76,8 @@ static void send_writable(Engine *self, GHashTable *paths)
     while (g_hash_table_iter_next(&at, &path, NULL)) {
         if (!engine_is_watched(self, path))
             continue;
-        send(self, path, NULL, NULL);
-        send(self, path, itself, "");
+        send(self, path, NULL, NULL, FALSE);
+        send(self, path, itself, "", FALSE);
     }
 }
 
@@ -105,7 +105,7 @@ static void tell_differences(Engine *self, const DconfdbSnapshot *before, const 
     sort(differences, (const DconfdbSnapshot *[]){before, now}, own, changed, writable);
     send_writable(self, writable);
     if (dconf_changeset_describe(changed, &prefix, NULL, NULL) > 0 && engine_is_watched(self, prefix))
-        notice_changed(self, changed, "");
+        notice_changed(self, changed, "", FALSE);
     dconf_changeset_unref(changed);
     g_hash_table_unref(writable);
     free(differences);

@@ -155,7 +155,7 @@ static gboolean write_waiting(Engine *self, DconfdbError *fault)
     set_writing(self, NULL);
     if (!is_done) {
         g_warning("failed to commit changes to dconf: %s", fault->text);
-        notice_changed(self, taken, "");
+        notice_changed(self, taken, NULL, FALSE);
     }
     dconf_changeset_unref(taken);
     return TRUE;
@@ -214,15 +214,26 @@ static void begin_thread(Engine *self)
     engine_unref(self);
 }
 
+static gboolean sets_below(DConfChangeset *changes, const gchar *directory)
+{
+    GTreeNode *at = NULL;
+    Row row;
+    while (changeset_next(changes, &at, &row)) {
+        if (row.value && g_str_has_prefix(row.path, directory))
+            return TRUE;
+    }
+    return FALSE;
+}
+
 /* `lock` is held. Whether the user has that already, or will have once what waits is written. */
 static gboolean is_redundant(Engine *self, const DconfdbSnapshot *now, const Row *row)
 {
     GVariant *found = NULL;
     DconfdbEdit edit = edit_of(row);
     DConfChangeset *sets[] = {self->waiting, self->flying};
-    if (g_str_has_suffix(row->path, "/") && (self->waiting || self->flying))
-        return FALSE;
     for (size_t i = 0; i < G_N_ELEMENTS(sets); i++) {
+        if (sets[i] && g_str_has_suffix(row->path, "/") && sets_below(sets[i], row->path))
+            return FALSE;
         if (!sets[i] || !dconf_changeset_get(sets[i], row->path, &found))
             continue;
         gboolean is = found && row->value ? g_variant_equal(found, row->value) : found == row->value;
@@ -232,22 +243,20 @@ static gboolean is_redundant(Engine *self, const DconfdbSnapshot *now, const Row
     return dconfdb_snapshot_has_edit(now, &edit);
 }
 
-/* Lets the changes wait. False: they change nothing. */
+/* Lets the changes wait, and says whether they change anything. */
 static gboolean add_waiting(Engine *self, const DconfdbSnapshot *now, DConfChangeset *changes)
 {
-    gboolean is_redundant_all = TRUE;
+    gboolean changes_nothing = TRUE;
     GTreeNode *at = NULL;
     Row row;
     g_mutex_lock(&self->lock);
-    while (is_redundant_all && changeset_next(changes, &at, &row))
-        is_redundant_all = is_redundant(self, now, &row);
-    if (!is_redundant_all) {
-        if (!self->waiting)
-            self->waiting = dconf_changeset_new();
-        dconf_changeset_change(self->waiting, changes);
-    }
+    while (changes_nothing && changeset_next(changes, &at, &row))
+        changes_nothing = is_redundant(self, now, &row);
+    if (!self->waiting)
+        self->waiting = dconf_changeset_new();
+    dconf_changeset_change(self->waiting, changes);
     g_mutex_unlock(&self->lock);
-    return !is_redundant_all;
+    return !changes_nothing;
 }
 
 gboolean engine_change_fast(Engine *self, DConfChangeset *changes, GError **error)
@@ -255,13 +264,13 @@ gboolean engine_change_fast(Engine *self, DConfChangeset *changes, GError **erro
     if (dconf_changeset_is_empty(changes))
         return TRUE;
     DconfdbSnapshot *now = engine_look(self);
-    gboolean is_done = may_change(self, now, changes, error), is_new = is_done && now && add_waiting(self, now, changes);
-    dconfdb_snapshot_unref(now);
-    if (is_new) {
+    gboolean may = may_change(self, now, changes, error), is_told = may && now && add_waiting(self, now, changes);
+    if (may && now)
         begin_thread(self);
-        notice_changed(self, changes, NULL);
-    }
-    return is_done;
+    if (is_told)
+        notice_changed(self, changes, NULL, TRUE);
+    dconfdb_snapshot_unref(now);
+    return may;
 }
 
 static gchar *new_tag(void)
@@ -284,7 +293,7 @@ static gboolean write_now(Engine *self, DConfChangeset *changes, const gchar *ta
     notice_others(self);
     set_writing(self, NULL);
     if (is_done && dconf_changeset_describe(told, &prefix, NULL, NULL) > 0 && engine_is_watched(self, prefix))
-        notice_changed(self, told, tag);
+        notice_changed(self, told, tag, FALSE);
     g_array_unref(edits);
     dconf_changeset_unref(told);
     dconfdb_snapshot_unref(now);

@@ -1,0 +1,74 @@
+"""dconf's own tests in C, as Debian's source package has them, over our library: those of paths, changesets and clients, and those of the engine that
+ask for what the library has. They are fetched by apt into a folder of this run's; nothing of them is kept."""
+import subprocess
+from pathlib import Path
+
+import both as shared
+import frame
+from frame import Missing, Stop, needs
+
+SOURCES = '''deb-src [signed-by=/usr/share/keyrings/debian-archive-keyring.gpg] http://deb.debian.org/debian {suite} main
+'''
+# The others of engine.c look into it: at its profiles, its sources, the bus's match rules, the messages that it takes from the bus.
+OF_ENGINE = ['/engine/read', '/engine/change', '/engine/sync']
+RENAMED = ['-Dg_log_set_writer_func=mock_log_set_writer_func']
+
+
+def suite():
+    """The Debian that this is."""
+    lines = dict(line.split('=', 1) for line in Path('/etc/os-release').read_text(encoding='utf-8').splitlines() if '=' in line)
+    if lines.get('ID') != 'debian':
+        raise Missing('this is no Debian, whose source package has the tests')
+    return lines['VERSION_CODENAME']
+
+
+def fetched(folder):
+    """The folder of dconf's sources."""
+    (folder / 'lists' / 'partial').mkdir(parents=True)
+    (folder / 'sources').write_text(SOURCES.format(suite=suite()), encoding='utf-8')
+    places = {'Dir::Etc::sourcelist': folder / 'sources', 'Dir::Etc::sourceparts': '/dev/null', 'Dir::State::lists': folder / 'lists', 'APT::Sandbox::User': 'root',
+              'Dir::Cache::pkgcache': '', 'Dir::Cache::srcpkgcache': ''}
+    words = [it for name, value in places.items() for it in ('-o', f'{name}={value}')]
+    how = {'cwd': folder, 'stdin': subprocess.DEVNULL, 'stdout': subprocess.PIPE, 'stderr': subprocess.STDOUT, 'text': True, 'check': False}
+    for more in (['update'], ['source', '--download-only', 'dconf']):
+        ran = subprocess.run(['apt-get', '-q', *words, *more], **how)
+        if ran.returncode:
+            raise Missing(f'dconf\'s source package can\'t be had: {ran.stdout.strip().splitlines()[-1:]}')
+    sources = folder / 'dconf'
+    sources.mkdir()
+    subprocess.run(['tar', '-xf', next(folder.glob('dconf_*.orig.tar.*')), '-C', sources, '--strip-components=1'], check=True)
+    return sources
+
+
+def made(both, sources, name, *more):
+    """The test's program, over our library; what it doesn't call may be missing."""
+    program = both.folder / f'peers-{name}'
+    words = ['gcc', '-g', '-rdynamic', f'-DSRCDIR="{sources}/tests"', '-DSYSCONFDIR="/etc"', f'-I{sources}', *more, sources / 'tests' / f'{name}.c']
+    adapter = both.folder / 'peers.o'
+    if not adapter.exists():
+        subprocess.run(['gcc', *shared.WARNINGS, '-c', shared.HERE / 'peers.c', *shared.flags('dconf', words=('--cflags',)), '-o', adapter], check=True)
+    glib = shared.flags('gio-2.0', 'gio-unix-2.0', 'dconf')
+    subprocess.run([*words, adapter, '-o', program, *glib, '-lm', '-Wl,--unresolved-symbols=ignore-all'], check=True)
+    return program
+
+
+def passed(both, program, *words):
+    """How many of its cases passed: all, in a store of their own."""
+    store = both.folder / 'peers-store'
+    subprocess.run(['rm', '-rf', store], check=True)
+    store.mkdir()
+    status, out, err = both.ran('ours', [program, '--tap', *words], DCONFDB_STORE=str(store), DCONFDB=str(frame.program()))
+    cases = [line for line in out.splitlines() if line.startswith('ok ')]
+    if status or not cases or 'not ok' in out:
+        raise Stop(f'dconf\'s {program.name.removeprefix("peers-")} {words}: status {status}\n{out[-1500:]}\n{err[-1500:]}')
+    return len([it for it in cases if 'SKIP' not in it])
+
+
+def main(both):
+    needs('apt-get', 'apt')
+    sources = fetched(both.folder / 'peers')
+    counts = {name: passed(both, made(both, sources, name)) for name in ('paths', 'changeset')}
+    counts['client'] = passed(both, made(both, sources, 'client', *RENAMED, '-Dg_queue_get_length=mock_queue_get_length'))
+    engine = made(both, sources, 'engine', *RENAMED)
+    counts['engine'] = sum(passed(both, engine, '-p', it) for it in OF_ENGINE)
+    return 'dconf\'s own tests pass over it: ' + ', '.join(f'{count} of {name}.c' for name, count in counts.items())
