@@ -1,4 +1,5 @@
-/* DConfChangeset: changes of keys, and resets of directories. */
+/* DConfChangeset: changes of keys, and resets of directories. A program may bring these functions itself, as the command
+ * `dconf` does: the loader then takes its own, and the other files here are handed its sets. So they call what is public. */
 #include "libdconf.h"
 
 #include <string.h>
@@ -33,6 +34,36 @@ static bool is_directory(const gchar *path)
     return g_str_has_suffix(path, "/");
 }
 
+/* A path of the set, and its value; NULL: a reset. */
+typedef struct {
+    const gchar *path;
+    GVariant *value;
+} Row;
+
+/* ---- its rows */
+
+/* The next row, or the first one of a NULL; in byte order, so that a directory comes before what is in it. False:
+ * there is none. */
+static gboolean next_row(DConfChangeset *self, GTreeNode **at, Row *row)
+{
+    *at = *at ? g_tree_node_next(*at) : g_tree_node_first(self->rows);
+    if (*at)
+        *row = (Row){g_tree_node_key(*at), g_tree_node_value(*at)};
+    return *at != NULL;
+}
+
+static gboolean has_row(DConfChangeset *self, const gchar *path)
+{
+    return g_tree_lookup_extended(self->rows, path, NULL, NULL);
+}
+
+/* Adds a row, and leaves those below a directory. */
+static void put_row(DConfChangeset *self, const gchar *path, GVariant *value)
+{
+    self->reset_directories += is_directory(path) && !has_row(self, path);
+    g_tree_replace(self->rows, g_strdup(path), value ? g_variant_ref_sink(value) : NULL);
+}
+
 /* ---- its life */
 
 static DConfChangeset *new_of(gboolean is_database)
@@ -55,8 +86,8 @@ DConfChangeset *dconf_changeset_new_database(DConfChangeset *copy_of)
     Row row;
     g_return_val_if_fail (copy_of == NULL || copy_of->is_database, NULL);
     DConfChangeset *self = new_of(TRUE);
-    while (copy_of && changeset_next(copy_of, &at, &row))
-        changeset_put(self, row.path, row.value);
+    while (copy_of && next_row(copy_of, &at, &row))
+        put_row(self, row.path, row.value);
     return self;
 }
 
@@ -86,26 +117,7 @@ void dconf_changeset_unref(DConfChangeset *changeset)
     g_free(changeset);
 }
 
-/* ---- its rows */
-
-gboolean changeset_next(DConfChangeset *self, GTreeNode **at, Row *row)
-{
-    *at = *at ? g_tree_node_next(*at) : g_tree_node_first(self->rows);
-    if (*at)
-        *row = (Row){g_tree_node_key(*at), g_tree_node_value(*at)};
-    return *at != NULL;
-}
-
-static gboolean has_row(DConfChangeset *self, const gchar *path)
-{
-    return g_tree_lookup_extended(self->rows, path, NULL, NULL);
-}
-
-void changeset_put(DConfChangeset *self, const gchar *path, GVariant *value)
-{
-    self->reset_directories += is_directory(path) && !has_row(self, path);
-    g_tree_replace(self->rows, g_strdup(path), value ? g_variant_ref_sink(value) : NULL);
-}
+/* ---- one path */
 
 /* The first row that isn't before the path, if it is below the directory. */
 static const gchar *first_below(DConfChangeset *self, const gchar *directory)
@@ -134,7 +146,7 @@ void dconf_changeset_set(DConfChangeset *changeset, const gchar *path, GVariant 
         clear_below(changeset, path);
     }
     if (value || !changeset->is_database)
-        changeset_put(changeset, path, value);
+        put_row(changeset, path, value);
     else
         g_tree_remove(changeset->rows, path);
 }
@@ -174,7 +186,8 @@ gboolean dconf_changeset_all(DConfChangeset *changeset, DConfChangesetPredicate 
     GTreeNode *at = NULL;
     Row row;
     g_return_val_if_fail (changeset != NULL, TRUE);
-    while (changeset_next(changeset, &at, &row)) {
+    while (next_row(changeset, &at, &row)) {
+        g_return_val_if_fail (predicate != NULL, FALSE);
         if (!predicate(row.path, row.value, user_data))
             return FALSE;
     }
@@ -189,7 +202,7 @@ gboolean dconf_changeset_is_similar_to(DConfChangeset *changeset, DConfChangeset
     g_return_val_if_fail (changeset != NULL && other != NULL, FALSE);
     if (g_tree_nnodes(changeset->rows) != g_tree_nnodes(other->rows))
         return FALSE;
-    while (changeset_next(changeset, &at, &row) && changeset_next(other, &other_at, &other_row)) {
+    while (next_row(changeset, &at, &row) && next_row(other, &other_at, &other_row)) {
         if (strcmp(row.path, other_row.path) != 0)
             return FALSE;
     }
@@ -220,7 +233,7 @@ void dconf_changeset_seal(DConfChangeset *changeset)
         return;
     changeset->paths = g_new0(const gchar *, count + 1);
     changeset->values = g_new0(GVariant *, count + 1);
-    for (; changeset_next(changeset, &at, &row); done++) {
+    for (; next_row(changeset, &at, &row); done++) {
         changeset->paths[done] = row.path;
         changeset->values[done] = row.value;
     }
@@ -251,7 +264,7 @@ GVariant *dconf_changeset_serialise(DConfChangeset *changeset)
     Row row;
     g_return_val_if_fail (changeset != NULL, NULL);
     g_variant_builder_init(&builder, G_VARIANT_TYPE("a{smv}"));
-    while (changeset_next(changeset, &at, &row))
+    while (next_row(changeset, &at, &row))
         g_variant_builder_add(&builder, "{smv}", row.path, row.value);
     return g_variant_builder_end(&builder);
 }
@@ -266,7 +279,7 @@ DConfChangeset *dconf_changeset_deserialise(GVariant *serialised)
     g_variant_iter_init(&iter, serialised);
     while (g_variant_iter_loop(&iter, "{&smv}", &path, &value)) {
         if (value ? dconf_is_key(path, NULL) : dconf_is_path(path, NULL))
-            changeset_put(self, path, value);
+            put_row(self, path, value);
     }
     return self;
 }
@@ -280,7 +293,7 @@ void dconf_changeset_change(DConfChangeset *changeset, DConfChangeset *changes)
     g_return_if_fail (changeset != NULL && changes != NULL);
     g_return_if_fail (!changeset->is_sealed);
     dconf_changeset_seal(changes);
-    while (changeset_next(changes, &at, &row))
+    while (next_row(changes, &at, &row))
         dconf_changeset_set(changeset, row.path, row.value);
 }
 
@@ -308,9 +321,9 @@ DConfChangeset *dconf_changeset_filter_changes(DConfChangeset *base, DConfChange
     g_return_val_if_fail (base != NULL && changes != NULL, NULL);
     g_return_val_if_fail (base->is_database, NULL);
     DConfChangeset *found = new_of(FALSE);
-    while (changeset_next(changes, &at, &row)) {
+    while (next_row(changes, &at, &row)) {
         if (differs(base, found, &row))
-            changeset_put(found, row.path, row.value);
+            put_row(found, row.path, row.value);
     }
     return unless_empty(found);
 }
@@ -324,9 +337,9 @@ DConfChangeset *dconf_changeset_diff(DConfChangeset *from, DConfChangeset *to)
     g_return_val_if_fail (to->is_database, NULL);
     DConfChangeset *found = dconf_changeset_filter_changes(from, to);
     found = found ? found : new_of(FALSE);
-    while (changeset_next(from, &at, &row)) {
+    while (next_row(from, &at, &row)) {
         if (!has_row(to, row.path))
-            changeset_put(found, row.path, NULL);
+            put_row(found, row.path, NULL);
     }
     return unless_empty(found);
 }

@@ -43,12 +43,14 @@ DConfClient *dconf_client_new(void)
 GVariant *dconf_client_read(DConfClient *client, const gchar *key)
 {
     g_return_val_if_fail (DCONF_IS_CLIENT (client), NULL);
+    g_return_val_if_fail (key != NULL, NULL);
     return engine_read(client->engine, key, DCONF_READ_FLAGS_NONE, NULL);
 }
 
 GVariant *dconf_client_read_full(DConfClient *client, const gchar *key, DConfReadFlags flags, const GQueue *read_through)
 {
     g_return_val_if_fail (DCONF_IS_CLIENT (client), NULL);
+    g_return_val_if_fail (key != NULL, NULL);
     return engine_read(client->engine, key, flags, read_through);
 }
 
@@ -68,8 +70,9 @@ static gchar **array_of(char *texts, gint *length)
 gchar **dconf_client_list(DConfClient *client, const gchar *dir, gint *length)
 {
     g_return_val_if_fail (DCONF_IS_CLIENT (client), NULL);
+    g_return_val_if_fail (dir != NULL, NULL);
     DconfdbSnapshot *now = engine_look(client->engine);
-    char *names = now && dir ? dconfdb_snapshot_list(now, dir, NULL, NULL) : NULL;
+    char *names = now ? dconfdb_snapshot_list(now, dir, NULL, NULL) : NULL;
     dconfdb_snapshot_unref(now);
     return array_of(names, length);
 }
@@ -81,12 +84,20 @@ gchar **dconf_client_list_locks(DConfClient *client, const gchar *dir, gint *len
     DconfdbSnapshot *now = engine_look(client->engine);
     char *locks = now ? dconfdb_snapshot_locks(now, dir, NULL, NULL) : NULL;
     dconfdb_snapshot_unref(now);
-    return array_of(locks, length);
+    if (engine_has_user(client->engine))
+        return array_of(locks, length);
+    /* Nothing can be written. */
+    const gchar *all[] = {dir, NULL};
+    free(locks);
+    if (length)
+        *length = 1;
+    return g_strdupv((gchar **)all);
 }
 
 gboolean dconf_client_is_writable(DConfClient *client, const gchar *key)
 {
     g_return_val_if_fail (DCONF_IS_CLIENT (client), FALSE);
+    g_return_val_if_fail (key != NULL, FALSE);
     DconfdbSnapshot *now = engine_look(client->engine);
     gboolean is = engine_is_writable(client->engine, now, key);
     dconfdb_snapshot_unref(now);

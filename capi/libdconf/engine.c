@@ -67,7 +67,7 @@ DconfdbSnapshot *engine_look(Engine *self)
     return now;
 }
 
-static gboolean has_user(Engine *self)
+gboolean engine_has_user(Engine *self)
 {
     DconfdbStore *store = engine_store(self);
     return store && dconfdb_store_user_file(store);
@@ -155,13 +155,13 @@ GVariant *engine_read(Engine *self, const gchar *key, DConfReadFlags flags, cons
 {
     gboolean is_user = (flags & DCONF_READ_USER_VALUE) != 0, is_default = (flags & DCONF_READ_DEFAULT_VALUE) != 0;
     GVariant *value = NULL;
-    if (!key || (is_user && is_default))
+    if (is_user && is_default)
         return NULL;
     /* Before the look: what is written meanwhile is in one of the two. */
     gboolean is_edited = !is_default && find_edit(self, key, read_through, &value);
     DconfdbSnapshot *now = engine_look(self);
     if (is_edited)
-        is_edited = is_user ? has_user(self) : engine_is_writable(self, now, key);
+        is_edited = is_user ? engine_has_user(self) : engine_is_writable(self, now, key);
     if (is_edited && (value || is_user)) {
         dconfdb_snapshot_unref(now);
         return value;
@@ -184,10 +184,10 @@ static gboolean is_uncovered(const DconfdbSnapshot *now, const gchar *path)
 
 gboolean engine_is_writable(Engine *self, const DconfdbSnapshot *now, const gchar *path)
 {
-    if (!now || !has_user(self))
+    if (!now || !engine_has_user(self))
         return FALSE;
     if (dconf_is_key(path, NULL))
         return dconfdb_snapshot_is_writable(now, path);
     /* What is no path is locked by nobody, as dconf has it. */
-    return !path || is_uncovered(now, path);
+    return is_uncovered(now, path);
 }

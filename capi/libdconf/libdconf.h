@@ -6,21 +6,6 @@
 
 #include <dconf.h>
 
-/* ---- sets of changes (changeset.c) */
-
-/* A path of the set, and its value; NULL: a reset. */
-typedef struct {
-    const gchar *path;
-    GVariant *value;
-} Row;
-
-/* The next row, or the first one of a NULL; in byte order, so that a directory comes before what is in it. False:
- * there is none. */
-gboolean changeset_next(DConfChangeset *self, GTreeNode **at, Row *row);
-
-/* Adds a row, and leaves those below a directory. */
-void changeset_put(DConfChangeset *self, const gchar *path, GVariant *value);
-
 /* ---- a client's store (engine.c) */
 
 /* It outlives its client as long as something waits. `turn` is taken before `lock`, and neither is held while a
@@ -53,6 +38,9 @@ DconfdbStore *engine_store(Engine *self);
 
 /* The files as they are now, a reference; NULL: the store can't be opened. */
 DconfdbSnapshot *engine_look(Engine *self);
+
+/* Whether the profile has a user's database: without one nothing can be written. */
+gboolean engine_has_user(Engine *self);
 
 GVariant *engine_read(Engine *self, const gchar *key, DConfReadFlags flags, const GQueue *read_through);
 

@@ -89,7 +89,7 @@ static void sort(const char *differences, const DconfdbSnapshot *snapshots[2], D
         if (dconfdb_snapshot_is_writable(snapshots[0], at) != dconfdb_snapshot_is_writable(snapshots[1], at))
             g_hash_table_add(writable, g_strdup(at));
         else if (!own || !dconf_changeset_get(own, at, NULL))
-            changeset_put(changed, at, NULL);
+            dconf_changeset_set(changed, at, NULL);
     }
 }
 

@@ -9,43 +9,68 @@ enum { PAUSE = 50000 };
 
 /* ---- edits */
 
-static DconfdbEdit edit_of(const Row *row)
+/* The edits of a set, in byte order, so that a directory's comes before those of what is in it. They point to the
+ * set, and to `texts`. */
+typedef struct {
+    GArray *edits;
+    GPtrArray *texts;
+} Edits;
+
+static DconfdbEdit edit_of(const gchar *path, GVariant *value)
 {
-    if (!row->value)
-        return (DconfdbEdit){row->path, NULL, NULL, 0};
-    return (DconfdbEdit){row->path, g_variant_get_type_string(row->value), g_variant_get_data(row->value),
-                         g_variant_get_size(row->value)};
+    if (!value)
+        return (DconfdbEdit){path, NULL, NULL, 0};
+    return (DconfdbEdit){path, g_variant_get_type_string(value), g_variant_get_data(value), g_variant_get_size(value)};
 }
 
-/* A reset of a locked key does nothing. */
-static gboolean is_idle(const DconfdbSnapshot *now, const Row *row)
+static const DconfdbEdit *edit_at(const Edits *self, guint at)
 {
-    return !row->value && dconf_is_key(row->path, NULL) && !dconfdb_snapshot_is_writable(now, row->path);
+    return &g_array_index(self->edits, DconfdbEdit, at);
 }
 
-static GArray *edits_of(const DconfdbSnapshot *now, DConfChangeset *changes)
+/* Seals the set. */
+static Edits edits_of(DConfChangeset *changes)
 {
-    GArray *edits = g_array_new(FALSE, FALSE, sizeof(DconfdbEdit));
-    GTreeNode *at = NULL;
-    Row row;
-    while (changeset_next(changes, &at, &row)) {
-        DconfdbEdit edit = edit_of(&row);
-        if (!is_idle(now, &row))
-            g_array_append_val(edits, edit);
+    const gchar *prefix, *const *paths;
+    GVariant *const *values;
+    guint count = dconf_changeset_describe(changes, &prefix, &paths, &values);
+    Edits self = {g_array_new(FALSE, FALSE, sizeof(DconfdbEdit)), g_ptr_array_new_with_free_func(g_free)};
+    for (guint i = 0; i < count; i++) {
+        gchar *path = g_strconcat(prefix, paths[i], NULL);
+        DconfdbEdit edit = edit_of(path, values[i]);
+        g_ptr_array_add(self.texts, path);
+        g_array_append_val(self.edits, edit);
     }
-    return edits;
+    return self;
 }
 
-/* The rows of which the user has something else. */
-static DConfChangeset *effective(const DconfdbSnapshot *now, DConfChangeset *changes)
+static void edits_clear(Edits *self)
+{
+    g_array_unref(self->edits);
+    g_ptr_array_unref(self->texts);
+}
+
+/* Leaves out what does nothing: the reset of a locked key. */
+static void leave_out_idle(Edits *self, const DconfdbSnapshot *now)
+{
+    for (guint at = self->edits->len; now && at > 0; at--) {
+        const DconfdbEdit *edit = edit_at(self, at - 1);
+        if (!edit->type && dconf_is_key(edit->path, NULL) && !dconfdb_snapshot_is_writable(now, edit->path))
+            g_array_remove_index(self->edits, at - 1);
+    }
+}
+
+/* The changes of which the user has something else. */
+static DConfChangeset *effective(const Edits *self, const DconfdbSnapshot *now, DConfChangeset *changes)
 {
     DConfChangeset *found = dconf_changeset_new();
-    GTreeNode *at = NULL;
-    Row row;
-    while (changeset_next(changes, &at, &row)) {
-        DconfdbEdit edit = edit_of(&row);
-        if (!is_idle(now, &row) && !dconfdb_snapshot_has_edit(now, &edit))
-            changeset_put(found, row.path, row.value);
+    for (guint at = 0; now && at < self->edits->len; at++) {
+        const DconfdbEdit *edit = edit_at(self, at);
+        GVariant *value = NULL;
+        if (dconfdb_snapshot_has_edit(now, edit) || !dconf_changeset_get(changes, edit->path, &value))
+            continue;
+        dconf_changeset_set(found, edit->path, value);
+        g_clear_pointer(&value, g_variant_unref);
     }
     return found;
 }
@@ -67,13 +92,11 @@ static gboolean refuse(const DconfdbError *fault, GError **error)
     return FALSE;
 }
 
-/* Whether all that is set may be; a reset always may, as dconf has it. */
-static gboolean may_change(Engine *self, const DconfdbSnapshot *now, DConfChangeset *changes, GError **error)
+/* Whether all that is set may be; a reset may always, as dconf has it. */
+static gboolean may_change(Engine *self, const DconfdbSnapshot *now, const Edits *edits, GError **error)
 {
-    GTreeNode *at = NULL;
-    Row row;
-    while (changeset_next(changes, &at, &row)) {
-        if (row.value && !engine_is_writable(self, now, row.path))
+    for (guint at = 0; at < edits->edits->len; at++) {
+        if (edit_at(edits, at)->type && !engine_is_writable(self, now, edit_at(edits, at)->path))
             return refuse_locked(error);
     }
     return TRUE;
@@ -88,24 +111,25 @@ static void set_writing(Engine *self, DConfChangeset *changes)
     g_mutex_unlock(&self->lock);
 }
 
-static gboolean put(Engine *self, GArray *edits, DconfdbError *fault)
+static gboolean put(Engine *self, const Edits *edits, DconfdbError *fault)
 {
     DconfdbStore *store = engine_store(self);
     *fault = (DconfdbError){.number = DCONFDB_ERROR_FILE, .text = "the store can't be opened"};
-    return store && dconfdb_store_change(store, (const DconfdbEdit *)(const void *)edits->data, edits->len, fault);
+    return store && dconfdb_store_change(store, edit_at(edits, 0), edits->edits->len, fault);
 }
 
 /* Makes the changes, but for those of keys that were locked since they were asked for. */
 static gboolean put_unlocked(Engine *self, DConfChangeset *changes, DconfdbError *fault)
 {
     DconfdbSnapshot *now = engine_look(self);
-    GArray *edits = now ? edits_of(now, changes) : g_array_new(FALSE, FALSE, sizeof(DconfdbEdit));
+    Edits edits = edits_of(changes);
     gboolean is_done;
-    while (!(is_done = put(self, edits, fault)) && fault->number == DCONFDB_ERROR_LOCKED && fault->at < edits->len) {
+    leave_out_idle(&edits, now);
+    while (!(is_done = put(self, &edits, fault)) && fault->number == DCONFDB_ERROR_LOCKED && fault->at < edits.edits->len) {
         g_warning("failed to commit changes to dconf: %s", fault->text);
-        g_array_remove_index(edits, (guint)fault->at);
+        g_array_remove_index(edits.edits, (guint)fault->at);
     }
-    g_array_unref(edits);
+    edits_clear(&edits);
     dconfdb_snapshot_unref(now);
     return is_done;
 }
@@ -214,44 +238,39 @@ static void begin_thread(Engine *self)
     engine_unref(self);
 }
 
-static gboolean sets_below(DConfChangeset *changes, const gchar *directory)
+static gboolean is_no_value_below(const gchar *path, GVariant *value, gpointer directory)
 {
-    GTreeNode *at = NULL;
-    Row row;
-    while (changeset_next(changes, &at, &row)) {
-        if (row.value && g_str_has_prefix(row.path, directory))
-            return TRUE;
-    }
-    return FALSE;
+    return !value || !g_str_has_prefix(path, directory);
 }
 
 /* `lock` is held. Whether the user has that already, or will have once what waits is written. */
-static gboolean is_redundant(Engine *self, const DconfdbSnapshot *now, const Row *row)
+static gboolean is_redundant(Engine *self, const DconfdbSnapshot *now, const DconfdbEdit *edit, GVariant *value)
 {
     GVariant *found = NULL;
-    DconfdbEdit edit = edit_of(row);
     DConfChangeset *sets[] = {self->waiting, self->flying};
+    bool is_directory = g_str_has_suffix(edit->path, "/");
     for (size_t i = 0; i < G_N_ELEMENTS(sets); i++) {
-        if (sets[i] && g_str_has_suffix(row->path, "/") && sets_below(sets[i], row->path))
+        if (sets[i] && is_directory && !dconf_changeset_all(sets[i], is_no_value_below, (gpointer)edit->path))
             return FALSE;
-        if (!sets[i] || !dconf_changeset_get(sets[i], row->path, &found))
+        if (!sets[i] || !dconf_changeset_get(sets[i], edit->path, &found))
             continue;
-        gboolean is = found && row->value ? g_variant_equal(found, row->value) : found == row->value;
+        gboolean is = found && value ? g_variant_equal(found, value) : found == value;
         g_clear_pointer(&found, g_variant_unref);
         return is;
     }
-    return dconfdb_snapshot_has_edit(now, &edit);
+    return dconfdb_snapshot_has_edit(now, edit);
 }
 
 /* Lets the changes wait, and says whether they change anything. */
-static gboolean add_waiting(Engine *self, const DconfdbSnapshot *now, DConfChangeset *changes)
+static gboolean add_waiting(Engine *self, const DconfdbSnapshot *now, const Edits *edits, DConfChangeset *changes)
 {
     gboolean changes_nothing = TRUE;
-    GTreeNode *at = NULL;
-    Row row;
     g_mutex_lock(&self->lock);
-    while (changes_nothing && changeset_next(changes, &at, &row))
-        changes_nothing = is_redundant(self, now, &row);
+    for (guint at = 0; changes_nothing && at < edits->edits->len; at++) {
+        g_autoptr(GVariant) value = NULL;
+        dconf_changeset_get(changes, edit_at(edits, at)->path, &value);
+        changes_nothing = is_redundant(self, now, edit_at(edits, at), value);
+    }
     if (!self->waiting)
         self->waiting = dconf_changeset_new();
     dconf_changeset_change(self->waiting, changes);
@@ -264,11 +283,15 @@ gboolean engine_change_fast(Engine *self, DConfChangeset *changes, GError **erro
     if (dconf_changeset_is_empty(changes))
         return TRUE;
     DconfdbSnapshot *now = engine_look(self);
-    gboolean may = may_change(self, now, changes, error), is_told = may && now && add_waiting(self, now, changes);
-    if (may && now)
+    Edits edits = edits_of(changes);
+    gboolean may = may_change(self, now, &edits, error);
+    if (may && now && engine_has_user(self)) {
+        gboolean is_told = add_waiting(self, now, &edits, changes);
         begin_thread(self);
-    if (is_told)
-        notice_changed(self, changes, NULL, TRUE);
+        if (is_told)
+            notice_changed(self, changes, NULL, TRUE);
+    }
+    edits_clear(&edits);
     dconfdb_snapshot_unref(now);
     return may;
 }
@@ -280,12 +303,13 @@ static gchar *new_tag(void)
 }
 
 /* `turn` is held, and nothing waits. */
-static gboolean write_now(Engine *self, DConfChangeset *changes, const gchar *tag, DconfdbError *fault)
+static gboolean write_now(Engine *self, DConfChangeset *changes, Edits *edits, const gchar *tag, DconfdbError *fault)
 {
     DconfdbSnapshot *now = engine_look(self);
-    DConfChangeset *told = now ? effective(now, changes) : dconf_changeset_new();
-    GArray *edits = now ? edits_of(now, changes) : g_array_new(FALSE, FALSE, sizeof(DconfdbEdit));
     const gchar *prefix;
+    if (engine_has_user(self))
+        leave_out_idle(edits, now);
+    g_autoptr(DConfChangeset) told = effective(edits, now, changes);
     set_writing(self, changes);
     gboolean is_done = put(self, edits, fault);
     if (!is_done)
@@ -294,32 +318,34 @@ static gboolean write_now(Engine *self, DConfChangeset *changes, const gchar *ta
     set_writing(self, NULL);
     if (is_done && dconf_changeset_describe(told, &prefix, NULL, NULL) > 0 && engine_is_watched(self, prefix))
         notice_changed(self, told, tag, FALSE);
-    g_array_unref(edits);
-    dconf_changeset_unref(told);
     dconfdb_snapshot_unref(now);
     return is_done;
 }
 
-gboolean engine_change_sync(Engine *self, DConfChangeset *changes, gchar **tag, GError **error)
+/* What was asked for before is before it in the store, too. */
+static gboolean write_in_turn(Engine *self, DConfChangeset *changes, Edits *edits, const gchar *tag, GError **error)
 {
     DconfdbError fault;
-    gboolean is_empty = dconf_changeset_is_empty(changes);
-    DconfdbSnapshot *now = engine_look(self);
-    gboolean may = may_change(self, now, changes, error);
-    dconfdb_snapshot_unref(now);
-    if (!may)
-        return FALSE;
-    dconf_changeset_seal(changes);
-    g_autofree gchar *own = is_empty ? g_strdup("") : new_tag();
     g_mutex_lock(&self->turn);
-    /* What was asked for before is before it in the store, too. */
-    gboolean is_done = is_empty || (write_waiting(self, &fault) && write_now(self, changes, own, &fault));
+    gboolean is_done = write_waiting(self, &fault) && write_now(self, changes, edits, tag, &fault);
     g_mutex_unlock(&self->turn);
-    if (!is_done)
-        return refuse(&fault, error);
-    if (tag)
+    return is_done || refuse(&fault, error);
+}
+
+gboolean engine_change_sync(Engine *self, DConfChangeset *changes, gchar **tag, GError **error)
+{
+    g_autofree gchar *own = dconf_changeset_is_empty(changes) ? g_strdup("") : new_tag();
+    gboolean is_done = *own == 0;
+    if (!is_done) {
+        DconfdbSnapshot *now = engine_look(self);
+        Edits edits = edits_of(changes);
+        is_done = may_change(self, now, &edits, error) && write_in_turn(self, changes, &edits, own, error);
+        edits_clear(&edits);
+        dconfdb_snapshot_unref(now);
+    }
+    if (is_done && tag)
         *tag = g_steal_pointer(&own);
-    return TRUE;
+    return is_done;
 }
 
 void engine_sync(Engine *self)

@@ -9,6 +9,8 @@
 static void print_message(const gchar *domain, GLogLevelFlags level, const gchar *text, gpointer data)
 {
     (void)data;
+    if ((level & (G_LOG_LEVEL_DEBUG | G_LOG_LEVEL_INFO)) != 0)
+        return;
     printf("  %s %d: %s\n", domain ? domain : "-", (int)level & G_LOG_LEVEL_MASK & ~G_LOG_FLAG_FATAL, text);
     fflush(stdout);
 }
@@ -22,8 +24,7 @@ static GLogWriterOutput write_message(GLogLevelFlags level, const GLogField *fie
         if (strcmp(fields[i].key, "GLIB_DOMAIN") == 0)
             domain = fields[i].value;
     }
-    if ((level & (G_LOG_LEVEL_DEBUG | G_LOG_LEVEL_INFO)) == 0)
-        print_message(domain, level, text, data);
+    print_message(domain, level, text, data);
     return G_LOG_WRITER_HANDLED;
 }
 
@@ -44,8 +45,16 @@ static void print_value(GVariant *value)
     g_clear_pointer(&value, g_variant_unref);
 }
 
+static int by_text(const void *one, const void *other)
+{
+    return strcmp(*(char *const *)one, *(char *const *)other);
+}
+
+/* Names and rows come in any order from dconf. */
 static void print_list(gchar **list, gint length)
 {
+    if (list)
+        qsort(list, g_strv_length(list), sizeof *list, by_text);
     printf("  %d", length);
     for (gchar **at = list; at && *at; at++)
         printf(" %s", *at);
@@ -53,9 +62,25 @@ static void print_list(gchar **list, gint length)
     g_strfreev(list);
 }
 
+static gboolean print_row(const gchar *path, GVariant *value, gpointer data)
+{
+    char *text = value ? g_variant_print(value, TRUE) : g_strdup("nothing");
+    g_ptr_array_add(data, g_strdup_printf("%s: %s", path, text));
+    g_free(text);
+    return TRUE;
+}
+
 static void print_set(DConfChangeset *set)
 {
-    print_value(set ? g_variant_ref_sink(dconf_changeset_serialise(set)) : NULL);
+    GPtrArray *rows = g_ptr_array_new_with_free_func(g_free);
+    if (set)
+        dconf_changeset_all(set, print_row, rows);
+    qsort(rows->pdata, rows->len, sizeof(gpointer), by_text);
+    printf("  %s", set ? "set" : "NULL");
+    for (guint i = 0; i < rows->len; i++)
+        printf(", %s", (char *)rows->pdata[i]);
+    printf("\n");
+    g_ptr_array_unref(rows);
     g_clear_pointer(&set, dconf_changeset_unref);
 }
 

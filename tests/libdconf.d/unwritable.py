@@ -37,7 +37,7 @@ def no_file_there(both, driver):
     out, err = asked(both, driver, WRITES, lambda store: (store / 'user.user.new').mkdir())
     same('a sync change that fails', out.split('\n')[2], '  0 dconf_error 0 ' + out.split('\n')[2].removeprefix('  0 dconf_error 0 '))
     same('a fast one', out.split('\n')[3:7], ['write fast /u/k 2', '  changed /u/k [] NULL', '  1', 'read 0 /u/k'])
-    same('is taken back, and told', out.split('\n')[8:], ['sync', 'settle 50', '  changed /u/k [] empty', 'read 0 /u/k', '  NULL', ''])
+    same('is taken back, and told', out.split('\n')[8:], ['sync', 'settle 50', '  changed /u/k [] NULL', 'read 0 /u/k', '  NULL', ''])
     if err.count('failed to commit changes to dconf: ') != 1:
         raise Stop(f'a fast change that fails: {err}')
 
