@@ -52,19 +52,67 @@ DconfdbStore *engine_store(Engine *self)
     return store ? store : open_store(self);
 }
 
-DconfdbSnapshot *engine_look(Engine *self)
+static gboolean begin_look(Engine *self)
+{
+    g_mutex_lock(&self->lock);
+    gboolean may = !self->is_busy;
+    self->is_to_look = self->is_to_look || !may;
+    self->looks += may ? 1 : 0;
+    g_mutex_unlock(&self->lock);
+    return may;
+}
+
+static void end_look(Engine *self)
+{
+    g_mutex_lock(&self->lock);
+    if (--self->looks == 0)
+        g_cond_broadcast(&self->looked);
+    g_mutex_unlock(&self->lock);
+}
+
+/* Whether others changed anything. */
+static bool refresh(Engine *self, DconfdbStore *store)
 {
     DconfdbError error;
-    DconfdbStore *store = engine_store(self);
     bool has_changed = false;
+    if (!begin_look(self))
+        return false;
+    bool is_done = dconfdb_store_refresh(store, &has_changed, &error);
+    end_look(self);
+    if (!is_done)
+        warn_once(self, error.text);
+    return has_changed;
+}
+
+DconfdbSnapshot *engine_look(Engine *self)
+{
+    DconfdbStore *store = engine_store(self);
     if (!store)
         return NULL;
-    if (!dconfdb_store_refresh(store, &has_changed, &error))
-        warn_once(self, error.text);
+    bool has_changed = refresh(self, store);
     DconfdbSnapshot *now = dconfdb_store_snapshot(store);
     if (has_changed)
         warn_of_faults(self, store, now);
     return now;
+}
+
+void engine_begin_write(Engine *self)
+{
+    g_mutex_lock(&self->lock);
+    self->is_busy = TRUE;
+    while (self->looks > 0)
+        g_cond_wait(&self->looked, &self->lock);
+    g_mutex_unlock(&self->lock);
+}
+
+void engine_end_write(Engine *self)
+{
+    g_mutex_lock(&self->lock);
+    gboolean is_to_look = self->is_to_look;
+    self->is_busy = self->is_to_look = FALSE;
+    g_mutex_unlock(&self->lock);
+    if (is_to_look)
+        dconfdb_snapshot_unref(engine_look(self));
 }
 
 gboolean engine_has_user(Engine *self)
@@ -82,6 +130,7 @@ Engine *engine_new(DConfClient *client)
     self->context = g_main_context_ref_thread_default();
     g_mutex_init(&self->turn);
     g_mutex_init(&self->lock);
+    g_cond_init(&self->looked);
     self->warned = g_hash_table_new_full(g_str_hash, g_str_equal, g_free, NULL);
     self->watched = g_hash_table_new_full(g_str_hash, g_str_equal, g_free, NULL);
     DconfdbSnapshot *now = engine_look(self);
@@ -103,6 +152,7 @@ static void clear(gpointer data)
     g_main_context_unref(self->context);
     g_mutex_clear(&self->turn);
     g_mutex_clear(&self->lock);
+    g_cond_clear(&self->looked);
     g_hash_table_unref(self->warned);
     g_hash_table_unref(self->watched);
     g_clear_pointer(&self->waiting, dconf_changeset_unref);

@@ -22,6 +22,10 @@ typedef struct {
     DConfChangeset *waiting; /* fast changes that nobody writes yet; NULL: none */
     DConfChangeset *flying;  /* fast changes that a thread writes */
     DConfChangeset *writing; /* what a thread writes, fast or not */
+    gboolean is_busy;        /* its file is being replaced: nobody looks at the files, which would wait for the disk */
+    gboolean is_to_look;     /* somebody wanted to, meanwhile */
+    guint looks;             /* how many threads look at the files */
+    GCond looked;            /* none does */
     gboolean has_thread;     /* one writes what waits */
     GHashTable *watched;     /* paths, and how often each is watched */
     GSource *source;         /* NULL: nothing is watched */
@@ -36,8 +40,13 @@ void engine_unref(Engine *self);
 /* The store; NULL: it can't be opened. One warning says why. */
 DconfdbStore *engine_store(Engine *self);
 
-/* The files as they are now, a reference; NULL: the store can't be opened. */
+/* The files as they are now, a reference; NULL: the store can't be opened. It waits for no disk: as long as this
+ * client replaces the user's file, it is what was seen before. */
 DconfdbSnapshot *engine_look(Engine *self);
+
+/* The user's file is about to be replaced; and it has been, or not. */
+void engine_begin_write(Engine *self);
+void engine_end_write(Engine *self);
 
 /* Whether the profile has a user's database: without one nothing can be written. */
 gboolean engine_has_user(Engine *self);

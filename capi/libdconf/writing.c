@@ -1,11 +1,14 @@
 /* How changes are made: sync ones by their caller, fast ones by a thread of their own. */
 #include "libdconf.h"
 
+#include "../lock.h"
+
 #include <string.h>
 #include <unistd.h>
 
-/* In microseconds: before what others kept from being written is tried again. */
-enum { PAUSE = 50000 };
+/* How long a change waits for others, in milliseconds; and before what they kept from being written is tried again, in
+ * microseconds. */
+enum { LONGEST_WAIT = 10000, PAUSE = 50000 };
 
 /* ---- edits */
 
@@ -50,14 +53,24 @@ static void edits_clear(Edits *self)
     g_ptr_array_unref(self->texts);
 }
 
-/* Leaves out what does nothing: the reset of a locked key. */
-static void leave_out_idle(Edits *self, const DconfdbSnapshot *now)
+static bool is_reset_of_locked(const DconfdbSnapshot *now, const DconfdbEdit *edit)
 {
+    return !edit->type && dconf_is_key(edit->path, NULL) && !dconfdb_snapshot_is_writable(now, edit->path);
+}
+
+/* Leaves out the resets of locked keys, which do nothing; and all, if the user has all of it. */
+static void leave_out(Edits *self, const DconfdbSnapshot *now)
+{
+    gboolean changes_nothing = TRUE;
     for (guint at = self->edits->len; now && at > 0; at--) {
         const DconfdbEdit *edit = edit_at(self, at - 1);
-        if (!edit->type && dconf_is_key(edit->path, NULL) && !dconfdb_snapshot_is_writable(now, edit->path))
+        if (is_reset_of_locked(now, edit))
             g_array_remove_index(self->edits, at - 1);
+        else
+            changes_nothing = changes_nothing && dconfdb_snapshot_has_edit(now, edit);
     }
+    if (now && changes_nothing)
+        g_array_set_size(self->edits, 0);
 }
 
 /* The changes of which the user has something else. */
@@ -111,11 +124,23 @@ static void set_writing(Engine *self, DConfChangeset *changes)
     g_mutex_unlock(&self->lock);
 }
 
+/* As dconfdb_store_change, but that the others are waited for before anybody who reads is kept from the files. */
 static gboolean put(Engine *self, const Edits *edits, DconfdbError *fault)
 {
+    FolderLock lock;
     DconfdbStore *store = engine_store(self);
     *fault = (DconfdbError){.number = DCONFDB_ERROR_FILE, .text = "the store can't be opened"};
-    return store && dconfdb_store_change(store, edit_at(edits, 0), edits->edits->len, fault);
+    if (!store || edits->edits->len == 0)
+        return store != NULL;
+    int failed = engine_has_user(self) ? folder_lock(dconfdb_store_folder(store), LONGEST_WAIT, &lock) : 0;
+    if (failed != 0)
+        return refuse_lock(store, failed, fault);
+    engine_begin_write(self);
+    gboolean is_done = locked_change(store, engine_has_user(self) ? &lock : NULL, edit_at(edits, 0), edits->edits->len, fault);
+    if (engine_has_user(self))
+        folder_unlock(&lock);
+    engine_end_write(self);
+    return is_done;
 }
 
 /* Makes the changes, but for those of keys that were locked since they were asked for. */
@@ -124,7 +149,7 @@ static gboolean put_unlocked(Engine *self, DConfChangeset *changes, DconfdbError
     DconfdbSnapshot *now = engine_look(self);
     Edits edits = edits_of(changes);
     gboolean is_done;
-    leave_out_idle(&edits, now);
+    leave_out(&edits, now);
     while (!(is_done = put(self, &edits, fault)) && fault->number == DCONFDB_ERROR_LOCKED && fault->at < edits.edits->len) {
         g_warning("failed to commit changes to dconf: %s", fault->text);
         g_array_remove_index(edits.edits, (guint)fault->at);
@@ -308,7 +333,7 @@ static gboolean write_now(Engine *self, DConfChangeset *changes, Edits *edits, c
     DconfdbSnapshot *now = engine_look(self);
     const gchar *prefix;
     if (engine_has_user(self))
-        leave_out_idle(edits, now);
+        leave_out(edits, now);
     g_autoptr(DConfChangeset) told = effective(edits, now, changes);
     set_writing(self, changes);
     gboolean is_done = put(self, edits, fault);

@@ -73,7 +73,7 @@ class Both:
             raise Stop(f'{name}.c is not compiled')
         return binary
 
-    def ran(self, whose, words, given='', timeout=300, **more):
+    def ran(self, whose, words, given='', timeout=120, **more):
         """The status, stdout and stderr of a program."""
         env = self.environment(whose) | more
         done = subprocess.run(words, env=env, input=given, capture_output=True, text=True, errors='replace', timeout=timeout, check=False)

@@ -163,6 +163,24 @@ void mock_log_set_writer_func(GLogWriterFunc func, gpointer data, GDestroyNotify
     is_set = TRUE;
 }
 
+/* ---- fast changes: dconf's call is on the bus when they return */
+
+gboolean mock_client_write_fast(DConfClient *client, const gchar *key, GVariant *value, GError **error);
+gboolean mock_client_write_fast(DConfClient *client, const gchar *key, GVariant *value, GError **error)
+{
+    gboolean is_done = dconf_client_write_fast(client, key, value, error);
+    settle(SETTLED);
+    return is_done;
+}
+
+gboolean mock_client_change_fast(DConfClient *client, DConfChangeset *changes, GError **error);
+gboolean mock_client_change_fast(DConfClient *client, DConfChangeset *changes, GError **error)
+{
+    gboolean is_done = dconf_client_change_fast(client, changes, error);
+    settle(SETTLED);
+    return is_done;
+}
+
 /* ---- databases */
 
 static char *bytes_of(const Table *table, gsize *size)
@@ -331,10 +349,7 @@ gboolean dconf_engine_change_fast(Engine *engine, DConfChangeset *changes, gpoin
 {
     (void)origin;
     warn_as_dconf();
-    gboolean is_done = dconf_client_change_fast(engine->client, changes, error);
-    /* dconf's call is on the bus when this returns. */
-    settle(SETTLED);
-    return is_done;
+    return mock_client_change_fast(engine->client, changes, error);
 }
 
 /* The test's service says which tag a write gets, or with which error it fails. */

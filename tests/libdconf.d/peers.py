@@ -11,6 +11,8 @@ SOURCES = '''deb-src [signed-by=/usr/share/keyrings/debian-archive-keyring.gpg] 
 '''
 # The others of engine.c look into it: at its profiles, its sources, the bus's match rules, the messages that it takes from the bus.
 OF_ENGINE = ['/engine/read', '/engine/change', '/engine/sync']
+OF_CLIENT = [f'-D{old}={new}' for old, new in (('g_queue_get_length', 'mock_queue_get_length'), ('dconf_client_write_fast', 'mock_client_write_fast'),
+                                               ('dconf_client_change_fast', 'mock_client_change_fast'))]
 RENAMED = ['-Dg_log_set_writer_func=mock_log_set_writer_func']
 
 
@@ -68,7 +70,7 @@ def main(both):
     needs('apt-get', 'apt')
     sources = fetched(both.folder / 'peers')
     counts = {name: passed(both, made(both, sources, name)) for name in ('paths', 'changeset')}
-    counts['client'] = passed(both, made(both, sources, 'client', *RENAMED, '-Dg_queue_get_length=mock_queue_get_length'))
+    counts['client'] = passed(both, made(both, sources, 'client', *RENAMED, *OF_CLIENT))
     engine = made(both, sources, 'engine', *RENAMED)
     counts['engine'] = sum(passed(both, engine, '-p', it) for it in OF_ENGINE)
     return 'dconf\'s own tests pass over it: ' + ', '.join(f'{count} of {name}.c' for name, count in counts.items())

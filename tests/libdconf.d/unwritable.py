@@ -73,9 +73,8 @@ def held(both, driver):
 
 def left(both, driver):
     """A client that goes while something waits: it is written all the same, if the program lives that long."""
-    asked(both, driver, 'write fast /u/k 1\nanew\nsettle 500\n', lambda store: None)
-    if b'/u/k' not in (both.folder / 'unwritable' / 'user.user').read_bytes():
-        raise Stop('what waited when its client went is lost')
+    out, _ = asked(both, driver, 'write fast /u/k 1\nanew\nsettle 500\nread 2 /u/k\n', lambda store: None)
+    same('what waited when its client went', out.split('\n')[-2], '  1')
 
 
 def main(both):
