@@ -187,10 +187,10 @@ static GVariant *lend(DconfdbSnapshot *snapshot, Reads *reads, const char *key)
     return g_variant_ref_sink(g_variant_new_from_data(type, value.data, value.size, FALSE, give_back, snapshot));
 }
 
-/* Whether the sets, or what waits, have the key. */
+/* Whether the sets, the last one first, or what waits, have the key. */
 static gboolean find_edit(Engine *self, const gchar *key, const GQueue *read_through, GVariant **value)
 {
-    for (const GList *at = read_through ? read_through->head : NULL; at; at = at->next) {
+    for (const GList *at = read_through ? read_through->tail : NULL; at; at = at->prev) {
         if (dconf_changeset_get(at->data, key, value))
             return TRUE;
     }

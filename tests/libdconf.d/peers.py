@@ -9,11 +9,12 @@ from frame import Missing, Stop, needs
 
 SOURCES = '''deb-src [signed-by=/usr/share/keyrings/debian-archive-keyring.gpg] http://deb.debian.org/debian {suite} main
 '''
-# The others of engine.c look into it: at its profiles, its sources, the bus's match rules, the messages that it takes from the bus.
-OF_ENGINE = ['/engine/read', '/engine/change', '/engine/sync']
+# Each in a run of its own, since some leave a write unanswered. The others of engine.c look into it: at its profiles, its sources, the bus's match rules, the messages that it takes from the bus.
+OF_ENGINE = ['/engine/read', '/engine/change/fast', '/engine/change/fast_redundant', '/engine/change/sync', '/engine/sync']
 OF_CLIENT = [f'-D{old}={new}' for old, new in (('g_queue_get_length', 'mock_queue_get_length'), ('dconf_client_write_fast', 'mock_client_write_fast'),
                                                ('dconf_client_change_fast', 'mock_client_change_fast'))]
-RENAMED = ['-Dg_log_set_writer_func=mock_log_set_writer_func']
+# What dconf's headers hide may be missing.
+RENAMED = ['-Dvisibility(x)=unused', '-Dg_log_set_writer_func=mock_log_set_writer_func']
 
 
 def suite():
@@ -50,7 +51,9 @@ def made(both, sources, name, *more):
     if not adapter.exists():
         subprocess.run(['gcc', *shared.WARNINGS, '-c', shared.HERE / 'peers.c', *shared.flags('dconf', words=('--cflags',)), '-o', adapter], check=True)
     glib = shared.flags('gio-2.0', 'gio-unix-2.0', 'dconf')
-    subprocess.run([*words, adapter, '-o', program, *glib, '-lm', '-Wl,--unresolved-symbols=ignore-all'], check=True)
+    linked = subprocess.run([*words, adapter, '-o', program, *glib, '-lm', '-Wl,--unresolved-symbols=ignore-all'], capture_output=True, text=True, check=False)
+    if linked.returncode:
+        raise Stop(f'dconf\'s {name}.c is not made: {linked.stderr[-1000:]}')
     return program
 
 
