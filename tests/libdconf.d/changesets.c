@@ -16,7 +16,8 @@ static int by_text(const void *one, const void *other)
 /* Texts in their order, in one line. */
 static void print_sorted(GPtrArray *texts)
 {
-    qsort(texts->pdata, texts->len, sizeof(gpointer), by_text);
+    if (texts->len > 0)
+        qsort(texts->pdata, texts->len, sizeof(gpointer), by_text);
     for (guint i = 0; i < texts->len; i++)
         printf(" %s", (char *)texts->pdata[i]);
     printf("\n");

@@ -75,7 +75,8 @@ static void print_set(DConfChangeset *set)
     GPtrArray *rows = g_ptr_array_new_with_free_func(g_free);
     if (set)
         dconf_changeset_all(set, print_row, rows);
-    qsort(rows->pdata, rows->len, sizeof(gpointer), by_text);
+    if (rows->len > 0)
+        qsort(rows->pdata, rows->len, sizeof(gpointer), by_text);
     printf("  %s", set ? "set" : "NULL");
     for (guint i = 0; i < rows->len; i++)
         printf(", %s", (char *)rows->pdata[i]);
