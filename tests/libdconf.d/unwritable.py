@@ -1,5 +1,7 @@
 """A store that can't be written, one that is damaged, and one that others hold: what a sync change answers, and what becomes of a fast one."""
 import fcntl
+import resource
+import signal
 import subprocess
 
 from frame import Stop
@@ -32,9 +34,15 @@ def same(what, found, wanted):
         raise Stop(f'{what}: {found!r}, not {wanted!r}')
 
 
-def no_file_there(both, driver):
-    """A folder has the user's file's place: nothing can be written."""
-    out, err = asked(both, driver, WRITES, lambda store: (store / 'user.user.new').mkdir())
+def write_nothing():
+    """A program that may write no file."""
+    signal.signal(signal.SIGXFSZ, signal.SIG_IGN)
+    resource.setrlimit(resource.RLIMIT_FSIZE, (0, 0))
+
+
+def full(both, driver):
+    """Nothing can be written, as on a full disk."""
+    out, err = asked(both, driver, WRITES, lambda store: None, preexec_fn=write_nothing)
     same('a sync change that fails', out.split('\n')[2], '  0 dconf_error 0 ' + out.split('\n')[2].removeprefix('  0 dconf_error 0 '))
     same('a fast one', out.split('\n')[3:7], ['write fast /u/k 2', '  changed /u/k [] NULL', '  1', 'read 0 /u/k'])
     same('is taken back, and told', out.split('\n')[8:], ['sync', 'settle 50', '  changed /u/k [] NULL', 'read 0 /u/k', '  NULL', ''])
@@ -79,6 +87,6 @@ def left(both, driver):
 
 def main(both):
     driver = both.compiled('driver')
-    for part in (no_file_there, no_user, damaged, held, left):
+    for part in (full, no_user, damaged, held, left):
         part(both, driver)
     return 'stores that can\'t be written, have no user, are damaged or held: the right errors, warnings and signals'
