@@ -143,8 +143,8 @@ static gboolean put(Engine *self, const Edits *edits, DconfdbError *fault)
     return is_done;
 }
 
-/* Makes the changes, but for those of keys that were locked since they were asked for. */
-static gboolean put_unlocked(Engine *self, DConfChangeset *changes, DconfdbError *fault)
+/* Makes the changes, but for those of keys that were locked since they were asked for: they come into `refused`. */
+static gboolean put_unlocked(Engine *self, DConfChangeset *changes, DConfChangeset *refused, DconfdbError *fault)
 {
     DconfdbSnapshot *now = engine_look(self);
     Edits edits = edits_of(changes);
@@ -152,6 +152,7 @@ static gboolean put_unlocked(Engine *self, DConfChangeset *changes, DconfdbError
     leave_out(&edits, now);
     while (!(is_done = put(self, &edits, fault)) && fault->number == DCONFDB_ERROR_LOCKED && fault->at < edits.edits->len) {
         g_warning("failed to commit changes to dconf: %s", fault->text);
+        dconf_changeset_set(refused, edit_at(&edits, (guint)fault->at)->path, NULL);
         g_array_remove_index(edits.edits, (guint)fault->at);
     }
     edits_clear(&edits);
@@ -192,7 +193,8 @@ static gboolean write_waiting(Engine *self, DconfdbError *fault)
     DConfChangeset *taken = take_waiting(self);
     if (!taken)
         return TRUE;
-    gboolean is_done = put_unlocked(self, taken, fault);
+    g_autoptr(DConfChangeset) refused = dconf_changeset_new();
+    gboolean is_done = put_unlocked(self, taken, refused, fault);
     if (!is_done && fault->number == DCONFDB_ERROR_BUSY) {
         put_back(self, taken);
         return FALSE;
@@ -202,10 +204,9 @@ static gboolean write_waiting(Engine *self, DconfdbError *fault)
     g_mutex_unlock(&self->lock);
     notice_others(self);
     set_writing(self, NULL);
-    if (!is_done) {
+    if (!is_done)
         g_warning("failed to commit changes to dconf: %s", fault->text);
-        notice_changed(self, taken, NULL, FALSE);
-    }
+    notice_changed(self, is_done ? refused : taken, NULL, FALSE);
     dconf_changeset_unref(taken);
     return TRUE;
 }

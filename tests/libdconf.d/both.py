@@ -46,15 +46,15 @@ class Both:
         """Both homes, with a site's database of some keys and locks."""
         site = self.folder / 'site'
         (site / 'd' / 'locks').mkdir(parents=True)
-        (site / 'd' / 'keys').write_text(KEYS)
-        (site / 'd' / 'locks' / 'all').write_text(LOCKS)
+        (site / 'd' / 'keys').write_text(KEYS, encoding='utf-8')
+        (site / 'd' / 'locks' / 'all').write_text(LOCKS, encoding='utf-8')
         subprocess.run(['dconf', 'compile', site / 'db', site / 'd'], check=True)
         profile = f'user-db:user\nfile-db:{site}/db\n'
-        (self.folder / 'profile').write_text(profile)
+        (self.folder / 'profile').write_text(profile, encoding='utf-8')
         for home in self.homes.values():
             (home / 'run').mkdir(parents=True, exist_ok=True, mode=0o700)
         (self.homes['ours'] / 'config' / 'dconfdb').mkdir(parents=True)
-        (self.homes['ours'] / 'config' / 'dconfdb' / 'profile').write_text(profile)
+        (self.homes['ours'] / 'config' / 'dconfdb' / 'profile').write_text(profile, encoding='utf-8')
 
     def environment(self, whose):
         """That of a program with one of the libraries, at home there."""

@@ -3,7 +3,9 @@ import fcntl
 import resource
 import signal
 import subprocess
+import threading
 
+import frame
 from frame import Stop
 
 WRITES = '''watch sync /
@@ -53,7 +55,7 @@ def full(both, driver):
 def no_user(both, driver):
     """A profile without a user's database: nothing is writable."""
     given = 'writable /u/k\nwrite sync /u/k 1\nwrite fast /u/k 1\nwrite sync /u/k -\nwrite fast /u/k -\nlocks /\n'
-    out, err = asked(both, driver, given, lambda store: (store / 'profile').write_text('system-db:site\n'))
+    out, err = asked(both, driver, given, lambda store: (store / 'profile').write_text('system-db:site\n', encoding='utf-8'))
     refused = '  0 dconf_error 2 The operation attempted to modify one or more non-writable keys'
     same('without a user', [line for line in out.split('\n') if line.startswith('  ')], ['  0', refused, refused, refused, '  1', '  1 /'])
     same('without a user, on stderr', err, '')
@@ -79,6 +81,27 @@ def held(both, driver):
     same('a held lock, on stderr', err, '')
 
 
+def locked_meanwhile(both, driver):
+    """While others hold the store's lock, the site locks a key that was changed: it is taken back, and told, and what waits with it is written."""
+    def compile_site(store, locks):
+        (store / 'site').mkdir(exist_ok=True)
+        (store / 'site' / 'locks').write_text(locks, encoding='utf-8')
+        subprocess.run([frame.program(), 'compile', 'db', '--locks', 'locks'], cwd=store / 'site', check=True)
+
+    def setup(store):
+        (store / 'profile').write_text('user-db:user\nfile-db:site/db\n', encoding='utf-8')
+        compile_site(store, '')
+        with open(store / '.lock', 'w', encoding='utf-8') as file:
+            fcntl.flock(file, fcntl.LOCK_EX)
+            subprocess.Popen(['sleep', '2'], pass_fds=[file.fileno()])
+        threading.Timer(1, compile_site, (store, '/u/k\n')).start()
+    given = 'write fast /u/k 1\nwrite fast /u/m 2\nread 0 /u/k\nsettle 1500\nread 0 /u/k\nread 0 /u/m\nsync\nsettle 50\nread 0 /u/k\nread 0 /u/m\n'
+    out, err = asked(both, driver, given, setup)
+    wanted = ['  changed /u/k [] NULL', '  1', '  changed /u/m [] NULL', '  1', '  1', '  NULL', '  2', '  changed /u/k [] NULL', '  NULL', '  2']
+    same('a key that is locked meanwhile', [line for line in out.split('\n') if line.startswith('  ')], wanted)
+    same('a key that is locked meanwhile, on stderr', err.count('failed to commit changes to dconf: '), 1)
+
+
 def left(both, driver):
     """A client that goes while something waits: it is written all the same, if the program lives that long."""
     out, _ = asked(both, driver, 'write fast /u/k 1\nanew\nsettle 500\nread 2 /u/k\n', lambda store: None)
@@ -87,6 +110,6 @@ def left(both, driver):
 
 def main(both):
     driver = both.compiled('driver')
-    for part in (full, no_user, damaged, held, left):
+    for part in (full, no_user, damaged, held, locked_meanwhile, left):
         part(both, driver)
     return 'stores that can\'t be written, have no user, are damaged or held: the right errors, warnings and signals'
