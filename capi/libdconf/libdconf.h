@@ -8,8 +8,8 @@
 
 /* ---- a client's store (engine.c) */
 
-/* It outlives its client as long as something waits. `turn` is taken before `lock`, and neither is held while a
- * signal is emitted or a message logged. */
+/* It outlives its client as long as something waits. `turn` is taken before `lock`. No signal is emitted while either
+ * is held, and no message logged while `lock` is. */
 typedef struct {
     GWeakRef client;
     GMainContext *context; /* signals come in it */

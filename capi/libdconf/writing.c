@@ -1,8 +1,11 @@
 /* How changes are made: sync ones by their caller, fast ones by a thread of their own. */
+#define _GNU_SOURCE
 #include "libdconf.h"
 
 #include "../lock.h"
 
+#include <pthread.h>
+#include <signal.h>
 #include <string.h>
 #include <unistd.h>
 
@@ -143,6 +146,27 @@ static gboolean put(Engine *self, const Edits *edits, DconfdbError *fault)
     return is_done;
 }
 
+static void refuse_edit(Edits *self, guint at, DConfChangeset *refused)
+{
+    dconf_changeset_set(refused, edit_at(self, at)->path, NULL);
+    g_array_remove_index(self->edits, at);
+}
+
+/* Refuses all that is locked now, so that not each costs a try; or else the one that was found to be. */
+static void refuse_locked_edits(Edits *self, Engine *engine, size_t found, DConfChangeset *refused)
+{
+    DconfdbSnapshot *now = engine_look(engine);
+    guint count = self->edits->len;
+    for (guint at = count; now && at > 0; at--) {
+        const char *path = edit_at(self, at - 1)->path;
+        if (dconf_is_key(path, NULL) && !dconfdb_snapshot_is_writable(now, path))
+            refuse_edit(self, at - 1, refused);
+    }
+    if (self->edits->len == count)
+        refuse_edit(self, (guint)found, refused);
+    dconfdb_snapshot_unref(now);
+}
+
 /* Makes the changes, but for those of keys that were locked since they were asked for: they come into `refused`. */
 static gboolean put_unlocked(Engine *self, DConfChangeset *changes, DConfChangeset *refused, DconfdbError *fault)
 {
@@ -152,8 +176,7 @@ static gboolean put_unlocked(Engine *self, DConfChangeset *changes, DConfChanges
     leave_out(&edits, now);
     while (!(is_done = put(self, &edits, fault)) && fault->number == DCONFDB_ERROR_LOCKED && fault->at < edits.edits->len) {
         g_warning("failed to commit changes to dconf: %s", fault->text);
-        dconf_changeset_set(refused, edit_at(&edits, (guint)fault->at)->path, NULL);
-        g_array_remove_index(edits.edits, (guint)fault->at);
+        refuse_locked_edits(&edits, self, fault->at, refused);
     }
     edits_clear(&edits);
     dconfdb_snapshot_unref(now);
@@ -230,6 +253,17 @@ static gboolean ends(Engine *self)
     return is_idle;
 }
 
+/* The program's signals are its other threads'. */
+static GThread *new_thread(GThreadFunc call, Engine *self)
+{
+    sigset_t all, before;
+    sigfillset(&all);
+    pthread_sigmask(SIG_SETMASK, &all, &before);
+    GThread *thread = g_thread_try_new("dconf", call, self, NULL);
+    pthread_sigmask(SIG_SETMASK, &before, NULL);
+    return thread;
+}
+
 static gpointer write_behind(gpointer data)
 {
     Engine *self = data;
@@ -252,7 +286,7 @@ static void begin_thread(Engine *self)
     g_mutex_unlock(&self->lock);
     if (!is_new)
         return;
-    GThread *thread = g_thread_try_new("dconf", write_behind, engine_ref(self), NULL);
+    GThread *thread = new_thread(write_behind, engine_ref(self));
     if (thread) {
         g_thread_unref(thread);
         return;
