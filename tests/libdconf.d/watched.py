@@ -80,6 +80,9 @@ def main(both):
         done = change(both, rand, number, modules, schema)
         one, other = theirs.says('await 150'), ours.says('await 150')
         if one != other:
+            # A bus that has much to do brings a signal late.
+            one, other = one + theirs.says('settle 3000'), other + ours.says('settle 3000')
+        if one != other:
             raise Stop(f'{done}: dconf tells {one}, and ours {other}')
         told += len(other)
     for it in (theirs, ours):
