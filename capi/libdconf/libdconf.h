@@ -61,7 +61,8 @@ gboolean engine_is_writable(Engine *self, const DconfdbSnapshot *now, const gcha
 gboolean engine_change_fast(Engine *self, DConfChangeset *changes, GError **error);
 gboolean engine_change_sync(Engine *self, DConfChangeset *changes, gchar **tag, GError **error);
 
-/* Until what waits is written, or others have kept it from that for ten seconds. */
+/* Until what waits is written; or, if others keep it from that, for twenty seconds at most: those of a try that the
+ * client's thread has begun, and of one more. */
 void engine_sync(Engine *self);
 
 /* ---- who listens (watches.c) */

@@ -412,5 +412,5 @@ void engine_sync(Engine *self)
 {
     DconfdbError fault;
     if (!flush(self, &fault))
-        g_warning("what was changed is not on the disk after ten seconds, and goes on waiting: %s", fault.text);
+        g_warning("what was changed is not on the disk yet, and goes on waiting: %s", fault.text);
 }
