@@ -183,6 +183,14 @@ gboolean mock_client_change_fast(DConfClient *client, DConfChangeset *changes, G
 
 /* ---- databases */
 
+/* Replaces a file, and doesn't wait for the disk: it is done some 10,000 times. */
+static void put_file(const char *name, const char *bytes, gsize size)
+{
+    g_autofree char *new = g_strconcat(name, ".put", NULL);
+    FILE *file = fopen(new, "w");
+    g_assert_true(file && fwrite(bytes, 1, size, file) == size && fclose(file) == 0 && rename(new, name) == 0);
+}
+
 static char *bytes_of(const Table *table, gsize *size)
 {
     static GHashTable *made;
@@ -247,7 +255,7 @@ void dconf_mock_gvdb_install(const gchar *filename, Table *table);
 void dconf_mock_gvdb_install(const gchar *filename, Table *table)
 {
     g_autofree char *base = g_path_get_basename(filename);
-    g_autofree char *name = g_strconcat(store(), "/", base, strstr(filename, "/.config/") ? ".user" : ".db", NULL), *new = g_strconcat(name, ".put", NULL);
+    g_autofree char *name = g_strconcat(store(), "/", base, strstr(filename, "/.config/") ? ".user" : ".db", NULL);
     gsize size;
     installed++;
     if (!table) {
@@ -255,8 +263,7 @@ void dconf_mock_gvdb_install(const gchar *filename, Table *table)
         return;
     }
     const char *bytes = bytes_of(table, &size);
-    FILE *file = fopen(new, "w");
-    g_assert_true(file && fwrite(bytes, 1, size, file) == size && fclose(file) == 0 && rename(new, name) == 0);
+    put_file(name, bytes, size);
 }
 
 void dconf_mock_shm_reset(void);
@@ -286,7 +293,7 @@ static void put_profile(const gchar *filename)
         else if (is_user || g_str_has_prefix(line, "system-db:"))
             g_string_append_printf(lines, "%s\n", line);
     }
-    g_assert_true(g_file_set_contents(profile, lines->str, -1, NULL));
+    put_file(profile, lines->str, lines->len);
 }
 
 static void on_changed(DConfClient *client, const gchar *prefix, const gchar *const *changes, const gchar *tag, gpointer engine)

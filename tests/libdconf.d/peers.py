@@ -62,7 +62,7 @@ def passed(both, program, *words):
     store = both.folder / 'peers-store'
     subprocess.run(['rm', '-rf', store], check=True)
     store.mkdir()
-    status, out, err = both.ran('ours', [program, '--tap', *words], DCONFDB_STORE=str(store), DCONFDB=str(frame.program()))
+    status, out, err = both.ran('ours', [program, '--tap', *words], timeout=500, DCONFDB_STORE=str(store), DCONFDB=str(frame.program()))
     cases = [line for line in out.splitlines() if line.startswith('ok ')]
     if status or not cases or 'not ok' in out:
         raise Stop(f'dconf\'s {program.name.removeprefix("peers-")} {words}: status {status}\n{out[-1500:]}\n{err[-1500:]}')
