@@ -1,12 +1,12 @@
 -- A turn after each answer: what it stands at, and that fewer steps are left.
-use Rattle.std.proofs.Common.{ℕ, ◌+◌, ◌-◌, ◌<◌, ◌≤◌, ◌≡◌, ◌≢◌, Bool, true, false, cond, List, [], ◌∷◌, length, take, drop, Option, refl, sym, ◌∙◌, ap, subst, arith, ⊎_elim, inl, inr, ◌⊎◌, None}
+use Rattle.std.proofs.Common.{ℕ, ◌+◌, ◌-◌, ◌<◌, ◌≤◌, ◌≡◌, ◌≢◌, Bool, true, false, cond, List, [], ◌∷◌, length, take, drop, Option, refl, sym, ◌∙◌, ap, subst, arith, ⊎_elim, inl, inr, ◌⊎◌, None, Some}
 use Rattle.std.specs.Bool.{IsTrue}
 use Rattle.std.proofs.Math.Seq.{take-add}
 use Rattle.std.proofs.lemmas.List.{take_all}
-use Rattle.dconf_model.specs.Folders.{Event, file_of}
+use Rattle.dconf_model.specs.Folders.{Event, files_made, file_of}
 use Rattle.dconf_model.specs.Folders.Event.{create, append, touch, rename, remove, link, exchange}
 use Rattle.dconf_model.specs.Replacing.{new_name}
-use Rattle.dconf_model.proofs.SameBytes.{itself}
+use Rattle.dconf_model.proofs.SameBytes.{itself, other_path}
 use Rattle.dconf_turn.specs.declared.turn.Turn.{Turn}
 use Rattle.dconf_turn.specs.declared.turn.State.{State}
 use Rattle.dconf_turn.specs.declared.turn.State.TheVariants.{Locking, Reading, Making, Creating, Writing, Syncing, SettingAside, Exchanging, Renaming, SyncingFolder, Removing, Noting, Unlocking, Over}
@@ -53,6 +53,10 @@ module _ (keeps : Bool) (job : Job) (old es now : List Event) (apart : IsLockApa
 
   still_early : IsEarly job old es → now ≡ es → IsEarly job old now
   still_early s d = subst (λ x. IsEarly job old x) (sym d) s
+
+  early_same : IsEarly job old now → file_of now new ≡ file_of old new
+  early_same (inl same) = ap (λ l. file_of l new) same
+  early_same (inr m) = ap (λ l. file_of l new) m.2 ∙ ap (λ b. cond b (Some (files_made old)) (file_of old new)) (other_path new m.0 (λ e. (apart m.0 m.1).1 (sym e)))
 
   kept_early : IsEarly job old now → IsKept keeps job old now
   kept_early e = kept keeps job old now (early_apart keeps job old now e)
@@ -319,7 +323,7 @@ module _ (t : Turn) where
   done_syncing_folder n e = as_known t (record t { state = Noting; outcome = Made }) (Yes n) SyncingFolder e (record {
     stands = λ job old es now apart s d. (
       subst (λ l. Says t.keeps Made job old l) (sym d) (settled_made t.keeps job old es s.0 s.2),
-      ap (λ l. file_of l (new_name job.name)) d ∙ s.1,
+      inr (inl (ap (λ l. file_of l (new_name job.name)) d ∙ s.1)),
     );
     fewer = λ job old es now s d. inr (omega arith);
     order = omega arith;
@@ -403,7 +407,7 @@ module _ (t : Turn) where
 
   pub failed_locking : (fault : ℕ) → (e : t.state ≡ Locking) → IsAnswered t (No fault) (record t { state = Over; outcome = Kept fault })
   failed_locking fault e = as_known t (record t { state = Over; outcome = Kept fault }) (No fault) Locking e (record {
-    stands = λ job old es now apart s d. (let k = early_now t.keeps job old es now apart s d in (kept_early t.keeps job old es now apart k, inl k));
+    stands = λ job old es now apart s d. (let k = early_now t.keeps job old es now apart s d in (kept_early t.keeps job old es now apart k, inl (early_same t.keeps job old es now apart k)));
     fewer = λ job old es now s d. inr (omega arith);
     order = omega arith;
     on = omega arith;
@@ -415,7 +419,7 @@ module _ (t : Turn) where
 
   pub failed_reading : (fault : ℕ) → (e : t.state ≡ Reading) → IsAnswered t (No fault) (record t { state = Unlocking; outcome = Kept fault })
   failed_reading fault e = as_known t (record t { state = Unlocking; outcome = Kept fault }) (No fault) Reading e (record {
-    stands = λ job old es now apart s d. (let k = still_early t.keeps job old es now apart s d in (kept_early t.keeps job old es now apart k, inl k));
+    stands = λ job old es now apart s d. (let k = still_early t.keeps job old es now apart s d in (kept_early t.keeps job old es now apart k, inl (early_same t.keeps job old es now apart k)));
     fewer = λ job old es now s d. inr (omega arith);
     order = omega arith;
     on = omega arith;
@@ -425,9 +429,9 @@ module _ (t : Turn) where
     leaves = λ l. inl l;
   })
 
-  pub failed_making : (fault : ℕ) → (e : t.state ≡ Making) → IsAnswered t (No fault) (record t { state = Unlocking; outcome = Kept fault })
-  failed_making fault e = as_known t (record t { state = Unlocking; outcome = Kept fault }) (No fault) Making e (record {
-    stands = λ job old es now apart s d. (let k = still_early t.keeps job old es now apart s d in (kept_early t.keeps job old es now apart k, inl k));
+  pub failed_making : (fault : ℕ) → (e : t.state ≡ Making) → IsAnswered t (No fault) (record t { state = Noting; outcome = Kept fault })
+  failed_making fault e = as_known t (record t { state = Noting; outcome = Kept fault }) (No fault) Making e (record {
+    stands = λ job old es now apart s d. (let k = still_early t.keeps job old es now apart s d in (kept_early t.keeps job old es now apart k, inl (early_same t.keeps job old es now apart k)));
     fewer = λ job old es now s d. inr (omega arith);
     order = omega arith;
     on = omega arith;
@@ -513,7 +517,7 @@ module _ (t : Turn) where
   failed_syncing_folder fault e = as_known t (record t { state = Noting; outcome = Unsettled fault }) (No fault) SyncingFolder e (record {
     stands = λ job old es now apart s d. (
       subst (λ l. Says t.keeps (Unsettled fault) job old l) (sym d) (unsettled t.keeps job old es s.0 s.2),
-      ap (λ l. file_of l (new_name job.name)) d ∙ s.1,
+      inr (inl (ap (λ l. file_of l (new_name job.name)) d ∙ s.1)),
     );
     fewer = λ job old es now s d. inr (omega arith);
     order = omega arith;
@@ -543,12 +547,21 @@ module _ (t : Turn) where
 
   -- ---- steps whose answer is no matter
 
-  noted_now : (job : Job) (old es now : List Event) → IsLockApart job → Says t.keeps t.outcome job old es × (file_of es (new_name job.name) ≡ None) → (now ≡ es) ⊎ IsNoted job.lock es now →
+  -- what has no new file, or the old one, still has it where the name stands for what it stood for
+  still_cleared : (job : Job) (old es now : List Event) → file_of now (new_name job.name) ≡ file_of es (new_name job.name) → IsCleared t job old es → IsCleared t job old now
+  still_cleared job old es now same (inl c) = inl (same ∙ c)
+  still_cleared job old es now same (inr (inl c)) = inr (inl (same ∙ c))
+  still_cleared job old es now same (inr (inr c)) = inr (inr c)
+
+  noted_now : (job : Job) (old es now : List Event) → IsLockApart job → Says t.keeps t.outcome job old es × IsCleared t job old es → (now ≡ es) ⊎ IsNoted job.lock es now →
       Says t.keeps t.outcome job old now × IsCleared t job old now
-  noted_now job old es now apart s (inl d) = (subst (λ l. Says t.keeps t.outcome job old l) (sym d) s.0, inr (inl (ap (λ l. file_of l (new_name job.name)) d ∙ s.1)))
+  noted_now job old es now apart s (inl d) = (
+    subst (λ l. Says t.keeps t.outcome job old l) (sym d) s.0,
+    still_cleared job old es now (ap (λ l. file_of l (new_name job.name)) d) s.1,
+  )
   noted_now job old es now apart s (inr d) = (
     subst (λ l. Says t.keeps t.outcome job old l) (sym d.3) (says_noted t.keeps t.outcome job old es apart s.0 d.0 d.1 d.2),
-    inr (inl (ap (λ l. file_of l (new_name job.name)) d.3 ∙ named_noted es d.0 d.1 (new_name job.name) (λ e. (apart d.0 d.2).1 (sym e)) ∙ s.1)),
+    still_cleared job old es now (ap (λ l. file_of l (new_name job.name)) d.3 ∙ named_noted es d.0 d.1 (new_name job.name) (λ e. (apart d.0 d.2).1 (sym e))) s.1,
   )
 
   note : (answer : Answer) → IsAnswered (at_state t Noting) answer (at_state t Unlocking)

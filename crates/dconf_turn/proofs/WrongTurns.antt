@@ -76,12 +76,10 @@ renamed_is_not_kept k = let bad : Some one ≡ None = k.read a (name_not_own fal
 abbrev turn : State → Turn
 turn s = record { state = s; outcome = Kept 0; bits = None; keeps = false; len = 1; at = 0; leaves_new = false }
 
-not_early : (es : List Event) → (es ≡ [] → ⊥) → IsEarly job [] es → ⊥
-not_early es some h = ⊎_elim some (λ (l : IsLockMade None [] es). (let bad : None ≡ Some l.0 = l.1 in cc)) h
-
-not_cleared : (es : List Event) → (es ≡ [] → ⊥) → file_of es anew ≡ Some 0 → IsEarly job [] es ⊎ ((file_of es anew ≡ None) ⊎ IsTrue false) → ⊥
-not_cleared es some there h =
-    ⊎_elim (not_early es some) (λ r. ⊎_elim (λ (none : file_of es anew ≡ None). (let bad : Some 0 ≡ None = sym there ∙ none in cc)) (λ (f : IsTrue false). (let bad : false ≡ true = f in cc)) r) h
+not_cleared : (es : List Event) → file_of es anew ≡ Some 0 → (file_of es anew ≡ None) ⊎ ((file_of es anew ≡ None) ⊎ IsTrue false) → ⊥
+not_cleared es there h =
+    let gone : ¬ (file_of es anew ≡ None) = λ e. (let bad : Some 0 ≡ None = sym there ∙ e in cc) in
+    ⊎_elim gone (λ r. ⊎_elim gone (λ (f : IsTrue false). (let bad : false ≡ true = f in cc)) r) h
 
 none_is_not : (n : ℕ) → None ≡ Some n → ⊥
 none_is_not n e = cc
@@ -112,12 +110,12 @@ kept_too_late h = renamed_is_not_kept (h.stands job [] synced_file renamed apart
 
 -- it unlocks before it renames
 pub early_unlock : IsAnswered (turn Syncing) (Yes 0) (turn Unlocking) → ⊥
-early_unlock h = not_cleared synced_file (λ e. cc) refl (h.stands job [] written synced_file apart holds_one refl).1
+early_unlock h = not_cleared synced_file refl (h.stands job [] written synced_file apart holds_one refl).1
 
 -- a fault leaves the new file
 pub left_file : IsAnswered (turn Writing) (No 28) (record (turn Unlocking) { outcome = Kept 28 }) → ⊥
 left_file h =
-    not_cleared (touch anew ∷ create anew ∷ []) (λ e. cc) refl
+    not_cleared (touch anew ∷ create anew ∷ []) refl
     (h.stands job [] (create anew ∷ []) (touch anew ∷ create anew ∷ []) apart (holds_first, refl, omega arith) (inl refl)).1
 
 -- a short write is taken for a whole one

@@ -12,7 +12,7 @@ use Rattle.dconf_turn.specs.Jobs.{Job, IsLockApart}
 use Rattle.dconf_turn.specs.Steps.{place, step_of, IsYes, IsFault, Follows, EndsWell, IsDone, IsRefusal, IsAsked}
 use Rattle.dconf_turn.specs.Hosts.{Did}
 use Rattle.dconf_turn.specs.Sayings.{IsWhole, Says}
-use Rattle.dconf_turn.specs.Progress.{IsBegun, IsAnswered, IsEarly}
+use Rattle.dconf_turn.specs.Progress.{IsBegun, IsAnswered}
 
 -- a step that was carried out, its answer, and the folder after it
 pub record Taken : Type 0 where
@@ -65,8 +65,9 @@ pub record IsGoodTurn (taken : List Taken) (u : Turn) (job : Job) (old now : Lis
   pub asked : step_of u ≡ Done Made → (HasDone 8 taken ⊎ HasDone 7 taken) × HasDone 9 taken
   -- and anything else only where a step failed
   pub persists : (outcome : Outcome) → step_of u ≡ Done outcome → (outcome ≡ Made) ⊎ HasFault (length job.bytes) taken
-  -- the new name has no file at the end, unless nothing was done or the host could not remove it
-  pub cleared : (outcome : Outcome) → step_of u ≡ Done outcome → IsEarly job old now ⊎ ((file_of now (new_name job.name) ≡ None) ⊎ HasRefusal taken)
+  -- the new name stands for what it stood for, or for no file, unless the host could not remove it
+  pub cleared : (outcome : Outcome) → step_of u ≡ Done outcome →
+      (file_of now (new_name job.name) ≡ file_of old (new_name job.name)) ⊎ ((file_of now (new_name job.name) ≡ None) ⊎ HasRefusal taken)
   -- the old file is set aside only where that was asked for
   pub aside : IsTrue u.keeps → HasAsked taken
   pub first : first_of taken u ≡ Lock

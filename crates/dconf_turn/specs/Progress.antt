@@ -57,9 +57,9 @@ IsAsideAt job old now = (aside : List ℕ) × IsFree job old aside × (file_of n
 abbrev pub IsEarly : Job → List Event → List Event → Type 0
 IsEarly job old now = (now ≡ old) ⊎ IsLockMade job.lock old now
 
--- the new name has no file, unless nothing was done or the host could not remove it
+-- the new name is untouched, or has no file, unless the host could not remove it
 abbrev pub IsCleared : Turn → Job → List Event → List Event → Type 0
-IsCleared t job old now = IsEarly job old now ⊎ ((file_of now (new_name job.name) ≡ None) ⊎ IsTrue t.leaves_new)
+IsCleared t job old now = (file_of now (new_name job.name) ≡ file_of old (new_name job.name)) ⊎ ((file_of now (new_name job.name) ≡ None) ⊎ IsTrue t.leaves_new)
 
 abbrev pub StandsAt : State → Turn → Job → List Event → List Event → Type 0
 StandsAt Locking t job old now = now ≡ old
@@ -74,7 +74,7 @@ StandsAt Renaming t job old now = Staged old now (IsOwn t.keeps job old) (new_na
 StandsAt SyncingFolder t job old now =
     Placed old now (IsOwn t.keeps job old) job.name job.bytes × (file_of now (new_name job.name) ≡ None) × (IsTrue t.keeps → IsAsideAt job old now)
 StandsAt Removing t job old now = Says t.keeps t.outcome job old now
-StandsAt Noting t job old now = Says t.keeps t.outcome job old now × (file_of now (new_name job.name) ≡ None)
+StandsAt Noting t job old now = Says t.keeps t.outcome job old now × IsCleared t job old now
 StandsAt Unlocking t job old now = Says t.keeps t.outcome job old now × IsCleared t job old now
 StandsAt Over t job old now = Says t.keeps t.outcome job old now × IsCleared t job old now
 

@@ -8,7 +8,7 @@ pub enum Step {
     /// Reads the file. The answer is the permission bits of the new one: those of the old one, or others if there is none. It is 512 more if
     /// the old one is to be set aside, and 1024 or more if the host is to choose the bits.
     Read,
-    /// Makes the new bytes. The answer is how many there are.
+    /// Makes the new bytes. The answer is how many there are. A fault may also be that nothing is to be changed.
     Make,
     /// Makes an empty file NAME.new with these permission bits, in the place of any other.
     Create(u32),
@@ -26,7 +26,7 @@ pub enum Step {
     SyncFolder,
     /// Removes NAME.new.
     Remove,
-    /// Writes to the lock's own file what others are to know of the change.
+    /// Writes to the lock's own file what others are to know of the change, or that there is none.
     Note,
     /// Gives the turn back.
     Unlock,

@@ -195,7 +195,7 @@ impl Turn {
         match self.state {
             State::Locking => self.says(State::Over, Outcome::Kept(fault)),
             State::Reading => self.says(State::Unlocking, Outcome::Kept(fault)),
-            State::Making => self.says(State::Unlocking, Outcome::Kept(fault)),
+            State::Making => self.says(State::Noting, Outcome::Kept(fault)),
             State::Creating => self.says(State::Removing, Outcome::Kept(fault)),
             State::Writing => self.says(State::Removing, Outcome::Kept(fault)),
             State::Syncing => self.says(State::Removing, Outcome::Kept(fault)),
