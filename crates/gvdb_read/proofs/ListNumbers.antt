@@ -33,7 +33,7 @@ four_bytes file start end k rest e =
     ∙ ap (λ (l : List ℕ). take 4 l) (drop-drop (4 * k) start file)
     ∙ ap (λ n. take n (drop (start + 4 * k) file)) four
 
-number_at : (file : List ℕ) (start end k rest : ℕ) → end - start ≡ 4 * k + (4 + rest) → number_in (take 4 (drop (4 * k) (slice_range file start end))) ≡ u32_at file (start + 4 * k)
+pub number_at : (file : List ℕ) (start end k rest : ℕ) → end - start ≡ 4 * k + (4 + rest) → number_in (take 4 (drop (4 * k) (slice_range file start end))) ≡ u32_at file (start + 4 * k)
 unfolding u32_at
 number_at file start end k rest e = ap number_in (four_bytes file start end k rest e)
 

@@ -45,6 +45,7 @@ LendsWhere P bytes (Some lent) = P × (lent.now ≡ bytes)
 -- item i of the table is shown
 pub record IsShownAs (t : Region) (i : ℕ) (shown : Shown) : Type 0 where
   pub counted : i < item_count t
+  pub hash : shown.hash ≡ (item t i).hash
   pub parent : shown.parent ≡ (item t i).parent
   pub key : LendsWhere ((item t i).key_end ≤ length t.file) (key t i) shown.key
   pub kind : shown.kind ≡ (item t i).kind

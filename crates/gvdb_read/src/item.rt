@@ -3,6 +3,8 @@
 /// An item of a table, as it shows itself.
 #[derive(Clone, Copy, Debug, PartialEq, Eq)]
 pub struct Item<'a> {
+    /// The hash that is stored for its full name.
+    pub hash: u32,
     /// The number of its parent, which may be no item's.
     pub parent: Option<u32>,
     /// Its key, where the key's bytes lie in the file.

@@ -93,7 +93,7 @@ impl<'a> Table<'a> {
 
     /// Where the items of a hash's bucket start and end.
     #[inline(always)]
-    pub(crate) fn span(self, hash: u32) -> (u32, u32)
+    pub fn span(self, hash: u32) -> (u32, u32)
         ensures first { result.0 ≡ span_start (region self.entry) hash }
         ensures end { result.1 ≡ span_end (region self.entry) hash }
         ensures within { result.1 ≤ item_count (region self.entry) }

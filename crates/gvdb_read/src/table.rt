@@ -66,6 +66,7 @@ impl<'a> Table<'a> {
     }
 
     /// How many items the table has.
+    #[inline(always)]
     pub fn n_items(self) -> u32
         ensures { result ≡ item_count (region self.entry) }
     {
@@ -73,6 +74,7 @@ impl<'a> Table<'a> {
     }
 
     /// Item `i`, which counts from 0. None exactly where there are not so many.
+    #[inline(always)]
     pub fn item(self, i: u32) -> Option<Item<'a>>
         ensures some { IsSome result ↔ (i < item_count (region self.entry)) }
         ensures shows { IfSome result (IsShownAs (region self.entry) i) }
@@ -82,6 +84,7 @@ impl<'a> Table<'a> {
         }
         let stored = self.stored(i);
         Some(Item {
+            hash: stored.hash,
             parent: stored.parent,
             key: self.key_of(stored),
             kind: stored.kind,

@@ -10,7 +10,7 @@ impl Table<'_> {
 
     /// Whether item `i` keeps the rule. It looks at the item and at a bloom word.
     #[inline(always)]
-    pub(super) fn is_in_bloom(self, i: u32) -> bool
+    pub fn is_in_bloom(self, i: u32) -> bool
         requires { i < item_count (region self) }
         ensures { IsTrue result ↔ IsInBloom (region self.entry) i }
     {

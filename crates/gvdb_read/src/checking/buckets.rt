@@ -10,7 +10,7 @@ impl Table<'_> {
     ghost use Rattle.gvdb_read.specs.Tables.{region};
 
     /// Whether the buckets keep the rule. It looks at each twice at most.
-    pub(super) fn has_buckets(self) -> bool
+    pub fn has_buckets(self) -> bool
         ensures { IsTrue result ↔ HasBuckets (region self.entry) }
     {
         if self.buckets == 0 {

@@ -10,7 +10,7 @@ impl Table<'_> {
 
     /// Whether item `i` keeps the rule. It looks at the item and at its bucket.
     #[inline(always)]
-    pub(super) fn is_in_span(self, i: u32) -> bool
+    pub fn is_in_span(self, i: u32) -> bool
         requires { i < item_count (region self) }
         ensures { IsTrue result ↔ IsInSpan (region self.entry) i }
     {

@@ -1,0 +1,4 @@
+pub mod NamedLaws
+pub mod ShapedLaws
+pub mod ListLaws
+pub mod SettledLaws

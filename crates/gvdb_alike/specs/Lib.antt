@@ -1,0 +1,3 @@
+pub mod NamesAlike
+pub mod ItemsAlike
+pub mod ValuesAlike

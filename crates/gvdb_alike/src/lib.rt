@@ -1,0 +1,23 @@
+//! Two tables of databases, compared item by item.
+//!
+//! A file that replaces another one mostly has the same items in the same order, and other bytes in a value or two. So
+//! [`is_shaped_as`] may tell that a table is sound by one that is, at a fraction of what [`gvdb_read::Table::check`]
+//! costs, and [`alike_before`], [`alike_from`] and [`has_elsewhere`] tell where values differ. No call takes memory.
+//!
+//! Where `before` is a sound database, and `file` is one of the same keys:
+//!
+//! ```
+//! let (table, sound) = (Table::open(file)?, Table::open(before)?);
+//! Ok(is_shaped_as(table, sound) || table.check().is_ok())
+//! ```
+#![tactic(auto)]
+
+mod elsewhere;
+mod named;
+mod shaped;
+mod valued;
+
+pub use elsewhere::has_elsewhere;
+pub use named::are_named_alike;
+pub use shaped::is_shaped_as;
+pub use valued::{alike_before, alike_from};
