@@ -1,10 +1,11 @@
 -- What differs of what two ways to see layers show.
-use Rattle.std.specs.Prelude.{◌↔◌, IsTrue, filter}
-use Rattle.std.proofs.Common.{◌≡◌, ◌≢◌, ◌⊎◌, ◌||◌, ℕ, Bool, true, false, List, sym, refl, not, inl, inr}
+use Rattle.std.specs.Prelude.{◌↔◌, IsTrue, drop, filter}
+use Rattle.std.proofs.Common.{◌≡◌, ◌≢◌, ◌⊎◌, ◌||◌, ◌∷◌, ℕ, Bool, true, false, List, sym, refl, not, inl, inr}
 use Rattle.dconf_model.specs.Layers.{Layers, is_locked, visible}
 use Rattle.dconf_model.specs.Order.{listing}
 use Rattle.dconf_model.proofs.PathMaps.{no_truth}
-use Rattle.dconf_engine.specs.Differing.{AreDiffering, Differs, differs, same_truth}
+use Rattle.dconf_model.specs.Settings.{Settings}
+use Rattle.dconf_engine.specs.Differing.{AreDiffering, Differs, differs, same_truth, with_first}
 use Rattle.dconf_engine.specs.SameValues.{same_value}
 use Rattle.dconf_engine.proofs.SameValueLaws.{values_told}
 
@@ -25,3 +26,10 @@ differs_told l m path =
 
 pub are_differing : (l m : Layers) (keys paths : List (List ℕ)) → paths ≡ listing (filter (differs l m) keys) → AreDiffering l m keys paths
 are_differing l m keys paths e = record { test = differs l m; tells = differs_told l m; are = e }
+
+-- layers that have these
+pub other_first : (m l : Layers) (s : Settings) → m.layers ≡ s ∷ drop 1 l.layers → m.writable ≡ l.writable → m ≡ with_first l s
+other_first m l s layers writable = same_layers m.layers (s ∷ drop 1 l.layers) m.writable l.writable layers writable
+  where
+    same_layers : (a b : List Settings) (v w : Bool) → a ≡ b → v ≡ w → (let one : Layers = record { layers = a; writable = v } in one) ≡ record { layers = b; writable = w }
+    same_layers a b v w d e = cc

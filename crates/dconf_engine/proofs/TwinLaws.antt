@@ -10,14 +10,16 @@ use Rattle.dconf_model.specs.Names.{HasName, name_by, name_of, name_within}
 use Rattle.dconf_model.specs.Settings.{Settings}
 use Rattle.dconf_model.specs.Table.{Table as Region, item, item_count, key}
 use Rattle.dconf_model.specs.Values.{held_value}
-use Rattle.dconf_model.proofs.ComputedNames.{named_of_name}
+use Rattle.dconf_model.proofs.ComputedNames.{name_of_named, named_of_name}
 use Rattle.gvdb_read.specs.Tables.{region}
 use Rattle.dconf_engine.specs.declared.layer.Layer.{Layer}
 use Rattle.dconf_engine.specs.Differing.{differs}
 use Rattle.dconf_engine.specs.Entries.{items_of, path_at, paths_in, value_in}
 use Rattle.dconf_engine.specs.LayerSettings.{settings_of}
 use Rattle.dconf_engine.specs.TextSets.{TextSet, with_text, with_texts}
-use Rattle.dconf_engine.specs.Twins.{AreNamedAlike, AreStepsAlike, AreTwins, PassesAlike}
+use Rattle.dconf_engine.specs.Twins.{AreTwins, HaveAlikeOutside, PassesAlike}
+use Rattle.gvdb_alike.specs.NamesAlike.{AreNamedAlike, GoesByName}
+use Rattle.gvdb_alike.specs.ValuesAlike.{HasElsewhere}
 use Rattle.dconf_engine.proofs.DifferingLaws.{differs_told}
 use Rattle.dconf_engine.proofs.EntryLaws.{bytes_named, no_path, path_named}
 
@@ -55,6 +57,10 @@ module _ (path : List ℕ) where
 pub passes_alike : (l m : Layers) (s t : Settings) → AreTwins l m s t → PassesAlike (differs l m) s t
 passes_alike l m s t twins path e = seen_alike path l m s t twins e
 
+-- the second layers are the first ones with another first one
+pub twins_of : (l m : Layers) (s t : Settings) (others : List Settings) → l.layers ≡ s ∷ others → m.layers ≡ t ∷ drop 1 l.layers → AreTwins l m s t
+twins_of l m s t others first second = record { others = others; first = first; second = second ∙ ap (λ ls. t ∷ drop 1 ls) first }
+
 -- the other way round, too
 pub passes_back : (f : List ℕ → Bool) (s t : Settings) → PassesAlike f s t → PassesAlike f t s
 passes_back f s t passes path e = passes path (sym e)
@@ -62,61 +68,27 @@ passes_back f s t passes path e = passes path (sym e)
 pub nothing_passes : (f : List ℕ → Bool) (s t : Settings) (path : List ℕ) → PassesAlike f s t → get s.values path ≡ get t.values path → [] ≡ filter f (path ∷ [])
 nothing_passes f s t path passes e = rw (passes path e) refl
 
--- ---- names, step by step
+-- ---- both ways round
 
-module _ (t u : Region) where
-  abbrev joins : List ℕ → Option (List ℕ) → Option (List ℕ)
-  joins k above = cond (nat_lt 0 (length k)) (option_map (λ prefix. prefix ++ k) above) None
+pub names_turned : (t u : Region) → AreNamedAlike t u → AreNamedAlike u t
+names_turned t u named = record { counted = sym named.counted; named = λ i. sym (named.named i) }
 
-  named_by : (above below : ℕ → Option (List ℕ)) (i : ℕ) → ((j : ℕ) → above j ≡ below j) → key t i ≡ key u i → (p : Option ℕ) → name_by above t i p ≡ name_by below u i p
-  named_by above below i same keys None = ap (λ k. Some k) keys
-  named_by above below i same keys (Some p) = ap₂ joins keys (same p)
+pub outside_turned : (one two : Layer) (first end : ℕ) → AreNamedAlike (region one.values) (region two.values) → HaveAlikeOutside one two first end → HaveAlikeOutside two one first end
+outside_turned one two first end named alike i within outside = sym (alike i (subst (λ n. i < n) (sym named.counted) within) outside)
 
-module _ (one two : Layer) (counted : items_of one ≡ items_of two) (steps : (i : ℕ) → i < items_of one → AreStepsAlike one two i) where
-  abbrev t : Region
-  t = region one.values
-
-  abbrev u : Region
-  u = region two.values
-
-  step_named : (n i : ℕ) → ((j : ℕ) → name_within n t j ≡ name_within n u j) → name_within (suc n) t i ≡ name_within (suc n) u i
-  step_named n i above = go (nat_lt i (item_count t)) refl
-    where
-      go : (b : Bool) → nat_lt i (item_count t) ≡ b → name_within (suc n) t i ≡ name_within (suc n) u i
-      go false e = rw (e, sym (ap (λ k. nat_lt i k) counted) ∙ e) refl
-      go true e =
-          let s = steps i (ltb-true i (item_count t) e) in
-          rw (e, sym (ap (λ k. nat_lt i k) counted) ∙ e, le-leb _ _ s.inside, le-leb _ _ s.also_inside)
-          (named_by t u (name_within n t) (name_within n u) i above s.key (item t i).parent
-          ∙ ap (λ p. name_by (name_within n u) u i p) s.parent)
-
-  named_within : (n i : ℕ) → name_within n t i ≡ name_within n u i
-  named_within zero i = refl
-  named_within (suc n) i = step_named n i (named_within n)
-
-  pub steps_name : AreNamedAlike one two
-  steps_name = record { counted = counted; named = λ i. named_within (items_of one) i ∙ ap (λ n. name_within n u i) counted }
-
-pub steps_before : (one two : Layer) (i : ℕ) → ((k : ℕ) → k < i → AreStepsAlike one two k) → AreStepsAlike one two i → (k : ℕ) → k < i + 1 → AreStepsAlike one two k
-steps_before one two i before here k within = go (nat_lt k i) refl
-  where
-    go : (b : Bool) → nat_lt k i ≡ b → AreStepsAlike one two k
-    go true e = before k (ltb-true k i e)
-    go false e =
-        let high = ltb-false k i e in
-        let same : i ≡ k = omega (arith, within, high) in
-        subst (AreStepsAlike one two) same here
+-- of no item anything is said
+pub nothing_outside : (one two : Layer) (end : ℕ) → end ≡ items_of one → HaveAlikeOutside one two 0 end
+nothing_outside one two end all i within outside = elim outside [
+  | inl below ↦ absurd (omega (arith, below))
+  | inr above ↦ absurd (omega (arith, above, within, all))
+]
 
 -- ---- items of the same names and bytes
 
-module _ (f : List ℕ → Bool) (layer other : Layer) (passes : PassesAlike f (settings_of layer) (settings_of other)) (i : ℕ) (within : i < items_of layer)
-    (named : AreNamedAlike layer other) where
-  pub nothing_at : value_in layer i ≡ value_in other i → [] ≡ filter f (path_at layer i)
-  nothing_at same = go (value_in layer i) refl
+module _ (f : List ℕ → Bool) (layer other : Layer) (passes : PassesAlike f (settings_of layer) (settings_of other)) (i j : ℕ) (within : i < items_of layer) (there : j < items_of other) where
+  pub nothing_named : GoesByName (region layer.values) i (region other.values) j → value_in layer i ≡ value_in other j → [] ≡ filter f (path_at layer i)
+  nothing_named named same = go (value_in layer i) refl
     where
-      there : i < items_of other
-      there = subst (λ n. i < n) named.counted within
-
       go : (o : Option (List ℕ)) → o ≡ value_in layer i → [] ≡ filter f (path_at layer i)
       go None e = ap (filter f) (no_path layer i e)
       go (Some bytes) e = go_on (name_of (region layer.values) i) refl
@@ -125,11 +97,22 @@ module _ (f : List ℕ → Bool) (layer other : Layer) (passes : PassesAlike f (
           go_on None none = rw none refl
           go_on (Some name) some =
               let h : HasName (region layer.values) i name = named_of_name (region layer.values) i name some in
-              let h' : HasName (region other.values) i name = named_of_name (region other.values) i name (sym (named.named i) ∙ some) in
               let here = bytes_named layer i bytes e name within h in
-              let also = bytes_named other i bytes (e ∙ same) name there h' in
+              let also = bytes_named other j bytes (e ∙ same) name there (named name h) in
               nothing_passes f (settings_of layer) (settings_of other) name passes (here ∙ sym also)
               ∙ ap (filter f) (path_named layer i bytes e name h)
+
+-- the item at the same place, where all are named alike
+pub nothing_at : (f : List ℕ → Bool) (layer other : Layer) → PassesAlike f (settings_of layer) (settings_of other) → (i : ℕ) → i < items_of layer → AreNamedAlike (region layer.values) (region other.values) →
+    value_in layer i ≡ value_in other i → [] ≡ filter f (path_at layer i)
+nothing_at f layer other passes i within named same =
+    nothing_named f layer other passes i i within (subst (λ n. i < n) named.counted within)
+    (λ name h. named_of_name (region other.values) i name (sym (named.named i) ∙ name_of_named (region layer.values) i name h)) same
+
+-- an item of the other layer has the name and the bytes
+pub nothing_elsewhere : (f : List ℕ → Bool) (layer other : Layer) → PassesAlike f (settings_of layer) (settings_of other) → (i : ℕ) → i < items_of layer → HasElsewhere (region layer.values) i (region other.values) →
+    [] ≡ filter f (path_at layer i)
+nothing_elsewhere f layer other passes i within h = nothing_named f layer other passes i h.at within h.counted h.named h.value
 
 -- ---- one item more
 

@@ -1,7 +1,8 @@
 -- The keys that are seen otherwise through other layers.
-use Rattle.std.specs.Prelude.{◌≡◌, ◌≢◌, ◌⊎◌, ◌↔◌, List, ℕ, Bool, true, false, IsTrue, filter, not, take, ◌||◌}
+use Rattle.std.specs.Prelude.{◌≡◌, ◌≢◌, ◌⊎◌, ◌↔◌, List, ◌∷◌, ℕ, Bool, true, false, IsTrue, drop, filter, not, take, ◌||◌}
 use Rattle.dconf_model.specs.Layers.{Layers, all_paths, is_locked, visible}
 use Rattle.dconf_model.specs.Order.{listing}
+use Rattle.dconf_model.specs.Settings.{Settings}
 use Rattle.dconf_engine.specs.SameValues.{same_value}
 
 -- another value is seen, or one where none was, or the key is locked in one alone
@@ -11,6 +12,10 @@ Differs l m path = (is_locked l path ≢ is_locked m path) ⊎ (visible l path �
 -- the keys that have a value in one of so many first layers
 abbrev pub first_keys : ℕ → Layers → List (List ℕ)
 first_keys count l = all_paths (take count l.layers)
+
+-- the layers with this one as the first
+abbrev pub with_first : Layers → Settings → Layers
+with_first l s = record { layers = s ∷ drop 1 l.layers; writable = l.writable }
 
 -- of these keys those that differ, in the order of their bytes, once each
 pub record AreDiffering (l m : Layers) (keys paths : List (List ℕ)) : Type 0 where

@@ -1,24 +1,25 @@
 //! The keys that are seen otherwise through other layers.
-ghost use Rattle.std.specs.Prelude.{◌≡◌, ◌<◌, [], ◌∷◌, ◌++◌, IfOk, IfSome, OnOk, filter, map, option_map, string_bytes};
+ghost use Rattle.std.specs.Prelude.{◌≡◌, ◌<◌, [], ◌∷◌, ◌++◌, IfOk, OnOk, drop, filter, map, option_map, string_bytes};
 ghost use Rattle.std.specs.FinMap.{keys};
 ghost use Rattle.gv_view.specs.Views.{value};
 ghost use Rattle.dconf_model.specs.Layers.{all_paths};
 ghost use Rattle.dconf_path.specs.Paths.{key_text};
-ghost use Rattle.dconf_engine.specs.Differing.{AreDiffering, differs, first_keys};
+ghost use Rattle.dconf_engine.specs.Differing.{AreDiffering, differs, first_keys, with_first};
 ghost use Rattle.dconf_engine.specs.Entries.{items_of, path_at};
 ghost use Rattle.dconf_engine.specs.LayerSettings.{settings_of};
 ghost use Rattle.dconf_engine.specs.SameValues.{same_value};
 ghost use Rattle.dconf_engine.specs.TextSets.{with_texts};
-ghost use Rattle.dconf_engine.specs.Twins.{AreTwins, PassesAlike};
+ghost use Rattle.dconf_engine.specs.Twins.{PassesAlike};
 
 use crate::entry::Entry;
 use crate::layer::Layer;
 use crate::lent::LentLayers;
 use crate::same_values::show_same;
 use crate::texts::Texts;
-use crate::twins::{Twins, are_of_same_bytes};
+use crate::twins::Twins;
 use dconf_path::KeyPath;
 use gv_view::View;
+use gvdb_alike::has_elsewhere;
 use std::alloc::{AllocError, Global};
 
 impl<'a, 'l> LentLayers<'a, 'l> {
@@ -30,9 +31,7 @@ impl<'a, 'l> LentLayers<'a, 'l> {
     /// the same, its keys are enough. They are in the order of their bytes, once each.
     ///
     /// An error comes where a growth is refused. It looks at the name of each item of those layers,
-    /// and reads each key through all; it decodes values whose bytes are not the same. With `count`
-    /// 1, and files of the same bytes behind the first, it reads only those keys of the first layers
-    /// whose bytes aren't the same; and if these have the same items, names them alone.
+    /// and reads each key through all; it decodes values whose bytes are not the same.
     pub fn differing(
         self,
         alloc: Global,
@@ -51,16 +50,36 @@ impl<'a, 'l> LentLayers<'a, 'l> {
         paths.list()
     }
 
-    /// The first layers of both, if all others are of the same bytes.
-    fn twins(self, other: LentLayers<'a, 'l>) -> Option<(Layer<'a>, Layer<'a>)>
-        ensures { IfSome result (λ t. AreTwins (seen_in self.entry) (seen_in other.entry) (settings_of t.0) (settings_of t.1)) }
+    /// The paths of the keys that would be seen otherwise if the first layer were this one, as
+    /// [`LentLayers::differing`] gives them. Asked are the keys of the first layer and of this one.
+    ///
+    /// An error comes where a growth is refused. It compares the items of these two; where they have
+    /// the same names, each at its place, it names and reads only those between the first and the
+    /// last whose bytes are not the same.
+    pub fn differing_first(self, alloc: Global, first: Layer<'a>) -> Result<Vec<String>, AllocError>
+        ensures { IfOk result (λ paths. AreDiffering (seen_in self.entry) (with_first (seen_in self.entry) (settings_of first.entry))
+            (first_keys 1 (seen_in self.entry) ++ keys (settings_of first.entry).values) (map string_bytes paths.items)) }
     {
-        let (layer, others) = self.layers.split_first()?;
-        let (twin, same) = other.layers.split_first()?;
-        if are_of_same_bytes(others, same) {
-            return Some((*layer, *twin));
+        let mut paths = Texts::new(alloc);
+        let layers = self.with_first(alloc, first)?;
+        let pair = Pair {
+            first: self,
+            second: LentLayers::new(self.writable, &layers),
+        };
+        pair.add_first(alloc, first, &mut paths)?;
+        paths.list()
+    }
+
+    /// The layers with this one as the first.
+    fn with_first(self, alloc: Global, first: Layer<'a>) -> Result<Vec<Layer<'a>>, AllocError>
+        ensures { IfOk result (λ layers. map settings_of layers.items ≡ settings_of first.entry ∷ drop 1 (seen_in self.entry).layers) }
+    {
+        let mut layers = Vec::new(alloc);
+        layers.push(first)?;
+        if let Some((_, others)) = self.layers.split_first() {
+            layers.extend_from_slice(others)?;
         }
-        None
+        Ok(layers)
     }
 }
 
@@ -79,16 +98,22 @@ impl<'a, 'l> Pair<'a, 'l> {
         ensures { OnOk result (paths.new ≡ with_texts (filter (differs (seen_in self.entry.first) (seen_in self.entry.second))
             (first_keys count (seen_in self.entry.first) ++ first_keys count (seen_in self.entry.second))) paths.old) }
     {
-        match self.first.twins(self.second) {
-            Some((layer, twin)) if count == 1 => {
-                self.add_twin(alloc, Twins::new(layer, twin), paths)?;
-                self.add_twin(alloc, Twins::new(twin, layer), paths)
-            }
-            _ => {
-                self.add_layers(alloc, self.first.prefix(count), paths)?;
-                self.add_layers(alloc, self.second.prefix(count), paths)
-            }
-        }
+        self.add_layers(alloc, self.first.prefix(count), paths)?;
+        self.add_layers(alloc, self.second.prefix(count), paths)
+    }
+
+    /// Adds the keys of the first layers that are seen otherwise, where the second way's is this one, and the others are the same.
+    fn add_first(self, alloc: Global, first: Layer<'_>, paths: &mut Texts) -> Result<(), AllocError>
+        requires { (seen_in self.second).layers ≡ settings_of first ∷ drop 1 (seen_in self.first).layers }
+        ensures { OnOk result (paths.new ≡ with_texts (filter (differs (seen_in self.entry.first) (seen_in self.entry.second))
+            (first_keys 1 (seen_in self.entry.first) ++ keys (settings_of first.entry).values)) paths.old) }
+    {
+        let Some((layer, _)) = self.first.layers.split_first() else {
+            return self.add_layer(alloc, first, paths);
+        };
+        let twins = Twins::new(*layer, first);
+        self.add_twin(alloc, twins, paths)?;
+        self.add_twin(alloc, twins.turned(), paths)
     }
 
     /// Adds those of a layer, where what the other has as it has it is seen alike.
@@ -116,6 +141,9 @@ impl<'a, 'l> Pair<'a, 'l> {
         requires alike { PassesAlike (differs (seen_in self.first) (seen_in self.second)) (settings_of twins.layer) (settings_of twins.other) }
         ensures { OnOk result (paths.new ≡ with_texts (filter (differs (seen_in self.entry.first) (seen_in self.entry.second)) (path_at twins.entry.layer i)) paths.old) }
     {
+        if has_elsewhere(twins.layer.values, i, twins.other.values) {
+            return Ok(());
+        }
         let Some(entry) = twins.layer.entry_at(alloc, i)? else {
             return Ok(());
         };

@@ -4,16 +4,19 @@ ghost use Rattle.std.specs.FinMap.{get};
 ghost use Rattle.dconf_model.specs.Databases.{IsBad, IsLayer, IsVerdict};
 ghost use Rattle.dconf_model.specs.Layers.{locks_path};
 ghost use Rattle.dconf_model.specs.Settings.{no_settings};
+ghost use Rattle.dconf_model.specs.Sound.{IsFirstFault, IsSound};
 ghost use Rattle.dconf_path.specs.Paths.{key_text};
 ghost use Rattle.gvdb_read.specs.Directories.{HasDirectoryValue};
 ghost use Rattle.gvdb_read.specs.Tables.{region};
+ghost use Rattle.gvdb_read.specs.Unsounds.{rule_of};
 ghost use Rattle.dconf_engine.specs.Faults.{verdict_of};
 ghost use Rattle.dconf_engine.specs.SoundTables.{AreOfSoundDatabase, locks_if};
 
 use crate::fault::DatabaseFault;
 use dconf_path::KeyPath;
+use gvdb_alike::is_shaped_as;
 use gvdb_read::format::LOCKS;
-use gvdb_read::{HashedName, Table};
+use gvdb_read::{HashedName, Table, Unsound};
 
 /// A database without items.
 const EMPTY: &[u8] = b"GVariant\0\0\0\0\0\0\0\0\x18\0\0\0\x20\0\0\0\0\0\0\0\0\0\0\0";
@@ -45,13 +48,25 @@ impl<'a> Layer<'a> {
         ensures fault { IfErr result (λ e. IsBad (bytes_of_file file.entry) (verdict_of e)) }
     {
         match file {
-            Some(file) => Layer::of_bytes(file),
+            Some(file) => Layer::of_bytes(file, None),
             None => Ok(Layer::empty()),
         }
     }
 
-    /// Opens the bytes of a file.
-    fn of_bytes(file: &'a [u8]) -> Result<Layer<'a>, DatabaseFault>
+    /// As [`Layer::open`], of a file that replaced the one of this layer: what is as in that, which is sound, isn't asked
+    /// anew. Where both have the same items, but for the bytes of values, and no locks, it costs a quarter.
+    pub fn open_after<'b>(self, file: Option<&'b [u8]>) -> Result<Layer<'b>, DatabaseFault>
+        ensures opens { IfOk result (λ layer. IsLayer (bytes_of_file file.entry) (settings_of layer)) }
+        ensures fault { IfErr result (λ e. IsBad (bytes_of_file file.entry) (verdict_of e)) }
+    {
+        match file {
+            Some(file) => Layer::of_bytes(file, Some(self)),
+            None => Ok(Layer::empty()),
+        }
+    }
+
+    /// Opens the bytes of a file, which may be like those of a layer.
+    fn of_bytes(file: &'a [u8], like: Option<Layer<'_>>) -> Result<Layer<'a>, DatabaseFault>
         ensures opens { IfOk result (λ layer. IsLayer (Some file.entry.now) (settings_of layer)) }
         ensures fault { IfErr result (λ e. IsVerdict file.entry.now (verdict_of e)) }
     {
@@ -59,7 +74,7 @@ impl<'a> Layer<'a> {
             Ok(values) => values,
             Err(fault) => return Err(DatabaseFault::NoDatabase(fault)),
         };
-        if let Err(unsound) = values.check() {
+        if let Err(unsound) = check(values, like) {
             return Err(DatabaseFault::Unsound(unsound));
         }
         match values.table(LOCKS) {
@@ -148,4 +163,17 @@ impl<'a> Layer<'a> {
             None
         }
     }
+}
+
+/// Whether a table is sound, as [`Table::check`] says: seen at once where it is shaped as that of a layer.
+fn check(values: Table<'_>, like: Option<Layer<'_>>) -> Result<(), Unsound>
+    ensures sound { IfOk result (λ _. IsSound (region values.entry)) }
+    ensures fault { IfErr result (λ e. IsFirstFault (region values.entry) (rule_of e.rule) e.item) }
+{
+    if let Some(like) = like {
+        if is_shaped_as(values, like.values) {
+            return Ok(());
+        }
+    }
+    values.check()
 }

@@ -20,7 +20,7 @@ use gvdb_read::HashedName;
 #[derive(Clone, Copy, Debug)]
 pub struct LentLayers<'a, 'l> {
     pub(crate) layers: &'l [Layer<'a>],
-    writable: bool,
+    pub(crate) writable: bool,
 }
 
 impl<'a, 'l> LentLayers<'a, 'l> {
