@@ -1,13 +1,17 @@
 //! Names and paths that are listed: texts, a zero byte after each.
 ghost use Rattle.std.specs.Prelude.{◌≡◌, ◌≢◌, ◌++◌, ℕ, List, true};
 ghost use Rattle.dconf_model.specs.Layers.{child_names, locks_below};
-ghost use Rattle.dconf_engine.specs.Differing.{AreDiffering, first_keys};
+ghost use Rattle.std.specs.FinMap.{keys};
+ghost use Rattle.dconf_engine.specs.Differing.{AreDiffering, first_keys, with_first};
+ghost use Rattle.dconf_engine.specs.LayerSettings.{settings_of};
 ghost use Rattle.dconfdb_calls.specs.Given.{HandsOut, IsDirectory};
 ghost use Rattle.dconfdb_calls.specs.Listed.{IsNoListingTold, ended};
 ghost use Rattle.dconfdb_calls.specs.Seen.{layers_of};
 
 use dconf_engine::Layer;
-use dconfdb_calls::{differing_keys, directory_locks, directory_names, hand_out};
+use dconfdb_calls::{
+    differing_keys, directory_locks, directory_names, hand_out, keys_differing_first,
+};
 use std::alloc::Global;
 
 /// The names of what a directory has in any layer: a key's name, and a directory's with its `/`.
@@ -78,6 +82,30 @@ pub extern "C" fn dconfdb_differs(
     ensures kept { result ≢ 0 → (room.new ≡ room.old) × (len.new ≡ len.old) }
 {
     match differing_keys(alloc, layers, other, count) {
+        Ok(paths) => {
+            *len = hand_out(paths.as_slice(), room);
+            0
+        }
+        Err(fault) => fault.number(),
+    }
+}
+
+/// The paths of the keys that would be seen otherwise if the first layer were `first`, which is any
+/// layer: as `dconfdb_differs` gives them, of the keys of the first layer and of this one.
+#[unsafe(no_mangle)]
+pub extern "C" fn dconfdb_differs_first(
+    alloc: Global,
+    layers: &[Layer<'_>],
+    first: &Layer<'_>,
+    room: &mut [u8],
+    len: &mut usize,
+) -> u32
+    ensures done { result ≡ 0 → (paths : List (List ℕ)) × AreDiffering (layers_of layers.now true) (with_first (layers_of layers.now true) (settings_of first.now))
+        (first_keys 1 (layers_of layers.now true) ++ keys (settings_of first.now).values) paths × HandsOut (ended paths) room.old room.new len.new }
+    ensures refused { result ≢ 0 → result ≡ 1 }
+    ensures kept { result ≢ 0 → (room.new ≡ room.old) × (len.new ≡ len.old) }
+{
+    match keys_differing_first(alloc, layers, first) {
         Ok(paths) => {
             *len = hand_out(paths.as_slice(), room);
             0

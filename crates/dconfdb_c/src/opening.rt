@@ -10,7 +10,7 @@ ghost use Rattle.dconfdb_calls.specs.Opened.{IsToldOf, bytes_if};
 use dconf_engine::Layer;
 use dconfdb_calls::{
     BadProfile, DconfdbName, DconfdbUnsound, Fault, good_lines, hand_out, open_layer,
-    profile_databases,
+    open_layer_after, profile_databases,
 };
 use std::alloc::Global;
 
@@ -30,6 +30,33 @@ pub extern "C" fn dconfdb_open<'a>(
     ensures kept { result ≢ 0 → layer.new ≡ layer.old }
 {
     match open_layer(file, is_there) {
+        Ok(opened) => {
+            *layer = opened;
+            0
+        }
+        Err(bad) => {
+            *unsound = bad.unsound;
+            bad.fault.number()
+        }
+    }
+}
+
+/// As `dconfdb_open`, of a file that replaced the one of the layer `old`: what is as in that isn't
+/// asked anew. It may be any layer.
+#[unsafe(no_mangle)]
+pub extern "C" fn dconfdb_open_after<'a>(
+    old: &Layer<'_>,
+    file: &'a [u8],
+    is_there: bool,
+    layer: &mut Layer<'a>,
+    unsound: &mut DconfdbUnsound,
+) -> u32
+    ensures opened { result ≡ 0 → IsLayer (bytes_if is_there file.entry.now) (settings_of layer.new) }
+    ensures silent { result ≡ 0 → unsound.new ≡ unsound.old }
+    ensures refused { result ≢ 0 → IsToldOf (bytes_if is_there file.entry.now) result unsound.new }
+    ensures kept { result ≢ 0 → layer.new ≡ layer.old }
+{
+    match open_layer_after(old, file, is_there) {
         Ok(opened) => {
             *layer = opened;
             0

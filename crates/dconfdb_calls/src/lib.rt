@@ -31,12 +31,12 @@ mod values;
 
 pub use changes::{DconfdbChange, Refused, user_file};
 pub use comparing::is_stored;
-pub use differences::differing_keys;
+pub use differences::{differing_keys, keys_differing_first};
 pub use fault::Fault;
 pub use given::hand_out;
 pub use lines::{GoodLines, good_lines};
 pub use names::{directory_locks, directory_names};
-pub use opened::{BadFile, DconfdbUnsound, open_layer};
+pub use opened::{BadFile, DconfdbUnsound, open_layer, open_layer_after};
 pub use printed::{Unprinted, value_text};
 pub use profiles::{BadProfile, DconfdbName, profile_databases};
 pub use salvaged::{Salvaged, salvaged_file};
