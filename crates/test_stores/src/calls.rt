@@ -4,8 +4,8 @@ use crate::samples::sample;
 use dconf_engine::Layer;
 use dconfdb_calls::{
     DconfdbChange, DconfdbFound, Fault, Others, Turn, differing_keys, directory_locks,
-    directory_names, hand_out, is_key_locked, is_key_writable, open_layer, profile_databases, read,
-    read_after, read_default, read_own, user_file,
+    directory_names, hand_out, is_key_locked, is_key_writable, keys_differing_first, open_layer,
+    open_layer_after, profile_databases, read, read_after, read_default, read_own, user_file,
 };
 use std::alloc::Global;
 use std::test::Fail;
@@ -63,8 +63,43 @@ fn are_listed(alloc: Global, layers: &[Layer<'_>]) -> bool {
     are_names(directory_names(alloc, layers, b"/"), Some(b"k\0"))
         && are_names(directory_locks(alloc, layers, b"/"), Some(b"/k\0"))
         && are_names(differing_keys(alloc, layers, &[], 2), Some(b"/k\0"))
+        && are_told_apart(alloc, layers)
         && are_names(directory_names(alloc, layers, b"/k"), None)
         && are_names(directory_locks(alloc, layers, b"k/"), None)
+}
+
+/// Whether it is told what another first layer changes: nothing below a lock, and nothing if it has the same.
+fn are_told_apart(alloc: Global, layers: &[Layer<'_>]) -> bool {
+    let (Ok(none), [user, _]) = (open_layer(b"", false), layers) else {
+        return false;
+    };
+    let alone = [*user];
+    are_names(keys_differing_first(alloc, layers, &none), Some(b""))
+        && are_names(keys_differing_first(alloc, &alone, &none), Some(b"/k\0"))
+        && are_names(keys_differing_first(alloc, &[], user), Some(b"/k\0"))
+        && are_names(keys_differing_first(alloc, &alone, user), Some(b""))
+}
+
+/// Whether a file opens alike with the help of a layer and without.
+fn opens_alike(old: Layer<'_>, file: &[u8]) -> bool {
+    match (open_layer(file, true), open_layer_after(&old, file, true)) {
+        (Ok(_), Ok(_)) => true,
+        (Err(one), Err(other)) => {
+            one.fault == other.fault && one.unsound.rule == other.unsound.rule
+        }
+        _ => false,
+    }
+}
+
+/// Whether files do, like that of the layer and not, sound and not.
+fn open_alike(user: Layer<'_>, site: Layer<'_>) -> bool {
+    opens_alike(user, sample("plain"))
+        && opens_alike(user, sample("buckets"))
+        && opens_alike(user, sample("locked"))
+        && opens_alike(site, sample("locked"))
+        && opens_alike(user, sample("101"))
+        && opens_alike(user, sample("20"))
+        && open_layer_after(&user, b"", false).is_ok()
 }
 
 /// Whether a room gets what fits.
@@ -172,7 +207,7 @@ fn first_wrong(alloc: Global, user: Layer<'_>, site: Layer<'_>) -> &'static str 
     if !are_listed(alloc, &layers) || !is_handed_out() {
         return "lists";
     }
-    if !are_profiles(alloc) || !are_faults() {
+    if !are_profiles(alloc) || !are_faults() || !open_alike(user, site) {
         return "profiles or faults";
     }
     if !are_refused(alloc, &layers) || !are_made(alloc) {

@@ -8,6 +8,7 @@ use dconf_turn::{Answer, Outcome, Step, Turn};
 use dconfdb_calls::{is_key_writable, open_layer, read};
 use gv_tree::{Basic, Tree};
 use gv_view::View;
+use gvdb_alike::is_shaped_as;
 use gvdb_read::Table;
 use gvdb_write::{Map, write};
 use std::alloc::Global;
@@ -35,6 +36,11 @@ fn of_gvdb_read(file: &[u8]) -> Result<bool, Fail> {
     let table = Table::open(file)?;
     let size = table.find("/desk/size").and_then(View::as_i32);
     Ok(table.check().is_ok() && size == Some(24))
+}
+
+fn of_gvdb_alike(file: &[u8], before: &[u8]) -> Result<bool, Fail> {
+    let (table, sound) = (Table::open(file)?, Table::open(before)?);
+    Ok(is_shaped_as(table, sound) || table.check().is_ok())
 }
 
 fn of_dconf_compile(alloc: Global) -> Result<Vec<u8>, Fail> {
@@ -86,6 +92,7 @@ fn of_dconf_turn() -> bool {
 fn of_databases(alloc: Global, written: &[u8], compiled: &[u8]) -> Result<bool, Fail> {
     Ok(
         of_gvdb_read(written)?
+            && of_gvdb_alike(written, compiled)?
             && of_gvdb_read(compiled)?
             && of_dconf_engine(alloc, compiled)?
             && of_dconf_store(alloc, written, compiled)?

@@ -2,7 +2,7 @@
 use crate::folders::crashes::crash_cases;
 use crate::folders::failures::replaced_so;
 use crate::machines::{looked, queued, waited};
-use crate::tables::{item_shown, searched};
+use crate::tables::{alike, item_shown, searched};
 use crate::texts::paths::path_read;
 use crate::turns::steps_shown;
 use std::alloc::Global;
@@ -11,6 +11,7 @@ use std::test::Fail;
 /// What the rows of a text ask; each is said where it is answered.
 #[derive(Clone, Copy)]
 pub(crate) enum Question {
+    Alike,
     Crash,
     Item,
     Looked,
@@ -30,6 +31,7 @@ pub(crate) fn answer(
     found: &mut String,
 ) -> Result<(), Fail> {
     match question {
+        Question::Alike => alike(alloc, asked, found),
         Question::Crash => crash_cases(alloc, asked, found),
         Question::Item => item_shown(alloc, asked, found),
         Question::Looked => looked(asked, found),

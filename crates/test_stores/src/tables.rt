@@ -4,6 +4,7 @@ use crate::rows::hold;
 use crate::samples::{file_of, sample};
 use gv_types::Steps;
 use gv_view::View;
+use gvdb_alike::{alike_before, alike_from, are_named_alike, has_elsewhere, is_shaped_as};
 use gvdb_read::{HashedName, Table, hash, hash_with};
 use std::alloc::{AllocError, Global};
 use std::fmt::Write;
@@ -123,6 +124,45 @@ plain 40=1 41=0 42=0 43=0; 1 => none false Some(0) Some([107]) v Some([5, 0, 0, 
 plain 68=102 76=97; 1 => none false Some(0) None v None None
 ";
 
+/// Whether a file is seen to be sound by another one, whether their items have the same names, which items have other values, and
+/// how many of them the other one has anywhere.
+pub(crate) fn alike(alloc: Global, asked: &str, found: &mut String) -> Result<(), Fail> {
+    let (file, other) = asked.split_once("; ").unwrap_or((asked, ""));
+    let (file, other) = (file_of(alloc, file)?, file_of(alloc, other)?);
+    let (table, other) = (Table::open(&file)?, Table::open(&other)?);
+    let (shaped, named) = (is_shaped_as(table, other), are_named_alike(table, other));
+    let first = alike_before(table, other);
+    let end = alike_from(table, other, first);
+    let there = (0..table.n_items())
+        .filter(|i| has_elsewhere(table, *i, other))
+        .count();
+    write!(found, " {shaped} {named} {first}..{end} {there}")?;
+    Ok(())
+}
+
+const ALIKE: &str = "
+plain; plain => true true 2..2 2
+plain 96=6; plain => true true 1..2 1
+plain; buckets => true true 2..2 2
+buckets; plain => true true 2..2 2
+32 20=32 28=0; 32 20=32 28=0 => true true 0..0 0
+-- a table of locks is asked anew
+locked; locked => false true 3..3 3
+-- another hash, key, number in a list, kind, and bucket; a bloom word that rules the key out, and a value past the file
+plain 36=0; plain => false true 2..2 1
+plain 85=108; plain => false false 2..2 1
+plain 88=0; plain => false true 2..2 2
+plain 74=76; plain => false true 1..2 1
+plain 32=1; plain => false true 2..2 2
+buckets 32=0 33=0 34=0 35=0; buckets => false true 2..2 2
+plain 80=103; plain => false true 1..2 1
+-- the other's item is no list of numbers
+plain; plain 56=89 => false true 2..2 2
+-- more and fewer items
+plain; locked => false false 1..2 2
+32 20=32 28=0; plain => false false 0..0 0
+";
+
 /// Whether the item `.locks` is a table of one lock, `/k`, which has no text. A table of half an item is none.
 fn has_its_lock(file: &[u8], half: &[u8]) -> Result<bool, Fail> {
     let (table, half) = (Table::open(file)?, Table::open(half)?);
@@ -154,6 +194,7 @@ fn tables_are_searched_and_items_have_names(rt: HostRuntime) -> Result<(), Fail>
     let alloc = rt.alloc();
     hold(alloc, Question::Searched, SEARCHES)?;
     hold(alloc, Question::Item, ITEMS)?;
+    hold(alloc, Question::Alike, ALIKE)?;
     let half = file_of(alloc, "locked 56=155")?;
     assert!(rt; has_its_lock(sample("locked"), &half)? && are_hashed());
     Ok(())
