@@ -158,6 +158,11 @@ uint32_t dconfdb_value_print(const uint8_t *type_text, size_t type_text_len, con
  * zeros of the others; the layer is as it was. It asks each rule of each item. */
 uint32_t dconfdb_open(const uint8_t *file, size_t len, bool is_there, DconfdbLayer *layer, DconfdbUnsound *unsound);
 
+/* The same, of a file that replaced the one of `old`, which may be any layer: what is as in that isn't
+ * asked anew. */
+uint32_t dconfdb_open_after(const DconfdbLayer *old, const uint8_t *file, size_t len, bool is_there, DconfdbLayer *layer,
+                            DconfdbUnsound *unsound);
+
 /* The value that is seen at a key's path through layers, the first first. False, and `found` as it
  * was, where nothing is seen and where the text is no key's path. */
 bool dconfdb_read(const DconfdbLayer *layers, size_t n, const uint8_t *path, size_t path_len, DconfdbFound *found);
@@ -199,6 +204,11 @@ uint32_t dconfdb_locks(const DconfdbLayer *layers, size_t n, const uint8_t *dire
  * dconfdb_locks. */
 uint32_t dconfdb_differs(const DconfdbLayer *layers, size_t n, const DconfdbLayer *other, size_t other_n, size_t count,
                          uint8_t *room, size_t room_len, size_t *len);
+
+/* The paths of the keys that would be seen otherwise if the first layer were this one: as dconfdb_differs
+ * gives them, of the keys of the first layer and of this one. */
+uint32_t dconfdb_differs_first(const DconfdbLayer *layers, size_t n, const DconfdbLayer *first, uint8_t *room, size_t room_len,
+                               size_t *len);
 
 /* A sound database of what can be saved of a file, sound or not, and how many values and locks it has:
  * for each path of a key its lowest value whose pointer is valid, and the locks of the lowest table of

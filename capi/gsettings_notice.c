@@ -196,6 +196,12 @@ static char *locks_of(const DconfdbSnapshot *snapshot)
     return snapshot ? dconfdb_snapshot_locks(snapshot, "/", NULL, NULL) : NULL;
 }
 
+/* The first database's locks lock nothing. */
+static bool has_other_locks(const DconfdbSnapshot *before, const DconfdbSnapshot *after)
+{
+    return after && before != after && !(before && have_same_others(before, after));
+}
+
 static void add_all(Telling *telling, const char *differences, const char *before, const char *after)
 {
     for (const char *at = differences; at && *at; at += strlen(at) + 1)
@@ -232,8 +238,8 @@ static void send(DconfdbBackend *self, const Notice *notice)
 {
     Telling telling = {self, notice, g_hash_table_new(g_str_hash, g_str_equal), g_ptr_array_new(),
                        g_hash_table_new(g_str_hash, g_str_equal), g_ptr_array_new()};
-    bool looks = notice->after && notice->before != notice->after;
     char *differences = differences_of(notice);
+    bool looks = has_other_locks(notice->before, notice->after);
     char *before = looks ? locks_of(notice->before) : NULL, *after = looks ? locks_of(notice->after) : NULL;
     add_edited(&telling);
     add_all(&telling, differences, before, after);

@@ -23,7 +23,10 @@ int folder_lock(const char *folder, int milliseconds, FolderLock *lock);
 
 void folder_unlock(FolderLock *lock);
 
-/* ---- for the module, which waits by itself (store.c) */
+/* ---- for the module (store.c) */
+
+/* Whether all databases after the first are the same ones: whatever they lock and have, they do in both. */
+bool have_same_others(const DconfdbSnapshot *one, const DconfdbSnapshot *other);
 
 /* dconfdb_store_change, while the lock of the store's folder is held. */
 bool locked_change(DconfdbStore *store, const FolderLock *lock, const DconfdbEdit *edits, size_t count, DconfdbError *error);

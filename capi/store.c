@@ -269,15 +269,18 @@ static bool part_mend(Part *part, const DconfdbError *fault, DconfdbError *error
     return true;
 }
 
-/* Opens what a file holds. The bytes are the part's, or are freed. */
-static Part *part_open(const Asked *asked, FileState state, FileBytes bytes, DconfdbError *error)
+/* Opens what a file holds that is there instead of the old part's. The bytes are the part's, or are freed. */
+static Part *part_open(const Asked *asked, FileState state, FileBytes bytes, const Part *old, DconfdbError *error)
 {
+    static const DconfdbLayer empty = DCONFDB_EMPTY_LAYER;
     DconfdbError fault;
     DconfdbUnsound broken = {0, 0, false};
     Part *part = part_new(asked->name, state, bytes, error);
     if (!part)
         return NULL;
-    uint32_t number = dconfdb_open(bytes_of(bytes.at), bytes.len, state.is_there, &part->layer, &broken);
+    /* What is mapped may have been written over, and then it is what it was no longer. */
+    const DconfdbLayer *like = old && !old->bytes.is_mapped ? &old->layer : &empty;
+    uint32_t number = dconfdb_open_after(like, bytes_of(bytes.at), bytes.len, state.is_there, &part->layer, &broken);
     if (number == DCONFDB_OK)
         return part;
     refuse_database(asked->is_lenient ? &fault : error, number, asked->name, &broken, (Place){.database = asked->index});
@@ -445,24 +448,20 @@ static uint32_t lists_locks(const DconfdbSnapshot *snapshot, const void *of, uin
     return dconfdb_locks(snapshot->layers, snapshot->count, of, strlen(of), room, room_len, len);
 }
 
-/* Of how many first layers the keys are to be asked: of the user's alone, where the others are the
- * same. */
-static size_t layers_to_ask(const DconfdbSnapshot *one, const DconfdbSnapshot *other)
+bool have_same_others(const DconfdbSnapshot *one, const DconfdbSnapshot *other)
 {
-    if (one->count != other->count)
-        return SIZE_MAX;
-    for (size_t i = 1; i < one->count; i++) {
-        if (one->parts[i] != other->parts[i])
-            return SIZE_MAX;
-    }
-    return 1;
+    bool have = one->count > 0 && one->count == other->count;
+    for (size_t i = 1; have && i < one->count; i++)
+        have = one->parts[i] == other->parts[i];
+    return have;
 }
 
 static uint32_t lists_differences(const DconfdbSnapshot *snapshot, const void *of, uint8_t *room, size_t room_len, size_t *len)
 {
     const DconfdbSnapshot *other = of;
-    return dconfdb_differs(snapshot->layers, snapshot->count, other->layers, other->count, layers_to_ask(snapshot, other), room,
-                           room_len, len);
+    if (have_same_others(snapshot, other))
+        return dconfdb_differs_first(snapshot->layers, snapshot->count, &other->layers[0], room, room_len, len);
+    return dconfdb_differs(snapshot->layers, snapshot->count, other->layers, other->count, SIZE_MAX, room, room_len, len);
 }
 
 /* Calls with a room that mostly is enough, and else with one that is. */
@@ -720,13 +719,13 @@ static bool is_as_read(const Look *look, const Part *old)
 }
 
 /* The part of what was read: where that can't be it is empty, and says why. The bytes are the part's, or are freed. */
-static Part *part_of_read(Look *look, size_t at, DconfdbError *error)
+static Part *part_of_read(Look *look, size_t at, const Part *old, DconfdbError *error)
 {
     Asked asked = asked_of(look, at);
     FileBytes bytes = look->bytes;
     look->bytes = (FileBytes){NULL, 0, false};
     if (look->fault.number == DCONFDB_ERROR_NONE)
-        return part_open(&asked, look->state, bytes, error);
+        return part_open(&asked, look->state, bytes, old, error);
     Part *part = part_new(asked.name, look->state, bytes, error);
     if (part && part_blame(part, &look->fault, error))
         return part;
@@ -768,7 +767,7 @@ static bool look_at(Look *look, const DconfdbNext *step, DconfdbError *error)
             snapshot_put(look->newer, step->number, part_ref(old));
         return true;
     default:
-        part = part_of_read(look, step->number, error);
+        part = part_of_read(look, step->number, old, error);
         return part && put_newer(look, step->number, part, error);
     }
 }
@@ -1029,13 +1028,13 @@ static bool is_made(const DconfdbSnapshot *now, const DconfdbChange *change)
     return !dconfdb_read_alone(own, path, path_len, &found);
 }
 
-/* Each by itself leaves them, so all do. */
-static bool are_made(const DconfdbSnapshot *now, const DconfdbChange *changes, size_t count)
+/* Each by itself leaves them, so all do; or all together, as the file with them has the same bytes. */
+static bool are_made(const DconfdbSnapshot *now, const DconfdbChange *changes, size_t count, const FileBytes *file)
 {
     bool are = true;
     for (size_t i = 0; are && i < count; i++)
         are = is_made(now, &changes[i]);
-    return are;
+    return are || has_bytes(now->parts[0], file);
 }
 
 bool dconfdb_snapshot_has_edit(const DconfdbSnapshot *snapshot, const DconfdbEdit *edit)
@@ -1056,8 +1055,9 @@ bool dconfdb_snapshot_is_newest(const DconfdbSnapshot *snapshot)
 static Part *part_of_new(const DconfdbStore *store, FileBytes file, DconfdbError *error)
 {
     Asked asked = {store->user_file, 0, false, false, NO_FOLDER};
-    const Fault *bad = store->now->parts[0]->fault;
-    Part *part = part_open(&asked, (FileState){.is_there = true}, file, error);
+    const Part *old = store->now->parts[0];
+    const Fault *bad = old->fault;
+    Part *part = part_open(&asked, (FileState){.is_there = true}, file, old, error);
     if (!part || !bad || bad->aside)
         return part;
     if (part_blame(part, &bad->error, error)) {
@@ -1117,7 +1117,7 @@ static bool change_in_turn(DconfdbStore *store, int turn, const DconfdbChange *c
     FileBytes file;
     pthread_mutex_lock(&store->refreshing);
     bool done = refresh(store, turn, error) && make_file(store, changes, edits, count, &file, error);
-    if (done && are_made(store->now, changes, count))
+    if (done && are_made(store->now, changes, count, &file))
         file_release(&file);
     else if (done)
         done = put_in_place(store, turn, file, error);

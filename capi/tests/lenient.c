@@ -140,6 +140,9 @@ static void tries_what_is_there(void)
     /* The same value in other bytes. */
     all[1].data = other;
     TRY(changes(store, all[1]) && has_edit(store, all[1]) && stays("me.user", mark));
+    /* Edits that cancel each other out. */
+    DconfdbEdit undone[] = {sets_text("/none", "1"), sets_text("/k", "2"), sets_text("/k", "1"), reset};
+    TRY(dconfdb_store_change(store, undone, 4, &error) && stays("me.user", mark) && !has_edit(store, undone[0]));
     /* A refusal is one also where another edit changes nothing. */
     DconfdbEdit locked[] = {sets_text("/k", "1"), sets_text("/org/desk/size", "1")};
     TRY(!dconfdb_store_change(store, locked, 2, &error) && error.number == DCONFDB_ERROR_LOCKED && error.at == 1);
