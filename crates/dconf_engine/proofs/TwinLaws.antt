@@ -1,14 +1,14 @@
 -- What twins have alike is seen alike, and items of the same names and bytes give the same paths.
 use Rattle.std.specs.Prelude.{filter, option_map, option_and_then, nat_lt}
-use Rattle.std.proofs.Common.{◌≡◌, ◌<◌, ◌+◌, ◌∙◌, arith, ◌++◌, ℕ, zero, suc, Bool, true, false, cond, ltb-true, ltb-false, le-leb, List, [], ◌∷◌, length, drop, Option, Some, None, ap, ap₂, sym, subst, refl, inl, inr}
+use Rattle.std.proofs.Common.{◌≡◌, ◌<◌, ◌+◌, ◌∙◌, arith, ℕ, zero, suc, Bool, false, List, [], ◌∷◌, drop, Option, Some, None, ap, sym, subst, refl, inl, inr}
 use Rattle.std.specs.FinMap.{get}
 use Rattle.std.proofs.lemmas.Bool.{false_from_ne_true}
 use Rattle.std.proofs.lemmas.List.Elements.{filter-append}
 use Rattle.std.proofs.lemmas.List.Sums.{fold-append}
 use Rattle.dconf_model.specs.Layers.{Layers, Place, first_from, greatest_from, level, locks_path, place_of, place_or}
-use Rattle.dconf_model.specs.Names.{HasName, name_by, name_of, name_within}
+use Rattle.dconf_model.specs.Names.{HasName, name_of}
 use Rattle.dconf_model.specs.Settings.{Settings}
-use Rattle.dconf_model.specs.Table.{Table as Region, item, item_count, key}
+use Rattle.dconf_model.specs.Table.{Table as Region}
 use Rattle.dconf_model.specs.Values.{held_value}
 use Rattle.dconf_model.proofs.ComputedNames.{name_of_named, named_of_name}
 use Rattle.gvdb_read.specs.Tables.{region}

@@ -1,8 +1,6 @@
 -- Lists of the same bytes hold the same numbers.
-use Rattle.std.proofs.Common.{ℕ, ◌+◌, ◌-◌, ◌*◌, ◌/◌, ◌≤◌, ◌<◌, ◌≡◌, ◌∙◌, List, length, take, drop, ap, sym, arith, length-take, length-drop}
-use Rattle.std.specs.Prelude.{slice_range}
+use Rattle.std.proofs.Common.{ℕ, ◌+◌, ◌-◌, ◌*◌, ◌/◌, ◌<◌, ◌≡◌, ◌∙◌, List, length, take, drop, ap, sym, arith, length-take, length-drop}
 use Rattle.gv_model.specs.BasicValue.{number_in}
-use Rattle.dconf_model.specs.Bytes.{u32_at}
 use Rattle.dconf_model.specs.Table.{Table, HasBytes, bytes_of, item}
 use Rattle.dconf_model.specs.Sound.{list_length, listed}
 use Rattle.gvdb_read.proofs.ListNumbers.{number_at}

@@ -1,7 +1,7 @@
 -- Items whose keys and parents are the same have the same names.
 use Rattle.std.specs.Prelude.{option_map, nat_lt}
 use Rattle.std.proofs.Common.{◌≡◌, ◌<◌, ◌∙◌, ◌++◌, ℕ, zero, suc, Bool, true, false, cond, ltb-true, le-leb, List, length, Option, Some, None, ap, ap₂, sym, subst, refl}
-use Rattle.dconf_model.specs.Names.{HasName, name_by, name_of, name_within}
+use Rattle.dconf_model.specs.Names.{HasName, name_by, name_within}
 use Rattle.dconf_model.specs.Table.{Table, item, item_count, key}
 use Rattle.dconf_model.proofs.NameSteps.{at_root, ends_in_key, is_item, moves_up}
 use Rattle.gvdb_alike.specs.NamesAlike.{AreNamedAlike, AreStepsAlike, GoesByName, HasSameKey}

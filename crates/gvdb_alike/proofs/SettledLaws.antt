@@ -1,6 +1,6 @@
 -- Where it is known that a table is sound, but not how, it can be said how: each rule is decided by what its items have.
-use Rattle.std.proofs.Common.{ℕ, zero, suc, ◌+◌, ◌-◌, ◌<◌, ◌≤◌, ◌≡◌, ◌≢◌, ◌%◌, ◌⊎◌, ◌∙◌, ◌++◌, Bool, true, false, List, [], ◌∷◌, length, take, Option, Some, None, ap, sym, refl, subst, inl, inr, arith, eqb, eqb-true, ltb-true, ltb-false, codes}
-use Rattle.std.specs.Prelude.{Contains, IfSome, IsUtf8, nat_lt}
+use Rattle.std.proofs.Common.{ℕ, zero, suc, ◌+◌, ◌-◌, ◌<◌, ◌≤◌, ◌≡◌, ◌≢◌, ◌⊎◌, ◌∙◌, ◌++◌, true, List, [], ◌∷◌, length, take, Option, Some, None, ap, sym, refl, subst, inl, inr, arith, eqb, eqb-true, ltb-true, ltb-false, codes}
+use Rattle.std.specs.Prelude.{Contains, IfSome, nat_lt}
 use Rattle.std.specs.Str.{is_utf8}
 use Rattle.std.specs.Coded.{coded_list, coded_option, coded_ℕ}
 use Rattle.std.proofs.lemmas.Bool.{eqb-false}
@@ -12,7 +12,7 @@ use Rattle.std.proofs.lemmas.Str.{IsUtf8-from_is_utf8, is_utf8-from_IsUtf8}
 use base.Stored.{Coded-set}
 use Rattle.dconf_model.specs.Names.{HasName, HasParents, name_of}
 use Rattle.dconf_model.specs.Searchable.{EachItem, HasBuckets, HasContent, HasEnd, HasGoodKey, HasHash, IsInBloom, IsInSpan, IsKind, IsOnlyNamed, LeadsUp}
-use Rattle.dconf_model.specs.Sound.{HasListIfAny, HasLocksIfAny, HasParent, HasPlace, IsChild, IsDirectoryPart, IsPart, IsSound, IsTop, list_length, listed}
+use Rattle.dconf_model.specs.Sound.{HasListIfAny, HasLocksIfAny, HasParent, HasPlace, IsDirectoryPart, IsPart, IsSound, IsTop, list_length, listed}
 use Rattle.dconf_model.specs.Sound.Rule.{buckets, keys, chain, hash, span, bloom, once, content, place, lists, locks}
 use Rattle.dconf_model.specs.Table.{Table, HasBytes, item, item_count, key, list_kind, table_kind, value_kind}
 use Rattle.dconf_model.proofs.ComputedNames.{name_of_named, named_of_name}

@@ -3,7 +3,7 @@ use Rattle.std.proofs.Common.{ℕ, ◌<◌, ◌≡◌, ◌%◌, ◌⊎◌, ◌�
 use Rattle.std.specs.Prelude.{Contains, IfSome, IsUtf8, codes}
 use Rattle.dconf_model.specs.Names.{HasName, HasParents, IsItem, joined}
 use Rattle.dconf_model.specs.Searchable.{EachItem, HasBuckets, HasContent, HasEnd, HasGoodKey, HasHash, IsKind, IsOnlyNamed, LeadsUp}
-use Rattle.dconf_model.specs.Sound.{HasListIfAny, HasLocksIfAny, HasParent, HasPlace, IsChild, IsDirectoryPart, IsPart, IsSound, IsTop, KeepsAll, ListsChildren, Rule, list_length, listed}
+use Rattle.dconf_model.specs.Sound.{HasListIfAny, HasLocksIfAny, HasParent, HasPlace, IsChild, IsDirectoryPart, IsPart, IsSound, IsTop, list_length, listed}
 use Rattle.dconf_model.specs.Sound.Rule.{buckets, keys, chain, hash, span, bloom, once, content, place, lists, locks}
 use Rattle.dconf_model.specs.Table.{Table, bytes_of, item, item_count, key, list_kind, table_kind, value_kind}
 use Rattle.dconf_model.proofs.ParentLaws.{parent_counted}

@@ -1,5 +1,5 @@
 -- Items that are alike but for the bytes of values. Words of private parts: nothing here is to be believed.
-use Rattle.std.specs.Prelude.{◌≡◌, ◌≢◌, ◌⊎◌, ℕ, List}
+use Rattle.std.specs.Prelude.{◌≡◌, ◌⊎◌, ℕ, List}
 use Rattle.dconf_model.specs.Searchable.{IsInBloom, IsInSpan}
 use Rattle.dconf_model.specs.Table.{Table, HasBytes, bytes_of, item, list_kind, value_kind}
 use Rattle.gvdb_alike.specs.NamesAlike.{AreStepsAlike}

@@ -1,4 +1,4 @@
-use Rattle.std.proofs.Common.{◌≡◌, ◌<◌, ℕ, rules}
+use Rattle.std.proofs.Common.{◌≡◌, rules}
 use Rattle.gvdb_read.specs.Tables.{region}
 use Rattle.gvdb_read.proofs.Below.{below_next}
 use Rattle.gvdb_alike.specs.ValuesAlike.{value_at}

@@ -1,4 +1,4 @@
-use Rattle.std.proofs.Common.{◌≡◌, ◌<◌, ◌≤◌, ◌-◌, ℕ}
+use Rattle.std.proofs.Common.{◌≡◌, ◌<◌, ◌-◌, ℕ}
 use Rattle.dconf_model.specs.Table.{item_count}
 use Rattle.gvdb_read.specs.Tables.{region}
 use Rattle.gvdb_alike.specs.ValuesAlike.{value_at}

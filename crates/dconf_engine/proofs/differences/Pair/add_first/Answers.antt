@@ -1,8 +1,5 @@
-use Rattle.std.proofs.Common.{rules, ◌≡◌, ◌∷◌, ◌∙◌, List, map, sym, ap}
-use Rattle.std.specs.Prelude.{drop}
-use Rattle.dconf_model.specs.Settings.{Settings}
+use Rattle.std.proofs.Common.{rules, ◌≡◌, ◌∷◌, List, map, ap}
 use Rattle.dconf_engine.specs.declared.layer.Layer.{Layer}
-use Rattle.dconf_engine.specs.Twins.{AreTwins}
 use Rattle.dconf_engine.specs.LentSettings.{seen_in}
 use Rattle.dconf_engine.specs.LayerSettings.{settings_of}
 use Rattle.dconf_engine.proofs.TwinLaws.{passes_alike, passes_back, twins_of}
