@@ -13,9 +13,9 @@ static void find_missing(const Lint *lint, Place at, const char *what, const cha
 /* Whether an earlier line sets the key, of this file or of one before it in the folder. */
 static void check_first(const Lint *lint, Place at, const char *path)
 {
-    const Place *first = lint->set ? g_hash_table_lookup(lint->set, path) : NULL;
     if (!lint->set)
         return;
+    const Place *first = g_hash_table_lookup(lint->set, path);
     if (first) {
         find(at, "%s is set already, at %s:%zu", path, first->file, first->line);
         return;

@@ -4,7 +4,6 @@
 #include "../dconfdb_calls.h"
 #include "places.h"
 
-#include <errno.h>
 #include <getopt.h>
 #include <poll.h>
 #include <stdio.h>
