@@ -14,7 +14,10 @@
  *   beside newer             waits for a line, and sets the name; syncs
  *   beside child             prints whether a child of fork() may set and whether it can
  *   beside keeps COUNT       sets the name so often and keeps each of the values: prints the KiB of memory that this took
- *   beside polls TEXT        reads until the name is that, without a main loop: prints after how many milliseconds
+ *   beside polls TEXT        reads until the name is that, without a main loop: prints when, by the monotonic clock's milliseconds
+ *   beside lands FILE        sets the name 21 times: prints the median of the milliseconds until FILE is another one
+ *   beside gets SECONDS      gets the name for so long
+ *   beside closes            listens, and closes all its files: prints the milliseconds of a processor that two idle seconds took
  */
 #define _GNU_SOURCE
 #include <gio/gio.h>
@@ -24,9 +27,10 @@
 #include <string.h>
 #include <sys/stat.h>
 #include <sys/wait.h>
+#include <time.h>
 #include <unistd.h>
 
-enum { MILLISECOND = 1000, MOST_CALLS = 50 };
+enum { MILLISECOND = 1000, MOST_CALLS = 50, MOST_FILES = 64 };
 
 static GSettings *desk;
 static int calls;
@@ -264,6 +268,59 @@ static void polls(char **more)
     printf("%ld\n", (long)(g_get_monotonic_time() / MILLISECOND));
 }
 
+static ino_t inode_of(const char *file)
+{
+    struct stat found;
+    return stat(file, &found) == 0 ? found.st_ino : 0;
+}
+
+static int by_size(const void *one, const void *other)
+{
+    return *(const int *)one < *(const int *)other ? -1 : *(const int *)one > *(const int *)other;
+}
+
+static void lands(char **more)
+{
+    int took[21];
+    keep("first");
+    for (int i = 0; i < (int)G_N_ELEMENTS(took); i++) {
+        char text[32];
+        snprintf(text, sizeof text, "number %d", i);
+        ino_t before = inode_of(more[0]);
+        gint64 began = g_get_monotonic_time();
+        g_settings_set_string(desk, "name", text);
+        while (inode_of(more[0]) == before && g_get_monotonic_time() < began + G_USEC_PER_SEC)
+            g_usleep(50);
+        took[i] = (int)(g_get_monotonic_time() - began);
+        g_usleep(20 * MILLISECOND);
+    }
+    qsort(took, G_N_ELEMENTS(took), sizeof took[0], by_size);
+    printf("%.2f\n", took[G_N_ELEMENTS(took) / 2] / (double)MILLISECOND);
+}
+
+static void gets(char **more)
+{
+    for (gint64 end = g_get_monotonic_time() + atoi(more[0]) * G_USEC_PER_SEC; g_get_monotonic_time() < end;)
+        g_free(g_settings_get_string(desk, "name"));
+    puts("gets");
+}
+
+static void closes(char **more)
+{
+    (void)more;
+    g_signal_connect(desk, "changed", G_CALLBACK(is_called), NULL);
+    for (int i = 0; i < 100; i++) {
+        while (g_main_context_iteration(NULL, FALSE))
+            ;
+        g_usleep(5 * MILLISECOND);
+    }
+    for (int file = STDERR_FILENO + 1; file < MOST_FILES; file++)
+        close(file);
+    clock_t began = clock();
+    g_usleep(2 * G_USEC_PER_SEC);
+    printf("%ld\n", (long)((clock() - began) * 1000 / CLOCKS_PER_SEC));
+}
+
 static const struct {
     const char *word;
     void (*does)(char **more);
@@ -271,6 +328,7 @@ static const struct {
 } ALL[] = {
     {"sees", sees, 0}, {"tries", tries, 0}, {"sets", sets, 1}, {"leaves", leaves, 1}, {"masks", masks, 1}, {"last", last, 2}, {"orders", orders, 0},
     {"dies", dies, 4}, {"starts", starts, 1}, {"older", older, 1}, {"newer", newer, 0}, {"child", child, 0}, {"keeps", keeps, 1}, {"polls", polls, 1},
+    {"lands", lands, 1}, {"gets", gets, 1}, {"closes", closes, 0},
 };
 
 int main(int argc, char **argv)
