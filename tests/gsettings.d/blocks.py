@@ -46,8 +46,8 @@ def errors_of(*words):
     return [(it.findtext('kind'), int(it.findtext('xwhat/leakedblocks', '0')), place_of(it)) for it in ours]
 
 
-def held_after(words, turns):
-    """How many blocks GLib holds on our account after so many turns. Stops at a fault of ours, and at a block that nobody holds."""
-    errors = errors_of(*words, turns)
-    desk.same(f'faults of ours, and blocks that nobody holds, after {turns} turns', [it for it in errors if it[0] != 'Leak_StillReachable'], [])
+def held_after(*words):
+    """How many blocks GLib holds on our account after a program. Stops at a fault of ours, and at a block that nobody holds."""
+    errors = errors_of(*words)
+    desk.same(f'faults of ours, and blocks that nobody holds, of {" ".join(map(str, words))}', [it for it in errors if it[0] != 'Leak_StillReachable'], [])
     return sum(blocks for _, blocks, _ in errors)
