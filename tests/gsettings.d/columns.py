@@ -3,6 +3,7 @@ worse. Where dconf has no such thing, its column is -, and ours has to be what t
 import os
 import shutil
 import signal
+import statistics
 import subprocess
 
 import desk
@@ -109,6 +110,20 @@ def often(title, case, times, slack=None):
             found[kind] += bool(asked(case, kind))
     few = times // 5 if slack is None else slack
     told(f'{title}, of {times}', found, lambda ours, theirs: ours >= theirs - few)
+
+
+def in_turns(title, asks, times, is_fine):
+    """The median of what is asked of both; the backends take turns."""
+    both = [Home(kind).begins() for kind in KINDS]
+    found = {home.kind: [] for home in both}
+    try:
+        for home in [*both] * (times + 1):
+            found[home.kind].append(asks(home))
+    finally:
+        for home in both:
+            home.ends()
+    # The first is a beginning.
+    told(f'{title}, median of {times}', {kind: statistics.median(them[1:]) for kind, them in found.items()}, is_fine)
 
 
 def each_part(ours, theirs):
