@@ -1,5 +1,5 @@
-/* A backend of GSettings: GSETTINGS_BACKEND=dconfdb. It reads values in place, and lets changes
- * wait for the thread that writes them; until then they are read here. */
+/* A backend of GSettings: GSETTINGS_BACKEND=dconfdb names it, or a file makes it the default. It reads
+ * values in place, and lets changes wait for the thread that writes them; until then they are read here. */
 #include "gsettings.h"
 
 #include <pthread.h>
@@ -488,6 +488,12 @@ static void dconfdb_backend_class_finalize(DconfdbBackendClass *class)
 
 /* ---- the module */
 
+/* With this file, an administrator makes the module the default. */
+static const char default_file[] = "/etc/dconfdb/default";
+
+/* GIO takes the backend of the highest priority if the environment names none; dconf's has 100. */
+enum { BELOW_ALL_OTHERS = 0, ABOVE_DCONF = 110 };
+
 G_MODULE_EXPORT void g_io_module_load(GIOModule *module);
 G_MODULE_EXPORT void g_io_module_unload(GIOModule *module);
 G_MODULE_EXPORT char **g_io_module_query(void);
@@ -497,8 +503,8 @@ void g_io_module_load(GIOModule *module)
     /* It is never unloaded: values are lent from it. */
     g_type_module_use(G_TYPE_MODULE(module));
     dconfdb_backend_register_type(G_TYPE_MODULE(module));
-    /* Below all others: it serves only where GSETTINGS_BACKEND names it. */
-    g_io_extension_point_implement(G_SETTINGS_BACKEND_EXTENSION_POINT_NAME, dconfdb_backend_get_type(), "dconfdb", 0);
+    gint priority = access(default_file, F_OK) == 0 ? ABOVE_DCONF : BELOW_ALL_OTHERS;
+    g_io_extension_point_implement(G_SETTINGS_BACKEND_EXTENSION_POINT_NAME, dconfdb_backend_get_type(), "dconfdb", priority);
 }
 
 void g_io_module_unload(GIOModule *module)
