@@ -2,6 +2,8 @@
  * values in place, and lets changes wait for the thread that writes them; until then they are read here. */
 #include "gsettings.h"
 
+#include "catch_up.h"
+
 #include <pthread.h>
 #include <stdlib.h>
 #include <string.h>
@@ -437,6 +439,20 @@ static void __attribute__((destructor)) end_all(void)
         worker_end(at->data);
 }
 
+/* ---- libdconf.so.1 in the same program (catch_up.h) */
+
+static void catch_up_all(void)
+{
+    GSList *all = NULL;
+    g_mutex_lock(&living_lock);
+    for (GSList *at = living; at; at = at->next)
+        all = g_slist_prepend(all, g_object_ref(at->data));
+    g_mutex_unlock(&living_lock);
+    for (GSList *at = all; at; at = at->next)
+        store_catch_up(at->data);
+    g_slist_free_full(all, g_object_unref);
+}
+
 /* ---- fork(): the child has no thread but the one that called it */
 
 /* So that nobody else has `lock`, and what it guards is whole. `turn` may be held for seconds, and
@@ -503,6 +519,8 @@ void g_io_module_load(GIOModule *module)
     /* It is never unloaded: values are lent from it. */
     g_type_module_use(G_TYPE_MODULE(module));
     dconfdb_backend_register_type(G_TYPE_MODULE(module));
+    static CatchUp catch_up = {catch_up_all};
+    g_type_set_qdata(dconfdb_backend_get_type(), g_quark_from_static_string(CATCH_UP_DATA), &catch_up);
     gint priority = access(default_file, F_OK) == 0 ? ABOVE_DCONF : BELOW_ALL_OTHERS;
     g_io_extension_point_implement(G_SETTINGS_BACKEND_EXTENSION_POINT_NAME, dconfdb_backend_get_type(), "dconfdb", priority);
 }

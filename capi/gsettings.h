@@ -172,6 +172,9 @@ void store_look(DconfdbBackend *self);
 /* The same for who reads where nothing is watched, if nobody else looks: the worker tells. */
 void store_peek(DconfdbBackend *self);
 
+/* The same for who is about to tell of a change by itself: it waits for who looks or writes, a second at most. */
+void store_catch_up(DconfdbBackend *self);
+
 /* Until what waits is written, and the files are looked at: ten seconds at most, and as long again after each
  * turn of other programs, up to a minute. False: it isn't yet. */
 bool store_sync(DconfdbBackend *self);

@@ -9,9 +9,9 @@
 #include <time.h>
 #include <unistd.h>
 
-/* In microseconds: how long g_settings_sync() waits, and a write is tried again, also by a disk that answers EIO; how often
- * who waits looks for turns of others, and who reads at the files; and how often a mutex is tried. */
-enum { LONGEST_SYNC = 10000000, LONGEST_FAILING = 10000000, LONGEST_EIO = 1500000 };
+/* In microseconds: how long g_settings_sync() waits, and a write is tried again, also by a disk that answers EIO; how long who
+ * catches up waits; how often who waits looks for turns of others, and who reads at the files; and how often a mutex is tried. */
+enum { LONGEST_SYNC = 10000000, LONGEST_FAILING = 10000000, LONGEST_EIO = 1500000, LONGEST_CATCH_UP = 1000000 };
 enum { BETWEEN_TURNS = 500000, BETWEEN_LOOKS = 10000, AFTER_A_FAULT = 1000000, TRY = 1000, MILLISECOND = 1000 };
 
 bool mutex_lock_until(GMutex *mutex, gint64 end)
@@ -211,24 +211,37 @@ static bool is_to_peek(DconfdbBackend *self, gint64 now)
     return is;
 }
 
+/* `turn` is held, and given back. A handler would run amid what the caller does, if this thread told. */
+static void look_quietly(DconfdbBackend *self)
+{
+    Notice *notice = g_new0(Notice, 1);
+    /* A file that can't be read is read again and again. */
+    if (!look(self, notice))
+        atomic_store(&self->looks, coarse_time() + AFTER_A_FAULT);
+    g_mutex_unlock(&self->turn);
+    if (notice->before != notice->after || notice->faults)
+        worker_tells(self, notice);
+    else
+        notice_tell_and_free(self, notice);
+}
+
 void store_peek(DconfdbBackend *self)
 {
     gint64 now = coarse_time();
     /* Nearly all reads end here, without a lock. */
     if (G_LIKELY(now < atomic_load_explicit(&self->looks, memory_order_relaxed)))
         return;
-    if (!is_to_peek(self, now) || !g_mutex_trylock(&self->turn))
-        return;
-    Notice *notice = g_new0(Notice, 1);
-    /* A file that can't be read is read again and again. */
-    if (!look(self, notice))
-        atomic_store(&self->looks, coarse_time() + AFTER_A_FAULT);
-    g_mutex_unlock(&self->turn);
-    /* A handler would run amid the read, if this thread told. */
-    if (notice->before != notice->after || notice->faults)
-        worker_tells(self, notice);
-    else
-        notice_tell_and_free(self, notice);
+    if (is_to_peek(self, now) && g_mutex_trylock(&self->turn))
+        look_quietly(self);
+}
+
+void store_catch_up(DconfdbBackend *self)
+{
+    g_mutex_lock(&self->lock);
+    bool is = self->folder && self->has_opened && !self->has_ended && self->process == getpid();
+    g_mutex_unlock(&self->lock);
+    if (is && mutex_lock_until(&self->turn, g_get_monotonic_time() + LONGEST_CATCH_UP))
+        look_quietly(self);
 }
 
 /* `turn` and `lock` aren't held. When what may be gone in a moment is to be tried again; 0: no more. */
