@@ -1,4 +1,5 @@
 /* Signals: who is told of what, in the client's context. */
+#include "../catch_up.h"
 #include "libdconf.h"
 
 #include <stdlib.h>
@@ -11,10 +12,20 @@ typedef struct {
     gchar *tag;
 } Notice;
 
+/* Who is told may read by GSettings, whose module watches the files by itself. */
+static void catch_up(void)
+{
+    GType type = g_type_from_name(CATCH_UP_TYPE);
+    const CatchUp *its = type ? g_type_get_qdata(type, g_quark_from_static_string(CATCH_UP_DATA)) : NULL;
+    if (its)
+        its->all();
+}
+
 static gboolean emit(gpointer data)
 {
     const Notice *notice = data;
     DConfClient *client = g_weak_ref_get(&notice->engine->client);
+    catch_up();
     if (client && notice->changes)
         g_signal_emit_by_name(client, "changed", notice->path, notice->changes, notice->tag);
     else if (client)
