@@ -9,6 +9,7 @@ mod due;
 mod listing;
 mod looking;
 mod opening;
+mod ordering;
 mod printing;
 mod queueing;
 mod reading;

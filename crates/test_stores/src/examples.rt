@@ -4,6 +4,7 @@ use dconf_disk::{Folder, MemoryFolder, replace};
 use dconf_engine::{Engine, Layer};
 use dconf_path::{KeyPath, LockPath, read_profile};
 use dconf_store::{Change, value_after};
+use dconf_times::{DconfdbTime as Time, is_overtaken, note_times};
 use dconf_turn::{Answer, Outcome, Step, Turn};
 use dconfdb_calls::{is_key_writable, open_layer, read};
 use gv_tree::{Basic, Tree};
@@ -18,6 +19,12 @@ fn of_dconf_path() -> Result<bool, Fail> {
     let name = KeyPath::parse("/org/desk/name")?;
     let lock = LockPath::parse("/org/desk/")?;
     Ok(lock.covers(name) && KeyPath::parse("org").is_err())
+}
+
+fn of_dconf_times(alloc: Global, noted: &[Time<'_>], set: &[Time<'_>]) -> Result<bool, Fail> {
+    let kept = note_times(alloc, noted, set, 9, 1024)?;
+    let is_older = is_overtaken(kept.as_slice(), b"/desk/size", 7, 9);
+    Ok(is_older && !is_overtaken(kept.as_slice(), b"/desk/name", 7, 9))
 }
 
 fn of_keyfile_core(alloc: Global) -> Result<bool, Fail> {
@@ -82,6 +89,19 @@ fn of_dconf_disk(alloc: Global) -> Result<bool, Fail> {
     Ok(bytes.is_some_and(|it| it.as_slice() == b"new".as_slice()))
 }
 
+/// Whether that is so of a reset of a directory, and of a later set.
+fn of_times(alloc: Global) -> Result<bool, Fail> {
+    let noted = Time {
+        path: b"/desk/",
+        when: 5,
+    };
+    let set = Time {
+        path: b"/desk/size",
+        when: 8,
+    };
+    of_dconf_times(alloc, &[noted], &[set])
+}
+
 fn of_dconf_turn() -> bool {
     let mut turn = Turn::begin();
     turn.answered(Answer::No(5));
@@ -104,6 +124,7 @@ fn of_databases(alloc: Global, written: &[u8], compiled: &[u8]) -> Result<bool, 
 fn each_example_is_so(rt: HostRuntime) -> Result<(), Fail> {
     let alloc = rt.alloc();
     let others = of_dconf_path()?
+        && of_times(alloc)?
         && of_keyfile_core(alloc)?
         && of_dconf_disk(alloc)?
         && of_dconf_turn();

@@ -31,4 +31,5 @@ mod tables;
 #[cfg(test)]
 mod texts;
 #[cfg(test)]
+mod times;
 mod turns;

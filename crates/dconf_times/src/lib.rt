@@ -1,0 +1,23 @@
+//! Who set what last, for programs that take turns to write: each notes what it sets, and when, and
+//! leaves out what another one has set later.
+//!
+//! A note is of a key, or of a directory of which all keys were reset. One of the future counts for
+//! nothing: a clock was wrong. Nothing is kept here; the caller lends the notes, and stores what
+//! [`note_times`] makes of them.
+//!
+//! Where `noted` says that `/desk/` was reset at 5, and `set` that `/desk/size` is set at 8:
+//!
+//! ```
+//! let kept = note_times(alloc, noted, set, 9, 1024)?;
+//! let is_older = is_overtaken(kept.as_slice(), b"/desk/size", 7, 9);
+//! Ok(is_older && !is_overtaken(kept.as_slice(), b"/desk/name", 7, 9))
+//! ```
+#![tactic(auto)]
+
+mod laws;
+mod noting;
+mod times;
+
+pub use laws::the_latest_stands;
+pub use noting::note_times;
+pub use times::{DconfdbTime, is_overtaken};
