@@ -112,6 +112,13 @@ enum {
     DCONFDB_TURN_UNSETTLED /* it holds the new bytes, but a crash may leave it as it was */
 };
 
+/* A path that was set, and when: a key's, or that of a directory of which all keys were reset, and
+ * nanoseconds since 1970. */
+typedef struct {
+    DconfdbBytes path;
+    uint64_t when;
+} DconfdbTime;
+
 /* Why a call failed. */
 enum {
     DCONFDB_OK,
@@ -216,6 +223,11 @@ uint32_t dconfdb_differs_first(const DconfdbLayer *layers, size_t n, const Dconf
  * written. */
 uint32_t dconfdb_repair(const uint8_t *file, size_t len, uint8_t *room, size_t room_len, size_t *repaired_len, size_t *keys,
                         size_t *locks);
+
+/* The sound database that a file stands for which dconf made of no key: the file with its `/` as an empty
+ * list, whose kind and contents dconf leaves unset. `len` as dconfdb_list has it. UNSOUND if it is none such,
+ * or MEMORY, and then nothing is written. */
+uint32_t dconfdb_keyless(const uint8_t *file, size_t len, uint8_t *room, size_t room_len, size_t *mended_len);
 
 /* The databases that a profile's text names, 64 at most. `names` is how many; where they are more
  * than the room, nothing is put into it. MEMORY, NOT_TEXT, or BAD_LINE to TOO_MANY with the line,
@@ -361,6 +373,18 @@ bool dconfdb_sleep_until(uint64_t again, uint64_t look, uint64_t now, uint64_t *
 /* Whether who asks that all is written goes on waiting, and whether the program's end does. */
 bool dconfdb_sync_goes_on(uint64_t settled, uint64_t added, uint64_t now, uint64_t end);
 bool dconfdb_exit_goes_on(uint64_t now, uint64_t end, uint64_t moved);
+
+/* ---- which paths were set last */
+
+/* Whether a change of that time is overtaken: the path, or a directory above it, was set later, as the
+ * times say. One that is later than `now` counts for nothing. */
+bool dconfdb_is_overtaken(const DconfdbTime *times, size_t n, const uint8_t *path, size_t path_len, uint64_t when, uint64_t now);
+
+/* The times with more of them, as many as there is room for: of each path the latest. What has no
+ * room is no later than what has. One that is later than `now` goes. The paths are lent from the times
+ * that are handed in. MEMORY, and then nothing is written. */
+uint32_t dconfdb_note_times(const DconfdbTime *times, size_t n, const DconfdbTime *more, size_t more_n, uint64_t now,
+                            DconfdbTime *room, size_t room_len, size_t *len);
 
 #ifdef __cplusplus
 }

@@ -3,3 +3,4 @@ mod AfterTurns
 mod Refusals
 mod Stored
 mod LineLaws
+mod KeylessLaws

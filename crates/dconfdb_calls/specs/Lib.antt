@@ -8,5 +8,6 @@ pub mod Named
 pub mod GoodLines
 pub mod Stored
 pub mod Salvaged
+pub mod Keyless
 pub mod Changed
 pub mod Turns

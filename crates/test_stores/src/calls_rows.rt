@@ -2,7 +2,9 @@
 //! pass over the bad lines of a profile.
 use crate::calls::layer;
 use crate::samples::sample;
-use dconfdb_calls::{Fault, GoodLines, Salvaged, good_lines, is_stored, open_layer, salvaged_file};
+use dconfdb_calls::{
+    Fault, GoodLines, Salvaged, good_lines, is_stored, keyless_file, open_layer, salvaged_file,
+};
 use std::alloc::Global;
 use std::test::Fail;
 
@@ -112,6 +114,32 @@ fn bad_lines_of_a_profile_are_passed_over(rt: HostRuntime) -> Result<(), Fail> {
             names(rt.alloc(), text, count, last, bad)?,
             "{count} {bad:?}"
         );
+    }
+    Ok(())
+}
+
+/// A database of `/` alone, of this kind, whose contents start there.
+fn of_root(kind: u8, start: u8) -> [u8; 61] {
+    let mut file = *b"GVariant\0\0\0\0\0\0\0\0\x18\0\0\0\x3c\0\0\0\
+        \0\0\0\0\x01\0\0\0\0\0\0\0\xd4\xb5\x02\0\xff\xff\xff\xff\x3c\0\0\0\x01\0L\0\0\0\0\0\0\0\0\0/";
+    file[50] = kind;
+    file[52] = start;
+    file
+}
+
+#[test]
+fn a_database_of_no_key_is_told(rt: HostRuntime) -> Result<(), Fail> {
+    let alloc = rt.alloc();
+    let empty = of_root(b'L', 0);
+    assert!(rt; open_layer(&empty, true).is_ok() && open_layer(&of_root(0, 0), true).is_err());
+    for (kind, start) in [(b'L', 0), (0, 0), (b'v', 9), (b'H', 60), (255, 255)] {
+        let is = keyless_file(alloc, &of_root(kind, start)).is_ok_and(|it| it.as_slice()
+            == empty.as_slice());
+        assert!(rt; is, "{kind} {start}");
+    }
+    for name in ["plain", "buckets", "locked", "40"] {
+        let is = matches!(keyless_file(alloc, sample(name)), Err(Fault::Unsound));
+        assert!(rt; is, "{name}");
     }
     Ok(())
 }
