@@ -214,7 +214,8 @@ bool dconfdb_store_refresh(DconfdbStore *store, bool *changed, DconfdbError *err
  * A missing folder is made, even if the change is then refused. Programs that change the file take
  * turns with flock() on the file `.lock` in its folder, which is created if it is missing; only those
  * who may write in the folder may open it. This call waits at most ten seconds for that lock; then it
- * waits, without a limit, for threads that refresh the same store.
+ * waits, without a limit, for threads that refresh the same store. The file says which keys were set last,
+ * and when: so a GSettings program, whose sets may wait, never overwrites an edit with an older set.
  *
  * False: it failed, and the file has its old bytes. Only if the number is DCONFDB_ERROR_FILE may
  * it have the new ones: if the fault came after the file was replaced, the text says so, and the

@@ -5,6 +5,7 @@
 #define G_SETTINGS_ENABLE_BACKEND
 #include "dconfdb.h"
 #include "lock.h"
+#include "order.h"
 #include "watching.h"
 
 #include <gio/gio.h>
@@ -25,9 +26,10 @@ typedef struct {
     bool is_left_out;
 } Edit;
 
-/* Edits of which all are made, or none. */
+/* Edits of which all are made, or none, but for those that others have overtaken. */
 typedef struct {
     GList link; /* in the queue that has it */
+    uint64_t moment; /* in which it began to wait, by order_clock() */
     size_t count, most;
     Edit edits[];
 } Change;

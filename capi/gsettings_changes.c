@@ -9,6 +9,7 @@ Change *change_new(size_t most)
 {
     Change *change = g_malloc(sizeof *change + most * sizeof change->edits[0]);
     change->link = (GList){.data = change};
+    change->moment = 0;
     change->count = 0;
     change->most = most;
     return change;
@@ -152,6 +153,7 @@ void waiting_end(Waiting *waiting)
 
 void waiting_add(Waiting *waiting, Change *change)
 {
+    change->moment = order_clock();
     g_queue_push_tail_link(&waiting->changes, &change->link);
     for (size_t i = 0; i < change->count; i++) {
         if (!change->edits[i].is_left_out)
@@ -252,8 +254,10 @@ typedef struct {
     size_t count, taken;
     DconfdbQueued *queued;
     Edit **edits;
-    DconfdbEdit *asked; /* those that were taken, and the number of each */
+    uint64_t *moments;  /* in which each was made */
+    DconfdbEdit *asked; /* those that were taken, and the number and the moment of each */
     size_t *numbers;
+    uint64_t *asked_in;
 } Batch;
 
 static size_t edits_in(const GQueue *changes)
@@ -267,12 +271,14 @@ static size_t edits_in(const GQueue *changes)
 static Batch batch_of(const GQueue *changes)
 {
     size_t count = edits_in(changes), first = 0;
-    Batch batch = {0, 0, g_new(DconfdbQueued, count), g_new(Edit *, count), g_new(DconfdbEdit, count), g_new(size_t, count)};
+    Batch batch = {0, 0, g_new(DconfdbQueued, count), g_new(Edit *, count), g_new(uint64_t, count), g_new(DconfdbEdit, count),
+                   g_new(size_t, count), g_new(uint64_t, count)};
     for (const GList *at = changes->head; at; at = at->next, first = batch.count) {
         Change *change = at->data;
         for (size_t i = 0; i < change->count; i++) {
             Edit *edit = &change->edits[i];
             batch.queued[batch.count] = (DconfdbQueued){first, edit->value != NULL, edit->is_left_out, false};
+            batch.moments[batch.count] = change->moment;
             batch.edits[batch.count++] = edit;
         }
     }
@@ -309,13 +315,16 @@ static void batch_end(Batch *batch, GQueue *changes, GQueue *refused)
     }
     g_free(batch->queued);
     g_free(batch->edits);
+    g_free(batch->moments);
     g_free(batch->asked);
     g_free(batch->numbers);
+    g_free(batch->asked_in);
 }
 
 static void take(Batch *batch, size_t number)
 {
     batch->asked[batch->taken] = batch->edits[number]->asked;
+    batch->asked_in[batch->taken] = batch->moments[number];
     batch->numbers[batch->taken++] = number;
 }
 
@@ -325,7 +334,7 @@ static bool try_to_write(DconfdbStore *store, const Turn *turn, const Batch *bat
         return true;
     if (turn->fault != 0)
         return refuse_lock(store, turn->fault, fault);
-    return locked_change(store, turn->lock, batch->asked, batch->taken, fault);
+    return locked_change(store, turn->lock, batch->asked, batch->asked_in, batch->taken, fault);
 }
 
 /* What became of a write, as dconfdb_queue_answered has it. The first fault for which a change is refused is kept. */

@@ -144,6 +144,9 @@ static bool look(DconfdbBackend *self, Notice *notice)
     bool done = opens ? open_store(self, profiles, &error) : dconfdb_store_refresh(self->store, NULL, &error);
     warn_once(self, notice, done ? NULL : &error);
     renew(self, notice);
+    /* What begins to wait later is newer than what was read. */
+    if (notice->before && notice->before != notice->after && store_has_waiting(self))
+        heed_others(self->store, notice->before, notice->after);
     if (done && opens) {
         g_atomic_int_set(&self->is_reopened, TRUE);
         g_mutex_lock(&self->lock);

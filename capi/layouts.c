@@ -28,6 +28,8 @@ void dconfdb_queue_answered(void *queue, void *edits, size_t count, uint32_t ans
 void dconfdb_wait_begin(void *wait, uint32_t longest);
 void dconfdb_wait_answered(void *wait, uint32_t answer, uint64_t passed, uint32_t fault);
 
+bool dconfdb_is_overtaken(const void *times, size_t n, const uint8_t *path, size_t path_len, uint64_t when, uint64_t now);
+
 /* How many bytes a field takes: a bool, a uint32_t, a size_t or pointer, and bytes that are lent. */
 enum { FLAG = 1, NUMBER = 4, WORD = 8, LENT = 16 };
 enum { ROOM = 512, UNTOUCHED = 0xaa };
@@ -492,6 +494,29 @@ static void finds_queue(void)
     ends(&queue);
 }
 
+/* ---- two times, of which the second is asked for */
+
+enum { WHEN = 16, TIME = 24 };
+
+static void makes_time(uint8_t *time, const char *path, uint64_t when)
+{
+    lends(time + PATH, path, strlen(path));
+    memcpy(time + WHEN, &when, WORD);
+}
+
+static void tries_times(void)
+{
+    _Alignas(16) uint8_t times[2 * TIME];
+    makes_time(times, "/a", 2);
+    makes_time(times + TIME, "/k", 5);
+    const uint8_t *path = (const uint8_t *)"/k";
+    is_so(dconfdb_is_overtaken(times, 2, path, 2, 4, 5) && !dconfdb_is_overtaken(times, 2, path, 2, 5, 5), "DconfdbTime");
+    is_so(!dconfdb_is_overtaken(times, 1, path, 2, 1, 5), "DconfdbTime");
+    lies("DconfdbTime", "path", PATH, LENT);
+    lies("DconfdbTime", "when", WHEN, WORD);
+    printf("TAKES(DconfdbTime, %d);\n", TIME);
+}
+
 int main(void)
 {
     puts("#include \"dconfdb_calls.h\"\n\n"
@@ -510,5 +535,6 @@ int main(void)
     finds_refresh();
     finds_wait();
     finds_queue();
+    tries_times();
     return 0;
 }

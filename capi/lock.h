@@ -6,6 +6,8 @@
 
 #include "dconfdb.h"
 
+#include <stdint.h>
+
 #define LOCK_NAME ".lock"
 
 /* It stays where it is in memory as long as it is held. */
@@ -28,8 +30,13 @@ void folder_unlock(FolderLock *lock);
 /* Whether all databases after the first are the same ones: whatever they lock and have, they do in both. */
 bool have_same_others(const DconfdbSnapshot *one, const DconfdbSnapshot *other);
 
-/* dconfdb_store_change, while the lock of the store's folder is held. */
-bool locked_change(DconfdbStore *store, const FolderLock *lock, const DconfdbEdit *edits, size_t count, DconfdbError *error);
+/* dconfdb_store_change, while the lock of the store's folder is held. Each edit has the moment in which it was made, by
+ * order_clock(), the oldest first: what others have set since is left out. NULL: all are made now. */
+bool locked_change(DconfdbStore *store, const FolderLock *lock, const DconfdbEdit *edits, const uint64_t *moments, size_t count,
+                   DconfdbError *error);
+
+/* While edits wait: what others changed between two snapshots, which the next locked_change heeds. */
+void heed_others(DconfdbStore *store, const DconfdbSnapshot *before, const DconfdbSnapshot *after);
 
 /* What a lock's errno is to who changes the store. It returns false. */
 bool refuse_lock(const DconfdbStore *store, int fault, DconfdbError *error);

@@ -8,6 +8,7 @@
 #include "files.h"
 #include "lock.h"
 #include "mending.h"
+#include "order.h"
 
 #include <errno.h>
 #include <pthread.h>
@@ -56,12 +57,21 @@ enum { LARGEST_PROFILE = 16777216, MOST_DATABASES = 64, ROOM_OF_PASSWD = 65536 }
 /* How many milliseconds a change waits for the folder's lock. */
 enum { LONGEST_WAIT = 10000 };
 
+/* What another one was seen to change, and the file that it left. */
+typedef struct Seen {
+    struct Seen *next;
+    FileState left;
+    char *paths; /* a zero byte after each, and one more */
+} Seen;
+
 struct DconfdbStore {
     bool is_lenient;            /* a bad file is empty, or what is saved of it */
     DconfdbError profile_fault; /* its number is 0 where there is none */
     pthread_mutex_t refreshing; /* held while files are looked at, and put in place */
     pthread_mutex_t handing;    /* held for `now` alone */
     bool has_news;              /* of others' changes, that no refresh has told; under `refreshing` */
+    Seen *seen;                 /* the same, while own ones wait; under `refreshing` */
+    uint64_t noted;             /* the time of what this store noted last; under `refreshing` */
     DconfdbSnapshot *now;
     char *folder, *user_file; /* absolute; no user_file: no user's database */
     size_t count;
@@ -462,6 +472,13 @@ static uint32_t lists_differences(const DconfdbSnapshot *snapshot, const void *o
     if (have_same_others(snapshot, other))
         return dconfdb_differs_first(snapshot->layers, snapshot->count, &other->layers[0], room, room_len, len);
     return dconfdb_differs(snapshot->layers, snapshot->count, other->layers, other->count, SIZE_MAX, room, room_len, len);
+}
+
+/* Of the values that the first layers have, whatever the others say. */
+static uint32_t lists_own_differences(const DconfdbSnapshot *snapshot, const void *of, uint8_t *room, size_t room_len, size_t *len)
+{
+    const DconfdbSnapshot *other = of;
+    return dconfdb_differs(snapshot->layers, 1, other->layers, 1, 1, room, room_len, len);
 }
 
 /* Calls with a room that mostly is enough, and else with one that is. */
@@ -886,10 +903,21 @@ char *dconfdb_store_files(const char *folder, size_t *size, DconfdbError *error)
     return names;
 }
 
+static void forget_seen(DconfdbStore *store)
+{
+    while (store->seen) {
+        Seen *seen = store->seen;
+        store->seen = seen->next;
+        free(seen->paths);
+        free(seen);
+    }
+}
+
 void dconfdb_store_close(DconfdbStore *store)
 {
     if (!store)
         return;
+    forget_seen(store);
     dconfdb_snapshot_unref(store->now);
     for (size_t i = 0; i < store->count; i++)
         free(store->files[i]);
@@ -986,8 +1014,7 @@ static bool is_of_edit(uint32_t number)
 }
 
 /* The user's file with the changes: the caller's, to be released. */
-static bool make_file(const DconfdbStore *store, const DconfdbChange *changes, const DconfdbEdit *edits, size_t count,
-                      FileBytes *file, DconfdbError *error)
+static bool make_file(const DconfdbStore *store, const DconfdbChange *changes, size_t count, FileBytes *file, DconfdbError *error)
 {
     const DconfdbSnapshot *now = store->now;
     size_t len = guess(store, changes, count), room_len, at = 0;
@@ -1004,7 +1031,7 @@ static bool make_file(const DconfdbStore *store, const DconfdbChange *changes, c
         file_release(file);
     } while (number == DCONFDB_OK);
     if (at < count && is_of_edit(number))
-        return refuse_call(error, number, edits[at].path, (Place){.edit = at});
+        return refuse_call(error, number, (const char *)changes[at].path.at, (Place){.edit = at});
     return refuse_call(error, number, user_file_or_folder(store), nowhere);
 }
 
@@ -1110,17 +1137,208 @@ static bool put_in_place(DconfdbStore *store, int turn, FileBytes file, DconfdbE
                                  : refuse_file(error, fault, store->user_file, nowhere);
 }
 
-/* The changes, while it is this program's turn. Where they change nothing the file stays, as bad as it may be. */
-static bool change_in_turn(DconfdbStore *store, int turn, const DconfdbChange *changes, const DconfdbEdit *edits, size_t count,
-                           DconfdbError *error)
+/* ---- the order of changes */
+
+/* What differs between two files, or NULL. */
+static Seen *what_differs(const DconfdbSnapshot *before, const DconfdbSnapshot *after)
+{
+    bool are_users = before->is_writable && after->is_writable && before->count > 0 && after->count > 0;
+    if (!are_users || before->parts[0] == after->parts[0] || !after->parts[0]->state.is_there)
+        return NULL;
+    Seen *seen = malloc(sizeof *seen);
+    char *paths = listed(lists_own_differences, after, before, "differences", NULL, NULL);
+    if (!seen || !paths) {
+        free(seen);
+        free(paths);
+        return NULL;
+    }
+    *seen = (Seen){NULL, after->parts[0]->state, paths};
+    return seen;
+}
+
+static void heed(DconfdbStore *store, const DconfdbSnapshot *before, const DconfdbSnapshot *after)
+{
+    Seen *seen = what_differs(before, after);
+    if (seen) {
+        seen->next = store->seen;
+        store->seen = seen;
+    }
+}
+
+void heed_others(DconfdbStore *store, const DconfdbSnapshot *before, const DconfdbSnapshot *after)
+{
+    pthread_mutex_lock(&store->refreshing);
+    heed(store, before, after);
+    pthread_mutex_unlock(&store->refreshing);
+}
+
+static uint64_t hashed(uint64_t hash, const DconfdbBytes *bytes)
+{
+    for (size_t i = 0; i < bytes->len; i++)
+        hash = (hash ^ bytes->at[i]) * 0x100000001b3U;
+    return hash;
+}
+
+/* FNV-1a of a value of the user's and its type; 0: there is none. */
+static uint64_t value_in(const void *snapshot, const uint8_t *path, size_t len)
+{
+    DconfdbFound found = nothing_found;
+    if (!dconfdb_read_alone(&((const DconfdbSnapshot *)snapshot)->layers[0], path, len, &found))
+        return 0;
+    return hashed(hashed(0xcbf29ce484222325U, &found.type_text), &found.value) | 1;
+}
+
+/* Notes that these paths were set when the file was written, but for what is there by who noted it. */
+static bool note_seen(const DconfdbStore *store, const Seen *seen, Order *order)
+{
+    size_t count = 0;
+    for (const char *at = seen->paths; *at; at += strlen(at) + 1)
+        count++;
+    DconfdbTime *times = calloc(count + 1, sizeof *times);
+    if (!times)
+        return false;
+    count = 0;
+    for (const char *at = seen->paths; *at; at += strlen(at) + 1) {
+        DconfdbBytes path = {bytes_of(at), strlen(at)};
+        if (!order_has_value(order, path.at, path.len, value_in(store->now, path.at, path.len)))
+            times[count++] = (DconfdbTime){path, order_time_of(&seen->left)};
+    }
+    bool done = order_note(order, times, count);
+    free(times);
+    return done;
+}
+
+/* Notes what others changed without a note. */
+static bool note_others(const DconfdbStore *store, Order *order)
+{
+    bool done = true;
+    for (const Seen *seen = store->seen; done && seen; seen = seen->next)
+        done = order_has_left(order, &seen->left) || note_seen(store, seen, order);
+    return done;
+}
+
+/* Changes that are made together: when each was asked for, and which of the edits it is. */
+typedef struct {
+    size_t count;
+    DconfdbChange *changes;
+    DconfdbTime *times;
+    size_t *edits;
+} Asking;
+
+static void asking_free(Asking *asking)
+{
+    free(asking->changes);
+    free(asking->times);
+    free(asking->edits);
+}
+
+/* `moments` are NULL where all is asked for now. */
+static bool asking_begin(Asking *asking, const DconfdbEdit *edits, const uint64_t *moments, size_t count)
+{
+    *asking = (Asking){count, calloc(count, sizeof *asking->changes), calloc(count, sizeof *asking->times),
+                       calloc(count, sizeof *asking->edits)};
+    if (!asking->changes || !asking->times || !asking->edits) {
+        asking_free(asking);
+        return false;
+    }
+    for (size_t i = 0; i < count; i++) {
+        asking->changes[i] = change_of(&edits[i]);
+        asking->times[i] = (DconfdbTime){asking->changes[i].path, moments ? moments[i] : UINT64_MAX};
+        asking->edits[i] = i;
+    }
+    return true;
+}
+
+/* The time of what was made in a moment. It is no earlier than what the store noted before: clocks are read anew in each
+ * turn, a little later or earlier, and may be put back meanwhile. */
+static uint64_t time_of(const DconfdbStore *store, const Order *order, uint64_t moment)
+{
+    uint64_t time = order_time(order, moment);
+    return time < store->noted && store->noted <= order->now ? store->noted : time;
+}
+
+/* Leaves out what others have set since. */
+static void leave_out(Asking *asking, const DconfdbStore *store, const Order *order)
+{
+    size_t left = 0;
+    for (size_t i = 0; i < asking->count; i++) {
+        DconfdbTime time = {asking->times[i].path, time_of(store, order, asking->times[i].when)};
+        if (dconfdb_is_overtaken(order->times, order->count, time.path.at, time.path.len, time.when, order->now))
+            continue;
+        asking->changes[left] = asking->changes[i];
+        asking->times[left] = time;
+        asking->edits[left++] = asking->edits[i];
+    }
+    asking->count = left;
+}
+
+/* Looks at the files. What differs since the last look is of use where who left the user's file noted nothing. */
+static bool refresh_and_heed(DconfdbStore *store, int turn, const Order *order, DconfdbError *error)
+{
+    DconfdbSnapshot *before = dconfdb_snapshot_ref(store->now);
+    bool done = refresh(store, turn, error);
+    if (done && !order_has_left(order, &store->now->parts[0]->state))
+        heed(store, before, store->now);
+    dconfdb_snapshot_unref(before);
+    return done;
+}
+
+/* What others have set up to now, and when; or NULL. */
+static Order *order_of(DconfdbStore *store, const FolderLock *lock, DconfdbError *error)
+{
+    Order *order = order_read(lock->file);
+    if (!order) {
+        refuse_memory(error);
+        return NULL;
+    }
+    if (!refresh_and_heed(store, lock->folder, order, error)) {
+        order_free(order);
+        return NULL;
+    }
+    if (!note_others(store, order)) {
+        order_free(order);
+        refuse_memory(error);
+        return NULL;
+    }
+    return order;
+}
+
+/* Where they change nothing the file stays, as bad as it may be. */
+static bool make_changes(DconfdbStore *store, int turn, const Asking *asking, DconfdbError *error)
 {
     FileBytes file;
+    if (asking->count == 0)
+        return true;
+    if (!make_file(store, asking->changes, asking->count, &file, error)) {
+        if (error && is_of_edit((uint32_t)error->number))
+            error->at = asking->edits[error->at];
+        return false;
+    }
+    if (!are_made(store->now, asking->changes, asking->count, &file))
+        return put_in_place(store, turn, file, error);
+    file_release(&file);
+    return true;
+}
+
+/* The changes, while it is this program's turn. */
+static bool change_in_turn(DconfdbStore *store, const FolderLock *lock, Asking *asking, DconfdbError *error)
+{
     pthread_mutex_lock(&store->refreshing);
-    bool done = refresh(store, turn, error) && make_file(store, changes, edits, count, &file, error);
-    if (done && are_made(store->now, changes, count, &file))
-        file_release(&file);
-    else if (done)
-        done = put_in_place(store, turn, file, error);
+    Order *order = order_of(store, lock, error);
+    bool done = order != NULL;
+    if (done) {
+        leave_out(asking, store, order);
+        const Part *before = store->now->parts[0];
+        done = make_changes(store, lock->folder, asking, error);
+        bool is_made = done || store->now->parts[0] != before;
+        if (!is_made || order_note(order, asking->times, asking->count)) {
+            order_write(order, lock->file, &store->now->parts[0]->state, value_in, store->now);
+            forget_seen(store);
+            if (is_made && asking->count > 0)
+                store->noted = asking->times[asking->count - 1].when;
+        }
+    }
+    order_free(order);
     pthread_mutex_unlock(&store->refreshing);
     return done;
 }
@@ -1149,33 +1367,27 @@ bool refuse_lock(const DconfdbStore *store, int fault, DconfdbError *error)
 }
 
 /* No file is to be made: only why a change is at fault has to be said, and which edit. */
-static bool change_nothing(DconfdbStore *store, const DconfdbChange *changes, const DconfdbEdit *edits, size_t count,
-                           DconfdbError *error)
+static bool change_nothing(DconfdbStore *store, const Asking *asking, DconfdbError *error)
 {
     FileBytes file;
     pthread_mutex_lock(&store->refreshing);
-    bool done = (!store->user_file || refresh(store, NO_FOLDER, error)) && make_file(store, changes, edits, count, &file, error);
+    bool done = (!store->user_file || refresh(store, NO_FOLDER, error)) && make_file(store, asking->changes, asking->count, &file, error);
     pthread_mutex_unlock(&store->refreshing);
     if (done)
         file_release(&file);
     return done;
 }
 
-bool locked_change(DconfdbStore *store, const FolderLock *lock, const DconfdbEdit *edits, size_t count, DconfdbError *error)
+bool locked_change(DconfdbStore *store, const FolderLock *lock, const DconfdbEdit *edits, const uint64_t *moments, size_t count,
+                   DconfdbError *error)
 {
-    bool done;
+    Asking asking;
     if (count == 0)
         return true;
-    DconfdbChange *changes = calloc(count, sizeof *changes);
-    if (!changes)
+    if (!asking_begin(&asking, edits, moments, count))
         return refuse_memory(error);
-    for (size_t i = 0; i < count; i++)
-        changes[i] = change_of(&edits[i]);
-    if (store->user_file && lock)
-        done = change_in_turn(store, lock->folder, changes, edits, count, error);
-    else
-        done = change_nothing(store, changes, edits, count, error);
-    free(changes);
+    bool done = store->user_file && lock ? change_in_turn(store, lock, &asking, error) : change_nothing(store, &asking, error);
+    asking_free(&asking);
     return done;
 }
 
@@ -1197,11 +1409,11 @@ bool dconfdb_store_change(DconfdbStore *store, const DconfdbEdit *edits, size_t 
 {
     FolderLock lock;
     if (count == 0 || has_nothing(store, edits, count))
-        return locked_change(store, NULL, edits, count, error);
+        return locked_change(store, NULL, edits, NULL, count, error);
     int fault = folder_lock(store->folder, LONGEST_WAIT, &lock);
     if (fault != 0)
         return refuse_lock(store, fault, error);
-    bool done = locked_change(store, &lock, edits, count, error);
+    bool done = locked_change(store, &lock, edits, NULL, count, error);
     folder_unlock(&lock);
     return done;
 }

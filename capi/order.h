@@ -1,0 +1,54 @@
+/* Who set what last, so that a set which waited never overwrites a newer one: who takes a turn reads here what was set
+ * meanwhile, and notes what it sets. It stands in the lock's own file, and is of use only as long as sets wait: it is
+ * written in place, and not brought to the disk. What isn't whole counts for nothing, as does a time of the future.
+ *
+ * Who changes the file without a note, as the program does, leaves it as a file that nobody noted: then what differs in
+ * it counts as set when it was written. */
+#ifndef ORDER_H
+#define ORDER_H
+
+#include "dconfdb_calls.h"
+#include "files.h"
+
+/* So many paths are noted, and so many of the files that were left. */
+enum { MOST_TIMES = 1024, MOST_LEFT = 64 };
+
+typedef struct {
+    uint64_t now, moment; /* the same, as a time and by order_clock() */
+    char *text;           /* of the lock's file; paths are lent from it */
+    size_t size;
+    DconfdbTime times[MOST_TIMES];
+    FileState left[MOST_LEFT]; /* the newest first */
+    size_t count, left_count;
+} Order;
+
+/* The moment of a set: nanoseconds of a clock that nobody puts forward or back, and that goes on while the machine sleeps. */
+uint64_t order_clock(void);
+
+/* Reads what is noted in the file of a lock that is held. NULL: no memory is left. */
+Order *order_read(int lock);
+
+/* A moment of order_clock() as a time that programs note, by the clock as it is set now. */
+uint64_t order_time(const Order *order, uint64_t moment);
+
+/* When a file was written, or got its name. */
+uint64_t order_time_of(const FileState *file);
+
+/* Whether who left the file so noted what it changed. */
+bool order_has_left(const Order *order, const FileState *file);
+
+/* Notes that these were set, too: as long as the order is used the paths stay. False: no memory is left. */
+bool order_note(Order *order, const DconfdbTime *times, size_t count);
+
+/* A number for what a file has at a path; 0: nothing. */
+typedef uint64_t ValueOf(const void *file, const uint8_t *path, size_t len);
+
+/* Whether what a file has at a path, which was read in this turn, is what was left there by who noted it. */
+bool order_has_value(const Order *order, const uint8_t *path, size_t len, uint64_t value);
+
+/* Writes it, with the file as it is left now, and what that has. Where it fails, nothing is noted. */
+void order_write(Order *order, int lock, const FileState *left, ValueOf *value_of, const void *file);
+
+void order_free(Order *order);
+
+#endif
