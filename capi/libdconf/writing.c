@@ -127,7 +127,8 @@ static void set_writing(Engine *self, DConfChangeset *changes)
     g_mutex_unlock(&self->lock);
 }
 
-/* As dconfdb_store_change, but that the others are waited for before anybody who reads is kept from the files. */
+/* As dconfdb_store_change, but that the others are waited for before anybody who reads is kept from the files. What
+ * waited counts as set now. */
 static gboolean put(Engine *self, const Edits *edits, DconfdbError *fault)
 {
     FolderLock lock;
@@ -139,7 +140,7 @@ static gboolean put(Engine *self, const Edits *edits, DconfdbError *fault)
     if (failed != 0)
         return refuse_lock(store, failed, fault);
     engine_begin_write(self);
-    gboolean is_done = locked_change(store, engine_has_user(self) ? &lock : NULL, edit_at(edits, 0), edits->edits->len, fault);
+    gboolean is_done = locked_change(store, engine_has_user(self) ? &lock : NULL, edit_at(edits, 0), NULL, edits->edits->len, fault);
     if (engine_has_user(self))
         folder_unlock(&lock);
     engine_end_write(self);
