@@ -315,14 +315,15 @@ static void finds_turn(void)
     dconfdb_turn_answered(one.bytes, FAULT, 0);
     dconfdb_turn_answered(keeps.bytes, FAULT, 0);
     dconfdb_turn_answered(chosen.bytes, FAULT, 0);
+    /* First: a flag before bytes that nobody uses may look like a number. */
+    takes(&one, "has_bits", flag_of(&one, &chosen), FLAG);
+    takes(&one, "keeps", flag_of(&keeps, &one), FLAG);
     finds_number(&one, "state", REMOVING);
     finds_number(&one, "outcome", KEPT);
     finds_number(&one, "fault", FAULT);
     finds_number(&one, "bits", BITS);
     finds_word(&one, "len", WHOLE);
     finds_word(&one, "at", PART);
-    takes(&one, "has_bits", flag_of(&one, &chosen), FLAG);
-    takes(&one, "keeps", flag_of(&keeps, &one), FLAG);
     Written left = one;
     dconfdb_turn_answered(left.bytes, FAULT, 0);
     takes(&one, "leaves_new", flag_of(&left, &one), FLAG);
