@@ -124,6 +124,15 @@ enum {
     DCONFDB_ERROR_NO_FOLDER = 66       /* no folder is given, and none is found */
 };
 
+/* What became of the user's file by a change. */
+enum {
+    DCONFDB_OUTCOME_MADE = 0,     /* it holds the new values, also after a crash; no error has this */
+    DCONFDB_OUTCOME_KEPT = 1,     /* it is as it was */
+    DCONFDB_OUTCOME_EITHER = 2,   /* it is as it was, or holds the new values: refresh the store to see which */
+    DCONFDB_OUTCOME_UNSETTLED = 3 /* it holds the new values, but a crash may bring the old ones back, until the next
+                                   * change is made */
+};
+
 /* What failed. It belongs to the caller, and need not be freed. */
 typedef struct DconfdbError {
     int number;      /* one of the numbers above */
@@ -131,6 +140,7 @@ typedef struct DconfdbError {
     size_t at;       /* the index of the bad edit, for BAD_PATH to TOO_LARGE; else 0 */
     size_t database; /* the index of the database whose file is bad, else 0 */
     size_t line;     /* the profile's bad line, from 1, for BAD_LINE to TOO_MANY; else 0 */
+    int outcome;     /* of a change that failed; else DCONFDB_OUTCOME_KEPT */
     char text[512];  /* what failed, and for which file or key; if too long, it ends in "..." */
 } DconfdbError;
 
@@ -217,9 +227,10 @@ bool dconfdb_store_refresh(DconfdbStore *store, bool *changed, DconfdbError *err
  * waits, without a limit, for threads that refresh the same store. The file says which keys were set last,
  * and when: so a GSettings program, whose sets may wait, never overwrites an edit with an older set.
  *
- * False: it failed, and the file has its old bytes. Only if the number is DCONFDB_ERROR_FILE may
- * it have the new ones: if the fault came after the file was replaced, the text says so, and the
- * newest snapshot has the edits. */
+ * False: it failed, and `outcome` says what became of the file. It has its old bytes, unless the number
+ * is DCONFDB_ERROR_FILE and the outcome another: EITHER if the rename failed, since it may have been done
+ * all the same; UNSETTLED if the folder could not be synced after it. Only then the newest snapshot has
+ * the edits. The text says so, too. */
 bool dconfdb_store_change(DconfdbStore *store, const DconfdbEdit *edits, size_t count, DconfdbError *error);
 
 /* Adds a reference, and drops one; dropping the last one frees everything. `ref` returns its

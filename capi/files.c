@@ -197,35 +197,15 @@ int folder_make(const char *folder)
 }
 
 /* Gives the file the permission bits, whatever the umask. What root writes is the owner's. */
-static int hand_over(int file, mode_t mode, const struct stat *owner)
+static int hand_over(int file, mode_t mode, uid_t user, gid_t group)
 {
     struct stat made;
     if (fstat(file, &made) != 0)
         return errno;
-    bool is_others = made.st_uid != owner->st_uid || made.st_gid != owner->st_gid;
-    if (geteuid() == 0 && is_others && fchown(file, owner->st_uid, owner->st_gid) != 0)
+    bool is_others = made.st_uid != user || made.st_gid != group;
+    if (geteuid() == 0 && is_others && fchown(file, user, group) != 0)
         return errno;
     return (made.st_mode & PERMISSION_BITS) != mode && fchmod(file, mode) != 0 ? errno : 0;
-}
-
-/* Writes all bytes, and has them and whose they are on the disk. */
-static int fill_new(int file, const uint8_t *bytes, size_t len, mode_t mode, const struct stat *owner, FileState *state)
-{
-    struct stat made;
-    for (size_t at = 0; at < len;) {
-        ssize_t put = write(file, bytes + at, len - at);
-        if (put > 0)
-            at += (size_t)put;
-        else if (put == 0 || errno != EINTR)
-            return put == 0 ? EIO : errno;
-    }
-    int fault = hand_over(file, mode, owner);
-    if (fault != 0)
-        return fault;
-    if (fsync(file) != 0 || fstat(file, &made) != 0)
-        return errno;
-    *state = state_of(&made);
-    return 0;
 }
 
 /* Whose the new file is, and its permission bits: those of the old one, if that is a file. What is kept
@@ -283,81 +263,107 @@ static int make_room(int folder, const char *new_name)
     return fault;
 }
 
-/* Makes the new file. One that is to take another's place is at no time open to more users than
- * that. A first one is open to its owner alone, who is the folder's where root makes it. */
-static int make_new(int folder, const char *name, const char *new_name, const uint8_t *bytes, size_t len, bool keeps, FileState *state)
-{
-    struct stat old;
-    mode_t mode;
-    int fault = look_at_old(folder, name, keeps, &old, &mode);
-    if (fault != 0)
-        return fault;
-    if ((fault = make_room(folder, new_name)) != 0)
-        return fault;
-    int file = openat(folder, new_name, O_WRONLY | O_CREAT | O_EXCL | O_CLOEXEC, mode | READ_AND_WRITE);
-    if (file < 0)
-        return errno;
-    fault = fill_new(file, bytes, len, mode, &old, state);
-    if (close(file) != 0 && fault == 0)
-        fault = errno;
-    return fault;
-}
+/* ---- the steps of a turn */
 
-/* What can't be linked, as a folder can't, changes places with the new file, which is there by another name
- * then: so the name is never without either. */
-static int change_places(int folder, const char *name, const char *new_name, const char *aside)
+int replacing_begin(Replacing *it, int folder, const char *name)
 {
-    if (renameat2(folder, new_name, folder, aside, RENAME_NOREPLACE) != 0)
-        return errno;
-    if (renameat2(folder, aside, folder, name, RENAME_EXCHANGE) == 0)
-        return 0;
-    int fault = errno;
-    unlinkat(folder, aside, 0);
-    return fault;
-}
-
-/* What the name is stays, by the first other name that is free. */
-static int set_aside(int folder, const char *name, const char *new_name, Replaced *replaced)
-{
-    char *aside;
-    int fault = to_other_name(folder, name, by_a_link, &aside);
-    if (fault == EPERM || fault == EACCES) {
-        fault = change_places(folder, name, new_name, aside);
-        replaced->has_replaced = fault == 0;
-    }
-    if (fault == 0)
-        replaced->aside = aside;
-    else
-        free(aside);
-    return fault == ENOENT ? 0 : fault;
-}
-
-/* The new file takes the name. */
-static int put_in_place(int folder, const char *name, const char *new_name, bool keeps, Replaced *replaced)
-{
-    int fault = keeps ? set_aside(folder, name, new_name, replaced) : 0;
-    if (fault != 0 || replaced->has_replaced)
-        return fault;
-    if (renameat(folder, new_name, folder, name) != 0)
-        return errno;
-    replaced->has_replaced = true;
+    *it = (Replacing){.folder = folder, .file = NO_FOLDER, .name = name, .new_name = malloc(strlen(name) + sizeof ".new")};
+    if (!it->new_name)
+        return ENOMEM;
+    strcat(strcpy(it->new_name, name), ".new");
     return 0;
 }
 
-int file_replace(int turn, const char *name, const uint8_t *bytes, size_t len, bool keeps, Replaced *replaced)
+void replacing_end(Replacing *it)
 {
-    *replaced = (Replaced){.has_replaced = false};
-    char *new_name = malloc(strlen(name) + sizeof ".new");
-    if (!new_name)
-        return ENOMEM;
-    strcat(strcpy(new_name, name), ".new");
-    int fault = make_new(turn, name, new_name, bytes, len, keeps, &replaced->state);
-    if (fault == 0)
-        fault = put_in_place(turn, name, new_name, keeps, replaced);
-    if (replaced->has_replaced && fsync(turn) != 0)
+    if (it->file >= 0)
+        close(it->file);
+    free(it->new_name);
+    free(it->aside);
+}
+
+/* A first file is open to its owner alone, who is the folder's where root makes it. */
+int replacing_look(Replacing *it, bool keeps, size_t *bits)
+{
+    struct stat old;
+    mode_t mode;
+    int fault = look_at_old(it->folder, it->name, keeps, &old, &mode);
+    if (fault != 0)
+        return fault;
+    it->user = old.st_uid;
+    it->group = old.st_gid;
+    *bits = mode + (keeps ? SET_ASIDE : 0);
+    return 0;
+}
+
+int replacing_create(Replacing *it, size_t bits)
+{
+    int fault = make_room(it->folder, it->new_name);
+    if (fault != 0)
+        return fault;
+    it->file = openat(it->folder, it->new_name, O_WRONLY | O_CREAT | O_EXCL | O_CLOEXEC, (mode_t)bits);
+    return it->file < 0 ? errno : 0;
+}
+
+int replacing_append(const Replacing *it, const uint8_t *bytes, size_t len, size_t *count)
+{
+    ssize_t put = 0;
+    do
+        put = write(it->file, bytes, len);
+    while (put < 0 && errno == EINTR);
+    *count = put < 0 ? 0 : (size_t)put;
+    return put < 0 ? errno : 0;
+}
+
+int replacing_sync(Replacing *it, size_t bits, FileState *state)
+{
+    struct stat made;
+    int file = it->file, fault = hand_over(file, (mode_t)bits, it->user, it->group);
+    it->file = NO_FOLDER;
+    if (fault == 0 && (fsync(file) != 0 || fstat(file, &made) != 0))
         fault = errno;
-    if (!replaced->has_replaced)
-        unlinkat(turn, new_name, 0);
-    free(new_name);
+    if (close(file) != 0 && fault == 0)
+        fault = errno;
+    if (fault == 0)
+        *state = state_of(&made);
     return fault;
+}
+
+/* Where the name is nothing there is nothing to be set aside. */
+int replacing_set_aside(Replacing *it, size_t *cannot)
+{
+    int fault = to_other_name(it->folder, it->name, by_a_link, &it->aside);
+    it->is_aside = fault == 0;
+    *cannot = fault == EPERM || fault == EACCES;
+    return *cannot || fault == ENOENT ? 0 : fault;
+}
+
+/* A fault but EIO says that they did not change places. */
+int replacing_exchange(Replacing *it)
+{
+    if (renameat2(it->folder, it->new_name, it->folder, it->aside, RENAME_NOREPLACE) != 0)
+        return errno;
+    if (renameat2(it->folder, it->aside, it->folder, it->name, RENAME_EXCHANGE) != 0) {
+        int fault = errno;
+        if (fault != EIO)
+            unlinkat(it->folder, it->aside, 0);
+        return fault;
+    }
+    it->is_aside = true;
+    return 0;
+}
+
+int replacing_rename(const Replacing *it)
+{
+    return renameat(it->folder, it->new_name, it->folder, it->name) != 0 ? errno : 0;
+}
+
+int replacing_sync_folder(const Replacing *it)
+{
+    return fsync(it->folder) != 0 ? errno : 0;
+}
+
+int replacing_remove(const Replacing *it)
+{
+    return unlinkat(it->folder, it->new_name, 0) != 0 && errno != ENOENT ? errno : 0;
 }

@@ -47,16 +47,39 @@ void file_release(FileBytes *bytes);
 /* Makes a folder and its parents. It is not an error if it exists. */
 int folder_make(const char *folder);
 
-/* What became of a file's name. */
-typedef struct {
-    FileState state;
-    bool has_replaced; /* it is the new file's */
-    char *aside;       /* the name of what it was, if that is kept: to be freed */
-} Replaced;
+/* ---- the steps of a turn to change a file, one call of the system each: which comes when is decided by the proved calls of
+ * a turn (dconfdb_calls.h) */
 
-/* Replaces a file of a locked folder atomically, as crates/dconf_disk/src/replacing.rt does: a crash
- * leaves the old bytes or the new ones. Where it `keeps` what the name was, that may be no file, and is
- * NAME~1 from then on, or the first of these that is free. */
-int file_replace(int turn, const char *name, const uint8_t *bytes, size_t len, bool keeps, Replaced *replaced);
+typedef struct {
+    int folder, file; /* the locked folder; the new file while it is written */
+    const char *name;
+    char *new_name;
+    uid_t user; /* whose the new file is to be */
+    gid_t group;
+    char *aside; /* the other name of what the name was, if `is_aside` */
+    bool is_aside;
+} Replacing;
+
+/* What a look answers more if the old file is to be set aside. */
+enum { SET_ASIDE = 512 };
+
+int replacing_begin(Replacing *it, int folder, const char *name);
+void replacing_end(Replacing *it);
+
+/* The permission bits that the new file is to have. What is to be set aside may be no file. */
+int replacing_look(Replacing *it, bool keeps, size_t *bits);
+
+int replacing_create(Replacing *it, size_t bits);
+int replacing_append(const Replacing *it, const uint8_t *bytes, size_t len, size_t *count);
+
+/* The new file is closed in any case. */
+int replacing_sync(Replacing *it, size_t bits, FileState *state);
+
+/* The first of NAME~1 to NAME~999 that is free. `cannot`: what the name is can't be linked. */
+int replacing_set_aside(Replacing *it, size_t *cannot);
+int replacing_exchange(Replacing *it);
+int replacing_rename(const Replacing *it);
+int replacing_sync_folder(const Replacing *it);
+int replacing_remove(const Replacing *it);
 
 #endif

@@ -24,6 +24,9 @@
 _Static_assert((int)DCONFDB_ERROR_MEMORY == (int)DCONFDB_MEMORY && (int)DCONFDB_ERROR_UNSOUND == (int)DCONFDB_UNSOUND
                    && (int)DCONFDB_ERROR_TOO_MANY == (int)DCONFDB_TOO_MANY && (int)DCONFDB_ERROR_TOO_BIG == (int)DCONFDB_TOO_BIG,
                "the header's numbers are those of the proved calls");
+_Static_assert((int)DCONFDB_OUTCOME_MADE == (int)DCONFDB_TURN_MADE && (int)DCONFDB_OUTCOME_KEPT == (int)DCONFDB_TURN_KEPT
+                   && (int)DCONFDB_OUTCOME_EITHER == (int)DCONFDB_TURN_EITHER && (int)DCONFDB_OUTCOME_UNSETTLED == (int)DCONFDB_TURN_UNSETTLED,
+               "the header's outcomes are those of the proved calls");
 
 /* What was wrong with a file, and what is read of it. */
 typedef struct {
@@ -103,6 +106,7 @@ static bool refuse(DconfdbError *error, int number, int fault, Place place, cons
     else if ((size_t)len >= sizeof error->text)
         memcpy(error->text + sizeof error->text - 4, "...", 4);
     error->number = number;
+    error->outcome = DCONFDB_OUTCOME_KEPT;
     error->system = fault;
     error->at = place.edit;
     error->database = place.database;
@@ -138,11 +142,18 @@ static bool refuse_file(DconfdbError *error, int fault, const char *name, Place 
     return refuse(error, DCONFDB_ERROR_FILE, fault, place, "%s: %s", name, words_of(fault).text);
 }
 
-/* A fault after the name became the new file's: never one of the numbers that leave the old file. */
-static bool refuse_replaced(DconfdbError *error, int fault, const char *name)
+/* How a change ended that was not made. After its file was replaced, or may be, the number is never one of those that leave the old
+ * file. */
+static bool refuse_outcome(DconfdbError *error, uint32_t outcome, const char *name)
 {
-    return refuse(error, DCONFDB_ERROR_FILE, fault, nowhere, "%s: it is replaced, but perhaps not on the disk yet: %s", name,
-                  words_of(fault).text);
+    if (!error || outcome == DCONFDB_TURN_KEPT)
+        return false;
+    int fault = error->number == DCONFDB_ERROR_FILE ? error->system : error->number == DCONFDB_ERROR_TOO_BIG ? EOVERFLOW : ENOMEM;
+    refuse(error, DCONFDB_ERROR_FILE, fault, nowhere,
+           outcome == DCONFDB_TURN_EITHER ? "%s: it is perhaps replaced: %s" : "%s: it is replaced, but perhaps not on the disk yet: %s", name,
+           words_of(fault).text);
+    error->outcome = (int)outcome;
+    return false;
 }
 
 /* What a proved call answered of a file, a line of it, or a key. */
@@ -1111,32 +1122,6 @@ static DconfdbSnapshot *with_part(const DconfdbStore *store, Part *part, Dconfdb
     return newer;
 }
 
-/* Puts the file in place. What has to be had for the newer snapshot is had before, so that nothing
- * fails after. */
-static bool put_in_place(DconfdbStore *store, int turn, FileBytes file, DconfdbError *error)
-{
-    Replaced replaced;
-    Part *part = part_of_new(store, file, error);
-    DconfdbSnapshot *newer = with_part(store, part, error);
-    if (!newer)
-        return false;
-    const char *name = strrchr(store->user_file, '/') + 1;
-    int fault = file_replace(turn, name, file.at, file.len, part->fault != NULL, &replaced);
-    part->state = replaced.state;
-    if (part->fault && replaced.aside)
-        part->fault->aside = replaced.aside;
-    else
-        part_forgive(part);
-    if (replaced.has_replaced)
-        renew(store, newer);
-    else
-        dconfdb_snapshot_unref(newer);
-    if (fault == 0)
-        return true;
-    return replaced.has_replaced ? refuse_replaced(error, fault, store->user_file)
-                                 : refuse_file(error, fault, store->user_file, nowhere);
-}
-
 /* ---- the order of changes */
 
 /* What differs between two files, or NULL. */
@@ -1303,43 +1288,155 @@ static Order *order_of(DconfdbStore *store, const FolderLock *lock, DconfdbError
     return order;
 }
 
-/* Where they change nothing the file stays, as bad as it may be. */
-static bool make_changes(DconfdbStore *store, int turn, const Asking *asking, DconfdbError *error)
+/* ---- a change, step by step */
+
+/* A change of the user's file, while it is made. */
+typedef struct {
+    DconfdbStore *store;
+    const FolderLock *lock;
+    Asking *asking;
+    DconfdbError *error; /* of the first fault */
+    Order *order;        /* NULL: it could not be had */
+    Replacing replacing;
+    DconfdbSnapshot *newer;     /* with the new file as its first part */
+    bool is_nothing, is_placed; /* they change nothing; the name is the new file's */
+} Changing;
+
+/* A bad file is to be set aside. */
+static bool read_old(Changing *it, size_t *bits)
 {
-    FileBytes file;
-    if (asking->count == 0)
-        return true;
-    if (!make_file(store, asking->changes, asking->count, &file, error)) {
-        if (error && is_of_edit((uint32_t)error->number))
-            error->at = asking->edits[error->at];
+    it->order = order_of(it->store, it->lock, it->error);
+    if (!it->order)
         return false;
-    }
-    if (!are_made(store->now, asking->changes, asking->count, &file))
-        return put_in_place(store, turn, file, error);
-    file_release(&file);
-    return true;
+    const Fault *bad = it->store->now->parts[0]->fault;
+    int fault = replacing_look(&it->replacing, bad && !bad->aside, bits);
+    return fault == 0 || refuse_file(it->error, fault, it->store->user_file, nowhere);
 }
 
-/* The changes, while it is this program's turn. */
+/* The new file's bytes. None are made, and the file stays, as bad as it may be, where the changes change nothing. */
+static bool make_bytes(Changing *it, FileBytes *file)
+{
+    const Asking *asking = it->asking;
+    *file = (FileBytes){NULL, 0, false};
+    it->is_nothing = asking->count == 0;
+    if (it->is_nothing)
+        return false;
+    if (!make_file(it->store, asking->changes, asking->count, file, it->error)) {
+        if (it->error && is_of_edit((uint32_t)it->error->number))
+            it->error->at = asking->edits[it->error->at];
+        return false;
+    }
+    it->is_nothing = are_made(it->store->now, asking->changes, asking->count, file);
+    if (it->is_nothing)
+        file_release(file);
+    return !it->is_nothing;
+}
+
+/* What has to be had for the newer snapshot is had now, so that nothing fails after the file is in place. */
+static bool make_newer(Changing *it, size_t *len)
+{
+    FileBytes file;
+    leave_out(it->asking, it->store, it->order);
+    if (!make_bytes(it, &file))
+        return false;
+    *len = file.len;
+    it->newer = with_part(it->store, part_of_new(it->store, file, it->error), it->error);
+    return it->newer != NULL;
+}
+
+/* What others are to know of it. */
+static void note(Changing *it)
+{
+    const DconfdbSnapshot *now = it->is_placed ? it->newer : it->store->now;
+    const Asking *asking = it->asking;
+    bool is_made = it->is_placed || it->is_nothing;
+    if (is_made && !order_note(it->order, asking->times, asking->count))
+        return;
+    order_write(it->order, it->lock->file, &now->parts[0]->state, value_in, now);
+    forget_seen(it->store);
+    if (is_made && asking->count > 0)
+        it->store->noted = asking->times[asking->count - 1].when;
+}
+
+static int append(const Changing *it, size_t at, size_t *count)
+{
+    const FileBytes *bytes = &it->newer->parts[0]->bytes;
+    return replacing_append(&it->replacing, bytes->at + at, bytes->len - at, count);
+}
+
+/* A call of the system; what is at fault is the user's file. */
+static int on_disk(Changing *it, const DconfdbStep *step, size_t *n)
+{
+    switch (step->kind) {
+    case DCONFDB_TURN_CREATE: return replacing_create(&it->replacing, step->number);
+    case DCONFDB_TURN_APPEND: return append(it, step->number, n);
+    case DCONFDB_TURN_SYNC: return replacing_sync(&it->replacing, step->number, &it->newer->parts[0]->state);
+    case DCONFDB_TURN_SET_ASIDE: return replacing_set_aside(&it->replacing, n);
+    case DCONFDB_TURN_EXCHANGE: return replacing_exchange(&it->replacing);
+    case DCONFDB_TURN_RENAME: return replacing_rename(&it->replacing);
+    case DCONFDB_TURN_SYNC_FOLDER: return replacing_sync_folder(&it->replacing);
+    case DCONFDB_TURN_REMOVE: return replacing_remove(&it->replacing);
+    default: return 0;
+    }
+}
+
+/* Carries out a step. The lock is the caller's. */
+static bool carry_out(Changing *it, const DconfdbStep *step, size_t *n)
+{
+    switch (step->kind) {
+    case DCONFDB_TURN_READ: return read_old(it, n);
+    case DCONFDB_TURN_MAKE: return make_newer(it, n);
+    case DCONFDB_TURN_NOTE: note(it); return true;
+    default: break;
+    }
+    int fault = on_disk(it, step, n);
+    if (fault == 0 && (step->kind == DCONFDB_TURN_RENAME || step->kind == DCONFDB_TURN_EXCHANGE))
+        it->is_placed = true;
+    if (fault != 0 && step->kind < DCONFDB_TURN_REMOVE)
+        refuse_file(it->error, fault, it->store->user_file, nowhere);
+    return fault == 0;
+}
+
+/* The newer snapshot is handed out exactly where it is the file. */
+static bool end(Changing *it, uint32_t outcome, uint32_t fault)
+{
+    if (outcome == DCONFDB_TURN_MADE || outcome == DCONFDB_TURN_UNSETTLED) {
+        Part *part = it->newer->parts[0];
+        if (part->fault && it->replacing.is_aside) {
+            part->fault->aside = it->replacing.aside;
+            it->replacing.aside = NULL;
+        } else {
+            part_forgive(part);
+        }
+        renew(it->store, it->newer);
+    } else {
+        dconfdb_snapshot_unref(it->newer);
+    }
+    if (outcome == DCONFDB_TURN_KEPT && fault == 0)
+        refuse_file(it->error, EIO, it->store->user_file, nowhere);
+    return outcome == DCONFDB_TURN_MADE || it->is_nothing || refuse_outcome(it->error, outcome, it->store->user_file);
+}
+
+/* The changes, while it is this program's turn: each step that the proved calls say, until they say how it ended. */
 static bool change_in_turn(DconfdbStore *store, const FolderLock *lock, Asking *asking, DconfdbError *error)
 {
+    Changing it = {.store = store, .lock = lock, .asking = asking, .error = error};
+    DconfdbTurn turn = {.len = 0};
+    DconfdbStep step = {.kind = DCONFDB_TURN_LOCK};
+    int fault = replacing_begin(&it.replacing, lock->folder, strrchr(store->user_file, '/') + 1);
+    if (fault != 0)
+        return refuse_file(error, fault, store->user_file, nowhere);
     pthread_mutex_lock(&store->refreshing);
-    Order *order = order_of(store, lock, error);
-    bool done = order != NULL;
-    if (done) {
-        leave_out(asking, store, order);
-        const Part *before = store->now->parts[0];
-        done = make_changes(store, lock->folder, asking, error);
-        bool is_made = done || store->now->parts[0] != before;
-        if (!is_made || order_note(order, asking->times, asking->count)) {
-            order_write(order, lock->file, &store->now->parts[0]->state, value_in, store->now);
-            forget_seen(store);
-            if (is_made && asking->count > 0)
-                store->noted = asking->times[asking->count - 1].when;
-        }
+    dconfdb_turn_begin(&turn);
+    for (dconfdb_turn_next(&turn, &step); step.kind != DCONFDB_TURN_DONE; dconfdb_turn_next(&turn, &step)) {
+        size_t n = 0;
+        bool done = carry_out(&it, &step, &n);
+        dconfdb_turn_answered(&turn, done ? 0 : 1, n);
     }
-    order_free(order);
+    bool done = end(&it, (uint32_t)step.number, step.fault);
+    order_free(it.order);
     pthread_mutex_unlock(&store->refreshing);
+    replacing_end(&it.replacing);
     return done;
 }
 
