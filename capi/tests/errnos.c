@@ -1,6 +1,7 @@
 /* Lets each call that puts a changed file in place fail with each errno: errnos FOLDER. It is linked with
  * the static library, and with --wrap of fsync and renameat. Before the rename the file has its old
- * bytes; after it the new ones, and number and text say that it may have them. */
+ * bytes; after it the new ones, and number, outcome and text say that it may have them. Of a rename that failed they say that
+ * nobody knows. */
 #include "try.h"
 
 #include <errno.h>
@@ -55,9 +56,15 @@ static bool is_in_file(const char *folder, const char *text)
 
 static int number_of(void)
 {
-    if (failing != OF_FOLDER && fault == ENOMEM)
+    if (failing == OF_FILE && fault == ENOMEM)
         return DCONFDB_ERROR_MEMORY;
-    return failing != OF_FOLDER && fault == EOVERFLOW ? DCONFDB_ERROR_TOO_BIG : DCONFDB_ERROR_FILE;
+    return failing == OF_FILE && fault == EOVERFLOW ? DCONFDB_ERROR_TOO_BIG : DCONFDB_ERROR_FILE;
+}
+
+static int outcome_of(int place)
+{
+    static const int outcomes[] = {DCONFDB_OUTCOME_MADE, DCONFDB_OUTCOME_KEPT, DCONFDB_OUTCOME_EITHER, DCONFDB_OUTCOME_UNSETTLED};
+    return outcomes[place];
 }
 
 static void tries(DconfdbStore *store, const char *folder, int place)
@@ -70,6 +77,8 @@ static void tries(DconfdbStore *store, const char *folder, int place)
     TRY(!changes(store, "new") && count == place);
     DconfdbSnapshot *after = dconfdb_store_snapshot(store);
     TRY(error.number == number_of() && error.system == (error.number == DCONFDB_ERROR_FILE ? fault : 0));
+    TRY(error.outcome == outcome_of(place));
+    TRY(!strstr(error.text, "it is perhaps replaced") == (place != OF_RENAME));
     TRY(error.at == 0 && error.database == 0 && error.line == 0 && strstr(error.text, "/me.user: "));
     TRY(!strstr(error.text, "it is replaced, but perhaps not on the disk yet") == (place != OF_FOLDER));
     TRY(has(after, "/k", there) && is_in_file(folder, there) && (before == after) == (place != OF_FOLDER));
