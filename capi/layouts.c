@@ -392,11 +392,11 @@ static void tries_change(size_t value)
 
 /* ---- the machines */
 
-/* The one place from `from` on where a struct and another one have these bytes. */
-static size_t bit_of(const Written *one, const Written *other, size_t from, uint8_t in_one, uint8_t in_other)
+/* The one place of these where a struct and another one have these bytes. Bytes that nobody uses may look like any. */
+static size_t bit_of(const Written *one, const Written *other, size_t from, size_t to, uint8_t in_one, uint8_t in_other)
 {
     size_t found = ROOM, count = 0;
-    for (size_t at = from; at < ROOM; at++) {
+    for (size_t at = from; at < to; at++) {
         if (one->bytes[at] == in_one && other->bytes[at] == in_other) {
             found = at;
             count++;
@@ -404,6 +404,12 @@ static size_t bit_of(const Written *one, const Written *other, size_t from, uint
     }
     is_so(count == 1, one->type);
     return found;
+}
+
+/* A number that lies before all else. */
+static void finds_first(Written *room, const char *field, uint32_t number)
+{
+    takes(room, field, place_of(room, 0, NUMBER, &number, NUMBER), NUMBER);
 }
 
 /* A look at nine files without an old snapshot, at the one after the sixth; and two of which nothing is done. */
@@ -415,16 +421,16 @@ static void finds_refresh(void)
     dconfdb_refresh_begin(look.bytes, 9, false, false);
     for (int i = 0; i < 12; i++)
         dconfdb_refresh_answered(look.bytes, true);
-    finds_number(&look, "stage", 1);
+    finds_first(&look, "stage", 1);
     finds_word(&look, "at", 6);
     finds_word(&look, "count", 9);
-    size_t from = look.end;
-    takes(&look, "has_old", bit_of(&look, &plain, from, 0, 1), FLAG);
-    takes(&look, "in_turn", bit_of(&in_turn, &plain, from, 1, 0), FLAG);
-    takes(&look, "is_newer", bit_of(&look, &plain, from, 1, 0), FLAG);
+    size_t from = look.end, to = from + 3;
+    takes(&look, "has_old", bit_of(&look, &plain, from, to, 0, 1), FLAG);
+    takes(&look, "in_turn", bit_of(&in_turn, &plain, from, to, 1, 0), FLAG);
+    takes(&look, "is_newer", bit_of(&look, &plain, from, to, 1, 0), FLAG);
     ends(&look);
     dconfdb_refresh_next(look.bytes, step.bytes);
-    finds_number(&step, "kind", 1);
+    finds_first(&step, "kind", 1);
     finds_word(&step, "number", 6);
     ends(&step);
 }
@@ -489,9 +495,9 @@ static void finds_queue(void)
     asks(queue.bytes, edits, 5);
     asks(marked.bytes, edits, 3);
     dconfdb_queue_answered(marked.bytes, edits, EDITS, 1, 0);
-    finds_number(&queue, "stage", 1);
+    finds_first(&queue, "stage", 1);
     finds_word(&queue, "at", 5);
-    takes(&queue, "has_marked", bit_of(&queue, &marked, queue.end, 0, 1), FLAG);
+    takes(&queue, "has_marked", bit_of(&queue, &marked, queue.end, queue.end + 1, 0, 1), FLAG);
     ends(&queue);
 }
 
