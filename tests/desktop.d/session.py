@@ -1,5 +1,6 @@
 """What the parts of tests/desktop share. A part runs as the user desk on a bus of its own; what it sees is rows, each with what is wanted."""
 import os
+import signal
 import subprocess
 import sys
 import time
@@ -57,7 +58,7 @@ class Program:
         self.told_of.write_text('', encoding='utf-8')
         own = {'LD_PRELOAD': '/given/told.so', 'TOLD': str(self.told_of)}
         self.process = subprocess.Popen(words, stdin=subprocess.DEVNULL, stdout=self.log, stderr=self.log, pass_fds=pass_fds,
-                                        env=os.environ | own | variables)
+                                        env=os.environ | own | variables, start_new_session=True)
 
     def is_told(self, schema, key, text):
         """Whether it is told when another process sets this key."""
@@ -66,12 +67,17 @@ class Program:
         return until(lambda: f'{schema} {key}\n' in self.told_of.read_text(encoding='utf-8'), True)
 
     def ends(self):
+        """It and what it started."""
         self.process.terminate()
         try:
             self.process.wait(10)
         except subprocess.TimeoutExpired:
-            self.process.kill()
-            self.process.wait()
+            pass
+        try:
+            os.killpg(self.process.pid, signal.SIGKILL)
+        except ProcessLookupError:
+            pass
+        self.process.wait()
         self.log.close()
 
     def said(self):
