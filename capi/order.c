@@ -1,28 +1,43 @@
-/* Who set what last: texts in the lock's file, a zero byte after each. The first and the last are the moment in which all
- * was written: if they are the same, what is between them is of one writer, and whole. */
+/* Who set what last: records in the lock's file, as this machine has its numbers. The moment in which all was written
+ * stands in front and behind: if both are the same, what is between them is of one writer, and whole. */
 #define _DEFAULT_SOURCE
 #define _POSIX_C_SOURCE 200809L
 #define _FILE_OFFSET_BITS 64
 #include "order.h"
 
 #include <errno.h>
-#include <inttypes.h>
-#include <stdio.h>
 #include <stdlib.h>
 #include <string.h>
 #include <sys/stat.h>
 #include <time.h>
 #include <unistd.h>
 
-/* A longer file is none of ours; a text that is no path is never longer. */
-enum { LARGEST = 1 << 20, LONGEST_TEXT = 160, DECIMAL = 10, HEXADECIMAL = 16, VALUE_DIGITS = 16 };
+/* A longer file is none of ours. */
+enum { LARGEST = 1 << 20 };
 
 /* Two clocks are read at once if no more than so many nanoseconds pass meanwhile; else again, so often. */
 enum { MOST_BETWEEN = 50000, MOST_READS = 20 };
 
 static const uint64_t second = 1000000000;
 
-static const char of_all[] = "dconfdb ", of_file[] = "file ", of_set[] = "set ";
+/* Numbers in another order of bytes are never whole. */
+static const char name[16] = "dconfdb times 1";
+
+typedef struct {
+    char name[sizeof name];
+    uint64_t moment, files, sets;
+} Head;
+
+/* A file as one who noted left it. */
+typedef struct {
+    uint64_t device, inode, size;
+    int64_t seconds, nanoseconds;
+} LeftRecord;
+
+/* What was set: the path's bytes come after it. */
+typedef struct {
+    uint64_t when, value, len;
+} SetRecord;
 
 /* ---- times */
 
@@ -67,79 +82,63 @@ uint64_t order_time_of(const FileState *file)
     return written > touched ? written : touched;
 }
 
-/* ---- texts */
+/* ---- records */
 
-/* A number in digits, and what is behind it: a blank or the end of the text. */
-static bool take_number(const char **at, uint64_t *number)
+/* What is left to be taken of the file's bytes. */
+typedef struct {
+    const char *at, *end;
+} Bytes;
+
+/* Copies the next so many, if there are so many. */
+static bool take(Bytes *bytes, void *room, size_t size)
 {
-    char *end;
-    if (**at < '0' || **at > '9')
+    if ((size_t)(bytes->end - bytes->at) < size)
         return false;
-    errno = 0;
-    *number = strtoull(*at, &end, DECIMAL);
-    if (errno != 0 || (*end != ' ' && *end != 0))
-        return false;
-    *at = *end == ' ' ? end + 1 : end;
+    memcpy(room, bytes->at, size);
+    bytes->at += size;
     return true;
 }
 
-/* A path comes after a blank and the digits of its value, of which there are always as many. */
-static void take_set(Order *order, const char *text)
+static bool take_file(Order *order, Bytes *bytes)
 {
-    uint64_t when;
-    if (order->count == MOST_TIMES || !take_number(&text, &when))
-        return;
-    if (strspn(text, "0123456789abcdef") != VALUE_DIGITS || text[VALUE_DIGITS] != ' ' || text[VALUE_DIGITS + 1] != '/')
-        return;
-    text += VALUE_DIGITS + 1;
-    order->times[order->count++] = (DconfdbTime){{(const uint8_t *)text, strlen(text)}, when};
-}
-
-static void take_file(Order *order, const char *text)
-{
-    uint64_t numbers[] = {0, 0, 0, 0, 0};
-    for (int i = 0; i < 5; i++) {
-        if (!take_number(&text, &numbers[i]))
-            return;
-    }
-    if (order->left_count == MOST_LEFT || *text || numbers[4] >= second)
-        return;
+    LeftRecord left;
+    if (order->left_count == MOST_LEFT || !take(bytes, &left, sizeof left) || left.nanoseconds < 0 || left.nanoseconds >= (int64_t)second)
+        return false;
     order->left[order->left_count++] = (FileState){.is_there = true,
-                                                   .device = (dev_t)numbers[0],
-                                                   .inode = (ino_t)numbers[1],
-                                                   .size = (off_t)numbers[2],
-                                                   .written = {(time_t)numbers[3], (long)numbers[4]}};
+                                                   .device = (dev_t)left.device,
+                                                   .inode = (ino_t)left.inode,
+                                                   .size = (off_t)left.size,
+                                                   .written = {(time_t)left.seconds, (long)left.nanoseconds}};
+    return true;
 }
 
-/* The last of the texts, which end where the file does. */
-static const char *last_text(const char *text, size_t size)
+static bool take_set(Order *order, Bytes *bytes)
 {
-    const char *at = text + size - 1;
-    while (at > text && at[-1])
-        at--;
-    return at;
+    SetRecord set;
+    if (order->count == MOST_TIMES || !take(bytes, &set, sizeof set) || set.len == 0 || (size_t)(bytes->end - bytes->at) < set.len)
+        return false;
+    order->times[order->count++] = (DconfdbTime){{(const uint8_t *)bytes->at, (size_t)set.len}, set.when};
+    bytes->at += set.len;
+    return true;
 }
 
-static bool is_whole(const char *text, size_t size)
+/* False: it isn't whole. */
+static bool take_all(Order *order)
 {
-    return size > sizeof of_all && !text[size - 1] && strncmp(text, of_all, sizeof of_all - 1) == 0
-        && last_text(text, size) > text && strcmp(text, last_text(text, size)) == 0;
-}
-
-static bool starts(const char *text, const char *word)
-{
-    return strncmp(text, word, strlen(word)) == 0;
-}
-
-static void take_texts(Order *order)
-{
-    const char *end = order->text + order->size;
-    for (const char *at = order->text; at < end; at += strlen(at) + 1) {
-        if (starts(at, of_set))
-            take_set(order, at + sizeof of_set - 1);
-        else if (starts(at, of_file))
-            take_file(order, at + sizeof of_file - 1);
+    Head head;
+    uint64_t end;
+    Bytes bytes = {order->text, order->text + order->size};
+    if (!take(&bytes, &head, sizeof head) || memcmp(head.name, name, sizeof name) != 0)
+        return false;
+    for (uint64_t i = 0; i < head.files; i++) {
+        if (!take_file(order, &bytes))
+            return false;
     }
+    for (uint64_t i = 0; i < head.sets; i++) {
+        if (!take_set(order, &bytes))
+            return false;
+    }
+    return take(&bytes, &end, sizeof end) && bytes.at == bytes.end && end == head.moment;
 }
 
 /* ---- what is noted */
@@ -177,8 +176,8 @@ Order *order_read(int lock)
     order->text = text;
     order->size = read_text(lock, text, size);
     read_clocks(order);
-    if (is_whole(text, order->size))
-        take_texts(order);
+    if (!take_all(order))
+        order->count = order->left_count = 0;
     return order;
 }
 
@@ -194,10 +193,12 @@ bool order_has_left(const Order *order, const FileState *file)
 /* The value that was noted with a path; `is` says whether one was, before this turn. */
 static uint64_t value_noted(const Order *order, const DconfdbTime *time, bool *is)
 {
-    const char *path = (const char *)time->path.at;
-    uintptr_t at = (uintptr_t)path, text = (uintptr_t)order->text;
+    SetRecord set = {0, 0, 0};
+    uintptr_t at = (uintptr_t)time->path.at, text = (uintptr_t)order->text;
     *is = at >= text && at < text + order->size;
-    return *is ? strtoull(path - VALUE_DIGITS - 1, NULL, HEXADECIMAL) : 0;
+    if (*is)
+        memcpy(&set, time->path.at - sizeof set, sizeof set);
+    return set.value;
 }
 
 static bool is_directory_of(const DconfdbBytes *directory, const uint8_t *path, size_t len)
@@ -221,13 +222,13 @@ bool order_has_value(const Order *order, const uint8_t *path, size_t len, uint64
 
 bool order_note(Order *order, const DconfdbTime *times, size_t count)
 {
-    size_t len = 0;
+    size_t len = 0, most = count < MOST_TIMES - order->count ? order->count + count : MOST_TIMES;
     DconfdbTime *room = malloc(sizeof order->times);
     if (!room)
         return false;
-    for (size_t i = 0; i < MOST_TIMES; i++)
+    for (size_t i = 0; i < most; i++)
         room[i] = (DconfdbTime){DCONFDB_NOTHING, 0};
-    bool done = dconfdb_note_times(order->times, order->count, times, count, order->now, room, MOST_TIMES, &len) == DCONFDB_OK;
+    bool done = dconfdb_note_times(order->times, order->count, times, count, order->now, room, most, &len) == DCONFDB_OK;
     if (done) {
         memcpy(order->times, room, len * sizeof *room);
         order->count = len;
@@ -238,71 +239,67 @@ bool order_note(Order *order, const DconfdbTime *times, size_t count)
 
 /* ---- written anew */
 
-/* As much of the texts as there is room for. */
+/* As much as there is room for. */
 typedef struct {
-    char *text;
+    char *at;
     size_t len;
-} Texts;
+} Room;
 
-static bool has_room(const Texts *texts, size_t more)
+static void put(Room *room, const void *record, size_t size)
 {
-    return texts->len + more + LONGEST_TEXT <= LARGEST;
+    memcpy(room->at + room->len, record, size);
+    room->len += size;
 }
 
-static void put_ends(Texts *texts, const Order *order)
+static void put_file(Room *room, const FileState *file)
 {
-    texts->len += (size_t)sprintf(texts->text + texts->len, "%s%" PRIu64, of_all, order->moment) + 1;
+    LeftRecord left = {(uint64_t)file->device, (uint64_t)file->inode, (uint64_t)file->size, (int64_t)file->written.tv_sec,
+                       (int64_t)file->written.tv_nsec};
+    put(room, &left, sizeof left);
 }
 
-static void put_file(Texts *texts, const FileState *file)
+static void put_set(Room *room, const DconfdbTime *time, uint64_t value)
 {
-    if (has_room(texts, LONGEST_TEXT))
-        texts->len += (size_t)sprintf(texts->text + texts->len, "%s%ju %ju %ju %ju %ld", of_file, (uintmax_t)file->device,
-                                      (uintmax_t)file->inode, (uintmax_t)file->size, (uintmax_t)file->written.tv_sec,
-                                      file->written.tv_nsec)
-            + 1;
+    SetRecord set = {time->when, value, time->path.len};
+    put(room, &set, sizeof set);
+    put(room, time->path.at, time->path.len);
 }
 
-static void put_set(Texts *texts, const DconfdbTime *time, uint64_t value)
+/* How many bytes all of it takes, and how many of the sets there is room for. */
+static size_t length_of(const Order *order, uint64_t *sets)
 {
-    if (!has_room(texts, LONGEST_TEXT + time->path.len))
-        return;
-    texts->len += (size_t)sprintf(texts->text + texts->len, "%s%" PRIu64 " %016" PRIx64 " ", of_set, time->when, value);
-    memcpy(texts->text + texts->len, time->path.at, time->path.len);
-    texts->len += time->path.len;
-    texts->text[texts->len++] = 0;
+    size_t len = sizeof(Head) + MOST_LEFT * sizeof(LeftRecord) + sizeof(uint64_t);
+    for (*sets = 0; *sets < order->count; ++*sets) {
+        size_t more = sizeof(SetRecord) + order->times[*sets].path.len;
+        if (len + more > LARGEST)
+            break;
+        len += more;
+    }
+    return len;
 }
 
-static size_t length_of(const Order *order)
+static void put_all(Room *room, const Order *order, Head head, const FileState *left, ValueOf *value_of, const void *file)
 {
-    size_t len = (order->count + order->left_count + 3) * (size_t)LONGEST_TEXT;
-    for (size_t i = 0; i < order->count; i++)
-        len += order->times[i].path.len;
-    return len < LARGEST ? len : LARGEST;
-}
-
-static void put_all(Texts *texts, const Order *order, const FileState *left, ValueOf *value_of, const void *file)
-{
-    put_ends(texts, order);
+    put(room, &head, sizeof head);
     if (left->is_there)
-        put_file(texts, left);
-    for (size_t i = 0; i < order->left_count && i + 1 < MOST_LEFT; i++)
-        put_file(texts, &order->left[i]);
-    for (size_t i = 0; i < order->count; i++) {
+        put_file(room, left);
+    for (uint64_t i = left->is_there; i < head.files; i++)
+        put_file(room, &order->left[i - left->is_there]);
+    for (uint64_t i = 0; i < head.sets; i++) {
         const DconfdbTime *time = &order->times[i];
         bool is_noted;
         uint64_t value = value_noted(order, time, &is_noted);
-        put_set(texts, time, is_noted ? value : value_of(file, time->path.at, time->path.len));
+        put_set(room, time, is_noted ? value : value_of(file, time->path.at, time->path.len));
     }
-    put_ends(texts, order);
+    put(room, &head.moment, sizeof head.moment);
 }
 
-/* Who is killed amid this leaves the first text of one writer, and the last of another. */
-static void put_in_file(int lock, const Texts *texts)
+/* Who is killed amid this leaves the first moment of one writer, and the last of another. */
+static void put_in_file(int lock, const Room *room)
 {
     size_t at = 0;
-    while (at < texts->len) {
-        ssize_t put = pwrite(lock, texts->text + at, texts->len - at, (off_t)at);
+    while (at < room->len) {
+        ssize_t put = pwrite(lock, room->at + at, room->len - at, (off_t)at);
         if (put == 0 || (put < 0 && errno != EINTR))
             break;
         at += put > 0 ? (size_t)put : 0;
@@ -310,17 +307,20 @@ static void put_in_file(int lock, const Texts *texts)
     struct stat found;
     bool is_longer = fstat(lock, &found) != 0 || (uintmax_t)found.st_size > at;
     if (is_longer && ftruncate(lock, (off_t)at) != 0)
-        return; /* its last text is another one than its first: nothing counts */
+        return; /* its end isn't its last moment: nothing counts */
 }
 
 void order_write(Order *order, int lock, const FileState *left, ValueOf *value_of, const void *file)
 {
-    Texts texts = {malloc(length_of(order)), 0};
-    if (!texts.text)
+    size_t files = order->left_count + left->is_there;
+    Head head = {.moment = order->moment, .files = files < MOST_LEFT ? files : MOST_LEFT};
+    memcpy(head.name, name, sizeof name);
+    Room room = {malloc(length_of(order, &head.sets)), 0};
+    if (!room.at)
         return;
-    put_all(&texts, order, left, value_of, file);
-    put_in_file(lock, &texts);
-    free(texts.text);
+    put_all(&room, order, head, left, value_of, file);
+    put_in_file(lock, &room);
+    free(room.at);
 }
 
 void order_free(Order *order)

@@ -15,7 +15,7 @@ enum { MOST_TIMES = 1024, MOST_LEFT = 64 };
 
 typedef struct {
     uint64_t now, moment; /* the same, as a time and by order_clock() */
-    char *text;           /* of the lock's file; paths are lent from it */
+    char *text;           /* the bytes of the lock's file; paths are lent from it */
     size_t size;
     DconfdbTime times[MOST_TIMES];
     FileState left[MOST_LEFT]; /* the newest first */
