@@ -32,4 +32,5 @@ mod tables;
 mod texts;
 #[cfg(test)]
 mod times;
+#[cfg(test)]
 mod turns;
