@@ -212,7 +212,8 @@ bool dconfdb_store_refresh(DconfdbStore *store, bool *changed, DconfdbError *err
  * this returns true and looks at nothing.
  *
  * If no edit changes anything, because the user has that value already, or none where one is removed,
- * no file is written. Values are compared, not bytes.
+ * no file is written, unless this store's last write ended with EITHER or UNSETTLED. Values are compared,
+ * not bytes.
  *
  * The new file has the permission bits of the old one. A first file is its owner's alone (0600),
  * whatever the umask. If root makes the change, the file keeps its owner and group; a first file, and
@@ -230,7 +231,8 @@ bool dconfdb_store_refresh(DconfdbStore *store, bool *changed, DconfdbError *err
  * False: it failed, and `outcome` says what became of the file. It has its old bytes, unless the number
  * is DCONFDB_ERROR_FILE and the outcome another: EITHER if the rename failed, since it may have been done
  * all the same; UNSETTLED if the folder could not be synced after it. Only then the newest snapshot has
- * the edits. The text says so, too. */
+ * the edits. The text says so, too. After either of them, make the same edits again: if that returns true
+ * they are on the disk. */
 bool dconfdb_store_change(DconfdbStore *store, const DconfdbEdit *edits, size_t count, DconfdbError *error);
 
 /* Adds a reference, and drops one; dropping the last one frees everything. `ref` returns its

@@ -224,9 +224,17 @@ static int look_at_old(int folder, const char *name, bool keeps, struct stat *ol
 /* A step to another name, which is refused with EEXIST where that is taken. */
 typedef int Moves(int folder, const char *name, const char *aside);
 
+/* A name that is taken by the same file is one that a turn which failed has left. */
 static int by_a_link(int folder, const char *name, const char *aside)
 {
-    return linkat(folder, name, folder, aside, 0);
+    struct stat one, other;
+    if (linkat(folder, name, folder, aside, 0) == 0)
+        return 0;
+    int fault = errno;
+    bool is_linked = fault == EEXIST && fstatat(folder, name, &one, AT_SYMLINK_NOFOLLOW) == 0
+        && fstatat(folder, aside, &other, AT_SYMLINK_NOFOLLOW) == 0 && one.st_dev == other.st_dev && one.st_ino == other.st_ino;
+    errno = fault;
+    return is_linked ? 0 : -1;
 }
 
 static int by_a_rename(int folder, const char *name, const char *aside)

@@ -75,6 +75,7 @@ struct DconfdbStore {
     bool has_news;              /* of others' changes, that no refresh has told; under `refreshing` */
     Seen *seen;                 /* the same, while own ones wait; under `refreshing` */
     uint64_t noted;             /* the time of what this store noted last; under `refreshing` */
+    bool is_unsettled;          /* its last change is perhaps not on the disk; under `refreshing` */
     DconfdbSnapshot *now;
     char *folder, *user_file; /* absolute; no user_file: no user's database */
     size_t count;
@@ -326,11 +327,16 @@ static bool has_bytes(const Part *part, const FileBytes *bytes)
     return part->bytes.len == bytes->len && (bytes->len == 0 || memcmp(part->bytes.at, bytes->at, bytes->len) == 0);
 }
 
-/* What is wrong for a moment with the process or the system, and not with the file. */
-static bool is_momentary(int fault)
+/* What is wrong with the file: its kind, size, name or permissions, or its place on the disk. Whatever else is answered may be the
+ * process's, the disk's or a server's fault, and then a sound file must not be replaced. */
+static bool is_files_own(int fault)
 {
-    return fault == ENOMEM || fault == EMFILE || fault == ENFILE || fault == EIO || fault == ESTALE || fault == EINTR
-        || fault == EAGAIN;
+    static const int faults[] = {EACCES, EPERM, EISDIR, EINVAL, ENXIO, ENODEV, EOVERFLOW, ELOOP, ENOTDIR, ENAMETOOLONG, EUCLEAN, EBADMSG};
+    for (size_t i = 0; i < sizeof faults / sizeof *faults; i++) {
+        if (fault == faults[i])
+            return true;
+    }
+    return false;
 }
 
 /* A file that is bad is also another one where its permissions are. */
@@ -607,7 +613,7 @@ static bool read_profile(DconfdbStore *store, const char *name, FileBytes *text,
 {
     FileState state;
     int fault = file_read(NO_FOLDER, name, false, NULL, LARGEST_PROFILE, text, &state);
-    if (fault != 0 && store->is_lenient && !is_momentary(fault)) {
+    if (fault != 0 && store->is_lenient && is_files_own(fault)) {
         refuse_file(profile_fault_of(store), fault, name, nowhere);
         return true;
     }
@@ -721,7 +727,7 @@ static bool is_as_said(const Look *look, const Part *old, size_t at)
     return file_look(look->store->files[at], &state) == 0 && is_as_it_was_read(old, &state);
 }
 
-/* In a lenient store a file counts as nothing if it can't be read, and not for a moment alone. */
+/* In a lenient store a file counts as nothing if it is its own fault that it can't be read. */
 static bool read_at(Look *look, size_t at, DconfdbError *error)
 {
     Asked asked = asked_of(look, at);
@@ -731,7 +737,7 @@ static bool read_at(Look *look, size_t at, DconfdbError *error)
     look->fault.number = DCONFDB_ERROR_NONE;
     if (fault == 0)
         return true;
-    bool is_lasting = asked.is_lenient && !is_momentary(fault);
+    bool is_lasting = asked.is_lenient && is_files_own(fault);
     refuse_file(is_lasting ? &look->fault : error, fault, asked.name, (Place){.database = at});
     return is_lasting;
 }
@@ -1242,13 +1248,14 @@ static uint64_t time_of(const DconfdbStore *store, const Order *order, uint64_t 
     return time < store->noted && store->noted <= order->now ? store->noted : time;
 }
 
-/* Leaves out what others have set since. */
+/* Leaves out what others have set since. What this store's last write may have left looks like that, too: it is in the file. */
 static void leave_out(Asking *asking, const DconfdbStore *store, const Order *order)
 {
     size_t left = 0;
     for (size_t i = 0; i < asking->count; i++) {
         DconfdbTime time = {asking->times[i].path, time_of(store, order, asking->times[i].when)};
-        if (dconfdb_is_overtaken(order->times, order->count, time.path.at, time.path.len, time.when, order->now))
+        bool is_own = store->is_unsettled && is_made(store->now, &asking->changes[i]);
+        if (!is_own && dconfdb_is_overtaken(order->times, order->count, time.path.at, time.path.len, time.when, order->now))
             continue;
         asking->changes[left] = asking->changes[i];
         asking->times[left] = time;
@@ -1313,7 +1320,8 @@ static bool read_old(Changing *it, size_t *bits)
     return fault == 0 || refuse_file(it->error, fault, it->store->user_file, nowhere);
 }
 
-/* The new file's bytes. None are made, and the file stays, as bad as it may be, where the changes change nothing. */
+/* The new file's bytes. None are made, and the file stays, as bad as it may be, where the changes change nothing of what is on the
+ * disk: it is written once more where that isn't known. */
 static bool make_bytes(Changing *it, FileBytes *file)
 {
     const Asking *asking = it->asking;
@@ -1326,7 +1334,7 @@ static bool make_bytes(Changing *it, FileBytes *file)
             it->error->at = asking->edits[it->error->at];
         return false;
     }
-    it->is_nothing = are_made(it->store->now, asking->changes, asking->count, file);
+    it->is_nothing = !it->store->is_unsettled && are_made(it->store->now, asking->changes, asking->count, file);
     if (it->is_nothing)
         file_release(file);
     return !it->is_nothing;
@@ -1412,6 +1420,8 @@ static bool end(Changing *it, uint32_t outcome, uint32_t fault)
     } else {
         dconfdb_snapshot_unref(it->newer);
     }
+    if (outcome != DCONFDB_TURN_KEPT)
+        it->store->is_unsettled = outcome != DCONFDB_TURN_MADE;
     if (outcome == DCONFDB_TURN_KEPT && fault == 0)
         refuse_file(it->error, EIO, it->store->user_file, nowhere);
     return outcome == DCONFDB_TURN_MADE || it->is_nothing || refuse_outcome(it->error, outcome, it->store->user_file);

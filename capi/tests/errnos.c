@@ -1,7 +1,7 @@
 /* Lets each call that puts a changed file in place fail with each errno: errnos FOLDER. It is linked with
  * the static library, and with --wrap of fsync and renameat. Before the rename the file has its old
  * bytes; after it the new ones, and number, outcome and text say that it may have them. Of a rename that failed they say that
- * nobody knows. */
+ * nobody knows. The same change once more has it on the disk, though the file may have the new bytes already. */
 #include "try.h"
 
 #include <errno.h>
@@ -12,8 +12,8 @@ int __real_renameat(int from, const char *old, int to, const char *new);
 int __wrap_fsync(int file);
 int __wrap_renameat(int from, const char *old, int to, const char *new);
 
-/* The call that fails: the first, second or third of a change; 0: none. */
-enum { OF_FILE = 1, OF_RENAME = 2, OF_FOLDER = 3, GREATEST_ERRNO = 133 };
+/* The call that fails: the first, second or third of a change; 0: none. A change that is made has all of them. */
+enum { OF_FILE = 1, OF_RENAME = 2, OF_FOLDER = 3, ALL = 3, GREATEST_ERRNO = 133 };
 static int failing, fault, count;
 
 static bool fails(void)
@@ -84,6 +84,9 @@ static void tries(DconfdbStore *store, const char *folder, int place)
     TRY(has(after, "/k", there) && is_in_file(folder, there) && (before == after) == (place != OF_FOLDER));
     dconfdb_snapshot_unref(before);
     dconfdb_snapshot_unref(after);
+    failing = 0;
+    TRY(changes(store, "new") && count == ALL);
+    TRY(changes(store, "new") && count == 0);
 }
 
 int main(int argc, char **argv)
