@@ -29,7 +29,7 @@
 #error "the registers are those of x86-64"
 #endif
 
-enum { MOST_FAULTS = 4, MOST_THREADS = 64, NOT_MET = 125, BY_A_SIGNAL = 128, SYSCALL_STOP = SIGTRAP | 0x80, NAMES = 2 * PATH_MAX + 64 };
+enum { PAGE = 4096, MOST_FAULTS = 4, MOST_THREADS = 64, NOT_MET = 125, BY_A_SIGNAL = 128, SYSCALL_STOP = SIGTRAP | 0x80, NAMES = 2 * PATH_MAX + 64 };
 
 typedef struct {
     const char *how, *call;
@@ -62,14 +62,16 @@ static void stop(const char *what)
 
 static void take_text(pid_t thread, unsigned long long at, char *text)
 {
-    struct iovec to = {text, PATH_MAX - 1}, from = {(void *)at, PATH_MAX - 1};
-    ssize_t len = process_vm_readv(thread, &to, 1, &from, 1, 0);
-    /* It may lie at the end of what can be read. */
-    for (size_t less = PATH_MAX - 1; len < 0 && less > 1; less /= 2) {
-        to.iov_len = from.iov_len = less;
-        len = process_vm_readv(thread, &to, 1, &from, 1, 0);
+    size_t len = 0;
+    /* A page at a time: the next one may not be there. */
+    while (len < PATH_MAX - 1 && !memchr(text, 0, len)) {
+        size_t rest = PAGE - (at + len) % PAGE, more = rest < PATH_MAX - 1 - len ? rest : PATH_MAX - 1 - len;
+        struct iovec to = {text + len, more}, from = {(void *)(at + len), more};
+        if (process_vm_readv(thread, &to, 1, &from, 1, 0) != (ssize_t)more)
+            break;
+        len += more;
     }
-    text[len < 0 ? 0 : len] = 0;
+    text[len] = 0;
 }
 
 static void take_link(pid_t thread, const char *what, int number, char *path)
