@@ -167,6 +167,10 @@ impl Folder for Refusing {
         Ok(())
     }
 
+    fn remove(&mut self, _name: &str) -> bool {
+        true
+    }
+
     fn sync_folder(&mut self) -> Result<(), FolderFault> {
         Ok(())
     }
