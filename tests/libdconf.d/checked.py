@@ -40,8 +40,9 @@ settle 50
 VALGRIND = ['valgrind', '-q', '--error-exitcode=9', '--leak-check=full', '--errors-for-leak-kinds=definite,indirect', f'--suppressions={shared.HERE}/glib.supp']
 
 
-# The sanitizer of threads is blind for GLib's locks, but for those that seen_locks.c shows it; and so for what a main context hands from thread to thread.
-BLIND = 'called_from_lib:libglib-2.0.so\ncalled_from_lib:libgio-2.0.so\ncalled_from_lib:libgobject-2.0.so\nrace_top:emit\n'
+# The sanitizer of threads is blind for GLib's locks, but for those that seen_locks.c shows it; and so for what a main context hands from thread to
+# thread, and for the references that GLib counts: who gives the last one back frees what others wrote before they gave back theirs.
+BLIND = 'called_from_lib:libglib-2.0.so\ncalled_from_lib:libgio-2.0.so\ncalled_from_lib:libgobject-2.0.so\nrace_top:emit\nrace_top:free\n'
 
 
 def races(both):
