@@ -87,6 +87,7 @@
 
 #include <stdbool.h>
 #include <stddef.h>
+#include <stdint.h>
 
 #ifdef __cplusplus
 extern "C" {
@@ -119,6 +120,7 @@ enum {
     DCONFDB_ERROR_LOCKED = 16,         /* the key is locked */
     DCONFDB_ERROR_TOO_LARGE = 17,      /* a value is nested too deep, or too long */
     DCONFDB_ERROR_TOO_BIG = 18,        /* a file has more bytes than it may have, or would have */
+    DCONFDB_ERROR_DOUBLE_TEXT = 19,    /* a value to be printed holds a double */
     DCONFDB_ERROR_FILE = 64,           /* a system call failed: `system` is its errno */
     DCONFDB_ERROR_BUSY = 65,           /* others held the lock for ten seconds */
     DCONFDB_ERROR_NO_FOLDER = 66       /* no folder is given, and none is found */
@@ -265,6 +267,45 @@ bool dconfdb_snapshot_is_newest(const DconfdbSnapshot *snapshot);
 bool dconfdb_snapshot_read(const DconfdbSnapshot *snapshot, const char *path, DconfdbValue *value);
 bool dconfdb_snapshot_read_default(const DconfdbSnapshot *snapshot, const char *path, DconfdbValue *value);
 bool dconfdb_snapshot_read_user(const DconfdbSnapshot *snapshot, const char *path, DconfdbValue *value);
+
+/* VALUES. What is in a value, at the type that it has. Any bytes have a value at any type, so none of
+ * these fails: false and NULL mean another type, or that there is no such child, and then `out` and
+ * `child` stay as they were. Bytes that aren't in normal form have the value that GVariant reads in
+ * them: the wrong number of bytes is 0, false or 0.0, and a text that is none is empty (`/` of an `o`).
+ * Nothing is allocated; what is handed out is lent as the value is, and may be put in the value's
+ * place. */
+
+/* A number of exactly this type; `int32` takes an `h` too. A double is C's own, bit for bit. */
+bool dconfdb_value_get_boolean(const DconfdbValue *value, bool *out);
+bool dconfdb_value_get_byte(const DconfdbValue *value, uint8_t *out);
+bool dconfdb_value_get_int16(const DconfdbValue *value, int16_t *out);
+bool dconfdb_value_get_uint16(const DconfdbValue *value, uint16_t *out);
+bool dconfdb_value_get_int32(const DconfdbValue *value, int32_t *out);
+bool dconfdb_value_get_uint32(const DconfdbValue *value, uint32_t *out);
+bool dconfdb_value_get_int64(const DconfdbValue *value, int64_t *out);
+bool dconfdb_value_get_uint64(const DconfdbValue *value, uint64_t *out);
+bool dconfdb_value_get_double(const DconfdbValue *value, double *out);
+
+/* The text of an `s`, `o` or `g`, in UTF-8, with a zero byte after it. `length`, if it isn't NULL, is the
+ * number of bytes without that one. */
+const char *dconfdb_value_get_string(const DconfdbValue *value, size_t *length);
+
+/* What a `v` holds. */
+bool dconfdb_value_get_variant(const DconfdbValue *value, DconfdbValue *child);
+
+/* The elements of an array, the members of a tuple, the key and the value of an entry, what a variant
+ * holds, and the value of a maybe that has one: how many there are, and the one at an index. A list is
+ * walked fastest by this index from 0 on. */
+size_t dconfdb_value_n_children(const DconfdbValue *value);
+bool dconfdb_value_child(const DconfdbValue *value, size_t index, DconfdbValue *child);
+
+/* The value of the first entry with this key in a dictionary whose keys are strings, such as `a{sv}`. */
+bool dconfdb_value_lookup(const DconfdbValue *value, const char *key, DconfdbValue *child);
+
+/* The value as a text that can be read back, as `dconfdb read` prints it; the caller frees it with
+ * free(). NULL: it holds a double (DOUBLE_TEXT), it is nested more than 128 levels deep (TOO_LARGE), or
+ * no memory is left. */
+char *dconfdb_value_print(const DconfdbValue *value, DconfdbError *error);
 
 /* Whether a database after the first locks the key; and whether there is a user's database and the
  * key isn't locked. Both are false if the text is not a key's path. They take no memory. */

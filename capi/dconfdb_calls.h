@@ -59,6 +59,11 @@ typedef struct {
     DconfdbBytes value, type_text;
 } DconfdbFound;
 
+/* A value in a value: its bytes and the text of its type, lent from there or the library's own. */
+typedef struct {
+    DconfdbBytes value, type_text;
+} DconfdbPart;
+
 /* A database of a profile; the name is lent from the profile's text. */
 typedef struct {
     uint32_t kind; /* 0 user-db, 1 system-db, 2 file-db */
@@ -140,7 +145,7 @@ enum {
     DCONFDB_LOCKED,
     DCONFDB_TOO_LARGE,
     DCONFDB_TOO_BIG,
-    DCONFDB_DOUBLE_TEXT = 19 /* of dconfdb_value_print alone; dconfdb_fault_text has no text of it */
+    DCONFDB_DOUBLE_TEXT = 19 /* of dconfdb_print_value alone; dconfdb_fault_text has no text of it */
 };
 
 /* A database without items. */
@@ -157,8 +162,25 @@ bool dconfdb_fault_text(uint32_t number, DconfdbBytes *text);
 /* The text of the value that bytes have at the type that the text spells, annotated: what `dconfdb read`
  * prints. `len` as dconfdb_list has it. MEMORY, BAD_TYPE, TOO_LARGE of more than 128 levels, DOUBLE_TEXT of a
  * value that holds a double, and then nothing is written. */
-uint32_t dconfdb_value_print(const uint8_t *type_text, size_t type_text_len, const uint8_t *value, size_t value_len, uint8_t *room,
+uint32_t dconfdb_print_value(const uint8_t *type_text, size_t type_text_len, const uint8_t *value, size_t value_len, uint8_t *room,
                              size_t room_len, size_t *len);
+
+/* What bytes are at the type that a text spells. Any bytes have a value at any type, and false is only
+ * said as follows; then `bits` or `found` stays as it was.
+ *
+ * The number, if the type is the one of this letter: of `b` 0 or 1, else the bits; `i` asks for an `h`
+ * too. The text of an `s`, `o` or `g`, without a zero byte. The child at an index. The value of the first
+ * entry with this key in an `a{sT}`. */
+bool dconfdb_number_in(const uint8_t *type_text, size_t type_text_len, const uint8_t *value, size_t value_len, uint8_t letter,
+                       uint64_t *bits);
+bool dconfdb_text_in(const uint8_t *type_text, size_t type_text_len, const uint8_t *value, size_t value_len, DconfdbBytes *found);
+bool dconfdb_child_at(const uint8_t *type_text, size_t type_text_len, const uint8_t *value, size_t value_len, size_t index,
+                      DconfdbPart *found);
+bool dconfdb_look_up(const uint8_t *type_text, size_t type_text_len, const uint8_t *value, size_t value_len, const uint8_t *key,
+                     size_t key_len, DconfdbPart *found);
+
+/* How many children it has; 0 where the text spells no type. */
+size_t dconfdb_count_children(const uint8_t *type_text, size_t type_text_len, const uint8_t *value, size_t value_len);
 
 /* Opens a layer of a file's bytes, or an empty one if there is no file (is_there false: the
  * bytes are not looked at). Else SHORT to BAD_TABLE, or UNSOUND with what is broken, which is all

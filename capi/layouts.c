@@ -14,6 +14,7 @@
 uint32_t dconfdb_open(const uint8_t *file, size_t len, bool is_there, void *layer, void *unsound);
 bool dconfdb_read(const void *layers, size_t n, const uint8_t *path, size_t path_len, void *found);
 bool dconfdb_fault_text(uint32_t number, void *text);
+bool dconfdb_child_at(const uint8_t *type_text, size_t type_text_len, const uint8_t *value, size_t value_len, size_t index, void *found);
 uint32_t dconfdb_profile(const uint8_t *text, size_t len, void *room, size_t room_len, size_t *names, size_t *line);
 void dconfdb_turn_begin(void *turn);
 void dconfdb_turn_next(const void *turn, void *step);
@@ -261,6 +262,16 @@ static size_t finds_found(size_t layer_size)
     size_t value = finds_lent(&room, "value", file + VALUE, VALUE_LEN);
     ends(&room);
     return value;
+}
+
+/* The one text in the value. */
+static void finds_part(void)
+{
+    Written room = room_of("DconfdbPart");
+    is_so(dconfdb_child_at(file + TYPE, TYPE_LEN, file + VALUE, VALUE_LEN, 0, room.bytes), "dconfdb_child_at");
+    finds_lent(&room, "type_text", file + TYPE + 1, TYPE_LEN - 1);
+    finds_lent(&room, "value", file + VALUE, VALUE_LEN - 1);
+    ends(&room);
 }
 
 /* Two elements of an array: the second is as far from the first as the struct is long. */
@@ -535,6 +546,7 @@ int main(void)
     size_t layer_size = finds_layer();
     finds_unsound();
     size_t value = finds_found(layer_size);
+    finds_part();
     finds_name();
     tries_change(value);
     finds_turn();

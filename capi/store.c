@@ -22,7 +22,8 @@
 #include <unistd.h>
 
 _Static_assert((int)DCONFDB_ERROR_MEMORY == (int)DCONFDB_MEMORY && (int)DCONFDB_ERROR_UNSOUND == (int)DCONFDB_UNSOUND
-                   && (int)DCONFDB_ERROR_TOO_MANY == (int)DCONFDB_TOO_MANY && (int)DCONFDB_ERROR_TOO_BIG == (int)DCONFDB_TOO_BIG,
+                   && (int)DCONFDB_ERROR_TOO_MANY == (int)DCONFDB_TOO_MANY && (int)DCONFDB_ERROR_TOO_BIG == (int)DCONFDB_TOO_BIG
+                   && (int)DCONFDB_ERROR_DOUBLE_TEXT == (int)DCONFDB_DOUBLE_TEXT,
                "the header's numbers are those of the proved calls");
 _Static_assert((int)DCONFDB_OUTCOME_MADE == (int)DCONFDB_TURN_MADE && (int)DCONFDB_OUTCOME_KEPT == (int)DCONFDB_TURN_KEPT
                    && (int)DCONFDB_OUTCOME_EITHER == (int)DCONFDB_TURN_EITHER && (int)DCONFDB_OUTCOME_UNSETTLED == (int)DCONFDB_TURN_UNSETTLED,
@@ -162,6 +163,8 @@ static bool refuse_call(DconfdbError *error, uint32_t number, const char *name, 
 {
     DconfdbBytes text = DCONFDB_NOTHING;
     char line[32] = "";
+    if (number == DCONFDB_DOUBLE_TEXT)
+        return refuse(error, DCONFDB_ERROR_DOUBLE_TEXT, 0, place, "%s: it holds a double, which is not printed", name);
     if (!dconfdb_fault_text(number, &text))
         return refuse(error, (int)number, 0, place, "%s: fault %u", name, (unsigned)number);
     if (place.line != 0)
@@ -498,6 +501,13 @@ static uint32_t lists_own_differences(const DconfdbSnapshot *snapshot, const voi
     return dconfdb_differs(snapshot->layers, 1, other->layers, 1, 1, room, room_len, len);
 }
 
+static uint32_t prints_value(const DconfdbSnapshot *snapshot, const void *of, uint8_t *room, size_t room_len, size_t *len)
+{
+    const DconfdbValue *value = of;
+    (void)snapshot;
+    return dconfdb_print_value(bytes_of(value->type), value->type_size, value->data, value->size, room, room_len, len);
+}
+
 /* Calls with a room that mostly is enough, and else with one that is. */
 static char *listed(Lists *lists, const DconfdbSnapshot *snapshot, const void *of, const char *name, size_t *size,
                     DconfdbError *error)
@@ -540,6 +550,11 @@ char *dconfdb_snapshot_differences(const DconfdbSnapshot *snapshot, const Dconfd
     static const DconfdbSnapshot nothing = {.references = 1};
     const DconfdbSnapshot *than = other ? other : &nothing;
     return listed(lists_differences, snapshot, than, "differences", size, error);
+}
+
+char *dconfdb_value_print(const DconfdbValue *value, DconfdbError *error)
+{
+    return listed(prints_value, NULL, value, "the value", NULL, error);
 }
 
 /* ---- where a store is */

@@ -82,7 +82,7 @@ static bool is_seen_otherwise(const DconfdbSnapshot *now, const DconfdbSnapshot 
 
 static uint32_t print_into(const DconfdbValue *value, char *room, size_t room_len, size_t *len)
 {
-    return dconfdb_value_print((const uint8_t *)value->type, value->type_size, value->data, value->size, (uint8_t *)room,
+    return dconfdb_print_value((const uint8_t *)value->type, value->type_size, value->data, value->size, (uint8_t *)room,
                                room_len, len);
 }
 

@@ -10,7 +10,7 @@ use std::alloc::Global;
 /// be read back: what `dconfdb read` prints. It is handed out as `dconfdb_list` does. Else the
 /// number of why there is none, and nothing changes.
 #[unsafe(no_mangle)]
-pub extern "C" fn dconfdb_value_print(
+pub extern "C" fn dconfdb_print_value(
     alloc: Global,
     type_text: &[u8],
     value: &[u8],

@@ -1,4 +1,5 @@
 //! The examples at the heads of the crates: `tests/guarantees --check` sees that the two are alike.
+use dconfdb_values::{child, number, text};
 use gv_build::variant_bytes;
 use gv_infer::read_value;
 use gv_layout::{alignment, fixed_size, n_children};
@@ -58,11 +59,18 @@ fn of_gv_infer(alloc: Global) -> Result<bool, Fail> {
     Ok(numbers.type_text().as_str() == "ax")
 }
 
+fn of_dconfdb_values() -> Option<bool> {
+    let size = number(b"i", &[7, 0, 0, 0], b'i')?;
+    let second = child(b"as", b"one\0two\0\x04\x08", 1)?;
+    Some(size == 7 && text(second.type_text, second.value)? == "two")
+}
+
 #[test]
 fn each_example_is_so(rt: HostRuntime) -> Result<(), Fail> {
     let alloc = rt.alloc();
     let types = of_gv_types()? && of_gv_layout()? && of_gv_view()? && of_gv_normal()?;
     let values = of_gv_tree(alloc)? && of_gv_build(alloc)?;
     assert!(rt; types && values && of_gv_text(alloc)? && of_gv_infer(alloc)?);
+    assert!(rt; of_dconfdb_values() == Some(true));
     Ok(())
 }

@@ -21,6 +21,8 @@ mod texts;
 #[cfg(test)]
 mod trees;
 #[cfg(test)]
+mod typed_reads;
+#[cfg(test)]
 mod types;
 #[cfg(test)]
 mod views;

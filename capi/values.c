@@ -1,0 +1,89 @@
+/* What is in a value, over the proved calls. */
+#include "dconfdb.h"
+#include "dconfdb_calls.h"
+
+#include <string.h>
+
+/* The bits of a number of the type with this letter. */
+static bool number_in(const DconfdbValue *value, char letter, uint64_t *bits)
+{
+    return dconfdb_number_in((const uint8_t *)value->type, value->type_size, value->data, value->size, (uint8_t)letter, bits);
+}
+
+bool dconfdb_value_get_boolean(const DconfdbValue *value, bool *out)
+{
+    uint64_t bits;
+    if (!number_in(value, 'b', &bits))
+        return false;
+    *out = bits != 0;
+    return true;
+}
+
+/* A number as its own type has it: the bits of a negative one are those of its two's complement. */
+#define GETTER(name, type, unsigned_type, letter)                          \
+    bool dconfdb_value_get_##name(const DconfdbValue *value, type *out)    \
+    {                                                                      \
+        uint64_t bits;                                                     \
+        if (!number_in(value, letter, &bits))                              \
+            return false;                                                  \
+        unsigned_type number = (unsigned_type)bits;                        \
+        memcpy(out, &number, sizeof *out);                                 \
+        return true;                                                       \
+    }
+
+GETTER(byte, uint8_t, uint8_t, 'y')
+GETTER(int16, int16_t, uint16_t, 'n')
+GETTER(uint16, uint16_t, uint16_t, 'q')
+GETTER(int32, int32_t, uint32_t, 'i')
+GETTER(uint32, uint32_t, uint32_t, 'u')
+GETTER(int64, int64_t, uint64_t, 'x')
+GETTER(uint64, uint64_t, uint64_t, 't')
+GETTER(double, double, uint64_t, 'd')
+
+const char *dconfdb_value_get_string(const DconfdbValue *value, size_t *length)
+{
+    DconfdbBytes found;
+    if (!dconfdb_text_in((const uint8_t *)value->type, value->type_size, value->data, value->size, &found))
+        return NULL;
+    if (length)
+        *length = found.len;
+    /* A default is the library's own, without a zero byte after it. */
+    if (found.len == 0)
+        return "";
+    return found.len == 1 && *found.at == '/' ? "/" : (const char *)found.at;
+}
+
+/* A part, as the header has it: of the database that the whole is from. */
+static bool part_of(const DconfdbValue *value, bool is_found, const DconfdbPart *part, DconfdbValue *out)
+{
+    if (!is_found)
+        return false;
+    size_t origin = value->origin; /* `out` may be `value` */
+    *out = (DconfdbValue){part->value.at, part->value.len, (const char *)part->type_text.at, part->type_text.len, origin};
+    return true;
+}
+
+size_t dconfdb_value_n_children(const DconfdbValue *value)
+{
+    return dconfdb_count_children((const uint8_t *)value->type, value->type_size, value->data, value->size);
+}
+
+bool dconfdb_value_child(const DconfdbValue *value, size_t index, DconfdbValue *child)
+{
+    DconfdbPart part;
+    bool is_found = dconfdb_child_at((const uint8_t *)value->type, value->type_size, value->data, value->size, index, &part);
+    return part_of(value, is_found, &part, child);
+}
+
+bool dconfdb_value_get_variant(const DconfdbValue *value, DconfdbValue *child)
+{
+    return value->type_size == 1 && value->type[0] == 'v' && dconfdb_value_child(value, 0, child);
+}
+
+bool dconfdb_value_lookup(const DconfdbValue *value, const char *key, DconfdbValue *child)
+{
+    DconfdbPart part;
+    bool is_found = dconfdb_look_up((const uint8_t *)value->type, value->type_size, value->data, value->size, (const uint8_t *)key, strlen(key),
+                                    &part);
+    return part_of(value, is_found, &part, child);
+}

@@ -1,0 +1,23 @@
+//! Values as C reads them: the number, the text or the children that bytes are at the type that a
+//! text spells.
+//!
+//! Any bytes have a value at any type (GVariant Specification, "Handling Non-Normal Serialised
+//! Data"), so no call fails: it answers None exactly at another type, or where there is no such
+//! child. Nothing is allocated, and whatever is handed out is lent from the bytes and the type's
+//! text. The crate dconfdb_c exports each call to C.
+//!
+//! ```
+//! let size = number(b"i", &[7, 0, 0, 0], b'i')?;
+//! let second = child(b"as", b"one\0two\0\x04\x08", 1)?;
+//! Some(size == 7 && text(second.type_text, second.value)? == "two")
+//! ```
+#![tactic(auto)]
+
+mod numbers;
+mod parts;
+mod texts;
+mod typed;
+
+pub use numbers::number;
+pub use parts::{DconfdbPart, child, lookup, n_children};
+pub use texts::text;

@@ -1,0 +1,69 @@
+//! The children of a container.
+ghost use Rattle.std.specs.Prelude.{◌≡◌, IfSome, option_map};
+ghost use Rattle.gv_model.specs.Entries.{IsLookedUp};
+ghost use Rattle.gv_model.specs.Tree.{children, tree_at, trees_len};
+ghost use Rattle.gv_model.specs.TypeText.{type_at};
+ghost use Rattle.gv_model.specs.Decode.{decode};
+ghost use Rattle.gv_model.specs.Ty.{spelling};
+ghost use Rattle.gv_view.specs.Views.{shown, view_bytes, view_ty};
+ghost use Rattle.dconfdb_values.specs.Parts.{IsLentChild, part_value, shown_part};
+
+use crate::typed::view_of;
+use gv_view::View;
+
+/// A value in a value: its bytes and the text of its type, both lent from where it was found, or the
+/// library's own.
+#[repr(C)]
+#[derive(Clone, Copy)]
+pub struct DconfdbPart<'a> {
+    pub value: &'a [u8],
+    pub type_text: &'a [u8],
+}
+
+/// How many children the value has that the bytes are at the type that the text spells: members,
+/// elements, entries; 1 of a variant and of a maybe that has a value; 2 of an entry; 0 of any other
+/// type, and where the text spells none.
+///
+/// It looks at the type's text and at the last framing offset of the bytes.
+pub fn n_children(type_text: &[u8], bytes: &[u8]) -> usize
+    ensures { result ≡ trees_len (children (decode (type_at type_text.now) bytes.now)) }
+{
+    match view_of(type_text, bytes) {
+        Some(view) => view.n_children(),
+        None => 0,
+    }
+}
+
+/// The child at the index, from 0. None where there are no more.
+///
+/// It looks at the type's text and at the child's framing offsets.
+pub fn child<'a>(type_text: &'a [u8], bytes: &'a [u8], index: usize) -> Option<DconfdbPart<'a>>
+    ensures value { option_map part_value result ≡ tree_at (children (decode (type_at type_text.entry.now) bytes.entry.now)) index }
+    ensures lent { IfSome result (IsLentChild type_text.entry.now bytes.entry.now index) }
+{
+    let found = view_of(type_text, bytes)?.child(index)?;
+    Some(part_of(found))
+}
+
+/// The value of the first entry with this key in a dictionary of strings, `a{sT}`. None where no
+/// entry has it, and at any other type.
+///
+/// It goes over the entries once.
+pub fn lookup<'a>(type_text: &'a [u8], bytes: &'a [u8], key: &str) -> Option<DconfdbPart<'a>>
+    ensures { IsLookedUp (decode (type_at type_text.entry.now) bytes.entry.now) key.now (option_map part_value result) }
+{
+    let found = view_of(type_text, bytes)?.entry(key)?;
+    Some(part_of(found))
+}
+
+/// What a view shows, as C takes it.
+fn part_of<'a>(view: View<'a>) -> DconfdbPart<'a>
+    ensures shown { shown_part result ≡ shown view.entry }
+    ensures value { result.value.now ≡ view_bytes view.entry }
+    ensures type_text { result.type_text.now ≡ spelling (view_ty view.entry) }
+{
+    DconfdbPart {
+        value: view.bytes(),
+        type_text: view.type_str().as_str().as_bytes(),
+    }
+}
