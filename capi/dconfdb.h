@@ -14,8 +14,9 @@
  *             fprintf(stderr, "%s\n", error.text);
  *         DconfdbSnapshot *now = dconfdb_store_snapshot(store);
  *         DconfdbValue name;
- *         if (dconfdb_snapshot_read(now, "/org/desk/name", &name))
- *             printf("%.*s\n", (int)name.size, (const char *)name.data);
+ *         const char *text;
+ *         if (dconfdb_snapshot_read(now, "/org/desk/name", &name) && (text = dconfdb_value_get_string(&name, NULL)))
+ *             puts(text);
  *         dconfdb_snapshot_unref(now);
  *         dconfdb_store_close(store);
  *         return 0;
