@@ -383,6 +383,7 @@ static void dconfdb_backend_init(DconfdbBackend *self)
     self->odd = g_hash_table_new_full(g_str_hash, g_str_equal, g_free, NULL);
     self->asked = g_hash_table_new(NULL, NULL);
     self->wakes = -1;
+    self->last_try = G_MAXUINT64;
     g_cond_init(&self->settles);
     g_queue_init(&self->untold);
     store_begin(self);

@@ -82,19 +82,16 @@ GArray *waiting_forget(Waiting *waiting, const GQueue *written, const GQueue *re
 /* Changes that were taken wait again, before all others. */
 void waiting_put_back(Waiting *waiting, GQueue *changes);
 
-/* What became of changes. */
-typedef enum { WRITTEN, SOME_REFUSED, TO_TRY_AGAIN } Written;
-
 /* A turn to write: the lock of the store's folder is held, or can't be had by this fault. */
 typedef struct {
     const FolderLock *lock;
     int fault; /* errno; 0: it is held */
 } Turn;
 
-/* Makes the changes. Refused ones move from `changes` to `refused`, and `error` has the first refusal.
- * TO_TRY_AGAIN, where that is wanted: `error` says what may be gone in a moment, and no change is made. */
-Written changes_write(DconfdbStore *store, const Turn *turn, GQueue *changes, GQueue *refused, bool tries_again,
-                      DconfdbError *error);
+/* Makes the changes. Those that are refused, each for a fault of its own, move from `changes` to `refused`. What is to be
+ * told of that is in `refusal`, if it has a number; it is told too where resets were left out since nobody may write there.
+ * False: the others are not written, by no fault of theirs, which is in `fault`. They are to wait. */
+bool changes_write(DconfdbStore *store, const Turn *turn, GQueue *changes, GQueue *refused, DconfdbError *refusal, DconfdbError *fault);
 
 /* ---- the backend */
 
@@ -114,8 +111,9 @@ typedef struct {
     GMutex turn;         /* held while files are looked at or changed. It guards: */
     DconfdbStore *store; /* NULL: it isn't opened yet, or could not be */
     struct stat seen[2]; /* the profiles as they were then; st_nlink is 0 where there is none */
-    gint64 failing;      /* since when writes fail by what may be gone in a moment; 0: they don't */
+    gint64 failing;      /* since when nothing can be written, by no fault of a change; 0: it can */
     gint64 pause;        /* before the next try */
+    bool has_warned;     /* of that */
     GHashTable *told;    /* the faults that were reported and are there still */
 
     /* Read with `turn` or `lock` held, changed with both. */
@@ -127,7 +125,10 @@ typedef struct {
     Waiting waiting;
     GHashTable *odd; /* keys that were read past a user's value of another type */
     guint64 added, settled; /* how many changes ever waited, and how many no longer do */
-    GCond settles;          /* the latter are more */
+    guint64 tries, failed;  /* how often a write was tried, and which was the last that failed after others had for long; 0: none */
+    guint64 last_try;       /* the program's end takes it for given if a later one fails so */
+    bool is_asked;          /* a write is to be tried now */
+    GCond settles;          /* more are settled, or a try has failed so */
     bool has_ended;
     GHashTable *subscribed;
     GHashTable *asked;  /* main contexts that are to say whether they turn */
@@ -142,6 +143,7 @@ typedef struct {
     gint is_writing;  /* the worker writes, or is to try again; atomic */
     gint is_reopened; /* other files may be the store's, and are to be watched; atomic */
     gint is_let_go;   /* nobody holds the backend any longer; atomic */
+    gint has_given_up; /* the worker, at the program's end; atomic */
     gint is_watching; /* what others change is noticed without a look at the files; atomic */
     _Atomic gint64 looks; /* when a read is to look at the files again */
 
@@ -161,9 +163,9 @@ void store_begin(DconfdbBackend *self);
 /* Opens it for the first time, if nobody has: the worker does, or whoever needs a snapshot sooner. */
 void store_open(DconfdbBackend *self);
 
-/* Writes what waits, as one change; what is refused is taken back. While others have their turn it goes on
- * waiting: the worker comes back to it, and anybody else waits until then. Gives when the worker is to try it
- * again, be it for a fault that may be gone in a moment, where that is wanted; else 0. */
+/* Writes what waits, as one change; what is refused is taken back. It goes on waiting while others have their turn, or the
+ * disk is full or fails: the worker comes back to it, and anybody else waits for others until then. Gives when the worker is to
+ * try it again, or 0. `tries_again`: somebody will; else one failure is told as those that go on. */
 gint64 store_write(DconfdbBackend *self, gint64 end, bool tries_again);
 
 bool store_has_waiting(DconfdbBackend *self);
@@ -177,8 +179,9 @@ void store_peek(DconfdbBackend *self);
 /* The same for who is about to tell of a change by itself: it waits for who looks or writes, a second at most. */
 void store_catch_up(DconfdbBackend *self);
 
-/* Until what waits is written, and the files are looked at: ten seconds at most, and as long again after each
- * turn of other programs, up to a minute. False: it isn't yet. */
+/* Until what waits is written, and the files are looked at: ten seconds at most, and as long again after each turn of other
+ * programs, up to a minute. Where the disk goes on being full or failing, until one more write has failed. False: it isn't
+ * yet. */
 bool store_sync(DconfdbBackend *self);
 
 /* Frees all that it holds. */
@@ -217,8 +220,8 @@ void patience_renew(Patience *patience, const DconfdbBackend *self);
 void worker_begin(DconfdbBackend *self);
 void worker_wake(DconfdbBackend *self);
 
-/* `lock` isn't held. At the program's end: until what waits is written, five seconds at most, and as long again
- * after each turn of other programs, up to a minute. */
+/* `lock` isn't held. At the program's end: until what waits is written, five seconds at most, and as long again after each turn
+ * of other programs, up to a minute. Where the disk goes on being full or failing, until one more write has failed. */
 void worker_end(DconfdbBackend *self);
 
 /* The same where nobody holds the backend any longer. False: the worker holds it as long as something waits. */

@@ -252,6 +252,7 @@ GArray *waiting_forget(Waiting *waiting, const GQueue *written, const GQueue *re
 /* The edits of all changes, in their order: what becomes of them, and those that were taken for the next write. */
 typedef struct {
     size_t count, taken;
+    bool is_closed; /* nobody who has this program's rights may write there: no key is writable */
     DconfdbQueued *queued;
     Edit **edits;
     uint64_t *moments;  /* in which each was made */
@@ -271,7 +272,7 @@ static size_t edits_in(const GQueue *changes)
 static Batch batch_of(const GQueue *changes)
 {
     size_t count = edits_in(changes), first = 0;
-    Batch batch = {0, 0, g_new(DconfdbQueued, count), g_new(Edit *, count), g_new(uint64_t, count), g_new(DconfdbEdit, count),
+    Batch batch = {0, 0, false, g_new(DconfdbQueued, count), g_new(Edit *, count), g_new(uint64_t, count), g_new(DconfdbEdit, count),
                    g_new(size_t, count), g_new(uint64_t, count)};
     for (const GList *at = changes->head; at; at = at->next, first = batch.count) {
         Change *change = at->data;
@@ -337,8 +338,20 @@ static bool try_to_write(DconfdbStore *store, const Turn *turn, const Batch *bat
     return locked_change(store, turn->lock, batch->asked, batch->asked_in, batch->taken, fault);
 }
 
+/* What a disk doesn't mend: the rights to the file, its folder or its file system, or what has the name of the file or of the
+ * lock. All else, be it full, failing or busy, may pass. */
+static bool says_closed(const DconfdbError *fault)
+{
+    static const int faults[] = {EACCES, EPERM, EROFS, EINVAL, ENOTDIR, ELOOP, ENAMETOOLONG};
+    for (size_t i = 0; i < G_N_ELEMENTS(faults); i++) {
+        if (fault->system == faults[i])
+            return true;
+    }
+    return false;
+}
+
 /* What became of a write, as dconfdb_queue_answered has it. The first fault for which a change is refused is kept. */
-static uint32_t write_taken(DconfdbStore *store, const Turn *turn, Batch *batch, size_t *at, DconfdbError *first, DconfdbError *fault)
+static uint32_t write_taken(DconfdbStore *store, const Turn *turn, Batch *batch, size_t *at, DconfdbError *refusal, DconfdbError *fault)
 {
     bool done = try_to_write(store, turn, batch, fault);
     size_t taken = batch->taken;
@@ -346,7 +359,7 @@ static uint32_t write_taken(DconfdbStore *store, const Turn *turn, Batch *batch,
     if (done)
         return DCONFDB_QUEUE_YES;
     if (!has_refused(batch))
-        *first = *fault;
+        *refusal = *fault;
     switch (fault->number) {
     case DCONFDB_ERROR_LOCKED:
     case DCONFDB_ERROR_NOT_WRITABLE:
@@ -356,13 +369,18 @@ static uint32_t write_taken(DconfdbStore *store, const Turn *turn, Batch *batch,
     case DCONFDB_ERROR_BAD_TYPE:
         *at = fault->at < taken ? batch->numbers[fault->at] : batch->count;
         return DCONFDB_QUEUE_FAULT;
+    case DCONFDB_ERROR_FILE:
+        batch->is_closed = says_closed(fault);
+        return batch->is_closed ? DCONFDB_QUEUE_LOCKED : DCONFDB_QUEUE_LATER;
     default:
         return DCONFDB_QUEUE_LATER;
     }
 }
 
-static bool is_writable(DconfdbStore *store, const Edit *edit)
+static bool is_writable(DconfdbStore *store, const Batch *batch, const Edit *edit)
 {
+    if (batch->is_closed)
+        return false;
     DconfdbSnapshot *now = dconfdb_store_snapshot(store);
     bool is = dconfdb_snapshot_is_writable(now, edit->path);
     dconfdb_snapshot_unref(now);
@@ -370,7 +388,7 @@ static bool is_writable(DconfdbStore *store, const Edit *edit)
 }
 
 /* Goes by the proved steps. False: nothing is written, for that fault. */
-static bool write_batch(DconfdbStore *store, const Turn *turn, Batch *batch, DconfdbError *first, DconfdbError *fault)
+static bool write_batch(DconfdbStore *store, const Turn *turn, Batch *batch, DconfdbError *refusal, DconfdbError *fault)
 {
     DconfdbQueue queue = {.has_marked = false};
     DconfdbNext next = {0, 0};
@@ -386,10 +404,10 @@ static bool write_batch(DconfdbStore *store, const Turn *turn, Batch *batch, Dco
         case DCONFDB_QUEUE_PASS:
             break;
         case DCONFDB_QUEUE_WRITE:
-            answer = write_taken(store, turn, batch, &at, first, fault);
+            answer = write_taken(store, turn, batch, &at, refusal, fault);
             break;
         case DCONFDB_QUEUE_ASK:
-            answer = is_writable(store, batch->edits[next.number]) ? DCONFDB_QUEUE_YES : DCONFDB_QUEUE_LOCKED;
+            answer = is_writable(store, batch, batch->edits[next.number]) ? DCONFDB_QUEUE_YES : DCONFDB_QUEUE_LOCKED;
             break;
         default:
             return next.kind == DCONFDB_QUEUE_WRITTEN;
@@ -398,35 +416,12 @@ static bool write_batch(DconfdbStore *store, const Turn *turn, Batch *batch, Dco
     }
 }
 
-/* What is perhaps so for a moment: that all files of the process are in use, say, or what a disk or a server
- * answers once. */
-static bool is_momentary(const DconfdbError *fault)
+bool changes_write(DconfdbStore *store, const Turn *turn, GQueue *changes, GQueue *refused, DconfdbError *refusal, DconfdbError *fault)
 {
-    static const int faults[] = {EMFILE, ENFILE, ENOLCK, EIO, ESTALE, EAGAIN, EINTR};
-    if (fault->number == DCONFDB_ERROR_MEMORY)
-        return true;
-    for (size_t i = 0; i < G_N_ELEMENTS(faults); i++) {
-        if (fault->number == DCONFDB_ERROR_FILE && fault->system == faults[i])
-            return true;
-    }
-    return false;
-}
-
-Written changes_write(DconfdbStore *store, const Turn *turn, GQueue *changes, GQueue *refused, bool tries_again,
-                      DconfdbError *error)
-{
-    DconfdbError first, fault;
     Batch batch = batch_of(changes);
-    bool is_first = refused->length == 0, done = write_batch(store, turn, &batch, &first, &fault);
+    bool done = write_batch(store, turn, &batch, refusal, fault);
+    if (!batch.is_closed && !has_refused(&batch))
+        refusal->number = DCONFDB_ERROR_NONE;
     batch_end(&batch, changes, refused);
-    if (!done && tries_again && is_momentary(&fault)) {
-        *error = fault;
-        return TO_TRY_AGAIN;
-    }
-    /* The disk goes on failing, or is full: the program is to be told. */
-    while (!done && changes->length > 0)
-        move(changes, changes->head, refused);
-    if (is_first && refused->length > 0)
-        *error = first;
-    return refused->length == 0 ? WRITTEN : SOME_REFUSED;
+    return done;
 }

@@ -9,9 +9,10 @@
 #include <time.h>
 #include <unistd.h>
 
-/* In microseconds: how long g_settings_sync() waits, and a write is tried again, also by a disk that answers EIO; how long who
- * catches up waits; how often who waits looks for turns of others, and who reads at the files; and how often a mutex is tried. */
-enum { LONGEST_SYNC = 10000000, LONGEST_FAILING = 10000000, LONGEST_EIO = 1500000, LONGEST_CATCH_UP = 1000000 };
+/* In microseconds: how long g_settings_sync() waits; after which time a fault is one that goes on, if it may be gone in a moment,
+ * and if it is the disk's; how long who catches up waits; how often who waits looks for turns of others, and who reads at the
+ * files; and how often a mutex is tried. */
+enum { LONGEST_SYNC = 10000000, LONGEST_MOMENT = 10000000, LONGEST_FAULT = 1500000, LONGEST_CATCH_UP = 1000000 };
 enum { BETWEEN_TURNS = 500000, BETWEEN_LOOKS = 10000, AFTER_A_FAULT = 1000000, TRY = 1000, MILLISECOND = 1000 };
 
 bool mutex_lock_until(GMutex *mutex, gint64 end)
@@ -247,36 +248,74 @@ void store_catch_up(DconfdbBackend *self)
         look_quietly(self);
 }
 
-/* `turn` and `lock` aren't held. When what may be gone in a moment is to be tried again; 0: no more. */
-static gint64 next_try(DconfdbBackend *self, const DconfdbError *fault)
+/* What is mostly so for a moment: that all files of the process are in use, say, or what a server answers once. */
+static bool is_momentary(const DconfdbError *fault)
 {
-    gint64 now = g_get_monotonic_time(), longest = fault->system == EIO ? LONGEST_EIO : LONGEST_FAILING;
+    static const int faults[] = {EMFILE, ENFILE, ENOLCK, ESTALE, EAGAIN, EINTR};
+    if (fault->number == DCONFDB_ERROR_MEMORY)
+        return true;
+    for (size_t i = 0; i < G_N_ELEMENTS(faults); i++) {
+        if (fault->number == DCONFDB_ERROR_FILE && fault->system == faults[i])
+            return true;
+    }
+    return false;
+}
+
+/* Of what goes on, once. */
+static void warn_of_waiting(DconfdbBackend *self, Notice *notice, const DconfdbError *fault)
+{
+    if (self->has_warned)
+        return;
+    self->has_warned = true;
+    char *text = g_strdup_printf("%s; what was set is not on the disk yet", fault->text);
+    warn_of(notice, text);
+    g_free(text);
+}
+
+/* `turn` is held. What could not be written waits again. Gives when it is to be tried. */
+static gint64 wait_again(DconfdbBackend *self, Notice *notice, const DconfdbError *fault, bool tries_again)
+{
+    gint64 now = g_get_monotonic_time();
     if (self->failing == 0)
         self->failing = now;
     self->pause = (gint64)dconfdb_pause_after((uint64_t)self->pause);
-    return now - self->failing < longest ? now + self->pause : 0;
+    bool goes_on = !tries_again || now - self->failing >= (is_momentary(fault) ? LONGEST_MOMENT : LONGEST_FAULT);
+    if (goes_on)
+        warn_of_waiting(self, notice, fault);
+    g_mutex_lock(&self->lock);
+    waiting_put_back(&self->waiting, &notice->written);
+    if (goes_on) {
+        self->failed = self->tries;
+        g_cond_broadcast(&self->settles);
+    }
+    g_mutex_unlock(&self->lock);
+    return now + self->pause;
 }
 
-/* `turn` is held. What is to be tried again waits again. */
+/* `turn` is held. Nothing fails any longer. */
+static void end_failing(DconfdbBackend *self)
+{
+    self->failing = self->pause = 0;
+    self->has_warned = false;
+    g_mutex_lock(&self->lock);
+    self->failed = 0;
+    g_mutex_unlock(&self->lock);
+}
+
+/* `turn` is held. */
 static gint64 write_it(DconfdbBackend *self, const Turn *turn, Notice *notice, bool tries_again)
 {
-    DconfdbError error;
-    Written done = changes_write(self->store, turn, &notice->written, &notice->refused, tries_again, &error);
-    gint64 again = done == TO_TRY_AGAIN ? next_try(self, &error) : 0;
-    if (done == TO_TRY_AGAIN && again == 0)
-        done = changes_write(self->store, turn, &notice->written, &notice->refused, false, &error);
-    if (again == 0)
-        self->failing = self->pause = 0;
-    if (done == SOME_REFUSED)
-        warn_of(notice, error.text);
-    else if (done == WRITTEN)
+    DconfdbError refusal, fault;
+    bool done = changes_write(self->store, turn, &notice->written, &notice->refused, &refusal, &fault);
+    if (refusal.number != DCONFDB_ERROR_NONE)
+        warn_of(notice, refusal.text);
+    if (!done)
+        return wait_again(self, notice, &fault, tries_again);
+    if (self->failing != 0)
+        end_failing(self);
+    if (refusal.number == DCONFDB_ERROR_NONE)
         warn_once(self, notice, NULL);
-    if (again != 0) {
-        g_mutex_lock(&self->lock);
-        waiting_put_back(&self->waiting, &notice->written);
-        g_mutex_unlock(&self->lock);
-    }
-    return again;
+    return 0;
 }
 
 /* `turn` isn't held: the turn between programs is had before. */
@@ -286,6 +325,7 @@ static gint64 write_in(DconfdbBackend *self, const Turn *turn, Notice *notice, b
     g_mutex_lock(&self->turn);
     g_mutex_lock(&self->lock);
     notice->written = waiting_take(&self->waiting);
+    self->tries++;
     g_mutex_unlock(&self->lock);
     if (notice->written.length > 0)
         again = write_it(self, turn, notice, tries_again);
@@ -341,13 +381,27 @@ gint64 store_write(DconfdbBackend *self, gint64 end, bool tries_again)
     return again;
 }
 
-/* Until all that waits now is settled. */
-static bool await_settled(DconfdbBackend *self, Patience *patience)
+/* Asks for a write now, where one that failed is to be tried again later. Gives how many were tried so far. */
+static guint64 ask_for_a_try(DconfdbBackend *self)
+{
+    g_mutex_lock(&self->lock);
+    guint64 tries = self->tries;
+    if (self->failed != 0 && self->has_worker) {
+        self->is_asked = true;
+        worker_wake(self);
+    }
+    g_mutex_unlock(&self->lock);
+    return tries;
+}
+
+/* Until all that waits now is settled, or a later write than these has failed after others had for long. */
+static bool await_settled(DconfdbBackend *self, Patience *patience, guint64 tries)
 {
     g_mutex_lock(&self->lock);
     guint64 added = self->added;
-    for (gint64 now; now = g_get_monotonic_time(), dconfdb_sync_goes_on(self->settled, added, (uint64_t)now, (uint64_t)patience->end);) {
-        if (g_cond_wait_until(&self->settles, &self->lock, MIN(patience->end, now + BETWEEN_TURNS)))
+    for (gint64 now, end; now = g_get_monotonic_time(), end = self->failed > tries ? now : patience->end,
+                          dconfdb_sync_goes_on(self->settled, added, (uint64_t)now, (uint64_t)end);) {
+        if (g_cond_wait_until(&self->settles, &self->lock, MIN(end, now + BETWEEN_TURNS)))
             continue;
         g_mutex_unlock(&self->lock);
         patience_renew(patience, self);
@@ -362,9 +416,10 @@ bool store_sync(DconfdbBackend *self)
 {
     Notice notice = {.faults = NULL};
     Patience patience = patience_of(self, LONGEST_SYNC);
+    guint64 tries = ask_for_a_try(self);
     if (!worker_is_another(self))
         store_write(self, patience.end, false);
-    if (!await_settled(self, &patience) || !mutex_lock_until(&self->turn, patience.end))
+    if (!await_settled(self, &patience, tries) || !mutex_lock_until(&self->turn, patience.end))
         return false;
     if (self->folder)
         look(self, &notice);

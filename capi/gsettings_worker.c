@@ -49,19 +49,31 @@ static int sleep_of(DconfdbBackend *self)
     return is ? (int)MIN(wait, INT_MAX) : -1;
 }
 
-/* Does what is to be done. False: the program ends, and nothing waits. */
+/* At the program's end, when a write has failed again. */
+static bool gives_up(DconfdbBackend *self)
+{
+    g_mutex_lock(&self->lock);
+    bool gives = self->failed > self->last_try;
+    g_mutex_unlock(&self->lock);
+    if (gives)
+        g_atomic_int_set(&self->has_given_up, TRUE);
+    return gives;
+}
+
+/* Does what is to be done. False: the program ends, and nothing waits, or can be written. */
 static bool takes_turn(DconfdbBackend *self)
 {
     Notice *notice;
     g_mutex_lock(&self->lock);
-    bool ends = self->has_ended, is_to_watch = self->is_to_watch;
+    bool ends = self->has_ended, is_to_watch = self->is_to_watch, is_asked = self->is_asked;
+    self->is_asked = false;
     g_mutex_unlock(&self->lock);
     bool waits = store_has_waiting(self);
     while ((notice = take_untold(self)) != NULL)
         notice_tell_and_free(self, notice);
     if (is_to_watch && !ends)
         watch_turn(self);
-    if (!waits)
+    if (!waits || is_asked)
         self->again = 0;
     if (dconfdb_is_to_write(waits, self->wait != NULL, (uint64_t)self->again, (uint64_t)g_get_monotonic_time())) {
         g_atomic_int_set(&self->is_writing, TRUE);
@@ -69,7 +81,7 @@ static bool takes_turn(DconfdbBackend *self)
         waits = store_has_waiting(self);
         g_atomic_int_set(&self->is_writing, self->again != 0 || self->wait);
     }
-    return !ends || waits;
+    return !ends || (waits && !gives_up(self));
 }
 
 /* Who let go of the backend waits for that, or has left it to this thread. */
@@ -191,7 +203,7 @@ static bool has_done(DconfdbBackend *self)
     if (!g_atomic_int_get(&self->is_let_go))
         return is_joined(self);
     g_usleep(TICK);
-    return is_settled(self);
+    return g_atomic_int_get(&self->has_given_up) || is_settled(self);
 }
 
 static void say_what_waits(DconfdbBackend *self)
@@ -209,20 +221,23 @@ void worker_end(DconfdbBackend *self)
     Patience patience = patience_of(self, LONGEST_END);
     if (!mutex_lock_until(&self->lock, now + LONGEST_REST))
         return; /* this very thread has it */
-    bool has_worker = self->has_worker;
-    self->has_ended = true;
+    bool has_worker = self->has_worker, is_over = false;
+    self->has_ended = self->is_asked = true;
+    self->last_try = self->tries;
     g_mutex_unlock(&self->lock);
     if (has_worker)
         worker_wake(self);
     while (has_worker && dconfdb_exit_goes_on((uint64_t)now, (uint64_t)patience.end, (uint64_t)moved)) {
-        if (has_done(self))
-            return;
+        is_over = has_done(self);
+        if (is_over)
+            break;
         patience_renew(&patience, self);
         now = g_get_monotonic_time();
         if (g_atomic_int_get(&self->is_writing))
             moved = now;
     }
-    say_what_waits(self);
+    if (!is_over || g_atomic_int_get(&self->has_given_up))
+        say_what_waits(self);
 }
 
 bool worker_let_go(DconfdbBackend *self)
@@ -230,11 +245,12 @@ bool worker_let_go(DconfdbBackend *self)
     gint64 end = g_get_monotonic_time() + LONGEST_END;
     g_mutex_lock(&self->lock);
     bool has_worker = self->has_worker, is_this = has_worker && pthread_equal(self->worker, pthread_self());
-    self->has_ended = true;
+    guint64 tries = self->tries;
+    self->has_ended = self->is_asked = true;
     g_atomic_int_set(&self->is_let_go, TRUE);
     if (has_worker)
         worker_wake(self);
-    while (has_worker && !is_this && !self->is_over && g_cond_wait_until(&self->settles, &self->lock, end))
+    while (has_worker && !is_this && !self->is_over && self->failed <= tries && g_cond_wait_until(&self->settles, &self->lock, end))
         ;
     self->is_left = has_worker && !self->is_over;
     if (self->is_left)

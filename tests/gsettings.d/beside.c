@@ -3,6 +3,7 @@
  *   beside sees              prints the name, the size, whether it is writable, and whether the desk is on
  *   beside tries             prints that, sets the desk on, syncs, and prints whether it could and whether it is
  *   beside sets TEXT         sets the name and syncs: prints whether it could, and what the name is then
+ *   beside waits TEXT        sets the name and syncs: prints what it is then, and after a line again
  *   beside leaves TEXT       sets the name twice, and returns from main()
  *   beside masks BITS        has that umask, sets and syncs
  *   beside last FILE STEP..  makes the steps; prints how many `changed` came of the last, and whether FILE is another one after it. A step
@@ -76,6 +77,23 @@ static void sets(char **more)
     char *name = g_settings_get_string(desk, "name");
     printf("%d %s\n", done, name);
     g_free(name);
+}
+
+static void tell_name(void)
+{
+    char *name = g_settings_get_string(desk, "name");
+    puts(name);
+    fflush(stdout);
+    g_free(name);
+}
+
+static void waits(char **more)
+{
+    keep(more[0]);
+    tell_name();
+    if (getchar() == EOF)
+        exit(1);
+    tell_name();
 }
 
 static void leaves(char **more)
@@ -326,7 +344,8 @@ static const struct {
     void (*does)(char **more);
     int words;
 } ALL[] = {
-    {"sees", sees, 0}, {"tries", tries, 0}, {"sets", sets, 1}, {"leaves", leaves, 1}, {"masks", masks, 1}, {"last", last, 2}, {"orders", orders, 0},
+    {"sees", sees, 0}, {"tries", tries, 0}, {"sets", sets, 1}, {"waits", waits, 1}, {"leaves", leaves, 1}, {"masks", masks, 1}, {"last", last, 2},
+    {"orders", orders, 0},
     {"dies", dies, 4}, {"starts", starts, 1}, {"older", older, 1}, {"newer", newer, 0}, {"child", child, 0}, {"keeps", keeps, 1}, {"polls", polls, 1},
     {"lands", lands, 1}, {"gets", gets, 1}, {"closes", closes, 0},
 };
