@@ -83,11 +83,13 @@ static void text_without_end(void)
 
 static char shared_path[] = "/org/desk/name";
 
+/* Of two accesses in the very same moment the sanitizer may see neither. A sleep orders nothing: so of these some are far
+ * enough apart, and no less a race. */
+enum { TIMES = 100, APART = 1000 };
+
 static void *changes_path(void *unused)
 {
-    while (!atomic_load(&has_begun))
-        ;
-    for (int i = 0; i < 1000; i++)
+    for (int i = 0; i < TIMES; i++, usleep(APART))
         shared_path[5] = (char)('a' + i % 26);
     return unused;
 }
@@ -95,10 +97,9 @@ static void *changes_path(void *unused)
 static void given_and_changed(void)
 {
     pthread_t other;
-    TRY(pthread_create(&other, NULL, changes_path, NULL) == 0);
     now = dconfdb_store_snapshot(store);
-    atomic_store(&has_begun, true);
-    for (int i = 0; i < 1000; i++)
+    TRY(pthread_create(&other, NULL, changes_path, NULL) == 0);
+    for (int i = 0; i < TIMES; i++, usleep(APART))
         dconfdb_snapshot_read(now, shared_path, &value);
     TRY(pthread_join(other, NULL) == 0);
 }
