@@ -1,7 +1,9 @@
 """What the Python scripts here share: the program, tools that may be missing, a folder of their own, one line at the end."""
+import ctypes
 import functools
 import os
 import shutil
+import signal
 import subprocess
 import sys
 import tempfile
@@ -43,6 +45,42 @@ def program():
     if subprocess.run([TOP / 'build'], check=False).returncode:
         raise Stop('dconfdb could not be built')
     return TOP / 'crates' / 'dconfdb' / 'out' / 'dconfdb'
+
+
+# Of prctl(2).
+PDEATHSIG, CHILD_SUBREAPER = 1, 36
+
+
+def adopts():
+    """Has what loses its parent become this process's child, so that `ends_children` finds it, after SIGTERM too."""
+    ctypes.CDLL(None).prctl(CHILD_SUBREAPER, 1, 0, 0, 0)
+    signal.signal(signal.SIGTERM, lambda *_: sys.exit(128 + signal.SIGTERM))
+
+
+def dies_with_parent():
+    """For a child, before it is another program."""
+    ctypes.CDLL(None).prctl(PDEATHSIG, signal.SIGKILL, 0, 0, 0)
+
+
+def children():
+    """The numbers and the names of this process's children."""
+    found = {}
+    for file in Path('/proc').glob('[0-9]*/stat'):
+        try:
+            head, _, rest = file.read_text(encoding='utf-8', errors='replace').rpartition(')')
+        except OSError:
+            continue
+        if int(rest.split()[1]) == os.getpid():
+            found[int(file.parent.name)] = head.partition('(')[2]
+    return found
+
+
+def ends_children(*names):
+    """Kills the children of these names, or all, and what they leave."""
+    while them := [it for it, name in children().items() if not names or name in names]:
+        for it in them:
+            os.kill(it, signal.SIGKILL)
+            os.waitpid(it, 0)
 
 
 def verdict(main):

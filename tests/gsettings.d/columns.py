@@ -49,6 +49,7 @@ class Home:
             self.bus.wait(LONGEST)
             self.bus.stdout.close()
             self.bus = None
+            desk.frame.ends_children('dconf-service')
 
     def starts(self, *words, of='beside', own=None, **more):
         more = {'stdin': subprocess.PIPE, 'stdout': subprocess.PIPE, 'stderr': subprocess.DEVNULL} | more
@@ -166,6 +167,7 @@ def wholes():
 
 def printed(groups):
     """Prints the rows of all groups, or of those that ROWS names, and gives the last line."""
+    desk.frame.adopts()
     for tool, package in [('dbus-daemon', 'dbus'), ('strace', 'strace'), ('dconf', 'dconf-cli')]:
         desk.frame.needs(tool, package)
     (HOME / 'bus').mkdir()
