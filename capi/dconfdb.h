@@ -28,12 +28,15 @@
  * $XDG_CONFIG_HOME/dconfdb, else $HOME/.config/dconfdb, else .config/dconfdb in the home that the
  * system knows of the user (passwd(5)). An empty variable counts as unset, and so does one of the
  * last two that doesn't start with `/`. The profile is the file `profile` in the folder, else
- * /etc/dconfdb/profile, else the text `user-db:user`. It names one database per line,
- * the one that is asked first at the top: `user-db:NAME` is the file NAME.user in the folder,
- * `system-db:NAME` is NAME.db in the folder, and `file-db:PATH` is the file PATH, relative to the
- * folder. A NAME has no `/`. A `#` starts a comment, even inside a PATH; blanks at either end of a
- * line are dropped. A database whose file doesn't exist (ENOENT) is empty. The program dconfdb, run
- * in the folder, sees the same store if the folder has a file `profile`.
+ * /etc/dconfdb/profile, else the text `user-db:user`. Where no folder is given, $DCONFDB_PROFILE
+ * names another one, if it is set and not empty: a path, if it has a `/`, else a file in
+ * /etc/dconfdb/profiles. If that can't be read, no other profile takes its place. A profile names
+ * one database per line, the one that is asked first at the top: `user-db:NAME` is the file NAME.user
+ * in the folder, `system-db:NAME` is NAME.db in the folder, and `file-db:PATH` is the file PATH,
+ * relative to the folder. A NAME has no `/`. A `#` starts a comment, even inside a PATH; blanks at
+ * either end of a line are dropped. A database whose file doesn't exist (ENOENT) is empty. The program
+ * dconfdb, run in the folder, sees the same store if the folder has a file `profile` and the
+ * environment names none.
  *
  * SNAPSHOTS. A snapshot is what the files held when they were looked at. It never changes. Each
  * file is the old one or the new one, complete; the files are looked at one after another. Everything
@@ -57,7 +60,8 @@
  * not sound counts as what the command `repair` would keep of it, values and locks; a file that is no
  * database, or that can't be read, counts as empty. A database without keys that dconf made is not
  * sound either, but complete: it is read, and not reported. A bad line of the profile is skipped, and
- * so is a profile that can't be read. dconfdb_snapshot_fault and dconfdb_store_profile_fault say what
+ * so is a profile that can't be read; if $DCONFDB_PROFILE names that one, or none that exists, the
+ * store has no database. dconfdb_snapshot_fault and dconfdb_store_profile_fault say what
  * is wrong. Errors that aren't the file's (no memory or no descriptor is left; the disk or the server
  * doesn't answer) make both calls fail.
  *
@@ -188,7 +192,8 @@ bool dconfdb_store_profile_fault(const DconfdbStore *store, DconfdbError *error)
 void dconfdb_store_close(DconfdbStore *store);
 
 /* The files that opening the store of that folder, or of the environment, looks at: the folder's
- * profile, that of all users, and the databases that the profile's good lines name. If opening a
+ * profile, or the one that $DCONFDB_PROFILE names; that of all users; and the databases that the
+ * profile's good lines name. If opening a
  * store fails, these are the files to check. The form is that of dconfdb_snapshot_list, and getenv()
  * is called as by dconfdb_store_open. NULL: it failed. */
 char *dconfdb_store_files(const char *folder, size_t *size, DconfdbError *error);

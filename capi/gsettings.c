@@ -268,7 +268,7 @@ static void dconfdb_backend_sync(GSettingsBackend *backend)
     if (getpid() != self->process)
         return;
     if (!store_sync(self))
-        g_warning("%s: what was set is not on the disk yet; it goes on waiting", self->folder);
+        g_warning("%s: what was set is not on the disk yet; it goes on waiting", self->place.folder);
 }
 
 /* ---- who listens */

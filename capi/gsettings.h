@@ -6,6 +6,7 @@
 #include "dconfdb.h"
 #include "lock.h"
 #include "order.h"
+#include "place.h"
 #include "watching.h"
 
 #include <gio/gio.h>
@@ -104,7 +105,7 @@ typedef struct Wait Wait;
 typedef struct {
     GSettingsBackend parent;
     pid_t process; /* differs in a child, after fork() */
-    char *folder;  /* NULL: the environment names none */
+    StorePlace place; /* no folder: the environment names none */
     char *profiles[2];
     GVariant *types;
 
@@ -157,7 +158,7 @@ bool mutex_lock_until(GMutex *mutex, gint64 end);
 
 /* ---- the store (gsettings_store.c) */
 
-/* Finds its folder, from the environment. */
+/* Finds its place, from the environment. */
 void store_begin(DconfdbBackend *self);
 
 /* Opens it for the first time, if nobody has: the worker does, or whoever needs a snapshot sooner. */

@@ -89,7 +89,7 @@ static bool is_same(const struct stat *one, const struct stat *other)
  * stops no program: it counts as what can be read of it. */
 static bool open_store(DconfdbBackend *self, const struct stat profiles[2], DconfdbError *error)
 {
-    DconfdbStore *store = dconfdb_store_open_lenient(self->folder, error);
+    DconfdbStore *store = place_open(&self->place, error);
     if (!store)
         return false;
     dconfdb_store_close(self->store);
@@ -164,9 +164,10 @@ void store_begin(DconfdbBackend *self)
 {
     DconfdbError error;
     /* The environment is read now, and not again: the program may change it. The first file is the
-     * folder's profile, the second that of all users. */
-    char *files = dconfdb_store_files(NULL, NULL, &error);
-    self->folder = files ? g_path_get_dirname(files) : NULL;
+     * profile that is named or the folder's, the second that of all users. */
+    char *files = place_find(NULL, &self->place, &error) ? place_files(&self->place, &error) : NULL;
+    if (!files)
+        place_release(&self->place);
     self->profiles[0] = g_strdup(files);
     self->profiles[1] = files ? g_strdup(files + strlen(files) + 1) : NULL;
     self->has_opened = !files;
@@ -189,7 +190,7 @@ void store_look(DconfdbBackend *self)
 {
     Notice notice = {.faults = NULL};
     g_mutex_lock(&self->turn);
-    if (self->folder)
+    if (self->place.folder)
         look(self, &notice);
     g_mutex_unlock(&self->turn);
     notice_tell(self, &notice);
@@ -208,7 +209,7 @@ static gint64 coarse_time(void)
 static bool is_to_peek(DconfdbBackend *self, gint64 now)
 {
     g_mutex_lock(&self->lock);
-    bool is = self->folder && self->has_opened && !self->has_ended && now >= atomic_load(&self->looks);
+    bool is = self->place.folder && self->has_opened && !self->has_ended && now >= atomic_load(&self->looks);
     if (is)
         atomic_store(&self->looks, now + BETWEEN_LOOKS);
     g_mutex_unlock(&self->lock);
@@ -242,7 +243,7 @@ void store_peek(DconfdbBackend *self)
 void store_catch_up(DconfdbBackend *self)
 {
     g_mutex_lock(&self->lock);
-    bool is = self->folder && self->has_opened && !self->has_ended && self->process == getpid();
+    bool is = self->place.folder && self->has_opened && !self->has_ended && self->process == getpid();
     g_mutex_unlock(&self->lock);
     if (is && mutex_lock_until(&self->turn, g_get_monotonic_time() + LONGEST_CATCH_UP))
         look_quietly(self);
@@ -341,7 +342,7 @@ static void write_here(DconfdbBackend *self, Notice *notice, gint64 end)
     FolderLock lock;
     DconfdbError error;
     gint64 left = MAX(end - g_get_monotonic_time(), 0);
-    Turn turn = {&lock, folder_lock(self->folder, (int)(left / MILLISECOND), &lock)};
+    Turn turn = {&lock, folder_lock(self->place.folder, (int)(left / MILLISECOND), &lock)};
     if (turn.fault != EWOULDBLOCK) {
         write_in(self, &turn, notice, false);
         if (turn.fault == 0)
@@ -421,7 +422,7 @@ bool store_sync(DconfdbBackend *self)
         store_write(self, patience.end, false);
     if (!await_settled(self, &patience, tries) || !mutex_lock_until(&self->turn, patience.end))
         return false;
-    if (self->folder)
+    if (self->place.folder)
         look(self, &notice);
     g_mutex_unlock(&self->turn);
     notice_tell(self, &notice);
@@ -438,7 +439,7 @@ void store_end(DconfdbBackend *self)
     dconfdb_store_close(self->store);
     for (int i = 0; i < 2; i++)
         g_free(self->profiles[i]);
-    g_free(self->folder);
+    place_release(&self->place);
 }
 
 void store_leave(DconfdbBackend *self)

@@ -24,7 +24,7 @@ static void *wait_in_kernel(void *data)
     Wait *wait = data;
     DconfdbBackend *self = wait->backend;
     pthread_setname_np(pthread_self(), "dconfdb-turn");
-    int fault = folder_lock(self->folder, WITHOUT_END, &wait->lock);
+    int fault = folder_lock(self->place.folder, WITHOUT_END, &wait->lock);
     g_mutex_lock(&self->lock);
     wait->fault = fault;
     wait->is_over = true;
@@ -51,7 +51,7 @@ static bool is_thread_over(DconfdbBackend *self, Wait *wait, gint64 end)
 static bool is_over(DconfdbBackend *self, Wait *wait, gint64 end)
 {
     if (!wait->has_thread) {
-        wait->fault = folder_lock(self->folder, 0, &wait->lock);
+        wait->fault = folder_lock(self->place.folder, 0, &wait->lock);
         if (wait->fault != EWOULDBLOCK)
             return true;
         wait->has_thread = pthread_create(&wait->thread, NULL, wait_in_kernel, wait) == 0;
@@ -69,7 +69,7 @@ static void warn(DconfdbBackend *self, Wait *wait)
     bool ends = self->has_ended;
     g_mutex_unlock(&self->lock);
     if (!ends)
-        g_warning("%s: others have been writing there for ten seconds; what was set goes on waiting", self->folder);
+        g_warning("%s: others have been writing there for ten seconds; what was set goes on waiting", self->place.folder);
 }
 
 Turn turn_take(DconfdbBackend *self, gint64 end)
@@ -108,7 +108,7 @@ void turn_give(DconfdbBackend *self)
 static struct timespec changed_at(const DconfdbBackend *self)
 {
     struct stat folder;
-    if (!self->folder || stat(self->folder, &folder) != 0)
+    if (!self->place.folder || stat(self->place.folder, &folder) != 0)
         return (struct timespec){0, 0};
     return folder.st_mtim;
 }

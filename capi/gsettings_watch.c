@@ -3,7 +3,7 @@
 
 static void begin(DconfdbBackend *self)
 {
-    g_atomic_int_set(&self->is_watching, watch_begin(self->watch, self->folder));
+    g_atomic_int_set(&self->is_watching, watch_begin(self->watch, &self->place));
 }
 
 void watch_take(DconfdbBackend *self)

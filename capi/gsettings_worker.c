@@ -121,7 +121,7 @@ static void *work(void *data)
 void worker_begin(DconfdbBackend *self)
 {
     sigset_t all, before;
-    if (self->has_worker || self->has_ended || !self->folder || getpid() != self->process)
+    if (self->has_worker || self->has_ended || !self->place.folder || getpid() != self->process)
         return;
     if (self->wakes < 0)
         self->wakes = eventfd(0, EFD_CLOEXEC | EFD_NONBLOCK);

@@ -9,6 +9,7 @@
 #include "lock.h"
 #include "mending.h"
 #include "order.h"
+#include "place.h"
 
 #include <errno.h>
 #include <pthread.h>
@@ -78,7 +79,8 @@ struct DconfdbStore {
     uint64_t noted;             /* the time of what this store noted last; under `refreshing` */
     bool is_unsettled;          /* its last change is perhaps not on the disk; under `refreshing` */
     DconfdbSnapshot *now;
-    char *folder, *user_file; /* absolute; no user_file: no user's database */
+    StorePlace place;
+    char *user_file; /* absolute; NULL: no user's database */
     size_t count;
     char *files[MOST_DATABASES];
 };
@@ -614,6 +616,50 @@ static char *folder_by_default(const char **of)
     return NULL;
 }
 
+/* The profile of this name: a path, or a name among those of the system. NULL: it failed, and then errno. */
+static char *profile_named(const char *name)
+{
+    return strchr(name, '/') ? absolute(name) : joined("/etc/dconfdb/profiles/", name, "");
+}
+
+/* Says why there is no folder. It returns false. */
+static bool refuse_folder(DconfdbError *error, int fault, const char *of)
+{
+    if (fault != 0)
+        return refuse_file(error, fault, of, nowhere);
+    return refuse(error, DCONFDB_ERROR_NO_FOLDER, 0, nowhere, "the environment names no folder of a store, and the system no home");
+}
+
+void place_release(StorePlace *place)
+{
+    free(place->folder);
+    free(place->profile);
+    *place = (StorePlace){NULL, NULL};
+}
+
+bool place_find(const char *folder, StorePlace *place, DconfdbError *error)
+{
+    const char *of = folder, *name = variable("DCONFDB_PROFILE");
+    *place = (StorePlace){folder ? absolute(folder) : folder_by_default(&of), NULL};
+    if (!place->folder)
+        return refuse_folder(error, errno, of);
+    place->profile = name ? profile_named(name) : NULL;
+    if (!name || place->profile)
+        return true;
+    refuse_file(error, errno, "the profile of $DCONFDB_PROFILE", nowhere);
+    place_release(place);
+    return false;
+}
+
+/* A folder that is given has its own profile, and the environment names another one. */
+static bool find_place(const char *folder, StorePlace *place, DconfdbError *error)
+{
+    if (!folder)
+        return place_find(NULL, place, error);
+    *place = (StorePlace){absolute(folder), NULL};
+    return place->folder || refuse_folder(error, errno, folder);
+}
+
 /* ---- opening a store */
 
 /* The first is kept. */
@@ -653,7 +699,7 @@ static char *file_of(const DconfdbStore *store, const DconfdbName *database)
     if (!name || name[0] == '/')
         return name;
     char *with_end = joined(name, ends[database->kind], "");
-    char *file = with_end ? joined(store->folder, "/", with_end) : NULL;
+    char *file = with_end ? joined(store->place.folder, "/", with_end) : NULL;
     free(name);
     free(with_end);
     return file;
@@ -695,12 +741,29 @@ static bool name_files(DconfdbStore *store, const char *profile, const uint8_t *
 
 static const char everyones[] = "/etc/dconfdb/profile";
 
-/* The profile of the folder, else that of all users, else one of the user alone. */
+/* The databases of the profile that is named. Where that can't be had nothing takes its place. */
+static bool find_files_named(DconfdbStore *store, const char *name, DconfdbError *error)
+{
+    FileBytes text = {NULL, 0, false};
+    bool done = read_profile(store, name, &text, error);
+    if (done && text.at) {
+        done = name_files(store, name, text.at, text.len, error);
+    } else if (done) {
+        refuse_file(store->is_lenient ? profile_fault_of(store) : error, ENOENT, name, nowhere);
+        done = store->is_lenient;
+    }
+    file_release(&text);
+    return done;
+}
+
+/* The profile that is named, or that of the folder, else that of all users, else one of the user alone. */
 static bool find_files(DconfdbStore *store, DconfdbError *error)
 {
     static const char users[] = "user-db:user";
+    if (store->place.profile)
+        return find_files_named(store, store->place.profile, error);
     FileBytes text = {NULL, 0, false};
-    char *own = joined(store->folder, "/", "profile");
+    char *own = joined(store->place.folder, "/", "profile");
     if (!own)
         return refuse_memory(error);
     const char *name = own;
@@ -849,38 +912,47 @@ static uint32_t look(const DconfdbStore *store, int turn, DconfdbSnapshot **newe
     return *newer ? DCONFDB_LOOK_NEWER : DCONFDB_LOOK_FAILED;
 }
 
-/* A store of which the folder is known alone. */
-static DconfdbStore *store_of(const char *folder, DconfdbError *error)
+/* A store of which the place is known alone. */
+static DconfdbStore *store_at(const StorePlace *place, bool is_lenient, DconfdbError *error)
 {
-    const char *of = folder;
     DconfdbStore *store = calloc(1, sizeof *store);
-    if (!store) {
+    char *folder = joined(place->folder, "", ""), *profile = place->profile ? joined(place->profile, "", "") : NULL;
+    if (!store || !folder || (place->profile && !profile)) {
+        free(store);
+        free(folder);
+        free(profile);
         refuse_memory(error);
         return NULL;
     }
     pthread_mutex_init(&store->refreshing, NULL);
     pthread_mutex_init(&store->handing, NULL);
-    store->folder = folder ? absolute(folder) : folder_by_default(&of);
-    if (store->folder)
+    store->is_lenient = is_lenient;
+    store->place = (StorePlace){folder, profile};
+    return store;
+}
+
+static DconfdbStore *open_at(const StorePlace *place, bool is_lenient, DconfdbError *error)
+{
+    DconfdbStore *store = store_at(place, is_lenient, error);
+    if (store && find_files(store, error) && look(store, NO_FOLDER, &store->now, error) == DCONFDB_LOOK_NEWER)
         return store;
-    if (errno == 0)
-        refuse(error, DCONFDB_ERROR_NO_FOLDER, 0, nowhere, "the environment names no folder of a store, and the system no home");
-    else
-        refuse_file(error, errno, of, nowhere);
     dconfdb_store_close(store);
     return NULL;
 }
 
 static DconfdbStore *open_store(const char *folder, bool is_lenient, DconfdbError *error)
 {
-    DconfdbStore *store = store_of(folder, error);
-    if (store) {
-        store->is_lenient = is_lenient;
-        if (find_files(store, error) && look(store, NO_FOLDER, &store->now, error) == DCONFDB_LOOK_NEWER)
-            return store;
-    }
-    dconfdb_store_close(store);
-    return NULL;
+    StorePlace place;
+    if (!find_place(folder, &place, error))
+        return NULL;
+    DconfdbStore *store = open_at(&place, is_lenient, error);
+    place_release(&place);
+    return store;
+}
+
+DconfdbStore *place_open(const StorePlace *place, DconfdbError *error)
+{
+    return open_at(place, true, error);
 }
 
 DconfdbStore *dconfdb_store_open(const char *folder, DconfdbError *error)
@@ -901,38 +973,54 @@ bool dconfdb_store_profile_fault(const DconfdbStore *store, DconfdbError *error)
     return is;
 }
 
-/* Both profiles and the databases, a zero byte after each, or NULL. */
+/* The profile that is named or the folder's, that of all users, and the databases, a zero byte after each; or NULL. */
 static char *file_names(const DconfdbStore *store, size_t *size)
 {
-    size_t len = strlen(store->folder) + sizeof "/profile" + sizeof everyones;
+    const StorePlace *place = &store->place;
+    char *own = place->profile ? joined(place->profile, "", "") : joined(place->folder, "/", "profile");
+    size_t len = own ? strlen(own) + 1 + sizeof everyones : 0;
     for (size_t i = 0; i < store->count; i++)
         len += strlen(store->files[i]) + 1;
-    char *names = malloc(len + 1);
-    if (!names)
-        return NULL;
-    char *at = stpcpy(stpcpy(names, store->folder), "/profile") + 1;
-    at = stpcpy(at, everyones) + 1;
-    for (size_t i = 0; i < store->count; i++)
-        at = stpcpy(at, store->files[i]) + 1;
-    *at = 0;
-    if (size)
-        *size = len;
+    char *names = own ? malloc(len + 1) : NULL;
+    if (names) {
+        char *at = stpcpy(stpcpy(names, own) + 1, everyones) + 1;
+        for (size_t i = 0; i < store->count; i++)
+            at = stpcpy(at, store->files[i]) + 1;
+        *at = 0;
+        if (size)
+            *size = len;
+    }
+    free(own);
     return names;
 }
 
-char *dconfdb_store_files(const char *folder, size_t *size, DconfdbError *error)
+static char *files_at(const StorePlace *place, size_t *size, DconfdbError *error)
 {
     DconfdbError fault = {.number = DCONFDB_ERROR_NONE};
-    DconfdbStore *store = store_of(folder, error);
+    DconfdbStore *store = store_at(place, true, error);
     if (!store)
         return NULL;
-    store->is_lenient = true;
     find_files(store, &fault);
     char *names = fault.number == DCONFDB_ERROR_MEMORY ? NULL : file_names(store, size);
     if (!names)
         refuse_memory(error);
     dconfdb_store_close(store);
     return names;
+}
+
+char *place_files(const StorePlace *place, DconfdbError *error)
+{
+    return files_at(place, NULL, error);
+}
+
+char *dconfdb_store_files(const char *folder, size_t *size, DconfdbError *error)
+{
+    StorePlace place;
+    if (!find_place(folder, &place, error))
+        return NULL;
+    char *files = files_at(&place, size, error);
+    place_release(&place);
+    return files;
 }
 
 static void forget_seen(DconfdbStore *store)
@@ -953,15 +1041,20 @@ void dconfdb_store_close(DconfdbStore *store)
     dconfdb_snapshot_unref(store->now);
     for (size_t i = 0; i < store->count; i++)
         free(store->files[i]);
-    free(store->folder);
+    place_release(&store->place);
     pthread_mutex_destroy(&store->refreshing);
     pthread_mutex_destroy(&store->handing);
     free(store);
 }
 
+const StorePlace *place_of(const DconfdbStore *store)
+{
+    return &store->place;
+}
+
 const char *dconfdb_store_folder(const DconfdbStore *store)
 {
-    return store->folder;
+    return store->place.folder;
 }
 
 const char *dconfdb_store_user_file(const DconfdbStore *store)
@@ -1036,7 +1129,7 @@ static size_t guess(const DconfdbStore *store, const DconfdbChange *changes, siz
 /* What a fault of a change is said of, if it is of no edit. */
 static const char *user_file_or_folder(const DconfdbStore *store)
 {
-    return store->user_file ? store->user_file : store->folder;
+    return store->user_file ? store->user_file : store->place.folder;
 }
 
 /* Whether a fault of a change is one of its edits. */
@@ -1469,7 +1562,7 @@ static bool change_in_turn(DconfdbStore *store, const FolderLock *lock, Asking *
 static bool refuse_lock_file(const DconfdbStore *store, int fault, DconfdbError *error)
 {
     FileState found;
-    char *lock = joined(store->folder, "/", LOCK_NAME);
+    char *lock = joined(store->place.folder, "/", LOCK_NAME);
     if (!lock)
         return refuse_memory(error);
     bool is_there = file_look(lock, &found) == 0 && found.is_there;
@@ -1532,7 +1625,7 @@ bool dconfdb_store_change(DconfdbStore *store, const DconfdbEdit *edits, size_t 
     FolderLock lock;
     if (count == 0 || has_nothing(store, edits, count))
         return locked_change(store, NULL, edits, NULL, count, error);
-    int fault = folder_lock(store->folder, LONGEST_WAIT, &lock);
+    int fault = folder_lock(store->place.folder, LONGEST_WAIT, &lock);
     if (fault != 0)
         return refuse_lock(store, fault, error);
     bool done = locked_change(store, &lock, edits, NULL, count, error);

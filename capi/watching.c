@@ -1,7 +1,6 @@
 /* The folders of a store's files, watched by inotify: of the GSettings backend, and of libdconf. */
 #define _GNU_SOURCE
 #include "watching.h"
-#include "dconfdb.h"
 
 #include <stdlib.h>
 #include <string.h>
@@ -148,11 +147,11 @@ Watch *watch_new(void)
     return watch;
 }
 
-bool watch_begin(Watch *watch, const char *folder)
+bool watch_begin(Watch *watch, const StorePlace *place)
 {
     if (watch->inotify < 0)
         watch->inotify = inotify_init1(IN_NONBLOCK | IN_CLOEXEC);
-    char *files = watch->inotify < 0 ? NULL : dconfdb_store_files(folder, NULL, NULL);
+    char *files = watch->inotify < 0 ? NULL : place_files(place, NULL);
     watch->is_whole = files != NULL;
     if (files) {
         forget_all(watch);

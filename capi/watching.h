@@ -2,6 +2,8 @@
 #ifndef WATCHING_H
 #define WATCHING_H
 
+#include "place.h"
+
 #include <glib.h>
 #include <stdbool.h>
 
@@ -15,9 +17,9 @@ typedef struct Watch Watch;
 Watch *watch_new(void);
 void watch_free(Watch *watch);
 
-/* Watches anew what the store in that folder has now, and says whether all of it can be watched. What happened
+/* Watches anew what the store at that place has now, and says whether all of it can be watched. What happened
  * before is to be looked for. */
-bool watch_begin(Watch *watch, const char *folder);
+bool watch_begin(Watch *watch, const StorePlace *place);
 
 /* What is readable when something happens, or -1: inotify can't be had. */
 int watch_descriptor(const Watch *watch);

@@ -12,9 +12,9 @@ typedef struct {
 
 /* ---- the source */
 
-static void begin(FileSource *self, const char *folder)
+static void begin(FileSource *self, const StorePlace *place)
 {
-    watch_begin(self->watch, folder);
+    watch_begin(self->watch, place);
     gint64 next = watch_next_look(self->watch);
     int descriptor = watch_descriptor(self->watch);
     if (descriptor >= 0 && !self->descriptor)
@@ -31,7 +31,7 @@ static gboolean dispatch(GSource *source, GSourceFunc callback, gpointer data)
     gboolean is_late = next != 0 && next <= g_get_monotonic_time();
     DconfdbStore *store = engine_store(self->engine);
     if (store && (kind == WATCHED_FOLDER || is_late))
-        begin(self, dconfdb_store_folder(store));
+        begin(self, place_of(store));
     if (store && (kind != WATCHED_NOTHING || is_late)) {
         dconfdb_snapshot_unref(engine_look(self->engine));
         notice_others(self->engine);
@@ -46,7 +46,7 @@ static void finalize(GSource *source)
     engine_unref(self->engine);
 }
 
-static GSource *source_new(Engine *engine, const char *folder)
+static GSource *source_new(Engine *engine, const StorePlace *place)
 {
     static GSourceFuncs functions = {.dispatch = dispatch, .finalize = finalize};
     GSource *source = g_source_new(&functions, sizeof(FileSource));
@@ -54,7 +54,7 @@ static GSource *source_new(Engine *engine, const char *folder)
     g_source_set_name(source, "dconf");
     self->engine = engine_ref(engine);
     self->watch = watch_new();
-    begin(self, folder);
+    begin(self, place);
     return source;
 }
 
@@ -64,7 +64,7 @@ static GSource *source_new(Engine *engine, const char *folder)
 static void begin_watching(Engine *self, DconfdbStore *store)
 {
     DconfdbSnapshot *now = engine_look(self);
-    GSource *source = source_new(self, dconfdb_store_folder(store));
+    GSource *source = source_new(self, place_of(store));
     g_mutex_lock(&self->lock);
     gboolean is_first = !self->source;
     if (is_first) {

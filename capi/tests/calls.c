@@ -2,7 +2,7 @@
  * `profile` has user-db:me, system-db:site and file-db:far.db; site.db has /org/desk/name 'desk'
  * and /org/desk/size 24, and locks /org/desk/size and /shut/; far.db has /far/key 'far'; next.db
  * has /org/desk/name 'next'. The folders bad, service, folder, writeless and store in it are for
- * what is said below of each. */
+ * what is said below of each. The folder `named` isn't there yet. */
 #include "try.h"
 
 #include <errno.h>
@@ -360,6 +360,52 @@ static void tries_places(void)
     dconfdb_store_close(store);
 }
 
+/* The profile that the environment names, of a store that it names too. */
+static void opens_named(const char *name)
+{
+    TRY(setenv("DCONFDB_STORE", ".", 1) == 0 && setenv("DCONFDB_PROFILE", name, 1) == 0);
+}
+
+/* A store without a database, and what is said of its profile. */
+static bool is_without_any(const char *what, int fault)
+{
+    DconfdbStore *store = dconfdb_store_open_lenient(NULL, &error);
+    TRY(store && dconfdb_store_profile_fault(store, &error) && is_fault(DCONFDB_ERROR_FILE, what, "") && error.system == fault);
+    DconfdbSnapshot *now = dconfdb_store_snapshot(store);
+    bool is = dconfdb_snapshot_databases(now) == 0 && has(now, "/org/desk/name", NULL) && !dconfdb_store_user_file(store);
+    TRY(!changes(store, sets_text("/k", "1")) && error.number == DCONFDB_ERROR_NOT_WRITABLE);
+    dconfdb_snapshot_unref(now);
+    dconfdb_store_close(store);
+    return is;
+}
+
+/* A named profile comes before that of the folder, where the environment names the folder, too; where it can't be had nothing does. */
+static void tries_named_profiles(void)
+{
+    TRY(mkdir("named", 0700) == 0);
+    makes_profile("named/kiosk", "user-db:kiosk\nsystem-db:site\n");
+    makes_profile("named/bad", "oops\nuser-db:kiosk\n");
+    opens_named("named/kiosk");
+    DconfdbStore *store = dconfdb_store_open(NULL, &error);
+    TRY(store && ends_in(dconfdb_store_user_file(store), "/kiosk.user") && ARE_FILES(NULL, "/named/kiosk", "/etc/dconfdb/profile", "/kiosk.user", "/site.db"));
+    DconfdbSnapshot *now = dconfdb_store_snapshot(store);
+    TRY(dconfdb_snapshot_databases(now) == 2 && has(now, "/org/desk/name", "desk") && has(now, "/far/key", NULL));
+    dconfdb_snapshot_unref(now);
+    dconfdb_store_close(store);
+    TRY(ARE_FILES(".", "/profile", "/etc/dconfdb/profile", "/me.user", "/site.db", "/far.db"));
+    opens_named("");
+    TRY(ARE_FILES(NULL, "/profile", "/etc/dconfdb/profile", "/me.user", "/site.db", "/far.db"));
+    opens_named("named/bad");
+    TRY(!dconfdb_store_open(NULL, &error) && is_fault(DCONFDB_ERROR_BAD_LINE, "/named/bad:1:", ""));
+    TRY(ARE_FILES(NULL, "/named/bad", "/etc/dconfdb/profile", "/kiosk.user"));
+    opens_named("no-such");
+    TRY(!dconfdb_store_open(NULL, &error) && is_fault(DCONFDB_ERROR_FILE, "/etc/dconfdb/profiles/no-such", "") && error.system == ENOENT);
+    TRY(is_without_any("/etc/dconfdb/profiles/no-such", ENOENT) && ARE_FILES(NULL, "/etc/dconfdb/profiles/no-such", "/etc/dconfdb/profile"));
+    opens_named("./named");
+    TRY(!dconfdb_store_open(NULL, &error) && error.system == EISDIR && is_without_any("/./named", EISDIR));
+    TRY(unsetenv("DCONFDB_PROFILE") == 0 && unsetenv("DCONFDB_STORE") == 0);
+}
+
 static bool is_refused(const char *profile, int fault)
 {
     makes_profile("odd/profile", profile);
@@ -440,6 +486,7 @@ int main(int argc, char **argv)
     tries_other_stores();
     tries_odd_files();
     tries_moving();
+    tries_named_profiles();
     tries_places();
     DconfdbSnapshot *last = dconfdb_store_snapshot(store);
     dconfdb_store_close(store);

@@ -1,5 +1,5 @@
 /* Sets keys one after another, and says which are acknowledged: change FOLDER PREFIX COUNT. With
- * COUNT 0 it sets the one key PREFIX. With the word `signals` more they interrupt it all the time, with `lenient` it opens
+ * COUNT 0 it sets the one key PREFIX. An empty FOLDER is the environment's. With the word `signals` more they interrupt it all the time, with `lenient` it opens
  * the store leniently. */
 #include "try.h"
 
@@ -44,7 +44,8 @@ int main(int argc, char **argv)
         is_interrupted();
     long count = strtol(argv[3], NULL, 10);
     bool is_lenient = strcmp(how, "lenient") == 0;
-    DconfdbStore *store = is_lenient ? dconfdb_store_open_lenient(argv[1], &error) : dconfdb_store_open(argv[1], &error);
+    const char *folder = argv[1][0] ? argv[1] : NULL;
+    DconfdbStore *store = is_lenient ? dconfdb_store_open_lenient(folder, &error) : dconfdb_store_open(folder, &error);
     if (!store) {
         fprintf(stderr, "%s\n", error.text);
         return 1;

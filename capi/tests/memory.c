@@ -184,6 +184,22 @@ static void tries_lenient(void)
     TRY((unlink(aside) == 0) == done);
 }
 
+/* A store and a profile that the environment names. */
+static void tries_named(const char *folder)
+{
+    TRY(setenv("DCONFDB_STORE", folder, 1) == 0 && setenv("DCONFDB_PROFILE", "./profile", 1) == 0);
+    DconfdbStore *store = dconfdb_store_open_lenient(NULL, &error);
+    lacks_memory(store != NULL);
+    dconfdb_store_close(store);
+    char *files = dconfdb_store_files(NULL, NULL, &error);
+    lacks_memory(files != NULL);
+    free(files);
+    TRY(setenv("DCONFDB_PROFILE", "none", 1) == 0);
+    store = dconfdb_store_open_lenient(NULL, &error);
+    lacks_memory(store != NULL);
+    dconfdb_store_close(store);
+}
+
 /* All that there is, with one growth refused; whether it was. */
 static bool runs(const char *folder)
 {
@@ -214,6 +230,7 @@ static bool runs(const char *folder)
         dconfdb_store_close(store);
     }
     tries_writeless(folder);
+    tries_named(folder);
     tries_lenient();
     return growths >= refused;
 }

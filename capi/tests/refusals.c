@@ -369,8 +369,11 @@ static void tries_no_folder(void)
     TRY(!dconfdb_store_open("relative", &error) && is_said(gone) && !dconfdb_store_files("relative", NULL, &error) && is_said(gone));
     gone.name = "$DCONFDB_STORE";
     TRY(setenv("DCONFDB_STORE", "relative", 1) == 0 && !dconfdb_store_open(NULL, &error) && is_said(gone));
-    TRY(!dconfdb_store_files(NULL, NULL, &error) && is_said(gone) && fchdir(here) == 0 && close(here) == 0);
-    TRY(unsetenv("DCONFDB_STORE") == 0);
+    TRY(!dconfdb_store_files(NULL, NULL, &error) && is_said(gone));
+    gone.name = "$DCONFDB_PROFILE";
+    TRY(setenv("DCONFDB_STORE", "/none", 1) == 0 && setenv("DCONFDB_PROFILE", "./relative", 1) == 0);
+    TRY(!dconfdb_store_open(NULL, &error) && is_said(gone) && !dconfdb_store_files(NULL, NULL, &error) && is_said(gone));
+    TRY(fchdir(here) == 0 && close(here) == 0 && unsetenv("DCONFDB_STORE") == 0 && unsetenv("DCONFDB_PROFILE") == 0);
 }
 
 /* What has the lock's name and is no file is neither locked nor waited for. */

@@ -2,8 +2,10 @@
 #define _GNU_SOURCE
 #include "../dconfdb.h"
 #include "../dconfdb_calls.h"
+#include "../place.h"
 #include "places.h"
 
+#include <errno.h>
 #include <getopt.h>
 #include <poll.h>
 #include <stdio.h>
@@ -19,7 +21,7 @@ static const char help[] =
 
 /* What is watched. */
 typedef struct {
-    const char *folder; /* of --store; NULL: the user's */
+    StorePlace place;
     const char *path;
     Places *places;
     DconfdbStore *store;
@@ -142,7 +144,7 @@ static bool tell(const Watch *watch, const DconfdbSnapshot *now, DconfdbError *e
 static void begin(Watch *watch)
 {
     DconfdbError error;
-    char *files = dconfdb_store_files(watch->folder, NULL, &error);
+    char *files = place_files(&watch->place, &error);
     watch->is_late = !files || !places_watch(watch->places, files);
     free(files);
 }
@@ -150,7 +152,7 @@ static void begin(Watch *watch)
 /* The store, opened anew: another profile may name other databases. */
 static bool open_anew(Watch *watch, DconfdbError *error)
 {
-    DconfdbStore *store = dconfdb_store_open_lenient(watch->folder, error);
+    DconfdbStore *store = place_open(&watch->place, error);
     if (!store)
         return false;
     dconfdb_store_close(watch->store);
@@ -197,6 +199,16 @@ static int watch_until_interrupted(Watch *watch)
     return 1;
 }
 
+/* A profile that the environment names has to be there when it begins; any other file may come. */
+static bool has_named_profile(const Watch *watch)
+{
+    DconfdbError fault;
+    if (!watch->place.profile || !dconfdb_store_profile_fault(watch->store, &fault) || fault.number != DCONFDB_ERROR_FILE)
+        return true;
+    fprintf(stderr, "error: %s %s\n", fault.system == ENOENT ? "NoFile" : "Device", watch->place.profile);
+    return false;
+}
+
 static int start(Watch *watch)
 {
     DconfdbError error;
@@ -207,15 +219,27 @@ static int start(Watch *watch)
     }
     /* Before the files are read: what changes meanwhile is told of. */
     begin(watch);
-    watch->store = dconfdb_store_open_lenient(watch->folder, &error);
+    watch->store = place_open(&watch->place, &error);
     if (!watch->store) {
-        warn(error.number == DCONFDB_ERROR_NO_FOLDER ? "NoFolder" : error.text);
+        warn(error.text);
         return 1;
     }
+    if (!has_named_profile(watch))
+        return 1;
     DconfdbSnapshot *now = dconfdb_store_snapshot(watch->store);
     warn_of_faults(watch, now);
     watch->before = now;
     return watch_until_interrupted(watch);
+}
+
+/* Watches the store of a folder; NULL: the user's. */
+static int start_at(const char *folder, Watch *watch)
+{
+    DconfdbError error;
+    if (place_find(folder, &watch->place, &error))
+        return start(watch);
+    warn(error.number == DCONFDB_ERROR_NO_FOLDER ? "NoFolder" : error.text);
+    return 1;
 }
 
 /* ---- words */
@@ -239,7 +263,8 @@ int main(int count, char **words)
 {
     static const struct option options[] = {
         {"store", required_argument, NULL, 's'}, {"user", no_argument, NULL, 'u'}, {"help", no_argument, NULL, 'h'}, {0}};
-    Watch watch = {.folder = NULL};
+    Watch watch = {.path = NULL};
+    const char *folder = NULL;
     bool is_users = false;
     int option;
     while ((option = getopt_long(count, words, "h", options, NULL)) != -1) {
@@ -247,19 +272,19 @@ int main(int count, char **words)
             return fputs(help, stdout) < 0 || fflush(stdout) != 0;
         if (option == '?')
             return refuse_words("an option is wrong");
-        if (option == 'u' ? is_users : watch.folder != NULL)
+        if (option == 'u' ? is_users : folder != NULL)
             return refuse_words("an option is given twice");
         is_users = is_users || option == 'u';
-        watch.folder = option == 's' ? optarg : watch.folder;
+        folder = option == 's' ? optarg : folder;
     }
-    if (is_users && watch.folder)
+    if (is_users && folder)
         return refuse_words("--user and --store exclude each other");
     if (count - optind != 1)
         return refuse_words(count == optind ? "no PATH is given" : "more than one PATH is given");
     watch.path = words[optind];
     const char *fault = fault_of_path(watch.path);
     if (!fault)
-        return start(&watch);
+        return start_at(folder, &watch);
     warn(fault);
     return 1;
 }

@@ -1,0 +1,26 @@
+/* Where a store is, for who opens one again and again: the environment is asked once, by who begins. */
+#ifndef PLACE_H
+#define PLACE_H
+
+#include "dconfdb.h"
+
+/* Both are absolute. Without a profile it is the folder's, or that of all users. */
+typedef struct {
+    char *folder, *profile;
+} StorePlace;
+
+/* The folder, or that of the environment if NULL is given; and the profile that $DCONFDB_PROFILE names. False: it
+ * failed, and there is nothing to release. */
+bool place_find(const char *folder, StorePlace *place, DconfdbError *error);
+
+void place_release(StorePlace *place);
+
+/* dconfdb_store_open_lenient and dconfdb_store_files, of a place. Where the profile is named, and can't be had, there
+ * is no database. */
+DconfdbStore *place_open(const StorePlace *place, DconfdbError *error);
+char *place_files(const StorePlace *place, DconfdbError *error);
+
+/* Where an open store is. It isn't to be released. */
+const StorePlace *place_of(const DconfdbStore *store);
+
+#endif
