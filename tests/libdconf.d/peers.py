@@ -1,46 +1,18 @@
 """dconf's own tests in C, as Debian's source package has them, over our library: those of paths, changesets and clients, and those of the engine that
 ask for what the library has. They are fetched by apt into a folder of this run's; nothing of them is kept."""
 import subprocess
-from pathlib import Path
 
 import both as shared
+import dconf_sources
 import frame
-from frame import Missing, Stop, needs
+from frame import Stop
 
-SOURCES = '''deb-src [signed-by=/usr/share/keyrings/debian-archive-keyring.gpg] http://deb.debian.org/debian {suite} main
-'''
 # Each in a run of its own, since some leave a write unanswered. The others of engine.c look into it: at its profiles, its sources, the bus's match rules, the messages that it takes from the bus.
 OF_ENGINE = ['/engine/read', '/engine/change/fast', '/engine/change/fast_redundant', '/engine/change/sync', '/engine/sync']
 OF_CLIENT = [f'-D{old}={new}' for old, new in (('g_queue_get_length', 'mock_queue_get_length'), ('dconf_client_write_fast', 'mock_client_write_fast'),
                                                ('dconf_client_change_fast', 'mock_client_change_fast'))]
 # What dconf's headers hide may be missing.
 RENAMED = ['-Dvisibility(x)=unused', '-Dg_log_set_writer_func=mock_log_set_writer_func']
-
-
-def suite():
-    """The Debian that this is."""
-    lines = dict(line.split('=', 1) for line in Path('/etc/os-release').read_text(encoding='utf-8').splitlines() if '=' in line)
-    if lines.get('ID') != 'debian':
-        raise Missing('this is no Debian, whose source package has the tests')
-    return lines['VERSION_CODENAME']
-
-
-def fetched(folder):
-    """The folder of dconf's sources."""
-    (folder / 'lists' / 'partial').mkdir(parents=True)
-    (folder / 'sources').write_text(SOURCES.format(suite=suite()), encoding='utf-8')
-    places = {'Dir::Etc::sourcelist': folder / 'sources', 'Dir::Etc::sourceparts': '/dev/null', 'Dir::State::lists': folder / 'lists', 'APT::Sandbox::User': 'root',
-              'Dir::Cache::pkgcache': '', 'Dir::Cache::srcpkgcache': ''}
-    words = [it for name, value in places.items() for it in ('-o', f'{name}={value}')]
-    how = {'cwd': folder, 'stdin': subprocess.DEVNULL, 'stdout': subprocess.PIPE, 'stderr': subprocess.STDOUT, 'text': True, 'check': False}
-    for more in (['update'], ['source', '--download-only', 'dconf']):
-        ran = subprocess.run(['apt-get', '-q', *words, *more], **how)
-        if ran.returncode:
-            raise Missing(f'dconf\'s source package can\'t be had: {ran.stdout.strip().splitlines()[-1:]}')
-    sources = folder / 'dconf'
-    sources.mkdir()
-    subprocess.run(['tar', '-xf', next(folder.glob('dconf_*.orig.tar.*')), '-C', sources, '--strip-components=1'], check=True)
-    return sources
 
 
 def made(both, sources, name, *more):
@@ -70,8 +42,7 @@ def passed(both, program, *words):
 
 
 def main(both):
-    needs('apt-get', 'apt')
-    sources = fetched(both.folder / 'peers')
+    sources = dconf_sources.fetched(both.folder / 'peers')
     counts = {name: passed(both, made(both, sources, name)) for name in ('paths', 'changeset')}
     counts['client'] = passed(both, made(both, sources, 'client', *RENAMED, *OF_CLIENT))
     engine = made(both, sources, 'engine', *RENAMED)
