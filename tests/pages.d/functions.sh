@@ -17,13 +17,13 @@ as_desk() {
     runuser -u desk -- env HOME=/home/desk "$@"
 }
 # starts STORE RUNNER..: starts gnome-calculator on a screen that nobody sees. Its window has the mode that is set in the store, and the module
-# prints no warning.
+# prints no warning. The store's database is that of the variable `database`, or user.
 starts() {
     local store=$1
     shift
     cd "$(mktemp -d)"
     chmod 777 .
-    echo user-db:user > profile
+    echo "user-db:${database-user}" > profile
     "$@" mkdir -p "$store"
     (profile=$PWD/profile && cd "$store" && "$@" dconfdb write -p "$profile" /org/gnome/calculator/button-mode "'programming'")
     "$@" xvfb-run -a dbus-run-session -- bash -c "$on_the_bus"
