@@ -140,13 +140,33 @@ static bool tell(const Watch *watch, const DconfdbSnapshot *now, DconfdbError *e
 
 /* ---- looking */
 
-/* The files that are the store's now, watched. */
-static void begin(Watch *watch)
+/* Whether both lists have the same names. */
+static bool are_same(const char *one, const char *other)
+{
+    while (*one && strcmp(one, other) == 0) {
+        one += strlen(one) + 1;
+        other += strlen(other) + 1;
+    }
+    return *one == *other;
+}
+
+/* Watches the files that the profile names. False: not all are, or it names others now: it may be written after it was read, and
+ * before it was watched. */
+static bool begin_once(Watch *watch)
 {
     DconfdbError error;
     char *files = place_files(&watch->place, &error);
-    watch->is_late = !files || !places_watch(watch->places, files);
+    char *now = files && places_watch(watch->places, files) ? place_files(&watch->place, &error) : NULL;
+    bool is_done = now && are_same(files, now);
     free(files);
+    free(now);
+    return is_done;
+}
+
+/* The files that are the store's now, watched. */
+static void begin(Watch *watch)
+{
+    watch->is_late = !begin_once(watch) && !begin_once(watch);
 }
 
 /* The store, opened anew: another profile may name other databases. */

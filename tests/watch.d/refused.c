@@ -1,4 +1,5 @@
-/* Preloaded: there is no inotify left (INOTIFY=no), or the allocation of that number fails (REFUSED=N). */
+/* Preloaded: there is no inotify left (INOTIFY=no), the allocation of that number fails (REFUSED=N), or a watch takes so many milliseconds to be
+ * had (SLOWED=N). */
 #define _GNU_SOURCE
 #include <errno.h>
 #include <stdlib.h>
@@ -17,6 +18,14 @@ int inotify_init1(int flags)
         return (int)syscall(SYS_inotify_init1, flags);
     errno = EMFILE;
     return -1;
+}
+
+int inotify_add_watch(int file, const char *name, unsigned int what)
+{
+    const char *slowed = getenv("SLOWED");
+    if (slowed)
+        usleep((unsigned)atol(slowed) * 1000);
+    return (int)syscall(SYS_inotify_add_watch, file, name, what);
 }
 
 static int is_refused(void)
