@@ -196,19 +196,16 @@ int folder_make(const char *folder)
     return fault;
 }
 
-/* Gives the file the permission bits, whatever the umask. What root writes is the owner's. What changes is on the disk then,
- * and what it is in `made`. */
-static int hand_over(int file, mode_t mode, uid_t user, gid_t group, struct stat *made)
+/* Gives the file the permission bits, whatever the umask. What root writes is the owner's. */
+static int hand_over(int file, mode_t mode, uid_t user, gid_t group)
 {
-    if (fstat(file, made) != 0)
+    struct stat made;
+    if (fstat(file, &made) != 0)
         return errno;
-    bool is_to_be_given = (made->st_uid != user || made->st_gid != group) && geteuid() == 0;
-    bool has_bits = (made->st_mode & PERMISSION_BITS) == mode;
-    if (has_bits && !is_to_be_given)
-        return 0;
-    if ((is_to_be_given && fchown(file, user, group) != 0) || (!has_bits && fchmod(file, mode) != 0))
+    bool is_others = made.st_uid != user || made.st_gid != group;
+    if (geteuid() == 0 && is_others && fchown(file, user, group) != 0)
         return errno;
-    return fsync(file) != 0 || fstat(file, made) != 0 ? errno : 0;
+    return (made.st_mode & PERMISSION_BITS) != mode && fchmod(file, mode) != 0 ? errno : 0;
 }
 
 /* Whose the new file is, and its permission bits: those of the old one, if that is a file. What is kept
@@ -329,8 +326,10 @@ int replacing_append(const Replacing *it, const uint8_t *bytes, size_t len, size
 int replacing_sync(Replacing *it, size_t bits, FileState *state)
 {
     struct stat made;
-    int file = it->file, fault = fsync(file) != 0 ? errno : hand_over(file, (mode_t)bits, it->user, it->group, &made);
+    int file = it->file, fault = hand_over(file, (mode_t)bits, it->user, it->group);
     it->file = NO_FOLDER;
+    if (fault == 0 && (fsync(file) != 0 || fstat(file, &made) != 0))
+        fault = errno;
     if (close(file) != 0 && fault == 0)
         fault = errno;
     if (fault == 0)
