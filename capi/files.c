@@ -12,6 +12,9 @@
 #include <sys/stat.h>
 #include <unistd.h>
 
+/* No more than so many bytes are read at once, whatever they begin with. */
+enum { SMALL = 65536 };
+
 enum { PERMISSION_BITS = 0777, READ_AND_WRITE = 0600, HEAD = 24, MOST_ASIDE = 999 };
 
 static FileState state_of(const struct stat *found)
@@ -64,7 +67,7 @@ static int look_at_head(int file, FileWanted *is_wanted, size_t *len)
 {
     uint64_t room[HEAD / sizeof(uint64_t)]; /* aligned as a file's bytes are */
     FileBytes head = {(uint8_t *)room, 0, false};
-    if (!is_wanted || *len <= HEAD)
+    if (!is_wanted || *len <= SMALL)
         return 0;
     int fault = fill(file, &head, HEAD);
     if (fault == 0 && !is_wanted(head.at, head.len))
@@ -275,10 +278,16 @@ static int make_room(int folder, const char *new_name)
 
 int replacing_begin(Replacing *it, int folder, const char *name)
 {
-    *it = (Replacing){.folder = folder, .file = NO_FOLDER, .name = name, .new_name = malloc(strlen(name) + sizeof ".new")};
-    if (!it->new_name)
-        return ENOMEM;
-    strcat(strcpy(it->new_name, name), ".new");
+    size_t len = strlen(name);
+    it->folder = folder;
+    it->file = NO_FOLDER;
+    it->name = name;
+    it->aside = NULL;
+    it->is_aside = false;
+    if (len > NAME_MAX)
+        return ENAMETOOLONG;
+    memcpy(it->new_name, name, len);
+    strcpy(it->new_name + len, ".new");
     return 0;
 }
 
@@ -286,7 +295,6 @@ void replacing_end(Replacing *it)
 {
     if (it->file >= 0)
         close(it->file);
-    free(it->new_name);
     free(it->aside);
 }
 

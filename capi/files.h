@@ -2,6 +2,7 @@
 #ifndef FILES_H
 #define FILES_H
 
+#include <limits.h>
 #include <stdbool.h>
 #include <stddef.h>
 #include <stdint.h>
@@ -37,8 +38,8 @@ bool file_is_untouched(const FileState *one, const FileState *other);
 typedef bool FileWanted(const uint8_t *head, size_t len);
 
 /* What a file holds, and its state; a relative name is relative to the folder. A missing file is not
- * an error. EOVERFLOW: it has more than `most` bytes. EINVAL: it is not a regular file. One that isn't
- * mapped is read no further than its head if the rest isn't wanted (NULL: it is). Of a file that can't be
+ * an error. EOVERFLOW: it has more than `most` bytes. EINVAL: it is not a regular file. A large one that
+ * isn't mapped is read no further than its head if the rest isn't wanted (NULL: it is). Of a file that can't be
  * read the state is that of before, if there is any. */
 int file_read(int folder, const char *name, bool maps, FileWanted *is_wanted, size_t most, FileBytes *bytes, FileState *state);
 
@@ -53,7 +54,7 @@ int folder_make(const char *folder);
 typedef struct {
     int folder, file; /* the locked folder; the new file while it is written */
     const char *name;
-    char *new_name;
+    char new_name[NAME_MAX + sizeof ".new"];
     uid_t user; /* whose the new file is to be */
     gid_t group;
     char *aside; /* the other name of what the name was, if `is_aside` */

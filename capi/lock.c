@@ -249,7 +249,7 @@ static int await(Awaited *awaited, uint32_t longest)
         default:
             return (int)next.number;
         }
-        dconfdb_wait_answered(&wait, answer, passed(awaited), (uint32_t)fault);
+        dconfdb_wait_answered(&wait, answer, answer == DCONFDB_WAIT_GOT ? 0 : passed(awaited), (uint32_t)fault);
     }
 }
 

@@ -8,12 +8,14 @@
 #include <errno.h>
 #include <stdlib.h>
 #include <string.h>
-#include <sys/stat.h>
 #include <time.h>
 #include <unistd.h>
 
 /* A longer file is none of ours. */
 enum { LARGEST = 1 << 20 };
+
+/* The room that is made first: for so many bytes, and times. */
+enum { FEW_BYTES = 1024, FEW_TIMES = 16 };
 
 /* Two clocks are read at once if no more than so many nanoseconds pass meanwhile; else again, so often. */
 enum { MOST_BETWEEN = 50000, MOST_READS = 20 };
@@ -82,6 +84,45 @@ uint64_t order_time_of(const FileState *file)
     return written > touched ? written : touched;
 }
 
+/* ---- room */
+
+/* What is to be had next of something that grows. */
+static size_t next_of(size_t most, size_t few, size_t wanted)
+{
+    size_t next = most > 0 ? 2 * most : few;
+    return wanted < next ? next : wanted;
+}
+
+static bool has_bytes_for(char **bytes, size_t *most, size_t wanted)
+{
+    if (*most > 0 && wanted <= *most)
+        return true;
+    size_t next = next_of(*most, FEW_BYTES, wanted);
+    char *room = realloc(*bytes, next);
+    if (!room)
+        return false;
+    *bytes = room;
+    *most = next;
+    return true;
+}
+
+/* In both. */
+static bool has_room_for(Order *order, size_t count)
+{
+    if (order->most > 0 && count <= order->most)
+        return true;
+    size_t most = next_of(order->most, FEW_TIMES, count);
+    DconfdbTime *times = realloc(order->times, most * sizeof *times);
+    if (times)
+        order->times = times;
+    DconfdbTime *others = times ? realloc(order->others, most * sizeof *others) : NULL;
+    if (!others)
+        return false;
+    order->others = others;
+    order->most = most;
+    return true;
+}
+
 /* ---- records */
 
 /* What is left to be taken of the file's bytes. */
@@ -99,95 +140,105 @@ static bool take(Bytes *bytes, void *room, size_t size)
     return true;
 }
 
-static bool take_file(Order *order, Bytes *bytes)
+static LeftRecord record_of(const FileState *file)
 {
-    LeftRecord left;
-    if (order->left_count == MOST_LEFT || !take(bytes, &left, sizeof left) || left.nanoseconds < 0 || left.nanoseconds >= (int64_t)second)
+    return (LeftRecord){(uint64_t)file->device, (uint64_t)file->inode, (uint64_t)file->size, (int64_t)file->written.tv_sec,
+                        (int64_t)file->written.tv_nsec};
+}
+
+static bool take_files(Order *order, Bytes *bytes, uint64_t count)
+{
+    if (count > MOST_LEFT || (size_t)(bytes->end - bytes->at) < count * sizeof(LeftRecord))
         return false;
-    order->left[order->left_count++] = (FileState){.is_there = true,
-                                                   .device = (dev_t)left.device,
-                                                   .inode = (ino_t)left.inode,
-                                                   .size = (off_t)left.size,
-                                                   .written = {(time_t)left.seconds, (long)left.nanoseconds}};
+    order->left = bytes->at;
+    order->left_count = (size_t)count;
+    bytes->at += count * sizeof(LeftRecord);
     return true;
 }
 
 static bool take_set(Order *order, Bytes *bytes)
 {
     SetRecord set;
-    if (order->count == MOST_TIMES || !take(bytes, &set, sizeof set) || set.len == 0 || (size_t)(bytes->end - bytes->at) < set.len)
+    if (!take(bytes, &set, sizeof set) || set.len == 0 || (size_t)(bytes->end - bytes->at) < set.len)
         return false;
     order->times[order->count++] = (DconfdbTime){{(const uint8_t *)bytes->at, (size_t)set.len}, set.when};
     bytes->at += set.len;
     return true;
 }
 
-/* False: it isn't whole. */
+static bool take_sets(Order *order, Bytes *bytes, uint64_t count)
+{
+    for (uint64_t i = 0; i < count; i++) {
+        if (!take_set(order, bytes))
+            return false;
+    }
+    return true;
+}
+
+/* What is whole; else nothing. False: no memory is left. */
 static bool take_all(Order *order)
 {
     Head head;
     uint64_t end;
     Bytes bytes = {order->text, order->text + order->size};
-    if (!take(&bytes, &head, sizeof head) || memcmp(head.name, name, sizeof name) != 0)
+    bool is_ours = take(&bytes, &head, sizeof head) && memcmp(head.name, name, sizeof name) == 0 && head.sets <= MOST_TIMES;
+    if (!has_room_for(order, is_ours ? (size_t)head.sets : 0))
         return false;
-    for (uint64_t i = 0; i < head.files; i++) {
-        if (!take_file(order, &bytes))
-            return false;
-    }
-    for (uint64_t i = 0; i < head.sets; i++) {
-        if (!take_set(order, &bytes))
-            return false;
-    }
-    return take(&bytes, &end, sizeof end) && bytes.at == bytes.end && end == head.moment;
+    bool is_whole = is_ours && take_files(order, &bytes, head.files) && take_sets(order, &bytes, head.sets)
+        && take(&bytes, &end, sizeof end) && bytes.at == bytes.end && end == head.moment;
+    if (!is_whole)
+        order->count = order->left_count = 0;
+    return true;
 }
 
 /* ---- what is noted */
 
-/* Of a file that can't be read, or is too long, nothing. */
-static size_t size_of(int lock)
+/* Once, as what is left of a file. A signal interrupts no such call for long. */
+static ssize_t read_once(int lock, char *room, size_t size)
 {
-    struct stat found;
-    return fstat(lock, &found) == 0 && found.st_size > 0 && found.st_size <= LARGEST ? (size_t)found.st_size : 0;
+    ssize_t got;
+    do
+        got = pread(lock, room, size, 0);
+    while (got < 0 && errno == EINTR);
+    return got;
 }
 
-static size_t read_text(int lock, char *text, size_t size)
+/* Of a file that can't be read, or is too long, nothing. False: no memory is left. */
+static bool read_text(Order *order, int lock)
 {
-    size_t len = 0;
-    while (len < size) {
-        ssize_t got = pread(lock, text + len, size - len, (off_t)len);
-        if (got == 0 || (got < 0 && errno != EINTR))
-            return 0;
-        len += got > 0 ? (size_t)got : 0;
-    }
-    return len;
+    ssize_t got = 0;
+    size_t wanted = 0;
+    order->size = 0;
+    order->stood = SIZE_MAX;
+    do {
+        if (!has_bytes_for(&order->text, &order->room, wanted))
+            return false;
+        got = read_once(lock, order->text, order->room);
+        wanted = order->room + 1;
+    } while (got == (ssize_t)order->room && wanted <= LARGEST + 1);
+    if (got >= 0 && got < (ssize_t)order->room)
+        order->stood = (size_t)got;
+    if (order->stood <= LARGEST)
+        order->size = order->stood;
+    return true;
 }
 
-Order *order_read(int lock)
+bool order_read(Order *order, int lock)
 {
-    size_t size = size_of(lock);
-    Order *order = malloc(sizeof *order);
-    char *text = malloc(size + 1);
-    if (!order || !text) {
-        free(order);
-        free(text);
-        return NULL;
-    }
     order->count = order->left_count = 0;
-    order->text = text;
-    order->size = read_text(lock, text, size);
+    if (!read_text(order, lock) || !take_all(order))
+        return false;
     read_clocks(order);
-    if (!take_all(order))
-        order->count = order->left_count = 0;
-    return order;
+    return true;
 }
 
 bool order_has_left(const Order *order, const FileState *file)
 {
-    for (size_t i = 0; i < order->left_count; i++) {
-        if (file_is_same(&order->left[i], file))
-            return true;
-    }
-    return false;
+    LeftRecord sought = record_of(file);
+    bool has = false;
+    for (size_t i = 0; !has && i < order->left_count; i++)
+        has = memcmp(order->left + i * sizeof sought, &sought, sizeof sought) == 0;
+    return has && file->is_there;
 }
 
 /* The value that was noted with a path; `is` says whether one was, before this turn. */
@@ -223,18 +274,17 @@ bool order_has_value(const Order *order, const uint8_t *path, size_t len, uint64
 bool order_note(Order *order, const DconfdbTime *times, size_t count)
 {
     size_t len = 0, most = count < MOST_TIMES - order->count ? order->count + count : MOST_TIMES;
-    DconfdbTime *room = malloc(sizeof order->times);
-    if (!room)
+    if (!has_room_for(order, most))
         return false;
+    DconfdbTime *noted = order->times, *room = order->others;
     for (size_t i = 0; i < most; i++)
         room[i] = (DconfdbTime){DCONFDB_NOTHING, 0};
-    bool done = dconfdb_note_times(order->times, order->count, times, count, order->now, room, most, &len) == DCONFDB_OK;
-    if (done) {
-        memcpy(order->times, room, len * sizeof *room);
-        order->count = len;
-    }
-    free(room);
-    return done;
+    if (dconfdb_note_times(noted, order->count, times, count, order->now, room, most, &len) != DCONFDB_OK)
+        return false;
+    order->times = room;
+    order->others = noted;
+    order->count = len;
+    return true;
 }
 
 /* ---- written anew */
@@ -251,13 +301,6 @@ static void put(Room *room, const void *record, size_t size)
     room->len += size;
 }
 
-static void put_file(Room *room, const FileState *file)
-{
-    LeftRecord left = {(uint64_t)file->device, (uint64_t)file->inode, (uint64_t)file->size, (int64_t)file->written.tv_sec,
-                       (int64_t)file->written.tv_nsec};
-    put(room, &left, sizeof left);
-}
-
 static void put_set(Room *room, const DconfdbTime *time, uint64_t value)
 {
     SetRecord set = {time->when, value, time->path.len};
@@ -268,7 +311,7 @@ static void put_set(Room *room, const DconfdbTime *time, uint64_t value)
 /* How many bytes all of it takes, and how many of the sets there is room for. */
 static size_t length_of(const Order *order, uint64_t *sets)
 {
-    size_t len = sizeof(Head) + MOST_LEFT * sizeof(LeftRecord) + sizeof(uint64_t);
+    size_t len = sizeof(Head) + (order->left_count + 1) * sizeof(LeftRecord) + sizeof(uint64_t);
     for (*sets = 0; *sets < order->count; ++*sets) {
         size_t more = sizeof(SetRecord) + order->times[*sets].path.len;
         if (len + more > LARGEST)
@@ -280,11 +323,12 @@ static size_t length_of(const Order *order, uint64_t *sets)
 
 static void put_all(Room *room, const Order *order, Head head, const FileState *left, ValueOf *value_of, const void *file)
 {
+    LeftRecord newest = record_of(left);
     put(room, &head, sizeof head);
     if (left->is_there)
-        put_file(room, left);
-    for (uint64_t i = left->is_there; i < head.files; i++)
-        put_file(room, &order->left[i - left->is_there]);
+        put(room, &newest, sizeof newest);
+    if (order->left_count > 0)
+        put(room, order->left, (head.files - left->is_there) * sizeof newest);
     for (uint64_t i = 0; i < head.sets; i++) {
         const DconfdbTime *time = &order->times[i];
         bool is_noted;
@@ -295,7 +339,7 @@ static void put_all(Room *room, const Order *order, Head head, const FileState *
 }
 
 /* Who is killed amid this leaves the first moment of one writer, and the last of another. */
-static void put_in_file(int lock, const Room *room)
+static void put_in_file(const Order *order, int lock, const Room *room)
 {
     size_t at = 0;
     while (at < room->len) {
@@ -304,9 +348,7 @@ static void put_in_file(int lock, const Room *room)
             break;
         at += put > 0 ? (size_t)put : 0;
     }
-    struct stat found;
-    bool is_longer = fstat(lock, &found) != 0 || (uintmax_t)found.st_size > at;
-    if (is_longer && ftruncate(lock, (off_t)at) != 0)
+    if (order->stood > at && ftruncate(lock, (off_t)at) != 0)
         return; /* its end isn't its last moment: nothing counts */
 }
 
@@ -315,17 +357,18 @@ void order_write(Order *order, int lock, const FileState *left, ValueOf *value_o
     size_t files = order->left_count + left->is_there;
     Head head = {.moment = order->moment, .files = files < MOST_LEFT ? files : MOST_LEFT};
     memcpy(head.name, name, sizeof name);
-    Room room = {malloc(length_of(order, &head.sets)), 0};
-    if (!room.at)
+    size_t len = length_of(order, &head.sets);
+    if (!has_bytes_for(&order->next, &order->next_room, len))
         return;
+    Room room = {order->next, 0};
     put_all(&room, order, head, left, value_of, file);
-    put_in_file(lock, &room);
-    free(room.at);
+    put_in_file(order, lock, &room);
 }
 
-void order_free(Order *order)
+void order_end(Order *order)
 {
-    if (order)
-        free(order->text);
-    free(order);
+    free(order->text);
+    free(order->next);
+    free(order->times);
+    free(order->others);
 }

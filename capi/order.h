@@ -13,20 +13,23 @@
 /* So many paths are noted, and so many of the files that were left. */
 enum { MOST_TIMES = 1024, MOST_LEFT = 64 };
 
+/* All bits 0 at first. What it holds is of one turn, and its memory stays for the next. */
 typedef struct {
-    uint64_t now, moment; /* the same, as a time and by order_clock() */
-    char *text;           /* the bytes of the lock's file; paths are lent from it */
-    size_t size;
-    DconfdbTime times[MOST_TIMES];
-    FileState left[MOST_LEFT]; /* the newest first */
-    size_t count, left_count;
+    uint64_t now, moment;         /* the same, as a time and by order_clock() */
+    DconfdbTime *times, *others;  /* what is noted; room for as many */
+    size_t count, most;
+    char *text, *next;            /* the bytes of the lock's file, which lend paths; room for those that it gets */
+    size_t size, room, next_room; /* how many are taken, of how many there may be */
+    size_t stood;                 /* how many there are, or SIZE_MAX */
+    const char *left;             /* in the text, records of files, the newest first */
+    size_t left_count;
 } Order;
 
 /* The moment of a set: nanoseconds of a clock that nobody puts forward or back, and that goes on while the machine sleeps. */
 uint64_t order_clock(void);
 
-/* Reads what is noted in the file of a lock that is held. NULL: no memory is left. */
-Order *order_read(int lock);
+/* Reads what is noted in the file of a lock that is held. False: no memory is left. */
+bool order_read(Order *order, int lock);
 
 /* A moment of order_clock() as a time that programs note, by the clock as it is set now. */
 uint64_t order_time(const Order *order, uint64_t moment);
@@ -49,6 +52,6 @@ bool order_has_value(const Order *order, const uint8_t *path, size_t len, uint64
 /* Writes it, with the file as it is left now, and what that has. Where it fails, nothing is noted. */
 void order_write(Order *order, int lock, const FileState *left, ValueOf *value_of, const void *file);
 
-void order_free(Order *order);
+void order_end(Order *order);
 
 #endif

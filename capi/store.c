@@ -51,7 +51,7 @@ struct DconfdbSnapshot {
     atomic_size_t references;
     bool is_writable;
     size_t count;
-    Part **parts;
+    Part **parts; /* behind the layers */
     DconfdbLayer layers[];
 };
 
@@ -77,6 +77,7 @@ struct DconfdbStore {
     bool has_news;              /* of others' changes, that no refresh has told; under `refreshing` */
     Seen *seen;                 /* the same, while own ones wait; under `refreshing` */
     uint64_t noted;             /* the time of what this store noted last; under `refreshing` */
+    Order order;                /* of the turn that it has; under `refreshing` */
     bool is_unsettled;          /* its last change is perhaps not on the disk; under `refreshing` */
     DconfdbSnapshot *now;
     StorePlace place;
@@ -355,17 +356,15 @@ static bool is_as_it_was_read(const Part *old, const FileState *state)
 
 static DconfdbSnapshot *snapshot_new(size_t count, bool is_writable)
 {
-    DconfdbSnapshot *snapshot = malloc(sizeof *snapshot + count * sizeof snapshot->layers[0]);
-    Part **parts = calloc(count + 1, sizeof *parts);
-    if (!snapshot || !parts) {
-        free(snapshot);
-        free(parts);
+    DconfdbSnapshot *snapshot = malloc(sizeof *snapshot + count * (sizeof snapshot->layers[0] + sizeof *snapshot->parts));
+    if (!snapshot)
         return NULL;
-    }
     snapshot->references = 1;
     snapshot->is_writable = is_writable;
     snapshot->count = count;
-    snapshot->parts = parts;
+    snapshot->parts = (Part **)(snapshot->layers + count);
+    for (size_t i = 0; i < count; i++)
+        snapshot->parts[i] = NULL;
     return snapshot;
 }
 
@@ -387,7 +386,6 @@ void dconfdb_snapshot_unref(DconfdbSnapshot *snapshot)
         return;
     for (size_t i = 0; i < snapshot->count; i++)
         part_unref(snapshot->parts[i]);
-    free(snapshot->parts);
     free(snapshot);
 }
 
@@ -1038,6 +1036,7 @@ void dconfdb_store_close(DconfdbStore *store)
     if (!store)
         return;
     forget_seen(store);
+    order_end(&store->order);
     dconfdb_snapshot_unref(store->now);
     for (size_t i = 0; i < store->count; i++)
         free(store->files[i]);
@@ -1120,7 +1119,7 @@ static DconfdbChange change_of(const DconfdbEdit *edit)
 /* Room that mostly is enough for the changed file. */
 static size_t guess(const DconfdbStore *store, const DconfdbChange *changes, size_t count)
 {
-    size_t len = 4096 + (store->count > 0 ? store->now->parts[0]->bytes.len : 0);
+    size_t old = store->count > 0 ? store->now->parts[0]->bytes.len : 0, len = 256 + old + old / 8;
     for (size_t i = 0; i < count; i++)
         len += 128 + changes[i].path.len + changes[i].value.len + changes[i].type_text.len;
     return len;
@@ -1319,7 +1318,7 @@ static bool note_others(const DconfdbStore *store, Order *order)
 /* Changes that are made together: when each was asked for, and which of the edits it is. */
 typedef struct {
     size_t count;
-    DconfdbChange *changes;
+    DconfdbChange *changes; /* all three are in one block */
     DconfdbTime *times;
     size_t *edits;
 } Asking;
@@ -1327,19 +1326,18 @@ typedef struct {
 static void asking_free(Asking *asking)
 {
     free(asking->changes);
-    free(asking->times);
-    free(asking->edits);
 }
 
 /* `moments` are NULL where all is asked for now. */
 static bool asking_begin(Asking *asking, const DconfdbEdit *edits, const uint64_t *moments, size_t count)
 {
-    *asking = (Asking){count, calloc(count, sizeof *asking->changes), calloc(count, sizeof *asking->times),
-                       calloc(count, sizeof *asking->edits)};
-    if (!asking->changes || !asking->times || !asking->edits) {
-        asking_free(asking);
+    asking->count = count;
+    size_t size = sizeof *asking->changes + sizeof *asking->times + sizeof *asking->edits;
+    asking->changes = count <= SIZE_MAX / size ? malloc(count * size) : NULL;
+    if (!asking->changes)
         return false;
-    }
+    asking->times = (DconfdbTime *)(asking->changes + count);
+    asking->edits = (size_t *)(asking->times + count);
     for (size_t i = 0; i < count; i++) {
         asking->changes[i] = change_of(&edits[i]);
         asking->times[i] = (DconfdbTime){asking->changes[i].path, moments ? moments[i] : UINT64_MAX};
@@ -1386,21 +1384,17 @@ static bool refresh_and_heed(DconfdbStore *store, int turn, const Order *order, 
 /* What others have set up to now, and when; or NULL. */
 static Order *order_of(DconfdbStore *store, const FolderLock *lock, DconfdbError *error)
 {
-    Order *order = order_read(lock->file);
-    if (!order) {
+    Order *order = &store->order;
+    if (!order_read(order, lock->file)) {
         refuse_memory(error);
         return NULL;
     }
-    if (!refresh_and_heed(store, lock->folder, order, error)) {
-        order_free(order);
+    if (!refresh_and_heed(store, lock->folder, order, error))
         return NULL;
-    }
-    if (!note_others(store, order)) {
-        order_free(order);
-        refuse_memory(error);
-        return NULL;
-    }
-    return order;
+    if (note_others(store, order))
+        return order;
+    refuse_memory(error);
+    return NULL;
 }
 
 /* ---- a change, step by step */
@@ -1412,7 +1406,7 @@ typedef struct {
     Asking *asking;
     DconfdbError *error; /* of the first fault */
     Order *order;        /* NULL: it could not be had */
-    Replacing replacing;
+    Replacing *replacing;
     DconfdbSnapshot *newer;     /* with the new file as its first part */
     bool is_nothing, is_placed; /* they change nothing; the name is the new file's */
 } Changing;
@@ -1424,7 +1418,7 @@ static bool read_old(Changing *it, size_t *bits)
     if (!it->order)
         return false;
     const Fault *bad = it->store->now->parts[0]->fault;
-    int fault = replacing_look(&it->replacing, bad && !bad->aside, bits);
+    int fault = replacing_look(it->replacing, bad && !bad->aside, bits);
     return fault == 0 || refuse_file(it->error, fault, it->store->user_file, nowhere);
 }
 
@@ -1477,21 +1471,21 @@ static void note(Changing *it)
 static int append(const Changing *it, size_t at, size_t *count)
 {
     const FileBytes *bytes = &it->newer->parts[0]->bytes;
-    return replacing_append(&it->replacing, bytes->at + at, bytes->len - at, count);
+    return replacing_append(it->replacing, bytes->at + at, bytes->len - at, count);
 }
 
 /* A call of the system; what is at fault is the user's file. */
 static int on_disk(Changing *it, const DconfdbStep *step, size_t *n)
 {
     switch (step->kind) {
-    case DCONFDB_TURN_CREATE: return replacing_create(&it->replacing, step->number);
+    case DCONFDB_TURN_CREATE: return replacing_create(it->replacing, step->number);
     case DCONFDB_TURN_APPEND: return append(it, step->number, n);
-    case DCONFDB_TURN_SYNC: return replacing_sync(&it->replacing, step->number, &it->newer->parts[0]->state);
-    case DCONFDB_TURN_SET_ASIDE: return replacing_set_aside(&it->replacing, n);
-    case DCONFDB_TURN_EXCHANGE: return replacing_exchange(&it->replacing);
-    case DCONFDB_TURN_RENAME: return replacing_rename(&it->replacing);
-    case DCONFDB_TURN_SYNC_FOLDER: return replacing_sync_folder(&it->replacing);
-    case DCONFDB_TURN_REMOVE: return replacing_remove(&it->replacing);
+    case DCONFDB_TURN_SYNC: return replacing_sync(it->replacing, step->number, &it->newer->parts[0]->state);
+    case DCONFDB_TURN_SET_ASIDE: return replacing_set_aside(it->replacing, n);
+    case DCONFDB_TURN_EXCHANGE: return replacing_exchange(it->replacing);
+    case DCONFDB_TURN_RENAME: return replacing_rename(it->replacing);
+    case DCONFDB_TURN_SYNC_FOLDER: return replacing_sync_folder(it->replacing);
+    case DCONFDB_TURN_REMOVE: return replacing_remove(it->replacing);
     default: return 0;
     }
 }
@@ -1518,9 +1512,9 @@ static bool end(Changing *it, uint32_t outcome, uint32_t fault)
 {
     if (outcome == DCONFDB_TURN_MADE || outcome == DCONFDB_TURN_UNSETTLED) {
         Part *part = it->newer->parts[0];
-        if (part->fault && it->replacing.is_aside) {
-            part->fault->aside = it->replacing.aside;
-            it->replacing.aside = NULL;
+        if (part->fault && it->replacing->is_aside) {
+            part->fault->aside = it->replacing->aside;
+            it->replacing->aside = NULL;
         } else {
             part_forgive(part);
         }
@@ -1538,10 +1532,11 @@ static bool end(Changing *it, uint32_t outcome, uint32_t fault)
 /* The changes, while it is this program's turn: each step that the proved calls say, until they say how it ended. */
 static bool change_in_turn(DconfdbStore *store, const FolderLock *lock, Asking *asking, DconfdbError *error)
 {
-    Changing it = {.store = store, .lock = lock, .asking = asking, .error = error};
+    Replacing replacing;
+    Changing it = {.store = store, .lock = lock, .asking = asking, .error = error, .replacing = &replacing};
     DconfdbTurn turn = {.len = 0};
     DconfdbStep step = {.kind = DCONFDB_TURN_LOCK};
-    int fault = replacing_begin(&it.replacing, lock->folder, strrchr(store->user_file, '/') + 1);
+    int fault = replacing_begin(&replacing, lock->folder, strrchr(store->user_file, '/') + 1);
     if (fault != 0)
         return refuse_file(error, fault, store->user_file, nowhere);
     pthread_mutex_lock(&store->refreshing);
@@ -1552,9 +1547,8 @@ static bool change_in_turn(DconfdbStore *store, const FolderLock *lock, Asking *
         dconfdb_turn_answered(&turn, done ? 0 : 1, n);
     }
     bool done = end(&it, (uint32_t)step.number, step.fault);
-    order_free(it.order);
     pthread_mutex_unlock(&store->refreshing);
-    replacing_end(&it.replacing);
+    replacing_end(&replacing);
     return done;
 }
 
