@@ -147,7 +147,7 @@ static bool are_same(const char *one, const char *other)
         one += strlen(one) + 1;
         other += strlen(other) + 1;
     }
-    return *one == *other;
+    return *one == 0 && *other == 0;
 }
 
 /* Watches the files that the profile names. False: not all are, or it names others now: it may be written after it was read, and
