@@ -29,7 +29,7 @@ use Rattle.dconf_model.proofs.SoundRows.{sound_finds_rows, locks_are_searchable}
 use Rattle.gvdb_read.specs.declared.table.Table.{Table}
 use Rattle.gvdb_read.specs.Lookups.{IsFound, IsTableAt, IsValueOf}
 use Rattle.gvdb_read.specs.Tables.{region}
-use Rattle.dconf_engine.specs.SoundTables.{AreOfSoundDatabase, IsTableOfLocks, locks_if}
+use Rattle.dconf_engine.specs.SoundTables.{AreOfSoundDatabase, IsSoundRoot, IsTableOfLocks, locks_if}
 use Rattle.gvdb_read.proofs.CoveredPaths.{HasCovering}
 use Rattle.dconf_engine.proofs.CoveringPaths.{covering_is_path}
 
@@ -42,16 +42,19 @@ says values locks o = says_what_is_in_it (region values).file o.opens (subst IsS
 
 -- ---- what is found at opening
 
-pub tables_of : (file : List ℕ) (values : Table) (locks : Option Table) → IsDatabase file → region values ≡ root_of file → IsSound (region values) → IsTableOfLocks (region values) locks → AreOfSoundDatabase values locks
-tables_of file values locks opens root sound locks_are =
-    let same : (region values).file ≡ file = ap (λ (t : Region). t.file) root in
-    record { opens = subst IsDatabase (sym same) opens; root = root ∙ ap root_of (sym same); sound = sound; locks_are = locks_are }
+pub tables_of_root : (values : Table) (locks : Option Table) → IsSoundRoot (region values) → IsTableOfLocks (region values) locks → AreOfSoundDatabase values locks
+tables_of_root values locks is locks_are = record { opens = is.opens; root = is.root; sound = is.sound; locks_are = locks_are }
 
-pub layer_of : (file : List ℕ) (values : Table) → IsDatabase file → region values ≡ root_of file → IsSound (region values) → IsLayer (Some file) (settings_at (region values))
-layer_of file values opens root sound =
+pub sound_root : (file : List ℕ) (values : Table) → IsDatabase file → region values ≡ root_of file → IsSound (region values) → IsSoundRoot (region values)
+sound_root file values opens root sound =
+    let same : (region values).file ≡ file = ap (λ (t : Region). t.file) root in
+    record { opens = subst IsDatabase (sym same) opens; root = root ∙ ap root_of (sym same); sound = sound }
+
+pub layer_of : (file : List ℕ) (values : Table) (s : Settings) → IsDatabase file → region values ≡ root_of file → IsSound (region values) → s ≡ settings_at (region values) → IsLayer (Some file) s
+layer_of file values s opens root sound is =
     let of_root = subst IsSound root sound in
     let same : (region values).file ≡ file = ap (λ (t : Region). t.file) root in
-    (opens, of_root, subst (λ (f : List ℕ). Says file (settings_in f)) (sym same) (says_what_is_in_it file opens of_root))
+    (opens, of_root, subst (Says file) (sym (is ∙ ap settings_in same)) (says_what_is_in_it file opens of_root))
 
 -- the table of locks that is there
 pub there_is : (there : Bool) (own locks : Table) → locks_if there own ≡ Some locks → (there ≡ true) × (own ≡ locks)

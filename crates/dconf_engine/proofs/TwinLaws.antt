@@ -1,6 +1,6 @@
 -- What twins have alike is seen alike, and items of the same names and bytes give the same paths.
 use Rattle.std.specs.Prelude.{filter, option_map, option_and_then, nat_lt}
-use Rattle.std.proofs.Common.{◌≡◌, ◌<◌, ◌+◌, ◌∙◌, arith, ℕ, zero, suc, Bool, false, List, [], ◌∷◌, drop, Option, Some, None, ap, sym, subst, refl, inl, inr}
+use Rattle.std.proofs.Common.{◌≡◌, ◌<◌, ◌≤◌, ◌⊎◌, ◌+◌, ◌++◌, ◌∙◌, ltb-true, ltb-false, arith, ℕ, zero, suc, Bool, false, List, [], ◌∷◌, drop, Option, Some, None, ap, sym, subst, refl, inl, inr}
 use Rattle.std.specs.FinMap.{get}
 use Rattle.std.proofs.lemmas.Bool.{false_from_ne_true}
 use Rattle.std.proofs.lemmas.List.Elements.{filter-append}
@@ -10,16 +10,17 @@ use Rattle.dconf_model.specs.Names.{HasName, name_of}
 use Rattle.dconf_model.specs.Settings.{Settings}
 use Rattle.dconf_model.specs.Table.{Table as Region}
 use Rattle.dconf_model.specs.Values.{held_value}
+use Rattle.dconf_model.proofs.ParentLaws.{by_bool}
 use Rattle.dconf_model.proofs.ComputedNames.{name_of_named, named_of_name}
 use Rattle.gvdb_read.specs.Tables.{region}
 use Rattle.dconf_engine.specs.declared.layer.Layer.{Layer}
 use Rattle.dconf_engine.specs.Differing.{differs}
-use Rattle.dconf_engine.specs.Entries.{items_of, path_at, paths_in, value_in}
+use Rattle.dconf_engine.specs.Entries.{items_of, layer_paths, path_at, paths_in, value_in}
 use Rattle.dconf_engine.specs.LayerSettings.{settings_of}
 use Rattle.dconf_engine.specs.TextSets.{TextSet, with_text, with_texts}
 use Rattle.dconf_engine.specs.Twins.{AreTwins, HaveAlikeOutside, PassesAlike}
 use Rattle.gvdb_alike.specs.NamesAlike.{AreNamedAlike, GoesByName}
-use Rattle.gvdb_alike.specs.ValuesAlike.{HasElsewhere}
+use Rattle.gvdb_alike.specs.ValuesAlike.{AreAlikeOutside, HasElsewhere}
 use Rattle.dconf_engine.proofs.DifferingLaws.{differs_told}
 use Rattle.dconf_engine.proofs.EntryLaws.{bytes_named, no_path, path_named}
 
@@ -74,14 +75,31 @@ pub names_turned : (t u : Region) → AreNamedAlike t u → AreNamedAlike u t
 names_turned t u named = record { counted = sym named.counted; named = λ i. sym (named.named i) }
 
 pub outside_turned : (one two : Layer) (first end : ℕ) → AreNamedAlike (region one.values) (region two.values) → HaveAlikeOutside one two first end → HaveAlikeOutside two one first end
-outside_turned one two first end named alike i within outside = sym (alike i (subst (λ n. i < n) (sym named.counted) within) outside)
+outside_turned one two first end named outside = record {
+  ordered = outside.ordered;
+  counted = subst (λ n. end ≤ n) named.counted outside.counted;
+  alike = λ i within out.
+      let here = outside.alike i (subst (λ n. i < n) (sym named.counted) within) out in
+      record { named = names_turned (region one.values) (region two.values) named; value = sym here.value };
+}
 
 -- of no item anything is said
 pub nothing_outside : (one two : Layer) (end : ℕ) → end ≡ items_of one → HaveAlikeOutside one two 0 end
-nothing_outside one two end all i within outside = elim outside [
-  | inl below ↦ absurd (omega (arith, below))
-  | inr above ↦ absurd (omega (arith, above, within, all))
-]
+nothing_outside one two end all = record {
+  ordered = omega arith;
+  counted = omega (arith, all);
+  alike = λ i within outside. elim outside [
+    | inl below ↦ absurd (omega (arith, below))
+    | inr above ↦ absurd (omega (arith, above, within, all))
+  ];
+}
+
+pub outside_of : (one two : Layer) (first end : ℕ) → AreNamedAlike (region one.values) (region two.values) → AreAlikeOutside (region one.values) (region two.values) first end → HaveAlikeOutside one two first end
+outside_of one two first end named outside = record {
+  ordered = outside.ordered;
+  counted = outside.counted;
+  alike = λ i within out. record { named = named; value = outside.alike i within out };
+}
 
 -- ---- items of the same names and bytes
 
@@ -123,6 +141,35 @@ item_added f layer i start before after e step =
     step ∙ (ap (with_texts (filter f (path_at layer i))) e
     ∙ (sym (ap (λ ts. with_texts ts start) (filter-append f (paths_in layer i) (path_at layer i)) ∙ fold-append with_text start (filter f (paths_in layer i)) (filter f (path_at layer i)))
     ∙ ap (λ n. with_texts (filter f (paths_in layer n)) start) next))
+
+-- ---- items that aren't asked for
+
+module _ (f : List ℕ → Bool) (layer : Layer) (from : ℕ) where
+  none_more : (to : ℕ) → from ≤ to → ((i : ℕ) → from ≤ i → i < to → [] ≡ filter f (path_at layer i)) → filter f (paths_in layer to) ≡ filter f (paths_in layer from)
+  none_more zero le none = ap (λ n. filter f (paths_in layer n)) (let e : zero ≡ from = omega (arith, le) in e)
+  none_more (suc to) le none =
+      by_bool (nat_lt to from) (filter f (paths_in layer (suc to)) ≡ filter f (paths_in layer from))
+      (λ past. let last = ltb-true to from past in let e : suc to ≡ from = omega (arith, le, last) in ap (λ n. filter f (paths_in layer n)) e)
+      (λ further.
+      let above = ltb-false to from further in
+      let low : from ≤ to = omega (arith, above) in
+      filter-append f (paths_in layer to) (path_at layer to)
+      ∙ ap (λ ts. filter f (paths_in layer to) ++ ts) (sym (none to low (omega arith)))
+      ∙ append-nil (filter f (paths_in layer to))
+      ∙ none_more to low (λ i high lt. none i high (omega (arith, lt))))
+
+-- those outside of the span
+module _ (f : List ℕ → Bool) (layer other : Layer) (passes : PassesAlike f (settings_of layer) (settings_of other)) (first end : ℕ) (outside : HaveAlikeOutside layer other first end) where
+  none_at : (i : ℕ) → i < items_of layer → (i < first) ⊎ (end ≤ i) → [] ≡ filter f (path_at layer i)
+  none_at i within out = let h = outside.alike i within out in nothing_at f layer other passes i within h.named h.value
+
+  pub none_before : (start : TextSet) → start ≡ with_texts (filter f (paths_in layer first)) start
+  none_before start =
+      let low = outside.ordered in let high = outside.counted in
+      ap (λ ts. with_texts ts start) (sym (none_more f layer 0 first (omega arith) (λ i _ lt. none_at i (omega (arith, lt, low, high)) (inl lt))))
+
+  pub none_after : filter f (paths_in layer end) ≡ filter f (layer_paths layer)
+  none_after = sym (none_more f layer end (items_of layer) outside.counted (λ i high lt. none_at i lt (inr high)))
 
 -- an item that isn't asked for
 pub item_passed_over : (f : List ℕ → Bool) (layer : Layer) (i : ℕ) (before : TextSet) → [] ≡ filter f (path_at layer i) → before ≡ with_texts (filter f (path_at layer i)) before

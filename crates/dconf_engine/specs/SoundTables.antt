@@ -20,3 +20,9 @@ pub record AreOfSoundDatabase (values : Table) (locks : Option Table) : Type 0 w
   pub root : region values ≡ root_of (region values).file
   pub sound : IsSound (region values)
   pub locks_are : IsTableOfLocks (region values) locks
+
+-- the root table of a sound database
+pub record IsSoundRoot (t : Region) : Type 0 where
+  pub opens : IsDatabase t.file
+  pub root : t ≡ root_of t.file
+  pub sound : IsSound t

@@ -3,12 +3,21 @@ use Rattle.std.specs.Prelude.{◌≡◌, ◌≤◌, ◌<◌, ◌⊎◌, ◌∷�
 use Rattle.std.specs.FinMap.{get}
 use Rattle.dconf_model.specs.Layers.{Layers}
 use Rattle.dconf_model.specs.Settings.{Settings}
+use Rattle.gvdb_read.specs.Tables.{region}
+use Rattle.gvdb_alike.specs.NamesAlike.{AreNamedAlike}
 use Rattle.dconf_engine.specs.Entries.{items_of, value_in}
 use Rattle.dconf_engine.specs.declared.layer.Layer.{Layer}
 
--- items below the first and from the end on are values of the same bytes, or no values both times
-abbrev pub HaveAlikeOutside : Layer → Layer → ℕ → ℕ → Type 0
-HaveAlikeOutside one two first end = (i : ℕ) → i < items_of one → (i < first) ⊎ (end ≤ i) → value_in one i ≡ value_in two i
+-- all items have the same names, and this one is a value of the same bytes, or no value both times
+pub record HaveAlike (one two : Layer) (i : ℕ) : Type 0 where
+  pub named : AreNamedAlike (region one.values) (region two.values)
+  pub value : value_in one i ≡ value_in two i
+
+-- those below the first and from the end on
+pub record HaveAlikeOutside (one two : Layer) (first end : ℕ) : Type 0 where
+  pub ordered : first ≤ end
+  pub counted : end ≤ items_of one
+  pub alike : (i : ℕ) → i < items_of one → (i < first) ⊎ (end ≤ i) → HaveAlike one two i
 
 -- the layers are the same but for the first
 pub record AreTwins (l m : Layers) (s t : Settings) : Type 0 where

@@ -121,10 +121,9 @@ impl<'a, 'l> Pair<'a, 'l> {
         requires { PassesAlike (differs (seen_in self.first) (seen_in self.second)) (settings_of twins.layer) (settings_of twins.other) }
         ensures { OnOk result (paths.new ≡ with_texts (filter (differs (seen_in self.entry.first) (seen_in self.entry.second)) (keys (settings_of twins.entry.layer).values)) paths.old) }
     {
-        for i in 0..twins.layer.n_items() {
-            if !twins.have_alike(i) {
-                self.add_item(alloc, twins, i, paths)?;
-            }
+        let items = twins.items();
+        for i in items.first..items.end {
+            self.add_item(alloc, twins, i, paths)?;
         }
         Ok(())
     }

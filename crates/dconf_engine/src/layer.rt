@@ -1,8 +1,9 @@
 //! A layer of settings: a sound database, lent from its file.
 ghost use Rattle.std.specs.Prelude.{◌≡◌, Some, IfErr, IfOk, false, option_map, true};
 ghost use Rattle.std.specs.FinMap.{get};
-ghost use Rattle.dconf_model.specs.Databases.{IsBad, IsLayer, IsVerdict};
+ghost use Rattle.dconf_model.specs.Databases.{IsBad, IsLayer, IsVerdict, settings_in};
 ghost use Rattle.dconf_model.specs.Layers.{locks_path};
+ghost use Rattle.dconf_model.specs.Opening.{IsDatabase, root_of};
 ghost use Rattle.dconf_model.specs.Settings.{no_settings};
 ghost use Rattle.dconf_model.specs.Sound.{IsFirstFault, IsSound};
 ghost use Rattle.dconf_path.specs.Paths.{key_text};
@@ -10,7 +11,7 @@ ghost use Rattle.gvdb_read.specs.Directories.{HasDirectoryValue};
 ghost use Rattle.gvdb_read.specs.Tables.{region};
 ghost use Rattle.gvdb_read.specs.Unsounds.{rule_of};
 ghost use Rattle.dconf_engine.specs.Faults.{verdict_of};
-ghost use Rattle.dconf_engine.specs.SoundTables.{AreOfSoundDatabase, locks_if};
+ghost use Rattle.dconf_engine.specs.SoundTables.{AreOfSoundDatabase, IsSoundRoot, locks_if};
 
 use crate::fault::DatabaseFault;
 use dconf_path::KeyPath;
@@ -77,19 +78,36 @@ impl<'a> Layer<'a> {
         if let Err(unsound) = check(values, like) {
             return Err(DatabaseFault::Unsound(unsound));
         }
+        Ok(Layer::of_root(values))
+    }
+
+    /// The layer of a database that is known to be sound, as one that was just made is: nothing is asked of it.
+    pub fn of_sound(file: &'a [u8]) -> Layer<'a>
+        requires opens { IsDatabase file.now }
+        requires sound { IsSound (root_of file.now) }
+        ensures { settings_of result ≡ settings_in file.entry.now }
+    {
+        Layer::of_root(Table::open(file).unwrap())
+    }
+
+    /// The layer of a sound database's root table.
+    fn of_root(values: Table<'a>) -> Layer<'a>
+        requires { IsSoundRoot (region values) }
+        ensures { settings_of result ≡ settings_in (region values.entry).file }
+    {
         match values.table(LOCKS) {
-            Some(locks) => Ok(Layer {
+            Some(locks) => Layer {
                 values,
                 locks,
                 has_locks: true,
                 locks_directories: locks.has_directory_value(),
-            }),
-            None => Ok(Layer {
+            },
+            None => Layer {
                 values,
                 locks: values,
                 has_locks: false,
                 locks_directories: false,
-            }),
+            },
         }
     }
 

@@ -35,7 +35,7 @@ impl<'a, 'l> LentLayers<'a, 'l> {
     }
 
     /// The first `count` layers.
-    pub(crate) fn prefix(self, count: usize) -> LentLayers<'a, 'l>
+    pub fn prefix(self, count: usize) -> LentLayers<'a, 'l>
         ensures { (seen_in result).layers ≡ take count (seen_in self.entry).layers }
     {
         if count >= self.layers.len() {

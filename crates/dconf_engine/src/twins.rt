@@ -1,72 +1,76 @@
 //! Layers at the same place in layers that are the same otherwise: what one has as the other has it is seen alike.
-ghost use Rattle.std.specs.Prelude.{◌≡◌, ◌<◌, IsTrue, true};
+ghost use Rattle.std.specs.Prelude.{◌≡◌, true};
 ghost use Rattle.gvdb_alike.specs.NamesAlike.{AreNamedAlike};
 ghost use Rattle.gvdb_read.specs.Tables.{region};
-ghost use Rattle.dconf_engine.specs.Entries.{items_of, value_in};
 ghost use Rattle.dconf_engine.specs.Twins.{HaveAlikeOutside};
 
 use crate::layer::Layer;
-use gvdb_alike::{alike_before, alike_from, are_named_alike};
+use gvdb_alike::{ItemSpan, differing_items};
 
-/// A layer, and the other one at its place. If their items have the same names, those below `first` and from `end` on have
-/// the same values.
+/// A layer, and the other one at its place. Items outside of the span have the same names and values in both.
 #[derive(Clone, Copy)]
 pub(crate) struct Twins<'a> {
     pub(crate) layer: Layer<'a>,
     pub(crate) other: Layer<'a>,
     are_named_alike: bool,
-    first: u32,
-    end: u32,
+    items: ItemSpan,
     ghost named: { are_named_alike ≡ true → AreNamedAlike (region layer.values) (region other.values) },
-    ghost alike: { HaveAlikeOutside layer other first end },
+    ghost alike: { HaveAlikeOutside layer other items.first items.end },
 }
 
 impl<'a> Twins<'a> {
-    /// A layer, and the other one. It looks at the key and the parent of each item, and at each value once.
+    /// A layer, and the other one. It looks at the items once, as [`differing_items`] says.
     pub(crate) fn new(layer: Layer<'a>, other: Layer<'a>) -> Twins<'a>
         ensures layer { result.layer ≡ layer.entry }
         ensures other { result.other ≡ other.entry }
     {
-        let first = alike_before(layer.values, other.values);
-        Twins {
-            layer,
-            other,
-            are_named_alike: are_named_alike(layer.values, other.values),
-            first,
-            end: alike_from(layer.values, other.values, first),
+        match differing_items(layer.values, other.values) {
+            Some(items) => Twins {
+                layer,
+                other,
+                are_named_alike: true,
+                items,
+            },
+            None => Twins::of_others(layer, other),
         }
     }
 
-    /// The same the other way round. Items that are not named alike are none that have alike.
+    /// Those of which no item is known to be the same.
+    fn of_others(layer: Layer<'a>, other: Layer<'a>) -> Twins<'a>
+        ensures layer { result.layer ≡ layer.entry }
+        ensures other { result.other ≡ other.entry }
+    {
+        Twins {
+            layer,
+            other,
+            are_named_alike: false,
+            items: ItemSpan {
+                first: 0,
+                end: layer.n_items(),
+            },
+        }
+    }
+
+    /// The same the other way round.
     pub(crate) fn turned(self) -> Twins<'a>
         ensures layer { result.layer ≡ self.entry.other }
         ensures other { result.other ≡ self.entry.layer }
     {
         if !self.are_named_alike {
-            return Twins {
-                layer: self.other,
-                other: self.layer,
-                are_named_alike: false,
-                first: 0,
-                end: self.other.n_items(),
-            };
+            return Twins::of_others(self.other, self.layer);
         }
         Twins {
             layer: self.other,
             other: self.layer,
             are_named_alike: true,
-            first: self.first,
-            end: self.end,
+            items: self.items,
         }
     }
 
-    /// Whether item `i` of both has the same name, and the same bytes or no value.
-    #[inline(always)]
-    pub(crate) fn have_alike(self, i: u32) -> bool
-        requires { i < items_of self.layer }
-        ensures named { IsTrue result → AreNamedAlike (region self.entry.layer.values) (region self.entry.other.values) }
-        ensures bytes { IsTrue result → value_in self.entry.layer i ≡ value_in self.entry.other i }
+    /// The items outside of which both have the same.
+    pub(crate) fn items(self) -> ItemSpan
+        ensures { HaveAlikeOutside self.entry.layer self.entry.other result.first result.end }
     {
-        self.are_named_alike && (i < self.first || i >= self.end)
+        self.items
     }
 }

@@ -1,6 +1,6 @@
 -- Where it is known that a table is sound, but not how, it can be said how: each rule is decided by what its items have.
-use Rattle.std.proofs.Common.{ℕ, zero, suc, ◌+◌, ◌-◌, ◌<◌, ◌≤◌, ◌≡◌, ◌≢◌, ◌⊎◌, ◌∙◌, ◌++◌, true, List, [], ◌∷◌, length, take, Option, Some, None, ap, sym, refl, subst, inl, inr, arith, eqb, eqb-true, ltb-true, ltb-false, codes}
-use Rattle.std.specs.Prelude.{Contains, IfSome, nat_lt}
+use Rattle.std.proofs.Common.{ℕ, zero, suc, ◌+◌, ◌-◌, ◌/◌, ◌%◌, ◌^◌, ◌<◌, ◌≤◌, ◌≡◌, ◌≢◌, ◌⊎◌, ◌∙◌, ◌++◌, true, List, [], ◌∷◌, length, take, Option, Some, None, ap, sym, refl, subst, inl, inr, arith, eqb, eqb-true, ltb-true, ltb-false, codes}
+use Rattle.std.specs.Prelude.{Contains, IfSome, IsBitSet, nat_lt}
 use Rattle.std.specs.Str.{is_utf8}
 use Rattle.std.specs.Coded.{coded_list, coded_option, coded_ℕ}
 use Rattle.std.proofs.lemmas.Bool.{eqb-false}
@@ -11,19 +11,20 @@ use Rattle.std.proofs.lemmas.Option.{none-some, same_Some}
 use Rattle.std.proofs.lemmas.Str.{IsUtf8-from_is_utf8, is_utf8-from_IsUtf8}
 use base.Stored.{Coded-set}
 use Rattle.dconf_model.specs.Names.{HasName, HasParents, name_of}
+use Rattle.dconf_model.specs.Search.{PassesBloom, bloom_word_of, span_end, span_start}
 use Rattle.dconf_model.specs.Searchable.{EachItem, HasBuckets, HasContent, HasEnd, HasGoodKey, HasHash, IsInBloom, IsInSpan, IsKind, IsOnlyNamed, LeadsUp}
 use Rattle.dconf_model.specs.Sound.{HasListIfAny, HasLocksIfAny, HasParent, HasPlace, IsDirectoryPart, IsPart, IsSound, IsTop, list_length, listed}
 use Rattle.dconf_model.specs.Sound.Rule.{buckets, keys, chain, hash, span, bloom, once, content, place, lists, locks}
-use Rattle.dconf_model.specs.Table.{Table, HasBytes, item, item_count, key, list_kind, table_kind, value_kind}
+use Rattle.dconf_model.specs.Table.{Table, alignment_of, bloom_shift, bloom_words, bucket, bucket_count, item, item_count, key, list_kind, table_kind, value_kind}
 use Rattle.dconf_model.proofs.ComputedNames.{name_of_named, named_of_name}
 use Rattle.dconf_model.proofs.DirectoryNames.{list_is_no_table, list_is_no_value, locks_are_a_table}
 use Rattle.dconf_model.proofs.FullNames.{has_full_name}
 use Rattle.dconf_model.proofs.ParentLaws.{by_bool}
 use Rattle.dconf_model.proofs.PartsBelow.{value_is_no_table}
 
--- a value or a list, with a valid pointer
+-- a value or a list
 abbrev pub IsUsual : Table → ℕ → Type 0
-IsUsual t i = (((item t i).kind ≡ value_kind) ⊎ ((item t i).kind ≡ list_kind)) × HasBytes t i
+IsUsual t i = ((item t i).kind ≡ value_kind) ⊎ ((item t i).kind ≡ list_kind)
 
 -- the number below n that has this answer
 find_below : (n : ℕ) (f : ℕ → ℕ) (j : ℕ) → ¬ ((k : ℕ) → k < n → f k ≢ j) → (k : ℕ) × (k < n) × (f k ≡ j)
@@ -51,7 +52,7 @@ no_table : (kind : ℕ) → (kind ≡ value_kind) ⊎ (kind ≡ list_kind) → k
 no_table kind (inl value) table = value_is_no_table (sym value ∙ table)
 no_table kind (inr list) table = list_is_no_table (sym list ∙ table)
 
-module _ (t : Table) (h : ∥ IsSound t ∥₁) (good : HasBuckets t) (usual : EachItem t (IsUsual t)) (spans : EachItem t (IsInSpan t)) (blooms : EachItem t (IsInBloom t)) where
+module _ (t : Table) (h : ∥ IsSound t ∥₁) (usual : EachItem t (IsUsual t)) where
   no : (IsSound t → ⊥) → ⊥
   no f = ∥∥₁_elim h (λ x y. absurd x) f
 
@@ -71,6 +72,34 @@ module _ (t : Table) (h : ∥ IsSound t ∥₁) (good : HasBuckets t) (usual : E
 
   most : (a b : ℕ) → (IsSound t → a ≤ b) → a ≤ b
   most a b f = let lt = less a (b + 1) (λ s. let le = f s in omega (arith, le)) in omega (arith, lt)
+
+  -- ---- S1, S5 and S6
+
+  buckets_kept : HasBuckets t
+  buckets_kept = record {
+    some = λ lt. less 0 (bucket_count t) (λ s. (s buckets).some lt);
+    from_zero = λ lt. number (bucket t 0) 0 (λ s. (s buckets).from_zero lt);
+    rising = λ b lt. most (bucket t b) (bucket t (b + 1)) (λ s. (s buckets).rising b lt);
+    counted = λ b lt. most (bucket t b) (item_count t) (λ s. (s buckets).counted b lt);
+  }
+
+  span_kept : EachItem t (IsInSpan t)
+  span_kept i here = record {
+    first = most (span_start t (item t i).hash) i (λ s. (s span i here).first);
+    before = less i (span_end t (item t i).hash) (λ s. (s span i here).before);
+  }
+
+  bits_of : (code : ℕ) → bloom_words t ≢ 0 → PassesBloom t code → IsBitSet (bloom_word_of t code) (code % 32) × IsBitSet (bloom_word_of t code) (code / 2 ^ bloom_shift t % 32)
+  bits_of code some (inl none) = absurd (some none)
+  bits_of code some (inr bits) = bits
+
+  bloom_kept : EachItem t (IsInBloom t)
+  bloom_kept i here =
+      by_bool (eqb (bloom_words t) 0) (IsInBloom t i)
+      (λ none. inl (eqb-true (bloom_words t) 0 none))
+      (λ some.
+      let bits = bits_of (item t i).hash (eqb-false (bloom_words t) 0 some) in
+      inr (λ e. no (λ s. (bits (s bloom i here)).0 e), λ e. no (λ s. (bits (s bloom i here)).1 e)))
 
   -- ---- S2 and S3
 
@@ -109,8 +138,12 @@ module _ (t : Table) (h : ∥ IsSound t ∥₁) (good : HasBuckets t) (usual : E
 
   content_kept : EachItem t (HasContent t)
   content_kept i here = record {
-    kind = kind_usual (item t i).kind (usual i here).0;
-    valid = (usual i here).1;
+    kind = kind_usual (item t i).kind (usual i here);
+    valid = record {
+      ordered = most (item t i).start (item t i).end (λ s. (s content i here).valid.ordered);
+      inside = most (item t i).end (length t.file) (λ s. (s content i here).valid.inside);
+      aligned = number ((item t i).start % alignment_of (item t i).kind) 0 (λ s. (s content i here).valid.aligned);
+    };
     whole = λ is. number _ _ (λ s. (s content i here).whole is);
   }
 
@@ -158,8 +191,8 @@ module _ (t : Table) (h : ∥ IsSound t ∥₁) (good : HasBuckets t) (usual : E
   top_here i (inr list) f = inl (list, bytes (key t i) (codes "/") (λ s. top_of i list (f s)))
 
   under_here : (i : ℕ) (o : Option ℕ) → i < item_count t → (IsSound t → HasParent t i o) → HasParent t i o
-  under_here i None here f = top_here i (usual i here).0 f
-  under_here i (Some p) here f = (number _ _ (λ s. (f s).0), part_here i (usual i here).0 (λ s. (f s).1))
+  under_here i None here f = top_here i (usual i here) f
+  under_here i (Some p) here f = (number _ _ (λ s. (f s).0), part_here i (usual i here) (λ s. (f s).1))
 
   place_kept : EachItem t (HasPlace t)
   place_kept i here = record {
@@ -189,17 +222,17 @@ module _ (t : Table) (h : ∥ IsSound t ∥₁) (good : HasBuckets t) (usual : E
   -- ---- S11: there is no table
 
   locks_kept : EachItem t (HasLocksIfAny t)
-  locks_kept i here named = absurd (no (λ s. no_table (item t i).kind (usual i here).0 (locks_are_a_table t i s named)))
+  locks_kept i here named = absurd (no (λ s. no_table (item t i).kind (usual i here) (locks_are_a_table t i s named)))
 
   -- ---- all rules
 
   pub settled : IsSound t
-  settled buckets = good
+  settled buckets = buckets_kept
   settled keys = keys_kept
   settled chain = chain_kept
   settled hash = hash_kept
-  settled span = spans
-  settled bloom = blooms
+  settled span = span_kept
+  settled bloom = bloom_kept
   settled once = once_kept
   settled content = content_kept
   settled place = place_kept

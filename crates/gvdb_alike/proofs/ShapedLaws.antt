@@ -10,9 +10,7 @@ use Rattle.dconf_model.proofs.ParentLaws.{parent_counted}
 use Rattle.dconf_model.proofs.DirectoryNames.{list_is_no_table, locks_are_a_table}
 use Rattle.dconf_model.proofs.PartsBelow.{value_is_no_table}
 use Rattle.gvdb_alike.specs.ItemsAlike.{HasLikeBytes, IsItemAlike}
-use Rattle.std.proofs.Math.Logic.{∥∥₁_map}
 use Rattle.gvdb_alike.proofs.ListLaws.{same_length, same_number}
-use Rattle.gvdb_alike.proofs.SettledLaws.{settled}
 
 kind_of : (kind : ℕ) (bytes same : List ℕ) → HasLikeBytes kind bytes same → IsKind kind
 kind_of kind bytes same (inl value) = inl value
@@ -180,7 +178,7 @@ module _ (t u : Table) (counted : item_count t ≡ item_count u) (each : EachIte
 
   -- ---- all rules
 
-  sound_by_shape : HasBuckets t → IsSound t
+  pub sound_by_shape : HasBuckets t → IsSound t
   sound_by_shape good buckets = good
   sound_by_shape good keys = keys_kept
   sound_by_shape good chain = chain_kept
@@ -192,12 +190,3 @@ module _ (t u : Table) (counted : item_count t ≡ item_count u) (each : EachIte
   sound_by_shape good place = place_kept
   sound_by_shape good lists = lists_kept
   sound_by_shape good locks = locks_kept
-
--- the same where it isn't known how the other table is sound
-pub known_by_shape : (t u : Table) → item_count t ≡ item_count u → EachItem t (IsItemAlike t u) → HasBuckets t → ∥ IsSound u ∥₁ → IsSound t
-known_by_shape t u counted each good known =
-    settled t (∥∥₁_map known (λ s. sound_by_shape t u counted each s good)) good (λ i here. (usual_of i (each i here).content.bytes, (each i here).content.valid)) (λ i here. (each i here).in_span) (λ i here. (each i here).in_bloom)
-  where
-    usual_of : (i : ℕ) → HasLikeBytes (item t i).kind (bytes_of t i) (bytes_of u i) → ((item t i).kind ≡ value_kind) ⊎ ((item t i).kind ≡ list_kind)
-    usual_of i (inl value) = inl value
-    usual_of i (inr list) = inr list.0

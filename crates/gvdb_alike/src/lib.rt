@@ -2,7 +2,8 @@
 //!
 //! A file that replaces another one mostly has the same items in the same order, and other bytes in a value or two. So
 //! [`is_shaped_as`] may tell that a table is sound by one that is, at a fraction of what [`gvdb_read::Table::check`]
-//! costs, and [`alike_before`], [`alike_from`] and [`has_elsewhere`] tell where values differ. No call takes memory.
+//! costs, and [`differing_items`] and [`has_elsewhere`] tell where values differ. Where both files have one length,
+//! [`differing_span`] tells first where they do. No call takes memory.
 //!
 //! Where `before` is a sound database, and `file` is one of the same keys:
 //!
@@ -12,12 +13,14 @@
 //! ```
 #![tactic(auto)]
 
+mod differing;
 mod elsewhere;
-mod named;
+mod patch;
 mod shaped;
+mod span;
 mod valued;
 
+pub use differing::{ItemSpan, differing_items};
 pub use elsewhere::has_elsewhere;
-pub use named::are_named_alike;
 pub use shaped::is_shaped_as;
-pub use valued::{alike_before, alike_from};
+pub use span::{DifferingSpan, differing_span};

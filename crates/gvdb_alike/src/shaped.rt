@@ -5,8 +5,10 @@ ghost use Rattle.dconf_model.specs.Sound.{IsSound};
 ghost use Rattle.dconf_model.specs.Table.{item_count};
 ghost use Rattle.gvdb_read.specs.Tables.{region};
 ghost use Rattle.gvdb_alike.specs.ItemsAlike.{HasLikeBytes, HasLikeContent, IsItemAlike};
+ghost use Rattle.gvdb_alike.specs.SameBytes.{IsShapeKept};
 
-use crate::named::is_step_alike;
+use crate::differing::is_step_alike;
+use crate::patch::Patch;
 use gvdb_read::Table;
 use gvdb_read::format::Kind;
 
@@ -14,29 +16,42 @@ use gvdb_read::format::Kind;
 /// name, kind and hash, in good buckets; and lists have the same numbers. False says nothing, and is the answer to each
 /// table that points to tables.
 ///
-/// It looks at each bucket of the table, and at each record, each key and each list of both. The bytes of values it
-/// passes over, as soundness does.
+/// Where both files have one length it compares them, and of what has the same bytes it looks at the records alone. Else, and of
+/// the rest, it looks at each bucket of the table, and at each record, each key and each list of both. The bytes of
+/// values it passes over, as soundness does.
 pub fn is_shaped_as(table: Table<'_>, sound: Table<'_>) -> bool
     ensures { IsTrue result → ∥ IsSound (region sound.entry) ∥₁ → IsSound (region table.entry) }
 {
-    table.n_items() == sound.n_items() && table.has_buckets() && are_items_alike(table, sound)
+    if table.n_items() != sound.n_items() {
+        return false;
+    }
+    let patch = Patch::of(table, sound);
+    patch.has_buckets() && are_items_alike(patch)
 }
 
 /// Whether each item of a table is like that of the other one at its place.
-fn are_items_alike(table: Table<'_>, sound: Table<'_>) -> bool
-    requires { item_count (region table) ≡ item_count (region sound) }
-    ensures { IsTrue result → EachItem (region table.entry) (IsItemAlike (region table.entry) (region sound.entry)) }
+fn are_items_alike(patch: Patch<'_>) -> bool
+    requires { item_count (region patch.table) ≡ item_count (region patch.other) }
+    ensures { IsTrue result → EachItem (region patch.entry.table) (IsShapeKept (region patch.entry.table) (region patch.entry.other)) }
 {
-    for i in 0..table.n_items() {
-        if !is_item_alike(table, sound, i) {
+    for i in 0..patch.table.n_items() {
+        if !keeps_shape(patch, i) {
             return false;
         }
     }
     true
 }
 
-/// Whether item `i` is found by its hash, and is like that of the other table.
+/// Whether item `i` is like that of the other table, by its bytes or by its parts.
 #[inline(always)]
+fn keeps_shape(patch: Patch<'_>, i: u32) -> bool
+    requires { i < item_count (region patch.table) }
+    ensures { IsTrue result → IsShapeKept (region patch.entry.table) (region patch.entry.other) i }
+{
+    patch.has_same_shape(i) || is_item_alike(patch.table, patch.other, i)
+}
+
+/// Whether item `i` is found by its hash, and is like that of the other table.
 fn is_item_alike(table: Table<'_>, sound: Table<'_>, i: u32) -> bool
     requires { i < item_count (region table) }
     ensures { IsTrue result → IsItemAlike (region table.entry) (region sound.entry) i }

@@ -14,5 +14,5 @@ pub(crate) use header::{HEAD_LEN, WORD_LEN};
 pub use header::{HEADER_LEN, LOCKS, SIGNATURE};
 pub use kind::Kind;
 pub(crate) use number::{NUMBER_LEN, number, read_u8, read_u16, read_u32};
-pub use record::ItemRecord;
-pub(crate) use record::{RECORD_LEN, parent};
+pub(crate) use record::parent;
+pub use record::{ItemRecord, RECORD_LEN};

@@ -1,7 +1,7 @@
 //! A table of a file: where it opens, and its items.
 ghost use Rattle.std.specs.Prelude.{◌≡◌, ◌+◌, ◌<◌, ◌≤◌, ◌^◌, ◌↔◌, length, slice_range};
 ghost use Rattle.std.specs.Prelude.{IsOk, IsSome, IsTrue, IfErr, IfNone, IfOk, IfSome};
-ghost use Rattle.dconf_model.specs.Table.{HasHead, HasItems, IsValidPointer, alignment_of, item, item_count, table_of};
+ghost use Rattle.dconf_model.specs.Table.{HasHead, HasItems, IsValidPointer, Opens, alignment_of, item, item_count, table_of};
 ghost use Rattle.dconf_model.specs.Opening.{IsDatabase, IsOpenFault, root_of};
 ghost use Rattle.gvdb_read.specs.Faults.{open_fault_of};
 ghost use Rattle.gvdb_read.specs.Opened.{IsOpened};
@@ -63,6 +63,16 @@ impl<'a> Table<'a> {
         ensures { result.now ≡ (region self.entry).file }
     {
         self.file
+    }
+
+    /// Where in its file the table starts and ends.
+    #[inline(always)]
+    pub fn bounds(self) -> (usize, usize)
+        ensures start { result.0 ≡ (region self.entry).start }
+        ensures end { result.1 ≡ (region self.entry).end }
+        ensures opens { Opens (region self.entry) }
+    {
+        (self.start, self.end)
     }
 
     /// How many items the table has.
@@ -138,9 +148,9 @@ impl<'a> Table<'a> {
         })
     }
 
-    /// The numbers of item `i`.
+    /// The numbers of item `i`, as they are stored.
     #[inline(always)]
-    pub(crate) fn stored(self, i: u32) -> ItemRecord
+    pub fn stored(self, i: u32) -> ItemRecord
         requires { i < item_count (region self) }
         ensures { item_of result ≡ item (region self.entry) i }
     {

@@ -4,7 +4,7 @@ use crate::rows::hold;
 use crate::samples::{file_of, sample};
 use gv_types::Steps;
 use gv_view::View;
-use gvdb_alike::{alike_before, alike_from, are_named_alike, has_elsewhere, is_shaped_as};
+use gvdb_alike::{differing_items, differing_span, has_elsewhere, is_shaped_as};
 use gvdb_read::{HashedName, Table, hash, hash_with};
 use std::alloc::{AllocError, Global};
 use std::fmt::Write;
@@ -124,43 +124,44 @@ plain 40=1 41=0 42=0 43=0; 1 => none false Some(0) Some([107]) v Some([5, 0, 0, 
 plain 68=102 76=97; 1 => none false Some(0) None v None None
 ";
 
-/// Whether a file is seen to be sound by another one, whether their items have the same names, which items have other values, and
-/// how many of them the other one has anywhere.
+/// Where two files differ; whether one is seen to be sound by the other; which items have other values, if their names are seen to
+/// be the same; and how many of them the other one has anywhere.
 pub(crate) fn alike(alloc: Global, asked: &str, found: &mut String) -> Result<(), Fail> {
     let (file, other) = asked.split_once("; ").unwrap_or((asked, ""));
     let (file, other) = (file_of(alloc, file)?, file_of(alloc, other)?);
+    let span = differing_span(&file, &other).map(|span| (span.first, span.last));
     let (table, other) = (Table::open(&file)?, Table::open(&other)?);
-    let (shaped, named) = (is_shaped_as(table, other), are_named_alike(table, other));
-    let first = alike_before(table, other);
-    let end = alike_from(table, other, first);
+    let shaped = is_shaped_as(table, other);
+    let items = differing_items(table, other).map(|items| (items.first, items.end));
     let there = (0..table.n_items())
         .filter(|i| has_elsewhere(table, *i, other))
         .count();
-    write!(found, " {shaped} {named} {first}..{end} {there}")?;
+    write!(found, " {span:?} {shaped} {items:?} {there}")?;
     Ok(())
 }
 
 const ALIKE: &str = "
-plain; plain => true true 2..2 2
-plain 96=6; plain => true true 1..2 1
-plain; buckets => true true 2..2 2
-buckets; plain => true true 2..2 2
-32 20=32 28=0; 32 20=32 28=0 => true true 0..0 0
+plain; plain => None true Some((0, 0)) 2
+plain 96=6; plain => Some((96, 96)) true Some((1, 2)) 1
+plain; buckets => Some((20, 109)) true Some((0, 0)) 2
+buckets; plain => Some((20, 109)) true Some((0, 0)) 2
+32 20=32 28=0; 32 20=32 28=0 => None true Some((0, 0)) 0
 -- a table of locks is asked anew
-locked; locked => false true 3..3 3
+locked; locked => None false Some((0, 0)) 3
 -- another hash, key, number in a list, kind, and bucket; a bloom word that rules the key out, and a value past the file
-plain 36=0; plain => false true 2..2 1
-plain 85=108; plain => false false 2..2 1
-plain 88=0; plain => false true 2..2 2
-plain 74=76; plain => false true 1..2 1
-plain 32=1; plain => false true 2..2 2
-buckets 32=0 33=0 34=0 35=0; buckets => false true 2..2 2
-plain 80=103; plain => false true 1..2 1
+plain 36=0; plain => Some((36, 36)) false Some((0, 0)) 1
+plain 85=108; plain => Some((85, 85)) false None 1
+plain 88=0; plain => Some((88, 88)) false Some((0, 0)) 2
+plain 88=0 96=6; plain => Some((88, 96)) false Some((1, 2)) 1
+plain 74=76; plain => Some((74, 74)) false Some((1, 2)) 1
+plain 32=1; plain => Some((32, 32)) false Some((0, 0)) 2
+buckets 32=0 33=0 34=0 35=0; buckets => Some((32, 35)) false Some((0, 0)) 2
+plain 80=103; plain => Some((80, 80)) false Some((1, 2)) 1
 -- the other's item is no list of numbers
-plain; plain 56=89 => false true 2..2 2
+plain; plain 56=89 => Some((56, 56)) false Some((0, 0)) 2
 -- more and fewer items
-plain; locked => false false 1..2 2
-32 20=32 28=0; plain => false false 0..0 0
+plain; locked => Some((20, 170)) false None 2
+32 20=32 28=0; plain => Some((20, 101)) false None 0
 ";
 
 /// Whether the item `.locks` is a table of one lock, `/k`, which has no text. A table of half an item is none.

@@ -9,7 +9,7 @@ use super::number::{push_u16, push_u32, read_u8, read_u16, read_u32};
 use std::alloc::AllocError;
 
 /// How many bytes a record has.
-pub(crate) const RECORD_LEN: usize = 24;
+pub const RECORD_LEN: usize = 24;
 
 /// An item's numbers: where its key is, and where its content starts and ends. Any bytes are some item's.
 #[derive(Clone, Copy, Debug, PartialEq, Eq)]
