@@ -13,14 +13,15 @@ use Rattle.dconf_cli.specs.Endings.{Ends}
 use Rattle.dconf_streams.specs.Streams.{Rose}
 use Rattle.dconf_cli.proofs.StreamsLeft.{leaves_line, leaves_text}
 use Rattle.std.specs.Prelude.{codes, string_bytes}
+use Rattle.dconf_disk.specs.declared.folder.Folder.{Ghosts}
 use Rattle.dconf_streams.specs.declared.refusal.Refusal.{Refusal}
 use Rattle.dconf_streams.specs.declared.refusal.Refusal.TheVariants.{Line, NoMemory}
 
-module _ {F O E : Type 0} (past : F → List Event → Type 0) (failures : F → ℕ) (contents : O → Option (List ℕ)) (err_contents : E → Option (List ℕ)) where
+module _ {F O E : Type 0} (ghosts : Ghosts F) (contents : O → Option (List ℕ)) (err_contents : E → Option (List ℕ)) where
   -- the outcome was given: an output came about, and was left on out and err
   abbrev pub Gives : F → F → Counted O → Counted O → Counted E → Counted E → Option Outcome → ℕ → Type 0
   Gives old new out_old out_new err_old err_new o status =
-      (output : Output) × Ends past failures old new o output × Leaves contents err_contents out_old out_new err_old err_new output status
+      (output : Output) × Ends ghosts old new o output × Leaves contents err_contents out_old out_new err_old err_new output status
 
   abbrev Wrote : Counted E → Counted E → List ℕ → Type 0
   Wrote err_old err_new line = Unfailed err_old err_new → Grew err_contents err_old err_new line
@@ -51,8 +52,8 @@ module _ {F O E : Type 0} (past : F → List Event → Type 0) (failures : F →
       leaves_line contents err_contents out err_old err_new (codes "error: Memory" ++ 10 ∷ []) status is h,
     )
 
-    pub gives_change : (called held : List ℕ) → called ≡ name → held ≡ bytes → failures new ≡ failures old
-        → ((es : List Event) → past old es → (now : List Event) × past new now × Replaced es now called held)
+    pub gives_change : (called held : List ℕ) → called ≡ name → held ≡ bytes → ghosts.failed new ≡ ghosts.failed old
+        → ((es : List Event) → ghosts.past old es → (now : List Event) × ghosts.past new now × Replaced es now called held)
         → (out_old out_new : Counted O) (err : Counted E) (put : List ℕ) (status : ℕ) → put ≡ text → Prints contents out_old out_new put status
         → Gives old new out_old out_new err err (Some (changing name bytes text)) status
     gives_change called held named whole same replaced out_old out_new err put status is h = (
@@ -61,8 +62,8 @@ module _ {F O E : Type 0} (past : F → List Event → Type 0) (failures : F →
       leaves_text contents err_contents out_old out_new err text status (subst (λ t. Prints contents out_old out_new t status) is h),
     )
 
-    pub gives_device : (called held : List ℕ) → called ≡ name → held ≡ bytes → Rose (failures old) (failures new)
-        → ((es : List Event) → past old es → (now : List Event) × past new now × MaybeReplaced es now called held)
+    pub gives_device : (called held : List ℕ) → called ≡ name → held ≡ bytes → Rose (ghosts.failed old) (ghosts.failed new)
+        → ((es : List Event) → ghosts.past old es → (now : List Event) × ghosts.past new now × MaybeReplaced es now called held)
         → (out : Counted O) (err_old err_new : Counted E) (put : List ℕ) (status : ℕ) → put ≡ codes "error: Device " ++ (name ++ 10 ∷ []) → status ≡ 1
         → Wrote err_old err_new put → Gives old new out out err_old err_new (Some (changing name bytes text)) status
     gives_device called held named whole rose maybe out err_old err_new put status is one h = (

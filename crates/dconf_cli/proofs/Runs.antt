@@ -1,10 +1,11 @@
 -- What a run did, by what its command decided and by how the answer came about.
 use Rattle.std.proofs.Common.{◌≡◌, ◌+◌, ◌∷◌, ◌⊎◌, ◌∙◌, inl, inr, ℕ, Bool, true, false, zero, suc, List, [], Option, Some, None, Ok, Err, refl, sym, ap, subst, arith}
-use Rattle.std.specs.Prelude.{◌≢◌, IfSome, codes}
+use Rattle.std.specs.Prelude.{◌≢◌, IfSome, IsTrue, codes}
 use Rattle.std.specs.Str.{bytes_eq}
 use Rattle.std.proofs.Math.Dec.{eqb}
 use Rattle.std.proofs.lemmas.Bool.Decides.{eqb_tells}
 use Rattle.std.proofs.lemmas.Slice.Eq.{bytes_eq-Decides}
+use Rattle.dconf_disk.specs.declared.folder.Folder.{Ghosts}
 use Rattle.dconf_model.specs.Folders.{Event, read_content}
 use Rattle.dconf_model.specs.FaultTexts.{device_text}
 use Rattle.dconf_model.specs.Replacing.{MaybeReplaced, ReadsWhole, new_name}
@@ -106,23 +107,23 @@ not_both n z o = omega arith
 
 -- ---- how an outcome came about
 
-module _ {F : Type 0} (past : F → List Event → Type 0) (failures : F → ℕ) (command : Command) (input : Input) (mid new : F) (output : Output) where
+module _ {F : Type 0} (ghosts : Ghosts F) (command : Command) (input : Input) (mid new : F) (output : Output) where
   -- in a folder of these events, for an outcome by these reads
   record Ended (reads : ReadResults) (es : List Event) : Type 0 where
     now : List Event
-    is : past new now
+    is : ghosts.past new now
     answers_in : AnswersIn command input reads es now output
     refused : output.status ≡ 1 → (now ≡ es) ⊎ ((name : List ℕ) × (bytes : List ℕ) × (output ≡ refused_output (device_text name)) × MaybeReplaced es now name bytes)
 
-  module _ (reads : ReadResults) (es : List Event) (es_is : past mid es) where
+  module _ (reads : ReadResults) (es : List Event) (es_is : ghosts.past mid es) where
     unchanged : NoMemory output → new ≡ mid → Ended reads es
-    unchanged none same = record { now = es; is = subst (λ f. past f es) (sym same) es_is; answers_in = inr (none, refl); refused = λ _. inl refl }
+    unchanged none same = record { now = es; is = subst (λ f. ghosts.past f es) (sym same) es_is; answers_in = inr (none, refl); refused = λ _. inl refl }
 
     ended_by : (o : Outcome) (change : Option Replacement) → o.change ≡ change → IsOutcome command reads input o
-        → (o.change ≡ None) ⊎ (o.output.status ≡ 0) → EndsBy past failures mid new o change output → Ended reads es
+        → (o.change ≡ None) ⊎ (o.output.status ≡ 0) → EndsBy ghosts mid new o change output → Ended reads es
     ended_by o None same is done e = record {
       now = es;
-      is = subst (λ f. past f es) (sym e.1) es_is;
+      is = subst (λ f. ghosts.past f es) (sym e.1) es_is;
       answers_in = inl (record { outcome = o; ending = as_meant; is = is; output_is = e.0 }, subst (λ c. Did c as_meant es es) (sym same) refl);
       refused = λ _. inl refl;
     }
@@ -149,88 +150,88 @@ module _ {F : Type 0} (past : F → List Event → Type 0) (failures : F → ℕ
     ended_by o (Some r) same is (inr zero_is) (inr (inr e)) = unchanged e.0 e.1
 
     ended : (o : Option Outcome) → IfSome o (λ x. IsOutcome command reads input x) → IfSome o (λ x. (x.change ≡ None) ⊎ (x.output.status ≡ 0))
-        → Ends past failures mid new o output → Ended reads es
+        → Ends ghosts mid new o output → Ended reads es
     ended None is done e = unchanged e.0 e.1
     ended (Some o) is done e = ended_by o o.change refl is done e
 
     -- where nothing failed
-    calmly_by : NoneFailed (failures mid) (failures new) → reads ≡ steady (read_content es) → (o : Outcome) (change : Option Replacement) → o.change ≡ change
-        → IsOutcome command (steady (read_content es)) input o → EndsBy past failures mid new o change output → (now : List Event) × past new now × RanCalmly command input es now output
+    calmly_by : NoneFailed (ghosts.failed mid) (ghosts.failed new) → reads ≡ steady (read_content es) → (o : Outcome) (change : Option Replacement) → o.change ≡ change
+        → IsOutcome command (steady (read_content es)) input o → EndsBy ghosts mid new o change output → (now : List Event) × ghosts.past new now × RanCalmly command input es now output
     calmly_by none rs o None same is e = (
       es,
-      subst (λ f. past f es) (sym e.1) es_is,
+      subst (λ f. ghosts.past f es) (sym e.1) es_is,
       inl (record { outcome = o; is = is; did = subst (λ c. Did c as_meant es es) (sym same) refl; output_is = e.0 }),
     )
     calmly_by none rs o (Some r) same is (inl e) =
         let after = e.2 es es_is in
         (after.0, after.1, inl (record { outcome = o; is = is; did = subst (λ c. Did c as_meant es after.0) (sym same) after.2; output_is = e.0 }))
     calmly_by none rs o (Some r) same is (inr (inl e)) = absurd (not_rose _ _ none e.1)
-    calmly_by none rs o (Some r) same is (inr (inr e)) = (es, subst (λ f. past f es) (sym e.1) es_is, inr (e.0, refl))
+    calmly_by none rs o (Some r) same is (inr (inr e)) = (es, subst (λ f. ghosts.past f es) (sym e.1) es_is, inr (e.0, refl))
 
-    calmly : NoneFailed (failures mid) (failures new) → reads ≡ steady (read_content es) → (o : Option Outcome)
-        → IfSome o (λ x. IsOutcome command (steady (read_content es)) input x) → Ends past failures mid new o output
-        → (now : List Event) × past new now × RanCalmly command input es now output
-    calmly none rs None is e = (es, subst (λ f. past f es) (sym e.1) es_is, inr (e.0, refl))
+    calmly : NoneFailed (ghosts.failed mid) (ghosts.failed new) → reads ≡ steady (read_content es) → (o : Option Outcome)
+        → IfSome o (λ x. IsOutcome command (steady (read_content es)) input x) → Ends ghosts mid new o output
+        → (now : List Event) × ghosts.past new now × RanCalmly command input es now output
+    calmly none rs None is e = (es, subst (λ f. ghosts.past f es) (sym e.1) es_is, inr (e.0, refl))
     calmly none rs (Some o) is e = calmly_by none rs o o.change refl is e
 
   -- in any folder
   anyhow_by : (reads : ReadResults) (o : Outcome) (change : Option Replacement) → o.change ≡ change → IsOutcome command reads input o
-      → EndsBy past failures mid new o change output → AnswersAny command input reads output
+      → EndsBy ghosts mid new o change output → AnswersAny command input reads output
   anyhow_by reads o None same is e = inl (record { outcome = o; ending = as_meant; is = is; output_is = e.0 })
   anyhow_by reads o (Some r) same is (inl e) = inl (record { outcome = o; ending = as_meant; is = is; output_is = e.0 })
   anyhow_by reads o (Some r) same is (inr (inl e)) =
       inl (record { outcome = o; ending = device; is = is; output_is = subst (λ c. output ≡ device_output o.output c) (sym same) e.0 })
   anyhow_by reads o (Some r) same is (inr (inr e)) = inr e.0
 
-  anyhow : (reads : ReadResults) (o : Option Outcome) → IfSome o (λ x. IsOutcome command reads input x) → Ends past failures mid new o output
+  anyhow : (reads : ReadResults) (o : Option Outcome) → IfSome o (λ x. IsOutcome command reads input x) → Ends ghosts mid new o output
       → AnswersAny command input reads output
   anyhow reads None is e = inr e.0
   anyhow reads (Some o) is e = anyhow_by reads o o.change refl is e
 
   -- a refusal leaves the folder as it is
-  refusal_stays : (o : Option Outcome) (why : List ℕ) → IfSome o (λ x. x ≡ refused why) → Ends past failures mid new o output → new ≡ mid
+  refusal_stays : (o : Option Outcome) (why : List ℕ) → IfSome o (λ x. x ≡ refused why) → Ends ghosts mid new o output → new ≡ mid
   refusal_stays None why is e = e.1
-  refusal_stays (Some o) why is e = (subst (λ (x : Outcome). EndsBy past failures mid new x x.change output) is e).1
+  refusal_stays (Some o) why is e = (subst (λ (x : Outcome). EndsBy ghosts mid new x x.change output) is e).1
 
-  refusal_says : (o : Option Outcome) (why : List ℕ) → IfSome o (λ x. x ≡ refused why) → Ends past failures mid new o output
+  refusal_says : (o : Option Outcome) (why : List ℕ) → IfSome o (λ x. x ≡ refused why) → Ends ghosts mid new o output
       → (output ≡ refused_output why) ⊎ NoMemory output
   refusal_says None why is e = inr e.0
-  refusal_says (Some o) why is e = inl (subst (λ (x : Outcome). EndsBy past failures mid new x x.change output) is e).0
+  refusal_says (Some o) why is e = inl (subst (λ (x : Outcome). EndsBy ghosts mid new x x.change output) is e).0
 
-  formed_by : (o : Outcome) (change : Option Replacement) → IsFormed o.output → EndsBy past failures mid new o change output → IsFormed output
+  formed_by : (o : Outcome) (change : Option Replacement) → IsFormed o.output → EndsBy ghosts mid new o change output → IsFormed output
   formed_by o None form e = subst (λ (x : Output). IsFormed x) (sym e.0) form
   formed_by o (Some r) form (inl e) = subst (λ (x : Output). IsFormed x) (sym e.0) form
   formed_by o (Some r) form (inr (inl e)) = line_formed output (device_text r.name) e.0
   formed_by o (Some r) form (inr (inr e)) = line_formed output (codes "Memory") e.0
 
-  formed : (o : Option Outcome) → IfSome o (λ x. IsFormed x.output) → Ends past failures mid new o output → IsFormed output
+  formed : (o : Option Outcome) → IfSome o (λ x. IsFormed x.output) → Ends ghosts mid new o output → IsFormed output
   formed None form e = line_formed output (codes "Memory") e.0
   formed (Some o) form e = formed_by o o.change form e
 
   -- status 0 comes only where no failure rose
-  kept_by : (o : Outcome) (change : Option Replacement) → output.status ≡ 0 → EndsBy past failures mid new o change output → failures new ≡ failures mid
-  kept_by o None zero_is e = ap failures e.1
+  kept_by : (o : Outcome) (change : Option Replacement) → output.status ≡ 0 → EndsBy ghosts mid new o change output → ghosts.failed new ≡ ghosts.failed mid
+  kept_by o None zero_is e = ap ghosts.failed e.1
   kept_by o (Some r) zero_is (inl e) = e.1
   kept_by o (Some r) zero_is (inr (inl e)) = absurd (not_both output.status zero_is (line_status output (device_text r.name) e.0))
-  kept_by o (Some r) zero_is (inr (inr e)) = ap failures e.1
+  kept_by o (Some r) zero_is (inr (inr e)) = ap ghosts.failed e.1
 
-  kept : (o : Option Outcome) → output.status ≡ 0 → Ends past failures mid new o output → failures new ≡ failures mid
-  kept None zero_is e = ap failures e.1
+  kept : (o : Option Outcome) → output.status ≡ 0 → Ends ghosts mid new o output → ghosts.failed new ≡ ghosts.failed mid
+  kept None zero_is e = ap ghosts.failed e.1
   kept (Some o) zero_is e = kept_by o o.change zero_is e
 
   -- a failure that rose while a file was replaced
-  broke_by : (o : Outcome) (change : Option Replacement) → o.change ≡ change → failures new ≢ failures mid → (log : List Reading)
-      → ((reads : ReadResults) → Gave reads 0 log → IsOutcome command reads input o) → EndsBy past failures mid new o change output
+  broke_by : (o : Outcome) (change : Option Replacement) → o.change ≡ change → ghosts.failed new ≢ ghosts.failed mid → (log : List Reading)
+      → ((reads : ReadResults) → Gave reads 0 log → IsOutcome command reads input o) → EndsBy ghosts mid new o change output
       → NamesFile command input log output ⊎ NoMemory output
-  broke_by o None same rose log is e = absurd (rose (ap failures e.1))
+  broke_by o None same rose log is e = absurd (rose (ap ghosts.failed e.1))
   broke_by o (Some r) same rose log is (inl e) = absurd (rose e.1)
   broke_by o (Some r) same rose log is (inr (inl e)) = inl (r.name, e.0, inr (λ reads gave. (r.bytes, (o, is reads gave, same))))
-  broke_by o (Some r) same rose log is (inr (inr e)) = absurd (rose (ap failures e.1))
+  broke_by o (Some r) same rose log is (inr (inr e)) = absurd (rose (ap ghosts.failed e.1))
 
-  broke : (o : Option Outcome) → failures new ≢ failures mid → (log : List Reading)
-      → ((reads : ReadResults) → Gave reads 0 log → IfSome o (λ x. IsOutcome command reads input x)) → Ends past failures mid new o output
+  broke : (o : Option Outcome) → ghosts.failed new ≢ ghosts.failed mid → (log : List Reading)
+      → ((reads : ReadResults) → Gave reads 0 log → IfSome o (λ x. IsOutcome command reads input x)) → Ends ghosts mid new o output
       → NamesFile command input log output ⊎ NoMemory output
-  broke None rose log is e = absurd (rose (ap failures e.1))
+  broke None rose log is e = absurd (rose (ap ghosts.failed e.1))
   broke (Some o) rose log is e = broke_by o o.change refl rose log is e
 
 -- ---- a run
@@ -260,14 +261,14 @@ others_keep command input reads es now output given (inl did) name = by_change d
     by_change (Some r) same as_meant d = whole r same d.others _ _ refl refl
     by_change (Some r) same device d = whole r same d.whole _ _ refl refl
 
-module _ {F : Type 0} (past : F → List Event → Type 0) (failures : F → ℕ) (command : Command) (input : Input) (old mid new : F) (answer : Answered) (output : Output)
-    (d : Decides past failures old mid 0 (λ reads. IsOutcome command reads input) answer) (e : Ends past failures mid new (outcome_of answer) output) where
-  pub ran : (es : List Event) → past old es → (now : List Event) × past new now × Ran command input es now output × KeepsFiles command input es now output
-  ran es es_is =
-      let known = d.known es es_is in
+module _ {F : Type 0} (ghosts : Ghosts F) (command : Command) (input : Input) (old mid new : F) (answer : Answered) (output : Output)
+    (d : Decides ghosts old mid 0 (λ reads. IsOutcome command reads input) answer) (e : Ends ghosts mid new (outcome_of answer) output) where
+  pub ran : IsTrue (ghosts.honest mid) → (es : List Event) → ghosts.past old es → (now : List Event) × ghosts.past new now × Ran command input es now output × KeepsFiles command input es now output
+  ran t es es_is =
+      let known = d.known t es es_is in
       let reads = reads_in es d.log in
-      let end : Ended past failures command input mid new output reads es =
-      ended past failures command input mid new output reads es known.0 (outcome_of answer) (d.answers reads (gave_all es d.log known.1)) (changes_done answer) e in
+      let end : Ended ghosts command input mid new output reads es =
+      ended ghosts command input mid new output reads es (d.kept.past es es_is) (outcome_of answer) (d.answers reads (gave_all es d.log known)) (changes_done answer) e in
       let given = given_in es d.log in (
         end.now,
         end.is,
@@ -278,47 +279,47 @@ module _ {F : Type 0} (past : F → List Event → Type 0) (failures : F → ℕ
         },
       )
 
-  none_rose : NoneFailed (failures old) (failures new) → Tells (failures old) (failures mid) d.log answer → AllRead d.log × (failures mid ≡ failures old)
+  none_rose : NoneFailed (ghosts.failed old) (ghosts.failed new) → Tells (ghosts.failed old) (ghosts.failed mid) d.log answer → AllRead d.log × (ghosts.failed mid ≡ ghosts.failed old)
   none_rose none (inl all) = all
   none_rose none (inr broken) =
-      let stays : new ≡ mid = refusal_stays past failures command input mid new output (outcome_of answer) (device_text broken.0) broken.3 e in
-      absurd (not_rose _ _ (subst (λ (n : ℕ). NoneFailed (failures old) n) (ap failures stays) none) broken.2)
+      let stays : new ≡ mid = refusal_stays ghosts command input mid new output (outcome_of answer) (device_text broken.0) broken.3 e in
+      absurd (not_rose _ _ (subst (λ (n : ℕ). NoneFailed (ghosts.failed old) n) (ap ghosts.failed stays) none) broken.2)
 
-  pub ran_calmly : NoneFailed (failures old) (failures new) → (es : List Event) → past old es
-      → (now : List Event) × past new now × RanCalmly command input es now output
-  ran_calmly none es es_is =
-      let known = d.known es es_is in
+  pub ran_calmly : IsTrue (ghosts.honest mid) → NoneFailed (ghosts.failed old) (ghosts.failed new) → (es : List Event) → ghosts.past old es
+      → (now : List Event) × ghosts.past new now × RanCalmly command input es now output
+  ran_calmly t none es es_is =
+      let known = d.known t es es_is in
       let all = none_rose none d.tells in
-      calmly past failures command input mid new output (steady (read_content es)) es known.0 (subst (λ (n : ℕ). NoneFailed n (failures new)) (sym all.1) none) refl
-      (outcome_of answer) (d.answers (steady (read_content es)) (gave_steadily es d.log 0 known.1 all.0)) e
+      calmly ghosts command input mid new output (steady (read_content es)) es (d.kept.past es es_is) (subst (λ (n : ℕ). NoneFailed n (ghosts.failed new)) (sym all.1) none) refl
+      (outcome_of answer) (d.answers (steady (read_content es)) (gave_steadily es d.log 0 known all.0)) e
 
-  named : failures new ≢ failures old → Tells (failures old) (failures mid) d.log answer → NamesFile command input d.log output ⊎ NoMemory output
+  named : ghosts.failed new ≢ ghosts.failed old → Tells (ghosts.failed old) (ghosts.failed mid) d.log answer → NamesFile command input d.log output ⊎ NoMemory output
   named rose (inl all) =
-      broke past failures command input mid new output (outcome_of answer) (λ same. rose (same ∙ all.1)) d.log d.answers e
-  named rose (inr broken) = says (refusal_says past failures command input mid new output (outcome_of answer) (device_text broken.0) broken.3 e)
+      broke ghosts command input mid new output (outcome_of answer) (λ same. rose (same ∙ all.1)) d.log d.answers e
+  named rose (inr broken) = says (refusal_says ghosts command input mid new output (outcome_of answer) (device_text broken.0) broken.3 e)
     where
       says : (output ≡ refused_output (device_text broken.0)) ⊎ NoMemory output → NamesFile command input d.log output ⊎ NoMemory output
       says (inl is) = inl (broken.0, is, inl broken.1)
       says (inr none) = inr none
 
-  pub ran_anywhere : RanAnywhere (failures old) (failures new) command input output
+  pub ran_anywhere : RanAnywhere (ghosts.failed old) (ghosts.failed new) command input output
   ran_anywhere = record {
     log = d.log;
-    answers = λ reads gave. anyhow past failures command input mid new output reads (outcome_of answer) (d.answers reads gave) e;
+    answers = λ reads gave. anyhow ghosts command input mid new output reads (outcome_of answer) (d.answers reads gave) e;
     device = λ rose. named rose d.tells;
-    form = formed past failures command input mid new output (outcome_of answer) (outcome_formed answer) e;
+    form = formed ghosts command input mid new output (outcome_of answer) (outcome_formed answer) e;
   }
 
-  pub zero_keeps : output.status ≡ 0 → failures new ≡ failures old
+  pub zero_keeps : output.status ≡ 0 → ghosts.failed new ≡ ghosts.failed old
   zero_keeps zero_is = go d.tells
     where
-      failing : (why : List ℕ) → (output ≡ refused_output why) ⊎ NoMemory output → failures new ≡ failures old
+      failing : (why : List ℕ) → (output ≡ refused_output why) ⊎ NoMemory output → ghosts.failed new ≡ ghosts.failed old
       failing why (inl is) = absurd (not_both output.status zero_is (line_status output why is))
       failing why (inr is) = absurd (not_both output.status zero_is (line_status output (codes "Memory") is))
 
-      go : Tells (failures old) (failures mid) d.log answer → failures new ≡ failures old
-      go (inl all) = kept past failures command input mid new output (outcome_of answer) zero_is e ∙ all.1
-      go (inr broken) = failing (device_text broken.0) (refusal_says past failures command input mid new output (outcome_of answer) (device_text broken.0) broken.3 e)
+      go : Tells (ghosts.failed old) (ghosts.failed mid) d.log answer → ghosts.failed new ≡ ghosts.failed old
+      go (inl all) = kept ghosts command input mid new output (outcome_of answer) zero_is e ∙ all.1
+      go (inr broken) = failing (device_text broken.0) (refusal_says ghosts command input mid new output (outcome_of answer) (device_text broken.0) broken.3 e)
 
   -- it is not 0 where the input failed
   pub zero_keeps_input : (failed_old failed_new : ℕ) → (failed_new ≢ failed_old → RefusesFor answer (device_text (codes "input")))
@@ -332,8 +333,8 @@ module _ {F : Type 0} (past : F → List Event → Type 0) (failures : F → ℕ
       go : ((eqb failed_new failed_old ≡ true) × (failed_new ≡ failed_old)) ⊎ ((eqb failed_new failed_old ≡ false) × (failed_new ≢ failed_old)) → failed_new ≡ failed_old
       go (inl same) = same.1
       go (inr other) =
-          failing (refusal_says past failures command input mid new output (outcome_of answer) (device_text (codes "input")) (says other.1) e)
+          failing (refusal_says ghosts command input mid new output (outcome_of answer) (device_text (codes "input")) (says other.1) e)
 
   -- of an input that failed the output says so
   pub says_failed_input : RefusesFor answer (device_text (codes "input")) → SaysFailedInput output
-  says_failed_input says = refusal_says past failures command input mid new output (outcome_of answer) (device_text (codes "input")) says e
+  says_failed_input says = refusal_says ghosts command input mid new output (outcome_of answer) (device_text (codes "input")) says e

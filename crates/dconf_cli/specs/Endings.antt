@@ -1,5 +1,6 @@
 -- How an answer comes about in a folder.
 use Rattle.std.specs.Prelude.{◌≡◌, ◌⊎◌, ℕ, List, Option, Some, None}
+use Rattle.dconf_disk.specs.declared.folder.Folder.{Ghosts}
 use Rattle.dconf_model.specs.Folders.{Event}
 use Rattle.dconf_model.specs.FaultTexts.{device_text}
 use Rattle.dconf_model.specs.Replacing.{Replaced, MaybeReplaced}
@@ -7,13 +8,13 @@ use Rattle.dconf_model.specs.Outcomes.{Outcome, Output, Replacement, refused_out
 use Rattle.dconf_model.specs.Runs.{NoMemory}
 use Rattle.dconf_streams.specs.Streams.{Rose}
 
-module _ {F : Type 0} (past : F → List Event → Type 0) (failures : F → ℕ) (old new : F) where
+module _ {F : Type 0} (ghosts : Ghosts F) (old new : F) where
   -- a file was replaced; or the device failed, and the file is the old one or the new one; or memory ran out, and nothing was done
   abbrev pub Replaces : Outcome → Replacement → Output → Type 0
   Replaces o r output =
-      ((output ≡ o.output) × (failures new ≡ failures old) × ((es : List Event) → past old es → (now : List Event) × past new now × Replaced es now r.name r.bytes))
-      ⊎ (((output ≡ refused_output (device_text r.name)) × Rose (failures old) (failures new)
-      × ((es : List Event) → past old es → (now : List Event) × past new now × MaybeReplaced es now r.name r.bytes))
+      ((output ≡ o.output) × (ghosts.failed new ≡ ghosts.failed old) × ((es : List Event) → ghosts.past old es → (now : List Event) × ghosts.past new now × Replaced es now r.name r.bytes))
+      ⊎ (((output ≡ refused_output (device_text r.name)) × Rose (ghosts.failed old) (ghosts.failed new)
+      × ((es : List Event) → ghosts.past old es → (now : List Event) × ghosts.past new now × MaybeReplaced es now r.name r.bytes))
       ⊎ (NoMemory output × (new ≡ old)))
 
   abbrev pub EndsBy : Outcome → Option Replacement → Output → Type 0

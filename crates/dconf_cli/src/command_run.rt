@@ -1,5 +1,5 @@
 //! A run of a command: it reads, decides what it answers, and then writes.
-ghost use Rattle.std.specs.Prelude.{◌≡◌, ◌≢◌, ◌≤◌, List, false};
+ghost use Rattle.std.specs.Prelude.{◌≡◌, ◌≢◌, ◌≤◌, List, IsTrue, false};
 ghost use Rattle.dconf_model.specs.Folders.{Event};
 ghost use Rattle.dconf_model.specs.Outcomes.{Output};
 ghost use Rattle.dconf_model.specs.Reads.{Input};
@@ -46,15 +46,15 @@ pub fn run<F: Folder, I: Read, O: Write, E: Write>(
     out: &mut Counted<O>,
     err: &mut Counted<E>,
 ) -> u8
-    // In a folder whose events are known: exactly the command's outcome where no call of the folder failed,
-    ensures calm { NoneFailed (F.failed folder.old) (F.failed folder.new)
+    // In a folder whose events are known, and whose answers were true of it: exactly the command's outcome where no call of the folder failed,
+    ensures calm { IsTrue (F.honest folder.new) → NoneFailed (F.failed folder.old) (F.failed folder.new)
         → (old : List Event) → F.past folder.old old
         → (i : Input) × Took (I.remaining (inner_of input.old)) (failures_of input.old) (failures_of input.new) i
         × ((new : List Event) × F.past folder.new new
         × ((output : Output) × RanCalmly (command_of command) i old new output
         × Leaves O.contents E.contents out.old out.new err.old err.new output result)) }
     // and else what the reads that it made give, also where the device failed while a file was replaced.
-    ensures ran { (old : List Event) → F.past folder.old old
+    ensures ran { IsTrue (F.honest folder.new) → (old : List Event) → F.past folder.old old
         → (i : Input) × Took (I.remaining (inner_of input.old)) (failures_of input.old) (failures_of input.new) i
         × ((new : List Event) × F.past folder.new new
         × ((output : Output) × Ran (command_of command) i old new output
@@ -71,6 +71,11 @@ pub fn run<F: Folder, I: Read, O: Write, E: Write>(
     ensures zero { result ≡ 0 → (F.failed folder.new ≡ F.failed folder.old)
         × (failures_of input.new ≡ failures_of input.old) × (failures_of out.new ≡ failures_of out.old) }
     ensures failed_out { failures_of out.new ≢ failures_of out.old → (result ≡ 1) × (err.new ≡ err.old) }
+    // A file is replaced by who holds the turn to, from before the first read until after the last call.
+    ensures turn { F.holds_turn folder.new ≡ F.holds_turn folder.old }
+    ensures untouched { F.holds_turn folder.old ≡ false → (es : List Event) → F.past folder.old es → F.past folder.new es }
+    // What is true of the folder's answers is so of those before.
+    ensures honest { IsTrue (F.honest folder.new) → IsTrue (F.honest folder.old) }
     ensures status { result ≤ 1 }
     ensures input { reads_input (command_of command) ≡ false → input.new ≡ input.old }
     ensures limit { ConsumesText (I.remaining (inner_of input.old)) (I.remaining (inner_of input.new)) }

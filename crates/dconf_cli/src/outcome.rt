@@ -1,5 +1,6 @@
 //! How an outcome comes about: first the file that changes, and then out or err.
-ghost use Rattle.std.specs.Prelude.{◌≡◌, Ok};
+ghost use Rattle.std.specs.Prelude.{◌≡◌, List, IsTrue, Ok, false};
+ghost use Rattle.dconf_model.specs.Folders.{Event};
 ghost use Rattle.dconf_model.specs.Outcomes.{Output};
 ghost use Rattle.dconf_streams.specs.Answers.{line_of, outcome_of};
 ghost use Rattle.dconf_cli.specs.Outputs.{Grew, Leaves, Prints, Unfailed};
@@ -22,8 +23,11 @@ pub(crate) fn give<F: Folder, O: Write, E: Write>(
     out: &mut Counted<O>,
     err: &mut Counted<E>,
 ) -> u8
-    ensures { (output : Output) × Ends F.past F.failed folder.old folder.new (outcome_of answered) output
+    ensures ended { (output : Output) × Ends F.Folder folder.old folder.new (outcome_of answered) output
         × Leaves O.contents E.contents out.old out.new err.old err.new output result }
+    ensures honest { IsTrue (F.honest folder.new) → IsTrue (F.honest folder.old) }
+    ensures turn { F.holds_turn folder.new ≡ F.holds_turn folder.old }
+    ensures untouched { F.holds_turn folder.old ≡ false → (es : List Event) → F.past folder.old es → F.past folder.new es }
 {
     match answered {
         Ok(answer) => carry_out(alloc, answer, folder, out, err),
@@ -39,8 +43,11 @@ fn carry_out<F: Folder, O: Write, E: Write>(
     out: &mut Counted<O>,
     err: &mut Counted<E>,
 ) -> u8
-    ensures { (output : Output) × Ends F.past F.failed folder.old folder.new (outcome_of (Ok answer)) output
+    ensures ended { (output : Output) × Ends F.Folder folder.old folder.new (outcome_of (Ok answer)) output
         × Leaves O.contents E.contents out.old out.new err.old err.new output result }
+    ensures honest { IsTrue (F.honest folder.new) → IsTrue (F.honest folder.old) }
+    ensures turn { F.holds_turn folder.new ≡ F.holds_turn folder.old }
+    ensures untouched { F.holds_turn folder.old ≡ false → (es : List Event) → F.past folder.old es → F.past folder.new es }
 {
     match answer {
         Answer::Done(text) => print(text.as_bytes(), out),

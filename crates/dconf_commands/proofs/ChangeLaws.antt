@@ -3,6 +3,7 @@ use Rattle.std.proofs.Common.{◌≡◌, ◌≤◌, ◌<◌, ◌∷◌, ℕ, len
 use Rattle.std.proofs.lemmas.Bool.{lt-ltb, le-ltb}
 use Rattle.std.specs.Prelude.{IfSome, nat_lt, if◌then◌else◌}
 use Rattle.gv_model.specs.Tree.{Tree}
+use Rattle.dconf_disk.specs.declared.folder.Folder.{Ghosts}
 use Rattle.dconf_model.specs.Causes.{SettingsCause}
 use Rattle.dconf_model.specs.Causes.SettingsCause.{too_big}
 use Rattle.dconf_model.specs.Changes.{Refusal, all_storable, apply, saved, set_all, unless_locked}
@@ -98,8 +99,8 @@ pub refuses_word : (answer : Answered) (o : Option SettingsCause) (r : Result Tr
 refuses_word answer None r is h = answers_also answer (RefusedCause None) (OrCause r NoValue) (λ o none. absurd none) h
 refuses_word answer (Some c) r is h = subst (λ (x : Result Tree SettingsCause). GivesOutcome answer (OrCause x NoValue)) (sym is) h
 
-pub decides_with_value : {F : Type 0} (past : F → List Event → Type 0) (failures : F → ℕ) (old new : F) (answer : Answered) (r : Result Tree SettingsCause) (v : Tree)
-    (Go : ReadResults → Tree → Gives) → r ≡ Ok v → Decides past failures old new 0 (λ reads. Go reads v) answer
-    → Decides past failures old new 0 (λ reads. OrCause r (Go reads)) answer
-decides_with_value past failures old new answer r v Go is d =
-    subst (λ (x : Result Tree SettingsCause). Decides past failures old new 0 (λ reads. OrCause x (Go reads)) answer) (sym is) d
+pub decides_with_value : {F : Type 0} (ghosts : Ghosts F) (old new : F) (answer : Answered) (r : Result Tree SettingsCause) (v : Tree)
+    (Go : ReadResults → Tree → Gives) → r ≡ Ok v → Decides ghosts old new 0 (λ reads. Go reads v) answer
+    → Decides ghosts old new 0 (λ reads. OrCause r (Go reads)) answer
+decides_with_value ghosts old new answer r v Go is d =
+    subst (λ (x : Result Tree SettingsCause). Decides ghosts old new 0 (λ reads. OrCause x (Go reads)) answer) (sym is) d

@@ -2,6 +2,7 @@
 use Rattle.std.proofs.Common.{◌≡◌, ◌+◌, ◌∷◌, ℕ, List, [], length, map, Option, Some, None, refl, sym, ap, subst, arith}
 use Rattle.std.specs.Prelude.{Err, IfSome, MatchOption, option_map, option_to_list, string_bytes}
 use Rattle.std.specs.declared.string.String.{String}
+use Rattle.dconf_disk.specs.declared.folder.Folder.{Ghosts}
 use Rattle.dconf_model.specs.Databases.{IsCompiled}
 use Rattle.dconf_model.specs.FaultTexts.{line_fault_text}
 use Rattle.dconf_model.specs.Folders.{Event}
@@ -49,53 +50,53 @@ pub texts_if_any : {Z : Type 0} (given : Option (String Z)) (texts : List (Strin
 texts_if_any None texts same = ap (map string_bytes) same
 texts_if_any (Some text) texts same = ap (map string_bytes) same
 
-module _ {F : Type 0} (past : F → List Event → Type 0) (failures : F → ℕ) where
+module _ {F : Type 0} (ghosts : Ghosts F) where
   -- by the bytes of several files
   decides_by_files : (old new : F) (n : ℕ) (files : List Source) (answer : Answered) (Go : List Source → Outcome → Type 0)
-      → HasRead past failures old new (reads_of files) → GivesOutcome answer (Go files)
-      → Decides past failures old new n (λ reads. WithFiles reads n (map (λ s. s.name) files) Go) answer
+      → HasRead ghosts old new (reads_of files) → GivesOutcome answer (Go files)
+      → Decides ghosts old new n (λ reads. WithFiles reads n (map (λ s. s.name) files) Go) answer
   decides_by_files old new n files answer Go h is =
-      decides_later past failures old new new n (reads_of files) answer (λ reads. Go files) (λ reads. WithFiles reads n (map (λ s. s.name) files) Go) h (all_read files)
-      (λ reads gave o g. with_all reads n files Go o gave g) (decides_at_once past failures new _ answer (λ reads. Go files) (λ reads. is))
+      decides_later ghosts old new new n (reads_of files) answer (λ reads. Go files) (λ reads. WithFiles reads n (map (λ s. s.name) files) Go) h (all_read files)
+      (λ reads gave o g. with_all reads n files Go o gave g) (decides_at_once ghosts new _ answer (λ reads. Go files) (λ reads. is))
 
   -- without the bytes of several files
   decides_without_files : (old new : F) (n : ℕ) (names : List (List ℕ)) (answer : Answered) (Go : List Source → Outcome → Type 0)
-      → Decides past failures old new n (λ reads. WithFiles reads n names NoSources) answer
-      → Decides past failures old new n (λ reads. WithFiles reads n names Go) answer
+      → Decides ghosts old new n (λ reads. WithFiles reads n names NoSources) answer
+      → Decides ghosts old new n (λ reads. WithFiles reads n names Go) answer
   decides_without_files old new n names answer Go d =
-      decides_also past failures old new n answer (λ reads. WithFiles reads n names NoSources) (λ reads. WithFiles reads n names Go)
+      decides_also ghosts old new n answer (λ reads. WithFiles reads n names NoSources) (λ reads. WithFiles reads n names Go)
       (λ reads o h. no_sources reads n names Go o h) d
 
   module _ (out : List ℕ) (lock_name : Option (List ℕ)) (names : List (List ℕ)) (answer : Answered) (input : Input) where
     abbrev AsCompile : F → F → Type 0
-    AsCompile old new = Decides past failures old new 0 (λ reads. IsOutcome (compile out lock_name names) reads input) answer
+    AsCompile old new = Decides ghosts old new 0 (λ reads. IsOutcome (compile out lock_name names) reads input) answer
 
-    pub compiles_no_files : (old new : F) → Decides past failures old new 0 (λ reads. WithFiles reads 0 names NoSources) answer → AsCompile old new
+    pub compiles_no_files : (old new : F) → Decides ghosts old new 0 (λ reads. WithFiles reads 0 names NoSources) answer → AsCompile old new
     compiles_no_files old new d =
-        decides_also past failures old new 0 answer (λ reads. WithFiles reads 0 names NoSources) (λ reads. IsOutcome (compile out lock_name names) reads input)
+        decides_also ghosts old new 0 answer (λ reads. WithFiles reads 0 names NoSources) (λ reads. IsOutcome (compile out lock_name names) reads input)
         (λ reads o h. no_sources reads 0 names (λ files. WithFiles reads (length names) (option_to_list lock_name) (Compiles out files)) o h) d
 
-    module _ (old mid new : F) (files : List Source) (named : map (λ s. s.name) files ≡ names) (h : HasRead past failures old mid (reads_of files)) where
-      compiles_then : ((n : ℕ) → Decides past failures mid new n (λ reads. WithFiles reads n (option_to_list lock_name) (Compiles out files)) answer)
+    module _ (old mid new : F) (files : List Source) (named : map (λ s. s.name) files ≡ names) (h : HasRead ghosts old mid (reads_of files)) where
+      compiles_then : ((n : ℕ) → Decides ghosts mid new n (λ reads. WithFiles reads n (option_to_list lock_name) (Compiles out files)) answer)
           → AsCompile old new
       compiles_then each =
           let n = 0 + length (reads_of files) in
-          decides_later past failures old mid new 0 (reads_of files) answer (λ reads. WithFiles reads n (option_to_list lock_name) (Compiles out files))
+          decides_later ghosts old mid new 0 (reads_of files) answer (λ reads. WithFiles reads n (option_to_list lock_name) (Compiles out files))
           (λ reads. IsOutcome (compile out lock_name names) reads input) h (all_read files)
           (λ reads gave o g. subst (λ (ns : List (List ℕ)). WithFiles reads 0 ns (λ fs. WithFiles reads (length ns) (option_to_list lock_name) (Compiles out fs)) o) named
           (with_all reads 0 files (λ fs. WithFiles reads (length (map (λ s. s.name) files)) (option_to_list lock_name) (Compiles out fs)) o gave
           (subst (λ (k : ℕ). WithFiles reads k (option_to_list lock_name) (Compiles out files) o) (length_names files) g))) (each n)
 
       pub compiles_no_locks : (lock_names : List (List ℕ)) → lock_names ≡ option_to_list lock_name
-          → ((n : ℕ) → Decides past failures mid new n (λ reads. WithFiles reads n lock_names NoSources) answer) → AsCompile old new
+          → ((n : ℕ) → Decides ghosts mid new n (λ reads. WithFiles reads n lock_names NoSources) answer) → AsCompile old new
       compiles_no_locks lock_names is d =
-          compiles_then (λ n. subst (λ (ns : List (List ℕ)). Decides past failures mid new n (λ reads. WithFiles reads n ns (Compiles out files)) answer) is
+          compiles_then (λ n. subst (λ (ns : List (List ℕ)). Decides ghosts mid new n (λ reads. WithFiles reads n ns (Compiles out files)) answer) is
           (decides_without_files mid new n lock_names answer (Compiles out files) (d n)))
 
-      pub compiles_all : (locks : List Source) → map (λ s. s.name) locks ≡ option_to_list lock_name → HasRead past failures mid new (reads_of locks)
+      pub compiles_all : (locks : List Source) → map (λ s. s.name) locks ≡ option_to_list lock_name → HasRead ghosts mid new (reads_of locks)
           → GivesOutcome answer (Compiles out files locks) → AsCompile old new
       compiles_all locks is h_locks made =
-          compiles_then (λ n. subst (λ (ns : List (List ℕ)). Decides past failures mid new n (λ reads. WithFiles reads n ns (Compiles out files)) answer) is
+          compiles_then (λ n. subst (λ (ns : List (List ℕ)). Decides ghosts mid new n (λ reads. WithFiles reads n ns (Compiles out files)) answer) is
           (decides_by_files mid new n locks answer (Compiles out files) h_locks made))
 
 -- a fault of the files, or none where memory ran out

@@ -4,6 +4,7 @@ use Rattle.std.proofs.lemmas.Bool.{lt-ltb, true≢false}
 use Rattle.std.proofs.lemmas.Option.{slice_get-map}
 use Rattle.std.specs.Prelude.{IfSome, codes, decimal, is_none, nat_lt, option_map, slice_get, unwrap_or}
 use Rattle.gv_model.specs.Tree.{Tree}
+use Rattle.dconf_disk.specs.declared.folder.Folder.{Ghosts}
 use Rattle.dconf_model.specs.Causes.{SettingsCause}
 use Rattle.dconf_model.specs.Causes.SettingsCause.{too_big}
 use Rattle.dconf_model.specs.Changes.{paths_of}
@@ -36,13 +37,13 @@ same_loaded directory given read (inl e) = ap (loaded directory) e
 same_loaded directory given read (inr long) =
     ap (and_rows (rows_read value_of_text directory)) (long_rows read long.1 ∙ sym (long_rows given long.0))
 
-module _ {F : Type 0} (past : F → List Event → Type 0) (failures : F → ℕ) (answer : Answered) (directory : List ℕ) (Go : ReadResults → List Assigned → Gives) (i : Input) where
+module _ {F : Type 0} (ghosts : Ghosts F) (answer : Answered) (directory : List ℕ) (Go : ReadResults → List Assigned → Gives) (i : Input) where
   pub decides_text : (old new : F) (read : List ℕ) → read_failed i ≡ false → SameText i.bytes read
-      → Decides past failures old new 0 (λ reads. OrLine (codes "input") (loaded directory read) (Go reads)) answer
-      → Decides past failures old new 0 (λ reads. WithRows directory i (Go reads)) answer
+      → Decides ghosts old new 0 (λ reads. OrLine (codes "input") (loaded directory read) (Go reads)) answer
+      → Decides ghosts old new 0 (λ reads. WithRows directory i (Go reads)) answer
   decides_text old new read kept same d =
-      subst (λ (b : Bool). Decides past failures old new 0 (λ reads. UnlessFailed b (OrLine (codes "input") (loaded directory i.bytes) (Go reads))) answer) (sym kept)
-      (subst (λ (r : Result (List Assigned) LineFault). Decides past failures old new 0 (λ reads. OrLine (codes "input") r (Go reads)) answer) (same_loaded directory i.bytes read same) d)
+      subst (λ (b : Bool). Decides ghosts old new 0 (λ reads. UnlessFailed b (OrLine (codes "input") (loaded directory i.bytes) (Go reads))) answer) (sym kept)
+      (subst (λ (r : Result (List Assigned) LineFault). Decides ghosts old new 0 (λ reads. OrLine (codes "input") r (Go reads)) answer) (same_loaded directory i.bytes read same) d)
 
 -- ---- a line of it
 
@@ -57,19 +58,19 @@ refuses_line : (answer : Answered) (o : Option LineFault) (r : Result (List Assi
 refuses_line answer None r Go is h = answers_also answer (RefusedLine None) (OrLine (codes "input") r Go) (λ o none. absurd none) h
 refuses_line answer (Some f) r Go is h = subst (λ (x : Result (List Assigned) LineFault). GivesOutcome answer (OrLine (codes "input") x Go)) (sym is) h
 
-pub decides_line : {F : Type 0} (past : F → List Event → Type 0) (failures : F → ℕ) (folder : F) (answer : Answered) (o : Option LineFault) (r : Result (List Assigned) LineFault)
+pub decides_line : {F : Type 0} (ghosts : Ghosts F) (folder : F) (answer : Answered) (o : Option LineFault) (r : Result (List Assigned) LineFault)
     (Go : ReadResults → List Assigned → Gives) → IfSome o (λ f. r ≡ Err f) → GivesOutcome answer (RefusedLine o)
-    → Decides past failures folder folder 0 (λ reads. OrLine (codes "input") r (Go reads)) answer
-decides_line past failures folder answer o r Go is h =
-    decides_at_once past failures folder 0 answer (λ reads. OrLine (codes "input") r (Go reads)) (λ reads. refuses_line answer o r (Go reads) is h)
+    → Decides ghosts folder folder 0 (λ reads. OrLine (codes "input") r (Go reads)) answer
+decides_line ghosts folder answer o r Go is h =
+    decides_at_once ghosts folder 0 answer (λ reads. OrLine (codes "input") r (Go reads)) (λ reads. refuses_line answer o r (Go reads) is h)
 
 -- ---- rows that are read
 
-pub decides_rows : {F : Type 0} (past : F → List Event → Type 0) (failures : F → ℕ) (old new : F) (answer : Answered) (r : Result (List Assigned) LineFault) (rows : List Assigned)
-    (Go : ReadResults → List Assigned → Gives) → r ≡ Ok rows → Decides past failures old new 0 (λ reads. Go reads rows) answer
-    → Decides past failures old new 0 (λ reads. OrLine (codes "input") r (Go reads)) answer
-decides_rows past failures old new answer r rows Go is d =
-    subst (λ (x : Result (List Assigned) LineFault). Decides past failures old new 0 (λ reads. OrLine (codes "input") x (Go reads)) answer) (sym is) d
+pub decides_rows : {F : Type 0} (ghosts : Ghosts F) (old new : F) (answer : Answered) (r : Result (List Assigned) LineFault) (rows : List Assigned)
+    (Go : ReadResults → List Assigned → Gives) → r ≡ Ok rows → Decides ghosts old new 0 (λ reads. Go reads rows) answer
+    → Decides ghosts old new 0 (λ reads. OrLine (codes "input") r (Go reads)) answer
+decides_rows ghosts old new answer r rows Go is d =
+    subst (λ (x : Result (List Assigned) LineFault). Decides ghosts old new 0 (λ reads. OrLine (codes "input") x (Go reads)) answer) (sym is) d
 
 -- ---- the path of a row
 

@@ -14,6 +14,7 @@ use Rattle.gv_text.specs.declared.print_fault.PrintFault.TheVariants.{TooLarge, 
 use Rattle.gv_text.specs.PrintFaults.{print_fault_name}
 use Rattle.gv_text.specs.Printing.{IsUnprintable}
 use Rattle.gv_model.specs.FaultTexts.{type_fault_text}
+use Rattle.dconf_disk.specs.declared.folder.Folder.{Ghosts}
 use Rattle.dconf_model.specs.Folders.{Event}
 use Rattle.dconf_model.specs.Commands.Command.{show}
 use Rattle.dconf_model.specs.Databases.{IsVerdict, Verdict}
@@ -49,13 +50,13 @@ no_type w none_found = go (type_of_text w) refl
 
 -- ---- `show`
 
-module _ {F : Type 0} (past : F → List Event → Type 0) (failures : F → ℕ) (text name : List ℕ) (answer : Answered) (input : Input) where
+module _ {F : Type 0} (ghosts : Ghosts F) (text name : List ℕ) (answer : Answered) (input : Input) where
   abbrev Shows : F → F → Type 0
-  Shows old new = Decides past failures old new 0 (λ reads. IsOutcome (show text name) reads input) answer
+  Shows old new = Decides ghosts old new 0 (λ reads. IsOutcome (show text name) reads input) answer
 
   pub shows_no_type : (folder : F) (f : Fault) → type_of_text text ≡ None → IsFault text f → RefusesFor answer (type_fault_text f) → Shows folder folder
   shows_no_type folder f none is refuses =
-      decides_at_once past failures folder 0 answer (λ reads. IsOutcome (show text name) reads input)
+      decides_at_once ghosts folder 0 answer (λ reads. IsOutcome (show text name) reads input)
       (λ reads. answers_also answer (Refused (type_fault_text f)) (IsOutcome (show text name) reads input)
       (λ o r. subst (λ u. WithType text u (λ t. WithFile reads 0 name (λ bytes p. p ≡ shown_outcome (decode t bytes))) o) (sym none)
       (f, is, r)) refuses)
@@ -64,17 +65,17 @@ module _ {F : Type 0} (past : F → List Event → Type 0) (failures : F → ℕ
       → IsOutcome (show text name) reads input o
   with_type t typed reads o h = subst (λ u. WithType text u (λ v. WithFile reads 0 name (λ bytes p. p ≡ shown_outcome (decode v bytes))) o) (sym typed) h
 
-  pub shows_file : (old new : F) (t : Ty) (bytes : List ℕ) → type_of_text text ≡ Some t → HasRead past failures old new (one_read name (holds bytes))
+  pub shows_file : (old new : F) (t : Ty) (bytes : List ℕ) → type_of_text text ≡ Some t → HasRead ghosts old new (one_read name (holds bytes))
       → GivesOutcome answer (λ o. o ≡ shown_outcome (decode t bytes)) → Shows old new
   shows_file old new t bytes typed h is =
-      decides_also past failures old new 0 answer (λ reads. WithFile reads 0 name (λ bytes p. p ≡ shown_outcome (decode t bytes))) (λ reads. IsOutcome (show text name) reads input)
-      (with_type t typed) (decides_by_file past failures old new 0 name bytes answer (λ bytes p. p ≡ shown_outcome (decode t bytes)) h is)
+      decides_also ghosts old new 0 answer (λ reads. WithFile reads 0 name (λ bytes p. p ≡ shown_outcome (decode t bytes))) (λ reads. IsOutcome (show text name) reads input)
+      (with_type t typed) (decides_by_file ghosts old new 0 name bytes answer (λ bytes p. p ≡ shown_outcome (decode t bytes)) h is)
 
-  pub shows_no_file : (old new : F) (t : Ty) → type_of_text text ≡ Some t → Decides past failures old new 0 (λ reads. WithFile reads 0 name Nothing) answer
+  pub shows_no_file : (old new : F) (t : Ty) → type_of_text text ≡ Some t → Decides ghosts old new 0 (λ reads. WithFile reads 0 name Nothing) answer
       → Shows old new
   shows_no_file old new t typed d =
-      decides_also past failures old new 0 answer (λ reads. WithFile reads 0 name (λ bytes p. p ≡ shown_outcome (decode t bytes))) (λ reads. IsOutcome (show text name) reads input)
-      (with_type t typed) (decides_without_file past failures old new 0 name answer (λ bytes p. p ≡ shown_outcome (decode t bytes)) d)
+      decides_also ghosts old new 0 answer (λ reads. WithFile reads 0 name (λ bytes p. p ≡ shown_outcome (decode t bytes))) (λ reads. IsOutcome (show text name) reads input)
+      (with_type t typed) (decides_without_file ghosts old new 0 name answer (λ bytes p. p ≡ shown_outcome (decode t bytes)) d)
 
 -- ---- `check`
 

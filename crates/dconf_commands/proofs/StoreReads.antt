@@ -2,6 +2,7 @@
 use Rattle.std.proofs.Common.{◌≡◌, ◌+◌, ◌∷◌, ◌++◌, ◌∙◌, ℕ, List, [], length, map, Option, Some, None, refl, sym, ap, subst, arith}
 use Rattle.std.proofs.Common.{◌<◌, ◌≤◌, drop, get_or, take}
 use Rattle.std.proofs.lemmas.List.{append_assoc, length-map, length-take-le, map_more, take-append-drop, take-map}
+use Rattle.dconf_disk.specs.declared.folder.Folder.{Ghosts}
 use Rattle.dconf_model.specs.Folders.{Event}
 use Rattle.dconf_model.specs.Profiles.{Database, database_file}
 use Rattle.dconf_model.specs.Outcomes.{Gives, OrNoDatabase, Outcome, WithDatabases}
@@ -12,15 +13,16 @@ use Rattle.dconf_path.specs.declared.profiles.DatabaseKind.TheVariants.{User}
 use Rattle.dconf_streams.specs.Answers.{Answered}
 use Rattle.dconf_streams.specs.Readings.{AllRead, Decides, Gave, HasRead, NothingIfAny, Reading, found_read, one_read}
 use Rattle.dconf_commands.specs.StoreReads.{NoItems, database_reads}
-use Rattle.dconf_streams.proofs.Decisions.{found_not_failed}
+use Rattle.dconf_streams.proofs.Decisions.{found_not_failed, kept_both}
 use Rattle.dconf_streams.proofs.ManyFiles.{are_together, decides_later}
 
 -- ---- reads after reads
 
-module _ {F : Type 0} (past : F → List Event → Type 0) (failures : F → ℕ) (old mid new : F) where
-  reads_both : (a b : List Reading) → HasRead past failures old mid a → HasRead past failures mid new b → HasRead past failures old new (a ++ b)
+module _ {F : Type 0} (ghosts : Ghosts F) (old mid new : F) where
+  reads_both : (a b : List Reading) → HasRead ghosts old mid a → HasRead ghosts mid new b → HasRead ghosts old new (a ++ b)
   reads_both a b p q = record {
-    known = λ es is. let one = p.known es is in let two = q.known es one.0 in (two.0, are_together es a b one.1 two.1);
+    kept = kept_both ghosts old mid new p.kept q.kept;
+    known = λ t es is. are_together es a b (p.known (q.kept.honest t) es is) (q.known t es (p.kept.past es is));
     none_failed = q.none_failed ∙ p.none_failed;
   }
 
@@ -71,23 +73,23 @@ reads_more (e ∷ ds) (first ∷ items) d item same =
     let shorter : length items ≡ length ds = omega arith in
     ap (λ log. record { name = database_file e; gave = found_read first } ∷ log) (reads_more ds items d item shorter)
 
-module _ {F : Type 0} (past : F → List Event → Type 0) (failures : F → ℕ) (old mid new : F) (ds : List Database) (items : List (Option (List ℕ)))
-    (same : length items ≡ length ds) (read : HasRead past failures old mid (database_reads ds items)) (d : Database) where
+module _ {F : Type 0} (ghosts : Ghosts F) (old mid new : F) (ds : List Database) (items : List (Option (List ℕ)))
+    (same : length items ≡ length ds) (read : HasRead ghosts old mid (database_reads ds items)) (d : Database) where
   -- one database more
-  pub reads_one_more : (item : Option (List ℕ)) → HasRead past failures mid new (one_read (database_file d) (found_read item))
-      → HasRead past failures old new (database_reads (ds ++ d ∷ []) (items ++ item ∷ []))
+  pub reads_one_more : (item : Option (List ℕ)) → HasRead ghosts mid new (one_read (database_file d) (found_read item))
+      → HasRead ghosts old new (database_reads (ds ++ d ∷ []) (items ++ item ∷ []))
   reads_one_more item one =
-      subst (λ log. HasRead past failures old new log) (sym (reads_more ds items d item same))
-      (reads_both past failures old mid new (database_reads ds items) (one_read (database_file d) (found_read item)) read one)
+      subst (λ log. HasRead ghosts old new log) (sym (reads_more ds items d item same))
+      (reads_both ghosts old mid new (database_reads ds items) (one_read (database_file d) (found_read item)) read one)
 
   -- or its reading ends the command
   pub decides_at_database : (later : List Database) (answer : Answered)
-      → ((n : ℕ) → Decides past failures mid new n (λ reads. OrNoDatabase (database_file d) (reads n (database_file d)) NothingIfAny) answer)
-      → (n : ℕ) → Decides past failures old new n (λ reads. WithDatabases reads n (ds ++ d ∷ later) NoItems) answer
+      → ((n : ℕ) → Decides ghosts mid new n (λ reads. OrNoDatabase (database_file d) (reads n (database_file d)) NothingIfAny) answer)
+      → (n : ℕ) → Decides ghosts old new n (λ reads. WithDatabases reads n (ds ++ d ∷ later) NoItems) answer
   decides_at_database later answer each n =
       let log = database_reads ds items in
       let place : n + length log ≡ n + length ds = ap (λ (k : ℕ). n + k) (reads_length ds items same) in
-      decides_later past failures old mid new n log answer (λ reads. OrNoDatabase (database_file d) (reads (n + length log) (database_file d)) NothingIfAny)
+      decides_later ghosts old mid new n log answer (λ reads. OrNoDatabase (database_file d) (reads (n + length log) (database_file d)) NothingIfAny)
       (λ reads. WithDatabases reads n (ds ++ d ∷ later) NoItems) read (databases_all_read ds items)
       (λ reads gave o m. databases_given reads n ds (d ∷ later) items NoItems o same gave
       (no_item_is_any (database_file d) (reads (n + length ds) (database_file d)) (λ item. WithDatabases reads (n + length ds + 1) later (λ rest. NoItems (items ++ (item ∷ rest)))) o

@@ -2,6 +2,7 @@
 use Rattle.std.proofs.Common.{◌≡◌, ◌+◌, ◌∷◌, inl, inr, ℕ, Bool, List, [], Result, Ok, Err, Option, length, sym, subst}
 use Rattle.std.specs.Prelude.{vec_items}
 use Rattle.std.proofs.lemmas.List.{append-nil}
+use Rattle.dconf_disk.specs.declared.folder.Folder.{Ghosts}
 use Rattle.dconf_model.specs.Folders.{Event}
 use Rattle.dconf_model.specs.Layers.{Layers}
 use Rattle.dconf_model.specs.Lines.{LineFault}
@@ -57,25 +58,25 @@ no_layers_are_any items writable Go o (inr bad) = inr bad
 
 -- ---- the files of a store
 
-module _ {F : Type 0} (past : F → List Event → Type 0) (failures : F → ℕ) (name bytes : List ℕ) (answer : Answered) where
+module _ {F : Type 0} (ghosts : Ghosts F) (name bytes : List ℕ) (answer : Answered) where
   -- a profile of these bytes, and its databases
   abbrev pub OfProfile : ReadResults → Gives
   OfProfile reads = OrLine name (profile_of bytes) (λ ds. WithDatabases reads 1 ds NoItems)
 
-  pub no_profile : (folder : F) → GivesOutcome answer (OrLine name (profile_of bytes) NoDatabases) → Decides past failures folder folder 1 OfProfile answer
+  pub no_profile : (folder : F) → GivesOutcome answer (OrLine name (profile_of bytes) NoDatabases) → Decides ghosts folder folder 1 OfProfile answer
   no_profile folder gives =
-      decides_at_once past failures folder 1 answer OfProfile
+      decides_at_once ghosts folder 1 answer OfProfile
       (λ reads. answers_also answer (OrLine name (profile_of bytes) NoDatabases) (OfProfile reads)
       (λ o m. no_databases_are_any name (profile_of bytes) (λ ds. WithDatabases reads 1 ds NoItems) o m) gives)
 
-  pub a_database_is_unread : (old new : F) (ds : List Database) → profile_of bytes ≡ Ok ds → Decides past failures old new 1 (λ reads. WithDatabases reads 1 ds NoItems) answer
-      → Decides past failures old new 1 OfProfile answer
+  pub a_database_is_unread : (old new : F) (ds : List Database) → profile_of bytes ≡ Ok ds → Decides ghosts old new 1 (λ reads. WithDatabases reads 1 ds NoItems) answer
+      → Decides ghosts old new 1 OfProfile answer
   a_database_is_unread old new ds is d =
-      subst (λ (r : Result (List Database) LineFault). Decides past failures old new 1 (λ reads. OrLine name r (λ all. WithDatabases reads 1 all NoItems)) answer) (sym is) d
+      subst (λ (r : Result (List Database) LineFault). Decides ghosts old new 1 (λ reads. OrLine name r (λ all. WithDatabases reads 1 all NoItems)) answer) (sym is) d
 
 -- ---- what is decided
 
-module _ {F : Type 0} (past : F → List Event → Type 0) (failures : F → ℕ) (name : List ℕ) (Go : List Database → Layers → Gives) (answer : Answered) where
+module _ {F : Type 0} (ghosts : Ghosts F) (name : List ℕ) (Go : List Database → Layers → Gives) (answer : Answered) where
   -- what is made of the databases
   abbrev InLayers : List Database → List (Option (List ℕ)) → Gives
   InLayers ds items = WithLayers items (has_writable ds) (Go ds)
@@ -84,41 +85,41 @@ module _ {F : Type 0} (past : F → List Event → Type 0) (failures : F → ℕ
   InProfile reads bytes = OrLine name (profile_of bytes) (λ ds. WithDatabases reads 1 ds (InLayers ds))
 
   abbrev Does : F → F → Type 0
-  Does old new = Decides past failures old new 0 (λ reads. WithStore reads name Go) answer
+  Does old new = Decides ghosts old new 0 (λ reads. WithStore reads name Go) answer
 
   -- the profile isn't read
-  pub store_without_file : (old new : F) → Decides past failures old new 0 (λ reads. WithFile reads 0 name Nothing) answer → Does old new
+  pub store_without_file : (old new : F) → Decides ghosts old new 0 (λ reads. WithFile reads 0 name Nothing) answer → Does old new
   store_without_file old new d =
-      decides_also past failures old new 0 answer (λ reads. WithFile reads 0 name Nothing) (λ reads. WithStore reads name Go)
+      decides_also ghosts old new 0 answer (λ reads. WithFile reads 0 name Nothing) (λ reads. WithStore reads name Go)
       (λ reads o h. nothing_is_any name (reads 0 name) (InProfile reads) o h) d
 
   -- it is read
-  module _ (old mid new : F) (file : NamedFile) (same : file.name.now ≡ name) (h : HasRead past failures old mid (one_read name (holds (vec_items file.bytes)))) where
-    store_by_file : Decides past failures mid new 1 (λ reads. InProfile reads (vec_items file.bytes)) answer → Does old new
+  module _ (old mid new : F) (file : NamedFile) (same : file.name.now ≡ name) (h : HasRead ghosts old mid (one_read name (holds (vec_items file.bytes)))) where
+    store_by_file : Decides ghosts mid new 1 (λ reads. InProfile reads (vec_items file.bytes)) answer → Does old new
     store_by_file d =
-        decides_later past failures old mid new 0 (one_read name (holds (vec_items file.bytes))) answer (λ reads. InProfile reads (vec_items file.bytes))
+        decides_later ghosts old mid new 0 (one_read name (holds (vec_items file.bytes))) answer (λ reads. InProfile reads (vec_items file.bytes))
         (λ reads. WithStore reads name Go) h ((λ e. cc), tt) (λ reads gave o m. rw gave.0 m) d
 
     -- it is none, or a database isn't read
-    pub store_without_databases : Decides past failures mid new 1 (OfProfile past failures file.name.now (vec_items file.bytes) answer) answer → Does old new
+    pub store_without_databases : Decides ghosts mid new 1 (OfProfile ghosts file.name.now (vec_items file.bytes) answer) answer → Does old new
     store_without_databases d =
-        store_by_file (decides_also past failures mid new 1 answer (OfProfile past failures file.name.now (vec_items file.bytes) answer)
+        store_by_file (decides_also ghosts mid new 1 answer (OfProfile ghosts file.name.now (vec_items file.bytes) answer)
         (λ reads. InProfile reads (vec_items file.bytes))
         (λ reads o m. subst (λ (n : List ℕ). OrLine n (profile_of (vec_items file.bytes)) (λ ds. WithDatabases reads 1 ds (InLayers ds)) o) same
         (no_items_in_any reads file.name.now (profile_of (vec_items file.bytes)) InLayers o m)) d)
 
     -- all are
-    module _ (files : StoreFiles) (s : HasStore past failures mid new (vec_items file.bytes) files) where
+    module _ (files : StoreFiles) (s : HasStore ghosts mid new (vec_items file.bytes) files) where
       store_by_items : GivesOutcome answer (InLayers (named_by files) (items_of files)) → Does old new
       store_by_items gives =
           let ds = named_by files in
           let items = items_of files in
           let Then : Gives = InLayers ds items in
-          store_by_file (decides_later past failures mid new new 1 (database_reads ds items) answer (λ reads. Then) (λ reads. InProfile reads (vec_items file.bytes))
+          store_by_file (decides_later ghosts mid new new 1 (database_reads ds items) answer (λ reads. Then) (λ reads. InProfile reads (vec_items file.bytes))
           s.read (databases_all_read ds items)
           (λ reads gave o m. subst (λ (r : Result (List Database) LineFault). OrLine name r (λ all. WithDatabases reads 1 all (InLayers all)) o) (sym s.names)
           (all_given reads 1 ds items (InLayers ds) o s.each gave m))
-          (decides_at_once past failures new (1 + length (database_reads ds items)) answer (λ reads. Then) (λ reads. gives)))
+          (decides_at_once ghosts new (1 + length (database_reads ds items)) answer (λ reads. Then) (λ reads. gives)))
 
       pub store_not_opened : GivesOutcome answer (WithLayers (items_of files) (has_writable (named_by files)) NoLayers) → Does old new
       store_not_opened gives =

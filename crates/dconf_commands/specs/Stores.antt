@@ -1,5 +1,6 @@
 -- A store whose files were read, and one that is open.
 use Rattle.std.specs.Prelude.{◌≡◌, ℕ, List, Option, Ok, length, map}
+use Rattle.dconf_disk.specs.declared.folder.Folder.{Ghosts}
 use Rattle.dconf_model.specs.Databases.{AreLayers}
 use Rattle.dconf_model.specs.Folders.{Event}
 use Rattle.dconf_model.specs.Layers.{Layers}
@@ -19,10 +20,10 @@ abbrev pub items_of : StoreFiles → List (Option (List ℕ))
 items_of files = map bytes_of files.databases.items
 
 -- the databases of a profile of these bytes were read
-pub record HasStore {F : Type 0} (past : F → List Event → Type 0) (failures : F → ℕ) (old new : F) (profile : List ℕ) (files : StoreFiles) : Type 0 where
+pub record HasStore {F : Type 0} (ghosts : Ghosts F) (old new : F) (profile : List ℕ) (files : StoreFiles) : Type 0 where
   pub names : profile_of profile ≡ Ok (named_by files)
   pub each : length (items_of files) ≡ length (named_by files)
-  pub read : HasRead past failures old new (database_reads (named_by files) (items_of files))
+  pub read : HasRead ghosts old new (database_reads (named_by files) (items_of files))
 
 -- they are open
 pub record AreOpened (files : StoreFiles) (l : Layers) : Type 0 where

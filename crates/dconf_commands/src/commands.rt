@@ -47,7 +47,7 @@ pub fn answered<F: Folder, I: Read>(
     input: &mut Counted<I>,
 ) -> Result<Answer, Refusal>
     ensures answer { (i : Input) × Took (I.remaining (inner_of input.old)) (failures_of input.old) (failures_of input.new) i
-        × Decides F.past F.failed folder.old folder.new 0 (λ reads. IsOutcome (command_of command.now) reads i) result }
+        × Decides F.Folder folder.old folder.new 0 (λ reads. IsOutcome (command_of command.now) reads i) result }
     ensures device { failures_of input.new ≢ failures_of input.old → RefusesFor result (device_text (codes "input")) }
     ensures input { reads_input (command_of command.now) ≡ false → input.new ≡ input.old }
     ensures limit { ConsumesText (I.remaining (inner_of input.old)) (I.remaining (inner_of input.new)) }

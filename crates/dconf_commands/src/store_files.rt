@@ -31,8 +31,8 @@ impl<'a> StoreFiles<'a> {
         folder: &mut F,
         file: &'a NamedFile<'f>,
     ) -> Result<StoreFiles<'a>, Refusal>
-        ensures ok { IfOk result (HasStore F.past F.failed folder.old folder.new (vec_items file.now.bytes)) }
-        ensures err { IfErr result (λ refusal. Decides F.past F.failed folder.old folder.new 1
+        ensures ok { IfOk result (HasStore F.Folder folder.old folder.new (vec_items file.now.bytes)) }
+        ensures err { IfErr result (λ refusal. Decides F.Folder folder.old folder.new 1
             (λ reads. OrLine file.now.name.now (profile_of (vec_items file.now.bytes)) (λ databases. WithDatabases reads 1 databases NoItems)) (Err refusal)) }
     {
         let profile = profile(alloc, file.name, &file.bytes)?;
@@ -94,10 +94,10 @@ pub(crate) fn databases<F: Folder>(
     databases: &[Database<'_>],
     folder: &mut F,
 ) -> Result<Vec<Option<Vec<u8>>>, Refusal>
-    ensures ok { IfOk result (λ items. HasRead F.past F.failed folder.old folder.new
+    ensures ok { IfOk result (λ items. HasRead F.Folder folder.old folder.new
         (database_reads (map database_of databases.now) (map bytes_of items.items))) }
     ensures each { IfOk result (λ items. length items.items ≡ length databases.now) }
-    ensures err { IfErr result (λ refusal. (n : ℕ) → Decides F.past F.failed folder.old folder.new n
+    ensures err { IfErr result (λ refusal. (n : ℕ) → Decides F.Folder folder.old folder.new n
         (λ reads. WithDatabases reads n (map database_of databases.now) NoItems) (Err refusal)) }
 {
     let mut items = Vec::new(alloc);
@@ -113,9 +113,9 @@ fn read_database<F: Folder>(
     database: Database<'_>,
     folder: &mut F,
 ) -> Result<Option<Vec<u8>>, Refusal>
-    ensures ok { IfOk result (λ found. HasRead F.past F.failed folder.old folder.new
+    ensures ok { IfOk result (λ found. HasRead F.Folder folder.old folder.new
         (one_read (database_file (database_of database.entry)) (found_read (bytes_of found)))) }
-    ensures err { IfErr result (λ refusal. (n : ℕ) → Decides F.past F.failed folder.old folder.new n
+    ensures err { IfErr result (λ refusal. (n : ℕ) → Decides F.Folder folder.old folder.new n
         (λ reads. OrNoDatabase (database_file (database_of database.entry)) (reads n (database_file (database_of database.entry))) NothingIfAny) (Err refusal)) }
 {
     let name = file_name(alloc, database)?;

@@ -1,10 +1,12 @@
 -- A turn that is driven on a folder: what each step does, and what is so after it.
-use Rattle.std.proofs.Common.{ℕ, ◌+◌, ◌<◌, ◌≤◌, ◌≡◌, ◌≢◌, ◌⊎◌, true, false, Result, OnOk, OnErr, List, ◌∷◌, length, take, drop, Some, None, refl, sym, ◌∙◌, ap, subst, arith, inl, inr, ⊎_elim}
+use Rattle.std.proofs.Common.{ℕ, ◌+◌, ◌<◌, ◌≤◌, ◌≡◌, ◌≢◌, ◌⊎◌, Bool, true, false, Result, OnOk, OnErr, List, ◌∷◌, length, take, drop, Some, None, refl, sym, ◌∙◌, ap, subst, arith, inl, inr, ⊎_elim}
 use Rattle.std.proofs.lemmas.List.{take_all}
 use Rattle.dconf_model.specs.Folders.{Event}
 use Rattle.dconf_model.specs.Folders.Event.{create, append, sync, touch, rename, remove, sync_folder}
 use Rattle.dconf_model.specs.Replacing.{new_name, MaybeReplaced, Replaced}
 use Rattle.dconf_turn.specs.declared.turn.Turn.{Turn}
+use Rattle.dconf_turn.specs.declared.turn.State.{State}
+use Rattle.dconf_turn.specs.declared.turn.State.TheVariants.{Locking, Reading, Making, Creating, Writing, Syncing, SettingAside, Exchanging, Renaming, SyncingFolder, Removing, Noting, Unlocking, Over}
 use Rattle.dconf_turn.specs.declared.step.Outcome.{Outcome}
 use Rattle.dconf_turn.specs.declared.step.Outcome.TheVariants.{Made, Kept, Either, Unsettled}
 use Rattle.dconf_turn.specs.declared.step.Step.{Step}
@@ -14,7 +16,7 @@ use Rattle.dconf_turn.specs.declared.step.Answer.TheVariants.{Yes, No}
 use Rattle.dconf_turn.specs.Jobs.{IsFree, IsLockApart, IsOwn}
 use Rattle.dconf_turn.specs.Sayings.{IsMade, Says}
 use Rattle.dconf_turn.specs.Sayings.{IsWhole as IsWholeFile}
-use Rattle.dconf_turn.specs.Steps.{place, step_of, GoesOn, Follows, IsSaid, IsDone, KnowsAfter}
+use Rattle.dconf_turn.specs.Steps.{place, step_at, step_of, GoesOn, Follows, IsSaid, IsDone, KnowsAfter}
 use Rattle.dconf_turn.specs.Progress.{Stands}
 use Rattle.dconf_turn.specs.Hosts.{Did, IsLockMade, IsNoted}
 use Rattle.dconf_turn.proofs.ApartLaws.{nothing_yet}
@@ -22,7 +24,7 @@ use Rattle.dconf_turn.proofs.SayingLaws.{kept, kept_whole, whole_of}
 use Rattle.dconf_turn.proofs.HistoryLaws.{end_at}
 use Rattle.dconf_disk.specs.declared.fault.FolderFault.{FolderFault}
 use Rattle.dconf_disk.specs.Staging.{staged_onto, settled_onto}
-use Rattle.dconf_disk.specs.Driving.{IsWhole, IsOneMore, IsCounted, IsStraight, CountsSo, job_of, result_of}
+use Rattle.dconf_disk.specs.Driving.{IsAble, IsWhole, IsOneMore, IsCounted, IsStraight, IsRefused, IsIdle, CountsSo, job_of, result_of}
 
 -- ---- what is said, in the words of dconf_model
 
@@ -385,3 +387,109 @@ module _ (t : Turn) (keeps : t.keeps ≡ false) (next : Step) (o p : Outcome) (b
   counts_on Unlock (No k) l g f s w c h = absurd w
   counts_on (Done x) (Yes n) l g f s w c h = subst (λ y. CountsSo y p before now) (sym f) (kept_count s c h)
   counts_on (Done x) (No k) l g f s w c h = absurd w
+
+-- ---- without the turn to replace files
+
+said_at : (t : Turn) (state : State) (outcome : Outcome) → step_at state t ≡ Done outcome → t.outcome ≡ outcome
+said_at t Locking outcome e = cc
+said_at t Reading outcome e = cc
+said_at t Making outcome e = cc
+said_at t Creating outcome e = cc
+said_at t Writing outcome e = cc
+said_at t Syncing outcome e = cc
+said_at t SettingAside outcome e = cc
+said_at t Exchanging outcome e = cc
+said_at t Renaming outcome e = cc
+said_at t SyncingFolder outcome e = cc
+said_at t Removing outcome e = cc
+said_at t Noting outcome e = cc
+said_at t Unlocking outcome e = cc
+said_at t Over outcome e = cc
+
+pub not_idle : (t : Turn) (outcome : Outcome) → step_of t ≡ Done outcome → outcome ≡ Made → IsIdle (step_of t) t.outcome → ⊥
+not_idle t outcome over made idle =
+    let end : IsIdle (Done outcome) t.outcome = subst (λ s. IsIdle s t.outcome) over idle in
+    end (said_at t t.state outcome over ∙ made)
+
+pub held_if : (holds : Bool) → (holds ≡ false → ⊥) → holds ≡ true
+held_if true not_so = refl
+held_if false not_so = absurd (not_so refl)
+
+pub able_if : (holds : Bool) (step : Step) (o : Outcome) → (holds ≡ false → IsIdle step o) → IsAble holds step
+able_if holds Lock o h = tt
+able_if holds Read o h = tt
+able_if holds Make o h = tt
+able_if holds (Create m) o h = tt
+able_if holds (Append at) o h = held_if holds h
+able_if holds (Sync b) o h = held_if holds h
+able_if holds SetAside o h = tt
+able_if holds Exchange o h = tt
+able_if holds Rename o h = tt
+able_if holds SyncFolder o h = tt
+able_if holds Remove o h = tt
+able_if holds Note o h = tt
+able_if holds Unlock o h = tt
+able_if holds (Done x) o h = tt
+
+late_idle : (o : Outcome) (next : Step) → 10 ≤ place next → ¬ (o ≡ Made) → IsIdle next o
+late_idle o Lock p n = tt
+late_idle o Read p n = tt
+late_idle o Make p n = tt
+late_idle o (Create m) p n = tt
+late_idle o (Append at) p n = absurd (omega arith)
+late_idle o (Sync b) p n = absurd (omega arith)
+late_idle o SetAside p n = absurd (omega arith)
+late_idle o Exchange p n = absurd (omega arith)
+late_idle o Rename p n = absurd (omega arith)
+late_idle o SyncFolder p n = absurd (omega arith)
+late_idle o Remove p n = n
+late_idle o Note p n = n
+late_idle o Unlock p n = n
+late_idle o (Done x) p n = n
+
+third_idle : (o : Outcome) (next : Step) → place next ≡ 3 → IsIdle next o
+third_idle o Lock p = tt
+third_idle o Read p = tt
+third_idle o Make p = tt
+third_idle o (Create m) p = tt
+third_idle o (Append at) p = absurd (omega arith)
+third_idle o (Sync b) p = absurd (omega arith)
+third_idle o SetAside p = absurd (omega arith)
+third_idle o Exchange p = absurd (omega arith)
+third_idle o Rename p = absurd (omega arith)
+third_idle o SyncFolder p = absurd (omega arith)
+third_idle o Remove p = absurd (omega arith)
+third_idle o Note p = absurd (omega arith)
+third_idle o Unlock p = absurd (omega arith)
+third_idle o (Done x) p = absurd (omega arith)
+
+module _ (t : Turn) (next : Step) (o p : Outcome) (size : ℕ) where
+  abbrev IdleOn : Step → Answer → Type 0
+  IdleOn step answer = GoesOn t step answer next → Follows step next → IsSaid step answer o p → IsWhole step answer size → IsRefused step answer → IsIdle step o → IsIdle next p
+
+  idle_is : (step : Step) → next ≡ step → IsIdle step p → IsIdle next p
+  idle_is step e h = subst (λ x. IsIdle x p) (sym e) h
+
+  pub idle_on : (step : Step) (answer : Answer) → IdleOn step answer
+  idle_on Lock (Yes n) g f s w r h = idle_is Read g tt
+  idle_on Lock (No k) g f s w r h = absurd w
+  idle_on Read (Yes n) g f s w r h = idle_is Make g tt
+  idle_on Read (No k) g f s w r h = absurd w
+  idle_on Make (Yes n) g f s w r h = third_idle p next g
+  idle_on Make (No k) g f s w r h = absurd w
+  idle_on (Create m) (Yes n) g f s w r h = absurd r
+  idle_on (Create m) (No k) g f s w r h = late_idle p next g (made_kept p k s)
+  idle_on (Append at) answer g f s w r h = absurd h
+  idle_on (Sync b) answer g f s w r h = absurd h
+  idle_on SetAside answer g f s w r h = absurd h
+  idle_on Exchange answer g f s w r h = absurd h
+  idle_on Rename answer g f s w r h = absurd h
+  idle_on SyncFolder answer g f s w r h = absurd h
+  idle_on Remove (Yes n) g f s w r h = late_idle p next g (not_made p o s h)
+  idle_on Remove (No k) g f s w r h = late_idle p next g (not_made p o s h)
+  idle_on Note (Yes n) g f s w r h = late_idle p next (omega (arith, f)) (not_made p o s h)
+  idle_on Note (No k) g f s w r h = absurd w
+  idle_on Unlock (Yes n) g f s w r h = late_idle p next (omega (arith, f)) (not_made p o s h)
+  idle_on Unlock (No k) g f s w r h = absurd w
+  idle_on (Done x) (Yes n) g f s w r h = idle_is (Done x) f (not_made p o s h)
+  idle_on (Done x) (No k) g f s w r h = absurd w

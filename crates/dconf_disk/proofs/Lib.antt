@@ -9,3 +9,4 @@ pub mod MadeAgain
 pub mod Wholes
 pub mod WorkedFolders
 pub mod DrivingLaws
+pub mod NoteLemmas

@@ -1,5 +1,5 @@
 -- A turn that is driven on a folder, whose appends are whole.
-use Rattle.std.specs.Prelude.{ℕ, ◌≡◌, ◌⊎◌, ◌+◌, ◌-◌, ◌^◌, ◌≤◌, ◌<◌, List, ◌∷◌, Result, Ok, Err, None}
+use Rattle.std.specs.Prelude.{ℕ, ◌≡◌, ◌⊎◌, ◌+◌, ◌-◌, ◌^◌, ◌≤◌, ◌<◌, Bool, true, List, ◌∷◌, Result, Ok, Err, None}
 use Rattle.dconf_model.specs.Folders.{Event}
 use Rattle.dconf_model.specs.Folders.Event.{create, append, rename}
 use Rattle.dconf_model.specs.Replacing.{new_name}
@@ -7,7 +7,7 @@ use Rattle.dconf_turn.specs.Jobs.{Job}
 use Rattle.dconf_turn.specs.declared.step.Outcome.{Outcome}
 use Rattle.dconf_turn.specs.declared.step.Outcome.TheVariants.{Made}
 use Rattle.dconf_turn.specs.declared.step.Step.{Step}
-use Rattle.dconf_turn.specs.declared.step.Step.TheVariants.{Lock, Read, Make, Append, Sync, SetAside, Exchange, Rename, SyncFolder, Remove, Note, Unlock, Done}
+use Rattle.dconf_turn.specs.declared.step.Step.TheVariants.{Lock, Read, Make, Create, Append, Sync, SetAside, Exchange, Rename, SyncFolder, Remove, Note, Unlock, Done}
 use Rattle.dconf_turn.specs.declared.step.Answer.{Answer}
 use Rattle.dconf_turn.specs.declared.step.Answer.TheVariants.{Yes, No}
 use Rattle.dconf_disk.specs.declared.fault.FolderFault.{FolderFault}
@@ -60,6 +60,17 @@ IsCounted before now Exchange answer = now ≡ before
 IsCounted before now step (Yes n) = now ≡ before
 IsCounted before now step (No fault) = IsOneMore before now
 
+-- what fills the new file needs the turn to
+abbrev pub IsAble : Bool → Step → Type 0
+IsAble holds (Append at) = holds ≡ true
+IsAble holds (Sync bits) = holds ≡ true
+IsAble holds step = Unit {0}
+
+-- no file is made
+abbrev pub IsRefused : Step → Answer → Type 0
+IsRefused (Create mode) (Yes n) = ⊥
+IsRefused step answer = Unit {0}
+
 -- ---- while it is driven
 
 -- what was done, the last first, where no step failed
@@ -85,3 +96,15 @@ CountsSo Note o before now = (o ≡ Made → now ≡ before) × (¬ (o ≡ Made)
 CountsSo Unlock o before now = (o ≡ Made → now ≡ before) × (¬ (o ≡ Made) → IsOneMore before now)
 CountsSo (Done said) o before now = (o ≡ Made → now ≡ before) × (¬ (o ≡ Made) → IsOneMore before now)
 CountsSo step o before now = now ≡ before
+
+-- where files may not be replaced, it comes to no further step than the first that would make one, and ends otherwise
+abbrev pub IsIdle : Step → Outcome → Type 0
+IsIdle Lock o = Unit {0}
+IsIdle Read o = Unit {0}
+IsIdle Make o = Unit {0}
+IsIdle (Create mode) o = Unit {0}
+IsIdle Remove o = ¬ (o ≡ Made)
+IsIdle Note o = ¬ (o ≡ Made)
+IsIdle Unlock o = ¬ (o ≡ Made)
+IsIdle (Done said) o = ¬ (o ≡ Made)
+IsIdle step o = ⊥

@@ -2,6 +2,7 @@ pub mod Failures
 pub mod Staging
 pub mod MemoryFolders
 pub mod Crashes
+pub mod Notes
 pub mod StdFolders
 pub mod FolderFaults
 pub mod LockFaults

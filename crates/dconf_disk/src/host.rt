@@ -1,10 +1,11 @@
 //! The current folder of the host.
-ghost use Rattle.std.specs.Prelude.{◌≡◌, ◌≢◌, ◌<◌, ◌≤◌, ◌↔◌, None, Ok, Err, IfSome, IfOk, IfErr, IsOk, IsTrue, IsErrOf, IsErrAnd, OnErr, true, false, length};
+ghost use Rattle.std.specs.Prelude.{◌≡◌, ◌≢◌, ◌<◌, ◌≤◌, ◌↔◌, None, Ok, Err, IfSome, IfOk, IfErr, IsOk, IsTrue, IsErrOf, IsErrAnd, OnOk, OnErr, true, false, length};
 ghost use Rattle.std.specs.IoError.{error_kind};
 ghost use Rattle.dconf_disk.specs.Failures.{HasCause};
 ghost use Rattle.dconf_disk.specs.StdFolders.{folder_of};
 
 use crate::modes::{keep_mode, open_new};
+use crate::record::Record;
 use crate::{Folder, FolderFault, FolderLock, LARGEST_FILE};
 use std::alloc::Global;
 use std::fs::{OpenFile, OpenOptions};
@@ -13,7 +14,37 @@ use std::path::Path;
 use std::rt::Files;
 use std::{fmt, fs, io};
 
-/// The files of the current folder, by `rt`. What they hold no contract can say, nor that the host keeps what a folder is.
+// The calls as they are noted, and their answers: those of a read, and those of a call that writes.
+
+const READ: u64 = 0;
+
+const CREATE: u64 = 1;
+
+const APPEND: u64 = 2;
+
+const SYNC: u64 = 3;
+
+const RENAME: u64 = 4;
+
+const REMOVE: u64 = 5;
+
+const SYNC_FOLDER: u64 = 6;
+
+const NO_FILE: u64 = 0;
+
+const HOLDS: u64 = 1;
+
+const OVER_SIZE: u64 = 2;
+
+const FAILED: u64 = 0;
+
+const DONE: u64 = 1;
+
+/// The files of the current folder, by `rt`.
+///
+/// It notes each call and its answer, for clauses alone: that costs nothing. So its past is what was done before its first call,
+/// which is any, and what it noted; and it is honest as long as each answer is true of that. That it makes the call that it notes is to be read
+/// below, and that the host keeps what a folder is stays to be believed.
 ///
 /// A name may lead into another folder, by the host's rules for a path. `sync_folder` syncs the current folder; a rename into
 /// another one syncs that one itself, so its `Device` may come when the file has its name already. `create` removes a file of
@@ -25,11 +56,12 @@ pub struct StdFolder<R> {
     rt: R,
     failures: u64,
     can_write: bool,
+    log: Record,
     /// It is held as long as the folder is.
     _lock: Option<FolderLock>,
 }
 
-/// It shows nothing of the host, which no proof speaks of.
+/// It shows nothing of the host.
 impl<R> fmt::Debug for StdFolder<R> {
     ghost use Rattle.std.specs.Prelude.{None};
 
@@ -41,7 +73,11 @@ impl<R> fmt::Debug for StdFolder<R> {
 }
 
 impl<R: Files> StdFolder<R> {
-    ghost use Rattle.dconf_disk.specs.StdFolders.{failures_of, can_write};
+    ghost use Rattle.std.specs.Prelude.{◌∷◌, ◌&&◌, option_map};
+    ghost use Rattle.dconf_model.specs.Folders.{read_content};
+    ghost use Rattle.dconf_model.specs.Reads.{IsOverSize};
+    ghost use Rattle.dconf_disk.specs.Notes.{after_failure, can_be_done, event_noted};
+    ghost use Rattle.dconf_disk.specs.StdFolders.{failures_of, can_write, events_of, fate_of, is_honest};
 
     /// The current folder, whose files are replaced by the turn that this lock is, with no failure yet. The lock is taken before the first
     /// read so, and given back with the folder, after the last call. It asks nothing of the host, so it can't fail.
@@ -53,6 +89,7 @@ impl<R: Files> StdFolder<R> {
             rt,
             failures: 0,
             can_write: true,
+            log: Record::new(),
             _lock: Some(lock),
         }
     }
@@ -67,6 +104,7 @@ impl<R: Files> StdFolder<R> {
             rt,
             failures: 0,
             can_write: false,
+            log: Record::new(),
             _lock: None,
         }
     }
@@ -74,6 +112,8 @@ impl<R: Files> StdFolder<R> {
     /// The answer of a call, whose fault is counted.
     fn counted<T: Drop>(&mut self, answer: Result<T, FolderFault>) -> Result<T, FolderFault>
         ensures same { result ≡ answer }
+        ensures log { self.new.log ≡ self.old.log }
+        ensures turn { can_write self.new ≡ can_write self.old }
         ensures cause { HasCause (failures_of self.old) (failures_of self.new) result }
     {
         if matches!(&answer, Err(FolderFault::Device)) {
@@ -81,13 +121,57 @@ impl<R: Files> StdFolder<R> {
         }
         answer
     }
+
+    /// Reads the file of this name, and notes what that gave.
+    fn read_noted(&mut self, alloc: Global, name: &str) -> Result<Option<Vec<u8>>, FolderFault>
+        ensures events { events_of self.new ≡ events_of self.old }
+        ensures honest { IsTrue (is_honest self.new) → IsTrue (is_honest self.old) }
+        ensures bytes { IsTrue (is_honest self.new) → IfOk result (λ found. option_map (λ v. v.items) found ≡ read_content (events_of self.old) name.now) }
+        ensures size { IfOk result (λ found. IfSome found (λ v. length v.items ≤ LARGEST_FILE)) }
+        ensures too_big { IsTrue (is_honest self.new) → IsErrOf result FolderFault.TooBig → IsOverSize (read_content (events_of self.old) name.now) }
+        ensures turn { can_write self.new ≡ can_write self.old }
+        ensures failures { failures_of self.new ≡ failures_of self.old }
+    {
+        let found = read_opened(alloc, fs::open(&self.rt, name));
+        match &found {
+            Ok(Some(bytes)) => self.log.note(&[READ, HOLDS], name.as_bytes(), bytes),
+            Ok(None) => self.log.note(&[READ, NO_FILE], name.as_bytes(), &[]),
+            Err(FolderFault::TooBig) => self.log.note(&[READ, OVER_SIZE], name.as_bytes(), &[]),
+            Err(FolderFault::Device) => {}
+            Err(FolderFault::Memory) => {}
+        }
+        found
+    }
+
+    /// The answer of a writing call, which is noted, and counted where it is a fault.
+    fn noted(&mut self, call: u64, name: &str, more: &[u8], answer: io::Result<()>) -> Result<(), FolderFault>
+        requires { 0 < call }
+        ensures ok { OnOk result (events_of self.new ≡ event_noted call name.now more.now ∷ events_of self.old) }
+        ensures err { OnErr result (events_of self.new ≡ after_failure (fate_of self.old) (event_noted call name.now more.now) (events_of self.old)) }
+        ensures honest { IsTrue (is_honest self.new) → IsTrue (is_honest self.old) }
+        ensures can { IsTrue (is_honest self.new) → OnOk result (can_be_done (event_noted call name.now more.now) (events_of self.old) ≡ true) }
+        ensures turn { can_write self.new ≡ can_write self.old }
+        ensures only { OnErr result (IsErrOf result FolderFault.Device) }
+        ensures cause { HasCause (failures_of self.old) (failures_of self.new) result }
+    {
+        let answer = written(answer);
+        match answer {
+            Ok(()) => self.log.note(&[call, DONE], name.as_bytes(), more),
+            Err(_) => self.log.note(&[call, FAILED], name.as_bytes(), more),
+        }
+        self.counted(answer)
+    }
 }
 
 impl<R: Files> Folder for StdFolder<R> {
-    ghost use Rattle.dconf_disk.specs.StdFolders.{failures_of};
+    ghost use Rattle.dconf_disk.specs.StdFolders.{failures_of, can_write, events_of, is_honest};
 
-    // Nothing is known of what was done to it.
-    ghost past = { λ _ _. ⊥ };
+    // What it noted. No clause says what was done before its first call, or what becomes of a call that fails.
+    ghost past = { λ f es. es ≡ events_of f };
+
+    ghost honest = { is_honest };
+
+    ghost holds_turn = { can_write };
 
     ghost failed = { failures_of };
 
@@ -96,45 +180,61 @@ impl<R: Files> Folder for StdFolder<R> {
     }
 
     fn read(&mut self, alloc: Global, name: &str) -> Result<Option<Vec<u8>>, FolderFault> {
-        let answer = read_opened(alloc, fs::open(&self.rt, name));
-        self.counted(answer)
+        let found = self.read_noted(alloc, name);
+        self.counted(found)
     }
 
     fn create(&mut self, name: &str) -> Result<(), FolderFault> {
-        let answer = if self.can_write {
-            written(make_new(&self.rt, name))
-        } else {
-            Err(FolderFault::Device)
-        };
-        self.counted(answer)
+        if !self.can_write {
+            return self.counted(Err(FolderFault::Device));
+        }
+        let answer = make_new(&self.rt, name);
+        self.noted(CREATE, name, &[], answer)
     }
 
     fn append(&mut self, name: &str, bytes: &[u8]) -> Result<(), FolderFault> {
-        let answer = written(append_to(&self.rt, name, bytes));
-        self.counted(answer)
+        if !self.can_write {
+            return self.counted(Err(FolderFault::Device));
+        }
+        let answer = append_to(&self.rt, name, bytes);
+        self.noted(APPEND, name, bytes, answer)
     }
 
     fn sync(&mut self, name: &str) -> Result<(), FolderFault> {
-        let answer = written(sync_at(&self.rt, name));
-        self.counted(answer)
+        if !self.can_write {
+            return self.counted(Err(FolderFault::Device));
+        }
+        let answer = sync_file(&self.rt, name);
+        self.noted(SYNC, name, &[], answer)
     }
 
     fn rename(&mut self, from: &str, to: &str) -> Result<(), FolderFault> {
-        let answer = if self.can_write {
-            written(rename_to(&self.rt, from, to))
-        } else {
-            Err(FolderFault::Device)
-        };
-        self.counted(answer)
+        if !self.can_write {
+            return self.counted(Err(FolderFault::Device));
+        }
+        let answer = rename_to(&self.rt, from, to);
+        self.noted(RENAME, from, to.as_bytes(), answer)
     }
 
     fn remove(&mut self, name: &str) -> bool {
-        self.can_write && fs::remove_file(&self.rt, name).is_ok()
+        if !self.can_write {
+            return false;
+        }
+        let removed = fs::remove_file(&self.rt, name).is_ok();
+        if removed {
+            self.log.note(&[REMOVE, DONE], name.as_bytes(), &[]);
+        } else {
+            self.log.note(&[REMOVE, FAILED], name.as_bytes(), &[]);
+        }
+        removed
     }
 
     fn sync_folder(&mut self) -> Result<(), FolderFault> {
-        let answer = written(sync_at(&self.rt, "."));
-        self.counted(answer)
+        if !self.can_write {
+            return self.counted(Err(FolderFault::Device));
+        }
+        let answer = sync_at(&self.rt, ".");
+        self.noted(SYNC_FOLDER, "", &[], answer)
     }
 }
 
@@ -153,14 +253,20 @@ fn append_to<R: Files>(rt: &R, name: &str, bytes: &[u8]) -> io::Result<()> {
     file.write_all(bytes)
 }
 
-/// A file's bytes, or a folder's names.
+/// A file's bytes. One that is to take another's place has that one's permission bits before, so that they are on the disk with them.
+fn sync_file<R: Files>(rt: &R, name: &str) -> io::Result<()> {
+    let file = fs::open(rt, name)?;
+    keep_mode(rt, &file, name)?;
+    file.sync_all()
+}
+
+/// A folder's names.
 fn sync_at<R: Files>(rt: &R, name: &str) -> io::Result<()> {
     fs::open(rt, name)?.sync_all()
 }
 
 /// `sync_folder` syncs the current folder alone, so the names of any other are synced here.
 fn rename_to<R: Files>(rt: &R, from: &str, to: &str) -> io::Result<()> {
-    keep_mode(rt, from, to)?;
     fs::rename(rt, from, to)?;
     match folder_of(to) {
         "." => Ok(()),

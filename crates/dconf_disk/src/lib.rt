@@ -33,6 +33,7 @@ mod host;
 mod lock;
 mod memory;
 mod modes;
+mod record;
 mod replacing;
 
 pub use fault::FolderFault;

@@ -129,6 +129,10 @@ impl Folder for MemoryFolder {
 
     ghost past = { λ m es. IsPast m es };
 
+    ghost honest = { λ _. true };
+
+    ghost holds_turn = { λ _. true };
+
     ghost failed = { λ m. failures_of m };
 
     fn failures(&self) -> u64 {

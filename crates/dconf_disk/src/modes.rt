@@ -15,25 +15,29 @@ const READ_AND_WRITE: u32 = 0o600;
 pub(crate) fn open_new<R: Files>(rt: &R, name: &str) -> io::Result<R::File> {
     let mut options = OpenOptions::new();
     options.write(true).create_new(true);
-    if let Some(replaced) = name.strip_suffix(".new") {
-        if let Some(bits) = mode_of(rt, replaced)? {
-            options.mode(bits | READ_AND_WRITE);
-        }
+    if let Some(bits) = mode_of_replaced(rt, name)? {
+        options.mode(bits | READ_AND_WRITE);
     }
     options.open(rt, name)
 }
 
-/// Gives the file `from` the permission bits of the file `to`, if there is one. They are on the disk then.
-pub(crate) fn keep_mode<R: Files>(rt: &R, from: &str, to: &str) -> io::Result<()> {
-    let Some(bits) = mode_of(rt, to)? else {
+/// Gives an open file of this name the permission bits of the one whose place it is to take, if there is one.
+pub(crate) fn keep_mode<R: Files>(rt: &R, file: &R::File, name: &str) -> io::Result<()> {
+    let Some(bits) = mode_of_replaced(rt, name)? else {
         return Ok(());
     };
-    if mode_of(rt, from)? == Some(bits) {
+    if file.metadata()?.permissions().mode() & PERMISSION_BITS == bits {
         return Ok(());
     }
-    let file = fs::open(rt, from)?;
-    file.set_permissions(Permissions::from_mode(bits))?;
-    file.sync_all()
+    file.set_permissions(Permissions::from_mode(bits))
+}
+
+/// The permission bits of the file whose place that of this name is to take, if there is one.
+fn mode_of_replaced<R: Files>(rt: &R, name: &str) -> io::Result<Option<u32>> {
+    match name.strip_suffix(".new") {
+        Some(replaced) => mode_of(rt, replaced),
+        None => Ok(None),
+    }
 }
 
 /// The permission bits of a file, if there is one.

@@ -1,11 +1,11 @@
 //! Replaces a file, so that a crash leaves the old bytes or the new ones.
-ghost use Rattle.std.specs.Prelude.{◌≡◌, ◌⊎◌, ◌∷◌, ℕ, List, OnOk, OnErr, IsErrOf, length};
+ghost use Rattle.std.specs.Prelude.{◌≡◌, ◌⊎◌, ◌∷◌, ℕ, List, true, false, IsTrue, OnOk, OnErr, IsErrOf, length};
 ghost use Rattle.dconf_model.specs.Folders.{Event};
 ghost use Rattle.dconf_model.specs.Replacing.{Replaced, MaybeReplaced, new_name};
 ghost use Rattle.dconf_turn.specs.Hosts.{Did};
 ghost use Rattle.dconf_disk.specs.Staging.{staged_onto, settled_onto};
 ghost use Rattle.dconf_disk.specs.Failures.{HasCause};
-ghost use Rattle.dconf_disk.specs.Driving.{IsCounted, IsWhole, IsWithin, answer_of, job_of, result_of};
+ghost use Rattle.dconf_disk.specs.Driving.{IsAble, IsCounted, IsRefused, IsWhole, IsWithin, answer_of, job_of, result_of};
 
 use crate::{Folder, FolderFault};
 use dconf_turn::{Answer, Outcome, Step, Turn};
@@ -21,7 +21,12 @@ const DEVICE: u32 = 1;
 fn carry_out<F: Folder>(folder: &mut F, new: &str, name: &str, bytes: &[u8], step: Step) -> Answer
     requires new { new.now ≡ new_name name.now }
     requires within { IsWithin step (length bytes.now) }
+    requires able { IsAble (F.holds_turn folder.old) step }
     ensures did { (es : List Event) → F.past folder.old es → (now : List Event) × F.past folder.new now × Did step result (job_of name.now bytes.now) es now }
+    ensures honest { IsTrue (F.honest folder.new) → IsTrue (F.honest folder.old) }
+    ensures turn { F.holds_turn folder.new ≡ F.holds_turn folder.old }
+    ensures read_only { F.holds_turn folder.old ≡ false → IsRefused step result }
+    ensures untouched { F.holds_turn folder.old ≡ false → (es : List Event) → F.past folder.old es → F.past folder.new es }
     ensures whole { IsWhole step result (length bytes.now) }
     ensures count { IsCounted (F.failed folder.old) (F.failed folder.new) step result }
 {
@@ -80,6 +85,10 @@ fn replace_by<F: Folder>(
     ensures events { (es : List Event) → F.past folder.old es → OnOk result (F.past folder.new (settled_onto (staged_onto es (new_name name.now) bytes.now) (new_name name.now) name.now)) }
     ensures ok { (es : List Event) → F.past folder.old es → OnOk result ((now : List Event) × F.past folder.new now × Replaced es now name.now bytes.now) }
     ensures err { (es : List Event) → F.past folder.old es → OnErr result ((now : List Event) × F.past folder.new now × MaybeReplaced es now name.now bytes.now) }
+    ensures honest { IsTrue (F.honest folder.new) → IsTrue (F.honest folder.old) }
+    ensures turn { F.holds_turn folder.new ≡ F.holds_turn folder.old }
+    ensures held { OnOk result (F.holds_turn folder.old ≡ true) }
+    ensures untouched { F.holds_turn folder.old ≡ false → (es : List Event) → F.past folder.old es → F.past folder.new es }
     ensures only { OnErr result (IsErrOf result FolderFault.Device) }
     ensures cause { HasCause (F.failed folder.old) (F.failed folder.new) result }
 {
@@ -114,6 +123,12 @@ pub fn replace<F: Folder>(
 
     // However far it came, a crash at any moment leaves what it might have left before the call, or the bytes, and so does a read.
     ensures err { (es : List Event) → F.past folder.old es → OnErr result ((now : List Event) × F.past folder.new now × MaybeReplaced es now name.now bytes.now) }
+
+    // Who replaces a file holds the turn to before and after, and without it nothing is done.
+    ensures turn { F.holds_turn folder.new ≡ F.holds_turn folder.old }
+    ensures held { OnOk result (F.holds_turn folder.old ≡ true) }
+    ensures untouched { F.holds_turn folder.old ≡ false → (es : List Event) → F.past folder.old es → F.past folder.new es }
+    ensures honest { IsTrue (F.honest folder.new) → IsTrue (F.honest folder.old) }
 
     // A fault of the device is one failure more, and nothing else is.
     ensures cause { HasCause (F.failed folder.old) (F.failed folder.new) result }

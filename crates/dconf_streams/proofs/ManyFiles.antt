@@ -1,6 +1,7 @@
 -- What a command decides by several files, which it reads one after the other.
 use Rattle.std.proofs.Common.{◌≡◌, ◌+◌, ◌++◌, ◌∷◌, ◌∙◌, inl, inr, ℕ, List, [], length, map, refl, sym, ap, subst, arith}
 use Rattle.std.specs.Prelude.{Err, vec_items}
+use Rattle.dconf_disk.specs.declared.folder.Folder.{Ghosts}
 use Rattle.dconf_model.specs.Folders.{Event}
 use Rattle.dconf_model.specs.Outcomes.{Outcome, WithFile, WithFiles}
 use Rattle.dconf_model.specs.Reads.{ReadResults}
@@ -10,7 +11,7 @@ use Rattle.dconf_streams.specs.declared.refusal.Refusal.TheVariants.{NoMemory}
 use Rattle.dconf_streams.specs.Answers.{Answered}
 use Rattle.dconf_streams.specs.Readings.{AllRead, AreOf, BreaksAt, Decides, Gave, HasRead, NoSources, Nothing, Reading, Tells, held_read, named_source, named_sources, one_read, reads_of}
 use Rattle.dconf_streams.specs.declared.folder_files.NamedFile.{NamedFile}
-use Rattle.dconf_streams.proofs.Decisions.{answers_also, not_failed, nothing_is_any}
+use Rattle.dconf_streams.proofs.Decisions.{answers_also, kept_both, not_failed, nothing_is_any}
 
 -- ---- one list of reads after another
 
@@ -72,15 +73,16 @@ pub one_named_more : (files : List NamedFile) (file : NamedFile) (rest : List (L
 one_named_more [] file rest = refl
 one_named_more (f ∷ files) file rest = ap (λ (ns : List (List ℕ)). f.name.now ∷ ns) (one_named_more files file rest)
 
-module _ {F : Type 0} (past : F → List Event → Type 0) (failures : F → ℕ) where
-  pub one_read_more : (old mid new : F) (files : List NamedFile) (file : NamedFile) → HasRead past failures old mid (reads_of (named_sources files))
-      → HasRead past failures mid new (one_read file.name.now (holds (vec_items file.bytes)))
-      → HasRead past failures old new (reads_of (named_sources (files ++ file ∷ [])))
+module _ {F : Type 0} (ghosts : Ghosts F) where
+  pub one_read_more : (old mid new : F) (files : List NamedFile) (file : NamedFile) → HasRead ghosts old mid (reads_of (named_sources files))
+      → HasRead ghosts mid new (one_read file.name.now (holds (vec_items file.bytes)))
+      → HasRead ghosts old new (reads_of (named_sources (files ++ file ∷ [])))
   one_read_more old mid new files file h one = record {
-    known = λ es is.
-        let first = h.known es is in
-        let later = one.known es first.0 in
-        (later.0, subst (λ (log : List Reading). AreOf es log) (sym (reads_and_one files)) (are_together es (reads_of (named_sources files)) _ first.1 later.1));
+    kept = kept_both ghosts old mid new h.kept one.kept;
+    known = λ t es is.
+        let first = h.known (one.kept.honest t) es is in
+        let later = one.known t es (h.kept.past es is) in
+        subst (λ (log : List Reading). AreOf es log) (sym (reads_and_one files)) (are_together es (reads_of (named_sources files)) _ first later);
     none_failed = one.none_failed ∙ h.none_failed;
   }
     where
@@ -91,18 +93,16 @@ module _ {F : Type 0} (past : F → List Event → Type 0) (failures : F → ℕ
 
 -- ---- decisions
 
-module _ {F : Type 0} (past : F → List Event → Type 0) (failures : F → ℕ) where
+module _ {F : Type 0} (ghosts : Ghosts F) where
   -- after other reads, none of which failed
   pub decides_later : (old mid new : F) (n : ℕ) (log : List Reading) (answer : Answered) (Makes Also : ReadResults → Outcome → Type 0)
-      → HasRead past failures old mid log → AllRead log → ((reads : ReadResults) → Gave reads n log → (o : Outcome) → Makes reads o → Also reads o)
-      → Decides past failures mid new (n + length log) Makes answer → Decides past failures old new n Also answer
+      → HasRead ghosts old mid log → AllRead log → ((reads : ReadResults) → Gave reads n log → (o : Outcome) → Makes reads o → Also reads o)
+      → Decides ghosts mid new (n + length log) Makes answer → Decides ghosts old new n Also answer
   decides_later old mid new n log answer Makes Also h all also d = record {
     log = log ++ d.log;
-    known = λ es is.
-        let first = h.known es is in
-        let later = d.known es first.0 in
-        (later.0, are_together es log d.log first.1 later.1);
-    tells = tells_later (failures old) (failures mid) (failures new) log d.log answer all h.none_failed d.tells;
+    kept = kept_both ghosts old mid new h.kept d.kept;
+    known = λ t es is. are_together es log d.log (h.known (d.kept.honest t) es is) (d.known t es (h.kept.past es is));
+    tells = tells_later (ghosts.failed old) (ghosts.failed mid) (ghosts.failed new) log d.log answer all h.none_failed d.tells;
     answers = λ reads gave.
         let apart = gave_apart reads n log d.log gave in
         answers_also answer (Makes reads) (Also reads) (also reads apart.0) (d.answers reads apart.1);
@@ -110,9 +110,9 @@ module _ {F : Type 0} (past : F → List Event → Type 0) (failures : F → ℕ
 
   -- one that can't be read, after these
   pub decides_at_file : (old mid new : F) (n : ℕ) (files : List Source) (name : List ℕ) (names others : List (List ℕ)) (answer : Answered)
-      → map (λ s. s.name) files ++ name ∷ others ≡ names → HasRead past failures old mid (reads_of files)
-      → ((k : ℕ) → Decides past failures mid new k (λ reads. WithFile reads k name Nothing) answer)
-      → Decides past failures old new n (λ reads. WithFiles reads n names NoSources) answer
+      → map (λ s. s.name) files ++ name ∷ others ≡ names → HasRead ghosts old mid (reads_of files)
+      → ((k : ℕ) → Decides ghosts mid new k (λ reads. WithFile reads k name Nothing) answer)
+      → Decides ghosts old new n (λ reads. WithFiles reads n names NoSources) answer
   decides_at_file old mid new n files name names others answer named h d =
       let k = n + length (reads_of files) in
       decides_later old mid new n (reads_of files) answer (λ reads. WithFile reads k name Nothing) (λ reads. WithFiles reads n names NoSources) h (all_read files)
@@ -123,7 +123,7 @@ module _ {F : Type 0} (past : F → List Event → Type 0) (failures : F → ℕ
 
   -- no memory, after these
   pub decides_out_of_memory : (old mid new : F) (n : ℕ) (files : List Source) (Makes : ReadResults → Outcome → Type 0)
-      → HasRead past failures old mid (reads_of files) → HasRead past failures mid new [] → Decides past failures old new n Makes (Err NoMemory)
+      → HasRead ghosts old mid (reads_of files) → HasRead ghosts mid new [] → Decides ghosts old new n Makes (Err NoMemory)
   decides_out_of_memory old mid new n files Makes h later =
       decides_later old mid new n (reads_of files) (Err NoMemory) Makes Makes h (all_read files) (λ reads gave o m. m)
-      (record { log = []; known = later.known; tells = inl (tt, later.none_failed); answers = λ reads gave. tt })
+      (record { log = []; kept = later.kept; known = later.known; tells = inl (tt, later.none_failed); answers = λ reads gave. tt })

@@ -1,6 +1,7 @@
 -- What a command read of a folder, and what it decides by that. It holds of any folder: of one whose events are known, and of one of
 -- which nothing is known.
-use Rattle.std.specs.Prelude.{◌≡◌, ◌≢◌, ◌⊎◌, ◌+◌, ℕ, List, [], ◌∷◌, map, Option, Some, None, vec_items}
+use Rattle.std.specs.Prelude.{◌≡◌, ◌≢◌, ◌⊎◌, ◌+◌, ℕ, List, [], ◌∷◌, map, Option, Some, None, IsTrue, vec_items}
+use Rattle.dconf_disk.specs.declared.folder.Folder.{Ghosts}
 use Rattle.dconf_model.specs.Folders.{Event, read_content}
 use Rattle.dconf_model.specs.FaultTexts.{device_text}
 use Rattle.dconf_model.specs.Outcomes.{Outcome}
@@ -37,10 +38,18 @@ BreaksAt [] name = ⊥
 BreaksAt (r ∷ []) name = (r.gave ≡ failed) × (r.name ≡ name)
 BreaksAt (r ∷ more) name = (r.gave ≢ failed) × BreaksAt more name
 
+-- Nothing was done to a folder, and its turn is as before. If its host's answers are true now, they were.
+pub record IsKept {F : Type 0} (ghosts : Ghosts F) (old new : F) : Type 0 where
+  pub past : (es : List Event) → ghosts.past old es → ghosts.past new es
+  pub honest : IsTrue (ghosts.honest new) → IsTrue (ghosts.honest old)
+  pub turn : ghosts.holds_turn new ≡ ghosts.holds_turn old
+
 -- a folder was read, which changes none of its files
-pub record HasRead {F : Type 0} (past : F → List Event → Type 0) (failures : F → ℕ) (old new : F) (log : List Reading) : Type 0 where
-  pub known : (es : List Event) → past old es → past new es × AreOf es log
-  pub none_failed : failures new ≡ failures old
+pub record HasRead {F : Type 0} (ghosts : Ghosts F) (old new : F) (log : List Reading) : Type 0 where
+  pub kept : IsKept ghosts old new
+  -- where its host's answers are true
+  pub known : IsTrue (ghosts.honest new) → (es : List Event) → ghosts.past old es → AreOf es log
+  pub none_failed : ghosts.failed new ≡ ghosts.failed old
 
 -- the device failed at a read, and the answer says of which file; or it failed at none
 abbrev pub Tells : ℕ → ℕ → List Reading → Answered → Type 0
@@ -49,11 +58,12 @@ Tells old new log answered =
 
 -- What a command decides by its reads, the first of which has that number: whatever reads gave the same, its answer is one of the
 -- outcomes that they make.
-pub record Decides {F : Type 0} (past : F → List Event → Type 0) (failures : F → ℕ) (old new : F) (n : ℕ) (Makes : ReadResults → Outcome → Type 0)
+pub record Decides {F : Type 0} (ghosts : Ghosts F) (old new : F) (n : ℕ) (Makes : ReadResults → Outcome → Type 0)
     (answered : Answered) : Type 0 where
   pub log : List Reading
-  pub known : (es : List Event) → past old es → past new es × AreOf es log
-  pub tells : Tells (failures old) (failures new) log answered
+  pub kept : IsKept ghosts old new
+  pub known : IsTrue (ghosts.honest new) → (es : List Event) → ghosts.past old es → AreOf es log
+  pub tells : Tells (ghosts.failed old) (ghosts.failed new) log answered
   pub answers : (reads : ReadResults) → Gave reads n log → GivesOutcome answered (Makes reads)
 
 -- no bytes are looked at yet

@@ -23,9 +23,9 @@ pub fn named_file<'a, F: Folder>(
 ) -> Result<NamedFile<'a>, Refusal>
     ensures name { IfOk result (λ file. file.name.now ≡ name.now) }
     ensures ok { IfOk result (λ file.
-        HasRead F.past F.failed folder.old folder.new (one_read name.now (holds (vec_items file.bytes)))) }
+        HasRead F.Folder folder.old folder.new (one_read name.now (holds (vec_items file.bytes)))) }
     ensures err { IfErr result (λ refusal. (n : ℕ)
-        → Decides F.past F.failed folder.old folder.new n (λ reads. WithFile reads n name.now Nothing) (Err refusal)) }
+        → Decides F.Folder folder.old folder.new n (λ reads. WithFile reads n name.now Nothing) (Err refusal)) }
 {
     let bytes = file(alloc, folder, name)?;
     Ok(NamedFile { name, bytes })
@@ -39,9 +39,9 @@ pub fn files<'a, F: Folder>(
     names: &'a [String],
 ) -> Result<Vec<NamedFile<'a>>, Refusal>
     ensures names { IfOk result (λ files. map (λ s. s.name) (named_sources (vec_items files)) ≡ map string_bytes names.now) }
-    ensures ok { IfOk result (λ files. HasRead F.past F.failed folder.old folder.new (reads_of (named_sources (vec_items files)))) }
+    ensures ok { IfOk result (λ files. HasRead F.Folder folder.old folder.new (reads_of (named_sources (vec_items files)))) }
     ensures err { IfErr result (λ refusal. (n : ℕ)
-        → Decides F.past F.failed folder.old folder.new n (λ reads. WithFiles reads n (map string_bytes names.now) NoSources) (Err refusal)) }
+        → Decides F.Folder folder.old folder.new n (λ reads. WithFiles reads n (map string_bytes names.now) NoSources) (Err refusal)) }
 {
     let mut files = Vec::new(alloc);
     for name in names {
@@ -55,9 +55,9 @@ pub fn files<'a, F: Folder>(
 /// The bytes of a file, or the refusal of a command that needs it.
 pub fn file<F: Folder>(alloc: Global, folder: &mut F, name: &str) -> Result<Vec<u8>, Refusal>
     ensures ok { IfOk result (λ bytes.
-        HasRead F.past F.failed folder.old folder.new (one_read name.now (holds (vec_items bytes)))) }
+        HasRead F.Folder folder.old folder.new (one_read name.now (holds (vec_items bytes)))) }
     ensures err { IfErr result (λ refusal. (n : ℕ)
-        → Decides F.past F.failed folder.old folder.new n (λ reads. WithFile reads n name.now Nothing) (Err refusal)) }
+        → Decides F.Folder folder.old folder.new n (λ reads. WithFile reads n name.now Nothing) (Err refusal)) }
 {
     match file_if_any(alloc, folder, name)? {
         Some(bytes) => Ok(bytes),
@@ -72,9 +72,9 @@ pub fn file_if_any<F: Folder>(
     name: &str,
 ) -> Result<Option<Vec<u8>>, Refusal>
     ensures ok { IfOk result (λ found.
-        HasRead F.past F.failed folder.old folder.new (one_read name.now (found_read (option_map vec_items found)))) }
+        HasRead F.Folder folder.old folder.new (one_read name.now (found_read (option_map vec_items found)))) }
     ensures err { IfErr result (λ refusal. (n : ℕ)
-        → Decides F.past F.failed folder.old folder.new n (λ reads. OrNoDatabase name.now (reads n name.now) NothingIfAny) (Err refusal)) }
+        → Decides F.Folder folder.old folder.new n (λ reads. OrNoDatabase name.now (reads n name.now) NothingIfAny) (Err refusal)) }
 {
     match folder.read(alloc, name) {
         Ok(found) => Ok(found),

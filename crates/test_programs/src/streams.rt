@@ -136,7 +136,13 @@ pub(crate) struct Refusing {
 }
 
 impl Folder for Refusing {
+    ghost use Rattle.std.specs.Prelude.{true};
+
     ghost past = { λ _ _. ⊥ };
+
+    ghost honest = { λ _. true };
+
+    ghost holds_turn = { λ _. true };
 
     ghost failed = { λ _. 0 };
 

@@ -15,7 +15,7 @@ use std::fmt::Display;
 
 /// What `check` answers.
 pub(crate) fn check<F: Folder>(alloc: Global, name: &str, folder: &mut F) -> Result<Answer, Refusal>
-    ensures { (input : Input) → Decides F.past F.failed folder.old folder.new 0
+    ensures { (input : Input) → Decides F.Folder folder.old folder.new 0
         (λ reads. IsOutcome (check_of name.now) reads input) result }
 {
     let bytes = file(alloc, folder, name)?;

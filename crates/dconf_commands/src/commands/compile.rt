@@ -23,7 +23,7 @@ pub(crate) fn compile<F: Folder>(
     keyfiles: &[String],
     folder: &mut F,
 ) -> Result<Answer, Refusal>
-    ensures { (input : Input) → Decides F.past F.failed folder.old folder.new 0
+    ensures { (input : Input) → Decides F.Folder folder.old folder.new 0
         (λ reads. IsOutcome (compile_of out.now (option_map string_bytes locks.now) (map string_bytes keyfiles.now)) reads input) result }
 {
     let keyfiles = files(alloc, folder, keyfiles)?;

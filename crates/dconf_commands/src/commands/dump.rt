@@ -35,7 +35,7 @@ pub(crate) fn dump<F: Folder>(
     profile: &str,
     folder: &mut F,
 ) -> Result<Answer, Refusal>
-    ensures { (input : Input) → Decides F.past F.failed folder.old folder.new 0
+    ensures { (input : Input) → Decides F.Folder folder.old folder.new 0
         (λ reads. IsOutcome (dump_of_directory directory.now profile.now) reads input) result }
 {
     let directory = directory_path(alloc, directory)?;

@@ -23,7 +23,7 @@ pub(crate) fn list<F: Folder>(
     profile: &str,
     folder: &mut F,
 ) -> Result<Answer, Refusal>
-    ensures { (input : Input) → Decides F.past F.failed folder.old folder.new 0
+    ensures { (input : Input) → Decides F.Folder folder.old folder.new 0
         (λ reads. IsOutcome (list_of directory.now profile.now) reads input) result }
 {
     let directory = directory_path(alloc, directory)?;
@@ -40,7 +40,7 @@ pub(crate) fn list_locks<F: Folder>(
     profile: &str,
     folder: &mut F,
 ) -> Result<Answer, Refusal>
-    ensures { (input : Input) → Decides F.past F.failed folder.old folder.new 0
+    ensures { (input : Input) → Decides F.Folder folder.old folder.new 0
         (λ reads. IsOutcome (list_locks_of directory.now profile.now) reads input) result }
 {
     let directory = directory_path(alloc, directory)?;

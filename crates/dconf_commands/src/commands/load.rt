@@ -42,7 +42,7 @@ pub(crate) fn load<F: Folder, I: Read>(
     input: &mut Counted<I>,
 ) -> Result<Answer, Refusal>
     ensures answer { (i : Input) × Took (I.remaining (inner_of input.old)) (failures_of input.old) (failures_of input.new) i
-        × Decides F.past F.failed folder.old folder.new 0 (λ reads. IsOutcome (load_of force directory.now profile.now) reads i) result }
+        × Decides F.Folder folder.old folder.new 0 (λ reads. IsOutcome (load_of force directory.now profile.now) reads i) result }
     ensures device { failures_of input.new ≢ failures_of input.old → RefusesFor result (device_text (codes "input")) }
     ensures limit { ConsumesText (I.remaining (inner_of input.old)) (I.remaining (inner_of input.new)) }
 {
@@ -60,7 +60,7 @@ fn load_below<F: Folder, I: Read>(
     input: &mut Counted<I>,
 ) -> Result<Answer, Refusal>
     ensures answer { (i : Input) × Took (I.remaining (inner_of input.old)) (failures_of input.old) (failures_of input.new) i
-        × Decides F.past F.failed folder.old folder.new 0 (λ reads. WithRows (directory_text directory.entry) i
+        × Decides F.Folder folder.old folder.new 0 (λ reads. WithRows (directory_text directory.entry) i
         (λ rows. Changes reads profile.now (paths_of rows) (load_values rows force))) result }
     ensures device { failures_of input.new ≢ failures_of input.old → RefusesFor result (device_text (codes "input")) }
     ensures limit { ConsumesText (I.remaining (inner_of input.old)) (I.remaining (inner_of input.new)) }
@@ -81,7 +81,7 @@ fn load_bytes<F: Folder>(
     profile: &str,
     folder: &mut F,
 ) -> Result<Answer, Refusal>
-    ensures { Decides F.past F.failed folder.old folder.new 0 (λ reads. OrLine (codes "input") (loaded (directory_text directory.entry) bytes.entry.now)
+    ensures { Decides F.Folder folder.old folder.new 0 (λ reads. OrLine (codes "input") (loaded (directory_text directory.entry) bytes.entry.now)
         (λ rows. Changes reads profile.now (paths_of rows) (load_values rows force))) result }
 {
     match RowsBelow::read(alloc, directory, bytes) {
@@ -98,7 +98,7 @@ fn load_rows<F: Folder>(
     profile: &str,
     folder: &mut F,
 ) -> Result<Answer, Refusal>
-    ensures { Decides F.past F.failed folder.old folder.new 0 (λ reads. OrLine (codes "input") (rows_loaded below.entry)
+    ensures { Decides F.Folder folder.old folder.new 0 (λ reads. OrLine (codes "input") (rows_loaded below.entry)
         (λ rows. Changes reads profile.now (paths_of rows) (load_values rows force))) result }
 {
     let rows = match below.values(alloc) {

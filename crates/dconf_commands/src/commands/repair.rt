@@ -18,7 +18,7 @@ pub(crate) fn repair<F: Folder>(
     out: &str,
     folder: &mut F,
 ) -> Result<Answer, Refusal>
-    ensures { (input : Input) → Decides F.past F.failed folder.old folder.new 0
+    ensures { (input : Input) → Decides F.Folder folder.old folder.new 0
         (λ reads. IsOutcome (repair_of name.now out.now) reads input) result }
 {
     let bytes = file(alloc, folder, name)?;

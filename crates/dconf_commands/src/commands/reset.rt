@@ -28,7 +28,7 @@ pub(crate) fn reset<F: Folder>(
     profile: &str,
     folder: &mut F,
 ) -> Result<Answer, Refusal>
-    ensures { (input : Input) → Decides F.past F.failed folder.old folder.new 0
+    ensures { (input : Input) → Decides F.Folder folder.old folder.new 0
         (λ reads. IsOutcome (resetting force path.now profile.now) reads input) result }
 {
     if force {
@@ -45,7 +45,7 @@ fn reset_key<F: Folder>(
     profile: &str,
     folder: &mut F,
 ) -> Result<Answer, Refusal>
-    ensures { (input : Input) → Decides F.past F.failed folder.old folder.new 0
+    ensures { (input : Input) → Decides F.Folder folder.old folder.new 0
         (λ reads. IsOutcome (reset_of_key key.now profile.now) reads input) result }
 {
     let key = key_path(alloc, key)?;
@@ -62,7 +62,7 @@ fn reset_below<F: Folder>(
     profile: &str,
     folder: &mut F,
 ) -> Result<Answer, Refusal>
-    ensures { (input : Input) → Decides F.past F.failed folder.old folder.new 0
+    ensures { (input : Input) → Decides F.Folder folder.old folder.new 0
         (λ reads. IsOutcome (reset_of_directory directory.now profile.now) reads input) result }
 {
     let directory = directory_path(alloc, directory)?;

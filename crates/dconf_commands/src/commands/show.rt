@@ -22,7 +22,7 @@ pub(crate) fn show<F: Folder>(
     name: &str,
     folder: &mut F,
 ) -> Result<Answer, Refusal>
-    ensures { (input : Input) → Decides F.past F.failed folder.old folder.new 0
+    ensures { (input : Input) → Decides F.Folder folder.old folder.new 0
         (λ reads. IsOutcome (show_of type_text.now name.now) reads input) result }
 {
     let type_str = match TypeStr::parse(type_text) {

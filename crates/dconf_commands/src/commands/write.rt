@@ -28,7 +28,7 @@ pub(crate) fn write<F: Folder>(
     profile: &str,
     folder: &mut F,
 ) -> Result<Answer, Refusal>
-    ensures { (input : Input) → Decides F.past F.failed folder.old folder.new 0
+    ensures { (input : Input) → Decides F.Folder folder.old folder.new 0
         (λ reads. IsOutcome (write_of key.now value.now profile.now) reads input) result }
 {
     let key = key_path(alloc, key)?;

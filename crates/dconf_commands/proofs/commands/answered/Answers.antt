@@ -13,7 +13,7 @@ pub returns-in-Show-clause-answer : goal.returns-in-Show-clause-answer
 returns-in-Show-clause-answer g c =
     let given = g.I.Read.remaining (inner_of c.args.input.now) in
     let input = input_of given in
-    let D : Command → Type 0 = λ k. Decides g.F.Folder.past g.F.Folder.failed c.args.folder.now c.show.new.folder 0 (λ reads. IsOutcome k reads input) c.show.result in (
+    let D : Command → Type 0 = λ k. Decides g.F.Folder c.args.folder.now c.show.new.folder 0 (λ reads. IsOutcome k reads input) c.show.result in (
       input,
       took given (failures_of c.args.input.now),
       subst (λ k. D (command_of k)) (sym c.in-Show.is) (subst (λ n. D (show (string_bytes c.in-Show.type_text) n)) c.as_str-in-Show.ensures.value
@@ -27,7 +27,7 @@ pub returns-in-Read-clause-answer : goal.returns-in-Read-clause-answer
 returns-in-Read-clause-answer g c =
     let given = g.I.Read.remaining (inner_of c.args.input.now) in
     let input = input_of given in
-    let D : Command → Type 0 = λ k. Decides g.F.Folder.past g.F.Folder.failed c.args.folder.now c.read.new.folder 0 (λ reads. IsOutcome k reads input) c.read.result in (
+    let D : Command → Type 0 = λ k. Decides g.F.Folder c.args.folder.now c.read.new.folder 0 (λ reads. IsOutcome k reads input) c.read.result in (
       input,
       took given (failures_of c.args.input.now),
       subst (λ k. D (command_of k)) (sym c.in-Read.is) (subst (λ n. D (read c.in-Read.default (string_bytes c.in-Read.key) n)) c.as_str-in-Read-2.ensures.value
@@ -41,7 +41,7 @@ pub returns-in-Origin-clause-answer : goal.returns-in-Origin-clause-answer
 returns-in-Origin-clause-answer g c =
     let given = g.I.Read.remaining (inner_of c.args.input.now) in
     let input = input_of given in
-    let D : Command → Type 0 = λ k. Decides g.F.Folder.past g.F.Folder.failed c.args.folder.now c.origin.new.folder 0 (λ reads. IsOutcome k reads input) c.origin.result in (
+    let D : Command → Type 0 = λ k. Decides g.F.Folder c.args.folder.now c.origin.new.folder 0 (λ reads. IsOutcome k reads input) c.origin.result in (
       input,
       took given (failures_of c.args.input.now),
       subst (λ k. D (command_of k)) (sym c.in-Origin.is) (subst (λ n. D (origin (string_bytes c.in-Origin.key) n)) c.as_str-in-Origin-2.ensures.value
@@ -55,7 +55,7 @@ pub returns-in-Check-clause-answer : goal.returns-in-Check-clause-answer
 returns-in-Check-clause-answer g c =
     let given = g.I.Read.remaining (inner_of c.args.input.now) in
     let input = input_of given in
-    let D : Command → Type 0 = λ k. Decides g.F.Folder.past g.F.Folder.failed c.args.folder.now c.check.new.folder 0 (λ reads. IsOutcome k reads input) c.check.result in
+    let D : Command → Type 0 = λ k. Decides g.F.Folder c.args.folder.now c.check.new.folder 0 (λ reads. IsOutcome k reads input) c.check.result in
     (input, took given (failures_of c.args.input.now), subst (λ k. D (command_of k)) (sym c.in-Check.is) (subst (λ n. D (check n)) c.as_str-in-Check.ensures.value (c.check.ensures input)))
 
 pub returns-in-Check-clause-device : goal.returns-in-Check-clause-device
@@ -71,7 +71,7 @@ pub returns-in-Compile-clause-answer : goal.returns-in-Compile-clause-answer
 returns-in-Compile-clause-answer g c =
     let given = g.I.Read.remaining (inner_of c.args.input.now) in
     let input = input_of given in
-    let D : Command → Type 0 = λ k. Decides g.F.Folder.past g.F.Folder.failed c.args.folder.now c.compile.new.folder 0 (λ reads. IsOutcome k reads input) c.compile.result in
+    let D : Command → Type 0 = λ k. Decides g.F.Folder c.args.folder.now c.compile.new.folder 0 (λ reads. IsOutcome k reads input) c.compile.result in
     let locks = option_map string_bytes c.in-Compile.locks in (
       input,
       took given (failures_of c.args.input.now),
@@ -86,7 +86,7 @@ pub returns-in-Repair-clause-answer : goal.returns-in-Repair-clause-answer
 returns-in-Repair-clause-answer g c =
     let given = g.I.Read.remaining (inner_of c.args.input.now) in
     let input = input_of given in
-    let D : Command → Type 0 = λ k. Decides g.F.Folder.past g.F.Folder.failed c.args.folder.now c.repair.new.folder 0 (λ reads. IsOutcome k reads input) c.repair.result in (
+    let D : Command → Type 0 = λ k. Decides g.F.Folder c.args.folder.now c.repair.new.folder 0 (λ reads. IsOutcome k reads input) c.repair.result in (
       input,
       took given (failures_of c.args.input.now),
       subst (λ k. D (command_of k)) (sym c.in-Repair.is) (subst (λ n. D (repair (string_bytes c.in-Repair.file) n)) c.as_str-in-Repair-2.ensures.value
@@ -100,7 +100,7 @@ pub returns-in-List-clause-answer : goal.returns-in-List-clause-answer
 returns-in-List-clause-answer g c =
     let given = g.I.Read.remaining (inner_of c.args.input.now) in
     let input = input_of given in
-    let D : Command → Type 0 = λ k. Decides g.F.Folder.past g.F.Folder.failed c.args.folder.now c.list.new.folder 0 (λ reads. IsOutcome k reads input) c.list.result in (
+    let D : Command → Type 0 = λ k. Decides g.F.Folder c.args.folder.now c.list.new.folder 0 (λ reads. IsOutcome k reads input) c.list.result in (
       input,
       took given (failures_of c.args.input.now),
       subst (λ k. D (command_of k)) (sym c.in-List.is) (subst (λ n. D (list (string_bytes c.in-List.directory) n)) c.as_str-in-List-2.ensures.value
@@ -114,7 +114,7 @@ pub returns-in-ListLocks-clause-answer : goal.returns-in-ListLocks-clause-answer
 returns-in-ListLocks-clause-answer g c =
     let given = g.I.Read.remaining (inner_of c.args.input.now) in
     let input = input_of given in
-    let D : Command → Type 0 = λ k. Decides g.F.Folder.past g.F.Folder.failed c.args.folder.now c.list_locks.new.folder 0 (λ reads. IsOutcome k reads input) c.list_locks.result in (
+    let D : Command → Type 0 = λ k. Decides g.F.Folder c.args.folder.now c.list_locks.new.folder 0 (λ reads. IsOutcome k reads input) c.list_locks.result in (
       input,
       took given (failures_of c.args.input.now),
       subst (λ k. D (command_of k)) (sym c.in-ListLocks.is) (subst (λ n. D (list_locks (string_bytes c.in-ListLocks.directory) n)) c.as_str-in-ListLocks-2.ensures.value
@@ -128,7 +128,7 @@ pub returns-in-Dump-clause-answer : goal.returns-in-Dump-clause-answer
 returns-in-Dump-clause-answer g c =
     let given = g.I.Read.remaining (inner_of c.args.input.now) in
     let input = input_of given in
-    let D : Command → Type 0 = λ k. Decides g.F.Folder.past g.F.Folder.failed c.args.folder.now c.dump.new.folder 0 (λ reads. IsOutcome k reads input) c.dump.result in (
+    let D : Command → Type 0 = λ k. Decides g.F.Folder c.args.folder.now c.dump.new.folder 0 (λ reads. IsOutcome k reads input) c.dump.result in (
       input,
       took given (failures_of c.args.input.now),
       subst (λ k. D (command_of k)) (sym c.in-Dump.is) (subst (λ n. D (dump (string_bytes c.in-Dump.directory) n)) c.as_str-in-Dump-2.ensures.value
@@ -142,7 +142,7 @@ pub returns-in-Write-clause-answer : goal.returns-in-Write-clause-answer
 returns-in-Write-clause-answer g c =
     let given = g.I.Read.remaining (inner_of c.args.input.now) in
     let input = input_of given in
-    let D : Command → Type 0 = λ k. Decides g.F.Folder.past g.F.Folder.failed c.args.folder.now c.write.new.folder 0 (λ reads. IsOutcome k reads input) c.write.result in (
+    let D : Command → Type 0 = λ k. Decides g.F.Folder c.args.folder.now c.write.new.folder 0 (λ reads. IsOutcome k reads input) c.write.result in (
       input,
       took given (failures_of c.args.input.now),
       subst (λ k. D (command_of k)) (sym c.in-Write.is) (subst (λ n. D (write (string_bytes c.in-Write.key) (string_bytes c.in-Write.value) n)) c.as_str-in-Write-3.ensures.value
@@ -157,7 +157,7 @@ pub returns-in-Reset-clause-answer : goal.returns-in-Reset-clause-answer
 returns-in-Reset-clause-answer g c =
     let given = g.I.Read.remaining (inner_of c.args.input.now) in
     let input = input_of given in
-    let D : Command → Type 0 = λ k. Decides g.F.Folder.past g.F.Folder.failed c.args.folder.now c.reset.new.folder 0 (λ reads. IsOutcome k reads input) c.reset.result in (
+    let D : Command → Type 0 = λ k. Decides g.F.Folder c.args.folder.now c.reset.new.folder 0 (λ reads. IsOutcome k reads input) c.reset.result in (
       input,
       took given (failures_of c.args.input.now),
       subst (λ k. D (command_of k)) (sym c.in-Reset.is) (subst (λ n. D (resetting c.in-Reset.force (string_bytes c.in-Reset.path) n)) c.as_str-in-Reset-2.ensures.value
@@ -170,7 +170,7 @@ returns-in-Reset-clause-limit g c = takes_none (g.I.Read.remaining (inner_of c.a
 pub returns-in-Load-clause-answer : goal.returns-in-Load-clause-answer
 returns-in-Load-clause-answer g c =
     let a = c.load.ensures.answer in
-    let D : Command → Type 0 = λ k. Decides g.F.Folder.past g.F.Folder.failed c.args.folder.now c.load.new.folder 0 (λ reads. IsOutcome k reads a.0) c.load.result in (
+    let D : Command → Type 0 = λ k. Decides g.F.Folder c.args.folder.now c.load.new.folder 0 (λ reads. IsOutcome k reads a.0) c.load.result in (
       a.0,
       a.1,
       subst (λ k. D (command_of k)) (sym c.in-Load.is) (subst (λ n. D (load c.in-Load.force (string_bytes c.in-Load.directory) n)) c.as_str-in-Load-2.ensures.value

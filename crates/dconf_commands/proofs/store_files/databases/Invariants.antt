@@ -6,5 +6,5 @@ use Rattle.dconf_commands.proofs.store_files.databases.Given as goal
 
 abbrev pub invariant-loop-database : goal.invariant-loop-database
 invariant-loop-database g l =
-    HasRead g.F.Folder.past g.F.Folder.failed l.fn.folder l.folder (database_reads (take l.database-index (map database_of l.databases)) (map bytes_of l.items.items))
+    HasRead g.F.Folder l.fn.folder l.folder (database_reads (take l.database-index (map database_of l.databases)) (map bytes_of l.items.items))
     × (length l.items.items ≡ l.database-index)

@@ -1,12 +1,12 @@
-use Rattle.std.proofs.Common.{◌≡◌, ◌<◌, ℕ, List, [], length, subst, sym, ◌∙◌, ⊎_elim}
+use Rattle.std.proofs.Common.{◌≡◌, ◌<◌, false, true, ℕ, List, [], length, subst, sym, ◌∙◌, ⊎_elim}
 use Rattle.dconf_model.specs.Folders.{Event}
 use Rattle.dconf_model.specs.Replacing.{Replaced, MaybeReplaced}
 use Rattle.dconf_turn.specs.declared.step.Step.TheVariants.{Append}
 use Rattle.dconf_turn.specs.Steps.{step_of, steps_left, IsDone}
 use Rattle.dconf_turn.specs.Hosts.{Did}
 use Rattle.dconf_turn.proofs.HistoryLaws.{len_at}
-use Rattle.dconf_disk.specs.Driving.{IsCounted, IsWhole, job_of}
-use Rattle.dconf_disk.proofs.DrivingLaws.{can, keeps_on, straight_on, counts_on, lock_apart, end_replaced, end_maybe, ok_of, err_of, is_done}
+use Rattle.dconf_disk.specs.Driving.{IsCounted, IsRefused, IsWhole, job_of}
+use Rattle.dconf_disk.proofs.DrivingLaws.{can, keeps_on, straight_on, counts_on, idle_on, not_idle, held_if, lock_apart, end_replaced, end_maybe, ok_of, err_of, is_done}
 use Rattle.dconf_disk.proofs.replacing.replace_by.Goals as goal
 
 pub steps-preserved : goal.steps-preserved
@@ -37,6 +37,15 @@ steps-preserved g c =
             a.stands job es k.0 d.0 apart k.2 did,
             straight_on t i.keeps (step_of u) t.outcome u.outcome es k.0 d.0 name bytes (step_of t) answer size a.on a.order a.said whole did k.3,
           ));
+      turn = c.carry_out-answer.ensures.turn ∙ i.turn;
+      honest = λ h. i.honest (c.carry_out-answer.ensures.honest h);
+      idle = λ no_turn.
+          (let k = i.idle no_turn in
+          let no : g.F.Folder.holds_turn c.steps.folder ≡ false = i.turn ∙ no_turn in
+          let refused : IsRefused (step_of t) answer = subst (λ s. IsRefused s answer) c.next-step.ensures (c.carry_out-answer.ensures.read_only no) in (
+            idle_on t (step_of u) t.outcome u.outcome (length bytes) (step_of t) answer a.on a.order a.said whole refused k.0,
+            λ es p. c.carry_out-answer.ensures.untouched no es (k.1 es p),
+          ));
       counts = counts_on t i.keeps (step_of u) t.outcome u.outcome (failed c.args.folder.now) (failed c.steps.folder) (failed c.carry_out-answer.new.folder) bytes (step_of t) answer size
           a.on a.order a.said whole counted i.counts;
     }
@@ -60,6 +69,17 @@ returns-in-Done-clause-err g c es p =
     let over = sym c.next-step.ensures ∙ c.in-Done.is in
     err_of ((x : List Event) × g.F.Folder.past c.steps.folder x × MaybeReplaced es x name bytes) c.in-Done.outcome c.result_of.result c.result_of.ensures
     (k.0, k.1, end_maybe c.steps.turn es k.0 name bytes c.in-Done.outcome i.keeps k.2 over)
+
+pub returns-in-Done-clause-held : goal.returns-in-Done-clause-held
+returns-in-Done-clause-held g c =
+    let i = c.steps.invariant in
+    let holds = g.F.Folder.holds_turn c.args.folder.now in
+    let over = sym c.next-step.ensures ∙ c.in-Done.is in
+    ok_of (holds ≡ true) c.in-Done.outcome c.result_of.result c.result_of.ensures
+    (λ made. held_if holds (λ no_turn. not_idle c.steps.turn c.in-Done.outcome over made (i.idle no_turn).0))
+
+pub returns-in-Done-clause-untouched : goal.returns-in-Done-clause-untouched
+returns-in-Done-clause-untouched g c = λ no_turn. (c.steps.invariant.idle no_turn).1
 
 pub steps-smaller : goal.steps-smaller
 steps-smaller g c =

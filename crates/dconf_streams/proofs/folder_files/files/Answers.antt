@@ -14,16 +14,16 @@ returns-in_err-bytes-clause-err g c =
     let left : map string_bytes (drop c.loop-name.name-index c.args.names.now) ≡ c.as_str-name.result.now ∷ others =
     ap (map string_bytes) (drop_more c.args.names.now c.loop-name.name-index c.name-item.result (search rules))
     ∙ (ap (λ name. string_bytes name ∷ others) item ∙ ap (λ name. name ∷ others) (sym c.as_str-name.ensures.value)) in
-    rw (p.1, p.2) (λ n. decides_at_file g.F.Folder.past g.F.Folder.failed c.args.folder.now c.loop-name.folder c.file.new.folder n (named_sources c.loop-name.files.items)
+    rw (p.1, p.2) (λ n. decides_at_file g.F.Folder c.args.folder.now c.loop-name.folder c.file.new.folder n (named_sources c.loop-name.files.items)
     c.as_str-name.result.now (map string_bytes c.args.names.now) others (Err c.in_err-bytes.field-0.0)
     (ap (names_then c.loop-name.files.items) (sym left) ∙ c.loop-name.invariant.0) c.loop-name.invariant.1 c.in_err-bytes.ensures.err)
 
 pub returns-in_err-push-clause-err : goal.returns-in_err-push-clause-err
 returns-in_err-push-clause-err g c =
     let p = err_from_is_err_and c.from_residual-in_err-push.result c.from_residual-in_err-push.ensures.1 in
-    rw (p.1, p.2) (λ n. decides_out_of_memory g.F.Folder.past g.F.Folder.failed c.args.folder.now c.loop-name.folder c.file.new.folder n (named_sources c.loop-name.files.items)
+    rw (p.1, p.2) (λ n. decides_out_of_memory g.F.Folder c.args.folder.now c.loop-name.folder c.file.new.folder n (named_sources c.loop-name.files.items)
     _ c.loop-name.invariant.1
-    (record { known = λ es is. ((c.in_ok-bytes.ensures.ok.known es is).0, tt); none_failed = c.in_ok-bytes.ensures.ok.none_failed }))
+    (record { kept = c.in_ok-bytes.ensures.ok.kept; known = λ _ es is. tt; none_failed = c.in_ok-bytes.ensures.ok.none_failed }))
 
 pub loop-name-preserved : goal.loop-name-preserved
 loop-name-preserved g c =
@@ -35,6 +35,6 @@ loop-name-preserved g c =
     let file : NamedFile = record { name = c.as_str-name.result; bytes = c.in_ok-bytes.bytes } in
     let pushed : c.push.new.self.items ≡ c.loop-name.files.items ++ file ∷ [] = c.in_ok-push.ensures.items in (
       rw pushed (one_named_more c.loop-name.files.items file others ∙ (ap (names_then c.loop-name.files.items) (sym left) ∙ c.loop-name.invariant.0)),
-      rw pushed (one_read_more g.F.Folder.past g.F.Folder.failed c.args.folder.now c.loop-name.folder c.file.new.folder c.loop-name.files.items file
+      rw pushed (one_read_more g.F.Folder c.args.folder.now c.loop-name.folder c.file.new.folder c.loop-name.files.items file
           c.loop-name.invariant.1 c.in_ok-bytes.ensures.ok),
     )

@@ -8,9 +8,9 @@ use Rattle.dconf_commands.proofs.commands.check.check.Goals as goal
 pub returns-in_err-bytes : goal.returns-in_err-bytes
 returns-in_err-bytes g c = λ input.
     let p = err_from_is_err_and c.from_residual.result c.from_residual.ensures.1 in
-    rw (p.1, p.2) (decides_without_file g.F.Folder.past g.F.Folder.failed c.args.folder.now c.file.new.folder 0 c.args.name.now (Err c.in_err-bytes.field-0.0) Checks (c.in_err-bytes.ensures.err 0))
+    rw (p.1, p.2) (decides_without_file g.F.Folder c.args.folder.now c.file.new.folder 0 c.args.name.now (Err c.in_err-bytes.field-0.0) Checks (c.in_err-bytes.ensures.err 0))
 
 pub returns : goal.returns
 returns g c = λ input.
-    decides_by_file g.F.Folder.past g.F.Folder.failed c.args.folder.now c.file.new.folder 0 c.args.name.now c.in_ok-bytes.bytes.items c.checked.result Checks c.in_ok-bytes.ensures.ok
+    decides_by_file g.F.Folder c.args.folder.now c.file.new.folder 0 c.args.name.now c.in_ok-bytes.bytes.items c.checked.result Checks c.in_ok-bytes.ensures.ok
     (subst (λ b. GivesOutcome c.checked.result (Checks b)) c.deref.ensures.value c.checked.ensures)

@@ -21,7 +21,7 @@ returns-in_err-directory-clause-answer g c =
     rw (p.1, p.2) (
       i,
       took given (failures_of c.args.input.now),
-      decides_at_path g.F.Folder.past g.F.Folder.failed c.args.folder.now (λ reads. WithRows c.args.directory.now i (Go reads)) (Err c.in_err-directory.field-0.0)
+      decides_at_path g.F.Folder c.args.folder.now (λ reads. WithRows c.args.directory.now i (Go reads)) (Err c.in_err-directory.field-0.0)
           (directory_fault c.args.directory.now) c.in_err-directory.ensures.err,
     )
 
@@ -34,8 +34,8 @@ returns-clause-answer g c =
     let a = c.load_below.ensures.answer in (
       a.0,
       a.1,
-      subst (λ (directory : List ℕ). Decides g.F.Folder.past g.F.Folder.failed c.args.folder.now c.load_below.new.folder 0
+      subst (λ (directory : List ℕ). Decides g.F.Folder c.args.folder.now c.load_below.new.folder 0
           (λ reads. UnlessFault (directory_fault c.args.directory.now) (WithRows directory a.0 (Go reads))) c.load_below.result) c.in_ok-directory.ensures.ok
-          (decides_faultless g.F.Folder.past g.F.Folder.failed c.args.folder.now c.load_below.new.folder _ c.load_below.result (directory_fault c.args.directory.now)
+          (decides_faultless g.F.Folder c.args.folder.now c.load_below.new.folder _ c.load_below.result (directory_fault c.args.directory.now)
           c.in_ok-directory.ensures.faultless a.2),
     )

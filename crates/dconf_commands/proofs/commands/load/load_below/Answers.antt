@@ -18,8 +18,8 @@ returns-in-Ok-clause-answer g c =
     let t = c.in-Ok.ensures.took in (
       t.0,
       t.1,
-      decides_text g.F.Folder.past g.F.Folder.failed c.load_bytes.result directory Go t.0 c.args.folder.now c.load_bytes.new.folder (vec_items c.in-Ok.bytes)
-          t.2.text.0 t.2.text.1 (subst (λ (b : List ℕ). Decides g.F.Folder.past g.F.Folder.failed c.args.folder.now c.load_bytes.new.folder 0
+      decides_text g.F.Folder c.load_bytes.result directory Go t.0 c.args.folder.now c.load_bytes.new.folder (vec_items c.in-Ok.bytes)
+          t.2.text.0 t.2.text.1 (subst (λ (b : List ℕ). Decides g.F.Folder c.args.folder.now c.load_bytes.new.folder 0
           (λ reads. OrLine (codes "input") (loaded directory b) (Go reads)) c.load_bytes.result) c.deref.ensures.value c.load_bytes.ensures),
     )
 
@@ -27,7 +27,7 @@ pub returns-in-Err-Memory-clause-answer : goal.returns-in-Err-Memory-clause-answ
 returns-in-Err-Memory-clause-answer g c =
     let Go : ReadResults → List Assigned → Gives = λ reads rows. Changes reads c.args.profile.now (paths_of rows) (load_values rows c.args.force) in
     let t = c.in-Err-Memory.ensures.took in
-    (t.0, t.1, decides_at_once g.F.Folder.past g.F.Folder.failed c.args.folder.now 0 (Err NoMemory) (λ reads. WithRows (directory_text c.args.directory) t.0 (Go reads)) (λ reads. tt))
+    (t.0, t.1, decides_at_once g.F.Folder c.args.folder.now 0 (Err NoMemory) (λ reads. WithRows (directory_text c.args.directory) t.0 (Go reads)) (λ reads. tt))
 
 pub returns-in-Ok-clause-limit : goal.returns-in-Ok-clause-limit
 returns-in-Ok-clause-limit g c = (vec_items c.in-Ok.bytes, c.in-Ok.ensures.bytes, c.in-Ok.ensures.limit)

@@ -14,11 +14,11 @@ use Rattle.dconf_commands.proofs.commands.load.load_bytes.Goals as goal
 pub returns-in-Ok : goal.returns-in-Ok
 returns-in-Ok g c =
     let Go : ReadResults → List Assigned → Gives = λ reads rows. Changes reads c.args.profile.now (paths_of rows) (load_values rows c.args.force) in
-    subst (λ (r : Result (List Assigned) LineFault). Decides g.F.Folder.past g.F.Folder.failed c.args.folder.now c.load_rows.new.folder 0
+    subst (λ (r : Result (List Assigned) LineFault). Decides g.F.Folder c.args.folder.now c.load_rows.new.folder 0
     (λ reads. OrLine (codes "input") r (Go reads)) c.load_rows.result) (sym c.in-Ok.ensures.found) c.load_rows.ensures
 
 pub returns-in-Err : goal.returns-in-Err
 returns-in-Err g c =
     let Go : ReadResults → List Assigned → Gives = λ reads rows. Changes reads c.args.profile.now (paths_of rows) (load_values rows c.args.force) in
-    decides_line g.F.Folder.past g.F.Folder.failed c.args.folder.now (Err c.line_refused.result) (line_fault_of c.in-Err.stop)
+    decides_line g.F.Folder c.args.folder.now (Err c.line_refused.result) (line_fault_of c.in-Err.stop)
     (loaded (directory_text c.args.directory) c.args.bytes.now) Go c.in-Err.ensures.fault c.line_refused.ensures

@@ -20,7 +20,7 @@ use Rattle.dconf_commands.proofs.commands.load.load_rows.Goals as goal
 pub returns-in-Err : goal.returns-in-Err
 returns-in-Err g c =
     let Go : ReadResults → List Assigned → Gives = λ reads rows. Changes reads c.args.profile.now (paths_of rows) (load_values rows c.args.force) in
-    decides_line g.F.Folder.past g.F.Folder.failed c.args.folder.now (Err c.line_refused.result) (line_fault_of c.in-Err.stop) (rows_loaded c.args.below) Go c.in-Err.ensures.fault c.line_refused.ensures
+    decides_line g.F.Folder c.args.folder.now (Err c.line_refused.result) (line_fault_of c.in-Err.stop) (rows_loaded c.args.below) Go c.in-Err.ensures.fault c.line_refused.ensures
 
 pub returns-in_err-profile : goal.returns-in_err-profile
 returns-in_err-profile g c =
@@ -28,8 +28,8 @@ returns-in_err-profile g c =
     let own = rows_of c.in-Ok.rows.items in
     let p = err_from_is_err_and c.from_residual.result c.from_residual.ensures.1 in
     rw (p.1, p.2)
-    (decides_rows g.F.Folder.past g.F.Folder.failed c.args.folder.now c.named_file.new.folder (Err c.in_err-profile.field-0.0) (rows_loaded c.args.below) own Go c.in-Ok.ensures.found
-    (store_without_file g.F.Folder.past g.F.Folder.failed c.args.profile.now (change_saved (paths_of own) (load_values own c.args.force)) (Err c.in_err-profile.field-0.0) c.args.folder.now c.named_file.new.folder (c.in_err-profile.ensures.err 0)))
+    (decides_rows g.F.Folder c.args.folder.now c.named_file.new.folder (Err c.in_err-profile.field-0.0) (rows_loaded c.args.below) own Go c.in-Ok.ensures.found
+    (store_without_file g.F.Folder c.args.profile.now (change_saved (paths_of own) (load_values own c.args.force)) (Err c.in_err-profile.field-0.0) c.args.folder.now c.named_file.new.folder (c.in_err-profile.ensures.err 0)))
 
 pub returns-in_err-files : goal.returns-in_err-files
 returns-in_err-files g c =
@@ -37,8 +37,8 @@ returns-in_err-files g c =
     let own = rows_of c.in-Ok.rows.items in
     let p = err_from_is_err_and c.from_residual-in_err-files.result c.from_residual-in_err-files.ensures.1 in
     rw (p.1, p.2)
-    (decides_rows g.F.Folder.past g.F.Folder.failed c.args.folder.now c.read.new.folder (Err c.in_err-files.field-0.0) (rows_loaded c.args.below) own Go c.in-Ok.ensures.found
-    (store_without_databases g.F.Folder.past g.F.Folder.failed c.args.profile.now (change_saved (paths_of own) (load_values own c.args.force)) (Err c.in_err-files.field-0.0) c.args.folder.now c.named_file.new.folder c.read.new.folder c.in_ok-profile.profile c.in_ok-profile.ensures.name c.in_ok-profile.ensures.ok c.in_err-files.ensures.err))
+    (decides_rows g.F.Folder c.args.folder.now c.read.new.folder (Err c.in_err-files.field-0.0) (rows_loaded c.args.below) own Go c.in-Ok.ensures.found
+    (store_without_databases g.F.Folder c.args.profile.now (change_saved (paths_of own) (load_values own c.args.force)) (Err c.in_err-files.field-0.0) c.args.folder.now c.named_file.new.folder c.read.new.folder c.in_ok-profile.profile c.in_ok-profile.ensures.name c.in_ok-profile.ensures.ok c.in_err-files.ensures.err))
 
 pub returns-in_err-engine : goal.returns-in_err-engine
 returns-in_err-engine g c =
@@ -46,8 +46,8 @@ returns-in_err-engine g c =
     let own = rows_of c.in-Ok.rows.items in
     let p = err_from_is_err_and c.from_residual-in_err-engine.result c.from_residual-in_err-engine.ensures.1 in
     rw (p.1, p.2)
-    (decides_rows g.F.Folder.past g.F.Folder.failed c.args.folder.now c.read.new.folder (Err c.in_err-engine.field-0.0) (rows_loaded c.args.below) own Go c.in-Ok.ensures.found
-    (store_not_opened g.F.Folder.past g.F.Folder.failed c.args.profile.now (change_saved (paths_of own) (load_values own c.args.force)) (Err c.in_err-engine.field-0.0) c.args.folder.now c.named_file.new.folder c.read.new.folder
+    (decides_rows g.F.Folder c.args.folder.now c.read.new.folder (Err c.in_err-engine.field-0.0) (rows_loaded c.args.below) own Go c.in-Ok.ensures.found
+    (store_not_opened g.F.Folder c.args.profile.now (change_saved (paths_of own) (load_values own c.args.force)) (Err c.in_err-engine.field-0.0) c.args.folder.now c.named_file.new.folder c.read.new.folder
     c.in_ok-profile.profile c.in_ok-profile.ensures.name c.in_ok-profile.ensures.ok c.in_ok-files.files c.in_ok-files.ensures.ok c.in_err-engine.ensures.err))
 
 pub open-requires : goal.open-requires
@@ -59,8 +59,8 @@ returns-in_err-set_rows g c =
     let own = rows_of c.in-Ok.rows.items in
     let p = err_from_is_err_and c.from_residual-in_err-set_rows.result c.from_residual-in_err-set_rows.ensures.1 in
     rw (p.1, p.2)
-    (decides_rows g.F.Folder.past g.F.Folder.failed c.args.folder.now c.read.new.folder (Err c.in_err-set_rows.field-0.0) (rows_loaded c.args.below) own Go c.in-Ok.ensures.found
-    (store_opened g.F.Folder.past g.F.Folder.failed c.args.profile.now (change_saved (paths_of own) (load_values own c.args.force)) (Err c.in_err-set_rows.field-0.0) c.args.folder.now c.named_file.new.folder c.read.new.folder
+    (decides_rows g.F.Folder c.args.folder.now c.read.new.folder (Err c.in_err-set_rows.field-0.0) (rows_loaded c.args.below) own Go c.in-Ok.ensures.found
+    (store_opened g.F.Folder c.args.profile.now (change_saved (paths_of own) (load_values own c.args.force)) (Err c.in_err-set_rows.field-0.0) c.args.folder.now c.named_file.new.folder c.read.new.folder
     c.in_ok-profile.profile c.in_ok-profile.ensures.name c.in_ok-profile.ensures.ok c.in_ok-files.files c.in_ok-files.ensures.ok c.in_ok-engine.engine c.in_ok-engine.ensures.ok (c.in_err-set_rows.ensures.err (user_file (databases_of c.in_ok-files.files.profile)))))
 
 pub returns : goal.returns
@@ -70,6 +70,6 @@ returns g c =
     let file = user_file (databases_of c.in_ok-files.files.profile) in
     let saves : GivesOutcome c.saved.result (Saves (paths_of own) file (apply c.in_ok-engine.engine (load_values own c.args.force))) =
     subst (λ (x : Result Layers Refusal). GivesOutcome c.saved.result (Saves (paths_of own) file x)) (sym c.in_ok-set_rows.ensures.ok) c.saved.ensures in
-    decides_rows g.F.Folder.past g.F.Folder.failed c.args.folder.now c.read.new.folder c.saved.result (rows_loaded c.args.below) own Go c.in-Ok.ensures.found
-    (store_opened g.F.Folder.past g.F.Folder.failed c.args.profile.now (change_saved (paths_of own) (load_values own c.args.force)) c.saved.result c.args.folder.now c.named_file.new.folder c.read.new.folder
+    decides_rows g.F.Folder c.args.folder.now c.read.new.folder c.saved.result (rows_loaded c.args.below) own Go c.in-Ok.ensures.found
+    (store_opened g.F.Folder c.args.profile.now (change_saved (paths_of own) (load_values own c.args.force)) c.saved.result c.args.folder.now c.named_file.new.folder c.read.new.folder
     c.in_ok-profile.profile c.in_ok-profile.ensures.name c.in_ok-profile.ensures.ok c.in_ok-files.files c.in_ok-files.ensures.ok c.in_ok-engine.engine c.in_ok-engine.ensures.ok saves)

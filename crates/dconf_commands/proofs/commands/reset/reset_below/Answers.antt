@@ -15,26 +15,26 @@ use Rattle.dconf_commands.proofs.commands.reset.reset_below.Goals as goal
 pub returns-in_err-directory : goal.returns-in_err-directory
 returns-in_err-directory g c = λ input.
     let p = err_from_is_err_and c.from_residual.result c.from_residual.ensures.1 in
-    rw (p.1, p.2) (decides_at_path g.F.Folder.past g.F.Folder.failed c.args.folder.now _ (Err c.in_err-directory.field-0.0) (directory_fault c.args.directory.now) c.in_err-directory.ensures.err)
+    rw (p.1, p.2) (decides_at_path g.F.Folder c.args.folder.now _ (Err c.in_err-directory.field-0.0) (directory_fault c.args.directory.now) c.in_err-directory.ensures.err)
 
 pub returns-in_err-profile : goal.returns-in_err-profile
 returns-in_err-profile g c = λ input.
     let p = err_from_is_err_and c.from_residual-in_err-profile.result c.from_residual-in_err-profile.ensures.1 in
-    rw (p.1, p.2) (decides_faultless g.F.Folder.past g.F.Folder.failed c.args.folder.now c.named_file.new.folder _ (Err c.in_err-profile.field-0.0) (directory_fault c.args.directory.now) c.in_ok-directory.ensures.faultless
-    (store_without_file g.F.Folder.past g.F.Folder.failed c.args.profile.now (change_saved [] (reset_below_directory c.args.directory.now)) (Err c.in_err-profile.field-0.0) c.args.folder.now c.named_file.new.folder (c.in_err-profile.ensures.err 0)))
+    rw (p.1, p.2) (decides_faultless g.F.Folder c.args.folder.now c.named_file.new.folder _ (Err c.in_err-profile.field-0.0) (directory_fault c.args.directory.now) c.in_ok-directory.ensures.faultless
+    (store_without_file g.F.Folder c.args.profile.now (change_saved [] (reset_below_directory c.args.directory.now)) (Err c.in_err-profile.field-0.0) c.args.folder.now c.named_file.new.folder (c.in_err-profile.ensures.err 0)))
 
 pub returns-in_err-files : goal.returns-in_err-files
 returns-in_err-files g c = λ input.
     let p = err_from_is_err_and c.from_residual-in_err-files.result c.from_residual-in_err-files.ensures.1 in
-    rw (p.1, p.2) (decides_faultless g.F.Folder.past g.F.Folder.failed c.args.folder.now c.read.new.folder _ (Err c.in_err-files.field-0.0) (directory_fault c.args.directory.now) c.in_ok-directory.ensures.faultless
-    (store_without_databases g.F.Folder.past g.F.Folder.failed c.args.profile.now (change_saved [] (reset_below_directory c.args.directory.now)) (Err c.in_err-files.field-0.0) c.args.folder.now c.named_file.new.folder c.read.new.folder
+    rw (p.1, p.2) (decides_faultless g.F.Folder c.args.folder.now c.read.new.folder _ (Err c.in_err-files.field-0.0) (directory_fault c.args.directory.now) c.in_ok-directory.ensures.faultless
+    (store_without_databases g.F.Folder c.args.profile.now (change_saved [] (reset_below_directory c.args.directory.now)) (Err c.in_err-files.field-0.0) c.args.folder.now c.named_file.new.folder c.read.new.folder
     c.in_ok-profile.profile c.in_ok-profile.ensures.name c.in_ok-profile.ensures.ok c.in_err-files.ensures.err))
 
 pub returns-in_err-engine : goal.returns-in_err-engine
 returns-in_err-engine g c = λ input.
     let p = err_from_is_err_and c.from_residual-in_err-engine.result c.from_residual-in_err-engine.ensures.1 in
-    rw (p.1, p.2) (decides_faultless g.F.Folder.past g.F.Folder.failed c.args.folder.now c.read.new.folder _ (Err c.in_err-engine.field-0.0) (directory_fault c.args.directory.now) c.in_ok-directory.ensures.faultless
-    (store_not_opened g.F.Folder.past g.F.Folder.failed c.args.profile.now (change_saved [] (reset_below_directory c.args.directory.now)) (Err c.in_err-engine.field-0.0) c.args.folder.now c.named_file.new.folder c.read.new.folder
+    rw (p.1, p.2) (decides_faultless g.F.Folder c.args.folder.now c.read.new.folder _ (Err c.in_err-engine.field-0.0) (directory_fault c.args.directory.now) c.in_ok-directory.ensures.faultless
+    (store_not_opened g.F.Folder c.args.profile.now (change_saved [] (reset_below_directory c.args.directory.now)) (Err c.in_err-engine.field-0.0) c.args.folder.now c.named_file.new.folder c.read.new.folder
     c.in_ok-profile.profile c.in_ok-profile.ensures.name c.in_ok-profile.ensures.ok c.in_ok-files.files c.in_ok-files.ensures.ok c.in_err-engine.ensures.err))
 
 pub open-requires : goal.open-requires
@@ -42,8 +42,8 @@ open-requires g c = c.in_ok-files.ensures.ok.each
 
 pub returns : goal.returns
 returns g c = λ input.
-    decides_faultless g.F.Folder.past g.F.Folder.failed c.args.folder.now c.read.new.folder _ c.without_directory.result (directory_fault c.args.directory.now) c.in_ok-directory.ensures.faultless
-    (store_opened g.F.Folder.past g.F.Folder.failed c.args.profile.now (change_saved [] (reset_below_directory c.args.directory.now)) c.without_directory.result c.args.folder.now c.named_file.new.folder c.read.new.folder
+    decides_faultless g.F.Folder c.args.folder.now c.read.new.folder _ c.without_directory.result (directory_fault c.args.directory.now) c.in_ok-directory.ensures.faultless
+    (store_opened g.F.Folder c.args.profile.now (change_saved [] (reset_below_directory c.args.directory.now)) c.without_directory.result c.args.folder.now c.named_file.new.folder c.read.new.folder
     c.in_ok-profile.profile c.in_ok-profile.ensures.name c.in_ok-profile.ensures.ok c.in_ok-files.files c.in_ok-files.ensures.ok c.in_ok-engine.engine
     c.in_ok-engine.ensures.ok
     (subst (λ directory. GivesOutcome c.without_directory.result (Saves [] (user_file (named_by c.in_ok-files.files)) (apply c.in_ok-engine.engine (reset_below_directory directory)))) c.in_ok-directory.ensures.ok c.without_directory.ensures))

@@ -6,7 +6,7 @@ use Rattle.dconf_disk.proofs.Untouched.{noted, same_calls, touched}
 use Rattle.dconf_disk.proofs.memory.MemoryFolderFolder.append.Goals as goal
 
 pub returns-then-is_err-clause-err : goal.returns-then-is_err-clause-err
-returns-then-is_err-clause-err c es past =
+returns-then-is_err-clause-err c _ es past =
     let name = c.args.name.now in
     let mid = c.note-noted.new.self.calls.items in
     on_err c.note-noted.result (AddsTouches (events_of mid) es) (IsPast c.touch.new.self (touch name ∷ es) ⊎ IsPast c.touch.new.self (append name c.args.bytes.now ∷ es))
