@@ -9,4 +9,3 @@ pub mod MadeAgain
 pub mod Wholes
 pub mod WorkedFolders
 pub mod DrivingLaws
-pub mod NoteLemmas

@@ -1,7 +1,7 @@
 -- Folders of names, computed.
 use Rattle.std.specs.Prelude.{◌≡◌, ℕ, codes, refl}
 use Rattle.std.specs.Path.{path_parent, split_last_component, trim_trailing, rsplit_once}
-use Rattle.dconf_disk.specs.StdFolders.{folder_of}
+use Rattle.dconf_disk.specs.SystemCalls.{folder_of}
 
 unfoldable computing : ℕ
 unfolding path_parent split_last_component trim_trailing rsplit_once

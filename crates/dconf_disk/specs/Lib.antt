@@ -3,6 +3,7 @@ pub mod Staging
 pub mod MemoryFolders
 pub mod Crashes
 pub mod Notes
+pub mod SystemCalls
 pub mod StdFolders
 pub mod FolderFaults
 pub mod LockFaults

@@ -1,6 +1,5 @@
 -- What the host's folder shows, and the folders of its names.
-use Rattle.std.specs.Prelude.{ℕ, Bool, List, ◌∷◌, length, Option, Some, codes, slice_index}
-use Rattle.std.specs.Path.{path_parent}
+use Rattle.std.specs.Prelude.{ℕ, Bool, List, length, slice_index}
 use Rattle.dconf_model.specs.Folders.{Event}
 use Rattle.dconf_disk.specs.Notes.{events_noted, is_honest as notes_are_honest}
 use Rattle.dconf_disk.specs.declared.host.StdFolder.{StdFolder}
@@ -24,11 +23,3 @@ is_honest folder = notes_are_honest folder.log.fates folder.log.notes
 -- what becomes of its next call, if that fails
 abbrev pub fate_of : {R : Type 0} → StdFolder R → ℕ
 fate_of folder = slice_index folder.log.fates (length folder.log.notes)
-
--- The folder that a name stands in: that of `a/x` is `a`, of `/x` the root, of `x` the current one. POSIX, dirname.
-abbrev pub folder_of : List ℕ → List ℕ
-folder_of name = or_current (path_parent name)
-  where
-    or_current : Option (List ℕ) → List ℕ
-    or_current (Some (c ∷ folder)) = c ∷ folder
-    or_current _ = codes "."

@@ -1,8 +1,8 @@
 //! The current folder of the host.
-ghost use Rattle.std.specs.Prelude.{◌≡◌, ◌≢◌, ◌<◌, ◌≤◌, ◌↔◌, None, Ok, Err, IfSome, IfOk, IfErr, IsOk, IsTrue, IsErrOf, IsErrAnd, OnOk, OnErr, true, false, length};
+ghost use Rattle.std.specs.Prelude.{◌≡◌, ◌≢◌, ◌<◌, ◌≤◌, ◌↔◌, None, Ok, Err, IfSome, IfOk, IfErr, IsOk, IsTrue, IsErrOf, IsErrAnd, ◌∷◌, OnOk, OnErr, true, false, length};
 ghost use Rattle.std.specs.IoError.{error_kind};
 ghost use Rattle.dconf_disk.specs.Failures.{HasCause};
-ghost use Rattle.dconf_disk.specs.StdFolders.{folder_of};
+ghost use Rattle.dconf_disk.specs.SystemCalls.{folder_of, given_mode, made, removed, renamed, synced, with_its_folder};
 
 use crate::modes::{keep_mode, open_new};
 use crate::record::Record;
@@ -57,6 +57,8 @@ pub struct StdFolder<R> {
     failures: u64,
     can_write: bool,
     log: Record,
+    /// The calls of the system that make those up, as far as their order matters.
+    calls: Record,
     /// It is held as long as the folder is.
     _lock: Option<FolderLock>,
 }
@@ -73,7 +75,7 @@ impl<R> fmt::Debug for StdFolder<R> {
 }
 
 impl<R: Files> StdFolder<R> {
-    ghost use Rattle.std.specs.Prelude.{◌∷◌, ◌&&◌, option_map};
+    ghost use Rattle.std.specs.Prelude.{option_map};
     ghost use Rattle.dconf_model.specs.Folders.{read_content};
     ghost use Rattle.dconf_model.specs.Reads.{IsOverSize};
     ghost use Rattle.dconf_disk.specs.Notes.{after_failure, can_be_done, event_noted};
@@ -90,6 +92,7 @@ impl<R: Files> StdFolder<R> {
             failures: 0,
             can_write: true,
             log: Record::new(),
+            calls: Record::new(),
             _lock: Some(lock),
         }
     }
@@ -105,6 +108,7 @@ impl<R: Files> StdFolder<R> {
             failures: 0,
             can_write: false,
             log: Record::new(),
+            calls: Record::new(),
             _lock: None,
         }
     }
@@ -188,7 +192,7 @@ impl<R: Files> Folder for StdFolder<R> {
         if !self.can_write {
             return self.counted(Err(FolderFault::Device));
         }
-        let answer = make_new(&self.rt, name);
+        let answer = make_new(&self.rt, &mut self.calls, name);
         self.noted(CREATE, name, &[], answer)
     }
 
@@ -204,7 +208,7 @@ impl<R: Files> Folder for StdFolder<R> {
         if !self.can_write {
             return self.counted(Err(FolderFault::Device));
         }
-        let answer = sync_file(&self.rt, name);
+        let answer = sync_file(&self.rt, &mut self.calls, name);
         self.noted(SYNC, name, &[], answer)
     }
 
@@ -212,7 +216,7 @@ impl<R: Files> Folder for StdFolder<R> {
         if !self.can_write {
             return self.counted(Err(FolderFault::Device));
         }
-        let answer = rename_to(&self.rt, from, to);
+        let answer = rename_to(&self.rt, &mut self.calls, from, to);
         self.noted(RENAME, from, to.as_bytes(), answer)
     }
 
@@ -233,17 +237,21 @@ impl<R: Files> Folder for StdFolder<R> {
         if !self.can_write {
             return self.counted(Err(FolderFault::Device));
         }
-        let answer = sync_at(&self.rt, ".");
+        let answer = sync_at(&self.rt, &mut self.calls, ".");
         self.noted(SYNC_FOLDER, "", &[], answer)
     }
 }
 
 /// A new file, in the place of any other: one of that name may be another name's too, so it is not written over.
-fn make_new<R: Files>(rt: &R, name: &str) -> io::Result<()> {
+fn make_new<R: Files>(rt: &R, calls: &mut Record, name: &str) -> io::Result<()>
+    ensures { OnOk result (calls.new.notes ≡ made name.now ∷ removed name.now ∷ calls.old.notes) }
+{
+    calls.note(&[REMOVE, DONE], name.as_bytes(), &[]);
     match fs::remove_file(rt, name) {
         Err(error) if error.kind() != ErrorKind::NotFound => return Err(error),
         _ => {}
     }
+    calls.note(&[CREATE, DONE], name.as_bytes(), &[]);
     let _file = open_new(rt, name)?;
     Ok(())
 }
@@ -254,24 +262,34 @@ fn append_to<R: Files>(rt: &R, name: &str, bytes: &[u8]) -> io::Result<()> {
 }
 
 /// A file's bytes. One that is to take another's place has that one's permission bits before, so that they are on the disk with them.
-fn sync_file<R: Files>(rt: &R, name: &str) -> io::Result<()> {
+fn sync_file<R: Files>(rt: &R, calls: &mut Record, name: &str) -> io::Result<()>
+    ensures { OnOk result (calls.new.notes ≡ synced name.now ∷ given_mode name.now ∷ calls.old.notes) }
+{
     let file = fs::open(rt, name)?;
-    keep_mode(rt, &file, name)?;
+    keep_mode(rt, calls, &file, name)?;
+    calls.note(&[SYNC, DONE], name.as_bytes(), &[]);
     file.sync_all()
 }
 
 /// A folder's names.
-fn sync_at<R: Files>(rt: &R, name: &str) -> io::Result<()> {
+fn sync_at<R: Files>(rt: &R, calls: &mut Record, name: &str) -> io::Result<()>
+    ensures { OnOk result (calls.new.notes ≡ synced name.now ∷ calls.old.notes) }
+{
+    calls.note(&[SYNC, DONE], name.as_bytes(), &[]);
     fs::open(rt, name)?.sync_all()
 }
 
 /// `sync_folder` syncs the current folder alone, so the names of any other are synced here.
-fn rename_to<R: Files>(rt: &R, from: &str, to: &str) -> io::Result<()> {
+fn rename_to<R: Files>(rt: &R, calls: &mut Record, from: &str, to: &str) -> io::Result<()>
+    ensures { OnOk result (calls.new.notes ≡ with_its_folder to.now (renamed from.now to.now ∷ calls.old.notes)) }
+{
+    calls.note(&[RENAME, DONE], from.as_bytes(), to.as_bytes());
     fs::rename(rt, from, to)?;
-    match folder_of(to) {
-        "." => Ok(()),
-        folder => sync_at(rt, folder),
+    let folder = folder_of(to);
+    if folder == "." {
+        return Ok(());
     }
+    sync_at(rt, calls, folder)
 }
 
 /// The folder that a name stands in, lent from the name: `a` of `a/x`, `/` of `/x`, and `.` of `x` (POSIX, `dirname`).

@@ -12,9 +12,12 @@
 //! A read holds a file's bytes once. On the host no other call copies any. A `MemoryFolder` is for tests: it keeps each byte that
 //! was ever appended, and its calls go back through those before them.
 //!
-//! What no contract can say: that a host keeps what a folder is, that what it says is synced stays, what a file of it holds from
-//! one call to the next, and that nobody else writes there. So a `StdFolder` has no past, and its clauses say only which faults
-//! come, that they are counted, and that no file is read over the limit. Tests, and a look at its calls by strace, are for the rest.
+//! Files are replaced by who holds the turn to. A `StdFolder` that can be written is had by [`StdFolder::in_turn`] alone, which takes
+//! the lock and holds it; any other answers `Device` to each writing call, and does nothing.
+//!
+//! A host is not known, but what it was asked and answered is: a `StdFolder` notes that, for clauses alone. Its past is what was done before its
+//! first call, which is any, and what it noted; it is honest as long as each answer is true of that. What stays to be believed is that it makes the
+//! calls that it notes, that what a host says is synced stays, and that nobody else writes there meanwhile.
 //!
 //! ```
 //! let mut folder = MemoryFolder::new(alloc);

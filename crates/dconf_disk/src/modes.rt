@@ -1,4 +1,8 @@
 //! The permission bits of a file that takes another's place.
+ghost use Rattle.std.specs.Prelude.{◌≡◌, ◌∷◌};
+ghost use Rattle.dconf_disk.specs.SystemCalls.{given_mode};
+
+use crate::record::Record;
 use std::fs::{OpenFile, OpenOptions, Permissions};
 use std::io::ErrorKind;
 use std::os::unix::fs::{OpenOptionsExt, PermissionsExt};
@@ -7,6 +11,11 @@ use std::{fs, io};
 
 /// Who may read, write and run a file: the owner, its group, all others.
 const PERMISSION_BITS: u32 = 0o777;
+
+/// The number of the call as it is noted, and of its answer.
+const SET_MODE: u64 = 7;
+
+const DONE: u64 = 1;
 
 /// What the owner needs to fill a file and to sync it.
 const READ_AND_WRITE: u32 = 0o600;
@@ -22,7 +31,15 @@ pub(crate) fn open_new<R: Files>(rt: &R, name: &str) -> io::Result<R::File> {
 }
 
 /// Gives an open file of this name the permission bits of the one whose place it is to take, if there is one.
-pub(crate) fn keep_mode<R: Files>(rt: &R, file: &R::File, name: &str) -> io::Result<()> {
+pub(crate) fn keep_mode<R: Files>(
+    rt: &R,
+    calls: &mut Record,
+    file: &R::File,
+    name: &str,
+) -> io::Result<()>
+    ensures { calls.new.notes ≡ given_mode name.now ∷ calls.old.notes }
+{
+    calls.note(&[SET_MODE, DONE], name.as_bytes(), &[]);
     let Some(bits) = mode_of_replaced(rt, name)? else {
         return Ok(());
     };

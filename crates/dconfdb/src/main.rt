@@ -1,6 +1,14 @@
 //! The program `dconfdb`: the words, the streams and the current folder, handed to dconf_cli, when it is this program's turn.
 #![tactic(auto)]
 
+ghost use Rattle.std.specs.Prelude.{◌≡◌, IsTrue, false};
+ghost use Rattle.dconf_model.specs.Outcomes.{Output};
+ghost use Rattle.dconf_model.specs.Reads.{Input};
+ghost use Rattle.dconf_model.specs.Runs.{Ran, RanCalmly};
+ghost use Rattle.dconf_command.specs.Commands.{command_of};
+ghost use Rattle.dconf_disk.specs.StdFolders.{can_write, events_of, failures_of, is_honest};
+ghost use Rattle.dconf_streams.specs.Streams.{NoneFailed};
+
 use dconf_cli::{Counted, run};
 use dconf_command::{Command, Replaced, command, user_file};
 use dconf_disk::{Folder, FolderLock, LockFault, StdFolder, folder_of};
@@ -58,34 +66,43 @@ fn main(rt: HostRuntime) -> ExitCode {
 /// replaces one has its turn from before its first read until it ends.
 fn run_in_turn(rt: &HostRuntime, asked: Command) -> u8 {
     let Some(replaced) = asked.replaced() else {
-        return run_on(rt, asked, StdFolder::read_only(rt));
+        return run_on(rt, asked, &mut StdFolder::read_only(rt));
     };
     let folder = match replaced {
         Replaced::File(name) => folder_of(name),
         Replaced::UserOf(_) => ".",
     };
     match FolderLock::take(rt, rt.alloc(), folder) {
-        Ok(lock) => run_on(rt, asked, StdFolder::in_turn(rt, lock)),
+        Ok(lock) => run_on(rt, asked, &mut StdFolder::in_turn(rt, lock)),
         Err(LockFault::Busy) => refuse_busy(rt, replaced),
         Err(LockFault::Memory) => {
             refuse(rt, NO_MEMORY);
             REFUSED
         }
         // Without the lock nothing may be replaced, but what else is wrong is said first.
-        Err(LockFault::Device(_)) => run_on(rt, asked, StdFolder::read_only(rt)),
+        Err(LockFault::Device(_)) => run_on(rt, asked, &mut StdFolder::read_only(rt)),
     }
 }
 
 /// Runs the command on a folder and the streams of the process.
-fn run_on(rt: &HostRuntime, asked: Command, folder: StdFolder<&HostRuntime>) -> u8 {
-    let mut folder = folder;
+///
+/// If the host's answers were those of a folder that held what this one did, the run did to it, and gave, exactly what that, the words and an
+/// input say.
+fn run_on(rt: &HostRuntime, asked: Command, folder: &mut StdFolder<&HostRuntime>) -> u8
+    ensures calm { IsTrue (is_honest folder.new) → NoneFailed (failures_of folder.old) (failures_of folder.new)
+        → (i : Input) × ((output : Output) × RanCalmly (command_of asked) i (events_of folder.old) (events_of folder.new) output) }
+    ensures ran { IsTrue (is_honest folder.new)
+        → (i : Input) × ((output : Output) × Ran (command_of asked) i (events_of folder.old) (events_of folder.new) output) }
+    // Without the turn to replace files nothing was done to it.
+    ensures untouched { can_write folder.old ≡ false → events_of folder.new ≡ events_of folder.old }
+{
     let mut input = Counted::new(rt.stdin());
     let mut out = Counted::new(rt.stdout());
     let mut err = Counted::new(rt.stderr());
     run(
         rt.alloc(),
         asked,
-        &mut folder,
+        folder,
         &mut input,
         &mut out,
         &mut err,
