@@ -10,7 +10,7 @@ not_some : {X : Type 0} (x : X) → None ≡ Some x → ⊥
 not_some x e = cc
 
 -- options that are the same wherever one of them is there
-same_option : {X : Type 0} (p q : Option X) → ((x : X) → p ≡ Some x → q ≡ Some x) → ((x : X) → q ≡ Some x → p ≡ Some x) → p ≡ q
+pub same_option : {X : Type 0} (p q : Option X) → ((x : X) → p ≡ Some x → q ≡ Some x) → ((x : X) → q ≡ Some x → p ≡ Some x) → p ≡ q
 same_option None None f g = refl
 same_option None (Some y) f g = absurd (not_some y (g y refl))
 same_option (Some x) q f g = sym (f x refl)
@@ -18,7 +18,7 @@ same_option (Some x) q f g = sym (f x refl)
 no_truth : false ≡ true → ⊥
 no_truth e = cc
 
-same_lock : (p q : Option Lock) → (IsTrue (is_some p) → IsTrue (is_some q)) → (IsTrue (is_some q) → IsTrue (is_some p)) → p ≡ q
+pub same_lock : (p q : Option Lock) → (IsTrue (is_some p) → IsTrue (is_some q)) → (IsTrue (is_some q) → IsTrue (is_some p)) → p ≡ q
 same_lock None None f g = refl
 same_lock None (Some y) f g = absurd (no_truth (g refl))
 same_lock (Some x) None f g = absurd (no_truth (f refl))

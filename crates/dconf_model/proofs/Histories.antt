@@ -4,12 +4,14 @@ use Rattle.std.specs.Prelude.{ℕ, ◌≡◌, ◌⊎◌, List, [], ◌∷◌, le
 use Rattle.dconf_model.specs.Bytes.{MaybeBytes}
 use Rattle.dconf_model.specs.Folders.{Event, MayLeave, MayHaveLeft, IsSettled, Grows, read_content}
 
--- how a command ended: with status 0, with a refusal, with a fault of the device, or not at all
+-- how a command ended: with status 0, with a refusal, with a fault of the device, or not at all;
+-- or a crash came before it began
 pub data Ending : Type 0 where
   done : Ending
   refused : Ending
   faulted : Ending
   stopped : Ending
+  crashed : Ending
 
 -- What commands make of a content: `May c command d` says that a command which reads c may leave d. It is no function, since
 -- the bytes of a database are not laid down by what it says.
@@ -32,6 +34,7 @@ module _ {Command : Type 0} (may : MaybeBytes → Command → MaybeBytes → Typ
   -- what a crash left is settled, and is what the next command finds
   Step old command stopped new =
       (cut : List Event) × IsWholeAtAnyMoment old cut command × ((c : MaybeBytes) × MayHaveLeft cut (length old) name c × IsSettled new name c × (read_content new name ≡ c))
+  Step old command crashed new = (c : MaybeBytes) × MayLeave old name c × IsSettled new name c × (read_content new name ≡ c)
 
   abbrev pub History : List Event → List (Command × Ending) → List Event → Type 0
   History old [] new = new ≡ old
@@ -47,6 +50,7 @@ KeptBy done command Later all = KeepsFirst command Later all
 KeptBy refused command Later all = Later all
 KeptBy faulted command Later all = Later all ⊎ KeepsFirst command Later all
 KeptBy stopped command Later all = Later all ⊎ KeepsFirst command Later all
+KeptBy crashed command Later all = Later all
 
 -- these commands are all that were done, and some that were stopped or faulted, in order
 abbrev pub Kept : {Command : Type 0} → List (Command × Ending) → List Command → Type 0

@@ -4,7 +4,7 @@ use Rattle.std.proofs.Common.{inl, inr, subst}
 use Rattle.dconf_model.specs.Bytes.{MaybeBytes}
 use Rattle.dconf_model.specs.Folders.{Event, MayLeave, read_content}
 use Rattle.dconf_model.proofs.Histories.{Ending, MayRun, Step, History, Kept, IsNeverLost}
-use Rattle.dconf_model.proofs.Histories.Ending.{done, refused, faulted, stopped}
+use Rattle.dconf_model.proofs.Histories.Ending.{done, refused, faulted, stopped, crashed}
 use Rattle.dconf_model.proofs.FolderLaws.{seen_may, counts_now, longer}
 
 module _ {Command : Type 0} (may : MaybeBytes → Command → MaybeBytes → Type 0) (name : List ℕ) where
@@ -35,6 +35,9 @@ module _ {Command : Type 0} (may : MaybeBytes → Command → MaybeBytes → Typ
       let same : later.0 ≡ step.2.0 = step.2.2 later.0 later.1 in
       made old mid command stopped more c step.2.0 later.2.0 (λ all h. h)
       (step.1.any_moment step.2.0 step.2.1) later.2.1 (subst (λ first. MayRun may first later.2.0 c) same later.2.2)
+  one_more crashed old mid command more c step later =
+      let same : later.0 ≡ step.0 = step.2 later.0 later.1 in
+      (step.0, step.1, (later.2.0, later.2.1, subst (λ first. MayRun may first later.2.0 c) same later.2.2))
 
   from_all : (old new : List Event) (steps : List (Command × Ending)) (c : MaybeBytes) → History may name old steps new → MayLeave new name c → From old steps c
   from_all old new [] c history m = (c, subst (λ es. MayLeave es name c) history m, ([], refl, refl))

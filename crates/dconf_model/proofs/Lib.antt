@@ -90,7 +90,11 @@ pub mod ProgramLaws
 pub mod WritableKept
 pub mod ReadingRuns
 pub mod RunChanges
+pub mod SettledLaws
 pub mod CompiledFolders
+pub mod StandingLaws
+pub mod OneOutput
+pub mod FirstKeys
 pub mod Histories
 pub mod SurvivalLaws
 pub mod EmptyFolders

@@ -30,7 +30,7 @@ use Rattle.dconf_model.proofs.StandingPrints.{default_seen, locks_from, locks_to
 
 -- ---- sound databases are opened
 
-not_bad : (item : MaybeBytes) (v : Verdict) → IsGood item → IsBad item v → ⊥
+pub not_bad : (item : MaybeBytes) (v : Verdict) → IsGood item → IsBad item v → ⊥
 not_bad None v h k = k
 not_bad (Some file) sound h k = k
 not_bad (Some file) (no_database f) h k = opens.no_database file f k h.0

@@ -275,7 +275,7 @@ nothing_asked (load force directory file) input n reads = absurd reads
 nothing_asked (compile out locks names) input n reads = absurd reads
 nothing_asked (repair file out) input n reads = absurd reads
 
-run_is_kept : (profile : List ℕ) (d : Database) (ds : List Database) (own : OwnValues) (gs : List Given)
+pub run_is_kept : (profile : List ℕ) (d : Database) (ds : List Database) (own : OwnValues) (gs : List Given)
     (command : Command) (input : Input) (old new : List Event) (output : Output) → AreApart profile d ds → IsChangeOf profile command ⊎ OnlyReads command →
     FolderHolds (read_content old) profile d ds own gs → RanCalmly command input old new output →
     FolderHolds (read_content new) profile d ds (own_after gs own (if_done output.status (asked_change command input))) gs

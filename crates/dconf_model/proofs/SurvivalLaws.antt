@@ -23,12 +23,13 @@ use Rattle.dconf_model.specs.Runs.{Ran, RunEnding, Did, AnswersIn, output_of}
 use Rattle.dconf_model.specs.Runs.RunEnding.{as_meant, device}
 use Rattle.dconf_model.specs.Stores.{IsWholeChange, OwnValues, own_changed, own_after, AllGive, StoreHolds}
 use Rattle.dconf_model.specs.Programs.{FolderHolds, AreRead, IsApart, AreApart, IsChangeOf, found, asked_change}
-use Rattle.dconf_model.specs.Survivals.{RunEnd, Attempt, CrashedSince, CameTo, CameInTurn, Asked, IsFirst, IsKeptBy, AreKept, asked_changes, AreSettled, NothingIsLost, NextRunFindsAll}
-use Rattle.dconf_model.specs.Survivals.RunEnd.{ended, stopped as crashed}
-use Rattle.dconf_model.proofs.Histories.{Ending, Step, History, Kept, KeptBy, MayRun, IsWholeAtAnyMoment}
-use Rattle.dconf_model.proofs.Histories.Ending.{done, refused, faulted, stopped}
+use Rattle.dconf_model.specs.Survivals.{RunEnd, Attempt, CrashedSince, CameTo, CameInTurn, Asked, MayBeKept, MayBeLeftOut, AreKept, asked_changes, AreSettled, NothingIsLost, NextRunFindsAll}
+use Rattle.dconf_model.specs.Survivals.RunEnd.{ended, stopped as cut_off, crashed as cut_short}
+use Rattle.dconf_model.specs.Survivals.AreKept.{no_attempt, keeps, leaves_out}
+use Rattle.dconf_model.proofs.Histories.{Ending, Step, History, Kept, KeptBy, KeepsFirst, MayRun, IsWholeAtAnyMoment}
+use Rattle.dconf_model.proofs.Histories.Ending.{done, refused, faulted, stopped, crashed}
 use Rattle.dconf_model.proofs.HistoryLaws.{never_lost}
-use Rattle.dconf_model.proofs.FolderLaws.{unchanged, counts_now, longer, seen_may}
+use Rattle.dconf_model.proofs.FolderLaws.{unchanged, counts_now, only_now, longer, seen_may}
 use Rattle.dconf_model.proofs.ReopenLaws.{one_list}
 use Rattle.dconf_model.proofs.StoreValues.{after_change}
 use Rattle.dconf_model.proofs.ProgramLaws.{Refuses, store_if_read}
@@ -97,7 +98,7 @@ still_holds others own gs c l m k n h = record {
 }
 
 -- what a chain of commands makes says their changes, in order
-kept_are_said : (others : List MaybeBytes) (own : OwnValues) (gs : List Given) (c e : MaybeBytes) (kept : List Asked) (l m : Layers) →
+pub kept_are_said : (others : List MaybeBytes) (own : OwnValues) (gs : List Given) (c e : MaybeBytes) (kept : List Asked) (l m : Layers) →
     AreLayers (c ∷ others) l.layers → StoreHolds others own gs l → MayRun (MaySave others) c kept e → AreLayers (e ∷ others) m.layers →
     StoreHolds others (own_after gs own (asked_changes kept)) gs m
 kept_are_said others own gs c e [] l m k h run n = still_holds others own gs c l m k (subst (λ c. AreLayers (c ∷ others) m.layers) run n) h
@@ -172,6 +173,17 @@ module _ (profile : List ℕ) (d : Database) (ds : List Database) (own : OwnValu
 
 -- ---- a folder that runs go on with
 
+-- what came of a run is a step that ended so
+abbrev pub CameSo : List ℕ → RunEnd → Ending → Type 0
+CameSo user (ended output) done = output.status ≡ 0
+CameSo user (ended output) refused = output.status ≡ 1
+CameSo user (ended output) faulted = output ≡ refused_output (device_text user)
+CameSo user (ended output) _ = ⊥
+CameSo user cut_off stopped = Unit {0}
+CameSo user cut_off _ = ⊥
+CameSo user cut_short crashed = Unit {0}
+CameSo user cut_short _ = ⊥
+
 module _ (profile : List ℕ) (d : Database) (ds : List Database) (gs : List Given) (text : List ℕ) (names : profile_of text ≡ Ok (d ∷ ds))
     (others : List MaybeBytes) (later : List Settings) (layers : AreLayers others later) (give : AllGive later gs) (apart : AreApart profile d ds) where
   -- the profile and the other databases stay as they are, and the user's file can be read,
@@ -183,10 +195,10 @@ module _ (profile : List ℕ) (d : Database) (ds : List Database) (gs : List Giv
     pub others_settled : AllByRecursion (λ other. IsSettled es (database_file other) (read_content es (database_file other))) ds
     pub user : (c : MaybeBytes) → MayLeave es (database_file d) c → CanBeRead c
 
-  abbrev now_own : (es : List Event) → Ready es → OwnValues
+  abbrev pub now_own : (es : List Event) → Ready es → OwnValues
   now_own es r path = option_and_then held_value (get (r.user (read_content es (database_file d)) (seen_may es (database_file d))).settings.values path)
 
-  abbrev holds_now : (es : List Event) (r : Ready es) → FolderHolds (read_content es) profile d ds (now_own es r) gs
+  abbrev pub holds_now : (es : List Event) (r : Ready es) → FolderHolds (read_content es) profile d ds (now_own es r) gs
   holds_now es r =
       let can = r.user (read_content es (database_file d)) (seen_may es (database_file d)) in
       record {
@@ -201,17 +213,6 @@ module _ (profile : List ℕ) (d : Database) (ds : List Database) (gs : List Giv
         writable = refl;
         held = record { first = can.settings; later = later; layers = refl; others_are = layers; gives = give; own_is = λ path. refl };
       }
-
-  -- what came of a run is a step that ended so
-  abbrev CameSo : RunEnd → Ending → Type 0
-  CameSo (ended output) done = output.status ≡ 0
-  CameSo (ended output) refused = output.status ≡ 1
-  CameSo (ended output) faulted = output ≡ refused_output (device_text (database_file d))
-  CameSo (ended output) stopped = ⊥
-  CameSo crashed done = ⊥
-  CameSo crashed refused = ⊥
-  CameSo crashed faulted = ⊥
-  CameSo crashed stopped = Unit {0}
 
   -- what a crash may leave at any moment of a run
   record Moment (old cut : List Event) (asked : Asked) : Type 0 where
@@ -337,7 +338,7 @@ module _ (profile : List ℕ) (d : Database) (ds : List Database) (gs : List Giv
     }
 
     abbrev IsStep : List Event → Output → Type 0
-    IsStep new output = (e : Ending) × CameSo (ended output) e × Step (MaySave others) (database_file d) old (command, input) e new
+    IsStep new output = (e : Ending) × CameSo (database_file d) (ended output) e × Step (MaySave others) (database_file d) old (command, input) e new
 
     step_of : (new : List Event) (output : Output) → RunDid command input old new output (database_file d) (holds_now old r).opened → IsStep new output
     step_of new output (inl nothing) =
@@ -366,7 +367,7 @@ module _ (profile : List ℕ) (d : Database) (ds : List Database) (gs : List Giv
 
   abbrev AreSteps : List Attempt → List (Asked × Ending) → Type 0
   AreSteps [] [] = Unit {0}
-  AreSteps (a ∷ more) (s ∷ steps) = (s.0 ≡ (a.command, a.input)) × CameSo a.end s.1 × AreSteps more steps
+  AreSteps (a ∷ more) (s ∷ steps) = (s.0 ≡ (a.command, a.input)) × CameSo (database_file d) a.end s.1 × AreSteps more steps
   AreSteps attempts steps = ⊥
 
   record Lived (attempts : List Attempt) (old new : List Event) : Type 0 where
@@ -375,66 +376,103 @@ module _ (profile : List ℕ) (d : Database) (ds : List Database) (gs : List Giv
     history : History (MaySave others) (database_file d) old steps new
     ready : Ready new
 
-  one_more : (a : Attempt) (more : List Attempt) (old mid new : List Event) (e : Ending) → CameSo a.end e →
-      Step (MaySave others) (database_file d) old (a.command, a.input) e mid → Lived more mid new → Lived (a ∷ more) old new
-  one_more a more old mid new e so step rest = record {
-    steps = ((a.command, a.input), e) ∷ rest.steps;
-    are = (refl, so, rest.are);
-    history = (mid, step, rest.history);
-    ready = rest.ready;
-  }
+  pub record LivedOne (a : Attempt) (old new : List Event) : Type 0 where
+    pub end : Ending
+    pub so : CameSo (database_file d) a.end end
+    pub step : Step (MaySave others) (database_file d) old (a.command, a.input) end new
+    pub ready : Ready new
+
+  pub lived_one : (a : Attempt) (old new : List Event) → Ready old → IsChangeOf profile a.command → CameTo a.command a.input a.end old new → LivedOne a old new
+  lived_one a old new r of came = by_end a.end refl came
+    where
+      by_end : (end : RunEnd) → a.end ≡ end → CameTo a.command a.input end old new → LivedOne a old new
+      by_end (ended output) e ran =
+          let did = run_did profile d ds (now_own old r) gs a.command a.input old new output (holds_now old r) of ran in
+          let step = step_of old r a.command a.input of new output did in
+          record {
+            end = step.0;
+            so = subst (λ end. CameSo (database_file d) end step.0) (sym e) step.1;
+            step = step.2;
+            ready = ready_after old r a.command a.input of new (moment old r a.command a.input of new output did);
+          }
+      by_end cut_off e ran =
+          let did = run_did profile d ds (now_own old r) gs a.command a.input old ran.0 ran.1 (holds_now old r) of ran.2 in
+          let m = moment old r a.command a.input of ran.0 ran.1 did in
+          record {
+            end = stopped;
+            so = subst (λ end. CameSo (database_file d) end stopped) (sym e) tt;
+            step = stopped_step old r a.command a.input of ran.0 new m ran.3;
+            ready = ready_crashed old r a.command a.input of ran.0 new m ran.3;
+          }
+      by_end cut_short e crash =
+          let user = database_file d in
+          record {
+            end = crashed;
+            so = subst (λ end. CameSo user end crashed) (sym e) tt;
+            step = (read_content new user, only_now old user (read_content new user) (crash.left user), crash.settled user, refl);
+            ready = ready_crashed old r a.command a.input of old new
+                (moment old r a.command a.input of old (refused_output []) (inl (refl, refl))) crash;
+          }
 
   all_lived : (attempts : List Attempt) (old new : List Event) → Ready old → AllByRecursion (λ a. IsChangeOf profile a.command) attempts →
       CameInTurn old attempts new → Lived attempts old new
   all_lived [] old new r of came = record { steps = []; are = tt; history = came; ready = subst Ready (sym came) r }
-  all_lived (a ∷ more) old new r of came = by_end (λ ready. all_lived more came.0 new ready of.1 came.2) a.end refl came.1
-    where
-      by_end : (Ready came.0 → Lived more came.0 new) → (end : RunEnd) → a.end ≡ end → CameTo a.command a.input end old came.0 → Lived (a ∷ more) old new
-      by_end rest (ended output) e ran =
-          let did = run_did profile d ds (now_own old r) gs a.command a.input old came.0 output (holds_now old r) of.0 ran in
-          let step = step_of old r a.command a.input of.0 came.0 output did in
-          one_more a more old came.0 new step.0 (subst (λ end. CameSo end step.0) (sym e) step.1) step.2
-          (rest (ready_after old r a.command a.input of.0 came.0 (moment old r a.command a.input of.0 came.0 output did)))
-      by_end rest crashed e ran =
-          let did = run_did profile d ds (now_own old r) gs a.command a.input old ran.0 ran.1 (holds_now old r) of.0 ran.2 in
-          let m = moment old r a.command a.input of.0 ran.0 ran.1 did in
-          one_more a more old came.0 new stopped (subst (λ end. CameSo end stopped) (sym e) tt)
-          (stopped_step old r a.command a.input of.0 ran.0 came.0 m ran.3) (rest (ready_crashed old r a.command a.input of.0 ran.0 came.0 m ran.3))
+  all_lived (a ∷ more) old new r of came =
+      let one = lived_one a old came.0 r of.0 came.1 in
+      let rest = all_lived more came.0 new one.ready of.1 came.2 in
+      record {
+        steps = ((a.command, a.input), one.end) ∷ rest.steps;
+        are = (refl, one.so, rest.are);
+        history = (came.0, one.step, rest.history);
+        ready = rest.ready;
+      }
 
   -- ---- what is kept
 
-  kept_first : (asked first : Asked) (Later : List Asked → Type 0) (kept : List Asked) → first ≡ asked → IsFirst first Later kept → IsFirst asked Later kept
-  kept_first asked first Later kept same h = subst (λ a. IsFirst a Later kept) same h
-
-  first_of : (first : Asked) (Now Later : List Asked → Type 0) (kept : List Asked) → ((all : List Asked) → Now all → Later all) → IsFirst first Now kept → IsFirst first Later kept
-  first_of first Now Later kept to h = (h.0, h.1, to h.0 h.2)
+  first_kept : (a : Attempt) (more : List Attempt) (asked : Asked) (steps : List (Asked × Ending)) (kept : List Asked) → asked ≡ (a.command, a.input) →
+      MayBeKept (database_file d) a.end → ((all : List Asked) → Kept steps all → AreKept (database_file d) more all) → KeepsFirst asked (Kept steps) kept →
+      AreKept (database_file d) (a ∷ more) kept
+  first_kept a more asked steps kept same may later h =
+      let whole : kept ≡ (a.command, a.input) ∷ h.0 = h.1 ∙ ap (λ asked. asked ∷ h.0) same in
+      subst (AreKept (database_file d) (a ∷ more)) (sym whole) (keeps a more h.0 may (later h.0 h.2))
 
   kept_so : (attempts : List Attempt) (steps : List (Asked × Ending)) (kept : List Asked) → AreSteps attempts steps → Kept steps kept → AreKept (database_file d) attempts kept
-  kept_so [] [] kept are h = h
+  kept_so [] [] kept are h = subst (AreKept (database_file d) []) (sym h) no_attempt
   kept_so [] (s ∷ steps) kept are h = absurd are
   kept_so (a ∷ more) [] kept are h = absurd are
-  kept_so (a ∷ more) (s ∷ steps) kept are h = by_end (λ all. kept_so more steps all are.2) a.end s.1 are.1 h
+  kept_so (a ∷ more) (s ∷ steps) kept are h = by_end (λ all. kept_so more steps all are.2) a.end refl s.1 are.1 h
     where
-      first : ((all : List Asked) → Kept steps all → AreKept (database_file d) more all) → IsFirst s.0 (Kept steps) kept →
-          IsFirst (a.command, a.input) (AreKept (database_file d) more) kept
-      first to h = kept_first (a.command, a.input) s.0 (AreKept (database_file d) more) kept are.0 (first_of s.0 (Kept steps) (AreKept (database_file d) more) kept to h)
+      Later : Type 0
+      Later = (all : List Asked) → Kept steps all → AreKept (database_file d) more all
 
-      by_end : ((all : List Asked) → Kept steps all → AreKept (database_file d) more all) → (end : RunEnd) (e : Ending) → CameSo end e →
-          KeptBy e s.0 (Kept steps) kept → IsKeptBy (database_file d) end (a.command, a.input) (AreKept (database_file d) more) kept
-      by_end to (ended output) done so h = inl (so, first to h)
-      by_end to (ended output) refused so h = inr (inl (so, to kept h))
-      by_end to (ended output) faulted so (inl out) = inr (inl (ap (λ (o : Output). o.status) so, to kept out))
-      by_end to (ended output) faulted so (inr kept_it) = inr (inr (so, first to kept_it))
-      by_end to (ended output) stopped so h = absurd so
-      by_end to crashed done so h = absurd so
-      by_end to crashed refused so h = absurd so
-      by_end to crashed faulted so h = absurd so
-      by_end to crashed stopped so (inl out) = inl (to kept out)
-      by_end to crashed stopped so (inr kept_it) = inr (first to kept_it)
+      first : Later → (end : RunEnd) → a.end ≡ end → MayBeKept (database_file d) end → KeepsFirst s.0 (Kept steps) kept → AreKept (database_file d) (a ∷ more) kept
+      first later end e may h = first_kept a more s.0 steps kept are.0 (subst (MayBeKept (database_file d)) (sym e) may) later h
+
+      without : Later → (end : RunEnd) → a.end ≡ end → MayBeLeftOut end → Kept steps kept → AreKept (database_file d) (a ∷ more) kept
+      without later end e may h = leaves_out a more kept (subst MayBeLeftOut (sym e) may) (later kept h)
+
+      by_end : Later → (end : RunEnd) → a.end ≡ end → (e : Ending) → CameSo (database_file d) end e → KeptBy e s.0 (Kept steps) kept → AreKept (database_file d) (a ∷ more) kept
+      by_end later (ended output) e done so h = first later (ended output) e (inl so) h
+      by_end later (ended output) e refused so h = without later (ended output) e so h
+      by_end later (ended output) e faulted so (inl out) = without later (ended output) e (ap (λ (o : Output). o.status) so) out
+      by_end later (ended output) e faulted so (inr kept_it) = first later (ended output) e (inr so) kept_it
+      by_end later (ended output) e stopped so h = absurd so
+      by_end later (ended output) e crashed so h = absurd so
+      by_end later cut_off e done so h = absurd so
+      by_end later cut_off e refused so h = absurd so
+      by_end later cut_off e faulted so h = absurd so
+      by_end later cut_off e stopped so (inl out) = without later cut_off e tt out
+      by_end later cut_off e stopped so (inr kept_it) = first later cut_off e tt kept_it
+      by_end later cut_off e crashed so h = absurd so
+      by_end later cut_short e done so h = absurd so
+      by_end later cut_short e refused so h = absurd so
+      by_end later cut_short e faulted so h = absurd so
+      by_end later cut_short e stopped so h = absurd so
+      by_end later cut_short e crashed so h = without later cut_short e tt h
 
 -- ---- the folder at first
 
-first_layer : (c : MaybeBytes) (others : List MaybeBytes) (ls : List Settings) (s : Settings) (later : List Settings) → ls ≡ s ∷ later → AreLayers (c ∷ others) ls → IsLayer c s
+pub first_layer : (c : MaybeBytes) (others : List MaybeBytes) (ls : List Settings) (s : Settings) (later : List Settings) → ls ≡ s ∷ later → AreLayers (c ∷ others) ls → IsLayer c s
 first_layer c others ls s later e h = (subst (AreLayers (c ∷ others)) e h).0
 
 module _ (profile : List ℕ) (d : Database) (ds : List Database) (own : OwnValues) (gs : List Given) (old : List Event) (apart : AreApart profile d ds)
@@ -482,7 +520,7 @@ module _ (profile : List ℕ) (d : Database) (ds : List Database) (own : OwnValu
         ready = lived.ready;
       }
 
-abbrev first_of_layers : List Settings → Settings
+abbrev pub first_of_layers : List Settings → Settings
 first_of_layers [] = no_settings
 first_of_layers (s ∷ ss) = s
 

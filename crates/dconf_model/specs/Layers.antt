@@ -1,7 +1,7 @@
 -- Layers of settings, the databases of a profile: which value of a path is seen, and what a directory has. dconf(7),
 -- "Profiles" and "Locks". The first layer's locks don't count. A lock of a later layer hides the values of the layers
 -- before it.
-use Rattle.std.specs.Prelude.{ℕ, ◌+◌, List, [], ◌∷◌, length, drop, Option, Some, None, Bool, true, false, nat_lt, if◌then◌else◌, option_map, option_and_then, filter, flat_map, is_some, ◌==◌}
+use Rattle.std.specs.Prelude.{◌≡◌, ◌≢◌, ◌⊎◌, ℕ, ◌+◌, List, [], ◌∷◌, ◌++◌, length, take, drop, Contains, Option, Some, None, Bool, true, false, nat_lt, if◌then◌else◌, option_map, option_and_then, filter, flat_map, is_some, ◌==◌}
 use Rattle.std.specs.List.{list_any}
 use Rattle.std.specs.FinMap.{empty, get, keys}
 use Rattle.gv_model.specs.Tree.{Tree}
@@ -105,3 +105,13 @@ has_value l path = is_some (visible_bytes l path)
 -- the paths below a directory that have a value
 abbrev pub paths_below : Layers → List ℕ → List (List ℕ)
 paths_below l directory = listing (filter (λ path. if is_below path directory then has_value l path else false) (all_paths l.layers))
+
+-- ---- law
+
+-- What is seen otherwise through layers that are the same but for the first, or is locked in one
+-- way alone, is a key of one of the first two.
+abbrev pub FirstKeysAreEnough : Type 0
+FirstKeysAreEnough =
+    (l m : Layers) (path : List ℕ) → drop 1 l.layers ≡ drop 1 m.layers →
+    (is_locked l path ≢ is_locked m path) ⊎ (visible l path ≢ visible m path) →
+    Contains (all_paths (take 1 l.layers) ++ all_paths (take 1 m.layers)) path

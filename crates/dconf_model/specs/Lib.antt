@@ -39,3 +39,4 @@ pub mod Walks
 pub mod Reopened
 pub mod Programs
 pub mod Survivals
+pub mod Standings

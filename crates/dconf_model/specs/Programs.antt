@@ -13,19 +13,22 @@ use Rattle.dconf_model.specs.Order.{listing}
 use Rattle.dconf_model.specs.Profiles.{Database, database_file, has_writable, profile_of}
 use Rattle.dconf_model.specs.Keyfiles.{Setting}
 use Rattle.dconf_model.specs.Sources.{Given, Assigned, Source, given, last_value, loaded}
+use Rattle.dconf_model.specs.Opening.{IsDatabase}
+use Rattle.dconf_model.specs.Salvaging.{IsSalvaged}
+use Rattle.dconf_model.specs.Settings.{Settings}
 use Rattle.dconf_model.specs.Databases.{AreLayers}
 use Rattle.dconf_model.specs.Layers.{Layers}
 use Rattle.dconf_model.specs.Changes.{Change}
 use Rattle.dconf_model.specs.Changes.Change.{set_value, reset_value, reset_below_directory, load_values}
-use Rattle.dconf_model.specs.Folders.{Event, read_content}
+use Rattle.dconf_model.specs.Folders.{Event, IsSettled, read_content}
 use Rattle.dconf_model.specs.Replacing.{new_name}
 use Rattle.dconf_model.specs.Commands.{Command}
-use Rattle.dconf_model.specs.Commands.Command.{show, read, list, list_locks, write, reset, reset_below, dump, load, origin, compile, check}
+use Rattle.dconf_model.specs.Commands.Command.{show, read, list, list_locks, write, reset, reset_below, dump, load, origin, compile, check, repair}
 use Rattle.dconf_model.specs.Reads.{FileRead, Content, Input, read_of}
 use Rattle.dconf_model.specs.Reads.FileRead.{no_file, holds}
 use Rattle.dconf_model.specs.Outcomes.{Output, done_output, shown_if_any, lines_text, origin_text, with_value_if_any, dump_of, value_of_word}
-use Rattle.dconf_model.specs.Runs.{RanCalmly, NoMemory}
-use Rattle.dconf_model.specs.Stores.{OwnValues, StoreHolds, FileGives, nothing_given, IsNamed, is_lock_given, value_given, number_given, own_after}
+use Rattle.dconf_model.specs.Runs.{MayMake, NoMemory, Ran, RanCalmly}
+use Rattle.dconf_model.specs.Stores.{OwnValues, StoreHolds, FileGives, GivesRows, nothing_given, IsNamed, is_lock_given, value_given, number_given, own_after}
 
 -- ---- what a folder's files give
 
@@ -244,12 +247,27 @@ pub record SourcesGive (content : Content) (lock_name : Option (List ℕ)) (name
   pub locks_are : AreSources content (option_to_list lock_name) locks
   pub given_is : given files locks ≡ Ok g
 
--- a file was compiled: it gives what the keyfiles and lock files gave, and no other file changed
--- but the new name
-pub record Compiled (old new : List Event) (out : List ℕ) (lock_name : Option (List ℕ)) (names : List (List ℕ)) (g : Given) : Type 0 where
-  pub sources : SourcesGive (read_content old) lock_name names g
+-- no crash changes the file, nor a name that none changed before
+pub record LeavesSettled (old new : List Event) (file : List ℕ) : Type 0 where
+  pub own : IsSettled new file (read_content new file)
+  pub others : (name : List ℕ) → IsApart file name → IsSettled old name (read_content old name) → IsSettled new name (read_content new name)
+
+-- law: so it is of the file that a command replaced, where it answered 0
+abbrev pub DoneIsSettled : Type 0
+DoneIsSettled =
+    (command : Command) (input : Input) (old new : List Event) (output : Output) (r : Ran command input old new output) → output.status ≡ 0 →
+    (new ≡ old) ⊎ ((name : List ℕ) × (bytes : List ℕ) × MayMake command input r.reads name bytes × (read_content new name ≡ Some bytes) × LeavesSettled old new name)
+
+-- a file was put in its place: it gives this, and no other file changed but the new name
+pub record IsPut (old new : List Event) (out : List ℕ) (g : Given) : Type 0 where
   pub gives : NameGives (read_content new) out g
   pub others : (name : List ℕ) → IsApart out name → read_content new name ≡ read_content old name
+  pub settled : LeavesSettled old new out
+
+-- a file was compiled: it gives what the keyfiles and lock files gave
+pub record Compiled (old new : List Event) (out : List ℕ) (lock_name : Option (List ℕ)) (names : List (List ℕ)) (g : Given) : Type 0 where
+  pub sources : SourcesGive (read_content old) lock_name names g
+  pub put : IsPut old new out g
 
 -- law: so it is after a run of `compile` that answers 0; else it answers 1, and nothing changed
 abbrev pub CompileGives : Type 0
@@ -274,4 +292,33 @@ CompileSteps =
     (out : List ℕ) (lock_name : Option (List ℕ)) (names : List (List ℕ)) (g : Given) (old new : List Event) →
     FolderHolds (read_content old) profile d ds own gs → IsApart out profile →
     AllByRecursion (λ other. database_file other ≢ new_name out) (d ∷ ds) → Compiled old new out lock_name names g →
+    FolderHolds (read_content new) profile d ds (own_compiled out g d own) (given_compiled out g ds gs)
+
+-- ---- runs that repair
+
+-- what is salvaged of a file that opens as a database
+pub record SalvageGives (content : Content) (file : List ℕ) (g : Given) : Type 0 where
+  pub bytes : List ℕ
+  pub there : content file ≡ Some bytes
+  pub opens : IsDatabase bytes
+  pub settings : Settings
+  pub salvaged : IsSalvaged bytes settings
+  pub gives : GivesRows settings g
+
+-- a file was repaired: the one that was put in place gives what is salvaged
+pub record Repaired (old new : List Event) (file out : List ℕ) (g : Given) : Type 0 where
+  pub salvage : SalvageGives (read_content old) file g
+  pub put : IsPut old new out g
+
+-- laws, as of `compile`
+abbrev pub RepairGives : Type 0
+RepairGives =
+    (file out : List ℕ) (input : Input) (old new : List Event) (output : Output) → RanCalmly (repair file out) input old new output →
+    ((output.status ≡ 0) × ((g : Given) × Repaired old new file out g)) ⊎ ((output.status ≡ 1) × (new ≡ old))
+
+abbrev pub RepairSteps : Type 0
+RepairSteps =
+    (profile : List ℕ) (d : Database) (ds : List Database) (own : OwnValues) (gs : List Given) (file out : List ℕ) (g : Given) (old new : List Event) →
+    FolderHolds (read_content old) profile d ds own gs → IsApart out profile →
+    AllByRecursion (λ other. database_file other ≢ new_name out) (d ∷ ds) → Repaired old new file out g →
     FolderHolds (read_content new) profile d ds (own_compiled out g d own) (given_compiled out g ds gs)

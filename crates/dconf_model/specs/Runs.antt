@@ -51,6 +51,12 @@ pub record Answered (command : Command) (input : Input) (reads : ReadResults) (o
   pub is : IsOutcome command reads input outcome
   pub output_is : output ≡ output_of outcome ending
 
+-- law: what its reads and its input give leaves a command one output
+abbrev pub OneOutput : Type 0
+OneOutput =
+    (command : Command) (reads : ReadResults) (input : Input) (o p : Outcome) → IsOutcome command reads input o → IsOutcome command reads input p →
+    o.output ≡ p.output
+
 -- where memory ran out, nothing is known but the line that says so
 abbrev pub NoMemory : Output → Type 0
 NoMemory output = output ≡ refused_output (codes "Memory")

@@ -21,10 +21,11 @@ use Rattle.dconf_model.specs.Programs.{FolderHolds, AreApart, IsChangeOf, asked_
 
 -- ---- what came of runs
 
--- it came to its end and wrote this, or a crash stopped it
+-- it came to its end and wrote this, or a crash stopped it, or a crash came before it began
 pub data RunEnd : Type 0 where
   ended : Output → RunEnd
   stopped : RunEnd
+  crashed : RunEnd
 
 pub record Attempt : Type 0 where
   pub command : Command
@@ -37,11 +38,13 @@ pub record CrashedSince (old cut new : List Event) : Type 0 where
   pub left : (name : List ℕ) → MayHaveLeft cut (length old) name (read_content new name)
   pub settled : (name : List ℕ) → IsSettled new name (read_content new name)
 
--- what clause `ran` of `run` gives, of a run that came to its end and of one that would have
+-- what clause `ran` of `run` gives, of a run that came to its end and of one that would have; a
+-- crash while nothing ran leaves what it may
 abbrev pub CameTo : Command → Input → RunEnd → List Event → List Event → Type 0
 CameTo command input (ended output) old new = Ran command input old new output
 CameTo command input stopped old new =
     (cut : List Event) × (output : Output) × Ran command input old cut output × CrashedSince old cut new
+CameTo command input crashed old new = CrashedSince old old new
 
 -- one after another, in a folder that nothing else changes
 abbrev pub CameInTurn : List Event → List Attempt → List Event → Type 0
@@ -54,21 +57,26 @@ CameInTurn old (a ∷ more) new = (mid : List Event) × CameTo a.command a.input
 abbrev pub Asked : Type 0
 Asked = Command × Input
 
-abbrev pub IsFirst : Asked → (List Asked → Type 0) → List Asked → Type 0
-IsFirst asked Later kept = (more : List Asked) × (kept ≡ asked ∷ more) × Later more
+-- One that answered 0 is kept. One that says that the device failed at the user's file may be, and
+-- so may one that was stopped.
+abbrev pub MayBeKept : List ℕ → RunEnd → Type 0
+MayBeKept user (ended output) = (output.status ≡ 0) ⊎ (output ≡ refused_output (device_text user))
+MayBeKept user stopped = Unit {0}
+MayBeKept user crashed = ⊥
 
--- One that answered 0 is kept. One that answered 1 is not; but where it says that the device
--- failed at the user's file, it may be. One that was stopped is kept or not.
-abbrev pub IsKeptBy : List ℕ → RunEnd → Asked → (List Asked → Type 0) → List Asked → Type 0
-IsKeptBy user (ended output) asked Later kept =
-    ((output.status ≡ 0) × IsFirst asked Later kept)
-    ⊎ (((output.status ≡ 1) × Later kept) ⊎ ((output ≡ refused_output (device_text user)) × IsFirst asked Later kept))
-IsKeptBy user stopped asked Later kept = Later kept ⊎ IsFirst asked Later kept
+-- one that answered 1 may be left out, or one that didn't come to its end
+abbrev pub MayBeLeftOut : RunEnd → Type 0
+MayBeLeftOut (ended output) = output.status ≡ 1
+MayBeLeftOut stopped = Unit {0}
+MayBeLeftOut crashed = Unit {0}
 
 -- the commands that are kept, in order
-abbrev pub AreKept : List ℕ → List Attempt → List Asked → Type 0
-AreKept user [] kept = kept ≡ []
-AreKept user (a ∷ more) kept = IsKeptBy user a.end (a.command, a.input) (AreKept user more) kept
+pub data AreKept (user : List ℕ) : List Attempt → List Asked → Type 0 where
+  no_attempt : AreKept user [] []
+  keeps : (a : Attempt) (attempts : List Attempt) (kept : List Asked) → MayBeKept user a.end → AreKept user attempts kept →
+      AreKept user (a ∷ attempts) ((a.command, a.input) ∷ kept)
+  leaves_out : (a : Attempt) (attempts : List Attempt) (kept : List Asked) → MayBeLeftOut a.end → AreKept user attempts kept →
+      AreKept user (a ∷ attempts) kept
 
 abbrev pub asked_changes : List Asked → List Change
 asked_changes [] = []

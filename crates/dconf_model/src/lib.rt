@@ -16,13 +16,15 @@ ghost use Rattle.dconf_model.specs.Plans.{PlanIsSound, PlanHoldsValues, PlanHold
 ghost use Rattle.dconf_model.specs.Laws.{FindsRowsAlone, FindsOneThing, HasOneItemPerName, FindsWhereRows, NameIsComputed, HasOneOpenFault};
 ghost use Rattle.dconf_model.specs.Values.{TextHasItsValue, HasOneMeaning, StoredIsHeld};
 ghost use Rattle.dconf_model.specs.Changes.{RunsInParts};
-ghost use Rattle.dconf_model.specs.Runs.{CalmRuns, RunsAreCrashSafe};
+ghost use Rattle.dconf_model.specs.Runs.{CalmRuns, OneOutput, RunsAreCrashSafe};
+ghost use Rattle.dconf_model.specs.Layers.{FirstKeysAreEnough};
+ghost use Rattle.dconf_model.specs.Standings.{PutIsSettled, RunsAreKept, WholeProgramGives};
 ghost use Rattle.dconf_model.specs.Survivals.{NothingIsLost, NextRunFindsAll};
 ghost use Rattle.std.specs.Prelude.{ℕ, List};
 ghost use Rattle.dconf_model.specs.Order.{OrderIsStable, ListingIsOnceEach};
 ghost use Rattle.dconf_model.specs.Keyfiles.{DumpReadsBack, DumpHasEachSetting, DumpIsInOrder};
 ghost use Rattle.dconf_model.specs.Databases.{SaysWhatIsInIt, SaysSettings, SaysOneThing, WrittenSaysSettings};
-ghost use Rattle.dconf_model.specs.Programs.{GivenHolds, NoFileGivesNothing, CompileGives, CompileSteps, QuestionsAreAnswered, EmptyPrintsNothing, ChangesAreKept, ProgramGives};
+ghost use Rattle.dconf_model.specs.Programs.{GivenHolds, NoFileGivesNothing, CompileGives, CompileSteps, RepairGives, RepairSteps, DoneIsSettled, QuestionsAreAnswered, EmptyPrintsNothing, ChangesAreKept, ProgramGives};
 ghost use Rattle.dconf_model.specs.Reopened.{ReopenedIsSame};
 ghost use Rattle.dconf_model.specs.Stores.{TextsAreWhole, MissingGivesNothing, CompiledGives, SoundGives, EachValueIsGiven, EachListingIsExact, EmptyHasNothing};
 ghost use Rattle.dconf_model.specs.Walks.{LayersHaveKeyPaths, WalkFindsEachKey, WalkEnds, WalkHasEachSetting};
@@ -123,6 +125,17 @@ pub fn changes_run_in_parts()
     ensures { RunsInParts }
 {}
 
+/// What a command reads leaves it one output.
+pub fn a_command_has_one_output()
+    ensures { OneOutput }
+{}
+
+/// What is seen otherwise through layers that are the same but for the first is a key of one of
+/// the first two.
+pub fn first_keys_are_enough()
+    ensures { FirstKeysAreEnough }
+{}
+
 /// A run whose reads and writing calls don't fail answers what the folder's content says. A crash at any moment of a run
 /// leaves each file whole.
 pub fn runs_are_whole()
@@ -183,12 +196,32 @@ pub fn a_compiled_folder_holds()
     ensures steps { CompileSteps }
 {}
 
+/// So does a run of `repair`, which makes it give what is salvaged of a file.
+pub fn a_repaired_folder_holds()
+    ensures repairs { RepairGives }
+    ensures steps { RepairSteps }
+{}
+
+/// The file of a command that answered 0 is settled: no crash changes it, nor a file that none
+/// changed before. So are then the databases of a profile.
+pub fn what_is_done_is_settled()
+    ensures file { DoneIsSettled }
+    ensures databases { PutIsSettled }
+{}
+
 /// A run that reads the store prints what its databases give.
 pub fn a_program_gives_what_was_written()
     ensures answers { QuestionsAreAnswered }
     ensures none { EmptyPrintsNothing }
     ensures changes { ChangesAreKept }
     ensures whole { ProgramGives }
+{}
+
+/// Runs of `compile` and `repair` may come among those that change the store: a run after all of
+/// them prints what the databases give then.
+pub fn a_program_gives_what_was_put_in_place()
+    ensures kept { RunsAreKept }
+    ensures whole { WholeProgramGives }
 {}
 
 /// A list put in order by its names has the same things, rising, and those of one name in the order that they had.
