@@ -23,7 +23,7 @@ use Rattle.dconf_model.specs.Outcomes.{Gives, Outcome, Output, IsOutcome, WithFi
 use Rattle.dconf_model.specs.Runs.{Did, DidAsMeant, ReadsFrom}
 use Rattle.dconf_model.specs.Runs.RunEnding.{as_meant}
 use Rattle.dconf_model.specs.Stores.{OwnValues, AllGive, FileGives}
-use Rattle.dconf_model.specs.Programs.{AreRead, FolderHolds, NameGives, NamesGive, GivenHolds, NoFileGivesNothing, AreSources, IsApart, IsPut, SalvageGives, SourcesGive, CompileGives, own_compiled, given_compiled, CompileSteps, Repaired, RepairGives, RepairSteps}
+use Rattle.dconf_model.specs.Programs.{AreRead, FolderHolds, NameGives, NamesGive, GivenHolds, NoFileGivesNothing, AreSources, IsApart, IsPut, SalvageGives, SourcesGive, CompileGives, own_compiled, given_compiled, CompileSteps, RepairGives, RepairSteps}
 use Rattle.dconf_model.proofs.DatabasesGiven.{missing_gives_nothing, compiled_gives}
 use Rattle.dconf_model.proofs.SoundGiven.{gives_some}
 use Rattle.dconf_model.proofs.ProgramLaws.{Refuses}

@@ -1,12 +1,12 @@
 -- Through layers that are the same but for the first, a path that neither first one has is seen alike.
-use Rattle.std.specs.Prelude.{◌≡◌, ◌≢◌, ◌⊎◌, ℕ, zero, suc, List, [], ◌∷◌, ◌++◌, take, drop, Option, Some, None, refl, is_some, option_map, option_and_then, nat_lt, Contains}
+use Rattle.std.specs.Prelude.{◌≡◌, ◌⊎◌, ℕ, zero, suc, List, [], ◌∷◌, take, drop, Option, Some, None, refl, is_some, option_map, option_and_then, nat_lt, Contains}
 use Rattle.std.proofs.Common.{ap, sym, ◌∙◌, inl, inr}
 use Rattle.std.specs.FinMap.{get, keys}
 use Rattle.std.proofs.lemmas.List.Elements.{Contains-append_left, Contains-append_right}
 use Rattle.gv_model.specs.Tree.{Tree}
 use Rattle.dconf_model.specs.Settings.{Settings}
 use Rattle.dconf_model.specs.Values.{held_value}
-use Rattle.dconf_model.specs.Layers.{Layers, Place, FirstKeysAreEnough, all_paths, first_from, greatest_from, is_locked, level, locks_path, place_of, place_or, visible}
+use Rattle.dconf_model.specs.Layers.{Place, FirstKeysAreEnough, all_paths, first_from, greatest_from, level, locks_path, place_of, place_or}
 use Rattle.dconf_model.proofs.StoreListings.{key_of}
 
 -- the first has no value at the path

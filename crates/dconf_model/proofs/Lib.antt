@@ -97,5 +97,6 @@ pub mod OneOutput
 pub mod FirstKeys
 pub mod Histories
 pub mod SurvivalLaws
+pub mod AttemptLaws
 pub mod EmptyFolders
 pub mod WorkedFolder

@@ -1,5 +1,5 @@
 -- A command has one output: each step on its way to an outcome leaves one.
-use Rattle.std.specs.Prelude.{◌≡◌, ◌<◌, ◌≤◌, ◌+◌, ◌++◌, ◌⊎◌, ℕ, zero, suc, Bool, true, false, cond, List, [], ◌∷◌, length, codes, Option, Some, None, Result, Ok, Err, refl, option_to_list}
+use Rattle.std.specs.Prelude.{◌≡◌, ◌+◌, ℕ, zero, suc, Bool, true, false, cond, List, [], ◌∷◌, length, codes, Option, Some, None, Result, Ok, Err, refl, option_to_list}
 use Rattle.std.proofs.Common.{ap, sym, ◌∙◌, subst, inl, inr, arith}
 use Rattle.std.specs.FinMap.{get}
 use Rattle.gv_model.specs.Ty.{Ty}
@@ -8,7 +8,7 @@ use Rattle.gv_model.specs.FaultTexts.{type_fault_text}
 use Rattle.gv_model.specs.Tree.{Tree}
 use Rattle.gv_model.specs.Decode.{decode}
 use Rattle.gv_model.proofs.OneFault as types
-use Rattle.dconf_model.specs.Bytes.{MaybeBytes, longest_file}
+use Rattle.dconf_model.specs.Bytes.{MaybeBytes}
 use Rattle.dconf_model.specs.Paths.{PathFault, key_fault, directory_fault}
 use Rattle.dconf_model.specs.Causes.{SettingsCause}
 use Rattle.dconf_model.specs.Lines.{LineFault}
@@ -23,11 +23,10 @@ use Rattle.dconf_model.specs.Layers.{Layers, visible, without_user, child_names,
 use Rattle.dconf_model.specs.Changes.{Change, Refusal, apply, saved, paths_of}
 use Rattle.dconf_model.specs.Changes.Change.{set_value, reset_value, reset_below_directory, load_values}
 use Rattle.dconf_model.specs.Salvaging.{IsSalvaged}
-use Rattle.dconf_model.specs.Commands.{Command}
 use Rattle.dconf_model.specs.Commands.Command.{show, read, list, list_locks, write, reset, reset_below, dump, load, origin, compile, check, repair}
-use Rattle.dconf_model.specs.Reads.{FileRead, ReadResults, Input}
+use Rattle.dconf_model.specs.Reads.{FileRead, ReadResults}
 use Rattle.dconf_model.specs.Reads.FileRead.{no_file, holds, over_size, failed}
-use Rattle.dconf_model.specs.Outcomes.{Gives, Outcome, UnlessFault, WithType, OrCause, OrLine, OrNoRead, WithFile, WithFiles, UnlessFailed, WithRows, OrNoDatabase, WithDatabases, WithLayers, WithStore, Writes, Saves, Changes, Compiles, Checks, Repairs, refused, done, changing, verdict_text, shown_outcome, shown_if_any, lines_text, origin_text, dump_of, settings_at, refusal_text, compile_output, check_output, kept_text, value_of_word, read_failed}
+use Rattle.dconf_model.specs.Outcomes.{Gives, Outcome, UnlessFault, WithType, OrCause, OrLine, OrNoRead, WithFile, WithFiles, UnlessFailed, WithRows, OrNoDatabase, WithDatabases, WithLayers, WithStore, Writes, Saves, Changes, Compiles, Checks, Repairs, refused, done, verdict_text, shown_outcome, shown_if_any, lines_text, origin_text, dump_of, settings_at, refusal_text, compile_output, check_output, kept_text, value_of_word, read_failed}
 use Rattle.dconf_model.specs.Runs.{OneOutput}
 use Rattle.dconf_model.proofs.OpenLaws as opens
 use Rattle.dconf_model.proofs.SoundLaws.{sound_has_no_fault, one_first_fault}

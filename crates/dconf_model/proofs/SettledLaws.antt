@@ -2,19 +2,15 @@
 use Rattle.std.specs.Prelude.{◌≡◌, ◌≢◌, ◌⊎◌, ℕ, List, [], ◌∷◌, length, Option, Some, None, codes, refl}
 use Rattle.std.proofs.Common.{ap, sym, ◌∙◌, subst, inl, inr, arith}
 use Rattle.std.specs.List.{AllByRecursion}
-use Rattle.dconf_model.specs.Sources.{Given}
 use Rattle.dconf_model.specs.Profiles.{Database, database_file}
 use Rattle.dconf_model.specs.Folders.{Event, IsSettled, read_content}
 use Rattle.dconf_model.specs.Replacing.{Replaced, new_name}
 use Rattle.dconf_model.specs.FaultTexts.{device_text}
-use Rattle.dconf_model.specs.Commands.{Command}
-use Rattle.dconf_model.specs.Reads.{Input}
 use Rattle.dconf_model.specs.Outcomes.{Outcome, Output, Replacement, refused_output}
-use Rattle.dconf_model.specs.Runs.{AnswersIn, Did, MayMake, Ran, RunEnding, device_output, output_of}
+use Rattle.dconf_model.specs.Runs.{AnswersIn, Did, MayMake, RunEnding, device_output, output_of}
 use Rattle.dconf_model.specs.Runs.RunEnding.{as_meant, device}
-use Rattle.dconf_model.specs.Programs.{DoneIsSettled, IsPut, LeavesSettled}
-use Rattle.dconf_model.specs.Survivals.{AreSettled}
-use Rattle.dconf_model.specs.Standings.{MayPut, PutIsSettled}
+use Rattle.dconf_model.specs.Programs.{DoneIsSettled, LeavesSettled}
+use Rattle.dconf_model.specs.Standings.{PutIsSettled}
 use Rattle.dconf_model.proofs.FolderLaws.{counts_now, longer}
 use Rattle.dconf_model.proofs.SameBytes.{same_or_not}
 

@@ -1,7 +1,6 @@
 -- Runs that change the first database and runs that put a database in place, in any order.
 use Rattle.std.specs.Prelude.{◌≡◌, ◌⊎◌, ℕ, zero, suc, List, [], ◌∷◌, refl}
-use Rattle.std.proofs.Common.{ap, sym, ◌∙◌, subst, inl, inr}
-use Rattle.std.specs.List.{AllByRecursion}
+use Rattle.std.proofs.Common.{sym, subst, inl, inr}
 use Rattle.dconf_model.specs.Sources.{Given}
 use Rattle.dconf_model.specs.Profiles.{Database}
 use Rattle.dconf_model.specs.Folders.{Event, read_content}
@@ -9,8 +8,8 @@ use Rattle.dconf_model.specs.Commands.{Command}
 use Rattle.dconf_model.specs.Reads.{Content, Input}
 use Rattle.dconf_model.specs.Outcomes.{Output}
 use Rattle.dconf_model.specs.Runs.{RanCalmly}
-use Rattle.dconf_model.specs.Programs.{AreApart, IsChangeOf, IsPut, OnlyReads, RanInTurn, Run, asked_change, if_done}
-use Rattle.dconf_model.specs.Standings.{FolderStands, MayPut, MayRunOver, PutsFile, PutsRows, RunsAreKept, Standing, StandsInTurn, StepsBy, StepsTo, WholeProgramGives, with_changes, with_put}
+use Rattle.dconf_model.specs.Programs.{AreApart, IsChangeOf, IsPut, OnlyReads, Run, asked_change, if_done}
+use Rattle.dconf_model.specs.Standings.{FolderStands, MayRunOver, PutsFile, PutsRows, RunsAreKept, Standing, StepsBy, WholeProgramGives, with_changes, with_put}
 use Rattle.dconf_model.specs.Standings.PutsFile.{compiling, repairing}
 use Rattle.dconf_model.specs.Standings.PutsRows.{compiling as compiled_rows, repairing as repaired_rows}
 use Rattle.dconf_model.proofs.ProgramLaws.{questions_are_answered}

@@ -18,7 +18,7 @@ ghost use Rattle.dconf_model.specs.Values.{TextHasItsValue, HasOneMeaning, Store
 ghost use Rattle.dconf_model.specs.Changes.{RunsInParts};
 ghost use Rattle.dconf_model.specs.Runs.{CalmRuns, OneOutput, RunsAreCrashSafe};
 ghost use Rattle.dconf_model.specs.Layers.{FirstKeysAreEnough};
-ghost use Rattle.dconf_model.specs.Standings.{PutIsSettled, RunsAreKept, WholeProgramGives};
+ghost use Rattle.dconf_model.specs.Standings.{NextRunFindsAllOf, NothingIsLostOfAll, PutIsSettled, RunsAreKept, WholeProgramGives};
 ghost use Rattle.dconf_model.specs.Survivals.{NothingIsLost, NextRunFindsAll};
 ghost use Rattle.std.specs.Prelude.{ℕ, List};
 ghost use Rattle.dconf_model.specs.Order.{OrderIsStable, ListingIsOnceEach};
@@ -149,6 +149,13 @@ pub fn runs_are_whole()
 pub fn nothing_is_lost()
     ensures left { NothingIsLost }
     ensures found { NextRunFindsAll }
+{}
+
+/// Nor is it where runs of `compile` and `repair` come among them. Of these none may have failed at
+/// the device where it puts its file: a crash might change that one back later.
+pub fn nothing_put_in_place_is_lost()
+    ensures left { NothingIsLostOfAll }
+    ensures found { NextRunFindsAllOf }
 {}
 
 /// A sound database says the settings that are computed from its items: values at the paths of keys, and locks at paths. A
