@@ -196,8 +196,10 @@ static DconfdbSnapshot *stored_now(DconfdbBackend *self, const Change *change)
         return NULL;
     DconfdbSnapshot *now = dconfdb_snapshot_ref(self->now);
     g_mutex_unlock(&self->lock);
-    if (!dconfdb_snapshot_is_newest(now))
+    if (!dconfdb_snapshot_is_newest(now)) {
         g_clear_pointer(&now, dconfdb_snapshot_unref);
+        store_look_before(self);
+    }
     g_mutex_lock(&self->lock);
     return now;
 }

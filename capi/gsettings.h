@@ -177,6 +177,9 @@ void store_look(DconfdbBackend *self);
 /* The same for who reads where nothing is watched, if nobody else looks: the worker tells. */
 void store_peek(DconfdbBackend *self);
 
+/* The same for who is about to set, and knows that there is another file: what is there already is older than the set. */
+void store_look_before(DconfdbBackend *self);
+
 /* The same for who is about to tell of a change by itself: it waits for who looks or writes, a second at most. */
 void store_catch_up(DconfdbBackend *self);
 

@@ -240,6 +240,12 @@ void store_peek(DconfdbBackend *self)
         look_quietly(self);
 }
 
+void store_look_before(DconfdbBackend *self)
+{
+    if (self->process == getpid() && g_mutex_trylock(&self->turn))
+        look_quietly(self);
+}
+
 void store_catch_up(DconfdbBackend *self)
 {
     g_mutex_lock(&self->lock);

@@ -22,6 +22,9 @@ enum { MOST_BETWEEN = 50000, MOST_READS = 20 };
 
 static const uint64_t second = 1000000000;
 
+/* Of a time: the bit of one that is no set's own. */
+static const uint64_t is_guess = 1;
+
 /* Numbers in another order of bytes are never whole. */
 static const char name[16] = "dconfdb times 1";
 
@@ -75,13 +78,13 @@ static void read_clocks(Order *order)
 uint64_t order_time(const Order *order, uint64_t moment)
 {
     uint64_t age = order->moment > moment ? order->moment - moment : 0;
-    return order->now > age ? order->now - age : 0;
+    return (order->now > age ? order->now - age : 0) & ~is_guess;
 }
 
 uint64_t order_time_of(const FileState *file)
 {
     uint64_t written = nanoseconds(&file->written), touched = nanoseconds(&file->touched);
-    return written > touched ? written : touched;
+    return (written > touched ? written : touched) | is_guess;
 }
 
 /* ---- room */
@@ -269,6 +272,16 @@ bool order_has_value(const Order *order, const uint8_t *path, size_t len, uint64
             return true;
     }
     return false;
+}
+
+DconfdbTime *order_guess(Order *order, const DconfdbBytes *path)
+{
+    for (size_t i = 0; i < order->count; i++) {
+        DconfdbTime *time = &order->times[i];
+        if (time->path.len == path->len && memcmp(time->path.at, path->at, path->len) == 0)
+            return (time->when & is_guess) != 0 ? time : NULL;
+    }
+    return NULL;
 }
 
 bool order_note(Order *order, const DconfdbTime *times, size_t count)

@@ -31,11 +31,14 @@ uint64_t order_clock(void);
 /* Reads what is noted in the file of a lock that is held. False: no memory is left. */
 bool order_read(Order *order, int lock);
 
-/* A moment of order_clock() as a time that programs note, by the clock as it is set now. */
+/* A moment of order_clock() as a time that programs note, by the clock as it is set now. It is even. */
 uint64_t order_time(const Order *order, uint64_t moment);
 
-/* When a file was written, or got its name. */
+/* When a file was written, or got its name. It is odd: what differs in a file that nobody noted was set then, or before. */
 uint64_t order_time_of(const FileState *file);
+
+/* The note of a path, if its time is such a one; or NULL. */
+DconfdbTime *order_guess(Order *order, const DconfdbBytes *path);
 
 /* Whether who left the file so noted what it changed. */
 bool order_has_left(const Order *order, const FileState *file);

@@ -1354,14 +1354,45 @@ static uint64_t time_of(const DconfdbStore *store, const Order *order, uint64_t 
     return time < store->noted && store->noted <= order->now ? store->noted : time;
 }
 
+/* Whether it was seen that others changed a path later. */
+static bool has_seen(const DconfdbStore *store, const DconfdbTime *time)
+{
+    for (const Seen *seen = store->seen; seen; seen = seen->next) {
+        const char *at = order_time_of(&seen->left) > time->when ? seen->paths : "";
+        for (; *at; at += strlen(at) + 1) {
+            if (strlen(at) == time->path.len && memcmp(at, time->path.at, time->path.len) == 0)
+                return true;
+        }
+    }
+    return false;
+}
+
+/* Whether it is only another program's guess that the path was set so late, and this one, which had a snapshot before the change
+ * was asked for, has seen it as it is ever since. Then it is noted no longer. */
+static bool forgets_guess(const DconfdbStore *store, Order *order, const DconfdbSnapshot *before, const DconfdbTime *time)
+{
+    const DconfdbBytes *path = &time->path;
+    DconfdbTime *guess = order_guess(order, path);
+    bool is_as_before = guess && before->is_writable && !has_seen(store, time)
+        && value_in(before, path->at, path->len) == value_in(store->now, path->at, path->len);
+    if (is_as_before)
+        guess->when = 0;
+    return is_as_before;
+}
+
+static bool is_overtaken(const Order *order, const DconfdbTime *time)
+{
+    return dconfdb_is_overtaken(order->times, order->count, time->path.at, time->path.len, time->when, order->now);
+}
+
 /* Leaves out what others have set since. What this store's last write may have left looks like that, too: it is in the file. */
-static void leave_out(Asking *asking, const DconfdbStore *store, const Order *order)
+static void leave_out(Asking *asking, const DconfdbStore *store, Order *order, const DconfdbSnapshot *before)
 {
     size_t left = 0;
     for (size_t i = 0; i < asking->count; i++) {
         DconfdbTime time = {asking->times[i].path, time_of(store, order, asking->times[i].when)};
         bool is_own = store->is_unsettled && is_made(store->now, &asking->changes[i]);
-        if (!is_own && dconfdb_is_overtaken(order->times, order->count, time.path.at, time.path.len, time.when, order->now))
+        if (!is_own && is_overtaken(order, &time) && !(forgets_guess(store, order, before, &time) && !is_overtaken(order, &time)))
             continue;
         asking->changes[left] = asking->changes[i];
         asking->times[left] = time;
@@ -1371,25 +1402,23 @@ static void leave_out(Asking *asking, const DconfdbStore *store, const Order *or
 }
 
 /* Looks at the files. What differs since the last look is of use where who left the user's file noted nothing. */
-static bool refresh_and_heed(DconfdbStore *store, int turn, const Order *order, DconfdbError *error)
+static bool refresh_and_heed(DconfdbStore *store, const DconfdbSnapshot *before, int turn, const Order *order, DconfdbError *error)
 {
-    DconfdbSnapshot *before = dconfdb_snapshot_ref(store->now);
     bool done = refresh(store, turn, error);
     if (done && !order_has_left(order, &store->now->parts[0]->state))
         heed(store, before, store->now);
-    dconfdb_snapshot_unref(before);
     return done;
 }
 
 /* What others have set up to now, and when; or NULL. */
-static Order *order_of(DconfdbStore *store, const FolderLock *lock, DconfdbError *error)
+static Order *order_of(DconfdbStore *store, const DconfdbSnapshot *before, const FolderLock *lock, DconfdbError *error)
 {
     Order *order = &store->order;
     if (!order_read(order, lock->file)) {
         refuse_memory(error);
         return NULL;
     }
-    if (!refresh_and_heed(store, lock->folder, order, error))
+    if (!refresh_and_heed(store, before, lock->folder, order, error))
         return NULL;
     if (note_others(store, order))
         return order;
@@ -1407,6 +1436,7 @@ typedef struct {
     DconfdbError *error; /* of the first fault */
     Order *order;        /* NULL: it could not be had */
     Replacing *replacing;
+    DconfdbSnapshot *before; /* the turn */
     DconfdbSnapshot *newer;     /* with the new file as its first part */
     bool is_nothing, is_placed; /* they change nothing; the name is the new file's */
 } Changing;
@@ -1414,7 +1444,7 @@ typedef struct {
 /* A bad file is to be set aside. */
 static bool read_old(Changing *it, size_t *bits)
 {
-    it->order = order_of(it->store, it->lock, it->error);
+    it->order = order_of(it->store, it->before, it->lock, it->error);
     if (!it->order)
         return false;
     const Fault *bad = it->store->now->parts[0]->fault;
@@ -1446,7 +1476,7 @@ static bool make_bytes(Changing *it, FileBytes *file)
 static bool make_newer(Changing *it, size_t *len)
 {
     FileBytes file;
-    leave_out(it->asking, it->store, it->order);
+    leave_out(it->asking, it->store, it->order, it->before);
     if (!make_bytes(it, &file))
         return false;
     *len = file.len;
@@ -1540,6 +1570,7 @@ static bool change_in_turn(DconfdbStore *store, const FolderLock *lock, Asking *
     if (fault != 0)
         return refuse_file(error, fault, store->user_file, nowhere);
     pthread_mutex_lock(&store->refreshing);
+    it.before = dconfdb_snapshot_ref(store->now);
     dconfdb_turn_begin(&turn);
     for (dconfdb_turn_next(&turn, &step); step.kind != DCONFDB_TURN_DONE; dconfdb_turn_next(&turn, &step)) {
         size_t n = 0;
@@ -1547,6 +1578,7 @@ static bool change_in_turn(DconfdbStore *store, const FolderLock *lock, Asking *
         dconfdb_turn_answered(&turn, done ? 0 : 1, n);
     }
     bool done = end(&it, (uint32_t)step.number, step.fault);
+    dconfdb_snapshot_unref(it.before);
     pthread_mutex_unlock(&store->refreshing);
     replacing_end(&replacing);
     return done;
