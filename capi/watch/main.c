@@ -252,14 +252,25 @@ static int start(Watch *watch)
     return watch_until_interrupted(watch);
 }
 
+static void end(Watch *watch)
+{
+    dconfdb_snapshot_unref(watch->before);
+    dconfdb_store_close(watch->store);
+    places_free(watch->places);
+    place_release(&watch->place);
+}
+
 /* Watches the store of a folder; NULL: the user's. */
 static int start_at(const char *folder, Watch *watch)
 {
     DconfdbError error;
-    if (place_find(folder, &watch->place, &error))
-        return start(watch);
-    warn(error.number == DCONFDB_ERROR_NO_FOLDER ? "NoFolder" : error.text);
-    return 1;
+    if (!place_find(folder, &watch->place, &error)) {
+        warn(error.number == DCONFDB_ERROR_NO_FOLDER ? "NoFolder" : error.text);
+        return 1;
+    }
+    int status = start(watch);
+    end(watch);
+    return status;
 }
 
 /* ---- words */
