@@ -9,7 +9,6 @@ use Rattle.dconf_model.specs.Causes.SettingsCause.{too_big}
 use Rattle.dconf_model.specs.Changes.{Refusal, all_storable, apply, saved, set_all, unless_locked}
 use Rattle.dconf_model.specs.Changes.Change.{reset_value, set_value}
 use Rattle.dconf_model.specs.Changes.Refusal.{locked, not_writable, too_large}
-use Rattle.dconf_model.specs.Folders.{Event}
 use Rattle.dconf_model.specs.Layers.{Layers, is_locked}
 use Rattle.dconf_model.specs.Lines.{longest_text}
 use Rattle.dconf_model.specs.Outcomes.{Gives, OrCause, Outcome, Saves, Writes, value_of_word}

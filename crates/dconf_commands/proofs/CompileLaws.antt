@@ -5,7 +5,6 @@ use Rattle.std.specs.declared.string.String.{String}
 use Rattle.dconf_disk.specs.declared.folder.Folder.{Ghosts}
 use Rattle.dconf_model.specs.Databases.{IsCompiled}
 use Rattle.dconf_model.specs.FaultTexts.{line_fault_text}
-use Rattle.dconf_model.specs.Folders.{Event}
 use Rattle.dconf_model.specs.Commands.Command.{compile}
 use Rattle.dconf_model.specs.Outcomes.{Compiles, IsOutcome, OrNoRead, Outcome, Refused, WithFiles, file_name}
 use Rattle.dconf_model.specs.Reads.{FileRead, Input, ReadResults}

@@ -9,7 +9,6 @@ use Rattle.dconf_model.specs.Causes.{SettingsCause}
 use Rattle.dconf_model.specs.Causes.SettingsCause.{too_big}
 use Rattle.dconf_model.specs.Changes.{paths_of}
 use Rattle.dconf_model.specs.FaultTexts.{cause_text}
-use Rattle.dconf_model.specs.Folders.{Event}
 use Rattle.dconf_model.specs.Keyfiles.{rows_of as rows_in}
 use Rattle.dconf_model.specs.Lines.{LineFault, longest_text}
 use Rattle.dconf_model.specs.Outcomes.{Gives, OrLine, UnlessFailed, WithRows, read_failed, path_at}

@@ -15,7 +15,6 @@ use Rattle.gv_text.specs.PrintFaults.{print_fault_name}
 use Rattle.gv_text.specs.Printing.{IsUnprintable}
 use Rattle.gv_model.specs.FaultTexts.{type_fault_text}
 use Rattle.dconf_disk.specs.declared.folder.Folder.{Ghosts}
-use Rattle.dconf_model.specs.Folders.{Event}
 use Rattle.dconf_model.specs.Commands.Command.{show}
 use Rattle.dconf_model.specs.Databases.{IsVerdict, Verdict}
 use Rattle.dconf_model.specs.Outcomes.{Checks, IsOutcome, Outcome, Refused, WithFile, WithType, check_output, done, refused, shown_outcome}

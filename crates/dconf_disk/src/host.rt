@@ -86,6 +86,7 @@ impl<R: Files> StdFolder<R> {
     pub fn in_turn(rt: R, lock: FolderLock) -> StdFolder<R>
         ensures failures { failures_of result ≡ 0 }
         ensures writes { can_write result ≡ true }
+        ensures honest { IsTrue (is_honest result) }
     {
         StdFolder {
             rt,
@@ -102,6 +103,7 @@ impl<R: Files> StdFolder<R> {
     pub fn read_only(rt: R) -> StdFolder<R>
         ensures failures { failures_of result ≡ 0 }
         ensures writes { can_write result ≡ false }
+        ensures honest { IsTrue (is_honest result) }
     {
         StdFolder {
             rt,
@@ -148,7 +150,13 @@ impl<R: Files> StdFolder<R> {
     }
 
     /// The answer of a writing call, which is noted, and counted where it is a fault.
-    fn noted(&mut self, call: u64, name: &str, more: &[u8], answer: io::Result<()>) -> Result<(), FolderFault>
+    fn noted(
+        &mut self,
+        call: u64,
+        name: &str,
+        more: &[u8],
+        answer: io::Result<()>,
+    ) -> Result<(), FolderFault>
         requires { 0 < call }
         ensures ok { OnOk result (events_of self.new ≡ event_noted call name.now more.now ∷ events_of self.old) }
         ensures err { OnErr result (events_of self.new ≡ after_failure (fate_of self.old) (event_noted call name.now more.now) (events_of self.old)) }

@@ -35,9 +35,7 @@ impl Record {
 
     /// Notes a call and its answer, by two numbers, with a name, and bytes or another name.
     pub(crate) fn note(&mut self, _numbers: &[u64], _name: &[u8], _more: &[u8])
-        ensures {
-            (self.new.notes ≡ (slice_index _numbers.now 0, slice_index _numbers.now 1, _name.now, _more.now) ∷ self.old.notes)
-            × (self.new.fates ≡ self.old.fates)
-        }
+        ensures { (self.new.notes ≡ (slice_index _numbers.now 0, slice_index _numbers.now 1, _name.now, _more.now) ∷ self.old.notes)
+            × (self.new.fates ≡ self.old.fates) }
     {}
 }

@@ -99,14 +99,7 @@ fn run_on(rt: &HostRuntime, asked: Command, folder: &mut StdFolder<&HostRuntime>
     let mut input = Counted::new(rt.stdin());
     let mut out = Counted::new(rt.stdout());
     let mut err = Counted::new(rt.stderr());
-    run(
-        rt.alloc(),
-        asked,
-        folder,
-        &mut input,
-        &mut out,
-        &mut err,
-    )
+    run(rt.alloc(), asked, folder, &mut input, &mut out, &mut err)
 }
 
 /// Says on err which file others have been replacing all the time.

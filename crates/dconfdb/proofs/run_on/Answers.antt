@@ -1,4 +1,4 @@
-use Rattle.std.proofs.Common.{◌≡◌, List, refl, subst, sym}
+use Rattle.std.proofs.Common.{List, refl, subst, sym}
 use Rattle.dconf_model.specs.Folders.{Event}
 use Rattle.dconf_model.specs.Runs.{Ran, RanCalmly}
 use Rattle.dconf_command.specs.Commands.{command_of}

@@ -53,11 +53,14 @@ const READ_ONLY: &str = "
 create store_tests_unmade => device
 rename /dev/null store_tests_unmade => device
 remove store_tests_linked => device
+append store_tests_linked x => device
+sync store_tests_linked => device
+settle => device
 read store_tests_linked old => done
 replace store_tests_unmade x => device
 read store_tests_unmade => missing
 read /dev/null => done
-failures 3 => done
+failures 6 => done
 ";
 
 const MADE: &str = "store_tests_folder/second store_tests_linked store_tests_linked.new";

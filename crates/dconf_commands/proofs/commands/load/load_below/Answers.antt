@@ -1,11 +1,12 @@
-use Rattle.std.proofs.Common.{ℕ, List, Err, codes, subst, vec_items}
+use Rattle.std.proofs.Common.{◌≡◌, ℕ, Bool, true, List, Err, ap, codes, subst, sym, vec_items}
 use Rattle.dconf_model.specs.Changes.{paths_of}
 use Rattle.dconf_model.specs.Changes.Change.{load_values}
-use Rattle.dconf_model.specs.Outcomes.{Changes, Gives, OrLine, WithRows}
+use Rattle.dconf_model.specs.Outcomes.{Changes, Gives, OrLine, UnlessFailed, WithRows, read_failed}
 use Rattle.dconf_model.specs.Reads.{ReadResults}
 use Rattle.dconf_model.specs.Sources.{Assigned, loaded}
 use Rattle.dconf_path.specs.Paths.{directory_text}
 use Rattle.dconf_streams.specs.declared.refusal.Refusal.TheVariants.{NoMemory}
+use Rattle.dconf_streams.specs.Answers.{GivesOutcome}
 use Rattle.dconf_streams.specs.Readings.{Decides}
 use Rattle.dconf_streams.proofs.Decisions.{decides_at_once}
 use Rattle.dconf_commands.proofs.LoadLaws.{decides_text}
@@ -31,3 +32,16 @@ returns-in-Err-Memory-clause-answer g c =
 
 pub returns-in-Ok-clause-limit : goal.returns-in-Ok-clause-limit
 returns-in-Ok-clause-limit g c = (vec_items c.in-Ok.bytes, c.in-Ok.ensures.bytes, c.in-Ok.ensures.limit)
+
+pub returns-in-Err-Device-clause-answer : goal.returns-in-Err-Device-clause-answer
+returns-in-Err-Device-clause-answer g c =
+    let Go : ReadResults → List Assigned → Gives = λ reads rows. Changes reads c.args.profile.now (paths_of rows) (load_values rows c.args.force) in
+    let directory = directory_text c.args.directory in
+    let t = c.in-Err-Device.ensures.took in
+    let broken : read_failed t.0 ≡ true = t.2.failing (ap Err c.in-Err-Device.field-0-is) in (
+      t.0,
+      t.1,
+      decides_at_once g.F.Folder c.args.folder.now 0 (Err c.refused.result) (λ reads. WithRows directory t.0 (Go reads)) (λ reads.
+          subst (λ (b : Bool). GivesOutcome (Err c.refused.result) (UnlessFailed b (OrLine (codes "input") (loaded directory t.0.bytes) (Go reads)))) (sym broken)
+          c.refused.ensures),
+    )
