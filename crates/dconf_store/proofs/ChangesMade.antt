@@ -1,13 +1,12 @@
 -- Changes that are made one after the other, up to one that is refused.
-use Rattle.std.specs.Prelude.{◌≡◌, ◌<◌, ◌+◌, ℕ, List, [], ◌∷◌, ◌++◌, length, map, take, Some, Ok, Err, slice_get, option_map, refl}
+use Rattle.std.specs.Prelude.{◌≡◌, ◌<◌, ◌+◌, ℕ, List, [], ◌∷◌, ◌++◌, length, take, Some, Ok, Err, slice_get, option_map, refl}
 use Rattle.std.proofs.Common.{◌∙◌, ap, sym, subst, get_or}
-use Rattle.std.proofs.lemmas.List.{map-append, map_more, take-map}
+use Rattle.std.proofs.lemmas.List.{map_more, take-map}
 use Rattle.std.proofs.lemmas.Option.{slice_get-map, slice_get-get_or}
 use Rattle.dconf_model.specs.Layers.{Layers}
 use Rattle.dconf_model.specs.Changes.{Change as Asked, Refusal, apply}
 use Rattle.dconf_model.specs.Changes.Refusal.{not_writable, locked, too_large}
-use Rattle.dconf_model.specs.Stores.{Did, IsWholeChange}
-use Rattle.dconf_model.specs.Stores.Deed.{changed}
+use Rattle.dconf_model.specs.Stores.{IsWholeChange}
 use Rattle.dconf_engine.specs.declared.change_fault.ChangeFault.{ChangeFault}
 use Rattle.dconf_engine.specs.declared.change_fault.ChangeFault.TheVariants.{NotWritable, Locked, TooLarge, Memory}
 use Rattle.dconf_engine.specs.ChangeFaults.{Refuses}
@@ -15,17 +14,12 @@ use Rattle.dconf_store.specs.declared.change.Change.{Change}
 use Rattle.dconf_store.specs.Changes.{asked_of, change_of}
 use Rattle.dconf_store.specs.Faults.{IsRefused, IsRefusedAt, store_fault_of}
 use Rattle.dconf_store.specs.Seen.{HaveChanged}
-use Rattle.dconf_store.proofs.SeenLaws.{did_then}
+use Rattle.dconf_store.proofs.Applied.{made_then}
 
 one_more : (cs : List Change) (i : ℕ) (d : Change) → i < length cs → take (i + 1) (asked_of cs) ≡ take i (asked_of cs) ++ change_of (get_or cs i d) ∷ []
 one_more cs i d h =
     take-map change_of (i + 1) cs
     ∙ (map_more change_of cs i d h ∙ ap (λ asked. asked ++ change_of (get_or cs i d) ∷ []) (sym (take-map change_of i cs)))
-
-made_then : (l m n : Layers) (asked : List Asked) (a : Asked) → HaveChanged l asked m → IsWholeChange a → apply m a ≡ Ok n → HaveChanged l (asked ++ a ∷ []) n
-made_then l m n asked a made whole e others =
-    subst (λ deeds. Did others l deeds n) (sym (map-append changed asked (a ∷ [])))
-    (did_then others l m n (map changed asked) (changed a) (made others) (whole, e))
 
 pub next_is_made : (l m n : Layers) (cs : List Change) (i : ℕ) (x : Change) → i < length cs → x ≡ get_or cs i x → HaveChanged l (take i (asked_of cs)) m →
     IsWholeChange (change_of x) → apply m (change_of x) ≡ Ok n → HaveChanged l (take (i + 1) (asked_of cs)) n

@@ -1,3 +1,4 @@
+pub mod Applied
 pub mod SeenLaws
 pub mod ChangesMade
 pub mod ReplacedFiles

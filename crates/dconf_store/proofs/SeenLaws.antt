@@ -19,6 +19,7 @@ use Rattle.dconf_store.specs.declared.fault.StoreFault.TheVariants.{BadDatabase,
 use Rattle.dconf_store.specs.Faults.{IsNoValue, IsReadFault, fault_of_engine}
 use Rattle.dconf_store.specs.Seen.{AreChildrenAfter, AreOpened, IsSavedAfter, IsValueAfter}
 use Rattle.dconf_store.specs.Files.{with_first_file}
+use Rattle.dconf_store.proofs.Applied.{did_all}
 use Rattle.dconf_model.proofs.ProgramLaws.{none_is_bad}
 use Rattle.dconf_model.proofs.WritableKept.{changes_keep_it}
 use Rattle.dconf_model.proofs.StoreValues.{each_value_is_given}
@@ -32,15 +33,15 @@ changes_were : (cs : List Change) (file : List ℕ) → changes_of (deeds cs fil
 changes_were [] file = refl
 changes_were (c ∷ cs) file = ap (λ cs. c ∷ cs) (changes_were cs file)
 
-pub did_then : (others : List MaybeBytes) (l m n : Layers) (ds : List Deed) (deed : Deed) → Did others l ds m → Does others m deed n → Did others l (ds ++ deed ∷ []) n
+did_then : (others : List MaybeBytes) (l m n : Layers) (ds : List Deed) (deed : Deed) → Did others l ds m → Does others m deed n → Did others l (ds ++ deed ∷ []) n
 did_then others l m n [] deed did does = (n, subst (λ l. Does others l deed n) did does, refl)
 did_then others l m n (d ∷ ds) deed did does = (did.0, did.1, did_then others did.0 m n ds deed did.2 does)
 
 module _ (first : MaybeBytes) (others : List MaybeBytes) (writable : Bool) (cs : List Change) (file : List ℕ) (m : Layers)
     (made : IsSavedAfter (first ∷ others) writable cs file) (again : AreOpened (Some file ∷ others) writable m) where
   did : Did others made.1.0 (deeds cs file) m
-  did = did_then others made.1.0 made.0 m (map changed cs) (reopened file) (made.1.2 others)
-      (made.2, again.layers, again.writable ∙ sym (changes_keep_it others made.1.0 made.0 cs (made.1.2 others) ∙ made.1.1.writable))
+  did = did_then others made.1.0 made.0 m (map changed cs) (reopened file) (did_all others made.1.0 made.0 cs made.1.2)
+      (made.2, again.layers, again.writable ∙ sym (changes_keep_it others made.1.0 made.0 cs (did_all others made.1.0 made.0 cs made.1.2) ∙ made.1.1.writable))
 
   pub value_is_seen : (path : List ℕ) (g : Given) (gs : List Given) → FilesGive (first ∷ others) (g ∷ gs) → visible m path ≡ value_given path (own_after gs (last_value g.values) cs path) gs
   value_is_seen path g gs give =

@@ -1,23 +1,32 @@
 -- What a store has become, and what is seen of it.
-use Rattle.std.specs.Prelude.{◌≡◌, ◌↔◌, ℕ, Bool, List, ◌∷◌, ◌++◌, Option, map, Contains}
+use Rattle.std.specs.Prelude.{◌≡◌, ◌↔◌, ℕ, Bool, List, ◌∷◌, ◌++◌, Option, Result, Ok, Err, Contains, fold}
+use Rattle.std.specs.List.{AllByRecursion}
 use Rattle.gv_model.specs.Tree.{Tree}
 use Rattle.dconf_model.specs.Bytes.{MaybeBytes}
 use Rattle.dconf_model.specs.Databases.{AreLayers, IsDatabaseOf}
 use Rattle.dconf_model.specs.Layers.{Layers}
-use Rattle.dconf_model.specs.Changes.{Change, saved}
+use Rattle.dconf_model.specs.Changes.{Change, Refusal, apply, saved}
 use Rattle.dconf_model.specs.Paths.{first_part}
 use Rattle.dconf_model.specs.Sources.{Given, last_value}
-use Rattle.dconf_model.specs.Stores.{Did, FilesGive, IsNamed, own_after, value_given}
-use Rattle.dconf_model.specs.Stores.Deed.{changed}
+use Rattle.dconf_model.specs.Stores.{FilesGive, IsNamed, IsWholeChange, own_after, value_given}
 
 -- the layers of these files
 pub record AreOpened (files : List MaybeBytes) (may_write : Bool) (l : Layers) : Type 0 where
   pub layers : AreLayers files l.layers
   pub writable : l.writable ≡ may_write
 
--- each change is accepted in turn
-abbrev pub HaveChanged : Layers → List Change → Layers → Type 0
-HaveChanged l changes m = (others : List MaybeBytes) → Did others l (map changed changes) m
+-- the layers after changes, each on those that the one before it gives, or the first refusal
+abbrev pub and_apply : Result Layers Refusal → Change → Result Layers Refusal
+and_apply (Ok l) change = apply l change
+and_apply (Err e) change = Err e
+
+abbrev pub applied : Layers → List Change → Result Layers Refusal
+applied l changes = fold and_apply (Ok l) changes
+
+-- each change is accepted in turn, and what it sets is whole
+pub record HaveChanged (l : Layers) (changes : List Change) (m : Layers) : Type 0 where
+  pub accepted : applied l changes ≡ Ok m
+  pub whole : AllByRecursion IsWholeChange changes
 
 -- the layers of these files after these changes
 abbrev pub AreChanged : List MaybeBytes → Bool → List Change → Layers → Type 0

@@ -1,8 +1,10 @@
 //! A change of the user's settings.
 ghost use Rattle.std.specs.Prelude.{◌≡◌, Ok, IfErr, OnErr, OnOk};
+ghost use Rattle.std.specs.List.{AllByRecursion};
 ghost use Rattle.dconf_model.specs.Changes.{apply};
-ghost use Rattle.dconf_model.specs.Stores.{IsWholeChange};
+ghost use Rattle.dconf_model.specs.Stores.{IsLimitedValue, IsWholeChange};
 ghost use Rattle.dconf_engine.specs.ChangeFaults.{Refuses};
+ghost use Rattle.dconf_engine.specs.Rows.{rows_of};
 ghost use Rattle.dconf_store.specs.Changes.{change_of};
 
 use dconf_engine::{ChangeFault, Engine};
@@ -18,6 +20,9 @@ pub enum Change<'a> {
     Reset(KeyPath<'a>),
     /// The user's values of all keys below a directory go, except of those that are locked.
     ResetBelow(DirPath<'a>),
+    /// The keys of these rows get their values, all of them or none. If it is forced, those that are
+    /// locked are left out. Of rows of one key the last counts.
+    Load(&'a [(KeyPath<'a>, Tree)], bool),
 }
 
 impl Change<'_> {
@@ -32,6 +37,19 @@ impl Change<'_> {
             Change::Set(path, value) => engine.write(path, value),
             Change::Reset(path) => engine.reset(path),
             Change::ResetBelow(directory) => engine.reset_dir(directory),
+            Change::Load(rows, force) => {
+                are_whole(rows);
+                engine.load(rows, force)
+            }
         }
+    }
+}
+
+/// Each value of the rows is whole: what a tree's type says of it, said of all.
+fn are_whole(rows: &[(KeyPath<'_>, Tree)])
+    ensures { AllByRecursion (λ row. IsLimitedValue row.value) (rows_of rows.now) }
+{
+    for (_, value) in rows {
+        let _type = value.type_text();
     }
 }

@@ -1,6 +1,9 @@
-use Rattle.std.proofs.Common.{rules}
+use Rattle.std.proofs.Common.{refl, rules}
 use Rattle.dconf_store.proofs.ChangesMade.{next_is_made, next_is_refused}
 use Rattle.dconf_store.proofs.store.make_all.Goals as goal
+
+pub loop-i-init : goal.loop-i-init
+loop-i-init c = record { accepted = refl; whole = tt }
 
 pub returns-in-Err-clause-made : goal.returns-in-Err-clause-made
 returns-in-Err-clause-made c = search rules
