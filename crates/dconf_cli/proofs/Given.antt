@@ -1,5 +1,5 @@
 -- How an answer comes about.
-use Rattle.std.proofs.Common.{◌≡◌, ◌∷◌, ◌++◌, ◌⊎◌, inl, inr, ℕ, List, [], Option, Some, Result, Err, refl, subst}
+use Rattle.std.proofs.Common.{◌≡◌, ◌∷◌, ◌++◌, ◌⊎◌, inl, inr, ℕ, List, [], Option, Some, Result, Ok, Err, refl, ap, subst, arith}
 use Rattle.dconf_disk.specs.declared.fault.FolderFault.{FolderFault}
 use Rattle.dconf_disk.specs.declared.fault.FolderFault.TheVariants.{Device, TooBig, Memory}
 use Rattle.dconf_model.specs.Folders.{Event}
@@ -7,12 +7,12 @@ use Rattle.dconf_model.specs.FaultTexts.{device_text}
 use Rattle.dconf_model.specs.Replacing.{Replaced, MaybeReplaced}
 use Rattle.dconf_model.specs.Outcomes.{Outcome, Output, changing, done, done_output, refused_output}
 use Rattle.dconf_streams.specs.declared.counted.Counted.{Counted}
-use Rattle.dconf_streams.specs.Answers.{line_of, outcome_of}
-use Rattle.dconf_cli.specs.Outputs.{Grew, Leaves, Prints, Unfailed}
+use Rattle.dconf_streams.specs.Answers.{Answered, line_of, outcome_of}
+use Rattle.dconf_cli.specs.Outputs.{Leaves, Prints, PrintsLine}
 use Rattle.dconf_cli.specs.Endings.{Ends}
 use Rattle.dconf_streams.specs.Streams.{Rose}
 use Rattle.dconf_cli.proofs.StreamsLeft.{leaves_line, leaves_text}
-use Rattle.std.specs.Prelude.{codes, string_bytes}
+use Rattle.std.specs.Prelude.{OnOk, codes, string_bytes}
 use Rattle.dconf_disk.specs.declared.folder.Folder.{Ghosts}
 use Rattle.dconf_streams.specs.declared.refusal.Refusal.{Refusal}
 use Rattle.dconf_streams.specs.declared.refusal.Refusal.TheVariants.{Line, NoMemory}
@@ -24,7 +24,7 @@ module _ {F O E : Type 0} (ghosts : Ghosts F) (contents : O → Option (List ℕ
       (output : Output) × Ends ghosts old new o output × Leaves contents err_contents out_old out_new err_old err_new output status
 
   abbrev Wrote : Counted E → Counted E → List ℕ → Type 0
-  Wrote err_old err_new line = Unfailed err_old err_new → Grew err_contents err_old err_new line
+  Wrote err_old err_new line = PrintsLine err_contents err_old err_new line
 
   pub gives_text : (folder : F) (out_old out_new : Counted O) (err : Counted E) (text bytes : List ℕ) (status : ℕ) → bytes ≡ text
       → Prints contents out_old out_new bytes status → Gives folder folder out_old out_new err err (Some (done text)) status
@@ -79,3 +79,10 @@ failed_by T f = Err f
 pub never_too_big : (T : Type 0) (f : FolderFault) → f ≡ TooBig → (failed_by T f ≡ failed_by T Device) ⊎ (failed_by T f ≡ failed_by T Memory) → ⊥
 never_too_big T f is (inl e) = cc
 never_too_big T f is (inr e) = cc
+
+-- status 0 is that of an answer that is done
+pub zero_is_done : {F : Type 0} (ghosts : Ghosts F) (old new : F) (answer : Answered) (output : Output) (Is : Type 0)
+    → Ends ghosts old new (outcome_of answer) output → output.status ≡ 0 → OnOk answer Is → Is
+zero_is_done ghosts old new (Ok answer) output Is e zero is = is
+zero_is_done ghosts old new (Err (Line line)) output Is e zero is = let one = ap (λ (o : Output). o.status) e.0 in absurd (omega arith)
+zero_is_done ghosts old new (Err NoMemory) output Is e zero is = let one = ap (λ (o : Output). o.status) e.0 in absurd (omega arith)

@@ -1,12 +1,12 @@
 //! A run of a command: it reads, decides what it answers, and then writes.
-ghost use Rattle.std.specs.Prelude.{◌≡◌, ◌≢◌, ◌≤◌, List, IsTrue, false};
+ghost use Rattle.std.specs.Prelude.{◌≡◌, ◌≢◌, ◌≤◌, List, IsTrue, false, true};
 ghost use Rattle.dconf_model.specs.Folders.{Event};
 ghost use Rattle.dconf_model.specs.Outcomes.{Output};
 ghost use Rattle.dconf_model.specs.Reads.{Input};
 ghost use Rattle.dconf_model.specs.Runs.{Ran, RanCalmly};
 ghost use Rattle.dconf_command.specs.Commands.{command_of};
-ghost use Rattle.dconf_streams.specs.Counted.{failures_of, inner_of};
-ghost use Rattle.dconf_streams.specs.Inputs.{ConsumesText, Took};
+ghost use Rattle.dconf_streams.specs.Counted.{CameToEnd, failures_of};
+ghost use Rattle.dconf_streams.specs.Inputs.{ReadsText, Took};
 ghost use Rattle.dconf_streams.specs.Streams.{NoneFailed};
 ghost use Rattle.dconf_commands.specs.Loads.{reads_input};
 ghost use Rattle.dconf_cli.specs.Outputs.{Leaves};
@@ -33,8 +33,8 @@ use std::io::{Read, Write};
 /// a value to print, `error: TooLarge` for over 128 levels, and `error: DoubleText` for a double; for `dump` these two with the path of the
 /// first row at fault, as `error: TooLarge /a/k`, and `error: BadGroup /a[/k` or `error: BadKeyName /a/k=` for a path that no keyfile can name.
 ///
-/// It holds the bytes of the files that it reads once, and those that it writes. Only `load` reads the input, and at most
-/// 16,777,217 bytes of it. `show` takes time linear in the file and in its text. Each command that opens a database asks first whether it
+/// It holds the bytes of the files that it reads once, and those that it writes. Only `load` reads the input: at most
+/// 16,777,217 bytes of it, in at most as many reads. `show` takes time linear in the file and in its text. Each command that opens a database asks first whether it
 /// is sound: near-linear in the files of dconf and of this program, and at most the items times themselves in a hostile one. Beyond
 /// that, `read`, `origin` and `list-locks` look one path up in each database, and `list` one directory; `write`, `reset` and `load` write the user's
 /// database anew, and `compile` and `repair` theirs: they, and `dump`, put the paths in order.
@@ -49,20 +49,20 @@ pub fn run<F: Folder, I: Read, O: Write, E: Write>(
     // In a folder whose events are known, and whose answers were true of it: exactly the command's outcome where no call of the folder failed,
     ensures calm { IsTrue (F.honest folder.new) → NoneFailed (F.failed folder.old) (F.failed folder.new)
         → (old : List Event) → F.past folder.old old
-        → (i : Input) × Took (I.remaining (inner_of input.old)) (failures_of input.old) (failures_of input.new) i
+        → (i : Input) × Took I.remaining input.old input.new i
         × ((new : List Event) × F.past folder.new new
         × ((output : Output) × RanCalmly (command_of command) i old new output
         × Leaves O.contents E.contents out.old out.new err.old err.new output result)) }
     // and else what the reads that it made give, also where the device failed while a file was replaced.
     ensures ran { IsTrue (F.honest folder.new) → (old : List Event) → F.past folder.old old
-        → (i : Input) × Took (I.remaining (inner_of input.old)) (failures_of input.old) (failures_of input.new) i
+        → (i : Input) × Took I.remaining input.old input.new i
         × ((new : List Event) × F.past folder.new new
         × ((output : Output) × Ran (command_of command) i old new output
         × KeepsFiles (command_of command) i old new output
         × Leaves O.contents E.contents out.old out.new err.old err.new output result)) }
 
     // In any folder: what the reads that it made give, whatever they gave, and of which file a read failed.
-    ensures anywhere { (i : Input) × Took (I.remaining (inner_of input.old)) (failures_of input.old) (failures_of input.new) i
+    ensures anywhere { (i : Input) × Took I.remaining input.old input.new i
         × ((output : Output) × RanAnywhere (F.failed folder.old) (F.failed folder.new) (command_of command) i output
         × Leaves O.contents E.contents out.old out.new err.old err.new output result) }
     // Of an input that failed it says so, whatever was read of it before.
@@ -78,7 +78,9 @@ pub fn run<F: Folder, I: Read, O: Write, E: Write>(
     ensures honest { IsTrue (F.honest folder.new) → IsTrue (F.honest folder.old) }
     ensures status { result ≤ 1 }
     ensures input { reads_input (command_of command) ≡ false → input.new ≡ input.old }
-    ensures limit { ConsumesText (I.remaining (inner_of input.old)) (I.remaining (inner_of input.new)) }
+    ensures limit { ReadsText I.remaining input.old input.new }
+    // What was read of it came to its end where the command is done.
+    ensures end { result ≡ 0 → reads_input (command_of command) ≡ true → CameToEnd input.old input.new }
 {
     let answer = answered(alloc, &command, folder, input);
     give(alloc, answer, folder, out, err)

@@ -3,7 +3,7 @@ ghost use Rattle.std.specs.Prelude.{◌≡◌, List, IsTrue, Ok, false};
 ghost use Rattle.dconf_model.specs.Folders.{Event};
 ghost use Rattle.dconf_model.specs.Outcomes.{Output};
 ghost use Rattle.dconf_streams.specs.Answers.{line_of, outcome_of};
-ghost use Rattle.dconf_cli.specs.Outputs.{Grew, Leaves, Prints, Unfailed};
+ghost use Rattle.dconf_cli.specs.Outputs.{Leaves, Prints, PrintsLine};
 ghost use Rattle.dconf_cli.specs.Endings.{Ends};
 
 use dconf_disk::{Folder, FolderFault, replace};
@@ -80,7 +80,7 @@ fn print<O: Write>(text: &[u8], out: &mut Counted<O>) -> u8
 /// Writes the line of a refusal to err, and gives its status, also where the line can't be written.
 fn refuse<E: Write>(refusal: Refusal, err: &mut Counted<E>) -> u8
     ensures refused { result ≡ 1 }
-    ensures line { Unfailed err.old err.new → Grew E.contents err.old err.new (line_of refusal) }
+    ensures line { PrintsLine E.contents err.old err.new (line_of refusal) }
 {
     let _ = err.put(refusal.line().as_bytes());
     1

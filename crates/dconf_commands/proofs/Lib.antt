@@ -9,3 +9,4 @@ pub mod ChangeLaws
 pub mod Walks
 pub mod DumpLaws
 pub mod LoadLaws
+pub mod DoneLoads

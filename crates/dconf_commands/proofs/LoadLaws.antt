@@ -27,7 +27,7 @@ use Rattle.dconf_streams.proofs.Decisions.{answers_also, decides_at_once}
 
 -- ---- the input
 
-long_rows : (bytes : List ℕ) → longest_text < length bytes → rows_in bytes ≡ Err (record { line = 0; cause = too_big })
+pub long_rows : (bytes : List ℕ) → longest_text < length bytes → rows_in bytes ≡ Err (record { line = 0; cause = too_big })
 long_rows bytes long = let e : nat_lt longest_text (length bytes) ≡ true = lt-ltb longest_text (length bytes) long in rw e refl
 
 -- a text that is read only so far as to show that it is too long gives what the whole gives

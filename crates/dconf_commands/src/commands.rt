@@ -1,12 +1,12 @@
 //! The commands, one file each: what a command answers for what it reads.
-ghost use Rattle.std.specs.Prelude.{◌≡◌, ◌≢◌, codes, false};
+ghost use Rattle.std.specs.Prelude.{◌≡◌, ◌≢◌, OnOk, codes, false, true};
 ghost use Rattle.dconf_model.specs.FaultTexts.{device_text};
 ghost use Rattle.dconf_model.specs.Outcomes.{IsOutcome};
 ghost use Rattle.dconf_model.specs.Reads.{Input};
 ghost use Rattle.dconf_command.specs.Commands.{command_of};
 ghost use Rattle.dconf_streams.specs.Answers.{RefusesFor};
-ghost use Rattle.dconf_streams.specs.Counted.{failures_of, inner_of};
-ghost use Rattle.dconf_streams.specs.Inputs.{ConsumesText, Took};
+ghost use Rattle.dconf_streams.specs.Counted.{CameToEnd, failures_of};
+ghost use Rattle.dconf_streams.specs.Inputs.{ReadsText, Took};
 ghost use Rattle.dconf_streams.specs.Readings.{Decides};
 ghost use Rattle.dconf_commands.specs.Loads.{reads_input};
 
@@ -46,11 +46,12 @@ pub fn answered<F: Folder, I: Read>(
     folder: &mut F,
     input: &mut Counted<I>,
 ) -> Result<Answer, Refusal>
-    ensures answer { (i : Input) × Took (I.remaining (inner_of input.old)) (failures_of input.old) (failures_of input.new) i
+    ensures answer { (i : Input) × Took I.remaining input.old input.new i
         × Decides F.Folder folder.old folder.new 0 (λ reads. IsOutcome (command_of command.now) reads i) result }
     ensures device { failures_of input.new ≢ failures_of input.old → RefusesFor result (device_text (codes "input")) }
     ensures input { reads_input (command_of command.now) ≡ false → input.new ≡ input.old }
-    ensures limit { ConsumesText (I.remaining (inner_of input.old)) (I.remaining (inner_of input.new)) }
+    ensures limit { ReadsText I.remaining input.old input.new }
+    ensures end { reads_input (command_of command.now) ≡ true → OnOk result (CameToEnd input.old input.new) }
 {
     match command {
         Command::Show { type_text, file } => show(alloc, type_text.as_str(), file.as_str(), folder),

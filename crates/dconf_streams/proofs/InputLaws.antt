@@ -1,69 +1,190 @@
 -- The input that a run was given, by what was read of it.
-use Rattle.std.proofs.Common.{◌≡◌, ◌≤◌, ◌<◌, ◌+◌, ◌++◌, ◌⊎◌, ◌∙◌, inl, inr, ℕ, true, false, List, [], Option, Some, None, Result, Ok, Err, refl, sym, ap, length, length-append, take, append-nil, arith}
-use Rattle.std.specs.Prelude.{IfSome, unwrap_or}
-use Rattle.std.specs.Io.KnownBytes.{Consumes, IsAtEnd}
-use Rattle.std.proofs.KnownBytes.{Consumes-trans}
+use Rattle.std.proofs.Common.{◌≡◌, ◌≤◌, ◌<◌, ◌+◌, ◌-◌, ◌++◌, ◌∷◌, ◌⊎◌, ◌∙◌, inl, inr, ℕ, true, false, List, [], Option, Some, None, Result, Ok, Err, refl, sym, ap, length, length-append, length-take-le, take, append-nil, arith}
+use Rattle.std.specs.Prelude.{nat_lt, not, unwrap_or}
+use Rattle.std.specs.Io.KnownBytes.{Consumes, IsAtEnd, Keeps}
+use Rattle.std.proofs.Math.Seq.{take-append_seam}
+use Rattle.std.proofs.lemmas.List.{append_assoc}
 use Rattle.dconf_model.specs.Lines.{longest_text}
 use Rattle.dconf_model.specs.Reads.{Input}
+use Rattle.dconf_streams.specs.declared.counted.Counted.{Counted}
 use Rattle.dconf_streams.specs.declared.input.InputFault.{InputFault}
 use Rattle.dconf_streams.specs.declared.input.InputFault.TheVariants.{Device, Memory}
-use Rattle.dconf_streams.specs.Inputs.{IsReadOf, SameText, TakesPiece, Took}
+use Rattle.dconf_streams.specs.Transfers.{Transfer, FoundEnd, transfer_of}
+use Rattle.dconf_streams.specs.Counted.{CameToEnd, Delivered, transfers_of, failures_of, inner_of}
+use Rattle.dconf_streams.specs.Inputs.{IsReadOf, ReadsText, SameText, TakesPiece, Took}
 use Rattle.dconf_streams.specs.Streams.{one_more}
-
--- all that the stream had, where it says that, and else these bytes
-abbrev whole : Option (List ℕ) → List ℕ → Input
-whole remaining bytes = record { bytes = unwrap_or remaining bytes; fails = false }
-
-took_whole : (remaining : Option (List ℕ)) (bytes : List ℕ) (old new : ℕ) → Took remaining old new (whole remaining bytes)
-took_whole None bytes old new = record { whole = λ _. tt; part = λ e. cc }
-took_whole (Some xs) bytes old new = record { whole = λ _. refl; part = λ e. cc }
-
-nothing_of : (remaining : Option (List ℕ)) → IfSome remaining (λ xs. (n : ℕ) × ([] ≡ take n xs))
-nothing_of None = tt
-nothing_of (Some xs) = (0, refl)
+use Rattle.dconf_streams.proofs.TransferLaws.{Delivered-nil, Delivered-trans, gave_by, gave_by_none}
 
 -- the bytes are all that the stream had, or both are too many
-same_text : (remaining left : Option (List ℕ)) (bytes : List ℕ) → Consumes remaining left bytes
-    → IsAtEnd left ⊎ (longest_text < length bytes) → SameText (unwrap_or remaining bytes) bytes
-same_text None left bytes is end = inl refl
-same_text (Some xs) None bytes is end = absurd is
-same_text (Some xs) (Some rest) bytes is (inl end) = inl (sym (is ∙ ap (λ l. bytes ++ l) end ∙ append-nil bytes))
-same_text (Some xs) (Some rest) bytes is (inr many) =
-    let size : length xs ≡ length bytes + length rest = ap length is ∙ length-append bytes rest in inr (omega arith, many)
+same_text : (left : Option (List ℕ)) (bytes : List ℕ) → IsAtEnd left ⊎ (longest_text < length bytes) → SameText (bytes ++ unwrap_or left []) bytes
+same_text None bytes end = inl (sym (append-nil bytes))
+same_text (Some rest) bytes (inl end) = inl (sym (ap (λ (l : List ℕ). bytes ++ l) end ∙ append-nil bytes))
+same_text (Some rest) bytes (inr many) = let size = length-append bytes rest in inr (omega (arith, size, many), many)
 
--- a piece more, taken or lost
-module _ (old mid left : Option (List ℕ)) (room : ℕ) (bytes after : List ℕ) (result : Result ℕ InputFault) (took : Consumes old mid bytes)
-    (more : TakesPiece mid left room bytes after result) where
-  pub takes_both : Consumes old left (bytes ++ more.piece)
-  takes_both = Consumes-trans old mid left bytes more.piece took more.consumed
+module _ {R : Type 0} (remaining : R → Option (List ℕ)) where
+  -- these bytes were read since then, by a read for each at most
+  pub record HasReadSome (old new : Counted R) (bytes : List ℕ) : Type 0 where
+    pub given : Delivered remaining old new bytes
+    pub transfers : List Transfer
+    pub are : transfers_of new ≡ transfers_of old ++ transfers
+    pub few : length transfers ≤ length bytes
 
-  module _ (most : ℕ) (room_is : length bytes + room ≤ most) where
-    pub both_fit : length (bytes ++ more.piece) ≤ most
-    both_fit =
+  pub none_read : (c : Counted R) → HasReadSome c c []
+  none_read c = record { given = Delivered-nil remaining c; transfers = []; are = sym (append-nil (transfers_of c)); few = omega arith }
+
+  -- ---- one read, by its call
+
+  module _ (old new : Counted R) (room : ℕ) (buf bytes after : List ℕ) where
+    pub took_none : (fault : InputFault) → transfers_of new ≡ transfers_of old ++ transfer_of [] buf ∷ []
+        → Keeps (remaining (inner_of old)) (remaining (inner_of new)) → TakesPiece remaining old new room bytes after (Err fault)
+    took_none fault called kept = record {
+      piece = [];
+      given = gave_by_none remaining old new buf called kept;
+      transfer = transfer_of [] buf;
+      once = called;
+      fits = omega arith;
+      appended = tt;
+      failing = λ _. refl;
+      ended = tt;
+    }
+
+    module _ (n : ℕ) (called : transfers_of new ≡ transfers_of old ++ transfer_of (n ∷ []) buf ∷ [])
+        (left : Consumes (remaining (inner_of old)) (remaining (inner_of new)) (take n buf)) (bound : n ≤ length buf) (room_is : length buf ≡ room) where
+      size : length (take n buf) ≡ n
+      size = length-take-le n buf bound
+
+      pub took_lost : TakesPiece remaining old new room bytes after (Err Memory)
+      took_lost = record {
+        piece = take n buf;
+        given = gave_by remaining old new n buf called left;
+        transfer = transfer_of (n ∷ []) buf;
+        once = called;
+        fits = let is = size in omega (arith, is, bound, room_is);
+        appended = tt;
+        failing = λ e. cc;
+        ended = tt;
+      }
+
+      pub took_all : after ≡ bytes ++ take n buf → (n ≡ 0 → 0 < length buf → IsAtEnd (remaining (inner_of new)))
+          → TakesPiece remaining old new room bytes after (Ok n)
+      took_all is at_end = record {
+        piece = take n buf;
+        given = gave_by remaining old new n buf called left;
+        transfer = transfer_of (n ∷ []) buf;
+        once = called;
+        fits = let is = size in omega (arith, is, bound, room_is);
+        appended = (is, size);
+        failing = λ e. cc;
+        ended = λ zero some. (
+          at_end zero (omega (arith, some, room_is)),
+          record { room = length buf - 1; asked = omega (arith, some, room_is); moved = ap (λ (k : ℕ). Some (take k buf)) zero },
+        );
+      }
+
+  -- ---- a read more
+
+  module _ (old mid new : Counted R) (room : ℕ) (bytes after : List ℕ) (result : Result ℕ InputFault) (read : HasReadSome old mid bytes)
+      (more : TakesPiece remaining mid new room bytes after result) where
+    all_calls : transfers_of new ≡ transfers_of old ++ (read.transfers ++ more.transfer ∷ [])
+    all_calls = more.once ∙ ap (λ (l : List Transfer). l ++ more.transfer ∷ []) read.are ∙ append_assoc (transfers_of old) read.transfers (more.transfer ∷ [])
+
+    -- a read that failed adds nothing
+    pub gave_before : (fault : InputFault) → result ≡ Err fault → fault ≡ Device → length bytes ≤ longest_text → length (bytes ++ more.piece) ≤ longest_text
+    gave_before fault is device short =
+        let none : more.piece ≡ [] = more.failing (is ∙ ap Err device) in
         let size = length-append bytes more.piece in
-        let fits = more.fits in
-        omega arith
+        let empty = ap length none in
+        omega (arith, size, empty, short)
 
-    pub takes_more : (x : List ℕ) × Consumes old left x × (length x ≤ most)
-    takes_more = (bytes ++ more.piece, takes_both, both_fit)
+    pub gave_both : Delivered remaining old new (bytes ++ more.piece)
+    gave_both = Delivered-trans remaining old mid new bytes more.piece read.given more.given
 
-module _ {V : Type 0} (items : V → List ℕ) (remaining : Option (List ℕ)) (old new : ℕ) where
+    pub read_more : 0 < length more.piece → HasReadSome old new (bytes ++ more.piece)
+    read_more some =
+        let sizes = length-append bytes more.piece in
+        let count = length-append read.transfers (more.transfer ∷ []) in
+        let few = read.few in
+        record { given = gave_both; transfers = read.transfers ++ more.transfer ∷ []; are = all_calls; few = omega (arith, sizes, count, few, some) }
+
+    pub came_to_end : FoundEnd more.transfer → CameToEnd old new
+    came_to_end found_end = record { earlier = read.transfers; last = more.transfer; transfers = all_calls; found_end = found_end }
+
+    module _ (most : ℕ) (room_is : length bytes + room ≤ most) where
+      pub both_fit : length (bytes ++ more.piece) ≤ most
+      both_fit =
+          let size = length-append bytes more.piece in
+          let fits = more.fits in
+          omega (arith, size, fits, room_is)
+
+    pub reads_text : 0 < room → length bytes + room ≤ longest_text + 1 → ReadsText remaining old new
+    reads_text some room_is =
+        let count = ap length all_calls in
+        let counts = length-append (transfers_of old) (read.transfers ++ more.transfer ∷ []) in
+        let last = length-append read.transfers (more.transfer ∷ []) in
+        let few = read.few in
+        record {
+          gave = bytes ++ more.piece;
+          given = gave_both;
+          fits = both_fit (longest_text + 1) room_is;
+          reads = omega (arith, count, counts, last, few, some, room_is);
+        }
+
+  -- as many as there may be
+  pub reads_whole_text : (old new : Counted R) (bytes : List ℕ) → HasReadSome old new bytes → length bytes ≤ longest_text + 1 → ReadsText remaining old new
+  reads_whole_text old new bytes read fits =
+      let count = ap length read.are in
+      let counts = length-append (transfers_of old) read.transfers in
+      let few = read.few in
+      record { gave = bytes; given = read.given; fits = fits; reads = omega (arith, count, counts, few, fits) }
+
+module _ {V R : Type 0} (items : V → List ℕ) (remaining : R → Option (List ℕ)) (old new : Counted R) where
   -- the input that was read with this result
   abbrev pub WasRead : Result V InputFault → Type 0
   WasRead result = (i : Input) × Took remaining old new i × IsReadOf i items result
 
-  pub read_fault : (fault : InputFault) → (fault ≡ Device → new ≡ one_more old) → WasRead (Err fault)
-  read_fault Device rose = (
-    record { bytes = []; fails = true },
-    record { whole = λ e. cc; part = λ _. (nothing_of remaining, rose refl) },
-    record { text = tt; failing = λ _. refl },
-  )
-  read_fault Memory rose = (whole remaining [], took_whole remaining [] old new, record { text = tt; failing = λ e. cc })
+  -- these bytes, and then what is left
+  whole : List ℕ → Input
+  whole gave = record { bytes = gave ++ unwrap_or (remaining (inner_of new)) []; fails = false }
 
-  pub read_text : (left : Option (List ℕ)) (bytes : V) → Consumes remaining left (items bytes)
-      → IsAtEnd left ⊎ (longest_text < length (items bytes)) → WasRead (Ok bytes)
-  read_text left bytes is end = (
-    whole remaining (items bytes),
-    took_whole remaining (items bytes) old new,
-    record { text = (refl, same_text remaining left (items bytes) is end); failing = λ e. cc },
+  took_whole : (gave : List ℕ) → Delivered remaining old new gave → Took remaining old new (whole gave)
+  unfolding whole
+  took_whole gave given = record { gave = gave; given = given; whole = λ _. refl; part = λ e. cc }
+
+  pub read_fault : (gave : List ℕ) (fault : InputFault) → Delivered remaining old new gave → (fault ≡ Device → length gave ≤ longest_text)
+      → (fault ≡ Device → failures_of new ≡ one_more (failures_of old)) → WasRead (Err fault)
+  read_fault gave Device given short rose =
+      let small = short refl in
+      let fits : nat_lt longest_text (length gave) ≡ false = grind arith in (
+        record { bytes = gave; fails = true },
+        record { gave = gave; given = given; whole = λ e. cc; part = λ _. (refl, rose refl) },
+        record { text = tt; failing = λ _. ap not fits },
+      )
+  read_fault gave Memory given short rose = (whole gave, took_whole gave given, record { text = tt; failing = λ e. cc })
+
+  pub read_text : (bytes : V) → Delivered remaining old new (items bytes)
+      → IsAtEnd (remaining (inner_of new)) ⊎ (longest_text < length (items bytes)) → WasRead (Ok bytes)
+  unfolding whole
+  read_text bytes given end = (
+    whole (items bytes),
+    took_whole (items bytes) given,
+    record { text = (refl, same_text (remaining (inner_of new)) (items bytes) end); failing = λ e. cc },
   )
+
+-- of a reader that says what it has left, it is that, or the first part of it where a read failed
+had : (before left : Option (List ℕ)) (gave xs : List ℕ) → Consumes before left gave → before ≡ Some xs
+    → (rest : List ℕ) × (left ≡ Some rest) × (xs ≡ gave ++ rest)
+had None left gave xs is known = cc
+had (Some ys) None gave xs is known = absurd is
+had (Some ys) (Some rest) gave xs is known = let same : ys ≡ xs = cc in (rest, refl, sym same ∙ is)
+
+module _ {R : Type 0} (remaining : R → Option (List ℕ)) (old new : Counted R) (i : Input) (took : Took remaining old new i) (xs : List ℕ)
+    (known : remaining (inner_of old) ≡ Some xs) where
+  pub took_known : i.fails ≡ false → i.bytes ≡ xs
+  took_known calm =
+      let h = had (remaining (inner_of old)) (remaining (inner_of new)) took.gave xs took.given.left known in
+      took.whole calm ∙ ap (λ (o : Option (List ℕ)). took.gave ++ unwrap_or o []) h.1 ∙ sym h.2
+
+  pub took_part : i.fails ≡ true → (n : ℕ) × (i.bytes ≡ take n xs)
+  took_part broken =
+      let h = had (remaining (inner_of old)) (remaining (inner_of new)) took.gave xs took.given.left known in
+      (length took.gave, (took.part broken).0 ∙ sym (take-append_seam took.gave h.0) ∙ ap (take (length took.gave)) (sym h.2))

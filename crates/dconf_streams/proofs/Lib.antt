@@ -1,3 +1,4 @@
+pub mod TransferLaws
 pub mod Puts
 pub mod Decisions
 pub mod ManyFiles

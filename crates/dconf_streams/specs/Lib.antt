@@ -1,4 +1,5 @@
 pub mod Streams
+pub mod Transfers
 pub mod Counted
 pub mod Answers
 pub mod Readings

@@ -1,11 +1,10 @@
 //! Reading the input of a command: up to its end or its first failure, and no further than shows that it is too long for a
 //! text of settings.
 ghost use Rattle.std.specs.Prelude.{◌≡◌, ◌+◌, ◌≤◌, ℕ, List, IfOk, IsErrOf, OnOk, OnErr, length, vec_items};
-ghost use Rattle.std.specs.Io.KnownBytes.{Consumes};
 ghost use Rattle.dconf_model.specs.Lines.{longest_text};
 ghost use Rattle.dconf_model.specs.Reads.{Input};
-ghost use Rattle.dconf_streams.specs.Counted.{failures_of, inner_of};
-ghost use Rattle.dconf_streams.specs.Inputs.{ConsumesText, IsReadOf, TakesPiece, Took};
+ghost use Rattle.dconf_streams.specs.Counted.{CameToEnd, Delivered, failures_of};
+ghost use Rattle.dconf_streams.specs.Inputs.{IsReadOf, ReadsText, TakesPiece, Took};
 ghost use Rattle.dconf_streams.specs.Streams.{one_more};
 
 use crate::counted::Counted;
@@ -70,13 +69,12 @@ const PIECE: usize = 4096;
 /// A read that fails is `Device`, whatever its error, and nothing is read after it. A read that a signal interrupted is such a
 /// failure too. A growth that is refused is `Memory`. What was read before an error is gone.
 ///
-/// It holds the bytes once, and takes at most a read for each byte and one for the end.
+/// It holds the bytes once, and takes at most a read for each byte and one for the end: 16,777,217 of them.
 pub fn read_input<I: Read>(alloc: Global, input: &mut Counted<I>) -> Result<Vec<u8>, InputFault>
-    ensures took { (i : Input) × Took (I.remaining (inner_of input.old)) (failures_of input.old) (failures_of input.new) i
-        × IsReadOf i vec_items result }
-    ensures bytes { IfOk result (λ bytes. Consumes (I.remaining (inner_of input.old)) (I.remaining (inner_of input.new)) (vec_items bytes)) }
-    ensures limit { IfOk result (λ bytes. length (vec_items bytes) ≤ longest_text + 1) }
-    ensures consumed { OnErr result (ConsumesText (I.remaining (inner_of input.old)) (I.remaining (inner_of input.new))) }
+    ensures took { (i : Input) × Took I.remaining input.old input.new i × IsReadOf i vec_items result }
+    ensures bytes { IfOk result (λ bytes. Delivered I.remaining input.old input.new (vec_items bytes)) }
+    ensures limit { ReadsText I.remaining input.old input.new }
+    ensures end { IfOk result (λ bytes. length (vec_items bytes) ≤ longest_text → CameToEnd input.old input.new) }
     ensures ok { OnOk result (failures_of input.new ≡ failures_of input.old) }
     ensures device { IsErrOf result InputFault.Device → failures_of input.new ≡ one_more (failures_of input.old) }
     ensures memory { IsErrOf result InputFault.Memory → failures_of input.new ≡ failures_of input.old }
@@ -98,8 +96,7 @@ fn append_piece<I: Read>(
     piece: &mut [u8],
     bytes: &mut Vec<u8>,
 ) -> Result<usize, InputFault>
-    ensures took { TakesPiece (I.remaining (inner_of input.old)) (I.remaining (inner_of input.new)) (length piece.old)
-        (vec_items bytes.old) (vec_items bytes.new) result }
+    ensures took { TakesPiece I.remaining input.old input.new (length piece.old) (vec_items bytes.old) (vec_items bytes.new) result }
     ensures ok { OnOk result (failures_of input.new ≡ failures_of input.old) }
     ensures device { IsErrOf result InputFault.Device → failures_of input.new ≡ one_more (failures_of input.old) }
     ensures memory { IsErrOf result InputFault.Memory → failures_of input.new ≡ failures_of input.old }

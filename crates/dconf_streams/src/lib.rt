@@ -14,6 +14,7 @@ mod counted;
 mod folder_files;
 mod input;
 mod refusal;
+mod trace;
 mod whole_write;
 
 pub use answer::Answer;

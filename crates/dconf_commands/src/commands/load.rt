@@ -12,8 +12,8 @@ ghost use Rattle.dconf_compile.specs.LineStops.{line_fault_of};
 ghost use Rattle.dconf_engine.specs.ChangeFaults.{refusal_of};
 ghost use Rattle.dconf_engine.specs.Rows.{rows_of};
 ghost use Rattle.dconf_streams.specs.Answers.{GivesOutcome, RefusesFor};
-ghost use Rattle.dconf_streams.specs.Counted.{failures_of, inner_of};
-ghost use Rattle.dconf_streams.specs.Inputs.{ConsumesText, Took};
+ghost use Rattle.dconf_streams.specs.Counted.{CameToEnd, failures_of};
+ghost use Rattle.dconf_streams.specs.Inputs.{ReadsText, Took};
 ghost use Rattle.dconf_streams.specs.Readings.{Decides};
 ghost use Rattle.dconf_commands.specs.Refusals.{IsLockedPath};
 ghost use Rattle.dconf_commands.specs.Loads.{RefusedLine};
@@ -41,10 +41,11 @@ pub(crate) fn load<F: Folder, I: Read>(
     folder: &mut F,
     input: &mut Counted<I>,
 ) -> Result<Answer, Refusal>
-    ensures answer { (i : Input) × Took (I.remaining (inner_of input.old)) (failures_of input.old) (failures_of input.new) i
+    ensures answer { (i : Input) × Took I.remaining input.old input.new i
         × Decides F.Folder folder.old folder.new 0 (λ reads. IsOutcome (load_of force directory.now profile.now) reads i) result }
     ensures device { failures_of input.new ≢ failures_of input.old → RefusesFor result (device_text (codes "input")) }
-    ensures limit { ConsumesText (I.remaining (inner_of input.old)) (I.remaining (inner_of input.new)) }
+    ensures limit { ReadsText I.remaining input.old input.new }
+    ensures end { OnOk result (CameToEnd input.old input.new) }
 {
     let directory = directory_path(alloc, directory)?;
     load_below(alloc, force, directory, profile, folder, input)
@@ -59,11 +60,12 @@ fn load_below<F: Folder, I: Read>(
     folder: &mut F,
     input: &mut Counted<I>,
 ) -> Result<Answer, Refusal>
-    ensures answer { (i : Input) × Took (I.remaining (inner_of input.old)) (failures_of input.old) (failures_of input.new) i
+    ensures answer { (i : Input) × Took I.remaining input.old input.new i
         × Decides F.Folder folder.old folder.new 0 (λ reads. WithRows (directory_text directory.entry) i
         (λ rows. Changes reads profile.now (paths_of rows) (load_values rows force))) result }
     ensures device { failures_of input.new ≢ failures_of input.old → RefusesFor result (device_text (codes "input")) }
-    ensures limit { ConsumesText (I.remaining (inner_of input.old)) (I.remaining (inner_of input.new)) }
+    ensures limit { ReadsText I.remaining input.old input.new }
+    ensures end { OnOk result (CameToEnd input.old input.new) }
 {
     match read_input(alloc, input) {
         Ok(bytes) => load_bytes(alloc, force, directory, &bytes, profile, folder),

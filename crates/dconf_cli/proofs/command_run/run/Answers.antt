@@ -1,4 +1,5 @@
 use Rattle.std.proofs.Common.{◌∙◌}
+use Rattle.dconf_cli.proofs.Given.{zero_is_done}
 use Rattle.dconf_cli.proofs.Runs.{ran, ran_anywhere, ran_calmly, says_failed_input, zero_keeps, zero_keeps_input}
 use Rattle.dconf_cli.proofs.command_run.run.Goals as goal
 
@@ -70,3 +71,9 @@ pub returns-clause-untouched : goal.returns-clause-untouched
 returns-clause-untouched g c = λ no_turn es is.
     let kept = c.answered-answer.ensures.answer.2.kept in
     c.give.ensures.untouched (kept.turn ∙ no_turn) es (kept.past es is)
+
+pub returns-clause-end : goal.returns-clause-end
+returns-clause-end g c = λ zero reads.
+    let end = c.give.ensures.ended in
+    zero_is_done g.F.Folder c.answered-answer.new.folder c.give.new.folder c.answered-answer.result end.0 _ end.1
+    (end.2.done zero).0 (c.answered-answer.ensures.end reads)

@@ -3,7 +3,7 @@ use Rattle.dconf_cli.proofs.outcome.print.Goals as goal
 
 pub returns-in-Err : goal.returns-in-Err
 returns-in-Err g c = record {
-  ends = inr (refl, c.in-Err.ensures.err);
+  ends = inr (refl, c.in-Err.ensures.part, c.in-Err.ensures.err);
   nothing = λ e. absurd ((c.in-Err.ensures.nothing e).1);
 }
 

@@ -6,7 +6,7 @@ use Rattle.dconf_model.specs.Outcomes.{Changes, Gives, UnlessFault, WithRows}
 use Rattle.dconf_model.specs.Paths.{directory_fault}
 use Rattle.dconf_model.specs.Reads.{ReadResults}
 use Rattle.dconf_model.specs.Sources.{Assigned}
-use Rattle.dconf_streams.specs.Counted.{failures_of, inner_of}
+use Rattle.dconf_streams.specs.Counted.{inner_of}
 use Rattle.dconf_streams.specs.Readings.{Decides}
 use Rattle.dconf_commands.proofs.PathArguments.{decides_at_path, decides_faultless}
 use Rattle.dconf_commands.proofs.UnreadInputs.{input_of, took, takes_none}
@@ -20,13 +20,13 @@ returns-in_err-directory-clause-answer g c =
     let p = err_from_is_err_and c.from_residual.result c.from_residual.ensures.1 in
     rw (p.1, p.2) (
       i,
-      took given (failures_of c.args.input.now),
+      took g.I.Read.remaining c.args.input.now,
       decides_at_path g.F.Folder c.args.folder.now (λ reads. WithRows c.args.directory.now i (Go reads)) (Err c.in_err-directory.field-0.0)
           (directory_fault c.args.directory.now) c.in_err-directory.ensures.err,
     )
 
 pub returns-in_err-directory-clause-limit : goal.returns-in_err-directory-clause-limit
-returns-in_err-directory-clause-limit g c = takes_none (g.I.Read.remaining (inner_of c.args.input.now))
+returns-in_err-directory-clause-limit g c = takes_none g.I.Read.remaining c.args.input.now
 
 pub returns-clause-answer : goal.returns-clause-answer
 returns-clause-answer g c =

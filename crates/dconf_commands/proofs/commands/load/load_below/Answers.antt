@@ -9,6 +9,7 @@ use Rattle.dconf_streams.specs.declared.refusal.Refusal.TheVariants.{NoMemory}
 use Rattle.dconf_streams.specs.Answers.{GivesOutcome}
 use Rattle.dconf_streams.specs.Readings.{Decides}
 use Rattle.dconf_streams.proofs.Decisions.{decides_at_once}
+use Rattle.dconf_commands.proofs.DoneLoads.{done_at_end}
 use Rattle.dconf_commands.proofs.LoadLaws.{decides_text}
 use Rattle.dconf_commands.proofs.commands.load.load_below.Goals as goal
 
@@ -31,7 +32,14 @@ returns-in-Err-Memory-clause-answer g c =
     (t.0, t.1, decides_at_once g.F.Folder c.args.folder.now 0 (Err NoMemory) (λ reads. WithRows (directory_text c.args.directory) t.0 (Go reads)) (λ reads. tt))
 
 pub returns-in-Ok-clause-limit : goal.returns-in-Ok-clause-limit
-returns-in-Ok-clause-limit g c = (vec_items c.in-Ok.bytes, c.in-Ok.ensures.bytes, c.in-Ok.ensures.limit)
+returns-in-Ok-clause-limit g c = c.in-Ok.ensures.limit
+
+pub returns-in-Ok-clause-end : goal.returns-in-Ok-clause-end
+returns-in-Ok-clause-end g c =
+    let Go : ReadResults → List Assigned → Gives = λ reads rows. Changes reads c.args.profile.now (paths_of rows) (load_values rows c.args.force) in
+    done_at_end g.F.Folder c.args.folder.now c.load_bytes.new.folder c.load_bytes.result (directory_text c.args.directory) (vec_items c.in-Ok.bytes) Go _
+    (subst (λ (b : List ℕ). Decides g.F.Folder c.args.folder.now c.load_bytes.new.folder 0
+    (λ reads. OrLine (codes "input") (loaded (directory_text c.args.directory) b) (Go reads)) c.load_bytes.result) c.deref.ensures.value c.load_bytes.ensures) c.in-Ok.ensures.end
 
 pub returns-in-Err-Device-clause-answer : goal.returns-in-Err-Device-clause-answer
 returns-in-Err-Device-clause-answer g c =
