@@ -46,7 +46,7 @@ pub fn run<F: Folder, I: Read, O: Write, E: Write>(
     out: &mut Counted<O>,
     err: &mut Counted<E>,
 ) -> u8
-    // In a folder whose events are known, and whose answers were true of it: exactly the command's outcome where no call of the folder failed,
+    // In a folder whose events are known, if its answers were true: exactly the command's outcome where no call of the folder failed,
     ensures calm { IsTrue (F.honest folder.new) → NoneFailed (F.failed folder.old) (F.failed folder.new)
         → (old : List Event) → F.past folder.old old
         → (i : Input) × Took I.remaining input.old input.new i
@@ -74,7 +74,7 @@ pub fn run<F: Folder, I: Read, O: Write, E: Write>(
     // A file is replaced by who holds the turn to, from before the first read until after the last call.
     ensures turn { F.holds_turn folder.new ≡ F.holds_turn folder.old }
     ensures untouched { F.holds_turn folder.old ≡ false → (es : List Event) → F.past folder.old es → F.past folder.new es }
-    // What is true of the folder's answers is so of those before.
+    // If the folder's answers are true after it, they were before.
     ensures honest { IsTrue (F.honest folder.new) → IsTrue (F.honest folder.old) }
     ensures status { result ≤ 1 }
     ensures input { reads_input (command_of command) ≡ false → input.new ≡ input.old }
