@@ -1,9 +1,9 @@
 -- Input that was left alone.
-use Rattle.std.proofs.Common.{◌≡◌, ℕ, Bool, true, List, [], false, length, Option, refl, arith}
+use Rattle.std.proofs.Common.{◌≡◌, ℕ, Bool, true, List, [], false, Option, refl, arith}
 use Rattle.std.specs.Prelude.{unwrap_or}
 use Rattle.dconf_model.specs.Reads.{Input}
 use Rattle.dconf_streams.specs.declared.counted.Counted.{Counted}
-use Rattle.dconf_streams.specs.Counted.{transfers_of, inner_of}
+use Rattle.dconf_streams.specs.Counted.{inner_of}
 use Rattle.dconf_streams.specs.Inputs.{ReadsText, Took}
 use Rattle.dconf_command.specs.Commands.{resetting}
 use Rattle.dconf_commands.specs.Loads.{reads_input}

@@ -1,5 +1,5 @@
 -- Writing bytes piece by piece.
-use Rattle.std.proofs.Common.{◌≡◌, ◌+◌, ◌-◌, ◌++◌, ℕ, List, [], length, take, drop, sym, ap, subst, ◌∙◌, Option, append-nil, arith, length-drop, take-add}
+use Rattle.std.proofs.Common.{◌≡◌, ◌+◌, ◌-◌, ℕ, List, [], length, take, drop, sym, ap, subst, ◌∙◌, Option, append-nil, arith, length-drop, take-add}
 use Rattle.std.proofs.lemmas.List.{drop-drop, take_all}
 use Rattle.dconf_streams.specs.declared.counted.Counted.{Counted}
 use Rattle.dconf_streams.specs.Counted.{Grew}

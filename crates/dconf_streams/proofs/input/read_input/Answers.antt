@@ -1,6 +1,5 @@
-use Rattle.std.proofs.Common.{ap, Err, inl, inr, vec_items, rules, ◌∙◌, arith, refl}
+use Rattle.std.proofs.Common.{ap, Err, inl, inr, vec_items, rules, ◌∙◌, refl}
 use Rattle.std.proofs.lemmas.Result.{err_from_is_err_and}
-use Rattle.dconf_streams.specs.Counted.{failures_of}
 use Rattle.dconf_streams.specs.Streams.{one_more}
 use Rattle.dconf_streams.proofs.InputLaws.{both_fit, came_to_end, gave_before, gave_both, read_fault, read_more, read_text, reads_text, reads_whole_text}
 use Rattle.dconf_streams.proofs.input.read_input.Goals as goal

@@ -1,5 +1,5 @@
 use Rattle.std.proofs.Common.{◌∙◌, arith, rules}
-use Rattle.dconf_streams.proofs.TransferLaws.{grew_by, grew_by_none}
+use Rattle.dconf_streams.proofs.TransferLaws.{grew_by}
 use Rattle.dconf_streams.proofs.Puts.{HasPut-more, HasPut-none}
 use Rattle.dconf_streams.proofs.counted.Counted.put.Goals as goal
 
