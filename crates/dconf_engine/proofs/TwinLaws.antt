@@ -1,6 +1,6 @@
 -- What twins have alike is seen alike, and items of the same names and bytes give the same paths.
 use Rattle.std.specs.Prelude.{filter, option_map, option_and_then, nat_lt}
-use Rattle.std.proofs.Common.{◌≡◌, ◌<◌, ◌≤◌, ◌⊎◌, ◌+◌, ◌++◌, ◌∙◌, ltb-true, ltb-false, arith, ℕ, zero, suc, Bool, false, List, [], ◌∷◌, drop, Option, Some, None, ap, sym, subst, refl, inl, inr}
+use Rattle.std.proofs.Common.{◌≡◌, ◌<◌, ◌≤◌, ◌⊎◌, ◌+◌, ◌++◌, ◌∙◌, ltb-true, ltb-false, append-nil, arith, ℕ, zero, suc, Bool, false, List, [], ◌∷◌, drop, Option, Some, None, ap, sym, subst, refl, inl, inr}
 use Rattle.std.specs.FinMap.{get}
 use Rattle.std.proofs.lemmas.Bool.{false_from_ne_true}
 use Rattle.std.proofs.lemmas.List.Elements.{filter-append}

@@ -1,5 +1,5 @@
 //! A layer of settings: a sound database, lent from its file.
-ghost use Rattle.std.specs.Prelude.{◌≡◌, Some, IfErr, IfOk, false, option_map, true};
+ghost use Rattle.std.specs.Prelude.{◌≡◌, None, Some, IfErr, IfOk, false, option_map, true};
 ghost use Rattle.std.specs.FinMap.{get};
 ghost use Rattle.dconf_model.specs.Databases.{IsBad, IsLayer, IsVerdict, settings_in};
 ghost use Rattle.dconf_model.specs.Layers.{locks_path};
@@ -11,7 +11,7 @@ ghost use Rattle.gvdb_read.specs.Directories.{HasDirectoryValue};
 ghost use Rattle.gvdb_read.specs.Tables.{region};
 ghost use Rattle.gvdb_read.specs.Unsounds.{rule_of};
 ghost use Rattle.dconf_engine.specs.Faults.{verdict_of};
-ghost use Rattle.dconf_engine.specs.SoundTables.{AreOfSoundDatabase, IsSoundRoot, locks_if};
+ghost use Rattle.dconf_engine.specs.SoundTables.{AreOfSoundDatabase, IsSoundRoot, IsTableOfLocks, locks_if};
 
 use crate::fault::DatabaseFault;
 use dconf_path::KeyPath;
@@ -95,19 +95,37 @@ impl<'a> Layer<'a> {
         requires { IsSoundRoot (region values) }
         ensures { settings_of result ≡ settings_in (region values.entry).file }
     {
-        match values.table(LOCKS) {
-            Some(locks) => Layer {
-                values,
-                locks,
-                has_locks: true,
-                locks_directories: locks.has_directory_value(),
-            },
-            None => Layer {
-                values,
-                locks: values,
-                has_locks: false,
-                locks_directories: false,
-            },
+        let Some(locks) = values.table(LOCKS) else {
+            return Layer::without_locks(values);
+        };
+        Layer::with_locks(values, locks)
+    }
+
+    /// The layer of a sound database's root table, and its table of locks.
+    fn with_locks(values: Table<'a>, locks: Table<'a>) -> Layer<'a>
+        requires root { IsSoundRoot (region values) }
+        requires locks { IsTableOfLocks (region values) (Some locks) }
+        ensures { result.values ≡ values.entry }
+    {
+        Layer {
+            values,
+            locks,
+            has_locks: true,
+            locks_directories: locks.has_directory_value(),
+        }
+    }
+
+    /// The layer of a sound database's root table, without a table of locks.
+    fn without_locks(values: Table<'a>) -> Layer<'a>
+        requires root { IsSoundRoot (region values) }
+        requires none { IsTableOfLocks (region values) None }
+        ensures { result.values ≡ values.entry }
+    {
+        Layer {
+            values,
+            locks: values,
+            has_locks: false,
+            locks_directories: false,
         }
     }
 

@@ -24,14 +24,14 @@ impl<'a> Twins<'a> {
         ensures layer { result.layer ≡ layer.entry }
         ensures other { result.other ≡ other.entry }
     {
-        match differing_items(layer.values, other.values) {
-            Some(items) => Twins {
-                layer,
-                other,
-                are_named_alike: true,
-                items,
-            },
-            None => Twins::of_others(layer, other),
+        let Some(items) = differing_items(layer.values, other.values) else {
+            return Twins::of_others(layer, other);
+        };
+        Twins {
+            layer,
+            other,
+            are_named_alike: true,
+            items,
         }
     }
 

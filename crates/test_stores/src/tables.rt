@@ -181,6 +181,16 @@ fn has_its_lock(file: &[u8], half: &[u8]) -> Result<bool, Fail> {
     })
 }
 
+/// Whether a table lies where its header says, and its last item's numbers are those of its record.
+fn lies_there(file: &[u8]) -> Result<bool, Fail> {
+    let table = Table::open(file)?;
+    if table.n_items() != 2 {
+        return Ok(false);
+    }
+    let item = table.stored(1);
+    Ok(table.bounds() == (24, 84) && item.key_start == 85 && item.key_size == 1 && item.end == 102)
+}
+
 /// Whether bytes are hashed as signed numbers, in one call and byte by byte.
 fn are_hashed() -> bool {
     hash(b"") == 5381
@@ -197,6 +207,6 @@ fn tables_are_searched_and_items_have_names(rt: HostRuntime) -> Result<(), Fail>
     hold(alloc, Question::Item, ITEMS)?;
     hold(alloc, Question::Alike, ALIKE)?;
     let half = file_of(alloc, "locked 56=155")?;
-    assert!(rt; has_its_lock(sample("locked"), &half)? && are_hashed());
+    assert!(rt; has_its_lock(sample("locked"), &half)? && are_hashed() && lies_there(sample("plain"))?);
     Ok(())
 }

@@ -15,7 +15,7 @@ use Rattle.dconf_engine.proofs.differences.Pair.add_twin.Goals as goal
 pub loop-i-init : goal.loop-i-init
 loop-i-init c =
     let f = differs (seen_in c.args.self.first) (seen_in c.args.self.second) in
-    none_before f c.args.twins.layer c.args.twins.other c.requires c.items.result.first c.items.result.end c.items.ensures c.args.paths.now
+    none_before f c.args.twins.layer c.args.twins.other c.requires c.items-items.result.first c.items-items.result.end c.items-items.ensures c.args.paths.now
 
 pub loop-i-preserved : goal.loop-i-preserved
 loop-i-preserved c =
@@ -27,7 +27,7 @@ returns c =
     let f = differs (seen_in c.args.self.first) (seen_in c.args.self.second) in
     let layer = c.args.twins.layer in
     let values = (settings_of layer).values in
-    let all : c.loop-i.i ≡ c.items.result.end = search rules in
+    let all : c.loop-i.i ≡ c.items-items.result.end = search rules in
     c.loop-i.invariant ∙ (ap (λ (n : ℕ). with_texts (filter f (paths_in layer n)) c.args.paths.now) all
-    ∙ ap (λ ts. with_texts ts c.args.paths.now) (none_after f layer c.args.twins.other c.requires c.items.result.first c.items.result.end c.items.ensures)
+    ∙ ap (λ ts. with_texts ts c.args.paths.now) (none_after f layer c.args.twins.other c.requires c.items-items.result.first c.items-items.result.end c.items-items.ensures)
     ∙ passing_alike f (layer_paths layer) (keys values) c.args.paths.now (λ t. has_path layer t ∙ key_in values t))
