@@ -25,6 +25,7 @@ typedef struct {
     GVariant *value;
     DconfdbEdit asked; /* the same for the library: it lends the path and the value's bytes */
     bool is_left_out;
+    bool is_alone; /* in its change */
 } Edit;
 
 /* Edits of which all are made, or none, but for those that others have overtaken. */
@@ -80,8 +81,9 @@ GQueue waiting_take(Waiting *waiting);
 /* Forgets both, and says what each key's newest edit was, and is now: an array of Edited, to be freed. */
 GArray *waiting_forget(Waiting *waiting, const GQueue *written, const GQueue *refused);
 
-/* Changes that were taken wait again, before all others. */
-void waiting_put_back(Waiting *waiting, GQueue *changes);
+/* Changes that were taken wait again, before all others. Those of one edit go whose key a later change of one edit sets, so that
+ * no more wait than there are keys, however long that takes. Gives how many go. */
+guint waiting_put_back(Waiting *waiting, GQueue *changes);
 
 /* A turn to write: the lock of the store's folder is held, or can't be had by this fault. */
 typedef struct {
@@ -126,6 +128,7 @@ typedef struct {
     Waiting waiting;
     GHashTable *odd; /* keys that were read past a user's value of another type */
     guint64 added, settled; /* how many changes ever waited, and how many no longer do */
+    guint64 replaced;       /* of those that do, how many went for one of the same key */
     guint64 tries, failed;  /* how often a write was tried, and which was the last that failed after others had for long; 0: none */
     guint64 last_try;       /* the program's end takes it for given if a later one fails so */
     bool is_asked;          /* a write is to be tried now */

@@ -35,6 +35,7 @@ void change_add(Change *change, const char *path, GVariant *value)
     edit->value = value ? g_variant_get_normal_form(value) : NULL;
     edit->asked = edit_of(edit);
     edit->is_left_out = false;
+    edit->is_alone = change->most == 1;
 }
 
 bool change_may_be_made(Change *change, const DconfdbSnapshot *now)
@@ -225,10 +226,25 @@ static void forget(Waiting *waiting, const GQueue *changes)
     }
 }
 
-void waiting_put_back(Waiting *waiting, GQueue *changes)
+/* The later one is refused where this one would be: its key is the same. */
+static bool is_replaced(const Waiting *waiting, const Change *change)
 {
-    while (changes->length > 0)
-        g_queue_push_head_link(&waiting->changes, g_queue_pop_tail_link(changes));
+    const Edit *newest = change->count == 1 ? newest_of(waiting, &change->edits[0]) : NULL;
+    return newest && newest != &change->edits[0] && newest->is_alone;
+}
+
+guint waiting_put_back(Waiting *waiting, GQueue *changes)
+{
+    guint gone = 0;
+    for (GList *at; (at = g_queue_pop_tail_link(changes));) {
+        if (is_replaced(waiting, at->data)) {
+            change_free(at->data);
+            gone++;
+        } else {
+            g_queue_push_head_link(&waiting->changes, at);
+        }
+    }
+    return gone;
 }
 
 GArray *waiting_forget(Waiting *waiting, const GQueue *written, const GQueue *refused)

@@ -290,7 +290,7 @@ static gint64 wait_again(DconfdbBackend *self, Notice *notice, const DconfdbErro
     if (goes_on)
         warn_of_waiting(self, notice, fault);
     g_mutex_lock(&self->lock);
-    waiting_put_back(&self->waiting, &notice->written);
+    self->replaced += waiting_put_back(&self->waiting, &notice->written);
     if (goes_on) {
         self->failed = self->tries;
         g_cond_broadcast(&self->settles);
@@ -305,7 +305,8 @@ static void end_failing(DconfdbBackend *self)
     self->failing = self->pause = 0;
     self->has_warned = false;
     g_mutex_lock(&self->lock);
-    self->failed = 0;
+    self->settled += self->replaced;
+    self->replaced = self->failed = 0;
     g_mutex_unlock(&self->lock);
 }
 

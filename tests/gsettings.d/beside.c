@@ -3,7 +3,7 @@
  *   beside sees              prints the name, the size, whether it is writable, and whether the desk is on
  *   beside tries             prints that, sets the desk on, syncs, and prints whether it could and whether it is
  *   beside sets TEXT         sets the name and syncs: prints whether it could, and what the name is then
- *   beside waits TEXT        sets the name and syncs: prints what it is then, and after a line again
+ *   beside waits TEXT        sets the name often, at last to that, and syncs: prints what it is then, and after a line again
  *   beside leaves TEXT       sets the name twice, and returns from main()
  *   beside masks BITS        has that umask, sets and syncs
  *   beside last FILE STEP..  makes the steps; prints how many `changed` came of the last, and whether FILE is another one after it. A step
@@ -89,6 +89,10 @@ static void tell_name(void)
 
 static void waits(char **more)
 {
+    for (int i = 0; i < MOST_CALLS; i++) {
+        g_settings_set_string(desk, "name", i % 2 ? "one" : "two");
+        g_usleep(2 * MILLISECOND);
+    }
     keep(more[0]);
     tell_name();
     if (getchar() == EOF)
