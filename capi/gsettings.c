@@ -183,14 +183,14 @@ static Outcome outcome_of(const DconfdbBackend *self, Change *change, const Dcon
 {
     if (self->has_ended || getpid() != self->process || !change_may_be_made(change, self->now))
         return REFUSED;
-    change_leave_out(change, &self->waiting, stored == self->now ? stored : NULL);
+    change_leave_out(change, stored == self->now ? stored : NULL);
     return change_is_empty(change) ? EMPTY : WAITS;
 }
 
 /* `lock` is held, but not while the file is looked at. Gives the newest snapshot, where what the user has set is as
  * there: another program may have changed the file, and nobody noticed yet. Where each key has an edit that
  * waits, the file isn't asked for, and none is given. */
-static DconfdbSnapshot *stored_now(DconfdbBackend *self, const Change *change)
+static DconfdbSnapshot *stored_now(DconfdbBackend *self, Change *change)
 {
     if (!self->now || waiting_has(&self->waiting, change))
         return NULL;
@@ -201,6 +201,7 @@ static DconfdbSnapshot *stored_now(DconfdbBackend *self, const Change *change)
         store_look_before(self);
     }
     g_mutex_lock(&self->lock);
+    waiting_has(&self->waiting, change);
     return now;
 }
 

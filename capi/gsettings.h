@@ -19,9 +19,10 @@
 
 /* An edit of a key; without a value it removes the user's. One that has no effect is left out, and the others
  * of the change are made: that of a locked key, and one that changes nothing. */
-typedef struct {
+typedef struct Edit {
     char *path;
     guint hash; /* of the path */
+    const struct Edit *newest; /* that waits of the same key, as waiting_has() found it; NULL: none */
     GVariant *value;
     DconfdbEdit asked; /* the same for the library: it lends the path and the value's bytes */
     bool is_left_out;
@@ -52,8 +53,8 @@ bool change_may_be_made(Change *change, const DconfdbSnapshot *now);
 bool change_is_empty(const Change *change);
 
 /* Leaves out what changes nothing: where the newest edit of the key that waits is the same, or, where none
- * waits, the user has that value. `stored` is NULL where nobody knows that. */
-void change_leave_out(Change *change, const Waiting *waiting, const DconfdbSnapshot *stored);
+ * waits, the user has that value. `stored` is NULL where nobody knows that. Nothing began to wait since waiting_has(). */
+void change_leave_out(Change *change, const DconfdbSnapshot *stored);
 
 /* The paths of the edits that are left, each with `value`: to be told. */
 GTree *change_tree(const Change *change);
@@ -64,8 +65,8 @@ void waiting_end(Waiting *waiting);
 void waiting_add(Waiting *waiting, Change *change);
 const Edit *waiting_find(const Waiting *waiting, const char *path);
 
-/* Whether an edit waits for each key of a change. */
-bool waiting_has(const Waiting *waiting, const Change *change);
+/* Whether an edit waits for each key of a change, which is told of each. */
+bool waiting_has(const Waiting *waiting, Change *change);
 
 /* A key at the moment when changes are forgotten: what its newest edit said before, and what that of
  * then says, if there is one. */

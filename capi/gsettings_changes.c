@@ -30,6 +30,7 @@ void change_add(Change *change, const char *path, GVariant *value)
     Edit *edit = &change->edits[change->count++];
     edit->path = g_strdup(path);
     edit->hash = g_str_hash(path);
+    edit->newest = NULL;
     /* Bytes of a program that aren't normal may be as deep as they like; normal ones say the
      * same. */
     edit->value = value ? g_variant_get_normal_form(value) : NULL;
@@ -73,19 +74,18 @@ static const Edit *newest_of(const Waiting *waiting, const Edit *edit)
 }
 
 /* Of what waits, with the edits of this change before it, the newest counts: each is of another key. */
-static bool changes_nothing(const Edit *edit, const Waiting *waiting, const DconfdbSnapshot *stored)
+static bool changes_nothing(const Edit *edit, const DconfdbSnapshot *stored)
 {
-    const Edit *newest = newest_of(waiting, edit);
-    if (newest)
-        return are_alike(&newest->asked, &edit->asked);
+    if (edit->newest)
+        return are_alike(&edit->newest->asked, &edit->asked);
     return stored && dconfdb_snapshot_has_edit(stored, &edit->asked);
 }
 
-void change_leave_out(Change *change, const Waiting *waiting, const DconfdbSnapshot *stored)
+void change_leave_out(Change *change, const DconfdbSnapshot *stored)
 {
     for (size_t i = 0; i < change->count; i++) {
         Edit *edit = &change->edits[i];
-        edit->is_left_out = edit->is_left_out || changes_nothing(edit, waiting, stored);
+        edit->is_left_out = edit->is_left_out || changes_nothing(edit, stored);
     }
 }
 
@@ -170,13 +170,14 @@ const Edit *waiting_find(const Waiting *waiting, const char *path)
     return newest_of(waiting, &sought);
 }
 
-bool waiting_has(const Waiting *waiting, const Change *change)
+bool waiting_has(const Waiting *waiting, Change *change)
 {
+    bool has = true;
     for (size_t i = 0; i < change->count; i++) {
-        if (!newest_of(waiting, &change->edits[i]))
-            return false;
+        change->edits[i].newest = newest_of(waiting, &change->edits[i]);
+        has = has && change->edits[i].newest;
     }
-    return true;
+    return has;
 }
 
 GQueue waiting_take(Waiting *waiting)
