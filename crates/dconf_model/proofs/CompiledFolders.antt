@@ -1,5 +1,5 @@
 -- A folder whose files give rows stands, and a run of `compile` carries that on.
-use Rattle.std.specs.Prelude.{◌≡◌, ◌≢◌, ◌⊎◌, ◌+◌, ℕ, Bool, true, false, cond, nat_lt, length, codes, List, [], ◌∷◌, Option, Some, None, Result, Ok, Err, refl, option_to_list}
+use Rattle.std.specs.Prelude.{◌≡◌, ◌≢◌, ◌⊎◌, ◌+◌, ℕ, Bool, true, false, cond, nat_lt, length, codes, List, [], ◌∷◌, Option, Some, None, Result, Ok, Err, refl}
 use Rattle.std.proofs.Common.{ap, sym, ◌∙◌, subst, inl, inr}
 use Rattle.std.specs.List.{AllByRecursion}
 use Rattle.std.specs.Str.{bytes_eq}
@@ -202,14 +202,14 @@ makes_of out files locks o h = by_result h.0 h.1 h.2
     by_result (Err f) compiled is = inl (line_fault_text (file_name files locks f.file) f.line f.cause, is)
     by_result (Ok bytes) compiled is = inr (by_given bytes is compiled (given files locks) refl compiled)
 
-pub compile_makes : (es : List Event) (reads : ReadResults) (out : List ℕ) (lock_name : Option (List ℕ)) (names : List (List ℕ)) (input : Input) (o : Outcome) →
-    ReadsFrom es reads → IsOutcome (compile out lock_name names) reads input o →
-    Refuses o ⊎ ((g : Given) × SourcesGive (read_content es) lock_name names g × Makes out g o)
-compile_makes es reads out lock_name names input o from is =
-    let Locks : List Source → Gives = λ files. WithFiles reads (length names) (option_to_list lock_name) (λ locks. Compiles out files locks) in
+pub compile_makes : (es : List Event) (reads : ReadResults) (out : List ℕ) (lock_names : List (List ℕ)) (names : List (List ℕ)) (input : Input) (o : Outcome) →
+    ReadsFrom es reads → IsOutcome (compile out lock_names names) reads input o →
+    Refuses o ⊎ ((g : Given) × SourcesGive (read_content es) lock_names names g × Makes out g o)
+compile_makes es reads out lock_names names input o from is =
+    let Locks : List Source → Gives = λ files. WithFiles reads (length names) lock_names (λ locks. Compiles out files locks) in
     elim (with_files es reads 0 names Locks o from is) [
       | inl why ↦ inl why
-      | inr files ↦ elim (with_files es reads (length names) (option_to_list lock_name) (λ locks. Compiles out files.0 locks) o from files.2) [
+      | inr files ↦ elim (with_files es reads (length names) lock_names (λ locks. Compiles out files.0 locks) o from files.2) [
         | inl why ↦ inl why
         | inr locks ↦ elim (makes_of out files.0 locks.0 o locks.2) [
           | inl why ↦ inl why
@@ -219,9 +219,9 @@ compile_makes es reads out lock_name names input o from is =
     ]
 
 pub compile_gives : CompileGives
-compile_gives out lock_name names input old new output (inr m) = inr (ap (λ (o : Output). o.status) m.0, m.1)
-compile_gives out lock_name names input old new output (inl a) =
-    elim (compile_makes old (steady (read_content old)) out lock_name names input a.outcome (none_fails old) a.is) [
+compile_gives out lock_names names input old new output (inr m) = inr (ap (λ (o : Output). o.status) m.0, m.1)
+compile_gives out lock_names names input old new output (inl a) =
+    elim (compile_makes old (steady (read_content old)) out lock_names names input a.outcome (none_fails old) a.is) [
       | inl why ↦ inr (refused_calmly a why)
       | inr made ↦ (let put = put_calmly a out made.0 made.2 in inl (put.0, (made.0, record { sources = made.1; put = put.1 })))
     ]
@@ -297,7 +297,7 @@ put_steps profile d ds own gs out g old new h apart fresh c =
     (ap read_of (c.others profile apart) ∙ h.profile_is) h.names (first, rest))
 
 pub compile_steps : CompileSteps
-compile_steps profile d ds own gs out lock_name names g old new h apart fresh c = put_steps profile d ds own gs out g old new h apart fresh c.put
+compile_steps profile d ds own gs out lock_names names g old new h apart fresh c = put_steps profile d ds own gs out g old new h apart fresh c.put
 
 pub repair_steps : RepairSteps
 repair_steps profile d ds own gs file out g old new h apart fresh c = put_steps profile d ds own gs out g old new h apart fresh c.put

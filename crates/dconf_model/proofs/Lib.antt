@@ -100,3 +100,4 @@ pub mod SurvivalLaws
 pub mod AttemptLaws
 pub mod EmptyFolders
 pub mod WorkedFolder
+pub mod WorkedUpdates

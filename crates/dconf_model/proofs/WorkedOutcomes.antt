@@ -156,26 +156,31 @@ keyfiles : Content
 keyfiles = with_file (codes "10-b") (text_of (codes "[a]" ∷ codes "k=2" ∷ []))
     (with_file (codes "00-a") (text_of (codes "[a]" ∷ codes "k=oops" ∷ []))
     (with_file (codes "20-c") (text_of (codes "[a]" ∷ codes "nonsense" ∷ []))
-    (with_file (codes "locks") (codes "/a//") nothing_there)))
+    (with_file (codes "locks-a") (codes "/a/k") (with_file (codes "locks") (codes "/a//") nothing_there))))
 
-bad_keyfile : IsOutcome (compile (codes "out") None (codes "10-b" ∷ codes "00-a" ∷ [])) (steady keyfiles) no_input (refused (codes "00-a:2: BadToken at 0..4"))
+bad_keyfile : IsOutcome (compile (codes "out") [] (codes "10-b" ∷ codes "00-a" ∷ [])) (steady keyfiles) no_input (refused (codes "00-a:2: BadToken at 0..4"))
 unfolding meaning keyfiles with_file nothing_there
 bad_keyfile = (_, refl, refl)
 
-bad_line : IsOutcome (compile (codes "out") None (codes "10-b" ∷ codes "20-c" ∷ [])) (steady keyfiles) no_input (refused (codes "20-c:2: BadLine"))
+bad_line : IsOutcome (compile (codes "out") [] (codes "10-b" ∷ codes "20-c" ∷ [])) (steady keyfiles) no_input (refused (codes "20-c:2: BadLine"))
 unfolding meaning keyfiles with_file nothing_there
 bad_line = (_, refl, refl)
 
 -- what isn't there comes before what is at fault
-missing_keyfile : IsOutcome (compile (codes "out") None (codes "10-b" ∷ codes "00-a" ∷ codes "30-d" ∷ [])) (steady keyfiles) no_input (refused (codes "NoFile 30-d"))
+missing_keyfile : IsOutcome (compile (codes "out") [] (codes "10-b" ∷ codes "00-a" ∷ codes "30-d" ∷ [])) (steady keyfiles) no_input (refused (codes "NoFile 30-d"))
 unfolding meaning keyfiles with_file nothing_there
 missing_keyfile = refl
 
-bad_lock : IsOutcome (compile (codes "out") (Some (codes "locks")) (codes "10-b" ∷ [])) (steady keyfiles) no_input (refused (codes "locks:1: LockNotKey"))
+bad_lock : IsOutcome (compile (codes "out") (codes "locks" ∷ []) (codes "10-b" ∷ [])) (steady keyfiles) no_input (refused (codes "locks:1: LockNotKey"))
 unfolding meaning keyfiles with_file nothing_there
 bad_lock = (_, refl, refl)
 
-lock_file_fails : IsOutcome (compile (codes "out") (Some (codes "locks")) (codes "10-b" ∷ [])) (failing 1 (steady keyfiles)) no_input (refused (codes "Device locks"))
+-- of two lock files the second
+second_bad_lock : IsOutcome (compile (codes "out") (codes "locks-a" ∷ codes "locks" ∷ []) (codes "10-b" ∷ [])) (steady keyfiles) no_input (refused (codes "locks:1: LockNotKey"))
+unfolding meaning keyfiles with_file nothing_there
+second_bad_lock = (_, refl, refl)
+
+lock_file_fails : IsOutcome (compile (codes "out") (codes "locks" ∷ []) (codes "10-b" ∷ [])) (failing 1 (steady keyfiles)) no_input (refused (codes "Device locks"))
 unfolding meaning keyfiles with_file nothing_there
 lock_file_fails = refl
 

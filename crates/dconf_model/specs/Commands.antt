@@ -1,5 +1,5 @@
 -- The commands, with their words. dconf(1); `show`, `origin`, `check` and `repair` are this project's.
-use Rattle.std.specs.Prelude.{Bool, ℕ, List, Option}
+use Rattle.std.specs.Prelude.{Bool, ℕ, List}
 
 pub data Command : Type 0 where
   -- TYPE FILE
@@ -20,8 +20,8 @@ pub data Command : Type 0 where
   load : Bool → List ℕ → List ℕ → Command
   -- KEY; the profile's file
   origin : List ℕ → List ℕ → Command
-  -- OUT; the lock file, if there is one; KEYFILES
-  compile : List ℕ → Option (List ℕ) → List (List ℕ) → Command
+  -- OUT; the lock files; KEYFILES
+  compile : List ℕ → List (List ℕ) → List (List ℕ) → Command
   -- FILE
   check : List ℕ → Command
   -- FILE OUT

@@ -31,6 +31,7 @@ pub mod Folders
 pub mod Replacing
 pub mod Salvaging
 pub mod Commands
+pub mod Updates
 pub mod Reads
 pub mod Outcomes
 pub mod Runs

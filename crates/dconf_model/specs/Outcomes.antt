@@ -1,7 +1,7 @@
 -- What each command makes of what it reads: a text for out, or one line for err, and for a command that changes a file the
 -- bytes that it is to hold. dconf(1). Each definition goes in the order of the refusals: words, the value, input, profile,
 -- databases, the change, the new file.
-use Rattle.std.specs.Prelude.{◌≡◌, ◌⊎◌, ℕ, ◌+◌, List, [], ◌∷◌, ◌++◌, length, codes, decimal, map, flat_map, slice_get, Option, Some, None, Result, Ok, Err, Bool, true, false, if◌then◌else◌, nat_lt, not, ◌&&◌, unwrap_or, option_to_list, option_map}
+use Rattle.std.specs.Prelude.{◌≡◌, ◌⊎◌, ℕ, ◌+◌, List, [], ◌∷◌, ◌++◌, length, codes, decimal, map, flat_map, slice_get, Option, Some, None, Result, Ok, Err, Bool, true, false, if◌then◌else◌, nat_lt, not, ◌&&◌, unwrap_or, option_map}
 use Rattle.std.specs.FinMap.{len}
 use Rattle.gv_model.specs.Ty.{Ty}
 use Rattle.gv_model.specs.TypeText.{type_of_text}
@@ -289,7 +289,7 @@ IsOutcome (load force directory profile) reads input =
     UnlessFault (directory_fault directory) (WithRows directory input (λ rows. Changes reads profile (paths_of rows) (load_values rows force)))
 IsOutcome (origin key profile) reads input =
     UnlessFault (key_fault key) (WithStore reads profile (λ databases l o. o ≡ done (origin_text databases (origin_of l key))))
-IsOutcome (compile out lock_name names) reads input =
-    WithFiles reads 0 names (λ files. WithFiles reads (length names) (option_to_list lock_name) (λ locks. Compiles out files locks))
+IsOutcome (compile out lock_names names) reads input =
+    WithFiles reads 0 names (λ files. WithFiles reads (length names) lock_names (λ locks. Compiles out files locks))
 IsOutcome (check file) reads input = WithFile reads 0 file Checks
 IsOutcome (repair file out) reads input = WithFile reads 0 file (Repairs out)

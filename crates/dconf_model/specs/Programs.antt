@@ -1,6 +1,6 @@
 -- What the program gives over one folder: runs that compile databases and that change the first
 -- one, and what runs print that read the store between and after them. dconf(1), dconf(7).
-use Rattle.std.specs.Prelude.{◌≡◌, ◌≢◌, ◌⊎◌, ◌↔◌, Contains, ℕ, zero, suc, Bool, true, false, List, [], ◌∷◌, ◌++◌, Option, Some, None, Result, Ok, Err, IsTrue, is_some, option_to_list, if◌then◌else◌}
+use Rattle.std.specs.Prelude.{◌≡◌, ◌≢◌, ◌⊎◌, ◌↔◌, Contains, ℕ, zero, suc, Bool, true, false, List, [], ◌∷◌, ◌++◌, Option, Some, None, Result, Ok, Err, IsTrue, is_some, if◌then◌else◌}
 use Rattle.std.specs.List.{AllByRecursion}
 use Rattle.std.specs.Str.{is_utf8, bytes_eq}
 use Rattle.gv_model.specs.Tree.{Tree}
@@ -240,11 +240,11 @@ AreSources content (name ∷ names) (s ∷ ss) = (s.name ≡ name) × (content n
 AreSources content _ _ = ⊥
 
 -- what the folder's keyfiles and lock files give
-pub record SourcesGive (content : Content) (lock_name : Option (List ℕ)) (names : List (List ℕ)) (g : Given) : Type 0 where
+pub record SourcesGive (content : Content) (lock_names : List (List ℕ)) (names : List (List ℕ)) (g : Given) : Type 0 where
   pub files : List Source
   pub locks : List Source
   pub files_are : AreSources content names files
-  pub locks_are : AreSources content (option_to_list lock_name) locks
+  pub locks_are : AreSources content lock_names locks
   pub given_is : given files locks ≡ Ok g
 
 -- no crash changes the file, nor a name that none changed before
@@ -265,16 +265,16 @@ pub record IsPut (old new : List Event) (out : List ℕ) (g : Given) : Type 0 wh
   pub settled : LeavesSettled old new out
 
 -- a file was compiled: it gives what the keyfiles and lock files gave
-pub record Compiled (old new : List Event) (out : List ℕ) (lock_name : Option (List ℕ)) (names : List (List ℕ)) (g : Given) : Type 0 where
-  pub sources : SourcesGive (read_content old) lock_name names g
+pub record Compiled (old new : List Event) (out : List ℕ) (lock_names : List (List ℕ)) (names : List (List ℕ)) (g : Given) : Type 0 where
+  pub sources : SourcesGive (read_content old) lock_names names g
   pub put : IsPut old new out g
 
 -- law: so it is after a run of `compile` that answers 0; else it answers 1, and nothing changed
 abbrev pub CompileGives : Type 0
 CompileGives =
-    (out : List ℕ) (lock_name : Option (List ℕ)) (names : List (List ℕ)) (input : Input) (old new : List Event) (output : Output) →
-    RanCalmly (compile out lock_name names) input old new output →
-    ((output.status ≡ 0) × ((g : Given) × Compiled old new out lock_name names g)) ⊎ ((output.status ≡ 1) × (new ≡ old))
+    (out : List ℕ) (lock_names : List (List ℕ)) (names : List (List ℕ)) (input : Input) (old new : List Event) (output : Output) →
+    RanCalmly (compile out lock_names names) input old new output →
+    ((output.status ≡ 0) × ((g : Given) × Compiled old new out lock_names names g)) ⊎ ((output.status ≡ 1) × (new ≡ old))
 
 -- the first database's own values, and what the others give, where this file was compiled
 abbrev pub own_compiled : List ℕ → Given → Database → OwnValues → OwnValues
@@ -289,9 +289,9 @@ given_compiled out g _ gs = gs
 abbrev pub CompileSteps : Type 0
 CompileSteps =
     (profile : List ℕ) (d : Database) (ds : List Database) (own : OwnValues) (gs : List Given)
-    (out : List ℕ) (lock_name : Option (List ℕ)) (names : List (List ℕ)) (g : Given) (old new : List Event) →
+    (out : List ℕ) (lock_names : List (List ℕ)) (names : List (List ℕ)) (g : Given) (old new : List Event) →
     FolderHolds (read_content old) profile d ds own gs → IsApart out profile →
-    AllByRecursion (λ other. database_file other ≢ new_name out) (d ∷ ds) → Compiled old new out lock_name names g →
+    AllByRecursion (λ other. database_file other ≢ new_name out) (d ∷ ds) → Compiled old new out lock_names names g →
     FolderHolds (read_content new) profile d ds (own_compiled out g d own) (given_compiled out g ds gs)
 
 -- ---- runs that repair
