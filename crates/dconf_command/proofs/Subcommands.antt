@@ -1,6 +1,6 @@
 -- The subcommand that the words name, and what clap gives its arguments where it finds no fault in the words.
 use Rattle.std.proofs.Common.{◌≡◌, ◌∙◌, ◌||◌, ◌&&◌, ◌⊎◌, inl, inr, not, ℕ, Bool, true, false, List, [], ◌∷◌, refl, sym, ap, subst, Option, Some, None, Result, Ok, Err, is_some, codes}
-use Rattle.std.specs.Prelude.{◌≢◌, ⊤, IfOk, IfSome, IsSome, cond, find, option_map, slice_get, unwrap_or}
+use Rattle.std.specs.Prelude.{◌≢◌, ⊤, IfOk, IfSome, IsSome, cond, find, option_map, slice_get, string_bytes, unwrap_or}
 use Rattle.std.specs.List.{list_any}
 use Rattle.std.specs.Option.{option_map_or}
 use Rattle.std.specs.Str.{bytes_eq}
@@ -16,8 +16,9 @@ use Rattle.std.specs.Box.{box_value}
 use Rattle.clap.specs.declared.ArgMatches.{ArgMatches}
 use Rattle.clap.specs.declared.error.Error.{Error}
 use Rattle.clap.proofs.WalkLemmas.{first_value-rows, raw_values-rows}
-use Rattle.dconf_command.specs.Asked.{AreOf, AsksToLoad, HasValue, IsParsedBy, AsksToCheck, AsksForOrigin, AsksToCompile, AsksToRead, AsksToRepair, AsksToShow, is_set, profile_file, AsksOfDirectory, AsksToReset, AsksToWrite}
+use Rattle.dconf_command.specs.Asked.{AreOf, AsksToLoad, HasValue, IsParsedBy, AsksToCheck, AsksForOrigin, AsksToCompile, AsksToRead, AsksToRepair, AsksToShow, AsksToUpdate, IsPlacedBy, is_set, profile_file, AsksOfDirectory, AsksToReset, AsksToWrite}
 use Rattle.dconf_command.specs.CommandLine.{command_line, show_line}
+use Rattle.dconf_command.specs.declared.place.Place.{Place}
 use Rattle.dconf_command.proofs.Stops.{IsNotHelp, or_else_nil, walk_not_help}
 use Rattle.dconf_command.proofs.Filled.{OnlyAsks, walk_filled, given_first, is_option}
 
@@ -69,9 +70,13 @@ check_gives s rows id e w =
 abbrev line : App
 line = built command_line
 
-abbrev IsCommandName : Text → Type 0
-IsCommandName name =
+abbrev IsRunName : Text → Type 0
+IsRunName name =
     (name ≡ codes "read") ⊎ ((name ≡ codes "write") ⊎ ((name ≡ codes "reset") ⊎ ((name ≡ codes "list") ⊎ ((name ≡ codes "dump") ⊎ ((name ≡ codes "load") ⊎ ((name ≡ codes "origin") ⊎ ((name ≡ codes "list-locks") ⊎ ((name ≡ codes "compile") ⊎ ((name ≡ codes "check") ⊎ ((name ≡ codes "repair") ⊎ (name ≡ codes "show")))))))))))
+
+-- one that runs, or `update`
+abbrev IsCommandName : Text → Type 0
+IsCommandName name = IsRunName name ⊎ (name ≡ codes "update")
 
 abbrev Each : {X : Type 0} → (X → Type 0) → List X → Type 0
 Each P [] = ⊤
@@ -118,74 +123,80 @@ shape_at n = unwrap_or (slice_get line.subs n) show_line.top
 
 read_is_plain : IsPlainSub (shape_at 0)
 read_is_plain = record {
-  rules = (inl refl, (inr (inl refl), (inr (inl refl), (inr (inr (refl, λ rows. refl)), tt))));
-  name = inl refl;
+  rules = (inl refl, (inr (inl refl), (inr (inl refl), (inr (inl refl), (inr (inl refl), (inr (inr (refl, λ rows. refl)), tt))))));
+  name = inl (inl refl);
 }
 
 write_is_plain : IsPlainSub (shape_at 1)
 write_is_plain = record {
-  rules = (inl refl, (inl refl, (inr (inl refl), (inr (inr (refl, λ rows. refl)), tt))));
-  name = inr (inl refl);
+  rules = (inl refl, (inl refl, (inr (inl refl), (inr (inl refl), (inr (inl refl), (inr (inr (refl, λ rows. refl)), tt))))));
+  name = inl (inr (inl refl));
 }
 
 reset_is_plain : IsPlainSub (shape_at 2)
 reset_is_plain = record {
-  rules = (inl refl, (inr (inl refl), (inr (inl refl), (inr (inr (refl, λ rows. refl)), tt))));
-  name = inr (inr (inl refl));
+  rules = (inl refl, (inr (inl refl), (inr (inl refl), (inr (inl refl), (inr (inl refl), (inr (inr (refl, λ rows. refl)), tt))))));
+  name = inl (inr (inr (inl refl)));
 }
 
 list_is_plain : IsPlainSub (shape_at 3)
 list_is_plain = record {
-  rules = (inl refl, (inr (inl refl), (inr (inr (refl, λ rows. refl)), tt)));
-  name = inr (inr (inr (inl refl)));
+  rules = (inl refl, (inr (inl refl), (inr (inl refl), (inr (inl refl), (inr (inr (refl, λ rows. refl)), tt)))));
+  name = inl (inr (inr (inr (inl refl))));
 }
 
 dump_is_plain : IsPlainSub (shape_at 4)
 dump_is_plain = record {
-  rules = (inl refl, (inr (inl refl), (inr (inr (refl, λ rows. refl)), tt)));
-  name = inr (inr (inr (inr (inl refl))));
+  rules = (inl refl, (inr (inl refl), (inr (inl refl), (inr (inl refl), (inr (inr (refl, λ rows. refl)), tt)))));
+  name = inl (inr (inr (inr (inr (inl refl)))));
 }
 
 load_is_plain : IsPlainSub (shape_at 5)
 load_is_plain = record {
-  rules = (inl refl, (inr (inl refl), (inr (inl refl), (inr (inr (refl, λ rows. refl)), tt))));
-  name = inr (inr (inr (inr (inr (inl refl)))));
+  rules = (inl refl, (inr (inl refl), (inr (inl refl), (inr (inl refl), (inr (inl refl), (inr (inr (refl, λ rows. refl)), tt))))));
+  name = inl (inr (inr (inr (inr (inr (inl refl))))));
 }
 
 origin_is_plain : IsPlainSub (shape_at 6)
 origin_is_plain = record {
-  rules = (inl refl, (inr (inl refl), (inr (inr (refl, λ rows. refl)), tt)));
-  name = inr (inr (inr (inr (inr (inr (inl refl))))));
+  rules = (inl refl, (inr (inl refl), (inr (inl refl), (inr (inl refl), (inr (inr (refl, λ rows. refl)), tt)))));
+  name = inl (inr (inr (inr (inr (inr (inr (inl refl)))))));
 }
 
 list_locks_is_plain : IsPlainSub (shape_at 7)
 list_locks_is_plain = record {
-  rules = (inl refl, (inr (inl refl), (inr (inr (refl, λ rows. refl)), tt)));
-  name = inr (inr (inr (inr (inr (inr (inr (inl refl)))))));
+  rules = (inl refl, (inr (inl refl), (inr (inl refl), (inr (inl refl), (inr (inr (refl, λ rows. refl)), tt)))));
+  name = inl (inr (inr (inr (inr (inr (inr (inr (inl refl))))))));
 }
 
 compile_is_plain : IsPlainSub (shape_at 8)
 compile_is_plain = record {
   rules = (inl refl, (inr (inl refl), (inl refl, (inr (inr (refl, λ rows. refl)), tt))));
-  name = inr (inr (inr (inr (inr (inr (inr (inr (inl refl))))))));
+  name = inl (inr (inr (inr (inr (inr (inr (inr (inr (inl refl)))))))));
 }
 
-check_is_plain : IsPlainSub (shape_at 9)
+update_is_plain : IsPlainSub (shape_at 9)
+update_is_plain = record {
+  rules = (inl refl, (inr (inr (refl, λ rows. refl)), tt));
+  name = inr refl;
+}
+
+check_is_plain : IsPlainSub (shape_at 10)
 check_is_plain = record {
   rules = (inl refl, (inr (inr (refl, λ rows. refl)), tt));
-  name = inr (inr (inr (inr (inr (inr (inr (inr (inr (inl refl)))))))));
+  name = inl (inr (inr (inr (inr (inr (inr (inr (inr (inr (inl refl))))))))));
 }
 
-repair_is_plain : IsPlainSub (shape_at 10)
+repair_is_plain : IsPlainSub (shape_at 11)
 repair_is_plain = record {
   rules = (inl refl, (inl refl, (inr (inr (refl, λ rows. refl)), tt)));
-  name = inr (inr (inr (inr (inr (inr (inr (inr (inr (inr (inl refl))))))))));
+  name = inl (inr (inr (inr (inr (inr (inr (inr (inr (inr (inr (inl refl)))))))))));
 }
 
-show_is_plain : IsPlainSub (shape_at 11)
+show_is_plain : IsPlainSub (shape_at 12)
 show_is_plain = record {
   rules = (inl refl, (inl refl, (inr (inr (refl, λ rows. refl)), tt)));
-  name = inr (inr (inr (inr (inr (inr (inr (inr (inr (inr (inr refl))))))))));
+  name = inl (inr (inr (inr (inr (inr (inr (inr (inr (inr (inr (inr refl)))))))))));
 }
 
 offered_subs : Each IsOffered line.subs
@@ -208,10 +219,13 @@ offered_subs = (
                 (
                   record { alone = refl; ours = λ _. compile_is_plain },
                   (
-                    record { alone = refl; ours = λ _. check_is_plain },
+                    record { alone = refl; ours = λ _. update_is_plain },
                     (
-                      record { alone = refl; ours = λ _. repair_is_plain },
-                      (record { alone = refl; ours = λ _. show_is_plain }, (record { alone = refl; ours = λ other. absurd (other refl) }, tt)),
+                      record { alone = refl; ours = λ _. check_is_plain },
+                      (
+                        record { alone = refl; ours = λ _. repair_is_plain },
+                        (record { alone = refl; ours = λ _. show_is_plain }, (record { alone = refl; ours = λ other. absurd (other refl) }, tt)),
+                      ),
                     ),
                   ),
                 ),
@@ -316,6 +330,7 @@ met_name words m p = name_by_rows m ∙ ap (option_map (λ q. q.0)) (p.met ∙ (
 
 -- one that is no other command is `show`
 pub named_show : (words : List Text) (m : ArgMatches) → IsParsedBy words m
+    → subcommand_name_of m ≢ Some (codes "update")
     → subcommand_name_of m ≢ Some (codes "check")
     → subcommand_name_of m ≢ Some (codes "compile")
     → subcommand_name_of m ≢ Some (codes "read")
@@ -328,21 +343,25 @@ pub named_show : (words : List Text) (m : ArgMatches) → IsParsedBy words m
     → subcommand_name_of m ≢ Some (codes "reset")
     → subcommand_name_of m ≢ Some (codes "load")
     → subcommand_name_of m ≡ Some (codes "show")
-named_show words m p not_check not_compile not_read not_origin not_repair not_list not_list_locks not_dump not_write not_reset not_load = go (enters words p.sound).one
+named_show words m p not_update not_check not_compile not_read not_origin not_repair not_list not_list_locks not_dump not_write not_reset not_load = go (enters words p.sound).one
   where
+    among : IsRunName (enters words p.sound).name → subcommand_name_of m ≡ Some (codes "show")
+    among (inl read) = absurd (not_read (met_name words m p ∙ ap Some read))
+    among (inr (inl write)) = absurd (not_write (met_name words m p ∙ ap Some write))
+    among (inr (inr (inl reset))) = absurd (not_reset (met_name words m p ∙ ap Some reset))
+    among (inr (inr (inr (inl list)))) = absurd (not_list (met_name words m p ∙ ap Some list))
+    among (inr (inr (inr (inr (inl dump))))) = absurd (not_dump (met_name words m p ∙ ap Some dump))
+    among (inr (inr (inr (inr (inr (inl load)))))) = absurd (not_load (met_name words m p ∙ ap Some load))
+    among (inr (inr (inr (inr (inr (inr (inl origin))))))) = absurd (not_origin (met_name words m p ∙ ap Some origin))
+    among (inr (inr (inr (inr (inr (inr (inr (inl list_locks)))))))) = absurd (not_list_locks (met_name words m p ∙ ap Some list_locks))
+    among (inr (inr (inr (inr (inr (inr (inr (inr (inl compile))))))))) = absurd (not_compile (met_name words m p ∙ ap Some compile))
+    among (inr (inr (inr (inr (inr (inr (inr (inr (inr (inl check)))))))))) = absurd (not_check (met_name words m p ∙ ap Some check))
+    among (inr (inr (inr (inr (inr (inr (inr (inr (inr (inr (inl repair))))))))))) = absurd (not_repair (met_name words m p ∙ ap Some repair))
+    among (inr (inr (inr (inr (inr (inr (inr (inr (inr (inr (inr show))))))))))) = met_name words m p ∙ ap Some show
+
     go : IsCommandName (enters words p.sound).name → subcommand_name_of m ≡ Some (codes "show")
-    go (inl read) = absurd (not_read (met_name words m p ∙ ap Some read))
-    go (inr (inl write)) = absurd (not_write (met_name words m p ∙ ap Some write))
-    go (inr (inr (inl reset))) = absurd (not_reset (met_name words m p ∙ ap Some reset))
-    go (inr (inr (inr (inl list)))) = absurd (not_list (met_name words m p ∙ ap Some list))
-    go (inr (inr (inr (inr (inl dump))))) = absurd (not_dump (met_name words m p ∙ ap Some dump))
-    go (inr (inr (inr (inr (inr (inl load)))))) = absurd (not_load (met_name words m p ∙ ap Some load))
-    go (inr (inr (inr (inr (inr (inr (inl origin))))))) = absurd (not_origin (met_name words m p ∙ ap Some origin))
-    go (inr (inr (inr (inr (inr (inr (inr (inl list_locks)))))))) = absurd (not_list_locks (met_name words m p ∙ ap Some list_locks))
-    go (inr (inr (inr (inr (inr (inr (inr (inr (inl compile))))))))) = absurd (not_compile (met_name words m p ∙ ap Some compile))
-    go (inr (inr (inr (inr (inr (inr (inr (inr (inr (inl check)))))))))) = absurd (not_check (met_name words m p ∙ ap Some check))
-    go (inr (inr (inr (inr (inr (inr (inr (inr (inr (inr (inl repair))))))))))) = absurd (not_repair (met_name words m p ∙ ap Some repair))
-    go (inr (inr (inr (inr (inr (inr (inr (inr (inr (inr (inr show))))))))))) = met_name words m p ∙ ap Some show
+    go (inl run) = among run
+    go (inr update) = absurd (not_update (met_name words m p ∙ ap Some update))
 
 -- the values are those of the subcommand of this name, and each of its required words has one
 pub record IsSub (words : List Text) (name : Text) (sub : ArgMatches) : Type 0 where
@@ -378,14 +397,14 @@ asks_to_check words sub file named f = record {
   file_value = sym (first_value-rows (found_of sub) (codes "FILE")) ∙ f;
 }
 
-pub asks_to_compile : (words : List Text) (sub : ArgMatches) (out : Text) (locks : Option Text) (keyfiles : List Text) → AreOf words (codes "compile") sub
-    → first_value (found_of sub) (codes "OUT") ≡ Some out → locks ≡ first_value (found_of sub) (codes "locks")
+pub asks_to_compile : (words : List Text) (sub : ArgMatches) (out : Text) (locks keyfiles : List Text) → AreOf words (codes "compile") sub
+    → first_value (found_of sub) (codes "OUT") ≡ Some out → locks ≡ unwrap_or (option_map raw_values (matched_of (found_of sub) (codes "locks"))) []
     → keyfiles ≡ unwrap_or (option_map raw_values (matched_of (found_of sub) (codes "KEYFILE"))) [] → AsksToCompile words out locks keyfiles
 asks_to_compile words sub out locks keyfiles named o l k = record {
   rows = rows_of (found_of sub);
   named = named;
   out_value = sym (first_value-rows (found_of sub) (codes "OUT")) ∙ o;
-  locks_value = sym (first_value-rows (found_of sub) (codes "locks")) ∙ sym l;
+  locks_values = sym (l ∙ ap (λ (o : Option (List Text)). unwrap_or o []) (raw_values-rows (found_of sub) (codes "locks")));
   keyfile_values = sym (k ∙ ap (λ (o : Option (List Text)). unwrap_or o []) (raw_values-rows (found_of sub) (codes "KEYFILE")));
 }
 
@@ -459,3 +478,38 @@ asks_to_load words sub force directory profile named f d p = record {
   directory_value = sym (first_value-rows (found_of sub) (codes "DIR")) ∙ d;
   profile_value = ap profile_file (sym (first_value-rows (found_of sub) (codes "profile"))) ∙ sym p;
 }
+
+pub asks_to_update : (words : List Text) (sub : ArgMatches) (folder : Option Text) → AreOf words (codes "update") sub
+    → folder ≡ first_value (found_of sub) (codes "FOLDER") → AsksToUpdate words folder
+asks_to_update words sub folder named f = record {
+  rows = rows_of (found_of sub);
+  named = named;
+  folder_value = sym (first_value-rows (found_of sub) (codes "FOLDER")) ∙ sym f;
+}
+
+has_sub : {X : Type 0} (f : X → Text) (o : Option X) (name : Text) → option_map f o ≡ Some name → IsSome o
+has_sub f None name e = cc
+has_sub f (Some x) name e = refl
+
+-- there is a subcommand
+pub is_entered : {X : Type 0} (words : List Text) (m : ArgMatches) → IsParsedBy words m → (f : X → Text) (o : Option X)
+    → option_map f o ≡ subcommand_name_of m → IsSome o
+is_entered words m p f o e = has_sub f o (enters words p.sound).name (e ∙ met_name words m p)
+
+-- and its options say where the store is
+pub is_placed : (words : List Text) (m sub : ArgMatches) (place : Place) → IsParsedBy words m
+    → Some (rows_of (found_of sub)) ≡ option_map (λ p. p.1) (subcommand_rows_of m)
+    → place.is_users ≡ is_set (first_value (found_of sub) (codes "user"))
+    → option_map string_bytes place.folder ≡ first_value (found_of sub) (codes "store")
+    → option_map string_bytes place.profile ≡ first_value (found_of sub) (codes "profile") → IsPlacedBy words place
+is_placed words m sub place p rows u f q =
+    let met = enters words p.sound in
+    let same : rows_of (found_of sub) ≡ met.rows = some_same (rows ∙ ap (option_map (λ q. q.1)) (p.met ∙ met.named)) in
+    record {
+      name = met.name;
+      rows = rows_of (found_of sub);
+      named = met.named ∙ ap (λ (rs : List Row). Some (met.name, rs)) (sym same);
+      user_value = ap is_set (sym (first_value-rows (found_of sub) (codes "user"))) ∙ sym u;
+      folder_value = sym (first_value-rows (found_of sub) (codes "store")) ∙ sym f;
+      profile_value = sym (first_value-rows (found_of sub) (codes "profile")) ∙ sym q;
+    }

@@ -5,6 +5,9 @@ use Rattle.clap.specs.Words.{Row, Text, all_of, fault_of, first_of, first_value,
 use Rattle.clap.specs.declared.ArgMatches.{ArgMatches}
 use Rattle.dconf_command.specs.CommandLine.{command_line}
 use Rattle.dconf_command.specs.declared.asked.Command.{Command}
+use Rattle.dconf_command.specs.declared.place.Asked.{Asked}
+use Rattle.dconf_command.specs.declared.place.Asked.TheVariants.{Run, Update}
+use Rattle.dconf_command.specs.declared.place.Place.{Place}
 use Rattle.dconf_command.specs.declared.asked.Command.TheVariants.{Show, Read, Origin, Check, Compile, Repair, List as ListIt, ListLocks, Dump, Write, Reset, Load}
 
 -- clap finds no fault in the words, and met the subcommand that they name
@@ -33,12 +36,12 @@ pub record AsksToCheck (words : List Text) (file : Text) : Type 0 where
   pub named : subcommand_of command_line words ≡ Some (codes "check", rows)
   pub file_value : first_of (codes "FILE") rows ≡ Some file
 
--- the words name `compile`, and clap gives its arguments these values, and `--locks` this one where it is there
-pub record AsksToCompile (words : List Text) (out : Text) (locks : Option Text) (keyfiles : List Text) : Type 0 where
+-- the words name `compile`, and clap gives its arguments these values, and `--locks` each of these
+pub record AsksToCompile (words : List Text) (out : Text) (locks keyfiles : List Text) : Type 0 where
   pub rows : List Row
   pub named : subcommand_of command_line words ≡ Some (codes "compile", rows)
   pub out_value : first_of (codes "OUT") rows ≡ Some out
-  pub locks_value : first_of (codes "locks") rows ≡ locks
+  pub locks_values : unwrap_or (all_of (codes "locks") rows) [] ≡ locks
   pub keyfile_values : unwrap_or (all_of (codes "KEYFILE") rows) [] ≡ keyfiles
 
 -- a flag was given
@@ -113,8 +116,28 @@ IsAskedBy words (ListLocks directory profile) = AsksOfDirectory (codes "list-loc
 IsAskedBy words (Dump directory profile) = AsksOfDirectory (codes "dump") words (string_bytes directory) (string_bytes profile)
 IsAskedBy words (Check file) = AsksToCheck words (string_bytes file)
 IsAskedBy words (Compile out locks keyfiles) =
-    AsksToCompile words (string_bytes out) (option_map string_bytes locks) (map string_bytes (vec_items keyfiles))
+    AsksToCompile words (string_bytes out) (map string_bytes (vec_items locks)) (map string_bytes (vec_items keyfiles))
 IsAskedBy words (Repair file out) = AsksToRepair words (string_bytes file) (string_bytes out)
 IsAskedBy words (Write key value profile) = AsksToWrite words (string_bytes key) (string_bytes value) (string_bytes profile)
 IsAskedBy words (Reset force path profile) = AsksToReset words force (string_bytes path) (string_bytes profile)
 IsAskedBy words (Load force directory profile) = AsksToLoad words force (string_bytes directory) (string_bytes profile)
+
+-- the words name `update`, and clap gives its argument this value, where it is there
+pub record AsksToUpdate (words : List Text) (folder : Option Text) : Type 0 where
+  pub rows : List Row
+  pub named : subcommand_of command_line words ≡ Some (codes "update", rows)
+  pub folder_value : first_of (codes "FOLDER") rows ≡ folder
+
+-- clap gives these values to the options of the command, whichever it is, that say where its store is
+pub record IsPlacedBy (words : List Text) (place : Place) : Type 0 where
+  pub name : Text
+  pub rows : List Row
+  pub named : subcommand_of command_line words ≡ Some (name, rows)
+  pub user_value : is_set (first_of (codes "user") rows) ≡ place.is_users
+  pub folder_value : first_of (codes "store") rows ≡ option_map string_bytes place.folder
+  pub profile_value : first_of (codes "profile") rows ≡ option_map string_bytes place.profile
+
+-- all that the words ask for
+abbrev pub Asks : List Text → Asked → Type 0
+Asks words (Run command place) = IsAskedBy words command × IsPlacedBy words place
+Asks words (Update folder) = AsksToUpdate words (option_map string_bytes folder)

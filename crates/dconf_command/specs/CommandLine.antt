@@ -15,18 +15,26 @@ show_line = with_rule (with_rule (new_app (codes "show")) (required_word (codes 
 abbrev pub check_line : App
 check_line = with_rule (new_app (codes "check")) (required_word (codes "FILE"))
 
--- `--locks FILE`
+-- `--locks FILE`, any number of times
 abbrev pub locks_option : Rule
-locks_option = record (new_rule (codes "locks")) { long = Some (codes "locks"); action = Some Set; value_names = 1 }
+locks_option = record (new_rule (codes "locks")) { long = Some (codes "locks"); action = Some Append; value_names = 1 }
 
 -- words that may be there, each a value
 abbrev pub further_words : Text → Rule
 further_words id = record (new_rule id) { action = Some Append }
 
--- `compile OUT [--locks FILE] [KEYFILE..]`
+-- `compile OUT [--locks FILE].. [KEYFILE..]`
 abbrev pub compile_line : App
 compile_line =
     with_rule (with_rule (with_rule (new_app (codes "compile")) (required_word (codes "OUT"))) locks_option) (further_words (codes "KEYFILE"))
+
+-- a word that may be there, in its place
+abbrev pub optional_word : Text → Rule
+optional_word id = record (new_rule id) { action = Some Set }
+
+-- `update [FOLDER]`
+abbrev pub update_line : App
+update_line = with_rule (new_app (codes "update")) (optional_word (codes "FOLDER"))
 
 -- `-d`
 abbrev pub default_flag : Rule
@@ -36,37 +44,49 @@ default_flag = record (new_rule (codes "default")) { short = Some 100; action = 
 abbrev pub profile_option : Rule
 profile_option = record (new_rule (codes "profile")) { short = Some 112; action = Some Set; value_names = 1 }
 
--- `read [-d] [-p FILE] KEY`
-abbrev pub read_line : App
-read_line = with_rule (with_rule (with_rule (new_app (codes "read")) (required_word (codes "KEY"))) default_flag) profile_option
+-- `--user`
+abbrev pub user_flag : Rule
+user_flag = record (new_rule (codes "user")) { long = Some (codes "user"); action = Some SetTrue }
 
--- `origin [-p FILE] KEY`
+-- `--store FOLDER`
+abbrev pub store_option : Rule
+store_option = record (new_rule (codes "store")) { long = Some (codes "store"); action = Some Set; value_names = 1 }
+
+-- a line with the options of a command on a store, `[-p FILE] [--user] [--store FOLDER]`
+abbrev pub with_store : App → App
+with_store line = with_rule (with_rule (with_rule line profile_option) user_flag) store_option
+
+-- `read [-d] KEY`
+abbrev pub read_line : App
+read_line = with_store (with_rule (with_rule (new_app (codes "read")) (required_word (codes "KEY"))) default_flag)
+
+-- `origin KEY`
 abbrev pub origin_line : App
-origin_line = with_rule (with_rule (new_app (codes "origin")) (required_word (codes "KEY"))) profile_option
+origin_line = with_store (with_rule (new_app (codes "origin")) (required_word (codes "KEY")))
 
 -- `repair FILE OUT`
 abbrev pub repair_line : App
 repair_line = with_rule (with_rule (new_app (codes "repair")) (required_word (codes "FILE"))) (required_word (codes "OUT"))
 
--- `NAME [-p FILE] DIR`, such as `list [-p FILE] DIR`
+-- `NAME DIR`, such as `list DIR`
 abbrev pub directory_line : Text → App
-directory_line name = with_rule (with_rule (new_app name) (required_word (codes "DIR"))) profile_option
+directory_line name = with_store (with_rule (new_app name) (required_word (codes "DIR")))
 
--- `write [-p FILE] KEY VALUE`
+-- `write KEY VALUE`
 abbrev pub write_line : App
-write_line = with_rule (with_rule (with_rule (new_app (codes "write")) (required_word (codes "KEY"))) (required_word (codes "VALUE"))) profile_option
+write_line = with_store (with_rule (with_rule (new_app (codes "write")) (required_word (codes "KEY"))) (required_word (codes "VALUE")))
 
 -- `-f`
 abbrev pub force_flag : Rule
 force_flag = record (new_rule (codes "force")) { short = Some 102; action = Some SetTrue }
 
--- `reset [-f] [-p FILE] PATH`
+-- `reset [-f] PATH`
 abbrev pub reset_line : App
-reset_line = with_rule (with_rule (with_rule (new_app (codes "reset")) (required_word (codes "PATH"))) force_flag) profile_option
+reset_line = with_store (with_rule (with_rule (new_app (codes "reset")) (required_word (codes "PATH"))) force_flag)
 
--- `load [-f] [-p FILE] DIR`
+-- `load [-f] DIR`
 abbrev pub load_line : App
-load_line = with_rule (with_rule (with_rule (new_app (codes "load")) (required_word (codes "DIR"))) force_flag) profile_option
+load_line = with_store (with_rule (with_rule (new_app (codes "load")) (required_word (codes "DIR"))) force_flag)
 
 -- `dconfdb`, which wants a subcommand and has a version
 abbrev pub dconfdb_line : App
@@ -90,10 +110,10 @@ with_directories line =
 abbrev pub with_sources : App → App
 with_sources line = with_subcommand (with_subcommand line origin_line.top) (directory_line (codes "list-locks")).top
 
--- with `compile`, `check`, `repair` and `show`
+-- with `compile`, `update`, `check`, `repair` and `show`
 abbrev pub with_files : App → App
 with_files line =
-    with_subcommand (with_subcommand (with_subcommand (with_subcommand line compile_line.top) check_line.top) repair_line.top) show_line.top
+    with_subcommand (with_subcommand (with_subcommand (with_subcommand (with_subcommand line compile_line.top) update_line.top) check_line.top) repair_line.top) show_line.top
 
 abbrev pub command_line : App
 command_line = with_files (with_sources (with_directories (with_keys dconfdb_line)))

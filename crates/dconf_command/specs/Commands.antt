@@ -1,5 +1,5 @@
 -- The model's command of ours.
-use Rattle.std.specs.Prelude.{ℕ, Bool, true, false, List, map, option_map, string_bytes, vec_items}
+use Rattle.std.specs.Prelude.{ℕ, Bool, true, false, List, map, string_bytes, vec_items}
 use Rattle.dconf_model.specs.Commands.{Command as Asked}
 use Rattle.dconf_model.specs.Commands.Command.{show, read, list, list_locks, write, reset, reset_below, load, dump, origin, check, compile, repair}
 use Rattle.dconf_command.specs.declared.asked.Command.{Command}
@@ -18,8 +18,21 @@ command_of (ListIt directory profile) = list (string_bytes directory) (string_by
 command_of (ListLocks directory profile) = list_locks (string_bytes directory) (string_bytes profile)
 command_of (Dump directory profile) = dump (string_bytes directory) (string_bytes profile)
 command_of (Check file) = check (string_bytes file)
-command_of (Compile out locks keyfiles) = compile (string_bytes out) (option_map string_bytes locks) (map string_bytes (vec_items keyfiles))
+command_of (Compile out locks keyfiles) = compile (string_bytes out) (map string_bytes (vec_items locks)) (map string_bytes (vec_items keyfiles))
 command_of (Repair file out) = repair (string_bytes file) (string_bytes out)
 command_of (Write key value profile) = write (string_bytes key) (string_bytes value) (string_bytes profile)
 command_of (Reset force path profile) = resetting force (string_bytes path) (string_bytes profile)
 command_of (Load force directory profile) = load force (string_bytes directory) (string_bytes profile)
+
+-- the same command by the profile in another file
+abbrev pub with_profile : List ℕ → Asked → Asked
+with_profile file (read default key profile) = read default key file
+with_profile file (list directory profile) = list directory file
+with_profile file (list_locks directory profile) = list_locks directory file
+with_profile file (write key value profile) = write key value file
+with_profile file (reset key profile) = reset key file
+with_profile file (reset_below directory profile) = reset_below directory file
+with_profile file (load force directory profile) = load force directory file
+with_profile file (dump directory profile) = dump directory file
+with_profile file (origin key profile) = origin key file
+with_profile file other = other

@@ -3,3 +3,4 @@ pub mod Taken
 pub mod Asked
 pub mod Commands
 pub mod Replaced
+pub mod Updates

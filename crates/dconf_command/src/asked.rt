@@ -1,4 +1,6 @@
-//! What the words of a command line ask for.
+//! A command, with its words.
+ghost use Rattle.std.specs.Prelude.{◌≡◌, string_bytes};
+ghost use Rattle.dconf_command.specs.Commands.{command_of, with_profile};
 
 /// A command with its words, as they were given.
 #[derive(Debug, Drop)]
@@ -38,10 +40,10 @@ pub enum Command {
     Check {
         file: String,
     },
-    /// Makes the database `out` of keyfiles, and of the lock file `locks` if there is one.
+    /// Makes the database `out` of keyfiles and lock files.
     Compile {
         out: String,
-        locks: Option<String>,
+        locks: Vec<String>,
         keyfiles: Vec<String>,
     },
     /// Makes a sound database `out` of what can be saved of `file`.
@@ -69,4 +71,75 @@ pub enum Command {
         directory: String,
         profile: String,
     },
+}
+
+impl Command {
+    /// The same command by the profile in another file. One that opens no store stays as it is.
+    pub fn with_profile(self, file: String) -> Command
+        ensures { command_of result ≡ with_profile (string_bytes file) (command_of self) }
+    {
+        match self {
+            Command::Read { default, key, .. } => Command::Read {
+                default,
+                key,
+                profile: file,
+            },
+            Command::Origin { key, .. } => Command::Origin { key, profile: file },
+            Command::List { directory, .. } => Command::List {
+                directory,
+                profile: file,
+            },
+            Command::ListLocks { directory, .. } => Command::ListLocks {
+                directory,
+                profile: file,
+            },
+            Command::Dump { directory, .. } => Command::Dump {
+                directory,
+                profile: file,
+            },
+            Command::Write { key, value, .. } => Command::Write {
+                key,
+                value,
+                profile: file,
+            },
+            Command::Reset { force, path, .. } => Command::Reset {
+                force,
+                path,
+                profile: file,
+            },
+            Command::Load {
+                force,
+                directory,
+                ..
+            } => Command::Load {
+                force,
+                directory,
+                profile: file,
+            },
+            Command::Show {
+                type_text,
+                file: bytes,
+            } => Command::Show {
+                type_text,
+                file: bytes,
+            },
+            Command::Check { file: database } => Command::Check { file: database },
+            Command::Compile {
+                out,
+                locks,
+                keyfiles,
+            } => Command::Compile {
+                out,
+                locks,
+                keyfiles,
+            },
+            Command::Repair {
+                file: database,
+                out,
+            } => Command::Repair {
+                file: database,
+                out,
+            },
+        }
+    }
 }

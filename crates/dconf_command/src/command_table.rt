@@ -59,7 +59,9 @@ macro_rules! change_help {
 }
 
 /// What comes after the long help of the program.
-pub(crate) const PROGRAM: &str = "It works in the current directory.
+pub(crate) const PROGRAM: &str =
+    "It works in the current directory, or on the store that --user or --store FOLDER names: then
+$DCONFDB_PROFILE, or else the profile in its folder, or else /etc/dconfdb/profile counts.
 
 Installed beside it:
   watch       Print what changes in a store, until it is interrupted
@@ -81,17 +83,23 @@ Exit status:
   2  usage error";
 
 /// The commands, in the order of the program's help: a store's, then a site's, then those of single files.
-pub(crate) const COMMANDS: [Line<'static>; 12] = [
-    // `read [-d] [-p FILE] KEY`.
+pub(crate) const COMMANDS: [Line<'static>; 13] = [
+    // `read [-d] KEY`.
     Line {
         name: "read",
         about: "Print the value of KEY, or nothing if it has none",
         more: read_help!(
             examples: "  dconfdb read /org/desk/name\n  dconfdb read -d /org/desk/name"
         ),
-        words: &[word::KEY, word::DEFAULT, Word::Profile],
+        words: &[
+            word::KEY,
+            word::DEFAULT,
+            Word::Profile,
+            Word::User,
+            Word::Store,
+        ],
     },
-    // `write [-p FILE] KEY VALUE`.
+    // `write KEY VALUE`.
     Line {
         name: "write",
         about: "Set KEY to VALUE in the user's database",
@@ -99,9 +107,15 @@ pub(crate) const COMMANDS: [Line<'static>; 12] = [
             input: "";
             examples: "  dconfdb write /org/desk/name \"'mine'\""
         ),
-        words: &[word::KEY, word::VALUE, Word::Profile],
+        words: &[
+            word::KEY,
+            word::VALUE,
+            Word::Profile,
+            Word::User,
+            Word::Store,
+        ],
     },
-    // `reset [-f] [-p FILE] PATH`.
+    // `reset [-f] PATH`.
     Line {
         name: "reset",
         about: "Remove the user's value of a key or, with -f, of every key below a directory",
@@ -109,27 +123,33 @@ pub(crate) const COMMANDS: [Line<'static>; 12] = [
             input: "";
             examples: "  dconfdb reset /org/desk/name\n  dconfdb reset -f /org/desk/"
         ),
-        words: &[word::PATH, word::WHOLE, Word::Profile],
+        words: &[
+            word::PATH,
+            word::WHOLE,
+            Word::Profile,
+            Word::User,
+            Word::Store,
+        ],
     },
-    // `list [-p FILE] DIR`.
+    // `list DIR`.
     Line {
         name: "list",
         about: "List the keys and directories directly below DIR",
         more: read_help!(
             examples: "  dconfdb list /org/desk/"
         ),
-        words: &[word::DIR, Word::Profile],
+        words: &[word::DIR, Word::Profile, Word::User, Word::Store],
     },
-    // `dump [-p FILE] DIR`.
+    // `dump DIR`.
     Line {
         name: "dump",
         about: "Print all values below DIR as a keyfile",
         more: read_help!(
             examples: "  dconfdb dump /org/desk/ > desk.keys"
         ),
-        words: &[word::DIR, Word::Profile],
+        words: &[word::DIR, Word::Profile, Word::User, Word::Store],
     },
-    // `load [-f] [-p FILE] DIR`.
+    // `load [-f] DIR`.
     Line {
         name: "load",
         about: "Set keys below DIR from a keyfile on stdin",
@@ -137,27 +157,33 @@ pub(crate) const COMMANDS: [Line<'static>; 12] = [
             input: "  stdin       a keyfile: groups relative to DIR, such as [example], and in each\n              lines such as name='desk'; the group [/] is DIR itself\n";
             examples: "  dconfdb load /org/desk/ < desk.keys"
         ),
-        words: &[word::DIR, word::LEAVING, Word::Profile],
+        words: &[
+            word::DIR,
+            word::LEAVING,
+            Word::Profile,
+            Word::User,
+            Word::Store,
+        ],
     },
-    // `origin [-p FILE] KEY`.
+    // `origin KEY`.
     Line {
         name: "origin",
         about: "Print which database the value of KEY comes from",
         more: read_help!(
             examples: "  dconfdb origin /org/desk/name"
         ),
-        words: &[word::KEY, Word::Profile],
+        words: &[word::KEY, Word::Profile, Word::User, Word::Store],
     },
-    // `list-locks [-p FILE] DIR`.
+    // `list-locks DIR`.
     Line {
         name: "list-locks",
         about: "List the locks on DIR and on paths below it",
         more: read_help!(
             examples: "  dconfdb list-locks /"
         ),
-        words: &[word::DIR, Word::Profile],
+        words: &[word::DIR, Word::Profile, Word::User, Word::Store],
     },
-    // `compile OUT [--locks FILE] [KEYFILE..]`.
+    // `compile OUT [--locks FILE].. [KEYFILE..]`.
     Line {
         name: "compile",
         about: "Compile keyfiles into the database OUT",
@@ -168,6 +194,19 @@ pub(crate) const COMMANDS: [Line<'static>; 12] = [
             examples: "  dconfdb compile site.db --locks site.locks 00-site 10-desk"
         ),
         words: &[word::OUT, Word::Locks, word::KEYFILE],
+    },
+    // `update [FOLDER]`.
+    Line {
+        name: "update",
+        about: "Compile the databases in FOLDER whose sources are newer",
+        more: help!(
+            files: "  NAME.d        the sources of the database NAME.db: its keyfiles\n",
+            "  NAME.d/locks  its files of locks, if it has any\n",
+            "  NAME.db       replaced atomically: after a crash it is the old file or the new one;\n",
+            "                hidden files are no sources, and if one is wrong, NAME.db stays as it is";
+            examples: "  dconfdb update ."
+        ),
+        words: &[word::FOLDER],
     },
     // `check FILE`.
     Line {

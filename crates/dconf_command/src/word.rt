@@ -2,7 +2,7 @@
 ghost use Rattle.std.specs.Prelude.{◌≡◌, codes, false, Some};
 ghost use Rattle.clap.specs.Words.{new_rule, rule_of};
 ghost use Rattle.clap.specs.declared.builder.action.ArgAction.TheVariants.{SetTrue};
-ghost use Rattle.dconf_command.specs.CommandLine.{further_words, locks_option, profile_option, required_word};
+ghost use Rattle.dconf_command.specs.CommandLine.{further_words, locks_option, optional_word, profile_option, required_word, store_option, user_flag};
 ghost use Rattle.dconf_command.specs.Taken.{rule_of_word};
 
 use clap::{Arg, ArgAction};
@@ -13,6 +13,11 @@ use std::alloc::Global;
 pub(crate) enum Word<'a> {
     /// One that must be there, in its place.
     Required {
+        name: &'a str,
+        help: &'a str,
+    },
+    /// One that may be there, in its place.
+    Optional {
         name: &'a str,
         help: &'a str,
     },
@@ -27,10 +32,14 @@ pub(crate) enum Word<'a> {
         letter: char,
         help: &'a str,
     },
-    /// `--locks FILE`.
+    /// `--locks FILE`, any number of times.
     Locks,
     /// `-p FILE`.
     Profile,
+    /// `--user`.
+    User,
+    /// `--store FOLDER`.
+    Store,
 }
 
 /// The type of a value.
@@ -81,6 +90,12 @@ pub(crate) const KEYFILE: Word<'static> = Word::Further {
     help: "a keyfile to compile",
 };
 
+/// The folder whose databases are made.
+pub(crate) const FOLDER: Word<'static> = Word::Optional {
+    name: "FOLDER",
+    help: "the folder of the sources and databases [default: /etc/dconfdb]",
+};
+
 /// Whether the user's values are left aside.
 pub(crate) const DEFAULT: Word<'static> = Word::Flag {
     name: "default",
@@ -110,10 +125,13 @@ impl<'a> Word<'a> {
     {
         match self {
             Word::Required { name, help } => required(alloc, name, help),
+            Word::Optional { name, help } => optional(alloc, name, help),
             Word::Further { name, help } => further(alloc, name, help),
             Word::Flag { name, letter, help } => flag(alloc, name, letter, help),
             Word::Locks => locks(alloc),
             Word::Profile => profile(alloc),
+            Word::User => user(alloc),
+            Word::Store => store(alloc),
         }
     }
 }
@@ -126,6 +144,13 @@ fn required<'a>(alloc: Global, name: &'a str, help: &'a str) -> Arg<'a>
         .required(true)
         .action(ArgAction::Set)
         .help(help)
+}
+
+fn optional<'a>(alloc: Global, name: &'a str, help: &'a str) -> Arg<'a>
+    ensures rule { rule_of result ≡ optional_word name.now }
+    ensures own { result.global ≡ false }
+{
+    Arg::new(alloc, name).action(ArgAction::Set).help(help)
 }
 
 fn further<'a>(alloc: Global, name: &'a str, help: &'a str) -> Arg<'a>
@@ -152,8 +177,8 @@ fn locks<'a>(alloc: Global) -> Arg<'a>
     Arg::new(alloc, "locks")
         .long("locks")
         .value_name("FILE")
-        .action(ArgAction::Set)
-        .help("a file of paths to lock, one per line")
+        .action(ArgAction::Append)
+        .help("a file of paths to lock, one per line; may be given more than once")
 }
 
 fn profile<'a>(alloc: Global) -> Arg<'a>
@@ -165,4 +190,25 @@ fn profile<'a>(alloc: Global) -> Arg<'a>
         .value_name("FILE")
         .action(ArgAction::Set)
         .help("the file that lists the databases [default: profile]")
+}
+
+fn user<'a>(alloc: Global) -> Arg<'a>
+    ensures rule { rule_of result ≡ user_flag }
+    ensures own { result.global ≡ false }
+{
+    Arg::new(alloc, "user")
+        .long("user")
+        .action(ArgAction::SetTrue)
+        .help("work on the store of the user, as programs do")
+}
+
+fn store<'a>(alloc: Global) -> Arg<'a>
+    ensures rule { rule_of result ≡ store_option }
+    ensures own { result.global ≡ false }
+{
+    Arg::new(alloc, "store")
+        .long("store")
+        .value_name("FOLDER")
+        .action(ArgAction::Set)
+        .help("work on the store in FOLDER, as programs do")
 }

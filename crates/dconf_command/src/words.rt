@@ -1,27 +1,28 @@
 //! The words of a command line: the command that they ask for, by what clap gives its arguments.
-ghost use Rattle.std.specs.Prelude.{◌≡◌, [], codes, List, IfOk, Some, map, option_map, string_bytes, unwrap_or, vec_items};
-ghost use Rattle.clap.specs.Words.{FailsBy, Text, fault_of, first_value, found_of, matched_of, raw_values};
-ghost use Rattle.dconf_command.specs.Asked.{AreOf, HasValue, IsAskedBy, IsParsedBy, is_set, profile_file};
+ghost use Rattle.std.specs.Prelude.{◌≡◌, ◌≢◌, [], codes, List, IfOk, Some, map, option_map, string_bytes, unwrap_or, vec_items};
+ghost use Rattle.clap.specs.Words.{FailsBy, Text, fault_of, first_value, found_of, matched_of, raw_values, subcommand_name_of};
+ghost use Rattle.dconf_command.specs.Asked.{AreOf, Asks, AsksToUpdate, HasValue, IsAskedBy, IsParsedBy, IsPlacedBy, is_set, profile_file};
 ghost use Rattle.dconf_command.specs.CommandLine.{command_line};
 
 use crate::asked::Command;
 use crate::command_line::dconfdb;
+use crate::place::{Asked, Place};
 use clap::ArgMatches;
 use std::alloc::{AllocError, Global};
 
-/// The command that the words ask for, where the first word is the program's name and a word after
+/// What the words ask for, where the first word is the program's name and a word after
 /// `--` is a value even if it starts with `-`.
 ///
 /// An error is clap's own: its `Display` is the text for the user, and its `exit_code` the status.
 /// It is a fault in the words, a request for help or the version, or `OutOfMemory`.
 ///
 /// It costs a few short lists for clap, and a copy of the words in the answer.
-pub fn command(alloc: Global, words: &[String]) -> Result<Command, clap::Error>
-    ensures asked { IfOk result (IsAskedBy (map string_bytes words.now)) }
+pub fn command(alloc: Global, words: &[String]) -> Result<Asked, clap::Error>
+    ensures asked { IfOk result (Asks (map string_bytes words.now)) }
     ensures faults { FailsBy (fault_of command_line (map string_bytes words.now)) result }
 {
     let matches = parsed(alloc, words)?;
-    Ok(asked(alloc, &matches)?)
+    Ok(all_asked(alloc, &matches)?)
 }
 
 /// What clap gives the arguments.
@@ -32,9 +33,40 @@ fn parsed<'a>(alloc: Global, words: &'a [String]) -> Result<ArgMatches<'a>, clap
     dconfdb(alloc)?.try_get_matches_from(words)
 }
 
+/// What was asked for, with its values.
+fn all_asked(alloc: Global, matches: &ArgMatches<'_>) -> Result<Asked, AllocError>
+    requires { (words : List Text) × IsParsedBy words matches.now }
+    ensures { IfOk result (λ asked. (words : List Text) → IsParsedBy words matches.now → Asks words asked) }
+{
+    if let Some(update) = matches.subcommand_matches("update") {
+        return Ok(Asked::Update {
+            folder: value_if_any(alloc, update, "FOLDER")?,
+        });
+    }
+    let place = placed(alloc, matches)?;
+    Ok(Asked::Run {
+        command: asked(alloc, matches)?,
+        place,
+    })
+}
+
+/// Where the store of the command is.
+fn placed(alloc: Global, matches: &ArgMatches<'_>) -> Result<Place, AllocError>
+    requires { (words : List Text) × IsParsedBy words matches.now }
+    ensures { IfOk result (λ place. (words : List Text) → IsParsedBy words matches.now → IsPlacedBy words place) }
+{
+    let (_, named) = matches.subcommand().unwrap();
+    Ok(Place {
+        is_users: is_given(named, "user"),
+        folder: value_if_any(alloc, named, "store")?,
+        profile: value_if_any(alloc, named, "profile")?,
+    })
+}
+
 /// The command that was named, with its values.
 fn asked(alloc: Global, matches: &ArgMatches<'_>) -> Result<Command, AllocError>
-    requires { (words : List Text) × IsParsedBy words matches.now }
+    requires parsed { (words : List Text) × IsParsedBy words matches.now }
+    requires other { subcommand_name_of matches.now ≢ Some (codes "update") }
     ensures { IfOk result (λ command. (words : List Text) → IsParsedBy words matches.now → IsAskedBy words command) }
 {
     if let Some(check) = matches.subcommand_matches("check") {
@@ -83,14 +115,14 @@ fn check_asked(alloc: Global, check: &ArgMatches<'_>) -> Result<Command, AllocEr
     })
 }
 
-/// `compile OUT [--locks FILE] [KEYFILE..]`.
+/// `compile OUT [--locks FILE].. [KEYFILE..]`.
 fn compile_asked(alloc: Global, compile: &ArgMatches<'_>) -> Result<Command, AllocError>
     requires { HasValue compile.now (codes "OUT") }
     ensures { IfOk result (λ command. (words : List Text) → AreOf words (codes "compile") compile.now → IsAskedBy words command) }
 {
     Ok(Command::Compile {
         out: value(alloc, compile, "OUT")?,
-        locks: value_if_any(alloc, compile, "locks")?,
+        locks: values(alloc, compile, "locks")?,
         keyfiles: values(alloc, compile, "KEYFILE")?,
     })
 }

@@ -4,11 +4,11 @@ use Rattle.clap.specs.Words.{FailsBy, HasKind, fault_of}
 use Rattle.dconf_command.specs.CommandLine.{command_line}
 use Rattle.dconf_command.proofs.words.command.Goals as goal
 
-pub asked-requires : goal.asked-requires
-asked-requires c = (map string_bytes c.args.words.now, c.in_ok-matches.ensures.ok)
+pub all_asked-requires : goal.all_asked-requires
+all_asked-requires c = (map string_bytes c.args.words.now, c.in_ok-matches.ensures.ok)
 
 pub returns-clause-asked : goal.returns-clause-asked
-returns-clause-asked c = c.in_ok-asked.ensures (map string_bytes c.args.words.now) c.in_ok-matches.ensures.ok
+returns-clause-asked c = c.in_ok-all_asked.ensures (map string_bytes c.args.words.now) c.in_ok-matches.ensures.ok
 
 pub returns-clause-faults : goal.returns-clause-faults
 returns-clause-faults c = c.in_ok-matches.ensures.ok.sound
