@@ -14,5 +14,5 @@ mod command_run;
 mod outcome;
 
 pub use command_run::run;
-pub use dconf_command::{Command, command};
+pub use dconf_command::{Asked, Command, command};
 pub use dconf_streams::{Counted, InputFault, read_input};

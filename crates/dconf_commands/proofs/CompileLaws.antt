@@ -1,7 +1,6 @@
--- What `compile` decides by the keyfiles and the lock file, or by the first that can't be read.
+-- What `compile` decides by the keyfiles and lock files, or by the first that can't be read.
 use Rattle.std.proofs.Common.{◌≡◌, ◌+◌, ◌∷◌, ℕ, List, [], length, map, Option, Some, None, refl, sym, ap, subst, arith}
-use Rattle.std.specs.Prelude.{Err, IfSome, MatchOption, option_map, option_to_list, string_bytes}
-use Rattle.std.specs.declared.string.String.{String}
+use Rattle.std.specs.Prelude.{Err, IfSome}
 use Rattle.dconf_disk.specs.declared.folder.Folder.{Ghosts}
 use Rattle.dconf_model.specs.Databases.{IsCompiled}
 use Rattle.dconf_model.specs.FaultTexts.{line_fault_text}
@@ -43,12 +42,6 @@ no_sources reads n (name ∷ names) Go o h =
     go over_size each refusal = refusal
     go failed each refusal = refusal
 
--- the texts of a slice that holds one or none
-pub texts_if_any : {Z : Type 0} (given : Option (String Z)) (texts : List (String Z)) → MatchOption given (texts ≡ []) (λ text. texts ≡ text ∷ [])
-    → map string_bytes texts ≡ option_to_list (option_map string_bytes given)
-texts_if_any None texts same = ap (map string_bytes) same
-texts_if_any (Some text) texts same = ap (map string_bytes) same
-
 module _ {F : Type 0} (ghosts : Ghosts F) where
   -- by the bytes of several files
   decides_by_files : (old new : F) (n : ℕ) (files : List Source) (answer : Answered) (Go : List Source → Outcome → Type 0)
@@ -66,33 +59,30 @@ module _ {F : Type 0} (ghosts : Ghosts F) where
       decides_also ghosts old new n answer (λ reads. WithFiles reads n names NoSources) (λ reads. WithFiles reads n names Go)
       (λ reads o h. no_sources reads n names Go o h) d
 
-  module _ (out : List ℕ) (lock_name : Option (List ℕ)) (names : List (List ℕ)) (answer : Answered) (input : Input) where
+  module _ (out : List ℕ) (lock_names : List (List ℕ)) (names : List (List ℕ)) (answer : Answered) (input : Input) where
     abbrev AsCompile : F → F → Type 0
-    AsCompile old new = Decides ghosts old new 0 (λ reads. IsOutcome (compile out lock_name names) reads input) answer
+    AsCompile old new = Decides ghosts old new 0 (λ reads. IsOutcome (compile out lock_names names) reads input) answer
 
     pub compiles_no_files : (old new : F) → Decides ghosts old new 0 (λ reads. WithFiles reads 0 names NoSources) answer → AsCompile old new
     compiles_no_files old new d =
-        decides_also ghosts old new 0 answer (λ reads. WithFiles reads 0 names NoSources) (λ reads. IsOutcome (compile out lock_name names) reads input)
-        (λ reads o h. no_sources reads 0 names (λ files. WithFiles reads (length names) (option_to_list lock_name) (Compiles out files)) o h) d
+        decides_also ghosts old new 0 answer (λ reads. WithFiles reads 0 names NoSources) (λ reads. IsOutcome (compile out lock_names names) reads input)
+        (λ reads o h. no_sources reads 0 names (λ files. WithFiles reads (length names) lock_names (Compiles out files)) o h) d
 
     module _ (old mid new : F) (files : List Source) (named : map (λ s. s.name) files ≡ names) (h : HasRead ghosts old mid (reads_of files)) where
-      compiles_then : ((n : ℕ) → Decides ghosts mid new n (λ reads. WithFiles reads n (option_to_list lock_name) (Compiles out files)) answer)
+      compiles_then : ((n : ℕ) → Decides ghosts mid new n (λ reads. WithFiles reads n lock_names (Compiles out files)) answer)
           → AsCompile old new
       compiles_then each =
           let n = 0 + length (reads_of files) in
-          decides_later ghosts old mid new 0 (reads_of files) answer (λ reads. WithFiles reads n (option_to_list lock_name) (Compiles out files))
-          (λ reads. IsOutcome (compile out lock_name names) reads input) h (all_read files)
-          (λ reads gave o g. subst (λ (ns : List (List ℕ)). WithFiles reads 0 ns (λ fs. WithFiles reads (length ns) (option_to_list lock_name) (Compiles out fs)) o) named
-          (with_all reads 0 files (λ fs. WithFiles reads (length (map (λ s. s.name) files)) (option_to_list lock_name) (Compiles out fs)) o gave
-          (subst (λ (k : ℕ). WithFiles reads k (option_to_list lock_name) (Compiles out files) o) (length_names files) g))) (each n)
+          decides_later ghosts old mid new 0 (reads_of files) answer (λ reads. WithFiles reads n lock_names (Compiles out files))
+          (λ reads. IsOutcome (compile out lock_names names) reads input) h (all_read files)
+          (λ reads gave o g. subst (λ (ns : List (List ℕ)). WithFiles reads 0 ns (λ fs. WithFiles reads (length ns) lock_names (Compiles out fs)) o) named
+          (with_all reads 0 files (λ fs. WithFiles reads (length (map (λ s. s.name) files)) lock_names (Compiles out fs)) o gave
+          (subst (λ (k : ℕ). WithFiles reads k lock_names (Compiles out files) o) (length_names files) g))) (each n)
 
-      pub compiles_no_locks : (lock_names : List (List ℕ)) → lock_names ≡ option_to_list lock_name
-          → ((n : ℕ) → Decides ghosts mid new n (λ reads. WithFiles reads n lock_names NoSources) answer) → AsCompile old new
-      compiles_no_locks lock_names is d =
-          compiles_then (λ n. subst (λ (ns : List (List ℕ)). Decides ghosts mid new n (λ reads. WithFiles reads n ns (Compiles out files)) answer) is
-          (decides_without_files mid new n lock_names answer (Compiles out files) (d n)))
+      pub compiles_no_locks : ((n : ℕ) → Decides ghosts mid new n (λ reads. WithFiles reads n lock_names NoSources) answer) → AsCompile old new
+      compiles_no_locks d = compiles_then (λ n. decides_without_files mid new n lock_names answer (Compiles out files) (d n))
 
-      pub compiles_all : (locks : List Source) → map (λ s. s.name) locks ≡ option_to_list lock_name → HasRead ghosts mid new (reads_of locks)
+      pub compiles_all : (locks : List Source) → map (λ s. s.name) locks ≡ lock_names → HasRead ghosts mid new (reads_of locks)
           → GivesOutcome answer (Compiles out files locks) → AsCompile old new
       compiles_all locks is h_locks made =
           compiles_then (λ n. subst (λ (ns : List (List ℕ)). Decides ghosts mid new n (λ reads. WithFiles reads n ns (Compiles out files)) answer) is

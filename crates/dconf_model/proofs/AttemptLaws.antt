@@ -297,9 +297,9 @@ module _ (profile : List ℕ) (d : Database) (ds : List Database) (apart : AreAp
 
   makes_rows : (command : Command) (input : Input) (old : List Event) (reads : ReadResults) (out : List ℕ) (o : Outcome) → PutsFile command out → ReadsFrom old reads →
       IsOutcome command reads input o → Refuses o ⊎ ((g : Given) × PutsRows (read_content old) command out g × Makes out g o)
-  makes_rows _ input old reads _ o (compiling out lock_name names) from is = elim (compile_makes old reads out lock_name names input o from is) [
+  makes_rows _ input old reads _ o (compiling out lock_names names) from is = elim (compile_makes old reads out lock_names names input o from is) [
     | inl why ↦ inl why
-    | inr made ↦ inr (made.0, compiled_rows out lock_name names made.0 made.1, made.2)
+    | inr made ↦ inr (made.0, compiled_rows out lock_names names made.0 made.1, made.2)
   ]
   makes_rows _ input old reads _ o (repairing file out) from is = elim (repair_makes old reads file out input o from is) [
     | inl why ↦ inl why

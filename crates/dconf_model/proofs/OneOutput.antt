@@ -249,8 +249,8 @@ one_output (load force directory profile) reads input =
     (input_one (read_failed input) (OrLine (codes "input") (loaded directory input.bytes) (λ rows. Changes reads profile (paths_of rows) (load_values rows force)))
     (line_one (codes "input") (loaded directory input.bytes) (λ rows. Changes reads profile (paths_of rows) (load_values rows force))
     (λ rows. changes_one reads profile (paths_of rows) (load_values rows force))))
-one_output (compile out lock_name names) reads input =
-    files_one reads 0 names (λ files. WithFiles reads (length names) (option_to_list lock_name) (λ locks. Compiles out files locks))
-    (λ files. files_one reads (length names) (option_to_list lock_name) (λ locks. Compiles out files locks) (λ locks. compiles_one out files locks))
+one_output (compile out lock_names names) reads input =
+    files_one reads 0 names (λ files. WithFiles reads (length names) lock_names (λ locks. Compiles out files locks))
+    (λ files. files_one reads (length names) lock_names (λ locks. Compiles out files locks) (λ locks. compiles_one out files locks))
 one_output (check file) reads input = read_one file (reads 0 file) Checks checks_one
 one_output (repair file out) reads input = read_one file (reads 0 file) (Repairs out) (repairs_one out)

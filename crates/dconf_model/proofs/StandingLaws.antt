@@ -18,9 +18,9 @@ use Rattle.dconf_model.proofs.CompiledFolders.{compile_gives, repair_gives, put_
 
 -- a command that changes the first database, or no file, puts none in place
 pub puts_none : (profile : List ℕ) (command : Command) (out : List ℕ) → IsChangeOf profile command ⊎ OnlyReads command → ¬ PutsFile command out
-puts_none profile _ _ (inl change) (compiling out lock_name names) = change
+puts_none profile _ _ (inl change) (compiling out lock_names names) = change
 puts_none profile _ _ (inl change) (repairing file out) = change
-puts_none profile _ _ (inr reads) (compiling out lock_name names) = reads
+puts_none profile _ _ (inr reads) (compiling out lock_names names) = reads
 puts_none profile _ _ (inr reads) (repairing file out) = reads
 
 -- ---- a run that puts a file in place
@@ -33,8 +33,8 @@ record HasPut (command : Command) (input : Input) (old new : List Event) (output
 
 has_put : (command : Command) (input : Input) (old new : List Event) (output : Output) (out : List ℕ) → PutsFile command out → RanCalmly command input old new output →
     HasPut command input old new output out ⊎ ((output.status ≡ 1) × (new ≡ old))
-has_put _ input old new output _ (compiling out lock_name names) ran = elim (compile_gives out lock_name names input old new output ran) [
-  | inl c ↦ inl (record { g = c.1.0; done = c.0; rows = compiled_rows out lock_name names c.1.0 c.1.1.sources; put = c.1.1.put })
+has_put _ input old new output _ (compiling out lock_names names) ran = elim (compile_gives out lock_names names input old new output ran) [
+  | inl c ↦ inl (record { g = c.1.0; done = c.0; rows = compiled_rows out lock_names names c.1.0 c.1.1.sources; put = c.1.1.put })
   | inr nothing ↦ inr nothing
 ]
 has_put _ input old new output _ (repairing file out) ran = elim (repair_gives file out input old new output ran) [

@@ -38,13 +38,13 @@ with_put out g d ds s = record { own = own_compiled out g d s.own; others = give
 
 -- the file that a command puts in place
 pub data PutsFile : Command → List ℕ → Type 0 where
-  compiling : (out : List ℕ) (lock_name : Option (List ℕ)) (names : List (List ℕ)) → PutsFile (compile out lock_name names) out
+  compiling : (out : List ℕ) (lock_names : List (List ℕ)) (names : List (List ℕ)) → PutsFile (compile out lock_names names) out
   repairing : (file out : List ℕ) → PutsFile (repair file out) out
 
 -- and what it gives, by the files of a folder
 pub data PutsRows (content : Content) : Command → List ℕ → Given → Type 0 where
-  compiling : (out : List ℕ) (lock_name : Option (List ℕ)) (names : List (List ℕ)) (g : Given) → SourcesGive content lock_name names g →
-      PutsRows content (compile out lock_name names) out g
+  compiling : (out : List ℕ) (lock_names : List (List ℕ)) (names : List (List ℕ)) (g : Given) → SourcesGive content lock_names names g →
+      PutsRows content (compile out lock_names names) out g
   repairing : (file out : List ℕ) (g : Given) → SalvageGives content file g → PutsRows content (repair file out) out g
 
 -- What a command makes of it that is done: it puts a file in place, or makes the change that it asks

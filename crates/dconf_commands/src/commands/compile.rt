@@ -1,5 +1,5 @@
-//! `compile OUT [--locks FILE] [KEYFILE..]`: the database of keyfiles and a lock file, or their first fault.
-ghost use Rattle.std.specs.Prelude.{◌≡◌, [], Err, IfOk, IfSome, map, option_map, string_bytes, vec_items};
+//! `compile OUT [--locks FILE].. [KEYFILE..]`: the database of keyfiles and lock files, or their first fault.
+ghost use Rattle.std.specs.Prelude.{◌≡◌, [], Err, IfOk, IfSome, map, string_bytes, vec_items};
 ghost use Rattle.dconf_compile.specs.CompileFaults.{fault_of, no_memory};
 ghost use Rattle.dconf_compile.specs.Sources.{sources_of};
 ghost use Rattle.dconf_model.specs.Commands.Command.{compile as compile_of};
@@ -19,15 +19,15 @@ use std::alloc::{AllocError, Global};
 pub(crate) fn compile<F: Folder>(
     alloc: Global,
     out: &str,
-    locks: &Option<String>,
+    locks: &[String],
     keyfiles: &[String],
     folder: &mut F,
 ) -> Result<Answer, Refusal>
     ensures { (input : Input) → Decides F.Folder folder.old folder.new 0
-        (λ reads. IsOutcome (compile_of out.now (option_map string_bytes locks.now) (map string_bytes keyfiles.now)) reads input) result }
+        (λ reads. IsOutcome (compile_of out.now (map string_bytes locks.now) (map string_bytes keyfiles.now)) reads input) result }
 {
     let keyfiles = files(alloc, folder, keyfiles)?;
-    let locks = files(alloc, folder, locks.as_slice())?;
+    let locks = files(alloc, folder, locks)?;
     compiled(alloc, out, &keyfiles, &locks)
 }
 

@@ -72,11 +72,13 @@ returns-in-Compile-clause-answer g c =
     let given = g.I.Read.remaining (inner_of c.args.input.now) in
     let input = input_of given in
     let D : Command → Type 0 = λ k. Decides g.F.Folder c.args.folder.now c.compile.new.folder 0 (λ reads. IsOutcome k reads input) c.compile.result in
-    let locks = option_map string_bytes c.in-Compile.locks in (
+    let locks = map string_bytes (vec_items c.in-Compile.locks) in (
       input,
       took g.I.Read.remaining c.args.input.now,
       subst (λ k. D (command_of k)) (sym c.in-Compile.is) (subst (λ n. D (compile n locks (map string_bytes (vec_items c.in-Compile.keyfiles)))) c.as_str-in-Compile.ensures.value
-          (subst (λ names. D (compile c.as_str-in-Compile.result.now locks (map string_bytes names))) c.deref.ensures.value (c.compile.ensures input))),
+          (subst (λ names. D (compile c.as_str-in-Compile.result.now locks (map string_bytes names))) c.deref-in-Compile.ensures.value
+          (subst (λ names. D (compile c.as_str-in-Compile.result.now (map string_bytes names) (map string_bytes c.deref-in-Compile.result.now))) c.deref.ensures.value
+          (c.compile.ensures input)))),
     )
 
 pub returns-in-Compile-clause-limit : goal.returns-in-Compile-clause-limit
