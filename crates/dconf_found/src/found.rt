@@ -1,5 +1,5 @@
 //! A folder in which bad databases count as what can be saved of them.
-ghost use Rattle.std.specs.Prelude.{◌≡◌, ◌≤◌, ℕ, IfOk, IfSome, length, string_bytes};
+ghost use Rattle.std.specs.Prelude.{◌≡◌, ◌≤◌, ℕ, IfOk, IfSome, IsTrue, length, string_bytes};
 ghost use Rattle.dconf_disk.specs.Failures.{HasCause};
 
 use crate::counting::{Counting, Loss, counted};
@@ -62,6 +62,8 @@ impl<F: Folder> FoundFolder<F> {
     fn read_profile(&mut self, alloc: Global, name: &str) -> Result<Option<Vec<u8>>, FolderFault>
         ensures size { IfOk result (λ found. IfSome found (λ v. length v.items ≤ LARGEST_FILE)) }
         ensures cause { HasCause (F.failed (inner_of self.old)) (F.failed (inner_of self.new)) result }
+        ensures honest { IsTrue (F.honest (inner_of self.new)) → IsTrue (F.honest (inner_of self.old)) }
+        ensures turn { F.holds_turn (inner_of self.new) ≡ F.holds_turn (inner_of self.old) }
     {
         if self.has_profile {
             return self.inner.read(alloc, name);
@@ -76,6 +78,8 @@ impl<F: Folder> FoundFolder<F> {
     fn read_database(&mut self, alloc: Global, name: &str) -> Result<Option<Vec<u8>>, FolderFault>
         ensures size { IfOk result (λ found. IfSome found (λ v. length v.items ≤ LARGEST_FILE)) }
         ensures cause { HasCause (F.failed (inner_of self.old)) (F.failed (inner_of self.new)) result }
+        ensures honest { IsTrue (F.honest (inner_of self.new)) → IsTrue (F.honest (inner_of self.old)) }
+        ensures turn { F.holds_turn (inner_of self.new) ≡ F.holds_turn (inner_of self.old) }
     {
         let Some(bytes) = self.inner.read(alloc, name)? else {
             return Ok(None);
@@ -92,6 +96,8 @@ impl<F: Folder> FoundFolder<F> {
     ) -> Result<Option<Vec<u8>>, FolderFault>
         ensures size { IfOk result (λ found. IfSome found (λ v. length v.items ≤ LARGEST_FILE)) }
         ensures cause { HasCause (F.failed (inner_of self.old)) (F.failed (inner_of self.new)) result }
+        ensures honest { IsTrue (F.honest (inner_of self.new)) → IsTrue (F.honest (inner_of self.old)) }
+        ensures turn { F.holds_turn (inner_of self.new) ≡ F.holds_turn (inner_of self.old) }
     {
         match counted(alloc, bytes) {
             Ok(found) => self.keep(alloc, name, found),
@@ -109,6 +115,8 @@ impl<F: Folder> FoundFolder<F> {
     ) -> Result<Option<Vec<u8>>, FolderFault>
         ensures size { IfOk result (λ found. IfSome found (λ v. length v.items ≤ LARGEST_FILE)) }
         ensures cause { HasCause (F.failed (inner_of self.old)) (F.failed (inner_of self.new)) result }
+        ensures honest { IsTrue (F.honest (inner_of self.new)) → IsTrue (F.honest (inner_of self.old)) }
+        ensures turn { F.holds_turn (inner_of self.new) ≡ F.holds_turn (inner_of self.old) }
     {
         if let Some(loss) = found.loss {
             note(alloc, &mut self.bad, name, loss)?;
@@ -150,6 +158,10 @@ impl<F: Folder> Folder for FoundFolder<F> {
 
     // Nothing is said of what was done to it: its reads aren't what its files hold.
     ghost past = { λ _ _. ⊥ };
+
+    ghost honest = { λ folder. F.honest (inner_of folder) };
+
+    ghost holds_turn = { λ folder. F.holds_turn (inner_of folder) };
 
     ghost failed = { λ folder. F.failed (inner_of folder) };
 

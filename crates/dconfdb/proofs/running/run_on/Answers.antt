@@ -3,7 +3,7 @@ use Rattle.dconf_model.specs.Folders.{Event}
 use Rattle.dconf_model.specs.Runs.{Ran, RanCalmly}
 use Rattle.dconf_command.specs.Commands.{command_of}
 use Rattle.dconf_disk.specs.StdFolders.{events_of}
-use Rattle.dconfdb.proofs.run_on.Goals as goal
+use Rattle.dconfdb.proofs.running.run_on.Goals as goal
 
 pub returns-clause-calm : goal.returns-clause-calm
 returns-clause-calm c = λ honest none.
