@@ -11,6 +11,8 @@ mod failing;
 #[cfg(test)]
 mod faults;
 #[cfg(test)]
+mod found;
+#[cfg(test)]
 mod input;
 #[cfg(test)]
 mod layers;

@@ -3,7 +3,7 @@
 //! A run begins with `$ ` and the words after the program's name. Its input follows from the next line on, if it has any; then `=> ` and the
 //! status, the lines on out, and after `! ` what is on err. No text of a script has a `$` or a `=> ` of its own.
 use crate::streams::{Source, Streams};
-use dconf_cli::{Command, command, run};
+use dconf_cli::{Asked, Command, command, run};
 use dconf_disk::{Folder, MemoryFolder};
 use std::alloc::{AllocError, Global};
 use std::test::Fail;
@@ -36,7 +36,8 @@ pub(crate) fn left_on<F: Folder>(
     streams: &mut Streams<'_>,
 ) -> Result<String, Fail> {
     match command(alloc, &words_of(alloc, words)?) {
-        Ok(asked) => Ok(left_by(alloc, asked, folder, streams)?),
+        Ok(Asked::Run { command, .. }) => Ok(left_by(alloc, command, folder, streams)?),
+        Ok(Asked::Update { .. }) => Err(Fail::new("an update is no command of one folder")),
         Err(_) => Err(Fail::new("the words are refused")),
     }
 }
