@@ -23,10 +23,11 @@ use Rattle.dconf_model.specs.Layers.{Layers, visible, without_user, child_names,
 use Rattle.dconf_model.specs.Changes.{Change, Refusal, apply, saved, paths_of}
 use Rattle.dconf_model.specs.Changes.Change.{set_value, reset_value, reset_below_directory, load_values}
 use Rattle.dconf_model.specs.Salvaging.{IsSalvaged}
+use Rattle.dconf_model.specs.Commands.{Command}
 use Rattle.dconf_model.specs.Commands.Command.{show, read, list, list_locks, write, reset, reset_below, dump, load, origin, compile, check, repair}
-use Rattle.dconf_model.specs.Reads.{FileRead, ReadResults}
+use Rattle.dconf_model.specs.Reads.{FileRead, Input, ReadResults}
 use Rattle.dconf_model.specs.Reads.FileRead.{no_file, holds, over_size, failed}
-use Rattle.dconf_model.specs.Outcomes.{Gives, Outcome, UnlessFault, WithType, OrCause, OrLine, OrNoRead, WithFile, WithFiles, UnlessFailed, WithRows, OrNoDatabase, WithDatabases, WithLayers, WithStore, Writes, Saves, Changes, Compiles, Checks, Repairs, refused, done, verdict_text, shown_outcome, shown_if_any, lines_text, origin_text, dump_of, settings_at, refusal_text, compile_output, check_output, kept_text, value_of_word, read_failed}
+use Rattle.dconf_model.specs.Outcomes.{Gives, IsOutcome, Outcome, Output, UnlessFault, WithType, OrCause, OrLine, OrNoRead, WithFile, WithFiles, UnlessFailed, WithRows, OrNoDatabase, WithDatabases, WithLayers, WithStore, Writes, Saves, Changes, Compiles, Checks, Repairs, refused, done, verdict_text, shown_outcome, shown_if_any, lines_text, origin_text, dump_of, settings_at, refusal_text, compile_output, check_output, kept_text, value_of_word, read_failed}
 use Rattle.dconf_model.specs.Runs.{OneOutput}
 use Rattle.dconf_model.proofs.OpenLaws as opens
 use Rattle.dconf_model.proofs.SoundLaws.{sound_has_no_fault, one_first_fault}
@@ -254,3 +255,16 @@ one_output (compile out lock_names names) reads input =
     (λ files. files_one reads (length names) lock_names (λ locks. Compiles out files locks) (λ locks. compiles_one out files locks))
 one_output (check file) reads input = read_one file (reads 0 file) Checks checks_one
 one_output (repair file out) reads input = read_one file (reads 0 file) (Repairs out) (repairs_one out)
+
+-- ---- a second output
+
+-- the same outcome with a line more on out
+abbrev with_line : Outcome → Outcome
+with_line o = record { output = record { out = 10 ∷ o.output.out; err = o.output.err; status = o.output.status }; change = o.change }
+
+-- no command may leave that, too
+no_second_output : (command : Command) (reads : ReadResults) (input : Input) (o : Outcome) → IsOutcome command reads input o →
+    IsOutcome command reads input (with_line o) → ⊥
+no_second_output command reads input o is second =
+    let same = ap (λ (p : Output). length p.out) (one_output command reads input o (with_line o) is second) in
+    absurd (omega (arith, same))
