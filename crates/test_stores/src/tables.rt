@@ -207,6 +207,8 @@ fn tables_are_searched_and_items_have_names(rt: HostRuntime) -> Result<(), Fail>
     hold(alloc, Question::Item, ITEMS)?;
     hold(alloc, Question::Alike, ALIKE)?;
     let half = file_of(alloc, "locked 56=155")?;
-    assert!(rt; has_its_lock(sample("locked"), &half)? && are_hashed() && lies_there(sample("plain"))?);
+    assert!(rt;
+        has_its_lock(sample("locked"), &half)? && are_hashed() && lies_there(sample("plain"))?
+    );
     Ok(())
 }
