@@ -113,6 +113,15 @@ def often(title, case, times, slack=None):
     told(f'{title}, of {times}', found, lambda ours, theirs: ours >= theirs - few)
 
 
+def least(title, case, times, is_fine):
+    """The least of several, as whatever else runs only makes it more; the backends take turns."""
+    found = {kind: [] for kind in KINDS}
+    for _ in range(times):
+        for kind in KINDS:
+            found[kind].append(asked(case, kind))
+    told(f'{title}, least of {times}', {kind: min(them) for kind, them in found.items()}, is_fine)
+
+
 def in_turns(title, asks, times, is_fine):
     """The median of what is asked of both; the backends take turns."""
     both = [Home(kind).begins() for kind in KINDS]
