@@ -3,9 +3,9 @@
 use crate::samples::sample;
 use dconf_engine::Layer;
 use dconfdb_calls::{
-    DconfdbChange, DconfdbFound, Fault, Others, Turn, differing_keys, directory_locks,
+    DconfdbChange, DconfdbFound, Fault, differing_keys, directory_locks,
     directory_names, hand_out, is_key_locked, is_key_writable, keys_differing_first, open_layer,
-    open_layer_after, profile_databases, read, read_after, read_default, read_own, user_file,
+    open_layer_after, profile_databases, read, read_default, read_own, user_file,
 };
 use std::alloc::Global;
 use std::test::Fail;
@@ -157,20 +157,23 @@ fn refusal(alloc: Global, layers: &[Layer<'_>], changes: &[DconfdbChange<'_>]) -
     }
 }
 
-/// Whether 5 is read at `/a/j` after these turns, of a store that has nothing there.
-fn is_five_after(alloc: Global, turns: &[Turn<'_>]) -> bool {
-    let others = Others {
-        files: &[Some(sample("locked"))],
-        writable: true,
-    };
-    match read_after(alloc, Some(sample("plain")), others, turns, b"/a/j") {
-        Ok(Some(seen)) => {
-            seen.origin == 0
-                && seen.value.as_slice() == b"\x05\0\0\0".as_slice()
-                && seen.type_text.as_slice() == b"i".as_slice()
-        }
-        _ => false,
+/// The user's file that changes make of one, beside a site's.
+fn changed(alloc: Global, file: &[u8], changes: &[DconfdbChange<'_>]) -> Option<Vec<u8>> {
+    let layers = [
+        open_layer(file, true).ok()?,
+        open_layer(sample("locked"), true).ok()?,
+    ];
+    user_file(alloc, &layers, true, changes).ok()
+}
+
+/// Whether 5 is read at `/a/j` after these changes, each of them made in the file that came of the one before.
+fn is_five_after(alloc: Global, changes: &[DconfdbChange<'_>]) -> Option<bool> {
+    let mut file = sample("plain").to_vec(alloc).ok()?;
+    for change in changes {
+        file = changed(alloc, &file, &[*change])?;
     }
+    let found = read(&[open_layer(&file, true).ok()?], b"/a/j");
+    Some(found.map(|it| it.value) == Some(b"\x05\0\0\0".as_slice()))
 }
 
 /// Whether changes are made, and refused by the first that is at fault.
@@ -181,21 +184,16 @@ fn are_refused(alloc: Global, layers: &[Layer<'_>]) -> bool {
         && refusal(alloc, layers, &[set, set, change(b"/a/", true)]) == (13, 2)
 }
 
-/// Whether what is read after turns is what was set.
+/// Whether what is read after changes is what was set.
 fn are_made(alloc: Global) -> bool {
-    let (sets, resets, below) = (
-        [change(b"/a/j", true)],
-        [change(b"/a/j", false)],
-        [change(b"/a/", false)],
+    let (set, reset, below) = (
+        change(b"/a/j", true),
+        change(b"/a/j", false),
+        change(b"/a/", false),
     );
-    let (sets, resets, below) = (
-        Turn { changes: &sets },
-        Turn { changes: &resets },
-        Turn { changes: &below },
-    );
-    is_five_after(alloc, &[sets, resets, sets])
-        && !is_five_after(alloc, &[sets, resets])
-        && !is_five_after(alloc, &[sets, below])
+    is_five_after(alloc, &[set, reset, set]) == Some(true)
+        && is_five_after(alloc, &[set, reset]) == Some(false)
+        && is_five_after(alloc, &[set, below]) == Some(false)
 }
 
 /// What is not as it should be.
