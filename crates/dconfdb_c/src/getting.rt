@@ -48,9 +48,7 @@ pub extern "C" fn dconfdb_text_in<'a>(
 {
     match text(type_text, value) {
         Some(s) => {
-            *found = DconfdbText {
-                text: s.as_bytes(),
-            };
+            *found = DconfdbText { text: s.as_bytes() };
             true
         }
         None => false,

@@ -3,9 +3,9 @@
 use crate::samples::sample;
 use dconf_engine::Layer;
 use dconfdb_calls::{
-    DconfdbChange, DconfdbFound, Fault, differing_keys, directory_locks,
-    directory_names, hand_out, is_key_locked, is_key_writable, keys_differing_first, open_layer,
-    open_layer_after, profile_databases, read, read_default, read_own, user_file,
+    DconfdbChange, DconfdbFound, Fault, differing_keys, directory_locks, directory_names, hand_out,
+    is_key_locked, is_key_writable, keys_differing_first, open_layer, open_layer_after,
+    profile_databases, read, read_default, read_own, user_file,
 };
 use std::alloc::Global;
 use std::test::Fail;
