@@ -206,7 +206,7 @@ static int hand_over(int file, mode_t mode, uid_t user, gid_t group)
     if (fstat(file, &made) != 0)
         return errno;
     bool is_others = made.st_uid != user || made.st_gid != group;
-    if (geteuid() == 0 && is_others && fchown(file, user, group) != 0)
+    if (is_others && geteuid() == 0 && fchown(file, user, group) != 0)
         return errno;
     return (made.st_mode & PERMISSION_BITS) != mode && fchmod(file, mode) != 0 ? errno : 0;
 }
