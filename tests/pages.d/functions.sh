@@ -55,7 +55,7 @@ compiles() {
 has_dconf() {
     mkdir -p /etc/dconfdb ~/.config/dconfdb
     cp -r share/dconfdb/. /etc/dconfdb
-    (cd /etc/dconfdb && dconfdb compile site.db --locks site.locks site.d/*)
+    dconfdb update
     rm -f ~/.config/dconfdb/*
     dbus-run-session -- dconf reset -f /
     dbus-run-session -- dconf write $desktop/interface/clock-format "'24h'"
