@@ -57,7 +57,7 @@ static void needs(bool done, const char *what) {
 /* ---- ours */
 
 static void our_start(void) {
-    DconfdbError error;
+    DconfdbError error = DCONFDB_ERROR_INIT;
     store = dconfdb_store_open(folder, &error);
     needs(store, store ? "" : error.text);
     now = dconfdb_store_snapshot(store);

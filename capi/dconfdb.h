@@ -5,7 +5,7 @@
  *
  *     int main(void)
  *     {
- *         DconfdbError error;
+ *         DconfdbError error = DCONFDB_ERROR_INIT;
  *         DconfdbStore *store = dconfdb_store_open(NULL, &error);
  *         if (!store)
  *             return fprintf(stderr, "%s\n", error.text), 1;
@@ -51,9 +51,9 @@
  * STACK. A call uses up to 256 KiB of its thread's stack, most of it for deeply nested values. A
  * thread with less may die in a call.
  *
- * ERRORS. Calls that may fail take a DconfdbError, or NULL if you don't need it. A call that
- * succeeds leaves it as it was. A call that fails leaves everything else it would write to
- * (`changed`, `size`) as it was. Nothing here ends the process, or prints.
+ * ERRORS. Calls that may fail take a DconfdbError, or NULL if you don't need it. Make it with
+ * DCONFDB_ERROR_INIT. A call that succeeds leaves it as it was. A call that fails leaves everything
+ * else it would write to (`changed`, `size`) as it was. Nothing here ends the process, or prints.
  *
  * BAD FILES. dconfdb_store_open refuses a store if a database, or a line of its profile, is bad.
  * dconfdb_store_open_lenient opens it, and a bad file doesn't affect the others. A database that is
@@ -75,7 +75,7 @@
  * read into memory: it may be changed in any way.
  *
  * A CALLER'S DUTIES. Nothing checks them. Pointers point to live objects, and are NULL only if
- * this header allows it. Texts end in a zero byte. No other thread changes memory that is passed to a
+ * this header allows it. A struct that has a `size` is made by its initialiser. Texts end in a zero byte. No other thread changes memory that is passed to a
  * call while the call runs. Lent memory is not written, and not used after the snapshot's last
  * reference is dropped; the library stays loaded as long as it is used. Each reference is dropped
  * once. What the caller has to free is freed once, with free().
@@ -94,6 +94,36 @@
 #include <stddef.h>
 #include <stdint.h>
 
+/* The version of this header. dconfdb_version() is that of the library which the program runs with. */
+#define DCONFDB_VERSION "0.2.0"
+#define DCONFDB_VERSION_MAJOR 0
+#define DCONFDB_VERSION_MINOR 2
+#define DCONFDB_VERSION_PATCH 0
+
+/* What a compiler is told of the calls: they are seen outside the library and throw nothing; what some return must
+ * be used; and the pointers at these places are never NULL. */
+#if defined(__GNUC__)
+#define DCONFDB_API __attribute__((visibility("default")))
+#define DCONFDB_NONNULL(places) __attribute__((nonnull places))
+#else
+#define DCONFDB_API
+#define DCONFDB_NONNULL(places)
+#endif
+#if (defined(__cplusplus) && __cplusplus >= 201703L) || (defined(__STDC_VERSION__) && __STDC_VERSION__ > 202000L)
+#define DCONFDB_NODISCARD [[nodiscard]]
+#elif defined(__GNUC__)
+#define DCONFDB_NODISCARD __attribute__((warn_unused_result))
+#else
+#define DCONFDB_NODISCARD
+#endif
+#if defined(__cplusplus) && __cplusplus >= 201103L
+#define DCONFDB_NOEXCEPT noexcept
+#elif defined(__cplusplus)
+#define DCONFDB_NOEXCEPT throw()
+#else
+#define DCONFDB_NOEXCEPT
+#endif
+
 #ifdef __cplusplus
 extern "C" {
 #endif
@@ -105,51 +135,60 @@ typedef struct DconfdbStore DconfdbStore;
 typedef struct DconfdbSnapshot DconfdbSnapshot;
 
 /* Why something failed. Numbers never change their meaning; later versions may add some. */
-enum {
+typedef enum DconfdbErrorCode {
     DCONFDB_ERROR_NONE = 0,
-    DCONFDB_ERROR_MEMORY = 1,          /* an allocation failed */
-    DCONFDB_ERROR_SHORT = 2,           /* a database: fewer bytes than a header */
-    DCONFDB_ERROR_BAD_SIGNATURE = 3,   /* .. it does not start as a database does */
-    DCONFDB_ERROR_BAD_VERSION = 4,     /* .. its version is not 0 */
-    DCONFDB_ERROR_BAD_ROOT = 5,        /* .. it has no root table */
-    DCONFDB_ERROR_BAD_TABLE = 6,       /* .. its root table does not fit */
-    DCONFDB_ERROR_UNSOUND = 7,         /* .. it breaks a rule of sound databases */
-    DCONFDB_ERROR_NOT_TEXT = 8,        /* the profile: it is not UTF-8 */
-    DCONFDB_ERROR_BAD_LINE = 9,        /* .. a line names no database */
-    DCONFDB_ERROR_SERVICE_DB = 10,     /* .. a line names a service-db */
-    DCONFDB_ERROR_USER_NOT_FIRST = 11, /* .. a line names a user-db that is not the first */
-    DCONFDB_ERROR_TOO_MANY = 12,       /* .. a line names the 65th database */
-    DCONFDB_ERROR_BAD_PATH = 13,       /* a path is not one of a key, or of a directory */
-    DCONFDB_ERROR_BAD_TYPE = 14,       /* a type text spells no type of 128 levels at most */
-    DCONFDB_ERROR_NOT_WRITABLE = 15,   /* the profile's first database is no user-db */
-    DCONFDB_ERROR_LOCKED = 16,         /* the key is locked */
-    DCONFDB_ERROR_TOO_LARGE = 17,      /* a value is nested too deep, or too long */
-    DCONFDB_ERROR_TOO_BIG = 18,        /* a file has more bytes than it may have, or would have */
-    DCONFDB_ERROR_DOUBLE_TEXT = 19,    /* a value to be printed holds a double */
-    DCONFDB_ERROR_FILE = 64,           /* a system call failed: `system` is its errno */
-    DCONFDB_ERROR_BUSY = 65,           /* others held the lock for ten seconds */
-    DCONFDB_ERROR_NO_FOLDER = 66       /* no folder is given, and none is found */
-};
+    DCONFDB_ERROR_MEMORY = 1,           /* an allocation failed */
+    DCONFDB_ERROR_SHORT = 2,            /* a database: fewer bytes than a header */
+    DCONFDB_ERROR_BAD_SIGNATURE = 3,    /* .. it does not start as a database does */
+    DCONFDB_ERROR_BAD_VERSION = 4,      /* .. its version is not 0 */
+    DCONFDB_ERROR_BAD_ROOT = 5,         /* .. it has no root table */
+    DCONFDB_ERROR_BAD_TABLE = 6,        /* .. its root table does not fit */
+    DCONFDB_ERROR_UNSOUND = 7,          /* .. it breaks a rule of sound databases */
+    DCONFDB_ERROR_NOT_TEXT = 8,         /* the profile: it is not UTF-8 */
+    DCONFDB_ERROR_BAD_LINE = 9,         /* .. a line names no database */
+    DCONFDB_ERROR_SERVICE_DB = 10,      /* .. a line names a service-db */
+    DCONFDB_ERROR_USER_NOT_FIRST = 11,  /* .. a line names a user-db that is not the first */
+    DCONFDB_ERROR_TOO_MANY = 12,        /* .. a line names the 65th database */
+    DCONFDB_ERROR_BAD_PATH = 13,        /* a path is not one of a key, or of a directory */
+    DCONFDB_ERROR_BAD_TYPE = 14,        /* a type text spells no type of 128 levels at most */
+    DCONFDB_ERROR_NOT_WRITABLE = 15,    /* the profile's first database is no user-db */
+    DCONFDB_ERROR_LOCKED = 16,          /* the key is locked */
+    DCONFDB_ERROR_VALUE_TOO_LARGE = 17, /* a value is nested too deep, or too long */
+    DCONFDB_ERROR_FILE_TOO_LARGE = 18,  /* a file has more bytes than it may have, or would have */
+    DCONFDB_ERROR_DOUBLE_TEXT = 19,     /* a value to be printed holds a double */
+    DCONFDB_ERROR_FILE = 64,            /* a system call failed: `errnum` is its errno */
+    DCONFDB_ERROR_BUSY = 65,            /* others held the lock for as long as a change waits */
+    DCONFDB_ERROR_NO_FOLDER = 66        /* no folder is given, and none is found */
+} DconfdbErrorCode;
 
 /* What became of the user's file by a change. */
-enum {
+typedef enum DconfdbOutcome {
     DCONFDB_OUTCOME_MADE = 0,     /* it holds the new values, also after a crash; no error has this */
     DCONFDB_OUTCOME_KEPT = 1,     /* it is as it was */
     DCONFDB_OUTCOME_EITHER = 2,   /* it is as it was, or holds the new values: refresh the store to see which */
     DCONFDB_OUTCOME_UNSETTLED = 3 /* it holds the new values, but a crash may bring the old ones back, until the next
                                    * change is made */
-};
+} DconfdbOutcome;
 
-/* What failed. It belongs to the caller, and need not be freed. */
+/* What failed. It belongs to the caller, who makes it by DCONFDB_ERROR_INIT; it need not be freed. */
 typedef struct DconfdbError {
-    int number;      /* one of the numbers above */
-    int system;      /* errno if the number is DCONFDB_ERROR_FILE, else 0 */
-    size_t at;       /* the index of the bad edit, for BAD_PATH to TOO_LARGE; else 0 */
-    size_t database; /* the index of the database whose file is bad, else 0 */
-    size_t line;     /* the profile's bad line, from 1, for BAD_LINE to TOO_MANY; else 0 */
-    int outcome;     /* of a change that failed; else DCONFDB_OUTCOME_KEPT */
-    char text[512];  /* what failed, and for which file or key; if too long, it ends in "..." */
+    size_t size;            /* this struct's: a later version, in which more fields follow, writes no more than that */
+    DconfdbErrorCode code;
+    DconfdbOutcome outcome; /* of a change that failed; else DCONFDB_OUTCOME_KEPT */
+    int errnum;             /* errno if the code is DCONFDB_ERROR_FILE, else 0 */
+    size_t edit;            /* the index of the bad edit, for BAD_PATH to VALUE_TOO_LARGE; else 0 */
+    size_t database;        /* the index of the database whose file is bad, else 0 */
+    size_t line;            /* the profile's bad line, from 1, for BAD_LINE to TOO_MANY; else 0 */
+    char text[512];         /* what failed, and for which file or key; if too long, it ends in "..." */
 } DconfdbError;
+
+#define DCONFDB_ERROR_INIT {sizeof(DconfdbError), DCONFDB_ERROR_NONE, DCONFDB_OUTCOME_KEPT, 0, 0, 0, 0, ""}
+
+/* The name of a number, without DCONFDB_ERROR_: "LOCKED". Of one that this version doesn't have it is "UNKNOWN". */
+DCONFDB_API const char *dconfdb_error_name(DconfdbErrorCode code) DCONFDB_NOEXCEPT;
+
+/* The version of the library, as DCONFDB_VERSION is that of the header. */
+DCONFDB_API const char *dconfdb_version(void) DCONFDB_NOEXCEPT;
 
 /* A value, lent from a snapshot. */
 typedef struct DconfdbValue {
@@ -179,40 +218,44 @@ typedef struct DconfdbEdit {
 /* Opens the store of a folder, or of the environment if NULL is given. Only then is getenv()
  * called, and no other thread may change the environment meanwhile. The folder need not exist. The
  * profile is read now, and not again. NULL: it failed. */
-DconfdbStore *dconfdb_store_open(const char *folder, DconfdbError *error);
+DCONFDB_NODISCARD DCONFDB_API DconfdbStore *dconfdb_store_open(const char *folder, DconfdbError *error) DCONFDB_NOEXCEPT;
 
 /* The same, but it opens a store that has bad files, or bad lines in its profile: see BAD FILES. */
-DconfdbStore *dconfdb_store_open_lenient(const char *folder, DconfdbError *error);
+DCONFDB_NODISCARD DCONFDB_API DconfdbStore *dconfdb_store_open_lenient(const char *folder, DconfdbError *error)
+    DCONFDB_NOEXCEPT;
 
 /* Whether the profile has a bad line, or couldn't be read. If so, `error`, if it isn't NULL, says which
  * line is the first bad one, or why. */
-bool dconfdb_store_profile_fault(const DconfdbStore *store, DconfdbError *error);
+DCONFDB_API bool dconfdb_store_profile_fault(const DconfdbStore *store, DconfdbError *error)
+    DCONFDB_NOEXCEPT DCONFDB_NONNULL((1));
 
 /* Closes a store, or NULL. Its snapshots stay. */
-void dconfdb_store_close(DconfdbStore *store);
+DCONFDB_API void dconfdb_store_close(DconfdbStore *store) DCONFDB_NOEXCEPT;
 
 /* The files that opening the store of that folder, or of the environment, looks at: the folder's
  * profile, or the one that $DCONFDB_PROFILE names; that of all users; and the databases that the
- * profile's good lines name. If opening a
- * store fails, these are the files to check. The form is that of dconfdb_snapshot_list, and getenv()
- * is called as by dconfdb_store_open. NULL: it failed. */
-char *dconfdb_store_files(const char *folder, size_t *size, DconfdbError *error);
+ * profile's good lines name. If opening a store fails, these are the files to check. The form is that
+ * of dconfdb_snapshot_list, and getenv() is called as by dconfdb_store_open. NULL: it failed. */
+DCONFDB_NODISCARD DCONFDB_API char *dconfdb_store_files(const char *folder, size_t *size, DconfdbError *error)
+    DCONFDB_NOEXCEPT;
 
 /* The folder's absolute path, and the file of a user's database in it; NULL if there is none.
  * Valid until the store is closed. */
-const char *dconfdb_store_folder(const DconfdbStore *store);
-const char *dconfdb_store_user_file(const DconfdbStore *store);
+DCONFDB_API const char *dconfdb_store_folder(const DconfdbStore *store) DCONFDB_NOEXCEPT DCONFDB_NONNULL((1));
+DCONFDB_API const char *dconfdb_store_user_file(const DconfdbStore *store) DCONFDB_NOEXCEPT DCONFDB_NONNULL((1));
 
 /* A reference to the newest snapshot, for the caller to drop. It never fails, looks at no file, and
  * waits for none. */
-DconfdbSnapshot *dconfdb_store_snapshot(DconfdbStore *store);
+DCONFDB_NODISCARD DCONFDB_API DconfdbSnapshot *dconfdb_store_snapshot(DconfdbStore *store)
+    DCONFDB_NOEXCEPT DCONFDB_NONNULL((1));
 
 /* Looks at the files again, with one stat() each, and reads those that were replaced. `changed`, if it
  * isn't NULL, says whether the newest snapshot has anything that others changed since `changed` was
  * last asked for, or since the store was opened: what this call finds, and what a change in between
  * has read. The store's own edits don't count. False: it failed, and the newest snapshot stays the
  * newest. */
-bool dconfdb_store_refresh(DconfdbStore *store, bool *changed, DconfdbError *error);
+DCONFDB_API bool dconfdb_store_refresh(DconfdbStore *store, bool *changed, DconfdbError *error)
+    DCONFDB_NOEXCEPT DCONFDB_NONNULL((1));
 
 /* Makes all edits, in order, or none. The user's file is read again and replaced atomically, and
  * is on the disk when this returns. The newest snapshot then has the edits, and what others
@@ -241,38 +284,47 @@ bool dconfdb_store_refresh(DconfdbStore *store, bool *changed, DconfdbError *err
  * all the same; UNSETTLED if the folder could not be synced after it. Only then the newest snapshot has
  * the edits. The text says so, too. After either of them, make the same edits again: if that returns true
  * they are on the disk. */
-bool dconfdb_store_change(DconfdbStore *store, const DconfdbEdit *edits, size_t count, DconfdbError *error);
+DCONFDB_NODISCARD DCONFDB_API bool dconfdb_store_change(DconfdbStore *store, const DconfdbEdit *edits, size_t count,
+    DconfdbError *error)
+    DCONFDB_NOEXCEPT DCONFDB_NONNULL((1));
 
 /* Adds a reference, and drops one; dropping the last one frees everything. `ref` returns its
  * argument; `unref` accepts NULL. */
-DconfdbSnapshot *dconfdb_snapshot_ref(DconfdbSnapshot *snapshot);
-void dconfdb_snapshot_unref(DconfdbSnapshot *snapshot);
+DCONFDB_API DconfdbSnapshot *dconfdb_snapshot_ref(DconfdbSnapshot *snapshot)
+    DCONFDB_NOEXCEPT DCONFDB_NONNULL((1));
+DCONFDB_API void dconfdb_snapshot_unref(DconfdbSnapshot *snapshot) DCONFDB_NOEXCEPT;
 
 /* How many databases there are, and the file of one. NULL: there is no such database. */
-size_t dconfdb_snapshot_databases(const DconfdbSnapshot *snapshot);
-const char *dconfdb_snapshot_file(const DconfdbSnapshot *snapshot, size_t database);
+DCONFDB_API size_t dconfdb_snapshot_databases(const DconfdbSnapshot *snapshot) DCONFDB_NOEXCEPT DCONFDB_NONNULL((1));
+DCONFDB_API const char *dconfdb_snapshot_file(const DconfdbSnapshot *snapshot, size_t database)
+    DCONFDB_NOEXCEPT DCONFDB_NONNULL((1));
 
 /* Whether a database's file is bad. If so, `error`, if it isn't NULL, says why, and its text how much of
  * the file is read. If a change replaced a bad file, this is true of the new snapshot, too, until the
  * file changes again, and the text says where the bad file is kept. Only snapshots of a lenient store
  * have bad files. */
-bool dconfdb_snapshot_fault(const DconfdbSnapshot *snapshot, size_t database, DconfdbError *error);
+DCONFDB_API bool dconfdb_snapshot_fault(const DconfdbSnapshot *snapshot, size_t database, DconfdbError *error)
+    DCONFDB_NOEXCEPT DCONFDB_NONNULL((1));
 
 /* Whether the user already has what an edit asks for: this value of the key or, without a type, none.
  * Locks don't matter. This is about the snapshot; dconfdb_snapshot_is_newest says if the file is newer. */
-bool dconfdb_snapshot_has_edit(const DconfdbSnapshot *snapshot, const DconfdbEdit *edit);
+DCONFDB_API bool dconfdb_snapshot_has_edit(const DconfdbSnapshot *snapshot, const DconfdbEdit *edit)
+    DCONFDB_NOEXCEPT DCONFDB_NONNULL((1, 2));
 
 /* Whether the user's file is still the snapshot's. This calls stat() once. True if there is no user's
  * database. */
-bool dconfdb_snapshot_is_newest(const DconfdbSnapshot *snapshot);
+DCONFDB_API bool dconfdb_snapshot_is_newest(const DconfdbSnapshot *snapshot) DCONFDB_NOEXCEPT DCONFDB_NONNULL((1));
 
 /* The effective value of a key: that of the first database that has one, unless a later one locks
  * the key. `default` ignores the user's value; `user` is the user's own, even if the key is
  * locked. False: there is none, or the text is not a key's path; then `value` has 0 bytes. They
  * take no memory. */
-bool dconfdb_snapshot_read(const DconfdbSnapshot *snapshot, const char *path, DconfdbValue *value);
-bool dconfdb_snapshot_read_default(const DconfdbSnapshot *snapshot, const char *path, DconfdbValue *value);
-bool dconfdb_snapshot_read_user(const DconfdbSnapshot *snapshot, const char *path, DconfdbValue *value);
+DCONFDB_API bool dconfdb_snapshot_read(const DconfdbSnapshot *snapshot, const char *path, DconfdbValue *value)
+    DCONFDB_NOEXCEPT DCONFDB_NONNULL((1, 2, 3));
+DCONFDB_API bool dconfdb_snapshot_read_default(const DconfdbSnapshot *snapshot, const char *path, DconfdbValue *value)
+    DCONFDB_NOEXCEPT DCONFDB_NONNULL((1, 2, 3));
+DCONFDB_API bool dconfdb_snapshot_read_user(const DconfdbSnapshot *snapshot, const char *path, DconfdbValue *value)
+    DCONFDB_NOEXCEPT DCONFDB_NONNULL((1, 2, 3));
 
 /* VALUES. What is in a value, at the type that it has. Any bytes have a value at any type, so none of
  * these fails: false and NULL mean another type, or that there is no such child, and then `out` and
@@ -282,57 +334,78 @@ bool dconfdb_snapshot_read_user(const DconfdbSnapshot *snapshot, const char *pat
  * place. */
 
 /* A number of exactly this type; `int32` takes an `h` too. A double is C's own, bit for bit. */
-bool dconfdb_value_get_boolean(const DconfdbValue *value, bool *out);
-bool dconfdb_value_get_byte(const DconfdbValue *value, uint8_t *out);
-bool dconfdb_value_get_int16(const DconfdbValue *value, int16_t *out);
-bool dconfdb_value_get_uint16(const DconfdbValue *value, uint16_t *out);
-bool dconfdb_value_get_int32(const DconfdbValue *value, int32_t *out);
-bool dconfdb_value_get_uint32(const DconfdbValue *value, uint32_t *out);
-bool dconfdb_value_get_int64(const DconfdbValue *value, int64_t *out);
-bool dconfdb_value_get_uint64(const DconfdbValue *value, uint64_t *out);
-bool dconfdb_value_get_double(const DconfdbValue *value, double *out);
+DCONFDB_API bool dconfdb_value_get_boolean(const DconfdbValue *value, bool *out)
+    DCONFDB_NOEXCEPT DCONFDB_NONNULL((1, 2));
+DCONFDB_API bool dconfdb_value_get_byte(const DconfdbValue *value, uint8_t *out)
+    DCONFDB_NOEXCEPT DCONFDB_NONNULL((1, 2));
+DCONFDB_API bool dconfdb_value_get_int16(const DconfdbValue *value, int16_t *out)
+    DCONFDB_NOEXCEPT DCONFDB_NONNULL((1, 2));
+DCONFDB_API bool dconfdb_value_get_uint16(const DconfdbValue *value, uint16_t *out)
+    DCONFDB_NOEXCEPT DCONFDB_NONNULL((1, 2));
+DCONFDB_API bool dconfdb_value_get_int32(const DconfdbValue *value, int32_t *out)
+    DCONFDB_NOEXCEPT DCONFDB_NONNULL((1, 2));
+DCONFDB_API bool dconfdb_value_get_uint32(const DconfdbValue *value, uint32_t *out)
+    DCONFDB_NOEXCEPT DCONFDB_NONNULL((1, 2));
+DCONFDB_API bool dconfdb_value_get_int64(const DconfdbValue *value, int64_t *out)
+    DCONFDB_NOEXCEPT DCONFDB_NONNULL((1, 2));
+DCONFDB_API bool dconfdb_value_get_uint64(const DconfdbValue *value, uint64_t *out)
+    DCONFDB_NOEXCEPT DCONFDB_NONNULL((1, 2));
+DCONFDB_API bool dconfdb_value_get_double(const DconfdbValue *value, double *out)
+    DCONFDB_NOEXCEPT DCONFDB_NONNULL((1, 2));
 
 /* The text of an `s`, `o` or `g`, in UTF-8, with a zero byte after it. `length`, if it isn't NULL, is the
  * number of bytes without that one. */
-const char *dconfdb_value_get_string(const DconfdbValue *value, size_t *length);
+DCONFDB_API const char *dconfdb_value_get_string(const DconfdbValue *value, size_t *length)
+    DCONFDB_NOEXCEPT DCONFDB_NONNULL((1));
 
 /* What a `v` holds. */
-bool dconfdb_value_get_variant(const DconfdbValue *value, DconfdbValue *child);
+DCONFDB_API bool dconfdb_value_get_variant(const DconfdbValue *value, DconfdbValue *child)
+    DCONFDB_NOEXCEPT DCONFDB_NONNULL((1, 2));
 
 /* The elements of an array, the members of a tuple, the key and the value of an entry, what a variant
  * holds, and the value of a maybe that has one: how many there are, and the one at an index. A list is
  * walked fastest by this index from 0 on. */
-size_t dconfdb_value_n_children(const DconfdbValue *value);
-bool dconfdb_value_child(const DconfdbValue *value, size_t index, DconfdbValue *child);
+DCONFDB_API size_t dconfdb_value_n_children(const DconfdbValue *value) DCONFDB_NOEXCEPT DCONFDB_NONNULL((1));
+DCONFDB_API bool dconfdb_value_child(const DconfdbValue *value, size_t index, DconfdbValue *child)
+    DCONFDB_NOEXCEPT DCONFDB_NONNULL((1, 3));
 
 /* The value of the first entry with this key in a dictionary whose keys are strings, such as `a{sv}`. */
-bool dconfdb_value_lookup(const DconfdbValue *value, const char *key, DconfdbValue *child);
+DCONFDB_API bool dconfdb_value_lookup(const DconfdbValue *value, const char *key, DconfdbValue *child)
+    DCONFDB_NOEXCEPT DCONFDB_NONNULL((1, 2, 3));
 
 /* The value as a text that can be read back, as `dconfdb read` prints it; the caller frees it with
  * free(). NULL: it holds a double (DOUBLE_TEXT), it is nested more than 128 levels deep (TOO_LARGE), or
  * no memory is left. */
-char *dconfdb_value_print(const DconfdbValue *value, DconfdbError *error);
+DCONFDB_NODISCARD DCONFDB_API char *dconfdb_value_print(const DconfdbValue *value, DconfdbError *error)
+    DCONFDB_NOEXCEPT DCONFDB_NONNULL((1));
 
 /* Whether a database after the first locks the key; and whether there is a user's database and the
  * key isn't locked. Both are false if the text is not a key's path. They take no memory. */
-bool dconfdb_snapshot_is_locked(const DconfdbSnapshot *snapshot, const char *path);
-bool dconfdb_snapshot_is_writable(const DconfdbSnapshot *snapshot, const char *path);
+DCONFDB_API bool dconfdb_snapshot_is_locked(const DconfdbSnapshot *snapshot, const char *path)
+    DCONFDB_NOEXCEPT DCONFDB_NONNULL((1, 2));
+DCONFDB_API bool dconfdb_snapshot_is_writable(const DconfdbSnapshot *snapshot, const char *path)
+    DCONFDB_NOEXCEPT DCONFDB_NONNULL((1, 2));
 
 /* The names directly below a directory (a path that ends in `/`) in any database, in byte order, each
  * once; a directory's ends in `/`. And the locks that start with the directory's path, of all databases
  * but the first, in the same order. Each text ends in a zero byte, and one more follows the last.
  * `size`, if it isn't NULL, is the number of bytes without that last one. The caller frees them
  * with free(). NULL: it failed. */
-char *dconfdb_snapshot_list(const DconfdbSnapshot *snapshot, const char *directory, size_t *size, DconfdbError *error);
-char *dconfdb_snapshot_locks(const DconfdbSnapshot *snapshot, const char *directory, size_t *size, DconfdbError *error);
+DCONFDB_NODISCARD DCONFDB_API char *dconfdb_snapshot_list(const DconfdbSnapshot *snapshot, const char *directory,
+    size_t *size, DconfdbError *error)
+    DCONFDB_NOEXCEPT DCONFDB_NONNULL((1, 2));
+DCONFDB_NODISCARD DCONFDB_API char *dconfdb_snapshot_locks(const DconfdbSnapshot *snapshot, const char *directory,
+    size_t *size, DconfdbError *error)
+    DCONFDB_NOEXCEPT DCONFDB_NONNULL((1, 2));
 
 /* The paths of the keys that differ between two snapshots, in the same form: the effective value
  * differs, only one snapshot has one, or the key is locked in only one. Hidden values don't count,
  * such as a default below the user's value, or the user's value of a locked key. Equal values in
  * other bytes don't differ. Only keys that a database of either snapshot has are listed: for others,
  * compare the locks. NULL as `other` means a snapshot without databases. */
-char *dconfdb_snapshot_differences(const DconfdbSnapshot *snapshot, const DconfdbSnapshot *other, size_t *size,
-                                   DconfdbError *error);
+DCONFDB_NODISCARD DCONFDB_API char *dconfdb_snapshot_differences(const DconfdbSnapshot *snapshot,
+    const DconfdbSnapshot *other, size_t *size, DconfdbError *error)
+    DCONFDB_NOEXCEPT DCONFDB_NONNULL((1));
 
 #ifdef __cplusplus
 }

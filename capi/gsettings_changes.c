@@ -361,7 +361,7 @@ static bool says_closed(const DconfdbError *fault)
 {
     static const int faults[] = {EACCES, EPERM, EROFS, EINVAL, ENOTDIR, ELOOP, ENAMETOOLONG};
     for (size_t i = 0; i < G_N_ELEMENTS(faults); i++) {
-        if (fault->system == faults[i])
+        if (fault->errnum == faults[i])
             return true;
     }
     return false;
@@ -377,14 +377,14 @@ static uint32_t write_taken(DconfdbStore *store, const Turn *turn, Batch *batch,
         return DCONFDB_QUEUE_YES;
     if (!has_refused(batch))
         *refusal = *fault;
-    switch (fault->number) {
+    switch (fault->code) {
     case DCONFDB_ERROR_LOCKED:
     case DCONFDB_ERROR_NOT_WRITABLE:
         return DCONFDB_QUEUE_LOCKED;
-    case DCONFDB_ERROR_TOO_LARGE:
+    case DCONFDB_ERROR_VALUE_TOO_LARGE:
     case DCONFDB_ERROR_BAD_PATH:
     case DCONFDB_ERROR_BAD_TYPE:
-        *at = fault->at < taken ? batch->numbers[fault->at] : batch->count;
+        *at = fault->edit < taken ? batch->numbers[fault->edit] : batch->count;
         return DCONFDB_QUEUE_FAULT;
     case DCONFDB_ERROR_FILE:
         batch->is_closed = says_closed(fault);
@@ -438,7 +438,7 @@ bool changes_write(DconfdbStore *store, const Turn *turn, GQueue *changes, GQueu
     Batch batch = batch_of(changes);
     bool done = write_batch(store, turn, &batch, refusal, fault);
     if (!batch.is_closed && !has_refused(&batch))
-        refusal->number = DCONFDB_ERROR_NONE;
+        refusal->code = DCONFDB_ERROR_NONE;
     batch_end(&batch, changes, refused);
     return done;
 }

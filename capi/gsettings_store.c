@@ -37,7 +37,7 @@ static void warn_of(Notice *notice, const char *text)
 /* The faults of the store's files. */
 static void add_faults(const DconfdbStore *store, GHashTable *faults)
 {
-    DconfdbError error;
+    DconfdbError error = DCONFDB_ERROR_INIT;
     DconfdbSnapshot *now = dconfdb_store_snapshot((DconfdbStore *)store);
     if (dconfdb_store_profile_fault(store, &error))
         g_hash_table_add(faults, g_strdup(error.text));
@@ -138,7 +138,7 @@ static void renew(DconfdbBackend *self, Notice *notice)
 
 static bool look(DconfdbBackend *self, Notice *notice)
 {
-    DconfdbError error;
+    DconfdbError error = DCONFDB_ERROR_INIT;
     struct stat profiles[2];
     look_at_profiles(self, profiles);
     bool opens = !self->store || !is_same(&profiles[0], &self->seen[0]) || !is_same(&profiles[1], &self->seen[1]);
@@ -162,7 +162,7 @@ static bool look(DconfdbBackend *self, Notice *notice)
 
 void store_begin(DconfdbBackend *self)
 {
-    DconfdbError error;
+    DconfdbError error = DCONFDB_ERROR_INIT;
     /* The environment is read now, and not again: the program may change it. The first file is the
      * profile that is named or the folder's, the second that of all users. */
     char *files = place_find(NULL, &self->place, &error) ? place_files(&self->place, &error) : NULL;
@@ -259,10 +259,10 @@ void store_catch_up(DconfdbBackend *self)
 static bool is_momentary(const DconfdbError *fault)
 {
     static const int faults[] = {EMFILE, ENFILE, ENOLCK, ESTALE, EAGAIN, EINTR};
-    if (fault->number == DCONFDB_ERROR_MEMORY)
+    if (fault->code == DCONFDB_ERROR_MEMORY)
         return true;
     for (size_t i = 0; i < G_N_ELEMENTS(faults); i++) {
-        if (fault->number == DCONFDB_ERROR_FILE && fault->system == faults[i])
+        if (fault->code == DCONFDB_ERROR_FILE && fault->errnum == faults[i])
             return true;
     }
     return false;
@@ -313,15 +313,15 @@ static void end_failing(DconfdbBackend *self)
 /* `turn` is held. */
 static gint64 write_it(DconfdbBackend *self, const Turn *turn, Notice *notice, bool tries_again)
 {
-    DconfdbError refusal, fault;
+    DconfdbError refusal = DCONFDB_ERROR_INIT, fault = DCONFDB_ERROR_INIT;
     bool done = changes_write(self->store, turn, &notice->written, &notice->refused, &refusal, &fault);
-    if (refusal.number != DCONFDB_ERROR_NONE)
+    if (refusal.code != DCONFDB_ERROR_NONE)
         warn_of(notice, refusal.text);
     if (!done)
         return wait_again(self, notice, &fault, tries_again);
     if (self->failing != 0)
         end_failing(self);
-    if (refusal.number == DCONFDB_ERROR_NONE)
+    if (refusal.code == DCONFDB_ERROR_NONE)
         warn_once(self, notice, NULL);
     return 0;
 }
@@ -347,7 +347,7 @@ static gint64 write_in(DconfdbBackend *self, const Turn *turn, Notice *notice, b
 static void write_here(DconfdbBackend *self, Notice *notice, gint64 end)
 {
     FolderLock lock;
-    DconfdbError error;
+    DconfdbError error = DCONFDB_ERROR_INIT;
     gint64 left = MAX(end - g_get_monotonic_time(), 0);
     Turn turn = {&lock, folder_lock(self->place.folder, (int)(left / MILLISECOND), &lock)};
     if (turn.fault != EWOULDBLOCK) {

@@ -10,25 +10,17 @@
 #include "mending.h"
 #include "order.h"
 #include "place.h"
+#include "refusing.h"
 
 #include <errno.h>
 #include <pthread.h>
 #include <pwd.h>
-#include <stdarg.h>
 #include <stdatomic.h>
 #include <stdio.h>
 #include <stdlib.h>
 #include <string.h>
 #include <sys/auxv.h>
 #include <unistd.h>
-
-_Static_assert((int)DCONFDB_ERROR_MEMORY == (int)DCONFDB_MEMORY && (int)DCONFDB_ERROR_UNSOUND == (int)DCONFDB_UNSOUND
-                   && (int)DCONFDB_ERROR_TOO_MANY == (int)DCONFDB_TOO_MANY && (int)DCONFDB_ERROR_TOO_BIG == (int)DCONFDB_TOO_BIG
-                   && (int)DCONFDB_ERROR_DOUBLE_TEXT == (int)DCONFDB_DOUBLE_TEXT,
-               "the header's numbers are those of the proved calls");
-_Static_assert((int)DCONFDB_OUTCOME_MADE == (int)DCONFDB_TURN_MADE && (int)DCONFDB_OUTCOME_KEPT == (int)DCONFDB_TURN_KEPT
-                   && (int)DCONFDB_OUTCOME_EITHER == (int)DCONFDB_TURN_EITHER && (int)DCONFDB_OUTCOME_UNSETTLED == (int)DCONFDB_TURN_UNSETTLED,
-               "the header's outcomes are those of the proved calls");
 
 /* What was wrong with a file, and what is read of it. */
 typedef struct {
@@ -85,105 +77,6 @@ struct DconfdbStore {
     size_t count;
     char *files[MOST_DATABASES];
 };
-
-/* ---- errors */
-
-/* The edit, the database or the line that is at fault. */
-typedef struct {
-    size_t edit, database, line;
-} Place;
-
-static const Place nowhere = {0, 0, 0};
-
-static bool refuse(DconfdbError *error, int number, int fault, Place place, const char *format, ...)
-    __attribute__((format(printf, 5, 6)));
-
-static bool refuse(DconfdbError *error, int number, int fault, Place place, const char *format, ...)
-{
-    if (!error)
-        return false;
-    va_list words;
-    va_start(words, format);
-    int len = vsnprintf(error->text, sizeof error->text, format, words);
-    va_end(words);
-    if (len < 0)
-        error->text[0] = 0;
-    else if ((size_t)len >= sizeof error->text)
-        memcpy(error->text + sizeof error->text - 4, "...", 4);
-    error->number = number;
-    error->outcome = DCONFDB_OUTCOME_KEPT;
-    error->system = fault;
-    error->at = place.edit;
-    error->database = place.database;
-    error->line = place.line;
-    return false;
-}
-
-static bool refuse_memory(DconfdbError *error)
-{
-    return refuse(error, DCONFDB_ERROR_MEMORY, 0, nowhere, "no memory is left");
-}
-
-/* What the system says of a fault. */
-typedef struct {
-    char text[128];
-} Words;
-
-static Words words_of(int fault)
-{
-    Words words;
-    if (strerror_r(fault, words.text, sizeof words.text) != 0)
-        snprintf(words.text, sizeof words.text, "error %d", fault);
-    return words;
-}
-
-/* What a call of files.h answered. */
-static bool refuse_file(DconfdbError *error, int fault, const char *name, Place place)
-{
-    if (fault == ENOMEM)
-        return refuse(error, DCONFDB_ERROR_MEMORY, 0, nowhere, "%s: no memory is left", name);
-    if (fault == EOVERFLOW)
-        return refuse(error, DCONFDB_ERROR_TOO_BIG, 0, place, "%s: the file is too big", name);
-    return refuse(error, DCONFDB_ERROR_FILE, fault, place, "%s: %s", name, words_of(fault).text);
-}
-
-/* How a change ended that was not made. After its file was replaced, or may be, the number is never one of those that leave the old
- * file. */
-static bool refuse_outcome(DconfdbError *error, uint32_t outcome, const char *name)
-{
-    if (!error || outcome == DCONFDB_TURN_KEPT)
-        return false;
-    int fault = error->number == DCONFDB_ERROR_FILE ? error->system : error->number == DCONFDB_ERROR_TOO_BIG ? EOVERFLOW : ENOMEM;
-    refuse(error, DCONFDB_ERROR_FILE, fault, nowhere,
-           outcome == DCONFDB_TURN_EITHER ? "%s: it is perhaps replaced: %s" : "%s: it is replaced, but perhaps not on the disk yet: %s", name,
-           words_of(fault).text);
-    error->outcome = (int)outcome;
-    return false;
-}
-
-/* What a proved call answered of a file, a line of it, or a key. */
-static bool refuse_call(DconfdbError *error, uint32_t number, const char *name, Place place)
-{
-    DconfdbBytes text = DCONFDB_NOTHING;
-    char line[32] = "";
-    if (number == DCONFDB_DOUBLE_TEXT)
-        return refuse(error, DCONFDB_ERROR_DOUBLE_TEXT, 0, place, "%s: it holds a double, which is not printed", name);
-    if (!dconfdb_fault_text(number, &text))
-        return refuse(error, (int)number, 0, place, "%s: fault %u", name, (unsigned)number);
-    if (place.line != 0)
-        snprintf(line, sizeof line, ":%zu", place.line);
-    return refuse(error, (int)number, 0, place, "%s%s: %.*s", name, line, (int)text.len, (const char *)text.at);
-}
-
-static bool refuse_database(DconfdbError *error, uint32_t number, const char *name, const DconfdbUnsound *broken, Place place)
-{
-    if (number != DCONFDB_UNSOUND)
-        return refuse_call(error, number, name, place);
-    if (!broken->has_item)
-        return refuse(error, (int)number, 0, place, "%s: the database breaks the rule S%u", name, (unsigned)broken->rule);
-    return refuse(error, (int)number, 0, place, "%s: the database breaks the rule S%u, at item %u", name, (unsigned)broken->rule,
-                  (unsigned)broken->item);
-}
 
 /* ---- texts */
 
@@ -417,7 +310,7 @@ bool dconfdb_snapshot_fault(const DconfdbSnapshot *snapshot, size_t database, Dc
     const Fault *fault = database < snapshot->count ? snapshot->parts[database]->fault : NULL;
     if (!fault || !error)
         return fault != NULL;
-    *error = fault->error;
+    hand_out(&fault->error, error);
     size_t len = strlen(error->text), room = sizeof error->text - len;
     int wanted = say_fate(error->text + len, room, fault, database);
     if (wanted >= 0 && (size_t)wanted >= room)
@@ -663,7 +556,7 @@ static bool find_place(const char *folder, StorePlace *place, DconfdbError *erro
 /* The first is kept. */
 static DconfdbError *profile_fault_of(DconfdbStore *store)
 {
-    return store->profile_fault.number == DCONFDB_ERROR_NONE ? &store->profile_fault : NULL;
+    return store->profile_fault.code == DCONFDB_ERROR_NONE ? &store->profile_fault : NULL;
 }
 
 /* The text of a profile, where there is a file of that name; `text` holds NULL where there is
@@ -810,7 +703,7 @@ static bool read_at(Look *look, size_t at, DconfdbError *error)
     bool is_in_turn = asked.turn != NO_FOLDER;
     int fault = file_read(asked.turn, is_in_turn ? strrchr(asked.name, '/') + 1 : asked.name, asked.maps, may_be_database,
                           LARGEST_FILE, &look->bytes, &look->state);
-    look->fault.number = DCONFDB_ERROR_NONE;
+    look->fault.code = DCONFDB_ERROR_NONE;
     if (fault == 0)
         return true;
     bool is_lasting = asked.is_lenient && is_files_own(fault);
@@ -822,9 +715,9 @@ static bool read_at(Look *look, size_t at, DconfdbError *error)
 static bool is_as_read(const Look *look, const Part *old)
 {
     const Fault *bad = old->fault && !old->fault->aside ? old->fault : NULL;
-    if (look->fault.number == DCONFDB_ERROR_NONE)
+    if (look->fault.code == DCONFDB_ERROR_NONE)
         return !bad && file_is_same(&old->state, &look->state) && has_bytes(old, &look->bytes);
-    return bad && bad->error.number == look->fault.number && bad->error.system == look->fault.system
+    return bad && bad->error.code == look->fault.code && bad->error.errnum == look->fault.errnum
         && file_is_untouched(&old->state, &look->state);
 }
 
@@ -834,7 +727,7 @@ static Part *part_of_read(Look *look, size_t at, const Part *old, DconfdbError *
     Asked asked = asked_of(look, at);
     FileBytes bytes = look->bytes;
     look->bytes = (FileBytes){NULL, 0, false};
-    if (look->fault.number == DCONFDB_ERROR_NONE)
+    if (look->fault.code == DCONFDB_ERROR_NONE)
         return part_open(&asked, look->state, bytes, old, error);
     Part *part = part_new(asked.name, look->state, bytes, error);
     if (part && part_blame(part, &look->fault, error))
@@ -965,9 +858,9 @@ DconfdbStore *dconfdb_store_open_lenient(const char *folder, DconfdbError *error
 
 bool dconfdb_store_profile_fault(const DconfdbStore *store, DconfdbError *error)
 {
-    bool is = store->profile_fault.number != DCONFDB_ERROR_NONE;
+    bool is = store->profile_fault.code != DCONFDB_ERROR_NONE;
     if (is && error)
-        *error = store->profile_fault;
+        hand_out(&store->profile_fault, error);
     return is;
 }
 
@@ -994,12 +887,12 @@ static char *file_names(const DconfdbStore *store, size_t *size)
 
 static char *files_at(const StorePlace *place, size_t *size, DconfdbError *error)
 {
-    DconfdbError fault = {.number = DCONFDB_ERROR_NONE};
+    DconfdbError fault = DCONFDB_ERROR_INIT;
     DconfdbStore *store = store_at(place, true, error);
     if (!store)
         return NULL;
     find_files(store, &fault);
-    char *names = fault.number == DCONFDB_ERROR_MEMORY ? NULL : file_names(store, size);
+    char *names = fault.code == DCONFDB_ERROR_MEMORY ? NULL : file_names(store, size);
     if (!names)
         refuse_memory(error);
     dconfdb_store_close(store);
@@ -1462,8 +1355,8 @@ static bool make_bytes(Changing *it, FileBytes *file)
     if (it->is_nothing)
         return false;
     if (!make_file(it->store, asking->changes, asking->count, file, it->error)) {
-        if (it->error && is_of_edit((uint32_t)it->error->number))
-            it->error->at = asking->edits[it->error->at];
+        if (it->error && is_of_edit((uint32_t)it->error->code))
+            it->error->edit = asking->edits[it->error->edit];
         return false;
     }
     it->is_nothing = !it->store->is_unsettled && are_made(it->store->now, asking->changes, asking->count, file);

@@ -9,6 +9,9 @@ import sys
 import tempfile
 from pathlib import Path
 
+# Of what capi/build compiles: a warning is an error.
+os.environ.setdefault('WERROR', '-Werror')
+
 TOP = Path(__file__).resolve().parent.parent
 NAME = Path(sys.argv[0]).name
 

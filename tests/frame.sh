@@ -4,8 +4,10 @@
 #   needs TOOL PACKAGE     exits with 77 if there is no such tool, and names Debian's package
 #   finds_program          sets $DCONFDB: the program that the variable names, else this repository's, which is built first
 #   fail WORDS..           reports a failure, and goes on
+#   $WERROR        an error of each warning, of what capi/build compiles
 #   verdict WORDS..        prints the last line; exits with 0, or with 1 if something failed
 set -u
+export WERROR=${WERROR--Werror}
 script=${0##*/}
 top=$(cd "$(dirname "$0")/.." && pwd)
 failed=0

@@ -19,7 +19,7 @@ static void warn_once(Engine *self, const char *text)
 
 static void warn_of_faults(Engine *self, const DconfdbStore *store, const DconfdbSnapshot *now)
 {
-    DconfdbError error;
+    DconfdbError error = DCONFDB_ERROR_INIT;
     if (dconfdb_store_profile_fault(store, &error))
         warn_once(self, error.text);
     for (size_t i = 0; i < dconfdb_snapshot_databases(now); i++) {
@@ -31,7 +31,7 @@ static void warn_of_faults(Engine *self, const DconfdbStore *store, const Dconfd
 /* A bad file counts as what can be read of it. */
 static DconfdbStore *open_store(Engine *self)
 {
-    DconfdbError error;
+    DconfdbError error = DCONFDB_ERROR_INIT;
     DconfdbStore *store = dconfdb_store_open_lenient(NULL, &error), *unused = store;
     if (!store)
         warn_once(self, error.text);
@@ -73,7 +73,7 @@ static void end_look(Engine *self)
 /* Whether others changed anything. */
 static bool refresh(Engine *self, DconfdbStore *store)
 {
-    DconfdbError error;
+    DconfdbError error = DCONFDB_ERROR_INIT;
     bool has_changed = false;
     if (!begin_look(self))
         return false;

@@ -102,7 +102,7 @@ static gboolean refuse_locked(GError **error)
 
 static gboolean refuse(const DconfdbError *fault, GError **error)
 {
-    if (fault->number == DCONFDB_ERROR_LOCKED || fault->number == DCONFDB_ERROR_NOT_WRITABLE)
+    if (fault->code == DCONFDB_ERROR_LOCKED || fault->code == DCONFDB_ERROR_NOT_WRITABLE)
         return refuse_locked(error);
     g_set_error_literal(error, DCONF_ERROR, DCONF_ERROR_FAILED, fault->text);
     return FALSE;
@@ -133,7 +133,8 @@ static gboolean put(Engine *self, const Edits *edits, DconfdbError *fault)
 {
     FolderLock lock;
     DconfdbStore *store = engine_store(self);
-    *fault = (DconfdbError){.number = DCONFDB_ERROR_FILE, .text = "the store can't be opened"};
+    fault->code = DCONFDB_ERROR_FILE;
+    g_strlcpy(fault->text, "the store can't be opened", sizeof fault->text);
     if (!store || edits->edits->len == 0)
         return store != NULL;
     int failed = engine_has_user(self) ? folder_lock(dconfdb_store_folder(store), LONGEST_WAIT, &lock) : 0;
@@ -175,9 +176,9 @@ static gboolean put_unlocked(Engine *self, DConfChangeset *changes, DConfChanges
     Edits edits = edits_of(changes);
     gboolean is_done;
     leave_out(&edits, now);
-    while (!(is_done = put(self, &edits, fault)) && fault->number == DCONFDB_ERROR_LOCKED && fault->at < edits.edits->len) {
+    while (!(is_done = put(self, &edits, fault)) && fault->code == DCONFDB_ERROR_LOCKED && fault->edit < edits.edits->len) {
         g_warning("failed to commit changes to dconf: %s", fault->text);
-        refuse_locked_edits(&edits, self, fault->at, refused);
+        refuse_locked_edits(&edits, self, fault->edit, refused);
     }
     edits_clear(&edits);
     dconfdb_snapshot_unref(now);
@@ -219,7 +220,7 @@ static gboolean write_waiting(Engine *self, DconfdbError *fault)
         return TRUE;
     g_autoptr(DConfChangeset) refused = dconf_changeset_new();
     gboolean is_done = put_unlocked(self, taken, refused, fault);
-    if (!is_done && fault->number == DCONFDB_ERROR_BUSY) {
+    if (!is_done && fault->code == DCONFDB_ERROR_BUSY) {
         put_back(self, taken);
         return FALSE;
     }
@@ -268,7 +269,7 @@ static GThread *new_thread(GThreadFunc call, Engine *self)
 static gpointer write_behind(gpointer data)
 {
     Engine *self = data;
-    DconfdbError fault;
+    DconfdbError fault = DCONFDB_ERROR_INIT;
     do {
         if (!flush(self, &fault))
             g_usleep(PAUSE);
@@ -280,7 +281,7 @@ static gpointer write_behind(gpointer data)
 /* A thread writes what waits, or this one, where none can be had. */
 static void begin_thread(Engine *self)
 {
-    DconfdbError fault;
+    DconfdbError fault = DCONFDB_ERROR_INIT;
     g_mutex_lock(&self->lock);
     gboolean is_new = !self->has_thread;
     self->has_thread = TRUE;
@@ -386,7 +387,7 @@ static gboolean write_now(Engine *self, DConfChangeset *changes, Edits *edits, c
 /* What was asked for before is before it in the store, too. */
 static gboolean write_in_turn(Engine *self, DConfChangeset *changes, Edits *edits, const gchar *tag, GError **error)
 {
-    DconfdbError fault;
+    DconfdbError fault = DCONFDB_ERROR_INIT;
     g_mutex_lock(&self->turn);
     gboolean is_done = write_waiting(self, &fault) && write_now(self, changes, edits, tag, &fault);
     g_mutex_unlock(&self->turn);
@@ -411,7 +412,7 @@ gboolean engine_change_sync(Engine *self, DConfChangeset *changes, gchar **tag, 
 
 void engine_sync(Engine *self)
 {
-    DconfdbError fault;
+    DconfdbError fault = DCONFDB_ERROR_INIT;
     if (!flush(self, &fault))
         g_warning("what was changed is not on the disk yet, and goes on waiting: %s", fault.text);
 }

@@ -5,7 +5,7 @@
 
 #include <stdint.h>
 
-static DconfdbError error;
+static DconfdbError error = DCONFDB_ERROR_INIT;
 
 static void prints(const DconfdbValue *value)
 {
@@ -111,7 +111,7 @@ static int edits(DconfdbStore *store)
     if (done)
         prints_texts(dconfdb_snapshot_differences(after, before, NULL, &error));
     else
-        printf("%d %s\n", error.number, all[error.at].path);
+        printf("%d %s\n", error.code, all[error.edit].path);
     dconfdb_snapshot_unref(before);
     dconfdb_snapshot_unref(after);
     return done ? 0 : 1;

@@ -17,7 +17,7 @@
 static DconfdbStore *store;
 static DconfdbSnapshot *now;
 static DconfdbValue value;
-static DconfdbError error;
+static DconfdbError error = DCONFDB_ERROR_INIT;
 static atomic_bool has_begun;
 
 /* A value of the user's, which lies in memory, and one of the site's, which is mapped. */
@@ -47,7 +47,7 @@ static void gives_back(void)
 static void closed_store(void)
 {
     dconfdb_store_close(store);
-    dconfdb_store_snapshot(store);
+    now = dconfdb_store_snapshot(store);
 }
 
 static void folder_of_a_closed_store(void)
@@ -66,8 +66,9 @@ static void snapshot_given_back(void)
 
 static void null_path(void)
 {
+    const char *volatile none = NULL;
     reads_sites();
-    dconfdb_snapshot_read(now, NULL, &value);
+    dconfdb_snapshot_read(now, none, &value);
 }
 
 static void text_without_end(void)

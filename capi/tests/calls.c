@@ -9,17 +9,17 @@
 #include <sys/stat.h>
 #include <unistd.h>
 
-static DconfdbError error;
+static DconfdbError error = DCONFDB_ERROR_INIT;
 static char *home;
 
 SYSTEMS_HOME(home)
 
 /* Whether the last fault is that one, and its text has both. */
-static bool is_fault(int number, const char *what, const char *also)
+static bool is_fault(DconfdbErrorCode code, const char *what, const char *also)
 {
-    bool is = error.number == number && strstr(error.text, what) && strstr(error.text, also);
+    bool is = error.code == code && strstr(error.text, what) && strstr(error.text, also);
     if (!is)
-        fprintf(stderr, "%d: %s\n", error.number, error.text);
+        fprintf(stderr, "%s: %s\n", dconfdb_error_name(error.code), error.text);
     return is;
 }
 
@@ -73,7 +73,7 @@ static void tries_changing(DconfdbStore *store)
     memset(&error, 7, sizeof error);
     DconfdbEdit two[] = {sets_text("/org/desk/name", "mine"), sets_text("/b/x", "")};
     /* A call that is done leaves the error alone. */
-    TRY(dconfdb_store_change(store, two, 2, &error) && error.number != 0);
+    TRY(dconfdb_store_change(store, two, 2, &error) && error.code != 0);
     now = dconfdb_store_snapshot(store);
     TRY(has(old, "/org/desk/name", "desk") && has(now, "/org/desk/name", "mine") && has(now, "/b/x", ""));
     TRY(dconfdb_snapshot_read_default(now, "/org/desk/name", &value) && is_text(&value, "desk"));
@@ -86,14 +86,14 @@ static void tries_changing(DconfdbStore *store)
     /* All or none; the edit at fault is told. */
     two[0] = sets_text("/b/x", "lost");
     two[1] = sets_text("/org/desk/size", "lost");
-    TRY(!dconfdb_store_change(store, two, 2, &error) && is_fault(DCONFDB_ERROR_LOCKED, "/org/desk/size", "locked") && error.at == 1);
+    TRY(!dconfdb_store_change(store, two, 2, &error) && is_fault(DCONFDB_ERROR_LOCKED, "/org/desk/size", "locked") && error.edit == 1);
     two[1] = (DconfdbEdit){"/b/y", "z", "", 0};
-    TRY(!dconfdb_store_change(store, two, 2, &error) && is_fault(DCONFDB_ERROR_BAD_TYPE, "/b/y", "type") && error.at == 1);
+    TRY(!dconfdb_store_change(store, two, 2, &error) && is_fault(DCONFDB_ERROR_BAD_TYPE, "/b/y", "type") && error.edit == 1);
     two[1] = (DconfdbEdit){"/b/y", "", NULL, 0};
     TRY(!dconfdb_store_change(store, two, 2, NULL));
     two[1] = (DconfdbEdit){"b", NULL, NULL, 0};
-    TRY(!dconfdb_store_change(store, two, 2, &error) && is_fault(DCONFDB_ERROR_BAD_PATH, "b", "path") && error.at == 1);
-    TRY(!changes(store, (DconfdbEdit){"//", NULL, NULL, 0}) && error.number == DCONFDB_ERROR_BAD_PATH && error.at == 0);
+    TRY(!dconfdb_store_change(store, two, 2, &error) && is_fault(DCONFDB_ERROR_BAD_PATH, "b", "path") && error.edit == 1);
+    TRY(!changes(store, (DconfdbEdit){"//", NULL, NULL, 0}) && error.code == DCONFDB_ERROR_BAD_PATH && error.edit == 0);
     old = dconfdb_store_snapshot(store);
     TRY(old == now);
     dconfdb_snapshot_unref(old);
@@ -219,7 +219,7 @@ static void tries_taking_in(DconfdbStore *store)
 {
     DconfdbSnapshot *old = dconfdb_store_snapshot(store), *now;
     TRY(link("site.db", "site.kept") == 0 && rename("next.db", "site.db") == 0);
-    TRY(!changes(store, (DconfdbEdit){"no path", NULL, NULL, 0}) && error.number == DCONFDB_ERROR_BAD_PATH);
+    TRY(!changes(store, (DconfdbEdit){"no path", NULL, NULL, 0}) && error.code == DCONFDB_ERROR_BAD_PATH);
     now = dconfdb_store_snapshot(store);
     TRY(now != old && has(now, "/org/desk/name", "next") && is_renewed(store) && !is_renewed(store));
     dconfdb_snapshot_unref(old);
@@ -239,7 +239,7 @@ static void tries_bad_files(DconfdbStore *store)
     TRY(changes(store, sets_text("/kept", "1")) && rename(name, "kept") == 0);
     FILE *file = fopen(name, "w");
     TRY(file && fputs("no database, but long enough to have its header", file) >= 0 && fclose(file) == 0);
-    TRY(!dconfdb_store_refresh(store, NULL, &error) && is_fault(DCONFDB_ERROR_BAD_SIGNATURE, "/me.user", "") && error.at == 0);
+    TRY(!dconfdb_store_refresh(store, NULL, &error) && is_fault(DCONFDB_ERROR_BAD_SIGNATURE, "/me.user", "") && error.edit == 0);
     TRY(!changes(store, sets_text("/kept", "2")) && is_fault(DCONFDB_ERROR_BAD_SIGNATURE, "/me.user", ""));
     TRY(truncate(name, 0) == 0 && !dconfdb_store_refresh(store, NULL, &error) && is_fault(DCONFDB_ERROR_SHORT, "/me.user", ""));
     DconfdbSnapshot *now = dconfdb_store_snapshot(store);
@@ -315,12 +315,12 @@ static void tries_other_stores(void)
 {
     TRY(!dconfdb_store_open("bad", &error) && is_fault(DCONFDB_ERROR_BAD_LINE, "/bad/profile:2:", "") && error.line == 2);
     TRY(!dconfdb_store_open("service", &error) && is_fault(DCONFDB_ERROR_SERVICE_DB, "/service/profile:1:", ""));
-    TRY(!dconfdb_store_open("folder", &error) && is_fault(DCONFDB_ERROR_FILE, "/folder/me.user", "") && error.system == EISDIR);
+    TRY(!dconfdb_store_open("folder", &error) && is_fault(DCONFDB_ERROR_FILE, "/folder/me.user", "") && error.errnum == EISDIR);
     TRY(!dconfdb_store_open("bad", NULL));
     DconfdbStore *store = dconfdb_store_open("writeless", &error);
     TRY(store && !dconfdb_store_user_file(store));
-    TRY(!changes(store, sets_text("/k", "1")) && is_fault(DCONFDB_ERROR_NOT_WRITABLE, "/k", "") && error.at == 0);
-    TRY(!changes(store, (DconfdbEdit){"/", NULL, NULL, 0}) && error.number == DCONFDB_ERROR_NOT_WRITABLE);
+    TRY(!changes(store, sets_text("/k", "1")) && is_fault(DCONFDB_ERROR_NOT_WRITABLE, "/k", "") && error.edit == 0);
+    TRY(!changes(store, (DconfdbEdit){"/", NULL, NULL, 0}) && error.code == DCONFDB_ERROR_NOT_WRITABLE);
     DconfdbSnapshot *now = dconfdb_store_snapshot(store);
     DconfdbValue value;
     TRY(has(now, "/org/desk/name", "desk") && !dconfdb_snapshot_is_writable(now, "/org/desk/name"));
@@ -336,10 +336,10 @@ static void tries_places(void)
     char here[4096], name[4200];
     TRY(getcwd(here, sizeof here));
     TRY(unsetenv("DCONFDB_STORE") == 0 && unsetenv("XDG_CONFIG_HOME") == 0 && unsetenv("HOME") == 0);
-    TRY(!dconfdb_store_open(NULL, &error) && error.number == DCONFDB_ERROR_NO_FOLDER);
+    TRY(!dconfdb_store_open(NULL, &error) && error.code == DCONFDB_ERROR_NO_FOLDER);
     TRY(!dconfdb_store_files(NULL, NULL, NULL));
     home = "relative";
-    TRY(!dconfdb_store_open(NULL, &error) && error.number == DCONFDB_ERROR_NO_FOLDER);
+    TRY(!dconfdb_store_open(NULL, &error) && error.code == DCONFDB_ERROR_NO_FOLDER);
     home = "/the system's";
     DconfdbStore *store = dconfdb_store_open(NULL, &error);
     TRY(store && strcmp(dconfdb_store_folder(store), "/the system's/.config/dconfdb") == 0);
@@ -370,10 +370,10 @@ static void opens_named(const char *name)
 static bool is_without_any(const char *what, int fault)
 {
     DconfdbStore *store = dconfdb_store_open_lenient(NULL, &error);
-    TRY(store && dconfdb_store_profile_fault(store, &error) && is_fault(DCONFDB_ERROR_FILE, what, "") && error.system == fault);
+    TRY(store && dconfdb_store_profile_fault(store, &error) && is_fault(DCONFDB_ERROR_FILE, what, "") && error.errnum == fault);
     DconfdbSnapshot *now = dconfdb_store_snapshot(store);
     bool is = dconfdb_snapshot_databases(now) == 0 && has(now, "/org/desk/name", NULL) && !dconfdb_store_user_file(store);
-    TRY(!changes(store, sets_text("/k", "1")) && error.number == DCONFDB_ERROR_NOT_WRITABLE);
+    TRY(!changes(store, sets_text("/k", "1")) && error.code == DCONFDB_ERROR_NOT_WRITABLE);
     dconfdb_snapshot_unref(now);
     dconfdb_store_close(store);
     return is;
@@ -399,17 +399,17 @@ static void tries_named_profiles(void)
     TRY(!dconfdb_store_open(NULL, &error) && is_fault(DCONFDB_ERROR_BAD_LINE, "/named/bad:1:", ""));
     TRY(ARE_FILES(NULL, "/named/bad", "/etc/dconfdb/profile", "/kiosk.user"));
     opens_named("no-such");
-    TRY(!dconfdb_store_open(NULL, &error) && is_fault(DCONFDB_ERROR_FILE, "/etc/dconfdb/profiles/no-such", "") && error.system == ENOENT);
+    TRY(!dconfdb_store_open(NULL, &error) && is_fault(DCONFDB_ERROR_FILE, "/etc/dconfdb/profiles/no-such", "") && error.errnum == ENOENT);
     TRY(is_without_any("/etc/dconfdb/profiles/no-such", ENOENT) && ARE_FILES(NULL, "/etc/dconfdb/profiles/no-such", "/etc/dconfdb/profile"));
     opens_named("./named");
-    TRY(!dconfdb_store_open(NULL, &error) && error.system == EISDIR && is_without_any("/./named", EISDIR));
+    TRY(!dconfdb_store_open(NULL, &error) && error.errnum == EISDIR && is_without_any("/./named", EISDIR));
     TRY(unsetenv("DCONFDB_PROFILE") == 0 && unsetenv("DCONFDB_STORE") == 0);
 }
 
 static bool is_refused(const char *profile, int fault)
 {
     makes_profile("odd/profile", profile);
-    return !dconfdb_store_open("odd", &error) && error.number == DCONFDB_ERROR_FILE && error.system == fault;
+    return !dconfdb_store_open("odd", &error) && error.code == DCONFDB_ERROR_FILE && error.errnum == fault;
 }
 
 /* What is no regular file is neither read nor waited for. A link that leads nowhere is no file. */
@@ -428,11 +428,11 @@ static void tries_odd_files(void)
     makes_profile("odd/big.user", "");
     makes_profile("odd/profile", "user-db:big\n");
     TRY(truncate("odd/big.user", 4294967296) == 0 && !dconfdb_store_open("odd", &error));
-    TRY(is_fault(DCONFDB_ERROR_TOO_BIG, "/odd/big.user", ""));
+    TRY(is_fault(DCONFDB_ERROR_FILE_TOO_LARGE, "/odd/big.user", ""));
     TRY(truncate("odd/profile", 16777217) == 0 && !dconfdb_store_open("odd", &error));
-    TRY(is_fault(DCONFDB_ERROR_TOO_BIG, "/odd/profile", ""));
+    TRY(is_fault(DCONFDB_ERROR_FILE_TOO_LARGE, "/odd/profile", ""));
     TRY(unlink("odd/profile") == 0 && symlink("pipe", "odd/profile") == 0);
-    TRY(!dconfdb_store_open("odd", &error) && is_fault(DCONFDB_ERROR_FILE, "/odd/profile", "") && error.system == EINVAL);
+    TRY(!dconfdb_store_open("odd", &error) && is_fault(DCONFDB_ERROR_FILE, "/odd/profile", "") && error.errnum == EINVAL);
 }
 
 /* The folder is moved: then its databases are empty, and the next change makes another one. */

@@ -7,7 +7,7 @@
 #include <sys/time.h>
 #include <unistd.h>
 
-static DconfdbError error;
+static DconfdbError error = DCONFDB_ERROR_INIT;
 
 static bool change(DconfdbStore *store, const char *path)
 {

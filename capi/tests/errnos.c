@@ -32,7 +32,7 @@ int __wrap_renameat(int from, const char *old, int to, const char *new)
     return fails() ? -1 : __real_renameat(from, old, to, new);
 }
 
-static DconfdbError error;
+static DconfdbError error = DCONFDB_ERROR_INIT;
 
 static bool changes(DconfdbStore *store, const char *text)
 {
@@ -54,16 +54,16 @@ static bool is_in_file(const char *folder, const char *text)
     return is;
 }
 
-static int number_of(void)
+static DconfdbErrorCode code_wanted(void)
 {
     if (failing == OF_FILE && fault == ENOMEM)
         return DCONFDB_ERROR_MEMORY;
-    return failing == OF_FILE && fault == EOVERFLOW ? DCONFDB_ERROR_TOO_BIG : DCONFDB_ERROR_FILE;
+    return failing == OF_FILE && fault == EOVERFLOW ? DCONFDB_ERROR_FILE_TOO_LARGE : DCONFDB_ERROR_FILE;
 }
 
-static int outcome_of(int place)
+static DconfdbOutcome outcome_of(int place)
 {
-    static const int outcomes[] = {DCONFDB_OUTCOME_MADE, DCONFDB_OUTCOME_KEPT, DCONFDB_OUTCOME_EITHER, DCONFDB_OUTCOME_UNSETTLED};
+    static const DconfdbOutcome outcomes[] = {DCONFDB_OUTCOME_MADE, DCONFDB_OUTCOME_KEPT, DCONFDB_OUTCOME_EITHER, DCONFDB_OUTCOME_UNSETTLED};
     return outcomes[place];
 }
 
@@ -76,10 +76,10 @@ static void tries(DconfdbStore *store, const char *folder, int place)
     failing = place;
     TRY(!changes(store, "new") && count == place);
     DconfdbSnapshot *after = dconfdb_store_snapshot(store);
-    TRY(error.number == number_of() && error.system == (error.number == DCONFDB_ERROR_FILE ? fault : 0));
+    TRY(error.code == code_wanted() && error.errnum == (error.code == DCONFDB_ERROR_FILE ? fault : 0));
     TRY(error.outcome == outcome_of(place));
     TRY(!strstr(error.text, "it is perhaps replaced") == (place != OF_RENAME));
-    TRY(error.at == 0 && error.database == 0 && error.line == 0 && strstr(error.text, "/me.user: "));
+    TRY(error.edit == 0 && error.database == 0 && error.line == 0 && strstr(error.text, "/me.user: "));
     TRY(!strstr(error.text, "it is replaced, but perhaps not on the disk yet") == (place != OF_FOLDER));
     TRY(has(after, "/k", there) && is_in_file(folder, there) && (before == after) == (place != OF_FOLDER));
     dconfdb_snapshot_unref(before);

@@ -11,7 +11,7 @@
 
 enum { NOBODY = 65534 };
 
-static DconfdbError error;
+static DconfdbError error = DCONFDB_ERROR_INIT;
 
 /* Sets a key in the store of a folder. */
 static bool sets(const char *folder)
@@ -89,13 +89,13 @@ static double seconds(void)
 }
 
 /* A file of 4 GB that doesn't begin as a database isn't read to its end. */
-static void tries_long(const char *begin, size_t len, int number)
+static void tries_long(const char *begin, size_t len, DconfdbErrorCode code)
 {
     int file = open("me.user", O_RDWR | O_CREAT | O_TRUNC, 0600);
     TRY(file >= 0 && write(file, begin, len) == (ssize_t)len);
     if (ftruncate(file, 4294967295) == 0) {
         double began = seconds();
-        TRY(!dconfdb_store_open(".", &error) && error.number == number && strstr(error.text, "me.user"));
+        TRY(!dconfdb_store_open(".", &error) && error.code == code && strstr(error.text, "me.user"));
         TRY(seconds() - began < 1);
     }
     TRY(close(file) == 0 && unlink("me.user") == 0);

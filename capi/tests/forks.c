@@ -29,11 +29,11 @@ int __wrap_fsync(int file)
 
 int main(int argc, char **argv)
 {
-    DconfdbError error;
+    DconfdbError error = DCONFDB_ERROR_INIT;
     DconfdbEdit edit = sets_text("/forks", "never");
     TRY(argc == 2);
     DconfdbStore *store = dconfdb_store_open(argv[1], &error);
     TRY(store);
-    dconfdb_store_change(store, &edit, 1, &error);
+    TRY(!dconfdb_store_change(store, &edit, 1, &error));
     return 1;
 }

@@ -5,7 +5,7 @@
 
 int main(int argc, char **argv)
 {
-    DconfdbError error;
+    DconfdbError error = DCONFDB_ERROR_INIT;
     DconfdbStore *store = dconfdb_store_open(argc > 1 ? argv[1] : nullptr, &error);
     if (!store)
         return 1;

@@ -11,7 +11,7 @@
 #include <sys/syscall.h>
 #include <unistd.h>
 
-static DconfdbError error;
+static DconfdbError error = DCONFDB_ERROR_INIT;
 static char *const home = NULL;
 static size_t tried;
 
@@ -131,8 +131,8 @@ static void tries_what_is_there(void)
     DconfdbStore *store = opens(), *second = opens();
     /* No file is made where there is none, nor a folder. */
     TRY(changes(store, reset) && changes(store, below) && changes(store, root) && access("me.user", F_OK) != 0);
-    TRY(!changes(store, (DconfdbEdit){"none", NULL, NULL, 0}) && error.number == DCONFDB_ERROR_BAD_PATH);
-    TRY(!changes(store, (DconfdbEdit){"/org/desk/size", NULL, NULL, 0}) && error.number == DCONFDB_ERROR_LOCKED);
+    TRY(!changes(store, (DconfdbEdit){"none", NULL, NULL, 0}) && error.code == DCONFDB_ERROR_BAD_PATH);
+    TRY(!changes(store, (DconfdbEdit){"/org/desk/size", NULL, NULL, 0}) && error.code == DCONFDB_ERROR_LOCKED);
     DconfdbEdit all[] = {sets_text("/k", "1"), {"/pair", "(bt)", pair, 16}};
     TRY(!has_edit(store, all[0]) && dconfdb_store_change(store, all, 2, &error) && has_edit(store, all[0]) && is_newest(store));
     Mark mark = mark_of("me.user");
@@ -145,7 +145,7 @@ static void tries_what_is_there(void)
     TRY(dconfdb_store_change(store, undone, 4, &error) && stays("me.user", mark) && !has_edit(store, undone[0]));
     /* A refusal is one also where another edit changes nothing. */
     DconfdbEdit locked[] = {sets_text("/k", "1"), sets_text("/org/desk/size", "1")};
-    TRY(!dconfdb_store_change(store, locked, 2, &error) && error.number == DCONFDB_ERROR_LOCKED && error.at == 1);
+    TRY(!dconfdb_store_change(store, locked, 2, &error) && error.code == DCONFDB_ERROR_LOCKED && error.edit == 1);
     TRY(has_edit(store, reset) && has_edit(store, below) && !has_edit(store, root) && !has_edit(store, sets_text("/k", "2")));
     TRY(!has_edit(store, (DconfdbEdit){"/k", "o", "1", 2}) && stays("me.user", mark));
     /* What another changed meanwhile is not there any longer. */
@@ -174,7 +174,7 @@ static void tries_it(const char *words, const char *also, bool is_file)
     TRY(has_fault(store, 0, words, also) && has_fault(store, 1, NULL, NULL));
     TRY(sees(store, "/org/desk/name", "desk") && locks(store, "/org/desk/size") && sees(store, "/far/key", "far"));
     TRY(dconfdb_store_refresh(store, NULL, &error) && has_fault(store, 0, words, also));
-    TRY(!changes(store, sets_text("/org/desk/size", "1")) && error.number == DCONFDB_ERROR_LOCKED);
+    TRY(!changes(store, sets_text("/org/desk/size", "1")) && error.code == DCONFDB_ERROR_LOCKED);
     TRY(changes(store, (DconfdbEdit){"/not/there", NULL, NULL, 0}) && access("me.user~1", F_OK) != 0);
     TRY(changes(store, sets_text("/new", "1")) && sees(store, "/new", "1") && has_fault(store, 0, words, "it is now me.user~1"));
     TRY(lstat("me.user~1", &aside) == 0 && aside.st_ino == found.st_ino && (!is_file || holds("me.user~1", bad.bytes, bad.len)));
@@ -326,7 +326,7 @@ static void tries_bad_sites(void)
     writes("site.db", whole.bytes, whole.len - 16);
     DconfdbStore *store = opens();
     TRY(has_fault(store, 1, "/site.db: ", "2 locks") && locks(store, "/org/desk/size") && locks(store, "/shut/k"));
-    TRY(!changes(store, sets_text("/org/desk/size", "1")) && error.number == DCONFDB_ERROR_LOCKED);
+    TRY(!changes(store, sets_text("/org/desk/size", "1")) && error.code == DCONFDB_ERROR_LOCKED);
     TRY(changes(store, sets_text("/k", "mine")) && sees(store, "/k", "mine") && sees(store, "/far/key", "far"));
     TRY(holds("site.db", whole.bytes, whole.len - 16) && access("site.db~1", F_OK) != 0);
     writes("site.db", "noise", 5);
@@ -334,11 +334,11 @@ static void tries_bad_sites(void)
     TRY(!locks(store, "/org/desk/size") && changes(store, sets_text("/k", "again")));
     writes("site.db", of_locks, sizeof of_locks);
     TRY(dconfdb_store_refresh(store, NULL, &error) && has_fault(store, 1, NULL, NULL) && locks(store, "/a/b") && locks(store, "/c/d"));
-    TRY(!locks(store, "/a/c") && !changes(store, sets_text("/a/b", "1")) && error.number == DCONFDB_ERROR_LOCKED);
+    TRY(!locks(store, "/a/c") && !changes(store, sets_text("/a/b", "1")) && error.code == DCONFDB_ERROR_LOCKED);
     writes("site.db", of_nothing, sizeof of_nothing);
     TRY(dconfdb_store_refresh(store, NULL, &error) && has_fault(store, 1, NULL, NULL) && !locks(store, "/a/b"));
     dconfdb_store_close(store);
-    TRY(!dconfdb_store_open(".", &error) && error.number == DCONFDB_ERROR_UNSOUND);
+    TRY(!dconfdb_store_open(".", &error) && error.code == DCONFDB_ERROR_UNSOUND);
     /* The same file with a key more in its header's table is none of dconf's. */
     writes("site.db", of_locks, sizeof of_locks - 60);
     store = opens();
@@ -394,7 +394,7 @@ static void tries_in_place(size_t place, Thing thing)
     store = opens();
     TRY(is_of_all || sees(store, "/far/key", "far"));
     TRY(changes(store, sets_text("/new", "1")) == is_made && sees(store, "/new", is_made ? "1" : NULL));
-    TRY(is_made || error.number == DCONFDB_ERROR_FILE || error.number == DCONFDB_ERROR_NOT_WRITABLE);
+    TRY(is_made || error.code == DCONFDB_ERROR_FILE || error.code == DCONFDB_ERROR_NOT_WRITABLE);
     dconfdb_store_close(store);
     TRY(access("nothing", F_OK) != 0 || (strcmp(file, "me.user") != 0 && unlink("nothing") == 0));
     tried++;
@@ -427,14 +427,14 @@ static void tries_places(void)
 
 /* ---- the profile */
 
-static void tries_profile(const char *text, int number, size_t line, size_t count)
+static void tries_profile(const char *text, DconfdbErrorCode code, size_t line, size_t count)
 {
     writes("profile", text, strlen(text));
     DconfdbStore *store = opens();
     DconfdbSnapshot *now = dconfdb_store_snapshot(store);
     bool is = dconfdb_store_profile_fault(store, &error), too = dconfdb_store_profile_fault(store, NULL);
-    TRY(is == (number != 0) && too == is && (!is || (error.number == number && error.line == line)));
-    TRY(dconfdb_snapshot_databases(now) == count && (number == 0 || !dconfdb_store_open(".", NULL)));
+    TRY(is == (code != 0) && too == is && (!is || (error.code == code && error.line == line)));
+    TRY(dconfdb_snapshot_databases(now) == count && (code == 0 || !dconfdb_store_open(".", NULL)));
     TRY(locks(store, "/org/desk/size") && dconfdb_snapshot_is_writable(now, "/k"));
     dconfdb_snapshot_unref(now);
     dconfdb_store_close(store);
@@ -452,7 +452,7 @@ static void tries_profiles(void)
     tries_profile("# \xe9\nuser-db:me\nsystem-db:site\n", DCONFDB_ERROR_NOT_TEXT, 1, 2);
     TRY(unlink("profile") == 0 && mkdir("profile", 0700) == 0);
     DconfdbStore *store = opens();
-    TRY(dconfdb_store_profile_fault(store, &error) && error.system == EISDIR && strstr(error.text, "/profile: "));
+    TRY(dconfdb_store_profile_fault(store, &error) && error.errnum == EISDIR && strstr(error.text, "/profile: "));
     dconfdb_store_close(store);
     TRY(rmdir("profile") == 0);
     writes("profile", whole.bytes, whole.len);

@@ -37,13 +37,13 @@ void *__wrap_realloc(void *old, size_t size)
     return is_refused() ? NULL : __real_realloc(old, size);
 }
 
-static DconfdbError error;
+static DconfdbError error = DCONFDB_ERROR_INIT;
 
 /* Whether a call that is not done may be so. */
 static bool lacks_memory(bool done)
 {
-    TRY(done || (error.number == DCONFDB_ERROR_MEMORY && growths >= refused));
-    TRY(done || (error.system == 0 && error.at == 0 && error.database == 0 && error.line == 0));
+    TRY(done || (error.code == DCONFDB_ERROR_MEMORY && growths >= refused));
+    TRY(done || (error.errnum == 0 && error.edit == 0 && error.database == 0 && error.line == 0));
     TRY(done || strstr(error.text, "no memory is left"));
     memset(&error, 0x7f, sizeof error);
     return !done;
@@ -124,7 +124,7 @@ static void tries_writeless(const char *folder)
     if (lacks_memory(store != NULL))
         return;
     TRY(!dconfdb_store_change(store, &edit, 1, &error));
-    TRY(error.number == DCONFDB_ERROR_NOT_WRITABLE || (lacks_memory(false) && growths >= refused));
+    TRY(error.code == DCONFDB_ERROR_NOT_WRITABLE || (lacks_memory(false) && growths >= refused));
     dconfdb_store_close(store);
 }
 
@@ -215,7 +215,7 @@ static bool runs(const char *folder)
     lists(now, old);
     edits[1] = sets_text("/a/", "");
     TRY(!dconfdb_store_change(store, edits, 2, &error));
-    TRY(error.number == DCONFDB_ERROR_BAD_PATH ? error.at == 1 : error.number == DCONFDB_ERROR_MEMORY && error.at == 0);
+    TRY(error.code == DCONFDB_ERROR_BAD_PATH ? error.edit == 1 : error.code == DCONFDB_ERROR_MEMORY && error.edit == 0);
     memset(&error, 0x7f, sizeof error);
     dconfdb_snapshot_unref(old);
     dconfdb_snapshot_unref(now);

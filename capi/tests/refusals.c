@@ -17,24 +17,25 @@ static char *const home = NULL;
 
 SYSTEMS_HOME(home)
 
-static DconfdbError error;
+static DconfdbError error = DCONFDB_ERROR_INIT;
 
 /* ---- what is said */
 
-/* What is to be said: the number, the errno, which edit, database and line, and words of the text. */
+/* What is to be said: the code, the errno, which edit, database and line, and words of the text. */
 typedef struct {
-    int number, system;
-    size_t at, database, line;
+    DconfdbErrorCode code;
+    int errnum;
+    size_t edit, database, line;
     const char *name, *words;
 } Fault;
 
 static bool is_said(Fault fault)
 {
-    bool is = error.number == fault.number && error.system == fault.system && error.at == fault.at
+    bool is = error.size == sizeof error && error.code == fault.code && error.errnum == fault.errnum && error.edit == fault.edit
         && error.database == fault.database && error.line == fault.line && strstr(error.text, fault.name)
         && strstr(error.text, fault.words);
     if (!is)
-        fprintf(stderr, "number %d, system %d, at %zu, database %zu, line %zu: %s\n", error.number, error.system, error.at,
+        fprintf(stderr, "code %s, errnum %d, edit %zu, database %zu, line %zu: %s\n", dconfdb_error_name(error.code), error.errnum, error.edit,
                 error.database, error.line, error.text);
     return is;
 }
@@ -43,6 +44,7 @@ static bool is_said(Fault fault)
 static void forgets(void)
 {
     memset(&error, 0x7f, sizeof error);
+    error.size = sizeof error;
 }
 
 /* ---- what is to stay */
@@ -142,7 +144,7 @@ static void tries_edits(DconfdbStore *store)
     long_path[0] = '/';
     const struct {
         DconfdbEdit edit;
-        int number;
+        DconfdbErrorCode code;
         const char *words;
     } refused[] = {
         {{"/a/", "i", &five, sizeof five}, DCONFDB_ERROR_BAD_PATH, "the path is not one of a key"},
@@ -164,13 +166,13 @@ static void tries_edits(DconfdbStore *store)
         {{"/org/desk/size", "i", &five, sizeof five}, DCONFDB_ERROR_LOCKED, "the key is locked"},
         {{"/org/desk/size", NULL, NULL, 0}, DCONFDB_ERROR_LOCKED, "the key is locked"},
         {{"/shut/any", "i", &five, sizeof five}, DCONFDB_ERROR_LOCKED, "the key is locked"},
-        {{"/a/k", "v", deep, size}, DCONFDB_ERROR_TOO_LARGE, "the value is nested too deep or too long"},
+        {{"/a/k", "v", deep, size}, DCONFDB_ERROR_VALUE_TOO_LARGE, "the value is nested too deep or too long"},
     };
     for (size_t i = 0; i < sizeof refused / sizeof refused[0]; i++) {
         DconfdbEdit good = sets_text("/good", "1"), edits[] = {good, refused[i].edit, good};
-        Fault fault = {refused[i].number, 0, 0, 0, 0, strlen(refused[i].edit.path) > 400 ? "/" : refused[i].edit.path, refused[i].words};
+        Fault fault = {refused[i].code, 0, 0, 0, 0, strlen(refused[i].edit.path) > 400 ? "/" : refused[i].edit.path, refused[i].words};
         TRY(refuses_change(store, edits + 1, 1, fault) && refuses_change(store, edits + 1, 2, fault));
-        fault.at = 1;
+        fault.edit = 1;
         TRY(refuses_change(store, edits, 2, fault) && refuses_change(store, edits, 3, fault));
     }
 }
@@ -204,7 +206,7 @@ static size_t first_item(const char *bytes)
 }
 
 static const struct {
-    int number;
+    DconfdbErrorCode code;
     const char *words;
 } bad[] = {
     {DCONFDB_ERROR_SHORT, "shorter than a database's header"},
@@ -213,31 +215,31 @@ static const struct {
     {DCONFDB_ERROR_BAD_ROOT, "no root table"},
     {DCONFDB_ERROR_BAD_TABLE, "root table does not fit"},
     {DCONFDB_ERROR_UNSOUND, "breaks the rule S"},
-    {DCONFDB_ERROR_TOO_BIG, "the file is too big"},
+    {DCONFDB_ERROR_FILE_TOO_LARGE, "the file is too big"},
     {DCONFDB_ERROR_FILE, "Is a directory"},
 };
 
 /* Puts a file in place that is bad in that way. */
-static void makes_bad(const char *name, int number, char *bytes, size_t size)
+static void makes_bad(const char *name, DconfdbErrorCode code, char *bytes, size_t size)
 {
-    if (number == DCONFDB_ERROR_SHORT)
+    if (code == DCONFDB_ERROR_SHORT)
         size = 23;
-    else if (number == DCONFDB_ERROR_BAD_SIGNATURE)
+    else if (code == DCONFDB_ERROR_BAD_SIGNATURE)
         bytes[0] = 'g';
-    else if (number == DCONFDB_ERROR_BAD_VERSION)
+    else if (code == DCONFDB_ERROR_BAD_VERSION)
         bytes[8] = 1;
-    else if (number == DCONFDB_ERROR_BAD_ROOT)
+    else if (code == DCONFDB_ERROR_BAD_ROOT)
         sets_word(bytes, 20, (uint32_t)size + 1);
-    else if (number == DCONFDB_ERROR_BAD_TABLE)
+    else if (code == DCONFDB_ERROR_BAD_TABLE)
         sets_word(bytes, word_at(bytes, 16) + 4, 1 << 24);
-    else if (number == DCONFDB_ERROR_UNSOUND)
+    else if (code == DCONFDB_ERROR_UNSOUND)
         bytes[first_item(bytes)] = (char)(bytes[first_item(bytes)] + 1);
-    if (number == DCONFDB_ERROR_FILE) {
+    if (code == DCONFDB_ERROR_FILE) {
         TRY(mkdir(name, 0700) == 0);
         return;
     }
     writes(name, bytes, size);
-    if (number == DCONFDB_ERROR_TOO_BIG)
+    if (code == DCONFDB_ERROR_FILE_TOO_LARGE)
         TRY(truncate(name, 4294967296) == 0);
 }
 
@@ -249,10 +251,10 @@ static void tries_bad_file(DconfdbStore *store, size_t database, size_t which)
     FILE *file = fopen(name, "r");
     size_t size = file ? fread(bytes, 1, MOST, file) : 0;
     TRY(size > 40 && size < MOST && fclose(file) == 0 && rename(name, "kept") == 0);
-    makes_bad(name, bad[which].number, bytes, size);
-    Fault fault = {bad[which].number, bad[which].number == DCONFDB_ERROR_FILE ? EISDIR : 0, 0, database, 0, name, bad[which].words};
+    makes_bad(name, bad[which].code, bytes, size);
+    Fault fault = {bad[which].code, bad[which].code == DCONFDB_ERROR_FILE ? EISDIR : 0, 0, database, 0, name, bad[which].words};
     TRY(refuses_open(".", fault) && refuses_refresh(store, fault) && refuses_change(store, &good, 1, fault));
-    TRY((bad[which].number == DCONFDB_ERROR_FILE ? rmdir(name) : unlink(name)) == 0 && rename("kept", name) == 0);
+    TRY((bad[which].code == DCONFDB_ERROR_FILE ? rmdir(name) : unlink(name)) == 0 && rename("kept", name) == 0);
     TRY(dconfdb_store_refresh(store, NULL, &error));
 }
 
@@ -273,7 +275,7 @@ static void tries_profiles(void)
         end += sprintf(end, "system-db:s%d\n", i);
     const struct {
         const char *text;
-        int number;
+        DconfdbErrorCode code;
         size_t line;
         const char *words;
     } profiles[] = {
@@ -289,7 +291,7 @@ static void tries_profiles(void)
         char place[32];
         snprintf(place, sizeof place, profiles[i].line ? "/profile:%zu:" : "/profile:", profiles[i].line);
         writes("profile", profiles[i].text, strlen(profiles[i].text));
-        TRY(refuses_open(".", (Fault){profiles[i].number, 0, 0, 0, profiles[i].line, place, profiles[i].words}));
+        TRY(refuses_open(".", (Fault){profiles[i].code, 0, 0, 0, profiles[i].line, place, profiles[i].words}));
         /* The files are named all the same, but for the databases. */
         char *names = dconfdb_store_files("/none/such", NULL, &error);
         TRY(names && unlink("profile") == 0);
@@ -299,7 +301,7 @@ static void tries_profiles(void)
     TRY(refuses_open(".", (Fault){DCONFDB_ERROR_FILE, EISDIR, 0, 0, 0, "/profile", "Is a directory"}) && rmdir("profile") == 0);
     writes("profile", "", 0);
     TRY(truncate("profile", 16777217) == 0);
-    TRY(refuses_open(".", (Fault){DCONFDB_ERROR_TOO_BIG, 0, 0, 0, 0, "/profile", "too big"}) && unlink("profile") == 0);
+    TRY(refuses_open(".", (Fault){DCONFDB_ERROR_FILE_TOO_LARGE, 0, 0, 0, 0, "/profile", "too big"}) && unlink("profile") == 0);
     /* A name below what is no folder is no missing file. */
     writes("profile", "user-db:me\nfile-db:site.db/x\n", 29);
     TRY(refuses_open(".", (Fault){DCONFDB_ERROR_FILE, ENOTDIR, 0, 1, 0, "/site.db/x", "Not a directory"}));
@@ -350,8 +352,8 @@ static void tries_replacing(DconfdbStore *store)
     TRY(setrlimit(RLIMIT_FSIZE, &none) == 0);
     forgets();
     TRY(!dconfdb_store_change(store, &good, 1, &error));
-    TRY(setrlimit(RLIMIT_FSIZE, &usual) == 0 && error.number == DCONFDB_ERROR_FILE && error.system == EFBIG && strstr(error.text, "/me.user"));
-    TRY(error.at == 0 && error.database == 0 && error.line == 0 && !strstr(error.text, "replaced"));
+    TRY(setrlimit(RLIMIT_FSIZE, &usual) == 0 && error.code == DCONFDB_ERROR_FILE && error.errnum == EFBIG && strstr(error.text, "/me.user"));
+    TRY(error.edit == 0 && error.database == 0 && error.line == 0 && !strstr(error.text, "replaced"));
     begins(store);
     TRY(nothing_changed(store));
 }

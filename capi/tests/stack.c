@@ -9,7 +9,7 @@
 enum { STACK = 256 * 1024, GUARD = 65536, PAINT = 0xa5, MOST_LEVELS = 200, LONGEST_PATH = 65535 };
 
 static const char *folder;
-static DconfdbError error;
+static DconfdbError error = DCONFDB_ERROR_INIT;
 
 /* A value that is so deep: variants in each other, or arrays, around a number. */
 typedef struct {
@@ -60,7 +60,7 @@ static int most_levels(DconfdbStore *store, const char *path, void (*puts_in)(De
     int levels = 1;
     while (levels < MOST_LEVELS && sets(store, path, puts_in, levels + 1, 1))
         levels++;
-    TRY(levels > 100 && (error.number == DCONFDB_ERROR_TOO_LARGE || error.number == DCONFDB_ERROR_BAD_TYPE) && error.at == 0);
+    TRY(levels > 100 && (error.code == DCONFDB_ERROR_VALUE_TOO_LARGE || error.code == DCONFDB_ERROR_BAD_TYPE) && error.edit == 0);
     return levels;
 }
 

@@ -48,12 +48,12 @@ static void warn_once(char (*said)[512], const char *text)
 /* The files that are bad, of which what can be read counts. */
 static void warn_of_faults(Watch *watch, const DconfdbSnapshot *now)
 {
-    DconfdbError fault = {.text = ""};
+    DconfdbError fault = DCONFDB_ERROR_INIT;
     const DconfdbSnapshot *before = watch->before;
     dconfdb_store_profile_fault(watch->store, &fault);
     warn_once(&watch->said_of_profile, fault.text);
     for (size_t i = 0; i < dconfdb_snapshot_databases(now); i++) {
-        DconfdbError old = {.text = ""};
+        DconfdbError old = DCONFDB_ERROR_INIT;
         bool was = before && i < dconfdb_snapshot_databases(before) && dconfdb_snapshot_fault(before, i, &old);
         if (dconfdb_snapshot_fault(now, i, &fault) && !(was && strcmp(old.text, fault.text) == 0))
             warn(fault.text);
@@ -154,7 +154,7 @@ static bool are_same(const char *one, const char *other)
  * before it was watched. */
 static bool begin_once(Watch *watch)
 {
-    DconfdbError error;
+    DconfdbError error = DCONFDB_ERROR_INIT;
     char *files = place_files(&watch->place, &error);
     char *now = files && places_watch(watch->places, files) ? place_files(&watch->place, &error) : NULL;
     bool is_done = now && are_same(files, now);
@@ -183,7 +183,7 @@ static bool open_anew(Watch *watch, DconfdbError *error)
 /* Looks at the files, and tells. What fails is tried again in a second. */
 static void look(Watch *watch, bool is_anew)
 {
-    DconfdbError error = {.text = ""};
+    DconfdbError error = DCONFDB_ERROR_INIT;
     bool is_done = is_anew ? open_anew(watch, &error) : dconfdb_store_refresh(watch->store, NULL, &error);
     DconfdbSnapshot *now = is_done ? dconfdb_store_snapshot(watch->store) : NULL;
     if (now && tell(watch, now, &error)) {
@@ -222,16 +222,16 @@ static int watch_until_interrupted(Watch *watch)
 /* A profile that the environment names has to be there when it begins; any other file may come. */
 static bool has_named_profile(const Watch *watch)
 {
-    DconfdbError fault;
-    if (!watch->place.profile || !dconfdb_store_profile_fault(watch->store, &fault) || fault.number != DCONFDB_ERROR_FILE)
+    DconfdbError fault = DCONFDB_ERROR_INIT;
+    if (!watch->place.profile || !dconfdb_store_profile_fault(watch->store, &fault) || fault.code != DCONFDB_ERROR_FILE)
         return true;
-    fprintf(stderr, "error: %s %s\n", fault.system == ENOENT ? "NoFile" : "Device", watch->place.profile);
+    fprintf(stderr, "error: %s %s\n", fault.errnum == ENOENT ? "NoFile" : "Device", watch->place.profile);
     return false;
 }
 
 static int start(Watch *watch)
 {
-    DconfdbError error;
+    DconfdbError error = DCONFDB_ERROR_INIT;
     watch->places = places_new();
     if (!watch->places) {
         warn("Memory");
@@ -263,9 +263,9 @@ static void end(Watch *watch)
 /* Watches the store of a folder; NULL: the user's. */
 static int start_at(const char *folder, Watch *watch)
 {
-    DconfdbError error;
+    DconfdbError error = DCONFDB_ERROR_INIT;
     if (!place_find(folder, &watch->place, &error)) {
-        warn(error.number == DCONFDB_ERROR_NO_FOLDER ? "NoFolder" : error.text);
+        warn(error.code == DCONFDB_ERROR_NO_FOLDER ? "NoFolder" : error.text);
         return 1;
     }
     int status = start(watch);

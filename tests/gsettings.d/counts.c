@@ -11,7 +11,7 @@ enum { RESET = 5 };
 
 int main(int argc, char **argv)
 {
-    DconfdbError error;
+    DconfdbError error = DCONFDB_ERROR_INIT;
     char keys[2][256];
     DconfdbStore *store = argc == 4 ? dconfdb_store_open(argv[1], &error) : NULL;
     if (!store)

@@ -17,7 +17,7 @@ static bool has(DconfdbStore *store, const char *path, const char *text)
 
 int main(int argc, char **argv)
 {
-    DconfdbError error = {.number = DCONFDB_ERROR_NONE};
+    DconfdbError error = DCONFDB_ERROR_INIT;
     if (argc != 4)
         return 2;
     DconfdbStore *store = dconfdb_store_open_lenient(argv[1], &error);
@@ -25,7 +25,7 @@ int main(int argc, char **argv)
         return fprintf(stderr, "%s\n", error.text), 1;
     DconfdbEdit edit = {argv[2], "s", argv[3], strlen(argv[3]) + 1};
     bool done = dconfdb_store_change(store, &edit, 1, &error);
-    printf("%d %s %d %s\n", done, outcomes[done ? DCONFDB_OUTCOME_MADE : error.outcome], error.system, has(store, argv[2], argv[3]) ? "new" : "old");
+    printf("%d %s %d %s\n", done, outcomes[done ? DCONFDB_OUTCOME_MADE : error.outcome], error.errnum, has(store, argv[2], argv[3]) ? "new" : "old");
     if (!done)
         fprintf(stderr, "%s\n", error.text);
     dconfdb_store_close(store);

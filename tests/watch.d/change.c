@@ -20,7 +20,7 @@ int main(int count, char **words)
         return fprintf(stderr, "change: %s\n", fault->message), 1;
     g_object_unref(client);
 #else
-    DconfdbError error;
+    DconfdbError error = DCONFDB_ERROR_INIT;
     DconfdbStore *store = dconfdb_store_open(NULL, &error);
     DconfdbEdit edit = {.path = words[1]};
     if (value) {

@@ -1,0 +1,147 @@
+/* Errors: their fields, texts and names; and the library's version. */
+#define _POSIX_C_SOURCE 200809L
+#include "refusing.h"
+
+#include <errno.h>
+#include <stdarg.h>
+#include <stdio.h>
+#include <string.h>
+
+_Static_assert((int)DCONFDB_ERROR_MEMORY == (int)DCONFDB_MEMORY && (int)DCONFDB_ERROR_UNSOUND == (int)DCONFDB_UNSOUND
+                   && (int)DCONFDB_ERROR_TOO_MANY == (int)DCONFDB_TOO_MANY && (int)DCONFDB_ERROR_FILE_TOO_LARGE == (int)DCONFDB_TOO_BIG
+                   && (int)DCONFDB_ERROR_DOUBLE_TEXT == (int)DCONFDB_DOUBLE_TEXT,
+               "the header's numbers are those of the proved calls");
+_Static_assert((int)DCONFDB_OUTCOME_MADE == (int)DCONFDB_TURN_MADE && (int)DCONFDB_OUTCOME_KEPT == (int)DCONFDB_TURN_KEPT
+                   && (int)DCONFDB_OUTCOME_EITHER == (int)DCONFDB_TURN_EITHER && (int)DCONFDB_OUTCOME_UNSETTLED == (int)DCONFDB_TURN_UNSETTLED,
+               "the header's outcomes are those of the proved calls");
+
+bool refuse(DconfdbError *error, DconfdbErrorCode code, int fault, Place place, const char *format, ...)
+{
+    if (!error)
+        return false;
+    va_list words;
+    va_start(words, format);
+    int len = vsnprintf(error->text, sizeof error->text, format, words);
+    va_end(words);
+    if (len < 0)
+        error->text[0] = 0;
+    else if ((size_t)len >= sizeof error->text)
+        memcpy(error->text + sizeof error->text - 4, "...", 4);
+    error->code = code;
+    error->outcome = DCONFDB_OUTCOME_KEPT;
+    error->errnum = fault;
+    error->edit = place.edit;
+    error->database = place.database;
+    error->line = place.line;
+    return false;
+}
+
+bool refuse_memory(DconfdbError *error)
+{
+    return refuse(error, DCONFDB_ERROR_MEMORY, 0, nowhere, "no memory is left");
+}
+
+/* What the system says of a fault. */
+typedef struct {
+    char text[128];
+} Words;
+
+static Words words_of(int fault)
+{
+    Words words;
+    if (strerror_r(fault, words.text, sizeof words.text) != 0)
+        snprintf(words.text, sizeof words.text, "error %d", fault);
+    return words;
+}
+
+bool refuse_file(DconfdbError *error, int fault, const char *name, Place place)
+{
+    if (fault == ENOMEM)
+        return refuse(error, DCONFDB_ERROR_MEMORY, 0, nowhere, "%s: no memory is left", name);
+    if (fault == EOVERFLOW)
+        return refuse(error, DCONFDB_ERROR_FILE_TOO_LARGE, 0, place, "%s: the file is too big", name);
+    return refuse(error, DCONFDB_ERROR_FILE, fault, place, "%s: %s", name, words_of(fault).text);
+}
+
+bool refuse_outcome(DconfdbError *error, uint32_t outcome, const char *name)
+{
+    if (!error || outcome == DCONFDB_TURN_KEPT)
+        return false;
+    int fault = error->code == DCONFDB_ERROR_FILE ? error->errnum : error->code == DCONFDB_ERROR_FILE_TOO_LARGE ? EOVERFLOW : ENOMEM;
+    refuse(error, DCONFDB_ERROR_FILE, fault, nowhere,
+           outcome == DCONFDB_TURN_EITHER ? "%s: it is perhaps replaced: %s" : "%s: it is replaced, but perhaps not on the disk yet: %s", name,
+           words_of(fault).text);
+    error->outcome = (DconfdbOutcome)outcome;
+    return false;
+}
+
+bool refuse_call(DconfdbError *error, uint32_t number, const char *name, Place place)
+{
+    DconfdbBytes text = DCONFDB_NOTHING;
+    char line[32] = "";
+    if (number == DCONFDB_DOUBLE_TEXT)
+        return refuse(error, DCONFDB_ERROR_DOUBLE_TEXT, 0, place, "%s: it holds a double, which is not printed", name);
+    if (!dconfdb_fault_text(number, &text))
+        return refuse(error, (DconfdbErrorCode)number, 0, place, "%s: fault %u", name, (unsigned)number);
+    if (place.line != 0)
+        snprintf(line, sizeof line, ":%zu", place.line);
+    return refuse(error, (DconfdbErrorCode)number, 0, place, "%s%s: %.*s", name, line, (int)text.len, (const char *)text.at);
+}
+
+bool refuse_database(DconfdbError *error, uint32_t number, const char *name, const DconfdbUnsound *broken, Place place)
+{
+    if (number != DCONFDB_UNSOUND)
+        return refuse_call(error, number, name, place);
+    if (!broken->has_item)
+        return refuse(error, (DconfdbErrorCode)number, 0, place, "%s: the database breaks the rule S%u", name, (unsigned)broken->rule);
+    return refuse(error, (DconfdbErrorCode)number, 0, place, "%s: the database breaks the rule S%u, at item %u", name, (unsigned)broken->rule,
+                  (unsigned)broken->item);
+}
+
+void hand_out(const DconfdbError *from, DconfdbError *to)
+{
+    size_t size = to->size;
+    *to = *from;
+    to->size = size;
+}
+
+/* ---- names */
+
+#define NAMED(name)              \
+    case DCONFDB_ERROR_##name:   \
+        return #name
+
+const char *dconfdb_error_name(DconfdbErrorCode code)
+{
+    switch (code) {
+        NAMED(NONE);
+        NAMED(MEMORY);
+        NAMED(SHORT);
+        NAMED(BAD_SIGNATURE);
+        NAMED(BAD_VERSION);
+        NAMED(BAD_ROOT);
+        NAMED(BAD_TABLE);
+        NAMED(UNSOUND);
+        NAMED(NOT_TEXT);
+        NAMED(BAD_LINE);
+        NAMED(SERVICE_DB);
+        NAMED(USER_NOT_FIRST);
+        NAMED(TOO_MANY);
+        NAMED(BAD_PATH);
+        NAMED(BAD_TYPE);
+        NAMED(NOT_WRITABLE);
+        NAMED(LOCKED);
+        NAMED(VALUE_TOO_LARGE);
+        NAMED(FILE_TOO_LARGE);
+        NAMED(DOUBLE_TEXT);
+        NAMED(FILE);
+        NAMED(BUSY);
+        NAMED(NO_FOLDER);
+    }
+    return "UNKNOWN";
+}
+
+const char *dconfdb_version(void)
+{
+    return DCONFDB_VERSION;
+}

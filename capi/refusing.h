@@ -1,0 +1,34 @@
+/* How an error is filled in. Each call that refuses returns false, and takes NULL for an error that nobody wants. */
+#ifndef REFUSING_H
+#define REFUSING_H
+
+#include "dconfdb.h"
+#include "dconfdb_calls.h"
+
+/* The edit, the database or the line that is at fault. */
+typedef struct {
+    size_t edit, database, line;
+} Place;
+
+static const Place nowhere = {0, 0, 0};
+
+bool refuse(DconfdbError *error, DconfdbErrorCode code, int fault, Place place, const char *format, ...)
+    __attribute__((format(printf, 5, 6)));
+
+bool refuse_memory(DconfdbError *error);
+
+/* What a call of files.h answered. */
+bool refuse_file(DconfdbError *error, int fault, const char *name, Place place);
+
+/* How a change ended that was not made. After its file was replaced, or may be, the code is never one of those that leave the
+ * old file. */
+bool refuse_outcome(DconfdbError *error, uint32_t outcome, const char *name);
+
+/* What a proved call answered of a file, a line of it, or a key. */
+bool refuse_call(DconfdbError *error, uint32_t number, const char *name, Place place);
+bool refuse_database(DconfdbError *error, uint32_t number, const char *name, const DconfdbUnsound *broken, Place place);
+
+/* Copies an error that is kept to one of a caller's. */
+void hand_out(const DconfdbError *from, DconfdbError *to);
+
+#endif
