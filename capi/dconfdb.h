@@ -44,9 +44,9 @@
  * store is closed, and after the files are replaced or removed.
  *
  * THREADS. Any thread may call anything at any time, on the same store, too. Nothing here starts a
- * thread. A store must not be closed while another thread uses it. After fork() a child may read and
- * drop snapshots; it must open a store of its own before it does anything else. No call may be made
- * in a signal handler.
+ * thread. An iterator is for one thread at a time. A store must not be closed while another thread
+ * uses it. After fork() a child may read and drop snapshots; it must open a store of its own before it
+ * does anything else. No call may be made in a signal handler.
  *
  * STACK. A call uses up to 256 KiB of its thread's stack, most of it for deeply nested values. A
  * thread with less may die in a call.
@@ -133,6 +133,9 @@ typedef struct DconfdbStore DconfdbStore;
 
 /* What the databases held at one moment. */
 typedef struct DconfdbSnapshot DconfdbSnapshot;
+
+/* The keys below a directory of a snapshot, and where one is in them. */
+typedef struct DconfdbIterator DconfdbIterator;
 
 /* Why something failed. Numbers never change their meaning; later versions may add some. */
 typedef enum DconfdbErrorCode {
@@ -397,6 +400,23 @@ DCONFDB_NODISCARD DCONFDB_API char *dconfdb_snapshot_list(const DconfdbSnapshot 
 DCONFDB_NODISCARD DCONFDB_API char *dconfdb_snapshot_locks(const DconfdbSnapshot *snapshot, const char *directory,
     size_t *size, DconfdbError *error)
     DCONFDB_NOEXCEPT DCONFDB_NONNULL((1, 2));
+
+/* The same of the user's own database alone, whatever is locked; empty if there is none. */
+DCONFDB_NODISCARD DCONFDB_API char *dconfdb_snapshot_list_user(const DconfdbSnapshot *snapshot, const char *directory,
+    size_t *size, DconfdbError *error)
+    DCONFDB_NOEXCEPT DCONFDB_NONNULL((1, 2));
+
+/* Goes through all keys below a directory, in the order of their paths' bytes: each that has an effective
+ * value, with that. The paths are found when it begins, by a list of each directory; so that call alone
+ * may fail, by NULL. `next` reads the next one, and takes no memory; false: there is none, and `path` and
+ * `value` stay as they were. The iterator has a reference to the snapshot, and lends the path: it is freed
+ * by `free`, which takes NULL, too. */
+DCONFDB_NODISCARD DCONFDB_API DconfdbIterator *dconfdb_snapshot_iterate(const DconfdbSnapshot *snapshot, const char *directory,
+    DconfdbError *error)
+    DCONFDB_NOEXCEPT DCONFDB_NONNULL((1, 2));
+DCONFDB_API bool dconfdb_iterator_next(DconfdbIterator *iterator, const char **path, DconfdbValue *value)
+    DCONFDB_NOEXCEPT DCONFDB_NONNULL((1, 2, 3));
+DCONFDB_API void dconfdb_iterator_free(DconfdbIterator *iterator) DCONFDB_NOEXCEPT;
 
 /* The paths of the keys that differ between two snapshots, in the same form: the effective value
  * differs, only one snapshot has one, or the key is locked in only one. Hidden values don't count,

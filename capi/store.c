@@ -366,6 +366,11 @@ static uint32_t lists_names(const DconfdbSnapshot *snapshot, const void *of, uin
     return dconfdb_list(snapshot->layers, snapshot->count, of, strlen(of), room, room_len, len);
 }
 
+static uint32_t lists_users_names(const DconfdbSnapshot *snapshot, const void *of, uint8_t *room, size_t room_len, size_t *len)
+{
+    return dconfdb_list(snapshot->layers, snapshot->is_writable ? 1 : 0, of, strlen(of), room, room_len, len);
+}
+
 static uint32_t lists_locks(const DconfdbSnapshot *snapshot, const void *of, uint8_t *room, size_t room_len, size_t *len)
 {
     return dconfdb_locks(snapshot->layers, snapshot->count, of, strlen(of), room, room_len, len);
@@ -430,6 +435,11 @@ static char *listed(Lists *lists, const DconfdbSnapshot *snapshot, const void *o
 char *dconfdb_snapshot_list(const DconfdbSnapshot *snapshot, const char *directory, size_t *size, DconfdbError *error)
 {
     return listed(lists_names, snapshot, directory, directory, size, error);
+}
+
+char *dconfdb_snapshot_list_user(const DconfdbSnapshot *snapshot, const char *directory, size_t *size, DconfdbError *error)
+{
+    return listed(lists_users_names, snapshot, directory, directory, size, error);
 }
 
 char *dconfdb_snapshot_locks(const DconfdbSnapshot *snapshot, const char *directory, size_t *size, DconfdbError *error)

@@ -51,13 +51,31 @@ static void differs(const DconfdbSnapshot *now, const char *folder)
     dconfdb_store_close(store);
 }
 
-/* One answer for each word of `read`, `default`, `origin`, `list`, `locks`, `writable`, `differ`, whose
- * path is another store's folder. */
+/* Lines `PATH=VALUE`. */
+static void prints_all(const DconfdbSnapshot *now, const char *directory)
+{
+    const char *path;
+    DconfdbValue value;
+    DconfdbIterator *iterator = dconfdb_snapshot_iterate(now, directory, &error);
+    TRY(iterator);
+    while (dconfdb_iterator_next(iterator, &path, &value)) {
+        printf("%s=", path);
+        prints(&value);
+    }
+    dconfdb_iterator_free(iterator);
+}
+
+/* One answer for each word of `read`, `default`, `origin`, `list`, `users`, `all`, `locks`, `writable`,
+ * `differ`, whose path is another store's folder. */
 static void answers(const DconfdbSnapshot *now, const char *word, const char *path)
 {
     DconfdbValue value;
     if (strcmp(word, "list") == 0)
         prints_texts(dconfdb_snapshot_list(now, path, NULL, &error));
+    else if (strcmp(word, "users") == 0)
+        prints_texts(dconfdb_snapshot_list_user(now, path, NULL, &error));
+    else if (strcmp(word, "all") == 0)
+        prints_all(now, path);
     else if (strcmp(word, "locks") == 0)
         prints_texts(dconfdb_snapshot_locks(now, path, NULL, &error));
     else if (strcmp(word, "writable") == 0)

@@ -58,11 +58,54 @@ static void tries_reading(DconfdbStore *store)
     TRY(!dconfdb_snapshot_list(now, "/org", &size, &error) && is_fault(DCONFDB_ERROR_BAD_PATH, "/org", "path"));
     TRY(!dconfdb_snapshot_locks(now, "", NULL, &error) && is_fault(DCONFDB_ERROR_BAD_PATH, "", "path"));
     TRY(!dconfdb_snapshot_list(now, "x", NULL, NULL));
+    TRY(ARE(dconfdb_snapshot_list_user(now, "/", &size, &error), ""));
+    TRY(!dconfdb_snapshot_list_user(now, "/org", NULL, &error) && is_fault(DCONFDB_ERROR_BAD_PATH, "/org", "path"));
     TRY(dconfdb_snapshot_databases(now) == 3 && strstr(dconfdb_snapshot_file(now, 1), "/site.db"));
     TRY(!dconfdb_snapshot_file(now, 3));
     dconfdb_snapshot_unref(dconfdb_snapshot_ref(now));
     dconfdb_snapshot_unref(now);
     dconfdb_snapshot_unref(NULL);
+}
+
+/* The paths below a directory, as a text with a blank behind each; the values are those that are read. */
+static bool has_keys(const DconfdbSnapshot *snapshot, const char *directory, const char *wanted)
+{
+    char found[256] = "";
+    const char *path = "none";
+    DconfdbValue value = {"", 7, "", 0, 0}, read;
+    DconfdbIterator *iterator = dconfdb_snapshot_iterate(snapshot, directory, &error);
+    TRY(iterator);
+    while (dconfdb_iterator_next(iterator, &path, &value)) {
+        TRY(dconfdb_snapshot_read(snapshot, path, &read) && read.data == value.data && read.size == value.size && read.origin == value.origin);
+        strcat(strcat(found, path), " ");
+    }
+    const char *last = path;
+    TRY(!dconfdb_iterator_next(iterator, &path, &value) && path == last && value.size != 0);
+    dconfdb_iterator_free(iterator);
+    return strcmp(found, wanted) == 0;
+}
+
+static void tries_iterating(DconfdbStore *store)
+{
+    size_t size;
+    const char *path;
+    DconfdbValue value;
+    DconfdbEdit edits[] = {sets_text("/a-b", "1"), sets_text("/a/x", "2"), sets_text("/a/b/c", "3"), sets_text("/a", "4"), sets_text("/org/desk/name", "mine")};
+    TRY(dconfdb_store_change(store, edits, 5, &error));
+    DconfdbSnapshot *now = dconfdb_store_snapshot(store);
+    TRY(has_keys(now, "/", "/a /a-b /a/b/c /a/x /far/key /org/desk/name /org/desk/size ") && has_keys(now, "/a/", "/a/b/c /a/x "));
+    TRY(has_keys(now, "/org/", "/org/desk/name /org/desk/size ") && has_keys(now, "/none/", ""));
+    TRY(ARE(dconfdb_snapshot_list_user(now, "/", &size, &error), "a\0a-b\0a/\0org/\0"));
+    TRY(ARE(dconfdb_snapshot_list_user(now, "/org/desk/", &size, &error), "name\0") && ARE(dconfdb_snapshot_list_user(now, "/far/", &size, &error), ""));
+    TRY(!dconfdb_snapshot_iterate(now, "/a", &error) && is_fault(DCONFDB_ERROR_BAD_PATH, "/a", "path"));
+    TRY(!dconfdb_snapshot_iterate(now, "", NULL));
+    /* An iterator keeps its snapshot. */
+    DconfdbIterator *iterator = dconfdb_snapshot_iterate(now, "/a/", &error);
+    dconfdb_snapshot_unref(now);
+    TRY(changes(store, (DconfdbEdit){"/", NULL, NULL, 0}));
+    TRY(iterator && dconfdb_iterator_next(iterator, &path, &value) && strcmp(path, "/a/b/c") == 0 && is_text(&value, "3"));
+    dconfdb_iterator_free(iterator);
+    dconfdb_iterator_free(NULL);
 }
 
 static void tries_changing(DconfdbStore *store)
@@ -474,6 +517,7 @@ int main(int argc, char **argv)
     TRY(store && strstr(dconfdb_store_user_file(store), "/me.user") && dconfdb_store_folder(store)[0] == '/');
     tries_reading(store);
     tries_changing(store);
+    tries_iterating(store);
     tries_hidden_changes(store);
     tries_losing_locks();
     tries_sizes(store);

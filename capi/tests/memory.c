@@ -67,8 +67,27 @@ static void lists(const DconfdbSnapshot *now, const DconfdbSnapshot *old)
     names = dconfdb_snapshot_differences(now, old, &size, &error);
     is_listed(names, size);
     size = 77;
+    names = dconfdb_snapshot_list_user(now, "/", &size, &error);
+    is_listed(names, size);
+    size = 77;
     names = dconfdb_store_files(".", &size, &error);
     is_listed(names, size);
+}
+
+/* What is iterated is all there is, or nothing. */
+static void iterates(const DconfdbSnapshot *now)
+{
+    size_t count = 0;
+    const char *path;
+    DconfdbValue value;
+    DconfdbIterator *iterator = dconfdb_snapshot_iterate(now, "/", &error);
+    if (lacks_memory(iterator != NULL))
+        return;
+    long before = growths;
+    while (dconfdb_iterator_next(iterator, &path, &value))
+        count++;
+    TRY(count >= 3 && growths == before);
+    dconfdb_iterator_free(iterator);
 }
 
 /* The bytes of the user's file, and the newest snapshot, which is lent. */
@@ -213,6 +232,7 @@ static bool runs(const char *folder)
     DconfdbSnapshot *now = dconfdb_store_snapshot(store);
     TRY(has(now, "/a/k", done ? "1" : NULL) && has(now, "/a/l", done ? "2" : NULL) && has(old, "/a/k", NULL));
     lists(now, old);
+    iterates(now);
     edits[1] = sets_text("/a/", "");
     TRY(!dconfdb_store_change(store, edits, 2, &error));
     TRY(error.code == DCONFDB_ERROR_BAD_PATH ? error.edit == 1 : error.code == DCONFDB_ERROR_MEMORY && error.edit == 0);

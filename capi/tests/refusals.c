@@ -321,6 +321,11 @@ static void tries_lists(DconfdbStore *store)
         TRY(!dconfdb_snapshot_list(now, none[i], &size, &error) && is_said(fault) && size == 77);
         forgets();
         TRY(!dconfdb_snapshot_locks(now, none[i], &size, &error) && is_said(fault) && size == 77);
+        forgets();
+        TRY(!dconfdb_snapshot_list_user(now, none[i], &size, &error) && is_said(fault) && size == 77);
+        forgets();
+        TRY(!dconfdb_snapshot_iterate(now, none[i], &error) && is_said(fault));
+        TRY(!dconfdb_snapshot_list_user(now, none[i], NULL, NULL) && !dconfdb_snapshot_iterate(now, none[i], NULL));
         TRY(!dconfdb_snapshot_list(now, none[i], NULL, NULL) && !dconfdb_snapshot_locks(now, none[i], NULL, NULL));
         TRY(nothing_changed(store));
     }

@@ -76,6 +76,10 @@ static void asks(const DconfdbSnapshot *now, const DconfdbSnapshot *old, const c
     free(names);
     free(locks);
     free(differences);
+    const char *at;
+    DconfdbIterator *iterator = dconfdb_snapshot_iterate(now, "/", &error);
+    TRY(iterator && dconfdb_iterator_next(iterator, &at, &value));
+    dconfdb_iterator_free(iterator);
 }
 
 static void tries(void)

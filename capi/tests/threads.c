@@ -19,6 +19,20 @@ static long number_at(const DconfdbSnapshot *snapshot, const char *path)
     return dconfdb_snapshot_read(snapshot, path, &value) ? strtol(value.data, NULL, 10) : 0;
 }
 
+/* How many keys a snapshot has. */
+static size_t count_of(const DconfdbSnapshot *snapshot)
+{
+    size_t count = 0;
+    const char *path;
+    DconfdbValue value;
+    DconfdbIterator *iterator = dconfdb_snapshot_iterate(snapshot, "/", NULL);
+    TRY(iterator);
+    while (dconfdb_iterator_next(iterator, &path, &value))
+        count++;
+    dconfdb_iterator_free(iterator);
+    return count;
+}
+
 static void *reads(void *seen)
 {
     long last = 0;
@@ -30,6 +44,7 @@ static void *reads(void *seen)
         char *names = dconfdb_snapshot_list(now, "/", NULL, NULL);
         TRY(names);
         free(names);
+        TRY(count_of(now) >= (one > 0 ? 5 : 3));
         TRY(number_at(now, "/one") == one);
         dconfdb_snapshot_unref(now);
         last = one;
