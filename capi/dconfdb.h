@@ -260,6 +260,21 @@ DCONFDB_NODISCARD DCONFDB_API DconfdbSnapshot *dconfdb_store_snapshot(DconfdbSto
 DCONFDB_API bool dconfdb_store_refresh(DconfdbStore *store, bool *changed, DconfdbError *error)
     DCONFDB_NOEXCEPT DCONFDB_NONNULL((1));
 
+/* To be told of changes, without a thread. `fd` is a file to poll for reading, in a main loop, say: it is
+ * readable when a file of the store may have changed, and once at first. Then `dispatch` looks at the files
+ * as dconfdb_store_refresh does, and gives the paths of the keys that differ between the newest snapshot and
+ * that of the last dispatch, at first that of the first call of either: as dconfdb_snapshot_differences
+ * gives them, and empty if none does. This program's own changes are among them. It waits for none: without
+ * anything to tell it returns at once.
+ *
+ * Nothing is lost: if `dispatch` fails (NULL), or if not all files can be watched, the file is readable again
+ * after a second. Watched are, by inotify, the databases' names, and the folders and links on the way to
+ * them; what another machine changes on a file server is not seen so. The store owns the file: it is not to
+ * be read, and is closed with the store. -1: it can't be had. */
+DCONFDB_API int dconfdb_store_fd(DconfdbStore *store, DconfdbError *error) DCONFDB_NOEXCEPT DCONFDB_NONNULL((1));
+DCONFDB_NODISCARD DCONFDB_API char *dconfdb_store_dispatch(DconfdbStore *store, size_t *size, DconfdbError *error)
+    DCONFDB_NOEXCEPT DCONFDB_NONNULL((1));
+
 /* Makes all edits, in order, or none. The user's file is read again and replaced atomically, and
  * is on the disk when this returns. The newest snapshot then has the edits, and what others
  * changed meanwhile, in other databases too. A refused change may update it as well. With no edits

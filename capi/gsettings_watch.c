@@ -36,7 +36,9 @@ void watch_turn(DconfdbBackend *self)
     if (self->watch && !is_anew && !is_to_look(self))
         return;
     if (!self->watch)
-        self->watch = watch_new();
+        self->watch = watch_new(false);
+    if (!self->watch)
+        return; /* no memory is left: the next turn tries it again */
     begin(self);
     /* What changed before it was watched. */
     store_look(self);

@@ -11,6 +11,7 @@
 #include "order.h"
 #include "place.h"
 #include "refusing.h"
+#include "telling.h"
 
 #include <errno.h>
 #include <pthread.h>
@@ -72,6 +73,7 @@ struct DconfdbStore {
     Order order;                /* of the turn that it has; under `refreshing` */
     bool is_unsettled;          /* its last change is perhaps not on the disk; under `refreshing` */
     DconfdbSnapshot *now;
+    Telling telling;
     StorePlace place;
     char *user_file; /* absolute; NULL: no user's database */
     size_t count;
@@ -827,6 +829,7 @@ static DconfdbStore *store_at(const StorePlace *place, bool is_lenient, DconfdbE
     }
     pthread_mutex_init(&store->refreshing, NULL);
     pthread_mutex_init(&store->handing, NULL);
+    telling_begin(&store->telling);
     store->is_lenient = is_lenient;
     store->place = (StorePlace){folder, profile};
     return store;
@@ -874,25 +877,37 @@ bool dconfdb_store_profile_fault(const DconfdbStore *store, DconfdbError *error)
     return is;
 }
 
-/* The profile that is named or the folder's, that of all users, and the databases, a zero byte after each; or NULL. */
+/* Texts before those of the databases' files, a zero byte after each; or NULL. */
+static char *with_files(const DconfdbStore *store, const char *first, const char *second, size_t *size)
+{
+    size_t len = first ? strlen(first) + 1 + strlen(second) + 1 : 0;
+    for (size_t i = 0; i < store->count; i++)
+        len += strlen(store->files[i]) + 1;
+    char *names = malloc(len + 1);
+    if (!names)
+        return NULL;
+    char *at = first ? stpcpy(stpcpy(names, first) + 1, second) + 1 : names;
+    for (size_t i = 0; i < store->count; i++)
+        at = stpcpy(at, store->files[i]) + 1;
+    *at = 0;
+    if (size)
+        *size = len;
+    return names;
+}
+
+/* The profile that is named or the folder's, that of all users, and the databases; or NULL. */
 static char *file_names(const DconfdbStore *store, size_t *size)
 {
     const StorePlace *place = &store->place;
     char *own = place->profile ? joined(place->profile, "", "") : joined(place->folder, "/", "profile");
-    size_t len = own ? strlen(own) + 1 + sizeof everyones : 0;
-    for (size_t i = 0; i < store->count; i++)
-        len += strlen(store->files[i]) + 1;
-    char *names = own ? malloc(len + 1) : NULL;
-    if (names) {
-        char *at = stpcpy(stpcpy(names, own) + 1, everyones) + 1;
-        for (size_t i = 0; i < store->count; i++)
-            at = stpcpy(at, store->files[i]) + 1;
-        *at = 0;
-        if (size)
-            *size = len;
-    }
+    char *names = own ? with_files(store, own, everyones, size) : NULL;
     free(own);
     return names;
+}
+
+char *files_of(const DconfdbStore *store)
+{
+    return with_files(store, NULL, NULL, NULL);
 }
 
 static char *files_at(const StorePlace *place, size_t *size, DconfdbError *error)
@@ -938,6 +953,7 @@ void dconfdb_store_close(DconfdbStore *store)
 {
     if (!store)
         return;
+    telling_end(&store->telling);
     forget_seen(store);
     order_end(&store->order);
     dconfdb_snapshot_unref(store->now);
@@ -952,6 +968,11 @@ void dconfdb_store_close(DconfdbStore *store)
 const StorePlace *place_of(const DconfdbStore *store)
 {
     return &store->place;
+}
+
+Telling *telling_of(DconfdbStore *store)
+{
+    return &store->telling;
 }
 
 const char *dconfdb_store_folder(const DconfdbStore *store)

@@ -1,16 +1,18 @@
-/* The folders of a store's files, watched by inotify: of the GSettings backend, and of libdconf. */
+/* The names of a store's files, watched by inotify. */
 #define _GNU_SOURCE
 #include "watching.h"
 
+#include <limits.h>
+#include <stdio.h>
 #include <stdlib.h>
 #include <string.h>
 #include <sys/inotify.h>
 #include <sys/stat.h>
+#include <time.h>
 #include <unistd.h>
 
-enum { EACH_SECOND = 1000000, MOST_LINKS = 40 };
+enum { SECOND = 1000000, NANOSECONDS = 1000, MOST_LINKS = 40, PROFILES = 2 };
 
-/* Where much else happens: neither is a folder waited for in it, nor that it is moved. */
 static const char busy[] = "/etc";
 
 /* What happens to a name: a file is replaced, or has been written; a link or a folder is made. What is written
@@ -22,144 +24,205 @@ static const char busy[] = "/etc";
 typedef struct {
     int number; /* inotify's, of a folder */
     uint32_t what;
-    char *path; /* a name in the folder; NULL: the folder itself */
     WatchedKind kind;
+    char *path; /* a name in the folder; NULL: the folder itself */
 } Watched;
 
 struct Watch {
     int inotify; /* -1: there is none */
-    bool is_whole;
-    GArray *all;
-    gint64 next; /* when the files are to be looked at; 0: inotify tells */
+    bool minds_etc, is_whole;
+    size_t count, room;
+    Watched *all;
+    int64_t next; /* when the files are to be looked at; 0: inotify tells */
 };
+
+Watch *watch_new(bool minds_etc)
+{
+    Watch *watch = calloc(1, sizeof *watch);
+    if (watch)
+        *watch = (Watch){.inotify = -1, .minds_etc = minds_etc};
+    return watch;
+}
+
+static void forget_all(Watch *watch)
+{
+    for (size_t i = 0; i < watch->count; i++) {
+        inotify_rm_watch(watch->inotify, watch->all[i].number);
+        free(watch->all[i].path);
+    }
+    watch->count = 0;
+}
+
+void watch_free(Watch *watch)
+{
+    if (!watch)
+        return;
+    forget_all(watch);
+    if (watch->inotify >= 0)
+        close(watch->inotify);
+    free(watch->all);
+    free(watch);
+}
 
 /* ---- what is watched */
 
-static void free_watched(gpointer watched)
+/* Room for one more. */
+static bool grow(Watch *watch)
 {
-    g_free(((Watched *)watched)->path);
+    if (watch->count < watch->room)
+        return true;
+    size_t room = 2 * watch->room + 16;
+    Watched *all = realloc(watch->all, room * sizeof *all);
+    if (!all)
+        return false;
+    watch->all = all;
+    watch->room = room;
+    return true;
 }
 
 /* A folder above the files may be closed to us: then it isn't known when it is moved. */
 static void watch_one(Watch *watch, const char *folder, const char *path, uint32_t what, WatchedKind kind)
 {
     int number = inotify_add_watch(watch->inotify, folder, what | IN_MASK_ADD | IN_ONLYDIR);
-    Watched one = {number, what, g_strdup(path), kind};
-    if (number < 0 && path)
-        watch->is_whole = false;
-    if (number < 0)
-        g_free(one.path);
+    char *kept = path && number >= 0 ? strdup(path) : NULL;
+    bool is_had = number >= 0 && (kept || !path) && grow(watch);
+    if (is_had)
+        watch->all[watch->count++] = (Watched){number, what, kind, kept};
     else
-        g_array_append_val(watch->all, one);
+        free(kept);
+    if (!is_had && path)
+        watch->is_whole = false;
 }
 
 /* A path on the way to a file. */
 typedef struct {
-    GString *folder; /* so far; there is no link in it */
+    char folder[PATH_MAX];   /* so far; there is no link in it, and it is empty for `/` */
+    char rest[2 * PATH_MAX]; /* behind that */
     WatchedKind kind;
     int links;
 } Way;
 
-static void watch_path(Watch *watch, const char *path, WatchedKind kind, int links);
-
-static void follow(Watch *watch, const Way *way, const char *link, const char *behind)
+/* Goes on where a link leads, and then to what is behind it. False: it leads nowhere. */
+static bool follow(Way *way, const char *link, const char *behind)
 {
-    char *target = g_file_read_link(link, NULL);
-    if (target && way->links < MOST_LINKS) {
-        char *start = g_path_is_absolute(target) ? g_strdup(target) : g_build_filename(way->folder->str, target, NULL);
-        char *path = *behind ? g_strconcat(start, "/", behind, NULL) : g_strdup(start);
-        watch_path(watch, path, way->kind, way->links + 1);
-        g_free(path);
-        g_free(start);
-    }
-    g_free(target);
+    char target[PATH_MAX], rest[sizeof way->rest];
+    ssize_t len = readlink(link, target, sizeof target - 1);
+    if (len <= 0 || way->links++ >= MOST_LINKS)
+        return false;
+    target[len] = 0;
+    int size = snprintf(rest, sizeof rest, "%s/%s", target, behind);
+    if (size < 0 || (size_t)size >= sizeof rest)
+        return false;
+    if (target[0] == '/')
+        way->folder[0] = 0;
+    memcpy(way->rest, rest, (size_t)size + 1);
+    return true;
 }
 
-/* One name of a path, and those behind it. True: it is a folder, in which the path goes on. Where a folder is
- * missing its name is waited for. */
-static bool watch_name(Watch *watch, Way *way, const char *name, char **rest)
+/* One name of a path, and those behind it. True: the path goes on, in a folder, or where a link leads. Where a folder is missing
+ * its name is waited for. */
+static bool watch_name(Watch *watch, Way *way, const char *name, size_t len, const char *behind)
 {
     struct stat found;
-    char *path = g_build_filename(way->folder->str, name, NULL), *behind = g_strjoinv("/", rest);
+    char path[PATH_MAX];
+    const char *folder = *way->folder ? way->folder : "/";
+    int size = snprintf(path, sizeof path, "%s/%.*s", way->folder, (int)len, name);
+    if (size < 0 || (size_t)size >= sizeof path) {
+        watch->is_whole = false;
+        return false;
+    }
     bool is_there = lstat(path, &found) == 0, is_last = *behind == 0;
     bool is_link = is_there && S_ISLNK(found.st_mode), is_folder = is_there && S_ISDIR(found.st_mode) && !is_last;
-    bool is_missing = !is_there && strcmp(way->folder->str, busy) != 0;
+    bool is_missing = !is_there && (watch->minds_etc || strcmp(folder, busy) != 0);
     if (is_last)
-        watch_one(watch, way->folder->str, path, OF_FILES | (is_there && !is_link ? 0U : (uint32_t)IN_CREATE), way->kind);
+        watch_one(watch, folder, path, OF_FILES | (is_there && !is_link ? 0U : (uint32_t)IN_CREATE), way->kind);
     else if (is_link || is_missing)
-        watch_one(watch, way->folder->str, path, OF_NAMES, WATCHED_FOLDER);
-    else if (is_folder && strcmp(path, busy) != 0)
+        watch_one(watch, folder, path, OF_NAMES, WATCHED_FOLDER);
+    else if (is_folder && (watch->minds_etc || strcmp(path, busy) != 0))
         watch_one(watch, path, NULL, OF_ITSELF, WATCHED_FOLDER);
     if (is_link)
-        follow(watch, way, path, behind);
-    if (is_folder)
-        g_string_assign(way->folder, path);
-    g_free(path);
-    g_free(behind);
+        return follow(way, path, behind);
+    if (is_folder) {
+        memcpy(way->folder, path, (size_t)size + 1);
+        memmove(way->rest, behind, strlen(behind) + 1);
+    }
     return is_folder;
 }
 
-/* The folders on the way to a file, each link of it, and the file's own name. */
-static void watch_path(Watch *watch, const char *path, WatchedKind kind, int links)
+static void go_up(Way *way, const char *behind)
 {
-    char **names = g_strsplit(path, "/", -1);
-    Way way = {g_string_new("/"), kind, links};
-    bool goes_on = true;
-    for (char **at = names; goes_on && *at; at++) {
-        if (strcmp(*at, "..") == 0) {
-            char *above = g_path_get_dirname(way.folder->str);
-            g_string_assign(way.folder, above);
-            g_free(above);
-        } else if (**at && strcmp(*at, ".") != 0) {
-            goes_on = watch_name(watch, &way, *at, at + 1);
-        }
-    }
-    g_string_free(way.folder, TRUE);
-    g_strfreev(names);
+    char *last = strrchr(way->folder, '/');
+    if (last)
+        *last = 0;
+    memmove(way->rest, behind, strlen(behind) + 1);
 }
 
-/* Watches all files; the first two are the profiles. Twice, since a folder may come between the look at it and
- * its watch. */
-static void watch_all(Watch *watch, const char *files)
+/* The folders on the way to a file, each link of it, and the file's own name. */
+static void watch_path(Watch *watch, const char *path, WatchedKind kind)
+{
+    Way way = {.folder = "", .kind = kind};
+    int size = snprintf(way.rest, sizeof way.rest, "%s", path);
+    bool goes_on = size >= 0 && (size_t)size < sizeof way.rest;
+    if (!goes_on)
+        watch->is_whole = false;
+    while (goes_on) {
+        const char *name = way.rest + strspn(way.rest, "/");
+        size_t len = strcspn(name, "/");
+        const char *behind = name + len + strspn(name + len, "/");
+        if (len == 0)
+            return;
+        if (len == 2 && memcmp(name, "..", 2) == 0)
+            go_up(&way, behind);
+        else if (len == 1 && *name == '.')
+            memmove(way.rest, behind, strlen(behind) + 1);
+        else
+            goes_on = watch_name(watch, &way, name, len, behind);
+    }
+}
+
+/* Twice, since a folder may come between the look at it and its watch. */
+static void watch_all(Watch *watch, const char *files, int profiles)
 {
     for (int round = 0; round < 2; round++) {
         int count = 0;
         watch->is_whole = true;
-        g_array_set_size(watch->all, 0);
         for (const char *at = files; *at; at += strlen(at) + 1)
-            watch_path(watch, at, count++ < 2 ? WATCHED_FOLDER : WATCHED_DATABASE, 0);
+            watch_path(watch, at, count++ < profiles ? WATCHED_FOLDER : WATCHED_DATABASE);
     }
 }
 
-static void forget_all(Watch *watch)
+/* Microseconds of the monotonic clock. */
+static int64_t time_now(void)
 {
-    for (guint i = 0; i < watch->all->len; i++)
-        inotify_rm_watch(watch->inotify, g_array_index(watch->all, Watched, i).number);
-    g_array_set_size(watch->all, 0);
+    struct timespec now = {0, 0};
+    clock_gettime(CLOCK_MONOTONIC, &now);
+    return (int64_t)now.tv_sec * SECOND + now.tv_nsec / NANOSECONDS;
 }
 
-Watch *watch_new(void)
+static bool has_inotify(Watch *watch)
 {
-    Watch *watch = g_new0(Watch, 1);
-    watch->inotify = -1;
-    watch->all = g_array_new(FALSE, FALSE, sizeof(Watched));
-    g_array_set_clear_func(watch->all, free_watched);
-    return watch;
+    if (watch->inotify < 0)
+        watch->inotify = inotify_init1(IN_NONBLOCK | IN_CLOEXEC);
+    return watch->inotify >= 0;
+}
+
+bool watch_files(Watch *watch, const char *files, int profiles)
+{
+    watch->is_whole = false;
+    if (files && has_inotify(watch)) {
+        forget_all(watch);
+        watch_all(watch, files, profiles);
+    }
+    watch->next = watch->is_whole ? 0 : time_now() + SECOND;
+    return watch->is_whole;
 }
 
 bool watch_begin(Watch *watch, const StorePlace *place)
 {
-    if (watch->inotify < 0)
-        watch->inotify = inotify_init1(IN_NONBLOCK | IN_CLOEXEC);
-    char *files = watch->inotify < 0 ? NULL : place_files(place, NULL);
-    watch->is_whole = files != NULL;
-    if (files) {
-        forget_all(watch);
-        watch_all(watch, files);
-    }
+    char *files = has_inotify(watch) ? place_files(place, NULL) : NULL;
+    bool is_whole = watch_files(watch, files, PROFILES);
     free(files);
-    watch->next = watch->is_whole ? 0 : g_get_monotonic_time() + EACH_SECOND;
-    return watch->is_whole;
+    return is_whole;
 }
 
 /* ---- what happened */
@@ -185,10 +248,23 @@ static bool is_of(const Watched *one, const struct inotify_event *event)
 static WatchedKind kind_of(const Watch *watch, const struct inotify_event *event)
 {
     WatchedKind kind = (event->mask & (IN_Q_OVERFLOW | IN_UNMOUNT)) != 0 ? WATCHED_FOLDER : WATCHED_NOTHING;
-    for (guint i = 0; i < watch->all->len; i++) {
-        const Watched *one = &g_array_index(watch->all, Watched, i);
+    for (size_t i = 0; i < watch->count; i++) {
+        const Watched *one = &watch->all[i];
         if (one->kind > kind && is_of(one, event))
             kind = one->kind;
+    }
+    return kind;
+}
+
+/* What these events say, which stand one behind another. */
+static WatchedKind kind_in(const Watch *watch, const char *room, size_t len)
+{
+    WatchedKind kind = WATCHED_NOTHING;
+    for (size_t at = 0; at < len;) {
+        const struct inotify_event *event = (const void *)(room + at);
+        WatchedKind of_event = kind_of(watch, event);
+        kind = of_event > kind ? of_event : kind;
+        at += sizeof *event + event->len;
     }
     return kind;
 }
@@ -199,12 +275,8 @@ WatchedKind watch_read(const Watch *watch)
     WatchedKind kind = WATCHED_NOTHING;
     ssize_t len;
     while ((len = read(watch->inotify, room, sizeof room)) > 0) {
-        for (ssize_t at = 0; at < len;) {
-            const struct inotify_event *event = (const void *)(room + at);
-            WatchedKind of_event = kind_of(watch, event);
-            kind = MAX(kind, of_event);
-            at += (ssize_t)(sizeof *event + event->len);
-        }
+        WatchedKind of_room = kind_in(watch, room, (size_t)len);
+        kind = of_room > kind ? of_room : kind;
     }
     return kind;
 }
@@ -214,15 +286,7 @@ int watch_descriptor(const Watch *watch)
     return watch->inotify;
 }
 
-gint64 watch_next_look(const Watch *watch)
+int64_t watch_next_look(const Watch *watch)
 {
     return watch->next;
-}
-
-void watch_free(Watch *watch)
-{
-    if (watch->inotify >= 0)
-        close(watch->inotify);
-    g_array_unref(watch->all);
-    g_free(watch);
 }

@@ -53,7 +53,9 @@ static GSource *source_new(Engine *engine, const StorePlace *place)
     FileSource *self = (FileSource *)source;
     g_source_set_name(source, "dconf");
     self->engine = engine_ref(engine);
-    self->watch = watch_new();
+    self->watch = watch_new(false);
+    if (!self->watch)
+        g_error("no memory is left"); /* as GLib ends a program then */
     begin(self, place);
     return source;
 }

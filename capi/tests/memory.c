@@ -133,6 +133,20 @@ static void refreshes(DconfdbStore *store)
     TRY(!lacks_memory(dconfdb_store_refresh(store, &yes, &error)) || (yes && is_as_before(store, &before)));
 }
 
+/* What is refused is told later. */
+static void dispatches(DconfdbStore *store)
+{
+    size_t size = 77;
+    TRY(!lacks_memory(dconfdb_store_fd(store, &error) >= 0) || dconfdb_store_fd(store, NULL) >= 0);
+    char *paths = dconfdb_store_dispatch(store, &size, &error);
+    if (lacks_memory(paths != NULL)) {
+        TRY(size == 77);
+        paths = dconfdb_store_dispatch(store, &size, NULL);
+    }
+    TRY(paths);
+    free(paths);
+}
+
 /* A store that has no user's database: why it may not be changed is said all the same. */
 static void tries_writeless(const char *folder)
 {
@@ -247,6 +261,7 @@ static bool runs(const char *folder)
         edits[0] = (DconfdbEdit){"/", NULL, NULL, 0};
         changes(store, edits, 1);
         refreshes(store);
+        dispatches(store);
         dconfdb_store_close(store);
     }
     tries_writeless(folder);

@@ -100,7 +100,8 @@ static void tries(void)
     asks(now, old, "/deep/variants");
     asks(now, old, longest);
     free(dconfdb_store_files(folder, NULL, &error));
-    TRY(dconfdb_store_refresh(store, NULL, &error));
+    TRY(dconfdb_store_refresh(store, NULL, &error) && dconfdb_store_fd(store, &error) >= 0);
+    free(dconfdb_store_dispatch(store, NULL, &error));
     edit = (DconfdbEdit){"/", NULL, NULL, 0};
     TRY(dconfdb_store_change(store, &edit, 1, &error));
     dconfdb_snapshot_unref(old);

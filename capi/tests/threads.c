@@ -44,7 +44,10 @@ static void *reads(void *seen)
         char *names = dconfdb_snapshot_list(now, "/", NULL, NULL);
         TRY(names);
         free(names);
-        TRY(count_of(now) >= (one > 0 ? 5 : 3));
+        TRY(count_of(now) >= (one > 0 ? 5 : 3) && dconfdb_store_fd(store, NULL) >= 0);
+        names = dconfdb_store_dispatch(store, NULL, NULL);
+        TRY(names && strspn(names, "/onether") == strlen(names));
+        free(names);
         TRY(number_at(now, "/one") == one);
         dconfdb_snapshot_unref(now);
         last = one;

@@ -3,7 +3,7 @@
 #include "../dconfdb.h"
 #include "../dconfdb_calls.h"
 #include "../place.h"
-#include "places.h"
+#include "../watching.h"
 
 #include <errno.h>
 #include <getopt.h>
@@ -12,7 +12,7 @@
 #include <stdlib.h>
 #include <string.h>
 
-enum { LONGEST_PATH = 65535, EACH_SECOND = 1000 };
+enum { LONGEST_PATH = 65535, EACH_SECOND = 1000, PROFILES = 2 };
 
 /* Of share/help/commands, by capi/command. */
 static const char help[] =
@@ -23,12 +23,12 @@ static const char help[] =
 typedef struct {
     StorePlace place;
     const char *path;
-    Places *places;
+    Watch *names;
     DconfdbStore *store;
     DconfdbSnapshot *before; /* what was told last */
     bool is_late;            /* not all is watched, or a look has failed: each second there is another */
     char said_of_profile[512], said_of_look[512];
-} Watch;
+} Watching;
 
 /* ---- words on stderr */
 
@@ -46,7 +46,7 @@ static void warn_once(char (*said)[512], const char *text)
 }
 
 /* The files that are bad, of which what can be read counts. */
-static void warn_of_faults(Watch *watch, const DconfdbSnapshot *now)
+static void warn_of_faults(Watching *watch, const DconfdbSnapshot *now)
 {
     DconfdbError fault = DCONFDB_ERROR_INIT;
     const DconfdbSnapshot *before = watch->before;
@@ -118,7 +118,7 @@ static bool put_key(const DconfdbSnapshot *now, const char *path)
 }
 
 /* Tells what is otherwise. False: it can't be found out. */
-static bool tell(const Watch *watch, const DconfdbSnapshot *now, DconfdbError *error)
+static bool tell(const Watching *watch, const DconfdbSnapshot *now, DconfdbError *error)
 {
     bool any = false, is_told = true;
     char *paths = dconfdb_snapshot_differences(now, watch->before, NULL, error);
@@ -152,11 +152,11 @@ static bool are_same(const char *one, const char *other)
 
 /* Watches the files that the profile names. False: not all are, or it names others now: it may be written after it was read, and
  * before it was watched. */
-static bool begin_once(Watch *watch)
+static bool begin_once(Watching *watch)
 {
     DconfdbError error = DCONFDB_ERROR_INIT;
     char *files = place_files(&watch->place, &error);
-    char *now = files && places_watch(watch->places, files) ? place_files(&watch->place, &error) : NULL;
+    char *now = files && watch_files(watch->names, files, PROFILES) ? place_files(&watch->place, &error) : NULL;
     bool is_done = now && are_same(files, now);
     free(files);
     free(now);
@@ -164,13 +164,13 @@ static bool begin_once(Watch *watch)
 }
 
 /* The files that are the store's now, watched. */
-static void begin(Watch *watch)
+static void begin(Watching *watch)
 {
     watch->is_late = !begin_once(watch) && !begin_once(watch);
 }
 
 /* The store, opened anew: another profile may name other databases. */
-static bool open_anew(Watch *watch, DconfdbError *error)
+static bool open_anew(Watching *watch, DconfdbError *error)
 {
     DconfdbStore *store = place_open(&watch->place, error);
     if (!store)
@@ -181,7 +181,7 @@ static bool open_anew(Watch *watch, DconfdbError *error)
 }
 
 /* Looks at the files, and tells. What fails is tried again in a second. */
-static void look(Watch *watch, bool is_anew)
+static void look(Watching *watch, bool is_anew)
 {
     DconfdbError error = DCONFDB_ERROR_INIT;
     bool is_done = is_anew ? open_anew(watch, &error) : dconfdb_store_refresh(watch->store, NULL, &error);
@@ -199,20 +199,20 @@ static void look(Watch *watch, bool is_anew)
 }
 
 /* Waits for what happens, and looks. */
-static void wait_and_look(Watch *watch)
+static void wait_and_look(Watching *watch)
 {
-    struct pollfd file = {.fd = places_file(watch->places), .events = POLLIN};
+    struct pollfd file = {.fd = watch_descriptor(watch->names), .events = POLLIN};
     bool was_late = watch->is_late;
     int count = poll(&file, 1, was_late ? EACH_SECOND : -1);
-    Happened what = count > 0 ? places_take(watch->places) : NOTHING;
-    bool is_anew = what == A_FOLDER || (was_late && count == 0);
+    WatchedKind what = count > 0 ? watch_read(watch->names) : WATCHED_NOTHING;
+    bool is_anew = what == WATCHED_FOLDER || (was_late && count == 0);
     if (is_anew)
         begin(watch);
-    if (is_anew || what != NOTHING)
+    if (is_anew || what != WATCHED_NOTHING)
         look(watch, is_anew);
 }
 
-static int watch_until_interrupted(Watch *watch)
+static int watch_until_interrupted(Watching *watch)
 {
     while (fflush(stdout) == 0 && !ferror(stdout))
         wait_and_look(watch);
@@ -220,7 +220,7 @@ static int watch_until_interrupted(Watch *watch)
 }
 
 /* A profile that the environment names has to be there when it begins; any other file may come. */
-static bool has_named_profile(const Watch *watch)
+static bool has_named_profile(const Watching *watch)
 {
     DconfdbError fault = DCONFDB_ERROR_INIT;
     if (!watch->place.profile || !dconfdb_store_profile_fault(watch->store, &fault) || fault.code != DCONFDB_ERROR_FILE)
@@ -229,11 +229,11 @@ static bool has_named_profile(const Watch *watch)
     return false;
 }
 
-static int start(Watch *watch)
+static int start(Watching *watch)
 {
     DconfdbError error = DCONFDB_ERROR_INIT;
-    watch->places = places_new();
-    if (!watch->places) {
+    watch->names = watch_new(true);
+    if (!watch->names) {
         warn("Memory");
         return 1;
     }
@@ -252,16 +252,16 @@ static int start(Watch *watch)
     return watch_until_interrupted(watch);
 }
 
-static void end(Watch *watch)
+static void end(Watching *watch)
 {
     dconfdb_snapshot_unref(watch->before);
     dconfdb_store_close(watch->store);
-    places_free(watch->places);
+    watch_free(watch->names);
     place_release(&watch->place);
 }
 
 /* Watches the store of a folder; NULL: the user's. */
-static int start_at(const char *folder, Watch *watch)
+static int start_at(const char *folder, Watching *watch)
 {
     DconfdbError error = DCONFDB_ERROR_INIT;
     if (!place_find(folder, &watch->place, &error)) {
@@ -294,7 +294,7 @@ int main(int count, char **words)
 {
     static const struct option options[] = {
         {"store", required_argument, NULL, 's'}, {"user", no_argument, NULL, 'u'}, {"help", no_argument, NULL, 'h'}, {0}};
-    Watch watch = {.path = NULL};
+    Watching watch = {.path = NULL};
     const char *folder = NULL;
     bool is_users = false;
     int option;

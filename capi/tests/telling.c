@@ -1,0 +1,236 @@
+/* Tries what tells of changes: telling FOLDER, as calls.c has it. inotify_init1, epoll_create1 and timerfd_create are
+ * wrapped: each can be had, or not. */
+#include "try.h"
+
+#include <errno.h>
+#include <poll.h>
+#include <sys/inotify.h>
+#include <sys/stat.h>
+#include <time.h>
+#include <unistd.h>
+
+int __real_inotify_init1(int flags);
+int __wrap_inotify_init1(int flags);
+int __real_epoll_create1(int flags);
+int __wrap_epoll_create1(int flags);
+int __real_timerfd_create(int clock, int flags);
+int __wrap_timerfd_create(int clock, int flags);
+
+static DconfdbError error = DCONFDB_ERROR_INIT;
+static bool has_inotify = true, has_epoll = true, has_clock = true;
+
+static int fails(void)
+{
+    errno = EMFILE;
+    return -1;
+}
+
+int __wrap_inotify_init1(int flags)
+{
+    return has_inotify ? __real_inotify_init1(flags) : fails();
+}
+
+int __wrap_epoll_create1(int flags)
+{
+    return has_epoll ? __real_epoll_create1(flags) : fails();
+}
+
+int __wrap_timerfd_create(int clock, int flags)
+{
+    return has_clock ? __real_timerfd_create(clock, flags) : fails();
+}
+
+enum { SOON = 3000, QUIET = 100 };
+
+/* Whether the file is readable within so many milliseconds. */
+static bool is_readable(int file, int wait)
+{
+    struct pollfd polled = {.fd = file, .events = POLLIN};
+    return poll(&polled, 1, wait) == 1 && polled.revents == POLLIN;
+}
+
+/* Whether these paths are told next: it is waited for, and then it is quiet. Some events tell of nothing. */
+static bool is_told(DconfdbStore *store, const char *wanted, size_t wanted_size)
+{
+    int file = dconfdb_store_fd(store, &error);
+    size_t size = 0;
+    TRY(file >= 0);
+    while (size == 0) {
+        TRY(is_readable(file, SOON));
+        char *paths = dconfdb_store_dispatch(store, &size, &error);
+        TRY(paths && paths[size] == 0);
+        bool is = size == wanted_size && memcmp(paths, wanted, size) == 0;
+        if (size != 0 && !is)
+            fprintf(stderr, "told: %s\n", paths);
+        free(paths);
+        if (size != 0 && !is)
+            return false;
+    }
+    return true;
+}
+#define IS_TOLD(store, wanted) is_told(store, wanted, sizeof wanted - 1)
+
+/* Whether there is nothing to tell, and no more of it than what an event of before may be for. */
+static bool is_quiet(DconfdbStore *store)
+{
+    size_t size = 77;
+    while (is_readable(dconfdb_store_fd(store, &error), QUIET)) {
+        char *paths = dconfdb_store_dispatch(store, &size, &error);
+        bool is = paths && size == 0;
+        free(paths);
+        if (!is)
+            return false;
+    }
+    return true;
+}
+
+static bool changes(DconfdbStore *store, DconfdbEdit edit)
+{
+    return dconfdb_store_change(store, &edit, 1, &error);
+}
+
+static void makes(const char *name, const char *text)
+{
+    FILE *file = fopen(name, "w");
+    TRY(file && fputs(text, file) >= 0 && fclose(file) == 0);
+}
+
+/* By another store, by this one, by a file that replaces the site's; and what was so before anybody asked. */
+static void tries_changes(void)
+{
+    DconfdbStore *store = dconfdb_store_open(".", &error), *other = dconfdb_store_open(".", &error);
+    TRY(store && other && changes(other, sets_text("/before", "1")));
+    int file = dconfdb_store_fd(store, &error);
+    TRY(file >= 0 && dconfdb_store_fd(store, NULL) == file && IS_TOLD(store, "/before\0") && is_quiet(store));
+    DconfdbEdit two[] = {sets_text("/b", "1"), sets_text("/a", "1")};
+    TRY(dconfdb_store_change(other, two, 2, &error) && IS_TOLD(store, "/a\0/b\0") && is_quiet(store));
+    TRY(changes(store, sets_text("/own", "1")) && IS_TOLD(store, "/own\0") && is_quiet(store));
+    TRY(changes(other, (DconfdbEdit){"/a", NULL, NULL, 0}) && changes(store, sets_text("/own", "2")) && dconfdb_store_refresh(store, NULL, NULL));
+    TRY(IS_TOLD(store, "/a\0/own\0") && is_quiet(store));
+    /* There and back is nothing. */
+    TRY(changes(other, sets_text("/own", "3")) && changes(other, sets_text("/own", "2")) && is_quiet(store));
+    TRY(rename("site.db", "site.kept") == 0 && IS_TOLD(store, "/org/desk/name\0/org/desk/size\0") && is_quiet(store));
+    TRY(rename("site.kept", "site.db") == 0 && IS_TOLD(store, "/org/desk/name\0/org/desk/size\0") && is_quiet(store));
+    TRY(changes(store, (DconfdbEdit){"/", NULL, NULL, 0}) && IS_TOLD(store, "/b\0/before\0/own\0") && is_quiet(store));
+    dconfdb_store_close(store);
+    dconfdb_store_close(other);
+}
+
+/* Nobody asks for the file: each call tells since the one before. */
+static void tries_without_file(void)
+{
+    DconfdbStore *store = dconfdb_store_open(".", &error);
+    size_t size = 77;
+    char *paths = store ? dconfdb_store_dispatch(store, &size, &error) : NULL;
+    TRY(paths && size == 0 && *paths == 0);
+    free(paths);
+    TRY(changes(store, sets_text("/k", "1")));
+    paths = dconfdb_store_dispatch(store, &size, NULL);
+    TRY(paths && size == 3 && memcmp(paths, "/k\0", 4) == 0);
+    free(paths);
+    TRY(changes(store, (DconfdbEdit){"/", NULL, NULL, 0}));
+    dconfdb_store_close(store);
+}
+
+/* A folder that comes later, one that is moved, and a link that is turned. */
+static void tries_ways(void)
+{
+    TRY(mkdir("ways", 0700) == 0 && mkdir("ways/one", 0700) == 0 && mkdir("ways/other", 0700) == 0);
+    makes("ways/one/profile", "user-db:me\n");
+    makes("ways/other/profile", "user-db:me\n");
+    DconfdbStore *one = dconfdb_store_open("ways/one", &error), *other = dconfdb_store_open("ways/other", &error);
+    TRY(one && other && changes(one, sets_text("/one", "1")) && changes(other, sets_text("/other", "1")));
+    TRY(symlink("one", "ways/link") == 0);
+    DconfdbStore *store = dconfdb_store_open("ways/link", &error), *late = dconfdb_store_open("ways/late/er", &error);
+    TRY(store && late && dconfdb_store_fd(store, &error) >= 0 && dconfdb_store_fd(late, &error) >= 0);
+    TRY(is_quiet(store) && is_quiet(late));
+    TRY(symlink("other", "ways/new") == 0 && rename("ways/new", "ways/link") == 0 && IS_TOLD(store, "/one\0/other\0"));
+    TRY(changes(other, sets_text("/other", "2")) && IS_TOLD(store, "/other\0") && is_quiet(store));
+    TRY(rename("ways/other", "ways/moved") == 0 && IS_TOLD(store, "/other\0") && is_quiet(store));
+    TRY(rename("ways/moved", "ways/other") == 0 && IS_TOLD(store, "/other\0") && is_quiet(store));
+    DconfdbStore *maker = dconfdb_store_open("ways/late/er", &error);
+    TRY(maker && changes(maker, sets_text("/late", "1")) && IS_TOLD(late, "/late\0") && is_quiet(late));
+    TRY(symlink("loop", "ways/loop") == 0);
+    DconfdbStore *all[] = {one, other, store, late, maker};
+    for (size_t i = 0; i < sizeof all / sizeof all[0]; i++)
+        dconfdb_store_close(all[i]);
+}
+
+/* A file that is bad for a while: the call fails, and is tried again each second. */
+static void tries_bad_files(void)
+{
+    DconfdbStore *store = dconfdb_store_open(".", &error);
+    size_t size = 77;
+    TRY(store && dconfdb_store_fd(store, &error) >= 0 && is_quiet(store) && rename("site.db", "site.kept") == 0);
+    makes("site.db", "nonsense that is no database");
+    TRY(is_readable(dconfdb_store_fd(store, &error), SOON));
+    char *paths = dconfdb_store_dispatch(store, &size, &error);
+    while (paths) {
+        free(paths);
+        TRY(is_readable(dconfdb_store_fd(store, &error), SOON));
+        size = 77;
+        paths = dconfdb_store_dispatch(store, &size, &error);
+    }
+    TRY(size == 77 && error.code == DCONFDB_ERROR_BAD_SIGNATURE && error.database == 1);
+    TRY(is_readable(dconfdb_store_fd(store, &error), SOON) && !dconfdb_store_dispatch(store, NULL, NULL));
+    TRY(rename("next.db", "site.db") == 0);
+    do {
+        free(paths);
+        TRY(is_readable(dconfdb_store_fd(store, &error), SOON));
+        paths = dconfdb_store_dispatch(store, &size, &error);
+    } while (!paths || size == 0);
+    TRY(strcmp(paths, "/org/desk/name") == 0);
+    free(paths);
+    TRY(rename("site.db", "next.db") == 0 && rename("site.kept", "site.db") == 0);
+    dconfdb_store_close(store);
+}
+
+/* Without inotify it is readable each second. What else can't be had is told. */
+static void tries_faults(void)
+{
+    DconfdbStore *store = dconfdb_store_open(".", &error);
+    TRY(store);
+    has_epoll = false;
+    TRY(dconfdb_store_fd(store, &error) == -1 && error.code == DCONFDB_ERROR_FILE && error.errnum == EMFILE && strstr(error.text, "Too many open files"));
+    has_epoll = true;
+    has_clock = false;
+    TRY(dconfdb_store_fd(store, &error) == -1 && error.errnum == EMFILE && dconfdb_store_fd(store, NULL) == -1);
+    has_clock = true;
+    has_inotify = false;
+    int file = dconfdb_store_fd(store, &error);
+    for (int i = 0; i < 2; i++) {
+        size_t size = 77;
+        TRY(file >= 0 && is_readable(file, SOON));
+        char *paths = dconfdb_store_dispatch(store, &size, &error);
+        TRY(paths && size == 0 && !is_readable(file, QUIET));
+        free(paths);
+    }
+    TRY(changes(store, sets_text("/k", "1")) && IS_TOLD(store, "/k\0"));
+    /* It is there again. */
+    has_inotify = true;
+    TRY(changes(store, (DconfdbEdit){"/", NULL, NULL, 0}) && IS_TOLD(store, "/k\0") && is_quiet(store) && !is_readable(file, 1500));
+    TRY(changes(store, sets_text("/k", "1")) && is_readable(file, QUIET) && IS_TOLD(store, "/k\0"));
+    TRY(changes(store, (DconfdbEdit){"/", NULL, NULL, 0}));
+    dconfdb_store_close(store);
+}
+
+/* The next descriptor that a file would have. */
+static int next_descriptor(void)
+{
+    int next = dup(0);
+    TRY(next >= 0 && close(next) == 0);
+    return next;
+}
+
+int main(int argc, char **argv)
+{
+    int next = next_descriptor();
+    TRY(argc == 2 && chdir(argv[1]) == 0);
+    tries_changes();
+    tries_without_file();
+    tries_ways();
+    tries_bad_files();
+    tries_faults();
+    TRY(next_descriptor() == next);
+    return 0;
+}
