@@ -193,6 +193,18 @@ DCONFDB_API const char *dconfdb_error_name(DconfdbErrorCode code) DCONFDB_NOEXCE
 /* The version of the library, as DCONFDB_VERSION is that of the header. */
 DCONFDB_API const char *dconfdb_version(void) DCONFDB_NOEXCEPT;
 
+/* How a store is opened, and how its changes are made. DCONFDB_OPTIONS_INIT has what dconfdb_store_open takes. */
+typedef struct DconfdbOptions {
+    size_t size;      /* this struct's: a later version, in which more fields follow, reads no more than that */
+    bool is_lenient;  /* it is opened by dconfdb_store_open_lenient */
+    bool is_unsynced; /* a change doesn't wait for the disk: if the machine crashes soon after, the user's file may have
+                       * its old bytes or, on some file systems, be empty or torn */
+    int longest_wait; /* how many milliseconds a change waits for its turn; if negative, it waits without end */
+} DconfdbOptions;
+
+#define DCONFDB_USUAL_WAIT 10000
+#define DCONFDB_OPTIONS_INIT {sizeof(DconfdbOptions), false, false, DCONFDB_USUAL_WAIT}
+
 /* A value, lent from a snapshot. */
 typedef struct DconfdbValue {
     const void *data; /* the bytes of a little-endian GVariant; never NULL */
@@ -226,6 +238,11 @@ DCONFDB_NODISCARD DCONFDB_API DconfdbStore *dconfdb_store_open(const char *folde
 /* The same, but it opens a store that has bad files, or bad lines in its profile: see BAD FILES. */
 DCONFDB_NODISCARD DCONFDB_API DconfdbStore *dconfdb_store_open_lenient(const char *folder, DconfdbError *error)
     DCONFDB_NOEXCEPT;
+
+/* The same with other choices, which the store keeps. */
+DCONFDB_NODISCARD DCONFDB_API DconfdbStore *dconfdb_store_open_with(const char *folder, const DconfdbOptions *options,
+    DconfdbError *error)
+    DCONFDB_NOEXCEPT DCONFDB_NONNULL((2));
 
 /* Whether the profile has a bad line, or couldn't be read. If so, `error`, if it isn't NULL, says which
  * line is the first bad one, or why. */
@@ -276,7 +293,7 @@ DCONFDB_NODISCARD DCONFDB_API char *dconfdb_store_dispatch(DconfdbStore *store, 
     DCONFDB_NOEXCEPT DCONFDB_NONNULL((1));
 
 /* Makes all edits, in order, or none. The user's file is read again and replaced atomically, and
- * is on the disk when this returns. The newest snapshot then has the edits, and what others
+ * is on the disk when this returns, unless the store was opened `is_unsynced`. The newest snapshot then has the edits, and what others
  * changed meanwhile, in other databases too. A refused change may update it as well. With no edits
  * this returns true and looks at nothing.
  *
@@ -293,11 +310,12 @@ DCONFDB_NODISCARD DCONFDB_API char *dconfdb_store_dispatch(DconfdbStore *store, 
  *
  * A missing folder is made, even if the change is then refused. Programs that change the file take
  * turns with flock() on the file `.lock` in its folder, which is created if it is missing; only those
- * who may write in the folder may open it. This call waits at most ten seconds for that lock; then it
- * waits, without a limit, for threads that refresh the same store. The file says which keys were set last,
- * and when: so a GSettings program, whose sets may wait, never overwrites an edit with an older set.
+ * who may write in the folder may open it. This call waits at most ten seconds for that lock, or as long
+ * as the store's options say; then it waits, without a limit, for threads that refresh the same store. The
+ * file says which keys were set last, and when: so a GSettings program, whose sets may wait, never
+ * overwrites an edit with an older set.
  *
- * False: it failed, and `outcome` says what became of the file. It has its old bytes, unless the number
+ * False: it failed, and `outcome` says what became of the file. It has its old bytes, unless the code
  * is DCONFDB_ERROR_FILE and the outcome another: EITHER if the rename failed, since it may have been done
  * all the same; UNSETTLED if the folder could not be synced after it. Only then the newest snapshot has
  * the edits. The text says so, too. After either of them, make the same edits again: if that returns true

@@ -336,7 +336,7 @@ int replacing_sync(Replacing *it, size_t bits, FileState *state)
     struct stat made;
     int file = it->file, fault = hand_over(file, (mode_t)bits, it->user, it->group);
     it->file = NO_FOLDER;
-    if (fault == 0 && (fsync(file) != 0 || fstat(file, &made) != 0))
+    if (fault == 0 && ((!it->is_unsynced && fsync(file) != 0) || fstat(file, &made) != 0))
         fault = errno;
     if (close(file) != 0 && fault == 0)
         fault = errno;
@@ -376,7 +376,7 @@ int replacing_rename(const Replacing *it)
 
 int replacing_sync_folder(const Replacing *it)
 {
-    return fsync(it->folder) != 0 ? errno : 0;
+    return !it->is_unsynced && fsync(it->folder) != 0 ? errno : 0;
 }
 
 int replacing_remove(const Replacing *it)

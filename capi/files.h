@@ -59,6 +59,7 @@ typedef struct {
     gid_t group;
     char *aside; /* the other name of what the name was, if `is_aside` */
     bool is_aside;
+    bool is_unsynced; /* nothing is brought to the disk */
 } Replacing;
 
 /* What a look answers more if the old file is to be set aside. */

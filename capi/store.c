@@ -52,8 +52,7 @@ struct DconfdbSnapshot {
 enum { LARGEST_PROFILE = 16777216, MOST_DATABASES = 64, ROOM_OF_PASSWD = 65536 };
 #define LARGEST_FILE 4294967295U
 
-/* How many milliseconds a change waits for the folder's lock. */
-enum { LONGEST_WAIT = 10000 };
+static const DconfdbOptions strict = DCONFDB_OPTIONS_INIT, lenient = {sizeof lenient, true, false, DCONFDB_USUAL_WAIT};
 
 /* What another one was seen to change, and the file that it left. */
 typedef struct Seen {
@@ -63,7 +62,7 @@ typedef struct Seen {
 } Seen;
 
 struct DconfdbStore {
-    bool is_lenient;            /* a bad file is empty, or what is saved of it */
+    DconfdbOptions options;     /* `is_lenient`: a bad file is empty, or what is saved of it */
     DconfdbError profile_fault; /* its number is 0 where there is none */
     pthread_mutex_t refreshing; /* held while files are looked at, and put in place */
     pthread_mutex_t handing;    /* held for `now` alone */
@@ -577,7 +576,7 @@ static bool read_profile(DconfdbStore *store, const char *name, FileBytes *text,
 {
     FileState state;
     int fault = file_read(NO_FOLDER, name, false, NULL, LARGEST_PROFILE, text, &state);
-    if (fault != 0 && store->is_lenient && is_files_own(fault)) {
+    if (fault != 0 && store->options.is_lenient && is_files_own(fault)) {
         refuse_file(profile_fault_of(store), fault, name, nowhere);
         return true;
     }
@@ -614,7 +613,7 @@ static uint32_t read_names(DconfdbStore *store, const char *profile, const uint8
                            size_t *count, size_t *line)
 {
     uint32_t fault = DCONFDB_OK;
-    if (!store->is_lenient)
+    if (!store->options.is_lenient)
         return dconfdb_profile(text, len, names, MOST_DATABASES, count, line);
     uint32_t number = dconfdb_profile_lines(text, len, names, MOST_DATABASES, count, &fault, line);
     if (number == DCONFDB_OK && fault != DCONFDB_OK)
@@ -652,8 +651,8 @@ static bool find_files_named(DconfdbStore *store, const char *name, DconfdbError
     if (done && text.at) {
         done = name_files(store, name, text.at, text.len, error);
     } else if (done) {
-        refuse_file(store->is_lenient ? profile_fault_of(store) : error, ENOENT, name, nowhere);
-        done = store->is_lenient;
+        refuse_file(store->options.is_lenient ? profile_fault_of(store) : error, ENOENT, name, nowhere);
+        done = store->options.is_lenient;
     }
     file_release(&text);
     return done;
@@ -699,7 +698,7 @@ static Asked asked_of(const Look *look, size_t at)
 {
     const DconfdbStore *store = look->store;
     bool is_users = store->files[at] == store->user_file;
-    return (Asked){store->files[at], at, !is_users, store->is_lenient, is_users ? look->turn : NO_FOLDER};
+    return (Asked){store->files[at], at, !is_users, store->options.is_lenient, is_users ? look->turn : NO_FOLDER};
 }
 
 static bool is_as_said(const Look *look, const Part *old, size_t at)
@@ -816,7 +815,7 @@ static uint32_t look(const DconfdbStore *store, int turn, DconfdbSnapshot **newe
 }
 
 /* A store of which the place is known alone. */
-static DconfdbStore *store_at(const StorePlace *place, bool is_lenient, DconfdbError *error)
+static DconfdbStore *store_at(const StorePlace *place, const DconfdbOptions *options, DconfdbError *error)
 {
     DconfdbStore *store = calloc(1, sizeof *store);
     char *folder = joined(place->folder, "", ""), *profile = place->profile ? joined(place->profile, "", "") : NULL;
@@ -830,43 +829,43 @@ static DconfdbStore *store_at(const StorePlace *place, bool is_lenient, DconfdbE
     pthread_mutex_init(&store->refreshing, NULL);
     pthread_mutex_init(&store->handing, NULL);
     telling_begin(&store->telling);
-    store->is_lenient = is_lenient;
+    store->options = *options;
     store->place = (StorePlace){folder, profile};
     return store;
 }
 
-static DconfdbStore *open_at(const StorePlace *place, bool is_lenient, DconfdbError *error)
+static DconfdbStore *open_at(const StorePlace *place, const DconfdbOptions *options, DconfdbError *error)
 {
-    DconfdbStore *store = store_at(place, is_lenient, error);
+    DconfdbStore *store = store_at(place, options, error);
     if (store && find_files(store, error) && look(store, NO_FOLDER, &store->now, error) == DCONFDB_LOOK_NEWER)
         return store;
     dconfdb_store_close(store);
     return NULL;
 }
 
-static DconfdbStore *open_store(const char *folder, bool is_lenient, DconfdbError *error)
+DconfdbStore *dconfdb_store_open_with(const char *folder, const DconfdbOptions *options, DconfdbError *error)
 {
     StorePlace place;
     if (!find_place(folder, &place, error))
         return NULL;
-    DconfdbStore *store = open_at(&place, is_lenient, error);
+    DconfdbStore *store = open_at(&place, options, error);
     place_release(&place);
     return store;
 }
 
 DconfdbStore *place_open(const StorePlace *place, DconfdbError *error)
 {
-    return open_at(place, true, error);
+    return open_at(place, &lenient, error);
 }
 
 DconfdbStore *dconfdb_store_open(const char *folder, DconfdbError *error)
 {
-    return open_store(folder, false, error);
+    return dconfdb_store_open_with(folder, &strict, error);
 }
 
 DconfdbStore *dconfdb_store_open_lenient(const char *folder, DconfdbError *error)
 {
-    return open_store(folder, true, error);
+    return dconfdb_store_open_with(folder, &lenient, error);
 }
 
 bool dconfdb_store_profile_fault(const DconfdbStore *store, DconfdbError *error)
@@ -913,7 +912,7 @@ char *files_of(const DconfdbStore *store)
 static char *files_at(const StorePlace *place, size_t *size, DconfdbError *error)
 {
     DconfdbError fault = DCONFDB_ERROR_INIT;
-    DconfdbStore *store = store_at(place, true, error);
+    DconfdbStore *store = store_at(place, &lenient, error);
     if (!store)
         return NULL;
     find_files(store, &fault);
@@ -1493,6 +1492,7 @@ static bool change_in_turn(DconfdbStore *store, const FolderLock *lock, Asking *
     int fault = replacing_begin(&replacing, lock->folder, strrchr(store->user_file, '/') + 1);
     if (fault != 0)
         return refuse_file(error, fault, store->user_file, nowhere);
+    replacing.is_unsynced = store->options.is_unsynced;
     pthread_mutex_lock(&store->refreshing);
     it.before = dconfdb_snapshot_ref(store->now);
     dconfdb_turn_begin(&turn);
@@ -1526,9 +1526,13 @@ static bool refuse_lock_file(const DconfdbStore *store, int fault, DconfdbError 
 
 bool refuse_lock(const DconfdbStore *store, int fault, DconfdbError *error)
 {
+    const char *name = user_file_or_folder(store);
+    int wait = store->options.longest_wait;
     if (fault != EWOULDBLOCK)
         return refuse_lock_file(store, fault, error);
-    return refuse(error, DCONFDB_ERROR_BUSY, 0, nowhere, "%s: others have been changing it for ten seconds", user_file_or_folder(store));
+    if (wait == DCONFDB_USUAL_WAIT)
+        return refuse(error, DCONFDB_ERROR_BUSY, 0, nowhere, "%s: others have been changing it for ten seconds", name);
+    return refuse(error, DCONFDB_ERROR_BUSY, 0, nowhere, "%s: others have been changing it for %d ms", name, wait);
 }
 
 /* No file is to be made: only why a change is at fault has to be said, and which edit. */
@@ -1573,9 +1577,10 @@ static bool has_nothing(const DconfdbStore *store, const DconfdbEdit *edits, siz
 bool dconfdb_store_change(DconfdbStore *store, const DconfdbEdit *edits, size_t count, DconfdbError *error)
 {
     FolderLock lock;
+    int wait = store->options.longest_wait;
     if (count == 0 || has_nothing(store, edits, count))
         return locked_change(store, NULL, edits, NULL, count, error);
-    int fault = folder_lock(store->place.folder, LONGEST_WAIT, &lock);
+    int fault = folder_lock(store->place.folder, wait < 0 ? WITHOUT_END : wait, &lock);
     if (fault != 0)
         return refuse_lock(store, fault, error);
     bool done = locked_change(store, &lock, edits, NULL, count, error);
