@@ -128,14 +128,7 @@
 extern "C" {
 #endif
 
-/* A folder and its databases. */
-typedef struct DconfdbStore DconfdbStore;
-
-/* What the databases held at one moment. */
-typedef struct DconfdbSnapshot DconfdbSnapshot;
-
-/* The keys below a directory of a snapshot, and where one is in them. */
-typedef struct DconfdbIterator DconfdbIterator;
+/* ---- dconfdb_error: errors, and the version */
 
 /* Why something failed. Numbers never change their meaning; later versions may add some. */
 typedef enum DconfdbErrorCode {
@@ -193,6 +186,11 @@ DCONFDB_API const char *dconfdb_error_name(DconfdbErrorCode code) DCONFDB_NOEXCE
 /* The version of the library, as DCONFDB_VERSION is that of the header. */
 DCONFDB_API const char *dconfdb_version(void) DCONFDB_NOEXCEPT;
 
+/* ---- dconfdb_store_open: open a store */
+
+/* A folder and its databases. */
+typedef struct DconfdbStore DconfdbStore;
+
 /* How a store is opened, and how its changes are made. DCONFDB_OPTIONS_INIT has what dconfdb_store_open takes. */
 typedef struct DconfdbOptions {
     size_t size;      /* this struct's: a later version, in which more fields follow, reads no more than that */
@@ -205,52 +203,27 @@ typedef struct DconfdbOptions {
 #define DCONFDB_USUAL_WAIT 10000
 #define DCONFDB_OPTIONS_INIT {sizeof(DconfdbOptions), false, false, DCONFDB_USUAL_WAIT}
 
-/* A value, lent from a snapshot. */
-typedef struct DconfdbValue {
-    const void *data; /* the bytes of a little-endian GVariant; never NULL */
-    size_t size;
-    const char *type; /* GVariant's type text, without a zero byte after it */
-    size_t type_size;
-    size_t origin; /* the index of the database that has it */
-} DconfdbValue;
-
-/* An edit of the user's values.
- *
- * With a type, it sets the key at the path. A path that ends in `/` is not a key's: the edit is
- * refused with DCONFDB_ERROR_BAD_PATH, and nothing changes. `data` may be NULL if `size` is 0,
- * and need not be aligned. Bytes that aren't in normal form at the type are stored as the value
- * that GVariant reads in them.
- *
- * Without a type (NULL), it removes the user's value at the path. A path that ends in `/` is then a
- * directory: all of the user's values below it are removed, except those of locked keys. */
-typedef struct DconfdbEdit {
-    const char *path;
-    const char *type;
-    const void *data; /* the bytes of a little-endian GVariant */
-    size_t size;
-} DconfdbEdit;
-
 /* Opens the store of a folder, or of the environment if NULL is given. Only then is getenv()
  * called, and no other thread may change the environment meanwhile. The folder need not exist. The
  * profile is read now, and not again. NULL: it failed. */
 DCONFDB_NODISCARD DCONFDB_API DconfdbStore *dconfdb_store_open(const char *folder, DconfdbError *error) DCONFDB_NOEXCEPT;
 
-/* The same, but it opens a store that has bad files, or bad lines in its profile: see BAD FILES. */
+/* Opens it as dconfdb_store_open does, and also if it has bad files, or bad lines in its profile: see BAD FILES. */
 DCONFDB_NODISCARD DCONFDB_API DconfdbStore *dconfdb_store_open_lenient(const char *folder, DconfdbError *error)
     DCONFDB_NOEXCEPT;
 
-/* The same with other choices, which the store keeps. */
+/* Opens it with other choices, which the store keeps. */
 DCONFDB_NODISCARD DCONFDB_API DconfdbStore *dconfdb_store_open_with(const char *folder, const DconfdbOptions *options,
     DconfdbError *error)
     DCONFDB_NOEXCEPT DCONFDB_NONNULL((2));
+
+/* Closes a store, or NULL. Its snapshots stay. */
+DCONFDB_API void dconfdb_store_close(DconfdbStore *store) DCONFDB_NOEXCEPT;
 
 /* Whether the profile has a bad line, or couldn't be read. If so, `error`, if it isn't NULL, says which
  * line is the first bad one, or why. */
 DCONFDB_API bool dconfdb_store_profile_fault(const DconfdbStore *store, DconfdbError *error)
     DCONFDB_NOEXCEPT DCONFDB_NONNULL((1));
-
-/* Closes a store, or NULL. Its snapshots stay. */
-DCONFDB_API void dconfdb_store_close(DconfdbStore *store) DCONFDB_NOEXCEPT;
 
 /* The files that opening the store of that folder, or of the environment, looks at: the folder's
  * profile, or the one that $DCONFDB_PROFILE names; that of all users; and the databases that the
@@ -264,6 +237,11 @@ DCONFDB_NODISCARD DCONFDB_API char *dconfdb_store_files(const char *folder, size
 DCONFDB_API const char *dconfdb_store_folder(const DconfdbStore *store) DCONFDB_NOEXCEPT DCONFDB_NONNULL((1));
 DCONFDB_API const char *dconfdb_store_user_file(const DconfdbStore *store) DCONFDB_NOEXCEPT DCONFDB_NONNULL((1));
 
+/* ---- dconfdb_snapshot: what a store holds at one moment */
+
+/* What the databases held at one moment. */
+typedef struct DconfdbSnapshot DconfdbSnapshot;
+
 /* A reference to the newest snapshot, for the caller to drop. It never fails, looks at no file, and
  * waits for none. */
 DCONFDB_NODISCARD DCONFDB_API DconfdbSnapshot *dconfdb_store_snapshot(DconfdbStore *store)
@@ -275,53 +253,6 @@ DCONFDB_NODISCARD DCONFDB_API DconfdbSnapshot *dconfdb_store_snapshot(DconfdbSto
  * has read. The store's own edits don't count. False: it failed, and the newest snapshot stays the
  * newest. */
 DCONFDB_API bool dconfdb_store_refresh(DconfdbStore *store, bool *changed, DconfdbError *error)
-    DCONFDB_NOEXCEPT DCONFDB_NONNULL((1));
-
-/* To be told of changes, without a thread. `fd` is a file to poll for reading, in a main loop, say: it is
- * readable when a file of the store may have changed, and once at first. Then `dispatch` looks at the files
- * as dconfdb_store_refresh does, and gives the paths of the keys that differ between the newest snapshot and
- * that of the last dispatch, at first that of the first call of either: as dconfdb_snapshot_differences
- * gives them, and empty if none does. This program's own changes are among them. It waits for none: without
- * anything to tell it returns at once.
- *
- * Nothing is lost: if `dispatch` fails (NULL), or if not all files can be watched, the file is readable again
- * after a second. Watched are, by inotify, the databases' names, and the folders and links on the way to
- * them; what another machine changes on a file server is not seen so. The store owns the file: it is not to
- * be read, and is closed with the store. -1: it can't be had. */
-DCONFDB_API int dconfdb_store_fd(DconfdbStore *store, DconfdbError *error) DCONFDB_NOEXCEPT DCONFDB_NONNULL((1));
-DCONFDB_NODISCARD DCONFDB_API char *dconfdb_store_dispatch(DconfdbStore *store, size_t *size, DconfdbError *error)
-    DCONFDB_NOEXCEPT DCONFDB_NONNULL((1));
-
-/* Makes all edits, in order, or none. The user's file is read again and replaced atomically, and
- * is on the disk when this returns, unless the store was opened `is_unsynced`. The newest snapshot then has the edits, and what others
- * changed meanwhile, in other databases too. A refused change may update it as well. With no edits
- * this returns true and looks at nothing.
- *
- * If no edit changes anything, because the user has that value already, or none where one is removed,
- * no file is written, unless this store's last write ended with EITHER or UNSETTLED. Values are compared,
- * not bytes.
- *
- * The new file has the permission bits of the old one. A first file is its owner's alone (0600),
- * whatever the umask. If root makes the change, the file keeps its owner and group; a first file, and
- * each folder that is made, gets those of the folder that it is in.
- *
- * The new file has no locks: a change drops those that the old one had. So a site's database must
- * not be anybody's user-db.
- *
- * A missing folder is made, even if the change is then refused. Programs that change the file take
- * turns with flock() on the file `.lock` in its folder, which is created if it is missing; only those
- * who may write in the folder may open it. This call waits at most ten seconds for that lock, or as long
- * as the store's options say; then it waits, without a limit, for threads that refresh the same store. The
- * file says which keys were set last, and when: so a GSettings program, whose sets may wait, never
- * overwrites an edit with an older set.
- *
- * False: it failed, and `outcome` says what became of the file. It has its old bytes, unless the code
- * is DCONFDB_ERROR_FILE and the outcome another: EITHER if the rename failed, since it may have been done
- * all the same; UNSETTLED if the folder could not be synced after it. Only then the newest snapshot has
- * the edits. The text says so, too. After either of them, make the same edits again: if that returns true
- * they are on the disk. */
-DCONFDB_NODISCARD DCONFDB_API bool dconfdb_store_change(DconfdbStore *store, const DconfdbEdit *edits, size_t count,
-    DconfdbError *error)
     DCONFDB_NOEXCEPT DCONFDB_NONNULL((1));
 
 /* Adds a reference, and drops one; dropping the last one frees everything. `ref` returns its
@@ -342,14 +273,20 @@ DCONFDB_API const char *dconfdb_snapshot_file(const DconfdbSnapshot *snapshot, s
 DCONFDB_API bool dconfdb_snapshot_fault(const DconfdbSnapshot *snapshot, size_t database, DconfdbError *error)
     DCONFDB_NOEXCEPT DCONFDB_NONNULL((1));
 
-/* Whether the user already has what an edit asks for: this value of the key or, without a type, none.
- * Locks don't matter. This is about the snapshot; dconfdb_snapshot_is_newest says if the file is newer. */
-DCONFDB_API bool dconfdb_snapshot_has_edit(const DconfdbSnapshot *snapshot, const DconfdbEdit *edit)
-    DCONFDB_NOEXCEPT DCONFDB_NONNULL((1, 2));
-
 /* Whether the user's file is still the snapshot's. This calls stat() once. True if there is no user's
  * database. */
 DCONFDB_API bool dconfdb_snapshot_is_newest(const DconfdbSnapshot *snapshot) DCONFDB_NOEXCEPT DCONFDB_NONNULL((1));
+
+/* ---- dconfdb_snapshot_read: values, and what is locked */
+
+/* A value, lent from a snapshot. */
+typedef struct DconfdbValue {
+    const void *data; /* the bytes of a little-endian GVariant; never NULL */
+    size_t size;
+    const char *type; /* GVariant's type text, without a zero byte after it */
+    size_t type_size;
+    size_t origin; /* the index of the database that has it */
+} DconfdbValue;
 
 /* The effective value of a key: that of the first database that has one, unless a later one locks
  * the key. `default` ignores the user's value; `user` is the user's own, even if the key is
@@ -362,7 +299,16 @@ DCONFDB_API bool dconfdb_snapshot_read_default(const DconfdbSnapshot *snapshot, 
 DCONFDB_API bool dconfdb_snapshot_read_user(const DconfdbSnapshot *snapshot, const char *path, DconfdbValue *value)
     DCONFDB_NOEXCEPT DCONFDB_NONNULL((1, 2, 3));
 
-/* VALUES. What is in a value, at the type that it has. Any bytes have a value at any type, so none of
+/* Whether a database after the first locks the key; and whether there is a user's database and the
+ * key isn't locked. Both are false if the text is not a key's path. They take no memory. */
+DCONFDB_API bool dconfdb_snapshot_is_locked(const DconfdbSnapshot *snapshot, const char *path)
+    DCONFDB_NOEXCEPT DCONFDB_NONNULL((1, 2));
+DCONFDB_API bool dconfdb_snapshot_is_writable(const DconfdbSnapshot *snapshot, const char *path)
+    DCONFDB_NOEXCEPT DCONFDB_NONNULL((1, 2));
+
+/* ---- dconfdb_value: what is in a value */
+
+/* What is in a value, at the type that it has. Any bytes have a value at any type, so none of
  * these fails: false and NULL mean another type, or that there is no such child, and then `out` and
  * `child` stay as they were. Bytes that aren't in normal form have the value that GVariant reads in
  * them: the wrong number of bytes is 0, false or 0.0, and a text that is none is empty (`/` of an `o`).
@@ -410,17 +356,12 @@ DCONFDB_API bool dconfdb_value_lookup(const DconfdbValue *value, const char *key
     DCONFDB_NOEXCEPT DCONFDB_NONNULL((1, 2, 3));
 
 /* The value as a text that can be read back, as `dconfdb read` prints it; the caller frees it with
- * free(). NULL: it holds a double (DOUBLE_TEXT), it is nested more than 128 levels deep (TOO_LARGE), or
+ * free(). NULL: it holds a double (DOUBLE_TEXT), it is nested more than 128 levels deep (VALUE_TOO_LARGE), or
  * no memory is left. */
 DCONFDB_NODISCARD DCONFDB_API char *dconfdb_value_print(const DconfdbValue *value, DconfdbError *error)
     DCONFDB_NOEXCEPT DCONFDB_NONNULL((1));
 
-/* Whether a database after the first locks the key; and whether there is a user's database and the
- * key isn't locked. Both are false if the text is not a key's path. They take no memory. */
-DCONFDB_API bool dconfdb_snapshot_is_locked(const DconfdbSnapshot *snapshot, const char *path)
-    DCONFDB_NOEXCEPT DCONFDB_NONNULL((1, 2));
-DCONFDB_API bool dconfdb_snapshot_is_writable(const DconfdbSnapshot *snapshot, const char *path)
-    DCONFDB_NOEXCEPT DCONFDB_NONNULL((1, 2));
+/* ---- dconfdb_snapshot_list: names, keys and differences */
 
 /* The names directly below a directory (a path that ends in `/`) in any database, in byte order, each
  * once; a directory's ends in `/`. And the locks that start with the directory's path, of all databases
@@ -434,10 +375,14 @@ DCONFDB_NODISCARD DCONFDB_API char *dconfdb_snapshot_locks(const DconfdbSnapshot
     size_t *size, DconfdbError *error)
     DCONFDB_NOEXCEPT DCONFDB_NONNULL((1, 2));
 
-/* The same of the user's own database alone, whatever is locked; empty if there is none. */
+/* The names directly below a directory in the user's own database, in the same form; none if there is no such
+ * database. Locks don't matter. */
 DCONFDB_NODISCARD DCONFDB_API char *dconfdb_snapshot_list_user(const DconfdbSnapshot *snapshot, const char *directory,
     size_t *size, DconfdbError *error)
     DCONFDB_NOEXCEPT DCONFDB_NONNULL((1, 2));
+
+/* The keys below a directory of a snapshot, and where one is in them. */
+typedef struct DconfdbIterator DconfdbIterator;
 
 /* Goes through all keys below a directory, in the order of their paths' bytes: each that has an effective
  * value, with that. The paths are found when it begins, by a list of each directory; so that call alone
@@ -458,6 +403,78 @@ DCONFDB_API void dconfdb_iterator_free(DconfdbIterator *iterator) DCONFDB_NOEXCE
  * compare the locks. NULL as `other` means a snapshot without databases. */
 DCONFDB_NODISCARD DCONFDB_API char *dconfdb_snapshot_differences(const DconfdbSnapshot *snapshot,
     const DconfdbSnapshot *other, size_t *size, DconfdbError *error)
+    DCONFDB_NOEXCEPT DCONFDB_NONNULL((1));
+
+/* ---- dconfdb_store_change: change the user's values */
+
+/* An edit of the user's values.
+ *
+ * With a type, it sets the key at the path. A path that ends in `/` is not a key's: the edit is
+ * refused with DCONFDB_ERROR_BAD_PATH, and nothing changes. `data` may be NULL if `size` is 0,
+ * and need not be aligned. Bytes that aren't in normal form at the type are stored as the value
+ * that GVariant reads in them.
+ *
+ * Without a type (NULL), it removes the user's value at the path. A path that ends in `/` is then a
+ * directory: all of the user's values below it are removed, except those of locked keys. */
+typedef struct DconfdbEdit {
+    const char *path;
+    const char *type;
+    const void *data; /* the bytes of a little-endian GVariant */
+    size_t size;
+} DconfdbEdit;
+
+/* Makes all edits, in order, or none. The user's file is read again and replaced atomically, and
+ * is on the disk when this returns, unless the store was opened `is_unsynced`. The newest snapshot then has the edits, and what others
+ * changed meanwhile, in other databases too. A refused change may update it as well. With no edits
+ * this returns true and looks at nothing.
+ *
+ * If no edit changes anything, because the user has that value already, or none where one is removed,
+ * no file is written, unless this store's last write ended with EITHER or UNSETTLED. Values are compared,
+ * not bytes.
+ *
+ * The new file has the permission bits of the old one. A first file is its owner's alone (0600),
+ * whatever the umask. If root makes the change, the file keeps its owner and group; a first file, and
+ * each folder that is made, gets those of the folder that it is in.
+ *
+ * The new file has no locks: a change drops those that the old one had. So a site's database must
+ * not be anybody's user-db.
+ *
+ * A missing folder is made, even if the change is then refused. Programs that change the file take
+ * turns with flock() on the file `.lock` in its folder, which is created if it is missing; only those
+ * who may write in the folder may open it. This call waits at most ten seconds for that lock, or as long
+ * as the store's options say; then it waits, without a limit, for threads that refresh the same store. The
+ * file says which keys were set last, and when: so a GSettings program, whose sets may wait, never
+ * overwrites an edit with an older set.
+ *
+ * False: it failed, and `outcome` says what became of the file. It has its old bytes, unless the code
+ * is DCONFDB_ERROR_FILE and the outcome another: EITHER if the rename failed, since it may have been done
+ * all the same; UNSETTLED if the folder could not be synced after it. Only then the newest snapshot has
+ * the edits. The text says so, too. After either of them, make the same edits again: if that returns true
+ * they are on the disk. */
+DCONFDB_NODISCARD DCONFDB_API bool dconfdb_store_change(DconfdbStore *store, const DconfdbEdit *edits, size_t count,
+    DconfdbError *error)
+    DCONFDB_NOEXCEPT DCONFDB_NONNULL((1));
+
+/* Whether the user already has what an edit asks for: this value of the key or, without a type, none.
+ * Locks don't matter. This is about the snapshot; dconfdb_snapshot_is_newest says if the file is newer. */
+DCONFDB_API bool dconfdb_snapshot_has_edit(const DconfdbSnapshot *snapshot, const DconfdbEdit *edit)
+    DCONFDB_NOEXCEPT DCONFDB_NONNULL((1, 2));
+
+/* ---- dconfdb_store_fd: to be told what changes */
+
+/* To be told of changes, without a thread. `fd` is a file to poll for reading, in a main loop, say: it is
+ * readable when a file of the store may have changed, and once at first. Then `dispatch` looks at the files
+ * as dconfdb_store_refresh does, and gives the paths of the keys that differ between the newest snapshot and
+ * that of the last dispatch, at first that of the first call of either: as dconfdb_snapshot_differences
+ * gives them, and empty if none does. This program's own changes are among them. It waits for none: without
+ * anything to tell it returns at once.
+ *
+ * Nothing is lost: if `dispatch` fails (NULL), or if not all files can be watched, the file is readable again
+ * after a second. Watched are, by inotify, the databases' names, and the folders and links on the way to
+ * them; what another machine changes on a file server is not seen so. The store owns the file: it is not to
+ * be read, and is closed with the store. -1: it can't be had. */
+DCONFDB_API int dconfdb_store_fd(DconfdbStore *store, DconfdbError *error) DCONFDB_NOEXCEPT DCONFDB_NONNULL((1));
+DCONFDB_NODISCARD DCONFDB_API char *dconfdb_store_dispatch(DconfdbStore *store, size_t *size, DconfdbError *error)
     DCONFDB_NOEXCEPT DCONFDB_NONNULL((1));
 
 #ifdef __cplusplus
