@@ -75,6 +75,48 @@ static void our_writable(void) {
     answer = dconfdb_snapshot_is_writable(now, path);
 }
 
+/* What is in the value that was read. */
+static void our_value_start(void) {
+    our_start();
+    our_read();
+}
+
+static void our_int32(void) {
+    int32_t number;
+    answer = dconfdb_value_get_int32(&value, &number);
+}
+
+static void our_string(void) {
+    answer = dconfdb_value_get_string(&value, NULL) != NULL;
+}
+
+/* All keys, with their values. */
+static void our_iterate(void) {
+    const char *at;
+    DconfdbIterator *iterator = dconfdb_snapshot_iterate(now, "/", NULL);
+    needs(iterator, "the keys can't be iterated");
+    while (dconfdb_iterator_next(iterator, &at, &value))
+        answer = true;
+    dconfdb_iterator_free(iterator);
+}
+
+static void our_list_user(void) {
+    char *names = dconfdb_snapshot_list_user(now, "/dir/7/", NULL, NULL);
+    answer = names && *names;
+    free(names);
+}
+
+static void our_dispatch_start(void) {
+    our_start();
+    needs(dconfdb_store_fd(store, NULL) >= 0, "the store can't be watched");
+}
+
+static void our_dispatch(void) {
+    char *paths = dconfdb_store_dispatch(store, NULL, NULL);
+    answer = paths && !*paths;
+    free(paths);
+}
+
 static void our_snapshot(void) {
     dconfdb_snapshot_unref(dconfdb_store_snapshot(store));
 }
@@ -144,6 +186,8 @@ static void (*g_variant_unref)(GVariant *variant);
 static const void *(*g_variant_get_data)(GVariant *variant);
 static size_t (*g_variant_get_size)(GVariant *variant);
 static const char *(*g_variant_get_type_string)(GVariant *variant);
+static int32_t (*g_variant_get_int32)(GVariant *variant);
+static const char *(*g_variant_get_string)(GVariant *variant, size_t *length);
 
 static DConfClient *client;
 
@@ -163,6 +207,8 @@ static void their_start(void) {
         {"g_variant_get_data", &g_variant_get_data},
         {"g_variant_get_size", &g_variant_get_size},
         {"g_variant_get_type_string", &g_variant_get_type_string},
+        {"g_variant_get_int32", &g_variant_get_int32},
+        {"g_variant_get_string", &g_variant_get_string},
     };
     for (size_t i = 0; i < sizeof calls / sizeof calls[0]; i++) {
         void *found = dlsym(dconf, calls[i].name);
@@ -177,6 +223,22 @@ static void their_read(void) {
     answer = variant;
     if (variant)
         g_variant_unref(variant);
+}
+
+static GVariant *variant;
+
+static void their_value_start(void) {
+    their_start();
+    variant = dconf_client_read(client, path);
+    needs(variant, "there is no value");
+}
+
+static void their_int32(void) {
+    answer = g_variant_get_int32(variant) != 0;
+}
+
+static void their_string(void) {
+    answer = g_variant_get_string(variant, NULL) != NULL;
 }
 
 static void their_writable(void) {
@@ -217,6 +279,11 @@ static const Work works[] = {
     {"nothing", our_start, do_nothing, 1000, true},
     {"read", our_start, our_read, 1000, true},
     {"writable", our_start, our_writable, 1000, true},
+    {"int32", our_value_start, our_int32, 1000, true},
+    {"string", our_value_start, our_string, 1000, true},
+    {"iterate", our_start, our_iterate, 1, false},
+    {"list-user", our_start, our_list_user, 1, false},
+    {"dispatch", our_dispatch_start, our_dispatch, 1000, false},
     {"snapshot", our_start, our_snapshot, 1000, true},
     {"refresh", our_start, our_refresh, 1000, false},
     {"open", our_start, our_open, 1, false},
@@ -224,6 +291,8 @@ static const Work works[] = {
     {"changed", our_changed_start, our_differences, 1, false},
     {"added", our_added_start, our_differences, 1, false},
     {"dconf-read", their_start, their_read, 1000, false},
+    {"dconf-int32", their_value_start, their_int32, 1000, false},
+    {"dconf-string", their_value_start, their_string, 1000, false},
     {"dconf-writable", their_start, their_writable, 1000, false},
     {"dconf-open", their_start, their_open, 1, false},
 };
