@@ -308,12 +308,12 @@ DCONFDB_API bool dconfdb_snapshot_is_writable(const DconfdbSnapshot *snapshot, c
 
 /* ---- dconfdb_value: what is in a value */
 
-/* What is in a value, at the type that it has. Any bytes have a value at any type, so none of
- * these fails: false and NULL mean another type, or that there is no such child, and then `out` and
- * `child` stay as they were. Bytes that aren't in normal form have the value that GVariant reads in
- * them: the wrong number of bytes is 0, false or 0.0, and a text that is none is empty (`/` of an `o`).
- * Nothing is allocated; what is handed out is lent as the value is, and may be put in the value's
- * place. */
+/* What is in a value, at the type that it has. Any bytes have a value at any type, so no call but
+ * dconfdb_value_print fails: false and NULL mean another type, or that there is no such child, and then
+ * `out` and `child` stay as they were. Bytes that aren't in normal form have the value that GVariant
+ * reads in them: the wrong number of bytes is 0, false or 0.0, and a text that is none is empty (`/` of
+ * an `o`). No other call allocates; what is handed out is lent as the value is, and may be put in the
+ * value's place. */
 
 /* A number of exactly this type; `int32` takes an `h` too. A double is C's own, bit for bit. */
 DCONFDB_API bool dconfdb_value_get_boolean(const DconfdbValue *value, bool *out)
@@ -356,8 +356,8 @@ DCONFDB_API bool dconfdb_value_lookup(const DconfdbValue *value, const char *key
     DCONFDB_NOEXCEPT DCONFDB_NONNULL((1, 2, 3));
 
 /* The value as a text that can be read back, as `dconfdb read` prints it; the caller frees it with
- * free(). NULL: it holds a double (DOUBLE_TEXT), it is nested more than 128 levels deep (VALUE_TOO_LARGE), or
- * no memory is left. */
+ * free(). NULL: it holds a double (DOUBLE_TEXT), it is nested more than 128 levels deep
+ * (VALUE_TOO_LARGE), or no memory is left. */
 DCONFDB_NODISCARD DCONFDB_API char *dconfdb_value_print(const DconfdbValue *value, DconfdbError *error)
     DCONFDB_NOEXCEPT DCONFDB_NONNULL((1));
 
@@ -375,8 +375,8 @@ DCONFDB_NODISCARD DCONFDB_API char *dconfdb_snapshot_locks(const DconfdbSnapshot
     size_t *size, DconfdbError *error)
     DCONFDB_NOEXCEPT DCONFDB_NONNULL((1, 2));
 
-/* The names directly below a directory in the user's own database, in the same form; none if there is no such
- * database. Locks don't matter. */
+/* The names directly below a directory in the user's own database, in the same form; none if there is no
+ * such database. Locks don't matter. */
 DCONFDB_NODISCARD DCONFDB_API char *dconfdb_snapshot_list_user(const DconfdbSnapshot *snapshot, const char *directory,
     size_t *size, DconfdbError *error)
     DCONFDB_NOEXCEPT DCONFDB_NONNULL((1, 2));
@@ -424,9 +424,9 @@ typedef struct DconfdbEdit {
 } DconfdbEdit;
 
 /* Makes all edits, in order, or none. The user's file is read again and replaced atomically, and
- * is on the disk when this returns, unless the store was opened `is_unsynced`. The newest snapshot then has the edits, and what others
- * changed meanwhile, in other databases too. A refused change may update it as well. With no edits
- * this returns true and looks at nothing.
+ * is on the disk when this returns, unless the store was opened `is_unsynced`. The newest snapshot then
+ * has the edits, and what others changed meanwhile, in other databases too. A refused change may update
+ * it as well. With no edits this returns true and looks at nothing.
  *
  * If no edit changes anything, because the user has that value already, or none where one is removed,
  * no file is written, unless this store's last write ended with EITHER or UNSETTLED. Values are compared,
@@ -466,12 +466,13 @@ DCONFDB_API bool dconfdb_snapshot_has_edit(const DconfdbSnapshot *snapshot, cons
  * readable when a file of the store may have changed, and once at first. Then `dispatch` looks at the files
  * as dconfdb_store_refresh does, and gives the paths of the keys that differ between the newest snapshot and
  * that of the last dispatch, at first that of the first call of either: as dconfdb_snapshot_differences
- * gives them, and empty if none does. This program's own changes are among them. It waits for none: without
- * anything to tell it returns at once.
+ * gives them, and empty if none does. This program's own changes are among them. Each change is told once:
+ * of two threads that call it, to one. It waits for no change: without anything to tell it returns at once.
  *
  * Nothing is lost: if `dispatch` fails (NULL), or if not all files can be watched, the file is readable again
  * after a second. Watched are, by inotify, the databases' names, and the folders and links on the way to
- * them; what another machine changes on a file server is not seen so. The store owns the file: it is not to
+ * them. A folder that is missing is waited for, but not in /etc; and what another machine changes on a file
+ * server is not seen so. The store owns the file: it is not to
  * be read, and is closed with the store. -1: it can't be had. */
 DCONFDB_API int dconfdb_store_fd(DconfdbStore *store, DconfdbError *error) DCONFDB_NOEXCEPT DCONFDB_NONNULL((1));
 DCONFDB_NODISCARD DCONFDB_API char *dconfdb_store_dispatch(DconfdbStore *store, size_t *size, DconfdbError *error)
