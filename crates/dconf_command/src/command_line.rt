@@ -15,7 +15,7 @@ pub(crate) fn dconfdb<'a>(alloc: Global) -> Result<clap::Command<'a>, AllocError
     let line = clap::Command::new(alloc, "dconfdb")
         .about("Read, change, compile and check dconf settings databases")
         .after_long_help(PROGRAM)
-        .version("0.1.0")
+        .version("0.2.0")
         .subcommand_required(true);
     with_all(alloc, line, COMMANDS.as_slice())
 }
