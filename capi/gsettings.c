@@ -183,8 +183,7 @@ static Outcome outcome_of(const DconfdbBackend *self, Change *change, const Dcon
 {
     if (self->has_ended || getpid() != self->process || !change_may_be_made(change, self->now))
         return REFUSED;
-    change_leave_out(change, stored == self->now ? stored : NULL);
-    return change_is_empty(change) ? EMPTY : WAITS;
+    return change_leave_out(change, stored == self->now ? stored : NULL) ? WAITS : EMPTY;
 }
 
 /* `lock` is held, but not while the file is looked at. Gives the newest snapshot, where what the user has set is as
@@ -215,11 +214,12 @@ static Outcome make(DconfdbBackend *self, Change *change, GTree **told)
     if (outcome == WAITS && told)
         *told = change_tree(change);
     if (outcome == WAITS) {
-        waiting_add(&self->waiting, change);
+        bool is_first = waiting_add(&self->waiting, change);
         self->added++;
         worker_begin(self);
         is_here = !self->has_worker;
-        if (self->has_worker)
+        /* For those before it, it is awake, or is to try again. */
+        if (self->has_worker && is_first)
             worker_wake(self);
     }
     g_mutex_unlock(&self->lock);
@@ -233,7 +233,7 @@ static Outcome make(DconfdbBackend *self, Change *change, GTree **told)
 
 static gboolean dconfdb_backend_write(GSettingsBackend *backend, const char *key, GVariant *value, gpointer origin_tag)
 {
-    Change *change = change_new(1);
+    Change *change = change_new(1, strlen(key) + 1);
     change_add(change, key, value);
     Outcome outcome = make(backend_of(backend), change, NULL);
     if (outcome == WAITS)
@@ -246,6 +246,13 @@ static void dconfdb_backend_reset(GSettingsBackend *backend, const char *key, gp
     dconfdb_backend_write(backend, key, NULL, origin_tag);
 }
 
+static gboolean add_length(gpointer key, gpointer value, gpointer length)
+{
+    (void)value;
+    *(size_t *)length += strlen(key) + 1;
+    return FALSE;
+}
+
 static gboolean add_row(gpointer key, gpointer value, gpointer change)
 {
     change_add(change, key, value);
@@ -254,8 +261,10 @@ static gboolean add_row(gpointer key, gpointer value, gpointer change)
 
 static gboolean dconfdb_backend_write_tree(GSettingsBackend *backend, GTree *tree, gpointer origin_tag)
 {
-    Change *change = change_new((size_t)g_tree_nnodes(tree));
     GTree *told = NULL;
+    size_t paths = 0;
+    g_tree_foreach(tree, add_length, &paths);
+    Change *change = change_new((size_t)g_tree_nnodes(tree), paths);
     g_tree_foreach(tree, add_row, change);
     Outcome outcome = make(backend_of(backend), change, &told);
     if (told) {

@@ -20,9 +20,10 @@
 /* An edit of a key; without a value it removes the user's. One that has no effect is left out, and the others
  * of the change are made: that of a locked key, and one that changes nothing. */
 typedef struct Edit {
-    char *path;
+    char *path; /* behind the edits of its change */
     guint hash; /* of the path */
-    const struct Edit *newest; /* that waits of the same key, as waiting_has() found it; NULL: none */
+    struct Edit *first;  /* that waits of the same key, as waiting_has() found it; NULL: none */
+    struct Edit *newest; /* that waits, of the first of a key: it may be itself */
     GVariant *value;
     DconfdbEdit asked; /* the same for the library: it lends the path and the value's bytes */
     bool is_left_out;
@@ -34,27 +35,29 @@ typedef struct {
     GList link; /* in the queue that has it */
     uint64_t moment; /* in which it began to wait, by order_clock() */
     size_t count, most;
+    char *room; /* for the next path */
     Edit edits[];
 } Change;
 
-/* Changes, the oldest first, and the newest edit of each key, but for those that are left out. */
+/* Changes, the oldest first, and the first edit of each key, which knows the newest, but for those that are left out. */
 typedef struct {
     GQueue changes;
-    GHashTable *newest; /* a set of edits, by their paths */
+    GHashTable *firsts; /* a set of edits, by their paths */
 } Waiting;
 
-Change *change_new(size_t most);
+/* With room for so many edits, and so many bytes of their paths, each with a zero byte. */
+Change *change_new(size_t most, size_t paths);
 void change_add(Change *change, const char *path, GVariant *value);
 void change_free(Change *change);
 
 /* Whether everything that the change sets may be set: no key is locked, and there are a snapshot and a
  * user's database. Resets of what may not be changed are left out. */
 bool change_may_be_made(Change *change, const DconfdbSnapshot *now);
-bool change_is_empty(const Change *change);
 
 /* Leaves out what changes nothing: where the newest edit of the key that waits is the same, or, where none
- * waits, the user has that value. `stored` is NULL where nobody knows that. Nothing began to wait since waiting_has(). */
-void change_leave_out(Change *change, const DconfdbSnapshot *stored);
+ * waits, the user has that value. `stored` is NULL where nobody knows that. Nothing began to wait since waiting_has().
+ * False: nothing is left. */
+bool change_leave_out(Change *change, const DconfdbSnapshot *stored);
 
 /* The paths of the edits that are left, each with `value`: to be told. */
 GTree *change_tree(const Change *change);
@@ -62,7 +65,10 @@ void changes_free(GQueue *changes);
 
 void waiting_begin(Waiting *waiting);
 void waiting_end(Waiting *waiting);
-void waiting_add(Waiting *waiting, Change *change);
+
+/* Nothing began to wait since waiting_has(). True: no other change waits, but for those that were taken. */
+bool waiting_add(Waiting *waiting, Change *change);
+
 const Edit *waiting_find(const Waiting *waiting, const char *path);
 
 /* Whether an edit waits for each key of a change, which is told of each. */
@@ -79,7 +85,7 @@ typedef struct {
 /* All changes. They are still found until they are forgotten. */
 GQueue waiting_take(Waiting *waiting);
 
-/* Forgets both, and says what each key's newest edit was, and is now: an array of Edited, to be freed. */
+/* Forgets both, and says what each key's newest edit was, and is now: an array of Edited, by their paths, to be freed. */
 GArray *waiting_forget(Waiting *waiting, const GQueue *written, const GQueue *refused);
 
 /* Changes that were taken wait again, before all others. Those of one edit go whose key a later change of one edit sets, so that
@@ -118,14 +124,14 @@ typedef struct {
     gint64 failing;      /* since when nothing can be written, by no fault of a change; 0: it can */
     gint64 pause;        /* before the next try */
     bool has_warned;     /* of that */
-    GHashTable *told;    /* the faults that were reported and are there still */
+    GHashTable *told;    /* the faults that were reported and are there still; NULL: none */
 
     /* Read with `turn` or `lock` held, changed with both. */
-    bool has_opened; /* the first opening is over; it may have failed */
-
-    GMutex lock;          /* held for moments. It guards: */
+    bool has_opened;      /* the first opening is over; it may have failed */
     DconfdbSnapshot *now; /* NULL: no store is open yet, or none could be opened */
     bool has_user;        /* there is a user's database */
+
+    GMutex lock; /* held for moments. It guards: */
     Waiting waiting;
     GHashTable *odd; /* keys that were read past a user's value of another type */
     guint64 added, settled; /* how many changes ever waited, and how many no longer do */
@@ -269,7 +275,7 @@ void notice_tell(DconfdbBackend *self, Notice *notice);
 /* The same, and frees the notice. */
 void notice_tell_and_free(DconfdbBackend *self, Notice *notice);
 
-/* The worker does that. */
+/* The worker notifies, and what the notice holds is its own. */
 void worker_tells(DconfdbBackend *self, Notice *notice);
 
 #endif

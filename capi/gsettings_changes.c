@@ -1,17 +1,19 @@
 /* Changes that wait to be written, and how they are. */
+#define _POSIX_C_SOURCE 200809L
 #include "dconfdb_calls.h"
 #include "gsettings.h"
 
 #include <errno.h>
 #include <string.h>
 
-Change *change_new(size_t most)
+Change *change_new(size_t most, size_t paths)
 {
-    Change *change = g_malloc(sizeof *change + most * sizeof change->edits[0]);
+    Change *change = g_malloc(sizeof *change + most * sizeof change->edits[0] + paths);
     change->link = (GList){.data = change};
     change->moment = 0;
     change->count = 0;
     change->most = most;
+    change->room = (char *)&change->edits[most];
     return change;
 }
 
@@ -28,9 +30,10 @@ void change_add(Change *change, const char *path, GVariant *value)
 {
     g_assert(change->count < change->most);
     Edit *edit = &change->edits[change->count++];
-    edit->path = g_strdup(path);
+    edit->path = change->room;
+    change->room = stpcpy(change->room, path) + 1;
     edit->hash = g_str_hash(path);
-    edit->newest = NULL;
+    edit->first = edit->newest = NULL;
     /* Bytes of a program that aren't normal may be as deep as they like; normal ones say the
      * same. */
     edit->value = value ? g_variant_get_normal_form(value) : NULL;
@@ -51,42 +54,38 @@ bool change_may_be_made(Change *change, const DconfdbSnapshot *now)
     return true;
 }
 
-bool change_is_empty(const Change *change)
-{
-    for (size_t i = 0; i < change->count; i++) {
-        if (!change->edits[i].is_left_out)
-            return false;
-    }
-    return true;
-}
-
 /* Normal forms of one type are alike where their bytes are. */
 static bool are_alike(const DconfdbEdit *one, const DconfdbEdit *other)
 {
     if (!one->type || !other->type)
         return one->type == other->type;
-    return one->size == other->size && strcmp(one->type, other->type) == 0 && memcmp(one->data, other->data, one->size) == 0;
+    /* GLib has one text of a type that is in use. */
+    bool are_of_one_type = one->type == other->type || strcmp(one->type, other->type) == 0;
+    return one->size == other->size && are_of_one_type && memcmp(one->data, other->data, one->size) == 0;
 }
 
-static const Edit *newest_of(const Waiting *waiting, const Edit *edit)
+static Edit *first_of(const Waiting *waiting, const Edit *edit)
 {
-    return g_hash_table_lookup(waiting->newest, edit);
+    return g_hash_table_lookup(waiting->firsts, edit);
 }
 
 /* Of what waits, with the edits of this change before it, the newest counts: each is of another key. */
 static bool changes_nothing(const Edit *edit, const DconfdbSnapshot *stored)
 {
-    if (edit->newest)
-        return are_alike(&edit->newest->asked, &edit->asked);
+    if (edit->first)
+        return are_alike(&edit->first->newest->asked, &edit->asked);
     return stored && dconfdb_snapshot_has_edit(stored, &edit->asked);
 }
 
-void change_leave_out(Change *change, const DconfdbSnapshot *stored)
+bool change_leave_out(Change *change, const DconfdbSnapshot *stored)
 {
+    bool is_left = false;
     for (size_t i = 0; i < change->count; i++) {
         Edit *edit = &change->edits[i];
         edit->is_left_out = edit->is_left_out || changes_nothing(edit, stored);
+        is_left = is_left || !edit->is_left_out;
     }
+    return is_left;
 }
 
 static int by_name(const void *one, const void *other, void *data)
@@ -115,7 +114,6 @@ GTree *change_tree(const Change *change)
 void change_free(Change *change)
 {
     for (size_t i = 0; i < change->count; i++) {
-        g_free(change->edits[i].path);
         if (change->edits[i].value)
             g_variant_unref(change->edits[i].value);
     }
@@ -143,39 +141,52 @@ static gboolean are_of_one_key(gconstpointer one, gconstpointer other)
 void waiting_begin(Waiting *waiting)
 {
     g_queue_init(&waiting->changes);
-    waiting->newest = g_hash_table_new(hash_of, are_of_one_key);
+    waiting->firsts = g_hash_table_new(hash_of, are_of_one_key);
 }
 
 void waiting_end(Waiting *waiting)
 {
-    g_hash_table_destroy(waiting->newest);
+    g_hash_table_destroy(waiting->firsts);
     changes_free(&waiting->changes);
 }
 
-void waiting_add(Waiting *waiting, Change *change)
+/* Also in the place of another one. */
+static void put_first(Waiting *waiting, Edit *edit)
 {
+    edit->newest = edit;
+    g_hash_table_add(waiting->firsts, edit);
+}
+
+bool waiting_add(Waiting *waiting, Change *change)
+{
+    bool is_first = waiting->changes.length == 0;
     change->moment = order_clock();
     g_queue_push_tail_link(&waiting->changes, &change->link);
     for (size_t i = 0; i < change->count; i++) {
-        if (!change->edits[i].is_left_out)
-            g_hash_table_add(waiting->newest, &change->edits[i]);
+        Edit *edit = &change->edits[i];
+        if (!edit->is_left_out && edit->first)
+            edit->first->newest = edit;
+        else if (!edit->is_left_out)
+            put_first(waiting, edit);
     }
+    return is_first;
 }
 
 const Edit *waiting_find(const Waiting *waiting, const char *path)
 {
-    if (g_hash_table_size(waiting->newest) == 0)
+    if (g_hash_table_size(waiting->firsts) == 0)
         return NULL;
     Edit sought = {.path = (char *)path, .hash = g_str_hash(path)};
-    return newest_of(waiting, &sought);
+    const Edit *first = first_of(waiting, &sought);
+    return first ? first->newest : NULL;
 }
 
 bool waiting_has(const Waiting *waiting, Change *change)
 {
     bool has = true;
     for (size_t i = 0; i < change->count; i++) {
-        change->edits[i].newest = newest_of(waiting, &change->edits[i]);
-        has = has && change->edits[i].newest;
+        change->edits[i].first = first_of(waiting, &change->edits[i]);
+        has = has && change->edits[i].first;
     }
     return has;
 }
@@ -200,38 +211,52 @@ static void free_edited(gpointer data)
     g_clear_pointer(&edited->after, g_variant_unref);
 }
 
-/* The newest edits, of which none is known to be gone. */
+static int by_path(const void *one, const void *other)
+{
+    return strcmp(((const Edited *)one)->path, ((const Edited *)other)->path);
+}
+
+/* The newest edits, of which none is known to be gone, by their paths. */
 static GArray *edited_of(const Waiting *waiting)
 {
     GHashTableIter at;
-    gpointer edit;
+    gpointer first;
     GArray *all = g_array_new(FALSE, FALSE, sizeof(Edited));
     g_array_set_clear_func(all, free_edited);
-    g_hash_table_iter_init(&at, waiting->newest);
-    while (g_hash_table_iter_next(&at, &edit, NULL)) {
-        Edited one = {g_strdup(((const Edit *)edit)->path), value_of(edit), NULL, false};
+    g_hash_table_iter_init(&at, waiting->firsts);
+    while (g_hash_table_iter_next(&at, &first, NULL)) {
+        const Edit *newest = ((const Edit *)first)->newest;
+        Edited one = {g_strdup(newest->path), value_of(newest), NULL, false};
         g_array_append_val(all, one);
     }
+    g_array_sort(all, by_path);
     return all;
+}
+
+/* A key of which the newest edit goes has none that counts. In the place of the first comes the newest, if another one goes. */
+static void forget_edit(Waiting *waiting, const Edit *edit)
+{
+    const Edit *first = first_of(waiting, edit);
+    if (first && first->newest == edit)
+        g_hash_table_remove(waiting->firsts, edit);
+    else if (first == edit)
+        put_first(waiting, first->newest);
 }
 
 static void forget(Waiting *waiting, const GQueue *changes)
 {
     for (const GList *at = changes->head; at; at = at->next) {
         const Change *change = at->data;
-        for (size_t i = 0; i < change->count; i++) {
-            const Edit *edit = &change->edits[i];
-            if (newest_of(waiting, edit) == edit)
-                g_hash_table_remove(waiting->newest, edit);
-        }
+        for (size_t i = 0; i < change->count; i++)
+            forget_edit(waiting, &change->edits[i]);
     }
 }
 
 /* The later one is refused where this one would be: its key is the same. */
 static bool is_replaced(const Waiting *waiting, const Change *change)
 {
-    const Edit *newest = change->count == 1 ? newest_of(waiting, &change->edits[0]) : NULL;
-    return newest && newest != &change->edits[0] && newest->is_alone;
+    const Edit *first = change->count == 1 ? first_of(waiting, &change->edits[0]) : NULL;
+    return first && first->newest != &change->edits[0] && first->newest->is_alone;
 }
 
 guint waiting_put_back(Waiting *waiting, GQueue *changes)
@@ -239,6 +264,7 @@ guint waiting_put_back(Waiting *waiting, GQueue *changes)
     guint gone = 0;
     for (GList *at; (at = g_queue_pop_tail_link(changes));) {
         if (is_replaced(waiting, at->data)) {
+            forget_edit(waiting, &((Change *)at->data)->edits[0]);
             change_free(at->data);
             gone++;
         } else {
@@ -250,7 +276,7 @@ guint waiting_put_back(Waiting *waiting, GQueue *changes)
 
 GArray *waiting_forget(Waiting *waiting, const GQueue *written, const GQueue *refused)
 {
-    if (g_hash_table_size(waiting->newest) == 0)
+    if (g_hash_table_size(waiting->firsts) == 0)
         return NULL;
     GArray *all = edited_of(waiting);
     forget(waiting, written);
@@ -270,7 +296,7 @@ GArray *waiting_forget(Waiting *waiting, const GQueue *written, const GQueue *re
 typedef struct {
     size_t count, taken;
     bool is_closed; /* nobody who has this program's rights may write there: no key is writable */
-    DconfdbQueued *queued;
+    DconfdbQueued *queued; /* with all that follows in one block */
     Edit **edits;
     uint64_t *moments;  /* in which each was made */
     DconfdbEdit *asked; /* those that were taken, and the number and the moment of each */
@@ -286,11 +312,24 @@ static size_t edits_in(const GQueue *changes)
     return count;
 }
 
+/* With room for so many edits. */
+static Batch batch_new(size_t count)
+{
+    Batch batch = {.count = 0};
+    batch.queued = g_malloc_n(count, sizeof *batch.queued + sizeof *batch.edits + sizeof *batch.moments + sizeof *batch.asked + sizeof *batch.numbers
+                                         + sizeof *batch.asked_in);
+    batch.edits = (Edit **)(batch.queued + count);
+    batch.moments = (uint64_t *)(batch.edits + count);
+    batch.asked = (DconfdbEdit *)(batch.moments + count);
+    batch.numbers = (size_t *)(batch.asked + count);
+    batch.asked_in = (uint64_t *)(batch.numbers + count);
+    return batch;
+}
+
 static Batch batch_of(const GQueue *changes)
 {
-    size_t count = edits_in(changes), first = 0;
-    Batch batch = {0, 0, false, g_new(DconfdbQueued, count), g_new(Edit *, count), g_new(uint64_t, count), g_new(DconfdbEdit, count),
-                   g_new(size_t, count), g_new(uint64_t, count)};
+    size_t first = 0;
+    Batch batch = batch_new(edits_in(changes));
     for (const GList *at = changes->head; at; at = at->next, first = batch.count) {
         Change *change = at->data;
         for (size_t i = 0; i < change->count; i++) {
@@ -332,11 +371,6 @@ static void batch_end(Batch *batch, GQueue *changes, GQueue *refused)
         first += count;
     }
     g_free(batch->queued);
-    g_free(batch->edits);
-    g_free(batch->moments);
-    g_free(batch->asked);
-    g_free(batch->numbers);
-    g_free(batch->asked_in);
 }
 
 static void take(Batch *batch, size_t number)

@@ -9,15 +9,29 @@
 /* GSettings ends the program where one notice has more than 255 keys of a schema. */
 enum { MOST_KEYS = 255 };
 
-/* What is to be told. Paths are lent. */
+/* What is to be told. Paths are lent. A list is NULL as long as nothing is in it. */
 typedef struct {
     DconfdbBackend *backend;
     const Notice *notice;
-    GHashTable *ours; /* keys of our edits, of which it is asked what was seen before and is seen now */
+    bool may_lock; /* keys may be written, or no longer; else neither locks nor the user differ */
     GPtrArray *changed;
-    GHashTable *writable;   /* keys that may be written, or no longer */
+    GHashTable *writable;   /* such keys */
     GPtrArray *directories; /* the same of all that is in them */
 } Telling;
+
+static void add_path(GPtrArray **paths, const char *path)
+{
+    if (!*paths)
+        *paths = g_ptr_array_new();
+    g_ptr_array_add(*paths, (gpointer)path);
+}
+
+static void add_writable(Telling *telling, const char *path)
+{
+    if (!telling->writable)
+        telling->writable = g_hash_table_new(g_str_hash, g_str_equal);
+    g_hash_table_add(telling->writable, (gpointer)path);
+}
 
 /* ---- what differs */
 
@@ -68,9 +82,22 @@ static bool is_seen_alike(const Notice *notice, const char *path)
     return are_alike(seen_of(notice->before, path), seen_of(notice->after, path));
 }
 
+/* Whether the bytes that are read are those of a value in normal form. If not, it may be the same value. */
+static bool has_bytes_of(const DconfdbSnapshot *snapshot, const char *path, GVariant *value)
+{
+    DconfdbValue seen;
+    if (!snapshot || !dconfdb_snapshot_read(snapshot, path, &seen) || seen.size != g_variant_get_size(value))
+        return false;
+    const char *type = g_variant_get_type_string(value);
+    return strlen(type) == seen.type_size && memcmp(type, seen.type, seen.type_size) == 0
+        && (seen.size == 0 || memcmp(g_variant_get_data(value), seen.data, seen.size) == 0);
+}
+
 /* An edit with a value hides what the files have; a reset shows their default. */
 static bool is_edited_alike(const Notice *notice, const Edited *edited)
 {
+    if (edited->before && !edited->is_edited && has_bytes_of(notice->after, edited->path, edited->before))
+        return true;
     GVariant *before = edited->before ? g_variant_ref(edited->before) : default_of(notice->before, edited->path);
     GVariant *after = !edited->is_edited ? seen_of(notice->after, edited->path)
         : edited->after                  ? g_variant_ref(edited->after)
@@ -104,14 +131,27 @@ static bool is_subscribed(DconfdbBackend *self, const char *path)
     return is;
 }
 
+static int by_path(const void *path, const void *edited)
+{
+    return strcmp(path, ((const Edited *)edited)->path);
+}
+
+/* Whether it is a key of our edits, of which it is asked what was seen before and is seen now. */
+static bool is_ours(const Notice *notice, const char *path)
+{
+    const GArray *all = notice->edited;
+    return all && bsearch(path, all->data, all->len, sizeof(Edited), by_path);
+}
+
 static void add_difference(Telling *telling, const char *path)
 {
-    if (!is_subscribed(telling->backend, path))
+    bool is = is_ours(telling->notice, path);
+    if ((is && !telling->may_lock) || !is_subscribed(telling->backend, path))
         return;
-    if (!is_as_writable(telling->notice, path))
-        g_hash_table_add(telling->writable, (gpointer)path);
-    if (!g_hash_table_contains(telling->ours, path) && !is_seen_alike(telling->notice, path))
-        g_ptr_array_add(telling->changed, (gpointer)path);
+    if (telling->may_lock && !is_as_writable(telling->notice, path))
+        add_writable(telling, path);
+    if (!is && !is_seen_alike(telling->notice, path))
+        add_path(&telling->changed, path);
 }
 
 /* Keys that no database has are locked too: by their own lock, or with all of a directory. Which
@@ -119,9 +159,9 @@ static void add_difference(Telling *telling, const char *path)
 static void add_lock(Telling *telling, const char *path)
 {
     if (g_str_has_suffix(path, "/"))
-        g_ptr_array_add(telling->directories, (gpointer)path);
+        add_path(&telling->directories, path);
     else if (is_subscribed(telling->backend, path) && !is_as_writable(telling->notice, path))
-        g_hash_table_add(telling->writable, (gpointer)path);
+        add_writable(telling, path);
 }
 
 /* The locks that are in one of two lists alone; both are in the order of their bytes. */
@@ -144,7 +184,7 @@ static void add_locks(Telling *telling, const char *before, const char *after)
 static void send_changed(DconfdbBackend *self, const GPtrArray *paths)
 {
     const char *items[MOST_KEYS + 1];
-    for (guint i = 0; i < paths->len;) {
+    for (guint i = 0; paths && i < paths->len;) {
         guint count = 0;
         while (i < paths->len && count < MOST_KEYS)
             items[count++] = (const char *)paths->pdata[i++] + 1;
@@ -155,7 +195,7 @@ static void send_changed(DconfdbBackend *self, const GPtrArray *paths)
 
 static bool is_below(const GPtrArray *directories, const char *path)
 {
-    for (guint i = 0; i < directories->len; i++) {
+    for (guint i = 0; directories && i < directories->len; i++) {
         const char *directory = directories->pdata[i];
         if (strcmp(directory, path) != 0 && g_str_has_prefix(path, directory))
             return true;
@@ -165,7 +205,7 @@ static bool is_below(const GPtrArray *directories, const char *path)
 
 static void send_directories(DconfdbBackend *self, const GPtrArray *directories)
 {
-    for (guint i = 0; i < directories->len; i++) {
+    for (guint i = 0; directories && i < directories->len; i++) {
         if (!is_below(directories, directories->pdata[i]))
             g_settings_backend_path_writable_changed(&self->parent, directories->pdata[i]);
     }
@@ -175,6 +215,8 @@ static void send_writable(const Telling *telling)
 {
     GHashTableIter at;
     gpointer path;
+    if (!telling->writable)
+        return;
     g_hash_table_iter_init(&at, telling->writable);
     while (g_hash_table_iter_next(&at, &path, NULL)) {
         if (!is_below(telling->directories, path))
@@ -208,7 +250,7 @@ static void add_all(Telling *telling, const char *differences, const char *befor
         add_difference(telling, at);
     add_locks(telling, before ? before : "", after ? after : "");
     if (telling->notice->had_user != telling->notice->has_user)
-        g_ptr_array_add(telling->directories, (gpointer)"/");
+        add_path(&telling->directories, "/");
 }
 
 /* What a program set was told when it set it; so only what is seen otherwise since. */
@@ -217,9 +259,8 @@ static void add_edited(Telling *telling)
     const GArray *all = telling->notice->edited;
     for (guint i = 0; all && i < all->len; i++) {
         const Edited *edited = &g_array_index(all, Edited, i);
-        g_hash_table_add(telling->ours, edited->path);
         if (is_subscribed(telling->backend, edited->path) && !is_edited_alike(telling->notice, edited))
-            g_ptr_array_add(telling->changed, edited->path);
+            add_path(&telling->changed, edited->path);
     }
 }
 
@@ -228,32 +269,36 @@ static void add_odd(Telling *telling)
 {
     const Notice *notice = telling->notice;
     for (char **at = notice->odd; at && *at; at++) {
-        bool is_seen = is_subscribed(telling->backend, *at) && !g_hash_table_contains(telling->ours, *at);
+        bool is_seen = is_subscribed(telling->backend, *at) && !is_ours(notice, *at);
         if (is_seen && !are_alike(default_of(notice->before, *at), default_of(notice->after, *at)))
-            g_ptr_array_add(telling->changed, *at);
+            add_path(&telling->changed, *at);
     }
 }
 
 static void send(DconfdbBackend *self, const Notice *notice)
 {
-    Telling telling = {self, notice, g_hash_table_new(g_str_hash, g_str_equal), g_ptr_array_new(),
-                       g_hash_table_new(g_str_hash, g_str_equal), g_ptr_array_new()};
+    bool has_locks = has_other_locks(notice->before, notice->after);
+    Telling telling = {.backend = self, .notice = notice, .may_lock = has_locks || notice->had_user != notice->has_user};
     char *differences = differences_of(notice);
-    bool looks = has_other_locks(notice->before, notice->after);
-    char *before = looks ? locks_of(notice->before) : NULL, *after = looks ? locks_of(notice->after) : NULL;
+    char *before = has_locks ? locks_of(notice->before) : NULL, *after = has_locks ? locks_of(notice->after) : NULL;
     add_edited(&telling);
     add_all(&telling, differences, before, after);
     add_odd(&telling);
     send_changed(self, telling.changed);
     send_directories(self, telling.directories);
     send_writable(&telling);
-    g_hash_table_unref(telling.ours);
-    g_ptr_array_unref(telling.changed);
-    g_hash_table_unref(telling.writable);
-    g_ptr_array_unref(telling.directories);
+    g_clear_pointer(&telling.changed, g_ptr_array_unref);
+    g_clear_pointer(&telling.writable, g_hash_table_unref);
+    g_clear_pointer(&telling.directories, g_ptr_array_unref);
     free(differences);
     free(before);
     free(after);
+}
+
+/* Whether something may be seen otherwise. */
+static bool is_news(const Notice *notice)
+{
+    return !notice->is_first && (notice->before != notice->after || notice->edited || notice->had_user != notice->has_user);
 }
 
 static bool has_ended(DconfdbBackend *self)
@@ -275,8 +320,8 @@ static void warn(const char *fault, bool ends)
 
 void notice_tell(DconfdbBackend *self, Notice *notice)
 {
-    bool ends = has_ended(self);
-    if (!ends && !notice->is_first)
+    bool is_told = is_news(notice), ends = (is_told || notice->faults) && has_ended(self);
+    if (is_told && !ends)
         send(self, notice);
     for (guint i = 0; notice->faults && i < notice->faults->len; i++)
         warn(notice->faults->pdata[i], ends);

@@ -34,36 +34,50 @@ static void warn_of(Notice *notice, const char *text)
     g_ptr_array_add(notice->faults, g_strdup(text));
 }
 
+static void add_fault(GHashTable **faults, const DconfdbError *fault)
+{
+    if (!*faults)
+        *faults = g_hash_table_new_full(g_str_hash, g_str_equal, g_free, NULL);
+    g_hash_table_add(*faults, g_strdup(fault->text));
+}
+
 /* The faults of the store's files. */
-static void add_faults(const DconfdbStore *store, GHashTable *faults)
+static void add_faults(const DconfdbStore *store, GHashTable **faults)
 {
     DconfdbError error = DCONFDB_ERROR_INIT;
     DconfdbSnapshot *now = dconfdb_store_snapshot((DconfdbStore *)store);
     if (dconfdb_store_profile_fault(store, &error))
-        g_hash_table_add(faults, g_strdup(error.text));
+        add_fault(faults, &error);
     for (size_t i = 0; i < dconfdb_snapshot_databases(now); i++) {
         if (dconfdb_snapshot_fault(now, i, &error))
-            g_hash_table_add(faults, g_strdup(error.text));
+            add_fault(faults, &error);
     }
     dconfdb_snapshot_unref(now);
+}
+
+/* Those of these faults that were not told yet. */
+static void warn_of_new(const DconfdbBackend *self, Notice *notice, GHashTable *faults)
+{
+    GHashTableIter at;
+    gpointer text;
+    g_hash_table_iter_init(&at, faults);
+    while (g_hash_table_iter_next(&at, &text, NULL)) {
+        if (!self->told || !g_hash_table_contains(self->told, text))
+            warn_of(notice, text);
+    }
 }
 
 /* What is to be warned of: each fault once, as long as it is there. `error` is that of a look that failed, or
  * NULL. */
 static void warn_once(DconfdbBackend *self, Notice *notice, const DconfdbError *error)
 {
-    GHashTableIter at;
-    gpointer text;
-    GHashTable *faults = g_hash_table_new_full(g_str_hash, g_str_equal, g_free, NULL);
+    GHashTable *faults = NULL;
     if (error)
-        g_hash_table_add(faults, g_strdup(error->text));
+        add_fault(&faults, error);
     if (self->store)
-        add_faults(self->store, faults);
-    g_hash_table_iter_init(&at, faults);
-    while (g_hash_table_iter_next(&at, &text, NULL)) {
-        if (!self->told || !g_hash_table_contains(self->told, text))
-            warn_of(notice, text);
-    }
+        add_faults(self->store, &faults);
+    if (faults)
+        warn_of_new(self, notice, faults);
     g_clear_pointer(&self->told, g_hash_table_unref);
     self->told = faults;
 }
@@ -136,6 +150,15 @@ static void renew(DconfdbBackend *self, Notice *notice)
     g_mutex_unlock(&self->lock);
 }
 
+/* Whether the newest snapshot is handed out already. */
+static bool is_shown(const DconfdbBackend *self)
+{
+    DconfdbSnapshot *newest = dconfdb_store_snapshot(self->store);
+    bool is = newest == self->now;
+    dconfdb_snapshot_unref(newest);
+    return is;
+}
+
 static bool look(DconfdbBackend *self, Notice *notice)
 {
     DconfdbError error = DCONFDB_ERROR_INIT;
@@ -144,6 +167,8 @@ static bool look(DconfdbBackend *self, Notice *notice)
     bool opens = !self->store || !is_same(&profiles[0], &self->seen[0]) || !is_same(&profiles[1], &self->seen[1]);
     bool done = opens ? open_store(self, profiles, &error) : dconfdb_store_refresh(self->store, NULL, &error);
     warn_once(self, notice, done ? NULL : &error);
+    if (done && !opens && is_shown(self))
+        return true;
     renew(self, notice);
     /* What begins to wait later is newer than what was read. */
     if (notice->before && notice->before != notice->after && store_has_waiting(self))
@@ -219,15 +244,15 @@ static bool is_to_peek(DconfdbBackend *self, gint64 now)
 /* `turn` is held, and given back. A handler would run amid what the caller does, if this thread told. */
 static void look_quietly(DconfdbBackend *self)
 {
-    Notice *notice = g_new0(Notice, 1);
+    Notice notice = {.faults = NULL};
     /* A file that can't be read is read again and again. */
-    if (!look(self, notice))
+    if (!look(self, &notice))
         atomic_store(&self->looks, coarse_time() + AFTER_A_FAULT);
     g_mutex_unlock(&self->turn);
-    if (notice->before != notice->after || notice->faults)
-        worker_tells(self, notice);
+    if (notice.before != notice.after || notice.faults)
+        worker_tells(self, &notice);
     else
-        notice_tell_and_free(self, notice);
+        notice_tell(self, &notice);
 }
 
 void store_peek(DconfdbBackend *self)

@@ -18,12 +18,16 @@
 enum { LONGEST_END = 5000000, LONGEST_REST = 2000000, TICK = 5000 };
 enum { NANOSECONDS = 1000, SECOND = 1000000000 };
 
-static Notice *take_untold(DconfdbBackend *self)
+static void tell_untold(DconfdbBackend *self)
 {
-    g_mutex_lock(&self->lock);
-    Notice *notice = g_queue_pop_head(&self->untold);
-    g_mutex_unlock(&self->lock);
-    return notice;
+    Notice *notice;
+    do {
+        g_mutex_lock(&self->lock);
+        notice = g_queue_pop_head(&self->untold);
+        g_mutex_unlock(&self->lock);
+        if (notice)
+            notice_tell_and_free(self, notice);
+    } while (notice);
 }
 
 /* ---- in the thread */
@@ -63,14 +67,13 @@ static bool gives_up(DconfdbBackend *self)
 /* Does what is to be done. False: the program ends, and nothing waits, or can be written. */
 static bool takes_turn(DconfdbBackend *self)
 {
-    Notice *notice;
     g_mutex_lock(&self->lock);
     bool ends = self->has_ended, is_to_watch = self->is_to_watch, is_asked = self->is_asked;
+    bool waits = self->waiting.changes.length > 0, has_untold = self->untold.length > 0;
     self->is_asked = false;
     g_mutex_unlock(&self->lock);
-    bool waits = store_has_waiting(self);
-    while ((notice = take_untold(self)) != NULL)
-        notice_tell_and_free(self, notice);
+    if (has_untold)
+        tell_untold(self);
     if (is_to_watch && !ends)
         watch_turn(self);
     if (!waits || is_asked)
@@ -166,12 +169,14 @@ void worker_tells(DconfdbBackend *self, Notice *notice)
     worker_begin(self);
     bool tells = self->has_worker && !self->has_ended;
     if (tells) {
-        g_queue_push_tail(&self->untold, notice);
+        Notice *untold = g_new(Notice, 1);
+        *untold = *notice;
+        g_queue_push_tail(&self->untold, untold);
         worker_wake(self);
     }
     g_mutex_unlock(&self->lock);
     if (!tells)
-        notice_tell_and_free(self, notice);
+        notice_tell(self, notice);
 }
 
 /* ---- the end of the program, or of the backend */
