@@ -4,6 +4,7 @@ ghost use Rattle.gv_model.specs.Printed.{is_too_large};
 ghost use Rattle.gv_model.specs.Tree.{children, nodes, nodes_of};
 ghost use Rattle.gv_view.specs.Views.{value, view_ty};
 
+use gv_normal::is_normal;
 use gv_view::View;
 use std::alloc::{AllocError, Global};
 
@@ -16,15 +17,18 @@ struct Compared<'a, 'b> {
 
 /// Whether two views show the same value: of one type, and with the same in it.
 ///
-/// An error comes where a growth is refused. The same bytes at one type are told without memory.
-/// Other values are copied, and those too deep for that are gone through child by child, so none is
-/// too deep to be told.
+/// An error comes where a growth is refused. The same bytes at one type are told without memory, and so
+/// are other bytes that are normal, as a value has one normal form. Other values are copied, and those too
+/// deep for that are gone through child by child, so none is too deep to be told.
 pub fn show_same(alloc: Global, first: View<'_>, second: View<'_>) -> Result<bool, AllocError>
     ensures { IfOk result (λ same. IsTrue same ↔ (value first.entry ≡ value second.entry)) }
 {
     let both = Compared { first, second };
     if both.are_alike() {
         return Ok(true);
+    }
+    if both.have_other_normal_forms() {
+        return Ok(false);
     }
     let mut left = Vec::new(alloc);
     left.push(both)?;
@@ -44,6 +48,15 @@ impl<'a, 'b> Compared<'a, 'b> {
         ensures { IsTrue result → IsSame self.entry }
     {
         self.have_one_type() && self.first.bytes() == self.second.bytes()
+    }
+
+    /// Whether both are normal, in other bytes.
+    fn have_other_normal_forms(self) -> bool
+        ensures { IsTrue result → ¬ IsSame self.entry }
+    {
+        self.first.bytes() != self.second.bytes()
+            && is_normal(self.first)
+            && is_normal(self.second)
     }
 
     /// Whether they have one type.

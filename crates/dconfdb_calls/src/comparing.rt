@@ -18,7 +18,7 @@ use std::alloc::Global;
 /// text spells no type.
 ///
 /// The only error is `Memory`, if an allocation fails. The same bytes at one type are told without
-/// memory; other values are decoded.
+/// memory, and so are other bytes that are normal; other values are decoded.
 pub fn is_stored(
     alloc: Global,
     layer: &Layer<'_>,

@@ -7,6 +7,7 @@ use gvdb_read::Table;
 use gvdb_read::format::Kind;
 
 /// Whether item `i` of a table and item `j` of the other one are values of the same bytes, or both are none.
+#[inline(always)]
 pub(crate) fn has_like_value(table: Table<'_>, i: u32, other: Table<'_>, j: u32) -> bool
     ensures { IsTrue result → value_at (region table.entry) i ≡ value_at (region other.entry) j }
 {
