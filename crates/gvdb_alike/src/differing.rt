@@ -70,7 +70,15 @@ fn has_like_value_at(patch: Patch<'_>, i: u32) -> bool
     requires { i < item_count (region patch.table) }
     ensures { IsTrue result → value_at (region patch.entry.table) i ≡ value_at (region patch.entry.other) i }
 {
-    patch.has_same_value(i) || has_like_value(patch.table, i, patch.other, i)
+    patch.has_same_value(i) || is_value_alike(patch, i)
+}
+
+/// The same by the values alone. Few items are asked so, and in the loop over all of them it would cost registers.
+#[inline(never)]
+fn is_value_alike(patch: Patch<'_>, i: u32) -> bool
+    ensures { IsTrue result → value_at (region patch.entry.table) i ≡ value_at (region patch.entry.other) i }
+{
+    has_like_value(patch.table, i, patch.other, i)
 }
 
 /// Whether item `i` of both has the same key and the same parent. One whose key doesn't lie in the file has not.

@@ -33,7 +33,8 @@ impl Table<'_> {
         self.has_buckets() && self.items_keep()
     }
 
-    /// The same, where the buckets keep S1.
+    /// The same, where the buckets keep S1. In line with what opens a file the loop would lack registers.
+    #[inline(never)]
     fn items_keep(self) -> bool
         requires buckets { KeepsBelow (region self) 2 }
         ensures { IsTrue result → KeepsBelow (region self.entry) 11 }
