@@ -1,10 +1,11 @@
 -- The level of a path and the place of its value, layer by layer.
-use Rattle.std.proofs.Common.{◌≡◌, ◌+◌, ◌<◌, ◌≤◌, ℕ, zero, suc, Bool, true, false, cond, List, [], ◌∷◌, length, drop, get_or, None, refl, sym, ap, ◌∙◌, arith, ne_eqb, map, subst}
+use Rattle.std.proofs.Common.{◌≡◌, ◌+◌, ◌<◌, ◌≤◌, ℕ, zero, suc, Bool, true, false, cond, List, [], ◌∷◌, length, drop, get_or, Option, Some, None, refl, sym, ap, ◌∙◌, arith, ne_eqb, map, subst}
 use Rattle.std.proofs.lemmas.List.{get_or-map, drop_more, drop_all, length-map}
+use Rattle.std.proofs.lemmas.Option.{same_Some}
 use Rattle.std.specs.Cmp.Lexicographic.{slice_cmp}
 use Rattle.std.specs.Ordering.{nat_cmp}
 use Rattle.std.specs.FinMap.{get, get-empty}
-use Rattle.dconf_model.specs.Layers.{Layers, greatest_from, later_or, level, locks_path, first_from, place_or, place_of, emptied, without_user}
+use Rattle.dconf_model.specs.Layers.{Layers, Place, greatest_from, later_or, level, locks_path, first_from, place_or, place_of, emptied, without_user}
 use Rattle.dconf_model.specs.Settings.{Settings, no_settings}
 use Rattle.dconf_engine.specs.declared.layer.Layer.{Layer}
 use Rattle.dconf_engine.specs.LayerSettings.{settings_of}
@@ -54,6 +55,30 @@ level_at P [] i some within is none = absurd (omega (arith, within))
 level_at P (s ∷ xs) zero some within is none = absurd (omega (arith, some))
 level_at P (s ∷ xs) (suc j) some within is none = greatest_at 1 P xs j (omega arith) (omega (arith, within)) is (none_later P s xs (j + 1) (let e : suc j + 1 ≡ suc (j + 1) = omega arith in subst (NoneFrom P (s ∷ xs)) e none)) ∙ omega arith
 
+later_below : (n here bound : ℕ) → n < bound → here < bound → later_or n here < bound
+later_below zero here bound n_below here_below = here_below
+later_below (suc n) here bound n_below here_below = let e = later_some (suc n) here (omega arith) in omega (arith, e, n_below)
+
+here_below : (b : Bool) (from j : ℕ) → cond b from 0 < from + suc j
+here_below true from j = omega arith
+here_below false from j = omega arith
+
+greatest_below : (from : ℕ) (P : Settings → Bool) (xs : List Settings) (j : ℕ) → 0 < from → NoneFrom P xs j → greatest_from from P xs < from + j
+greatest_below from P [] j some none = omega (arith, some)
+greatest_below from P (s ∷ xs) zero some none = let e = greatest_none from P (s ∷ xs) none in omega (arith, some, e)
+greatest_below from P (s ∷ xs) (suc j) some none =
+    let later : greatest_from (from + 1) P xs < from + 1 + j = greatest_below (from + 1) P xs j (omega arith) (none_later P s xs j none) in
+    later_below (greatest_from (from + 1) P xs) (cond (P s) from 0) (from + suc j) (omega (arith, later)) (here_below (P s) from j)
+
+pub level_below : (P : Settings → Bool) (xs : List Settings) (i : ℕ) → NoneFrom P xs (i + 1) → greatest_from 1 P (drop 1 xs) ≤ i
+level_below P [] i none = omega arith
+level_below P (s ∷ xs) i none =
+    let below = greatest_below 1 P xs i (omega arith) (none_later P s xs i (let e : i + 1 ≡ suc i = omega arith in subst (NoneFrom P (s ∷ xs)) e none)) in omega (arith, below)
+
+pub told_level : (n k : ℕ) → (0 < n → n ≡ k) → (n ≤ 0 → k ≤ 0) → n ≡ k
+told_level zero k above none = let low = none (omega arith) in omega (arith, low)
+told_level (suc n) k above none = above (omega arith)
+
 -- ---- the place
 
 pub place_step : (xs : List Settings) (i : ℕ) (path : List ℕ) → i < length xs →
@@ -62,6 +87,43 @@ place_step xs i path within = ap (λ (ss : List Settings). first_from i ss path)
 
 pub place_end : (xs : List Settings) (i : ℕ) (path : List ℕ) → length xs ≤ i → first_from i (drop i xs) path ≡ None
 place_end xs i path past = ap (λ (ss : List Settings). first_from i ss path) (drop_all i xs past)
+
+later_none : (i : ℕ) (o : Option (List ℕ)) (later : Option Place) → place_or i o later ≡ None → later ≡ None
+later_none i None later e = e
+later_none i (Some bytes) later e = absurd cc
+
+later_found : (i : ℕ) (o : Option (List ℕ)) (later : Option Place) (p : Place) → place_or i o later ≡ Some p → i < p.0 → later ≡ Some p
+later_found i None later p e after = e
+later_found i (Some bytes) later p e after = let same : i ≡ p.0 = ap (λ q. q.0) (same_Some (i, bytes) p e) in absurd (omega (arith, same, after))
+
+-- what no layer has, none has from a later one on
+none_from : (i n : ℕ) (xs : List Settings) (path : List ℕ) → first_from i xs path ≡ None → first_from (i + n) (drop n xs) path ≡ None
+none_from i zero xs path none = let e : i + 0 ≡ i = omega arith in ap (λ k. first_from k xs path) e ∙ none
+none_from i (suc n) [] path none = refl
+none_from i (suc n) (s ∷ xs) path none =
+    let e : i + suc n ≡ i + 1 + n = omega arith in
+    ap (λ k. first_from k (drop n xs) path) e ∙ none_from (i + 1) n xs path (later_none i (get s.values path) (first_from (i + 1) xs path) none)
+
+-- what a layer has first of all, it has first from each layer on that is not after it
+found_from : (i n : ℕ) (xs : List Settings) (path : List ℕ) (p : Place) → first_from i xs path ≡ Some p → i + n ≤ p.0 → first_from (i + n) (drop n xs) path ≡ Some p
+found_from i zero xs path p found within = let e : i + 0 ≡ i = omega arith in ap (λ k. first_from k xs path) e ∙ found
+found_from i (suc n) [] path p found within = absurd cc
+found_from i (suc n) (s ∷ xs) path p found within =
+    let e : i + suc n ≡ i + 1 + n = omega arith in
+    ap (λ k. first_from k (drop n xs) path) e
+    ∙ found_from (i + 1) n xs path p (later_found i (get s.values path) (first_from (i + 1) xs path) p found (omega (arith, within))) (omega (arith, within))
+
+pub no_place : (l : Layers) (path : List ℕ) → first_from 0 l.layers path ≡ None → None ≡ place_of l path
+no_place l path none =
+    let n = level l path in
+    let e : n ≡ 0 + n = omega arith in
+    sym (ap (λ k. first_from k (drop n l.layers) path) e ∙ none_from 0 n l.layers path none)
+
+pub first_place : (l : Layers) (path : List ℕ) (p : Place) → first_from 0 l.layers path ≡ Some p → level l path ≤ p.0 → Some p ≡ place_of l path
+first_place l path p found low =
+    let n = level l path in
+    let e : n ≡ 0 + n = omega arith in
+    sym (ap (λ k. first_from k (drop n l.layers) path) e ∙ found_from 0 n l.layers path p found (omega (arith, low)))
 
 -- ---- all layers but the first
 

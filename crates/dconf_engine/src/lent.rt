@@ -1,5 +1,5 @@
 //! Layers that are lent, and what is seen through them.
-ghost use Rattle.std.specs.Prelude.{◌≡◌, ◌<◌, ◌&&◌, IfSome, IsSome, List, Some, drop, false, length, map, not, option_map, slice_index_or, ℕ, take};
+ghost use Rattle.std.specs.Prelude.{◌≡◌, ◌<◌, ◌≤◌, IfSome, IsSome, List, Some, drop, false, length, map, option_map, slice_index_or, ℕ, take};
 ghost use Rattle.std.specs.FinMap.{get};
 ghost use Rattle.std.specs.List.{list_any};
 ghost use Rattle.gv_view.specs.Views.{value};
@@ -94,19 +94,34 @@ impl<'a, 'l> LentLayers<'a, 'l> {
 
     /// As `place`, of bytes; None also where they are no path of a key.
     ///
-    /// Where no layer has locks the bytes are looked up as they are, and looked at once more only where something is found:
-    /// most keys that programs ask for have no value.
+    /// The bytes are looked up as they are, and looked at once more only where something is found: most keys that programs ask
+    /// for have no value. Locks are asked of the layers after the first that has the path.
     #[inline(always)]
     pub fn place_of_bytes(self, path: &[u8]) -> Option<(usize, &'a [u8])>
         ensures key { IsSome result → IsKeyText path.entry.now }
         ensures place { IsKeyText path.entry.now → option_map {U = ℕ × List ℕ} (λ p. (p.0, p.1.now)) result ≡ place_of (seen_in self.entry) path.entry.now }
     {
         if self.have_locks() {
-            return self.place(KeyPath::of_bytes(path)?);
+            return self.place_beside_locks(path);
         }
         let place = self.place_named(0, HashedName::new(path))?;
         KeyPath::of_bytes(path)?;
         Some(place)
+    }
+
+    /// As `place_of_bytes`, also where layers have locks. In line it would cost registers where none has.
+    #[inline(never)]
+    fn place_beside_locks(self, path: &[u8]) -> Option<(usize, &'a [u8])>
+        ensures key { IsSome result → IsKeyText path.entry.now }
+        ensures place { IsKeyText path.entry.now → option_map {U = ℕ × List ℕ} (λ p. (p.0, p.1.now)) result ≡ place_of (seen_in self.entry) path.entry.now }
+    {
+        let (first, bytes) = self.place_named(0, HashedName::new(path))?;
+        let path = KeyPath::of_bytes(path)?;
+        let level = self.level_above(first, path);
+        if level <= first {
+            return Some((first, bytes));
+        }
+        self.place_from(level, path)
     }
 
     /// The same without the values of the user's database.
@@ -137,9 +152,21 @@ impl<'a, 'l> LentLayers<'a, 'l> {
     pub(crate) fn level(self, path: KeyPath<'_>) -> usize
         ensures { result ≡ level (seen_in self.entry) (key_text path.entry) }
     {
+        self.level_above(0, path)
+    }
+
+    /// The same, if it is above this one; else one that is not. No other layer is asked.
+    #[inline(always)]
+    fn level_above(self, floor: usize, path: KeyPath<'_>) -> usize
+        ensures above { floor < result → result ≡ level (seen_in self.entry) (key_text path.entry) }
+        ensures none { result ≤ floor → level (seen_in self.entry) (key_text path.entry) ≤ floor }
+    {
         let mut i = self.layers.len();
         while i > 1 {
             i -= 1;
+            if i <= floor {
+                return 0;
+            }
             if self.locks_at(i, path) {
                 return i;
             }

@@ -54,9 +54,7 @@ impl<'a, 'b> Compared<'a, 'b> {
     fn have_other_normal_forms(self) -> bool
         ensures { IsTrue result → ¬ IsSame self.entry }
     {
-        self.first.bytes() != self.second.bytes()
-            && is_normal(self.first)
-            && is_normal(self.second)
+        self.first.bytes() != self.second.bytes() && is_normal(self.first) && is_normal(self.second)
     }
 
     /// Whether they have one type.

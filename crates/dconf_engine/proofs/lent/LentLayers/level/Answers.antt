@@ -1,18 +1,8 @@
-use Rattle.std.proofs.Common.{◌≡◌, ◌∙◌, ◌-◌, ◌+◌, sym, subst, arith}
-use Rattle.dconf_model.specs.Layers.{locks_path}
+use Rattle.dconf_model.specs.Layers.{level}
 use Rattle.dconf_path.specs.Paths.{key_text}
-use Rattle.dconf_engine.proofs.Levels.{NoneFrom, level_at, level_none}
+use Rattle.dconf_engine.proofs.Levels.{told_level}
 use Rattle.dconf_engine.specs.LentSettings.{seen_in}
 use Rattle.dconf_engine.proofs.lent.LentLayers.level.Goals as goal
 
-pub returns-then-locks_at : goal.returns-then-locks_at
-returns-then-locks_at c =
-    let P = locks_path (key_text c.args.path) in
-    let xs = (seen_in c.args.self).layers in
-    let i = c.loop-i.i in
-    let step : i ≡ i - 1 + 1 = let some = c.loop-i-test.true in omega arith in
-    sym (level_at P xs (i - 1) (omega arith) (omega arith) (sym c.locks_at.ensures ∙ c.if-locks_at.true) (subst (NoneFrom P xs) step c.loop-i.invariant.none))
-
 pub returns : goal.returns
-returns c =
-    sym (level_none (locks_path (key_text c.args.path)) (seen_in c.args.self).layers (λ k from within. c.loop-i.invariant.none k (omega (arith, from)) within))
+returns c = told_level c.level_above.result (level (seen_in c.args.self) (key_text c.args.path)) c.level_above.ensures.above c.level_above.ensures.none

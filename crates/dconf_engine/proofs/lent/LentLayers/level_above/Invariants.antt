@@ -3,7 +3,7 @@ use Rattle.dconf_model.specs.Layers.{locks_path}
 use Rattle.dconf_path.specs.Paths.{key_text}
 use Rattle.dconf_engine.proofs.Levels.{NoneFrom}
 use Rattle.dconf_engine.specs.LentSettings.{seen_in}
-use Rattle.dconf_engine.proofs.lent.LentLayers.level.Given as goal
+use Rattle.dconf_engine.proofs.lent.LentLayers.level_above.Given as goal
 
 -- no layer from this one on locks the path
 abbrev pub invariant-loop-i : goal.invariant-loop-i
