@@ -152,6 +152,7 @@ typedef enum DconfdbErrorCode {
     DCONFDB_ERROR_VALUE_TOO_LARGE = 17, /* a value is nested too deep, or too long */
     DCONFDB_ERROR_FILE_TOO_LARGE = 18,  /* a file has more bytes than it may have, or would have */
     DCONFDB_ERROR_DOUBLE_TEXT = 19,     /* a value to be printed holds a double */
+    DCONFDB_ERROR_BAD_VALUE = 20,       /* a value's bytes are not in normal form at its type */
     DCONFDB_ERROR_FILE = 64,            /* a system call failed: `errnum` is its errno */
     DCONFDB_ERROR_BUSY = 65,            /* others held the lock for as long as a change waits */
     DCONFDB_ERROR_NO_FOLDER = 66        /* no folder is given, and none is found */
@@ -172,7 +173,7 @@ typedef struct DconfdbError {
     DconfdbErrorCode code;
     DconfdbOutcome outcome; /* of a change that failed; else DCONFDB_OUTCOME_KEPT */
     int errnum;             /* errno if the code is DCONFDB_ERROR_FILE, else 0 */
-    size_t edit;            /* the index of the bad edit, for BAD_PATH to VALUE_TOO_LARGE; else 0 */
+    size_t edit;            /* the index of the bad edit, for BAD_PATH to VALUE_TOO_LARGE, BAD_VALUE; else 0 */
     size_t database;        /* the index of the database whose file is bad, else 0 */
     size_t line;            /* the profile's bad line, from 1, for BAD_LINE to TOO_MANY; else 0 */
     char text[512];         /* what failed, and for which file or key; if too long, it ends in "..." */
@@ -411,8 +412,8 @@ DCONFDB_NODISCARD DCONFDB_API char *dconfdb_snapshot_differences(const DconfdbSn
  *
  * With a type, it sets the key at the path. A path that ends in `/` is not a key's: the edit is
  * refused with DCONFDB_ERROR_BAD_PATH, and nothing changes. `data` may be NULL if `size` is 0,
- * and need not be aligned. Bytes that aren't in normal form at the type are stored as the value
- * that GVariant reads in them.
+ * and need not be aligned. Bytes that aren't in normal form at the type, such as three bytes of an
+ * `i` or a string without its zero byte, are refused with DCONFDB_ERROR_BAD_VALUE.
  *
  * Without a type (NULL), it removes the user's value at the path. A path that ends in `/` is then a
  * directory: all of the user's values below it are removed, except those of locked keys. */

@@ -70,7 +70,8 @@ typedef struct {
     DconfdbBytes name;
 } DconfdbName;
 
-/* A change. With `sets` it sets a key; a path that ends in '/' is BAD_PATH then. Without, it takes
+/* A change. With `sets` it sets a key; a path that ends in '/' is BAD_PATH then, and bytes that are not in normal
+ * form at the type are BAD_VALUE. Without, it takes
  * the user's value away; a path that ends in '/' takes away all below it that is not locked. */
 typedef struct {
     DconfdbBytes path, value, type_text;
@@ -145,7 +146,8 @@ enum {
     DCONFDB_LOCKED,
     DCONFDB_TOO_LARGE,
     DCONFDB_TOO_BIG,
-    DCONFDB_DOUBLE_TEXT = 19 /* of dconfdb_print_value alone; dconfdb_fault_text has no text of it */
+    DCONFDB_DOUBLE_TEXT = 19, /* of dconfdb_print_value alone; dconfdb_fault_text has no text of it */
+    DCONFDB_BAD_VALUE = 20
 };
 
 /* A database without items. */
@@ -263,7 +265,7 @@ uint32_t dconfdb_profile_lines(const uint8_t *text, size_t len, DconfdbName *roo
                                size_t *line);
 
 /* The user's file after all changes, each made in turn, or none, and without locks. `len` as
- * dconfdb_list has it. MEMORY, BAD_PATH to TOO_BIG, and then only `at` is written: the index of the
+ * dconfdb_list has it. MEMORY, BAD_PATH to TOO_BIG, BAD_VALUE, and then only `at` is written: the index of the
  * change at fault, or 0 where none is, of MEMORY and TOO_BIG. */
 uint32_t dconfdb_change(const DconfdbLayer *layers, size_t n, bool writable, const DconfdbChange *changes, size_t changes_len,
                         uint8_t *room, size_t room_len, size_t *len, size_t *at);

@@ -418,6 +418,7 @@ static uint32_t write_taken(DconfdbStore *store, const Turn *turn, Batch *batch,
     case DCONFDB_ERROR_VALUE_TOO_LARGE:
     case DCONFDB_ERROR_BAD_PATH:
     case DCONFDB_ERROR_BAD_TYPE:
+    case DCONFDB_ERROR_BAD_VALUE:
         *at = fault->edit < taken ? batch->numbers[fault->edit] : batch->count;
         return DCONFDB_QUEUE_FAULT;
     case DCONFDB_ERROR_FILE:

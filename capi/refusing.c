@@ -9,7 +9,7 @@
 
 _Static_assert((int)DCONFDB_ERROR_MEMORY == (int)DCONFDB_MEMORY && (int)DCONFDB_ERROR_UNSOUND == (int)DCONFDB_UNSOUND
                    && (int)DCONFDB_ERROR_TOO_MANY == (int)DCONFDB_TOO_MANY && (int)DCONFDB_ERROR_FILE_TOO_LARGE == (int)DCONFDB_TOO_BIG
-                   && (int)DCONFDB_ERROR_DOUBLE_TEXT == (int)DCONFDB_DOUBLE_TEXT,
+                   && (int)DCONFDB_ERROR_DOUBLE_TEXT == (int)DCONFDB_DOUBLE_TEXT && (int)DCONFDB_ERROR_BAD_VALUE == (int)DCONFDB_BAD_VALUE,
                "the header's numbers are those of the proved calls");
 _Static_assert((int)DCONFDB_OUTCOME_MADE == (int)DCONFDB_TURN_MADE && (int)DCONFDB_OUTCOME_KEPT == (int)DCONFDB_TURN_KEPT
                    && (int)DCONFDB_OUTCOME_EITHER == (int)DCONFDB_TURN_EITHER && (int)DCONFDB_OUTCOME_UNSETTLED == (int)DCONFDB_TURN_UNSETTLED,
@@ -134,6 +134,7 @@ const char *dconfdb_error_name(DconfdbErrorCode code)
         NAMED(VALUE_TOO_LARGE);
         NAMED(FILE_TOO_LARGE);
         NAMED(DOUBLE_TEXT);
+        NAMED(BAD_VALUE);
         NAMED(FILE);
         NAMED(BUSY);
         NAMED(NO_FOLDER);

@@ -1057,7 +1057,7 @@ static const char *user_file_or_folder(const DconfdbStore *store)
 /* Whether a fault of a change is one of its edits. */
 static bool is_of_edit(uint32_t number)
 {
-    return number >= DCONFDB_BAD_PATH && number <= DCONFDB_TOO_LARGE;
+    return (number >= DCONFDB_BAD_PATH && number <= DCONFDB_TOO_LARGE) || number == DCONFDB_BAD_VALUE;
 }
 
 /* The user's file with the changes: the caller's, to be released. */

@@ -19,7 +19,7 @@ enum { LONGEST_WAIT = 10000, PAUSE = 50000 };
  * set, and to `texts`. */
 typedef struct {
     GArray *edits;
-    GPtrArray *texts;
+    GPtrArray *texts, *values; /* what the edits lend */
 } Edits;
 
 static DconfdbEdit edit_of(const gchar *path, GVariant *value)
@@ -40,10 +40,15 @@ static Edits edits_of(DConfChangeset *changes)
     const gchar *prefix, *const *paths;
     GVariant *const *values;
     guint count = dconf_changeset_describe(changes, &prefix, &paths, &values);
-    Edits self = {g_array_new(FALSE, FALSE, sizeof(DconfdbEdit)), g_ptr_array_new_with_free_func(g_free)};
+    Edits self = {g_array_new(FALSE, FALSE, sizeof(DconfdbEdit)), g_ptr_array_new_with_free_func(g_free),
+                  g_ptr_array_new_with_free_func((GDestroyNotify)g_variant_unref)};
     for (guint i = 0; i < count; i++) {
         gchar *path = g_strconcat(prefix, paths[i], NULL);
-        DconfdbEdit edit = edit_of(path, values[i]);
+        /* The library takes normal forms alone; dconf writes these. */
+        GVariant *normal = values[i] ? g_variant_get_normal_form(values[i]) : NULL;
+        DconfdbEdit edit = edit_of(path, normal);
+        if (normal)
+            g_ptr_array_add(self.values, normal);
         g_ptr_array_add(self.texts, path);
         g_array_append_val(self.edits, edit);
     }
@@ -54,6 +59,7 @@ static void edits_clear(Edits *self)
 {
     g_array_unref(self->edits);
     g_ptr_array_unref(self->texts);
+    g_ptr_array_unref(self->values);
 }
 
 static bool is_reset_of_locked(const DconfdbSnapshot *now, const DconfdbEdit *edit)

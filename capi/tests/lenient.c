@@ -137,9 +137,10 @@ static void tries_what_is_there(void)
     TRY(!has_edit(store, all[0]) && dconfdb_store_change(store, all, 2, &error) && has_edit(store, all[0]) && is_newest(store));
     Mark mark = mark_of("me.user");
     TRY(dconfdb_store_change(store, all, 2, &error) && changes(store, reset) && changes(store, below) && stays("me.user", mark));
-    /* The same value in other bytes. */
+    /* The same value in bytes that aren't in normal form. */
     all[1].data = other;
-    TRY(changes(store, all[1]) && has_edit(store, all[1]) && stays("me.user", mark));
+    TRY(!changes(store, all[1]) && error.code == DCONFDB_ERROR_BAD_VALUE && has_edit(store, all[1]) && stays("me.user", mark));
+    all[1].data = pair;
     /* Edits that cancel each other out. */
     DconfdbEdit undone[] = {sets_text("/none", "1"), sets_text("/k", "2"), sets_text("/k", "1"), reset};
     TRY(dconfdb_store_change(store, undone, 4, &error) && stays("me.user", mark) && !has_edit(store, undone[0]));

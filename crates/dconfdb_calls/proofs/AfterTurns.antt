@@ -1,5 +1,5 @@
 -- A store after turns of changes.
-use Rattle.std.proofs.Common.{◌≡◌, ◌∷◌, [], ℕ, List, Option, Some, sym, subst, map}
+use Rattle.std.proofs.Common.{◌∷◌, [], ℕ, List, Some, sym, subst, map}
 use Rattle.dconf_model.specs.Bytes.{MaybeBytes}
 use Rattle.dconf_model.specs.Databases.{AreLayers}
 use Rattle.dconf_model.specs.Folders.{read_content}
@@ -16,7 +16,7 @@ use Rattle.dconfdb_calls.specs.declared.changes.DconfdbChange.{DconfdbChange}
 after_all : (others : List MaybeBytes) (gs : List Given) (own : OwnValues) (cs : List DconfdbChange) (l m : Layers) → StoreHolds others own gs l → HaveChanged cs l m → StoreHolds others (own_after gs own (map change_of cs)) gs m
 after_all others gs own [] l m h same = subst (StoreHolds others own gs) same h
 after_all others gs own (c ∷ cs) l m h made =
-    after_all others gs (own_changed gs own (change_of c)) cs made.0 m (after_change others own gs l made.0 h (change_of c) made.1 made.2) made.3
+    after_all others gs (own_changed gs own (change_of c)) cs made.0 m (after_change others own gs l made.0 h (change_of c) made.1 made.3) made.4
 
 -- what came of a turn has the values after it
 came_of : (first : MaybeBytes) (others : List MaybeBytes) (own : OwnValues) (gs : List Given) (cs : List DconfdbChange) (l : Layers) (file : List ℕ) → HaveOwn first others own gs → AreLayers (first ∷ others) l.layers →

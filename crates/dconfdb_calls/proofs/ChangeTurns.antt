@@ -8,17 +8,17 @@ use Rattle.dconf_model.specs.Layers.{Layers}
 use Rattle.dconf_model.specs.Stores.{IsWholeChange}
 use Rattle.dconfdb_calls.specs.declared.changes.DconfdbChange.{DconfdbChange}
 use Rattle.dconfdb_calls.specs.declared.fault.Fault.{Fault}
-use Rattle.dconfdb_calls.specs.declared.fault.Fault.TheVariants.{Memory, Short, BadSignature, BadVersion, BadRoot, BadTable, Unsound, NotText, BadLine, ServiceDb, UserNotFirst, TooMany, BadPath, BadType, NotWritable, Locked, TooLarge, TooBig}
-use Rattle.dconfdb_calls.specs.Changed.{HaveChanged, IsChangedInVain, IsNoChange, IsRefusedAt, IsRefusedFor, at_of, change_of}
+use Rattle.dconfdb_calls.specs.declared.fault.Fault.TheVariants.{Memory, Short, BadSignature, BadVersion, BadRoot, BadTable, Unsound, NotText, BadLine, ServiceDb, UserNotFirst, TooMany, BadPath, BadType, NotWritable, Locked, TooLarge, TooBig, BadValue}
+use Rattle.dconfdb_calls.specs.Changed.{HaveChanged, IsChangedInVain, IsNoChange, IsRefusedAt, IsRefusedFor, SetsNormal, at_of, change_of}
 
-one_more : (cs : List DconfdbChange) (c : DconfdbChange) (l m n : Layers) → HaveChanged cs l m → IsWholeChange (change_of c) → apply m (change_of c) ≡ Ok n → HaveChanged (cs ++ c ∷ []) l n
-one_more [] c l m n same whole e = (n, whole, ap (λ (x : Layers). apply x (change_of c)) same ∙ e, refl)
-one_more (d ∷ cs) c l m n h whole e = (h.0, h.1, h.2, one_more cs c h.0 m n h.3 whole e)
+one_more : (cs : List DconfdbChange) (c : DconfdbChange) (l m n : Layers) → HaveChanged cs l m → IsWholeChange (change_of c) → SetsNormal c → apply m (change_of c) ≡ Ok n → HaveChanged (cs ++ c ∷ []) l n
+one_more [] c l m n same whole normal e = (n, whole, normal, ap (λ (x : Layers). apply x (change_of c)) same ∙ e, refl)
+one_more (d ∷ cs) c l m n h whole normal e = (h.0, h.1, h.2, h.3, one_more cs c h.0 m n h.4 whole normal e)
 
 pub changed_more : (cs : List DconfdbChange) (i : ℕ) (d : DconfdbChange) (l m n : Layers) → i < length cs → HaveChanged (take i cs) l m →
-    IsWholeChange (change_of (get_or cs i d)) → apply m (change_of (get_or cs i d)) ≡ Ok n → HaveChanged (take (i + 1) cs) l n
-changed_more cs i d l m n within h whole e =
-    subst (λ (xs : List DconfdbChange). HaveChanged xs l n) (sym (take_more cs i d within)) (one_more (take i cs) (get_or cs i d) l m n h whole e)
+    IsWholeChange (change_of (get_or cs i d)) → SetsNormal (get_or cs i d) → apply m (change_of (get_or cs i d)) ≡ Ok n → HaveChanged (take (i + 1) cs) l n
+changed_more cs i d l m n within h whole normal e =
+    subst (λ (xs : List DconfdbChange). HaveChanged xs l n) (sym (take_more cs i d within)) (one_more (take i cs) (get_or cs i d) l m n h whole normal e)
 
 -- ---- the change that is refused
 
@@ -55,3 +55,4 @@ refused_at cs i d l m fault within h why = go fault why
     go NotWritable r = at NotWritable r
     go Locked r = at Locked r
     go TooLarge r = at TooLarge r
+    go BadValue r = at BadValue r

@@ -10,6 +10,8 @@ use Rattle.gv_model.specs.Printed.{is_too_large}
 use Rattle.gv_model.specs.Tree.{Tree}
 use Rattle.gv_model.specs.TypeText.{type_at}
 use Rattle.gv_model.specs.Decode.{decode}
+use Rattle.gv_model.specs.Normal.{IsNormal}
+use Rattle.gv_model.specs.Ty.{Ty}
 use Rattle.dconf_model.specs.Paths.{ends_with_slash}
 use Rattle.dconf_model.specs.Changes.{Change, Refusal, apply, saved}
 use Rattle.dconf_model.specs.Changes.Change.{set_value, reset_value, reset_below_directory}
@@ -20,7 +22,7 @@ use Rattle.dconf_model.specs.Salvaging.{IsKeyText}
 use Rattle.dconf_model.specs.Stores.{IsWholeChange}
 use Rattle.dconfdb_calls.specs.declared.changes.DconfdbChange.{DconfdbChange}
 use Rattle.dconfdb_calls.specs.declared.fault.Fault.{Fault}
-use Rattle.dconfdb_calls.specs.declared.fault.Fault.TheVariants.{Memory, BadPath, BadType, NotWritable, Locked, TooLarge, TooBig}
+use Rattle.dconfdb_calls.specs.declared.fault.Fault.TheVariants.{Memory, BadPath, BadType, NotWritable, Locked, TooLarge, TooBig, BadValue}
 use Rattle.dconfdb_calls.specs.Given.{IsDirectory, SpellsType}
 use Rattle.dconfdb_calls.specs.Numbers.{number_of}
 
@@ -35,10 +37,15 @@ change_of c =
     if c.sets then set_value c.path.now (value_of c) else
     if ends_with_slash c.path.now then reset_below_directory c.path.now else reset_value c.path.now
 
--- each change is accepted in its turn, and what it sets is a value of its type
+-- the bytes of what it sets are those that are written for their value
+abbrev pub SetsNormal : DconfdbChange → Type 0
+SetsNormal c = IsTrue c.sets → IsNormal (type_at c.type_text.now) c.value.now
+
+-- each change is accepted in its turn, and what it sets is a value of its type, in normal form
 abbrev pub HaveChanged : List DconfdbChange → Layers → Layers → Type 0
 HaveChanged [] l m = l ≡ m
-HaveChanged (c ∷ cs) l m = (next : Layers) × IsWholeChange (change_of c) × (apply l (change_of c) ≡ Ok next) × HaveChanged cs next m
+HaveChanged (c ∷ cs) l m =
+    (next : Layers) × IsWholeChange (change_of c) × SetsNormal c × (apply l (change_of c) ≡ Ok next) × HaveChanged cs next m
 
 -- the user's database with the changes
 pub record IsChanged (l : Layers) (changes : List DconfdbChange) (file : List ℕ) : Type 0 where
@@ -87,6 +94,11 @@ abbrev pub IsChangedInVain : Layers → Change → Fault → Type 0
 IsChangedInVain l (set_value path v) fault = IsSetInVain l path v fault
 IsChangedInVain l change fault = IsRefusal (apply l change) fault
 
+-- a value that is set is not too deep to be copied
+abbrev pub SetsShallow : Change → Type 0
+SetsShallow (set_value path v) = is_too_large v ≡ false
+SetsShallow change = Unit {0}
+
 abbrev pub IsAskedInVain : Layers → Asked → Fault → Type 0
 IsAskedInVain l asked fault = IsChangedInVain l (asked_change asked) fault
 
@@ -100,16 +112,23 @@ abbrev pub IsBadPathOf : Bool → List ℕ → Type 0
 IsBadPathOf true path = ¬ IsKeyText path
 IsBadPathOf false path = IsBadResetOf (ends_with_slash path) path
 
--- a change has no such path; or it sets a key, and its type text spells no type
+-- bytes are not those that are written for their value; one of more than 128 levels is too large instead
+abbrev pub IsBadValue : Ty → List ℕ → Type 0
+IsBadValue t b = (is_too_large (decode t b) ≡ false) × ¬ IsNormal t b
+
+-- a change has no such path; or it sets a key, and its type text spells no type, or its bytes are no value of that
 abbrev pub IsMalformed : DconfdbChange → Fault → Type 0
 IsMalformed c BadPath = IsBadPathOf c.sets c.path.now
 IsMalformed c BadType = IsTrue c.sets × IsKeyText c.path.now × ¬ SpellsType c.type_text.now
+IsMalformed c BadValue =
+    IsTrue c.sets × IsKeyText c.path.now × SpellsType c.type_text.now × IsBadValue (type_at c.type_text.now) c.value.now
 IsMalformed c _ = ⊥
 
 -- why a change of these layers is refused
 abbrev pub IsRefusedFor : Layers → DconfdbChange → Fault → Type 0
 IsRefusedFor l c BadPath = IsMalformed c BadPath
 IsRefusedFor l c BadType = IsMalformed c BadType
+IsRefusedFor l c BadValue = IsMalformed c BadValue
 IsRefusedFor l c fault = IsChangedInVain l (change_of c) fault
 
 -- the change of that index is refused, after those before it were accepted

@@ -1,7 +1,7 @@
 -- The numbers of faults, and what they say.
 use Rattle.std.specs.Prelude.{◌≡◌, ℕ, List, codes}
 use Rattle.dconfdb_calls.specs.declared.fault.Fault.{Fault}
-use Rattle.dconfdb_calls.specs.declared.fault.Fault.TheVariants.{Memory, Short, BadSignature, BadVersion, BadRoot, BadTable, Unsound, NotText, BadLine, ServiceDb, UserNotFirst, TooMany, BadPath, BadType, NotWritable, Locked, TooLarge, TooBig}
+use Rattle.dconfdb_calls.specs.declared.fault.Fault.TheVariants.{Memory, Short, BadSignature, BadVersion, BadRoot, BadTable, Unsound, NotText, BadLine, ServiceDb, UserNotFirst, TooMany, BadPath, BadType, NotWritable, Locked, TooLarge, TooBig, BadValue}
 
 abbrev pub number_of : Fault → ℕ
 number_of Memory = 1
@@ -22,6 +22,8 @@ number_of NotWritable = 15
 number_of Locked = 16
 number_of TooLarge = 17
 number_of TooBig = 18
+-- 19 is that of a value which has no text
+number_of BadValue = 20
 
 -- some fault has this number
 abbrev pub IsNumber : ℕ → Type 0
@@ -46,6 +48,7 @@ text_of NotWritable = codes "there is no user's database"
 text_of Locked = codes "the key is locked"
 text_of TooLarge = codes "the value is nested too deep or too long"
 text_of TooBig = codes "the database would have over 4294967295 bytes"
+text_of BadValue = codes "the value's bytes are not in normal form at its type"
 
 -- the text of the fault that has this number
 abbrev pub IsTextOf : ℕ → List ℕ → Type 0

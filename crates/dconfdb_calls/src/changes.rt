@@ -1,17 +1,21 @@
 //! The user's database with changes.
-ghost use Rattle.std.specs.Prelude.{◌≡◌, IfErr, IfOk, OnErr, OnOk, Ok};
-ghost use Rattle.gv_view.specs.Views.{value};
+ghost use Rattle.std.specs.Prelude.{◌≡◌, ◌↔◌, IfErr, IfOk, IsTrue, OnErr, OnOk, Ok, false};
+ghost use Rattle.gv_model.specs.Normal.{IsNormal};
+ghost use Rattle.gv_model.specs.Printed.{is_too_large};
+ghost use Rattle.gv_model.specs.TypeText.{type_at};
+ghost use Rattle.gv_view.specs.Views.{value, view_bytes, view_ty};
 ghost use Rattle.dconf_model.specs.Changes.{apply, Change.set_value};
 ghost use Rattle.dconf_path.specs.Paths.{key_text};
 ghost use Rattle.dconf_model.specs.Databases.{IsDatabaseOf};
 ghost use Rattle.dconf_model.specs.Stores.{IsLimitedValue, IsWholeChange};
-ghost use Rattle.dconfdb_calls.specs.Changed.{HaveChanged, IsAskedInVain, IsChanged, IsMalformed, IsNoChange, IsRefusedFor, IsSetInVain, asked_change, at_of, change_of, with_fault};
+ghost use Rattle.dconfdb_calls.specs.Changed.{HaveChanged, IsAskedInVain, IsBadValue, IsChanged, IsMalformed, IsNoChange, IsRefusedFor, IsSetInVain, SetsNormal, SetsShallow, asked_change, at_of, change_of, with_fault};
 ghost use Rattle.dconfdb_calls.specs.Seen.{layers_of};
 
 use crate::fault::Fault;
 use crate::given::{directory_path, key_path, view_of};
 use dconf_engine::{ChangeFault, Engine, Layer};
 use dconf_path::{DirPath, KeyPath};
+use gv_normal::is_normal;
 use gv_view::{View, ViewFault};
 use gvdb_write::WriteFault;
 use std::alloc::Global;
@@ -60,10 +64,11 @@ impl Refused {
 /// The bytes of the first layer's database after all changes, each made in turn, without locks.
 ///
 /// All changes are made, or none. `BadPath` if a change's path is not a key's, or, where it sets
-/// nothing, a directory's; `BadType` if the type of a value that is set is none; `NotWritable` if
-/// the first layer is not the user's (`writable`); `Locked`; `TooLarge` if a value is nested
-/// too deep or too long; `TooBig` if the file would have over 4,294,967,295 bytes; `Memory` if an
-/// allocation fails. It copies each path and value of the first layer.
+/// nothing, a directory's; `BadType` if the type of a value that is set is none; `BadValue` if its
+/// bytes are not in normal form at that; `NotWritable` if the first layer is not the user's
+/// (`writable`); `Locked`; `TooLarge` if a value is nested too deep or too long; `TooBig` if the file
+/// would have over 4,294,967,295 bytes; `Memory` if an allocation fails. It copies each path and
+/// value of the first layer.
 pub fn user_file(
     alloc: Global,
     layers: &[Layer<'_>],
@@ -116,6 +121,7 @@ impl<'a> DconfdbChange<'a> {
     /// What is asked, or why it can't be.
     fn asked(&self) -> Result<Asked<'a>, Fault>
         ensures asked { IfOk result (λ asked. asked_change asked ≡ change_of self.now) }
+        ensures normal { IfOk result (λ asked. SetsShallow (change_of self.now) → SetsNormal self.now) }
         ensures fault { IfErr result (IsMalformed self.now) }
     {
         if !self.sets && self.path.ends_with(b"/") {
@@ -130,16 +136,20 @@ impl<'a> DconfdbChange<'a> {
         if !self.sets {
             return Ok(Asked::Reset(path));
         }
-        match view_of(self.type_text, self.value) {
-            Some(value) => Ok(Asked::Set(path, value)),
-            None => Err(Fault::BadType),
+        let Some(value) = view_of(self.type_text, self.value) else {
+            return Err(Fault::BadType);
+        };
+        if is_bad(value) {
+            return Err(Fault::BadValue);
         }
+        Ok(Asked::Set(path, value))
     }
 
     /// Makes the change, or leaves the engine as it was.
     fn make(self, alloc: Global, engine: &mut Engine<'_>) -> Result<(), Fault>
         ensures ok { OnOk result (apply engine.old (change_of self.entry) ≡ Ok engine.new) }
         ensures whole { OnOk result (IsWholeChange (change_of self.entry)) }
+        ensures normal { OnOk result (SetsNormal self.entry) }
         ensures fault { IfErr result (IsRefusedFor engine.old self.entry) }
     {
         let asked = self.asked()?;
@@ -152,6 +162,7 @@ impl Asked<'_> {
     fn make(self, alloc: Global, engine: &mut Engine<'_>) -> Result<(), Fault>
         ensures ok { OnOk result (apply engine.old (asked_change self.entry) ≡ Ok engine.new) }
         ensures whole { OnOk result (IsWholeChange (asked_change self.entry)) }
+        ensures shallow { OnOk result (SetsShallow (asked_change self.entry)) }
         ensures fault { IfErr result (IsAskedInVain engine.old self.entry) }
     {
         match self {
@@ -160,6 +171,18 @@ impl Asked<'_> {
             Asked::ResetBelow(directory) => or_fault(engine.reset_dir(directory)),
         }
     }
+}
+
+/// Whether bytes are not those that are written for their value, and that is not too deep to be
+/// told: it is too large then.
+fn is_bad(view: View<'_>) -> bool
+    ensures bad { IsTrue result → IsBadValue (view_ty view.entry) (view_bytes view.entry) }
+    ensures good { result ≡ false → is_too_large (value view.entry) ≡ false → IsNormal (view_ty view.entry) (view_bytes view.entry) }
+{
+    if is_normal(view) {
+        return false;
+    }
+    !view.is_too_large()
 }
 
 /// Sets a key, or leaves the engine as it was.
@@ -171,6 +194,7 @@ fn set(
 ) -> Result<(), Fault>
     ensures ok { OnOk result (apply engine.old (set_value (key_text path.entry) (value view.entry)) ≡ Ok engine.new) }
     ensures whole { OnOk result (IsLimitedValue (value view.entry)) }
+    ensures shallow { OnOk result (is_too_large (value view.entry) ≡ false) }
     ensures fault { IfErr result (IsSetInVain engine.old (key_text path.entry) (value view.entry)) }
 {
     match view.to_tree(alloc) {

@@ -41,6 +41,8 @@ pub enum Fault {
     TooLarge,
     /// A database would have over 4,294,967,295 bytes.
     TooBig,
+    /// A value's bytes are not in normal form at its type.
+    BadValue,
 }
 
 impl Fault {
@@ -68,6 +70,7 @@ impl Fault {
             Fault::Locked => 16,
             Fault::TooLarge => 17,
             Fault::TooBig => 18,
+            Fault::BadValue => 20,
         }
     }
 
@@ -95,6 +98,7 @@ impl Fault {
             16 => Some(Fault::Locked),
             17 => Some(Fault::TooLarge),
             18 => Some(Fault::TooBig),
+            20 => Some(Fault::BadValue),
             _ => None,
         }
     }
@@ -123,6 +127,7 @@ impl Fault {
             Fault::Locked => "the key is locked",
             Fault::TooLarge => "the value is nested too deep or too long",
             Fault::TooBig => "the database would have over 4294967295 bytes",
+            Fault::BadValue => "the value's bytes are not in normal form at its type",
         }
     }
 }

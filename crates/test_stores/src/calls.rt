@@ -149,6 +149,16 @@ fn change(path: &[u8], sets: bool) -> DconfdbChange<'_> {
     }
 }
 
+/// Sets a key to the first three bytes of an `i`.
+fn cut(path: &[u8]) -> DconfdbChange<'_> {
+    DconfdbChange {
+        path,
+        value: b"\x05\0\0",
+        type_text: b"i",
+        sets: true,
+    }
+}
+
 /// The number of the refusal of these changes, and its index.
 fn refusal(alloc: Global, layers: &[Layer<'_>], changes: &[DconfdbChange<'_>]) -> (u32, usize) {
     match user_file(alloc, layers, true, changes) {
@@ -182,6 +192,7 @@ fn are_refused(alloc: Global, layers: &[Layer<'_>]) -> bool {
     refusal(alloc, layers, &[set]) == (0, 0)
         && refusal(alloc, layers, &[set, change(b"/k", false)]) == (16, 1)
         && refusal(alloc, layers, &[set, set, change(b"/a/", true)]) == (13, 2)
+        && refusal(alloc, layers, &[set, cut(b"/k")]) == (20, 1)
 }
 
 /// Whether what is read after changes is what was set.

@@ -10,4 +10,4 @@ returns-in-Err-clause-fault c =
 
 pub loop-at-preserved : goal.loop-at-preserved
 loop-at-preserved c =
-    changed_more c.args.changes.now c.loop-at.at _ c.args.engine.now c.loop-at.engine c.make.new.engine c.loop-at-test.true c.loop-at.invariant c.in_default.ensures.whole c.in_default.ensures.ok
+    changed_more c.args.changes.now c.loop-at.at _ c.args.engine.now c.loop-at.engine c.make.new.engine c.loop-at-test.true c.loop-at.invariant c.in_default.ensures.whole c.in_default.ensures.normal c.in_default.ensures.ok
