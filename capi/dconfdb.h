@@ -140,7 +140,7 @@ typedef enum DconfdbErrorCode {
     DCONFDB_ERROR_BAD_ROOT = 5,         /* .. it has no root table */
     DCONFDB_ERROR_BAD_TABLE = 6,        /* .. its root table does not fit */
     DCONFDB_ERROR_UNSOUND = 7,          /* .. it breaks a rule of sound databases */
-    DCONFDB_ERROR_NOT_TEXT = 8,         /* the profile: it is not UTF-8 */
+    DCONFDB_ERROR_NOT_TEXT = 8,         /* the profile, or a text that is parsed: it is not UTF-8 */
     DCONFDB_ERROR_BAD_LINE = 9,         /* .. a line names no database */
     DCONFDB_ERROR_SERVICE_DB = 10,      /* .. a line names a service-db */
     DCONFDB_ERROR_USER_NOT_FIRST = 11,  /* .. a line names a user-db that is not the first */
@@ -151,8 +151,9 @@ typedef enum DconfdbErrorCode {
     DCONFDB_ERROR_LOCKED = 16,          /* the key is locked */
     DCONFDB_ERROR_VALUE_TOO_LARGE = 17, /* a value is nested too deep, or too long */
     DCONFDB_ERROR_FILE_TOO_LARGE = 18,  /* a file has more bytes than it may have, or would have */
-    DCONFDB_ERROR_DOUBLE_TEXT = 19,     /* a value to be printed holds a double */
+    DCONFDB_ERROR_DOUBLE_TEXT = 19,     /* a value to be printed, or a text that is parsed, holds a double */
     DCONFDB_ERROR_BAD_VALUE = 20,       /* a value's bytes are not in normal form at its type */
+    DCONFDB_ERROR_BAD_TEXT = 21,        /* a text that is parsed is not one of a value */
     DCONFDB_ERROR_FILE = 64,            /* a system call failed: `errnum` is its errno */
     DCONFDB_ERROR_BUSY = 65,            /* others held the lock for as long as a change waits */
     DCONFDB_ERROR_NO_FOLDER = 66        /* no folder is given, and none is found */
@@ -361,6 +362,15 @@ DCONFDB_API bool dconfdb_value_lookup(const DconfdbValue *value, const char *key
  * (VALUE_TOO_LARGE), or no memory is left. */
 DCONFDB_NODISCARD DCONFDB_API char *dconfdb_value_print(const DconfdbValue *value, DconfdbError *error)
     DCONFDB_NOEXCEPT DCONFDB_NONNULL((1));
+
+/* The value that a text has in GVariant's text format, such as `['one', 'two']` or `uint32 5`, as `dconfdb
+ * write` reads it: at the least type that the text allows, in normal form. Its data and type are in one
+ * block of the caller's, which free() of `data` frees; the type ends in a zero byte. So they may be put
+ * into an edit. False, and then `value` stays as it was: it is no such text (BAD_TEXT, and the error's
+ * text says what and where), it is not UTF-8 (NOT_TEXT), it holds a double (DOUBLE_TEXT), it has more than
+ * 16 MiB or 128 levels (VALUE_TOO_LARGE), or no memory is left. */
+DCONFDB_NODISCARD DCONFDB_API bool dconfdb_value_parse(const char *text, DconfdbValue *value, DconfdbError *error)
+    DCONFDB_NOEXCEPT DCONFDB_NONNULL((1, 2));
 
 /* ---- dconfdb_snapshot_list: names, keys and differences */
 

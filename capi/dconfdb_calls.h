@@ -147,7 +147,18 @@ enum {
     DCONFDB_TOO_LARGE,
     DCONFDB_TOO_BIG,
     DCONFDB_DOUBLE_TEXT = 19, /* of dconfdb_print_value alone; dconfdb_fault_text has no text of it */
-    DCONFDB_BAD_VALUE = 20
+    DCONFDB_BAD_VALUE = 20,
+
+    /* of dconfdb_parse_value alone, in the words of the command; dconfdb_fault_text has no text of them */
+    DCONFDB_BAD_TOKEN = 32,
+    DCONFDB_UNCLOSED,
+    DCONFDB_BAD_ESCAPE,
+    DCONFDB_UNEXPECTED,
+    DCONFDB_NO_COMMON_TYPE,
+    DCONFDB_AMBIGUOUS,
+    DCONFDB_OUT_OF_RANGE,
+    DCONFDB_BAD_OBJECT_PATH,
+    DCONFDB_BAD_SIGNATURE_TEXT
 };
 
 /* A database without items. */
@@ -166,6 +177,13 @@ bool dconfdb_fault_text(uint32_t number, DconfdbBytes *text);
  * value that holds a double, and then nothing is written. */
 uint32_t dconfdb_print_value(const uint8_t *type_text, size_t type_text_len, const uint8_t *value, size_t value_len, uint8_t *room,
                              size_t room_len, size_t *len);
+
+/* The value that a text has by its least type: `size` bytes in normal form, and behind them the text of the type.
+ * `len`, of both, as dconfdb_list has it. MEMORY, NOT_TEXT, TOO_LARGE of over 16 MiB or 128 levels, DOUBLE_TEXT, or BAD_TOKEN
+ * to BAD_SIGNATURE_TEXT, and then only `start` and `end` are written: where it is in the text, of a token or of the syntax;
+ * else 0. */
+uint32_t dconfdb_parse_value(const uint8_t *text, size_t text_len, uint8_t *room, size_t room_len, size_t *len, size_t *size,
+                             size_t *start, size_t *end);
 
 /* What bytes are at the type that a text spells. Any bytes have a value at any type, and false is only
  * said as follows; then `bits` or `found` stays as it was.

@@ -135,6 +135,7 @@ const char *dconfdb_error_name(DconfdbErrorCode code)
         NAMED(FILE_TOO_LARGE);
         NAMED(DOUBLE_TEXT);
         NAMED(BAD_VALUE);
+        NAMED(BAD_TEXT);
         NAMED(FILE);
         NAMED(BUSY);
         NAMED(NO_FOLDER);

@@ -1,7 +1,9 @@
-/* What is in a value, over the proved calls. */
+/* What is in a value, and the value of a text, over the proved calls. */
 #include "dconfdb.h"
 #include "dconfdb_calls.h"
+#include "refusing.h"
 
+#include <stdlib.h>
 #include <string.h>
 
 /* The bits of a number of the type with this letter. */
@@ -86,4 +88,47 @@ bool dconfdb_value_lookup(const DconfdbValue *value, const char *key, DconfdbVal
     bool is_found = dconfdb_look_up((const uint8_t *)value->type, value->type_size, value->data, value->size, (const uint8_t *)key, strlen(key),
                                     &part);
     return part_of(value, is_found, &part, child);
+}
+
+/* ---- the value of a text */
+
+/* What the command calls that which is wrong with a text. */
+static const char *const causes[] = {"BadToken",  "Unclosed",   "BadEscape",     "Unexpected",  "NoCommonType",
+                                     "Ambiguous", "OutOfRange", "BadObjectPath", "BadSignature"};
+
+/* Why a text has no value, and where, if it is in one place. */
+static bool refuse_text(DconfdbError *error, uint32_t number, size_t start, size_t end)
+{
+    switch (number) {
+    case DCONFDB_MEMORY: return refuse_memory(error);
+    case DCONFDB_NOT_TEXT: return refuse(error, DCONFDB_ERROR_NOT_TEXT, 0, nowhere, "the text is not UTF-8");
+    case DCONFDB_TOO_LARGE: return refuse(error, DCONFDB_ERROR_VALUE_TOO_LARGE, 0, nowhere, "the text's value is nested too deep or too long");
+    case DCONFDB_DOUBLE_TEXT: return refuse(error, DCONFDB_ERROR_DOUBLE_TEXT, 0, nowhere, "the text holds a double, which is not read");
+    default: break;
+    }
+    const char *cause = number - DCONFDB_BAD_TOKEN < sizeof causes / sizeof *causes ? causes[number - DCONFDB_BAD_TOKEN] : "BadToken";
+    if (number > DCONFDB_UNEXPECTED)
+        return refuse(error, DCONFDB_ERROR_BAD_TEXT, 0, nowhere, "the text is not one of a value: %s", cause);
+    return refuse(error, DCONFDB_ERROR_BAD_TEXT, 0, nowhere, "the text is not one of a value: %s at %zu..%zu", cause, start, end);
+}
+
+/* Calls with a room that mostly is enough, and else with one that is. */
+bool dconfdb_value_parse(const char *text, DconfdbValue *value, DconfdbError *error)
+{
+    size_t text_len = strlen(text), len = text_len < 1 << 24 ? 64 + 2 * text_len : 64, room_len, size = 0, start = 0, end = 0;
+    uint32_t number = DCONFDB_MEMORY;
+    do {
+        room_len = len;
+        uint8_t *room = malloc(room_len + 1);
+        if (!room)
+            return refuse_memory(error);
+        number = dconfdb_parse_value((const uint8_t *)text, text_len, room, room_len, &len, &size, &start, &end);
+        if (number == DCONFDB_OK && len <= room_len) {
+            room[len] = 0;
+            *value = (DconfdbValue){room, size, (const char *)room + size, len - size, 0};
+            return true;
+        }
+        free(room);
+    } while (number == DCONFDB_OK);
+    return refuse_text(error, number, start, end);
 }

@@ -11,6 +11,7 @@ mod listing;
 mod looking;
 mod opening;
 mod ordering;
+mod parsing;
 mod printing;
 mod queueing;
 mod reading;

@@ -1,2 +1,3 @@
 pub mod TypedLaws
 pub mod PartLaws
+pub mod WrittenLaws

@@ -2,9 +2,10 @@
 //! text spells.
 //!
 //! Any bytes have a value at any type (GVariant Specification, "Handling Non-Normal Serialised
-//! Data"), so no call fails: it answers None exactly at another type, or where there is no such
-//! child. Nothing is allocated, and whatever is handed out is lent from the bytes and the type's
-//! text. The crate dconfdb_c exports each call to C.
+//! Data"), so no call that reads them fails: it answers None exactly at another type, or where there
+//! is no such child. Nothing is allocated for that, and whatever is handed out is lent from the bytes
+//! and the type's text. [`value_of_text`] makes the bytes of a text's value. The crate dconfdb_c
+//! exports each call to C.
 //!
 //! ```
 //! let size = number(b"i", &[7, 0, 0, 0], b'i')?;
@@ -14,10 +15,12 @@
 #![tactic(auto)]
 
 mod numbers;
+mod parsing;
 mod parts;
 mod texts;
 mod typed;
 
 pub use numbers::number;
+pub use parsing::{Parsed, Unparsed, value_of_text};
 pub use parts::{DconfdbPart, child, lookup, n_children};
 pub use texts::text;

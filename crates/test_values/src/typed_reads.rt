@@ -1,5 +1,6 @@
-//! Values as C reads them: by the letter of a type, as a text, and part by part.
-use dconfdb_values::{DconfdbPart, child, lookup, n_children, number, text};
+//! Values as C reads them: by the letter of a type, as a text, and part by part; and values of texts.
+use dconfdb_values::{DconfdbPart, child, lookup, n_children, number, text, value_of_text};
+use std::alloc::Global;
 use std::test::Fail;
 
 /// What a part is, as its type's text and its first byte.
@@ -68,5 +69,58 @@ fn a_dictionary_is_looked_up(rt: HostRuntime) -> Result<(), Fail> {
         Some((b"y".as_slice(), 2))
     );
     assert!(rt; lookup(b"a{sy}", entries, "c").is_none() && lookup(b"ay", entries, "a").is_none());
+    Ok(())
+}
+
+/// Whether a text has a value of this type and these bytes.
+fn has_value(alloc: Global, text: &[u8], type_text: &[u8], bytes: &[u8]) -> bool {
+    match value_of_text(alloc, text) {
+        Ok(value) => {
+            value.block.get(..value.size) == Some(bytes)
+                && value.block.get(value.size..) == Some(type_text)
+        }
+        Err(_) => false,
+    }
+}
+
+/// The number of a text's fault, and where it is.
+fn fault_of(alloc: Global, text: &[u8]) -> Option<(u32, usize, usize)> {
+    match value_of_text(alloc, text) {
+        Ok(_) => None,
+        Err(why) => Some((why.number(), why.place().start, why.place().end)),
+    }
+}
+
+#[test]
+fn a_text_has_a_value(rt: HostRuntime) -> Result<(), Fail> {
+    let alloc = rt.alloc();
+    let rows: [(&str, &str, &[u8]); 5] = [
+        ("5", "i", b"\x05\0\0\0"),
+        ("'desk'", "s", b"desk\0"),
+        ("['a', 'b']", "as", b"a\0b\0\x02\x04"),
+        ("@as []", "as", b""),
+        ("<byte 7>", "v", b"\x07\0y"),
+    ];
+    for (text, type_text, bytes) in rows {
+        assert!(rt; has_value(alloc, text.as_bytes(), type_text.as_bytes(), bytes), "{text}");
+    }
+    let faults: [(&[u8], u32, usize, usize); 11] = [
+        (b"\xff", 8, 0, 0),
+        (b"1.5", 19, 0, 3),
+        (b"@d 5", 19, 0, 0),
+        (b"oops", 32, 0, 4),
+        (b"[1, (2,", 33, 4, 5),
+        (b"'\\u12'", 34, 1, 5),
+        (b"(1 2)", 35, 3, 4),
+        (b"[1, 'a']", 36, 0, 0),
+        (b"[]", 37, 0, 0),
+        (b"byte 256", 38, 0, 0),
+        (b"objectpath 'a'", 39, 0, 0),
+    ];
+    for (text, number, start, end) in faults {
+        let wanted = Some((number, start, end));
+        assert!(rt; fault_of(alloc, text) == wanted, "the fault {number}");
+    }
+    assert!(rt; fault_of(alloc, b"signature 'a{vs}'") == Some((40, 0, 0)), "a signature");
     Ok(())
 }
