@@ -139,7 +139,7 @@ static void set(const char *at) {
     static char text[] = "changed 0";
     DconfdbEdit edit = {at, "s", text, sizeof text};
     text[sizeof text - 2] ^= 1;
-    answer = dconfdb_store_change(store, &edit, 1, NULL);
+    answer = dconfdb_store_change(store, NULL, &edit, 1, NULL);
     needs(answer, "a change is refused");
 }
 

@@ -10,7 +10,7 @@
  *         if (!store)
  *             return fprintf(stderr, "%s\n", error.text), 1;
  *         DconfdbEdit edit = {"/org/desk/name", "s", "mine", sizeof "mine"};
- *         if (!dconfdb_store_change(store, &edit, 1, &error))
+ *         if (!dconfdb_store_change(store, NULL, &edit, 1, &error))
  *             fprintf(stderr, "%s\n", error.text);
  *         DconfdbSnapshot *now = dconfdb_store_snapshot(store);
  *         DconfdbValue name;
@@ -156,7 +156,8 @@ typedef enum DconfdbErrorCode {
     DCONFDB_ERROR_BAD_TEXT = 21,        /* a text that is parsed is not one of a value */
     DCONFDB_ERROR_FILE = 64,            /* a system call failed: `errnum` is its errno */
     DCONFDB_ERROR_BUSY = 65,            /* others held the lock for as long as a change waits */
-    DCONFDB_ERROR_NO_FOLDER = 66        /* no folder is given, and none is found */
+    DCONFDB_ERROR_NO_FOLDER = 66,       /* no folder is given, and none is found */
+    DCONFDB_ERROR_CHANGED = 67          /* something else is seen at an edit's path than was expected */
 } DconfdbErrorCode;
 
 /* What became of the user's file by a change. */
@@ -174,7 +175,7 @@ typedef struct DconfdbError {
     DconfdbErrorCode code;
     DconfdbOutcome outcome; /* of a change that failed; else DCONFDB_OUTCOME_KEPT */
     int errnum;             /* errno if the code is DCONFDB_ERROR_FILE, else 0 */
-    size_t edit;            /* the index of the bad edit, for BAD_PATH to VALUE_TOO_LARGE, BAD_VALUE; else 0 */
+    size_t edit;            /* the index of the bad edit, for BAD_PATH to VALUE_TOO_LARGE, BAD_VALUE, CHANGED; else 0 */
     size_t database;        /* the index of the database whose file is bad, else 0 */
     size_t line;            /* the profile's bad line, from 1, for BAD_LINE to TOO_MANY; else 0 */
     char text[512];         /* what failed, and for which file or key; if too long, it ends in "..." */
@@ -439,6 +440,14 @@ typedef struct DconfdbEdit {
  * has the edits, and what others changed meanwhile, in other databases too. A refused change may update
  * it as well. With no edits this returns true and looks at nothing.
  *
+ * With `expected`, a snapshot that the edits were thought out by, the change is refused as CHANGED if
+ * something else is seen by then at the path of an edit, `edit` of the error: another value, one where
+ * none was or none where one was, or a key that is locked and wasn't, or the other way round. Of a path
+ * that ends in `/`, any key below it counts that a database has. Values are compared, not bytes. The
+ * files are looked at under the lock, so nobody gets in between. Then take a new snapshot, and think
+ * again: so a counter that several programs increment loses no increment. NULL: whatever is there is
+ * changed.
+ *
  * If no edit changes anything, because the user has that value already, or none where one is removed,
  * no file is written, unless this store's last write ended with EITHER or UNSETTLED. Values are compared,
  * not bytes.
@@ -462,8 +471,8 @@ typedef struct DconfdbEdit {
  * all the same; UNSETTLED if the folder could not be synced after it. Only then the newest snapshot has
  * the edits. The text says so, too. After either of them, make the same edits again: if that returns true
  * they are on the disk. */
-DCONFDB_NODISCARD DCONFDB_API bool dconfdb_store_change(DconfdbStore *store, const DconfdbEdit *edits, size_t count,
-    DconfdbError *error)
+DCONFDB_NODISCARD DCONFDB_API bool dconfdb_store_change(DconfdbStore *store, const DconfdbSnapshot *expected,
+    const DconfdbEdit *edits, size_t count, DconfdbError *error)
     DCONFDB_NOEXCEPT DCONFDB_NONNULL((1));
 
 /* Whether the user already has what an edit asks for: this value of the key or, without a type, none.

@@ -288,6 +288,13 @@ uint32_t dconfdb_profile_lines(const uint8_t *text, size_t len, DconfdbName *roo
 uint32_t dconfdb_change(const DconfdbLayer *layers, size_t n, bool writable, const DconfdbChange *changes, size_t changes_len,
                         uint8_t *room, size_t room_len, size_t *len, size_t *at);
 
+/* The first of these changes at whose path something else is seen through the layers than through the expected ones:
+ * another value, or one where none was, or the key is locked through one of them alone. Of a path that ends in '/' each
+ * key below it that a database has is asked. `changed` says whether there is one, and `at` is its index, or stays. A path
+ * of no key and no directory is passed over. MEMORY, and then nothing is written. */
+uint32_t dconfdb_changed_since(const DconfdbLayer *expected, size_t expected_n, const DconfdbLayer *layers, size_t n,
+                               const DconfdbChange *changes, size_t changes_len, bool *changed, size_t *at);
+
 /* A turn of which nothing is done yet. */
 void dconfdb_turn_begin(DconfdbTurn *turn);
 

@@ -139,6 +139,7 @@ const char *dconfdb_error_name(DconfdbErrorCode code)
         NAMED(FILE);
         NAMED(BUSY);
         NAMED(NO_FOLDER);
+        NAMED(CHANGED);
     }
     return "UNKNOWN";
 }

@@ -1244,6 +1244,7 @@ typedef struct {
     DconfdbChange *changes; /* all three are in one block */
     DconfdbTime *times;
     size_t *edits;
+    const DconfdbSnapshot *expected; /* NULL: whatever is seen */
 } Asking;
 
 static void asking_free(Asking *asking)
@@ -1255,6 +1256,7 @@ static void asking_free(Asking *asking)
 static bool asking_begin(Asking *asking, const DconfdbEdit *edits, const uint64_t *moments, size_t count)
 {
     asking->count = count;
+    asking->expected = NULL;
     size_t size = sizeof *asking->changes + sizeof *asking->times + sizeof *asking->edits;
     asking->changes = count <= SIZE_MAX / size ? malloc(count * size) : NULL;
     if (!asking->changes)
@@ -1395,10 +1397,30 @@ static bool make_bytes(Changing *it, FileBytes *file)
     return !it->is_nothing;
 }
 
+/* Whether the same is seen at the paths that are to be changed as was expected. */
+static bool is_as_expected(const DconfdbSnapshot *now, const Asking *asking, DconfdbError *error)
+{
+    const DconfdbSnapshot *expected = asking->expected;
+    bool is_changed = false;
+    size_t at = 0;
+    if (!expected)
+        return true;
+    uint32_t number = dconfdb_changed_since(expected->layers, expected->count, now->layers, now->count, asking->changes, asking->count,
+                                            &is_changed, &at);
+    if (number != DCONFDB_OK)
+        return refuse_memory(error);
+    if (!is_changed)
+        return true;
+    return refuse(error, DCONFDB_ERROR_CHANGED, 0, (Place){.edit = asking->edits[at]}, "%s: something else is seen there by now",
+                  (const char *)asking->changes[at].path.at);
+}
+
 /* What has to be had for the newer snapshot is had now, so that nothing fails after the file is in place. */
 static bool make_newer(Changing *it, size_t *len)
 {
     FileBytes file;
+    if (!is_as_expected(it->store->now, it->asking, it->error))
+        return false;
     leave_out(it->asking, it->store, it->order, it->before);
     if (!make_bytes(it, &file))
         return false;
@@ -1540,24 +1562,33 @@ static bool change_nothing(DconfdbStore *store, const Asking *asking, DconfdbErr
 {
     FileBytes file;
     pthread_mutex_lock(&store->refreshing);
-    bool done = (!store->user_file || refresh(store, NO_FOLDER, error)) && make_file(store, asking->changes, asking->count, &file, error);
+    bool done = (!store->user_file || refresh(store, NO_FOLDER, error)) && is_as_expected(store->now, asking, error)
+        && make_file(store, asking->changes, asking->count, &file, error);
     pthread_mutex_unlock(&store->refreshing);
     if (done)
         file_release(&file);
     return done;
 }
 
-bool locked_change(DconfdbStore *store, const FolderLock *lock, const DconfdbEdit *edits, const uint64_t *moments, size_t count,
-                   DconfdbError *error)
+/* `lock` is NULL where no file is to be made. */
+static bool change_if(DconfdbStore *store, const FolderLock *lock, const DconfdbSnapshot *expected, const DconfdbEdit *edits,
+                      const uint64_t *moments, size_t count, DconfdbError *error)
 {
     Asking asking;
     if (count == 0)
         return true;
     if (!asking_begin(&asking, edits, moments, count))
         return refuse_memory(error);
+    asking.expected = expected;
     bool done = store->user_file && lock ? change_in_turn(store, lock, &asking, error) : change_nothing(store, &asking, error);
     asking_free(&asking);
     return done;
+}
+
+bool locked_change(DconfdbStore *store, const FolderLock *lock, const DconfdbEdit *edits, const uint64_t *moments, size_t count,
+                   DconfdbError *error)
+{
+    return change_if(store, lock, NULL, edits, moments, count, error);
 }
 
 /* Whether there is nothing that could be changed: no user's database, or no file of it, and nothing is set. So no
@@ -1574,16 +1605,17 @@ static bool has_nothing(const DconfdbStore *store, const DconfdbEdit *edits, siz
     return file_look(store->user_file, &state) == 0 && !state.is_there;
 }
 
-bool dconfdb_store_change(DconfdbStore *store, const DconfdbEdit *edits, size_t count, DconfdbError *error)
+bool dconfdb_store_change(DconfdbStore *store, const DconfdbSnapshot *expected, const DconfdbEdit *edits, size_t count,
+                          DconfdbError *error)
 {
     FolderLock lock;
     int wait = store->options.longest_wait;
     if (count == 0 || has_nothing(store, edits, count))
-        return locked_change(store, NULL, edits, NULL, count, error);
+        return change_if(store, NULL, expected, edits, NULL, count, error);
     int fault = folder_lock(store->place.folder, wait < 0 ? WITHOUT_END : wait, &lock);
     if (fault != 0)
         return refuse_lock(store, fault, error);
-    bool done = locked_change(store, &lock, edits, NULL, count, error);
+    bool done = change_if(store, &lock, expected, edits, NULL, count, error);
     folder_unlock(&lock);
     return done;
 }

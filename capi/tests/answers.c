@@ -124,7 +124,7 @@ static int edits(DconfdbStore *store)
         }
     }
     DconfdbSnapshot *before = dconfdb_store_snapshot(store);
-    bool done = dconfdb_store_change(store, all, count, &error);
+    bool done = dconfdb_store_change(store, NULL, all, count, &error);
     DconfdbSnapshot *after = dconfdb_store_snapshot(store);
     if (done)
         prints_texts(dconfdb_snapshot_differences(after, before, NULL, &error));

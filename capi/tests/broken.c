@@ -24,7 +24,7 @@ static atomic_bool has_begun;
 static void reads_users(void)
 {
     DconfdbEdit edit = sets_text("/users", "mine");
-    TRY(dconfdb_store_change(store, &edit, 1, &error));
+    TRY(dconfdb_store_change(store, NULL, &edit, 1, &error));
     now = dconfdb_store_snapshot(store);
     TRY(dconfdb_snapshot_read(now, "/users", &value) && is_text(&value, "mine"));
 }

@@ -34,7 +34,7 @@ static bool are(char *list, const size_t *size, const char *wanted, size_t wante
 
 static bool changes(DconfdbStore *store, DconfdbEdit edit)
 {
-    return dconfdb_store_change(store, &edit, 1, &error);
+    return dconfdb_store_change(store, NULL, &edit, 1, &error);
 }
 
 static void tries_reading(DconfdbStore *store)
@@ -91,7 +91,7 @@ static void tries_iterating(DconfdbStore *store)
     const char *path;
     DconfdbValue value;
     DconfdbEdit edits[] = {sets_text("/a-b", "1"), sets_text("/a/x", "2"), sets_text("/a/b/c", "3"), sets_text("/a", "4"), sets_text("/org/desk/name", "mine")};
-    TRY(dconfdb_store_change(store, edits, 5, &error));
+    TRY(dconfdb_store_change(store, NULL, edits, 5, &error));
     DconfdbSnapshot *now = dconfdb_store_snapshot(store);
     TRY(has_keys(now, "/", "/a /a-b /a/b/c /a/x /far/key /org/desk/name /org/desk/size ") && has_keys(now, "/a/", "/a/b/c /a/x "));
     TRY(has_keys(now, "/org/", "/org/desk/name /org/desk/size ") && has_keys(now, "/none/", ""));
@@ -116,7 +116,7 @@ static void tries_changing(DconfdbStore *store)
     memset(&error, 7, sizeof error);
     DconfdbEdit two[] = {sets_text("/org/desk/name", "mine"), sets_text("/b/x", "")};
     /* A call that is done leaves the error alone. */
-    TRY(dconfdb_store_change(store, two, 2, &error) && error.code != 0);
+    TRY(dconfdb_store_change(store, NULL, two, 2, &error) && error.code != 0);
     now = dconfdb_store_snapshot(store);
     TRY(has(old, "/org/desk/name", "desk") && has(now, "/org/desk/name", "mine") && has(now, "/b/x", ""));
     TRY(dconfdb_snapshot_read_default(now, "/org/desk/name", &value) && is_text(&value, "desk"));
@@ -129,13 +129,13 @@ static void tries_changing(DconfdbStore *store)
     /* All or none; the edit at fault is told. */
     two[0] = sets_text("/b/x", "lost");
     two[1] = sets_text("/org/desk/size", "lost");
-    TRY(!dconfdb_store_change(store, two, 2, &error) && is_fault(DCONFDB_ERROR_LOCKED, "/org/desk/size", "locked") && error.edit == 1);
+    TRY(!dconfdb_store_change(store, NULL, two, 2, &error) && is_fault(DCONFDB_ERROR_LOCKED, "/org/desk/size", "locked") && error.edit == 1);
     two[1] = (DconfdbEdit){"/b/y", "z", "", 0};
-    TRY(!dconfdb_store_change(store, two, 2, &error) && is_fault(DCONFDB_ERROR_BAD_TYPE, "/b/y", "type") && error.edit == 1);
+    TRY(!dconfdb_store_change(store, NULL, two, 2, &error) && is_fault(DCONFDB_ERROR_BAD_TYPE, "/b/y", "type") && error.edit == 1);
     two[1] = (DconfdbEdit){"/b/y", "", NULL, 0};
-    TRY(!dconfdb_store_change(store, two, 2, NULL));
+    TRY(!dconfdb_store_change(store, NULL, two, 2, NULL));
     two[1] = (DconfdbEdit){"b", NULL, NULL, 0};
-    TRY(!dconfdb_store_change(store, two, 2, &error) && is_fault(DCONFDB_ERROR_BAD_PATH, "b", "path") && error.edit == 1);
+    TRY(!dconfdb_store_change(store, NULL, two, 2, &error) && is_fault(DCONFDB_ERROR_BAD_PATH, "b", "path") && error.edit == 1);
     TRY(!changes(store, (DconfdbEdit){"//", NULL, NULL, 0}) && error.code == DCONFDB_ERROR_BAD_PATH && error.edit == 0);
     old = dconfdb_store_snapshot(store);
     TRY(old == now);
@@ -143,8 +143,8 @@ static void tries_changing(DconfdbStore *store)
 
     /* The same in one: a later edit sees the earlier ones. */
     DconfdbEdit many[] = {sets_text("/b/y", "1"), {"/b/", NULL, NULL, 0}, sets_text("/b/z", "2"), {"/org/desk/name", NULL, NULL, 0}};
-    TRY(dconfdb_store_change(store, many, 4, &error));
-    TRY(dconfdb_store_change(store, NULL, 0, &error));
+    TRY(dconfdb_store_change(store, NULL, many, 4, &error));
+    TRY(dconfdb_store_change(store, NULL, NULL, 0, &error));
     dconfdb_snapshot_unref(now);
     now = dconfdb_store_snapshot(store);
     TRY(has(now, "/b/x", NULL) && has(now, "/b/y", NULL) && has(now, "/b/z", "2") && has(now, "/org/desk/name", "desk"));
@@ -174,7 +174,7 @@ static void takes_file_of(const DconfdbEdit *edits, size_t count)
 {
     makes_profile("lockless/profile", "user-db:me\n");
     DconfdbStore *store = dconfdb_store_open("lockless", &error);
-    TRY(store && dconfdb_store_change(store, edits, count, &error) && rename("lockless/me.user", "me.user") == 0);
+    TRY(store && dconfdb_store_change(store, NULL, edits, count, &error) && rename("lockless/me.user", "me.user") == 0);
     dconfdb_store_close(store);
 }
 

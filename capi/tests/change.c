@@ -12,7 +12,7 @@ static DconfdbError error = DCONFDB_ERROR_INIT;
 static bool change(DconfdbStore *store, const char *path)
 {
     DconfdbEdit edit = sets_text(path, "changed");
-    if (!dconfdb_store_change(store, &edit, 1, &error)) {
+    if (!dconfdb_store_change(store, NULL, &edit, 1, &error)) {
         fprintf(stderr, "%s\n", error.text);
         return false;
     }

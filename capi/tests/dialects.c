@@ -19,7 +19,7 @@ static int changes(DconfdbStore *store, const char *type, const char *text)
     edit.type = type;
     edit.data = text;
     edit.size = text ? strlen(text) + 1 : 0;
-    return dconfdb_store_change(store, &edit, 1, &error) && error.code == DCONFDB_ERROR_NONE;
+    return dconfdb_store_change(store, NULL, &edit, 1, &error) && error.code == DCONFDB_ERROR_NONE;
 }
 
 static int has(DconfdbStore *store, const char *wanted)
@@ -39,7 +39,7 @@ static int is_refused(DconfdbStore *store)
 {
     DconfdbError error = DCONFDB_ERROR_INIT;
     DconfdbEdit edit = {"/shut/k", "s", "", 1};
-    return !dconfdb_store_change(store, &edit, 1, &error) && error.size == sizeof error && error.code == DCONFDB_ERROR_LOCKED
+    return !dconfdb_store_change(store, NULL, &edit, 1, &error) && error.size == sizeof error && error.code == DCONFDB_ERROR_LOCKED
         && error.outcome == DCONFDB_OUTCOME_KEPT && strcmp(dconfdb_error_name(error.code), "LOCKED") == 0;
 }
 

@@ -37,7 +37,7 @@ static void uses(const char *folder)
 {
     DconfdbStore *store = dconfdb_store_open(folder, NULL);
     DconfdbEdit edit = sets_text("/k", "1");
-    TRY(store && dconfdb_store_refresh(store, NULL, NULL) && dconfdb_store_change(store, &edit, 1, NULL));
+    TRY(store && dconfdb_store_refresh(store, NULL, NULL) && dconfdb_store_change(store, NULL, &edit, 1, NULL));
     char *files = dconfdb_store_files(folder, NULL, NULL);
     TRY(files);
     free(files);

@@ -39,7 +39,7 @@ static bool changes(DconfdbStore *store, const char *text)
     DconfdbEdit edit = sets_text("/k", text);
     count = 0;
     memset(&error, 0x7f, sizeof error);
-    return dconfdb_store_change(store, &edit, 1, &error);
+    return dconfdb_store_change(store, NULL, &edit, 1, &error);
 }
 
 /* What a program finds in the folder that opens the store now. */

@@ -18,7 +18,7 @@ static bool sets(const char *folder)
 {
     DconfdbStore *store = dconfdb_store_open(folder, &error);
     DconfdbEdit edit = sets_text("/key", "value");
-    bool done = store && dconfdb_store_change(store, &edit, 1, &error);
+    bool done = store && dconfdb_store_change(store, NULL, &edit, 1, &error);
     dconfdb_store_close(store);
     return done;
 }

@@ -34,6 +34,6 @@ int main(int argc, char **argv)
     TRY(argc == 2);
     DconfdbStore *store = dconfdb_store_open(argv[1], &error);
     TRY(store);
-    TRY(!dconfdb_store_change(store, &edit, 1, &error));
+    TRY(!dconfdb_store_change(store, NULL, &edit, 1, &error));
     return 1;
 }

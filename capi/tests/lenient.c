@@ -26,7 +26,7 @@ typedef struct {
 
 static bool changes(DconfdbStore *store, DconfdbEdit edit)
 {
-    return dconfdb_store_change(store, &edit, 1, &error);
+    return dconfdb_store_change(store, NULL, &edit, 1, &error);
 }
 
 static void writes(const char *name, const void *bytes, size_t len)
@@ -134,19 +134,19 @@ static void tries_what_is_there(void)
     TRY(!changes(store, (DconfdbEdit){"none", NULL, NULL, 0}) && error.code == DCONFDB_ERROR_BAD_PATH);
     TRY(!changes(store, (DconfdbEdit){"/org/desk/size", NULL, NULL, 0}) && error.code == DCONFDB_ERROR_LOCKED);
     DconfdbEdit all[] = {sets_text("/k", "1"), {"/pair", "(bt)", pair, 16}};
-    TRY(!has_edit(store, all[0]) && dconfdb_store_change(store, all, 2, &error) && has_edit(store, all[0]) && is_newest(store));
+    TRY(!has_edit(store, all[0]) && dconfdb_store_change(store, NULL, all, 2, &error) && has_edit(store, all[0]) && is_newest(store));
     Mark mark = mark_of("me.user");
-    TRY(dconfdb_store_change(store, all, 2, &error) && changes(store, reset) && changes(store, below) && stays("me.user", mark));
+    TRY(dconfdb_store_change(store, NULL, all, 2, &error) && changes(store, reset) && changes(store, below) && stays("me.user", mark));
     /* The same value in bytes that aren't in normal form. */
     all[1].data = other;
     TRY(!changes(store, all[1]) && error.code == DCONFDB_ERROR_BAD_VALUE && has_edit(store, all[1]) && stays("me.user", mark));
     all[1].data = pair;
     /* Edits that cancel each other out. */
     DconfdbEdit undone[] = {sets_text("/none", "1"), sets_text("/k", "2"), sets_text("/k", "1"), reset};
-    TRY(dconfdb_store_change(store, undone, 4, &error) && stays("me.user", mark) && !has_edit(store, undone[0]));
+    TRY(dconfdb_store_change(store, NULL, undone, 4, &error) && stays("me.user", mark) && !has_edit(store, undone[0]));
     /* A refusal is one also where another edit changes nothing. */
     DconfdbEdit locked[] = {sets_text("/k", "1"), sets_text("/org/desk/size", "1")};
-    TRY(!dconfdb_store_change(store, locked, 2, &error) && error.code == DCONFDB_ERROR_LOCKED && error.edit == 1);
+    TRY(!dconfdb_store_change(store, NULL, locked, 2, &error) && error.code == DCONFDB_ERROR_LOCKED && error.edit == 1);
     TRY(has_edit(store, reset) && has_edit(store, below) && !has_edit(store, root) && !has_edit(store, sets_text("/k", "2")));
     TRY(!has_edit(store, (DconfdbEdit){"/k", "o", "1", 2}) && stays("me.user", mark));
     /* What another changed meanwhile is not there any longer. */

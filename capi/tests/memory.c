@@ -120,7 +120,7 @@ static bool is_as_before(DconfdbStore *store, const State *before)
 static bool changes(DconfdbStore *store, const DconfdbEdit *edits, size_t count)
 {
     State before = state_of(store);
-    bool done = dconfdb_store_change(store, edits, count, &error);
+    bool done = dconfdb_store_change(store, NULL, edits, count, &error);
     TRY(!lacks_memory(done) || is_as_before(store, &before));
     return done;
 }
@@ -156,7 +156,7 @@ static void tries_writeless(const char *folder)
     DconfdbStore *store = dconfdb_store_open(name, &error);
     if (lacks_memory(store != NULL))
         return;
-    TRY(!dconfdb_store_change(store, &edit, 1, &error));
+    TRY(!dconfdb_store_change(store, NULL, &edit, 1, &error));
     TRY(error.code == DCONFDB_ERROR_NOT_WRITABLE || (lacks_memory(false) && growths >= refused));
     dconfdb_store_close(store);
 }
@@ -206,7 +206,7 @@ static void tries_lenient(void)
     DconfdbStore *store = dconfdb_store_open_lenient(bad.folder, &error);
     if (lacks_memory(store != NULL))
         return;
-    bool done = dconfdb_store_change(store, &edit, 1, &error);
+    bool done = dconfdb_store_change(store, NULL, &edit, 1, &error);
     State state = state_of(store);
     TRY(lacks_memory(done) == is_torn(&state));
     DconfdbSnapshot *now = dconfdb_store_snapshot(store);
@@ -248,7 +248,7 @@ static bool runs(const char *folder)
     lists(now, old);
     iterates(now);
     edits[1] = sets_text("/a/", "");
-    TRY(!dconfdb_store_change(store, edits, 2, &error));
+    TRY(!dconfdb_store_change(store, NULL, edits, 2, &error));
     TRY(error.code == DCONFDB_ERROR_BAD_PATH ? error.edit == 1 : error.code == DCONFDB_ERROR_MEMORY && error.edit == 0);
     memset(&error, 0x7f, sizeof error);
     dconfdb_snapshot_unref(old);
@@ -276,7 +276,7 @@ static void clears(const char *folder)
     refused = 0;
     DconfdbEdit all = {"/", NULL, NULL, 0};
     DconfdbStore *store = dconfdb_store_open(folder, &error);
-    TRY(store && dconfdb_store_change(store, &all, 1, &error));
+    TRY(store && dconfdb_store_change(store, NULL, &all, 1, &error));
     dconfdb_store_close(store);
 }
 

@@ -83,7 +83,7 @@ static void tries_setting(const char *folder)
     int32_t number = 0;
     TRY(store && dconfdb_value_parse("{'width': <-7>}", &value, &error));
     DconfdbEdit edit = {"/parsed", value.type, value.data, value.size};
-    TRY(dconfdb_store_change(store, &edit, 1, &error));
+    TRY(dconfdb_store_change(store, NULL, &edit, 1, &error));
     free((void *)value.data);
     DconfdbSnapshot *now = dconfdb_store_snapshot(store);
     TRY(dconfdb_snapshot_read(now, "/parsed", &found) && dconfdb_value_lookup(&found, "width", &found));

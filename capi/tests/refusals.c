@@ -124,8 +124,8 @@ static bool refuses_refresh(DconfdbStore *store, Fault fault)
 static bool refuses_change(DconfdbStore *store, const DconfdbEdit *edits, size_t count, Fault fault)
 {
     begins(store);
-    bool done = !dconfdb_store_change(store, edits, count, &error) && is_said(fault) && nothing_changed(store);
-    return done && !dconfdb_store_change(store, edits, count, NULL) && nothing_changed(store);
+    bool done = !dconfdb_store_change(store, NULL, edits, count, &error) && is_said(fault) && nothing_changed(store);
+    return done && !dconfdb_store_change(store, NULL, edits, count, NULL) && nothing_changed(store);
 }
 
 /* ---- edits: each after one that could be made, alone, and before one */
@@ -356,7 +356,7 @@ static void tries_no_user(void)
         TRY(refuses_change(store, edits + i, 1, fault));
     }
     TRY(refuses_change(store, edits + 3, 1, (Fault){DCONFDB_ERROR_BAD_PATH, 0, 0, 0, 0, "/a/", "the path is not one"}));
-    TRY(dconfdb_store_change(store, NULL, 0, &error));
+    TRY(dconfdb_store_change(store, NULL, NULL, 0, &error));
     dconfdb_store_close(store);
 }
 
@@ -369,7 +369,7 @@ static void tries_replacing(DconfdbStore *store)
     none.rlim_max = usual.rlim_max;
     TRY(setrlimit(RLIMIT_FSIZE, &none) == 0);
     forgets();
-    TRY(!dconfdb_store_change(store, &good, 1, &error));
+    TRY(!dconfdb_store_change(store, NULL, &good, 1, &error));
     TRY(setrlimit(RLIMIT_FSIZE, &usual) == 0 && error.code == DCONFDB_ERROR_FILE && error.errnum == EFBIG && strstr(error.text, "/me.user"));
     TRY(error.edit == 0 && error.database == 0 && error.line == 0 && !strstr(error.text, "replaced"));
     begins(store);
@@ -410,7 +410,7 @@ static void tries_no_lock(DconfdbStore *store)
     TRY(chmod(".", 0777) == 0 && link("profile", ".lock") == 0 && chmod("profile", 0600) == 0);
     DconfdbEdit other = sets_text("/b", "3");
     struct stat found;
-    TRY(dconfdb_store_change(store, &other, 1, &error) && stat("profile", &found) == 0 && (found.st_mode & 0777) == 0600);
+    TRY(dconfdb_store_change(store, NULL, &other, 1, &error) && stat("profile", &found) == 0 && (found.st_mode & 0777) == 0600);
     TRY(unlink(".lock") == 0 && chmod(".", 0755) == 0);
 }
 
@@ -420,7 +420,7 @@ static void tries_busy(DconfdbStore *store)
     int lock = open(".lock", O_RDWR);
     TRY(lock >= 0 && flock(lock, LOCK_EX) == 0);
     begins(store);
-    TRY(!dconfdb_store_change(store, &good, 1, &error) && nothing_changed(store) && flock(lock, LOCK_UN) == 0 && close(lock) == 0);
+    TRY(!dconfdb_store_change(store, NULL, &good, 1, &error) && nothing_changed(store) && flock(lock, LOCK_UN) == 0 && close(lock) == 0);
     TRY(is_said((Fault){DCONFDB_ERROR_BUSY, 0, 0, 0, 0, "/me.user", "for ten seconds"}));
 }
 
@@ -429,7 +429,7 @@ int main(int argc, char **argv)
     TRY((argc == 2 || argc == 3) && chdir(argv[1]) == 0);
     DconfdbStore *store = dconfdb_store_open(".", &error);
     DconfdbEdit edits[] = {sets_text("/a/k", "1"), sets_text("/a/j", "2"), sets_text("/b", "3")};
-    TRY(store && dconfdb_store_change(store, edits, 3, &error));
+    TRY(store && dconfdb_store_change(store, NULL, edits, 3, &error));
     if (argc == 3) {
         tries_busy(store);
     } else {

@@ -51,7 +51,7 @@ static bool sets(DconfdbStore *store, const char *path, void (*puts_in)(Deep *),
     for (int i = 1; i < levels; i++)
         puts_in(&deep);
     DconfdbEdit edit = {path, deep.type, deep.data, deep.size};
-    return dconfdb_store_change(store, &edit, 1, &error);
+    return dconfdb_store_change(store, NULL, &edit, 1, &error);
 }
 
 /* The most levels that are stored: one more is refused. */
@@ -93,7 +93,7 @@ static void tries(void)
     TRY(store);
     int variants = most_levels(store, "/deep/variants", puts_in_variant), arrays = most_levels(store, "/deep/arrays", puts_in_array);
     DconfdbEdit edit = sets_text(longest, "1");
-    TRY(dconfdb_store_change(store, &edit, 1, &error));
+    TRY(dconfdb_store_change(store, NULL, &edit, 1, &error));
     DconfdbSnapshot *old = dconfdb_store_snapshot(store);
     TRY(sets(store, "/deep/variants", puts_in_variant, variants, 2) && sets(store, "/deep/arrays", puts_in_array, arrays, 2));
     DconfdbSnapshot *now = dconfdb_store_snapshot(store);
@@ -103,7 +103,7 @@ static void tries(void)
     TRY(dconfdb_store_refresh(store, NULL, &error) && dconfdb_store_fd(store, &error) >= 0);
     free(dconfdb_store_dispatch(store, NULL, &error));
     edit = (DconfdbEdit){"/", NULL, NULL, 0};
-    TRY(dconfdb_store_change(store, &edit, 1, &error));
+    TRY(dconfdb_store_change(store, NULL, &edit, 1, &error));
     dconfdb_snapshot_unref(old);
     dconfdb_snapshot_unref(now);
     dconfdb_store_close(store);

@@ -86,7 +86,7 @@ static bool is_quiet(DconfdbStore *store)
 
 static bool changes(DconfdbStore *store, DconfdbEdit edit)
 {
-    return dconfdb_store_change(store, &edit, 1, &error);
+    return dconfdb_store_change(store, NULL, &edit, 1, &error);
 }
 
 static void makes(const char *name, const char *text)
@@ -103,7 +103,7 @@ static void tries_changes(void)
     int file = dconfdb_store_fd(store, &error);
     TRY(file >= 0 && dconfdb_store_fd(store, NULL) == file && IS_TOLD(store, "/before\0") && is_quiet(store));
     DconfdbEdit two[] = {sets_text("/b", "1"), sets_text("/a", "1")};
-    TRY(dconfdb_store_change(other, two, 2, &error) && IS_TOLD(store, "/a\0/b\0") && is_quiet(store));
+    TRY(dconfdb_store_change(other, NULL, two, 2, &error) && IS_TOLD(store, "/a\0/b\0") && is_quiet(store));
     TRY(changes(store, sets_text("/own", "1")) && IS_TOLD(store, "/own\0") && is_quiet(store));
     TRY(changes(other, (DconfdbEdit){"/a", NULL, NULL, 0}) && changes(store, sets_text("/own", "2")) && dconfdb_store_refresh(store, NULL, NULL));
     TRY(IS_TOLD(store, "/a\0/own\0") && is_quiet(store));

@@ -68,7 +68,7 @@ int main(int argc, char **argv)
         char text[32];
         snprintf(text, sizeof text, "%ld", n);
         DconfdbEdit both[] = {sets_text("/one", text), sets_text("/other", text)};
-        TRY(dconfdb_store_change(store, both, 2, NULL));
+        TRY(dconfdb_store_change(store, NULL, both, 2, NULL));
     }
     atomic_store(&has_ended, true);
     for (int i = 0; i < READERS; i++) {

@@ -22,7 +22,7 @@ int main(int argc, char **argv)
         DconfdbEdit edits[2];
         for (int i = 0; i < 2; i++)
             edits[i] = number % RESET ? (DconfdbEdit){keys[i], "u", &number, sizeof number} : (DconfdbEdit){keys[i], NULL, NULL, 0};
-        if (!dconfdb_store_change(store, edits, 2, &error)) {
+        if (!dconfdb_store_change(store, NULL, edits, 2, &error)) {
             fprintf(stderr, "%s\n", error.text);
             return 1;
         }

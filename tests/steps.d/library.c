@@ -24,7 +24,7 @@ int main(int argc, char **argv)
     if (!store)
         return fprintf(stderr, "%s\n", error.text), 1;
     DconfdbEdit edit = {argv[2], "s", argv[3], strlen(argv[3]) + 1};
-    bool done = dconfdb_store_change(store, &edit, 1, &error);
+    bool done = dconfdb_store_change(store, NULL, &edit, 1, &error);
     printf("%d %s %d %s\n", done, outcomes[done ? DCONFDB_OUTCOME_MADE : error.outcome], error.errnum, has(store, argv[2], argv[3]) ? "new" : "old");
     if (!done)
         fprintf(stderr, "%s\n", error.text);

@@ -28,7 +28,7 @@ int main(int count, char **words)
         edit.data = g_variant_get_data(value);
         edit.size = g_variant_get_size(value);
     }
-    if (!store || !dconfdb_store_change(store, &edit, 1, &error))
+    if (!store || !dconfdb_store_change(store, NULL, &edit, 1, &error))
         return fprintf(stderr, "change: %s\n", error.text), 1;
     dconfdb_store_close(store);
 #endif

@@ -6,6 +6,7 @@
 
 mod changing;
 mod due;
+mod expecting;
 mod getting;
 mod listing;
 mod looking;

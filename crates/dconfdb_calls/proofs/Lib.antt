@@ -4,3 +4,4 @@ mod Refusals
 mod Stored
 mod LineLaws
 mod KeylessLaws
+mod SinceLaws

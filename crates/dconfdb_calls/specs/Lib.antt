@@ -11,3 +11,4 @@ pub mod Salvaged
 pub mod Keyless
 pub mod Changed
 pub mod Turns
+pub mod Since

@@ -28,6 +28,7 @@ mod opened;
 mod printed;
 mod profiles;
 mod salvaged;
+mod since;
 mod values;
 
 pub use changes::{DconfdbChange, Refused, user_file};
@@ -43,4 +44,5 @@ pub use opened::{BadFile, DconfdbUnsound, open_layer, open_layer_after};
 pub use printed::{Unprinted, value_text};
 pub use profiles::{BadProfile, DconfdbName, profile_databases};
 pub use salvaged::{Salvaged, salvaged_file};
+pub use since::first_changed_since;
 pub use values::{DconfdbFound, is_key_locked, is_key_writable, read, read_default, read_own};
