@@ -354,7 +354,8 @@ DCONFDB_API size_t dconfdb_value_n_children(const DconfdbValue *value) DCONFDB_N
 DCONFDB_API bool dconfdb_value_child(const DconfdbValue *value, size_t index, DconfdbValue *child)
     DCONFDB_NOEXCEPT DCONFDB_NONNULL((1, 3));
 
-/* The value of the first entry with this key in a dictionary whose keys are strings, such as `a{sv}`. */
+/* The value of the first entry with this key in a dictionary whose keys are strings or object paths, such
+ * as `a{sv}`. */
 DCONFDB_API bool dconfdb_value_lookup(const DconfdbValue *value, const char *key, DconfdbValue *child)
     DCONFDB_NOEXCEPT DCONFDB_NONNULL((1, 2, 3));
 

@@ -190,7 +190,7 @@ uint32_t dconfdb_parse_value(const uint8_t *text, size_t text_len, uint8_t *room
  *
  * The number, if the type is the one of this letter: of `b` 0 or 1, else the bits; `i` asks for an `h`
  * too. The text of an `s`, `o` or `g`, without a zero byte. The child at an index. The value of the first
- * entry with this key in an `a{sT}`. */
+ * entry with this key in an `a{sT}` or an `a{oT}`. */
 bool dconfdb_number_in(const uint8_t *type_text, size_t type_text_len, const uint8_t *value, size_t value_len, uint8_t letter,
                        uint64_t *bits);
 bool dconfdb_text_in(const uint8_t *type_text, size_t type_text_len, const uint8_t *value, size_t value_len, DconfdbBytes *found);

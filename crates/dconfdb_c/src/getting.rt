@@ -1,11 +1,10 @@
 //! What is in a value: its number, its text, its children.
 ghost use Rattle.std.specs.Prelude.{◌≡◌, ◌↔◌, IsTrue, IsUtf8, None, Some, false};
 ghost use Rattle.gv_model.specs.Decode.{decode};
-ghost use Rattle.gv_model.specs.Entries.{IsLookedUp};
 ghost use Rattle.gv_model.specs.Tree.{children, tree_at, trees_len};
 ghost use Rattle.gv_model.specs.TypeText.{type_at};
 ghost use Rattle.dconfdb_values.specs.Numbers.{IsNumber, IsNumberType};
-ghost use Rattle.dconfdb_values.specs.Parts.{IsLentChild, part_value};
+ghost use Rattle.dconfdb_values.specs.Parts.{IsFound, IsLentChild, part_value};
 ghost use Rattle.dconfdb_values.specs.Texts.{IsText, IsTextType};
 
 use crate::opening::DconfdbText;
@@ -86,8 +85,9 @@ pub extern "C" fn dconfdb_child_at<'a>(
     }
 }
 
-/// The value of the first entry with this key in a dictionary of strings. False where no entry has
-/// it, at any other type, and where the key is no UTF-8; then `found` stays as it was.
+/// The value of the first entry with this key in a dictionary of strings or of object paths. False
+/// where no entry has it, at any other type, and where the key is no UTF-8; then `found` stays as it
+/// was.
 #[unsafe(no_mangle)]
 pub extern "C" fn dconfdb_look_up<'a>(
     type_text: &'a [u8],
@@ -95,8 +95,8 @@ pub extern "C" fn dconfdb_look_up<'a>(
     key: &[u8],
     found: &mut DconfdbPart<'a>,
 ) -> bool
-    ensures value { IsTrue result → IsLookedUp (decode (type_at type_text.entry.now) value.entry.now) key.now (Some (part_value found.new)) }
-    ensures none { result ≡ false → IsUtf8 key.now → IsLookedUp (decode (type_at type_text.entry.now) value.entry.now) key.now None }
+    ensures value { IsTrue result → IsFound (decode (type_at type_text.entry.now) value.entry.now) key.now (Some (part_value found.new)) }
+    ensures none { result ≡ false → IsUtf8 key.now → IsFound (decode (type_at type_text.entry.now) value.entry.now) key.now None }
     ensures text { IsTrue result → IsUtf8 key.now }
     ensures kept { result ≡ false → found.new ≡ found.old }
 {

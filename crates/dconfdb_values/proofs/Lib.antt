@@ -1,3 +1,4 @@
 pub mod TypedLaws
 pub mod PartLaws
 pub mod WrittenLaws
+pub mod PathEntries

@@ -14,6 +14,7 @@
 //! ```
 #![tactic(auto)]
 
+mod entries;
 mod numbers;
 mod parsing;
 mod parts;

@@ -1,13 +1,13 @@
 //! The children of a container.
 ghost use Rattle.std.specs.Prelude.{◌≡◌, IfSome, option_map};
-ghost use Rattle.gv_model.specs.Entries.{IsLookedUp};
 ghost use Rattle.gv_model.specs.Tree.{children, tree_at, trees_len};
 ghost use Rattle.gv_model.specs.TypeText.{type_at};
 ghost use Rattle.gv_model.specs.Decode.{decode};
 ghost use Rattle.gv_model.specs.Ty.{spelling};
-ghost use Rattle.gv_view.specs.Views.{shown, view_bytes, view_ty};
-ghost use Rattle.dconfdb_values.specs.Parts.{IsLentChild, part_value, shown_part};
+ghost use Rattle.gv_view.specs.Views.{shown, value, view_bytes, view_ty};
+ghost use Rattle.dconfdb_values.specs.Parts.{IsFound, IsLentChild, part_value, shown_part};
 
+use crate::entries::{entry_at_path, has_paths};
 use crate::typed::view_of;
 use gv_view::View;
 
@@ -45,15 +45,26 @@ pub fn child<'a>(type_text: &'a [u8], bytes: &'a [u8], index: usize) -> Option<D
     Some(part_of(found))
 }
 
-/// The value of the first entry with this key in a dictionary of strings, `a{sT}`. None where no
-/// entry has it, and at any other type.
+/// The value of the first entry with this key in a dictionary of strings, `a{sT}`, or of object paths,
+/// `a{oT}`. None where no entry has it, and at any other type.
 ///
 /// It goes over the entries once.
 pub fn lookup<'a>(type_text: &'a [u8], bytes: &'a [u8], key: &str) -> Option<DconfdbPart<'a>>
-    ensures { IsLookedUp (decode (type_at type_text.entry.now) bytes.entry.now) key.now (option_map part_value result) }
+    ensures { IsFound (decode (type_at type_text.entry.now) bytes.entry.now) key.now (option_map part_value result) }
 {
-    let found = view_of(type_text, bytes)?.entry(key)?;
+    let found = entry_at(view_of(type_text, bytes)?, key)?;
     Some(part_of(found))
+}
+
+/// The value of the first entry with this key.
+fn entry_at<'a>(view: View<'a>, key: &str) -> Option<View<'a>>
+    ensures { IsFound (value view.entry) key.now (option_map value result) }
+{
+    if has_paths(view.type_str()) {
+        entry_at_path(view, key)
+    } else {
+        view.entry(key)
+    }
 }
 
 /// What a view shows, as C takes it.

@@ -69,6 +69,19 @@ fn a_dictionary_is_looked_up(rt: HostRuntime) -> Result<(), Fail> {
         Some((b"y".as_slice(), 2))
     );
     assert!(rt; lookup(b"a{sy}", entries, "c").is_none() && lookup(b"ay", entries, "a").is_none());
+    // {'/b': byte 1, 'no path': 2} as a{oy}: what is no path is read as `/`.
+    let paths = b"/b\0\x01\x03no path\0\x02\x08\x05\x0f";
+    assert_eq!(rt;
+        head(lookup(b"a{oy}", paths, "/b")),
+        Some((b"y".as_slice(), 1))
+    );
+    assert_eq!(rt;
+        head(lookup(b"a{oy}", paths, "/")),
+        Some((b"y".as_slice(), 2))
+    );
+    assert!(rt;
+        lookup(b"a{oy}", paths, "no path").is_none() && lookup(b"ao", paths, "/b").is_none()
+    );
     Ok(())
 }
 
@@ -102,7 +115,10 @@ fn a_text_has_a_value(rt: HostRuntime) -> Result<(), Fail> {
         ("<byte 7>", "v", b"\x07\0y"),
     ];
     for (text, type_text, bytes) in rows {
-        assert!(rt; has_value(alloc, text.as_bytes(), type_text.as_bytes(), bytes), "{text}");
+        assert!(rt;
+            has_value(alloc, text.as_bytes(), type_text.as_bytes(), bytes),
+            "{text}"
+        );
     }
     let faults: [(&[u8], u32, usize, usize); 11] = [
         (b"\xff", 8, 0, 0),
@@ -121,6 +137,9 @@ fn a_text_has_a_value(rt: HostRuntime) -> Result<(), Fail> {
         let wanted = Some((number, start, end));
         assert!(rt; fault_of(alloc, text) == wanted, "the fault {number}");
     }
-    assert!(rt; fault_of(alloc, b"signature 'a{vs}'") == Some((40, 0, 0)), "a signature");
+    assert!(rt;
+        fault_of(alloc, b"signature 'a{vs}'") == Some((40, 0, 0)),
+        "a signature"
+    );
     Ok(())
 }
