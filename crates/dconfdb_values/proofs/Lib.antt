@@ -1,4 +1,5 @@
 pub mod TypedLaws
 pub mod PartLaws
 pub mod WrittenLaws
+pub mod NumberLaws
 pub mod PathEntries

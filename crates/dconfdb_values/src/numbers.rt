@@ -1,69 +1,123 @@
 //! Numbers.
-ghost use Rattle.std.specs.Prelude.{◌≡◌, ◌↔◌, IfSome, IsSome, IsTrue, length};
+ghost use Rattle.std.specs.Prelude.{◌≡◌, ◌↔◌, IfSome, IsSome, IsTrue};
+ghost use Rattle.gv_model.specs.BasicValue.{truth};
+ghost use Rattle.gv_model.specs.Decode.{decode};
 ghost use Rattle.gv_model.specs.Layout.{basic_size};
-ghost use Rattle.gv_model.specs.BasicValue.{number_in};
-ghost use Rattle.gv_model.specs.Ty.{Ty.basic};
 ghost use Rattle.gv_model.specs.Tree.{Tree.number};
+ghost use Rattle.gv_model.specs.Ty.{Ty.basic};
+ghost use Rattle.gv_model.specs.TypeText.{mark};
 ghost use Rattle.gv_types.specs.Classes.{basic_of};
-ghost use Rattle.gv_view.specs.Views.{value, view_ty};
-ghost use Rattle.dconfdb_values.specs.Numbers.{IsAskedBy, IsNumber, IsNumberType};
+ghost use Rattle.dconfdb_values.specs.Numbers.{IsAskedAs, IsNumber, IsNumberType, number_type, sized};
 
-use crate::typed::view_of;
 use byteorder::{ByteOrder, LittleEndian};
-use gv_types::{BasicType, Class};
-use gv_view::View;
+use gv_types::BasicType;
 
 /// The number that the bytes are at the type that the text spells, if it is the one of this
 /// letter: of `b` 0 or 1, and of the others the bits that they are written in, the lowest first. An
 /// index of a file descriptor, `h`, is asked for by `i` too. None at any other type.
+///
+/// The text of a number's type is its letter, so no other text is looked at.
 pub fn number(type_text: &[u8], bytes: &[u8], letter: u8) -> Option<u64>
     ensures some { IsSome result ↔ IsNumberType type_text.now letter }
     ensures value { IfSome result (IsNumber type_text.now bytes.now letter) }
 {
-    let view = view_of(type_text, bytes)?;
-    let Class::Basic(of) = view.type_str().class() else {
+    let [own] = type_text else {
         return None;
     };
-    if is_asked_by(of, letter) {
-        bits(view, of)
-    } else {
-        None
+    if !is_asked_as(*own, letter) {
+        return None;
+    }
+    Some(bits(type_of(*own)?, bytes))
+}
+
+/// Whether the letter asks for numbers of the type of that one.
+fn is_asked_as(own: u8, letter: u8) -> bool
+    ensures { IsTrue result ↔ IsAskedAs own letter }
+{
+    own == letter || (own == b'h' && letter == b'i')
+}
+
+/// The type of numbers that a letter spells.
+#[tactic(auto, unfolding(gv_model::specs::TypeText::mark))]
+fn type_of(letter: u8) -> Option<BasicType>
+    ensures { result ≡ number_type (mark letter) }
+{
+    match letter {
+        b'b' => Some(BasicType::Boolean),
+        b'y' => Some(BasicType::Byte),
+        b'n' => Some(BasicType::Int16),
+        b'q' => Some(BasicType::Uint16),
+        b'i' => Some(BasicType::Int32),
+        b'u' => Some(BasicType::Uint32),
+        b'x' => Some(BasicType::Int64),
+        b't' => Some(BasicType::Uint64),
+        b'h' => Some(BasicType::Handle),
+        b'd' => Some(BasicType::Double),
+        _ => None,
     }
 }
 
-/// Whether the letter asks for numbers of this type.
-fn is_asked_by(of: BasicType, letter: u8) -> bool
-    ensures { IsTrue result ↔ IsAskedBy (basic_of of) letter }
-{
-    let own = of.letter().as_bytes()[0];
-    own == letter || (of == BasicType::Handle && letter == b'i')
-}
-
-/// The bits of a number. A text has none.
-fn bits(view: View<'_>, of: BasicType) -> Option<u64>
-    requires { view_ty view ≡ basic (basic_of of) }
-    ensures some { IsSome result ↔ IsSome (basic_size (basic_of of)) }
-    ensures value { IfSome result (λ n. value view.entry ≡ number (basic_of of) n) }
+/// The bits of a number of a type.
+fn bits(of: BasicType, bytes: &[u8]) -> u64
+    requires { IsSome (basic_size (basic_of of)) }
+    ensures { decode (basic (basic_of of)) bytes.now ≡ number (basic_of of) result }
 {
     match of {
-        BasicType::Boolean => Some(u64::from(view.as_bool()?)),
-        BasicType::Byte => Some(u64::from(view.as_u8()?)),
-        BasicType::Int16 => Some(u64::from(view.as_i16()?.cast_unsigned())),
-        BasicType::Uint16 => Some(u64::from(view.as_u16()?)),
-        BasicType::Int32 => Some(u64::from(view.as_i32()?.cast_unsigned())),
-        BasicType::Uint32 => Some(u64::from(view.as_u32()?)),
-        BasicType::Int64 => Some(view.as_i64()?.cast_unsigned()),
-        BasicType::Uint64 => view.as_u64(),
-        BasicType::Handle => Some(u64::from(view.as_handle()?.cast_unsigned())),
-        BasicType::Double => Some(bits_in(&view.as_double_bits()?)),
-        BasicType::Text | BasicType::ObjectPath | BasicType::Signature => None,
+        BasicType::Boolean => truth_in(bytes),
+        BasicType::Byte => u64::from(one_byte(bytes)),
+        BasicType::Int16 | BasicType::Uint16 => two_bytes(bytes),
+        BasicType::Int32 | BasicType::Uint32 | BasicType::Handle => four_bytes(bytes),
+        _ => eight_bytes(bytes),
     }
 }
 
-/// The number that eight bytes are, the lowest first.
-fn bits_in(bytes: &[u8]) -> u64
-    requires { length bytes.now ≡ 8 }
-    ensures { result ≡ number_in bytes.now }
+/// Whether the number in one byte is another than 0, as 1 or 0.
+fn truth_in(bytes: &[u8]) -> u64
+    ensures { result ≡ truth (sized 1 bytes.now) }
 {
-    LittleEndian::read_u64(bytes)
+    let n = one_byte(bytes);
+    if n == 0 { 0 } else { 1 }
+}
+
+/// The number in one byte; 0 where there is not one.
+fn one_byte(bytes: &[u8]) -> u8
+    ensures { result ≡ sized 1 bytes.now }
+{
+    match bytes {
+        [byte] => *byte,
+        _ => 0,
+    }
+}
+
+/// The same of two bytes, the lowest first.
+fn two_bytes(bytes: &[u8]) -> u64
+    ensures { result ≡ sized 2 bytes.now }
+{
+    if bytes.len() == 2 {
+        u64::from(LittleEndian::read_u16(bytes))
+    } else {
+        0
+    }
+}
+
+/// Of four bytes.
+fn four_bytes(bytes: &[u8]) -> u64
+    ensures { result ≡ sized 4 bytes.now }
+{
+    if bytes.len() == 4 {
+        u64::from(LittleEndian::read_u32(bytes))
+    } else {
+        0
+    }
+}
+
+/// Of eight bytes.
+fn eight_bytes(bytes: &[u8]) -> u64
+    ensures { result ≡ sized 8 bytes.now }
+{
+    if bytes.len() == 8 {
+        LittleEndian::read_u64(bytes)
+    } else {
+        0
+    }
 }
