@@ -31,7 +31,7 @@ use std::io::{Read, Write};
 /// and `repair` why the file is no database, as `error: BadRoot`, and for `check` `unsound: S4 item 1` for the first rule that fails and
 /// the first item at which it does; a change, `error: NotWritable`, `error: Locked /a/k`, `error: TooLarge` or `error: TooBig`;
 /// a value to print, `error: TooLarge` for over 128 levels, and `error: DoubleText` for a double; for `dump` these two with the path of the
-/// first row at fault, as `error: TooLarge /a/k`, and `error: BadGroup /a[/k` or `error: BadKeyName /a/k=` for a path that no keyfile can name.
+/// first row at fault, as `error: TooLarge /a/k`, unless doubles are skipped, and `error: BadGroup /a[/k` or `error: BadKeyName /a/k=` for a path that no keyfile can name.
 ///
 /// It holds the bytes of the files that it reads once, and those that it writes. Only `load` reads the input: at most
 /// 16,777,217 bytes of it, in at most as many reads. `show` takes time linear in the file and in its text. Each command that opens a database asks first whether it

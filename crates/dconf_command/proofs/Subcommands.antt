@@ -16,7 +16,7 @@ use Rattle.std.specs.Box.{box_value}
 use Rattle.clap.specs.declared.ArgMatches.{ArgMatches}
 use Rattle.clap.specs.declared.error.Error.{Error}
 use Rattle.clap.proofs.WalkLemmas.{first_value-rows, raw_values-rows}
-use Rattle.dconf_command.specs.Asked.{AreOf, AsksToLoad, HasValue, IsParsedBy, AsksToCheck, AsksForOrigin, AsksToCompile, AsksToRead, AsksToRepair, AsksToShow, AsksToUpdate, IsPlacedBy, is_set, profile_file, AsksOfDirectory, AsksToReset, AsksToWrite}
+use Rattle.dconf_command.specs.Asked.{AreOf, AsksToLoad, HasValue, IsParsedBy, AsksToCheck, AsksForOrigin, AsksToCompile, AsksToRead, AsksToRepair, AsksToShow, AsksToUpdate, IsPlacedBy, is_set, profile_file, AsksOfDirectory, AsksToDump, AsksToReset, AsksToWrite}
 use Rattle.dconf_command.specs.CommandLine.{command_line, show_line}
 use Rattle.dconf_command.specs.declared.place.Place.{Place}
 use Rattle.dconf_command.proofs.Stops.{IsNotHelp, or_else_nil, walk_not_help}
@@ -147,7 +147,7 @@ list_is_plain = record {
 
 dump_is_plain : IsPlainSub (shape_at 4)
 dump_is_plain = record {
-  rules = (inl refl, (inr (inl refl), (inr (inl refl), (inr (inl refl), (inr (inr (refl, λ rows. refl)), tt)))));
+  rules = (inl refl, (inr (inl refl), (inr (inl refl), (inr (inl refl), (inr (inl refl), (inr (inr (refl, λ rows. refl)), tt))))));
   name = inl (inr (inr (inr (inr (inl refl)))));
 }
 
@@ -442,6 +442,17 @@ pub asks_of_directory : (name : Text) (words : List Text) (sub : ArgMatches) (di
 asks_of_directory name words sub directory profile named d p = record {
   rows = rows_of (found_of sub);
   named = named;
+  directory_value = sym (first_value-rows (found_of sub) (codes "DIR")) ∙ d;
+  profile_value = ap profile_file (sym (first_value-rows (found_of sub) (codes "profile"))) ∙ sym p;
+}
+
+pub asks_to_dump : (words : List Text) (sub : ArgMatches) (skip_doubles : Bool) (directory profile : Text) → AreOf words (codes "dump") sub
+    → skip_doubles ≡ is_set (first_value (found_of sub) (codes "skip-doubles")) → first_value (found_of sub) (codes "DIR") ≡ Some directory
+    → profile ≡ profile_file (first_value (found_of sub) (codes "profile")) → AsksToDump words skip_doubles directory profile
+asks_to_dump words sub skip_doubles directory profile named s d p = record {
+  rows = rows_of (found_of sub);
+  named = named;
+  skip_doubles_value = ap is_set (sym (first_value-rows (found_of sub) (codes "skip-doubles"))) ∙ sym s;
   directory_value = sym (first_value-rows (found_of sub) (codes "DIR")) ∙ d;
   profile_value = ap profile_file (sym (first_value-rows (found_of sub) (codes "profile"))) ∙ sym p;
 }

@@ -82,6 +82,14 @@ pub record AsksOfDirectory (name : Text) (words : List Text) (directory profile 
   pub directory_value : first_of (codes "DIR") rows ≡ Some directory
   pub profile_value : profile_file (first_of (codes "profile") rows) ≡ profile
 
+-- the words name `dump`, and clap gives its arguments these values
+pub record AsksToDump (words : List Text) (skip_doubles : Bool) (directory profile : Text) : Type 0 where
+  pub rows : List Row
+  pub named : subcommand_of command_line words ≡ Some (codes "dump", rows)
+  pub skip_doubles_value : is_set (first_of (codes "skip-doubles") rows) ≡ skip_doubles
+  pub directory_value : first_of (codes "DIR") rows ≡ Some directory
+  pub profile_value : profile_file (first_of (codes "profile") rows) ≡ profile
+
 -- the words name `write`, and clap gives its arguments these values
 pub record AsksToWrite (words : List Text) (key value profile : Text) : Type 0 where
   pub rows : List Row
@@ -113,7 +121,7 @@ IsAskedBy words (Read default key profile) = AsksToRead words default (string_by
 IsAskedBy words (Origin key profile) = AsksForOrigin words (string_bytes key) (string_bytes profile)
 IsAskedBy words (ListIt directory profile) = AsksOfDirectory (codes "list") words (string_bytes directory) (string_bytes profile)
 IsAskedBy words (ListLocks directory profile) = AsksOfDirectory (codes "list-locks") words (string_bytes directory) (string_bytes profile)
-IsAskedBy words (Dump directory profile) = AsksOfDirectory (codes "dump") words (string_bytes directory) (string_bytes profile)
+IsAskedBy words (Dump skip_doubles directory profile) = AsksToDump words skip_doubles (string_bytes directory) (string_bytes profile)
 IsAskedBy words (Check file) = AsksToCheck words (string_bytes file)
 IsAskedBy words (Compile out locks keyfiles) =
     AsksToCompile words (string_bytes out) (map string_bytes (vec_items locks)) (map string_bytes (vec_items keyfiles))

@@ -72,6 +72,14 @@ repair_line = with_rule (with_rule (new_app (codes "repair")) (required_word (co
 abbrev pub directory_line : Text → App
 directory_line name = with_store (with_rule (new_app name) (required_word (codes "DIR")))
 
+-- `--skip-doubles`
+abbrev pub skip_doubles_flag : Rule
+skip_doubles_flag = record (new_rule (codes "skip-doubles")) { long = Some (codes "skip-doubles"); action = Some SetTrue }
+
+-- `dump [--skip-doubles] DIR`
+abbrev pub dump_line : App
+dump_line = with_store (with_rule (with_rule (new_app (codes "dump")) (required_word (codes "DIR"))) skip_doubles_flag)
+
 -- `write KEY VALUE`
 abbrev pub write_line : App
 write_line = with_store (with_rule (with_rule (new_app (codes "write")) (required_word (codes "KEY"))) (required_word (codes "VALUE")))
@@ -104,7 +112,7 @@ with_keys line = with_subcommand (with_subcommand (with_subcommand line read_lin
 -- with `list`, `dump` and `load`
 abbrev pub with_directories : App → App
 with_directories line =
-    with_subcommand (with_subcommand (with_subcommand line (directory_line (codes "list")).top) (directory_line (codes "dump")).top) load_line.top
+    with_subcommand (with_subcommand (with_subcommand line (directory_line (codes "list")).top) dump_line.top) load_line.top
 
 -- with `origin` and `list-locks`
 abbrev pub with_sources : App → App

@@ -3,16 +3,17 @@ use Rattle.std.specs.Prelude.{List, Some, map}
 use Rattle.std.specs.List.{fold}
 use Rattle.clap.specs.Words.{App, Rule, new_app, new_rule, with_rule, with_subcommand}
 use Rattle.clap.specs.declared.builder.action.ArgAction.TheVariants.{SetTrue}
-use Rattle.dconf_command.specs.CommandLine.{further_words, locks_option, optional_word, profile_option, required_word, store_option, user_flag}
+use Rattle.dconf_command.specs.CommandLine.{further_words, locks_option, optional_word, profile_option, required_word, skip_doubles_flag, store_option, user_flag}
 use Rattle.dconf_command.specs.declared.command_table.Line.{Line}
 use Rattle.dconf_command.specs.declared.word.Word.{Word}
-use Rattle.dconf_command.specs.declared.word.Word.TheVariants.{Required, Optional, Further, Flag, Locks, Profile, User, Store}
+use Rattle.dconf_command.specs.declared.word.Word.TheVariants.{Required, Optional, Further, Flag, SkipDoubles, Locks, Profile, User, Store}
 
 abbrev pub rule_of_word : Word → Rule
 rule_of_word (Required name help) = required_word name.now
 rule_of_word (Optional name help) = optional_word name.now
 rule_of_word (Further name help) = further_words name.now
 rule_of_word (Flag name letter help) = record (new_rule name.now) { short = Some letter; action = Some SetTrue }
+rule_of_word (SkipDoubles help) = skip_doubles_flag
 rule_of_word Locks = locks_option
 rule_of_word Profile = profile_option
 rule_of_word User = user_flag

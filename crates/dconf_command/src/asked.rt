@@ -31,8 +31,10 @@ pub enum Command {
         directory: String,
         profile: String,
     },
-    /// Prints the values that are seen below `directory` by the profile in the file `profile`, as a keyfile.
+    /// Prints the values that are seen below `directory` by the profile in the file `profile`, as a keyfile; where `skip_doubles` is set,
+    /// those that have no text for a double in them are left out, and named in comments.
     Dump {
+        skip_doubles: bool,
         directory: String,
         profile: String,
     },
@@ -93,7 +95,12 @@ impl Command {
                 directory,
                 profile: file,
             },
-            Command::Dump { directory, .. } => Command::Dump {
+            Command::Dump {
+                skip_doubles,
+                directory,
+                ..
+            } => Command::Dump {
+                skip_doubles,
                 directory,
                 profile: file,
             },

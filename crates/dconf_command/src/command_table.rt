@@ -140,14 +140,20 @@ pub(crate) const COMMANDS: [Line<'static>; 13] = [
         ),
         words: &[word::DIR, Word::Profile, Word::User, Word::Store],
     },
-    // `dump DIR`.
+    // `dump [--skip-doubles] DIR`.
     Line {
         name: "dump",
         about: "Print all values below DIR as a keyfile",
         more: read_help!(
             examples: "  dconfdb dump /org/desk/ > desk.keys"
         ),
-        words: &[word::DIR, Word::Profile, Word::User, Word::Store],
+        words: &[
+            word::DIR,
+            word::NAMING_DOUBLES,
+            Word::Profile,
+            Word::User,
+            Word::Store,
+        ],
     },
     // `load [-f] DIR`.
     Line {

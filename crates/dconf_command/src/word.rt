@@ -2,7 +2,7 @@
 ghost use Rattle.std.specs.Prelude.{◌≡◌, codes, false, Some};
 ghost use Rattle.clap.specs.Words.{new_rule, rule_of};
 ghost use Rattle.clap.specs.declared.builder.action.ArgAction.TheVariants.{SetTrue};
-ghost use Rattle.dconf_command.specs.CommandLine.{further_words, locks_option, optional_word, profile_option, required_word, store_option, user_flag};
+ghost use Rattle.dconf_command.specs.CommandLine.{further_words, locks_option, optional_word, profile_option, required_word, skip_doubles_flag, store_option, user_flag};
 ghost use Rattle.dconf_command.specs.Taken.{rule_of_word};
 
 use clap::{Arg, ArgAction};
@@ -30,6 +30,10 @@ pub(crate) enum Word<'a> {
     Flag {
         name: &'a str,
         letter: char,
+        help: &'a str,
+    },
+    /// `--skip-doubles`.
+    SkipDoubles {
         help: &'a str,
     },
     /// `--locks FILE`, any number of times.
@@ -117,6 +121,11 @@ pub(crate) const LEAVING: Word<'static> = Word::Flag {
     help: "skip locked keys instead of failing",
 };
 
+/// Whether keys whose value has a double are left out, in place of a refusal.
+pub(crate) const NAMING_DOUBLES: Word<'static> = Word::SkipDoubles {
+    help: "name keys whose value has a double in comments instead of failing",
+};
+
 impl<'a> Word<'a> {
     /// What clap is told of it.
     pub(crate) fn argument(self, alloc: Global) -> Arg<'a>
@@ -128,6 +137,7 @@ impl<'a> Word<'a> {
             Word::Optional { name, help } => optional(alloc, name, help),
             Word::Further { name, help } => further(alloc, name, help),
             Word::Flag { name, letter, help } => flag(alloc, name, letter, help),
+            Word::SkipDoubles { help } => skip_doubles(alloc, help),
             Word::Locks => locks(alloc),
             Word::Profile => profile(alloc),
             Word::User => user(alloc),
@@ -166,6 +176,16 @@ fn flag<'a>(alloc: Global, name: &'a str, letter: char, help: &'a str) -> Arg<'a
 {
     Arg::new(alloc, name)
         .short(letter)
+        .action(ArgAction::SetTrue)
+        .help(help)
+}
+
+fn skip_doubles<'a>(alloc: Global, help: &'a str) -> Arg<'a>
+    ensures rule { rule_of result ≡ skip_doubles_flag }
+    ensures own { result.global ≡ false }
+{
+    Arg::new(alloc, "skip-doubles")
+        .long("skip-doubles")
         .action(ArgAction::SetTrue)
         .help(help)
 }

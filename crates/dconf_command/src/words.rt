@@ -179,13 +179,17 @@ fn list_locks_asked(alloc: Global, list_locks: &ArgMatches<'_>) -> Result<Comman
     Ok(Command::ListLocks { directory, profile })
 }
 
-/// `dump [-p FILE] DIR`.
+/// `dump [--skip-doubles] [-p FILE] DIR`.
 fn dump_asked(alloc: Global, dump: &ArgMatches<'_>) -> Result<Command, AllocError>
     requires { HasValue dump.now (codes "DIR") }
     ensures { IfOk result (λ command. (words : List Text) → AreOf words (codes "dump") dump.now → IsAskedBy words command) }
 {
     let (directory, profile) = value_and_profile(alloc, dump, "DIR")?;
-    Ok(Command::Dump { directory, profile })
+    Ok(Command::Dump {
+        skip_doubles: is_given(dump, "skip-doubles"),
+        directory,
+        profile,
+    })
 }
 
 /// `write [-p FILE] KEY VALUE`.

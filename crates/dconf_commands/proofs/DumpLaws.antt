@@ -1,16 +1,18 @@
 -- The settings of a dump, put together one by one.
-use Rattle.std.specs.Prelude.{Contains, IsTrue, String, nat_eq, option_map, slice_get, unwrap_or}
-use Rattle.std.proofs.Common.{◌≡◌, ◌+◌, ℕ, true, false, List, [], ◌∷◌, ◌++◌, drop, map, string_bytes, Option, Some, None, Result, Ok, Err, refl, sym, ap, ◌∙◌, subst, append_assoc, append-nil}
+use Rattle.std.specs.Prelude.{Contains, IsTrue, String, nat_eq, not, option_map, slice_get, unwrap_or, ◌&&◌}
+use Rattle.std.proofs.Common.{◌≡◌, ◌+◌, ℕ, Bool, true, false, cond, List, [], ◌∷◌, ◌++◌, drop, map, string_bytes, codes, Option, Some, None, Result, Ok, Err, refl, sym, ap, ◌∙◌, subst, append_assoc, append-nil}
 use Rattle.std.specs.Global.{Global}
 use Rattle.std.specs.List.{All, filter, starts_with}
 use Rattle.std.proofs.lemmas.Option.{slice_get-map}
-use Rattle.std.proofs.lemmas.List.Elements.{All-nil, All-cons, All-head, All-tail, All-weaker, All-same, All-contains_itself}
+use Rattle.std.proofs.lemmas.List.{map-append}
+use Rattle.std.proofs.lemmas.List.Elements.{All-nil, All-cons, All-filter, All-head, All-tail, All-weaker, All-same, All-contains_itself}
 use Rattle.gv_model.specs.Tree.{Tree}
 use Rattle.gv_model.specs.Printed.{printed, is_too_large, holds_double}
+use Rattle.dconf_model.specs.Doubles.{comment_lines, is_double_if_any, left_out, not_left_out}
 use Rattle.dconf_model.specs.Keyfiles.{Setting}
 use Rattle.dconf_model.specs.Layers.{Layers, visible}
 use Rattle.dconf_model.specs.Locks.{is_below}
-use Rattle.dconf_model.specs.Outcomes.{dump_of, path_at, print_fault, setting_paths, settings_at, with_setting, with_value_if_any}
+use Rattle.dconf_model.specs.Outcomes.{Outcome, dump_of, path_at, print_fault, setting_paths, settings_at, with_lines, with_setting, with_value_if_any}
 use Rattle.dconf_model.specs.Paths.{is_key_path}
 use Rattle.dconf_model.specs.Walks.{AreKeyPaths, keys_below}
 use Rattle.dconf_model.proofs.Listings.{listing_from}
@@ -19,6 +21,8 @@ use Rattle.dconf_path.specs.declared.path.KeyPath.{KeyPath}
 use Rattle.dconf_path.specs.Paths.{key_text}
 use Rattle.keyfile_core.specs.DumpRows.{AreBelow, setting_of}
 use Rattle.dconf_streams.specs.Answers.{Answered, GivesOutcome}
+use Rattle.dconf_streams.specs.declared.refusal.Refusal.{Refusal}
+use Rattle.dconf_streams.specs.declared.refusal.Refusal.TheVariants.{Line, NoMemory}
 use Rattle.dconf_commands.specs.Dumps.{with_earlier}
 
 abbrev Settled : Type 0
@@ -178,3 +182,47 @@ found_are_keys paths directory keys are e = of_found paths directory keys (λ pa
 pub found_are_below : (paths : List (List ℕ)) (directory : List ℕ) (keys : List (String Global)) → map string_bytes keys ≡ keys_below paths directory
     → All (λ key. IsTrue (starts_with nat_eq (string_bytes key) directory)) keys
 found_are_below paths directory keys e = of_found paths directory keys (λ path. IsTrue (starts_with nat_eq path directory)) e (λ path c. (kept paths directory path c).1)
+
+-- ---- keys that are left out, and the others
+
+module _ (skip : Bool) (seen : List ℕ → Option Tree) where
+  abbrev pub skips : List ℕ → Bool
+  skips path = skip && is_double_if_any (seen path)
+
+  pub comment_pushed : (path : List ℕ) (paths : List (List ℕ)) (old new all : List ℕ) → skips path ≡ true → new ≡ old ++ comment_lines (path ∷ [])
+      → old ++ comment_lines (left_out skip seen (path ∷ paths)) ≡ all → new ++ comment_lines (left_out skip seen paths) ≡ all
+  comment_pushed path paths old new all skipped pushed e =
+      let more = left_out skip seen paths in
+      let line : List ℕ = codes "# " ++ (path ++ 10 ∷ []) in
+      ap (λ (t : List ℕ). t ++ comment_lines more) (pushed ∙ ap (λ (t : List ℕ). old ++ t) (append-nil line))
+      ∙ (append_assoc old line (comment_lines more) ∙ (ap (λ b. old ++ comment_lines (cond b (path ∷ more) more)) (sym skipped) ∙ e))
+
+  pub no_comment_pushed : (path : List ℕ) (paths : List (List ℕ)) (old all : List ℕ) → skips path ≡ false
+      → old ++ comment_lines (left_out skip seen (path ∷ paths)) ≡ all → old ++ comment_lines (left_out skip seen paths) ≡ all
+  no_comment_pushed path paths old all other e =
+      let more = left_out skip seen paths in ap (λ b. old ++ comment_lines (cond b (path ∷ more) more)) (sym other) ∙ e
+
+  pub other_pushed : (key : String Global) (paths : List (List ℕ)) (old new : List (String Global)) (all : List (List ℕ)) → skips (string_bytes key) ≡ false → new ≡ old ++ key ∷ []
+      → map string_bytes old ++ not_left_out skip seen (string_bytes key ∷ paths) ≡ all → map string_bytes new ++ not_left_out skip seen paths ≡ all
+  other_pushed key paths old new all other pushed e =
+      let more = not_left_out skip seen paths in
+      ap (λ (l : List (List ℕ)). l ++ more) (ap (map string_bytes) pushed ∙ map-append string_bytes old (key ∷ []))
+      ∙ (append_assoc (map string_bytes old) (string_bytes key ∷ []) more
+      ∙ (ap (λ b. map string_bytes old ++ cond (not b) (string_bytes key ∷ more) more) (sym other) ∙ e))
+
+  pub no_other_pushed : (path : List ℕ) (paths old all : List (List ℕ)) → skips path ≡ true
+      → old ++ not_left_out skip seen (path ∷ paths) ≡ all → old ++ not_left_out skip seen paths ≡ all
+  no_other_pushed path paths old all skipped e =
+      let more = not_left_out skip seen paths in ap (λ b. old ++ cond (not b) (path ∷ more) more) (sym skipped) ∙ e
+
+  -- what holds of all keys holds of the others
+  pub others_are : (P : List ℕ → Type 0) (keys others : List (String Global)) → map string_bytes others ≡ not_left_out skip seen (map string_bytes keys)
+      → All (λ key. P (string_bytes key)) keys → All (λ key. P (string_bytes key)) others
+  others_are P keys others e all =
+      unmapped string_bytes P others (All-same P (map string_bytes others) (not_left_out skip seen (map string_bytes keys)) e
+      (All-filter (λ path. not (skips path)) P (map string_bytes keys) (mapped string_bytes P keys all)))
+
+-- a refusal stays as it is behind lines
+pub refused_behind : (lines : List ℕ) (refusal : Refusal) (o : Outcome) → GivesOutcome (Err refusal) (λ p. p ≡ o) → GivesOutcome (Err refusal) (λ p. p ≡ with_lines lines o)
+refused_behind lines (Line line) o is = ap (with_lines lines) is
+refused_behind lines NoMemory o is = tt

@@ -3,7 +3,7 @@ use Rattle.std.proofs.Common.{◌≡◌, ℕ, Bool, List}
 use Rattle.std.specs.Prelude.{if◌then◌else◌}
 use Rattle.dconf_model.specs.Changes.{Change, apply}
 use Rattle.dconf_model.specs.Layers.{Layers, child_names, locks_below, origin, paths_below, visible, without_user}
-use Rattle.dconf_model.specs.Outcomes.{Gives, Saves, done, dump_of, lines_text, origin_text, settings_at, shown_if_any}
+use Rattle.dconf_model.specs.Outcomes.{Gives, Saves, done, dump_at, lines_text, origin_text, shown_if_any}
 use Rattle.dconf_model.specs.Profiles.{Database, user_file}
 
 abbrev pub Made : Type 1
@@ -25,9 +25,9 @@ names_listed directory = λ databases l o. o ≡ done (lines_text (child_names l
 abbrev pub locks_listed : List ℕ → Made
 locks_listed directory = λ databases l o. o ≡ done (lines_text (locks_below l directory))
 
--- the values below one
-abbrev pub values_dumped : List ℕ → Made
-values_dumped directory = λ databases l o. o ≡ dump_of directory (settings_at l (paths_below l directory))
+-- the values below one, but for doubles where they are skipped
+abbrev pub values_dumped : Bool → List ℕ → Made
+values_dumped skip directory = λ databases l o. o ≡ dump_at skip directory l (paths_below l directory)
 
 -- a change, at these paths
 abbrev pub change_saved : List (List ℕ) → Change → Made

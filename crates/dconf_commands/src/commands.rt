@@ -67,9 +67,17 @@ pub fn answered<F: Folder, I: Read>(
         Command::ListLocks { directory, profile } => {
             list_locks(alloc, directory.as_str(), profile.as_str(), folder)
         }
-        Command::Dump { directory, profile } => {
-            dump(alloc, directory.as_str(), profile.as_str(), folder)
-        }
+        Command::Dump {
+            skip_doubles,
+            directory,
+            profile,
+        } => dump(
+            alloc,
+            *skip_doubles,
+            directory.as_str(),
+            profile.as_str(),
+            folder,
+        ),
         Command::Check { file } => check(alloc, file.as_str(), folder),
         Command::Compile {
             out,

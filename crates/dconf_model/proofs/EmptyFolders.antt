@@ -10,7 +10,7 @@ use Rattle.dconf_model.specs.Profiles.{Database, profile_of, has_writable}
 use Rattle.dconf_model.specs.Reads.{Input, read_of, steady}
 use Rattle.dconf_model.specs.Reads.FileRead.{holds}
 use Rattle.dconf_model.specs.Layers.{Layers, visible, without_user, child_names, locks_below, paths_below, origin as origin_of}
-use Rattle.dconf_model.specs.Outcomes.{Gives, Outcome, Output, IsOutcome, UnlessFault, WithStore, WithDatabases, WithLayers, OrNoRead, OrLine, done, done_output, shown_if_any, lines_text, dump_of, settings_at, origin_text}
+use Rattle.dconf_model.specs.Outcomes.{Gives, Outcome, Output, IsOutcome, UnlessFault, WithStore, WithDatabases, WithLayers, OrNoRead, OrLine, done, done_output, shown_if_any, lines_text, dump_at, origin_text}
 use Rattle.dconf_model.specs.Programs.{IsQuestion, EmptyPrintsNothing}
 use Rattle.dconf_model.proofs.EmptyStores.{no_layers}
 
@@ -50,9 +50,9 @@ module _ (old : List Event) (profile text : List ℕ) (profile_is : read_of (rea
   answered (list_locks directory file) input o asks is e =
       nothing_from o (done (lines_text (locks_below no_store directory))) output
       (goes_on old profile file text (directory_fault directory) (λ databases l o. o ≡ done (lines_text (locks_below l directory))) o asks.0 asks.1 profile_is names is) e refl
-  answered (dump directory file) input o asks is e =
-      nothing_from o (dump_of directory (settings_at no_store (paths_below no_store directory))) output
-      (goes_on old profile file text (directory_fault directory) (λ databases l o. o ≡ dump_of directory (settings_at l (paths_below l directory))) o asks.0 asks.1 profile_is names is) e refl
+  answered (dump skip directory file) input o asks is e =
+      nothing_from o (dump_at skip directory no_store (paths_below no_store directory)) output
+      (goes_on old profile file text (directory_fault directory) (λ databases l o. o ≡ dump_at skip directory l (paths_below l directory)) o asks.0 asks.1 profile_is names is) e refl
   answered (origin key file) input o asks is e =
       nothing_from o (done (origin_text [] (origin_of no_store key))) output
       (goes_on old profile file text (key_fault key) (λ databases l o. o ≡ done (origin_text databases (origin_of l key))) o asks.0 asks.1 profile_is names is) e refl

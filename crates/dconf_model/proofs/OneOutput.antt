@@ -27,7 +27,7 @@ use Rattle.dconf_model.specs.Commands.{Command}
 use Rattle.dconf_model.specs.Commands.Command.{show, read, list, list_locks, write, reset, reset_below, dump, load, origin, compile, check, repair}
 use Rattle.dconf_model.specs.Reads.{FileRead, Input, ReadResults}
 use Rattle.dconf_model.specs.Reads.FileRead.{no_file, holds, over_size, failed}
-use Rattle.dconf_model.specs.Outcomes.{Gives, IsOutcome, Outcome, Output, UnlessFault, WithType, OrCause, OrLine, OrNoRead, WithFile, WithFiles, UnlessFailed, WithRows, OrNoDatabase, WithDatabases, WithLayers, WithStore, Writes, Saves, Changes, Compiles, Checks, Repairs, refused, done, verdict_text, shown_outcome, shown_if_any, lines_text, origin_text, dump_of, settings_at, refusal_text, compile_output, check_output, kept_text, value_of_word, read_failed}
+use Rattle.dconf_model.specs.Outcomes.{Gives, IsOutcome, Outcome, Output, UnlessFault, WithType, OrCause, OrLine, OrNoRead, WithFile, WithFiles, UnlessFailed, WithRows, OrNoDatabase, WithDatabases, WithLayers, WithStore, Writes, Saves, Changes, Compiles, Checks, Repairs, refused, done, verdict_text, shown_outcome, shown_if_any, lines_text, origin_text, dump_at, refusal_text, compile_output, check_output, kept_text, value_of_word, read_failed}
 use Rattle.dconf_model.specs.Runs.{OneOutput}
 use Rattle.dconf_model.proofs.OpenLaws as opens
 use Rattle.dconf_model.proofs.SoundLaws.{sound_has_no_fault, one_first_fault}
@@ -233,8 +233,8 @@ one_output (list directory profile) reads input =
     answers_one reads profile (directory_fault directory) (λ databases l. done (lines_text (child_names l directory)))
 one_output (list_locks directory profile) reads input =
     answers_one reads profile (directory_fault directory) (λ databases l. done (lines_text (locks_below l directory)))
-one_output (dump directory profile) reads input =
-    answers_one reads profile (directory_fault directory) (λ databases l. dump_of directory (settings_at l (paths_below l directory)))
+one_output (dump skip directory profile) reads input =
+    answers_one reads profile (directory_fault directory) (λ databases l. dump_at skip directory l (paths_below l directory))
 one_output (origin key profile) reads input =
     answers_one reads profile (key_fault key) (λ databases l. done (origin_text databases (origin_of l key)))
 one_output (write key text profile) reads input =

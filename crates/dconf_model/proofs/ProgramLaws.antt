@@ -1,6 +1,7 @@
 -- What runs over one folder print.
-use Rattle.std.specs.Prelude.{◌≡◌, ◌⊎◌, ◌+◌, ℕ, zero, suc, true, false, cond, List, [], ◌∷◌, drop, Option, Some, None, Result, filter}
+use Rattle.std.specs.Prelude.{◌≡◌, ◌⊎◌, ◌+◌, ℕ, zero, suc, Bool, true, false, cond, List, [], ◌∷◌, drop, Option, Some, None, Result, filter}
 use Rattle.std.proofs.Common.{ap, sym, ◌∙◌, subst, inl, inr}
+use Rattle.gv_model.specs.Tree.{Tree}
 use Rattle.dconf_model.specs.Bytes.{MaybeBytes}
 use Rattle.dconf_model.specs.Paths.{PathFault, key_fault, directory_fault}
 use Rattle.dconf_model.specs.Lines.{LineFault}
@@ -12,15 +13,16 @@ use Rattle.dconf_model.specs.Commands.Command.{show, read, list, list_locks, wri
 use Rattle.dconf_model.specs.Profiles.{Database, database_file, has_writable, profile_of}
 use Rattle.dconf_model.specs.Reads.{Content, Input, ReadResults, steady}
 use Rattle.dconf_model.specs.Settings.{Settings}
+use Rattle.dconf_model.specs.Doubles.{left_out, not_left_out, comment_lines}
 use Rattle.dconf_model.specs.Sources.{Given}
 use Rattle.dconf_model.specs.Databases.{Verdict, IsLayer, AreLayers, IsBad, IsFirstBad, IsDatabaseOf, IsGood}
 use Rattle.dconf_model.specs.Databases.Verdict.{no_database, sound, unsound}
 use Rattle.dconf_model.specs.Layers.{Layers, visible, without_user, child_names, locks_below, all_locks, paths_below, parts_below, all_paths, has_value, origin as origin_of}
-use Rattle.dconf_model.specs.Outcomes.{Gives, Outcome, Output, WithStore, WithDatabases, WithLayers, OrNoDatabase, OrNoRead, OrLine, UnlessFault, IsOutcome, shown_if_any, done, done_output, lines_text, refused, dump_of, settings_at, origin_text}
+use Rattle.dconf_model.specs.Outcomes.{Gives, Outcome, Output, WithStore, WithDatabases, WithLayers, OrNoDatabase, OrNoRead, OrLine, UnlessFault, IsOutcome, shown_if_any, done, done_output, lines_text, refused, dump_of, dump_at, with_lines, origin_text}
 use Rattle.dconf_model.specs.FaultTexts.{device_text}
 use Rattle.dconf_model.specs.Runs.{ReadsFrom}
 use Rattle.dconf_model.specs.Stores.{OwnValues}
-use Rattle.dconf_model.specs.Programs.{FolderHolds, AreRead, found, Prints, IsQuestion, QuestionsAreAnswered}
+use Rattle.dconf_model.specs.Programs.{FolderHolds, AreRead, found, Prints, IsQuestion, QuestionsAreAnswered, dump_given, settings_given}
 use Rattle.dconf_model.proofs.OpenLaws as opens
 use Rattle.dconf_model.proofs.SoundLaws.{sound_has_no_fault}
 use Rattle.dconf_model.proofs.ReopenLaws.{one_list}
@@ -143,6 +145,14 @@ module _ (old : List Event) (profile : List ℕ) (d : Database) (ds : List Datab
   by_outcome : (o p : Outcome) → output ≡ o.output → o ≡ p → output ≡ p.output
   by_outcome o p e same = e ∙ ap (λ (o : Outcome). o.output) same
 
+  -- the values that are seen are those that are given, and so is their dump
+  dump_seen : (skip : Bool) (directory : List ℕ) (paths : List (List ℕ)) → (dump_at skip directory h.opened paths).output ≡ (dump_given skip directory own gs paths).output
+  dump_seen skip directory paths =
+      ap (λ r. (with_lines (comment_lines (left_out skip (visible h.opened) paths)) (dump_of directory r)).output)
+      (settings_seen h.others own gs h.opened h.held (not_left_out skip (visible h.opened) paths))
+      ∙ ap (λ (seen : List ℕ → Option Tree). (with_lines (comment_lines (left_out skip seen paths)) (dump_of directory (settings_given own gs (not_left_out skip seen paths)))).output)
+      (λ i. λ path. value_seen h.others own gs h.opened h.held path i)
+
   answered : (command : Command) (input : Input) (o : Outcome) → IsQuestion profile command → IsOutcome command (steady (read_content old)) input o →
       output ≡ o.output → Prints (d ∷ ds) own gs command output
   answered (read false key file) input o asks is e =
@@ -166,12 +176,11 @@ module _ (old : List Event) (profile : List ℕ) (d : Database) (ds : List Datab
         printed = by_outcome o (done (lines_text (locks_below h.opened directory))) e shown;
         exact = λ lock. (locks_from h.others own gs h.opened h.held directory lock, locks_to h.others own gs h.opened h.held directory lock);
       }
-  answered (dump directory file) input o asks is e =
-      let shown = goes_on old profile file d ds own gs h (directory_fault directory) (λ databases l o. o ≡ dump_of directory (settings_at l (paths_below l directory))) o asks.0 asks.1 is in
+  answered (dump skip directory file) input o asks is e =
+      let shown = goes_on old profile file d ds own gs h (directory_fault directory) (λ databases l o. o ≡ dump_at skip directory l (paths_below l directory)) o asks.0 asks.1 is in
       record {
         paths = filter (λ path. cond (is_below path directory) (has_value h.opened path) false) (all_paths h.opened.layers);
-        printed = by_outcome o (dump_of directory (settings_at h.opened (paths_below h.opened directory))) e shown
-            ∙ ap (λ r. (dump_of directory r).output) (settings_seen h.others own gs h.opened h.held (paths_below h.opened directory));
+        printed = by_outcome o (dump_at skip directory h.opened (paths_below h.opened directory)) e shown ∙ dump_seen skip directory (paths_below h.opened directory);
         exact = λ path. (paths_from h.others own gs h.opened h.held directory path, paths_to h.others own gs h.opened h.held directory path);
       }
   answered (origin key file) input o asks is e =

@@ -9,6 +9,7 @@ use Rattle.dconf_model.specs.Bytes.{MaybeBytes}
 use Rattle.dconf_model.specs.Paths.{PathFault, key_fault, directory_fault}
 use Rattle.dconf_model.specs.Lines.{LineFault}
 use Rattle.dconf_model.specs.Keyfiles.{Setting, RowFault, dumped}
+use Rattle.dconf_model.specs.Doubles.{not_left_out}
 use Rattle.dconf_model.specs.Databases.{Verdict}
 use Rattle.dconf_model.specs.Databases.Verdict.{no_database, sound, unsound}
 use Rattle.dconf_model.specs.Layers.{Layers, visible, without_user, child_names, locks_below, paths_below, origin as origin_of}
@@ -19,7 +20,7 @@ use Rattle.dconf_model.specs.Profiles.{Database, database_file, has_writable, pr
 use Rattle.dconf_model.specs.Reads.{FileRead, ReadResults, Input, steady}
 use Rattle.dconf_model.specs.Reads.FileRead.{no_file, holds, over_size, failed}
 use Rattle.dconf_model.specs.Outcomes.{Gives, Outcome, Output, IsOutcome, UnlessFault, WithType, WithFile, OrNoRead, OrNoDatabase, OrLine, WithDatabases, WithLayers}
-use Rattle.dconf_model.specs.Outcomes.{WithStore, Checks, check_output, shown_outcome, shown_if_any, printed_or, print_fault, done, lines_text, dump_of, dump_output, settings_at, origin_text}
+use Rattle.dconf_model.specs.Outcomes.{WithStore, Checks, check_output, shown_outcome, shown_if_any, printed_or, print_fault, done, lines_text, dump_of, dump_at, dump_output, settings_at, origin_text}
 use Rattle.dconf_model.specs.Runs.{RanCalmly, Did}
 use Rattle.dconf_model.specs.Runs.RunEnding.{as_meant}
 use Rattle.dconf_model.specs.Programs.{OnlyReads}
@@ -119,11 +120,11 @@ reading_leaves (list_locks directory file) reads input o only h =
     let S : List Database → Layers → Gives = λ databases l o. o ≡ done (lines_text (locks_below l directory)) in
     fault_leaves (directory_fault directory) (WithStore reads file S) o
     (λ o. store_leaves reads file S o (λ databases l o same. leaves o (done (lines_text (locks_below l directory))) same refl)) h
-reading_leaves (dump directory file) reads input o only h =
-    let S : List Database → Layers → Gives = λ databases l o. o ≡ dump_of directory (settings_at l (paths_below l directory)) in
+reading_leaves (dump skip directory file) reads input o only h =
+    let S : List Database → Layers → Gives = λ databases l o. o ≡ dump_at skip directory l (paths_below l directory) in
     fault_leaves (directory_fault directory) (WithStore reads file S) o
-    (λ o. store_leaves reads file S o (λ databases l o same. leaves o (dump_of directory (settings_at l (paths_below l directory))) same
-    (dump_leaves directory (settings_at l (paths_below l directory))))) h
+    (λ o. store_leaves reads file S o (λ databases l o same. leaves o (dump_at skip directory l (paths_below l directory)) same
+    (dump_leaves directory (settings_at l (not_left_out skip (visible l) (paths_below l directory)))))) h
 reading_leaves (origin key file) reads input o only h =
     let S : List Database → Layers → Gives = λ databases l o. o ≡ done (origin_text databases (origin_of l key)) in
     fault_leaves (key_fault key) (WithStore reads file S) o

@@ -1,8 +1,9 @@
 -- The settings at the paths below a directory are those at the paths that have a value.
-use Rattle.std.specs.Prelude.{filter}
+use Rattle.std.specs.Prelude.{filter, not, ◌&&◌}
 use Rattle.std.proofs.Common.{◌≡◌, ℕ, Bool, true, false, List, [], ◌∷◌, cond, Option, Some, None, refl, sym, ap, ◌∙◌}
 use Rattle.std.specs.Option.{is_some, option_and_then}
 use Rattle.gv_model.specs.Tree.{Tree}
+use Rattle.dconf_model.specs.Doubles.{is_double_if_any, left_out, not_left_out}
 use Rattle.dconf_model.specs.Layers.{Layers, all_paths, has_value, paths_below, visible, visible_bytes}
 use Rattle.dconf_model.specs.Locks.{is_below}
 use Rattle.dconf_model.specs.Outcomes.{settings_at, with_value_if_any}
@@ -53,3 +54,65 @@ same_settings l (path ∷ paths) =
 
 pub walk_has_each_setting : WalkHasEachSetting
 walk_has_each_setting l directory = sym (ap (settings_at l) (paths_are_kept l directory) ∙ same_settings l (keys_below (all_paths l.layers) directory))
+
+-- ---- what is left out of them
+
+kept : (p : List ℕ → Bool) (path : List ℕ) (paths : Texts) → p path ≡ true → filter p (path ∷ paths) ≡ path ∷ filter p paths
+kept p path paths e = ap (λ b. cond b (path ∷ filter p paths) (filter p paths)) e
+
+not_kept : (p : List ℕ → Bool) (path : List ℕ) (paths : Texts) → p path ≡ false → filter p (path ∷ paths) ≡ filter p paths
+not_kept p path paths e = ap (λ b. cond b (path ∷ filter p paths) (filter p paths)) e
+
+-- two tests, whichever comes first
+kept_in_turn : (p q : List ℕ → Bool) (paths : Texts) → filter p (filter q paths) ≡ filter q (filter p paths)
+kept_in_turn p q [] = refl
+kept_in_turn p q (path ∷ paths) = go (p path) (q path) refl refl (kept_in_turn p q paths)
+  where
+    go : (a b : Bool) → p path ≡ a → q path ≡ b → filter p (filter q paths) ≡ filter q (filter p paths)
+        → filter p (filter q (path ∷ paths)) ≡ filter q (filter p (path ∷ paths))
+    go true true passes too later =
+        (ap (filter p) (kept q path paths too) ∙ kept p path (filter q paths) passes) ∙ (ap (λ (l : Texts). path ∷ l) later
+        ∙ sym (ap (filter q) (kept p path paths passes) ∙ kept q path (filter p paths) too))
+    go true false passes other later =
+        ap (filter p) (not_kept q path paths other) ∙ (later ∙ sym (ap (filter q) (kept p path paths passes) ∙ not_kept q path (filter p paths) other))
+    go false true other passes later =
+        (ap (filter p) (kept q path paths passes) ∙ not_kept p path (filter q paths) other) ∙ (later ∙ sym (ap (filter q) (not_kept p path paths other)))
+    go false false other too later = ap (filter p) (not_kept q path paths too) ∙ (later ∙ sym (ap (filter q) (not_kept p path paths other)))
+
+-- a test that only those pass that pass the other
+kept_again : (p q : List ℕ → Bool) → ((path : List ℕ) → p path ≡ true → q path ≡ true) → (paths : Texts) → filter p (filter q paths) ≡ filter p paths
+kept_again p q whenever [] = refl
+kept_again p q whenever (path ∷ paths) = go (p path) (q path) refl refl (kept_again p q whenever paths)
+  where
+    go : (a b : Bool) → p path ≡ a → q path ≡ b → filter p (filter q paths) ≡ filter p paths → filter p (filter q (path ∷ paths)) ≡ filter p (path ∷ paths)
+    go true true passes too later =
+        (ap (filter p) (kept q path paths too) ∙ kept p path (filter q paths) passes) ∙ (ap (λ (l : Texts). path ∷ l) later ∙ sym (kept p path paths passes))
+    go true false passes other later = absurd (no_truth (sym other ∙ whenever path passes))
+    go false true other too later = (ap (filter p) (kept q path paths too) ∙ not_kept p path (filter q paths) other) ∙ (later ∙ sym (not_kept p path paths other))
+    go false false other too later = ap (filter p) (not_kept q path paths too) ∙ (later ∙ sym (not_kept p path paths other))
+
+none_is_double : (skip : Bool) → (skip && false) ≡ true → ⊥
+none_is_double true e = no_truth e
+none_is_double false e = no_truth e
+
+module _ (skip : Bool) (l : Layers) where
+  abbrev skips : List ℕ → Bool
+  skips path = skip && is_double_if_any (visible l path)
+
+  -- what is skipped is there
+  skipped_has_value : (path : List ℕ) → skips path ≡ true → has_value l path ≡ true
+  skipped_has_value path passes =
+      by_bool (has_value l path) (has_value l path ≡ true) (λ there. there)
+      (λ other. absurd (none_is_double skip (sym (ap (λ (o : Option Tree). skip && is_double_if_any o) (none_seen (visible_bytes l path) other)) ∙ passes)))
+
+  pub walk_leaves_out : (directory : List ℕ) → left_out skip (visible l) (keys_below (all_paths l.layers) directory) ≡ left_out skip (visible l) (paths_below l directory)
+  walk_leaves_out directory =
+      sym (ap (filter skips) (paths_are_kept l directory) ∙ kept_again skips (has_value l) skipped_has_value (keys_below (all_paths l.layers) directory))
+
+  pub walk_has_the_others : (directory : List ℕ) →
+      settings_at l (not_left_out skip (visible l) (keys_below (all_paths l.layers) directory)) ≡ settings_at l (not_left_out skip (visible l) (paths_below l directory))
+  walk_has_the_others directory =
+      let others : List ℕ → Bool = λ path. not (skip && is_double_if_any (visible l path)) in
+      let keys : Texts = keys_below (all_paths l.layers) directory in
+      sym (same_settings l (filter others keys))
+      ∙ ap (settings_at l) (kept_in_turn (has_value l) others keys ∙ ap (filter others) (sym (paths_are_kept l directory)))

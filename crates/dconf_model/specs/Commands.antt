@@ -15,7 +15,8 @@ pub data Command : Type 0 where
   reset : List ℕ → List ℕ → Command
   -- DIR; the profile's file
   reset_below : List ℕ → List ℕ → Command
-  dump : List ℕ → List ℕ → Command
+  -- whether doubles are left out; DIR; the profile's file
+  dump : Bool → List ℕ → List ℕ → Command
   -- whether locked rows are left out; DIR; the profile's file
   load : Bool → List ℕ → List ℕ → Command
   -- KEY; the profile's file

@@ -23,6 +23,7 @@ pub mod Profiles
 pub mod Order
 pub mod Values
 pub mod Keyfiles
+pub mod Doubles
 pub mod Sources
 pub mod Databases
 pub mod Layers

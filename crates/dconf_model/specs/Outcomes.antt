@@ -1,7 +1,7 @@
 -- What each command makes of what it reads: a text for out, or one line for err, and for a command that changes a file the
 -- bytes that it is to hold. dconf(1). Each definition goes in the order of the refusals: words, the value, input, profile,
 -- databases, the change, the new file.
-use Rattle.std.specs.Prelude.{◌≡◌, ◌⊎◌, ℕ, ◌+◌, List, [], ◌∷◌, ◌++◌, length, codes, decimal, map, flat_map, slice_get, Option, Some, None, Result, Ok, Err, Bool, true, false, if◌then◌else◌, nat_lt, not, ◌&&◌, unwrap_or, option_map}
+use Rattle.std.specs.Prelude.{◌≡◌, ◌⊎◌, ℕ, zero, suc, ◌+◌, List, [], ◌∷◌, ◌++◌, length, codes, decimal, map, flat_map, slice_get, Option, Some, None, Result, Ok, Err, Bool, true, false, if◌then◌else◌, nat_lt, not, ◌&&◌, unwrap_or, option_map}
 use Rattle.std.specs.FinMap.{len}
 use Rattle.gv_model.specs.Ty.{Ty}
 use Rattle.gv_model.specs.TypeText.{type_of_text}
@@ -20,6 +20,7 @@ use Rattle.dconf_model.specs.Lines.{LineFault, longest_text}
 use Rattle.dconf_model.specs.Values.{value_of_text}
 use Rattle.dconf_model.specs.Profiles.{Database, database_text, database_file, has_writable, user_file, profile_of}
 use Rattle.dconf_model.specs.Keyfiles.{Setting, RowFault, dumped}
+use Rattle.dconf_model.specs.Doubles.{left_out, not_left_out, comment_lines}
 use Rattle.dconf_model.specs.Sources.{Assigned, Source, File, FileFault, loaded}
 use Rattle.dconf_model.specs.Sources.File.{keyfile, lock_file}
 use Rattle.dconf_model.specs.Databases.{Verdict, IsVerdict, IsDatabaseOf, IsTooBig, IsCompiled, AreLayers, IsFirstBad}
@@ -218,6 +219,22 @@ abbrev pub dump_of : List ℕ → Result (List Setting) (List ℕ) → Outcome
 dump_of directory (Err why) = refused why
 dump_of directory (Ok settings) = dump_output settings (dumped directory settings)
 
+-- these lines before what a command prints that is done
+abbrev pub before_out : ℕ → List ℕ → List ℕ → List ℕ
+before_out zero lines text = lines ++ text
+before_out (suc n) lines text = text
+
+abbrev pub with_lines : List ℕ → Outcome → Outcome
+with_lines lines o = record {
+  output = record { out = before_out o.output.status lines o.output.out; err = o.output.err; status = o.output.status };
+  change = o.change;
+}
+
+-- the values that are seen at paths below a directory: in comments those that are left out, and then the others
+abbrev pub dump_at : Bool → List ℕ → Layers → List (List ℕ) → Outcome
+dump_at skip directory l paths =
+    with_lines (comment_lines (left_out skip (visible l) paths)) (dump_of directory (settings_at l (not_left_out skip (visible l) paths)))
+
 -- ---- changes
 
 abbrev pub refusal_text : List (List ℕ) → Refusal → List ℕ
@@ -283,8 +300,8 @@ IsOutcome (write key text profile) reads input =
     UnlessFault (key_fault key) (OrCause (value_of_word text) (λ v. Changes reads profile (key ∷ []) (set_value key v)))
 IsOutcome (reset key profile) reads input = UnlessFault (key_fault key) (Changes reads profile (key ∷ []) (reset_value key))
 IsOutcome (reset_below directory profile) reads input = UnlessFault (directory_fault directory) (Changes reads profile [] (reset_below_directory directory))
-IsOutcome (dump directory profile) reads input =
-    UnlessFault (directory_fault directory) (WithStore reads profile (λ databases l o. o ≡ dump_of directory (settings_at l (paths_below l directory))))
+IsOutcome (dump skip directory profile) reads input =
+    UnlessFault (directory_fault directory) (WithStore reads profile (λ databases l o. o ≡ dump_at skip directory l (paths_below l directory)))
 IsOutcome (load force directory profile) reads input =
     UnlessFault (directory_fault directory) (WithRows directory input (λ rows. Changes reads profile (paths_of rows) (load_values rows force)))
 IsOutcome (origin key profile) reads input =

@@ -12,6 +12,7 @@ use Rattle.dconf_model.specs.Locks.{is_below}
 use Rattle.dconf_model.specs.Order.{listing}
 use Rattle.dconf_model.specs.Profiles.{Database, database_file, has_writable, profile_of}
 use Rattle.dconf_model.specs.Keyfiles.{Setting}
+use Rattle.dconf_model.specs.Doubles.{left_out, not_left_out, comment_lines}
 use Rattle.dconf_model.specs.Sources.{Given, Assigned, Source, given, last_value, loaded}
 use Rattle.dconf_model.specs.Opening.{IsDatabase}
 use Rattle.dconf_model.specs.Salvaging.{IsSalvaged}
@@ -26,7 +27,7 @@ use Rattle.dconf_model.specs.Commands.{Command}
 use Rattle.dconf_model.specs.Commands.Command.{show, read, list, list_locks, write, reset, reset_below, dump, load, origin, compile, check, repair}
 use Rattle.dconf_model.specs.Reads.{FileRead, Content, Input, read_of}
 use Rattle.dconf_model.specs.Reads.FileRead.{no_file, holds}
-use Rattle.dconf_model.specs.Outcomes.{Output, done_output, shown_if_any, lines_text, origin_text, with_value_if_any, dump_of, value_of_word}
+use Rattle.dconf_model.specs.Outcomes.{Outcome, Output, done_output, shown_if_any, lines_text, origin_text, with_value_if_any, with_lines, dump_of, value_of_word}
 use Rattle.dconf_model.specs.Runs.{MayMake, NoMemory, Ran, RanCalmly}
 use Rattle.dconf_model.specs.Stores.{OwnValues, StoreHolds, FileGives, GivesRows, nothing_given, IsNamed, is_lock_given, value_given, number_given, own_after}
 
@@ -95,10 +96,16 @@ abbrev pub settings_given : OwnValues → List Given → List (List ℕ) → Res
 settings_given own gs [] = Ok []
 settings_given own gs (path ∷ more) = with_value_if_any path (value_given path (own path) gs) (settings_given own gs more)
 
+-- the dump of the values at paths
+abbrev pub dump_given : Bool → List ℕ → OwnValues → List Given → List (List ℕ) → Outcome
+dump_given skip directory own gs paths =
+    with_lines (comment_lines (left_out skip (λ path. value_given path (own path) gs) paths))
+    (dump_of directory (settings_given own gs (not_left_out skip (λ path. value_given path (own path) gs) paths)))
+
 -- the settings below a directory, in the order of their paths
-pub record SettingsPrinted (directory : List ℕ) (own : OwnValues) (gs : List Given) (output : Output) : Type 0 where
+pub record SettingsPrinted (skip : Bool) (directory : List ℕ) (own : OwnValues) (gs : List Given) (output : Output) : Type 0 where
   pub paths : List (List ℕ)
-  pub printed : output ≡ (dump_of directory (settings_given own gs (listing paths))).output
+  pub printed : output ≡ (dump_given skip directory own gs (listing paths)).output
   pub exact : (path : List ℕ) →
       Contains (listing paths) path ↔ (IsTrue (is_below path directory) × IsTrue (is_some (value_given path (own path) gs)))
 
@@ -114,7 +121,7 @@ Prints databases own gs (read true key profile) output =
     output ≡ (shown_if_any (value_given key (own_or_none (has_writable databases) (own key)) gs)).output
 Prints databases own gs (list directory profile) output = NamesPrinted directory own gs output
 Prints databases own gs (list_locks directory profile) output = LocksPrinted directory gs output
-Prints databases own gs (dump directory profile) output = SettingsPrinted directory own gs output
+Prints databases own gs (dump skip directory profile) output = SettingsPrinted skip directory own gs output
 Prints databases own gs (origin key profile) output = output ≡ done_output (origin_text databases (number_given key (own key) gs))
 Prints databases own gs other output = ⊥
 
@@ -123,7 +130,7 @@ abbrev pub IsQuestion : List ℕ → Command → Type 0
 IsQuestion profile (read default key file) = (file ≡ profile) × (key_fault key ≡ None)
 IsQuestion profile (list directory file) = (file ≡ profile) × (directory_fault directory ≡ None)
 IsQuestion profile (list_locks directory file) = (file ≡ profile) × (directory_fault directory ≡ None)
-IsQuestion profile (dump directory file) = (file ≡ profile) × (directory_fault directory ≡ None)
+IsQuestion profile (dump skip directory file) = (file ≡ profile) × (directory_fault directory ≡ None)
 IsQuestion profile (origin key file) = (file ≡ profile) × (key_fault key ≡ None)
 IsQuestion profile other = ⊥
 
@@ -179,7 +186,7 @@ OnlyReads (show type file) = Unit {0}
 OnlyReads (read default key profile) = Unit {0}
 OnlyReads (list directory profile) = Unit {0}
 OnlyReads (list_locks directory profile) = Unit {0}
-OnlyReads (dump directory profile) = Unit {0}
+OnlyReads (dump skip directory profile) = Unit {0}
 OnlyReads (origin key profile) = Unit {0}
 OnlyReads (check file) = Unit {0}
 OnlyReads other = ⊥

@@ -24,6 +24,7 @@ origin /k => None
 list / => None
 list-locks / => None
 dump / => None
+dump --skip-doubles / => None
 compile a/site.db k => Some(File("a/site.db"))
 repair bad.db fixed.db => Some(File("fixed.db"))
 write /k 5 => Some(UserOf("profile"))

@@ -1,11 +1,12 @@
-//! `dump DIR`: the values that are seen below a directory, as a keyfile.
-ghost use Rattle.std.specs.Prelude.{◌≡◌, ℕ, List, Some, Ok, Err, Result, IfOk, IfErr, OnOk, IsTrue, map, string_bytes};
+//! `dump [--skip-doubles] DIR`: the values that are seen below a directory, as a keyfile.
+ghost use Rattle.std.specs.Prelude.{◌≡◌, ◌&&◌, ◌++◌, ◌∷◌, [], ℕ, List, Some, Ok, Err, Result, IfOk, IfErr, OnOk, IsTrue, map, option_map, string_bytes};
 ghost use Rattle.std.specs.List.{All};
 ghost use Rattle.dconf_model.specs.Commands.Command.{dump as dump_of_directory};
 ghost use Rattle.gv_view.specs.Views.{value};
+ghost use Rattle.dconf_model.specs.Doubles.{comment_lines, is_double, is_double_if_any, left_out, not_left_out};
 ghost use Rattle.dconf_model.specs.Keyfiles.{Setting};
 ghost use Rattle.dconf_model.specs.Layers.{all_paths, paths_below, visible};
-ghost use Rattle.dconf_model.specs.Outcomes.{IsOutcome, dump_of, dump_output, path_at, setting_paths, settings_at, with_value_if_any};
+ghost use Rattle.dconf_model.specs.Outcomes.{IsOutcome, dump_at, dump_of, dump_output, path_at, setting_paths, settings_at, with_lines, with_value_if_any};
 ghost use Rattle.dconf_model.specs.Paths.{is_key_path};
 ghost use Rattle.dconf_model.specs.Reads.{Input};
 ghost use Rattle.dconf_model.specs.Walks.{AreKeyPaths};
@@ -26,46 +27,130 @@ use dconf_streams::{Answer, Refusal, named_file, refused};
 use gv_text::{PrintFault, print};
 use gv_view::View;
 use keyfile_core::{RowsCause, RowsFault, write_rows};
-use std::alloc::Global;
+use std::alloc::{AllocError, Global};
 
 /// What `dump` answers.
 pub(crate) fn dump<F: Folder>(
     alloc: Global,
+    skip_doubles: bool,
     directory: &str,
     profile: &str,
     folder: &mut F,
 ) -> Result<Answer, Refusal>
     ensures { (input : Input) → Decides F.Folder folder.old folder.new 0
-        (λ reads. IsOutcome (dump_of_directory directory.now profile.now) reads input) result }
+        (λ reads. IsOutcome (dump_of_directory skip_doubles directory.now profile.now) reads input) result }
 {
     let directory = directory_path(alloc, directory)?;
     let profile = named_file(alloc, folder, profile)?;
     let files = StoreFiles::read(alloc, folder, &profile)?;
     let engine = files.open(alloc)?;
-    dumped(alloc, &engine, directory)
+    dumped(alloc, skip_doubles, &engine, directory)
 }
 
 /// What `dump` answers of a store.
-fn dumped(alloc: Global, engine: &Engine<'_>, directory: DirPath<'_>) -> Result<Answer, Refusal>
+fn dumped(
+    alloc: Global,
+    skip_doubles: bool,
+    engine: &Engine<'_>,
+    directory: DirPath<'_>,
+) -> Result<Answer, Refusal>
     requires { AreKeyPaths (all_paths engine.now.layers) }
-    ensures { GivesOutcome result (λ o. o ≡ dump_of (directory_text directory.entry) (settings_at engine.now (paths_below engine.now (directory_text directory.entry)))) }
+    ensures { GivesOutcome result (λ o. o ≡ dump_at skip_doubles (directory_text directory.entry) engine.now (paths_below engine.now (directory_text directory.entry))) }
 {
     let keys = keys_below(alloc, engine, directory)?;
+    let (comments, keys) = without_doubles(alloc, skip_doubles, engine, keys)?;
     let settings = settings(alloc, engine, &keys)?;
-    written(alloc, &settings, directory)
+    written(alloc, comments.as_str(), &settings, directory)
 }
 
-/// The answer of settings, by the text of their keyfile.
+/// The comment lines of the keys whose values are left out, and the other keys, in their order.
+fn without_doubles(
+    alloc: Global,
+    skip_doubles: bool,
+    engine: &Engine<'_>,
+    keys: Vec<String>,
+) -> Result<(String, Vec<String>), AllocError>
+    requires { All (λ key. IsTrue (is_key_path (string_bytes key))) keys.items }
+    ensures comments { IfOk result (λ parts. string_bytes parts.0 ≡ comment_lines (left_out skip_doubles (visible engine.entry.now) (map string_bytes keys.items))) }
+    ensures others { IfOk result (λ parts. map string_bytes parts.1.items ≡ not_left_out skip_doubles (visible engine.entry.now) (map string_bytes keys.items)) }
+{
+    let mut comments = String::new(alloc);
+    let mut others = Vec::new(alloc);
+    for key in keys {
+        if is_left_out(alloc, skip_doubles, engine, key.as_str())? {
+            push_comment(&mut comments, key.as_str())?;
+        } else {
+            others.push(key)?;
+        }
+    }
+    Ok((comments, others))
+}
+
+/// Adds a comment line.
+fn push_comment(comments: &mut String, path: &str) -> Result<(), AllocError>
+    ensures { OnOk result (string_bytes comments.new ≡ string_bytes comments.old ++ comment_lines (path.now ∷ [])) }
+{
+    comments.push_str("# ")?;
+    comments.push_str(path)?;
+    comments.push('\n')
+}
+
+/// Whether the value that is seen at a key is left out: doubles are, and it has no text for one.
+fn is_left_out(
+    alloc: Global,
+    skip_doubles: bool,
+    engine: &Engine<'_>,
+    key: &str,
+) -> Result<bool, AllocError>
+    requires { IsTrue (is_key_path key.now) }
+    ensures { IfOk result (λ is. is ≡ (skip_doubles && is_double_if_any (visible engine.entry.now key.entry.now))) }
+{
+    if !skip_doubles {
+        return Ok(false);
+    }
+    match KeyPath::parse(key) {
+        Ok(path) => is_double_if_any(alloc, engine.read(path)),
+        // Each is the path of a key.
+        Err(_) => Ok(false),
+    }
+}
+
+/// Whether a value that may be there isn't printed for a double in it.
+fn is_double_if_any(alloc: Global, seen: Option<View<'_>>) -> Result<bool, AllocError>
+    ensures { IfOk result (λ is. is ≡ is_double_if_any (option_map value seen.entry)) }
+{
+    match seen {
+        Some(view) => is_double(alloc, view),
+        None => Ok(false),
+    }
+}
+
+/// Whether a value isn't printed for a double in it.
+fn is_double(alloc: Global, view: View<'_>) -> Result<bool, AllocError>
+    ensures { IfOk result (λ is. is ≡ is_double (value view.entry)) }
+{
+    match print(alloc, view) {
+        Err(PrintFault::DoubleText) => Ok(true),
+        Err(PrintFault::Memory) => Err(AllocError),
+        _ => Ok(false),
+    }
+}
+
+/// The answer of settings, by the text of their keyfile after the comments.
 fn written(
     alloc: Global,
+    comments: &str,
     settings: &[(KeyPath<'_>, String)],
     directory: DirPath<'_>,
 ) -> Result<Answer, Refusal>
     requires { AreBelow (directory_text directory) settings.now }
-    ensures { GivesOutcome result (λ o. o ≡ dump_of (directory_text directory.entry) (Ok (map setting_of settings.entry.now))) }
+    ensures { GivesOutcome result (λ o. o ≡ with_lines comments.entry.now (dump_of (directory_text directory.entry) (Ok (map setting_of settings.entry.now)))) }
 {
     match write_rows(alloc, settings, directory) {
-        Ok(text) => Ok(Answer::Done(text)),
+        Ok(mut text) => {
+            text.insert_str(0, comments)?;
+            Ok(Answer::Done(text))
+        }
         Err(RowsFault::Refused { row, cause }) => Err(refused_row(alloc, settings, row, cause)),
         Err(RowsFault::Memory) => Err(Refusal::NoMemory),
     }

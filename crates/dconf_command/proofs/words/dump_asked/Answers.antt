@@ -1,6 +1,5 @@
-use Rattle.std.proofs.Common.{codes}
-use Rattle.dconf_command.proofs.Subcommands.{asks_of_directory}
+use Rattle.dconf_command.proofs.Subcommands.{asks_to_dump}
 use Rattle.dconf_command.proofs.words.dump_asked.Goals as goal
 
 pub returns : goal.returns
-returns c = λ words named. asks_of_directory (codes "dump") words _ _ _ named c.in_ok-directory.ensures.value c.in_ok-directory.ensures.profile
+returns c = λ words named. asks_to_dump words _ _ _ _ named c.is_given.ensures c.in_ok-directory.ensures.value c.in_ok-directory.ensures.profile

@@ -1,4 +1,4 @@
-use Rattle.std.proofs.Common.{◌≡◌, false, map, option_map, refl, string_bytes, subst, sym, true, vec_items}
+use Rattle.std.proofs.Common.{◌≡◌, false, map, refl, string_bytes, subst, sym, true, vec_items}
 use Rattle.dconf_model.specs.Commands.{Command}
 use Rattle.dconf_model.specs.Commands.Command.{show, read, origin, check, compile, repair, list, list_locks, dump, write, load}
 use Rattle.dconf_model.specs.Outcomes.{IsOutcome}
@@ -133,8 +133,8 @@ returns-in-Dump-clause-answer g c =
     let D : Command → Type 0 = λ k. Decides g.F.Folder c.args.folder.now c.dump.new.folder 0 (λ reads. IsOutcome k reads input) c.dump.result in (
       input,
       took g.I.Read.remaining c.args.input.now,
-      subst (λ k. D (command_of k)) (sym c.in-Dump.is) (subst (λ n. D (dump (string_bytes c.in-Dump.directory) n)) c.as_str-in-Dump-2.ensures.value
-          (subst (λ t. D (dump t c.as_str-in-Dump-2.result.now)) c.as_str-in-Dump.ensures.value (c.dump.ensures input))),
+      subst (λ k. D (command_of k)) (sym c.in-Dump.is) (subst (λ n. D (dump c.in-Dump.skip_doubles (string_bytes c.in-Dump.directory) n)) c.as_str-in-Dump-2.ensures.value
+          (subst (λ t. D (dump c.in-Dump.skip_doubles t c.as_str-in-Dump-2.result.now)) c.as_str-in-Dump.ensures.value (c.dump.ensures input))),
     )
 
 pub returns-in-Dump-clause-limit : goal.returns-in-Dump-clause-limit

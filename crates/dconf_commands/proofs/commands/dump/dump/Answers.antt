@@ -1,7 +1,7 @@
 use Rattle.std.proofs.Common.{◌≡◌, Err, subst}
 use Rattle.dconf_model.proofs.LayerPaths.{layers_have_key_paths}
 use Rattle.dconf_model.specs.Layers.{paths_below}
-use Rattle.dconf_model.specs.Outcomes.{dump_of, settings_at}
+use Rattle.dconf_model.specs.Outcomes.{dump_at}
 use Rattle.dconf_streams.specs.Answers.{GivesOutcome}
 use Rattle.std.proofs.lemmas.Result.{err_from_is_err_and}
 use Rattle.dconf_model.specs.Paths.{directory_fault}
@@ -19,20 +19,20 @@ pub returns-in_err-profile : goal.returns-in_err-profile
 returns-in_err-profile g c = λ input.
     let p = err_from_is_err_and c.from_residual-in_err-profile.result c.from_residual-in_err-profile.ensures.1 in
     rw (p.1, p.2) (decides_faultless g.F.Folder c.args.folder.now c.named_file.new.folder _ (Err c.in_err-profile.field-0.0) (directory_fault c.args.directory.now) c.in_ok-directory.ensures.faultless
-    (store_without_file g.F.Folder c.args.profile.now (values_dumped c.args.directory.now) (Err c.in_err-profile.field-0.0) c.args.folder.now c.named_file.new.folder (c.in_err-profile.ensures.err 0)))
+    (store_without_file g.F.Folder c.args.profile.now (values_dumped c.args.skip_doubles c.args.directory.now) (Err c.in_err-profile.field-0.0) c.args.folder.now c.named_file.new.folder (c.in_err-profile.ensures.err 0)))
 
 pub returns-in_err-files : goal.returns-in_err-files
 returns-in_err-files g c = λ input.
     let p = err_from_is_err_and c.from_residual-in_err-files.result c.from_residual-in_err-files.ensures.1 in
     rw (p.1, p.2) (decides_faultless g.F.Folder c.args.folder.now c.read.new.folder _ (Err c.in_err-files.field-0.0) (directory_fault c.args.directory.now) c.in_ok-directory.ensures.faultless
-    (store_without_databases g.F.Folder c.args.profile.now (values_dumped c.args.directory.now) (Err c.in_err-files.field-0.0) c.args.folder.now c.named_file.new.folder c.read.new.folder
+    (store_without_databases g.F.Folder c.args.profile.now (values_dumped c.args.skip_doubles c.args.directory.now) (Err c.in_err-files.field-0.0) c.args.folder.now c.named_file.new.folder c.read.new.folder
     c.in_ok-profile.profile c.in_ok-profile.ensures.name c.in_ok-profile.ensures.ok c.in_err-files.ensures.err))
 
 pub returns-in_err-engine : goal.returns-in_err-engine
 returns-in_err-engine g c = λ input.
     let p = err_from_is_err_and c.from_residual-in_err-engine.result c.from_residual-in_err-engine.ensures.1 in
     rw (p.1, p.2) (decides_faultless g.F.Folder c.args.folder.now c.read.new.folder _ (Err c.in_err-engine.field-0.0) (directory_fault c.args.directory.now) c.in_ok-directory.ensures.faultless
-    (store_not_opened g.F.Folder c.args.profile.now (values_dumped c.args.directory.now) (Err c.in_err-engine.field-0.0) c.args.folder.now c.named_file.new.folder c.read.new.folder
+    (store_not_opened g.F.Folder c.args.profile.now (values_dumped c.args.skip_doubles c.args.directory.now) (Err c.in_err-engine.field-0.0) c.args.folder.now c.named_file.new.folder c.read.new.folder
     c.in_ok-profile.profile c.in_ok-profile.ensures.name c.in_ok-profile.ensures.ok c.in_ok-files.files c.in_ok-files.ensures.ok c.in_err-engine.ensures.err))
 
 pub open-requires : goal.open-requires
@@ -41,10 +41,10 @@ open-requires g c = c.in_ok-files.ensures.ok.each
 pub returns : goal.returns
 returns g c = λ input.
     decides_faultless g.F.Folder c.args.folder.now c.read.new.folder _ c.dumped.result (directory_fault c.args.directory.now) c.in_ok-directory.ensures.faultless
-    (store_opened g.F.Folder c.args.profile.now (values_dumped c.args.directory.now) c.dumped.result c.args.folder.now c.named_file.new.folder c.read.new.folder
+    (store_opened g.F.Folder c.args.profile.now (values_dumped c.args.skip_doubles c.args.directory.now) c.dumped.result c.args.folder.now c.named_file.new.folder c.read.new.folder
     c.in_ok-profile.profile c.in_ok-profile.ensures.name c.in_ok-profile.ensures.ok c.in_ok-files.files c.in_ok-files.ensures.ok c.in_ok-engine.engine
     c.in_ok-engine.ensures.ok
-    (subst (λ directory. GivesOutcome c.dumped.result (λ o. o ≡ dump_of directory (settings_at c.in_ok-engine.engine (paths_below c.in_ok-engine.engine directory)))) c.in_ok-directory.ensures.ok c.dumped.ensures))
+    (subst (λ directory. GivesOutcome c.dumped.result (λ o. o ≡ dump_at c.args.skip_doubles directory c.in_ok-engine.engine (paths_below c.in_ok-engine.engine directory))) c.in_ok-directory.ensures.ok c.dumped.ensures))
 
 pub dumped-requires : goal.dumped-requires
 dumped-requires g c = layers_have_key_paths _ _ c.in_ok-engine.ensures.ok.layers

@@ -1,0 +1,25 @@
+-- Values that have no text for a double in them, and that `dump --skip-doubles` leaves out. This project's.
+use Rattle.std.specs.Prelude.{ℕ, List, [], ◌∷◌, ◌++◌, Bool, false, Option, Some, None, codes, filter, flat_map, not, ◌&&◌}
+use Rattle.gv_model.specs.Tree.{Tree}
+use Rattle.gv_model.specs.Printed.{is_too_large, holds_double}
+
+-- a value isn't printed for a double in it; that it is too large would come first
+abbrev pub is_double : Tree → Bool
+is_double v = not (is_too_large v) && holds_double v
+
+abbrev pub is_double_if_any : Option Tree → Bool
+is_double_if_any None = false
+is_double_if_any (Some v) = is_double v
+
+-- ---- values that are seen at paths
+
+-- the paths of those that are left out where doubles are skipped, and the others
+abbrev pub left_out : Bool → (List ℕ → Option Tree) → List (List ℕ) → List (List ℕ)
+left_out skip seen paths = filter (λ path. skip && is_double_if_any (seen path)) paths
+
+abbrev pub not_left_out : Bool → (List ℕ → Option Tree) → List (List ℕ) → List (List ℕ)
+not_left_out skip seen paths = filter (λ path. not (skip && is_double_if_any (seen path))) paths
+
+-- a comment line for each
+abbrev pub comment_lines : List (List ℕ) → List ℕ
+comment_lines paths = flat_map (λ path. codes "# " ++ (path ++ 10 ∷ [])) paths
