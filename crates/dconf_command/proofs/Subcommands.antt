@@ -153,7 +153,7 @@ dump_is_plain = record {
 
 load_is_plain : IsPlainSub (shape_at 5)
 load_is_plain = record {
-  rules = (inl refl, (inr (inl refl), (inr (inl refl), (inr (inl refl), (inr (inl refl), (inr (inr (refl, λ rows. refl)), tt))))));
+  rules = (inl refl, (inr (inl refl), (inr (inl refl), (inr (inl refl), (inr (inl refl), (inr (inl refl), (inr (inr (refl, λ rows. refl)), tt)))))));
   name = inl (inr (inr (inr (inr (inr (inl refl))))));
 }
 
@@ -479,13 +479,15 @@ asks_to_reset words sub force path profile named f k p = record {
   profile_value = ap profile_file (sym (first_value-rows (found_of sub) (codes "profile"))) ∙ sym p;
 }
 
-pub asks_to_load : (words : List Text) (sub : ArgMatches) (force : Bool) (directory profile : Text) → AreOf words (codes "load") sub
-    → force ≡ is_set (first_value (found_of sub) (codes "force")) → first_value (found_of sub) (codes "DIR") ≡ Some directory
-    → profile ≡ profile_file (first_value (found_of sub) (codes "profile")) → AsksToLoad words force directory profile
-asks_to_load words sub force directory profile named f d p = record {
+pub asks_to_load : (words : List Text) (sub : ArgMatches) (force skip_doubles : Bool) (directory profile : Text) → AreOf words (codes "load") sub
+    → force ≡ is_set (first_value (found_of sub) (codes "force")) → skip_doubles ≡ is_set (first_value (found_of sub) (codes "skip-doubles"))
+    → first_value (found_of sub) (codes "DIR") ≡ Some directory → profile ≡ profile_file (first_value (found_of sub) (codes "profile"))
+    → AsksToLoad words force skip_doubles directory profile
+asks_to_load words sub force skip_doubles directory profile named f s d p = record {
   rows = rows_of (found_of sub);
   named = named;
   force_value = ap is_set (sym (first_value-rows (found_of sub) (codes "force"))) ∙ sym f;
+  skip_doubles_value = ap is_set (sym (first_value-rows (found_of sub) (codes "skip-doubles"))) ∙ sym s;
   directory_value = sym (first_value-rows (found_of sub) (codes "DIR")) ∙ d;
   profile_value = ap profile_file (sym (first_value-rows (found_of sub) (codes "profile"))) ∙ sym p;
 }

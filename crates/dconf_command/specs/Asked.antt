@@ -107,10 +107,11 @@ pub record AsksToReset (words : List Text) (force : Bool) (path profile : Text) 
   pub profile_value : profile_file (first_of (codes "profile") rows) ≡ profile
 
 -- the words name `load`, and clap gives its arguments these values
-pub record AsksToLoad (words : List Text) (force : Bool) (directory profile : Text) : Type 0 where
+pub record AsksToLoad (words : List Text) (force skip_doubles : Bool) (directory profile : Text) : Type 0 where
   pub rows : List Row
   pub named : subcommand_of command_line words ≡ Some (codes "load", rows)
   pub force_value : is_set (first_of (codes "force") rows) ≡ force
+  pub skip_doubles_value : is_set (first_of (codes "skip-doubles") rows) ≡ skip_doubles
   pub directory_value : first_of (codes "DIR") rows ≡ Some directory
   pub profile_value : profile_file (first_of (codes "profile") rows) ≡ profile
 
@@ -128,7 +129,7 @@ IsAskedBy words (Compile out locks keyfiles) =
 IsAskedBy words (Repair file out) = AsksToRepair words (string_bytes file) (string_bytes out)
 IsAskedBy words (Write key value profile) = AsksToWrite words (string_bytes key) (string_bytes value) (string_bytes profile)
 IsAskedBy words (Reset force path profile) = AsksToReset words force (string_bytes path) (string_bytes profile)
-IsAskedBy words (Load force directory profile) = AsksToLoad words force (string_bytes directory) (string_bytes profile)
+IsAskedBy words (Load force skip_doubles directory profile) = AsksToLoad words force skip_doubles (string_bytes directory) (string_bytes profile)
 
 -- the words name `update`, and clap gives its argument this value, where it is there
 pub record AsksToUpdate (words : List Text) (folder : Option Text) : Type 0 where

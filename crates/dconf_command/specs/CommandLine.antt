@@ -92,9 +92,9 @@ force_flag = record (new_rule (codes "force")) { short = Some 102; action = Some
 abbrev pub reset_line : App
 reset_line = with_store (with_rule (with_rule (new_app (codes "reset")) (required_word (codes "PATH"))) force_flag)
 
--- `load [-f] DIR`
+-- `load [-f] [--skip-doubles] DIR`
 abbrev pub load_line : App
-load_line = with_store (with_rule (with_rule (new_app (codes "load")) (required_word (codes "DIR"))) force_flag)
+load_line = with_store (with_rule (with_rule (with_rule (new_app (codes "load")) (required_word (codes "DIR"))) force_flag) skip_doubles_flag)
 
 -- `dconfdb`, which wants a subcommand and has a version
 abbrev pub dconfdb_line : App

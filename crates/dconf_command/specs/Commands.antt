@@ -22,7 +22,7 @@ command_of (Compile out locks keyfiles) = compile (string_bytes out) (map string
 command_of (Repair file out) = repair (string_bytes file) (string_bytes out)
 command_of (Write key value profile) = write (string_bytes key) (string_bytes value) (string_bytes profile)
 command_of (Reset force path profile) = resetting force (string_bytes path) (string_bytes profile)
-command_of (Load force directory profile) = load force (string_bytes directory) (string_bytes profile)
+command_of (Load force skip_doubles directory profile) = load force skip_doubles (string_bytes directory) (string_bytes profile)
 
 -- the same command by the profile in another file
 abbrev pub with_profile : List ℕ → Asked → Asked
@@ -32,7 +32,7 @@ with_profile file (list_locks directory profile) = list_locks directory file
 with_profile file (write key value profile) = write key value file
 with_profile file (reset key profile) = reset key file
 with_profile file (reset_below directory profile) = reset_below directory file
-with_profile file (load force directory profile) = load force directory file
+with_profile file (load force skip_doubles directory profile) = load force skip_doubles directory file
 with_profile file (dump skip_doubles directory profile) = dump skip_doubles directory file
 with_profile file (origin key profile) = origin key file
 with_profile file other = other

@@ -21,7 +21,7 @@ abbrev pub replaced_by : Command → Option Target
 replaced_by (write key value profile) = Some (user_of profile)
 replaced_by (reset key profile) = Some (user_of profile)
 replaced_by (reset_below directory profile) = Some (user_of profile)
-replaced_by (load force directory profile) = Some (user_of profile)
+replaced_by (load force skip_doubles directory profile) = Some (user_of profile)
 replaced_by (compile out locks keyfiles) = Some (file out)
 replaced_by (repair damaged out) = Some (file out)
 replaced_by other = None

@@ -67,9 +67,10 @@ pub enum Command {
         profile: String,
     },
     /// Sets the user's values, by the profile in the file `profile`, of the keys below `directory` that the keyfile on input gives; where
-    /// `force` is set, the rows of locked keys are left out.
+    /// `force` is set, the rows of locked keys are left out, and where `skip_doubles` is, those whose text is refused for a double in it.
     Load {
         force: bool,
+        skip_doubles: bool,
         directory: String,
         profile: String,
     },
@@ -116,10 +117,12 @@ impl Command {
             },
             Command::Load {
                 force,
+                skip_doubles,
                 directory,
                 ..
             } => Command::Load {
                 force,
+                skip_doubles,
                 directory,
                 profile: file,
             },

@@ -155,7 +155,7 @@ pub(crate) const COMMANDS: [Line<'static>; 13] = [
             Word::Store,
         ],
     },
-    // `load [-f] DIR`.
+    // `load [-f] [--skip-doubles] DIR`.
     Line {
         name: "load",
         about: "Set keys below DIR from a keyfile on stdin",
@@ -166,6 +166,7 @@ pub(crate) const COMMANDS: [Line<'static>; 13] = [
         words: &[
             word::DIR,
             word::LEAVING,
+            word::PRINTING_DOUBLES,
             Word::Profile,
             Word::User,
             Word::Store,

@@ -126,6 +126,11 @@ pub(crate) const NAMING_DOUBLES: Word<'static> = Word::SkipDoubles {
     help: "name keys whose value has a double in comments instead of failing",
 };
 
+/// Whether rows whose value has a double are left out, in place of a refusal.
+pub(crate) const PRINTING_DOUBLES: Word<'static> = Word::SkipDoubles {
+    help: "skip keys whose value has a double, and print their paths, instead of failing",
+};
+
 impl<'a> Word<'a> {
     /// What clap is told of it.
     pub(crate) fn argument(self, alloc: Global) -> Arg<'a>

@@ -220,7 +220,7 @@ fn reset_asked(alloc: Global, reset: &ArgMatches<'_>) -> Result<Command, AllocEr
     })
 }
 
-/// `load [-f] [-p FILE] DIR`.
+/// `load [-f] [--skip-doubles] [-p FILE] DIR`.
 fn load_asked(alloc: Global, load: &ArgMatches<'_>) -> Result<Command, AllocError>
     requires { HasValue load.now (codes "DIR") }
     ensures { IfOk result (λ command. (words : List Text) → AreOf words (codes "load") load.now → IsAskedBy words command) }
@@ -228,6 +228,7 @@ fn load_asked(alloc: Global, load: &ArgMatches<'_>) -> Result<Command, AllocErro
     let (directory, profile) = value_and_profile(alloc, load, "DIR")?;
     Ok(Command::Load {
         force: is_given(load, "force"),
+        skip_doubles: is_given(load, "skip-doubles"),
         directory,
         profile,
     })

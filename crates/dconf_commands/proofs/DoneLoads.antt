@@ -7,8 +7,7 @@ use Rattle.dconf_model.specs.Lines.{LineFault, longest_text}
 use Rattle.dconf_model.specs.Outcomes.{Gives, OrLine, Outcome, Refused}
 use Rattle.dconf_model.specs.Reads.{FileRead, ReadResults}
 use Rattle.dconf_model.specs.Reads.FileRead.{no_file}
-use Rattle.dconf_model.specs.Sources.{Assigned, and_rows, loaded, rows_read}
-use Rattle.dconf_model.specs.Values.{value_of_text}
+use Rattle.dconf_model.specs.Sources.{Loaded, and_rows, loaded, rows_taken}
 use Rattle.dconf_disk.specs.declared.folder.Folder.{Ghosts}
 use Rattle.dconf_streams.specs.declared.answer.Answer.{Answer}
 use Rattle.dconf_streams.specs.declared.answer.Answer.TheVariants.{Done, Changed}
@@ -40,18 +39,18 @@ not_refused : (answer : Answer) (why : List ℕ) → Refused why (outcome_of_ans
 not_refused (Done text) why is = let same = ap (λ (o : Outcome). o.output.status) is in omega arith
 not_refused (Changed file bytes text) why is = let same = ap (λ (o : Outcome). o.output.status) is in omega arith
 
-not_too_long : (directory bytes : List ℕ) (Go : List Assigned → Gives) (answer : Answer) → OrLine (codes "input") (loaded directory bytes) Go (outcome_of_answer answer)
+not_too_long : (skip : Bool) (directory bytes : List ℕ) (Go : Loaded → Gives) (answer : Answer) → OrLine (codes "input") (loaded skip directory bytes) Go (outcome_of_answer answer)
     → (long : Bool) → nat_lt longest_text (length bytes) ≡ long → length bytes ≤ longest_text
-not_too_long directory bytes Go answer h true e =
+not_too_long skip directory bytes Go answer h true e =
     let long : longest_text < length bytes = grind arith in
-    absurd (not_refused answer (line_fault_text (codes "input") 0 too_big) (subst (λ (r : Result (List Assigned) LineFault). OrLine (codes "input") r Go (outcome_of_answer answer))
-    (ap (and_rows (rows_read value_of_text directory)) (long_rows bytes long)) h))
-not_too_long directory bytes Go answer h false e = grind arith
+    absurd (not_refused answer (line_fault_text (codes "input") 0 too_big) (subst (λ (r : Result Loaded LineFault). OrLine (codes "input") r Go (outcome_of_answer answer))
+    (ap (and_rows (rows_taken skip directory)) (long_rows bytes long)) h))
+not_too_long skip directory bytes Go answer h false e = grind arith
 
-pub done_at_end : {F : Type 0} (ghosts : Ghosts F) (old new : F) (answer : Answered) (directory bytes : List ℕ) (Go : ReadResults → List Assigned → Gives)
-    (AtEnd : Type 0) → Decides ghosts old new 0 (λ reads. OrLine (codes "input") (loaded directory bytes) (Go reads)) answer
+pub done_at_end : {F : Type 0} (ghosts : Ghosts F) (old new : F) (answer : Answered) (skip : Bool) (directory bytes : List ℕ) (Go : ReadResults → Loaded → Gives)
+    (AtEnd : Type 0) → Decides ghosts old new 0 (λ reads. OrLine (codes "input") (loaded skip directory bytes) (Go reads)) answer
     → (length bytes ≤ longest_text → AtEnd) → OnOk answer AtEnd
-done_at_end ghosts old new (Ok answer) directory bytes Go AtEnd d ends =
+done_at_end ghosts old new (Ok answer) skip directory bytes Go AtEnd d ends =
     let reads : ReadResults = λ n name. read_at d.log n in
-    ends (not_too_long directory bytes (Go reads) answer (d.answers reads (gave_all d.log)) _ refl)
-done_at_end ghosts old new (Err refusal) directory bytes Go AtEnd d ends = tt
+    ends (not_too_long skip directory bytes (Go reads) answer (d.answers reads (gave_all d.log)) _ refl)
+done_at_end ghosts old new (Err refusal) skip directory bytes Go AtEnd d ends = tt

@@ -13,8 +13,7 @@ use Rattle.dconf_model.specs.Keyfiles.{rows_of as rows_in}
 use Rattle.dconf_model.specs.Lines.{LineFault, longest_text}
 use Rattle.dconf_model.specs.Outcomes.{Gives, OrLine, UnlessFailed, WithRows, read_failed, path_at}
 use Rattle.dconf_model.specs.Reads.{Input, ReadResults}
-use Rattle.dconf_model.specs.Sources.{Assigned, and_rows, loaded, rows_read}
-use Rattle.dconf_model.specs.Values.{value_of_text}
+use Rattle.dconf_model.specs.Sources.{Loaded, and_rows, loaded, rows_taken}
 use Rattle.dconf_path.specs.Paths.{key_text}
 use Rattle.dconf_path.specs.declared.path.KeyPath.{KeyPath}
 use Rattle.dconf_compile.specs.LineStops.{at_line}
@@ -31,18 +30,18 @@ pub long_rows : (bytes : List ℕ) → longest_text < length bytes → rows_in b
 long_rows bytes long = let e : nat_lt longest_text (length bytes) ≡ true = lt-ltb longest_text (length bytes) long in rw e refl
 
 -- a text that is read only so far as to show that it is too long gives what the whole gives
-same_loaded : (directory given read : List ℕ) → SameText given read → loaded directory read ≡ loaded directory given
-same_loaded directory given read (inl e) = ap (loaded directory) e
-same_loaded directory given read (inr long) =
-    ap (and_rows (rows_read value_of_text directory)) (long_rows read long.1 ∙ sym (long_rows given long.0))
+same_loaded : (skip : Bool) (directory given read : List ℕ) → SameText given read → loaded skip directory read ≡ loaded skip directory given
+same_loaded skip directory given read (inl e) = ap (loaded skip directory) e
+same_loaded skip directory given read (inr long) =
+    ap (and_rows (rows_taken skip directory)) (long_rows read long.1 ∙ sym (long_rows given long.0))
 
-module _ {F : Type 0} (ghosts : Ghosts F) (answer : Answered) (directory : List ℕ) (Go : ReadResults → List Assigned → Gives) (i : Input) where
+module _ {F : Type 0} (ghosts : Ghosts F) (answer : Answered) (skip : Bool) (directory : List ℕ) (Go : ReadResults → Loaded → Gives) (i : Input) where
   pub decides_text : (old new : F) (read : List ℕ) → read_failed i ≡ false → SameText i.bytes read
-      → Decides ghosts old new 0 (λ reads. OrLine (codes "input") (loaded directory read) (Go reads)) answer
-      → Decides ghosts old new 0 (λ reads. WithRows directory i (Go reads)) answer
+      → Decides ghosts old new 0 (λ reads. OrLine (codes "input") (loaded skip directory read) (Go reads)) answer
+      → Decides ghosts old new 0 (λ reads. WithRows skip directory i (Go reads)) answer
   decides_text old new read kept same d =
-      subst (λ (b : Bool). Decides ghosts old new 0 (λ reads. UnlessFailed b (OrLine (codes "input") (loaded directory i.bytes) (Go reads))) answer) (sym kept)
-      (subst (λ (r : Result (List Assigned) LineFault). Decides ghosts old new 0 (λ reads. OrLine (codes "input") r (Go reads)) answer) (same_loaded directory i.bytes read same) d)
+      subst (λ (b : Bool). Decides ghosts old new 0 (λ reads. UnlessFailed b (OrLine (codes "input") (loaded skip directory i.bytes) (Go reads))) answer) (sym kept)
+      (subst (λ (r : Result Loaded LineFault). Decides ghosts old new 0 (λ reads. OrLine (codes "input") r (Go reads)) answer) (same_loaded skip directory i.bytes read same) d)
 
 -- ---- a line of it
 
@@ -52,24 +51,24 @@ pub line_says : (answer : Answered) (line : ℕ) (o : Option SettingsCause) → 
 line_says answer line None e h = absurd (true≢false e)
 line_says answer line (Some c) e h = h
 
-refuses_line : (answer : Answered) (o : Option LineFault) (r : Result (List Assigned) LineFault) (Go : List Assigned → Gives) → IfSome o (λ f. r ≡ Err f)
+refuses_line : (answer : Answered) (o : Option LineFault) (r : Result Loaded LineFault) (Go : Loaded → Gives) → IfSome o (λ f. r ≡ Err f)
     → GivesOutcome answer (RefusedLine o) → GivesOutcome answer (OrLine (codes "input") r Go)
 refuses_line answer None r Go is h = answers_also answer (RefusedLine None) (OrLine (codes "input") r Go) (λ o none. absurd none) h
-refuses_line answer (Some f) r Go is h = subst (λ (x : Result (List Assigned) LineFault). GivesOutcome answer (OrLine (codes "input") x Go)) (sym is) h
+refuses_line answer (Some f) r Go is h = subst (λ (x : Result Loaded LineFault). GivesOutcome answer (OrLine (codes "input") x Go)) (sym is) h
 
-pub decides_line : {F : Type 0} (ghosts : Ghosts F) (folder : F) (answer : Answered) (o : Option LineFault) (r : Result (List Assigned) LineFault)
-    (Go : ReadResults → List Assigned → Gives) → IfSome o (λ f. r ≡ Err f) → GivesOutcome answer (RefusedLine o)
+pub decides_line : {F : Type 0} (ghosts : Ghosts F) (folder : F) (answer : Answered) (o : Option LineFault) (r : Result Loaded LineFault)
+    (Go : ReadResults → Loaded → Gives) → IfSome o (λ f. r ≡ Err f) → GivesOutcome answer (RefusedLine o)
     → Decides ghosts folder folder 0 (λ reads. OrLine (codes "input") r (Go reads)) answer
 decides_line ghosts folder answer o r Go is h =
     decides_at_once ghosts folder 0 answer (λ reads. OrLine (codes "input") r (Go reads)) (λ reads. refuses_line answer o r (Go reads) is h)
 
 -- ---- rows that are read
 
-pub decides_rows : {F : Type 0} (ghosts : Ghosts F) (old new : F) (answer : Answered) (r : Result (List Assigned) LineFault) (rows : List Assigned)
-    (Go : ReadResults → List Assigned → Gives) → r ≡ Ok rows → Decides ghosts old new 0 (λ reads. Go reads rows) answer
+pub decides_rows : {F : Type 0} (ghosts : Ghosts F) (old new : F) (answer : Answered) (r : Result Loaded LineFault) (l : Loaded)
+    (Go : ReadResults → Loaded → Gives) → r ≡ Ok l → Decides ghosts old new 0 (λ reads. Go reads l) answer
     → Decides ghosts old new 0 (λ reads. OrLine (codes "input") r (Go reads)) answer
-decides_rows ghosts old new answer r rows Go is d =
-    subst (λ (x : Result (List Assigned) LineFault). Decides ghosts old new 0 (λ reads. OrLine (codes "input") x (Go reads)) answer) (sym is) d
+decides_rows ghosts old new answer r l Go is d =
+    subst (λ (x : Result Loaded LineFault). Decides ghosts old new 0 (λ reads. OrLine (codes "input") x (Go reads)) answer) (sym is) d
 
 -- ---- the path of a row
 

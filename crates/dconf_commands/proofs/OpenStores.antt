@@ -1,9 +1,9 @@
 -- What a command makes of the databases of a profile, and of their layers when they are open.
-use Rattle.std.proofs.Common.{◌≡◌, ℕ, Bool, List}
+use Rattle.std.proofs.Common.{◌≡◌, ℕ, Bool, List, []}
 use Rattle.std.specs.Prelude.{if◌then◌else◌}
 use Rattle.dconf_model.specs.Changes.{Change, apply}
 use Rattle.dconf_model.specs.Layers.{Layers, child_names, locks_below, origin, paths_below, visible, without_user}
-use Rattle.dconf_model.specs.Outcomes.{Gives, Saves, done, dump_at, lines_text, origin_text, shown_if_any}
+use Rattle.dconf_model.specs.Outcomes.{Gives, SavesSaying, done, dump_at, lines_text, origin_text, shown_if_any}
 use Rattle.dconf_model.specs.Profiles.{Database, user_file}
 
 abbrev pub Made : Type 1
@@ -29,6 +29,9 @@ locks_listed directory = λ databases l o. o ≡ done (lines_text (locks_below l
 abbrev pub values_dumped : Bool → List ℕ → Made
 values_dumped skip directory = λ databases l o. o ≡ dump_at skip directory l (paths_below l directory)
 
--- a change, at these paths
+-- a change, at these paths, and a text with it
+abbrev pub change_saved_saying : List ℕ → List (List ℕ) → Change → Made
+change_saved_saying text paths change = λ databases l. SavesSaying text paths (user_file databases) (apply l change)
+
 abbrev pub change_saved : List (List ℕ) → Change → Made
-change_saved paths change = λ databases l. Saves paths (user_file databases) (apply l change)
+change_saved paths change = change_saved_saying [] paths change

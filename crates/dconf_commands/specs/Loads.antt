@@ -8,7 +8,7 @@ use Rattle.dconf_model.specs.Outcomes.{Gives, Refused}
 
 -- whether a command reads its input
 abbrev pub reads_input : Command → Bool
-reads_input (load force directory profile) = true
+reads_input (load force skip_doubles directory profile) = true
 reads_input other = false
 
 -- refused for this line

@@ -103,11 +103,13 @@ pub fn answered<F: Folder, I: Read>(
         } => reset(alloc, *force, path.as_str(), profile.as_str(), folder),
         Command::Load {
             force,
+            skip_doubles,
             directory,
             profile,
         } => load(
             alloc,
             *force,
+            *skip_doubles,
             directory.as_str(),
             profile.as_str(),
             folder,

@@ -24,11 +24,23 @@ pub(crate) fn saved(
 ) -> Result<Answer, Refusal>
     ensures { GivesOutcome result (Writes (user_file (databases_of profile.now)) [] (saved engine.entry.layers)) }
 {
+    saved_saying(alloc, profile, engine, String::new(alloc))
+}
+
+/// The answer that puts it there, and prints this text.
+pub(crate) fn saved_saying(
+    alloc: Global,
+    profile: &Profile<'_>,
+    engine: Engine<'_>,
+    text: String,
+) -> Result<Answer, Refusal>
+    ensures { GivesOutcome result (Writes (user_file (databases_of profile.now)) (string_bytes text) (saved engine.entry.layers)) }
+{
     match engine.into_saved() {
         Ok(bytes) => Ok(Answer::Changed {
             file: user_file(alloc, profile)?,
             bytes,
-            text: String::new(alloc),
+            text,
         }),
         Err(WriteFault::Memory) => Err(Refusal::NoMemory),
         Err(fault) => Err(refused(alloc, fault)),

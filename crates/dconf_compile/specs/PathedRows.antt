@@ -1,10 +1,10 @@
 -- The rows of a keyfile by their paths, and what they load.
-use Rattle.std.specs.Prelude.{◌≡◌, ◌≤◌, ℕ, List, [], ◌∷◌, length, map, string_bytes, Result, Ok}
+use Rattle.std.specs.Prelude.{◌≡◌, ◌≤◌, ℕ, List, [], ◌∷◌, length, map, string_bytes, Bool, Result, Ok}
 use Rattle.gv_model.specs.Tree.{Tree}
 use Rattle.dconf_model.specs.Keyfiles.{Row, path_of}
-use Rattle.dconf_model.specs.Lines.{LineFault, LineReading, longest_text, put_first}
+use Rattle.dconf_model.specs.Lines.{LineFault, LineReading, longest_text}
 use Rattle.dconf_model.specs.Paths.{is_key_path, is_short}
-use Rattle.dconf_model.specs.Sources.{Assigned, row_read}
+use Rattle.dconf_model.specs.Sources.{Assigned, Loaded, nothing_loaded, row_read, take_first}
 use Rattle.dconf_model.specs.Values.{value_of_text}
 use Rattle.dconf_path.specs.declared.path.KeyPath.{KeyPath}
 use Rattle.dconf_path.specs.Paths.{key_text}
@@ -31,10 +31,10 @@ pub record IsPathed (row : PathedRow) : Type 0 where
 abbrev pub row_loaded : AtPath → LineReading Assigned
 row_loaded r = row_read value_of_text r.path r.text
 
--- what they give: their paths and values, or the first line at fault
-abbrev pub rows_given : List AtPath → Result (List Assigned) LineFault
-rows_given [] = Ok []
-rows_given (r ∷ more) = put_first r.line (row_loaded r) (rows_given more)
+-- what they give, or the first line at fault
+abbrev pub rows_given : Bool → List AtPath → Result Loaded LineFault
+rows_given skip [] = Ok nothing_loaded
+rows_given skip (r ∷ more) = take_first skip r.line r.path (row_loaded r) (rows_given skip more)
 
 abbrev pub assigned_of : KeyPath × Tree → Assigned
 assigned_of row = record { path = key_text row.0; value = row.1 }

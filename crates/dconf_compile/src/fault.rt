@@ -82,6 +82,20 @@ impl CompileFault {
     }
 }
 
+impl CompileCause {
+    ghost use Rattle.dconf_model.specs.Doubles.{is_double_cause_if_any};
+
+    /// Whether the text of a value is refused for a double in it.
+    pub(crate) fn is_double(self) -> bool
+        ensures { result ≡ is_double_cause_if_any (cause_of self) }
+    {
+        match self {
+            CompileCause::Value(cause) => cause.is_double(),
+            _ => false,
+        }
+    }
+}
+
 impl fmt::Display for CompileCause {
     ghost use Rattle.std.specs.Prelude.{Some};
     ghost use Rattle.dconf_compile.specs.CompileFaults.{compile_cause_text};

@@ -25,7 +25,7 @@ mod value_cause;
 pub use compiling::compile;
 pub use fault::{CompileCause, CompileFault, FileRef};
 pub use line_stop::LineStop;
-pub use loading::RowsBelow;
+pub use loading::{Loaded, RowsBelow};
 pub use source::Source;
 pub use value::value_of_text;
 pub use value_cause::ValueCause;

@@ -1,5 +1,5 @@
 //! A keyfile whose rows are loaded below a directory: the path of each row, and the value that its text spells.
-ghost use Rattle.std.specs.Prelude.{◌≡◌, Err, IfErr, IfOk, IfSome, Ok, map};
+ghost use Rattle.std.specs.Prelude.{◌≡◌, Bool, Err, IfErr, IfOk, IfSome, Ok, map};
 ghost use Rattle.std.specs.List.{All, AllByRecursion};
 ghost use Rattle.dconf_model.specs.Lines.LineReading.{found, wrong};
 ghost use Rattle.dconf_model.specs.Sources.{loaded};
@@ -8,7 +8,7 @@ ghost use Rattle.keyfile_core.specs.Rows.{row_meant};
 ghost use Rattle.dconf_compile.specs.Added.{IsReadRow};
 ghost use Rattle.dconf_compile.specs.CompileFaults.{cause_of};
 ghost use Rattle.dconf_compile.specs.LineStops.{line_fault_of};
-ghost use Rattle.dconf_compile.specs.PathedRows.{IsPathed, assigned_of, at_path, pathed_meant, row_loaded, values_of};
+ghost use Rattle.dconf_compile.specs.PathedRows.{IsPathed, assigned_of, at_path, pathed_meant, row_loaded};
 
 use crate::fault::CompileCause;
 use crate::line_stop::LineStop;
@@ -28,6 +28,15 @@ struct PathedRow<'a> {
     text: &'a str,
 }
 
+/// What rows give.
+#[derive(Drop)]
+pub struct Loaded<'a> {
+    /// The keys and their values, in the order of the rows.
+    pub values: Vec<(KeyPath<'a>, Tree)>,
+    /// The paths of the rows that are left out, in their order.
+    pub left_out: Vec<&'a str>,
+}
+
 /// The rows of a keyfile by the paths of their keys below a directory. Their values are not read yet.
 #[derive(Drop)]
 pub struct RowsBelow<'a> {
@@ -37,7 +46,7 @@ pub struct RowsBelow<'a> {
 }
 
 impl<'a> RowsBelow<'a> {
-    ghost use Rattle.dconf_compile.specs.Loading.{rows_loaded};
+    ghost use Rattle.dconf_compile.specs.Loading.{loaded_of, rows_loaded};
 
     /// Reads the lines of a keyfile, and puts the path of each row's key below a directory.
     ///
@@ -47,8 +56,8 @@ impl<'a> RowsBelow<'a> {
         directory: DirPath<'_>,
         bytes: &'a [u8],
     ) -> Result<RowsBelow<'a>, LineStop>
-        ensures found { IfOk result (λ rows. loaded (directory_text directory.entry) bytes.entry.now ≡ rows_loaded rows) }
-        ensures fault { IfErr result (λ stop. IfSome (line_fault_of stop) (λ fault. loaded (directory_text directory.entry) bytes.entry.now ≡ Err fault)) }
+        ensures found { IfOk result (λ rows. (skip : Bool) → loaded skip (directory_text directory.entry) bytes.entry.now ≡ rows_loaded skip rows) }
+        ensures fault { IfErr result (λ stop. (skip : Bool) → IfSome (line_fault_of stop) (λ fault. loaded skip (directory_text directory.entry) bytes.entry.now ≡ Err fault)) }
     {
         let rows = read(alloc, bytes)?;
         let rows = with_paths(alloc, directory, &rows)?;
@@ -56,25 +65,30 @@ impl<'a> RowsBelow<'a> {
     }
 
     /// The key and the value of each row, in their order, or the first line at fault: its path is `TooLong`, or its text has no value.
+    /// Where doubles are skipped, a row whose text is refused for one is left out.
     ///
     /// Each text is read once, as [`value_of_text`] does. All values are in memory then.
-    pub fn values(&self, alloc: Global) -> Result<Vec<(KeyPath<'_>, Tree)>, LineStop>
-        ensures found { IfOk result (λ values. rows_loaded self.now ≡ Ok (values_of values.items)) }
-        ensures fault { IfErr result (λ stop. IfSome (line_fault_of stop) (λ fault. rows_loaded self.now ≡ Err fault)) }
+    pub fn values(&self, alloc: Global, skip_doubles: bool) -> Result<Loaded<'_>, LineStop>
+        ensures found { IfOk result (λ loaded. rows_loaded skip_doubles self.now ≡ Ok (loaded_of loaded)) }
+        ensures fault { IfErr result (λ stop. IfSome (line_fault_of stop) (λ fault. rows_loaded skip_doubles self.now ≡ Err fault)) }
     {
         let mut values = Vec::with_capacity(alloc, self.rows.len())?;
+        let mut left_out = Vec::new(alloc);
         for row in &self.rows {
             match row.value(alloc) {
                 Ok(value) => values.push(value)?,
                 Err(cause) => {
-                    return Err(LineStop {
-                        line: row.line,
-                        cause,
-                    });
+                    if !(skip_doubles && cause.is_double()) {
+                        return Err(LineStop {
+                            line: row.line,
+                            cause,
+                        });
+                    }
+                    left_out.push(row.path.as_str())?;
                 }
             }
         }
-        Ok(values)
+        Ok(Loaded { values, left_out })
     }
 }
 

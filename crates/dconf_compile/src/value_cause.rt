@@ -1,9 +1,10 @@
 //! Why the text of a value has none.
 ghost use Rattle.std.specs.Prelude.{◌≡◌, false, is_none, IfNone, IfSome, None};
+ghost use Rattle.dconf_model.specs.Doubles.{is_double_cause_if_any};
 ghost use Rattle.dconf_compile.specs.ReadCauses.{read_cause_of};
 
 use gv_infer::{ReadFault, TypingFault, ValueFault};
-use gv_text::TextFault;
+use gv_text::{TextCause, TextFault};
 use std::error::Error;
 use std::fmt;
 
@@ -25,6 +26,17 @@ impl ValueCause {
             return None;
         }
         Some(ValueCause { fault })
+    }
+
+    /// Whether it is a double.
+    pub(crate) fn is_double(self) -> bool
+        ensures { result ≡ is_double_cause_if_any (read_cause_of self.fault) }
+    {
+        match self.fault {
+            ReadFault::Text(TextFault::Refused { cause, .. }) => cause == TextCause::DoubleText,
+            ReadFault::Value(fault) => fault == ValueFault::DoubleText,
+            _ => false,
+        }
     }
 }
 

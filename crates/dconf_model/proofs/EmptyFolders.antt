@@ -60,7 +60,7 @@ module _ (old : List Event) (profile text : List ℕ) (profile_is : read_of (rea
   answered (write key value file) input o asks is e = absurd asks
   answered (reset key file) input o asks is e = absurd asks
   answered (reset_below directory file) input o asks is e = absurd asks
-  answered (load force directory file) input o asks is e = absurd asks
+  answered (load force skip directory file) input o asks is e = absurd asks
   answered (compile out locks sources) input o asks is e = absurd asks
   answered (check file) input o asks is e = absurd asks
   answered (repair file out) input o asks is e = absurd asks

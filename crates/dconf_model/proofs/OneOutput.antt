@@ -16,7 +16,7 @@ use Rattle.dconf_model.specs.FaultTexts.{cause_text, path_fault_text, open_fault
 use Rattle.dconf_model.specs.Opening.{root_of}
 use Rattle.dconf_model.specs.Settings.{Settings}
 use Rattle.dconf_model.specs.Profiles.{Database, database_file, has_writable, user_file, profile_of}
-use Rattle.dconf_model.specs.Sources.{Source, File, FileFault, Given, AreGiven, given, taken, first_file, loaded}
+use Rattle.dconf_model.specs.Sources.{Source, File, FileFault, Given, AreGiven, given, taken, first_file, loaded, Loaded}
 use Rattle.dconf_model.specs.Databases.{Verdict, IsVerdict, IsDatabaseOf, IsTooBig, IsMadeOf, IsMadeOfGiven, IsBad, IsFirstBad}
 use Rattle.dconf_model.specs.Databases.Verdict.{no_database, sound, unsound}
 use Rattle.dconf_model.specs.Layers.{Layers, visible, without_user, child_names, locks_below, paths_below, origin as origin_of}
@@ -27,7 +27,7 @@ use Rattle.dconf_model.specs.Commands.{Command}
 use Rattle.dconf_model.specs.Commands.Command.{show, read, list, list_locks, write, reset, reset_below, dump, load, origin, compile, check, repair}
 use Rattle.dconf_model.specs.Reads.{FileRead, Input, ReadResults}
 use Rattle.dconf_model.specs.Reads.FileRead.{no_file, holds, over_size, failed}
-use Rattle.dconf_model.specs.Outcomes.{Gives, IsOutcome, Outcome, Output, UnlessFault, WithType, OrCause, OrLine, OrNoRead, WithFile, WithFiles, UnlessFailed, WithRows, OrNoDatabase, WithDatabases, WithLayers, WithStore, Writes, Saves, Changes, Compiles, Checks, Repairs, refused, done, verdict_text, shown_outcome, shown_if_any, lines_text, origin_text, dump_at, refusal_text, compile_output, check_output, kept_text, value_of_word, read_failed}
+use Rattle.dconf_model.specs.Outcomes.{Gives, IsOutcome, Outcome, Output, UnlessFault, WithType, OrCause, OrLine, OrNoRead, WithFile, WithFiles, UnlessFailed, WithRows, OrNoDatabase, WithDatabases, WithLayers, WithStore, Writes, SavesSaying, Changes, ChangesSaying, Loads, Compiles, Checks, Repairs, refused, done, verdict_text, shown_outcome, shown_if_any, lines_text, origin_text, dump_at, refusal_text, compile_output, check_output, kept_text, value_of_word, read_failed}
 use Rattle.dconf_model.specs.Runs.{OneOutput}
 use Rattle.dconf_model.proofs.OpenLaws as opens
 use Rattle.dconf_model.proofs.SoundLaws.{sound_has_no_fault, one_first_fault}
@@ -159,13 +159,17 @@ writes_one name text s o p (inl h) (inr k) = absurd (not_too_big s k.0 h.0 k.1)
 writes_one name text s o p (inr h) (inl k) = absurd (not_too_big s h.0 k.0 h.1)
 writes_one name text s o p (inr h) (inr k) = ap (λ (o : Outcome). o.output) h.2 ∙ sym (ap (λ (o : Outcome). o.output) k.2)
 
-saves_one : (paths : List (List ℕ)) (name : List ℕ) (r : Result Layers Refusal) → IsOne (Saves paths name r)
-saves_one paths name (Err e) o p h k = exact (refused (refusal_text paths e)) o p h k
-saves_one paths name (Ok l) o p h k = writes_one name [] (saved l.layers) o p h k
+saves_one : (text : List ℕ) (paths : List (List ℕ)) (name : List ℕ) (r : Result Layers Refusal) → IsOne (SavesSaying text paths name r)
+saves_one text paths name (Err e) o p h k = exact (refused (refusal_text paths e)) o p h k
+saves_one text paths name (Ok l) o p h k = writes_one name text (saved l.layers) o p h k
 
-changes_one : (reads : ReadResults) (profile : List ℕ) (paths : List (List ℕ)) (change : Change) → IsOne (Changes reads profile paths change)
-changes_one reads profile paths change =
-    store_one reads profile (λ databases l. Saves paths (user_file databases) (apply l change)) (λ databases l. saves_one paths (user_file databases) (apply l change))
+changes_one : (text : List ℕ) (reads : ReadResults) (profile : List ℕ) (paths : List (List ℕ)) (change : Change) → IsOne (ChangesSaying text reads profile paths change)
+changes_one text reads profile paths change =
+    store_one reads profile (λ databases l. SavesSaying text paths (user_file databases) (apply l change))
+    (λ databases l. saves_one text paths (user_file databases) (apply l change))
+
+loads_one : (reads : ReadResults) (profile : List ℕ) (force : Bool) (l : Loaded) → IsOne (Loads reads profile force l)
+loads_one reads profile force l = changes_one (lines_text l.left_out) reads profile (paths_of l.rows) (load_values l.rows force)
 
 given_one : (g : Given) (s t : Settings) → AreGiven g s → AreGiven g t → s ≡ t
 given_one g s t h k =
@@ -240,16 +244,15 @@ one_output (origin key profile) reads input =
 one_output (write key text profile) reads input =
     let Go : Tree → Gives = λ v. Changes reads profile (key ∷ []) (set_value key v) in
     fault_one (key_fault key) (OrCause (value_of_word text) Go)
-    (cause_one (value_of_word text) Go (λ v. changes_one reads profile (key ∷ []) (set_value key v)))
+    (cause_one (value_of_word text) Go (λ v. changes_one [] reads profile (key ∷ []) (set_value key v)))
 one_output (reset key profile) reads input =
-    fault_one (key_fault key) (Changes reads profile (key ∷ []) (reset_value key)) (changes_one reads profile (key ∷ []) (reset_value key))
+    fault_one (key_fault key) (Changes reads profile (key ∷ []) (reset_value key)) (changes_one [] reads profile (key ∷ []) (reset_value key))
 one_output (reset_below directory profile) reads input =
-    fault_one (directory_fault directory) (Changes reads profile [] (reset_below_directory directory)) (changes_one reads profile [] (reset_below_directory directory))
-one_output (load force directory profile) reads input =
-    fault_one (directory_fault directory) (WithRows directory input (λ rows. Changes reads profile (paths_of rows) (load_values rows force)))
-    (input_one (read_failed input) (OrLine (codes "input") (loaded directory input.bytes) (λ rows. Changes reads profile (paths_of rows) (load_values rows force)))
-    (line_one (codes "input") (loaded directory input.bytes) (λ rows. Changes reads profile (paths_of rows) (load_values rows force))
-    (λ rows. changes_one reads profile (paths_of rows) (load_values rows force))))
+    fault_one (directory_fault directory) (Changes reads profile [] (reset_below_directory directory)) (changes_one [] reads profile [] (reset_below_directory directory))
+one_output (load force skip directory profile) reads input =
+    fault_one (directory_fault directory) (WithRows skip directory input (Loads reads profile force))
+    (input_one (read_failed input) (OrLine (codes "input") (loaded skip directory input.bytes) (Loads reads profile force))
+    (line_one (codes "input") (loaded skip directory input.bytes) (Loads reads profile force) (loads_one reads profile force)))
 one_output (compile out lock_names names) reads input =
     files_one reads 0 names (λ files. WithFiles reads (length names) lock_names (λ locks. Compiles out files locks))
     (λ files. files_one reads (length names) lock_names (λ locks. Compiles out files locks) (λ locks. compiles_one out files locks))

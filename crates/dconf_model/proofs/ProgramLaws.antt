@@ -191,7 +191,7 @@ module _ (old : List Event) (profile : List ℕ) (d : Database) (ds : List Datab
   answered (write key text file) input o asks is e = absurd asks
   answered (reset key file) input o asks is e = absurd asks
   answered (reset_below directory file) input o asks is e = absurd asks
-  answered (load force directory file) input o asks is e = absurd asks
+  answered (load force skip directory file) input o asks is e = absurd asks
   answered (compile out locks names) input o asks is e = absurd asks
   answered (check file) input o asks is e = absurd asks
   answered (repair file out) input o asks is e = absurd asks

@@ -134,7 +134,7 @@ reading_leaves (check file) reads input o only h =
 reading_leaves (write key text file) reads input o only h = absurd only
 reading_leaves (reset key file) reads input o only h = absurd only
 reading_leaves (reset_below directory file) reads input o only h = absurd only
-reading_leaves (load force directory file) reads input o only h = absurd only
+reading_leaves (load force skip directory file) reads input o only h = absurd only
 reading_leaves (compile out locks names) reads input o only h = absurd only
 reading_leaves (repair file out) reads input o only h = absurd only
 

@@ -23,13 +23,13 @@ use Rattle.dconf_model.specs.Profiles.{Database, database_file, user_file}
 use Rattle.dconf_model.specs.Reads.{ReadResults, Input, read_of, steady}
 use Rattle.dconf_model.specs.Reads.FileRead.{holds, over_size}
 use Rattle.dconf_model.specs.Settings.{Settings}
-use Rattle.dconf_model.specs.Sources.{Given, Assigned, loaded}
+use Rattle.dconf_model.specs.Sources.{Given, Loaded, loaded}
 use Rattle.dconf_model.specs.Values.{value_of_text}
 use Rattle.dconf_model.specs.Databases.{IsLayer, AreLayers, IsDatabaseOf}
 use Rattle.dconf_model.specs.Layers.{Layers}
 use Rattle.dconf_model.specs.Changes.{Change, Refusal, apply, saved, paths_of}
 use Rattle.dconf_model.specs.Changes.Change.{set_value, reset_value, reset_below_directory, load_values}
-use Rattle.dconf_model.specs.Outcomes.{Gives, Outcome, Output, IsOutcome, Changes, Saves, UnlessFault, UnlessFailed, OrCause, OrLine, changing, refusal_text, value_of_word, read_failed}
+use Rattle.dconf_model.specs.Outcomes.{Gives, Outcome, Output, IsOutcome, ChangesSaying, SavesSaying, Loads, Changes, lines_text, UnlessFault, UnlessFailed, OrCause, OrLine, changing, refusal_text, value_of_word, read_failed}
 use Rattle.dconf_model.specs.Runs.{RanCalmly, Did}
 use Rattle.dconf_model.specs.Runs.RunEnding.{as_meant}
 use Rattle.dconf_model.specs.Stores.{IsWholeChange, OwnValues, own_changed, own_after, StoreHolds}
@@ -45,11 +45,11 @@ use Rattle.dconf_model.proofs.ReadingRuns.{calm_reading}
 -- ---- what an outcome comes to
 
 abbrev pub Makes : List ℕ → Result Layers Refusal → Outcome → Type 0
-Makes name r o = (m : Layers) × (bytes : List ℕ) × (r ≡ Ok m) × IsDatabaseOf (saved m.layers) bytes × (o ≡ changing name bytes [])
+Makes name r o = (m : Layers) × (bytes : List ℕ) × (r ≡ Ok m) × IsDatabaseOf (saved m.layers) bytes × (text : List ℕ) × (o ≡ changing name bytes text)
 
-pub comes_to : (r : Result Layers Refusal) (paths : List (List ℕ)) (name : List ℕ) (o : Outcome) → Saves paths name r o → Refuses o ⊎ Makes name r o
-comes_to (Err e) paths name o h = inl (refusal_text paths e, h)
-comes_to (Ok m) paths name o h = elim h [ inl big ↦ inl (codes "TooBig", big.1) | inr made ↦ inr (m, made.0, refl, made.1, made.2) ]
+pub comes_to : (r : Result Layers Refusal) (text : List ℕ) (paths : List (List ℕ)) (name : List ℕ) (o : Outcome) → SavesSaying text paths name r o → Refuses o ⊎ Makes name r o
+comes_to (Err e) text paths name o h = inl (refusal_text paths e, h)
+comes_to (Ok m) text paths name o h = elim h [ inl big ↦ inl (codes "TooBig", big.1) | inr made ↦ inr (m, made.0, refl, made.1, text, made.2) ]
 
 past_fault : (f : Option PathFault) (Go : Gives) (o : Outcome) → UnlessFault f Go o → Refuses o ⊎ Go o
 past_fault (Some f) Go o h = inl (path_fault_text f, h)
@@ -63,15 +63,15 @@ past_cause : (r : Result Tree SettingsCause) (Go : Tree → Gives) (o : Outcome)
 past_cause (Ok v) Go o h = inr (v, refl, h)
 past_cause (Err c) Go o h = inl (cause_text c, h)
 
-past_line : (file : List ℕ) (r : Result (List Assigned) LineFault) (Go : List Assigned → Gives) (o : Outcome) → OrLine file r Go o →
-    Refuses o ⊎ ((rows : List Assigned) × (r ≡ Ok rows) × Go rows o)
-past_line file (Ok rows) Go o h = inr (rows, refl, h)
+past_line : (file : List ℕ) (r : Result Loaded LineFault) (Go : Loaded → Gives) (o : Outcome) → OrLine file r Go o →
+    Refuses o ⊎ ((l : Loaded) × (r ≡ Ok l) × Go l o)
+past_line file (Ok l) Go o h = inr (l, refl, h)
 past_line file (Err f) Go o h = inl (line_fault_text file f.line f.cause, h)
 
 -- it is refused, or is the outcome of the change that was asked for
 abbrev pub IsChanging : ReadResults → List ℕ → List Change → Outcome → Type 0
 IsChanging reads profile asked o =
-    Refuses o ⊎ ((change : Change) × (paths : List (List ℕ)) × (asked ≡ change ∷ []) × Changes reads profile paths change o)
+    Refuses o ⊎ ((change : Change) × (paths : List (List ℕ)) × (asked ≡ change ∷ []) × (text : List ℕ) × ChangesSaying text reads profile paths change o)
 
 pub changing_of : (reads : ReadResults) (profile : List ℕ) (command : Command) (input : Input) (o : Outcome) → IsChangeOf profile command →
     IsOutcome command reads input o → IsChanging reads profile (asked_change command input) o
@@ -80,31 +80,32 @@ changing_of reads profile (write key text file) input o same is =
       | inl why ↦ inl why
       | inr on ↦ elim (past_cause (value_of_word text) _ o on) [
         | inl why ↦ inl why
-        | inr v ↦ inr (set_value key v.0, key ∷ [], ap (value_change key) v.1, subst (λ file. Changes reads file (key ∷ []) (set_value key v.0) o) same.0 v.2)
+        | inr v ↦ inr (set_value key v.0, key ∷ [], ap (value_change key) v.1, [], subst (λ file. Changes reads file (key ∷ []) (set_value key v.0) o) same.0 v.2)
       ]
     ]
 changing_of reads profile (reset key file) input o same is =
     elim (past_fault (key_fault key) _ o is) [
       | inl why ↦ inl why
-      | inr on ↦ inr (reset_value key, key ∷ [], refl, subst (λ file. Changes reads file (key ∷ []) (reset_value key) o) same on)
+      | inr on ↦ inr (reset_value key, key ∷ [], refl, [], subst (λ file. Changes reads file (key ∷ []) (reset_value key) o) same on)
     ]
 changing_of reads profile (reset_below directory file) input o same is =
     elim (past_fault (directory_fault directory) _ o is) [
       | inl why ↦ inl why
-      | inr on ↦ inr (reset_below_directory directory, [], refl, subst (λ file. Changes reads file [] (reset_below_directory directory) o) same on)
+      | inr on ↦ inr (reset_below_directory directory, [], refl, [], subst (λ file. Changes reads file [] (reset_below_directory directory) o) same on)
     ]
-changing_of reads profile (load force directory file) input o same is =
+changing_of reads profile (load force skip directory file) input o same is =
     elim (past_fault (directory_fault directory) _ o is) [
       | inl why ↦ inl why
       | inr on ↦ elim (past_failed (read_failed input) _ o on) [
         | inl why ↦ inl why
-        | inr text ↦ elim (past_line (codes "input") (loaded directory input.bytes) _ o text) [
+        | inr text ↦ elim (past_line (codes "input") (loaded skip directory input.bytes) _ o text) [
           | inl why ↦ inl why
-          | inr rows ↦ inr (
-            load_values rows.0 force,
-            paths_of rows.0,
-            ap (rows_change force) rows.1,
-            subst (λ file. Changes reads file (paths_of rows.0) (load_values rows.0 force) o) same rows.2,
+          | inr l ↦ inr (
+            load_values l.0.rows force,
+            paths_of l.0.rows,
+            ap (rows_change force) l.1,
+            lines_text l.0.left_out,
+            subst (λ file. Loads reads file force l.0 o) same l.2,
           )
         ]
       ]
@@ -131,15 +132,15 @@ word_whole key text u = go (nat_lt longest_text (length text)) refl
     go true e = tt
     go false e = read (ltb-false longest_text (length text) e) (value_of_text text) refl
 
-rows_whole : (directory bytes : List ℕ) (force : Bool) (r : Result (List Assigned) LineFault) → loaded directory bytes ≡ r → AllByRecursion IsWholeChange (rows_change force r)
-rows_whole directory bytes force (Ok rows) e = (loaded_whole directory bytes rows e, tt)
-rows_whole directory bytes force (Err f) e = tt
+rows_whole : (skip : Bool) (directory bytes : List ℕ) (force : Bool) (r : Result Loaded LineFault) → loaded skip directory bytes ≡ r → AllByRecursion IsWholeChange (rows_change force r)
+rows_whole skip directory bytes force (Ok l) e = (loaded_whole skip directory bytes l e, tt)
+rows_whole skip directory bytes force (Err f) e = tt
 
 pub asked_whole : (profile : List ℕ) (command : Command) (input : Input) → IsChangeOf profile command → AllByRecursion IsWholeChange (asked_change command input)
 asked_whole profile (write key text file) input of = word_whole key text of.1
 asked_whole profile (reset key file) input of = (tt, tt)
 asked_whole profile (reset_below directory file) input of = (tt, tt)
-asked_whole profile (load force directory file) input of = rows_whole directory input.bytes force (loaded directory input.bytes) refl
+asked_whole profile (load force skip directory file) input of = rows_whole skip directory input.bytes force (loaded skip directory input.bytes) refl
 asked_whole profile (show type file) input of = absurd of
 asked_whole profile (read default key file) input of = absurd of
 asked_whole profile (list directory file) input of = absurd of
@@ -235,16 +236,16 @@ change_is_kept profile d ds own gs command input old new output apart of h (inr 
 change_is_kept profile d ds own gs command input old new output apart of h (inl a) =
     elim (changing_of (steady (read_content old)) profile command input a.outcome of a.is) [
       | inl why ↦ refusal why
-      | inr c ↦ elim (comes_to (apply h.opened c.0) c.1 (database_file d) a.outcome
-          (store_is_opened (read_content old) profile d ds own gs h (λ databases l. Saves c.1 (user_file databases) (apply l c.0)) a.outcome c.3)) [
+      | inr c ↦ elim (comes_to (apply h.opened c.0) c.3 c.1 (database_file d) a.outcome
+          (store_is_opened (read_content old) profile d ds own gs h (λ databases l. SavesSaying c.3 c.1 (user_file databases) (apply l c.0)) a.outcome c.4)) [
             | inl why ↦ refusal why
             | inr made ↦
                 subst (λ n. FolderHolds (read_content new) profile d ds (own_after gs own (if_done n (asked_change command input))) gs)
-                (sym (ap (λ (o : Output). o.status) (a.output_is ∙ ap (λ (o : Outcome). o.output) made.4)))
+                (sym (ap (λ (o : Output). o.status) (a.output_is ∙ ap (λ (o : Outcome). o.output) made.5)))
                 (subst (λ cs. FolderHolds (read_content new) profile d ds (own_after gs own cs) gs) (sym c.2)
                 (replaced profile d ds own gs old new h apart c.0 made.0 made.1
                 (subst (AllByRecursion IsWholeChange) c.2 (asked_whole profile command input of)).0 made.2 made.3
-                (subst (λ change. Did change as_meant old new) (ap (λ (o : Outcome). o.change) made.4) a.did)))
+                (subst (λ change. Did change as_meant old new) (ap (λ (o : Outcome). o.change) made.5) a.did)))
           ]
     ]
   where
@@ -271,7 +272,7 @@ nothing_asked (check file) input n reads = none_done n
 nothing_asked (write key text file) input n reads = absurd reads
 nothing_asked (reset key file) input n reads = absurd reads
 nothing_asked (reset_below directory file) input n reads = absurd reads
-nothing_asked (load force directory file) input n reads = absurd reads
+nothing_asked (load force skip directory file) input n reads = absurd reads
 nothing_asked (compile out locks names) input n reads = absurd reads
 nothing_asked (repair file out) input n reads = absurd reads
 

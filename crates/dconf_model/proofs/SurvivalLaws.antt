@@ -18,7 +18,7 @@ use Rattle.dconf_model.specs.Sources.{Given}
 use Rattle.dconf_model.specs.Databases.{IsLayer, AreLayers, IsDatabaseOf}
 use Rattle.dconf_model.specs.Layers.{Layers}
 use Rattle.dconf_model.specs.Changes.{Change, apply, saved}
-use Rattle.dconf_model.specs.Outcomes.{Outcome, Output, Saves, changing, refused_output}
+use Rattle.dconf_model.specs.Outcomes.{Outcome, Output, SavesSaying, changing, refused_output}
 use Rattle.dconf_model.specs.Runs.{Ran, RunEnding, Did, AnswersIn, output_of}
 use Rattle.dconf_model.specs.Runs.RunEnding.{as_meant, device}
 use Rattle.dconf_model.specs.Stores.{IsWholeChange, OwnValues, own_changed, own_after, AllGive, StoreHolds}
@@ -144,10 +144,10 @@ module _ (profile : List ℕ) (d : Database) (ds : List Database) (own : OwnValu
     bytes = made.1;
     accepted = made.2;
     saved_is = made.3;
-    how = by_end e (subst (λ c. Did c e old new) (ap (λ (o : Outcome). o.change) made.4) did) (is ∙ ap (λ o. output_of o e) made.4);
+    how = by_end e (subst (λ c. Did c e old new) (ap (λ (o : Outcome). o.change) made.5) did) (is ∙ ap (λ o. output_of o e) made.5);
   }
     where
-      by_end : (e : RunEnding) → Did (changing (database_file d) made.1 []).change e old new → output ≡ output_of (changing (database_file d) made.1 []) e →
+      by_end : (e : RunEnding) → Did (changing (database_file d) made.1 made.4).change e old new → output ≡ output_of (changing (database_file d) made.1 made.4) e →
           ((output.status ≡ 0) × Replaced old new (database_file d) made.1)
           ⊎ ((output ≡ refused_output (device_text (database_file d))) × MaybeReplaced old new (database_file d) made.1)
       by_end as_meant did is = inl (ap (λ (p : Output). p.status) is, did)
@@ -162,9 +162,9 @@ module _ (profile : List ℕ) (d : Database) (ds : List Database) (own : OwnValu
           let o = p.0.outcome in
           elim (changing_of r.reads profile command input o of p.0.is) [
             | inl why ↦ inl (refused_did o p.0.ending why p.1 p.0.output_is)
-            | inr c ↦ elim (store_if_read old r.reads profile d ds own gs h (λ databases l. Saves c.1 (user_file databases) (apply l c.0)) o r.given c.3) [
+            | inr c ↦ elim (store_if_read old r.reads profile d ds own gs h (λ databases l. SavesSaying c.3 c.1 (user_file databases) (apply l c.0)) o r.given c.4) [
               | inl why ↦ inl (refused_did o p.0.ending why p.1 p.0.output_is)
-              | inr on ↦ elim (comes_to (apply h.opened c.0) c.1 (database_file d) o on) [
+              | inr on ↦ elim (comes_to (apply h.opened c.0) c.3 c.1 (database_file d) o on) [
                 | inl why ↦ inl (refused_did o p.0.ending why p.1 p.0.output_is)
                 | inr made ↦ inr (made_did o p.0.ending c.0 c.2 made p.1 p.0.output_is)
               ]

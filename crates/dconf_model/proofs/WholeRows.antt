@@ -1,6 +1,6 @@
 -- The values that keyfiles give are values of their types: each text of a row is UTF-8, and not
 -- too long.
-use Rattle.std.specs.Prelude.{◌≡◌, ◌⊎◌, ◌≤◌, ℕ, suc, ◌+◌, ◌-◌, Bool, true, false, cond, not, nat_lt, ◌==◌, List, [], ◌∷◌, ◌++◌, length, drop, codes, Option, Some, None, Result, Ok, Err, refl}
+use Rattle.std.specs.Prelude.{◌≡◌, ◌⊎◌, ◌≤◌, ℕ, suc, ◌+◌, ◌-◌, Bool, true, false, cond, not, nat_lt, ◌==◌, ◌&&◌, List, [], ◌∷◌, ◌++◌, length, drop, codes, Option, Some, None, Result, Ok, Err, refl}
 use Rattle.std.specs.List.{AllByRecursion, slice_split, onto_first, position_or_len, after_first, prefix_len, suffix_len}
 use Rattle.std.specs.Str.{IsUtf8, is_utf8}
 use Rattle.std.proofs.Common.{sym, ap, subst, inl, inr, arith, append-nil, append_assoc}
@@ -14,12 +14,13 @@ use Rattle.dconf_model.specs.Lines.{LineReading, LineFault, put_first, read_afte
 use Rattle.dconf_model.specs.Lines.LineReading.{nothing, found, wrong}
 use Rattle.dconf_model.specs.Keyfiles.{Row, rows_of, LineKind, line_kind, line_read, entry_in, row_of, or_bad_group, without_blanks, is_equals, group_in, last_group, is_key, path_of}
 use Rattle.dconf_model.specs.Keyfiles.LineKind.{empty, bracket, entry}
+use Rattle.dconf_model.specs.Doubles.{is_double_cause}
 use Rattle.dconf_model.specs.Values.{value_of_text, if_storable, is_storable}
 use Rattle.dconf_model.specs.Paths.{is_short}
 use Rattle.dconf_model.specs.Paths.PathFault.{too_long}
 use Rattle.dconf_model.specs.Locks.{LockLine}
 use Rattle.dconf_model.specs.Sources.File.{keyfile}
-use Rattle.dconf_model.specs.Sources.{Assigned, assigned, row_read, rows_read, and_rows, loaded, compiled, Source, File, FileFault, and_more, in_files, taken, Given, and_locks, given}
+use Rattle.dconf_model.specs.Sources.{Assigned, assigned, row_read, rows_read, and_rows, Loaded, leave_or_stop, take_first, rows_taken, loaded, compiled, Source, File, FileFault, and_more, in_files, taken, Given, and_locks, given}
 use Rattle.dconf_model.specs.Stores.{IsLimitedValue}
 use Rattle.dconf_model.proofs.AsciiParts.{utf8_beside, utf8_start, utf8_end, IsAsciiTest}
 use Rattle.dconf_model.proofs.WholeTexts.{text_is_whole}
@@ -248,9 +249,34 @@ stores_whole s v h e = reads_whole s v h (if_ok (value_of_text s) v e)
 holds_at : {X F : Type 0} (P : X → Type 0) (r : Result X F) (x : X) → r ≡ Ok x → Holds P r → P x
 holds_at P r x e h = subst (Holds P) e h
 
-pub loaded_whole : (directory bytes : List ℕ) (rows : List Assigned) → loaded directory bytes ≡ Ok rows → AllByRecursion IsWholeRow rows
-loaded_whole directory bytes rows e =
-    holds_at (AllByRecursion IsWholeRow) (loaded directory bytes) rows e (file_whole value_of_text reads_whole directory (rows_of bytes) (rows_short bytes))
+abbrev AreWhole : Loaded → Type 0
+AreWhole l = AllByRecursion IsWholeRow l.rows
+
+left_whole : (b : Bool) (line : ℕ) (path : List ℕ) (cause : SettingsCause) (rest : Result Loaded LineFault) → Holds AreWhole rest → Holds AreWhole (leave_or_stop b line path cause rest)
+left_whole true line path cause (Ok l) h = h
+left_whole true line path cause (Err f) h = tt
+left_whole false line path cause rest h = tt
+
+first_whole : (skip : Bool) (line : ℕ) (path : List ℕ) (x : LineReading Assigned) (rest : Result Loaded LineFault) → Finds IsWholeRow x → Holds AreWhole rest
+    → Holds AreWhole (take_first skip line path x rest)
+first_whole skip line path nothing rest f h = h
+first_whole skip line path (found row) (Ok l) f h = (f, h)
+first_whole skip line path (found row) (Err e) f h = tt
+first_whole skip line path (wrong cause) rest f h = left_whole (skip && is_double_cause cause) line path cause rest h
+
+taken_whole : (skip : Bool) (directory : List ℕ) (rows : List Row) → AllByRecursion IsShortRow rows → Holds AreWhole (rows_taken skip directory rows)
+taken_whole skip directory [] h = tt
+taken_whole skip directory (r ∷ more) h =
+    first_whole skip r.line (path_of directory r) (row_read value_of_text (path_of directory r) r.text) (rows_taken skip directory more)
+    (read_finds value_of_text reads_whole (path_of directory r) r.text h.0 (is_short (path_of directory r)))
+    (taken_whole skip directory more h.1)
+
+pub loaded_whole : (skip : Bool) (directory bytes : List ℕ) (l : Loaded) → loaded skip directory bytes ≡ Ok l → AllByRecursion IsWholeRow l.rows
+loaded_whole skip directory bytes l e = holds_at AreWhole (loaded skip directory bytes) l e (go (rows_of bytes) (rows_short bytes))
+  where
+    go : (r : Result (List Row) LineFault) → Holds (AllByRecursion IsShortRow) r → Holds AreWhole (and_rows (rows_taken skip directory) r)
+    go (Ok rows) h = taken_whole skip directory rows h
+    go (Err f) h = tt
 
 compiled_whole : (bytes : List ℕ) → Holds (AllByRecursion IsWholeRow) (compiled bytes)
 compiled_whole bytes = file_whole (λ text. if_storable (value_of_text text)) stores_whole (codes "/") (rows_of bytes) (rows_short bytes)

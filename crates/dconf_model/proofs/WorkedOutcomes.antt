@@ -11,12 +11,10 @@ use Rattle.dconf_model.specs.Commands.{Command}
 use Rattle.dconf_model.specs.Commands.Command.{read, list, write, load, compile, repair}
 use Rattle.dconf_model.specs.Reads.{Content, Input, steady, failing}
 use Rattle.dconf_model.specs.Databases.Verdict.{no_database}
-use Rattle.dconf_model.specs.Outcomes.{IsOutcome, refused, done, UnlessFailed, OrLine, Changes, dump_of, with_value_if_any}
+use Rattle.dconf_model.specs.Outcomes.{IsOutcome, refused, done, UnlessFailed, OrLine, Loads, dump_of, with_value_if_any}
 use Rattle.dconf_model.specs.Layers.{level}
 use Rattle.dconf_model.specs.Lines.{longest_text}
 use Rattle.dconf_model.specs.Sources.{loaded}
-use Rattle.dconf_model.specs.Changes.{paths_of}
-use Rattle.dconf_model.specs.Changes.Change.{load_values}
 use Rattle.gv_model.specs.Tree.Tree.{number}
 use Rattle.gv_model.specs.Ty.Basic.{double}
 use Rattle.gv_model.specs.Printed.{holds_double}
@@ -63,14 +61,14 @@ late_user = refl
 failed_input : Input
 failed_input = record { bytes = codes "[a]"; fails = true }
 
-input_fails : IsOutcome (load false (codes "/") profile) (steady two_databases) failed_input (refused (codes "Device input"))
+input_fails : IsOutcome (load false false (codes "/") profile) (steady two_databases) failed_input (refused (codes "Device input"))
 unfolding meaning failed_input
 input_fails = refl
 
 bad_input : Input
 bad_input = record { bytes = text_of (codes "[a]" ∷ codes "k=oops" ∷ []); fails = false }
 
-input_at_fault : IsOutcome (load false (codes "/") profile) (steady two_databases) bad_input (refused (codes "input:2: BadToken at 0..4"))
+input_at_fault : IsOutcome (load false false (codes "/") profile) (steady two_databases) bad_input (refused (codes "input:2: BadToken at 0..4"))
 unfolding meaning bad_input
 input_at_fault = refl
 
@@ -186,11 +184,11 @@ lock_file_fails = refl
 
 -- ---- input without end
 
-endless : (input : Input) → nat_lt longest_text (length input.bytes) ≡ true → IsOutcome (load false (codes "/") profile) (steady two_databases) input (refused (codes "input:0: TooBig"))
+endless : (input : Input) → nat_lt longest_text (length input.bytes) ≡ true → IsOutcome (load false false (codes "/") profile) (steady two_databases) input (refused (codes "input:0: TooBig"))
 unfolding meaning two_databases
 endless input long = go input.fails
   where
-    go : (b : Bool) → UnlessFailed (b && not (nat_lt longest_text (length input.bytes))) (OrLine (codes "input") (loaded (codes "/") input.bytes) (λ rows. Changes (steady two_databases) profile (paths_of rows) (load_values rows false))) (refused (codes "input:0: TooBig"))
+    go : (b : Bool) → UnlessFailed (b && not (nat_lt longest_text (length input.bytes))) (OrLine (codes "input") (loaded false (codes "/") input.bytes) (Loads (steady two_databases) profile false)) (refused (codes "input:0: TooBig"))
     go true = rw long refl
     go false = rw long refl
 

@@ -1,5 +1,5 @@
 -- Worked keyfiles with their values, and what several files give.
-use Rattle.std.specs.Prelude.{◌≡◌, ℕ, List, [], ◌∷◌, Ok, Err, Some, None, codes, refl, Result}
+use Rattle.std.specs.Prelude.{◌≡◌, ℕ, true, false, List, [], ◌∷◌, Ok, Err, Some, None, codes, refl, Result}
 use Rattle.std.specs.Fmt.{digits}
 use Rattle.gv_model.specs.Tree.{Tree, depth, nodes, tree_at}
 use Rattle.gv_model.specs.Tree.Tree.{number, text as text_value}
@@ -17,9 +17,9 @@ use Rattle.gv_model.proofs.WorkedValues.{computing}
 use Rattle.gv_model.proofs.WorkedTokens.{lexing}
 use Rattle.dconf_model.specs.FaultTexts.{cause_text}
 use Rattle.dconf_model.specs.Causes.SettingsCause.{bad_line, lock_not_key, text_fault}
-use Rattle.dconf_model.specs.Lines.{fault_at_line}
+use Rattle.dconf_model.specs.Lines.{LineFault, fault_at_line}
 use Rattle.dconf_model.specs.Values.{value_of_text, stored, held_value}
-use Rattle.dconf_model.specs.Sources.{Assigned, Source, FileFault, Given, loaded, compiled, given, last_value}
+use Rattle.dconf_model.specs.Sources.{Assigned, Loaded, Source, FileFault, Given, loaded, compiled, given, last_value}
 use Rattle.dconf_model.specs.Sources.File.{keyfile, lock_file}
 use Rattle.dconf_model.proofs.WorkedLines.{reading, text_of}
 
@@ -120,7 +120,26 @@ lock_fault_alone = refl
 
 -- ---- loading
 
-below : loaded (codes "/z/") (text_of (codes "[b]" ∷ codes "k=uint32 5" ∷ codes "[/]" ∷ codes "j=1" ∷ []))
-    ≡ Ok (assign (codes "/z/b/k") (number uint32 5) ∷ assign (codes "/z/j") (number int32 1) ∷ [])
+abbrev these_loaded : List Assigned → List (List ℕ) → Result Loaded LineFault
+these_loaded rows left_out = Ok (record { rows = rows; left_out = left_out })
+
+below : loaded false (codes "/z/") (text_of (codes "[b]" ∷ codes "k=uint32 5" ∷ codes "[/]" ∷ codes "j=1" ∷ []))
+    ≡ these_loaded (assign (codes "/z/b/k") (number uint32 5) ∷ assign (codes "/z/j") (number int32 1) ∷ []) []
 unfolding meaning
 below = refl
+
+-- a double is left out, and only a double
+without_doubles : loaded true (codes "/z/") (text_of (codes "[b]" ∷ codes "k=1.5" ∷ codes "j=1" ∷ codes "i=(@d 5, 2)" ∷ []))
+    ≡ these_loaded (assign (codes "/z/b/j") (number int32 1) ∷ []) (codes "/z/b/k" ∷ codes "/z/b/i" ∷ [])
+unfolding meaning
+without_doubles = refl
+
+with_double : loaded false (codes "/z/") (text_of (codes "[b]" ∷ codes "j=1" ∷ codes "k=1.5" ∷ []))
+    ≡ fault_at_line 3 (text_fault (record { cause = double_text; start = 0; stop = 3 }))
+unfolding meaning
+with_double = refl
+
+not_a_double : loaded true (codes "/z/") (text_of (codes "[b]" ∷ codes "k=1.5" ∷ codes "j=1x" ∷ []))
+    ≡ fault_at_line 3 (text_fault (record { cause = bad_token; start = 0; stop = 2 }))
+unfolding meaning
+not_a_double = refl

@@ -17,8 +17,8 @@ pub data Command : Type 0 where
   reset_below : List ℕ → List ℕ → Command
   -- whether doubles are left out; DIR; the profile's file
   dump : Bool → List ℕ → List ℕ → Command
-  -- whether locked rows are left out; DIR; the profile's file
-  load : Bool → List ℕ → List ℕ → Command
+  -- whether locked rows are left out, and whether doubles are; DIR; the profile's file
+  load : Bool → Bool → List ℕ → List ℕ → Command
   -- KEY; the profile's file
   origin : List ℕ → List ℕ → Command
   -- OUT; the lock files; KEYFILES

@@ -1,7 +1,14 @@
--- Values that have no text for a double in them, and that `dump --skip-doubles` leaves out. This project's.
-use Rattle.std.specs.Prelude.{ℕ, List, [], ◌∷◌, ◌++◌, Bool, false, Option, Some, None, codes, filter, flat_map, not, ◌&&◌}
+-- Values that have no text for a double in them, and texts that have no value for one: what `dump --skip-doubles` and
+-- `load --skip-doubles` leave out. This project's.
+use Rattle.std.specs.Prelude.{ℕ, List, [], ◌∷◌, ◌++◌, Bool, true, false, Option, Some, None, codes, filter, flat_map, not, ◌&&◌}
+use Rattle.gv_model.specs.TextFault.{Cause}
+use Rattle.gv_model.specs.TextFault.Cause.{double_text}
+use Rattle.gv_model.specs.Literals.{ValueFault}
+use Rattle.gv_model.specs.Literals.ValueFault.{double_text as double_value}
 use Rattle.gv_model.specs.Tree.{Tree}
 use Rattle.gv_model.specs.Printed.{is_too_large, holds_double}
+use Rattle.dconf_model.specs.Causes.{SettingsCause}
+use Rattle.dconf_model.specs.Causes.SettingsCause.{text_fault, value_fault}
 
 -- a value isn't printed for a double in it; that it is too large would come first
 abbrev pub is_double : Tree → Bool
@@ -23,3 +30,23 @@ not_left_out skip seen paths = filter (λ path. not (skip && is_double_if_any (s
 -- a comment line for each
 abbrev pub comment_lines : List (List ℕ) → List ℕ
 comment_lines paths = flat_map (λ path. codes "# " ++ (path ++ 10 ∷ [])) paths
+
+-- ---- texts of values
+
+abbrev pub is_double_token : Cause → Bool
+is_double_token double_text = true
+is_double_token _ = false
+
+abbrev pub is_double_fault : ValueFault → Bool
+is_double_fault double_value = true
+is_double_fault _ = false
+
+-- a text is refused for a double in it
+abbrev pub is_double_cause : SettingsCause → Bool
+is_double_cause (text_fault f) = is_double_token f.cause
+is_double_cause (value_fault f) = is_double_fault f
+is_double_cause _ = false
+
+abbrev pub is_double_cause_if_any : Option SettingsCause → Bool
+is_double_cause_if_any None = false
+is_double_cause_if_any (Some c) = is_double_cause c

@@ -22,8 +22,8 @@ pub mod Locks
 pub mod Profiles
 pub mod Order
 pub mod Values
-pub mod Keyfiles
 pub mod Doubles
+pub mod Keyfiles
 pub mod Sources
 pub mod Databases
 pub mod Layers

@@ -21,7 +21,7 @@ use Rattle.dconf_model.specs.Values.{value_of_text}
 use Rattle.dconf_model.specs.Profiles.{Database, database_text, database_file, has_writable, user_file, profile_of}
 use Rattle.dconf_model.specs.Keyfiles.{Setting, RowFault, dumped}
 use Rattle.dconf_model.specs.Doubles.{left_out, not_left_out, comment_lines}
-use Rattle.dconf_model.specs.Sources.{Assigned, Source, File, FileFault, loaded}
+use Rattle.dconf_model.specs.Sources.{Loaded, Source, File, FileFault, loaded}
 use Rattle.dconf_model.specs.Sources.File.{keyfile, lock_file}
 use Rattle.dconf_model.specs.Databases.{Verdict, IsVerdict, IsDatabaseOf, IsTooBig, IsCompiled, AreLayers, IsFirstBad}
 use Rattle.dconf_model.specs.Databases.Verdict.{no_database, sound, unsound}
@@ -133,8 +133,8 @@ UnlessFailed true Go o = Refused (device_text (codes "input")) o
 UnlessFailed false Go o = Go o
 
 -- the rows of a keyfile from input
-abbrev pub WithRows : List ℕ → Input → (List Assigned → Gives) → Gives
-WithRows directory input Go = UnlessFailed (read_failed input) (OrLine (codes "input") (loaded directory input.bytes) Go)
+abbrev pub WithRows : Bool → List ℕ → Input → (Loaded → Gives) → Gives
+WithRows skip directory input Go = UnlessFailed (read_failed input) (OrLine (codes "input") (loaded skip directory input.bytes) Go)
 
 -- ---- the store: a profile, and its databases
 
@@ -246,13 +246,24 @@ refusal_text paths too_large = codes "TooLarge"
 abbrev pub Writes : List ℕ → List ℕ → Settings → Gives
 Writes name text s o = (IsTooBig s × Refused (codes "TooBig") o) ⊎ ((bytes : List ℕ) × IsDatabaseOf s bytes × (o ≡ changing name bytes text))
 
+-- where it is made, this text is printed
+abbrev pub SavesSaying : List ℕ → List (List ℕ) → List ℕ → Result Layers Refusal → Gives
+SavesSaying text paths name (Err r) o = Refused (refusal_text paths r) o
+SavesSaying text paths name (Ok new) o = Writes name text (saved new.layers) o
+
 abbrev pub Saves : List (List ℕ) → List ℕ → Result Layers Refusal → Gives
-Saves paths name (Err r) o = Refused (refusal_text paths r) o
-Saves paths name (Ok new) o = Writes name [] (saved new.layers) o
+Saves paths name r = SavesSaying [] paths name r
 
 -- a change, at these paths
+abbrev pub ChangesSaying : List ℕ → ReadResults → List ℕ → List (List ℕ) → Change → Gives
+ChangesSaying text reads profile paths change = WithStore reads profile (λ databases l. SavesSaying text paths (user_file databases) (apply l change))
+
 abbrev pub Changes : ReadResults → List ℕ → List (List ℕ) → Change → Gives
-Changes reads profile paths change = WithStore reads profile (λ databases l. Saves paths (user_file databases) (apply l change))
+Changes reads profile paths change = ChangesSaying [] reads profile paths change
+
+-- what is loaded is set, and the paths that are left out are printed
+abbrev pub Loads : ReadResults → List ℕ → Bool → Loaded → Gives
+Loads reads profile force l = ChangesSaying (lines_text l.left_out) reads profile (paths_of l.rows) (load_values l.rows force)
 
 -- ---- compile, check, repair
 
@@ -302,8 +313,7 @@ IsOutcome (reset key profile) reads input = UnlessFault (key_fault key) (Changes
 IsOutcome (reset_below directory profile) reads input = UnlessFault (directory_fault directory) (Changes reads profile [] (reset_below_directory directory))
 IsOutcome (dump skip directory profile) reads input =
     UnlessFault (directory_fault directory) (WithStore reads profile (λ databases l o. o ≡ dump_at skip directory l (paths_below l directory)))
-IsOutcome (load force directory profile) reads input =
-    UnlessFault (directory_fault directory) (WithRows directory input (λ rows. Changes reads profile (paths_of rows) (load_values rows force)))
+IsOutcome (load force skip directory profile) reads input = UnlessFault (directory_fault directory) (WithRows skip directory input (Loads reads profile force))
 IsOutcome (origin key profile) reads input =
     UnlessFault (key_fault key) (WithStore reads profile (λ databases l o. o ≡ done (origin_text databases (origin_of l key))))
 IsOutcome (compile out lock_names names) reads input =

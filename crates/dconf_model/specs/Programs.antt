@@ -13,7 +13,7 @@ use Rattle.dconf_model.specs.Order.{listing}
 use Rattle.dconf_model.specs.Profiles.{Database, database_file, has_writable, profile_of}
 use Rattle.dconf_model.specs.Keyfiles.{Setting}
 use Rattle.dconf_model.specs.Doubles.{left_out, not_left_out, comment_lines}
-use Rattle.dconf_model.specs.Sources.{Given, Assigned, Source, given, last_value, loaded}
+use Rattle.dconf_model.specs.Sources.{Given, Loaded, Source, given, last_value, loaded}
 use Rattle.dconf_model.specs.Opening.{IsDatabase}
 use Rattle.dconf_model.specs.Salvaging.{IsSalvaged}
 use Rattle.dconf_model.specs.Settings.{Settings}
@@ -155,8 +155,8 @@ abbrev pub value_change : List ℕ → Result Tree SettingsCause → List Change
 value_change key (Ok v) = set_value key v ∷ []
 value_change key (Err c) = []
 
-abbrev pub rows_change : Bool → Result (List Assigned) LineFault → List Change
-rows_change force (Ok rows) = load_values rows force ∷ []
+abbrev pub rows_change : Bool → Result Loaded LineFault → List Change
+rows_change force (Ok l) = load_values l.rows force ∷ []
 rows_change force (Err f) = []
 
 -- the change that a command asks for
@@ -164,7 +164,7 @@ abbrev pub asked_change : Command → Input → List Change
 asked_change (write key text profile) input = value_change key (value_of_word text)
 asked_change (reset key profile) input = reset_value key ∷ []
 asked_change (reset_below directory profile) input = reset_below_directory directory ∷ []
-asked_change (load force directory profile) input = rows_change force (loaded directory input.bytes)
+asked_change (load force skip directory profile) input = rows_change force (loaded skip directory input.bytes)
 asked_change other input = []
 
 abbrev pub if_done : ℕ → List Change → List Change
@@ -177,7 +177,7 @@ abbrev pub IsChangeOf : List ℕ → Command → Type 0
 IsChangeOf profile (write key text file) = (file ≡ profile) × (is_utf8 text ≡ true)
 IsChangeOf profile (reset key file) = file ≡ profile
 IsChangeOf profile (reset_below directory file) = file ≡ profile
-IsChangeOf profile (load force directory file) = file ≡ profile
+IsChangeOf profile (load force skip directory file) = file ≡ profile
 IsChangeOf profile other = ⊥
 
 -- it changes no file

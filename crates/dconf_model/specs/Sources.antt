@@ -1,6 +1,6 @@
 -- What keyfiles and lock files give: at each path of a row the value of its last row, and the locks; or the first line at
 -- fault. dconf(1), "compile": the files are taken in the order of their names.
-use Rattle.std.specs.Prelude.{◌≡◌, ℕ, List, [], ◌∷◌, ◌++◌, codes, Option, Some, None, Result, Ok, Err, if◌then◌else◌, option_map, filter_map}
+use Rattle.std.specs.Prelude.{◌≡◌, ℕ, List, [], ◌∷◌, ◌++◌, codes, Option, Some, None, Result, Ok, Err, Bool, true, false, if◌then◌else◌, ◌&&◌, option_map, filter_map}
 use Rattle.std.specs.List.{last_or, enumerate_from, list_any}
 use Rattle.std.specs.Str.{bytes_eq}
 use Rattle.std.specs.FinMap.{get, contains_key}
@@ -10,8 +10,9 @@ use Rattle.dconf_model.specs.Paths.PathFault.{too_long}
 use Rattle.dconf_model.specs.Settings.{Settings}
 use Rattle.dconf_model.specs.Causes.{SettingsCause}
 use Rattle.dconf_model.specs.Causes.SettingsCause.{path_fault}
-use Rattle.dconf_model.specs.Lines.{LineReading, LineFault, put_first, read_file}
-use Rattle.dconf_model.specs.Lines.LineReading.{found, wrong}
+use Rattle.dconf_model.specs.Lines.{LineReading, LineFault, fault_at_line, put_first, read_file}
+use Rattle.dconf_model.specs.Lines.LineReading.{nothing, found, wrong}
+use Rattle.dconf_model.specs.Doubles.{is_double_cause}
 use Rattle.dconf_model.specs.Order.{in_order}
 use Rattle.dconf_model.specs.Values.{value_of_text, if_storable, stored}
 use Rattle.dconf_model.specs.Keyfiles.{Row, rows_of, path_of}
@@ -36,16 +37,49 @@ abbrev pub rows_read : (List ℕ → Result Tree SettingsCause) → List ℕ →
 rows_read read directory [] = Ok []
 rows_read read directory (r ∷ more) = put_first r.line (row_read read (path_of directory r) r.text) (rows_read read directory more)
 
-abbrev pub and_rows : (List Row → Result (List Assigned) LineFault) → Result (List Row) LineFault → Result (List Assigned) LineFault
+abbrev pub and_rows : {X : Type 0} → (List Row → Result X LineFault) → Result (List Row) LineFault → Result X LineFault
 and_rows f (Ok rows) = f rows
 and_rows f (Err e) = Err e
 
--- All lines are read first. To be loaded, a value has to be one; to be compiled, one that can be stored.
-abbrev pub loaded : List ℕ → List ℕ → Result (List Assigned) LineFault
-loaded directory bytes = and_rows (rows_read value_of_text directory) (rows_of bytes)
-
+-- All lines are read first. To be compiled, a value has to be one that can be stored.
 abbrev pub compiled : List ℕ → Result (List Assigned) LineFault
 compiled bytes = and_rows (rows_read (λ text. if_storable (value_of_text text)) (codes "/")) (rows_of bytes)
+
+-- ---- a keyfile that is loaded, where a value has only to be one
+
+-- what rows set, and the paths of those that are left out
+pub record Loaded : Type 0 where
+  pub rows : List Assigned
+  pub left_out : List (List ℕ)
+
+abbrev pub nothing_loaded : Loaded
+nothing_loaded = record { rows = []; left_out = [] }
+
+abbrev pub set_first : Assigned → Result Loaded LineFault → Result Loaded LineFault
+set_first row (Ok l) = Ok (record { rows = row ∷ l.rows; left_out = l.left_out })
+set_first row (Err f) = Err f
+
+abbrev pub leave_first : List ℕ → Result Loaded LineFault → Result Loaded LineFault
+leave_first path (Ok l) = Ok (record { rows = l.rows; left_out = path ∷ l.left_out })
+leave_first path (Err f) = Err f
+
+abbrev pub leave_or_stop : Bool → ℕ → List ℕ → SettingsCause → Result Loaded LineFault → Result Loaded LineFault
+leave_or_stop true line path cause rest = leave_first path rest
+leave_or_stop false line path cause rest = fault_at_line line cause
+
+-- a row that is refused for a double in its text is left out where doubles are skipped
+abbrev pub take_first : Bool → ℕ → List ℕ → LineReading Assigned → Result Loaded LineFault → Result Loaded LineFault
+take_first skip line path nothing rest = rest
+take_first skip line path (found row) rest = set_first row rest
+take_first skip line path (wrong cause) rest = leave_or_stop (skip && is_double_cause cause) line path cause rest
+
+abbrev pub rows_taken : Bool → List ℕ → List Row → Result Loaded LineFault
+rows_taken skip directory [] = Ok nothing_loaded
+rows_taken skip directory (r ∷ more) =
+    take_first skip r.line (path_of directory r) (row_read value_of_text (path_of directory r) r.text) (rows_taken skip directory more)
+
+abbrev pub loaded : Bool → List ℕ → List ℕ → Result Loaded LineFault
+loaded skip directory bytes = and_rows (rows_taken skip directory) (rows_of bytes)
 
 -- ---- files
 

@@ -100,6 +100,46 @@ j=1
 ! error: Device profile
 ";
 
+/// A row with a double is left out and named, also if its key is locked.
+const DOUBLES: &str = "
+$ load --skip-doubles /
+[c]
+y=1.5
+x=1
+[a]
+k=[1.0]
+=> 0
+/c/y
+/a/k
+$ dump --skip-doubles /c/
+=> 0
+[/]
+x=1
+$ load -f --skip-doubles /
+[a]
+k=5
+j=@d 5
+i=oops
+=> 1
+! error: input:4: BadToken at 0..4
+$ load --skip-doubles /
+[a]
+k=5
+j=1.5
+=> 1
+! error: Locked /a/k
+$ load -f --skip-doubles /c/
+[/]
+x=2
+y=@d 5
+=> 0
+/c/y
+$ dump /c/
+=> 0
+[/]
+x=2
+";
+
 const CALM: &str = "
 % 4100 4 Other
 load / => 0
@@ -120,4 +160,11 @@ fn looks_at_the_input_before_any_file(rt: HostRuntime) -> Result<(), Fail> {
     let after = bytes_of(alloc, &mut folder, "me.user")?;
     assert!(rt; before.as_slice() == after.as_slice());
     each_on_input(alloc, CALM, &mut folder)
+}
+
+#[test]
+fn leaves_out_rows_with_a_double(rt: HostRuntime) -> Result<(), Fail> {
+    let alloc = rt.alloc();
+    let mut folder = two_layers(alloc, "/a/k\n")?;
+    runs(alloc, DOUBLES, &mut folder)
 }

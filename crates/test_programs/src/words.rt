@@ -33,6 +33,7 @@ reset /k => Some(UserOf("profile"))
 reset -f -p x / => Some(UserOf("x"))
 load -p x / => Some(UserOf("x"))
 load -f / => Some(UserOf("profile"))
+load --skip-doubles / => Some(UserOf("profile"))
 update => None
 update a => Some("a")
 "#;

@@ -1,9 +1,9 @@
-//! `load [-f] DIR`: the user's values of the rows of a keyfile from input, below a directory. All rows are read before any is set.
-ghost use Rattle.std.specs.Prelude.{◌≡◌, ◌≢◌, ℕ, List, Ok, Err, IfErr, OnOk, codes};
+//! `load [-f] [--skip-doubles] DIR`: the user's values of the rows of a keyfile from input, below a directory. All rows are read before any is set.
+ghost use Rattle.std.specs.Prelude.{◌≡◌, ◌≢◌, ℕ, List, Bool, Ok, Err, IfErr, IfOk, OnOk, codes, map, string_bytes};
 ghost use Rattle.dconf_model.specs.Changes.{Change.load_values, apply, paths_of};
 ghost use Rattle.dconf_model.specs.Commands.Command.{load as load_of};
 ghost use Rattle.dconf_model.specs.FaultTexts.{device_text};
-ghost use Rattle.dconf_model.specs.Outcomes.{Changes, IsOutcome, OrLine, Saves, WithRows};
+ghost use Rattle.dconf_model.specs.Outcomes.{IsOutcome, Loads, OrLine, SavesSaying, WithRows, lines_text};
 ghost use Rattle.dconf_model.specs.Reads.{Input};
 ghost use Rattle.dconf_model.specs.Sources.{loaded};
 ghost use Rattle.dconf_path.specs.Paths.{directory_text};
@@ -20,8 +20,8 @@ ghost use Rattle.dconf_commands.specs.Loads.{RefusedLine};
 
 use crate::argument::directory_path;
 use crate::store_files::StoreFiles;
-use crate::user_database::{change_refused, saved};
-use dconf_compile::{CompileCause, LineStop, RowsBelow};
+use crate::user_database::{change_refused, saved_saying};
+use dconf_compile::{CompileCause, LineStop, Loaded, RowsBelow};
 use dconf_disk::Folder;
 use dconf_engine::{ChangeFault, Engine};
 use dconf_path::{DirPath, KeyPath};
@@ -29,46 +29,64 @@ use dconf_streams::{
     Answer, Counted, InputFault, Refusal, named_file, read_input, refused, refused_at,
 };
 use gv_tree::Tree;
-use std::alloc::Global;
+use std::alloc::{AllocError, Global};
 use std::io::Read;
 
 /// What `load` answers. The directory is looked at before the input is read, and the input before any file.
 pub(crate) fn load<F: Folder, I: Read>(
     alloc: Global,
     force: bool,
+    skip_doubles: bool,
     directory: &str,
     profile: &str,
     folder: &mut F,
     input: &mut Counted<I>,
 ) -> Result<Answer, Refusal>
     ensures answer { (i : Input) × Took I.remaining input.old input.new i
-        × Decides F.Folder folder.old folder.new 0 (λ reads. IsOutcome (load_of force directory.now profile.now) reads i) result }
+        × Decides F.Folder folder.old folder.new 0 (λ reads. IsOutcome (load_of force skip_doubles directory.now profile.now) reads i) result }
     ensures device { failures_of input.new ≢ failures_of input.old → RefusesFor result (device_text (codes "input")) }
     ensures limit { ReadsText I.remaining input.old input.new }
     ensures end { OnOk result (CameToEnd input.old input.new) }
 {
     let directory = directory_path(alloc, directory)?;
-    load_below(alloc, force, directory, profile, folder, input)
+    load_below(
+        alloc,
+        force,
+        skip_doubles,
+        directory,
+        profile,
+        folder,
+        input,
+    )
 }
 
 /// What `load` answers of a directory, by the input.
 fn load_below<F: Folder, I: Read>(
     alloc: Global,
     force: bool,
+    skip_doubles: bool,
     directory: DirPath<'_>,
     profile: &str,
     folder: &mut F,
     input: &mut Counted<I>,
 ) -> Result<Answer, Refusal>
     ensures answer { (i : Input) × Took I.remaining input.old input.new i
-        × Decides F.Folder folder.old folder.new 0 (λ reads. WithRows (directory_text directory.entry) i
-        (λ rows. Changes reads profile.now (paths_of rows) (load_values rows force))) result }
+        × Decides F.Folder folder.old folder.new 0 (λ reads. WithRows skip_doubles (directory_text directory.entry) i
+        (Loads reads profile.now force)) result }
     ensures device { failures_of input.new ≢ failures_of input.old → RefusesFor result (device_text (codes "input")) }
     ensures limit { ReadsText I.remaining input.old input.new }
     ensures end { OnOk result (CameToEnd input.old input.new) }
 {
     match read_input(alloc, input) {
-        Ok(bytes) => load_bytes(alloc, force, directory, &bytes, profile, folder),
+        Ok(bytes) => load_bytes(
+            alloc,
+            force,
+            skip_doubles,
+            directory,
+            &bytes,
+            profile,
+            folder,
+        ),
         Err(InputFault::Device) => Err(refused(alloc, InputFault::Device)),
         Err(InputFault::Memory) => Err(Refusal::NoMemory),
     }
@@ -78,16 +96,17 @@ fn load_below<F: Folder, I: Read>(
 fn load_bytes<F: Folder>(
     alloc: Global,
     force: bool,
+    skip_doubles: bool,
     directory: DirPath<'_>,
     bytes: &[u8],
     profile: &str,
     folder: &mut F,
 ) -> Result<Answer, Refusal>
-    ensures { Decides F.Folder folder.old folder.new 0 (λ reads. OrLine (codes "input") (loaded (directory_text directory.entry) bytes.entry.now)
-        (λ rows. Changes reads profile.now (paths_of rows) (load_values rows force))) result }
+    ensures { Decides F.Folder folder.old folder.new 0 (λ reads. OrLine (codes "input") (loaded skip_doubles (directory_text directory.entry) bytes.entry.now)
+        (Loads reads profile.now force)) result }
 {
     match RowsBelow::read(alloc, directory, bytes) {
-        Ok(below) => load_rows(alloc, force, below, profile, folder),
+        Ok(below) => load_rows(alloc, force, skip_doubles, below, profile, folder),
         Err(stop) => Err(line_refused(alloc, stop)),
     }
 }
@@ -96,23 +115,38 @@ fn load_bytes<F: Folder>(
 fn load_rows<F: Folder>(
     alloc: Global,
     force: bool,
+    skip_doubles: bool,
     below: RowsBelow<'_>,
     profile: &str,
     folder: &mut F,
 ) -> Result<Answer, Refusal>
-    ensures { Decides F.Folder folder.old folder.new 0 (λ reads. OrLine (codes "input") (rows_loaded below.entry)
-        (λ rows. Changes reads profile.now (paths_of rows) (load_values rows force))) result }
+    ensures { Decides F.Folder folder.old folder.new 0 (λ reads. OrLine (codes "input") (rows_loaded skip_doubles below.entry)
+        (Loads reads profile.now force)) result }
 {
-    let rows = match below.values(alloc) {
-        Ok(rows) => rows,
+    let Loaded { values, left_out } = match below.values(alloc, skip_doubles) {
+        Ok(loaded) => loaded,
         Err(stop) => return Err(line_refused(alloc, stop)),
     };
+    let text = lines(alloc, &left_out)?;
     let profile = named_file(alloc, folder, profile)?;
     let files = StoreFiles::read(alloc, folder, &profile)?;
     let mut engine = files.open(alloc)?;
-    set_rows(alloc, &mut engine, rows, force)?;
+    set_rows(alloc, &mut engine, values, force)?;
+    drop(left_out);
     drop(below);
-    saved(alloc, &files.profile, engine)
+    saved_saying(alloc, &files.profile, engine, text)
+}
+
+/// Paths, each on a line.
+fn lines(alloc: Global, paths: &[&str]) -> Result<String, AllocError>
+    ensures { IfOk result (λ text. string_bytes text ≡ lines_text (map (λ path. path.now) paths.now)) }
+{
+    let mut lines = String::new(alloc);
+    for path in paths {
+        lines.push_str(path)?;
+        lines.push('\n')?;
+    }
+    Ok(lines)
 }
 
 /// Sets these rows, or says why they are refused.
@@ -123,8 +157,8 @@ fn set_rows(
     force: bool,
 ) -> Result<(), Refusal>
     ensures ok { OnOk result (apply engine.old (load_values (rows_of rows.entry.items) force) ≡ Ok engine.new) }
-    ensures err { IfErr result (λ refusal. (file : List ℕ) → GivesOutcome (Err refusal)
-        (Saves (paths_of (rows_of rows.entry.items)) file (apply engine.old (load_values (rows_of rows.entry.items) force)))) }
+    ensures err { IfErr result (λ refusal. (text file : List ℕ) → GivesOutcome (Err refusal)
+        (SavesSaying text (paths_of (rows_of rows.entry.items)) file (apply engine.old (load_values (rows_of rows.entry.items) force)))) }
 {
     match engine.load(&rows, force) {
         Ok(()) => Ok(()),

@@ -50,11 +50,34 @@ fn only_row(
     value: &Tree,
 ) -> Result<String, LineStop> {
     let rows = RowsBelow::read(alloc, directory, bytes)?;
-    let values = rows.values(alloc)?;
-    match values.as_slice() {
+    let loaded = rows.values(alloc, false)?;
+    match loaded.values.as_slice() {
         [(path, found)] if found.equal(value) => Ok(String::from_str(alloc, path.as_str())?),
         _ => Ok(String::new(alloc)),
     }
+}
+
+/// The path of the one row of a keyfile that is left out where doubles are skipped, and one other has a value.
+fn only_double(alloc: Global, directory: DirPath<'_>, bytes: &[u8]) -> Result<String, LineStop> {
+    let rows = RowsBelow::read(alloc, directory, bytes)?;
+    let loaded = rows.values(alloc, true)?;
+    match (loaded.values.as_slice(), loaded.left_out.as_slice()) {
+        ([_], [path]) => Ok(String::from_str(alloc, *path)?),
+        _ => Ok(String::new(alloc)),
+    }
+}
+
+/// Whether a row with a double is left out, and the line of another is named, whose value is none.
+fn is_left_out(alloc: Global, directory: DirPath<'_>) -> bool {
+    let found = match only_double(alloc, directory, b"[b]\nk=[1.5]\nj=1\n") {
+        Ok(path) => path.as_str() == "/a/b/k",
+        Err(_) => false,
+    };
+    let stopped = match only_double(alloc, directory, b"[b]\nk=[1.5]\nj=oops\n") {
+        Ok(_) => false,
+        Err(stop) => stop.line == 3 && stop.cause != CompileCause::Memory,
+    };
+    found && stopped
 }
 
 /// Whether a row has this value below a directory, and the line of another is named, whose value is none.
@@ -82,6 +105,7 @@ fn are_read(alloc: Global, directory: DirPath<'_>) -> bool {
 fn rows_are_written_and_read_below_a_directory(rt: HostRuntime) -> Result<(), Fail> {
     let (alloc, directory) = (rt.alloc(), DirPath::parse("/a/")?);
     assert!(rt; are_read(alloc, directory));
+    assert!(rt; is_left_out(alloc, directory));
     let text = written(alloc, directory)?;
     assert!(rt; text.as_str() == "[/]\nx='hi'\n\n[b]\nk=uint32 5\n");
     Ok(())

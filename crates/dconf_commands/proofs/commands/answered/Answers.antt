@@ -175,8 +175,8 @@ returns-in-Load-clause-answer g c =
     let D : Command → Type 0 = λ k. Decides g.F.Folder c.args.folder.now c.load.new.folder 0 (λ reads. IsOutcome k reads a.0) c.load.result in (
       a.0,
       a.1,
-      subst (λ k. D (command_of k)) (sym c.in-Load.is) (subst (λ n. D (load c.in-Load.force (string_bytes c.in-Load.directory) n)) c.as_str-in-Load-2.ensures.value
-          (subst (λ t. D (load c.in-Load.force t c.as_str-in-Load-2.result.now)) c.as_str-in-Load.ensures.value a.2)),
+      subst (λ k. D (command_of k)) (sym c.in-Load.is) (subst (λ n. D (load c.in-Load.force c.in-Load.skip_doubles (string_bytes c.in-Load.directory) n)) c.as_str-in-Load-2.ensures.value
+          (subst (λ t. D (load c.in-Load.force c.in-Load.skip_doubles t c.as_str-in-Load-2.result.now)) c.as_str-in-Load.ensures.value a.2)),
     )
 
 pub returns-in-Load-clause-input : goal.returns-in-Load-clause-input

@@ -1,7 +1,6 @@
-use Rattle.std.proofs.Common.{◌≡◌, List, map, sym, ap, ◌∙◌, subst}
+use Rattle.std.proofs.Common.{◌≡◌, Bool, List, map, sym, ap, ◌∙◌, subst}
 use Rattle.std.specs.List.{AllByRecursion}
-use Rattle.dconf_model.specs.Sources.{and_rows, rows_read}
-use Rattle.dconf_model.specs.Values.{value_of_text}
+use Rattle.dconf_model.specs.Sources.{and_rows, rows_taken}
 use Rattle.dconf_path.specs.Paths.{directory_text}
 use Rattle.keyfile_core.specs.declared.rows.Row.{Row}
 use Rattle.keyfile_core.specs.Rows.{row_meant}
@@ -17,9 +16,9 @@ with_paths-requires c =
     (rows_are_read c.args.bytes.now (map row_meant c.in_ok-rows.rows.items) c.in_ok-rows.ensures.rows)
 
 pub returns-clause-found : goal.returns-clause-found
-returns-clause-found c =
+returns-clause-found c = λ skip.
     let d = directory_text c.args.directory in
     let rows = map row_meant c.in_ok-rows.rows.items in
     let same : map (at_path d) (map row_meant c.deref.result.now) ≡ map (at_path d) rows = ap (λ (l : List Row). map (at_path d) (map row_meant l)) c.deref.ensures.value in
-    ap (and_rows (rows_read value_of_text d)) c.in_ok-rows.ensures.rows
-    ∙ (sym (given_by_path d rows) ∙ ap rows_given (sym (c.in_ok-rows-2.ensures.rows ∙ same)))
+    ap (and_rows (rows_taken skip d)) c.in_ok-rows.ensures.rows
+    ∙ (sym (given_by_path skip d rows) ∙ ap (rows_given skip) (sym (c.in_ok-rows-2.ensures.rows ∙ same)))
