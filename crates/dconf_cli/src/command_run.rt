@@ -36,7 +36,7 @@ use std::io::{Read, Write};
 /// It holds the bytes of the files that it reads once, and those that it writes. Only `load` reads the input: at most
 /// 16,777,217 bytes of it, in at most as many reads. `show` takes time linear in the file and in its text. Each command that opens a database asks first whether it
 /// is sound: near-linear in the files of dconf and of this program, and at most the items times themselves in a hostile one. Beyond
-/// that, `read`, `origin` and `list-locks` look one path up in each database, and `list` one directory; `write`, `reset` and `load` write the user's
+/// that, `read`, `origin`, `explain` and `list-locks` look one path up in each database, and `list` one directory; `write`, `reset` and `load` write the user's
 /// database anew, and `compile` and `repair` theirs: they, and `dump`, put the paths in order.
 pub fn run<F: Folder, I: Read, O: Write, E: Write>(
     alloc: Global,

@@ -16,7 +16,7 @@ use Rattle.std.specs.Box.{box_value}
 use Rattle.clap.specs.declared.ArgMatches.{ArgMatches}
 use Rattle.clap.specs.declared.error.Error.{Error}
 use Rattle.clap.proofs.WalkLemmas.{first_value-rows, raw_values-rows}
-use Rattle.dconf_command.specs.Asked.{AreOf, AsksToLoad, HasValue, IsParsedBy, AsksToCheck, AsksForOrigin, AsksToCompile, AsksToRead, AsksToRepair, AsksToShow, AsksToUpdate, IsPlacedBy, is_set, profile_file, AsksOfDirectory, AsksToDump, AsksToReset, AsksToWrite}
+use Rattle.dconf_command.specs.Asked.{AreOf, AsksToLoad, HasValue, IsParsedBy, AsksToCheck, AsksToCompile, AsksToRead, AsksToRepair, AsksToShow, AsksToUpdate, IsPlacedBy, is_set, profile_file, AsksOfDirectory, AsksOfKey, AsksToDump, AsksToReset, AsksToWrite}
 use Rattle.dconf_command.specs.CommandLine.{command_line, show_line}
 use Rattle.dconf_command.specs.declared.place.Place.{Place}
 use Rattle.dconf_command.proofs.Stops.{IsNotHelp, or_else_nil, walk_not_help}
@@ -72,7 +72,7 @@ line = built command_line
 
 abbrev IsRunName : Text → Type 0
 IsRunName name =
-    (name ≡ codes "read") ⊎ ((name ≡ codes "write") ⊎ ((name ≡ codes "reset") ⊎ ((name ≡ codes "list") ⊎ ((name ≡ codes "dump") ⊎ ((name ≡ codes "load") ⊎ ((name ≡ codes "origin") ⊎ ((name ≡ codes "list-locks") ⊎ ((name ≡ codes "compile") ⊎ ((name ≡ codes "check") ⊎ ((name ≡ codes "repair") ⊎ (name ≡ codes "show")))))))))))
+    (name ≡ codes "read") ⊎ ((name ≡ codes "write") ⊎ ((name ≡ codes "reset") ⊎ ((name ≡ codes "list") ⊎ ((name ≡ codes "dump") ⊎ ((name ≡ codes "load") ⊎ ((name ≡ codes "origin") ⊎ ((name ≡ codes "list-locks") ⊎ ((name ≡ codes "compile") ⊎ ((name ≡ codes "check") ⊎ ((name ≡ codes "repair") ⊎ ((name ≡ codes "show") ⊎ (name ≡ codes "explain"))))))))))))
 
 -- one that runs, or `update`
 abbrev IsCommandName : Text → Type 0
@@ -163,40 +163,46 @@ origin_is_plain = record {
   name = inl (inr (inr (inr (inr (inr (inr (inl refl)))))));
 }
 
-list_locks_is_plain : IsPlainSub (shape_at 7)
+explain_is_plain : IsPlainSub (shape_at 7)
+explain_is_plain = record {
+  rules = (inl refl, (inr (inl refl), (inr (inl refl), (inr (inl refl), (inr (inr (refl, λ rows. refl)), tt)))));
+  name = inl (inr (inr (inr (inr (inr (inr (inr (inr (inr (inr (inr (inr refl))))))))))));
+}
+
+list_locks_is_plain : IsPlainSub (shape_at 8)
 list_locks_is_plain = record {
   rules = (inl refl, (inr (inl refl), (inr (inl refl), (inr (inl refl), (inr (inr (refl, λ rows. refl)), tt)))));
   name = inl (inr (inr (inr (inr (inr (inr (inr (inl refl))))))));
 }
 
-compile_is_plain : IsPlainSub (shape_at 8)
+compile_is_plain : IsPlainSub (shape_at 9)
 compile_is_plain = record {
   rules = (inl refl, (inr (inl refl), (inl refl, (inr (inr (refl, λ rows. refl)), tt))));
   name = inl (inr (inr (inr (inr (inr (inr (inr (inr (inl refl)))))))));
 }
 
-update_is_plain : IsPlainSub (shape_at 9)
+update_is_plain : IsPlainSub (shape_at 10)
 update_is_plain = record {
   rules = (inl refl, (inr (inr (refl, λ rows. refl)), tt));
   name = inr refl;
 }
 
-check_is_plain : IsPlainSub (shape_at 10)
+check_is_plain : IsPlainSub (shape_at 11)
 check_is_plain = record {
   rules = (inl refl, (inr (inr (refl, λ rows. refl)), tt));
   name = inl (inr (inr (inr (inr (inr (inr (inr (inr (inr (inl refl))))))))));
 }
 
-repair_is_plain : IsPlainSub (shape_at 11)
+repair_is_plain : IsPlainSub (shape_at 12)
 repair_is_plain = record {
   rules = (inl refl, (inl refl, (inr (inr (refl, λ rows. refl)), tt)));
   name = inl (inr (inr (inr (inr (inr (inr (inr (inr (inr (inr (inl refl)))))))))));
 }
 
-show_is_plain : IsPlainSub (shape_at 12)
+show_is_plain : IsPlainSub (shape_at 13)
 show_is_plain = record {
   rules = (inl refl, (inl refl, (inr (inr (refl, λ rows. refl)), tt)));
-  name = inl (inr (inr (inr (inr (inr (inr (inr (inr (inr (inr (inr refl)))))))))));
+  name = inl (inr (inr (inr (inr (inr (inr (inr (inr (inr (inr (inr (inl refl))))))))))));
 }
 
 offered_subs : Each IsOffered line.subs
@@ -215,16 +221,19 @@ offered_subs = (
             (
               record { alone = refl; ours = λ _. origin_is_plain },
               (
-                record { alone = refl; ours = λ _. list_locks_is_plain },
+                record { alone = refl; ours = λ _. explain_is_plain },
                 (
-                  record { alone = refl; ours = λ _. compile_is_plain },
+                  record { alone = refl; ours = λ _. list_locks_is_plain },
                   (
-                    record { alone = refl; ours = λ _. update_is_plain },
+                    record { alone = refl; ours = λ _. compile_is_plain },
                     (
-                      record { alone = refl; ours = λ _. check_is_plain },
+                      record { alone = refl; ours = λ _. update_is_plain },
                       (
-                        record { alone = refl; ours = λ _. repair_is_plain },
-                        (record { alone = refl; ours = λ _. show_is_plain }, (record { alone = refl; ours = λ other. absurd (other refl) }, tt)),
+                        record { alone = refl; ours = λ _. check_is_plain },
+                        (
+                          record { alone = refl; ours = λ _. repair_is_plain },
+                          (record { alone = refl; ours = λ _. show_is_plain }, (record { alone = refl; ours = λ other. absurd (other refl) }, tt)),
+                        ),
                       ),
                     ),
                   ),
@@ -342,8 +351,9 @@ pub named_show : (words : List Text) (m : ArgMatches) → IsParsedBy words m
     → subcommand_name_of m ≢ Some (codes "write")
     → subcommand_name_of m ≢ Some (codes "reset")
     → subcommand_name_of m ≢ Some (codes "load")
+    → subcommand_name_of m ≢ Some (codes "explain")
     → subcommand_name_of m ≡ Some (codes "show")
-named_show words m p not_update not_check not_compile not_read not_origin not_repair not_list not_list_locks not_dump not_write not_reset not_load = go (enters words p.sound).one
+named_show words m p not_update not_check not_compile not_read not_origin not_repair not_list not_list_locks not_dump not_write not_reset not_load not_explain = go (enters words p.sound).one
   where
     among : IsRunName (enters words p.sound).name → subcommand_name_of m ≡ Some (codes "show")
     among (inl read) = absurd (not_read (met_name words m p ∙ ap Some read))
@@ -357,7 +367,8 @@ named_show words m p not_update not_check not_compile not_read not_origin not_re
     among (inr (inr (inr (inr (inr (inr (inr (inr (inl compile))))))))) = absurd (not_compile (met_name words m p ∙ ap Some compile))
     among (inr (inr (inr (inr (inr (inr (inr (inr (inr (inl check)))))))))) = absurd (not_check (met_name words m p ∙ ap Some check))
     among (inr (inr (inr (inr (inr (inr (inr (inr (inr (inr (inl repair))))))))))) = absurd (not_repair (met_name words m p ∙ ap Some repair))
-    among (inr (inr (inr (inr (inr (inr (inr (inr (inr (inr (inr show))))))))))) = met_name words m p ∙ ap Some show
+    among (inr (inr (inr (inr (inr (inr (inr (inr (inr (inr (inr (inl show)))))))))))) = met_name words m p ∙ ap Some show
+    among (inr (inr (inr (inr (inr (inr (inr (inr (inr (inr (inr (inr explain)))))))))))) = absurd (not_explain (met_name words m p ∙ ap Some explain))
 
     go : IsCommandName (enters words p.sound).name → subcommand_name_of m ≡ Some (codes "show")
     go (inl run) = among run
@@ -419,9 +430,9 @@ asks_to_read words sub default key profile named d k p = record {
   profile_value = ap profile_file (sym (first_value-rows (found_of sub) (codes "profile"))) ∙ sym p;
 }
 
-pub asks_for_origin : (words : List Text) (sub : ArgMatches) (key profile : Text) → AreOf words (codes "origin") sub
-    → first_value (found_of sub) (codes "KEY") ≡ Some key → profile ≡ profile_file (first_value (found_of sub) (codes "profile")) → AsksForOrigin words key profile
-asks_for_origin words sub key profile named k p = record {
+pub asks_of_key : (name : Text) (words : List Text) (sub : ArgMatches) (key profile : Text) → AreOf words name sub
+    → first_value (found_of sub) (codes "KEY") ≡ Some key → profile ≡ profile_file (first_value (found_of sub) (codes "profile")) → AsksOfKey name words key profile
+asks_of_key name words sub key profile named k p = record {
   rows = rows_of (found_of sub);
   named = named;
   key_value = sym (first_value-rows (found_of sub) (codes "KEY")) ∙ k;

@@ -8,7 +8,7 @@ use Rattle.dconf_command.specs.declared.asked.Command.{Command}
 use Rattle.dconf_command.specs.declared.place.Asked.{Asked}
 use Rattle.dconf_command.specs.declared.place.Asked.TheVariants.{Run, Update}
 use Rattle.dconf_command.specs.declared.place.Place.{Place}
-use Rattle.dconf_command.specs.declared.asked.Command.TheVariants.{Show, Read, Origin, Check, Compile, Repair, List as ListIt, ListLocks, Dump, Write, Reset, Load}
+use Rattle.dconf_command.specs.declared.asked.Command.TheVariants.{Show, Read, Origin, Explain, Check, Compile, Repair, List as ListIt, ListLocks, Dump, Write, Reset, Load}
 
 -- clap finds no fault in the words, and met the subcommand that they name
 pub record IsParsedBy (words : List Text) (m : ArgMatches) : Type 0 where
@@ -61,10 +61,10 @@ pub record AsksToRead (words : List Text) (default : Bool) (key profile : Text) 
   pub key_value : first_of (codes "KEY") rows ≡ Some key
   pub profile_value : profile_file (first_of (codes "profile") rows) ≡ profile
 
--- the words name `origin`, and clap gives its arguments these values
-pub record AsksForOrigin (words : List Text) (key profile : Text) : Type 0 where
+-- the words name this command of a key, and clap gives its arguments these values
+pub record AsksOfKey (name : Text) (words : List Text) (key profile : Text) : Type 0 where
   pub rows : List Row
-  pub named : subcommand_of command_line words ≡ Some (codes "origin", rows)
+  pub named : subcommand_of command_line words ≡ Some (name, rows)
   pub key_value : first_of (codes "KEY") rows ≡ Some key
   pub profile_value : profile_file (first_of (codes "profile") rows) ≡ profile
 
@@ -119,7 +119,8 @@ pub record AsksToLoad (words : List Text) (force skip_doubles : Bool) (directory
 abbrev pub IsAskedBy : List Text → Command → Type 0
 IsAskedBy words (Show type_text file) = AsksToShow words (string_bytes type_text) (string_bytes file)
 IsAskedBy words (Read default key profile) = AsksToRead words default (string_bytes key) (string_bytes profile)
-IsAskedBy words (Origin key profile) = AsksForOrigin words (string_bytes key) (string_bytes profile)
+IsAskedBy words (Origin key profile) = AsksOfKey (codes "origin") words (string_bytes key) (string_bytes profile)
+IsAskedBy words (Explain key profile) = AsksOfKey (codes "explain") words (string_bytes key) (string_bytes profile)
 IsAskedBy words (ListIt directory profile) = AsksOfDirectory (codes "list") words (string_bytes directory) (string_bytes profile)
 IsAskedBy words (ListLocks directory profile) = AsksOfDirectory (codes "list-locks") words (string_bytes directory) (string_bytes profile)
 IsAskedBy words (Dump skip_doubles directory profile) = AsksToDump words skip_doubles (string_bytes directory) (string_bytes profile)

@@ -60,9 +60,9 @@ with_store line = with_rule (with_rule (with_rule line profile_option) user_flag
 abbrev pub read_line : App
 read_line = with_store (with_rule (with_rule (new_app (codes "read")) (required_word (codes "KEY"))) default_flag)
 
--- `origin KEY`
-abbrev pub origin_line : App
-origin_line = with_store (with_rule (new_app (codes "origin")) (required_word (codes "KEY")))
+-- `NAME KEY`, such as `origin KEY`
+abbrev pub key_line : Text → App
+key_line name = with_store (with_rule (new_app name) (required_word (codes "KEY")))
 
 -- `repair FILE OUT`
 abbrev pub repair_line : App
@@ -114,9 +114,10 @@ abbrev pub with_directories : App → App
 with_directories line =
     with_subcommand (with_subcommand (with_subcommand line (directory_line (codes "list")).top) dump_line.top) load_line.top
 
--- with `origin` and `list-locks`
+-- with `origin`, `explain` and `list-locks`
 abbrev pub with_sources : App → App
-with_sources line = with_subcommand (with_subcommand line origin_line.top) (directory_line (codes "list-locks")).top
+with_sources line =
+    with_subcommand (with_subcommand (with_subcommand line (key_line (codes "origin")).top) (key_line (codes "explain")).top) (directory_line (codes "list-locks")).top
 
 -- with `compile`, `update`, `check`, `repair` and `show`
 abbrev pub with_files : App → App

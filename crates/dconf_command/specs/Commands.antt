@@ -1,9 +1,9 @@
 -- The model's command of ours.
 use Rattle.std.specs.Prelude.{ℕ, Bool, true, false, List, map, string_bytes, vec_items}
 use Rattle.dconf_model.specs.Commands.{Command as Asked}
-use Rattle.dconf_model.specs.Commands.Command.{show, read, list, list_locks, write, reset, reset_below, load, dump, origin, check, compile, repair}
+use Rattle.dconf_model.specs.Commands.Command.{show, read, list, list_locks, write, reset, reset_below, load, dump, origin, explain, check, compile, repair}
 use Rattle.dconf_command.specs.declared.asked.Command.{Command}
-use Rattle.dconf_command.specs.declared.asked.Command.TheVariants.{Show, Read, List as ListIt, ListLocks, Write, Reset, Load, Dump, Origin, Check, Compile, Repair}
+use Rattle.dconf_command.specs.declared.asked.Command.TheVariants.{Show, Read, List as ListIt, ListLocks, Write, Reset, Load, Dump, Origin, Explain, Check, Compile, Repair}
 
 -- of all keys below a directory, or of a key
 abbrev pub resetting : Bool → List ℕ → List ℕ → Asked
@@ -14,6 +14,7 @@ abbrev pub command_of : Command → Asked
 command_of (Show type_text file) = show (string_bytes type_text) (string_bytes file)
 command_of (Read default key profile) = read default (string_bytes key) (string_bytes profile)
 command_of (Origin key profile) = origin (string_bytes key) (string_bytes profile)
+command_of (Explain key profile) = explain (string_bytes key) (string_bytes profile)
 command_of (ListIt directory profile) = list (string_bytes directory) (string_bytes profile)
 command_of (ListLocks directory profile) = list_locks (string_bytes directory) (string_bytes profile)
 command_of (Dump skip_doubles directory profile) = dump skip_doubles (string_bytes directory) (string_bytes profile)
@@ -35,4 +36,5 @@ with_profile file (reset_below directory profile) = reset_below directory file
 with_profile file (load force skip_doubles directory profile) = load force skip_doubles directory file
 with_profile file (dump skip_doubles directory profile) = dump skip_doubles directory file
 with_profile file (origin key profile) = origin key file
+with_profile file (explain key profile) = explain key file
 with_profile file other = other

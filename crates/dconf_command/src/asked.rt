@@ -21,6 +21,11 @@ pub enum Command {
         key: String,
         profile: String,
     },
+    /// Says what each database has for `key` by the profile in the file `profile`, what is seen, and whether it can be set.
+    Explain {
+        key: String,
+        profile: String,
+    },
     /// Names what `directory` has by the profile in the file `profile`, a directory with its `/`.
     List {
         directory: String,
@@ -88,6 +93,7 @@ impl Command {
                 profile: file,
             },
             Command::Origin { key, .. } => Command::Origin { key, profile: file },
+            Command::Explain { key, .. } => Command::Explain { key, profile: file },
             Command::List { directory, .. } => Command::List {
                 directory,
                 profile: file,

@@ -83,7 +83,7 @@ Exit status:
   2  usage error";
 
 /// The commands, in the order of the program's help: a store's, then a site's, then those of single files.
-pub(crate) const COMMANDS: [Line<'static>; 13] = [
+pub(crate) const COMMANDS: [Line<'static>; 14] = [
     // `read [-d] KEY`.
     Line {
         name: "read",
@@ -178,6 +178,15 @@ pub(crate) const COMMANDS: [Line<'static>; 13] = [
         about: "Print which database the value of KEY comes from",
         more: read_help!(
             examples: "  dconfdb origin /org/desk/name"
+        ),
+        words: &[word::KEY, Word::Profile, Word::User, Word::Store],
+    },
+    // `explain KEY`.
+    Line {
+        name: "explain",
+        about: "Print what each database has for KEY, what is seen, and whether it can be set",
+        more: read_help!(
+            examples: "  dconfdb explain /org/desk/name"
         ),
         words: &[word::KEY, Word::Profile, Word::User, Word::Store],
     },

@@ -31,6 +31,7 @@ impl Command {
             Command::Show { .. } => None,
             Command::Read { .. } => None,
             Command::Origin { .. } => None,
+            Command::Explain { .. } => None,
             Command::List { .. } => None,
             Command::ListLocks { .. } => None,
             Command::Dump { .. } => None,

@@ -102,6 +102,9 @@ fn asked(alloc: Global, matches: &ArgMatches<'_>) -> Result<Command, AllocError>
     if let Some(load) = matches.subcommand_matches("load") {
         return load_asked(alloc, load);
     }
+    if let Some(explain) = matches.subcommand_matches("explain") {
+        return explain_asked(alloc, explain);
+    }
     show_asked(alloc, matches.subcommand_matches("show").unwrap())
 }
 
@@ -147,6 +150,15 @@ fn origin_asked(alloc: Global, origin: &ArgMatches<'_>) -> Result<Command, Alloc
 {
     let (key, profile) = value_and_profile(alloc, origin, "KEY")?;
     Ok(Command::Origin { key, profile })
+}
+
+/// `explain [-p FILE] KEY`.
+fn explain_asked(alloc: Global, explain: &ArgMatches<'_>) -> Result<Command, AllocError>
+    requires { HasValue explain.now (codes "KEY") }
+    ensures { IfOk result (λ command. (words : List Text) → AreOf words (codes "explain") explain.now → IsAskedBy words command) }
+{
+    let (key, profile) = value_and_profile(alloc, explain, "KEY")?;
+    Ok(Command::Explain { key, profile })
 }
 
 /// `repair FILE OUT`.

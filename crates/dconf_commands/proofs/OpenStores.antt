@@ -2,6 +2,7 @@
 use Rattle.std.proofs.Common.{◌≡◌, ℕ, Bool, List, []}
 use Rattle.std.specs.Prelude.{if◌then◌else◌}
 use Rattle.dconf_model.specs.Changes.{Change, apply}
+use Rattle.dconf_model.specs.Explains.{explained}
 use Rattle.dconf_model.specs.Layers.{Layers, child_names, locks_below, origin, paths_below, visible, without_user}
 use Rattle.dconf_model.specs.Outcomes.{Gives, SavesSaying, done, dump_at, lines_text, origin_text, shown_if_any}
 use Rattle.dconf_model.specs.Profiles.{Database, user_file}
@@ -16,6 +17,10 @@ value_seen default key = λ databases l o. o ≡ shown_if_any (visible (if defau
 -- the database of that value
 abbrev pub origin_named : List ℕ → Made
 origin_named key = λ databases l o. o ≡ done (origin_text databases (origin l key))
+
+-- what explains a key
+abbrev pub key_explained : List ℕ → Made
+key_explained key = λ databases l o. o ≡ done (explained databases l key)
 
 -- the names in a directory
 abbrev pub names_listed : List ℕ → Made

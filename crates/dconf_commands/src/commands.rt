@@ -13,6 +13,7 @@ ghost use Rattle.dconf_commands.specs.Loads.{reads_input};
 mod check;
 mod compile;
 mod dump;
+mod explain;
 mod list;
 mod load;
 mod origin;
@@ -28,6 +29,7 @@ use dconf_command::Command;
 use dconf_disk::Folder;
 use dconf_streams::{Answer, Counted, Refusal};
 use dump::dump;
+use explain::explain;
 use list::{list, list_locks};
 use load::load;
 use origin::origin;
@@ -61,6 +63,9 @@ pub fn answered<F: Folder, I: Read>(
             profile,
         } => read(alloc, *default, key.as_str(), profile.as_str(), folder),
         Command::Origin { key, profile } => origin(alloc, key.as_str(), profile.as_str(), folder),
+        Command::Explain { key, profile } => {
+            explain(alloc, key.as_str(), profile.as_str(), folder)
+        }
         Command::List { directory, profile } => {
             list(alloc, directory.as_str(), profile.as_str(), folder)
         }

@@ -1,13 +1,14 @@
 //! Values as the text of an answer.
-ghost use Rattle.std.specs.Prelude.{◌≡◌};
+ghost use Rattle.std.specs.Prelude.{◌≡◌, IfOk, Some, option_map, string_bytes};
 ghost use Rattle.gv_view.specs.Views.{value};
+ghost use Rattle.dconf_model.specs.Explains.{told_value};
 ghost use Rattle.dconf_model.specs.Outcomes.{shown_outcome};
 ghost use Rattle.dconf_streams.specs.Answers.{GivesOutcome};
 
 use dconf_streams::{Answer, Refusal, refused};
 use gv_text::{PrintFault, print};
 use gv_view::View;
-use std::alloc::Global;
+use std::alloc::{AllocError, Global};
 
 /// The value printed, and a line feed; or why it isn't printed.
 pub(crate) fn printed(alloc: Global, view: View<'_>) -> Result<Answer, Refusal>
@@ -20,5 +21,27 @@ pub(crate) fn printed(alloc: Global, view: View<'_>) -> Result<Answer, Refusal>
         }
         Err(PrintFault::Memory) => Err(Refusal::NoMemory),
         Err(fault) => Err(refused(alloc, fault)),
+    }
+}
+
+/// A value's text if there is a value, or why it isn't printed.
+pub(crate) fn told_value(alloc: Global, found: Option<View<'_>>) -> Result<String, AllocError>
+    ensures { IfOk result (λ text. string_bytes text ≡ told_value (option_map value found.entry)) }
+{
+    match found {
+        Some(view) => told(alloc, view),
+        None => Ok(String::new(alloc)),
+    }
+}
+
+/// A value's text, or why it isn't printed.
+fn told(alloc: Global, view: View<'_>) -> Result<String, AllocError>
+    ensures { IfOk result (λ text. string_bytes text ≡ told_value (Some (value view.entry))) }
+{
+    match print(alloc, view) {
+        Ok(text) => Ok(text),
+        Err(PrintFault::TooLarge) => String::from_str(alloc, "too large, not printed"),
+        Err(PrintFault::DoubleText) => String::from_str(alloc, "a double, not printed"),
+        Err(PrintFault::Memory) => Err(AllocError),
     }
 }

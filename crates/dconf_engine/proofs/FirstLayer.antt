@@ -1,9 +1,12 @@
 -- A first layer with changed values: it has other values, and nothing else is other.
-use Rattle.std.proofs.Common.{◌≡◌, ℕ, List, [], ◌∷◌, drop, Option, Some, None, refl, sym, ap, map, slice_get, subst}
+use Rattle.std.proofs.Common.{◌≡◌, ◌∙◌, ℕ, zero, suc, List, [], ◌∷◌, drop, Option, Some, None, refl, sym, ap, map, option_map, slice_get, subst}
+use Rattle.std.specs.Prelude.{option_and_then}
+use Rattle.std.proofs.lemmas.Option.{slice_get-map}
 use Rattle.std.specs.Option.{unwrap_or}
 use Rattle.std.specs.FinMap.{empty, get}
 use Rattle.dconf_model.specs.Changes.{Values, with_first_layer}
-use Rattle.dconf_model.specs.Layers.{first_from, place_or}
+use Rattle.dconf_model.specs.Explains.{lock_in, lock_of}
+use Rattle.dconf_model.specs.Layers.{Layers, first_from, place_or}
 use Rattle.dconf_model.specs.Settings.{Settings}
 use Rattle.dconf_engine.specs.declared.layer.Layer.{Layer}
 use Rattle.dconf_engine.specs.LayerSettings.{settings_of}
@@ -27,6 +30,31 @@ place_first c [] first path ls e are = absurd cc
 place_first c (x ∷ items) first path ls e are =
     subst (λ ls. place_or 0 (get (with_changes c (settings_of first).values) path) (first_from 1 (drop 1 ls) path) ≡ first_from 0 ls path) are
     (ap (λ (o : Option Layer). place_or 0 (get (with_changes c (settings_of (unwrap_or o x)).values) path) (first_from 1 (map settings_of items) path)) (sym e))
+
+-- a later layer has what its file says
+pub bytes_later : (c : Unsaved) (items : List Layer) (i : ℕ) (layer : Layer) (path : List ℕ) (ls : List Settings) → (i ≡ 0 → ⊥) → slice_get items i ≡ Some layer →
+    with_first_layer (with_changes c) (map settings_of items) ≡ ls → get (settings_of layer).values path ≡ option_and_then (λ s. get s.values path) (slice_get ls i)
+bytes_later c items zero layer path ls later e are = absurd (later refl)
+bytes_later c [] (suc i) layer path ls later e are = absurd cc
+bytes_later c (x ∷ items) (suc i) layer path ls later e are =
+    subst (λ ls. get (settings_of layer).values path ≡ option_and_then (λ s. get s.values path) (slice_get ls (suc i))) are
+    (sym (ap (option_and_then (λ s. get s.values path)) (slice_get-map settings_of items i ∙ ap (option_map settings_of) e)))
+
+pub lock_later : (c : Unsaved) (items : List Layer) (i : ℕ) (layer : Layer) (path : List ℕ) (l : Layers) → (i ≡ 0 → ⊥) → slice_get items i ≡ Some layer →
+    with_first_layer (with_changes c) (map settings_of items) ≡ l.layers → lock_of path (settings_of layer) ≡ lock_in l path i
+lock_later c items zero layer path l later e are = absurd (later refl)
+lock_later c [] (suc i) layer path l later e are = absurd cc
+lock_later c (x ∷ items) (suc i) layer path l later e are =
+    subst (λ ls. lock_of path (settings_of layer) ≡ option_and_then (lock_of path) (slice_get ls (suc i))) are
+    (sym (ap (option_and_then (lock_of path)) (slice_get-map settings_of items i ∙ ap (option_map settings_of) e)))
+
+pub no_lock_later : (c : Unsaved) (items : List Layer) (i : ℕ) (path : List ℕ) (l : Layers) → (i ≡ 0 → ⊥) → slice_get items i ≡ None →
+    with_first_layer (with_changes c) (map settings_of items) ≡ l.layers → None ≡ lock_in l path i
+no_lock_later c items zero path l later e are = absurd (later refl)
+no_lock_later c [] (suc i) path l later e are = ap (λ ls. option_and_then (lock_of path) (slice_get ls (suc i))) are
+no_lock_later c (x ∷ items) (suc i) path l later e are =
+    subst (λ ls. None ≡ option_and_then (lock_of path) (slice_get ls (suc i))) are
+    (sym (ap (option_and_then (lock_of path)) (slice_get-map settings_of items i ∙ ap (option_map settings_of) e)))
 
 pub place_nowhere : (c : Unsaved) (items : List Layer) (path : List ℕ) (ls : List Settings) → slice_get items 0 ≡ None → with_first_layer (with_changes c) (map settings_of items) ≡ ls → None ≡ first_from 0 ls path
 place_nowhere c [] path ls e are = ap (λ (ls : List Settings). first_from 0 ls path) are

@@ -1,5 +1,6 @@
 pub mod CoveringPaths
 pub mod SoundLayers
+pub mod NearestLocks
 pub mod EmptyDatabase
 pub mod Levels
 pub mod Opened

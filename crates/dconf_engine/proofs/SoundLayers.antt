@@ -95,7 +95,7 @@ locks_at t u sound h =
     let law = locks_are_searchable t h.0 sound row.named in
     record { named = row.named; holds = subst HoldsLocksAlone (sym h.3) law.1; is = h.3 }
 
-lock_is_named : (t u : Region) (name : List ℕ) → IsSound t → IsTableAt t (codes ".locks") u → IsFound u name value_kind → NamesLock t name
+pub lock_is_named : (t u : Region) (name : List ℕ) → IsSound t → IsTableAt t (codes ".locks") u → IsFound u name value_kind → NamesLock t name
 lock_is_named t u name sound h found =
     let at = locks_at t u sound h in
     let row = (at.holds.finds.found name value_kind found.0).0 found.1 in
@@ -108,7 +108,7 @@ item_of_lock t u name sound h names =
     let j = names.2.0 in
     (j, subst (λ (u : Region). HasName u j name) (ap (λ i. table_of t i) same ∙ sym at.is) names.2.1)
 
-lock_is_found : (t u : Region) (name : List ℕ) → IsSound t → IsTableAt t (codes ".locks") u → NamesLock t name → IsFound u name value_kind
+pub lock_is_found : (t u : Region) (name : List ℕ) → IsSound t → IsTableAt t (codes ".locks") u → NamesLock t name → IsFound u name value_kind
 lock_is_found t u name sound h names =
     let at = locks_at t u sound h in
     let item = item_of_lock t u name sound h names in

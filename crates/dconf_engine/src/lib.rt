@@ -24,6 +24,7 @@ mod changes;
 mod differences;
 mod engine;
 mod entry;
+mod explained;
 mod fault;
 mod layer;
 mod layer_lists;

@@ -5,13 +5,14 @@ use Rattle.dconf_model.specs.Paths.{PathFault, key_fault, directory_fault}
 use Rattle.dconf_model.specs.Lines.{LineFault}
 use Rattle.dconf_model.specs.Folders.{Event, read_content}
 use Rattle.dconf_model.specs.Commands.{Command}
-use Rattle.dconf_model.specs.Commands.Command.{show, read, list, list_locks, write, reset, reset_below, dump, load, origin, compile, check, repair}
+use Rattle.dconf_model.specs.Commands.Command.{show, read, list, list_locks, write, reset, reset_below, dump, load, origin, explain, compile, check, repair}
 use Rattle.dconf_model.specs.Profiles.{Database, profile_of, has_writable}
 use Rattle.dconf_model.specs.Reads.{Input, read_of, steady}
 use Rattle.dconf_model.specs.Reads.FileRead.{holds}
 use Rattle.dconf_model.specs.Layers.{Layers, visible, without_user, child_names, locks_below, paths_below, origin as origin_of}
 use Rattle.dconf_model.specs.Outcomes.{Gives, Outcome, Output, IsOutcome, UnlessFault, WithStore, WithDatabases, WithLayers, OrNoRead, OrLine, done, done_output, shown_if_any, lines_text, dump_at, origin_text}
-use Rattle.dconf_model.specs.Programs.{IsQuestion, EmptyPrintsNothing}
+use Rattle.dconf_model.specs.Explains.{explained}
+use Rattle.dconf_model.specs.Programs.{IsQuestion, EmptyPrintsNothing, nothing_said}
 use Rattle.dconf_model.proofs.EmptyStores.{no_layers}
 
 abbrev no_store : Layers
@@ -37,7 +38,7 @@ nothing_from o p output same e nothing = e ∙ (ap (λ (o : Outcome). o.output) 
 
 module _ (old : List Event) (profile text : List ℕ) (profile_is : read_of (read_content old profile) ≡ holds text) (names : profile_of text ≡ Ok []) (output : Output) where
   answered : (command : Command) (input : Input) (o : Outcome) → IsQuestion profile command → IsOutcome command (steady (read_content old)) input o → output ≡ o.output →
-      output ≡ done_output []
+      output ≡ done_output (nothing_said command)
   answered (read true key file) input o asks is e =
       nothing_from o (shown_if_any (visible (without_user no_store) key)) output
       (goes_on old profile file text (key_fault key) (λ databases l o. o ≡ shown_if_any (visible (without_user l) key)) o asks.0 asks.1 profile_is names is) e refl
@@ -56,6 +57,10 @@ module _ (old : List Event) (profile text : List ℕ) (profile_is : read_of (rea
   answered (origin key file) input o asks is e =
       nothing_from o (done (origin_text [] (origin_of no_store key))) output
       (goes_on old profile file text (key_fault key) (λ databases l o. o ≡ done (origin_text databases (origin_of l key))) o asks.0 asks.1 profile_is names is) e refl
+  answered (explain key file) input o asks is e =
+      e
+      ∙ ap (λ (o : Outcome). o.output)
+      (goes_on old profile file text (key_fault key) (λ databases l o. o ≡ done (explained databases l key)) o asks.0 asks.1 profile_is names is)
   answered (show type file) input o asks is e = absurd asks
   answered (write key value file) input o asks is e = absurd asks
   answered (reset key file) input o asks is e = absurd asks

@@ -85,6 +85,7 @@ pub mod WholeRows
 pub mod EmptyStores
 pub mod WorkedStores
 pub mod WorkedStore
+pub mod ExplainLaws
 pub mod StandingPrints
 pub mod ProgramLaws
 pub mod WritableKept

@@ -24,9 +24,10 @@ use Rattle.dconf_model.specs.Changes.{Change, Refusal, apply, saved, paths_of}
 use Rattle.dconf_model.specs.Changes.Change.{set_value, reset_value, reset_below_directory, load_values}
 use Rattle.dconf_model.specs.Salvaging.{IsSalvaged}
 use Rattle.dconf_model.specs.Commands.{Command}
-use Rattle.dconf_model.specs.Commands.Command.{show, read, list, list_locks, write, reset, reset_below, dump, load, origin, compile, check, repair}
+use Rattle.dconf_model.specs.Commands.Command.{show, read, list, list_locks, write, reset, reset_below, dump, load, origin, explain, compile, check, repair}
 use Rattle.dconf_model.specs.Reads.{FileRead, Input, ReadResults}
 use Rattle.dconf_model.specs.Reads.FileRead.{no_file, holds, over_size, failed}
+use Rattle.dconf_model.specs.Explains.{explained}
 use Rattle.dconf_model.specs.Outcomes.{Gives, IsOutcome, Outcome, Output, UnlessFault, WithType, OrCause, OrLine, OrNoRead, WithFile, WithFiles, UnlessFailed, WithRows, OrNoDatabase, WithDatabases, WithLayers, WithStore, Writes, SavesSaying, Changes, ChangesSaying, Loads, Compiles, Checks, Repairs, refused, done, verdict_text, shown_outcome, shown_if_any, lines_text, origin_text, dump_at, refusal_text, compile_output, check_output, kept_text, value_of_word, read_failed}
 use Rattle.dconf_model.specs.Runs.{OneOutput}
 use Rattle.dconf_model.proofs.OpenLaws as opens
@@ -241,6 +242,8 @@ one_output (dump skip directory profile) reads input =
     answers_one reads profile (directory_fault directory) (λ databases l. dump_at skip directory l (paths_below l directory))
 one_output (origin key profile) reads input =
     answers_one reads profile (key_fault key) (λ databases l. done (origin_text databases (origin_of l key)))
+one_output (explain key profile) reads input =
+    answers_one reads profile (key_fault key) (λ databases l. done (explained databases l key))
 one_output (write key text profile) reads input =
     let Go : Tree → Gives = λ v. Changes reads profile (key ∷ []) (set_value key v) in
     fault_one (key_fault key) (OrCause (value_of_word text) Go)

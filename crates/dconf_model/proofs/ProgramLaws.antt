@@ -9,7 +9,7 @@ use Rattle.dconf_model.specs.Locks.{is_below}
 use Rattle.dconf_model.specs.Folders.{Event, read_content}
 use Rattle.dconf_model.specs.Opening.{root_of}
 use Rattle.dconf_model.specs.Commands.{Command}
-use Rattle.dconf_model.specs.Commands.Command.{show, read, list, list_locks, write, reset, reset_below, dump, load, origin, compile, check, repair}
+use Rattle.dconf_model.specs.Commands.Command.{show, read, list, list_locks, write, reset, reset_below, dump, load, origin, explain, compile, check, repair}
 use Rattle.dconf_model.specs.Profiles.{Database, database_file, has_writable, profile_of}
 use Rattle.dconf_model.specs.Reads.{Content, Input, ReadResults, steady}
 use Rattle.dconf_model.specs.Settings.{Settings}
@@ -18,6 +18,7 @@ use Rattle.dconf_model.specs.Sources.{Given}
 use Rattle.dconf_model.specs.Databases.{Verdict, IsLayer, AreLayers, IsBad, IsFirstBad, IsDatabaseOf, IsGood}
 use Rattle.dconf_model.specs.Databases.Verdict.{no_database, sound, unsound}
 use Rattle.dconf_model.specs.Layers.{Layers, visible, without_user, child_names, locks_below, all_locks, paths_below, parts_below, all_paths, has_value, origin as origin_of}
+use Rattle.dconf_model.specs.Explains.{explained}
 use Rattle.dconf_model.specs.Outcomes.{Gives, Outcome, Output, WithStore, WithDatabases, WithLayers, OrNoDatabase, OrNoRead, OrLine, UnlessFault, IsOutcome, shown_if_any, done, done_output, lines_text, refused, dump_of, dump_at, with_lines, origin_text}
 use Rattle.dconf_model.specs.FaultTexts.{device_text}
 use Rattle.dconf_model.specs.Runs.{ReadsFrom}
@@ -28,6 +29,7 @@ use Rattle.dconf_model.proofs.SoundLaws.{sound_has_no_fault}
 use Rattle.dconf_model.proofs.ReopenLaws.{one_list}
 use Rattle.dconf_model.proofs.StoreListings.{names_from, names_to}
 use Rattle.dconf_model.proofs.StoreValues.{value_seen, origin_seen}
+use Rattle.dconf_model.proofs.ExplainLaws.{explained_seen}
 use Rattle.dconf_model.proofs.StandingPrints.{default_seen, locks_from, locks_to, paths_from, paths_to, settings_seen}
 
 -- ---- sound databases are opened
@@ -187,6 +189,10 @@ module _ (old : List Event) (profile : List ℕ) (d : Database) (ds : List Datab
       let shown = goes_on old profile file d ds own gs h (key_fault key) (λ databases l o. o ≡ done (origin_text databases (origin_of l key))) o asks.0 asks.1 is in
       by_outcome o (done (origin_text (d ∷ ds) (origin_of h.opened key))) e shown
       ∙ ap (λ n. done_output (origin_text (d ∷ ds) n)) (origin_seen h.others own gs h.opened h.held key)
+  answered (explain key file) input o asks is e =
+      let shown = goes_on old profile file d ds own gs h (key_fault key) (λ databases l o. o ≡ done (explained databases l key)) o asks.0 asks.1 is in
+      by_outcome o (done (explained (d ∷ ds) h.opened key)) e shown
+      ∙ ap done_output (explained_seen h.others own gs h.opened h.held (d ∷ ds) h.writable key)
   answered (show type file) input o asks is e = absurd asks
   answered (write key text file) input o asks is e = absurd asks
   answered (reset key file) input o asks is e = absurd asks

@@ -15,10 +15,11 @@ use Rattle.dconf_model.specs.Databases.Verdict.{no_database, sound, unsound}
 use Rattle.dconf_model.specs.Layers.{Layers, visible, without_user, child_names, locks_below, paths_below, origin as origin_of}
 use Rattle.dconf_model.specs.Folders.{Event, read_content}
 use Rattle.dconf_model.specs.Commands.{Command}
-use Rattle.dconf_model.specs.Commands.Command.{show, read, list, list_locks, write, reset, reset_below, dump, load, origin, compile, check, repair}
+use Rattle.dconf_model.specs.Commands.Command.{show, read, list, list_locks, write, reset, reset_below, dump, load, origin, explain, compile, check, repair}
 use Rattle.dconf_model.specs.Profiles.{Database, database_file, has_writable, profile_of}
 use Rattle.dconf_model.specs.Reads.{FileRead, ReadResults, Input, steady}
 use Rattle.dconf_model.specs.Reads.FileRead.{no_file, holds, over_size, failed}
+use Rattle.dconf_model.specs.Explains.{explained}
 use Rattle.dconf_model.specs.Outcomes.{Gives, Outcome, Output, IsOutcome, UnlessFault, WithType, WithFile, OrNoRead, OrNoDatabase, OrLine, WithDatabases, WithLayers}
 use Rattle.dconf_model.specs.Outcomes.{WithStore, Checks, check_output, shown_outcome, shown_if_any, printed_or, print_fault, done, lines_text, dump_of, dump_at, dump_output, settings_at, origin_text}
 use Rattle.dconf_model.specs.Runs.{RanCalmly, Did}
@@ -129,6 +130,10 @@ reading_leaves (origin key file) reads input o only h =
     let S : List Database → Layers → Gives = λ databases l o. o ≡ done (origin_text databases (origin_of l key)) in
     fault_leaves (key_fault key) (WithStore reads file S) o
     (λ o. store_leaves reads file S o (λ databases l o same. leaves o (done (origin_text databases (origin_of l key))) same refl)) h
+reading_leaves (explain key file) reads input o only h =
+    let S : List Database → Layers → Gives = λ databases l o. o ≡ done (explained databases l key) in
+    fault_leaves (key_fault key) (WithStore reads file S) o
+    (λ o. store_leaves reads file S o (λ databases l o same. leaves o (done (explained databases l key)) same refl)) h
 reading_leaves (check file) reads input o only h =
     read_leaves file (reads 0 file) Checks o (λ bytes o checked. leaves o (check_output checked.0) checked.2 (check_leaves checked.0)) h
 reading_leaves (write key text file) reads input o only h = absurd only

@@ -18,7 +18,7 @@ use Rattle.dconf_model.specs.FaultTexts.{path_fault_text, cause_text, line_fault
 use Rattle.dconf_model.specs.Folders.{Event, read_content}
 use Rattle.dconf_model.specs.Replacing.{Replaced}
 use Rattle.dconf_model.specs.Commands.{Command}
-use Rattle.dconf_model.specs.Commands.Command.{show, read, list, list_locks, write, reset, reset_below, dump, load, origin, compile, check, repair}
+use Rattle.dconf_model.specs.Commands.Command.{show, read, list, list_locks, write, reset, reset_below, dump, load, origin, explain, compile, check, repair}
 use Rattle.dconf_model.specs.Profiles.{Database, database_file, user_file}
 use Rattle.dconf_model.specs.Reads.{ReadResults, Input, read_of, steady}
 use Rattle.dconf_model.specs.Reads.FileRead.{holds, over_size}
@@ -116,6 +116,7 @@ changing_of reads profile (list directory file) input o same is = absurd same
 changing_of reads profile (list_locks directory file) input o same is = absurd same
 changing_of reads profile (dump skip directory file) input o same is = absurd same
 changing_of reads profile (origin key file) input o same is = absurd same
+changing_of reads profile (explain key file) input o same is = absurd same
 changing_of reads profile (compile out locks names) input o same is = absurd same
 changing_of reads profile (check file) input o same is = absurd same
 changing_of reads profile (repair file out) input o same is = absurd same
@@ -147,6 +148,7 @@ asked_whole profile (list directory file) input of = absurd of
 asked_whole profile (list_locks directory file) input of = absurd of
 asked_whole profile (dump skip directory file) input of = absurd of
 asked_whole profile (origin key file) input of = absurd of
+asked_whole profile (explain key file) input of = absurd of
 asked_whole profile (compile out locks names) input of = absurd of
 asked_whole profile (check file) input of = absurd of
 asked_whole profile (repair file out) input of = absurd of
@@ -268,6 +270,7 @@ nothing_asked (list directory file) input n reads = none_done n
 nothing_asked (list_locks directory file) input n reads = none_done n
 nothing_asked (dump skip directory file) input n reads = none_done n
 nothing_asked (origin key file) input n reads = none_done n
+nothing_asked (explain key file) input n reads = none_done n
 nothing_asked (check file) input n reads = none_done n
 nothing_asked (write key text file) input n reads = absurd reads
 nothing_asked (reset key file) input n reads = absurd reads

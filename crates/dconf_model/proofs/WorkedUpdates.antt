@@ -1,7 +1,7 @@
 -- Worked updates: which databases are made, and of which files.
-use Rattle.std.specs.Prelude.{◌≡◌, ℕ, List, [], ◌∷◌, Option, Some, None, codes, refl}
+use Rattle.std.specs.Prelude.{◌≡◌, ℕ, List, [], ◌∷◌, Some, None, codes, refl}
 use Rattle.dconf_model.specs.Commands.Command.{compile}
-use Rattle.dconf_model.specs.Updates.{SourceFile, SourceFolder, is_due, updates}
+use Rattle.dconf_model.specs.Updates.{SourceFile, SourceFolder, updates}
 
 abbrev file_at : ℕ → List ℕ → SourceFile
 file_at changed name = record { name = name; changed = changed }

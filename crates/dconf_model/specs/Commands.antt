@@ -1,4 +1,4 @@
--- The commands, with their words. dconf(1); `show`, `origin`, `check` and `repair` are this project's.
+-- The commands, with their words. dconf(1); `show`, `origin`, `explain`, `check` and `repair` are this project's.
 use Rattle.std.specs.Prelude.{Bool, ℕ, List}
 
 pub data Command : Type 0 where
@@ -21,6 +21,7 @@ pub data Command : Type 0 where
   load : Bool → Bool → List ℕ → List ℕ → Command
   -- KEY; the profile's file
   origin : List ℕ → List ℕ → Command
+  explain : List ℕ → List ℕ → Command
   -- OUT; the lock files; KEYFILES
   compile : List ℕ → List (List ℕ) → List (List ℕ) → Command
   -- FILE

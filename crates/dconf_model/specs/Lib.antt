@@ -27,6 +27,7 @@ pub mod Keyfiles
 pub mod Sources
 pub mod Databases
 pub mod Layers
+pub mod Explains
 pub mod Changes
 pub mod Folders
 pub mod Replacing

@@ -18,7 +18,7 @@ use Rattle.dconf_model.specs.Causes.SettingsCause.{too_big}
 use Rattle.dconf_model.specs.FaultTexts.{cause_text, path_fault_text, open_fault_text, unsound_text, about, line_fault_text, no_file_text, device_text, bad_database_text}
 use Rattle.dconf_model.specs.Lines.{LineFault, longest_text}
 use Rattle.dconf_model.specs.Values.{value_of_text}
-use Rattle.dconf_model.specs.Profiles.{Database, database_text, database_file, has_writable, user_file, profile_of}
+use Rattle.dconf_model.specs.Profiles.{Database, database_file, has_writable, user_file, profile_of}
 use Rattle.dconf_model.specs.Keyfiles.{Setting, RowFault, dumped}
 use Rattle.dconf_model.specs.Doubles.{left_out, not_left_out, comment_lines}
 use Rattle.dconf_model.specs.Sources.{Loaded, Source, File, FileFault, loaded}
@@ -26,12 +26,13 @@ use Rattle.dconf_model.specs.Sources.File.{keyfile, lock_file}
 use Rattle.dconf_model.specs.Databases.{Verdict, IsVerdict, IsDatabaseOf, IsTooBig, IsCompiled, AreLayers, IsFirstBad}
 use Rattle.dconf_model.specs.Databases.Verdict.{no_database, sound, unsound}
 use Rattle.dconf_model.specs.Layers.{Layers, visible, origin as origin_of, child_names, locks_below, paths_below, without_user}
+use Rattle.dconf_model.specs.Explains.{explained, place_name}
 use Rattle.dconf_model.specs.Changes.{Change, Refusal, apply, saved, paths_of}
 use Rattle.dconf_model.specs.Changes.Change.{set_value, reset_value, reset_below_directory, load_values}
 use Rattle.dconf_model.specs.Changes.Refusal.{not_writable, locked, too_large}
 use Rattle.dconf_model.specs.Salvaging.{IsSalvaged}
 use Rattle.dconf_model.specs.Commands.{Command}
-use Rattle.dconf_model.specs.Commands.Command.{show, read, list, list_locks, write, reset, reset_below, dump, load, origin, compile, check, repair}
+use Rattle.dconf_model.specs.Commands.Command.{show, read, list, list_locks, write, reset, reset_below, dump, load, origin, explain, compile, check, repair}
 use Rattle.dconf_model.specs.Reads.{FileRead, ReadResults, Input}
 use Rattle.dconf_model.specs.Reads.FileRead.{no_file, holds, over_size, failed}
 
@@ -183,7 +184,7 @@ shown_if_any None = done []
 shown_if_any (Some v) = shown_outcome v
 
 abbrev pub place_text : List Database → ℕ → List ℕ
-place_text databases i = about (decimal i) (unwrap_or (option_map database_text (slice_get databases i)) [] ++ 10 ∷ [])
+place_text databases i = place_name databases i ++ 10 ∷ []
 
 abbrev pub origin_text : List Database → Option ℕ → List ℕ
 origin_text databases None = []
@@ -316,6 +317,8 @@ IsOutcome (dump skip directory profile) reads input =
 IsOutcome (load force skip directory profile) reads input = UnlessFault (directory_fault directory) (WithRows skip directory input (Loads reads profile force))
 IsOutcome (origin key profile) reads input =
     UnlessFault (key_fault key) (WithStore reads profile (λ databases l o. o ≡ done (origin_text databases (origin_of l key))))
+IsOutcome (explain key profile) reads input =
+    UnlessFault (key_fault key) (WithStore reads profile (λ databases l o. o ≡ done (explained databases l key)))
 IsOutcome (compile out lock_names names) reads input =
     WithFiles reads 0 names (λ files. WithFiles reads (length names) lock_names (λ locks. Compiles out files locks))
 IsOutcome (check file) reads input = WithFile reads 0 file Checks

@@ -1,7 +1,7 @@
 -- What the program gives over one folder: runs that compile databases and that change the first
 -- one, and what runs print that read the store between and after them. dconf(1), dconf(7).
-use Rattle.std.specs.Prelude.{◌≡◌, ◌≢◌, ◌⊎◌, ◌↔◌, Contains, ℕ, zero, suc, Bool, true, false, List, [], ◌∷◌, ◌++◌, Option, Some, None, Result, Ok, Err, IsTrue, is_some, if◌then◌else◌}
-use Rattle.std.specs.List.{AllByRecursion}
+use Rattle.std.specs.Prelude.{◌≡◌, ◌≢◌, ◌⊎◌, ◌↔◌, Contains, ℕ, zero, suc, Bool, true, false, nat_lt, List, [], ◌∷◌, ◌++◌, slice_get, Option, Some, None, option_and_then, Result, Ok, Err, IsTrue, is_some, if◌then◌else◌}
+use Rattle.std.specs.List.{AllByRecursion, list_any}
 use Rattle.std.specs.Str.{is_utf8, bytes_eq}
 use Rattle.gv_model.specs.Tree.{Tree}
 use Rattle.dconf_model.specs.Bytes.{MaybeBytes}
@@ -19,17 +19,18 @@ use Rattle.dconf_model.specs.Salvaging.{IsSalvaged}
 use Rattle.dconf_model.specs.Settings.{Settings}
 use Rattle.dconf_model.specs.Databases.{AreLayers}
 use Rattle.dconf_model.specs.Layers.{Layers}
+use Rattle.dconf_model.specs.Explains.{explained, explained_by, nearest_lock}
 use Rattle.dconf_model.specs.Changes.{Change}
 use Rattle.dconf_model.specs.Changes.Change.{set_value, reset_value, reset_below_directory, load_values}
 use Rattle.dconf_model.specs.Folders.{Event, IsSettled, read_content}
 use Rattle.dconf_model.specs.Replacing.{new_name}
 use Rattle.dconf_model.specs.Commands.{Command}
-use Rattle.dconf_model.specs.Commands.Command.{show, read, list, list_locks, write, reset, reset_below, dump, load, origin, compile, check, repair}
+use Rattle.dconf_model.specs.Commands.Command.{show, read, list, list_locks, write, reset, reset_below, dump, load, origin, explain, compile, check, repair}
 use Rattle.dconf_model.specs.Reads.{FileRead, Content, Input, read_of}
 use Rattle.dconf_model.specs.Reads.FileRead.{no_file, holds}
 use Rattle.dconf_model.specs.Outcomes.{Outcome, Output, done_output, shown_if_any, lines_text, origin_text, with_value_if_any, with_lines, dump_of, value_of_word}
 use Rattle.dconf_model.specs.Runs.{MayMake, NoMemory, Ran, RanCalmly}
-use Rattle.dconf_model.specs.Stores.{OwnValues, StoreHolds, FileGives, GivesRows, nothing_given, IsNamed, is_lock_given, value_given, number_given, own_after}
+use Rattle.dconf_model.specs.Stores.{OwnValues, StoreHolds, FileGives, GivesRows, nothing_given, IsNamed, is_lock_given, level_given, value_given, number_given, own_after}
 
 -- ---- what a folder's files give
 
@@ -114,6 +115,21 @@ abbrev pub own_or_none : Bool → Option Tree → Option Tree
 own_or_none true own = None
 own_or_none false own = own
 
+-- the value and the lock that the database with this index gives for a key; the first one's locks don't count
+abbrev pub value_given_in : OwnValues → List Given → List ℕ → ℕ → Option Tree
+value_given_in own gs key zero = own key
+value_given_in own gs key (suc i) = option_and_then (λ g. last_value g.values key) (slice_get gs i)
+
+abbrev pub lock_given_in : List Given → List ℕ → ℕ → Option (List ℕ)
+lock_given_in gs key zero = None
+lock_given_in gs key (suc i) = option_and_then (λ g. nearest_lock (λ path. list_any (λ lock. bytes_eq lock.path path) g.locks) key) (slice_get gs i)
+
+-- what explains a key
+abbrev pub explained_given : List Database → OwnValues → List Given → List ℕ → List ℕ
+explained_given databases own gs key =
+    explained_by databases (value_given_in own gs key) (lock_given_in gs key) (value_given key (own key) gs) (number_given key (own key) gs)
+    (has_writable databases) (nat_lt 0 (level_given 1 gs key))
+
 -- what a command that reads the store prints
 abbrev pub Prints : List Database → OwnValues → List Given → Command → Output → Type 0
 Prints databases own gs (read false key profile) output = output ≡ (shown_if_any (value_given key (own key) gs)).output
@@ -123,6 +139,7 @@ Prints databases own gs (list directory profile) output = NamesPrinted directory
 Prints databases own gs (list_locks directory profile) output = LocksPrinted directory gs output
 Prints databases own gs (dump skip directory profile) output = SettingsPrinted skip directory own gs output
 Prints databases own gs (origin key profile) output = output ≡ done_output (origin_text databases (number_given key (own key) gs))
+Prints databases own gs (explain key profile) output = output ≡ done_output (explained_given databases own gs key)
 Prints databases own gs other output = ⊥
 
 -- it reads the store of this profile, at a path without a fault
@@ -132,6 +149,7 @@ IsQuestion profile (list directory file) = (file ≡ profile) × (directory_faul
 IsQuestion profile (list_locks directory file) = (file ≡ profile) × (directory_fault directory ≡ None)
 IsQuestion profile (dump skip directory file) = (file ≡ profile) × (directory_fault directory ≡ None)
 IsQuestion profile (origin key file) = (file ≡ profile) × (key_fault key ≡ None)
+IsQuestion profile (explain key file) = (file ≡ profile) × (key_fault key ≡ None)
 IsQuestion profile other = ⊥
 
 -- law: it prints what is given, or that memory ran out
@@ -142,12 +160,17 @@ QuestionsAreAnswered =
     FolderHolds (read_content old) profile d ds own gs → IsQuestion profile command → RanCalmly command input old new output →
     Prints (d ∷ ds) own gs command output ⊎ NoMemory output
 
--- law: where the profile names no database, it prints nothing
+-- what is printed of no database: `explain` says that nothing is seen
+abbrev pub nothing_said : Command → List ℕ
+nothing_said (explain key profile) = explained [] (record { layers = []; writable = false }) key
+nothing_said other = []
+
+-- law: where the profile names no database, it prints nothing else
 abbrev pub EmptyPrintsNothing : Type 0
 EmptyPrintsNothing =
     (profile text : List ℕ) (command : Command) (input : Input) (old new : List Event) (output : Output) →
     read_of (read_content old profile) ≡ holds text → profile_of text ≡ Ok [] → IsQuestion profile command →
-    RanCalmly command input old new output → (output ≡ done_output []) ⊎ NoMemory output
+    RanCalmly command input old new output → (output ≡ done_output (nothing_said command)) ⊎ NoMemory output
 
 -- ---- runs that change the first database
 
@@ -188,6 +211,7 @@ OnlyReads (list directory profile) = Unit {0}
 OnlyReads (list_locks directory profile) = Unit {0}
 OnlyReads (dump skip directory profile) = Unit {0}
 OnlyReads (origin key profile) = Unit {0}
+OnlyReads (explain key profile) = Unit {0}
 OnlyReads (check file) = Unit {0}
 OnlyReads other = ⊥
 

@@ -78,6 +78,7 @@ const READS: &str = "
 read /a/k
 read -d /a/k
 origin /a/k
+explain /a/k
 list /a/
 list-locks /
 dump /

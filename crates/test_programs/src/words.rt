@@ -21,6 +21,7 @@ show au two => None
 check site.db => None
 read -p x /k => None
 origin /k => None
+explain /k => None
 list / => None
 list-locks / => None
 dump / => None

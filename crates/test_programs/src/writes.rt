@@ -60,6 +60,11 @@ $ dump / =>
 k=1
 $ origin /a/k =>
 0 user-db:me
+$ explain /a/k =>
+0 user-db:me\t1\t
+1 system-db:site\t2\t
+seen\t1\t0 user-db:me
+writable\tyes\t
 $ check site.db =>
 sound
 $ repair hash empty =>
@@ -87,6 +92,8 @@ $ dump /a =>
 error: NoEndSlash
 $ origin a =>
 error: NotAbsolute
+$ explain /a/ =>
+error: EndsInSlash
 $ check v =>
 error: Short
 $ compile out.db v =>

@@ -51,11 +51,20 @@ fn is_changed(
     Ok(is_set && is_reset && is_reset_below && is_seen(engine, *path, Some(7), Some(0)))
 }
 
+/// Whether the site alone has a value at a path, and locks it by its own.
+fn is_explained(engine: &Engine<'_>, path: KeyPath<'_>) -> bool {
+    engine.value_in(1, path).and_then(View::as_i32) == Some(5)
+        && engine.lock_in(1, path) == Some(path.as_str())
+        && engine.value_in(0, path).is_none()
+        && engine.lock_in(0, path).is_none()
+}
+
 /// Whether the site's key is seen and locked, and the user may write.
 fn is_open(engine: &Engine<'_>, path: KeyPath<'_>) -> bool {
     engine.is_writable()
         && is_seen(engine, path, Some(5), Some(1))
         && engine.read_default(path).and_then(View::as_i32) == Some(5)
+        && is_explained(engine, path)
 }
 
 /// Whether the root has a directory, and a key that is locked.

@@ -1,6 +1,7 @@
 //! `origin KEY`: the database whose value is seen at a key.
-ghost use Rattle.std.specs.Prelude.{◌≡◌};
+ghost use Rattle.std.specs.Prelude.{◌≡◌, IfOk, string_bytes};
 ghost use Rattle.dconf_model.specs.Commands.Command.{origin as origin_of_key};
+ghost use Rattle.dconf_model.specs.Explains.{place_name};
 ghost use Rattle.dconf_model.specs.Outcomes.{IsOutcome, done, origin_text, place_text};
 ghost use Rattle.dconf_model.specs.Profiles.{kind_text};
 ghost use Rattle.dconf_model.specs.Reads.{Input};
@@ -13,7 +14,7 @@ use crate::store_files::StoreFiles;
 use dconf_disk::Folder;
 use dconf_path::{DatabaseKind, Profile};
 use dconf_streams::{Answer, Refusal, named_file};
-use std::alloc::Global;
+use std::alloc::{AllocError, Global};
 
 /// What `origin` answers.
 pub(crate) fn origin<F: Folder>(
@@ -42,16 +43,30 @@ fn named(alloc: Global, profile: &Profile<'_>, place: Option<usize>) -> Result<A
     }
 }
 
-/// The index of a database, and its line of the profile.
+/// The index of a database, and its line of the profile, as a line.
 fn placed(alloc: Global, profile: &Profile<'_>, i: usize) -> Result<Answer, Refusal>
     ensures { GivesOutcome result (λ o. o ≡ done (place_text (databases_of profile.now) i)) }
 {
-    let (kind, name) = match profile.databases().get(i) {
-        Some(database) => (kind_word(database.kind), database.name),
-        None => ("", ""),
-    };
-    let line = format!(in alloc; "{i} {kind}{name}\n")?;
+    let mut line = place_name(alloc, profile, i)?;
+    line.push('\n')?;
     Ok(Answer::Done(line))
+}
+
+/// The index of a database, and its line of the profile.
+pub(crate) fn place_name(
+    alloc: Global,
+    profile: &Profile<'_>,
+    i: usize,
+) -> Result<String, AllocError>
+    ensures { IfOk result (λ text. string_bytes text ≡ place_name (databases_of profile.entry.now) i) }
+{
+    match profile.databases().get(i) {
+        Some(database) => {
+            let (kind, name) = (kind_word(database.kind), database.name);
+            format!(in alloc; "{i} {kind}{name}")
+        }
+        None => format!(in alloc; "{i} "),
+    }
 }
 
 /// How a line of the profile begins.

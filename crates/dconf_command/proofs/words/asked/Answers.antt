@@ -75,6 +75,12 @@ load_asked-requires c = (is_sub c.requires.parsed.0 (codes "load") c.args.matche
 pub returns-in-Some-subcommand_matches-10 : goal.returns-in-Some-subcommand_matches-10
 returns-in-Some-subcommand_matches-10 c = IfOk-weaker c.load_asked.result _ _ (λ command asks words p. asks words (is_sub words (codes "load") c.args.matches.now c.in-Some-subcommand_matches-10.load.now p (c.in-Some-subcommand_matches-10.ensures.found.0 refl) c.in-Some-subcommand_matches-10.ensures.rows).named) c.load_asked.ensures
 
+pub explain_asked-requires : goal.explain_asked-requires
+explain_asked-requires c = (is_sub c.requires.parsed.0 (codes "explain") c.args.matches.now c.in-Some-subcommand_matches-11.explain.now c.requires.parsed.1 (c.in-Some-subcommand_matches-11.ensures.found.0 refl) c.in-Some-subcommand_matches-11.ensures.rows).given (codes "KEY") refl refl
+
+pub returns-in-Some-subcommand_matches-11 : goal.returns-in-Some-subcommand_matches-11
+returns-in-Some-subcommand_matches-11 c = IfOk-weaker c.explain_asked.result _ _ (λ command asks words p. asks words (is_sub words (codes "explain") c.args.matches.now c.in-Some-subcommand_matches-11.explain.now p (c.in-Some-subcommand_matches-11.ensures.found.0 refl) c.in-Some-subcommand_matches-11.ensures.rows).named) c.explain_asked.ensures
+
 pub unwrap-requires : goal.unwrap-requires
 unwrap-requires c =
     let named = named_show c.requires.parsed.0 c.args.matches.now c.requires.parsed.1 c.requires.other
@@ -88,8 +94,9 @@ unwrap-requires c =
     (λ e. let none : false ≡ true = c.in_default-subcommand_matches-7.ensures.found.1 e in cc)
     (λ e. let none : false ≡ true = c.in_default-subcommand_matches-8.ensures.found.1 e in cc)
     (λ e. let none : false ≡ true = c.in_default-subcommand_matches-9.ensures.found.1 e in cc)
-    (λ e. let none : false ≡ true = c.in_default-subcommand_matches-10.ensures.found.1 e in cc) in
-    c.subcommand_matches-12.ensures.found.1 named
+    (λ e. let none : false ≡ true = c.in_default-subcommand_matches-10.ensures.found.1 e in cc)
+    (λ e. let none : false ≡ true = c.in_default-subcommand_matches-11.ensures.found.1 e in cc) in
+    c.subcommand_matches-13.ensures.found.1 named
 
 pub show_asked-requires-clause-type_text : goal.show_asked-requires-clause-type_text
 show_asked-requires-clause-type_text c =
@@ -104,8 +111,9 @@ show_asked-requires-clause-type_text c =
     (λ e. let none : false ≡ true = c.in_default-subcommand_matches-7.ensures.found.1 e in cc)
     (λ e. let none : false ≡ true = c.in_default-subcommand_matches-8.ensures.found.1 e in cc)
     (λ e. let none : false ≡ true = c.in_default-subcommand_matches-9.ensures.found.1 e in cc)
-    (λ e. let none : false ≡ true = c.in_default-subcommand_matches-10.ensures.found.1 e in cc) in
-    (is_sub c.requires.parsed.0 (codes "show") c.args.matches.now c.unwrap.result.now c.requires.parsed.1 named (rw c.unwrap.ensures at c.subcommand_matches-12.ensures.rows)).given (codes "TYPE") refl refl
+    (λ e. let none : false ≡ true = c.in_default-subcommand_matches-10.ensures.found.1 e in cc)
+    (λ e. let none : false ≡ true = c.in_default-subcommand_matches-11.ensures.found.1 e in cc) in
+    (is_sub c.requires.parsed.0 (codes "show") c.args.matches.now c.unwrap.result.now c.requires.parsed.1 named (rw c.unwrap.ensures at c.subcommand_matches-13.ensures.rows)).given (codes "TYPE") refl refl
 
 pub show_asked-requires-clause-file : goal.show_asked-requires-clause-file
 show_asked-requires-clause-file c =
@@ -120,8 +128,9 @@ show_asked-requires-clause-file c =
     (λ e. let none : false ≡ true = c.in_default-subcommand_matches-7.ensures.found.1 e in cc)
     (λ e. let none : false ≡ true = c.in_default-subcommand_matches-8.ensures.found.1 e in cc)
     (λ e. let none : false ≡ true = c.in_default-subcommand_matches-9.ensures.found.1 e in cc)
-    (λ e. let none : false ≡ true = c.in_default-subcommand_matches-10.ensures.found.1 e in cc) in
-    (is_sub c.requires.parsed.0 (codes "show") c.args.matches.now c.unwrap.result.now c.requires.parsed.1 named (rw c.unwrap.ensures at c.subcommand_matches-12.ensures.rows)).given (codes "FILE") refl refl
+    (λ e. let none : false ≡ true = c.in_default-subcommand_matches-10.ensures.found.1 e in cc)
+    (λ e. let none : false ≡ true = c.in_default-subcommand_matches-11.ensures.found.1 e in cc) in
+    (is_sub c.requires.parsed.0 (codes "show") c.args.matches.now c.unwrap.result.now c.requires.parsed.1 named (rw c.unwrap.ensures at c.subcommand_matches-13.ensures.rows)).given (codes "FILE") refl refl
 
 pub returns : goal.returns
 returns c = IfOk-weaker c.show_asked.result _ _ (λ command asks words p.
@@ -136,5 +145,6 @@ returns c = IfOk-weaker c.show_asked.result _ _ (λ command asks words p.
     (λ e. let none : false ≡ true = c.in_default-subcommand_matches-7.ensures.found.1 e in cc)
     (λ e. let none : false ≡ true = c.in_default-subcommand_matches-8.ensures.found.1 e in cc)
     (λ e. let none : false ≡ true = c.in_default-subcommand_matches-9.ensures.found.1 e in cc)
-    (λ e. let none : false ≡ true = c.in_default-subcommand_matches-10.ensures.found.1 e in cc) in
-    asks words (is_sub words (codes "show") c.args.matches.now c.unwrap.result.now p named (rw c.unwrap.ensures at c.subcommand_matches-12.ensures.rows)).named) c.show_asked.ensures
+    (λ e. let none : false ≡ true = c.in_default-subcommand_matches-10.ensures.found.1 e in cc)
+    (λ e. let none : false ≡ true = c.in_default-subcommand_matches-11.ensures.found.1 e in cc) in
+    asks words (is_sub words (codes "show") c.args.matches.now c.unwrap.result.now p named (rw c.unwrap.ensures at c.subcommand_matches-13.ensures.rows)).named) c.show_asked.ensures

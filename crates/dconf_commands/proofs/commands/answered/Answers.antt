@@ -1,6 +1,6 @@
 use Rattle.std.proofs.Common.{◌≡◌, false, map, refl, string_bytes, subst, sym, true, vec_items}
 use Rattle.dconf_model.specs.Commands.{Command}
-use Rattle.dconf_model.specs.Commands.Command.{show, read, origin, check, compile, repair, list, list_locks, dump, write, load}
+use Rattle.dconf_model.specs.Commands.Command.{show, read, origin, explain, check, compile, repair, list, list_locks, dump, write, load}
 use Rattle.dconf_model.specs.Outcomes.{IsOutcome}
 use Rattle.dconf_command.specs.Commands.{command_of, resetting}
 use Rattle.dconf_streams.specs.Counted.{inner_of}
@@ -50,6 +50,20 @@ returns-in-Origin-clause-answer g c =
 
 pub returns-in-Origin-clause-limit : goal.returns-in-Origin-clause-limit
 returns-in-Origin-clause-limit g c = takes_none g.I.Read.remaining c.args.input.now
+
+pub returns-in-Explain-clause-answer : goal.returns-in-Explain-clause-answer
+returns-in-Explain-clause-answer g c =
+    let given = g.I.Read.remaining (inner_of c.args.input.now) in
+    let input = input_of given in
+    let D : Command → Type 0 = λ k. Decides g.F.Folder c.args.folder.now c.explain.new.folder 0 (λ reads. IsOutcome k reads input) c.explain.result in (
+      input,
+      took g.I.Read.remaining c.args.input.now,
+      subst (λ k. D (command_of k)) (sym c.in-Explain.is) (subst (λ n. D (explain (string_bytes c.in-Explain.key) n)) c.as_str-in-Explain-2.ensures.value
+          (subst (λ t. D (explain t c.as_str-in-Explain-2.result.now)) c.as_str-in-Explain.ensures.value (c.explain.ensures input))),
+    )
+
+pub returns-in-Explain-clause-limit : goal.returns-in-Explain-clause-limit
+returns-in-Explain-clause-limit g c = takes_none g.I.Read.remaining c.args.input.now
 
 pub returns-in-Check-clause-answer : goal.returns-in-Check-clause-answer
 returns-in-Check-clause-answer g c =
@@ -191,6 +205,9 @@ returns-in-Read-clause-end g c = λ reads. let none : false ≡ true = subst (λ
 
 pub returns-in-Origin-clause-end : goal.returns-in-Origin-clause-end
 returns-in-Origin-clause-end g c = λ reads. let none : false ≡ true = subst (λ k. reads_input (command_of k) ≡ true) c.in-Origin.is reads in cc
+
+pub returns-in-Explain-clause-end : goal.returns-in-Explain-clause-end
+returns-in-Explain-clause-end g c = λ reads. let none : false ≡ true = subst (λ k. reads_input (command_of k) ≡ true) c.in-Explain.is reads in cc
 
 pub returns-in-Check-clause-end : goal.returns-in-Check-clause-end
 returns-in-Check-clause-end g c = λ reads. let none : false ≡ true = subst (λ k. reads_input (command_of k) ≡ true) c.in-Check.is reads in cc

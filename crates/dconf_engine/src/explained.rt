@@ -1,0 +1,110 @@
+//! What each layer has for a key, locked or not: what explains the value that is seen.
+ghost use Rattle.std.specs.Prelude.{◌≡◌, ◌<◌, ◌≤◌, ◌&&◌, IsTrue, None, Some, if◌then◌else◌, length, option_and_then, option_map, slice_get, take};
+ghost use Rattle.std.specs.FinMap.{contains_key, get};
+ghost use Rattle.gv_view.specs.Views.{value};
+ghost use Rattle.dconf_model.specs.Explains.{lock_in, lock_of, value_in};
+ghost use Rattle.dconf_model.specs.Locks.{covers};
+ghost use Rattle.dconf_model.specs.Paths.{is_key_path, is_path};
+ghost use Rattle.dconf_path.specs.Paths.{key_text};
+
+use crate::engine::{Engine, changed_bytes};
+use crate::layer::Layer;
+use dconf_path::KeyPath;
+use gv_view::View;
+
+impl Engine<'_> {
+    /// The value that the layer with this index has at a path, seen or not, or None where it has none. It is one search.
+    pub fn value_in(&self, i: usize, path: KeyPath<'_>) -> Option<View<'_>>
+        ensures { value_in self.now (key_text path.entry) i ≡ option_map value result }
+    {
+        let bytes = self.bytes_in(i, path)?;
+        Some(View::of_variant(bytes))
+    }
+
+    /// The bytes of that value.
+    fn bytes_in(&self, i: usize, path: KeyPath<'_>) -> Option<&[u8]>
+        ensures { option_map (λ bytes. bytes.now) result ≡ option_and_then (λ s. get s.values (key_text path.entry)) (slice_get self.now.layers i) }
+    {
+        let Some(layer) = self.layers.get(i) else {
+            return None;
+        };
+        if i == 0 {
+            changed_bytes(&self.changes, *layer, path)
+        } else {
+            layer.get(path.as_str())
+        }
+    }
+
+    /// The lock by which the layer with this index locks a key, or None where it doesn't: the key's own path where that is
+    /// locked, else the nearest directory. The first layer locks nothing.
+    ///
+    /// It searches for the path, and for each of its directories.
+    pub fn lock_in<'p>(&self, i: usize, path: KeyPath<'p>) -> Option<&'p str>
+        ensures { option_map (λ lock. lock.now) result ≡ lock_in self.now (key_text path.entry) i }
+    {
+        if i == 0 {
+            return None;
+        }
+        match self.layers.get(i) {
+            Some(layer) => layer.lock_of(path),
+            None => None,
+        }
+    }
+}
+
+impl Layer<'_> {
+    ghost use Rattle.dconf_engine.specs.LayerSettings.{settings_of};
+
+    /// The lock that covers a key: its own path where that is locked, else the nearest directory that is.
+    pub(crate) fn lock_of<'p>(self, path: KeyPath<'p>) -> Option<&'p str>
+        ensures { option_map (λ lock. lock.now) result ≡ lock_of (key_text path.entry) (settings_of self.entry) }
+    {
+        let path = path.as_str();
+        let mut n = path.len();
+        while n > 0 {
+            if let Some(lock) = self.lock_of_length(path, n) {
+                return Some(lock);
+            }
+            n -= 1;
+        }
+        None
+    }
+
+    /// The first `n` bytes of a key's path, where they are a lock that covers it.
+    fn lock_of_length(self, path: &str, n: usize) -> Option<&str>
+        requires key { IsTrue (is_key_path path.now) }
+        requires some { 0 < n }
+        requires within { n ≤ length path.now }
+        ensures { option_map (λ lock. lock.now) result ≡ (if contains_key (settings_of self.entry).locks (take n path.entry.now) && covers (take n path.entry.now) path.entry.now then Some (take n path.entry.now) else None) }
+    {
+        if !covers_at(path, n) {
+            return None;
+        }
+        let start = &path[..n];
+        if self.has_lock(start) {
+            Some(start)
+        } else {
+            None
+        }
+    }
+
+    /// Whether a path is a lock of the layer.
+    fn has_lock(self, path: &str) -> bool
+        requires { IsTrue (is_path path.now) }
+        ensures { result ≡ contains_key (settings_of self.entry).locks path.now }
+    {
+        match self.locks() {
+            Some(locks) => locks.has(path),
+            None => false,
+        }
+    }
+}
+
+/// Whether the first `n` bytes of a path cover it, as the path of a lock does: they are all, or end in `/`.
+fn covers_at(path: &str, n: usize) -> bool
+    requires some { 0 < n }
+    requires within { n ≤ length path.now }
+    ensures { result ≡ covers (take n path.now) path.now }
+{
+    n == path.len() || path.as_bytes()[n - 1] == b'/'
+}
