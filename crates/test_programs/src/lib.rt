@@ -27,6 +27,8 @@ mod script;
 #[cfg(test)]
 mod streams;
 #[cfg(test)]
+mod turns;
+#[cfg(test)]
 mod words;
 #[cfg(test)]
 mod writes;

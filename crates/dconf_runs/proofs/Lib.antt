@@ -1,0 +1,3 @@
+pub mod Inputs
+pub mod Turns
+pub mod Crashing

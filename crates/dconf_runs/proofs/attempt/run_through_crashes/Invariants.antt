@@ -1,0 +1,10 @@
+use Rattle.std.proofs.Common.{◌≡◌, List, length}
+use Rattle.dconf_model.specs.Folders.{Event}
+use Rattle.dconf_disk.specs.MemoryFolders.{IsPast}
+use Rattle.dconf_runs.specs.Attempts.{HaveComeInTurn}
+use Rattle.dconf_runs.proofs.attempt.run_through_crashes.Given as goal
+
+abbrev pub invariant-loop-attempt : goal.invariant-loop-attempt
+invariant-loop-attempt l =
+    ((old : List Event) → IsPast l.fn.folder old → (new : List Event) × IsPast l.folder new × HaveComeInTurn old l.yielded l.statuses.items new)
+    × (length l.statuses.items ≡ length l.yielded)

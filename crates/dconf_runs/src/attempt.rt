@@ -1,0 +1,84 @@
+//! Runs some of which a crash stops.
+ghost use Rattle.std.specs.Prelude.{ℕ, List, IfOk, length, ◌≡◌};
+ghost use Rattle.dconf_model.specs.Folders.{Event};
+ghost use Rattle.dconf_model.specs.Survivals.{Attempt as Tried, CameTo};
+ghost use Rattle.dconf_disk.specs.MemoryFolders.{IsPast};
+ghost use Rattle.dconf_runs.specs.Attempts.{HaveComeInTurn, IsAttempt, NothingIsLostBy};
+
+use crate::request::{Request, run_unread};
+use dconf_disk::{FolderFault, MemoryFolder};
+use std::alloc::Global;
+
+/// What comes of a run. A crash leaves one of its outcomes, which the number `outcome` picks.
+#[derive(Drop)]
+pub enum End {
+    /// It comes to its end.
+    Whole,
+    /// A crash stops it at this call of its folder, the first counted as 1; where it makes fewer, or with 0, at its end, before
+    /// it answers.
+    Stopped {
+        call: u64,
+        outcome: u64,
+    },
+    /// A crash comes before it begins.
+    Crashed {
+        outcome: u64,
+    },
+}
+
+/// A request, and what comes of its run.
+#[derive(Drop)]
+pub struct Attempt {
+    pub request: Request,
+    pub end: End,
+}
+
+/// Makes the attempts one after another, and gives the status of each whose run came to its end.
+///
+/// `Memory` comes where there is none for a status or a crash, after which nothing more is run. `Device` can't happen.
+pub fn run_through_crashes(
+    alloc: Global,
+    attempts: Vec<Attempt>,
+    folder: &mut MemoryFolder,
+) -> Result<Vec<Option<u8>>, FolderFault>
+    // The user's file says what the commands make that answered 0, and some of those that were stopped, in order.
+    ensures kept { IfOk result (λ statuses. (old : List Event) → IsPast folder.old old
+        → (new : List Event) × IsPast folder.new new × NothingIsLostBy old attempts.items statuses.items new) }
+    ensures each { IfOk result (λ statuses. length statuses.items ≡ length attempts.items) }
+{
+    let mut statuses = Vec::new(alloc);
+    for attempt in attempts {
+        let status = attempt_one(alloc, attempt, folder)?;
+        if statuses.push(status).is_err() {
+            return Err(FolderFault::Memory);
+        }
+    }
+    Ok(statuses)
+}
+
+/// Makes one attempt, and gives its status if it came to its end.
+fn attempt_one(
+    alloc: Global,
+    attempt: Attempt,
+    folder: &mut MemoryFolder,
+) -> Result<Option<u8>, FolderFault>
+    ensures { IfOk result (λ status. (old : List Event) → IsPast folder.old old
+        → (new : List Event) × IsPast folder.new new
+        × ((tried : Tried) × IsAttempt attempt status tried × CameTo tried.command tried.input tried.end old new)) }
+{
+    let Attempt { request, end } = attempt;
+    match end {
+        End::Whole => Ok(Some(run_unread(alloc, request, folder)?)),
+        End::Stopped { call, outcome } => {
+            folder.fail_at(call);
+            run_unread(alloc, request, folder)?;
+            folder.fail_at(0);
+            folder.crash(outcome)?;
+            Ok(None)
+        }
+        End::Crashed { outcome } => {
+            folder.crash(outcome)?;
+            Ok(None)
+        }
+    }
+}

@@ -1,0 +1,80 @@
+//! A command that is to be run, with its input.
+ghost use Rattle.std.specs.Prelude.{◌≡◌, true, List, IfOk, IsTrue};
+ghost use Rattle.dconf_model.specs.Folders.{Event};
+ghost use Rattle.dconf_model.specs.Outcomes.{Output};
+ghost use Rattle.dconf_model.specs.Runs.{Ran, RanCalmly};
+ghost use Rattle.dconf_streams.specs.Streams.{NoneFailed};
+ghost use Rattle.dconf_cli.specs.Outputs.{Leaves};
+ghost use Rattle.dconf_runs.specs.Requests.{asked_of};
+
+use dconf_cli::{Command, Counted, run};
+use dconf_disk::{Folder, FolderFault};
+use std::alloc::Global;
+use std::io;
+use std::io::Write;
+
+/// A command, and the bytes of its input.
+#[derive(Drop)]
+pub struct Request {
+    pub command: Command,
+    pub input: Vec<u8>,
+}
+
+/// Whether no call failed between two counts of failures, as far as they tell.
+pub(crate) fn none_failed(old: u64, new: u64) -> bool
+    ensures { result ≡ true → NoneFailed old new }
+{
+    old == new && new < u64::MAX
+}
+
+/// Runs the request, and gives its status. `Device` is a failed write to out.
+pub(crate) fn run_on<F: Folder, O: Write, E: Write>(
+    alloc: Global,
+    request: Request,
+    folder: &mut F,
+    out: &mut Counted<O>,
+    err: &mut Counted<E>,
+) -> Result<u8, FolderFault>
+    ensures calm { IfOk result (λ status. IsTrue (F.honest folder.new) → NoneFailed (F.failed folder.old) (F.failed folder.new)
+        → (old : List Event) → F.past folder.old old
+        → (new : List Event) × F.past folder.new new
+        × ((output : Output) × RanCalmly (asked_of request).0 (asked_of request).1 old new output
+        × (output.status ≡ status)
+        × Leaves O.contents E.contents out.old out.new err.old err.new output status)) }
+    ensures ran { IfOk result (λ status. IsTrue (F.honest folder.new) → (old : List Event) → F.past folder.old old
+        → (new : List Event) × F.past folder.new new
+        × ((output : Output) × Ran (asked_of request).0 (asked_of request).1 old new output
+        × (output.status ≡ status))) }
+    ensures honest { IsTrue (F.honest folder.new) → IsTrue (F.honest folder.old) }
+{
+    let Request { command, input } = request;
+    let mut bytes = Counted::new(input.as_slice());
+    let writes = out.failures();
+    let status = run(alloc, command, folder, &mut bytes, out, err);
+    if !none_failed(0, bytes.failures()) || !none_failed(writes, out.failures()) {
+        return Err(FolderFault::Device);
+    }
+    Ok(status)
+}
+
+/// Runs the request, whose text nobody reads, and gives its status.
+pub(crate) fn run_unread<F: Folder>(
+    alloc: Global,
+    request: Request,
+    folder: &mut F,
+) -> Result<u8, FolderFault>
+    ensures calm { IfOk result (λ status. IsTrue (F.honest folder.new) → NoneFailed (F.failed folder.old) (F.failed folder.new)
+        → (old : List Event) → F.past folder.old old
+        → (new : List Event) × F.past folder.new new
+        × ((output : Output) × RanCalmly (asked_of request).0 (asked_of request).1 old new output
+        × (output.status ≡ status))) }
+    ensures ran { IfOk result (λ status. IsTrue (F.honest folder.new) → (old : List Event) → F.past folder.old old
+        → (new : List Event) × F.past folder.new new
+        × ((output : Output) × Ran (asked_of request).0 (asked_of request).1 old new output
+        × (output.status ≡ status))) }
+    ensures honest { IsTrue (F.honest folder.new) → IsTrue (F.honest folder.old) }
+{
+    let mut out = Counted::new(io::sink());
+    let mut err = Counted::new(io::sink());
+    run_on(alloc, request, folder, &mut out, &mut err)
+}
