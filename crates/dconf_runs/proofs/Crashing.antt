@@ -1,16 +1,15 @@
 -- Attempts one after another, by the calls that made them.
-use Rattle.std.proofs.Common.{◌≡◌, ◌⊎◌, ◌++◌, ◌∷◌, ◌∙◌, ◌≤◌, [], inl, inr, ℕ, List, Option, Some, None, length, refl, sym, ap, subst, arith}
+use Rattle.std.proofs.Common.{◌++◌, ◌∷◌, [], inl, inr, ℕ, List, Option, Some, None, length, refl, sym, subst}
 use Rattle.std.specs.List.{AllByRecursion}
-use Rattle.dconf_model.specs.Profiles.{Database}
-use Rattle.dconf_model.specs.Folders.{Event, Grows, IsLeft, MayLeave, read_content}
+use Rattle.dconf_model.specs.Folders.{Event, Grows, IsLeft, read_content}
 use Rattle.dconf_model.specs.Commands.{Command}
 use Rattle.dconf_model.specs.Reads.{Input}
-use Rattle.dconf_model.specs.Outcomes.{Outcome, Output, Replacement}
-use Rattle.dconf_model.specs.Runs.{Answered, Did, Ran, RunEnding}
+use Rattle.dconf_model.specs.Outcomes.{Output, Replacement}
+use Rattle.dconf_model.specs.Runs.{Did, Ran, RunEnding}
 use Rattle.dconf_model.specs.Runs.RunEnding.{as_meant, device}
 use Rattle.dconf_model.specs.Programs.{IsChangeOf}
 use Rattle.dconf_model.specs.Survivals.{Attempt as Tried, CameInTurn, CameTo, CrashedSince}
-use Rattle.dconf_model.specs.Survivals.RunEnd.{ended, stopped, crashed}
+use Rattle.dconf_model.specs.Survivals.RunEnd.{stopped, crashed}
 use Rattle.dconf_model.proofs.FolderLaws.{counts_now, longer}
 use Rattle.dconf_model.proofs.SurvivalLaws.{nothing_is_lost, next_run_finds_all}
 use Rattle.dconf_runs.specs.declared.attempt.Attempt.{Attempt}

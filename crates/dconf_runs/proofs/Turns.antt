@@ -1,16 +1,14 @@
 -- Runs one after another, by the calls that made them.
-use Rattle.std.proofs.Common.{◌≡◌, ◌⊎◌, ◌++◌, ◌∷◌, ◌∙◌, [], inl, inr, ℕ, zero, suc, List, length, map, refl, sym, ap, subst}
+use Rattle.std.proofs.Common.{◌≡◌, ◌⊎◌, ◌++◌, ◌∷◌, ◌∙◌, [], ℕ, List, map, refl, sym, ap, subst}
 use Rattle.std.proofs.lemmas.List.{map_push}
 use Rattle.std.specs.List.{AllByRecursion}
-use Rattle.dconf_model.specs.Profiles.{Database}
-use Rattle.dconf_model.specs.Sources.{Given}
 use Rattle.dconf_model.specs.Changes.{Change}
 use Rattle.dconf_model.specs.Folders.{Event, read_content}
 use Rattle.dconf_model.specs.Commands.{Command}
 use Rattle.dconf_model.specs.Reads.{Input}
 use Rattle.dconf_model.specs.Outcomes.{Output}
 use Rattle.dconf_model.specs.Runs.{NoMemory, RanCalmly}
-use Rattle.dconf_model.specs.Stores.{OwnValues, own_after}
+use Rattle.dconf_model.specs.Stores.{own_after}
 use Rattle.dconf_model.specs.Programs.{IsChangeOf, OnlyReads, Prints, RanInTurn, Run, asked_change, changes_made, if_done}
 use Rattle.dconf_model.specs.Survivals.{Asked}
 use Rattle.dconf_model.proofs.RunChanges.{program_gives}

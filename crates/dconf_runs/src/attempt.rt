@@ -16,14 +16,9 @@ pub enum End {
     Whole,
     /// A crash stops it at this call of its folder, the first counted as 1; where it makes fewer, or with 0, at its end, before
     /// it answers.
-    Stopped {
-        call: u64,
-        outcome: u64,
-    },
+    Stopped { call: u64, outcome: u64 },
     /// A crash comes before it begins.
-    Crashed {
-        outcome: u64,
-    },
+    Crashed { outcome: u64 },
 }
 
 /// A request, and what comes of its run.

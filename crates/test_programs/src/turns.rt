@@ -128,7 +128,10 @@ fn nothing_is_lost_by_a_crash(rt: HostRuntime) -> Result<(), Fail> {
     for call in 0..10 {
         let is_made = call == 0 || call > 8;
         let seen = seen_after(rt.alloc(), call)?;
-        assert!(rt; seen == (!is_made, is_made || call >= 7), "{call}: {seen:?}");
+        assert!(rt;
+            seen == (!is_made, is_made || call >= 7),
+            "{call}: {seen:?}"
+        );
     }
     Ok(())
 }

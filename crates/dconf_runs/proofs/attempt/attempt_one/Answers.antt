@@ -1,4 +1,4 @@
-use Rattle.std.proofs.Common.{◌≡◌, Some, None, refl, sym, subst}
+use Rattle.std.proofs.Common.{Some, None, refl, sym, subst}
 use Rattle.dconf_model.specs.Survivals.{Attempt as Tried}
 use Rattle.dconf_model.specs.Survivals.RunEnd.{ended, stopped, crashed}
 use Rattle.dconf_runs.specs.Requests.{asked_of}

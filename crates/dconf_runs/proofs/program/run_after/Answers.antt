@@ -1,8 +1,4 @@
-use Rattle.std.proofs.Common.{◌≡◌, ◌∙◌, [], ℕ, List, sym, ap, subst}
-use Rattle.dconf_model.specs.Outcomes.{Output}
-use Rattle.dconf_model.specs.Runs.{RanCalmly}
 use Rattle.dconf_streams.specs.Streams.{NoneFailed}
-use Rattle.dconf_command.specs.Commands.{command_of}
 use Rattle.dconf_runs.proofs.Inputs.{none_between}
 use Rattle.dconf_runs.proofs.Turns.{gives_what_was_written}
 use Rattle.dconf_runs.specs.Requests.{asked_of}

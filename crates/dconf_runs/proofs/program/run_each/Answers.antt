@@ -1,6 +1,5 @@
-use Rattle.std.proofs.Common.{◌≡◌, ◌+◌, ◌∙◌, ◌++◌, ◌∷◌, [], ℕ, List, length, map, sym, ap, subst, arith, rules}
+use Rattle.std.proofs.Common.{◌≡◌, ◌+◌, ◌∙◌, ◌++◌, ◌∷◌, [], ℕ, List, length, map, sym, ap, subst}
 use Rattle.std.proofs.lemmas.List.{length_push}
-use Rattle.dconf_model.specs.Survivals.{Asked}
 use Rattle.dconf_streams.specs.Streams.{NoneFailed}
 use Rattle.dconf_runs.specs.Requests.{asked_of}
 use Rattle.dconf_runs.specs.Programs.{HasRunInTurn}

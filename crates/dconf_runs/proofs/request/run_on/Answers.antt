@@ -1,4 +1,4 @@
-use Rattle.std.proofs.Common.{◌≡◌, ◌∙◌, ℕ, List, Some, Bor, refl, sym, ap, subst}
+use Rattle.std.proofs.Common.{◌∙◌, ℕ, List, Some, Bor, sym, ap, subst}
 use Rattle.dconf_model.specs.Reads.{Input}
 use Rattle.dconf_model.specs.Runs.{Ran, RanCalmly}
 use Rattle.dconf_command.specs.Commands.{command_of}
