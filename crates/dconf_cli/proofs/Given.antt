@@ -8,7 +8,7 @@ use Rattle.dconf_model.specs.Replacing.{Replaced, MaybeReplaced}
 use Rattle.dconf_model.specs.Outcomes.{Outcome, Output, changing, done, done_output, refused_output}
 use Rattle.dconf_streams.specs.declared.counted.Counted.{Counted}
 use Rattle.dconf_streams.specs.Answers.{Answered, line_of, outcome_of}
-use Rattle.dconf_cli.specs.Outputs.{Leaves, Prints, PrintsLine}
+use Rattle.dconf_cli.specs.Outputs.{Leaves, PrintsLine, PrintsText}
 use Rattle.dconf_cli.specs.Endings.{Ends}
 use Rattle.dconf_streams.specs.Streams.{Rose}
 use Rattle.dconf_cli.proofs.StreamsLeft.{leaves_line, leaves_text}
@@ -27,9 +27,9 @@ module _ {F O E : Type 0} (ghosts : Ghosts F) (contents : O → Option (List ℕ
   Wrote err_old err_new line = PrintsLine err_contents err_old err_new line
 
   pub gives_text : (folder : F) (out_old out_new : Counted O) (err : Counted E) (text bytes : List ℕ) (status : ℕ) → bytes ≡ text
-      → Prints contents out_old out_new bytes status → Gives folder folder out_old out_new err err (Some (done text)) status
+      → PrintsText contents out_old out_new bytes status → Gives folder folder out_old out_new err err (Some (done text)) status
   gives_text folder out_old out_new err text bytes status same h =
-      (done_output text, (refl, refl), leaves_text contents err_contents out_old out_new err text status (subst (λ t. Prints contents out_old out_new t status) same h))
+      (done_output text, (refl, refl), leaves_text contents err_contents out_old out_new err text status (subst (λ t. PrintsText contents out_old out_new t status) same h))
 
   -- a refusal was given by its line
   pub gives_refusal : (folder : F) (out : Counted O) (err_old err_new : Counted E) (refusal : Refusal) (status : ℕ) → status ≡ 1
@@ -54,12 +54,12 @@ module _ {F O E : Type 0} (ghosts : Ghosts F) (contents : O → Option (List ℕ
 
     pub gives_change : (called held : List ℕ) → called ≡ name → held ≡ bytes → ghosts.failed new ≡ ghosts.failed old
         → ((es : List Event) → ghosts.past old es → (now : List Event) × ghosts.past new now × Replaced es now called held)
-        → (out_old out_new : Counted O) (err : Counted E) (put : List ℕ) (status : ℕ) → put ≡ text → Prints contents out_old out_new put status
+        → (out_old out_new : Counted O) (err : Counted E) (put : List ℕ) (status : ℕ) → put ≡ text → PrintsText contents out_old out_new put status
         → Gives old new out_old out_new err err (Some (changing name bytes text)) status
     gives_change called held named whole same replaced out_old out_new err put status is h = (
       done_output text,
       inl (refl, same, λ es p. let r = replaced es p in (r.0, r.1, subst (λ n. Replaced es r.0 n bytes) named (subst (λ b. Replaced es r.0 called b) whole r.2))),
-      leaves_text contents err_contents out_old out_new err text status (subst (λ t. Prints contents out_old out_new t status) is h),
+      leaves_text contents err_contents out_old out_new err text status (subst (λ t. PrintsText contents out_old out_new t status) is h),
     )
 
     pub gives_device : (called held : List ℕ) → called ≡ name → held ≡ bytes → Rose (ghosts.failed old) (ghosts.failed new)

@@ -20,7 +20,7 @@ use Rattle.dconf_streams.specs.declared.answer.Answer.TheVariants as answers
 use Rattle.dconf_streams.specs.declared.refusal.Refusal.TheVariants as refusals
 use Rattle.dconf_streams.specs.Answers.{Answered, RefusesFor, outcome_of}
 use Rattle.dconf_cli.specs.Endings.{Ends, EndsBy}
-use Rattle.dconf_streams.specs.Readings.{AllRead, AreOf, Decides, Gave, Reading, Tells}
+use Rattle.dconf_streams.specs.Readings.{AllRead, AreReadFrom, Decides, Gave, Reading, Tells}
 use Rattle.dconf_cli.specs.Runs.{IsFormed, IsOwn, KeepsFiles, NamesFile, RanAnywhere, SaysFailedInput}
 use Rattle.dconf_streams.specs.Streams.{NoneFailed}
 use Rattle.dconf_cli.proofs.StreamsLeft.{not_rose}
@@ -57,7 +57,7 @@ module _ (es : List Event) where
   reads_in (r ∷ more) (suc n) name = reads_in more n name
 
   gave_in : (log : List Reading) (k : ℕ) (reads : ReadResults) → ((i m : ℕ) (name : List ℕ) → m ≡ k + i → reads m name ≡ reads_in log i name)
-      → AreOf es log → Gave reads k log
+      → AreReadFrom es log → Gave reads k log
   unfolding reads_in
   gave_in [] k reads same are = tt
   gave_in (r ∷ more) k reads same are = (
@@ -65,7 +65,7 @@ module _ (es : List Event) where
     gave_in more (k + 1) reads (λ i m name e. same (suc i) m name (omega arith)) are.1,
   )
 
-  gave_all : (log : List Reading) → AreOf es log → Gave (reads_in log) 0 log
+  gave_all : (log : List Reading) → AreReadFrom es log → Gave (reads_in log) 0 log
   gave_all log are = gave_in log 0 (reads_in log) (λ i m name e. let same : m ≡ i = omega arith in ap (λ (n : ℕ). reads_in log n name) same) are
 
   given_in : (log : List Reading) → ReadsFrom es (reads_in log)
@@ -74,7 +74,7 @@ module _ (es : List Event) where
   given_in (r ∷ more) zero name = either r.gave (read_of (read_content es name))
   given_in (r ∷ more) (suc n) name = given_in more n name
 
-  gave_steadily : (log : List Reading) (k : ℕ) → AreOf es log → AllRead log → Gave (steady (read_content es)) k log
+  gave_steadily : (log : List Reading) (k : ℕ) → AreReadFrom es log → AllRead log → Gave (steady (read_content es)) k log
   gave_steadily [] k are all = tt
   gave_steadily (r ∷ more) k are all = (read are.0, gave_steadily more (k + 1) are.1 all.1)
     where

@@ -5,7 +5,7 @@ use Rattle.std.proofs.lemmas.List.{take_all}
 use Rattle.dconf_model.specs.Outcomes.{done_output}
 use Rattle.dconf_streams.specs.declared.counted.Counted.{Counted}
 use Rattle.dconf_streams.specs.Counted.{Grew, failures_of}
-use Rattle.dconf_cli.specs.Outputs.{GrewByPart, Leaves, Prints, PrintsLine}
+use Rattle.dconf_cli.specs.Outputs.{GrewByPart, Leaves, PrintsLine, PrintsText}
 use Rattle.dconf_streams.proofs.TransferLaws.{Grew-nil}
 use Rattle.dconf_streams.specs.Streams.{NoneFailed, Rose, one_more}
 
@@ -38,7 +38,7 @@ prints_line contents old new put line (Err e) is written rose part = subst (Prin
 })
 
 module _ {O E : Type 0} (contents : O → Option (List ℕ)) (err_contents : E → Option (List ℕ)) where
-  pub leaves_text : (out_old out_new : Counted O) (err : Counted E) (text : List ℕ) (status : ℕ) → Prints contents out_old out_new text status
+  pub leaves_text : (out_old out_new : Counted O) (err : Counted E) (text : List ℕ) (status : ℕ) → PrintsText contents out_old out_new text status
       → Leaves contents err_contents out_old out_new err err (done_output text) status
   leaves_text out_old out_new err text status prints = go prints.ends
     where

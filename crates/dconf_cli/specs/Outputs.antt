@@ -14,7 +14,7 @@ abbrev pub GrewByPart : {S : Type 0} → (S → Option (List ℕ)) → Counted S
 GrewByPart contents old new bytes = (n : ℕ) × Grew contents old new (take n bytes)
 
 -- the text is on out, with status 0; or a write failed, with status 1, after a first part. Of no text nothing is written
-pub record Prints {S : Type 0} (contents : S → Option (List ℕ)) (old new : Counted S) (text : List ℕ) (status : ℕ) : Type 0 where
+pub record PrintsText {S : Type 0} (contents : S → Option (List ℕ)) (old new : Counted S) (text : List ℕ) (status : ℕ) : Type 0 where
   pub ends : ((status ≡ 0) × Grew contents old new text × (failures_of new ≡ failures_of old))
       ⊎ ((status ≡ 1) × GrewByPart contents old new text × (failures_of new ≡ one_more (failures_of old)))
   pub nothing : text ≡ [] → (status ≡ 0) × (new ≡ old)

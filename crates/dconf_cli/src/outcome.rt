@@ -3,7 +3,7 @@ ghost use Rattle.std.specs.Prelude.{◌≡◌, List, IsTrue, Ok, false};
 ghost use Rattle.dconf_model.specs.Folders.{Event};
 ghost use Rattle.dconf_model.specs.Outcomes.{Output};
 ghost use Rattle.dconf_streams.specs.Answers.{line_of, outcome_of};
-ghost use Rattle.dconf_cli.specs.Outputs.{Leaves, Prints, PrintsLine};
+ghost use Rattle.dconf_cli.specs.Outputs.{Leaves, PrintsLine, PrintsText};
 ghost use Rattle.dconf_cli.specs.Endings.{Ends};
 
 use dconf_disk::{Folder, FolderFault, replace};
@@ -69,7 +69,7 @@ fn carry_out<F: Folder, O: Write, E: Write>(
 
 /// Writes the text to out, and gives the status.
 fn print<O: Write>(text: &[u8], out: &mut Counted<O>) -> u8
-    ensures { Prints O.contents out.old out.new text.now result }
+    ensures { PrintsText O.contents out.old out.new text.now result }
 {
     match out.put(text) {
         Ok(()) => 0,

@@ -16,7 +16,7 @@ use Rattle.std.specs.Box.{box_value}
 use Rattle.clap.specs.declared.ArgMatches.{ArgMatches}
 use Rattle.clap.specs.declared.error.Error.{Error}
 use Rattle.clap.proofs.WalkLemmas.{first_value-rows, raw_values-rows}
-use Rattle.dconf_command.specs.Asked.{AreOf, AsksToLoad, HasValue, IsParsedBy, AsksToCheck, AsksToCompile, AsksToRead, AsksToRepair, AsksToShow, AsksToUpdate, IsPlacedBy, is_set, profile_file, AsksOfDirectory, AsksOfKey, AsksToDump, AsksToReset, AsksToWrite}
+use Rattle.dconf_command.specs.Asked.{AreWordsOf, AsksToLoad, HasValue, IsParsedBy, AsksToCheck, AsksToCompile, AsksToRead, AsksToRepair, AsksToShow, AsksToUpdate, IsPlacedBy, is_set, profile_file, AsksOfDirectory, AsksOfKey, AsksToDump, AsksToReset, AsksToWrite}
 use Rattle.dconf_command.specs.CommandLine.{command_line, show_line}
 use Rattle.dconf_command.specs.declared.place.Place.{Place}
 use Rattle.dconf_command.proofs.Stops.{IsNotHelp, or_else_nil, walk_not_help}
@@ -376,7 +376,7 @@ named_show words m p not_update not_check not_compile not_read not_origin not_re
 
 -- the values are those of the subcommand of this name, and each of its required words has one
 pub record IsSub (words : List Text) (name : Text) (sub : ArgMatches) : Type 0 where
-  pub named : AreOf words name sub
+  pub named : AreWordsOf words name sub
   pub given : (id : Text) → is_option id ≡ false → wants (sub_named name).rules id ≡ true → HasValue sub id
 
 pub is_sub : (words : List Text) (name : Text) (m sub : ArgMatches) → IsParsedBy words m → subcommand_name_of m ≡ Some name
@@ -391,7 +391,7 @@ is_sub words name m sub p names rows =
       given = λ id other wanted. rw (first_value-rows found id, same) (met.given id other (subst (λ (n : Text). wants (sub_named n).rules id ≡ true) (sym is) wanted));
     }
 
-pub asks_to_show : (words : List Text) (sub : ArgMatches) (type_text file : Text) → AreOf words (codes "show") sub
+pub asks_to_show : (words : List Text) (sub : ArgMatches) (type_text file : Text) → AreWordsOf words (codes "show") sub
     → first_value (found_of sub) (codes "TYPE") ≡ Some type_text → first_value (found_of sub) (codes "FILE") ≡ Some file → AsksToShow words type_text file
 asks_to_show words sub type_text file named t f = record {
   rows = rows_of (found_of sub);
@@ -400,7 +400,7 @@ asks_to_show words sub type_text file named t f = record {
   file_value = sym (first_value-rows (found_of sub) (codes "FILE")) ∙ f;
 }
 
-pub asks_to_check : (words : List Text) (sub : ArgMatches) (file : Text) → AreOf words (codes "check") sub
+pub asks_to_check : (words : List Text) (sub : ArgMatches) (file : Text) → AreWordsOf words (codes "check") sub
     → first_value (found_of sub) (codes "FILE") ≡ Some file → AsksToCheck words file
 asks_to_check words sub file named f = record {
   rows = rows_of (found_of sub);
@@ -408,7 +408,7 @@ asks_to_check words sub file named f = record {
   file_value = sym (first_value-rows (found_of sub) (codes "FILE")) ∙ f;
 }
 
-pub asks_to_compile : (words : List Text) (sub : ArgMatches) (out : Text) (locks keyfiles : List Text) → AreOf words (codes "compile") sub
+pub asks_to_compile : (words : List Text) (sub : ArgMatches) (out : Text) (locks keyfiles : List Text) → AreWordsOf words (codes "compile") sub
     → first_value (found_of sub) (codes "OUT") ≡ Some out → locks ≡ unwrap_or (option_map raw_values (matched_of (found_of sub) (codes "locks"))) []
     → keyfiles ≡ unwrap_or (option_map raw_values (matched_of (found_of sub) (codes "KEYFILE"))) [] → AsksToCompile words out locks keyfiles
 asks_to_compile words sub out locks keyfiles named o l k = record {
@@ -419,7 +419,7 @@ asks_to_compile words sub out locks keyfiles named o l k = record {
   keyfile_values = sym (k ∙ ap (λ (o : Option (List Text)). unwrap_or o []) (raw_values-rows (found_of sub) (codes "KEYFILE")));
 }
 
-pub asks_to_read : (words : List Text) (sub : ArgMatches) (default : Bool) (key profile : Text) → AreOf words (codes "read") sub
+pub asks_to_read : (words : List Text) (sub : ArgMatches) (default : Bool) (key profile : Text) → AreWordsOf words (codes "read") sub
     → default ≡ is_set (first_value (found_of sub) (codes "default")) → first_value (found_of sub) (codes "KEY") ≡ Some key
     → profile ≡ profile_file (first_value (found_of sub) (codes "profile")) → AsksToRead words default key profile
 asks_to_read words sub default key profile named d k p = record {
@@ -430,7 +430,7 @@ asks_to_read words sub default key profile named d k p = record {
   profile_value = ap profile_file (sym (first_value-rows (found_of sub) (codes "profile"))) ∙ sym p;
 }
 
-pub asks_of_key : (name : Text) (words : List Text) (sub : ArgMatches) (key profile : Text) → AreOf words name sub
+pub asks_of_key : (name : Text) (words : List Text) (sub : ArgMatches) (key profile : Text) → AreWordsOf words name sub
     → first_value (found_of sub) (codes "KEY") ≡ Some key → profile ≡ profile_file (first_value (found_of sub) (codes "profile")) → AsksOfKey name words key profile
 asks_of_key name words sub key profile named k p = record {
   rows = rows_of (found_of sub);
@@ -439,7 +439,7 @@ asks_of_key name words sub key profile named k p = record {
   profile_value = ap profile_file (sym (first_value-rows (found_of sub) (codes "profile"))) ∙ sym p;
 }
 
-pub asks_to_repair : (words : List Text) (sub : ArgMatches) (file out : Text) → AreOf words (codes "repair") sub
+pub asks_to_repair : (words : List Text) (sub : ArgMatches) (file out : Text) → AreWordsOf words (codes "repair") sub
     → first_value (found_of sub) (codes "FILE") ≡ Some file → first_value (found_of sub) (codes "OUT") ≡ Some out → AsksToRepair words file out
 asks_to_repair words sub file out named f o = record {
   rows = rows_of (found_of sub);
@@ -448,7 +448,7 @@ asks_to_repair words sub file out named f o = record {
   out_value = sym (first_value-rows (found_of sub) (codes "OUT")) ∙ o;
 }
 
-pub asks_of_directory : (name : Text) (words : List Text) (sub : ArgMatches) (directory profile : Text) → AreOf words name sub
+pub asks_of_directory : (name : Text) (words : List Text) (sub : ArgMatches) (directory profile : Text) → AreWordsOf words name sub
     → first_value (found_of sub) (codes "DIR") ≡ Some directory → profile ≡ profile_file (first_value (found_of sub) (codes "profile")) → AsksOfDirectory name words directory profile
 asks_of_directory name words sub directory profile named d p = record {
   rows = rows_of (found_of sub);
@@ -457,7 +457,7 @@ asks_of_directory name words sub directory profile named d p = record {
   profile_value = ap profile_file (sym (first_value-rows (found_of sub) (codes "profile"))) ∙ sym p;
 }
 
-pub asks_to_dump : (words : List Text) (sub : ArgMatches) (skip_doubles : Bool) (directory profile : Text) → AreOf words (codes "dump") sub
+pub asks_to_dump : (words : List Text) (sub : ArgMatches) (skip_doubles : Bool) (directory profile : Text) → AreWordsOf words (codes "dump") sub
     → skip_doubles ≡ is_set (first_value (found_of sub) (codes "skip-doubles")) → first_value (found_of sub) (codes "DIR") ≡ Some directory
     → profile ≡ profile_file (first_value (found_of sub) (codes "profile")) → AsksToDump words skip_doubles directory profile
 asks_to_dump words sub skip_doubles directory profile named s d p = record {
@@ -468,7 +468,7 @@ asks_to_dump words sub skip_doubles directory profile named s d p = record {
   profile_value = ap profile_file (sym (first_value-rows (found_of sub) (codes "profile"))) ∙ sym p;
 }
 
-pub asks_to_write : (words : List Text) (sub : ArgMatches) (key value profile : Text) → AreOf words (codes "write") sub
+pub asks_to_write : (words : List Text) (sub : ArgMatches) (key value profile : Text) → AreWordsOf words (codes "write") sub
     → first_value (found_of sub) (codes "KEY") ≡ Some key → first_value (found_of sub) (codes "VALUE") ≡ Some value
     → profile ≡ profile_file (first_value (found_of sub) (codes "profile")) → AsksToWrite words key value profile
 asks_to_write words sub key value profile named k v p = record {
@@ -479,7 +479,7 @@ asks_to_write words sub key value profile named k v p = record {
   profile_value = ap profile_file (sym (first_value-rows (found_of sub) (codes "profile"))) ∙ sym p;
 }
 
-pub asks_to_reset : (words : List Text) (sub : ArgMatches) (force : Bool) (path profile : Text) → AreOf words (codes "reset") sub
+pub asks_to_reset : (words : List Text) (sub : ArgMatches) (force : Bool) (path profile : Text) → AreWordsOf words (codes "reset") sub
     → force ≡ is_set (first_value (found_of sub) (codes "force")) → first_value (found_of sub) (codes "PATH") ≡ Some path
     → profile ≡ profile_file (first_value (found_of sub) (codes "profile")) → AsksToReset words force path profile
 asks_to_reset words sub force path profile named f k p = record {
@@ -490,7 +490,7 @@ asks_to_reset words sub force path profile named f k p = record {
   profile_value = ap profile_file (sym (first_value-rows (found_of sub) (codes "profile"))) ∙ sym p;
 }
 
-pub asks_to_load : (words : List Text) (sub : ArgMatches) (force skip_doubles : Bool) (directory profile : Text) → AreOf words (codes "load") sub
+pub asks_to_load : (words : List Text) (sub : ArgMatches) (force skip_doubles : Bool) (directory profile : Text) → AreWordsOf words (codes "load") sub
     → force ≡ is_set (first_value (found_of sub) (codes "force")) → skip_doubles ≡ is_set (first_value (found_of sub) (codes "skip-doubles"))
     → first_value (found_of sub) (codes "DIR") ≡ Some directory → profile ≡ profile_file (first_value (found_of sub) (codes "profile"))
     → AsksToLoad words force skip_doubles directory profile
@@ -503,7 +503,7 @@ asks_to_load words sub force skip_doubles directory profile named f s d p = reco
   profile_value = ap profile_file (sym (first_value-rows (found_of sub) (codes "profile"))) ∙ sym p;
 }
 
-pub asks_to_update : (words : List Text) (sub : ArgMatches) (folder : Option Text) → AreOf words (codes "update") sub
+pub asks_to_update : (words : List Text) (sub : ArgMatches) (folder : Option Text) → AreWordsOf words (codes "update") sub
     → folder ≡ first_value (found_of sub) (codes "FOLDER") → AsksToUpdate words folder
 asks_to_update words sub folder named f = record {
   rows = rows_of (found_of sub);

@@ -16,8 +16,8 @@ pub record IsParsedBy (words : List Text) (m : ArgMatches) : Type 0 where
   pub met : subcommand_rows_of m ≡ subcommand_of command_line words
 
 -- these are the values of the subcommand of this name
-abbrev pub AreOf : List Text → Text → ArgMatches → Type 0
-AreOf words name m = subcommand_of command_line words ≡ Some (name, rows_of (found_of m))
+abbrev pub AreWordsOf : List Text → Text → ArgMatches → Type 0
+AreWordsOf words name m = subcommand_of command_line words ≡ Some (name, rows_of (found_of m))
 
 -- an argument has a value
 abbrev pub HasValue : ArgMatches → Text → Type 0

@@ -1,16 +1,16 @@
 -- The model's command of ours.
 use Rattle.std.specs.Prelude.{ℕ, Bool, true, false, List, map, string_bytes, vec_items}
-use Rattle.dconf_model.specs.Commands.{Command as Asked}
+use Rattle.dconf_model.specs.Commands.{Command as ModelCommand}
 use Rattle.dconf_model.specs.Commands.Command.{show, read, list, list_locks, write, reset, reset_below, load, dump, origin, explain, check, compile, repair}
 use Rattle.dconf_command.specs.declared.asked.Command.{Command}
 use Rattle.dconf_command.specs.declared.asked.Command.TheVariants.{Show, Read, List as ListIt, ListLocks, Write, Reset, Load, Dump, Origin, Explain, Check, Compile, Repair}
 
 -- of all keys below a directory, or of a key
-abbrev pub resetting : Bool → List ℕ → List ℕ → Asked
+abbrev pub resetting : Bool → List ℕ → List ℕ → ModelCommand
 resetting true path profile = reset_below path profile
 resetting false path profile = reset path profile
 
-abbrev pub command_of : Command → Asked
+abbrev pub command_of : Command → ModelCommand
 command_of (Show type_text file) = show (string_bytes type_text) (string_bytes file)
 command_of (Read default key profile) = read default (string_bytes key) (string_bytes profile)
 command_of (Origin key profile) = origin (string_bytes key) (string_bytes profile)
@@ -26,7 +26,7 @@ command_of (Reset force path profile) = resetting force (string_bytes path) (str
 command_of (Load force skip_doubles directory profile) = load force skip_doubles (string_bytes directory) (string_bytes profile)
 
 -- the same command by the profile in another file
-abbrev pub with_profile : List ℕ → Asked → Asked
+abbrev pub with_profile : List ℕ → ModelCommand → ModelCommand
 with_profile file (read default key profile) = read default key file
 with_profile file (list directory profile) = list directory file
 with_profile file (list_locks directory profile) = list_locks directory file

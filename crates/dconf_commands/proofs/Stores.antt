@@ -12,7 +12,7 @@ use Rattle.dconf_model.specs.Reads.FileRead.{no_file, holds, over_size, failed}
 use Rattle.dconf_streams.specs.Answers.{Answered, GivesOutcome}
 use Rattle.dconf_streams.specs.Readings.{Decides, Gave, HasRead, Nothing, one_read}
 use Rattle.dconf_commands.specs.StoreReads.{NoDatabases, NoItems, database_reads}
-use Rattle.dconf_commands.specs.Stores.{AreOpened, HasStore, NoLayers, items_of, named_by}
+use Rattle.dconf_commands.specs.Stores.{HasStore, IsStoreOf, NoLayers, items_of, named_by}
 use Rattle.dconf_streams.specs.declared.folder_files.NamedFile.{NamedFile}
 use Rattle.dconf_commands.specs.declared.store_files.StoreFiles.{StoreFiles}
 use Rattle.dconf_streams.proofs.Decisions.{answers_also, decides_also, decides_at_once, nothing_is_any}
@@ -125,7 +125,7 @@ module _ {F : Type 0} (ghosts : Ghosts F) (name : List ℕ) (Go : List Database 
           store_by_items (answers_also answer (WithLayers (items_of files) (has_writable (named_by files)) NoLayers) (InLayers (named_by files) (items_of files))
           (λ o m. no_layers_are_any (items_of files) (has_writable (named_by files)) (Go (named_by files)) o m) gives)
 
-      pub store_opened : (l : Layers) → AreOpened files l → GivesOutcome answer (Go (named_by files) l) → Does old new
+      pub store_opened : (l : Layers) → IsStoreOf files l → GivesOutcome answer (Go (named_by files) l) → Does old new
       store_opened l opened gives =
           store_by_items (answers_also answer (Go (named_by files) l) (InLayers (named_by files) (items_of files))
           (λ o m. inl (l.layers, opened.layers, subst (λ (w : Bool). Go (named_by files) (record { layers = l.layers; writable = w }) o) opened.writable m)) gives)

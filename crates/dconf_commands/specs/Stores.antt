@@ -25,7 +25,7 @@ pub record HasStore {F : Type 0} (ghosts : Ghosts F) (old new : F) (profile : Li
   pub read : HasRead ghosts old new (database_reads (named_by files) (items_of files))
 
 -- they are open
-pub record AreOpened (files : StoreFiles) (l : Layers) : Type 0 where
+pub record IsStoreOf (files : StoreFiles) (l : Layers) : Type 0 where
   pub layers : AreLayers (items_of files) l.layers
   pub writable : l.writable ≡ has_writable (named_by files)
 

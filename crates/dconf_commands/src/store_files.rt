@@ -23,7 +23,7 @@ pub(crate) struct StoreFiles<'a> {
 }
 
 impl<'a> StoreFiles<'a> {
-    ghost use Rattle.dconf_commands.specs.Stores.{AreOpened, HasStore, NoLayers, items_of, named_by};
+    ghost use Rattle.dconf_commands.specs.Stores.{HasStore, IsStoreOf, NoLayers, items_of, named_by};
 
     /// Reads the databases that a profile names, in their order, by the profile's file.
     pub(crate) fn read<'f: 'a, F: Folder>(
@@ -43,7 +43,7 @@ impl<'a> StoreFiles<'a> {
     /// The engine of the databases, or the refusal for the first that is no sound one.
     pub(crate) fn open(&self, alloc: Global) -> Result<Engine<'_>, Refusal>
         requires { length (items_of self.now) ≡ length (named_by self.now) }
-        ensures ok { IfOk result (AreOpened self.now) }
+        ensures ok { IfOk result (IsStoreOf self.now) }
         ensures err { IfErr result (λ refusal. GivesOutcome (Err refusal) (WithLayers (items_of self.now) (has_writable (named_by self.now)) NoLayers)) }
     {
         let files = lent(alloc, &self.databases)?;

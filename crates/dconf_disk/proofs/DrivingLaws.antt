@@ -18,7 +18,7 @@ use Rattle.dconf_turn.specs.Sayings.{IsMade, Says}
 use Rattle.dconf_turn.specs.Sayings.{IsWhole as IsWholeFile}
 use Rattle.dconf_turn.specs.Steps.{place, step_at, step_of, GoesOn, Follows, IsSaid, IsDone, KnowsAfter}
 use Rattle.dconf_turn.specs.Progress.{Stands}
-use Rattle.dconf_turn.specs.Hosts.{Did, IsLockMade, IsNoted}
+use Rattle.dconf_turn.specs.Hosts.{DidStep, IsLockMade, IsNoted}
 use Rattle.dconf_turn.proofs.ApartLaws.{nothing_yet}
 use Rattle.dconf_turn.proofs.SayingLaws.{kept, kept_whole, whole_of}
 use Rattle.dconf_turn.proofs.HistoryLaws.{end_at}
@@ -97,7 +97,7 @@ is_done Unlock d = absurd d
 -- ---- what a step may do
 
 -- some folder is what any answer admits
-pub can : (step : Step) (answer : Answer) (name bytes : List ℕ) (es : List Event) → IsWhole step answer (length bytes) → (now : List Event) × Did step answer (job_of name bytes) es now
+pub can : (step : Step) (answer : Answer) (name bytes : List ℕ) (es : List Event) → IsWhole step answer (length bytes) → (now : List Event) × DidStep step answer (job_of name bytes) es now
 can Lock (Yes n) name bytes es w = (es, inl refl)
 can Lock (No f) name bytes es w = (es, inl refl)
 can Read (Yes n) name bytes es w = (es, refl)
@@ -305,7 +305,7 @@ made_unsettled o f e m = let bad : Unsettled f ≡ Made = sym e ∙ m in cc
 module _ (t : Turn) (keeps : t.keeps ≡ false) (next : Step) (o p : Outcome) (old es now : List Event) (name bytes : List ℕ) where
   abbrev On : Step → Answer → Type 0
   On step answer = ((at : ℕ) → step ≡ Append at → t.len ≡ length bytes) → GoesOn t step answer next → Follows step next → IsSaid step answer o p → IsWhole step answer (length bytes)
-      → Did step answer (job_of name bytes) es now → IsStraight step o old es name bytes → IsStraight next p old now name bytes
+      → DidStep step answer (job_of name bytes) es now → IsStraight step o old es name bytes → IsStraight next p old now name bytes
 
   is : (step : Step) → next ≡ step → IsStraight step p old now name bytes → IsStraight next p old now name bytes
   is step e h = subst (λ x. IsStraight x p old now name bytes) (sym e) h

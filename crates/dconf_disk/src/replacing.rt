@@ -2,7 +2,7 @@
 ghost use Rattle.std.specs.Prelude.{◌≡◌, ◌⊎◌, ◌∷◌, ℕ, List, true, false, IsTrue, OnOk, OnErr, IsErrOf, length};
 ghost use Rattle.dconf_model.specs.Folders.{Event};
 ghost use Rattle.dconf_model.specs.Replacing.{Replaced, MaybeReplaced, new_name};
-ghost use Rattle.dconf_turn.specs.Hosts.{Did};
+ghost use Rattle.dconf_turn.specs.Hosts.{DidStep};
 ghost use Rattle.dconf_disk.specs.Staging.{staged_onto, settled_onto};
 ghost use Rattle.dconf_disk.specs.Failures.{HasCause};
 ghost use Rattle.dconf_disk.specs.Driving.{IsAble, IsCounted, IsRefused, IsWhole, IsWithin, answer_of, job_of, result_of};
@@ -22,7 +22,7 @@ fn carry_out<F: Folder>(folder: &mut F, new: &str, name: &str, bytes: &[u8], ste
     requires new { new.now ≡ new_name name.now }
     requires within { IsWithin step (length bytes.now) }
     requires able { IsAble (F.holds_turn folder.old) step }
-    ensures did { (es : List Event) → F.past folder.old es → (now : List Event) × F.past folder.new now × Did step result (job_of name.now bytes.now) es now }
+    ensures did { (es : List Event) → F.past folder.old es → (now : List Event) × F.past folder.new now × DidStep step result (job_of name.now bytes.now) es now }
     ensures honest { IsTrue (F.honest folder.new) → IsTrue (F.honest folder.old) }
     ensures turn { F.holds_turn folder.new ≡ F.holds_turn folder.old }
     ensures read_only { F.holds_turn folder.old ≡ false → IsRefused step result }

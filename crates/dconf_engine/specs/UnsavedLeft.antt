@@ -7,8 +7,8 @@ use Rattle.dconf_engine.specs.TextMaps.{entries_by}
 use Rattle.dconf_engine.specs.Edits.{edit_bytes}
 
 -- a path, and the bytes that it was set to, or none
-abbrev pub change_of : Changed → List ℕ × Option (List ℕ)
-change_of c = (key_text c.path, option_map (λ b. b.now) c.bytes)
+abbrev pub entry_changed : Changed → List ℕ × Option (List ℕ)
+entry_changed c = (key_text c.path, option_map (λ b. b.now) c.bytes)
 
 abbrev pub changes_left : ChangesLeft → List (List ℕ × Option (List ℕ))
 changes_left c = entries_by edit_bytes c.rest

@@ -183,11 +183,11 @@ pub(crate) struct ChangesLeft<'a> {
 
 impl<'a> Iterator for ChangesLeft<'a> {
     ghost use Rattle.std.specs.Iterator.{YieldsFirstBy, item_count};
-    ghost use Rattle.dconf_engine.specs.UnsavedLeft.{change_of, changes_left};
+    ghost use Rattle.dconf_engine.specs.UnsavedLeft.{changes_left, entry_changed};
 
     type Item = Changed<'a>;
 
-    ghost next_gives = { YieldsFirstBy change_of changes_left };
+    ghost next_gives = { YieldsFirstBy entry_changed changes_left };
 
     ghost remaining = { item_count changes_left };
 

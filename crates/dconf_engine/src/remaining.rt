@@ -7,7 +7,7 @@ ghost use Rattle.dconf_engine.specs.LayerSettings.{settings_of};
 ghost use Rattle.dconf_engine.specs.LeftPaths.{base_paths, has_reset_below, is_reset_below, unchanged_of, with_set_child, with_set_children};
 ghost use Rattle.dconf_engine.specs.TextSets.{with_child, with_children};
 ghost use Rattle.dconf_engine.specs.Unsaved.{with_changes};
-ghost use Rattle.dconf_engine.specs.UnsavedLeft.{change_of};
+ghost use Rattle.dconf_engine.specs.UnsavedLeft.{entry_changed};
 
 use crate::changes::{Changed, Changes};
 use crate::layer::Layer;
@@ -102,7 +102,7 @@ fn has_reset_below(changes: &Changes, directory: DirPath<'_>) -> bool
 
 /// Whether a change resets a path below a directory.
 fn is_reset_below(change: Changed<'_>, directory: DirPath<'_>) -> bool
-    ensures { result ≡ is_reset_below (directory_text directory.entry) (change_of change.entry).0 (change_of change.entry).1 }
+    ensures { result ≡ is_reset_below (directory_text directory.entry) (entry_changed change.entry).0 (entry_changed change.entry).1 }
 {
     match change.bytes {
         Some(_) => false,

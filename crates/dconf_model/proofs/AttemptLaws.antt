@@ -25,7 +25,7 @@ use Rattle.dconf_model.specs.Runs.{AnswersIn, Did, Ran, ReadsFrom, RunEnding, ou
 use Rattle.dconf_model.specs.Runs.RunEnding.{as_meant, device}
 use Rattle.dconf_model.specs.Stores.{OwnValues, AllGive, FileGives, own_after}
 use Rattle.dconf_model.specs.Programs.{AreApart, AreRead, FolderHolds, IsApart, IsChangeOf, OnlyReads, asked_change, given_compiled, own_compiled}
-use Rattle.dconf_model.specs.Survivals.{AreSettled, Asked, Attempt, CameInTurn, CameTo, CrashedSince, FileHolds, MayBeKept, MayBeLeftOut, RunEnd}
+use Rattle.dconf_model.specs.Survivals.{AreSettled, AskedCommand, Attempt, CameInTurn, CameTo, CrashedSince, FileHolds, MayBeKept, MayBeLeftOut, RunEnd}
 use Rattle.dconf_model.specs.Survivals.RunEnd.{ended, stopped as cut_off, crashed as cut_short}
 use Rattle.dconf_model.specs.Standings.{FolderStands, MayBeTried, MayPut, MayStandInTurn, MayStepTo, NextRunFindsAllOf, NothingIsLostOfAll, PutsFile, PutsRows, Standing}
 use Rattle.dconf_model.specs.Standings.PutsFile.{compiling, repairing}
@@ -135,7 +135,7 @@ module _ (profile : List ℕ) (d : Database) (ds : List Database) (apart : AreAp
   crashed_is_out cut_short so = tt
 
   module _ (old new : List Event) (gs : List Given) (alive : Alive old gs) (a : Attempt) (of : IsChangeOf profile a.command) where
-    abbrev Asks : Asked
+    abbrev Asks : AskedCommand
     Asks = (a.command, a.input)
 
     change_kept : (c : MaybeBytes) (own : OwnValues) → CanBeRead c → FileHolds c own → MayBeKept user a.end →

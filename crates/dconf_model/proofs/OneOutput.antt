@@ -28,7 +28,7 @@ use Rattle.dconf_model.specs.Commands.Command.{show, read, list, list_locks, wri
 use Rattle.dconf_model.specs.Reads.{FileRead, Input, ReadResults}
 use Rattle.dconf_model.specs.Reads.FileRead.{no_file, holds, over_size, failed}
 use Rattle.dconf_model.specs.Explains.{explained}
-use Rattle.dconf_model.specs.Outcomes.{Gives, IsOutcome, Outcome, Output, UnlessFault, WithType, OrCause, OrLine, OrNoRead, WithFile, WithFiles, UnlessFailed, WithRows, OrNoDatabase, WithDatabases, WithLayers, WithStore, Writes, SavesSaying, Changes, ChangesSaying, Loads, Compiles, Checks, Repairs, refused, done, verdict_text, shown_outcome, shown_if_any, lines_text, origin_text, dump_at, refusal_text, compile_output, check_output, kept_text, value_of_word, read_failed}
+use Rattle.dconf_model.specs.Outcomes.{Gives, IsOutcome, Outcome, Output, UnlessFault, WithType, OrCause, OrLine, OrNoRead, WithFile, WithFiles, UnlessFailed, WithRows, OrNoDatabase, WithDatabases, WithLayers, WithStore, Writes, SavesSaying, MakesChange, ChangesSaying, Loads, Compiles, Checks, Repairs, refused, done, verdict_text, shown_outcome, shown_if_any, lines_text, origin_text, dump_at, refusal_text, compile_output, check_output, kept_text, value_of_word, read_failed}
 use Rattle.dconf_model.specs.Runs.{OneOutput}
 use Rattle.dconf_model.proofs.OpenLaws as opens
 use Rattle.dconf_model.proofs.SoundLaws.{sound_has_no_fault, one_first_fault}
@@ -245,13 +245,13 @@ one_output (origin key profile) reads input =
 one_output (explain key profile) reads input =
     answers_one reads profile (key_fault key) (λ databases l. done (explained databases l key))
 one_output (write key text profile) reads input =
-    let Go : Tree → Gives = λ v. Changes reads profile (key ∷ []) (set_value key v) in
+    let Go : Tree → Gives = λ v. MakesChange reads profile (key ∷ []) (set_value key v) in
     fault_one (key_fault key) (OrCause (value_of_word text) Go)
     (cause_one (value_of_word text) Go (λ v. changes_one [] reads profile (key ∷ []) (set_value key v)))
 one_output (reset key profile) reads input =
-    fault_one (key_fault key) (Changes reads profile (key ∷ []) (reset_value key)) (changes_one [] reads profile (key ∷ []) (reset_value key))
+    fault_one (key_fault key) (MakesChange reads profile (key ∷ []) (reset_value key)) (changes_one [] reads profile (key ∷ []) (reset_value key))
 one_output (reset_below directory profile) reads input =
-    fault_one (directory_fault directory) (Changes reads profile [] (reset_below_directory directory)) (changes_one [] reads profile [] (reset_below_directory directory))
+    fault_one (directory_fault directory) (MakesChange reads profile [] (reset_below_directory directory)) (changes_one [] reads profile [] (reset_below_directory directory))
 one_output (load force skip directory profile) reads input =
     fault_one (directory_fault directory) (WithRows skip directory input (Loads reads profile force))
     (input_one (read_failed input) (OrLine (codes "input") (loaded skip directory input.bytes) (Loads reads profile force))

@@ -29,7 +29,7 @@ use Rattle.dconf_model.specs.Databases.{IsLayer, AreLayers, IsDatabaseOf}
 use Rattle.dconf_model.specs.Layers.{Layers}
 use Rattle.dconf_model.specs.Changes.{Change, Refusal, apply, saved, paths_of}
 use Rattle.dconf_model.specs.Changes.Change.{set_value, reset_value, reset_below_directory, load_values}
-use Rattle.dconf_model.specs.Outcomes.{Gives, Outcome, Output, IsOutcome, ChangesSaying, SavesSaying, Loads, Changes, lines_text, UnlessFault, UnlessFailed, OrCause, OrLine, changing, refusal_text, value_of_word, read_failed}
+use Rattle.dconf_model.specs.Outcomes.{Gives, Outcome, Output, IsOutcome, ChangesSaying, SavesSaying, Loads, MakesChange, lines_text, UnlessFault, UnlessFailed, OrCause, OrLine, changing, refusal_text, value_of_word, read_failed}
 use Rattle.dconf_model.specs.Runs.{RanCalmly, Did}
 use Rattle.dconf_model.specs.Runs.RunEnding.{as_meant}
 use Rattle.dconf_model.specs.Stores.{IsWholeChange, OwnValues, own_changed, own_after, StoreHolds}
@@ -80,18 +80,18 @@ changing_of reads profile (write key text file) input o same is =
       | inl why ↦ inl why
       | inr on ↦ elim (past_cause (value_of_word text) _ o on) [
         | inl why ↦ inl why
-        | inr v ↦ inr (set_value key v.0, key ∷ [], ap (value_change key) v.1, [], subst (λ file. Changes reads file (key ∷ []) (set_value key v.0) o) same.0 v.2)
+        | inr v ↦ inr (set_value key v.0, key ∷ [], ap (value_change key) v.1, [], subst (λ file. MakesChange reads file (key ∷ []) (set_value key v.0) o) same.0 v.2)
       ]
     ]
 changing_of reads profile (reset key file) input o same is =
     elim (past_fault (key_fault key) _ o is) [
       | inl why ↦ inl why
-      | inr on ↦ inr (reset_value key, key ∷ [], refl, [], subst (λ file. Changes reads file (key ∷ []) (reset_value key) o) same on)
+      | inr on ↦ inr (reset_value key, key ∷ [], refl, [], subst (λ file. MakesChange reads file (key ∷ []) (reset_value key) o) same on)
     ]
 changing_of reads profile (reset_below directory file) input o same is =
     elim (past_fault (directory_fault directory) _ o is) [
       | inl why ↦ inl why
-      | inr on ↦ inr (reset_below_directory directory, [], refl, [], subst (λ file. Changes reads file [] (reset_below_directory directory) o) same on)
+      | inr on ↦ inr (reset_below_directory directory, [], refl, [], subst (λ file. MakesChange reads file [] (reset_below_directory directory) o) same on)
     ]
 changing_of reads profile (load force skip directory file) input o same is =
     elim (past_fault (directory_fault directory) _ o is) [

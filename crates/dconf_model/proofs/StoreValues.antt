@@ -13,7 +13,7 @@ use Rattle.dconf_model.specs.Databases.{AreLayers, IsDatabaseOf}
 use Rattle.dconf_model.specs.Layers.{Layers, visible, origin, first_from, greatest_from, locks_path}
 use Rattle.dconf_model.specs.Changes.{Change, Refusal, apply, change_written, saved}
 use Rattle.dconf_model.specs.Changes.Refusal.{not_writable}
-use Rattle.dconf_model.specs.Stores.{IsWholeChange, OwnValues, own_changed, own_after, first_given, first_number, level_given, value_given, value_from, number_given, number_from, heard, Saying, saying_of, AllGive, StoreHolds, Deed, Did, changes_of, IsOpenedStore, EachValueIsGiven}
+use Rattle.dconf_model.specs.Stores.{IsWholeChange, OwnValues, own_changed, own_after, first_given, first_number, level_given, value_given, value_from, number_given, number_from, heard, Saying, saying_of, AllGive, StoreHolds, Deed, DidDeeds, changes_of, IsOpenedStore, EachValueIsGiven}
 use Rattle.dconf_model.specs.Stores.Deed.{changed, reopened}
 use Rattle.dconf_model.proofs.DatabasesGiven.{level_gives, first_gives, number_gives, dropped_give, value_from_layers, value_before, number_of, number_before, files_give}
 use Rattle.dconf_model.proofs.ChangeEffects.{store, with_values, value_at, step_of}
@@ -108,7 +108,7 @@ module _ (others : List MaybeBytes) (own : OwnValues) (gs : List Given) (l m : L
   }
 
 pub all_stand : (others : List MaybeBytes) (own : OwnValues) (gs : List Given) (l m : Layers) (deeds : List Deed) →
-    StoreHolds others own gs l → Did others l deeds m → StoreHolds others (own_after gs own (changes_of deeds)) gs m
+    StoreHolds others own gs l → DidDeeds others l deeds m → StoreHolds others (own_after gs own (changes_of deeds)) gs m
 all_stand others own gs l m [] h did = subst (StoreHolds others own gs) (sym did) h
 all_stand others own gs l m (changed change ∷ more) h did =
     all_stand others (own_changed gs own change) gs did.0 m more (after_change others own gs l did.0 h change did.1.0 did.1.1) did.2

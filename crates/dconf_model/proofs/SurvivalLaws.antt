@@ -23,7 +23,7 @@ use Rattle.dconf_model.specs.Runs.{Ran, RunEnding, Did, AnswersIn, output_of}
 use Rattle.dconf_model.specs.Runs.RunEnding.{as_meant, device}
 use Rattle.dconf_model.specs.Stores.{IsWholeChange, OwnValues, own_changed, own_after, AllGive, StoreHolds}
 use Rattle.dconf_model.specs.Programs.{FolderHolds, AreRead, IsApart, AreApart, IsChangeOf, found, asked_change}
-use Rattle.dconf_model.specs.Survivals.{RunEnd, Attempt, CrashedSince, CameTo, CameInTurn, Asked, MayBeKept, MayBeLeftOut, AreKept, asked_changes, AreSettled, NothingIsLost, NextRunFindsAll}
+use Rattle.dconf_model.specs.Survivals.{RunEnd, Attempt, CrashedSince, CameTo, CameInTurn, AskedCommand, MayBeKept, MayBeLeftOut, AreKept, asked_changes, AreSettled, NothingIsLost, NextRunFindsAll}
 use Rattle.dconf_model.specs.Survivals.RunEnd.{ended, stopped as cut_off, crashed as cut_short}
 use Rattle.dconf_model.specs.Survivals.AreKept.{no_attempt, keeps, leaves_out}
 use Rattle.dconf_model.proofs.Histories.{Ending, Step, History, Kept, KeptBy, KeepsFirst, MayRun, IsWholeAtAnyMoment}
@@ -73,7 +73,7 @@ found_all (Some bytes) item e = go (nat_lt longest_file (length bytes)) e
 -- ---- what a command makes of the user's file
 
 -- beside these databases, the command's change of the file is saved as that
-pub record MaySave (others : List MaybeBytes) (c : MaybeBytes) (asked : Asked) (e : MaybeBytes) : Type 0 where
+pub record MaySave (others : List MaybeBytes) (c : MaybeBytes) (asked : AskedCommand) (e : MaybeBytes) : Type 0 where
   pub change : Change
   pub asks : asked_change asked.0 asked.1 ≡ change ∷ []
   pub whole : IsWholeChange change
@@ -98,7 +98,7 @@ still_holds others own gs c l m k n h = record {
 }
 
 -- what a chain of commands makes says their changes, in order
-pub kept_are_said : (others : List MaybeBytes) (own : OwnValues) (gs : List Given) (c e : MaybeBytes) (kept : List Asked) (l m : Layers) →
+pub kept_are_said : (others : List MaybeBytes) (own : OwnValues) (gs : List Given) (c e : MaybeBytes) (kept : List AskedCommand) (l m : Layers) →
     AreLayers (c ∷ others) l.layers → StoreHolds others own gs l → MayRun (MaySave others) c kept e → AreLayers (e ∷ others) m.layers →
     StoreHolds others (own_after gs own (asked_changes kept)) gs m
 kept_are_said others own gs c e [] l m k h run n = still_holds others own gs c l m k (subst (λ c. AreLayers (c ∷ others) m.layers) run n) h
@@ -215,7 +215,7 @@ module _ (profile : List ℕ) (d : Database) (ds : List Database) (gs : List Giv
       }
 
   -- what a crash may leave at any moment of a run
-  record Moment (old cut : List Event) (asked : Asked) : Type 0 where
+  record Moment (old cut : List Event) (asked : AskedCommand) : Type 0 where
     grown : Grows old cut
     own : (c : MaybeBytes) → MayHaveLeft cut (length old) (database_file d) c →
         MayLeave old (database_file d) c ⊎ (MaySave others (read_content old (database_file d)) asked c × CanBeRead c)
@@ -365,13 +365,13 @@ module _ (profile : List ℕ) (d : Database) (ds : List Database) (gs : List Giv
 
   -- ---- a list of runs
 
-  abbrev AreSteps : List Attempt → List (Asked × Ending) → Type 0
+  abbrev AreSteps : List Attempt → List (AskedCommand × Ending) → Type 0
   AreSteps [] [] = Unit {0}
   AreSteps (a ∷ more) (s ∷ steps) = (s.0 ≡ (a.command, a.input)) × CameSo (database_file d) a.end s.1 × AreSteps more steps
   AreSteps attempts steps = ⊥
 
   record Lived (attempts : List Attempt) (old new : List Event) : Type 0 where
-    steps : List (Asked × Ending)
+    steps : List (AskedCommand × Ending)
     are : AreSteps attempts steps
     history : History (MaySave others) (database_file d) old steps new
     ready : Ready new
@@ -429,21 +429,21 @@ module _ (profile : List ℕ) (d : Database) (ds : List Database) (gs : List Giv
 
   -- ---- what is kept
 
-  first_kept : (a : Attempt) (more : List Attempt) (asked : Asked) (steps : List (Asked × Ending)) (kept : List Asked) → asked ≡ (a.command, a.input) →
-      MayBeKept (database_file d) a.end → ((all : List Asked) → Kept steps all → AreKept (database_file d) more all) → KeepsFirst asked (Kept steps) kept →
+  first_kept : (a : Attempt) (more : List Attempt) (asked : AskedCommand) (steps : List (AskedCommand × Ending)) (kept : List AskedCommand) → asked ≡ (a.command, a.input) →
+      MayBeKept (database_file d) a.end → ((all : List AskedCommand) → Kept steps all → AreKept (database_file d) more all) → KeepsFirst asked (Kept steps) kept →
       AreKept (database_file d) (a ∷ more) kept
   first_kept a more asked steps kept same may later h =
       let whole : kept ≡ (a.command, a.input) ∷ h.0 = h.1 ∙ ap (λ asked. asked ∷ h.0) same in
       subst (AreKept (database_file d) (a ∷ more)) (sym whole) (keeps a more h.0 may (later h.0 h.2))
 
-  kept_so : (attempts : List Attempt) (steps : List (Asked × Ending)) (kept : List Asked) → AreSteps attempts steps → Kept steps kept → AreKept (database_file d) attempts kept
+  kept_so : (attempts : List Attempt) (steps : List (AskedCommand × Ending)) (kept : List AskedCommand) → AreSteps attempts steps → Kept steps kept → AreKept (database_file d) attempts kept
   kept_so [] [] kept are h = subst (AreKept (database_file d) []) (sym h) no_attempt
   kept_so [] (s ∷ steps) kept are h = absurd are
   kept_so (a ∷ more) [] kept are h = absurd are
   kept_so (a ∷ more) (s ∷ steps) kept are h = by_end (λ all. kept_so more steps all are.2) a.end refl s.1 are.1 h
     where
       Later : Type 0
-      Later = (all : List Asked) → Kept steps all → AreKept (database_file d) more all
+      Later = (all : List AskedCommand) → Kept steps all → AreKept (database_file d) more all
 
       first : Later → (end : RunEnd) → a.end ≡ end → MayBeKept (database_file d) end → KeepsFirst s.0 (Kept steps) kept → AreKept (database_file d) (a ∷ more) kept
       first later end e may h = first_kept a more s.0 steps kept are.0 (subst (MayBeKept (database_file d)) (sym e) may) later h
@@ -498,7 +498,7 @@ module _ (profile : List ℕ) (d : Database) (ds : List Database) (own : OwnValu
   }
 
   record Outlived (attempts : List Attempt) (new : List Event) (c : MaybeBytes) : Type 0 where
-    kept : List Asked
+    kept : List AskedCommand
     are : AreKept (database_file d) attempts kept
     can : CanBeRead c
     held : (writable : Bool) → StoreHolds h.others (own_after gs own (asked_changes kept)) gs (record { layers = can.settings ∷ h.held.later; writable = writable })

@@ -11,7 +11,7 @@ use Rattle.dconf_model.specs.Folders.{Event, IsSettled, MayLeaveOf, content_of, 
 use Rattle.dconf_model.specs.Folders.Event.{create, append, sync, sync_folder}
 use Rattle.dconf_model.specs.Stores.{OwnValues, nothing_given}
 use Rattle.dconf_model.specs.Programs.{FolderHolds, AreApart}
-use Rattle.dconf_model.specs.Survivals.{Asked, Attempt, AreSettled, AreKept, CrashedSince}
+use Rattle.dconf_model.specs.Survivals.{AskedCommand, Attempt, AreSettled, AreKept, CrashedSince}
 use Rattle.dconf_model.specs.Survivals.RunEnd.{crashed}
 use Rattle.dconf_model.specs.Commands.Command.{reset}
 use Rattle.dconf_model.proofs.CompiledFolders.{given_holds, no_file_gives_nothing}
@@ -56,7 +56,7 @@ settled = record {
 }
 
 -- no run, nothing kept
-nothing_kept : (kept : List Asked) × (AreKept (codes "u.user") [] kept)
+nothing_kept : (kept : List AskedCommand) × (AreKept (codes "u.user") [] kept)
 nothing_kept =
     let found = next_run_finds_all p user [] no_values [] [] folder folder apart folder_holds settled tt refl in
     (found.0, found.1)
@@ -81,7 +81,7 @@ crash = record {
 }
 
 -- the command is not kept
-left_out : (kept : List Asked) × AreKept (codes "u.user") (before_it ∷ []) kept
+left_out : (kept : List AskedCommand) × AreKept (codes "u.user") (before_it ∷ []) kept
 left_out =
     let found = next_run_finds_all p user [] no_values [] (before_it ∷ []) folder folder apart folder_holds settled (refl, tt) (folder, crash, refl) in
     (found.0, found.1)

@@ -10,7 +10,7 @@ use Rattle.dconf_model.specs.Settings.{no_settings}
 use Rattle.dconf_model.specs.Layers.{Layers, visible}
 use Rattle.dconf_model.specs.Changes.{Change, run}
 use Rattle.dconf_model.specs.Changes.Change.{set_value}
-use Rattle.dconf_model.specs.Stores.{IsLimitedValue, IsOpenedStore, Did, nothing_given}
+use Rattle.dconf_model.specs.Stores.{IsLimitedValue, IsOpenedStore, DidDeeds, nothing_given}
 use Rattle.dconf_model.specs.Stores.Deed.{changed}
 use Rattle.dconf_model.proofs.DatabasesGiven.{missing_gives_nothing}
 use Rattle.dconf_model.proofs.StoreValues.{each_value_is_given}
@@ -34,7 +34,7 @@ five_is_whole = (omega arith, refl)
 store_is : IsOpenedStore None [] nothing_given [] opened
 store_is = record { layers = (refl, tt); gives = (missing_gives_nothing, tt) }
 
-store_did : Did [] opened (changed change ∷ []) after
+store_did : DidDeeds [] opened (changed change ∷ []) after
 unfolding depth encode packed number_bytes spelling
 store_did = (after, (five_is_whole, refl), refl)
 

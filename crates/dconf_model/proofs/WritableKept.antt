@@ -7,7 +7,7 @@ use Rattle.dconf_model.specs.Layers.{Layers, is_locked}
 use Rattle.dconf_model.specs.Changes.{Change, Refusal, all_storable, apply, change_written, changed, first_locked, load_all, paths_of, set_all, unless_locked, with_all}
 use Rattle.dconf_model.specs.Changes.Change.{set_value, reset_value, reset_below_directory, load_values}
 use Rattle.dconf_model.specs.Changes.Refusal.{too_large, not_writable}
-use Rattle.dconf_model.specs.Stores.{Did}
+use Rattle.dconf_model.specs.Stores.{DidDeeds}
 use Rattle.dconf_model.specs.Stores.Deed.{changed as changing}
 
 abbrev IsAsWritable : Layers → Result Layers Refusal → Type 0
@@ -38,6 +38,6 @@ change l (load_values rows force) = load l rows force
 one_change : (l m : Layers) (c : Change) → apply l c ≡ Ok m → m.writable ≡ l.writable
 one_change l m c e = subst (IsAsWritable l) e (either l l.writable (change_written l c) (Err not_writable) (change l c) tt)
 
-pub changes_keep_it : (others : List MaybeBytes) (l m : Layers) (cs : List Change) → Did others l (map changing cs) m → m.writable ≡ l.writable
+pub changes_keep_it : (others : List MaybeBytes) (l m : Layers) (cs : List Change) → DidDeeds others l (map changing cs) m → m.writable ≡ l.writable
 changes_keep_it others l m [] did = ap (λ (l : Layers). l.writable) did
 changes_keep_it others l m (c ∷ cs) did = changes_keep_it others did.0 m cs did.2 ∙ one_change l did.0 c did.1.1

@@ -259,8 +259,8 @@ Saves paths name r = SavesSaying [] paths name r
 abbrev pub ChangesSaying : List ℕ → ReadResults → List ℕ → List (List ℕ) → Change → Gives
 ChangesSaying text reads profile paths change = WithStore reads profile (λ databases l. SavesSaying text paths (user_file databases) (apply l change))
 
-abbrev pub Changes : ReadResults → List ℕ → List (List ℕ) → Change → Gives
-Changes reads profile paths change = ChangesSaying [] reads profile paths change
+abbrev pub MakesChange : ReadResults → List ℕ → List (List ℕ) → Change → Gives
+MakesChange reads profile paths change = ChangesSaying [] reads profile paths change
 
 -- what is loaded is set, and the paths that are left out are printed
 abbrev pub Loads : ReadResults → List ℕ → Bool → Loaded → Gives
@@ -309,9 +309,9 @@ IsOutcome (list directory profile) reads input =
 IsOutcome (list_locks directory profile) reads input =
     UnlessFault (directory_fault directory) (WithStore reads profile (λ databases l o. o ≡ done (lines_text (locks_below l directory))))
 IsOutcome (write key text profile) reads input =
-    UnlessFault (key_fault key) (OrCause (value_of_word text) (λ v. Changes reads profile (key ∷ []) (set_value key v)))
-IsOutcome (reset key profile) reads input = UnlessFault (key_fault key) (Changes reads profile (key ∷ []) (reset_value key))
-IsOutcome (reset_below directory profile) reads input = UnlessFault (directory_fault directory) (Changes reads profile [] (reset_below_directory directory))
+    UnlessFault (key_fault key) (OrCause (value_of_word text) (λ v. MakesChange reads profile (key ∷ []) (set_value key v)))
+IsOutcome (reset key profile) reads input = UnlessFault (key_fault key) (MakesChange reads profile (key ∷ []) (reset_value key))
+IsOutcome (reset_below directory profile) reads input = UnlessFault (directory_fault directory) (MakesChange reads profile [] (reset_below_directory directory))
 IsOutcome (dump skip directory profile) reads input =
     UnlessFault (directory_fault directory) (WithStore reads profile (λ databases l o. o ≡ dump_at skip directory l (paths_below l directory)))
 IsOutcome (load force skip directory profile) reads input = UnlessFault (directory_fault directory) (WithRows skip directory input (Loads reads profile force))

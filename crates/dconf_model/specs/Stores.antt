@@ -186,9 +186,9 @@ abbrev pub Does : List MaybeBytes → Layers → Deed → Layers → Type 0
 Does others l (changed change) m = IsWholeChange change × (apply l change ≡ Ok m)
 Does others l (reopened file) m = IsDatabaseOf (saved l.layers) file × AreLayers (Some file ∷ others) m.layers × (m.writable ≡ l.writable)
 
-abbrev pub Did : List MaybeBytes → Layers → List Deed → Layers → Type 0
-Did others l [] m = m ≡ l
-Did others l (deed ∷ more) m = (mid : Layers) × Does others l deed mid × Did others mid more m
+abbrev pub DidDeeds : List MaybeBytes → Layers → List Deed → Layers → Type 0
+DidDeeds others l [] m = m ≡ l
+DidDeeds others l (deed ∷ more) m = (mid : Layers) × Does others l deed mid × DidDeeds others mid more m
 
 abbrev pub changes_of : List Deed → List Change
 changes_of [] = []
@@ -205,13 +205,13 @@ pub record IsOpenedStore (first : MaybeBytes) (others : List MaybeBytes) (g : Gi
 abbrev pub EachValueIsGiven : Type 0
 EachValueIsGiven =
     (first : MaybeBytes) (others : List MaybeBytes) (g : Given) (gs : List Given) (opened l : Layers) (deeds : List Deed) (path : List ℕ) →
-    IsOpenedStore first others g gs opened → Did others opened deeds l →
+    IsOpenedStore first others g gs opened → DidDeeds others opened deeds l →
     visible l path ≡ value_given path (own_after gs (last_value g.values) (changes_of deeds) path) gs
 
 abbrev pub EachListingIsExact : Type 0
 EachListingIsExact =
     (first : MaybeBytes) (others : List MaybeBytes) (g : Given) (gs : List Given) (opened l : Layers) (deeds : List Deed) (directory part : List ℕ) →
-    IsOpenedStore first others g gs opened → Did others opened deeds l →
+    IsOpenedStore first others g gs opened → DidDeeds others opened deeds l →
     Contains (child_names l directory) part
     ↔ ((rest : List ℕ) × IsNamed (own_after gs (last_value g.values) (changes_of deeds)) gs (directory ++ rest) × (part ≡ first_part rest))
 

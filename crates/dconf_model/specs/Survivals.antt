@@ -54,8 +54,8 @@ CameInTurn old (a ∷ more) new = (mid : List Event) × CameTo a.command a.input
 -- ---- which of them are kept
 
 -- a command with its input
-abbrev pub Asked : Type 0
-Asked = Command × Input
+abbrev pub AskedCommand : Type 0
+AskedCommand = Command × Input
 
 -- One that answered 0 is kept. One that says that the device failed at the user's file may be, and
 -- so may one that was stopped.
@@ -71,14 +71,14 @@ MayBeLeftOut stopped = Unit {0}
 MayBeLeftOut crashed = Unit {0}
 
 -- the commands that are kept, in order
-pub data AreKept (user : List ℕ) : List Attempt → List Asked → Type 0 where
+pub data AreKept (user : List ℕ) : List Attempt → List AskedCommand → Type 0 where
   no_attempt : AreKept user [] []
-  keeps : (a : Attempt) (attempts : List Attempt) (kept : List Asked) → MayBeKept user a.end → AreKept user attempts kept →
+  keeps : (a : Attempt) (attempts : List Attempt) (kept : List AskedCommand) → MayBeKept user a.end → AreKept user attempts kept →
       AreKept user (a ∷ attempts) ((a.command, a.input) ∷ kept)
-  leaves_out : (a : Attempt) (attempts : List Attempt) (kept : List Asked) → MayBeLeftOut a.end → AreKept user attempts kept →
+  leaves_out : (a : Attempt) (attempts : List Attempt) (kept : List AskedCommand) → MayBeLeftOut a.end → AreKept user attempts kept →
       AreKept user (a ∷ attempts) kept
 
-abbrev pub asked_changes : List Asked → List Change
+abbrev pub asked_changes : List AskedCommand → List Change
 asked_changes [] = []
 asked_changes (asked ∷ more) = asked_change asked.0 asked.1 ++ asked_changes more
 
@@ -100,7 +100,7 @@ NothingIsLost =
     (profile : List ℕ) (d : Database) (ds : List Database) (own : OwnValues) (gs : List Given) (attempts : List Attempt) (old new : List Event) (c : MaybeBytes) →
     AreApart profile d ds → FolderHolds (read_content old) profile d ds own gs → AreSettled old profile d ds →
     AllByRecursion (λ a. IsChangeOf profile a.command) attempts → CameInTurn old attempts new → MayLeave new (database_file d) c →
-    (kept : List Asked) × AreKept (database_file d) attempts kept × FileHolds c (own_after gs own (asked_changes kept))
+    (kept : List AskedCommand) × AreKept (database_file d) attempts kept × FileHolds c (own_after gs own (asked_changes kept))
 
 -- law: and a run after them finds the folder so
 abbrev pub NextRunFindsAll : Type 0
@@ -108,5 +108,5 @@ NextRunFindsAll =
     (profile : List ℕ) (d : Database) (ds : List Database) (own : OwnValues) (gs : List Given) (attempts : List Attempt) (old new : List Event) →
     AreApart profile d ds → FolderHolds (read_content old) profile d ds own gs → AreSettled old profile d ds →
     AllByRecursion (λ a. IsChangeOf profile a.command) attempts → CameInTurn old attempts new →
-    (kept : List Asked) × AreKept (database_file d) attempts kept
+    (kept : List AskedCommand) × AreKept (database_file d) attempts kept
     × FolderHolds (read_content new) profile d ds (own_after gs own (asked_changes kept)) gs

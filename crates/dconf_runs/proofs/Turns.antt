@@ -10,7 +10,7 @@ use Rattle.dconf_model.specs.Outcomes.{Output}
 use Rattle.dconf_model.specs.Runs.{NoMemory, RanCalmly}
 use Rattle.dconf_model.specs.Stores.{own_after}
 use Rattle.dconf_model.specs.Programs.{IsChangeOf, OnlyReads, Prints, RanInTurn, Run, asked_change, changes_made, if_done}
-use Rattle.dconf_model.specs.Survivals.{Asked}
+use Rattle.dconf_model.specs.Survivals.{AskedCommand}
 use Rattle.dconf_model.proofs.RunChanges.{program_gives}
 use Rattle.dconf_runs.specs.declared.request.Request.{Request}
 use Rattle.dconf_runs.specs.Requests.{asked_of}
@@ -23,7 +23,7 @@ turn_more : (old mid new : List Event) (runs : List Run) (r : Run) → RanInTurn
 turn_more old mid new [] r same ran = (new, subst (λ es. RanCalmly r.command r.input es new r.output) same ran, refl)
 turn_more old mid new (q ∷ runs) r turn ran = (turn.0, turn.1, turn_more turn.0 mid new runs r turn.2 ran)
 
-runs_more : (asked : List Asked) (statuses : List ℕ) (runs : List Run) (a : Asked) (status : ℕ) (r : Run) → AreRunsOf asked statuses runs → IsRunOf a status r →
+runs_more : (asked : List AskedCommand) (statuses : List ℕ) (runs : List Run) (a : AskedCommand) (status : ℕ) (r : Run) → AreRunsOf asked statuses runs → IsRunOf a status r →
     AreRunsOf (asked ++ a ∷ []) (statuses ++ status ∷ []) (runs ++ r ∷ [])
 runs_more [] [] [] a status r are is = (is, tt)
 runs_more (b ∷ asked) (n ∷ statuses) (q ∷ runs) a status r are is = (are.0, runs_more asked statuses runs a status r are.1 is)
@@ -32,7 +32,7 @@ runs_more [] (n ∷ statuses) runs a status r are is = absurd are
 runs_more (b ∷ asked) [] runs a status r are is = absurd are
 runs_more (b ∷ asked) (n ∷ statuses) [] a status r are is = absurd are
 
-one_run_more : (old mid new : List Event) (asked : List Asked) (statuses : List ℕ) (a : Asked) (status : ℕ) (output : Output) →
+one_run_more : (old mid new : List Event) (asked : List AskedCommand) (statuses : List ℕ) (a : AskedCommand) (status : ℕ) (output : Output) →
     HasRunInTurn old asked statuses mid → RanCalmly a.0 a.1 mid new output → output.status ≡ status →
     HasRunInTurn old (asked ++ a ∷ []) (statuses ++ status ∷ []) new
 one_run_more old mid new asked statuses a status output h ran is =
@@ -46,16 +46,16 @@ pub one_request_more : (old mid new : List Event) (requests : List Request) (sta
     HasRunInTurn old (map asked_of requests) statuses mid → RanCalmly (asked_of r).0 (asked_of r).1 mid new output → output.status ≡ status →
     HasRunInTurn old (map asked_of (requests ++ r ∷ [])) (statuses ++ status ∷ []) new
 one_request_more old mid new requests statuses r status output h ran is =
-    subst (λ (asked : List Asked). HasRunInTurn old asked (statuses ++ status ∷ []) new) (sym (map_push asked_of requests r))
+    subst (λ (asked : List AskedCommand). HasRunInTurn old asked (statuses ++ status ∷ []) new) (sym (map_push asked_of requests r))
     (one_run_more old mid new (map asked_of requests) statuses (asked_of r) status output h ran is)
 
 -- ---- what they did
 
-one_change : (status n : ℕ) (a : Asked) (c : Command) (i : Input) → n ≡ status → c ≡ a.0 → i ≡ a.1 → if_done n (asked_change c i) ≡ if_done status (asked_change a.0 a.1)
+one_change : (status n : ℕ) (a : AskedCommand) (c : Command) (i : Input) → n ≡ status → c ≡ a.0 → i ≡ a.1 → if_done n (asked_change c i) ≡ if_done status (asked_change a.0 a.1)
 one_change status n a c i n_is c_is i_is =
     ap (λ n. if_done n (asked_change c i)) n_is ∙ ap (λ c. if_done status (asked_change c i)) c_is ∙ ap (λ i. if_done status (asked_change a.0 i)) i_is
 
-changes_are : (asked : List Asked) (statuses : List ℕ) (runs : List Run) → AreRunsOf asked statuses runs → changes_made runs ≡ changes_done asked statuses
+changes_are : (asked : List AskedCommand) (statuses : List ℕ) (runs : List Run) → AreRunsOf asked statuses runs → changes_made runs ≡ changes_done asked statuses
 changes_are [] [] [] are = refl
 changes_are (a ∷ asked) (n ∷ statuses) (r ∷ runs) are =
     ap (λ (cs : List Change). cs ++ changes_made runs) (one_change n r.output.status a r.command r.input are.0.status_is are.0.command_is are.0.input_is)
@@ -65,8 +65,8 @@ changes_are [] (n ∷ statuses) runs are = absurd are
 changes_are (b ∷ asked) [] runs are = absurd are
 changes_are (b ∷ asked) (n ∷ statuses) [] are = absurd are
 
-kinds_are : (P : Command → Type 0) (asked : List Asked) (statuses : List ℕ) (runs : List Run) → AreRunsOf asked statuses runs →
-    AllByRecursion (λ (a : Asked). P a.0) asked → AllByRecursion (λ (r : Run). P r.command) runs
+kinds_are : (P : Command → Type 0) (asked : List AskedCommand) (statuses : List ℕ) (runs : List Run) → AreRunsOf asked statuses runs →
+    AllByRecursion (λ (a : AskedCommand). P a.0) asked → AllByRecursion (λ (r : Run). P r.command) runs
 kinds_are P [] [] [] are h = tt
 kinds_are P (a ∷ asked) (n ∷ statuses) (r ∷ runs) are h = (subst P (sym are.0.command_is) h.0, kinds_are P asked statuses runs are.1 h.1)
 kinds_are P [] [] (q ∷ runs) are h = absurd are
@@ -76,7 +76,7 @@ kinds_are P (b ∷ asked) (n ∷ statuses) [] are h = absurd are
 
 -- ---- the law
 
-pub gives_what_was_written : (old mid new : List Event) (asked : List Asked) (statuses : List ℕ) (a : Asked) (output : Output) →
+pub gives_what_was_written : (old mid new : List Event) (asked : List AskedCommand) (statuses : List ℕ) (a : AskedCommand) (output : Output) →
     HasRunInTurn old asked statuses mid → RanCalmly a.0 a.1 mid new output → GivesWhatWasWritten (read_content old) asked statuses a.0 output
 gives_what_was_written old mid new asked statuses a output h ran profile d ds own gs apart holds of asks =
     subst (λ (cs : List Change). Prints (d ∷ ds) (own_after gs own cs) gs a.0 output ⊎ NoMemory output) (changes_are asked statuses h.0 h.1)

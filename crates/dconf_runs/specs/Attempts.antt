@@ -7,7 +7,7 @@ use Rattle.dconf_model.specs.Sources.{Given}
 use Rattle.dconf_model.specs.Folders.{Event, MayLeave, read_content}
 use Rattle.dconf_model.specs.Stores.{OwnValues, own_after}
 use Rattle.dconf_model.specs.Programs.{AreApart, FolderHolds, IsChangeOf}
-use Rattle.dconf_model.specs.Survivals.{AreKept, AreSettled, Asked, Attempt as Tried, CameInTurn, FileHolds, RunEnd, asked_changes}
+use Rattle.dconf_model.specs.Survivals.{AreKept, AreSettled, AskedCommand, Attempt as Tried, CameInTurn, FileHolds, RunEnd, asked_changes}
 use Rattle.dconf_model.specs.Survivals.RunEnd.{ended, stopped, crashed}
 use Rattle.dconf_runs.specs.declared.attempt.Attempt.{Attempt}
 use Rattle.dconf_runs.specs.declared.attempt.End.{End}
@@ -40,8 +40,8 @@ HaveComeInTurn old attempts statuses new = (tried : List Tried) × AreAttempts a
 pub record IsKeptOf (tried : List Tried) (new : List Event) (profile : List ℕ) (d : Database) (ds : List Database) (own : OwnValues)
     (gs : List Given) : Type 0 where
   pub left : (c : MaybeBytes) → MayLeave new (database_file d) c →
-      (kept : List Asked) × AreKept (database_file d) tried kept × FileHolds c (own_after gs own (asked_changes kept))
-  pub found : (kept : List Asked) × AreKept (database_file d) tried kept
+      (kept : List AskedCommand) × AreKept (database_file d) tried kept × FileHolds c (own_after gs own (asked_changes kept))
+  pub found : (kept : List AskedCommand) × AreKept (database_file d) tried kept
       × FolderHolds (read_content new) profile d ds (own_after gs own (asked_changes kept)) gs
 
 -- Where the folder stood, and no crash changed it, and each command changes its first database.

@@ -12,12 +12,12 @@ use Rattle.dconf_steps.specs.declared.queue.QueueStep.TheVariants.{Take, Pass, W
 use Rattle.dconf_steps.specs.declared.queue.QueueAnswer.{QueueAnswer}
 use Rattle.dconf_steps.specs.declared.queue.QueueAnswer.TheVariants.{Yes, Locked, Fault, Later}
 use Rattle.dconf_steps.specs.Queues.{goes, is_locked, unmade, refused_for, marked, taking_step, asking_step, queue_step_at, queue_step, at_first, taking, after_key, after_write, queue_after_at, IsQueueAnswered}
-use Rattle.dconf_steps.specs.QueueLaws.{Asked, IsQueueDone, RanQueue, is_refused, is_left_out, IsOwnFault, HasOwnFault, IsLockedReset, HasLockedReset, with_edit, going_first, going, written_of, written_by, unmarked, rounds, IsHeld, HasHeld, asked_of, WhateverIsWritten}
+use Rattle.dconf_steps.specs.QueueLaws.{TakenStep, IsQueueDone, RanQueue, is_refused, is_left_out, IsOwnFault, HasOwnFault, IsLockedReset, HasLockedReset, with_edit, going_first, going, written_of, written_by, unmarked, rounds, IsHeld, HasHeld, asked_of, WhateverIsWritten}
 use Rattle.dconf_steps.proofs.EditLaws.{true_or_false, going_is, unmade_fewer, refused_for_fewer, unmade_length, refused_for_length, own_by, reset_by, marked_asked}
 
 -- ---- what is refused, and what is left out
 
-own : (taken : List Asked) (q u : Queue) (es after : List QueuedEdit) → RanQueue taken q es u after → (k : ℕ) → is_refused after k ≡ true → (is_refused es k ≡ true) ⊎ HasOwnFault k taken
+own : (taken : List TakenStep) (q u : Queue) (es after : List QueuedEdit) → RanQueue taken q es u after → (k : ℕ) → is_refused after k ≡ true → (is_refused es k ≡ true) ⊎ HasOwnFault k taken
 own [] q u es after h k r = inl (subst (λ l. is_refused l k ≡ true) h.1 r)
 own (s ∷ more) q u es after h k r =
     let a : IsQueueAnswered q es s.answer h.3.0 h.3.1 = h.3.2 in
@@ -26,7 +26,7 @@ own (s ∷ more) q u es after h k r =
     (own_by es k (queue_step q es) s.answer (subst (λ l. is_refused l k ≡ true) a.edits_are before)))
     (λ later. inr (inr later)) (own more h.3.0 u h.3.1 after h.3.3 k r)
 
-resets : (taken : List Asked) (q u : Queue) (es after : List QueuedEdit) → RanQueue taken q es u after → (k : ℕ) → is_left_out after k ≡ true → (is_left_out es k ≡ true) ⊎ HasLockedReset k taken
+resets : (taken : List TakenStep) (q u : Queue) (es after : List QueuedEdit) → RanQueue taken q es u after → (k : ℕ) → is_left_out after k ≡ true → (is_left_out es k ≡ true) ⊎ HasLockedReset k taken
 resets [] q u es after h k r = inl (subst (λ l. is_left_out l k ≡ true) h.1 r)
 resets (s ∷ more) q u es after h k r =
     let a : IsQueueAnswered q es s.answer h.3.0 h.3.1 = h.3.2 in
@@ -37,14 +37,14 @@ resets (s ∷ more) q u es after h k r =
 
 -- ---- at which step it is
 
-stays : (taken : List Asked) (q u : Queue) (es after : List QueuedEdit) → RanQueue taken q es u after → IsQueueDone (queue_step q es) → (u ≡ q) × (after ≡ es) × (taken ≡ [])
+stays : (taken : List TakenStep) (q u : Queue) (es after : List QueuedEdit) → RanQueue taken q es u after → IsQueueDone (queue_step q es) → (u ≡ q) × (after ≡ es) × (taken ≡ [])
 stays [] q u es after h d = (h.0, h.1, refl)
 stays (s ∷ more) q u es after h d = absurd (h.2 (subst IsQueueDone (sym h.0) d))
 
 over_step : (q : Queue) (es : List QueuedEdit) (end : QueueEnd) → q.stage ≡ Over end → queue_step q es ≡ Done end
 over_step q es end e = ap (λ x. queue_step_at x q.at es) e
 
-over_at : (taken : List Asked) (q u : Queue) (es after : List QueuedEdit) (end : QueueEnd) → RanQueue taken q es u after → q ≡ at_first (Over end)
+over_at : (taken : List TakenStep) (q u : Queue) (es after : List QueuedEdit) (end : QueueEnd) → RanQueue taken q es u after → q ≡ at_first (Over end)
     → (queue_step u after ≡ Done end) × (after ≡ es) × (taken ≡ [])
 over_at taken q u es after end h e =
     let step : queue_step q es ≡ Done end = over_step q es end (ap (λ x. x.stage) e) in
@@ -80,7 +80,7 @@ not_over Asking q es held end h e = asking_not_done q.at es end e
 not_over (Over x) q es held end h e = h
 
 -- what is written of later steps, where the queue is as this answer leaves it
-abbrev Later_of : List Asked → Queue → Queue → List QueuedEdit → List QueuedEdit → Type 0
+abbrev Later_of : List TakenStep → Queue → Queue → List QueuedEdit → List QueuedEdit → Type 0
 Later_of more next u then_are after = (held : List ℕ) → Holds next.stage next then_are held → queue_step u after ≡ Done Written → written_of more held ≡ Some (going after)
 
 waiting_is_not_written : Done Waiting ≡ Done Written → ⊥
@@ -89,7 +89,7 @@ waiting_is_not_written e = cc
 written_is_not_waiting : Done Written ≡ Done Waiting → ⊥
 written_is_not_waiting e = cc
 
-module _ (s : Asked) (more : List Asked) (q u next : Queue) (es then_are after : List QueuedEdit) (step_is : s.step ≡ queue_step q es)
+module _ (s : TakenStep) (more : List TakenStep) (q u next : Queue) (es then_are after : List QueuedEdit) (step_is : s.step ≡ queue_step q es)
     (a : IsQueueAnswered q es s.answer next then_are) (ran : RanQueue more next then_are u after) (later : Later_of more next u then_are after)
     (done : queue_step u after ≡ Done Written) where
   next_is : (stage : QueueStage) → q.stage ≡ stage → next ≡ queue_after_at stage q es s.answer
@@ -187,7 +187,7 @@ module _ (s : Asked) (more : List Asked) (q u next : Queue) (es then_are after :
   written_one Asking held t h = one_asked held t h
   written_one (Over end) held t h = absurd h
 
-written : (taken : List Asked) (q u : Queue) (es after : List QueuedEdit) → RanQueue taken q es u after → (held : List ℕ) → Holds q.stage q es held → queue_step u after ≡ Done Written
+written : (taken : List TakenStep) (q u : Queue) (es after : List QueuedEdit) → RanQueue taken q es u after → (held : List ℕ) → Holds q.stage q es held → queue_step u after ≡ Done Written
     → written_of taken held ≡ Some (going after)
 written [] q u es after h held k done =
     absurd (not_over q.stage q es held Written k (sym (ap (λ x. queue_step x after) h.0 ∙ ap (λ l. queue_step q l) h.1) ∙ done))
@@ -214,7 +214,7 @@ write_at q es e = by q.stage e
     by (Over end) e = let bad : Done end ≡ Write = e in cc
 
 module _ (q next : Queue) (es then_are : List QueuedEdit) where
-  unwritten_by : (held : List ℕ) (step : QueueStep) (answer : QueueAnswer) (more : List Asked) → (step ≡ Write → answer ≡ Yes → ⊥) → ((l : List ℕ) → written_of more l ≡ None)
+  unwritten_by : (held : List ℕ) (step : QueueStep) (answer : QueueAnswer) (more : List TakenStep) → (step ≡ Write → answer ≡ Yes → ⊥) → ((l : List ℕ) → written_of more l ≡ None)
       → written_by step answer (written_of more) held ≡ None
   unwritten_by held (Take at) answer more n r = r (held ++ at ∷ [])
   unwritten_by held (Pass at) answer more n r = r held
@@ -225,7 +225,7 @@ module _ (q next : Queue) (es then_are : List QueuedEdit) where
   unwritten_by held Write (Fault at) more n r = r []
   unwritten_by held Write Later more n r = r []
 
-unwritten : (taken : List Asked) (q u : Queue) (es after : List QueuedEdit) → RanQueue taken q es u after → queue_step u after ≡ Done Waiting → (held : List ℕ) → written_of taken held ≡ None
+unwritten : (taken : List TakenStep) (q u : Queue) (es after : List QueuedEdit) → RanQueue taken q es u after → queue_step u after ≡ Done Waiting → (held : List ℕ) → written_of taken held ≡ None
 unwritten [] q u es after h w held = refl
 unwritten (s ∷ more) q u es after h w held =
     let next = h.3.0 in
@@ -238,7 +238,7 @@ unwritten (s ∷ more) q u es after h w held =
 -- ---- what nothing is written for
 
 -- where it stands, and nothing is written in the end
-abbrev Waits : QueueStage → Queue → List QueuedEdit → List QueuedEdit → List Asked → Type 0
+abbrev Waits : QueueStage → Queue → List QueuedEdit → List QueuedEdit → List TakenStep → Type 0
 Waits Taking q es after taken = HasHeld after taken
 Waits Asking q es after taken = HasHeld after taken ⊎ ((q.has_marked ≡ false) × (after ≡ es))
 Waits (Over end) q es after taken = Unit {0}
@@ -261,7 +261,7 @@ nothing_marked es at answer e = by (goes es at) answer e
     by true (Fault i) e = refl
     by true Later e = refl
 
-module _ (s : Asked) (more : List Asked) (q u next : Queue) (es then_are after : List QueuedEdit) (step_is : s.step ≡ queue_step q es) (edits_are : s.edits ≡ es)
+module _ (s : TakenStep) (more : List TakenStep) (q u next : Queue) (es then_are after : List QueuedEdit) (step_is : s.step ≡ queue_step q es) (edits_are : s.edits ≡ es)
     (a : IsQueueAnswered q es s.answer next then_are) (ran : RanQueue more next then_are u after) (later : Waits next.stage next then_are after more)
     (waits : queue_step u after ≡ Done Waiting) where
   abbrev Held : Type 0
@@ -329,12 +329,12 @@ not_waiting Taking q es after e = absurd (taking_not_done q.at es Waiting e)
 not_waiting Asking q es after e = absurd (asking_not_done q.at es Waiting e)
 not_waiting (Over end) q es after e = tt
 
-held : (taken : List Asked) (q u : Queue) (es after : List QueuedEdit) → RanQueue taken q es u after → queue_step u after ≡ Done Waiting → Waits q.stage q es after taken
+held : (taken : List TakenStep) (q u : Queue) (es after : List QueuedEdit) → RanQueue taken q es u after → queue_step u after ≡ Done Waiting → Waits q.stage q es after taken
 held [] q u es after h w = not_waiting q.stage q es after (sym (ap (λ x. queue_step x after) h.0 ∙ ap (λ l. queue_step q l) h.1) ∙ w)
 held (s ∷ more) q u es after h w =
     held_at s more q u h.3.0 es h.3.1 after h.0 h.1 h.3.2 h.3.3 (held more h.3.0 u h.3.1 after h.3.3 w) w q.stage refl
 
-asked : (taken : List Asked) (q u : Queue) (es after : List QueuedEdit) → RanQueue taken q es u after → map asked_of after ≡ map asked_of es
+asked : (taken : List TakenStep) (q u : Queue) (es after : List QueuedEdit) → RanQueue taken q es u after → map asked_of after ≡ map asked_of es
 asked [] q u es after h = ap (λ l. map asked_of l) h.1
 asked (s ∷ more) q u es after h =
     let a : IsQueueAnswered q es s.answer h.3.0 h.3.1 = h.3.2 in
@@ -475,7 +475,7 @@ module _ (q : Queue) (es : List QueuedEdit) where
   fewer answer Asking t d = asking_less answer t
   fewer answer (Over end) t d = absurd (d tt)
 
-counted : (taken : List Asked) (q u : Queue) (es after : List QueuedEdit) → RanQueue taken q es u after → length taken ≤ left_of q es
+counted : (taken : List TakenStep) (q u : Queue) (es after : List QueuedEdit) → RanQueue taken q es u after → length taken ≤ left_of q es
 counted [] q u es after h = omega arith
 counted (s ∷ more) q u es after h =
     let next = h.3.0 in

@@ -16,7 +16,7 @@ use Rattle.dconf_steps.specs.declared.wait.WaitEnd.TheVariants.{Had, Busy}
 use Rattle.dconf_steps.specs.declared.wait.WaitStep.TheVariants as wait
 use Rattle.dconf_steps.specs.declared.wait.WaitAnswer.TheVariants.{Taken, Got}
 use Rattle.dconf_steps.specs.Queues.{queue_step}
-use Rattle.dconf_steps.specs.QueueLaws.{Asked, IsGoodQueue}
+use Rattle.dconf_steps.specs.QueueLaws.{IsGoodQueue, TakenStep}
 use Rattle.dconf_steps.specs.Looks.{look_step}
 use Rattle.dconf_steps.specs.RefreshLaws.{Looked, IsGoodLook}
 use Rattle.dconf_steps.specs.Waits.{wait_step}
@@ -42,7 +42,7 @@ edit change sets is_refused = record { change = change; sets = sets; is_left_out
 abbrev two : List QueuedEdit
 two = edit 0 true false ∷ edit 1 true false ∷ []
 
-abbrev asked : QueueStep → QueueAnswer → Asked
+abbrev asked : QueueStep → QueueAnswer → TakenStep
 asked step answer = record { step = step; edits = two; answer = answer }
 
 abbrev first_of : Option (List ℕ) → ℕ

@@ -10,7 +10,7 @@ use Rattle.dconf_steps.specs.declared.queue.QueueAnswer.TheVariants.{Yes, Locked
 use Rattle.dconf_steps.specs.Queues.{goes, queue_step, taking, IsQueueAnswered}
 
 -- a step that was carried out, the edits as they were then, and the answer
-pub record Asked : Type 0 where
+pub record TakenStep : Type 0 where
   pub step : QueueStep
   pub edits : List QueuedEdit
   pub answer : QueueAnswer
@@ -20,7 +20,7 @@ IsQueueDone (Done end) = Unit {0}
 IsQueueDone _ = ⊥
 
 -- Each step was the one that the queue said of the edits, and the queue took the answer.
-abbrev pub RanQueue : List Asked → Queue → List QueuedEdit → Queue → List QueuedEdit → Type 0
+abbrev pub RanQueue : List TakenStep → Queue → List QueuedEdit → Queue → List QueuedEdit → Type 0
 RanQueue [] q edits u after = (u ≡ q) × (after ≡ edits)
 RanQueue (s ∷ more) q edits u after =
     (s.step ≡ queue_step q edits) × (s.edits ≡ edits) × (¬ IsQueueDone s.step)
@@ -57,7 +57,7 @@ IsOwnFault change (Ask at) edits Locked = IsOf (slice_get edits at) change × Se
 IsOwnFault change Write edits (Fault at) = IsOf (slice_get edits at) change
 IsOwnFault change step edits answer = ⊥
 
-abbrev pub HasOwnFault : ℕ → List Asked → Type 0
+abbrev pub HasOwnFault : ℕ → List TakenStep → Type 0
 HasOwnFault change [] = ⊥
 HasOwnFault change (s ∷ more) = IsOwnFault change s.step s.edits s.answer ⊎ HasOwnFault change more
 
@@ -66,7 +66,7 @@ abbrev pub IsLockedReset : ℕ → QueueStep → List QueuedEdit → QueueAnswer
 IsLockedReset edit (Ask at) edits Locked = (edit ≡ at) × Sets (slice_get edits at) false
 IsLockedReset edit step edits answer = ⊥
 
-abbrev pub HasLockedReset : ℕ → List Asked → Type 0
+abbrev pub HasLockedReset : ℕ → List TakenStep → Type 0
 HasLockedReset edit [] = ⊥
 HasLockedReset edit (s ∷ more) = IsLockedReset edit s.step s.edits s.answer ⊎ HasLockedReset edit more
 
@@ -92,7 +92,7 @@ written_by Write Yes later held = Some held
 written_by Write answer later held = later []
 written_by step answer later held = later held
 
-abbrev pub written_of : List Asked → List ℕ → Option (List ℕ)
+abbrev pub written_of : List TakenStep → List ℕ → Option (List ℕ)
 written_of [] held = None
 written_of (s ∷ more) held = written_by s.step s.answer (written_of more) held
 
@@ -105,7 +105,7 @@ IsHeld after Write edits Locked = after ≡ edits
 IsHeld after Write edits (Fault at) = goes edits at ≡ false
 IsHeld after step edits answer = ⊥
 
-abbrev pub HasHeld : List QueuedEdit → List Asked → Type 0
+abbrev pub HasHeld : List QueuedEdit → List TakenStep → Type 0
 HasHeld after [] = ⊥
 HasHeld after (s ∷ more) = IsHeld after s.step s.edits s.answer ⊎ HasHeld after more
 
@@ -131,7 +131,7 @@ rounds (suc n) count = 2 * count + 2 + rounds n count
 
 -- ---- the law
 
-pub record IsGoodQueue (taken : List Asked) (u : Queue) (edits after : List QueuedEdit) : Type 0 where
+pub record IsGoodQueue (taken : List TakenStep) (u : Queue) (edits after : List QueuedEdit) : Type 0 where
   -- a change is refused only for a fault of its own
   pub own : (change : ℕ) → is_refused after change ≡ true → (is_refused edits change ≡ true) ⊎ HasOwnFault change taken
   -- an edit is left out only where it is a reset of what is locked
@@ -145,4 +145,4 @@ pub record IsGoodQueue (taken : List Asked) (u : Queue) (edits after : List Queu
   pub count : length taken ≤ rounds (unmarked edits + 1) (length edits)
 
 abbrev pub WhateverIsWritten : Type 0
-WhateverIsWritten = (taken : List Asked) (u : Queue) (edits after : List QueuedEdit) → RanQueue taken taking edits u after → IsGoodQueue taken u edits after
+WhateverIsWritten = (taken : List TakenStep) (u : Queue) (edits after : List QueuedEdit) → RanQueue taken taking edits u after → IsGoodQueue taken u edits after

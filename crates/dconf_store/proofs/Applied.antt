@@ -5,7 +5,7 @@ use Rattle.std.specs.List.{AllByRecursion}
 use Rattle.dconf_model.specs.Bytes.{MaybeBytes}
 use Rattle.dconf_model.specs.Layers.{Layers}
 use Rattle.dconf_model.specs.Changes.{Change, Refusal, apply}
-use Rattle.dconf_model.specs.Stores.{Did, IsWholeChange}
+use Rattle.dconf_model.specs.Stores.{DidDeeds, IsWholeChange}
 use Rattle.dconf_model.specs.Stores.Deed.{changed}
 use Rattle.dconf_store.specs.Seen.{HaveChanged, and_apply}
 
@@ -23,16 +23,16 @@ stays_refused : (e : Refusal) (cs : List Change) → fold and_apply (refusal e) 
 stays_refused e [] = refl
 stays_refused e (c ∷ cs) = stays_refused e cs
 
-did_from : (others : List MaybeBytes) (m : Layers) (cs : List Change) (l : Layers) → fold and_apply (Ok l) cs ≡ Ok m → AllByRecursion IsWholeChange cs → Did others l (map changed cs) m
+did_from : (others : List MaybeBytes) (m : Layers) (cs : List Change) (l : Layers) → fold and_apply (Ok l) cs ≡ Ok m → AllByRecursion IsWholeChange cs → DidDeeds others l (map changed cs) m
 did_from others m [] l e whole = sym (ap (layers_or l) e)
 did_from others m (c ∷ cs) l e whole = by (λ mid e. did_from others m cs mid e whole.1) (apply l c) refl e
   where
-    by : ((mid : Layers) → fold and_apply (Ok mid) cs ≡ Ok m → Did others mid (map changed cs) m) → (r : Result Layers Refusal) → apply l c ≡ r →
-        fold and_apply r cs ≡ Ok m → Did others l (map changed (c ∷ cs)) m
+    by : ((mid : Layers) → fold and_apply (Ok mid) cs ≡ Ok m → DidDeeds others mid (map changed cs) m) → (r : Result Layers Refusal) → apply l c ≡ r →
+        fold and_apply r cs ≡ Ok m → DidDeeds others l (map changed (c ∷ cs)) m
     by later (Ok mid) is e = (mid, (whole.0, is), later mid e)
     by later (Err x) is e = absurd (not_ok x m (sym (stays_refused x cs) ∙ e))
 
-pub did_all : (others : List MaybeBytes) (l m : Layers) (cs : List Change) → HaveChanged l cs m → Did others l (map changed cs) m
+pub did_all : (others : List MaybeBytes) (l m : Layers) (cs : List Change) → HaveChanged l cs m → DidDeeds others l (map changed cs) m
 did_all others l m cs h = did_from others m cs l h.accepted h.whole
 
 -- ---- one more

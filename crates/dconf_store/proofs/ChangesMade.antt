@@ -4,7 +4,7 @@ use Rattle.std.proofs.Common.{◌∙◌, ap, sym, subst, get_or}
 use Rattle.std.proofs.lemmas.List.{map_more, take-map}
 use Rattle.std.proofs.lemmas.Option.{slice_get-map, slice_get-get_or}
 use Rattle.dconf_model.specs.Layers.{Layers}
-use Rattle.dconf_model.specs.Changes.{Change as Asked, Refusal, apply}
+use Rattle.dconf_model.specs.Changes.{Change as ModelChange, Refusal, apply}
 use Rattle.dconf_model.specs.Changes.Refusal.{not_writable, locked, too_large}
 use Rattle.dconf_model.specs.Stores.{IsWholeChange}
 use Rattle.dconf_engine.specs.declared.change_fault.ChangeFault.{ChangeFault}
@@ -27,11 +27,11 @@ next_is_made l m n cs i x h is made whole e =
     subst (λ asked. HaveChanged l asked n) (sym (one_more cs i x h))
     (subst (λ y. HaveChanged l (take i (asked_of cs) ++ change_of y ∷ []) n) is (made_then l m n (take i (asked_of cs)) (change_of x) made whole e))
 
-by : (l m : Layers) (asked : List Asked) (i : ℕ) (a : Asked) (r : Refusal) → HaveChanged l (take i asked) m → slice_get asked i ≡ Some a →
+by : (l m : Layers) (asked : List ModelChange) (i : ℕ) (a : ModelChange) (r : Refusal) → HaveChanged l (take i asked) m → slice_get asked i ≡ Some a →
     apply m a ≡ Err r → IsRefused l asked i r
 by l m asked i a r made at e = record { reached = m; before = made; change = a; is = at; refused = e }
 
-refused_as : (l m : Layers) (asked : List Asked) (i : ℕ) (a : Asked) (fault : ChangeFault) → HaveChanged l (take i asked) m → slice_get asked i ≡ Some a →
+refused_as : (l m : Layers) (asked : List ModelChange) (i : ℕ) (a : ModelChange) (fault : ChangeFault) → HaveChanged l (take i asked) m → slice_get asked i ≡ Some a →
     Refuses (apply m a) fault → IsRefusedAt l asked (store_fault_of i fault)
 refused_as l m asked i a NotWritable made at e = (not_writable, refl, by l m asked i a not_writable made at e)
 refused_as l m asked i a (Locked row) made at e = (locked row, refl, by l m asked i a (locked row) made at e)

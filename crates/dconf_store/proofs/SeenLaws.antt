@@ -9,7 +9,7 @@ use Rattle.dconf_model.specs.Layers.{Layers, visible, child_names}
 use Rattle.dconf_model.specs.Changes.{Change, saved}
 use Rattle.dconf_model.specs.Sources.{Given, last_value}
 use Rattle.dconf_model.specs.Paths.{first_part}
-use Rattle.dconf_model.specs.Stores.{Deed, Did, Does, FilesGive, changes_of, value_given, own_after, IsNamed}
+use Rattle.dconf_model.specs.Stores.{Deed, DidDeeds, Does, FilesGive, changes_of, value_given, own_after, IsNamed}
 use Rattle.dconf_model.specs.Stores.Deed.{changed, reopened}
 use Rattle.dconf_engine.specs.declared.fault.EngineFault.{EngineFault}
 use Rattle.dconf_engine.specs.declared.fault.EngineFault.TheVariants as opened_as
@@ -33,13 +33,13 @@ changes_were : (cs : List Change) (file : List ℕ) → changes_of (deeds cs fil
 changes_were [] file = refl
 changes_were (c ∷ cs) file = ap (λ cs. c ∷ cs) (changes_were cs file)
 
-did_then : (others : List MaybeBytes) (l m n : Layers) (ds : List Deed) (deed : Deed) → Did others l ds m → Does others m deed n → Did others l (ds ++ deed ∷ []) n
+did_then : (others : List MaybeBytes) (l m n : Layers) (ds : List Deed) (deed : Deed) → DidDeeds others l ds m → Does others m deed n → DidDeeds others l (ds ++ deed ∷ []) n
 did_then others l m n [] deed did does = (n, subst (λ l. Does others l deed n) did does, refl)
 did_then others l m n (d ∷ ds) deed did does = (did.0, did.1, did_then others did.0 m n ds deed did.2 does)
 
 module _ (first : MaybeBytes) (others : List MaybeBytes) (writable : Bool) (cs : List Change) (file : List ℕ) (m : Layers)
     (made : IsSavedAfter (first ∷ others) writable cs file) (again : AreOpened (Some file ∷ others) writable m) where
-  did : Did others made.1.0 (deeds cs file) m
+  did : DidDeeds others made.1.0 (deeds cs file) m
   did = did_then others made.1.0 made.0 m (map changed cs) (reopened file) (did_all others made.1.0 made.0 cs made.1.2)
       (made.2, again.layers, again.writable ∙ sym (changes_keep_it others made.1.0 made.0 cs (did_all others made.1.0 made.0 cs made.1.2) ∙ made.1.1.writable))
 

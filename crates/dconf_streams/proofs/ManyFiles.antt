@@ -9,7 +9,7 @@ use Rattle.dconf_model.specs.Reads.FileRead.{holds}
 use Rattle.dconf_model.specs.Sources.{Source}
 use Rattle.dconf_streams.specs.declared.refusal.Refusal.TheVariants.{NoMemory}
 use Rattle.dconf_streams.specs.Answers.{Answered}
-use Rattle.dconf_streams.specs.Readings.{AllRead, AreOf, BreaksAt, Decides, Gave, HasRead, NoSources, Nothing, Reading, Tells, held_read, named_source, named_sources, one_read, reads_of}
+use Rattle.dconf_streams.specs.Readings.{AllRead, AreReadFrom, BreaksAt, Decides, Gave, HasRead, NoSources, Nothing, Reading, Tells, held_read, named_source, named_sources, one_read, reads_of}
 use Rattle.dconf_streams.specs.declared.folder_files.NamedFile.{NamedFile}
 use Rattle.dconf_streams.proofs.Decisions.{answers_also, kept_both, not_failed, nothing_is_any}
 
@@ -22,7 +22,7 @@ gave_apart reads n (x ∷ xs) ys gave =
     let same : n + 1 + length xs ≡ n + length (x ∷ xs) = omega arith in
     ((gave.0, rest.0), subst (λ (k : ℕ). Gave reads k ys) same rest.1)
 
-pub are_together : (es : List Event) (xs ys : List Reading) → AreOf es xs → AreOf es ys → AreOf es (xs ++ ys)
+pub are_together : (es : List Event) (xs ys : List Reading) → AreReadFrom es xs → AreReadFrom es ys → AreReadFrom es (xs ++ ys)
 are_together es [] ys first later = later
 are_together es (x ∷ xs) ys first later = (first.0, are_together es xs ys first.1 later)
 
@@ -82,7 +82,7 @@ module _ {F : Type 0} (ghosts : Ghosts F) where
     known = λ t es is.
         let first = h.known (one.kept.honest t) es is in
         let later = one.known t es (h.kept.past es is) in
-        subst (λ (log : List Reading). AreOf es log) (sym (reads_and_one files)) (are_together es (reads_of (named_sources files)) _ first later);
+        subst (λ (log : List Reading). AreReadFrom es log) (sym (reads_and_one files)) (are_together es (reads_of (named_sources files)) _ first later);
     none_failed = one.none_failed ∙ h.none_failed;
   }
     where

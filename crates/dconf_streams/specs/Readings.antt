@@ -23,9 +23,9 @@ Gave reads n [] = Unit {0}
 Gave reads n (r ∷ more) = (reads n r.name ≡ r.gave) × Gave reads (n + 1) more
 
 -- each read gave what the folder holds, or failed
-abbrev pub AreOf : List Event → List Reading → Type 0
-AreOf es [] = Unit {0}
-AreOf es (r ∷ more) = ((r.gave ≡ read_of (read_content es r.name)) ⊎ (r.gave ≡ failed)) × AreOf es more
+abbrev pub AreReadFrom : List Event → List Reading → Type 0
+AreReadFrom es [] = Unit {0}
+AreReadFrom es (r ∷ more) = ((r.gave ≡ read_of (read_content es r.name)) ⊎ (r.gave ≡ failed)) × AreReadFrom es more
 
 -- no read failed
 abbrev pub AllRead : List Reading → Type 0
@@ -48,7 +48,7 @@ pub record IsKept {F : Type 0} (ghosts : Ghosts F) (old new : F) : Type 0 where
 pub record HasRead {F : Type 0} (ghosts : Ghosts F) (old new : F) (log : List Reading) : Type 0 where
   pub kept : IsKept ghosts old new
   -- where its host's answers are true
-  pub known : IsTrue (ghosts.honest new) → (es : List Event) → ghosts.past old es → AreOf es log
+  pub known : IsTrue (ghosts.honest new) → (es : List Event) → ghosts.past old es → AreReadFrom es log
   pub none_failed : ghosts.failed new ≡ ghosts.failed old
 
 -- the device failed at a read, and the answer says of which file; or it failed at none
@@ -62,7 +62,7 @@ pub record Decides {F : Type 0} (ghosts : Ghosts F) (old new : F) (n : ℕ) (Mak
     (answered : Answered) : Type 0 where
   pub log : List Reading
   pub kept : IsKept ghosts old new
-  pub known : IsTrue (ghosts.honest new) → (es : List Event) → ghosts.past old es → AreOf es log
+  pub known : IsTrue (ghosts.honest new) → (es : List Event) → ghosts.past old es → AreReadFrom es log
   pub tells : Tells (ghosts.failed old) (ghosts.failed new) log answered
   pub answers : (reads : ReadResults) → Gave reads n log → GivesOutcome answered (Makes reads)
 

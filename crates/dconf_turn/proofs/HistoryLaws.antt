@@ -13,10 +13,10 @@ use Rattle.dconf_turn.specs.declared.step.Answer.{Answer}
 use Rattle.dconf_turn.specs.declared.step.Answer.TheVariants.{Yes, No}
 use Rattle.dconf_turn.specs.Jobs.{Job, IsOwn, IsLockApart}
 use Rattle.dconf_turn.specs.Steps.{place, step_at, step_of, steps_left, Follows, GoesOn, GoesOnWriting, EndsWell, IsSaid, IsYes, IsFault, IsDone, IsRead, IsRefusal, IsAsked, KnowsAfter}
-use Rattle.dconf_turn.specs.Hosts.{Did}
+use Rattle.dconf_turn.specs.Hosts.{DidStep}
 use Rattle.dconf_turn.specs.Sayings.{IsWhole, Says}
 use Rattle.dconf_turn.specs.Progress.{Apart, StandsAt, Stands, IsEarly, IsCleared, IsBegun, IsAnswered}
-use Rattle.dconf_turn.specs.Histories.{Taken, Ran, first_of, AreInOrder, HasDone, HasFault, HasRefusal, HasAsked, WhateverIsAnswered}
+use Rattle.dconf_turn.specs.Histories.{Taken, RanSteps, first_of, AreInOrder, HasDone, HasFault, HasRefusal, HasAsked, WhateverIsAnswered}
 use Rattle.dconf_turn.proofs.SayingLaws.{kept, early_apart, kept_whole, placed_whole, whole_of}
 
 -- ---- at any moment
@@ -75,7 +75,7 @@ record Came (taken : List Taken) (t u : Turn) (job : Job) (old now : List Event)
   leaves : IsTrue u.leaves_new → IsTrue t.leaves_new ⊎ HasRefusal taken
   keeps : IsTrue u.keeps → IsTrue t.keeps ⊎ HasAsked taken
 
-first_is : (taken : List Taken) (t u : Turn) (job : Job) (es now : List Event) → Ran taken t u job es now → first_of taken u ≡ step_of t
+first_is : (taken : List Taken) (t u : Turn) (job : Job) (es now : List Event) → RanSteps taken t u job es now → first_of taken u ≡ step_of t
 first_is [] t u job es now h = ap step_of h.0
 first_is (s ∷ more) t u job es now h = h.0
 
@@ -116,7 +116,7 @@ asked_by Unlock (No f) t u k h = inl (sym k.1 ∙ h)
 asked_by (Done o) (Yes n) t u k h = inl (sym k.1 ∙ h)
 asked_by (Done o) (No f) t u k h = inl (sym k.1 ∙ h)
 
-came : (taken : List Taken) (t u : Turn) (job : Job) (old es now : List Event) → IsLockApart job → Stands t job old es → Ran taken t u job es now → Came taken t u job old now
+came : (taken : List Taken) (t u : Turn) (job : Job) (old es now : List Event) → IsLockApart job → Stands t job old es → RanSteps taken t u job es now → Came taken t u job old now
 came [] t u job old es now apart k h = record {
   stands = subst (λ x. Stands x job old now) (sym h.0) (subst (λ l. Stands t job old l) (sym h.1) k);
   order = tt;
@@ -127,7 +127,7 @@ came [] t u job old es now apart k h = record {
 came (s ∷ more) t u job old es now apart k h =
     let next = h.3.0 in
     let a : IsAnswered t s.answer next = h.3.1 in
-    let did : Did (step_of t) s.answer job es s.now = subst (λ x. Did x s.answer job es s.now) h.0 h.2 in
+    let did : DidStep (step_of t) s.answer job es s.now = subst (λ x. DidStep x s.answer job es s.now) h.0 h.2 in
     let rest = came more next u job old s.now now apart (a.stands job old es s.now apart k did) h.3.2 in
     let then_is : step_of next ≡ first_of more u = sym (first_is more next u job s.now now h.3.2) in
     record {
@@ -198,7 +198,7 @@ made_by Unlock (No f) before said s m = inl (sym s ∙ m)
 made_by (Done o) (Yes n) before said s m = inl (sym s ∙ m)
 made_by (Done o) (No f) before said s m = inl (sym s ∙ m)
 
-folder_asked : (taken : List Taken) (t u : Turn) (job : Job) (es now : List Event) → Ran taken t u job es now → u.outcome ≡ Made → (t.outcome ≡ Made) ⊎ HasDone 9 taken
+folder_asked : (taken : List Taken) (t u : Turn) (job : Job) (es now : List Event) → RanSteps taken t u job es now → u.outcome ≡ Made → (t.outcome ≡ Made) ⊎ HasDone 9 taken
 folder_asked [] t u job es now h m = inl (ap (λ x. x.outcome) (sym h.0) ∙ m)
 folder_asked (s ∷ more) t u job es now h m =
     ⊎_elim (λ (before : h.3.0.outcome ≡ Made). ⊎_elim (λ was. inl was) (λ here. inr (inl (ap place h.0 ∙ here.0, here.1)))
@@ -262,7 +262,7 @@ rises Exchange next f lt = absurd (omega arith)
 rises Rename next f lt = absurd (omega arith)
 rises SyncFolder next f lt = absurd (omega arith)
 
-too_late : (taken : List Taken) (t u : Turn) (job : Job) (es now : List Event) → Ran taken t u job es now → 9 < place (step_of t) → HasDone 9 taken → ⊥
+too_late : (taken : List Taken) (t u : Turn) (job : Job) (es now : List Event) → RanSteps taken t u job es now → 9 < place (step_of t) → HasDone 9 taken → ⊥
 too_late [] t u job es now h lt d = d
 too_late (s ∷ more) t u job es now h lt d =
     let same : place s.step ≡ place (step_of t) = ap place h.0 in
@@ -276,7 +276,7 @@ put_first s more step same p = ⊎_elim (λ (a : (place step ≡ 8) × IsYes s.a
 put_later : (s : Taken) (more : List Taken) → HasDone 8 more ⊎ HasDone 7 more → HasDone 8 (s ∷ more) ⊎ HasDone 7 (s ∷ more)
 put_later s more p = ⊎_elim (λ (a : HasDone 8 more). inl (inr a)) (λ (a : HasDone 7 more). inr (inr a)) p
 
-rename_asked : (taken : List Taken) (t u : Turn) (job : Job) (es now : List Event) → Ran taken t u job es now → place (step_of t) < 9 → HasDone 9 taken → HasDone 8 taken ⊎ HasDone 7 taken
+rename_asked : (taken : List Taken) (t u : Turn) (job : Job) (es now : List Event) → RanSteps taken t u job es now → place (step_of t) < 9 → HasDone 9 taken → HasDone 8 taken ⊎ HasDone 7 taken
 unfolding Before
 rename_asked [] t u job es now h lt d = absurd d
 rename_asked (s ∷ more) t u job es now h lt d =
@@ -287,7 +287,7 @@ rename_asked (s ∷ more) t u job es now h lt d =
     (λ (late : 9 < place (step_of h.3.0)). absurd (too_late more h.3.0 u job s.now now h.3.2 late later)) r)
     (before_sync t (step_of t) s.answer (step_of h.3.0) h.3.1.on h.3.1.order lt)) d
 
-made_asked : (taken : List Taken) (t u : Turn) (job : Job) (es now : List Event) → IsBegun t → Ran taken t u job es now → u.outcome ≡ Made → (HasDone 8 taken ⊎ HasDone 7 taken) × HasDone 9 taken
+made_asked : (taken : List Taken) (t u : Turn) (job : Job) (es now : List Event) → IsBegun t → RanSteps taken t u job es now → u.outcome ≡ Made → (HasDone 8 taken ⊎ HasDone 7 taken) × HasDone 9 taken
 made_asked taken t u job es now b h m =
     let first : place (step_of t) ≡ 0 = ap place b.first in
     let folder : HasDone 9 taken = ⊎_elim (λ (was : t.outcome ≡ Made). absurd (kept_0_is_not_made (sym b.said ∙ was))) (λ d. d) (folder_asked taken t u job es now h m) in
@@ -369,19 +369,19 @@ len_at t job old es Noting h at e = cc
 len_at t job old es Unlocking h at e = cc
 len_at t job old es Over h at e = cc
 
-persists : (taken : List Taken) (t u : Turn) (job : Job) (old es now : List Event) → IsLockApart job → Stands t job old es → Ran taken t u job es now → IsOnCourse (step_of t) t.outcome
+persists : (taken : List Taken) (t u : Turn) (job : Job) (old es now : List Event) → IsLockApart job → Stands t job old es → RanSteps taken t u job es now → IsOnCourse (step_of t) t.outcome
     → HasFault (length job.bytes) taken ⊎ IsOnCourse (step_of u) u.outcome
 persists [] t u job old es now apart k h c = inr (subst (λ x. IsOnCourse (step_of x) x.outcome) (sym h.0) c)
 persists (s ∷ more) t u job old es now apart k h c =
     let next = h.3.0 in
     let a : IsAnswered t s.answer next = h.3.1 in
-    let did : Did (step_of t) s.answer job es s.now = subst (λ x. Did x s.answer job es s.now) h.0 h.2 in
+    let did : DidStep (step_of t) s.answer job es s.now = subst (λ x. DidStep x s.answer job es s.now) h.0 h.2 in
     ⊎_elim (λ (f : IsFault (length job.bytes) (step_of t) s.answer). inl (inl (subst (λ x. IsFault (length job.bytes) x s.answer) (sym h.0) f)))
     (λ on. ⊎_elim (λ (f : HasFault (length job.bytes) more). inl (inr f)) (λ later. inr later)
     (persists more next u job old s.now now apart (a.stands job old es s.now apart k did) h.3.2 on))
     (stays_on t (length job.bytes) (step_of t) s.answer (step_of next) t.outcome next.outcome (len_at t job old es t.state k) a.on a.said c)
 
-made_or_fault : (taken : List Taken) (t u : Turn) (job : Job) (old now : List Event) (outcome : Outcome) → IsLockApart job → IsBegun t → Ran taken t u job old now → step_of u ≡ Done outcome
+made_or_fault : (taken : List Taken) (t u : Turn) (job : Job) (old now : List Event) (outcome : Outcome) → IsLockApart job → IsBegun t → RanSteps taken t u job old now → step_of u ≡ Done outcome
     → (outcome ≡ Made) ⊎ HasFault (length job.bytes) taken
 unfolding IsOnCourse
 made_or_fault taken t u job old now outcome apart b h e =

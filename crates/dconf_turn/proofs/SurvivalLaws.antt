@@ -13,7 +13,7 @@ use Rattle.dconf_turn.specs.Jobs.{Job, IsLockApart}
 use Rattle.dconf_turn.specs.Sayings.{IsKept, IsWhole}
 use Rattle.dconf_turn.specs.Progress.{IsEarly}
 use Rattle.dconf_turn.specs.Histories.{IsGoodTurn}
-use Rattle.dconf_turn.specs.Survivals.{TurnEnd, Happening, Drove, job_of, DroveFor, SaidSo, WasCut, CameTo, CameInTurn, IsKeptBy, AreKept, NoTurnIsLost}
+use Rattle.dconf_turn.specs.Survivals.{TurnEnd, Happening, Drove, job_of, DroveFor, SaidSo, WasCut, CameTo, CameInTurn, IsKeptBy, AreTurnsKept, NoTurnIsLost}
 use Rattle.dconf_turn.specs.Survivals.TurnEnd.{said, killed, crashed}
 use Rattle.dconf_turn.specs.Survivals.Happening.{turn, crash}
 use Rattle.dconf_turn.proofs.OwnNames.{name_not_own}
@@ -114,14 +114,14 @@ module _ {Command : Type 0} (may : MaybeBytes → Command → MaybeBytes → Typ
   -- ---- which are kept
 
   abbrev KeptLater : List (Happening Command) → List (Option Command) → Type 0
-  KeptLater more all = AreKept more (commands all)
+  KeptLater more all = AreTurnsKept more (commands all)
 
   first_kept : (command : Command) (more : List (Happening Command)) → ((all : List (Option Command)) → KeptOf (steps_of more) all → KeptLater more all) → (all : List (Option Command)) →
-      KeepsFirst (Some command) (KeptOf (steps_of more)) all → KeepsFirst command (AreKept more) (commands all)
+      KeepsFirst (Some command) (KeptOf (steps_of more)) all → KeepsFirst command (AreTurnsKept more) (commands all)
   first_kept command more later all h = (commands h.0, ap commands h.1, later h.0 h.2)
 
   by_end : (end : TurnEnd) (command : Command) (more : List (Happening Command)) → ((all : List (Option Command)) → KeptOf (steps_of more) all → KeptLater more all) → (all : List (Option Command)) →
-      KeptBy (ending_of end) (Some command) (KeptOf (steps_of more)) all → IsKeptBy end command (AreKept more) (commands all)
+      KeptBy (ending_of end) (Some command) (KeptOf (steps_of more)) all → IsKeptBy end command (AreTurnsKept more) (commands all)
   by_end (said Made) command more later all h = first_kept command more later all h
   by_end (said (Kept fault)) command more later all h = later all h
   by_end (said (Either fault)) command more later all h = ⊎_elim (λ out. inl (later all out)) (λ k. inr (first_kept command more later all k)) h
@@ -129,12 +129,12 @@ module _ {Command : Type 0} (may : MaybeBytes → Command → MaybeBytes → Typ
   by_end killed command more later all h = ⊎_elim (λ out. inl (later all out)) (λ k. inr (first_kept command more later all k)) h
   by_end crashed command more later all h = ⊎_elim (λ out. inl (later all out)) (λ k. inr (first_kept command more later all k)) h
 
-  kept_so : (happened : List (Happening Command)) (all : List (Option Command)) → KeptOf (steps_of happened) all → AreKept happened (commands all)
+  kept_so : (happened : List (Happening Command)) (all : List (Option Command)) → KeptOf (steps_of happened) all → AreTurnsKept happened (commands all)
   kept_so [] all h = ap commands h
   kept_so (turn command end ∷ more) all h = by_end end command more (kept_so more) all h
   kept_so (crash ∷ more) all h =
       ⊎_elim (λ out. kept_so more all out)
-      (λ (k : KeepsFirst None (KeptOf (steps_of more)) all). subst (λ l. AreKept more l) (sym (ap commands k.1)) (kept_so more k.0 k.2)) h
+      (λ (k : KeepsFirst None (KeptOf (steps_of more)) all). subst (λ l. AreTurnsKept more l) (sym (ap commands k.1)) (kept_so more k.0 k.2)) h
 
   runs : (all : List (Option Command)) (c d : MaybeBytes) → MayRun (MayOrNot may) c all d → MayRun may c (commands all) d
   runs [] c d h = h

@@ -10,7 +10,7 @@ use Rattle.dconf_turn.specs.declared.step.Step.TheVariants.{Lock, Done}
 use Rattle.dconf_turn.specs.declared.step.Answer.{Answer}
 use Rattle.dconf_turn.specs.Jobs.{Job, IsLockApart}
 use Rattle.dconf_turn.specs.Steps.{place, step_of, IsYes, IsFault, Follows, EndsWell, IsDone, IsRefusal, IsAsked}
-use Rattle.dconf_turn.specs.Hosts.{Did}
+use Rattle.dconf_turn.specs.Hosts.{DidStep}
 use Rattle.dconf_turn.specs.Sayings.{IsWhole, Says}
 use Rattle.dconf_turn.specs.Progress.{IsBegun, IsAnswered}
 
@@ -21,10 +21,10 @@ pub record Taken : Type 0 where
   pub now : List Event
 
 -- Each step was the one that the turn said, and did to the folder what its answer admits; the turn took the answer.
-abbrev pub Ran : List Taken → Turn → Turn → Job → List Event → List Event → Type 0
-Ran [] t u job es now = (u ≡ t) × (now ≡ es)
-Ran (s ∷ more) t u job es now =
-    (s.step ≡ step_of t) × (¬ IsDone s.step) × Did s.step s.answer job es s.now × ((next : Turn) × IsAnswered t s.answer next × Ran more next u job s.now now)
+abbrev pub RanSteps : List Taken → Turn → Turn → Job → List Event → List Event → Type 0
+RanSteps [] t u job es now = (u ≡ t) × (now ≡ es)
+RanSteps (s ∷ more) t u job es now =
+    (s.step ≡ step_of t) × (¬ IsDone s.step) × DidStep s.step s.answer job es s.now × ((next : Turn) × IsAnswered t s.answer next × RanSteps more next u job s.now now)
 
 -- the first of these steps, or the one that the turn is at
 abbrev pub first_of : List Taken → Turn → Step
@@ -75,5 +75,5 @@ pub record IsGoodTurn (taken : List Taken) (u : Turn) (job : Job) (old now : Lis
   pub count : length taken ≤ 11 + length job.bytes
 
 abbrev pub WhateverIsAnswered : Type 0
-WhateverIsAnswered = (taken : List Taken) (t u : Turn) (job : Job) (old now : List Event) → IsLockApart job → IsBegun t → Ran taken t u job old now →
+WhateverIsAnswered = (taken : List Taken) (t u : Turn) (job : Job) (old now : List Event) → IsLockApart job → IsBegun t → RanSteps taken t u job old now →
     IsGoodTurn taken u job old now

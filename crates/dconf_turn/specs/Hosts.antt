@@ -22,30 +22,30 @@ IsNoted lock es now = (own : List ℕ) × (some : List ℕ) × (lock ≡ Some ow
 abbrev pub IsLinked : Job → List Event → List Event → Type 0
 IsLinked job es now = (aside : List ℕ) × IsFree job es aside × (now ≡ link job.name aside ∷ es)
 
-abbrev pub Did : Step → Answer → Job → List Event → List Event → Type 0
-Did Lock answer job es now = (now ≡ es) ⊎ IsLockMade job.lock es now
+abbrev pub DidStep : Step → Answer → Job → List Event → List Event → Type 0
+DidStep Lock answer job es now = (now ≡ es) ⊎ IsLockMade job.lock es now
 -- these are the bytes that were made
-Did Make (Yes n) job es now = (now ≡ es) × (n ≡ length job.bytes)
-Did (Create mode) (Yes n) job es now = now ≡ create (new_name job.name) ∷ es
+DidStep Make (Yes n) job es now = (now ≡ es) × (n ≡ length job.bytes)
+DidStep (Create mode) (Yes n) job es now = now ≡ create (new_name job.name) ∷ es
 -- also where it removed another file of that name, and then made none
-Did (Create mode) (No fault) job es now = (now ≡ es) ⊎ ((now ≡ create (new_name job.name) ∷ es) ⊎ (now ≡ remove (new_name job.name) ∷ es))
+DidStep (Create mode) (No fault) job es now = (now ≡ es) ⊎ ((now ≡ create (new_name job.name) ∷ es) ⊎ (now ≡ remove (new_name job.name) ∷ es))
 -- so many of the bytes from that one on
-Did (Append at) (Yes n) job es now = now ≡ append (new_name job.name) (take n (drop at job.bytes)) ∷ es
-Did (Append at) (No fault) job es now = (now ≡ touch (new_name job.name) ∷ es) ⊎ ((some : List ℕ) × (now ≡ append (new_name job.name) some ∷ es))
-Did (Sync bits) (Yes n) job es now = now ≡ sync (new_name job.name) ∷ es
-Did (Sync bits) (No fault) job es now = now ≡ touch (new_name job.name) ∷ es
+DidStep (Append at) (Yes n) job es now = now ≡ append (new_name job.name) (take n (drop at job.bytes)) ∷ es
+DidStep (Append at) (No fault) job es now = (now ≡ touch (new_name job.name) ∷ es) ⊎ ((some : List ℕ) × (now ≡ append (new_name job.name) some ∷ es))
+DidStep (Sync bits) (Yes n) job es now = now ≡ sync (new_name job.name) ∷ es
+DidStep (Sync bits) (No fault) job es now = now ≡ touch (new_name job.name) ∷ es
 -- a number but 0: it can't have another name
-Did SetAside (Yes n) job es now = ((n ≡ 0) × IsLinked job es now) ⊎ ((0 < n) × (now ≡ es))
-Did SetAside (No fault) job es now = (now ≡ es) ⊎ IsLinked job es now
+DidStep SetAside (Yes n) job es now = ((n ≡ 0) × IsLinked job es now) ⊎ ((0 < n) × (now ≡ es))
+DidStep SetAside (No fault) job es now = (now ≡ es) ⊎ IsLinked job es now
 -- The new file takes the free name, and then changes places with the old one.
-Did Exchange (Yes n) job es now = (aside : List ℕ) × IsFree job es aside × (now ≡ exchange aside job.name ∷ rename (new_name job.name) aside ∷ es)
-Did Exchange (No fault) job es now =
+DidStep Exchange (Yes n) job es now = (aside : List ℕ) × IsFree job es aside × (now ≡ exchange aside job.name ∷ rename (new_name job.name) aside ∷ es)
+DidStep Exchange (No fault) job es now =
     (now ≡ es) ⊎ ((aside : List ℕ) × IsFree job es aside × ((now ≡ rename (new_name job.name) aside ∷ es)
     ⊎ ((now ≡ exchange aside job.name ∷ rename (new_name job.name) aside ∷ es) ⊎ (now ≡ remove aside ∷ rename (new_name job.name) aside ∷ es))))
-Did Rename (Yes n) job es now = now ≡ rename (new_name job.name) job.name ∷ es
-Did Rename (No fault) job es now = (now ≡ es) ⊎ (now ≡ rename (new_name job.name) job.name ∷ es)
-Did SyncFolder (Yes n) job es now = now ≡ sync_folder ∷ es
-Did Remove (Yes n) job es now = now ≡ remove (new_name job.name) ∷ es
-Did Remove (No fault) job es now = (now ≡ es) ⊎ (now ≡ remove (new_name job.name) ∷ es)
-Did Note answer job es now = (now ≡ es) ⊎ IsNoted job.lock es now
-Did _ _ job es now = now ≡ es
+DidStep Rename (Yes n) job es now = now ≡ rename (new_name job.name) job.name ∷ es
+DidStep Rename (No fault) job es now = (now ≡ es) ⊎ (now ≡ rename (new_name job.name) job.name ∷ es)
+DidStep SyncFolder (Yes n) job es now = now ≡ sync_folder ∷ es
+DidStep Remove (Yes n) job es now = now ≡ remove (new_name job.name) ∷ es
+DidStep Remove (No fault) job es now = (now ≡ es) ⊎ (now ≡ remove (new_name job.name) ∷ es)
+DidStep Note answer job es now = (now ≡ es) ⊎ IsNoted job.lock es now
+DidStep _ _ job es now = now ≡ es

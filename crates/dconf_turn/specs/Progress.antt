@@ -10,7 +10,7 @@ use Rattle.dconf_turn.specs.declared.step.Outcome.TheVariants.{Kept}
 use Rattle.dconf_turn.specs.declared.step.Answer.{Answer}
 use Rattle.dconf_turn.specs.Jobs.{Job, IsFree, IsOwn, IsLockApart}
 use Rattle.dconf_turn.specs.Sayings.{Says}
-use Rattle.dconf_turn.specs.Hosts.{Did, IsLockMade}
+use Rattle.dconf_turn.specs.Hosts.{DidStep, IsLockMade}
 use Rattle.dconf_turn.specs.Steps.{step_of, steps_left, KnowsAfter, IsSaid, GoesOn, Follows, EndsWell, IsDone, IsRefusal}
 
 -- since then nothing was touched but names of its own, and new files
@@ -93,9 +93,9 @@ pub record IsBegun (t : Turn) : Type 0 where
 -- What became of a turn when a step's answer was given, whatever the answer was.
 pub record IsAnswered (t : Turn) (answer : Answer) (u : Turn) : Type 0 where
   -- it stands at what the step made of the folder
-  pub stands : (job : Job) (old es now : List Event) → IsLockApart job → Stands t job old es → Did (step_of t) answer job es now → Stands u job old now
+  pub stands : (job : Job) (old es now : List Event) → IsLockApart job → Stands t job old es → DidStep (step_of t) answer job es now → Stands u job old now
   -- fewer steps are left
-  pub fewer : (job : Job) (old es now : List Event) → Stands t job old es → Did (step_of t) answer job es now →
+  pub fewer : (job : Job) (old es now : List Event) → Stands t job old es → DidStep (step_of t) answer job es now →
       IsDone (step_of t) ⊎ (steps_left u (length job.bytes) < steps_left t (length job.bytes))
   pub order : Follows (step_of t) (step_of u)
   pub on : GoesOn t (step_of t) answer (step_of u)

@@ -12,7 +12,7 @@ use Rattle.dconf_turn.specs.declared.step.Step.TheVariants.{Done}
 use Rattle.dconf_turn.specs.Jobs.{Job, IsLockApart}
 use Rattle.dconf_turn.specs.Steps.{step_of}
 use Rattle.dconf_turn.specs.Progress.{IsBegun, IsEarly}
-use Rattle.dconf_turn.specs.Histories.{Taken, Ran}
+use Rattle.dconf_turn.specs.Histories.{Taken, RanSteps}
 
 -- it said this at its end, or its program was killed, or a crash stopped it
 pub data TurnEnd : Type 0 where
@@ -31,7 +31,7 @@ pub record Drove (u : Turn) (job : Job) (old now : List Event) : Type 0 where
   pub taken : List Taken
   pub begun : Turn
   pub is_begun : IsBegun begun
-  pub ran : Ran taken begun u job old now
+  pub ran : RanSteps taken begun u job old now
 
 -- `may c command d` says that a command which reads c may make d
 module _ {Command : Type 0} (may : MaybeBytes → Command → MaybeBytes → Type 0) (name : List ℕ) (lock : Option (List ℕ)) where
@@ -78,10 +78,10 @@ IsKeptBy (said (Unsettled fault)) command Later all = Later all ⊎ KeepsFirst c
 IsKeptBy killed command Later all = Later all ⊎ KeepsFirst command Later all
 IsKeptBy crashed command Later all = Later all ⊎ KeepsFirst command Later all
 
-abbrev pub AreKept : {Command : Type 0} → List (Happening Command) → List Command → Type 0
-AreKept [] all = all ≡ []
-AreKept (turn command end ∷ more) all = IsKeptBy end command (AreKept more) all
-AreKept (crash ∷ more) all = AreKept more all
+abbrev pub AreTurnsKept : {Command : Type 0} → List (Happening Command) → List Command → Type 0
+AreTurnsKept [] all = all ≡ []
+AreTurnsKept (turn command end ∷ more) all = IsKeptBy end command (AreTurnsKept more) all
+AreTurnsKept (crash ∷ more) all = AreTurnsKept more all
 
 -- Whatever a crash may leave in the end is what those commands make that were made, and some that were not said to be kept, in
 -- their order.
@@ -89,7 +89,7 @@ abbrev pub NoTurnIsLost : {Command : Type 0} → (MaybeBytes → Command → May
 NoTurnIsLost {Command} may =
     (name : List ℕ) (lock : Option (List ℕ)) (old new : List Event) (happened : List (Happening Command)) (c : MaybeBytes) →
     IsLockApart (record { name = name; bytes = []; lock = lock }) → IsSettled old name (read_content old name) → CameInTurn may name lock old happened new → MayLeave new name c →
-    (kept : List Command) × AreKept happened kept × MayRun may (read_content old name) kept c
+    (kept : List Command) × AreTurnsKept happened kept × MayRun may (read_content old name) kept c
 
 -- ---- law
 

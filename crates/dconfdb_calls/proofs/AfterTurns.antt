@@ -10,28 +10,28 @@ use Rattle.dconf_model.proofs.Histories.{MayRun}
 use Rattle.dconf_model.proofs.StoreValues.{after_change, after_reopening, opened_holds, origin_seen, own_joined, value_seen}
 use Rattle.dconf_turn.proofs.SurvivalLaws.{no_turn_is_lost}
 use Rattle.dconfdb_calls.specs.Turns.{HaveOwn, MakesFile, TurnsGiveValues, changes_in}
-use Rattle.dconfdb_calls.specs.Changed.{HaveChanged, IsChanged, change_of}
+use Rattle.dconfdb_calls.specs.Changed.{AreMadeInTurn, IsChanged, change_meant}
 use Rattle.dconfdb_calls.specs.declared.changes.DconfdbChange.{DconfdbChange}
 
-after_all : (others : List MaybeBytes) (gs : List Given) (own : OwnValues) (cs : List DconfdbChange) (l m : Layers) → StoreHolds others own gs l → HaveChanged cs l m → StoreHolds others (own_after gs own (map change_of cs)) gs m
+after_all : (others : List MaybeBytes) (gs : List Given) (own : OwnValues) (cs : List DconfdbChange) (l m : Layers) → StoreHolds others own gs l → AreMadeInTurn cs l m → StoreHolds others (own_after gs own (map change_meant cs)) gs m
 after_all others gs own [] l m h same = subst (StoreHolds others own gs) same h
 after_all others gs own (c ∷ cs) l m h made =
-    after_all others gs (own_changed gs own (change_of c)) cs made.0 m (after_change others own gs l made.0 h (change_of c) made.1 made.3) made.4
+    after_all others gs (own_changed gs own (change_meant c)) cs made.0 m (after_change others own gs l made.0 h (change_meant c) made.1 made.3) made.4
 
 -- what came of a turn has the values after it
 came_of : (first : MaybeBytes) (others : List MaybeBytes) (own : OwnValues) (gs : List Given) (cs : List DconfdbChange) (l : Layers) (file : List ℕ) → HaveOwn first others own gs → AreLayers (first ∷ others) l.layers →
-    IsChanged l cs file → HaveOwn (Some file) others (own_after gs own (map change_of cs)) gs
+    IsChanged l cs file → HaveOwn (Some file) others (own_after gs own (map change_meant cs)) gs
 came_of first others own gs cs l file have opened made m again =
-    after_reopening others (own_after gs own (map change_of cs)) gs made.after m (after_all others gs own cs l made.after (have l opened) made.changed) file made.saved_is again
+    after_reopening others (own_after gs own (map change_meant cs)) gs made.after m (after_all others gs own cs l made.after (have l opened) made.changed) file made.saved_is again
 
 after_turns : (others : List MaybeBytes) (gs : List Given) (own : OwnValues) (first last : MaybeBytes) (turns : List (List DconfdbChange)) → HaveOwn first others own gs →
     MayRun (MakesFile others) first turns last → HaveOwn last others (own_after gs own (changes_in turns)) gs
 after_turns others gs own first last [] have is = subst (λ file. HaveOwn file others own gs) (sym is) have
 after_turns others gs own first last (changes ∷ more) have ran =
     let made = ran.1 in
-    let after = own_after gs own (map change_of changes) in
+    let after = own_after gs own (map change_meant changes) in
     let next = subst (λ file. HaveOwn file others after gs) (sym made.new_is) (came_of first others own gs changes made.before made.file have made.opened made.changed) in
-    subst (λ own. HaveOwn last others own gs) (own_joined gs own (map change_of changes) (changes_in more)) (after_turns others gs after ran.0 last more next ran.2)
+    subst (λ own. HaveOwn last others own gs) (own_joined gs own (map change_meant changes) (changes_in more)) (after_turns others gs after ran.0 last more next ran.2)
 
 pub turns_give_values : TurnsGiveValues
 turns_give_values others name lock old new happened c g gs apart settled give came left =

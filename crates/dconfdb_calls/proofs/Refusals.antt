@@ -14,7 +14,7 @@ use Rattle.dconf_model.specs.Paths.{ends_with_slash}
 use Rattle.dconf_model.specs.Profiles.{databases_in}
 use Rattle.dconf_model.specs.Salvaging.{IsKeyText}
 use Rattle.dconf_model.proofs.PathMaps.{no_truth}
-use Rattle.dconfdb_calls.specs.Changed.{IsBadPathOf, IsBadResetOf, SetsNormal, SetsShallow, change_of, value_of}
+use Rattle.dconfdb_calls.specs.Changed.{IsBadPathOf, IsBadResetOf, SetsNormal, SetsShallow, change_meant, value_of}
 use Rattle.dconfdb_calls.specs.declared.changes.DconfdbChange.{DconfdbChange}
 use Rattle.dconfdb_calls.specs.Given.{IsDirectory}
 use Rattle.dconfdb_calls.specs.GoodLines.{IsLineFault, of_profile, own_line}
@@ -41,7 +41,7 @@ shallow_set true set other e h = h
 shallow_set false set other e h = absurd (no_truth e)
 
 pub normal_asked : (c : DconfdbChange) (t : Ty) (b : List ℕ) → t ≡ type_at c.type_text.now → b ≡ c.value.now → (is_too_large (decode t b) ≡ false → IsNormal t b) →
-    SetsShallow (change_of c) → SetsNormal c
+    SetsShallow (change_meant c) → SetsNormal c
 normal_asked c t b typed same good shallow sets =
     let set = set_value c.path.now (value_of c) in
     let fits : is_too_large (value_of c) ≡ false = shallow_set c.sets set _ sets shallow in

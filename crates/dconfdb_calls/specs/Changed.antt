@@ -4,8 +4,8 @@ use Rattle.gv_view.specs.Views.{value}
 use Rattle.dconf_path.specs.Paths.{directory_text, key_text}
 use Rattle.dconf_engine.specs.declared.change_fault.ChangeFault.{ChangeFault}
 use Rattle.dconf_engine.specs.declared.change_fault.ChangeFault.TheVariants as refused
-use Rattle.dconfdb_calls.specs.declared.changes.Asked.{Asked}
-use Rattle.dconfdb_calls.specs.declared.changes.Asked.TheVariants.{Set, Reset, ResetBelow}
+use Rattle.dconfdb_calls.specs.declared.changes.ParsedChange.{ParsedChange}
+use Rattle.dconfdb_calls.specs.declared.changes.ParsedChange.TheVariants.{Set, Reset, ResetBelow}
 use Rattle.gv_model.specs.Printed.{is_too_large}
 use Rattle.gv_model.specs.Tree.{Tree}
 use Rattle.gv_model.specs.TypeText.{type_at}
@@ -32,8 +32,8 @@ value_of c = decode (type_at c.type_text.now) c.value.now
 
 -- With a value the key at the path is set. Without one its value goes; a path that ends in `/` is a
 -- directory, and the values of all keys below it go.
-abbrev pub change_of : DconfdbChange → Change
-change_of c =
+abbrev pub change_meant : DconfdbChange → Change
+change_meant c =
     if c.sets then set_value c.path.now (value_of c) else
     if ends_with_slash c.path.now then reset_below_directory c.path.now else reset_value c.path.now
 
@@ -42,22 +42,22 @@ abbrev pub SetsNormal : DconfdbChange → Type 0
 SetsNormal c = IsTrue c.sets → IsNormal (type_at c.type_text.now) c.value.now
 
 -- each change is accepted in its turn, and what it sets is a value of its type, in normal form
-abbrev pub HaveChanged : List DconfdbChange → Layers → Layers → Type 0
-HaveChanged [] l m = l ≡ m
-HaveChanged (c ∷ cs) l m =
-    (next : Layers) × IsWholeChange (change_of c) × SetsNormal c × (apply l (change_of c) ≡ Ok next) × HaveChanged cs next m
+abbrev pub AreMadeInTurn : List DconfdbChange → Layers → Layers → Type 0
+AreMadeInTurn [] l m = l ≡ m
+AreMadeInTurn (c ∷ cs) l m =
+    (next : Layers) × IsWholeChange (change_meant c) × SetsNormal c × (apply l (change_meant c) ≡ Ok next) × AreMadeInTurn cs next m
 
 -- the user's database with the changes
 pub record IsChanged (l : Layers) (changes : List DconfdbChange) (file : List ℕ) : Type 0 where
   pub after : Layers
-  pub changed : HaveChanged changes l after
+  pub changed : AreMadeInTurn changes l after
   pub saved_is : IsDatabaseOf (saved after.layers) file
 
 -- what is asked
-abbrev pub asked_change : Asked → Change
-asked_change (Set path v) = set_value (key_text path) (value v)
-asked_change (Reset path) = reset_value (key_text path)
-asked_change (ResetBelow directory) = reset_below_directory (directory_text directory)
+abbrev pub parsed_change : ParsedChange → Change
+parsed_change (Set path v) = set_value (key_text path) (value v)
+parsed_change (Reset path) = reset_value (key_text path)
+parsed_change (ResetBelow directory) = reset_below_directory (directory_text directory)
 
 -- ---- refusals
 
@@ -99,8 +99,8 @@ abbrev pub SetsShallow : Change → Type 0
 SetsShallow (set_value path v) = is_too_large v ≡ false
 SetsShallow change = Unit {0}
 
-abbrev pub IsAskedInVain : Layers → Asked → Fault → Type 0
-IsAskedInVain l asked fault = IsChangedInVain l (asked_change asked) fault
+abbrev pub IsAskedInVain : Layers → ParsedChange → Fault → Type 0
+IsAskedInVain l asked fault = IsChangedInVain l (parsed_change asked) fault
 
 -- the path of what is reset is no directory's, if it ends in `/`, and else no key's
 abbrev pub IsBadResetOf : Bool → List ℕ → Type 0
@@ -129,12 +129,12 @@ abbrev pub IsRefusedFor : Layers → DconfdbChange → Fault → Type 0
 IsRefusedFor l c BadPath = IsMalformed c BadPath
 IsRefusedFor l c BadType = IsMalformed c BadType
 IsRefusedFor l c BadValue = IsMalformed c BadValue
-IsRefusedFor l c fault = IsChangedInVain l (change_of c) fault
+IsRefusedFor l c fault = IsChangedInVain l (change_meant c) fault
 
 -- the change of that index is refused, after those before it were accepted
-pub record IsRefusedAt (l : Layers) (changes : List DconfdbChange) (at : ℕ) (fault : Fault) : Type 0 where
+pub record IsChangeRefused (l : Layers) (changes : List DconfdbChange) (at : ℕ) (fault : Fault) : Type 0 where
   pub before : Layers
-  pub changed : HaveChanged (take at changes) l before
+  pub changed : AreMadeInTurn (take at changes) l before
   pub change : DconfdbChange
   pub is : slice_get changes at ≡ Some change
   pub refused : IsRefusedFor before change fault
@@ -142,14 +142,14 @@ pub record IsRefusedAt (l : Layers) (changes : List DconfdbChange) (at : ℕ) (f
 -- the user's database would be too big after all changes
 pub record IsTooBigAfter (l : Layers) (changes : List DconfdbChange) : Type 0 where
   pub after : Layers
-  pub changed : HaveChanged changes l after
+  pub changed : AreMadeInTurn changes l after
   pub big : IsTooBig (saved after.layers)
 
 -- the fault of changes, and the index of the one that has it; 0 if none has
 abbrev pub IsNoChange : Layers → List DconfdbChange → Fault → ℕ → Type 0
 IsNoChange l changes Memory at = at ≡ 0
 IsNoChange l changes TooBig at = IsTooBigAfter l changes × (at ≡ 0)
-IsNoChange l changes fault at = IsRefusedAt l changes at fault
+IsNoChange l changes fault at = IsChangeRefused l changes at fault
 
 -- the number of the fault is told, and the index of the change that has it
 abbrev pub IsNoChangeTold : Layers → List DconfdbChange → ℕ → ℕ → Type 0

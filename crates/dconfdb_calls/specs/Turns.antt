@@ -8,9 +8,9 @@ use Rattle.dconf_model.specs.Layers.{Layers, origin, visible}
 use Rattle.dconf_model.specs.Sources.{Given, last_value}
 use Rattle.dconf_model.specs.Stores.{FilesGive, OwnValues, StoreHolds, number_given, own_after, value_given}
 use Rattle.dconf_turn.specs.Jobs.{IsLockApart}
-use Rattle.dconf_turn.specs.Survivals.{AreKept, CameInTurn, Happening}
+use Rattle.dconf_turn.specs.Survivals.{AreTurnsKept, CameInTurn, Happening}
 use Rattle.dconfdb_calls.specs.declared.changes.DconfdbChange.{DconfdbChange}
-use Rattle.dconfdb_calls.specs.Changed.{IsChanged, change_of}
+use Rattle.dconfdb_calls.specs.Changed.{IsChanged, change_meant}
 
 -- a turn's changes make this file of that one, beside the files of the other databases
 pub record MakesFile (others : List MaybeBytes) (old : MaybeBytes) (changes : List DconfdbChange) (new : MaybeBytes) : Type 0 where
@@ -23,7 +23,7 @@ pub record MakesFile (others : List MaybeBytes) (old : MaybeBytes) (changes : Li
 -- the changes of all turns, one after another
 abbrev pub changes_in : List (List DconfdbChange) → List Change
 changes_in [] = []
-changes_in (changes ∷ more) = map change_of changes ++ changes_in more
+changes_in (changes ∷ more) = map change_meant changes ++ changes_in more
 
 -- however these files are opened, each path has the value that these values of the user's own and the other databases give it, and that
 -- is from the database that gives it
@@ -40,7 +40,7 @@ TurnsGiveValues =
     (c : MaybeBytes) (g : Given) (gs : List Given) →
     IsLockApart (record { name = name; bytes = []; lock = lock }) → IsSettled old name (read_content old name) →
     FilesGive (read_content old name ∷ others) (g ∷ gs) → CameInTurn (MakesFile others) name lock old happened new → MayLeave new name c →
-    (kept : List (List DconfdbChange)) × AreKept happened kept × GivesValues c others (own_after gs (last_value g.values) (changes_in kept)) gs
+    (kept : List (List DconfdbChange)) × AreTurnsKept happened kept × GivesValues c others (own_after gs (last_value g.values) (changes_in kept)) gs
 
 -- ---- words of private parts
 

@@ -8,7 +8,7 @@ ghost use Rattle.dconf_model.specs.Changes.{apply, Change.set_value};
 ghost use Rattle.dconf_path.specs.Paths.{key_text};
 ghost use Rattle.dconf_model.specs.Databases.{IsDatabaseOf};
 ghost use Rattle.dconf_model.specs.Stores.{IsLimitedValue, IsWholeChange};
-ghost use Rattle.dconfdb_calls.specs.Changed.{HaveChanged, IsAskedInVain, IsBadValue, IsChanged, IsMalformed, IsNoChange, IsRefusedFor, IsSetInVain, SetsNormal, SetsShallow, asked_change, at_of, change_of, with_fault};
+ghost use Rattle.dconfdb_calls.specs.Changed.{AreMadeInTurn, IsAskedInVain, IsBadValue, IsChanged, IsMalformed, IsNoChange, IsRefusedFor, IsSetInVain, SetsNormal, SetsShallow, at_of, change_meant, parsed_change, with_fault};
 ghost use Rattle.dconfdb_calls.specs.Seen.{layers_of};
 
 use crate::fault::Fault;
@@ -95,7 +95,7 @@ fn make_all(
     engine: &mut Engine<'_>,
     changes: &[DconfdbChange<'_>],
 ) -> Result<(), Refused>
-    ensures made { OnOk result (HaveChanged changes.now engine.old engine.new) }
+    ensures made { OnOk result (AreMadeInTurn changes.now engine.old engine.new) }
     ensures fault { IfErr result (λ e. IsNoChange engine.old changes.now e.fault e.at) }
 {
     for at in 0..changes.len() {
@@ -108,7 +108,7 @@ fn make_all(
 
 /// A change that can be made.
 #[derive(Clone, Copy)]
-enum Asked<'a> {
+enum ParsedChange<'a> {
     /// A key gets a value.
     Set(KeyPath<'a>, View<'a>),
     /// A key's value of the user's goes.
@@ -119,14 +119,14 @@ enum Asked<'a> {
 
 impl<'a> DconfdbChange<'a> {
     /// What is asked, or why it can't be.
-    fn asked(&self) -> Result<Asked<'a>, Fault>
-        ensures asked { IfOk result (λ asked. asked_change asked ≡ change_of self.now) }
-        ensures normal { IfOk result (λ asked. SetsShallow (change_of self.now) → SetsNormal self.now) }
+    fn asked(&self) -> Result<ParsedChange<'a>, Fault>
+        ensures asked { IfOk result (λ asked. parsed_change asked ≡ change_meant self.now) }
+        ensures normal { IfOk result (λ asked. SetsShallow (change_meant self.now) → SetsNormal self.now) }
         ensures fault { IfErr result (IsMalformed self.now) }
     {
         if !self.sets && self.path.ends_with(b"/") {
             return match directory_path(self.path) {
-                Some(directory) => Ok(Asked::ResetBelow(directory)),
+                Some(directory) => Ok(ParsedChange::ResetBelow(directory)),
                 None => Err(Fault::BadPath),
             };
         }
@@ -134,7 +134,7 @@ impl<'a> DconfdbChange<'a> {
             return Err(Fault::BadPath);
         };
         if !self.sets {
-            return Ok(Asked::Reset(path));
+            return Ok(ParsedChange::Reset(path));
         }
         let Some(value) = view_of(self.type_text, self.value) else {
             return Err(Fault::BadType);
@@ -142,13 +142,13 @@ impl<'a> DconfdbChange<'a> {
         if is_bad(value) {
             return Err(Fault::BadValue);
         }
-        Ok(Asked::Set(path, value))
+        Ok(ParsedChange::Set(path, value))
     }
 
     /// Makes the change, or leaves the engine as it was.
     fn make(self, alloc: Global, engine: &mut Engine<'_>) -> Result<(), Fault>
-        ensures ok { OnOk result (apply engine.old (change_of self.entry) ≡ Ok engine.new) }
-        ensures whole { OnOk result (IsWholeChange (change_of self.entry)) }
+        ensures ok { OnOk result (apply engine.old (change_meant self.entry) ≡ Ok engine.new) }
+        ensures whole { OnOk result (IsWholeChange (change_meant self.entry)) }
         ensures normal { OnOk result (SetsNormal self.entry) }
         ensures fault { IfErr result (IsRefusedFor engine.old self.entry) }
     {
@@ -157,18 +157,18 @@ impl<'a> DconfdbChange<'a> {
     }
 }
 
-impl Asked<'_> {
+impl ParsedChange<'_> {
     /// Makes the change, or leaves the engine as it was.
     fn make(self, alloc: Global, engine: &mut Engine<'_>) -> Result<(), Fault>
-        ensures ok { OnOk result (apply engine.old (asked_change self.entry) ≡ Ok engine.new) }
-        ensures whole { OnOk result (IsWholeChange (asked_change self.entry)) }
-        ensures shallow { OnOk result (SetsShallow (asked_change self.entry)) }
+        ensures ok { OnOk result (apply engine.old (parsed_change self.entry) ≡ Ok engine.new) }
+        ensures whole { OnOk result (IsWholeChange (parsed_change self.entry)) }
+        ensures shallow { OnOk result (SetsShallow (parsed_change self.entry)) }
         ensures fault { IfErr result (IsAskedInVain engine.old self.entry) }
     {
         match self {
-            Asked::Set(path, value) => set(alloc, path, value, engine),
-            Asked::Reset(path) => or_fault(engine.reset(path)),
-            Asked::ResetBelow(directory) => or_fault(engine.reset_dir(directory)),
+            ParsedChange::Set(path, value) => set(alloc, path, value, engine),
+            ParsedChange::Reset(path) => or_fault(engine.reset(path)),
+            ParsedChange::ResetBelow(directory) => or_fault(engine.reset_dir(directory)),
         }
     }
 }

@@ -1,5 +1,5 @@
 //! Values and their bytes: which are written for a value, whether bytes are those, and how many steps it takes to tell.
-use crate::table::Asked;
+use crate::table::TableOf;
 use gv_build::{MAX_LEN, normal_form, serialise};
 use gv_normal::{is_normal, is_normal_counted, is_normal_plain};
 use gv_types::Steps;
@@ -201,7 +201,7 @@ fn bytes_have_a_normal_form(rt: HostRuntime) -> Result<(), Fail> {
     steps.tick();
     steps.tick();
     assert!(rt; steps.count() == 2);
-    Asked::Form.each_gives(alloc, FORMS)?;
-    Asked::Steps.each_gives(alloc, STEPS)?;
-    Asked::Told.each_gives(alloc, TOLD)
+    TableOf::Form.each_gives(alloc, FORMS)?;
+    TableOf::Steps.each_gives(alloc, STEPS)?;
+    TableOf::Told.each_gives(alloc, TOLD)
 }

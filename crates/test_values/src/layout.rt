@@ -1,6 +1,6 @@
 //! How types are laid out, by example: alignments and sizes, the width of framing offsets, and
 //! where the children of containers lie, also in bytes that are not in normal form.
-use crate::table::Asked;
+use crate::table::TableOf;
 use crate::views::is_same;
 use gv_layout::{
     Place, aligned_after, alignment, fixed_size, is_true, least_width, member_bounds, n_children,
@@ -222,8 +222,8 @@ fn is_unplaced_after(of: TypeStr<'_>, bytes: &[u8], text: &str) -> bool {
 #[test]
 fn children_lie_at_their_bounds(rt: HostRuntime) -> Result<(), Fail> {
     let alloc = rt.alloc();
-    Asked::Layout.each_gives(alloc, LAYOUTS)?;
-    Asked::Places.each_gives(alloc, PLACES)?;
+    TableOf::Layout.each_gives(alloc, LAYOUTS)?;
+    TableOf::Places.each_gives(alloc, PLACES)?;
     let unplaced = is_unplaced_after(TypeStr::parse("(ysas)")?, b"\x05\xff\xff", "as");
     assert!(rt; unplaced && widths_are_right() && least_widths_are_right());
     assert!(rt; number(b"\x01\x02") == 513 && is_true(b"\x02") && !is_true(b"\x00"));

@@ -1,6 +1,6 @@
 //! Values that lie nowhere, printed as the defaults of their types; and what stands for itself in quotes.
 use crate::samples::value;
-use crate::table::Asked;
+use crate::table::TableOf;
 use gv_text::{is_plain, print};
 use gv_view::View;
 use std::alloc::Global;
@@ -91,5 +91,5 @@ fn what_lies_nowhere_is_printed_as_its_default(rt: HostRuntime) -> Result<(), Fa
         is_plain_in("say \"x\"") == (true, false) && is_plain_in("back\\slash") == (false, false)
     );
     assert!(rt; is_plain_in("café") == (false, false));
-    Asked::Printed.each_gives(rt.alloc(), DEFAULTS)
+    TableOf::Printed.each_gives(rt.alloc(), DEFAULTS)
 }

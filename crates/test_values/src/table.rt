@@ -8,7 +8,7 @@ use std::test::Fail;
 
 /// What a table asks of its texts. The text of a view is its type, and then the words of its bytes.
 #[derive(Clone, Copy)]
-pub(crate) enum Asked {
+pub(crate) enum TableOf {
     /// The type at the start of the text.
     Type,
     /// The same, of a copy that was read.
@@ -47,21 +47,21 @@ pub(crate) enum Asked {
     Printed,
 }
 
-impl Asked {
+impl TableOf {
     /// Pushes what comes of a text.
     fn push_outcome(self, alloc: Global, to: &mut String, text: &str) -> Result<(), Fail> {
         match self {
-            Asked::Type => types::push_type(to, text),
-            Asked::CopiedType => types::push_copied(alloc, to, text),
-            Asked::Layout => layout::push_layout(to, text),
-            Asked::Tokens => texts::push_tokens(alloc, to, text),
-            Asked::Syntax => texts::push_syntax(alloc, to, text),
-            Asked::ValueAt => texts::push_value_at(alloc, to, text),
-            Asked::Basic => trees::push_basic(alloc, to, text),
-            Asked::Container => trees::push_container(alloc, to, text),
-            Asked::Doublings => trees::push_doublings(alloc, to, text),
-            Asked::Equal => trees::push_compared(alloc, to, text),
-            Asked::Tree => trees::push_read(alloc, to, text),
+            TableOf::Type => types::push_type(to, text),
+            TableOf::CopiedType => types::push_copied(alloc, to, text),
+            TableOf::Layout => layout::push_layout(to, text),
+            TableOf::Tokens => texts::push_tokens(alloc, to, text),
+            TableOf::Syntax => texts::push_syntax(alloc, to, text),
+            TableOf::ValueAt => texts::push_value_at(alloc, to, text),
+            TableOf::Basic => trees::push_basic(alloc, to, text),
+            TableOf::Container => trees::push_container(alloc, to, text),
+            TableOf::Doublings => trees::push_doublings(alloc, to, text),
+            TableOf::Equal => trees::push_compared(alloc, to, text),
+            TableOf::Tree => trees::push_read(alloc, to, text),
             _ => self.push_of_words(alloc, to, text),
         }
     }
@@ -74,12 +74,12 @@ impl Asked {
 
     fn push_of_view(self, alloc: Global, to: &mut String, view: View<'_>) -> Result<(), Fail> {
         match self {
-            Asked::Read => views::push_read(to, view),
-            Asked::Texts => views::push_texts(to, view),
-            Asked::Places => layout::push_places(to, view),
-            Asked::Form => forms::push_form(alloc, to, view),
-            Asked::Steps => forms::push_steps(to, view),
-            Asked::Told => forms::push_told(alloc, to, view),
+            TableOf::Read => views::push_read(to, view),
+            TableOf::Texts => views::push_texts(to, view),
+            TableOf::Places => layout::push_places(to, view),
+            TableOf::Form => forms::push_form(alloc, to, view),
+            TableOf::Steps => forms::push_steps(to, view),
+            TableOf::Told => forms::push_told(alloc, to, view),
             _ => printing::push_printed(alloc, to, view),
         }
     }

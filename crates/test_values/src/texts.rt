@@ -1,5 +1,5 @@
 //! Texts, read in steps: tokens and syntax, shown by their names; the type that a text has by itself, and its value at a type.
-use crate::table::Asked;
+use crate::table::TableOf;
 use gv_build::serialise;
 use gv_infer::{type_of, value_at};
 use gv_text::{Syntax, parse, print, tokens};
@@ -167,8 +167,8 @@ const VALUES: &str = r"
 fn texts_are_read_in_steps(rt: HostRuntime) -> Result<(), Fail> {
     let alloc = rt.alloc();
     assert!(rt; Syntax::MAX_TEXT_LEN == 16_777_216);
-    Asked::Tokens.each_gives(alloc, TOKENS)?;
-    Asked::Tokens.each_gives(alloc, NULS)?;
-    Asked::Syntax.each_gives(alloc, SYNTAX)?;
-    Asked::ValueAt.each_gives(alloc, VALUES)
+    TableOf::Tokens.each_gives(alloc, TOKENS)?;
+    TableOf::Tokens.each_gives(alloc, NULS)?;
+    TableOf::Syntax.each_gives(alloc, SYNTAX)?;
+    TableOf::ValueAt.each_gives(alloc, VALUES)
 }

@@ -1,6 +1,6 @@
 //! Trees by example: each constructor, each of its refusals, and what trees tell of themselves.
 use crate::samples::{bytes_of, value, view};
-use crate::table::Asked;
+use crate::table::TableOf;
 use gv_tree::{Basic, Tree, TreeFault};
 use gv_types::TypeStr;
 use std::alloc::Global;
@@ -215,11 +215,11 @@ const EQUALS: &str = r"
 #[test]
 fn trees_are_made_or_refused(rt: HostRuntime) -> Result<(), Fail> {
     let alloc = rt.alloc();
-    Asked::Container.each_gives(alloc, CONTAINERS)?;
-    Asked::Doublings.each_gives(alloc, "(~65533×y~) | 9 TooLarge")?;
-    Asked::Basic.each_gives(alloc, BASICS)?;
-    Asked::Tree.each_gives(alloc, TREES)?;
-    Asked::Equal.each_gives(alloc, EQUALS)?;
+    TableOf::Container.each_gives(alloc, CONTAINERS)?;
+    TableOf::Doublings.each_gives(alloc, "(~65533×y~) | 9 TooLarge")?;
+    TableOf::Basic.each_gives(alloc, BASICS)?;
+    TableOf::Tree.each_gives(alloc, TREES)?;
+    TableOf::Equal.each_gives(alloc, EQUALS)?;
     let mut said = String::new(alloc);
     push_made(&mut said, Err(TreeFault::WrongType(12)))?;
     push_made(&mut said, Err(TreeFault::Memory))?;

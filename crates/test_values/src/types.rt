@@ -1,5 +1,5 @@
 //! Types by example: what each kind is made of, and which texts are object paths and signatures.
-use crate::table::Asked;
+use crate::table::TableOf;
 use gv_layout::fixed_size;
 use gv_text::TypeText;
 use gv_types::{BasicType, Class, Members, TypeStr, is_object_path, is_signature};
@@ -173,9 +173,9 @@ const PREFIXES: &str = r"
 #[test]
 fn types_are_taken_apart(rt: HostRuntime) -> Result<(), Fail> {
     let alloc = rt.alloc();
-    Asked::Type.each_gives(alloc, TYPES)?;
-    Asked::Type.each_gives(alloc, PREFIXES)?;
-    Asked::CopiedType.each_gives(alloc, TYPES)?;
+    TableOf::Type.each_gives(alloc, TYPES)?;
+    TableOf::Type.each_gives(alloc, PREFIXES)?;
+    TableOf::CopiedType.each_gives(alloc, TYPES)?;
     let inherited = is_inherited(TypeStr::parse("(((as))y)")?);
     assert!(rt; inherited && split(b"a{sv}i\xff") == Some(("a{sv}", 2)));
     assert!(rt; Class::of_letter(b')').is_none() && Class::of_letter(b'r').is_none());

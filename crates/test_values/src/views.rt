@@ -1,5 +1,5 @@
 //! Views by example: what bytes are at basic types, what a key leads to, and what a variant holds.
-use crate::table::Asked;
+use crate::table::TableOf;
 use gv_types::TypeStr;
 use gv_view::{View, held_in_variant, parts_are_lent, text_in, utf8_of};
 use std::fmt::Write;
@@ -154,8 +154,8 @@ fn held(bytes: &[u8]) -> Option<(&str, &[u8])> {
 #[test]
 fn numbers_are_read_and_texts_are_lent(rt: HostRuntime) -> Result<(), Fail> {
     parts_are_lent();
-    Asked::Read.each_gives(rt.alloc(), READ)?;
-    Asked::Texts.each_gives(rt.alloc(), TEXTS)?;
+    TableOf::Read.each_gives(rt.alloc(), READ)?;
+    TableOf::Texts.each_gives(rt.alloc(), TEXTS)?;
     let (whole, short, none) = (held(b"\x05\0\0\0\0i"), held(b"\x05\0i"), held(b"i"));
     assert!(rt;
         whole == Some(("i", b"\x05\0\0\0".as_slice())) && short == Some(("i", b"\x05".as_slice()))

@@ -3,7 +3,7 @@ use Rattle.dconf_model.specs.Folders.{Event}
 use Rattle.dconf_model.specs.Replacing.{Replaced, MaybeReplaced}
 use Rattle.dconf_turn.specs.declared.step.Step.TheVariants.{Append}
 use Rattle.dconf_turn.specs.Steps.{step_of, steps_left, IsDone}
-use Rattle.dconf_turn.specs.Hosts.{Did}
+use Rattle.dconf_turn.specs.Hosts.{DidStep}
 use Rattle.dconf_turn.proofs.HistoryLaws.{len_at}
 use Rattle.dconf_disk.specs.Driving.{IsCounted, IsRefused, IsWhole, job_of}
 use Rattle.dconf_disk.proofs.DrivingLaws.{can, keeps_on, straight_on, counts_on, idle_on, not_idle, held_if, lock_apart, end_replaced, end_maybe, ok_of, err_of, is_done}
@@ -31,7 +31,7 @@ steps-preserved g c =
       known = λ es p.
           (let k = i.known es p in
           let d = c.carry_out-answer.ensures.did k.0 k.1 in
-          let did : Did (step_of t) answer job k.0 d.0 = subst (λ s. Did s answer job k.0 d.0) c.next-step.ensures d.2 in (
+          let did : DidStep (step_of t) answer job k.0 d.0 = subst (λ s. DidStep s answer job k.0 d.0) c.next-step.ensures d.2 in (
             d.0,
             d.1,
             a.stands job es k.0 d.0 apart k.2 did,

@@ -2,13 +2,13 @@ use Rattle.std.proofs.Common.{◌≡◌, ◌<◌, ap, arith, subst, sym}
 use Rattle.dconf_model.specs.Table.{Table}
 use Rattle.dconf_model.specs.Sound.{Rule, KeepsAll, rule_number}
 use Rattle.dconf_model.specs.Sound.Rule.{keys, chain, hash, content, lists}
-use Rattle.gvdb_read.specs.declared.unsound.Rule.{Rule as Asked}
+use Rattle.gvdb_read.specs.declared.unsound.Rule.{Rule as CodeRule}
 use Rattle.gvdb_read.specs.Tables.{region}
 use Rattle.gvdb_read.specs.Unsounds.{IsAskedAlone, KeepsBelow, rule_of}
 use Rattle.gvdb_read.proofs.table.Table.keeps.Goals as goal
 
 -- what is kept where this rule is asked
-known : (t : Table) (asked : Asked) (this earlier : Rule) → rule_of asked ≡ this → rule_number earlier < rule_number this
+known : (t : Table) (asked : CodeRule) (this earlier : Rule) → rule_of asked ≡ this → rule_number earlier < rule_number this
     → KeepsBelow t (rule_number (rule_of asked)) → KeepsAll t earlier
 known t asked this earlier is lower kept = kept earlier (subst (λ (r : Rule). rule_number earlier < rule_number r) (sym is) lower)
 
