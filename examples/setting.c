@@ -23,7 +23,7 @@ static void change(DconfdbStore *store, const char *path, const char *line, Dcon
 {
     int32_t number = (int32_t)strtol(line, NULL, 10);
     DconfdbEdit set = {path, "i", &number, sizeof number}, reset = {path, NULL, NULL, 0};
-    if (!dconfdb_store_change(store, *line == '\n' ? &reset : &set, 1, error))
+    if (!dconfdb_store_change(store, NULL, *line == '\n' ? &reset : &set, 1, error))
         printf("%s: %s\n", dconfdb_error_name(error->code), error->text);
 }
 

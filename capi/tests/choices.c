@@ -22,7 +22,7 @@ int __wrap_fsync(int file)
 static bool changes(DconfdbStore *store, const char *text)
 {
     DconfdbEdit edit = sets_text("/k", text);
-    bool done = dconfdb_store_change(store, &edit, 1, &error);
+    bool done = dconfdb_store_change(store, NULL, &edit, 1, &error);
     DconfdbSnapshot *now = dconfdb_store_snapshot(store);
     TRY(!done || has(now, "/k", text));
     dconfdb_snapshot_unref(now);
