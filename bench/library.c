@@ -90,6 +90,37 @@ static void our_string(void) {
     answer = dconfdb_value_get_string(&value, NULL) != NULL;
 }
 
+static void our_child(void) {
+    DconfdbValue child;
+    answer = dconfdb_value_child(&value, 5, &child);
+}
+
+static void our_lookup(void) {
+    DconfdbValue child;
+    answer = dconfdb_value_lookup(&value, "five", &child);
+}
+
+static void our_print(void) {
+    char *printed = dconfdb_value_print(&value, NULL);
+    answer = printed && *printed;
+    free(printed);
+}
+
+/* The text of the value that was read. */
+static char *text;
+
+static void our_text_start(void) {
+    our_value_start();
+    text = dconfdb_value_print(&value, NULL);
+    needs(text, "the value can't be printed");
+}
+
+static void our_parse(void) {
+    DconfdbValue parsed;
+    answer = dconfdb_value_parse(text, &parsed, NULL);
+    free(answer ? (void *)parsed.data : NULL);
+}
+
 /* All keys, with their values. */
 static void our_iterate(void) {
     const char *at;
@@ -135,16 +166,22 @@ static void our_open(void) {
 }
 
 /* Sets another value each time, since the same one would change nothing. */
-static void set(const char *at) {
-    static char text[] = "changed 0";
-    DconfdbEdit edit = {at, "s", text, sizeof text};
-    text[sizeof text - 2] ^= 1;
-    answer = dconfdb_store_change(store, NULL, &edit, 1, NULL);
+static void set(const char *at, const DconfdbSnapshot *expected) {
+    static char other[] = "changed 0";
+    DconfdbEdit edit = {at, "s", other, sizeof other};
+    other[sizeof other - 2] ^= 1;
+    answer = dconfdb_store_change(store, expected, &edit, 1, NULL);
     needs(answer, "a change is refused");
 }
 
 static void our_change(void) {
-    set(path);
+    set(path, NULL);
+}
+
+static void our_expected(void) {
+    DconfdbSnapshot *seen = dconfdb_store_snapshot(store);
+    set(path, seen);
+    dconfdb_snapshot_unref(seen);
 }
 
 /* What the store was before a change of the key, or of one that wasn't there. */
@@ -154,7 +191,7 @@ static void start_changed(const char *changed) {
     our_start();
     our_change();
     before = dconfdb_store_snapshot(store);
-    set(changed);
+    set(changed, NULL);
     dconfdb_snapshot_unref(now);
     now = dconfdb_store_snapshot(store);
 }
@@ -188,6 +225,11 @@ static size_t (*g_variant_get_size)(GVariant *variant);
 static const char *(*g_variant_get_type_string)(GVariant *variant);
 static int32_t (*g_variant_get_int32)(GVariant *variant);
 static const char *(*g_variant_get_string)(GVariant *variant, size_t *length);
+static GVariant *(*g_variant_get_child_value)(GVariant *variant, size_t index);
+static GVariant *(*g_variant_lookup_value)(GVariant *variant, const char *key, const void *type);
+static char *(*g_variant_print)(GVariant *variant, int annotate);
+static GVariant *(*g_variant_parse)(const void *type, const char *text, const char *limit, const char **end, void **error);
+static void (*g_free)(void *memory);
 
 static DConfClient *client;
 
@@ -209,6 +251,11 @@ static void their_start(void) {
         {"g_variant_get_type_string", &g_variant_get_type_string},
         {"g_variant_get_int32", &g_variant_get_int32},
         {"g_variant_get_string", &g_variant_get_string},
+        {"g_variant_get_child_value", &g_variant_get_child_value},
+        {"g_variant_lookup_value", &g_variant_lookup_value},
+        {"g_variant_print", &g_variant_print},
+        {"g_variant_parse", &g_variant_parse},
+        {"g_free", &g_free},
     };
     for (size_t i = 0; i < sizeof calls / sizeof calls[0]; i++) {
         void *found = dlsym(dconf, calls[i].name);
@@ -239,6 +286,37 @@ static void their_int32(void) {
 
 static void their_string(void) {
     answer = g_variant_get_string(variant, NULL) != NULL;
+}
+
+static void their_child(void) {
+    GVariant *child = g_variant_get_child_value(variant, 5);
+    answer = child;
+    g_variant_unref(child);
+}
+
+static void their_lookup(void) {
+    GVariant *child = g_variant_lookup_value(variant, "five", NULL);
+    answer = child;
+    if (child)
+        g_variant_unref(child);
+}
+
+static void their_print(void) {
+    char *printed = g_variant_print(variant, 1);
+    answer = *printed;
+    g_free(printed);
+}
+
+static void their_text_start(void) {
+    their_value_start();
+    text = g_variant_print(variant, 1);
+}
+
+static void their_parse(void) {
+    GVariant *parsed = g_variant_parse(NULL, text, NULL, NULL, NULL);
+    answer = parsed;
+    if (parsed)
+        g_variant_unref(parsed);
 }
 
 static void their_writable(void) {
@@ -281,6 +359,10 @@ static const Work works[] = {
     {"writable", our_start, our_writable, 1000, true},
     {"int32", our_value_start, our_int32, 1000, true},
     {"string", our_value_start, our_string, 1000, true},
+    {"child", our_value_start, our_child, 1000, true},
+    {"lookup", our_value_start, our_lookup, 1000, true},
+    {"print", our_value_start, our_print, 1000, false},
+    {"parse", our_text_start, our_parse, 1000, false},
     {"iterate", our_start, our_iterate, 1, false},
     {"list-user", our_start, our_list_user, 1, false},
     {"dispatch", our_dispatch_start, our_dispatch, 1000, false},
@@ -288,11 +370,16 @@ static const Work works[] = {
     {"refresh", our_start, our_refresh, 1000, false},
     {"open", our_start, our_open, 1, false},
     {"change", our_start, our_change, 1, false},
+    {"expected", our_start, our_expected, 1, false},
     {"changed", our_changed_start, our_differences, 1, false},
     {"added", our_added_start, our_differences, 1, false},
     {"dconf-read", their_start, their_read, 1000, false},
     {"dconf-int32", their_value_start, their_int32, 1000, false},
     {"dconf-string", their_value_start, their_string, 1000, false},
+    {"dconf-child", their_value_start, their_child, 1000, false},
+    {"dconf-lookup", their_value_start, their_lookup, 1000, false},
+    {"dconf-print", their_value_start, their_print, 1000, false},
+    {"dconf-parse", their_text_start, their_parse, 1000, false},
     {"dconf-writable", their_start, their_writable, 1000, false},
     {"dconf-open", their_start, their_open, 1, false},
 };
