@@ -30,8 +30,14 @@ fn left_after(alloc: Global, folder: &mut MemoryFolder, asked: &str) -> Result<S
         return Err(Fail::new("no run"));
     };
     let mut streams = Streams::calm(alloc, Source::bytes(b""));
-    let (out, err) = (&mut streams.out, &mut streams.err);
-    let statuses = run_after(alloc, requests, last.command, folder, out, err)?;
+    let statuses = run_after(
+        alloc,
+        requests,
+        last.command,
+        folder,
+        &mut streams.out,
+        &mut streams.err,
+    )?;
     let text = String::from_utf8_lossy(alloc, streams.out.get_ref().taken.as_slice())?;
     Ok(format!(in alloc; "{:?} {}\n{text}", statuses.earlier, statuses.last)?)
 }
