@@ -2,9 +2,9 @@
 use crate::layers::two_layers;
 use crate::script::{halves, is_left, words_of};
 use crate::streams::{Source, Streams};
-use dconf_cli::{Asked, command};
-use dconf_disk::MemoryFolder;
-use dconf_runs::{Attempt, End, Request, run_after, run_through_crashes};
+use dconf_cli::{Asked, Command, command};
+use dconf_disk::{FolderFault, MemoryFolder};
+use dconf_runs::{Attempt, End, Request, Statuses, run_after, run_through_crashes};
 use std::alloc::{AllocError, Global};
 use std::test::Fail;
 
@@ -30,16 +30,21 @@ fn left_after(alloc: Global, folder: &mut MemoryFolder, asked: &str) -> Result<S
         return Err(Fail::new("no run"));
     };
     let mut streams = Streams::calm(alloc, Source::bytes(b""));
-    let statuses = run_after(
-        alloc,
-        requests,
-        last.command,
-        folder,
-        &mut streams.out,
-        &mut streams.err,
-    )?;
+    let statuses = run_on(alloc, requests, last.command, folder, &mut streams)?;
     let text = String::from_utf8_lossy(alloc, streams.out.get_ref().taken.as_slice())?;
     Ok(format!(in alloc; "{:?} {}\n{text}", statuses.earlier, statuses.last)?)
+}
+
+/// Does the runs, of which the last one has these streams.
+fn run_on(
+    alloc: Global,
+    earlier: Vec<Request>,
+    last: Command,
+    folder: &mut MemoryFolder,
+    streams: &mut Streams<'_>,
+) -> Result<Statuses, FolderFault> {
+    let err = &mut streams.err;
+    run_after(alloc, earlier, last, folder, &mut streams.out, err)
 }
 
 /// Runs, and what they leave. `/x` is locked.

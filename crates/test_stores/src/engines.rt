@@ -51,11 +51,11 @@ fn is_changed(
     Ok(is_set && is_reset && is_reset_below && is_seen(engine, *path, Some(7), Some(0)))
 }
 
-/// Whether the site alone has a value at a path, and locks it by its own.
+/// Whether both databases have a value at a path, and the site locks it by its own.
 fn is_explained(engine: &Engine<'_>, path: KeyPath<'_>) -> bool {
     engine.value_in(1, path).and_then(View::as_i32) == Some(5)
         && engine.lock_in(1, path) == Some(path.as_str())
-        && engine.value_in(0, path).is_none()
+        && engine.value_in(0, path).is_some()
         && engine.lock_in(0, path).is_none()
 }
 
