@@ -41,8 +41,9 @@ VALGRIND = ['valgrind', '-q', '--error-exitcode=9', '--leak-check=full', '--erro
 
 
 # The sanitizer of threads is blind for GLib's locks, but for those that seen_locks.c shows it; and so for what a main context hands from thread to
-# thread, and for the references that GLib counts: who gives the last one back frees what others wrote before they gave back theirs.
-BLIND = 'called_from_lib:libglib-2.0.so\ncalled_from_lib:libgio-2.0.so\ncalled_from_lib:libgobject-2.0.so\nrace_top:emit\nrace_top:free\n'
+# thread, and for the references that GLib counts: who gives the last one back clears and frees what others wrote before they gave
+# back theirs.
+BLIND = 'called_from_lib:libglib-2.0.so\ncalled_from_lib:libgio-2.0.so\ncalled_from_lib:libgobject-2.0.so\nrace_top:emit\nrace_top:free\nrace_top:clear\n'
 
 
 def races(both):
