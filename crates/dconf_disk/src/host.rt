@@ -14,9 +14,7 @@ use std::path::Path;
 use std::rt::Files;
 use std::{fmt, fs, io};
 
-// The calls as they are noted, and their answers: those of a read, and those of a call that writes.
-
-const READ: u64 = 0;
+// The calls that write as they are noted, and their answers.
 
 const CREATE: u64 = 1;
 
@@ -29,12 +27,6 @@ const RENAME: u64 = 4;
 const REMOVE: u64 = 5;
 
 const SYNC_FOLDER: u64 = 6;
-
-const NO_FILE: u64 = 0;
-
-const HOLDS: u64 = 1;
-
-const OVER_SIZE: u64 = 2;
 
 const FAILED: u64 = 0;
 
@@ -139,13 +131,7 @@ impl<R: Files> StdFolder<R> {
         ensures failures { failures_of self.new ≡ failures_of self.old }
     {
         let found = read_opened(alloc, fs::open(&self.rt, name));
-        match &found {
-            Ok(Some(bytes)) => self.log.note(&[READ, HOLDS], name.as_bytes(), bytes),
-            Ok(None) => self.log.note(&[READ, NO_FILE], name.as_bytes(), &[]),
-            Err(FolderFault::TooBig) => self.log.note(&[READ, OVER_SIZE], name.as_bytes(), &[]),
-            Err(FolderFault::Device) => {}
-            Err(FolderFault::Memory) => {}
-        }
+        self.log.note_read(name, &found);
         found
     }
 

@@ -44,4 +44,5 @@ pub use folder::{Folder, LARGEST_FILE};
 pub use host::{StdFolder, folder_of};
 pub use lock::{FolderLock, LockFault};
 pub use memory::MemoryFolder;
+pub use record::Record;
 pub use replacing::replace;
