@@ -1,13 +1,19 @@
 -- What counts of a bad database, by the fault of what was tried.
-use Rattle.std.proofs.Common.{◌≡◌, ◌⊎◌, inl, inr, ℕ, List, Option, Some, None, refl, option_map}
-use Rattle.dconf_model.specs.Databases.{IsBad, Verdict}
+use Rattle.std.proofs.Common.{◌≡◌, ◌⊎◌, inl, inr, ℕ, List, Option, Some, None, refl, sym, ◌∙◌, ap}
+use Rattle.dconf_model.specs.Databases.{IsBad, IsTooBig, Verdict}
 use Rattle.dconf_model.specs.Opening.{IsOpenFault, OpenFault}
+use Rattle.dconf_model.specs.Opening.OpenFault.{short, bad_signature, bad_version, bad_root, bad_table}
+use Rattle.dconf_model.specs.Salvaging.{IsSalvaged}
+use Rattle.dconf_model.specs.Settings.{Settings}
+use Rattle.dconf_model.proofs.ProgramLaws.{not_bad}
 use Rattle.dconfdb_calls.specs.Keyless.{IsKeyless, IsNotKeyless}
-use Rattle.dconfdb_calls.specs.Salvaged.{IsSalvageOf, IsUnsalvaged}
+use Rattle.dconfdb_calls.specs.Numbers.{number_of}
+use Rattle.dconfdb_calls.specs.Opened.{open_number}
+use Rattle.dconfdb_calls.specs.Salvaged.{IsSalvageOf, IsUnsalvaged, IsUnwritten}
 use Rattle.dconfdb_calls.specs.declared.fault.Fault.{Fault}
-use Rattle.dconfdb_calls.specs.declared.fault.Fault.TheVariants.{Unsound}
+use Rattle.dconfdb_calls.specs.declared.fault.Fault.TheVariants.{Memory, TooBig, Unsound}
 use Rattle.dconfdb_calls.specs.declared.opened.BadFile.{BadFile}
-use Rattle.dconf_found.specs.Counts.{CountsBad, IsOfNoDatabase, nothing_of}
+use Rattle.dconf_found.specs.Counts.{CountsBad, IsOfNoDatabase, SoundCountsAsItself, nothing_of}
 use Rattle.dconf_found.specs.declared.counting.Loss.{Loss}
 
 pub not_keyless : (file : List ℕ) → IsNotKeyless file Unsound → (mended : List ℕ) → ¬ IsKeyless file mended
@@ -34,3 +40,32 @@ counts_nothing file fault bad_file counted loss bad unsalvaged none c l =
       bad.1,
       inr (inr (record { lost = nothing_of bad_file; fault = open_fault.0; none = open_fault.1; counted_is = c; loss_is = l; keys = refl; locks = refl })),
     )
+
+pub sound_counts_as_itself : SoundCountsAsItself
+sound_counts_as_itself file counted loss good (inl is) = (is.1, is.2)
+sound_counts_as_itself file counted loss good (inr bad) = absurd (not_bad (Some file) bad.0 good bad.1)
+
+-- ---- what is too big
+
+no_number : (f : OpenFault) → number_of TooBig ≡ open_number f → ⊥
+no_number short e = cc
+no_number bad_signature e = cc
+no_number bad_version e = cc
+no_number bad_root e = cc
+no_number bad_table e = cc
+
+not_memory : Memory ≡ TooBig → ⊥
+not_memory e = let bad : number_of Memory ≡ number_of TooBig = ap number_of e in cc
+
+unwritten_is_too_big : (s : Settings) (fault : Fault) → IsUnwritten s fault → fault ≡ TooBig → IsTooBig s
+unwritten_is_too_big s fault (inl m) e = absurd (not_memory (sym m ∙ e))
+unwritten_is_too_big s fault (inr h) e = h.1
+
+salvaged_is_too_big : (file : List ℕ) (fault : Fault) → ((fault ≡ Memory) ⊎ ((s : Settings) × IsSalvaged file s × IsUnwritten s fault))
+    → fault ≡ TooBig → (s : Settings) × IsSalvaged file s × IsTooBig s
+salvaged_is_too_big file fault (inl m) e = absurd (not_memory (sym m ∙ e))
+salvaged_is_too_big file fault (inr h) e = (h.0, h.1, unwritten_is_too_big h.0 fault h.2 e)
+
+pub salvage_is_too_big : (file : List ℕ) (fault : Fault) → IsUnsalvaged file fault → fault ≡ TooBig → (s : Settings) × IsSalvaged file s × IsTooBig s
+salvage_is_too_big file fault (inl h) e = absurd (no_number h.0 (ap number_of (sym e) ∙ h.2))
+salvage_is_too_big file fault (inr h) e = salvaged_is_too_big file fault h.1 e

@@ -1,7 +1,10 @@
 -- What counts of a database's file where a bad one is not refused.
 use Rattle.std.specs.Prelude.{◌≡◌, ◌≢◌, ◌⊎◌, ℕ, List, Option, Some, None}
-use Rattle.dconf_model.specs.Databases.{IsBad, IsGood, Verdict}
+use Rattle.dconf_model.specs.Databases.{IsBad, IsGood, IsTooBig, Verdict}
 use Rattle.dconf_model.specs.Opening.{IsOpenFault, OpenFault}
+use Rattle.dconf_model.specs.Reads.{IsOverSize}
+use Rattle.dconf_model.specs.Salvaging.{IsSalvaged}
+use Rattle.dconf_model.specs.Settings.{Settings}
 use Rattle.dconfdb_calls.specs.Keyless.{IsKeyless}
 use Rattle.dconfdb_calls.specs.Salvaged.{IsSalvageOf}
 use Rattle.dconfdb_calls.specs.declared.fault.Fault.{Fault}
@@ -40,6 +43,18 @@ CountsBad file counted loss =
 -- a sound database as it is
 abbrev pub Counts : List ℕ → Option (List ℕ) → Option Loss → Type 0
 Counts file counted loss = (IsGood (Some file) × (counted ≡ Some file) × (loss ≡ None)) ⊎ CountsBad file counted loss
+
+-- law: a sound one counts as itself, whole
+abbrev pub SoundCountsAsItself : Type 0
+SoundCountsAsItself =
+    (file : List ℕ) (counted : Option (List ℕ)) (loss : Option Loss) → IsGood (Some file) → Counts file counted loss →
+    (counted ≡ Some file) × (loss ≡ None)
+
+-- what is salvaged of it has no database that could be read
+abbrev pub IsTooBigToCount : List ℕ → Type 0
+IsTooBigToCount file =
+    ((v : Verdict) × IsBad (Some file) v × ((s : Settings) × IsSalvaged file s × IsTooBig s))
+    ⊎ ((it : Option (List ℕ)) × ((loss : Option Loss) × Counts file it loss × IsOverSize it))
 
 -- ---- words of private parts
 

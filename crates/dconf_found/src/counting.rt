@@ -1,8 +1,10 @@
 //! What counts of a database's file where a bad one is not refused.
-ghost use Rattle.std.specs.Prelude.{◌≡◌, ℕ, List, IfOk, IfNone, IfSome, None, Some, option_map, vec_items};
-ghost use Rattle.dconf_model.specs.Databases.{IsBad, IsGood, Verdict};
+ghost use Rattle.std.specs.Prelude.{◌≡◌, ◌≢◌, ℕ, List, IfOk, IfNone, IfSome, IsErrOf, None, Some, option_map, vec_items};
+ghost use Rattle.dconf_model.specs.Databases.{IsBad, IsGood, IsTooBig, Verdict};
+ghost use Rattle.dconf_model.specs.Salvaging.{IsSalvaged};
+ghost use Rattle.dconf_model.specs.Settings.{Settings};
 ghost use Rattle.dconfdb_calls.specs.Keyless.{IsKeyless};
-ghost use Rattle.dconf_found.specs.Counts.{Counts, CountsBad, IsOfNoDatabase, nothing_of};
+ghost use Rattle.dconf_found.specs.Counts.{Counts, CountsBad, IsOfNoDatabase, IsTooBigToCount, nothing_of};
 
 use dconf_disk::FolderFault;
 use dconfdb_calls::{BadFile, Fault, keyless_file, open_layer, salvaged_file};
@@ -28,7 +30,9 @@ pub struct Counting {
 ///
 /// `TooBig` if what is saved would have over 4,294,967,295 bytes; `Memory` if an allocation fails.
 pub fn counted(alloc: Global, file: Vec<u8>) -> Result<Counting, FolderFault>
-    ensures { IfOk result (λ it. Counts (vec_items file) (option_map vec_items it.file) it.loss) }
+    ensures counts { IfOk result (λ it. Counts (vec_items file) (option_map vec_items it.file) it.loss) }
+    ensures too_big { IsErrOf result FolderFault.TooBig → IsTooBigToCount (vec_items file) }
+    ensures device { IsErrOf result FolderFault.Device → ⊥ }
 {
     match fault_of(&file) {
         Some(bad) => counted_bad(alloc, &file, bad),
@@ -53,7 +57,9 @@ fn fault_of(file: &[u8]) -> Option<BadFile>
 /// What counts of a bad one.
 fn counted_bad(alloc: Global, file: &[u8], bad: BadFile) -> Result<Counting, FolderFault>
     requires { (v : Verdict) × IsBad (Some file.now) v }
-    ensures { IfOk result (λ it. CountsBad file.now (option_map vec_items it.file) it.loss) }
+    ensures counts { IfOk result (λ it. CountsBad file.now (option_map vec_items it.file) it.loss) }
+    ensures too_big { IsErrOf result FolderFault.TooBig → (s : Settings) × IsSalvaged file.now s × IsTooBig s }
+    ensures device { IsErrOf result FolderFault.Device → ⊥ }
 {
     match keyless_file(alloc, file) {
         Ok(it) => Ok(Counting {
@@ -69,7 +75,9 @@ fn counted_bad(alloc: Global, file: &[u8], bad: BadFile) -> Result<Counting, Fol
 fn salvaged(alloc: Global, file: &[u8], bad: BadFile) -> Result<Counting, FolderFault>
     requires bad { (v : Verdict) × IsBad (Some file.now) v }
     requires other { (mended : List ℕ) → ¬ IsKeyless file.now mended }
-    ensures { IfOk result (λ it. CountsBad file.now (option_map vec_items it.file) it.loss) }
+    ensures counts { IfOk result (λ it. CountsBad file.now (option_map vec_items it.file) it.loss) }
+    ensures too_big { IsErrOf result FolderFault.TooBig → (s : Settings) × IsSalvaged file.now s × IsTooBig s }
+    ensures device { IsErrOf result FolderFault.Device → ⊥ }
 {
     match salvaged_file(alloc, file) {
         Ok(it) => Ok(Counting {
@@ -86,7 +94,9 @@ fn salvaged(alloc: Global, file: &[u8], bad: BadFile) -> Result<Counting, Folder
 
 /// What counts where nothing was salvaged.
 fn without(fault: Fault, bad: BadFile) -> Result<Counting, FolderFault>
-    ensures { IfOk result (λ it. IsOfNoDatabase fault × (it.file ≡ None) × (it.loss ≡ Some (nothing_of bad))) }
+    ensures counts { IfOk result (λ it. IsOfNoDatabase fault × (it.file ≡ None) × (it.loss ≡ Some (nothing_of bad))) }
+    ensures too_big { IsErrOf result FolderFault.TooBig → fault ≡ Fault.TooBig }
+    ensures device { IsErrOf result FolderFault.Device → ⊥ }
 {
     match fault {
         Fault::Short => Ok(nothing(bad)),
@@ -94,8 +104,9 @@ fn without(fault: Fault, bad: BadFile) -> Result<Counting, FolderFault>
         Fault::BadVersion => Ok(nothing(bad)),
         Fault::BadRoot => Ok(nothing(bad)),
         Fault::BadTable => Ok(nothing(bad)),
-        Fault::Memory => Err(FolderFault::Memory),
-        _ => Err(FolderFault::TooBig),
+        Fault::TooBig => Err(FolderFault::TooBig),
+        // Of the others only a want of memory comes.
+        _ => Err(FolderFault::Memory),
     }
 }
 

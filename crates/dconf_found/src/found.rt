@@ -1,38 +1,43 @@
 //! A folder in which bad databases count as what can be saved of them.
-ghost use Rattle.std.specs.Prelude.{◌≡◌, ◌≤◌, ℕ, IfOk, IfSome, IsTrue, length, string_bytes};
+ghost use Rattle.std.specs.Prelude.{◌≡◌, ◌⊎◌, ◌≤◌, ◌∷◌, [], ℕ, List, IfOk, IfSome, IsErrOf, IsSomeAnd, IsTrue, None, OnErr, OnOk, Some, false, length, option_map, string_bytes, vec_items};
+ghost use Rattle.dconf_model.specs.Folders.{Event, read_content};
+ghost use Rattle.dconf_model.specs.Reads.{IsOverSize};
 ghost use Rattle.dconf_disk.specs.Failures.{HasCause};
 
-use crate::counting::{Counting, Loss, counted};
-use dconf_disk::{Folder, FolderFault, LARGEST_FILE};
-use std::alloc::{AllocError, Global};
+use crate::bad::BadDatabase;
+use crate::lookup::{Lookup, look_up};
+use dconf_disk::{Folder, FolderFault, LARGEST_FILE, Record};
+use std::alloc::Global;
 
-/// The profile where no file says another one.
-const USERS: &str = "user-db:user";
-
-/// A database that was bad when it was read.
-#[derive(Drop)]
-pub struct BadDatabase {
-    pub name: String,
-    pub loss: Loss,
-}
-
-/// The folder of a store, with the profile that was found for it.
+/// The folder of a store, with the profile that was found for it, for one run of a command: it is read, and then a file is replaced.
 ///
-/// Its profile is read as it is. Of any other file that is read, that counts which [`counted`] says. All other calls are the
-/// inner folder's.
+/// Its profile is read as it is. Of any other file that is read, that counts which [`counted`](crate::counted) says. All other calls are
+/// the inner folder's, but that only the file that was made last is written, synced and renamed, and that none is read once one was
+/// asked for: what fails so is a fault of the device, and asks nothing of the inner folder.
+///
+/// To its clauses it is a folder of files that hold what counts of the inner folder's, whatever that is: it is honest as long as the inner
+/// one is, and its reads gave what such a folder holds.
 #[derive(Drop)]
 pub struct FoundFolder<F> {
     inner: F,
-    /// The profile's file; it holds `user-db:user` where there is none.
-    profile: String,
-    has_profile: bool,
-    /// Whether there is a folder: else only names that start with `/` may have a file.
-    has_folder: bool,
+    alloc: Global,
+    lookup: Lookup,
     bad: Vec<BadDatabase>,
+    /// What its reads gave, for clauses alone.
+    log: Record,
+    /// What was done before to the inner folder, for clauses alone.
+    before: Record,
+    failures: u64,
+    /// Whether a call that writes was asked for.
+    is_written: bool,
+    /// The file that it made last, as long as that name is its.
+    own: Option<String>,
 }
 
 impl<F: Folder> FoundFolder<F> {
-    ghost use Rattle.dconf_found.specs.FoundFolders.{inner_of};
+    ghost use Rattle.std.specs.Prelude.{true};
+    ghost use Rattle.dconf_found.specs.FoundFolders.{agrees, failures_of, inner_of, lost_of};
+    ghost use Rattle.dconf_found.specs.Lookups.{losses};
 
     /// The folder `inner`, with the profile in the file `profile`, or that of the user alone if there is none.
     pub fn new(
@@ -42,164 +47,155 @@ impl<F: Folder> FoundFolder<F> {
         has_profile: bool,
         has_folder: bool,
     ) -> FoundFolder<F>
-        ensures { inner_of result ≡ inner }
+        ensures inner { inner_of result ≡ inner }
+        ensures lost { lost_of result ≡ [] }
+        ensures agrees { agrees result ≡ true }
+        ensures failures { failures_of result ≡ 0 }
     {
         FoundFolder {
             inner,
-            profile,
-            has_profile,
-            has_folder,
+            alloc,
+            lookup: Lookup {
+                profile,
+                has_profile,
+                has_folder,
+            },
             bad: Vec::new(alloc),
+            log: Record::new(),
+            before: Record::new(),
+            failures: 0,
+            is_written: false,
+            own: None,
         }
     }
 
     /// The databases that were bad, in the order in which they were read.
-    pub fn bad(&self) -> &[BadDatabase] {
+    pub fn bad(&self) -> &[BadDatabase]
+        ensures { losses result.now ≡ lost_of self.now }
+    {
         &self.bad
     }
-
-    /// The bytes of the profile.
-    fn read_profile(&mut self, alloc: Global, name: &str) -> Result<Option<Vec<u8>>, FolderFault>
-        ensures size { IfOk result (λ found. IfSome found (λ v. length v.items ≤ LARGEST_FILE)) }
-        ensures cause { HasCause (F.failed (inner_of self.old)) (F.failed (inner_of self.new)) result }
-        ensures honest { IsTrue (F.honest (inner_of self.new)) → IsTrue (F.honest (inner_of self.old)) }
-        ensures turn { F.holds_turn (inner_of self.new) ≡ F.holds_turn (inner_of self.old) }
-    {
-        if self.has_profile {
-            return self.inner.read(alloc, name);
-        }
-        match within(USERS.as_bytes().to_vec(alloc)?) {
-            Some(bytes) => Ok(Some(bytes)),
-            None => Err(FolderFault::TooBig),
-        }
-    }
-
-    /// What counts of a database's file.
-    fn read_database(&mut self, alloc: Global, name: &str) -> Result<Option<Vec<u8>>, FolderFault>
-        ensures size { IfOk result (λ found. IfSome found (λ v. length v.items ≤ LARGEST_FILE)) }
-        ensures cause { HasCause (F.failed (inner_of self.old)) (F.failed (inner_of self.new)) result }
-        ensures honest { IsTrue (F.honest (inner_of self.new)) → IsTrue (F.honest (inner_of self.old)) }
-        ensures turn { F.holds_turn (inner_of self.new) ≡ F.holds_turn (inner_of self.old) }
-    {
-        let Some(bytes) = self.inner.read(alloc, name)? else {
-            return Ok(None);
-        };
-        self.count(alloc, name, bytes)
-    }
-
-    /// What counts of the bytes, and a note if they are bad.
-    fn count(
-        &mut self,
-        alloc: Global,
-        name: &str,
-        bytes: Vec<u8>,
-    ) -> Result<Option<Vec<u8>>, FolderFault>
-        ensures size { IfOk result (λ found. IfSome found (λ v. length v.items ≤ LARGEST_FILE)) }
-        ensures cause { HasCause (F.failed (inner_of self.old)) (F.failed (inner_of self.new)) result }
-        ensures honest { IsTrue (F.honest (inner_of self.new)) → IsTrue (F.honest (inner_of self.old)) }
-        ensures turn { F.holds_turn (inner_of self.new) ≡ F.holds_turn (inner_of self.old) }
-    {
-        match counted(alloc, bytes) {
-            Ok(found) => self.keep(alloc, name, found),
-            Err(FolderFault::Memory) => Err(FolderFault::Memory),
-            Err(_) => Err(FolderFault::TooBig),
-        }
-    }
-
-    /// What counts, and a note of what is lost.
-    fn keep(
-        &mut self,
-        alloc: Global,
-        name: &str,
-        found: Counting,
-    ) -> Result<Option<Vec<u8>>, FolderFault>
-        ensures size { IfOk result (λ found. IfSome found (λ v. length v.items ≤ LARGEST_FILE)) }
-        ensures cause { HasCause (F.failed (inner_of self.old)) (F.failed (inner_of self.new)) result }
-        ensures honest { IsTrue (F.honest (inner_of self.new)) → IsTrue (F.honest (inner_of self.old)) }
-        ensures turn { F.holds_turn (inner_of self.new) ≡ F.holds_turn (inner_of self.old) }
-    {
-        if let Some(loss) = found.loss {
-            note(alloc, &mut self.bad, name, loss)?;
-        }
-        let Some(file) = found.file else {
-            return Ok(None);
-        };
-        match within(file) {
-            Some(bytes) => Ok(Some(bytes)),
-            None => Err(FolderFault::TooBig),
-        }
-    }
 }
 
-/// Adds a bad database.
-fn note(
-    alloc: Global,
-    bad: &mut Vec<BadDatabase>,
-    name: &str,
-    loss: Loss,
-) -> Result<(), AllocError> {
-    let name = String::from_str(alloc, name)?;
-    bad.push(BadDatabase { name, loss })?;
-    Ok(())
-}
-
-/// The bytes, if a file may have so many.
-fn within(bytes: Vec<u8>) -> Option<Vec<u8>>
-    ensures { IfSome result (λ v. length v.items ≤ LARGEST_FILE) }
+/// The answer, whose fault is counted.
+fn with_count<T: Drop>(failures: &mut u64, answer: Result<T, FolderFault>) -> Result<T, FolderFault>
+    ensures same { result ≡ answer }
+    ensures cause { HasCause failures.old failures.new result }
 {
-    if bytes.len() as u64 > LARGEST_FILE {
-        return None;
+    if matches!(&answer, Err(FolderFault::Device)) {
+        *failures = failures.saturating_add(1);
     }
-    Some(bytes)
+    answer
+}
+
+/// The name of a file, if that was made.
+fn if_made(made: &Result<(), FolderFault>, own: String) -> Option<String>
+    ensures made { OnOk made.now (result ≡ Some own) }
+    ensures fault { OnErr made.now (result ≡ None) }
+{
+    if made.is_ok() { Some(own) } else { None }
+}
+
+/// Whether this is the name.
+fn is_name(own: &Option<String>, name: &str) -> bool
+    ensures { IsTrue result → IsSomeAnd own.now (λ it. string_bytes it ≡ name.now) }
+{
+    match own {
+        Some(it) => it.as_str() == name,
+        None => false,
+    }
 }
 
 impl<F: Folder> Folder for FoundFolder<F> {
-    ghost use Rattle.dconf_found.specs.FoundFolders.{inner_of};
+    ghost use Rattle.std.specs.Prelude.{◌&&◌};
+    ghost use Rattle.dconf_found.specs.FoundFolders.{IsPast, agrees, failures_of, inner_of, lookup_of, lost_of};
+    ghost use Rattle.dconf_found.specs.Lookups.{IsLookedUp, IsTooBigAt};
 
-    // Nothing is said of what was done to it: its reads aren't what its files hold.
-    ghost past = { λ _ _. ⊥ };
+    ghost past = { IsPast F.past };
 
-    ghost honest = { λ folder. F.honest (inner_of folder) };
+    ghost honest = { λ folder. F.honest (inner_of folder) && agrees folder };
 
     ghost holds_turn = { λ folder. F.holds_turn (inner_of folder) };
 
-    ghost failed = { λ folder. F.failed (inner_of folder) };
+    ghost failed = { λ folder. failures_of folder };
 
     fn failures(&self) -> u64 {
-        self.inner.failures()
+        self.failures
     }
 
-    fn read(&mut self, alloc: Global, name: &str) -> Result<Option<Vec<u8>>, FolderFault> {
-        if name == self.profile.as_str() {
-            return self.read_profile(alloc, name);
+    /// What counts of the file. Once a call that writes was asked for it fails.
+    fn read(&mut self, alloc: Global, name: &str) -> Result<Option<Vec<u8>>, FolderFault>
+        ensures past { (es : List Event) → IsPast F.past self.old es → IsPast F.past self.new es }
+        ensures bytes { IsTrue (F.honest (inner_of self.new) && agrees self.new) → (es : List Event) → IsPast F.past self.old es → IfOk result (λ found. option_map (λ v. v.items) found ≡ read_content es name.now) }
+        ensures size { IfOk result (λ found. IfSome found (λ v. length v.items ≤ LARGEST_FILE)) }
+        ensures too_big { IsTrue (F.honest (inner_of self.new) && agrees self.new) → (es : List Event) → IsPast F.past self.old es → IsErrOf result FolderFault.TooBig → IsOverSize (read_content es name.now) }
+        ensures honest { IsTrue (F.honest (inner_of self.new) && agrees self.new) → IsTrue (F.honest (inner_of self.old) && agrees self.old) }
+        ensures turn { F.holds_turn (inner_of self.new) ≡ F.holds_turn (inner_of self.old) }
+        ensures cause { HasCause (failures_of self.old) (failures_of self.new) result }
+        // What it gives is what counts of the inner folder's file.
+        ensures gives { IsTrue (F.honest (inner_of self.new)) → (es : List Event) → F.past (inner_of self.old) es → IfOk result (λ found.
+            IsLookedUp (lookup_of self.old) name.now (read_content es name.now) (option_map vec_items found) (lost_of self.old) (lost_of self.new)) }
+        ensures gives_none { IsTrue (F.honest (inner_of self.new)) → (es : List Event) → F.past (inner_of self.old) es → IsErrOf result FolderFault.TooBig →
+            IsTooBigAt (lookup_of self.old) name.now (read_content es name.now) }
+        ensures fault { OnErr result (lost_of self.new ≡ lost_of self.old) }
+    {
+        if self.is_written {
+            return with_count(&mut self.failures, Err(FolderFault::Device));
         }
-        if !self.has_folder && !name.starts_with("/") {
-            return Ok(None);
-        }
-        self.read_database(alloc, name)
+        let found = look_up(alloc, &mut self.inner, &self.lookup, &mut self.bad, name);
+        self.log.note_read(name, &found);
+        with_count(&mut self.failures, found)
     }
 
     fn create(&mut self, name: &str) -> Result<(), FolderFault> {
-        self.inner.create(name)
+        self.is_written = true;
+        self.own = None;
+        let Ok(own) = String::from_str(self.alloc, name) else {
+            return with_count(&mut self.failures, Err(FolderFault::Device));
+        };
+        let made = self.inner.create(name);
+        self.own = if_made(&made, own);
+        with_count(&mut self.failures, made)
     }
 
     fn append(&mut self, name: &str, bytes: &[u8]) -> Result<(), FolderFault> {
-        self.inner.append(name, bytes)
+        self.is_written = true;
+        if !is_name(&self.own, name) {
+            return with_count(&mut self.failures, Err(FolderFault::Device));
+        }
+        let appended = self.inner.append(name, bytes);
+        with_count(&mut self.failures, appended)
     }
 
     fn sync(&mut self, name: &str) -> Result<(), FolderFault> {
-        self.inner.sync(name)
+        self.is_written = true;
+        if !is_name(&self.own, name) {
+            return with_count(&mut self.failures, Err(FolderFault::Device));
+        }
+        let synced = self.inner.sync(name);
+        with_count(&mut self.failures, synced)
     }
 
     fn rename(&mut self, from: &str, to: &str) -> Result<(), FolderFault> {
-        self.inner.rename(from, to)
+        self.is_written = true;
+        let is_own = is_name(&self.own, from);
+        self.own = None;
+        if !is_own {
+            return with_count(&mut self.failures, Err(FolderFault::Device));
+        }
+        let renamed = self.inner.rename(from, to);
+        with_count(&mut self.failures, renamed)
     }
 
     fn remove(&mut self, name: &str) -> bool {
+        self.is_written = true;
+        self.own = None;
         self.inner.remove(name)
     }
 
     fn sync_folder(&mut self) -> Result<(), FolderFault> {
-        self.inner.sync_folder()
+        self.is_written = true;
+        let synced = self.inner.sync_folder();
+        with_count(&mut self.failures, synced)
     }
 }

@@ -1,17 +1,21 @@
 //! The folder of a store that was found for somebody: in it a bad database is no refusal. What can be saved of it counts, and
 //! what was wrong is kept to be said.
 //!
-//! A [`FoundFolder`] is a folder whose reads are those of another, but for what [`counted`] makes of a database that is not
-//! sound: dconf_commands' commands run on it as on any.
+//! A [`FoundFolder`] shows what counts of the files of another folder: the profile as it is, and of a database what [`counted`] makes of it.
+//! dconf_commands' commands run on it as on any. It is for one run, which reads, and then replaces a file.
 //!
-//! What can never happen: a database that is sound is read as another one; of a bad one less or more counts than the command
-//! `repair` would keep.
+//! What can never happen: a read gives of a sound database another one, or of a bad one anything but what is saved of it; a database of
+//! which something was lost is not said to be bad. What a run does to the folder that is shown, it asks of the other one, call by call, but for an
+//! append or a sync that is refused. That two reads of one bad file give the same bytes is not proved.
 //!
 //! What a call costs: a read asks of a database each rule of sound ones; of a bad one it takes memory for what is saved.
 #![tactic(auto)]
 
+mod bad;
 mod counting;
 mod found;
+mod lookup;
 
+pub use bad::BadDatabase;
 pub use counting::{Counting, Loss, counted};
-pub use found::{BadDatabase, FoundFolder};
+pub use found::FoundFolder;

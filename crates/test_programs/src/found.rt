@@ -1,4 +1,4 @@
-//! A folder of a store that was found: a bad database in it is no refusal.
+//! A folder of a store that was found: a bad database in it is no refusal, and it is read before it is written.
 use crate::script::{folder_of, runs};
 use dconf_found::FoundFolder;
 use std::test::Fail;
@@ -7,8 +7,8 @@ const SCRIPT: &str = "
 $ read -p x /k => 0
 $ list -p x / => 0
 $ write -p x /k 5 => 0
-$ read -p x /k => 0
-5
+$ read -p x /k => 1
+! error: Device x
 ";
 
 #[test]

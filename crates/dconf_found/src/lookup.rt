@@ -1,0 +1,139 @@
+//! What a read of a store that was found gives, by what its files hold.
+ghost use Rattle.std.specs.Prelude.{◌≡◌, ◌≤◌, ◌++◌, List, Option, IfOk, IfSome, IsTrue, IsErrOf, OnErr, false, length, option_map, vec_items};
+ghost use Rattle.dconf_model.specs.Folders.{Event, read_content};
+ghost use Rattle.dconf_model.specs.Reads.{IsOverSize};
+ghost use Rattle.dconf_found.specs.Counts.{Counts, IsTooBigToCount};
+ghost use Rattle.dconf_found.specs.Lookups.{IsDatabaseGiven, IsLookedUp, IsProfile, IsTooBigAt, IsTooBigDatabase, IsTooBigProfile, is_nowhere, losses, losses_of};
+ghost use Rattle.dconf_found.specs.declared.counting.Loss.{Loss};
+
+use crate::bad::{BadDatabase, note};
+use crate::counting::counted;
+use dconf_disk::{Folder, FolderFault, LARGEST_FILE};
+use std::alloc::Global;
+
+/// The profile where no file says another one.
+const USERS: &str = "user-db:user";
+
+/// How the names of a store that was found are looked up.
+#[derive(Drop)]
+pub(crate) struct Lookup {
+    /// The profile's file; it holds `user-db:user` where there is none.
+    pub(crate) profile: String,
+    pub(crate) has_profile: bool,
+    /// Whether there is a folder: else only names that start with `/` may have a file.
+    pub(crate) has_folder: bool,
+}
+
+/// Reads the file of this name: the profile as it is, and of any other what counts. A database of which something is lost is added to
+/// the bad ones.
+pub(crate) fn look_up<F: Folder>(
+    alloc: Global,
+    folder: &mut F,
+    lookup: &Lookup,
+    bad: &mut Vec<BadDatabase>,
+    name: &str,
+) -> Result<Option<Vec<u8>>, FolderFault>
+    ensures gives { IsTrue (F.honest folder.new) → (es : List Event) → F.past folder.old es → IfOk result (λ found.
+        IsLookedUp lookup.now name.now (read_content es name.now) (option_map vec_items found) (losses bad.old.items) (losses bad.new.items)) }
+    ensures too_big { IsTrue (F.honest folder.new) → (es : List Event) → F.past folder.old es → IsErrOf result FolderFault.TooBig →
+        IsTooBigAt lookup.now name.now (read_content es name.now) }
+    ensures fault { OnErr result (bad.new.items ≡ bad.old.items) }
+    ensures size { IfOk result (λ found. IfSome found (λ v. length v.items ≤ LARGEST_FILE)) }
+    ensures past { (es : List Event) → F.past folder.old es → F.past folder.new es }
+    ensures honest { IsTrue (F.honest folder.new) → IsTrue (F.honest folder.old) }
+    ensures turn { F.holds_turn folder.new ≡ F.holds_turn folder.old }
+{
+    if name == lookup.profile.as_str() {
+        return read_profile(alloc, folder, lookup.has_profile, name);
+    }
+    if is_nowhere(lookup, name) {
+        return Ok(None);
+    }
+    read_database(alloc, folder, bad, name)
+}
+
+/// Whether there is no folder in which the name could have a file.
+fn is_nowhere(lookup: &Lookup, name: &str) -> bool
+    ensures { result ≡ is_nowhere lookup.now name.now }
+{
+    !lookup.has_folder && !name.starts_with("/")
+}
+
+/// The bytes of the profile.
+fn read_profile<F: Folder>(
+    alloc: Global,
+    folder: &mut F,
+    has_profile: bool,
+    name: &str,
+) -> Result<Option<Vec<u8>>, FolderFault>
+    ensures gives { IsTrue (F.honest folder.new) → (es : List Event) → F.past folder.old es → IfOk result (λ found.
+        IsProfile has_profile (read_content es name.now) (option_map vec_items found)) }
+    ensures too_big { IsTrue (F.honest folder.new) → (es : List Event) → F.past folder.old es → IsErrOf result FolderFault.TooBig →
+        IsTooBigProfile has_profile (read_content es name.now) }
+    ensures size { IfOk result (λ found. IfSome found (λ v. length v.items ≤ LARGEST_FILE)) }
+    ensures past { (es : List Event) → F.past folder.old es → F.past folder.new es }
+    ensures honest { IsTrue (F.honest folder.new) → IsTrue (F.honest folder.old) }
+    ensures turn { F.holds_turn folder.new ≡ F.holds_turn folder.old }
+{
+    if has_profile {
+        return folder.read(alloc, name);
+    }
+    Ok(Some(USERS.as_bytes().to_vec(alloc)?))
+}
+
+/// What counts of a database's file.
+fn read_database<F: Folder>(
+    alloc: Global,
+    folder: &mut F,
+    bad: &mut Vec<BadDatabase>,
+    name: &str,
+) -> Result<Option<Vec<u8>>, FolderFault>
+    ensures gives { IsTrue (F.honest folder.new) → (es : List Event) → F.past folder.old es → IfOk result (λ found. (lost : Option Loss)
+        × IsDatabaseGiven (read_content es name.now) (option_map vec_items found) lost × (losses bad.new.items ≡ losses bad.old.items ++ losses_of name.now lost)) }
+    ensures too_big { IsTrue (F.honest folder.new) → (es : List Event) → F.past folder.old es → IsErrOf result FolderFault.TooBig →
+        IsTooBigDatabase (read_content es name.now) }
+    ensures fault { OnErr result (bad.new.items ≡ bad.old.items) }
+    ensures size { IfOk result (λ found. IfSome found (λ v. length v.items ≤ LARGEST_FILE)) }
+    ensures past { (es : List Event) → F.past folder.old es → F.past folder.new es }
+    ensures honest { IsTrue (F.honest folder.new) → IsTrue (F.honest folder.old) }
+    ensures turn { F.holds_turn folder.new ≡ F.holds_turn folder.old }
+{
+    match folder.read(alloc, name)? {
+        Some(bytes) => count(alloc, bad, name, bytes),
+        None => Ok(None),
+    }
+}
+
+/// What counts of the bytes, and a note if something of them is lost.
+fn count(
+    alloc: Global,
+    bad: &mut Vec<BadDatabase>,
+    name: &str,
+    bytes: Vec<u8>,
+) -> Result<Option<Vec<u8>>, FolderFault>
+    ensures gives { IfOk result (λ found. (lost : Option Loss)
+        × Counts (vec_items bytes) (option_map vec_items found) lost × (losses bad.new.items ≡ losses bad.old.items ++ losses_of name.now lost)) }
+    ensures too_big { IsErrOf result FolderFault.TooBig → IsTooBigToCount (vec_items bytes) }
+    ensures fault { OnErr result (bad.new.items ≡ bad.old.items) }
+    ensures size { IfOk result (λ found. IfSome found (λ v. length v.items ≤ LARGEST_FILE)) }
+{
+    let found = counted(alloc, bytes)?;
+    if is_too_big(&found.file) {
+        return Err(FolderFault::TooBig);
+    }
+    if let Some(loss) = found.loss {
+        note(alloc, bad, name, loss)?;
+    }
+    Ok(found.file)
+}
+
+/// Whether it has more bytes than a file that is read.
+fn is_too_big(file: &Option<Vec<u8>>) -> bool
+    ensures big { IsTrue result → IsOverSize (option_map vec_items file.now) }
+    ensures fits { result ≡ false → IfSome file.now (λ v. length v.items ≤ LARGEST_FILE) }
+{
+    match file {
+        Some(bytes) => bytes.len() as u64 > LARGEST_FILE,
+        None => false,
+    }
+}
