@@ -1,11 +1,14 @@
 //! A run of a command where its store is, when it is this program's turn.
-ghost use Rattle.std.specs.Prelude.{◌≡◌, IsTrue, false};
+ghost use Rattle.std.specs.Prelude.{◌≡◌, ◌&&◌, List, IsTrue, false};
+ghost use Rattle.dconf_model.specs.Folders.{Event};
 ghost use Rattle.dconf_model.specs.Outcomes.{Output};
 ghost use Rattle.dconf_model.specs.Reads.{Input};
 ghost use Rattle.dconf_model.specs.Runs.{Ran, RanCalmly};
 ghost use Rattle.dconf_command.specs.Commands.{command_of};
 ghost use Rattle.dconf_disk.specs.StdFolders.{can_write, events_of, failures_of, is_honest};
 ghost use Rattle.dconf_streams.specs.Streams.{NoneFailed};
+ghost use Rattle.dconf_found.specs.FoundFolders as found;
+ghost use Rattle.dconf_found.specs.FoundFolders.{IsPast, agrees, inner_of};
 
 use crate::finding::{Found, NotFound, enter};
 use crate::keeping::{forget, keep};
@@ -154,11 +157,26 @@ fn run_on(rt: &HostRuntime, asked: Command, folder: &mut StdFolder<&HostRuntime>
 }
 
 /// The same on a store that was found.
+///
+/// What the run is said to have done, it did to a folder of files that hold what counts of the host's, of which its reads gave what it holds.
+/// The same it did to the host's, but for an append or a sync that was refused.
 fn run_within(
     rt: &HostRuntime,
     asked: Command,
     folder: &mut FoundFolder<StdFolder<&HostRuntime>>,
-) -> u8 {
+) -> u8
+    ensures calm { IsTrue (is_honest (inner_of folder.new) && agrees folder.new) → NoneFailed (found.failures_of folder.old) (found.failures_of folder.new)
+        → (old : List Event) → IsPast (λ f es. es ≡ events_of f) folder.old old
+        → (i : Input) × ((new : List Event) × IsPast (λ f es. es ≡ events_of f) folder.new new
+        × ((output : Output) × RanCalmly (command_of asked) i old new output)) }
+    ensures ran { IsTrue (is_honest (inner_of folder.new) && agrees folder.new)
+        → (old : List Event) → IsPast (λ f es. es ≡ events_of f) folder.old old
+        → (i : Input) × ((new : List Event) × IsPast (λ f es. es ≡ events_of f) folder.new new
+        × ((output : Output) × Ran (command_of asked) i old new output)) }
+    // Without the turn to replace files nothing was done to it.
+    ensures untouched { can_write (inner_of folder.old) ≡ false → (old : List Event) → IsPast (λ f es. es ≡ events_of f) folder.old old
+        → IsPast (λ f es. es ≡ events_of f) folder.new old }
+{
     let mut input = Counted::new(rt.stdin());
     let mut out = Counted::new(rt.stdout());
     let mut err = Counted::new(rt.stderr());
