@@ -499,14 +499,6 @@ static void tries_moving(void)
     dconfdb_store_close(store);
 }
 
-/* The next descriptor that a file would have. */
-static int next_descriptor(void)
-{
-    int next = dup(0);
-    TRY(next >= 0 && close(next) == 0);
-    return next;
-}
-
 int main(int argc, char **argv)
 {
     int next = next_descriptor();

@@ -8,6 +8,7 @@
 #include <stdio.h>
 #include <stdlib.h>
 #include <string.h>
+#include <unistd.h>
 
 /* Ends the test where something is not as it should be. */
 #define TRY(it)                                                                                                                \
@@ -17,6 +18,14 @@
             exit(1);                                                                                                           \
         }                                                                                                                      \
     } while (0)
+
+/* The next descriptor that a file would have. */
+static inline int next_descriptor(void)
+{
+    int next = dup(0);
+    TRY(next >= 0 && close(next) == 0);
+    return next;
+}
 
 /* An edit that sets a string. */
 static inline DconfdbEdit sets_text(const char *path, const char *text)
