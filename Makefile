@@ -26,6 +26,6 @@ bench:
 
 docs:
 	share/make
-	tests/guarantees
+	tools/guarantees
 
 .PHONY: all check install uninstall install-library uninstall-library bench docs

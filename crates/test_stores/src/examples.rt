@@ -1,4 +1,4 @@
-//! The examples at the heads of the crates: `tests/guarantees --check` sees that the two are alike.
+//! The examples at the heads of the crates: `tools/guarantees --check` sees that the two are alike.
 use dconf_compile::{Source, compile};
 use dconf_disk::{Folder, MemoryFolder, replace};
 use dconf_engine::{Engine, Layer};

@@ -1,4 +1,4 @@
-//! The examples at the heads of the crates: `tests/guarantees --check` sees that the two are alike.
+//! The examples at the heads of the crates: `tools/guarantees --check` sees that the two are alike.
 use dconfdb_values::{child, number, text};
 use gv_build::variant_bytes;
 use gv_infer::read_value;
