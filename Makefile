@@ -25,7 +25,7 @@ bench:
 	bench/settings
 
 docs:
-	share/make
+	tools/man-pages
 	tools/guarantees
 
 .PHONY: all check install uninstall install-library uninstall-library bench docs
