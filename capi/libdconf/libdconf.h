@@ -2,7 +2,7 @@
 #ifndef LIBDCONF_H
 #define LIBDCONF_H
 
-#include "../dconfdb.h"
+#include "dconfdb.h"
 
 #include <dconf.h>
 

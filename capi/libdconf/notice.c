@@ -1,5 +1,5 @@
 /* Signals: who is told of what, in the client's context. */
-#include "../catch_up.h"
+#include "../gsettings/catch_up.h"
 #include "libdconf.h"
 
 #include <stdlib.h>

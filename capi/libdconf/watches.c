@@ -1,7 +1,7 @@
 /* Which paths a client watches, and the source that watches the store's files in its context. */
 #include "libdconf.h"
 
-#include "../watching.h"
+#include "watch.h"
 
 typedef struct {
     GSource source;

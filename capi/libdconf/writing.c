@@ -2,7 +2,7 @@
 #define _GNU_SOURCE
 #include "libdconf.h"
 
-#include "../lock.h"
+#include "locked.h"
 
 #include <pthread.h>
 #include <signal.h>

@@ -1,8 +1,8 @@
 /* Databases, by the proved calls: their keys, their values, their locks. */
 #include "lint.h"
 
-#include "../dconfdb_calls.h"
-#include "../mending.h"
+#include "dconfdb_calls.h"
+#include "repair.h"
 
 #include <stdlib.h>
 #include <string.h>
@@ -101,7 +101,7 @@ void check_database(const Lint *lint, const char *file, FileBytes *bytes)
     Place at = {file, 0};
     uint32_t number = dconfdb_open(bytes->at, bytes->len, true, &layers[1], &broken), is_mended = DCONFDB_OK;
     if (number != DCONFDB_OK)
-        is_mended = mend(bytes, &mended, &saved);
+        is_mended = repair(bytes, &mended, &saved);
     if (number != DCONFDB_OK && (is_mended != DCONFDB_OK || !saved.is_whole))
         find_fault(at, number, &broken);
     if (number != DCONFDB_OK && is_mended == DCONFDB_OK)

@@ -2,7 +2,7 @@
 #ifndef LINT_H
 #define LINT_H
 
-#include "../files.h"
+#include "files.h"
 
 #include <gio/gio.h>
 

@@ -1,9 +1,9 @@
 /* dconfdb watch: what changes in a store, by the library, and the proved text of values. */
 #define _GNU_SOURCE
-#include "../dconfdb.h"
-#include "../dconfdb_calls.h"
-#include "../place.h"
-#include "../watching.h"
+#include "dconfdb.h"
+#include "dconfdb_calls.h"
+#include "place.h"
+#include "watch.h"
 
 #include <errno.h>
 #include <getopt.h>

@@ -47,7 +47,7 @@ exit 1
 # Compiles the header's example, x.c, and runs it.
 compiles() {
     cd "$(mktemp -d)"
-    sed -n '/^ \*     #include <dconfdb.h>/,/^ \*     }/s/^ \*     //p' ~/dconfdb/capi/dconfdb.h > x.c
+    sed -n '/^ \*     #include <dconfdb.h>/,/^ \*     }/s/^ \*     //p' ~/dconfdb/capi/libdconfdb/dconfdb.h > x.c
     . "$it"
     [ "$(DCONFDB_STORE=$PWD ./a.out)" = mine ]
 }

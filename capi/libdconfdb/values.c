@@ -1,7 +1,7 @@
 /* What is in a value, and the value of a text, over the proved calls. */
 #include "dconfdb.h"
 #include "dconfdb_calls.h"
-#include "refusing.h"
+#include "errors.h"
 
 #include <stdlib.h>
 #include <string.h>

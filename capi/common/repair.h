@@ -1,6 +1,6 @@
 /* What is read of a file that is no sound database. */
-#ifndef MENDING_H
-#define MENDING_H
+#ifndef REPAIR_H
+#define REPAIR_H
 
 #include "files.h"
 
@@ -13,6 +13,6 @@ typedef struct {
 /* Makes a sound database of a file that is none: a database of no key, as dconf writes it, whole, and of any
  * other what the command `repair` keeps. The bytes are the caller's. It answers as the proved
  * calls do: MEMORY, TOO_BIG, and SHORT to BAD_TABLE where nothing can be read. */
-uint32_t mend(const FileBytes *file, FileBytes *mended, Saved *saved);
+uint32_t repair(const FileBytes *file, FileBytes *mended, Saved *saved);
 
 #endif

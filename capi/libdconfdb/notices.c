@@ -1,7 +1,7 @@
 /* Who wants to be told when a store changes: a file to poll, and what is different then. No thread is started. */
 #define _GNU_SOURCE
-#include "telling.h"
-#include "refusing.h"
+#include "notices.h"
+#include "errors.h"
 
 #include <errno.h>
 #include <stdlib.h>
@@ -12,14 +12,14 @@
 /* Until the files are looked at again where not all can be watched, or a look has failed. */
 static const struct timespec later = {1, 0}, at_once = {0, 1}, never = {0, 0};
 
-void telling_begin(Telling *it)
+void notices_begin(Notices *it)
 {
-    *it = (Telling){.polled = -1, .inotify = -1, .clock = -1};
+    *it = (Notices){.polled = -1, .inotify = -1, .clock = -1};
     pthread_mutex_init(&it->lock, NULL);
 }
 
 /* Back to where nobody has asked for it. */
-static void stop(Telling *it)
+static void stop(Notices *it)
 {
     watch_free(it->watch);
     if (it->clock >= 0)
@@ -30,7 +30,7 @@ static void stop(Telling *it)
     it->polled = it->inotify = it->clock = -1;
 }
 
-void telling_end(Telling *it)
+void notices_end(Notices *it)
 {
     stop(it);
     dconfdb_snapshot_unref(it->told);
@@ -39,21 +39,21 @@ void telling_end(Telling *it)
 
 /* ---- what is polled */
 
-static bool add(const Telling *it, int file)
+static bool add(const Notices *it, int file)
 {
     struct epoll_event event = {.events = EPOLLIN};
     return epoll_ctl(it->polled, EPOLL_CTL_ADD, file, &event) == 0;
 }
 
-/* When the clock is readable next. */
-static bool set_clock(const Telling *it, struct timespec when)
+/* When the clock is readable next. If it can't be set, it stays as it is. */
+static bool set_clock(const Notices *it, struct timespec when)
 {
     const struct itimerspec time = {{0, 0}, when};
     return timerfd_settime(it->clock, 0, &time, NULL) == 0;
 }
 
 /* Watches the store's files. Where there was no inotify there may be by now. */
-static void watch_anew(Telling *it, const DconfdbStore *store)
+static void watch_anew(Notices *it, const DconfdbStore *store)
 {
     char *files = files_of(store);
     watch_files(it->watch, files, 0);
@@ -63,13 +63,13 @@ static void watch_anew(Telling *it, const DconfdbStore *store)
 }
 
 /* Whether it is told by inotify when anything happens. */
-static bool is_whole(const Telling *it)
+static bool is_whole(const Notices *it)
 {
     return it->inotify >= 0 && watch_next_look(it->watch) == 0;
 }
 
 /* The first dispatch is at once: what happened before the files were watched is not told by inotify. */
-static bool begin(Telling *it, const DconfdbStore *store)
+static bool begin(Notices *it, const DconfdbStore *store)
 {
     it->watch = watch_new(false);
     errno = it->watch ? 0 : ENOMEM;
@@ -85,7 +85,7 @@ static bool begin(Telling *it, const DconfdbStore *store)
 
 int dconfdb_store_fd(DconfdbStore *store, DconfdbError *error)
 {
-    Telling *it = telling_of(store);
+    Notices *it = notices_of(store);
     pthread_mutex_lock(&it->lock);
     if (!it->told)
         it->told = dconfdb_store_snapshot(store);
@@ -100,17 +100,27 @@ int dconfdb_store_fd(DconfdbStore *store, DconfdbError *error)
 
 /* ---- what is told */
 
-/* Takes what happened, and watches anew where folders have changed. */
-static void take(Telling *it, const DconfdbStore *store)
+/* Whether a second has passed since the last look, where not all can be watched. */
+static bool is_late(const Notices *it)
 {
-    uint64_t times;
-    bool was_late = read(it->clock, &times, sizeof times) > 0 && !is_whole(it);
+    struct itimerspec left = {{0, 0}, {0, 0}};
+    return !is_whole(it) && (timerfd_gettime(it->clock, &left) != 0 || (left.it_value.tv_sec == 0 && left.it_value.tv_nsec == 0));
+}
+
+/* Takes what happened, and watches anew where folders have changed. The clock comes first: if it can't be set nothing is
+ * taken, so that the file stays readable. */
+static bool take(Notices *it, const DconfdbStore *store, DconfdbError *error)
+{
+    bool was_late = is_late(it);
+    if (!set_clock(it, later))
+        return refuse_file(error, errno, dconfdb_store_folder(store), nowhere);
     if (watch_read(it->watch) == WATCHED_FOLDER || was_late)
         watch_anew(it, store);
+    return true;
 }
 
 /* What differs from what was told last. */
-static char *differences(Telling *it, DconfdbStore *store, size_t *size, DconfdbError *error)
+static char *differences(Notices *it, DconfdbStore *store, size_t *size, DconfdbError *error)
 {
     if (!dconfdb_store_refresh(store, NULL, error))
         return NULL;
@@ -124,15 +134,14 @@ static char *differences(Telling *it, DconfdbStore *store, size_t *size, Dconfdb
 
 char *dconfdb_store_dispatch(DconfdbStore *store, size_t *size, DconfdbError *error)
 {
-    Telling *it = telling_of(store);
+    Notices *it = notices_of(store);
     pthread_mutex_lock(&it->lock);
     if (!it->told)
         it->told = dconfdb_store_snapshot(store);
-    if (it->watch)
-        take(it, store);
-    char *paths = differences(it, store, size, error);
-    if (it->watch)
-        set_clock(it, paths && is_whole(it) ? never : later);
+    char *paths = !it->watch || take(it, store, error) ? differences(it, store, size, error) : NULL;
+    /* A clock that can't be stopped is readable once more, for nothing. */
+    if (it->watch && paths && is_whole(it))
+        (void)set_clock(it, never);
     pthread_mutex_unlock(&it->lock);
     return paths;
 }

@@ -1,6 +1,6 @@
 /* The keys below a directory: their paths by the proved lists, one directory after another, and then a read of each. */
 #include "dconfdb.h"
-#include "refusing.h"
+#include "errors.h"
 
 #include <stdlib.h>
 #include <string.h>

@@ -5,13 +5,13 @@
 #define _FILE_OFFSET_BITS 64
 #include "dconfdb.h"
 #include "dconfdb_calls.h"
+#include "errors.h"
 #include "files.h"
-#include "lock.h"
-#include "mending.h"
+#include "locked.h"
+#include "notices.h"
 #include "order.h"
 #include "place.h"
-#include "refusing.h"
-#include "telling.h"
+#include "repair.h"
 
 #include <errno.h>
 #include <pthread.h>
@@ -72,7 +72,7 @@ struct DconfdbStore {
     Order order;                /* of the turn that it has; under `refreshing` */
     bool is_unsettled;          /* its last change is perhaps not on the disk; under `refreshing` */
     DconfdbSnapshot *now;
-    Telling telling;
+    Notices notices;
     StorePlace place;
     char *user_file; /* absolute; NULL: no user's database */
     size_t count;
@@ -175,7 +175,7 @@ static bool part_mend(Part *part, const DconfdbError *fault, DconfdbError *error
     FileBytes mended = {NULL, 0, false};
     DconfdbUnsound broken = {0, 0, false};
     Saved saved;
-    uint32_t number = mend(&part->bytes, &mended, &saved);
+    uint32_t number = repair(&part->bytes, &mended, &saved);
     if (number == DCONFDB_MEMORY)
         return refuse_memory(error);
     file_release(&part->bytes);
@@ -828,7 +828,7 @@ static DconfdbStore *store_at(const StorePlace *place, const DconfdbOptions *opt
     }
     pthread_mutex_init(&store->refreshing, NULL);
     pthread_mutex_init(&store->handing, NULL);
-    telling_begin(&store->telling);
+    notices_begin(&store->notices);
     store->options = *options;
     store->place = (StorePlace){folder, profile};
     return store;
@@ -952,7 +952,7 @@ void dconfdb_store_close(DconfdbStore *store)
 {
     if (!store)
         return;
-    telling_end(&store->telling);
+    notices_end(&store->notices);
     forget_seen(store);
     order_end(&store->order);
     dconfdb_snapshot_unref(store->now);
@@ -969,9 +969,9 @@ const StorePlace *place_of(const DconfdbStore *store)
     return &store->place;
 }
 
-Telling *telling_of(DconfdbStore *store)
+Notices *notices_of(DconfdbStore *store)
 {
-    return &store->telling;
+    return &store->notices;
 }
 
 const char *dconfdb_store_folder(const DconfdbStore *store)

@@ -1,6 +1,6 @@
 /* Errors: their fields, texts and names; and the library's version. */
 #define _POSIX_C_SOURCE 200809L
-#include "refusing.h"
+#include "errors.h"
 
 #include <errno.h>
 #include <stdarg.h>

@@ -4,10 +4,10 @@
 
 #define G_SETTINGS_ENABLE_BACKEND
 #include "dconfdb.h"
-#include "lock.h"
+#include "locked.h"
 #include "order.h"
 #include "place.h"
-#include "watching.h"
+#include "watch.h"
 
 #include <gio/gio.h>
 #include <gio/gsettingsbackend.h>
@@ -15,7 +15,7 @@
 #include <stdatomic.h>
 #include <sys/stat.h>
 
-/* ---- changes that wait (gsettings_changes.c) */
+/* ---- changes that wait (changes.c) */
 
 /* An edit of a key; without a value it removes the user's. One that has no effect is left out, and the others
  * of the change are made: that of a locked key, and one that changes nothing. */
@@ -105,7 +105,7 @@ bool changes_write(DconfdbStore *store, const Turn *turn, GQueue *changes, GQueu
 
 /* ---- the backend */
 
-/* How it comes to its turn (gsettings_turn.c). */
+/* How it comes to its turn (turn.c). */
 typedef struct Wait Wait;
 
 /* It lives as long as somebody has a reference. GLib keeps one to that which GSETTINGS_BACKEND names. `turn` is
@@ -166,7 +166,7 @@ typedef struct {
 /* Takes a mutex, if that is possible until then. Nothing is waited for but the time. */
 bool mutex_lock_until(GMutex *mutex, gint64 end);
 
-/* ---- the store (gsettings_store.c) */
+/* ---- the store (store.c) */
 
 /* Finds its place, from the environment. */
 void store_begin(DconfdbBackend *self);
@@ -205,7 +205,7 @@ void store_end(DconfdbBackend *self);
  * changed. The child opens a store of its own if it has no snapshot. */
 void store_leave(DconfdbBackend *self);
 
-/* ---- the turn to write (gsettings_turn.c), by the worker; neither mutex is held */
+/* ---- the turn to write (turn.c), by the worker; neither mutex is held */
 
 /* Takes the turn, or goes on waiting for it, until then. Its fault is EWOULDBLOCK as long as others have it: the
  * worker is woken when it comes. */
@@ -229,7 +229,7 @@ Patience patience_of(const DconfdbBackend *self, gint64 each);
 /* Moves the end, where there was a turn since the last call. */
 void patience_renew(Patience *patience, const DconfdbBackend *self);
 
-/* ---- the thread that writes and watches (gsettings_worker.c); `lock` is held */
+/* ---- the thread that writes and watches (worker.c); `lock` is held */
 
 void worker_begin(DconfdbBackend *self);
 void worker_wake(DconfdbBackend *self);
@@ -243,7 +243,7 @@ bool worker_let_go(DconfdbBackend *self);
 bool worker_is_this(DconfdbBackend *self);
 bool worker_is_another(DconfdbBackend *self);
 
-/* ---- the files that are watched (gsettings_watch.c), by the worker */
+/* ---- the files that are watched (watch.c), by the worker */
 
 /* Begins, or looks at the files, where it is time. */
 void watch_turn(DconfdbBackend *self);
@@ -256,7 +256,7 @@ gint64 watch_next(DconfdbBackend *self);
 void watch_take(DconfdbBackend *self);
 void watch_end(DconfdbBackend *self);
 
-/* ---- notices (gsettings_notice.c) */
+/* ---- notices (notice.c) */
 
 /* What happened in a turn. */
 typedef struct {

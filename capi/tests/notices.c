@@ -1,11 +1,12 @@
-/* Tries what tells of changes: telling FOLDER, as calls.c has it. inotify_init1, epoll_create1 and timerfd_create are
- * wrapped: each can be had, or not. */
+/* Tries what tells of changes: notices FOLDER, as calls.c has it. inotify_init1, epoll_create1 and timerfd_create are
+ * wrapped: each can be had, or not. So is timerfd_settime, which succeeds so many times. */
 #include "try.h"
 
 #include <errno.h>
 #include <poll.h>
 #include <sys/inotify.h>
 #include <sys/stat.h>
+#include <sys/timerfd.h>
 #include <time.h>
 #include <unistd.h>
 
@@ -15,9 +16,12 @@ int __real_epoll_create1(int flags);
 int __wrap_epoll_create1(int flags);
 int __real_timerfd_create(int clock, int flags);
 int __wrap_timerfd_create(int clock, int flags);
+int __real_timerfd_settime(int file, int flags, const struct itimerspec *next, struct itimerspec *last);
+int __wrap_timerfd_settime(int file, int flags, const struct itimerspec *next, struct itimerspec *last);
 
 static DconfdbError error = DCONFDB_ERROR_INIT;
 static bool has_inotify = true, has_epoll = true, has_clock = true;
+static size_t sets = SIZE_MAX;
 
 static int fails(void)
 {
@@ -38,6 +42,14 @@ int __wrap_epoll_create1(int flags)
 int __wrap_timerfd_create(int clock, int flags)
 {
     return has_clock ? __real_timerfd_create(clock, flags) : fails();
+}
+
+int __wrap_timerfd_settime(int file, int flags, const struct itimerspec *next, struct itimerspec *last)
+{
+    if (sets == 0)
+        return fails();
+    sets -= sets != SIZE_MAX;
+    return __real_timerfd_settime(file, flags, next, last);
 }
 
 enum { SOON = 3000, QUIET = 100 };
@@ -214,6 +226,29 @@ static void tries_faults(void)
     dconfdb_store_close(store);
 }
 
+/* A clock that can't be set: the call fails, takes nothing, and is to be made again. One that can't be stopped wakes once more. */
+static void tries_clock(void)
+{
+    DconfdbStore *store = dconfdb_store_open(".", &error);
+    size_t size = 77;
+    sets = 0;
+    TRY(store && dconfdb_store_fd(store, &error) == -1 && error.code == DCONFDB_ERROR_FILE && error.errnum == EMFILE);
+    sets = SIZE_MAX;
+    int file = dconfdb_store_fd(store, &error);
+    TRY(file >= 0 && is_quiet(store) && changes(store, sets_text("/k", "1")) && is_readable(file, SOON));
+    sets = 0;
+    TRY(!dconfdb_store_dispatch(store, &size, NULL) && !dconfdb_store_dispatch(store, &size, &error));
+    TRY(size == 77 && error.code == DCONFDB_ERROR_FILE && error.errnum == EMFILE && is_readable(file, QUIET));
+    sets = 1;
+    char *paths = dconfdb_store_dispatch(store, &size, &error);
+    TRY(paths && size == 3 && strcmp(paths, "/k") == 0 && sets == 0);
+    free(paths);
+    sets = SIZE_MAX;
+    TRY(is_readable(file, SOON) && is_quiet(store) && !is_readable(file, 1500));
+    TRY(changes(store, (DconfdbEdit){"/", NULL, NULL, 0}) && IS_TOLD(store, "/k\0") && is_quiet(store));
+    dconfdb_store_close(store);
+}
+
 int main(int argc, char **argv)
 {
     int next = next_descriptor();
@@ -223,6 +258,7 @@ int main(int argc, char **argv)
     tries_ways();
     tries_bad_files();
     tries_faults();
+    tries_clock();
     TRY(next_descriptor() == next);
     return 0;
 }

@@ -1,7 +1,7 @@
 /* The names of a store's files, watched by inotify, and the folders and links on the way to them: of the GSettings backend,
  * of libdconf, of `dconfdb watch`, and of dconfdb_store_fd. */
-#ifndef WATCHING_H
-#define WATCHING_H
+#ifndef WATCH_H
+#define WATCH_H
 
 #include "place.h"
 

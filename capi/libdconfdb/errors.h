@@ -1,6 +1,6 @@
 /* How an error is filled in. Each call that refuses returns false, and takes NULL for an error that nobody wants. */
-#ifndef REFUSING_H
-#define REFUSING_H
+#ifndef ERRORS_H
+#define ERRORS_H
 
 #include "dconfdb.h"
 #include "dconfdb_calls.h"

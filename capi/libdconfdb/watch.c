@@ -1,6 +1,6 @@
 /* The names of a store's files, watched by inotify. */
 #define _GNU_SOURCE
-#include "watching.h"
+#include "watch.h"
 
 #include <limits.h>
 #include <stdio.h>

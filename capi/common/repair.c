@@ -1,7 +1,7 @@
 /* Files that are no sound databases: what is read of them, as the proved calls make it. */
 #define _DEFAULT_SOURCE
 #define _POSIX_C_SOURCE 200809L
-#include "mending.h"
+#include "repair.h"
 #include "dconfdb_calls.h"
 
 #include <stdlib.h>
@@ -39,7 +39,7 @@ static uint32_t make(Makes *makes, const FileBytes *file, size_t len, FileBytes 
     return number;
 }
 
-uint32_t mend(const FileBytes *file, FileBytes *mended, Saved *saved)
+uint32_t repair(const FileBytes *file, FileBytes *mended, Saved *saved)
 {
     *saved = (Saved){0, 0, false};
     if (!file->at)

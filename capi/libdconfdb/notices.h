@@ -1,8 +1,8 @@
 /* What dconfdb_store_fd and dconfdb_store_dispatch have of a store. */
-#ifndef TELLING_H
-#define TELLING_H
+#ifndef NOTICES_H
+#define NOTICES_H
 
-#include "watching.h"
+#include "watch.h"
 
 #include <pthread.h>
 
@@ -12,13 +12,13 @@ typedef struct {
     int polled;            /* epoll's, of inotify and a clock */
     int inotify, clock;    /* in it; inotify's is the watch's, or -1 */
     DconfdbSnapshot *told; /* what was told last; NULL: nothing was */
-} Telling;
+} Notices;
 
-void telling_begin(Telling *it);
-void telling_end(Telling *it);
+void notices_begin(Notices *it);
+void notices_end(Notices *it);
 
 /* A store's, and the files that it has, a zero byte after each and one more; NULL: no memory is left. */
-Telling *telling_of(DconfdbStore *store);
+Notices *notices_of(DconfdbStore *store);
 char *files_of(const DconfdbStore *store);
 
 #endif

@@ -1,0 +1,24 @@
+/* The lock by which the programs that change files of a folder take turns: flock() on the file `.lock` in it, which is
+ * made where it is missing, and stays. Whoever may write in the folder may open it, and nobody else. The program takes the
+ * same one, in crates/dconf_disk/src/lock.rt. */
+#ifndef LOCK_H
+#define LOCK_H
+
+#define LOCK_NAME ".lock"
+
+/* It stays where it is in memory as long as it is held. */
+typedef struct FolderLock {
+    int folder, file;
+    struct FolderLock *next; /* of those of the process */
+} FolderLock;
+
+enum { WITHOUT_END = -1 };
+
+/* Takes the lock, and makes the folder if it is missing. A wait without end is one in the kernel, which lets all who
+ * wait there have it in turn. Gives 0, or the errno of what failed: EWOULDBLOCK if others have had it for so many
+ * milliseconds, EINVAL if what has the lock's name is no regular file. */
+int folder_lock(const char *folder, int milliseconds, FolderLock *lock);
+
+void folder_unlock(FolderLock *lock);
+
+#endif
