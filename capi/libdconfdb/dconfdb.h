@@ -491,7 +491,7 @@ DCONFDB_API bool dconfdb_snapshot_has_edit(const DconfdbSnapshot *snapshot, cons
  * of two threads that call it, to one. It waits for no change: without anything to tell it returns at once.
  *
  * Nothing is lost: if `dispatch` fails (NULL), or if not all files can be watched, the file is readable again
- * after a second. If that is because the file's own clock can't be set (DCONFDB_ERROR_FILE), a file that was
+ * after a second. If `dispatch` fails since no time can be set for that (DCONFDB_ERROR_FILE), a file that was
  * readable stays so. Watched are, by inotify, the databases' names, and the folders and links on the way to
  * them. A folder that is missing is waited for, but not in /etc; and what another machine changes on a file
  * server is not seen so. The store owns the file: it is not to be read, and is closed with the store. -1: it
