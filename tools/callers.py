@@ -5,7 +5,7 @@ than what is wrong. Four rules stand for what is handed on:
 
 - a path that stands as a value, as `map(View::as_u32)`, is a call;
 - who names a type of its own crate may call what the type's `impl` of a trait does;
-- an arm of a `match` over an enum of a crate of tests is for those who name one of its variants; `_` is for the variants without an arm;
+- an arm of a `match` over an enum of a crate of tests is for those who name its variant; `_` is for the variants without an arm;
 - a closure's first parameter is what the option, result or sequence before it holds.
 """
 import re
@@ -254,24 +254,33 @@ class Graph:
 
     def reached(self, starts, crates):
         """The functions that these lead to by others of these crates."""
-        seen, variants, types, waiting = {}, set(), set(), list(starts)
+        seen, tried, waiting = {}, set(), [None]
         while waiting:
-            seen.update({id(node): node for node in waiting})
-            inside = [node for node in seen.values() if node.crate.name in crates]
-            calls = [call for node in inside for call in self.taken(self.does(node), variants, types)]
-            calls += [node for node in self.of_traits if (node.crate.name, node.owner) in types]
-            waiting = [node for node in calls if id(node) not in seen]
+            variant = waiting.pop()
+            tried.add(variant)
+            waiting += self.walked(starts, crates, variant, seen) - tried - set(waiting)
         return list(seen.values())
 
-    def taken(self, does, variants, types):
-        """What a function calls, if these variants are named, to which its own are added."""
+    def walked(self, starts, crates, variant, seen):
+        """Adds the functions that are led to by this variant of an enum of tests, and gives the variants that are named on the way."""
+        found, variants, types, waiting = {}, set(), set(), list(starts)
+        while waiting:
+            found.update({id(node): node for node in waiting})
+            inside = [node for node in found.values() if node.crate.name in crates]
+            calls = [call for node in inside for call in self.taken(self.does(node), variant, variants, types)]
+            calls += [node for node in self.of_traits if (node.crate.name, node.owner) in types]
+            waiting = [node for node in calls if id(node) not in found]
+        seen.update(found)
+        return {(of, name) for of, name in variants if of[0] in self.of_tests}
+
+    def taken(self, does, variant, variants, types):
+        """What a function calls by this variant. What it names is added."""
         variants |= does.variants
         types |= does.types
         calls = list(does.calls)
         for arm in does.arms:
-            named = {name for of, name in variants if of == arm.enum}
-            if named & arm.wanted if arm.wanted else named - arm.others:
-                calls += self.taken(arm.does, variants, types)
+            if variant and arm.enum == variant[0] and (variant[1] in arm.wanted if arm.wanted else variant[1] not in arm.others):
+                calls += self.taken(arm.does, variant, variants, types)
         return calls
 
 

@@ -268,15 +268,20 @@ def row_of_text(store, line):
     return is_so('the bytes of what it reads', stored(store, printed), value)
 
 
-def row_shown(store, line, is_written):
+def row_shown(store, line, kind):
     bytes_and_type, wanted = line.split(' | ')
     asked, _, words = bytes_and_type.partition(' ')
     made = bytes_of(words)
     store.put('f', made)
     is_left(store.run(['show', asked, 'f']), wanted)
-    if is_written:
-        store.put('profile', b'user-db:me\n')
-        is_so('the bytes that are stored', stored(store, wanted), made + b'\0' + asked.encode())
+    if kind == 'show':
+        return
+    store.put('profile', b'user-db:me\n')
+    value = stored(store, wanted)
+    if kind == 'bytes':
+        is_so('the bytes that are stored', value, made + b'\0' + asked.encode())
+    else:
+        is_left(store.run(['read', '/k']), wanted)
 
 
 def locked(store):
@@ -307,7 +312,7 @@ def row_of_table(store, line, kind):
 
 
 # What tries a row, by the kind of its table.
-ROWS = {'show': lambda store, line: row_shown(store, line, False), 'bytes': lambda store, line: row_shown(store, line, True), 'text': row_of_text}
+ROWS = {'text': lambda store, line, _: row_of_text(store, line), 'show': row_shown, 'bytes': row_shown, 'back': row_shown}
 
 
 def table(store, lines, kind):
@@ -317,7 +322,7 @@ def table(store, lines, kind):
         if line and not line.startswith('-- '):
             rows += 1
             try:
-                ROWS[kind](store, line) if kind in ROWS else row_of_table(store, line, kind)
+                ROWS.get(kind, row_of_table)(store, line, kind)
             except FAULTS as why:
                 faults.append(f'{lines.number()}: {line[:100]}: {why}')
     return rows, faults

@@ -1,6 +1,5 @@
 //! The calls of the library for C, answered and refused, over two layers by hand: both have 5 at
 //! `/k`, and the second locks it.
-use crate::samples::sample;
 use dconf_engine::Layer;
 use dconfdb_calls::{
     DconfdbChange, DconfdbFound, Fault, differing_keys, directory_locks, directory_names, hand_out,
@@ -9,6 +8,7 @@ use dconfdb_calls::{
 };
 use std::alloc::Global;
 use std::test::Fail;
+use test_rows::sample;
 
 /// The layer of a file that is a sound database.
 pub(crate) fn layer(file: &[u8]) -> Result<Layer<'_>, Fail> {
@@ -80,6 +80,11 @@ fn are_told_apart(alloc: Global, layers: &[Layer<'_>]) -> bool {
         && are_names(keys_differing_first(alloc, &alone, user), Some(b""))
 }
 
+/// The first bytes of a file.
+fn first_of_plain(len: usize) -> &'static [u8] {
+    sample("plain").get(..len).unwrap_or(&[])
+}
+
 /// Whether a file opens alike with the help of a layer and without.
 fn opens_alike(old: Layer<'_>, file: &[u8]) -> bool {
     match (open_layer(file, true), open_layer_after(&old, file, true)) {
@@ -97,8 +102,8 @@ fn open_alike(user: Layer<'_>, site: Layer<'_>) -> bool {
         && opens_alike(user, sample("buckets"))
         && opens_alike(user, sample("locked"))
         && opens_alike(site, sample("locked"))
-        && opens_alike(user, sample("101"))
-        && opens_alike(user, sample("20"))
+        && opens_alike(user, first_of_plain(101))
+        && opens_alike(user, first_of_plain(20))
         && open_layer_after(&user, b"", false).is_ok()
 }
 

@@ -1,145 +1,149 @@
-//! The calls of the library for C that say whether a value is stored, that repair a file, and that
-//! pass over the bad lines of a profile.
+//! Tables of the calls of the library for C: whether a value is stored, what is saved of a file, which lines of a profile are good, and the
+//! text of a value.
 use crate::calls::layer;
-use crate::samples::sample;
+use crate::questions::TableOf;
 use dconfdb_calls::{
-    Fault, GoodLines, Salvaged, good_lines, is_stored, keyless_file, open_layer, salvaged_file,
+    BadProfile, Salvaged, Unprinted, good_lines, is_stored, keyless_file, open_layer,
+    salvaged_file, value_text,
 };
-use std::alloc::Global;
+use std::alloc::{AllocError, Global};
+use std::fmt::Write;
 use std::test::Fail;
+use test_rows::{bytes_of, sample, table};
 
-/// Whether the layer of `/k`, worth 5, has this value at the path.
-fn has(alloc: Global, path: &str, value: &[u8], type_text: &str) -> Result<bool, Fail> {
+/// Two words, and what stands after them.
+fn cut(asked: &str) -> (&str, &str, &str) {
+    let (first, rest) = asked.split_once(' ').unwrap_or((asked, ""));
+    let (second, rest) = rest.split_once(' ').unwrap_or((rest, ""));
+    (first, second, rest)
+}
+
+/// Whether the layer of `/k`, worth 5, has at a path the value of a type and its bytes.
+pub(crate) fn stored(alloc: Global, asked: &str, found: &mut String) -> Result<(), Fail> {
+    let (path, of, words) = cut(asked);
+    let value = bytes_of(alloc, words)?;
     let layer = layer(sample("plain"))?;
-    match is_stored(alloc, &layer, path.as_bytes(), value, type_text.as_bytes()) {
-        Ok(is) => Ok(is),
+    match is_stored(alloc, &layer, path.as_bytes(), &value, of.as_bytes()) {
+        Ok(is) => Ok(write!(found, "{is}")?),
         Err(fault) => Err(Fail::new(fault.text())),
     }
 }
 
-#[test]
-fn values_are_told_from_stored_ones(rt: HostRuntime) -> Result<(), Fail> {
-    let alloc = rt.alloc();
-    let rows: [(&str, &[u8], &str, bool); 6] = [
-        ("/k", b"\x05\0\0\0", "i", true),
-        ("/k", b"\x06\0\0\0", "i", false),
-        ("/k", b"\x05\0\0\0", "u", false),
-        ("/j", b"\x05\0\0\0", "i", false),
-        ("k", b"\x05\0\0\0", "i", false),
-        ("/k", b"\x05\0\0\0", "?", false),
-    ];
-    for (path, value, type_text, is) in rows {
-        assert!(rt;
-            has(alloc, path, value, type_text)? == is,
-            "{path} {type_text}"
-        );
+const STORED: &str = "
+/k i 05 00 00 00 | true
+/k i 06 00 00 00 | false
+/k u 05 00 00 00 | false
+/j i 05 00 00 00 | false
+k i 05 00 00 00 | false
+/k ? 05 00 00 00 | false
+";
+
+/// How many keys and locks are saved, and whether the file is sound.
+fn show_saved(saved: &Salvaged, found: &mut String) -> Result<(), AllocError> {
+    let is_sound = open_layer(&saved.file, true).is_ok();
+    write!(found, "{} {} {is_sound}", saved.keys, saved.locks)
+}
+
+/// What is saved of a file, or the number of the fault.
+pub(crate) fn saved(alloc: Global, asked: &str, found: &mut String) -> Result<(), Fail> {
+    let file = bytes_of(alloc, asked)?;
+    match salvaged_file(alloc, &file) {
+        Ok(saved) => show_saved(&saved, found)?,
+        Err(fault) => write!(found, "{}", fault.number())?,
     }
     Ok(())
 }
 
-/// Whether what is saved of a file is a sound database with so many keys and locks.
-fn saves(alloc: Global, file: &[u8], keys: usize, locks: usize) -> Result<bool, Fail> {
-    match salvaged_file(alloc, file) {
-        Ok(saved) => Ok(has_counts(&saved, keys, locks)),
+const SAVED: &str = "
+%locked | 1 1 true
+-- without its values
+%locked :160 | 0 1 true
+'GVariant' | 2
+";
+
+/// The number and the line of a fault.
+fn place(bad: &BadProfile) -> (u32, usize) {
+    (bad.fault.number(), bad.line)
+}
+
+/// How many databases the good lines of a profile name, the last one's name, and the first bad line.
+pub(crate) fn names(alloc: Global, asked: &str, found: &mut String) -> Result<(), Fail> {
+    let text = bytes_of(alloc, asked)?;
+    match good_lines(alloc, &text) {
+        Ok(lines) => {
+            let last = lines.names.last().and_then(|it| str::from_utf8(it.name).ok());
+            let bad = lines.fault.as_ref().map(place);
+            Ok(write!(found, "{} {last:?} {bad:?}", lines.names.len())?)
+        }
         Err(fault) => Err(Fail::new(fault.text())),
     }
 }
 
-/// Whether it is a sound database with so many keys and locks.
-fn has_counts(saved: &Salvaged, keys: usize, locks: usize) -> bool {
-    saved.keys == keys && saved.locks == locks && open_layer(saved.file.as_slice(), true).is_ok()
-}
+const NAMES: &str = r#"
+'user-db:me' 20 '#' 20 'mine' | 1 Some("me") None
+ff 0a 'user-db:me' 0a 'oops' 0a 'system-db:site' | 2 Some("site") Some((8, 1))
+'user-db:me' 0a 0a 'service-db:s' 0a 'user-db:you' 0a | 1 Some("me") Some((10, 3))
+'user-db:me' 0a 'user-db:you' 0a 'file-db:/x' | 2 Some("/x") Some((11, 2))
+'file-db:a' 0a 'system-db:b/c' 0a | 1 Some("a") Some((9, 2))
+"#;
 
-#[test]
-fn what_is_saved_of_a_file_is_sound(rt: HostRuntime) -> Result<(), Fail> {
-    let alloc = rt.alloc();
-    let locked = sample("locked");
-    let cut = locked.get(..160).unwrap_or(locked);
-    assert!(rt; saves(alloc, locked, 1, 1)?, "a sound file");
-    assert!(rt; saves(alloc, cut, 0, 1)?, "a file without its values");
-    let short = salvaged_file(alloc, b"GVariant").is_err_and(|it| it == Fault::Short);
-    assert!(rt; short, "no database");
-    Ok(())
-}
+/// The sound database of no key.
+const EMPTY: &[u8] = b"GVariant\0\0\0\0\0\0\0\0\x18\0\0\0\x3c\0\0\0\
+    \0\0\0\0\x01\0\0\0\0\0\0\0\xd4\xb5\x02\0\xff\xff\xff\xff\x3c\0\0\0\x01\0L\0\0\0\0\0\0\0\0\0/";
 
-/// Whether so many databases are named, the last of them so, and the first bad line is this one, with
-/// the number of its fault; zeros: none is bad.
-fn names(
-    alloc: Global,
-    text: &[u8],
-    count: usize,
-    last: &[u8],
-    bad: (u32, usize),
-) -> Result<bool, Fail> {
-    match good_lines(alloc, text) {
-        Ok(lines) => Ok(are(&lines, count, last) && number_and_line(&lines) == bad),
-        Err(fault) => Err(Fail::new(fault.text())),
-    }
-}
-
-/// Whether so many databases are named, the last of them so.
-fn are(lines: &GoodLines<'_>, count: usize, last: &[u8]) -> bool {
-    lines.names.len() == count && lines.names.last().is_some_and(|it| it.name == last)
-}
-
-/// The number of the first bad line's fault, and the line.
-fn number_and_line(lines: &GoodLines<'_>) -> (u32, usize) {
-    match lines.fault {
-        Some(bad) => (bad.fault.number(), bad.line),
-        None => (0, 0),
-    }
-}
-
-#[test]
-fn bad_lines_of_a_profile_are_passed_over(rt: HostRuntime) -> Result<(), Fail> {
-    let rows: [(&[u8], usize, &[u8], (u32, usize)); 5] = [
-        (b"user-db:me # mine", 1, b"me", (0, 0)),
-        (
-            b"\xff\nuser-db:me\noops\nsystem-db:site",
-            2,
-            b"site",
-            (8, 1),
-        ),
-        (
-            b"user-db:me\n\nservice-db:s\nuser-db:you\n",
-            1,
-            b"me",
-            (10, 3),
-        ),
-        (b"user-db:me\nuser-db:you\nfile-db:/x", 2, b"/x", (11, 2)),
-        (b"file-db:a\nsystem-db:b/c\n", 1, b"a", (9, 2)),
-    ];
-    for (text, count, last, bad) in rows {
-        assert!(rt;
-            names(rt.alloc(), text, count, last, bad)?,
-            "{count} {bad:?}"
-        );
+/// Whether a file is sound, and whether it stands for the database of no key; or the number of the fault.
+pub(crate) fn keyless(alloc: Global, asked: &str, found: &mut String) -> Result<(), Fail> {
+    let file = bytes_of(alloc, asked)?;
+    let is_sound = open_layer(&file, true).is_ok();
+    match keyless_file(alloc, &file) {
+        Ok(made) => write!(found, "{is_sound} {}", made.as_slice() == EMPTY)?,
+        Err(fault) => write!(found, "{is_sound} {}", fault.number())?,
     }
     Ok(())
 }
 
-/// A database of `/` alone, of this kind, whose contents start there.
-fn of_root(kind: u8, start: u8) -> [u8; 61] {
-    let mut file = *b"GVariant\0\0\0\0\0\0\0\0\x18\0\0\0\x3c\0\0\0\
-        \0\0\0\0\x01\0\0\0\0\0\0\0\xd4\xb5\x02\0\xff\xff\xff\xff\x3c\0\0\0\x01\0L\0\0\0\0\0\0\0\0\0/";
-    file[50] = kind;
-    file[52] = start;
-    file
+/// Of the first rows `/` is of each kind, and has contents that start somewhere.
+const KEYLESS: &str = "
+%plain :60 20=60 44=60 56=0 '/' 52=0 50=76 | true true
+%plain :60 20=60 44=60 56=0 '/' 52=0 50=0 | false true
+%plain :60 20=60 44=60 56=0 '/' 52=9 50=118 | false true
+%plain :60 20=60 44=60 56=0 '/' 52=60 50=72 | false true
+%plain :60 20=60 44=60 56=0 '/' 52=255 50=255 | false true
+%plain | true 7
+%buckets | true 7
+%locked | true 7
+%plain :40 | false 7
+";
+
+/// The printed text of a type and its bytes, or the number of the fault.
+pub(crate) fn value_shown(alloc: Global, asked: &str, found: &mut String) -> Result<(), Fail> {
+    let (of, words) = asked.split_once(' ').unwrap_or((asked, ""));
+    let bytes = bytes_of(alloc, words)?;
+    match value_text(alloc, of.as_bytes(), &bytes) {
+        Ok(text) => found.push_str(&text)?,
+        Err(why) => write!(found, "{}", why.number())?,
+    }
+    Ok(())
 }
 
+const VALUES: &str = r#"
+i 05 00 00 00 | 5
+au 01 00 00 00 02 00 00 00 | [uint32 1, 2]
+s 61 27 62 00 | "a'b"
+v 05 00 00 00 00 'i' | <5>
+d 00 00 00 00 00 00 00 00 | 19
+? | 14
+ii | 14
+"#;
+
 #[test]
-fn a_database_of_no_key_is_told(rt: HostRuntime) -> Result<(), Fail> {
+fn each_row_of_the_calls_is_so(rt: HostRuntime) -> Result<(), Fail> {
     let alloc = rt.alloc();
-    let empty = of_root(b'L', 0);
-    assert!(rt; open_layer(&empty, true).is_ok() && open_layer(&of_root(0, 0), true).is_err());
-    for (kind, start) in [(b'L', 0), (0, 0), (b'v', 9), (b'H', 60), (255, 255)] {
-        let is = keyless_file(alloc, &of_root(kind, start)).is_ok_and(|it| it.as_slice()
-            == empty.as_slice());
-        assert!(rt; is, "{kind} {start}");
-    }
-    for name in ["plain", "buckets", "locked", "40"] {
-        let is = matches!(keyless_file(alloc, sample(name)), Err(Fault::Unsound));
-        assert!(rt; is, "{name}");
-    }
+    table(alloc, &mut TableOf::Stored, STORED)?;
+    table(alloc, &mut TableOf::Saved, SAVED)?;
+    table(alloc, &mut TableOf::Names, NAMES)?;
+    table(alloc, &mut TableOf::Keyless, KEYLESS)?;
+    table(alloc, &mut TableOf::Value, VALUES)?;
+    assert!(rt; (Unprinted::Memory.number(), Unprinted::TooLarge.number()) == (1, 17));
     Ok(())
 }

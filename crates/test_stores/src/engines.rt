@@ -1,6 +1,5 @@
 //! Each call of an engine and of layers, where there is memory enough: over a user's database of one key, and a site's that locks it. What
 //! is seen through layers is in tests/program.d.
-use crate::samples::sample;
 use dconf_engine::{ChangeFault, Engine, Layer, LentLayers, show_same};
 use dconf_path::{DirPath, KeyPath, Profile, read_profile};
 use gv_tree::{Basic, Tree};
@@ -9,6 +8,7 @@ use gv_view::View;
 use gvdb_write::WriteFault;
 use std::alloc::{AllocError, Global};
 use std::test::Fail;
+use test_rows::sample;
 
 /// The engine of a profile.
 fn opened(alloc: Global, profile: &Profile<'_>) -> Result<Engine<'static>, Fail> {

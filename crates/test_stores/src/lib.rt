@@ -7,8 +7,6 @@ mod calls;
 #[cfg(test)]
 mod calls_rows;
 #[cfg(test)]
-mod calls_texts;
-#[cfg(test)]
 mod engines;
 #[cfg(test)]
 mod examples;
@@ -20,10 +18,6 @@ mod machines;
 mod maps;
 #[cfg(test)]
 mod questions;
-#[cfg(test)]
-mod rows;
-#[cfg(test)]
-mod samples;
 #[cfg(test)]
 mod stores;
 #[cfg(test)]

@@ -1,6 +1,5 @@
 //! The machines that C drives, as it drives them: which steps come after which answers.
-use crate::questions::Question;
-use crate::rows::hold;
+use crate::questions::TableOf;
 use dconf_steps::{
     NextStep, QueueRecord, QueuedEdit, RefreshRecord, WaitRecord, exit_goes_on, is_to_write,
     pause_after, sleep_until, sync_goes_on,
@@ -8,6 +7,7 @@ use dconf_steps::{
 use std::alloc::AllocError;
 use std::fmt::Write;
 use std::test::Fail;
+use test_rows::table;
 
 /// A step: its kind and its number.
 fn show(step: NextStep, found: &mut String) -> Result<(), AllocError> {
@@ -79,44 +79,44 @@ pub(crate) fn queued(asked: &str, found: &mut String) -> Result<(), Fail> {
 
 /// 0 stat, 1 read, 2 compare, 3 keep, 4 open; 5 failed, 6 same, 7 newer.
 const LOOKS: &str = "
-0 new => 7.0
-0 old => 6.0
-1 new yy => 1.0 4.0 7.0
-1 new n => 1.0 5.0
-1 new yn => 1.0 4.0 5.0
-1 old yyyy => 0.0 3.0 6.0 6.0 6.0
-1 old ynn => 0.0 3.0 6.0 6.0
-1 old nyyy => 0.0 1.0 2.0 3.0 6.0
-1 turn yyy => 1.0 2.0 3.0 6.0
-1 turn n => 1.0 5.0
-2 old yynyny => 0.0 3.0 0.1 1.1 2.1 4.1 7.0
-2 turn ynyyy => 1.0 2.0 4.0 0.1 3.1 7.0
-2 turn ynyyyn => 1.0 2.0 4.0 0.1 3.1 7.0 7.0
+0 new | 7.0
+0 old | 6.0
+1 new yy | 1.0 4.0 7.0
+1 new n | 1.0 5.0
+1 new yn | 1.0 4.0 5.0
+1 old yyyy | 0.0 3.0 6.0 6.0 6.0
+1 old ynn | 0.0 3.0 6.0 6.0
+1 old nyyy | 0.0 1.0 2.0 3.0 6.0
+1 turn yyy | 1.0 2.0 3.0 6.0
+1 turn n | 1.0 5.0
+2 old yynyny | 0.0 3.0 0.1 1.1 2.1 4.1 7.0
+2 turn ynyyy | 1.0 2.0 4.0 0.1 3.1 7.0
+2 turn ynyyyn | 1.0 2.0 4.0 0.1 3.1 7.0 7.0
 ";
 
 /// 0 try, 1 pause; 2 had, 3 busy, 4 stopped. An answer: 0 got, 1 taken, 2 moved, 3 failed.
 const WAITS: &str = "
-0 0 => 0.0 2.0
-0 1:0 => 0.0 3.0
-10 1:3 0 2:4 1:10 => 0.0 1.0 0.0 0.0 3.0
-10 1:3 0 3:28 => 0.0 1.0 0.0 4.28
+0 0 | 0.0 2.0
+0 1:0 | 0.0 3.0
+10 1:3 0 2:4 1:10 | 0.0 1.0 0.0 0.0 3.0
+10 1:3 0 3:28 | 0.0 1.0 0.0 4.28
 -- a clock that stands still
-1 1 0 1 0 1 0 1 0 1 0 1 => 0.0 1.0 0.0 1.0 0.0 1.0 0.0 1.0 0.0 1.0 0.0 3.0
+1 1 0 1 0 1 0 1 0 1 0 1 | 0.0 1.0 0.0 1.0 0.0 1.0 0.0 1.0 0.0 1.0 0.0 3.0
 ";
 
 /// 0 take, 1 pass, 2 write, 3 ask; 4 written, 5 waiting. An answer: 0 yes, 1 locked, 2 fault, 3 later.
 const QUEUES: &str = "
-0 0 0 0 => 0.0 0.1 0.2 2.0 4.0 00 00 00
-0 0 0 3 => 0.0 0.1 0.2 2.0 5.0 00 00 00
+0 0 0 0 | 0.0 0.1 0.2 2.0 4.0 00 00 00
+0 0 0 3 | 0.0 0.1 0.2 2.0 5.0 00 00 00
 -- the fault of the reset refuses its change alone
-0 0 0 2:1 0 0 0 0 => 0.0 0.1 0.2 2.0 1.0 1.1 0.2 2.0 4.0 01 00 00
+0 0 0 2:1 0 0 0 0 | 0.0 0.1 0.2 2.0 1.0 1.1 0.2 2.0 4.0 01 00 00
 -- a reset of what is locked is left out
-0 0 0 1 0 1 0 0 0 0 0 => 0.0 0.1 0.2 2.0 3.0 3.1 3.2 0.0 1.1 0.2 2.0 4.0 00 10 00
+0 0 0 1 0 1 0 0 0 0 0 | 0.0 0.1 0.2 2.0 3.0 3.1 3.2 0.0 1.1 0.2 2.0 4.0 00 10 00
 -- a set of what is locked is refused with its change
-0 0 0 1 1 0 0 0 0 0 0 => 0.0 0.1 0.2 2.0 3.0 1.1 3.2 1.0 1.1 0.2 2.0 4.0 01 00 00
+0 0 0 1 1 0 0 0 0 0 0 | 0.0 0.1 0.2 2.0 3.0 1.1 3.2 1.0 1.1 0.2 2.0 4.0 01 00 00
 -- a refusal that took nothing away
-0 0 0 1 0 0 0 => 0.0 0.1 0.2 2.0 3.0 3.1 3.2 5.0 00 00 00
-0 0 0 2:9 => 0.0 0.1 0.2 2.0 5.0 00 00 00
+0 0 0 1 0 0 0 | 0.0 0.1 0.2 2.0 3.0 3.1 3.2 5.0 00 00 00
+0 0 0 2:9 | 0.0 0.1 0.2 2.0 5.0 00 00 00
 ";
 
 /// Whether what waits is written when it is due, and is waited for as long as that is promised.
@@ -143,9 +143,9 @@ fn are_due() -> bool {
 #[test]
 fn machines_go_by_their_answers(rt: HostRuntime) -> Result<(), Fail> {
     let alloc = rt.alloc();
-    hold(alloc, Question::Looked, LOOKS)?;
-    hold(alloc, Question::Waited, WAITS)?;
-    hold(alloc, Question::Queued, QUEUES)?;
+    table(alloc, &mut TableOf::Looked, LOOKS)?;
+    table(alloc, &mut TableOf::Waited, WAITS)?;
+    table(alloc, &mut TableOf::Queued, QUEUES)?;
     assert!(rt; are_due());
     Ok(())
 }

@@ -1,5 +1,4 @@
 //! Each call of dconf_store: over a user's database of one key, and a site's that locks it.
-use crate::samples::sample;
 use dconf_path::{DirPath, KeyPath, Profile, read_profile};
 use dconf_store::{Change, children_after, user_file_after, value_after};
 use gv_tree::{Basic, Tree};
@@ -8,6 +7,7 @@ use gvdb_read::Table;
 use std::alloc::{AllocError, Global};
 use std::fmt::Write;
 use std::test::Fail;
+use test_rows::sample;
 
 /// Whether the root has a directory and a key after changes.
 fn is_listed(

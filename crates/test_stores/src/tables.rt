@@ -1,7 +1,5 @@
 //! What a table has of a name and of an item's number, by each call, also where the file is unsound: the program reads no such file.
-use crate::questions::Question;
-use crate::rows::hold;
-use crate::samples::{file_of, sample};
+use crate::questions::TableOf;
 use gv_types::Steps;
 use gv_view::View;
 use gvdb_alike::{differing_items, differing_span, has_elsewhere, is_shaped_as};
@@ -9,6 +7,7 @@ use gvdb_read::{HashedName, Table, hash, hash_with};
 use std::alloc::{AllocError, Global};
 use std::fmt::Write;
 use std::test::Fail;
+use test_rows::{bytes_of, sample, table};
 
 /// Whether each other call finds these bytes of a name too.
 fn is_found_by_all(table: Table<'_>, name: &str, bytes: Option<&[u8]>) -> bool {
@@ -47,31 +46,31 @@ fn show_search(
 pub(crate) fn searched(alloc: Global, asked: &str, found: &mut String) -> Result<(), Fail> {
     let (file, rest) = asked.split_once("; ").unwrap_or((asked, ""));
     let (name, most) = rest.split_once("; ").unwrap_or((rest, ""));
-    let file = file_of(alloc, file)?;
+    let file = bytes_of(alloc, file)?;
     show_search(Table::open(&file)?, name, most.parse()?, found)?;
     Ok(())
 }
 
 const SEARCHES: &str = "
-plain; /k; 6 => Some(5) Some([5, 0, 0, 0, 0, 105]) true k
-buckets; /k; 3 => Some(5) Some([5, 0, 0, 0, 0, 105]) true k
-locked; /k; 6 => Some(5) Some([5, 0, 0, 0, 0, 105]) true k
-buckets; /j; 0 => None None true k
-plain; /; 6 => None None true k
-plain; ; 6 => None None true k
-plain; k; 6 => None None true k
-plain; /k/; 6 => None None true k
-locked; .locks; 6 => None None true k
+%plain; /k; 6 | Some(5) Some([5, 0, 0, 0, 0, 105]) true k
+%buckets; /k; 3 | Some(5) Some([5, 0, 0, 0, 0, 105]) true k
+%locked; /k; 6 | Some(5) Some([5, 0, 0, 0, 0, 105]) true k
+%buckets; /j; 0 | None None true k
+%plain; /; 6 | None None true k
+%plain; ; 6 | None None true k
+%plain; k; 6 | None None true k
+%plain; /k/; 6 | None None true k
+%locked; .locks; 6 | None None true k
 -- no bloom words, and a shift; no items either
-plain 27=40; /k; 6 => Some(5) Some([5, 0, 0, 0, 0, 105]) true k
-32 27=40 20=32 28=0; /k; 0 => None None true none
+%plain 27=40; /k; 6 | Some(5) Some([5, 0, 0, 0, 0, 105]) true k
+%plain :32 27=40 20=32 28=0; /k; 0 | None None true none
 -- each of the two items is the other's parent
-plain 40=1 41=0 42=0 43=0; /k; 6 => None None true none
+%plain 40=1 41=0 42=0 43=0; /k; 6 | None None true none
 -- a file that ends before its last value does, and another hash
-101; /k; 6 => None None true k
-plain 60=190; /k; 6 => None None true k
+%plain :101; /k; 6 | None None true k
+%plain 60=190; /k; 6 | None None true k
 -- a list of no item
-plain 88=2; /k; 6 => Some(5) Some([5, 0, 0, 0, 0, 105]) true
+%plain 88=2; /k; 6 | Some(5) Some([5, 0, 0, 0, 0, 105]) true
 ";
 
 /// The full name of an item, or `none` where it has none that fits this room.
@@ -104,31 +103,31 @@ fn show_item(table: Table<'_>, i: u32, found: &mut String) -> Result<(), AllocEr
 /// An item of a file.
 pub(crate) fn item_shown(alloc: Global, asked: &str, found: &mut String) -> Result<(), Fail> {
     let (file, i) = asked.split_once("; ").unwrap_or((asked, ""));
-    let file = file_of(alloc, file)?;
+    let file = bytes_of(alloc, file)?;
     show_item(Table::open(&file)?, i.parse()?, found)?;
     Ok(())
 }
 
 const ITEMS: &str = "
-plain; 0 => / true None Some([47]) L Some([1, 0, 0, 0]) None
-plain; 1 => /k true Some(0) Some([107]) v Some([5, 0, 0, 0, 0, 105]) None
-locked; 1 => / true None Some([47]) L Some([2, 0, 0, 0]) None
-locked; 2 => /k true Some(1) Some([107]) v Some([5, 0, 0, 0, 0, 105]) None
-locked; 3 => none false None
-locked; 4294967295 => none false None
-buckets; 1 => /k true Some(0) Some([107]) v Some([5, 0, 0, 0, 0, 105]) None
+%plain; 0 | / true None Some([47]) L Some([1, 0, 0, 0]) None
+%plain; 1 | /k true Some(0) Some([107]) v Some([5, 0, 0, 0, 0, 105]) None
+%locked; 1 | / true None Some([47]) L Some([2, 0, 0, 0]) None
+%locked; 2 | /k true Some(1) Some([107]) v Some([5, 0, 0, 0, 0, 105]) None
+%locked; 3 | none false None
+%locked; 4294967295 | none false None
+%buckets; 1 | /k true Some(0) Some([107]) v Some([5, 0, 0, 0, 0, 105]) None
 -- each is the other's parent
-plain 40=1 41=0 42=0 43=0; 0 => none false Some(1) Some([47]) L Some([1, 0, 0, 0]) None
-plain 40=1 41=0 42=0 43=0; 1 => none false Some(0) Some([107]) v Some([5, 0, 0, 0, 0, 105]) None
+%plain 40=1 41=0 42=0 43=0; 0 | none false Some(1) Some([47]) L Some([1, 0, 0, 0]) None
+%plain 40=1 41=0 42=0 43=0; 1 | none false Some(0) Some([107]) v Some([5, 0, 0, 0, 0, 105]) None
 -- a key and a pointer that end past the file
-plain 68=102 76=97; 1 => none false Some(0) None v None None
+%plain 68=102 76=97; 1 | none false Some(0) None v None None
 ";
 
 /// Where two files differ; whether one is seen to be sound by the other; which items have other values, if their names are seen to
 /// be the same; and how many of them the other one has anywhere.
 pub(crate) fn alike(alloc: Global, asked: &str, found: &mut String) -> Result<(), Fail> {
     let (file, other) = asked.split_once("; ").unwrap_or((asked, ""));
-    let (file, other) = (file_of(alloc, file)?, file_of(alloc, other)?);
+    let (file, other) = (bytes_of(alloc, file)?, bytes_of(alloc, other)?);
     let span = differing_span(&file, &other).map(|span| (span.first, span.last));
     let (table, other) = (Table::open(&file)?, Table::open(&other)?);
     let shaped = is_shaped_as(table, other);
@@ -141,27 +140,27 @@ pub(crate) fn alike(alloc: Global, asked: &str, found: &mut String) -> Result<()
 }
 
 const ALIKE: &str = "
-plain; plain => None true Some((0, 0)) 2
-plain 96=6; plain => Some((96, 96)) true Some((1, 2)) 1
-plain; buckets => Some((20, 109)) true Some((0, 0)) 2
-buckets; plain => Some((20, 109)) true Some((0, 0)) 2
-32 20=32 28=0; 32 20=32 28=0 => None true Some((0, 0)) 0
+%plain; %plain | None true Some((0, 0)) 2
+%plain 96=6; %plain | Some((96, 96)) true Some((1, 2)) 1
+%plain; %buckets | Some((20, 109)) true Some((0, 0)) 2
+%buckets; %plain | Some((20, 109)) true Some((0, 0)) 2
+%plain :32 20=32 28=0; %plain :32 20=32 28=0 | None true Some((0, 0)) 0
 -- a table of locks is asked anew
-locked; locked => None false Some((0, 0)) 3
+%locked; %locked | None false Some((0, 0)) 3
 -- another hash, key, number in a list, kind, and bucket; a bloom word that rules the key out, and a value past the file
-plain 36=0; plain => Some((36, 36)) false Some((0, 0)) 1
-plain 85=108; plain => Some((85, 85)) false None 1
-plain 88=0; plain => Some((88, 88)) false Some((0, 0)) 2
-plain 88=0 96=6; plain => Some((88, 96)) false Some((1, 2)) 1
-plain 74=76; plain => Some((74, 74)) false Some((1, 2)) 1
-plain 32=1; plain => Some((32, 32)) false Some((0, 0)) 2
-buckets 32=0 33=0 34=0 35=0; buckets => Some((32, 35)) false Some((0, 0)) 2
-plain 80=103; plain => Some((80, 80)) false Some((1, 2)) 1
+%plain 36=0; %plain | Some((36, 36)) false Some((0, 0)) 1
+%plain 85=108; %plain | Some((85, 85)) false None 1
+%plain 88=0; %plain | Some((88, 88)) false Some((0, 0)) 2
+%plain 88=0 96=6; %plain | Some((88, 96)) false Some((1, 2)) 1
+%plain 74=76; %plain | Some((74, 74)) false Some((1, 2)) 1
+%plain 32=1; %plain | Some((32, 32)) false Some((0, 0)) 2
+%buckets 32=0 33=0 34=0 35=0; %buckets | Some((32, 35)) false Some((0, 0)) 2
+%plain 80=103; %plain | Some((80, 80)) false Some((1, 2)) 1
 -- the other's item is no list of numbers
-plain; plain 56=89 => Some((56, 56)) false Some((0, 0)) 2
+%plain; %plain 56=89 | Some((56, 56)) false Some((0, 0)) 2
 -- more and fewer items
-plain; locked => Some((20, 170)) false None 2
-32 20=32 28=0; plain => Some((20, 101)) false None 0
+%plain; %locked | Some((20, 170)) false None 2
+%plain :32 20=32 28=0; %plain | Some((20, 101)) false None 0
 ";
 
 /// Whether the item `.locks` is a table of one lock, `/k`, which has no text. A table of half an item is none.
@@ -203,10 +202,10 @@ fn are_hashed() -> bool {
 #[test]
 fn tables_are_searched_and_items_have_names(rt: HostRuntime) -> Result<(), Fail> {
     let alloc = rt.alloc();
-    hold(alloc, Question::Searched, SEARCHES)?;
-    hold(alloc, Question::Item, ITEMS)?;
-    hold(alloc, Question::Alike, ALIKE)?;
-    let half = file_of(alloc, "locked 56=155")?;
+    table(alloc, &mut TableOf::Searched, SEARCHES)?;
+    table(alloc, &mut TableOf::Item, ITEMS)?;
+    table(alloc, &mut TableOf::Alike, ALIKE)?;
+    let half = bytes_of(alloc, "%locked 56=155")?;
     assert!(rt;
         has_its_lock(sample("locked"), &half)? && are_hashed() && lies_there(sample("plain"))?
     );

@@ -1,9 +1,9 @@
 //! Turns to change a file: the steps that come of some answers, as plain numbers.
-use crate::questions::Question;
-use crate::rows::hold;
+use crate::questions::TableOf;
 use dconf_turn::TurnRecord;
 use std::fmt::Write;
 use std::test::Fail;
+use test_rows::table;
 
 /// Adds the step that a turn is at: its kind, its number, and the fault of one that is done.
 fn show_step(turn: &TurnRecord, found: &mut String) -> Result<(), Fail> {
@@ -32,52 +32,52 @@ pub(crate) fn steps_shown(asked: &str, found: &mut String) -> Result<(), Fail> {
 
 // Of a step that is done the number is the outcome: 0 made, 1 kept, 2 either, 3 unsettled.
 const ROWS: &str = "
- => 0
-0 => 1
-0 384 => 2
-0 384 5 => 3:384
-0 384 5 0 => 4
-0 384 5 0 3 => 4:3
-0 384 5 0 3 2 => 5:384
-0 384 5 0 5 0 => 8
-0 384 5 0 5 0 0 => 9
-0 384 5 0 5 0 0 0 => 11
-0 384 5 0 5 0 0 0 0 => 12
-0 384 5 0 5 0 0 0 0 0 => 13
-0 384 5 0 5 0 0 0 0 0 7 !7 => 13
+ | 0
+0 | 1
+0 384 | 2
+0 384 5 | 3:384
+0 384 5 0 | 4
+0 384 5 0 3 | 4:3
+0 384 5 0 3 2 | 5:384
+0 384 5 0 5 0 | 8
+0 384 5 0 5 0 0 | 9
+0 384 5 0 5 0 0 0 | 11
+0 384 5 0 5 0 0 0 0 | 12
+0 384 5 0 5 0 0 0 0 0 | 13
+0 384 5 0 5 0 0 0 0 0 7 !7 | 13
 -- the host chooses the permission bits; and an empty file
-0 1024 5 => 3:438
-0 1024 5 0 5 => 5
-0 288 0 => 3:416
-0 288 0 0 => 4
-0 288 0 0 0 => 5:288
+0 1024 5 | 3:438
+0 1024 5 0 5 | 5
+0 288 0 | 3:416
+0 288 0 0 | 4
+0 288 0 0 0 | 5:288
 -- the old file is set aside, and has another name, or can't have one
-0 896 5 0 5 0 => 6
-0 896 5 0 5 0 0 => 8
-0 896 5 0 5 0 1 => 7
-0 896 5 0 5 0 1 0 => 9
+0 896 5 0 5 0 | 6
+0 896 5 0 5 0 0 | 8
+0 896 5 0 5 0 1 | 7
+0 896 5 0 5 0 1 0 | 9
 -- each step fails
-!11 => 13:1!11
-0 !5 => 12
-0 !5 0 => 13:1!5
-0 384 !5 => 11
-0 384 !5 0 0 => 13:1!5
-0 384 5 !13 => 10
-0 384 5 !13 0 0 => 13:1!13
-0 384 5 0 !28 => 10
-0 384 5 0 0 => 10
-0 384 5 0 6 => 10
-0 384 5 0 5 !5 => 10
-0 384 5 0 5 !5 !30 0 => 13:1!5
-0 384 5 0 5 0 !2 => 10
-0 384 5 0 5 0 !2 0 0 => 13:2!2
-0 896 5 0 5 0 !2 0 0 => 13:1!2
-0 896 5 0 5 0 1 !2 0 0 => 13:2!2
-0 384 5 0 5 0 0 !5 => 11
-0 384 5 0 5 0 0 !5 !9 !9 => 13:3!5
+!11 | 13:1!11
+0 !5 | 12
+0 !5 0 | 13:1!5
+0 384 !5 | 11
+0 384 !5 0 0 | 13:1!5
+0 384 5 !13 | 10
+0 384 5 !13 0 0 | 13:1!13
+0 384 5 0 !28 | 10
+0 384 5 0 0 | 10
+0 384 5 0 6 | 10
+0 384 5 0 5 !5 | 10
+0 384 5 0 5 !5 !30 0 | 13:1!5
+0 384 5 0 5 0 !2 | 10
+0 384 5 0 5 0 !2 0 0 | 13:2!2
+0 896 5 0 5 0 !2 0 0 | 13:1!2
+0 896 5 0 5 0 1 !2 0 0 | 13:2!2
+0 384 5 0 5 0 0 !5 | 11
+0 384 5 0 5 0 0 !5 !9 !9 | 13:3!5
 ";
 
 #[test]
 fn a_turn_says_its_steps(rt: HostRuntime) -> Result<(), Fail> {
-    hold(rt.alloc(), Question::Steps, ROWS)
+    table(rt.alloc(), &mut TableOf::Steps, ROWS)
 }

@@ -7,6 +7,7 @@ use gv_view::{View, ViewFault};
 use std::alloc::Global;
 use std::fmt::Write;
 use std::test::Fail;
+use test_rows::table;
 
 /// Whether both tests say this of the view's bytes, which are few.
 pub(crate) fn both_tell(alloc: Global, view: View<'_>, normal: bool) -> Result<bool, Fail> {
@@ -177,21 +178,21 @@ pub(crate) fn push_told(alloc: Global, to: &mut String, view: View<'_>) -> Resul
 
 /// In the last but one each offset leads back to the beginning.
 const TOLD: &str = r"
-    as ~253×'x' ~00 fe | 255 true Some((2, 2))
-    as ~253×'x' ~00 fe 00 | 256 false Some((2, 2))
-    v 05 00 00 00 00 'i'~126× 00 'v'~ | 258 true Some((128, 128))
-    v 05 00 00 00 00 'i'~127× 00 'v'~ | 260 false None
-    v ~1000×01 ~00 'ay'~125× 00 'v'~ | 1253 true Some((128, 1127))
-    v ~1000×01 ~00 'ay'~126× 00 'v'~ | 1255 false None
-    as ~253×'a' ~00 fe | 255 true Some((2, 2))
-    as ~254×'a' ~00 ff 00 | 257 true Some((2, 2))
-    as ~65532×'a' ~00 fd ff | 65535 true Some((2, 2))
-    as ~65533×'a' ~00 fe ff 00 00 | 65538 true Some((2, 2))
-    ~127×a~i 01 00 00 00~126× #~ | 130 true Some((128, 128))
-    ~126×a~{ii} 01 00 00 00 02 00 00 00~125× #~ | 133 true Some((128, 129))
-    v 01 00 00 00 00 'mi'~125× 00 'v'~ | 257 true Some((128, 128))
-    ~21×a~y 00 01 00 01 04 00 04 07 00 07 0a 00 0a 0d 00 0d 10 00 10 13 00 13 16 00 16 19 00 19 1c 00 1c 1f 00 1f 22 00 22 25 00 25 28 00 28 2b 00 2b 2e 00 2e 31 00 31 34 00 34 37 00 37 3a 00 3a | 61 false Some((22, 62))
-    ay ~100001×01 ~ | 100001 true Some((2, 100002))
+    as @{253:'x' }00 fe | 255 true Some((2, 2))
+    as @{253:'x' }00 fe 00 | 256 false Some((2, 2))
+    v 05 00 00 00 00 'i'@{126: 00 'v'} | 258 true Some((128, 128))
+    v 05 00 00 00 00 'i'@{127: 00 'v'} | 260 false None
+    v @{1000:01 }00 'ay'@{125: 00 'v'} | 1253 true Some((128, 1127))
+    v @{1000:01 }00 'ay'@{126: 00 'v'} | 1255 false None
+    as @{253:'a' }00 fe | 255 true Some((2, 2))
+    as @{254:'a' }00 ff 00 | 257 true Some((2, 2))
+    as @{65532:'a' }00 fd ff | 65535 true Some((2, 2))
+    as @{65533:'a' }00 fe ff 00 00 | 65538 true Some((2, 2))
+    @{127:a}i 01 00 00 00@{126: ~} | 130 true Some((128, 128))
+    @{126:a}{ii} 01 00 00 00 02 00 00 00@{125: ~} | 133 true Some((128, 129))
+    v 01 00 00 00 00 'mi'@{125: 00 'v'} | 257 true Some((128, 128))
+    @{21:a}y 00 01 00 01 04 00 04 07 00 07 0a 00 0a 0d 00 0d 10 00 10 13 00 13 16 00 16 19 00 19 1c 00 1c 1f 00 1f 22 00 22 25 00 25 28 00 28 2b 00 2b 2e 00 2e 31 00 31 34 00 34 37 00 37 3a 00 3a | 61 false Some((22, 62))
+    ay @{100001:01 } | 100001 true Some((2, 100002))
 ";
 
 #[test]
@@ -201,7 +202,7 @@ fn bytes_have_a_normal_form(rt: HostRuntime) -> Result<(), Fail> {
     steps.tick();
     steps.tick();
     assert!(rt; steps.count() == 2);
-    TableOf::Form.each_gives(alloc, FORMS)?;
-    TableOf::Steps.each_gives(alloc, STEPS)?;
-    TableOf::Told.each_gives(alloc, TOLD)
+    table(alloc, &mut TableOf::Form, FORMS)?;
+    table(alloc, &mut TableOf::Steps, STEPS)?;
+    table(alloc, &mut TableOf::Told, TOLD)
 }

@@ -10,6 +10,7 @@ use gv_types::{Class, Members, TypeStr};
 use gv_view::View;
 use std::fmt::Write;
 use std::test::Fail;
+use test_rows::table;
 
 /// Pushes, of `u after 1`, the alignment and the size of `u`, and the place of its value behind
 /// another's end.
@@ -194,10 +195,10 @@ const PLACES: &str = r"
     (ays) 01 02 03 'hi' 00 08 | 2:0..0 ay;0..0 s;
     mi | 0:
     mi 05 00 00 00 | 1:0..4 i;
-    aay ~254×00 ~fe | 1:0..254 ay;
-    aay ~254×00 ~fe 00 | 1:0..254 ay;
-    aay ~65533×00 ~fd ff | 1:0..65533 ay;
-    aay ~65532×00 ~fc ff 00 00 | 1:0..65532 ay;
+    aay @{254:00 }fe | 1:0..254 ay;
+    aay @{254:00 }fe 00 | 1:0..254 ay;
+    aay @{65533:00 }fd ff | 1:0..65533 ay;
+    aay @{65532:00 }fc ff 00 00 | 1:0..65532 ay;
 ";
 
 /// Whether the one type that is left is this.
@@ -222,8 +223,8 @@ fn is_unplaced_after(of: TypeStr<'_>, bytes: &[u8], text: &str) -> bool {
 #[test]
 fn children_lie_at_their_bounds(rt: HostRuntime) -> Result<(), Fail> {
     let alloc = rt.alloc();
-    TableOf::Layout.each_gives(alloc, LAYOUTS)?;
-    TableOf::Places.each_gives(alloc, PLACES)?;
+    table(alloc, &mut TableOf::Layout, LAYOUTS)?;
+    table(alloc, &mut TableOf::Places, PLACES)?;
     let unplaced = is_unplaced_after(TypeStr::parse("(ysas)")?, b"\x05\xff\xff", "as");
     assert!(rt; unplaced && widths_are_right() && least_widths_are_right());
     assert!(rt; number(b"\x01\x02") == 513 && is_true(b"\x02") && !is_true(b"\x00"));

@@ -11,8 +11,6 @@ mod generated;
 #[cfg(test)]
 mod layout;
 #[cfg(test)]
-mod printing;
-#[cfg(test)]
 mod samples;
 #[cfg(test)]
 mod table;

@@ -1,10 +1,10 @@
-//! Tables of texts: a line has a text, a bar, and what comes of the text. In the text and in what
-//! comes of it `~3×ab~` stands for `ababab`.
-use crate::samples::{bytes_of, spelt_out, view};
-use crate::{forms, layout, printing, texts, trees, types, views};
+//! What the tables of texts ask.
+use crate::samples::view;
+use crate::{forms, layout, texts, trees, typed_reads, types, views};
 use gv_view::View;
 use std::alloc::Global;
 use std::test::Fail;
+use test_rows::{Question, bytes_of};
 
 /// What a table asks of its texts. The text of a view is its type, and then the words of its bytes.
 #[derive(Clone, Copy)]
@@ -41,10 +41,12 @@ pub(crate) enum TableOf {
     Form,
     /// How many steps it takes to tell that the bytes are normal.
     Steps,
+    /// Of `number i: `, a type and the words of its bytes: the number that C reads of it as an `i`; and so its text and its parts.
+    Typed,
+    /// The bytes that C is handed of a text's value, or the number of its fault and its place.
+    Handed,
     /// How many bytes there are, whether they are normal, and how many levels and values they have.
     Told,
-    /// The printed text, which is a text of its value.
-    Printed,
 }
 
 impl TableOf {
@@ -62,6 +64,8 @@ impl TableOf {
             TableOf::Doublings => trees::push_doublings(alloc, to, text),
             TableOf::Equal => trees::push_compared(alloc, to, text),
             TableOf::Tree => trees::push_read(alloc, to, text),
+            TableOf::Typed => typed_reads::push_typed(alloc, to, text),
+            TableOf::Handed => typed_reads::push_handed(alloc, to, text),
             _ => self.push_of_words(alloc, to, text),
         }
     }
@@ -79,43 +83,13 @@ impl TableOf {
             TableOf::Places => layout::push_places(to, view),
             TableOf::Form => forms::push_form(alloc, to, view),
             TableOf::Steps => forms::push_steps(to, view),
-            TableOf::Told => forms::push_told(alloc, to, view),
-            _ => printing::push_printed(alloc, to, view),
+            _ => forms::push_told(alloc, to, view),
         }
     }
+}
 
-    /// An error says that something else comes of the text.
-    fn gives(self, alloc: Global, text: &str, wanted: &str) -> Result<(), Fail> {
-        let mut got = String::new(alloc);
-        self.push_outcome(alloc, &mut got, text)?;
-        if got.as_str() == wanted {
-            Ok(())
-        } else {
-            Err(Fail::from((String::from_str(alloc, text)?, got)))
-        }
-    }
-
-    /// An error says that something else comes of the text of a line.
-    fn line_gives(self, alloc: Global, line: &str) -> Result<(), Fail> {
-        let line = spelt_out(alloc, line)?;
-        match line.split_once('|') {
-            Some((text, wanted)) => {
-                let text = text.strip_suffix(' ').unwrap_or(text);
-                self.gives(alloc, text, wanted.trim_start())
-            }
-            None => Err(Fail::new("a line without a bar")),
-        }
-    }
-
-    /// An error says that something else comes of the text of a line. Blanks at a line's start are
-    /// dropped.
-    pub(crate) fn each_gives(self, alloc: Global, lines: &str) -> Result<(), Fail> {
-        for line in lines.split('\n') {
-            let line = line.trim_start();
-            if !line.is_empty() {
-                self.line_gives(alloc, line)?;
-            }
-        }
-        Ok(())
+impl Question for TableOf {
+    fn answer(&mut self, alloc: Global, asked: &str, found: &mut String) -> Result<(), Fail> {
+        self.push_outcome(alloc, found, asked)
     }
 }

@@ -2,13 +2,14 @@
 use crate::table::TableOf;
 use gv_build::serialise;
 use gv_infer::{type_of, value_at};
-use gv_text::{Syntax, parse, print, tokens};
+use gv_text::{Syntax, is_plain, parse, print, tokens};
 use gv_tree::Tree;
 use gv_types::TypeStr;
 use gv_view::View;
 use std::alloc::Global;
 use std::fmt::Write;
 use std::test::Fail;
+use test_rows::table;
 
 /// Pushes the tokens of a text, or its fault.
 pub(crate) fn push_tokens(alloc: Global, to: &mut String, text: &str) -> Result<(), Fail> {
@@ -160,15 +161,30 @@ const VALUES: &str = r"
     ('a', 256) at (oy) | (si): BadObjectPath
     (256, 'a') at (yo) | (is): OutOfRange
     @d 5 at d | d: DoubleText
-    ~16777215× ~5 at i | i: i 5
+    @{16777215: }5 at i | i: i 5
 ";
+
+/// Whether a text stands for itself in each of the two quotes.
+fn is_plain_in(text: &str) -> (bool, bool) {
+    let bytes = text.as_bytes();
+    (is_plain(bytes, '\''), is_plain(bytes, '"'))
+}
+
+/// Printable ASCII stands for itself, but for the backslash and the quote in use (GLib, "GVariant Text Format", "Strings").
+fn are_plain() -> bool {
+    is_plain_in("plain text!") == (true, true)
+        && is_plain_in("it's") == (false, true)
+        && is_plain_in("say \"x\"") == (true, false)
+        && is_plain_in("back\\slash") == (false, false)
+        && is_plain_in("café") == (false, false)
+}
 
 #[test]
 fn texts_are_read_in_steps(rt: HostRuntime) -> Result<(), Fail> {
     let alloc = rt.alloc();
-    assert!(rt; Syntax::MAX_TEXT_LEN == 16_777_216);
-    TableOf::Tokens.each_gives(alloc, TOKENS)?;
-    TableOf::Tokens.each_gives(alloc, NULS)?;
-    TableOf::Syntax.each_gives(alloc, SYNTAX)?;
-    TableOf::ValueAt.each_gives(alloc, VALUES)
+    assert!(rt; Syntax::MAX_TEXT_LEN == 16_777_216 && are_plain());
+    table(alloc, &mut TableOf::Tokens, TOKENS)?;
+    table(alloc, &mut TableOf::Tokens, NULS)?;
+    table(alloc, &mut TableOf::Syntax, SYNTAX)?;
+    table(alloc, &mut TableOf::ValueAt, VALUES)
 }

@@ -1,11 +1,12 @@
 //! Trees by example: each constructor, each of its refusals, and what trees tell of themselves.
-use crate::samples::{bytes_of, value, view};
+use crate::samples::{value, view};
 use crate::table::TableOf;
 use gv_tree::{Basic, Tree, TreeFault};
 use gv_types::TypeStr;
 use std::alloc::Global;
 use std::fmt::Write;
 use std::test::Fail;
+use test_rows::{bytes_of, table};
 
 /// Pushes the type of a tree, its levels and its values, and its shape.
 fn push_tree(to: &mut String, tree: &Tree) -> Result<(), Fail> {
@@ -78,12 +79,12 @@ const CONTAINERS: &str = r"
     ai 5 'a' | WrongType at 1
     mi 'a' | WrongType at 0
     { <5> 5 | KeyNotBasic
-    v ~126×<~5~126×>~ | v 128 128 Variant(Tree { type: v, .. })
-    v ~127×<~5~127×>~ | TooDeep
-    ( ~127×<~5~127×>~ | TooDeep
-    { 5 ~127×<~5~127×>~ | TooDeep
-    a~127×a~i | TooDeep
-    m~127×a~i | TooDeep
+    v @{126:<}5@{126:>} | v 128 128 Variant(Tree { type: v, .. })
+    v @{127:<}5@{127:>} | TooDeep
+    ( @{127:<}5@{127:>} | TooDeep
+    { 5 @{127:<}5@{127:>} | TooDeep
+    a@{127:a}i | TooDeep
+    m@{127:a}i | TooDeep
 ";
 
 /// The tuple of a tree and its copy.
@@ -215,11 +216,11 @@ const EQUALS: &str = r"
 #[test]
 fn trees_are_made_or_refused(rt: HostRuntime) -> Result<(), Fail> {
     let alloc = rt.alloc();
-    TableOf::Container.each_gives(alloc, CONTAINERS)?;
-    TableOf::Doublings.each_gives(alloc, "(~65533×y~) | 9 TooLarge")?;
-    TableOf::Basic.each_gives(alloc, BASICS)?;
-    TableOf::Tree.each_gives(alloc, TREES)?;
-    TableOf::Equal.each_gives(alloc, EQUALS)?;
+    table(alloc, &mut TableOf::Container, CONTAINERS)?;
+    table(alloc, &mut TableOf::Doublings, "(@{65533:y}) | 9 TooLarge")?;
+    table(alloc, &mut TableOf::Basic, BASICS)?;
+    table(alloc, &mut TableOf::Tree, TREES)?;
+    table(alloc, &mut TableOf::Equal, EQUALS)?;
     let mut said = String::new(alloc);
     push_made(&mut said, Err(TreeFault::WrongType(12)))?;
     push_made(&mut said, Err(TreeFault::Memory))?;

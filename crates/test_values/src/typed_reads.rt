@@ -1,145 +1,121 @@
 //! Values as C reads them: by the letter of a type, as a text, and part by part; and values of texts.
+use crate::table::TableOf;
 use dconfdb_values::{DconfdbPart, child, lookup, n_children, number, text, value_of_text};
 use std::alloc::Global;
+use std::fmt::Write;
 use std::test::Fail;
+use test_rows::{bytes_of, table};
 
 /// What a part is, as its type's text and its first byte.
-fn head<'a>(part: Option<DconfdbPart<'a>>) -> Option<(&'a [u8], u8)> {
+fn head<'a>(part: Option<DconfdbPart<'a>>) -> Option<(&'a str, u8)> {
     let part = part?;
-    Some((part.type_text, *part.value.first()?))
+    Some((
+        str::from_utf8(part.type_text).ok()?,
+        *part.value.first()?,
+    ))
 }
 
-#[test]
-fn a_number_is_read_at_its_own_type(rt: HostRuntime) -> Result<(), Fail> {
-    let one = [0xff; 8];
-    assert_eq!(rt; number(b"b", &[5], b'b'), Some(1));
-    assert_eq!(rt; number(b"y", &one[..1], b'y'), Some(0xff));
-    assert_eq!(rt; number(b"n", &one[..2], b'n'), Some(0xffff));
-    assert_eq!(rt; number(b"q", &one[..2], b'q'), Some(0xffff));
-    assert_eq!(rt; number(b"i", &one[..4], b'i'), Some(0xffff_ffff));
-    assert_eq!(rt; number(b"u", &one[..4], b'u'), Some(0xffff_ffff));
-    assert_eq!(rt; number(b"x", &one, b'x'), Some(u64::MAX));
-    assert_eq!(rt; number(b"t", &[1, 2, 0, 0, 0, 0, 0, 0], b't'), Some(0x201));
-    assert_eq!(rt;
-        number(b"d", &[0, 0, 0, 0, 0, 0, 0xf0, 0x3f], b'd'),
-        Some(0x3ff0_0000_0000_0000)
-    );
-    assert_eq!(rt; number(b"h", &[3, 0, 0, 0], b'i'), Some(3));
-    // Three bytes are no `i`, so they are read as its default.
-    assert_eq!(rt; number(b"i", &one[..3], b'i'), Some(0));
-    assert_eq!(rt; number(b"u", &one[..4], b'i'), None);
-    assert_eq!(rt; number(b"i", &one[..4], b'h'), None);
-    assert_eq!(rt; number(b"s", b"a\0", b's'), None);
-    assert_eq!(rt; number(b"ii", &one, b'i'), None);
-    assert_eq!(rt; number(b"", &one, b'i'), None);
+/// Pushes what is read of a type's bytes.
+fn push_answer(to: &mut String, asked: &str, of: &[u8], bytes: &[u8]) -> Result<(), Fail> {
+    let (asked, which) = asked.split_once(' ').unwrap_or((asked, ""));
+    let letter = which.bytes().next().unwrap_or(0);
+    match asked {
+        "number" => write!(to, "{:?}", number(of, bytes, letter))?,
+        "text" => write!(to, "{:?}", text(of, bytes))?,
+        "children" => write!(to, "{}", n_children(of, bytes))?,
+        "child" => write!(to, "{:?}", head(child(of, bytes, which.parse()?)))?,
+        _ => write!(to, "{:?}", head(lookup(of, bytes, which)))?,
+    }
     Ok(())
 }
 
-#[test]
-fn a_text_and_parts_are_lent(rt: HostRuntime) -> Result<(), Fail> {
-    assert_eq!(rt; text(b"s", b"desk\0"), Some("desk"));
-    assert_eq!(rt; text(b"o", b"no path\0"), Some("/"));
-    assert_eq!(rt; text(b"g", b"a{sv}\0"), Some("a{sv}"));
-    assert_eq!(rt; text(b"s", b"no end"), Some(""));
-    assert_eq!(rt; text(b"as", b""), None);
-    let pair = [7, 0, 9, 0];
-    assert_eq!(rt; n_children(b"(yq)", &pair), 2);
-    assert_eq!(rt; n_children(b"yq", &pair), 0);
-    assert_eq!(rt; n_children(b"i", &pair), 0);
-    assert_eq!(rt; head(child(b"(yq)", &pair, 0)), Some((b"y".as_slice(), 7)));
-    assert_eq!(rt; head(child(b"(yq)", &pair, 1)), Some((b"q".as_slice(), 9)));
-    assert!(rt; child(b"(yq)", &pair, 2).is_none() && child(b"", &pair, 0).is_none());
-    assert_eq!(rt;
-        head(child(b"v", b"\x05\0y", 0)),
-        Some((b"y".as_slice(), 5))
-    );
-    Ok(())
+/// Pushes what is read of a type and the words of its bytes, which stand after what is asked.
+pub(crate) fn push_typed(alloc: Global, to: &mut String, line: &str) -> Result<(), Fail> {
+    let (asked, value) = line.split_once(": ").unwrap_or((line, ""));
+    let (of, words) = value.split_once(' ').unwrap_or((value, ""));
+    let bytes = bytes_of(alloc, words)?;
+    push_answer(to, asked, of.as_bytes(), bytes.as_slice())
 }
 
-#[test]
-fn a_dictionary_is_looked_up(rt: HostRuntime) -> Result<(), Fail> {
-    // {'a': byte 1, 'b': 2, 'a': 3} as a{sy}: an entry ends in the offset of its key.
-    let entries = b"a\0\x01\x02b\0\x02\x02a\0\x03\x02\x04\x08\x0c";
-    assert_eq!(rt;
-        head(lookup(b"a{sy}", entries, "a")),
-        Some((b"y".as_slice(), 1))
-    );
-    assert_eq!(rt;
-        head(lookup(b"a{sy}", entries, "b")),
-        Some((b"y".as_slice(), 2))
-    );
-    assert!(rt; lookup(b"a{sy}", entries, "c").is_none() && lookup(b"ay", entries, "a").is_none());
-    // {'/b': byte 1, 'no path': 2} as a{oy}: what is no path is read as `/`.
-    let paths = b"/b\0\x01\x03no path\0\x02\x08\x05\x0f";
-    assert_eq!(rt;
-        head(lookup(b"a{oy}", paths, "/b")),
-        Some((b"y".as_slice(), 1))
-    );
-    assert_eq!(rt;
-        head(lookup(b"a{oy}", paths, "/")),
-        Some((b"y".as_slice(), 2))
-    );
-    assert!(rt;
-        lookup(b"a{oy}", paths, "no path").is_none() && lookup(b"ao", paths, "/b").is_none()
-    );
-    Ok(())
-}
+/// Three bytes are no `i`, so they are read as its default. Of two values of a key the first is found. An entry ends in the offset of
+/// its key, and what is no path is read as `/`.
+const TYPED: &str = r#"
+    number b: b 05 | Some(1)
+    number y: y ff | Some(255)
+    number n: n ff ff | Some(65535)
+    number q: q ff ff | Some(65535)
+    number i: i ff ff ff ff | Some(4294967295)
+    number u: u ff ff ff ff | Some(4294967295)
+    number x: x ff ff ff ff ff ff ff ff | Some(18446744073709551615)
+    number t: t 01 02 00 00 00 00 00 00 | Some(513)
+    number d: d 00 00 00 00 00 00 f0 3f | Some(4607182418800017408)
+    number i: h 03 00 00 00 | Some(3)
+    number i: i ff ff ff | Some(0)
+    number i: u ff ff ff ff | None
+    number h: i ff ff ff ff | None
+    number s: s 'a' 00 | None
+    number i: ii ff ff ff ff ff ff ff ff | None
+    number i:  ff ff ff ff ff ff ff ff | None
+    text: s 'desk' 00 | Some("desk")
+    text: o 'no' 20 'path' 00 | Some("/")
+    text: g 'a{sv}' 00 | Some("a{sv}")
+    text: s 'no' 20 'end' | Some("")
+    text: as | None
+    children: (yq) 07 00 09 00 | 2
+    children: yq 07 00 09 00 | 0
+    children: i 07 00 09 00 | 0
+    child 0: (yq) 07 00 09 00 | Some(("y", 7))
+    child 1: (yq) 07 00 09 00 | Some(("q", 9))
+    child 2: (yq) 07 00 09 00 | None
+    child 0:  07 00 09 00 | None
+    child 0: v 05 00 'y' | Some(("y", 5))
+    key a: a{sy} 'a' 00 01 02 'b' 00 02 02 'a' 00 03 02 04 08 0c | Some(("y", 1))
+    key b: a{sy} 'a' 00 01 02 'b' 00 02 02 'a' 00 03 02 04 08 0c | Some(("y", 2))
+    key c: a{sy} 'a' 00 01 02 'b' 00 02 02 'a' 00 03 02 04 08 0c | None
+    key a: ay 'a' 00 01 02 'b' 00 02 02 'a' 00 03 02 04 08 0c | None
+    key /b: a{oy} '/b' 00 01 03 'no' 20 'path' 00 02 08 05 0f | Some(("y", 1))
+    key /: a{oy} '/b' 00 01 03 'no' 20 'path' 00 02 08 05 0f | Some(("y", 2))
+    key no path: a{oy} '/b' 00 01 03 'no' 20 'path' 00 02 08 05 0f | None
+    key /b: ao '/b' 00 01 03 'no' 20 'path' 00 02 08 05 0f | None
+"#;
 
-/// Whether a text has a value of this type and these bytes.
-fn has_value(alloc: Global, text: &[u8], type_text: &[u8], bytes: &[u8]) -> bool {
-    match value_of_text(alloc, text) {
-        Ok(value) => {
-            value.block.get(..value.size) == Some(bytes)
-                && value.block.get(value.size..) == Some(type_text)
+/// Pushes the size of a text's value and its bytes, and those of its type after them; or the number of its fault, and its place.
+pub(crate) fn push_handed(alloc: Global, to: &mut String, text: &str) -> Result<(), Fail> {
+    match value_of_text(alloc, text.as_bytes()) {
+        Ok(value) => write!(to, "{} {:?}", value.size, value.block)?,
+        Err(why) => {
+            let place = why.place();
+            write!(to, "{} at {}..{}", why.number(), place.start, place.end)?
         }
-        Err(_) => false,
     }
+    Ok(())
 }
 
-/// The number of a text's fault, and where it is.
-fn fault_of(alloc: Global, text: &[u8]) -> Option<(u32, usize, usize)> {
-    match value_of_text(alloc, text) {
-        Ok(_) => None,
-        Err(why) => Some((why.number(), why.place().start, why.place().end)),
-    }
-}
+const HANDED: &str = r"
+    5 | 4 [5, 0, 0, 0, 105]
+    'desk' | 5 [100, 101, 115, 107, 0, 115]
+    ['a', 'b'] | 6 [97, 0, 98, 0, 2, 4, 97, 115]
+    @as [] | 0 [97, 115]
+    <byte 7> | 3 [7, 0, 121, 118]
+    1.5 | 19 at 0..3
+    @d 5 | 19 at 0..0
+    oops | 32 at 0..4
+    [1, (2, | 33 at 4..5
+    '\u12' | 34 at 1..5
+    (1 2) | 35 at 3..4
+    [1, 'a'] | 36 at 0..0
+    [] | 37 at 0..0
+    byte 256 | 38 at 0..0
+    objectpath 'a' | 39 at 0..0
+    signature 'a{vs}' | 40 at 0..0
+";
 
 #[test]
-fn a_text_has_a_value(rt: HostRuntime) -> Result<(), Fail> {
+fn values_are_read_as_c_reads_them(rt: HostRuntime) -> Result<(), Fail> {
     let alloc = rt.alloc();
-    let rows: [(&str, &str, &[u8]); 5] = [
-        ("5", "i", b"\x05\0\0\0"),
-        ("'desk'", "s", b"desk\0"),
-        ("['a', 'b']", "as", b"a\0b\0\x02\x04"),
-        ("@as []", "as", b""),
-        ("<byte 7>", "v", b"\x07\0y"),
-    ];
-    for (text, type_text, bytes) in rows {
-        assert!(rt;
-            has_value(alloc, text.as_bytes(), type_text.as_bytes(), bytes),
-            "{text}"
-        );
-    }
-    let faults: [(&[u8], u32, usize, usize); 11] = [
-        (b"\xff", 8, 0, 0),
-        (b"1.5", 19, 0, 3),
-        (b"@d 5", 19, 0, 0),
-        (b"oops", 32, 0, 4),
-        (b"[1, (2,", 33, 4, 5),
-        (b"'\\u12'", 34, 1, 5),
-        (b"(1 2)", 35, 3, 4),
-        (b"[1, 'a']", 36, 0, 0),
-        (b"[]", 37, 0, 0),
-        (b"byte 256", 38, 0, 0),
-        (b"objectpath 'a'", 39, 0, 0),
-    ];
-    for (text, number, start, end) in faults {
-        let wanted = Some((number, start, end));
-        assert!(rt; fault_of(alloc, text) == wanted, "the fault {number}");
-    }
-    assert!(rt;
-        fault_of(alloc, b"signature 'a{vs}'") == Some((40, 0, 0)),
-        "a signature"
-    );
+    table(alloc, &mut TableOf::Typed, TYPED)?;
+    table(alloc, &mut TableOf::Handed, HANDED)?;
+    let unread = value_of_text(alloc, b"\xff").is_err_and(|why| why.number() == 8);
+    assert!(rt; unread, "a text that is no UTF-8");
     Ok(())
 }

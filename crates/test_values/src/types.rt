@@ -6,6 +6,7 @@ use gv_types::{BasicType, Class, Members, TypeStr, is_object_path, is_signature}
 use std::alloc::Global;
 use std::fmt::Write;
 use std::test::Fail;
+use test_rows::table;
 
 /// Pushes the letters of the members of basic types, and the texts of the others, a space before each.
 fn push_members(to: &mut String, of: TypeStr<'_>) -> Result<(), Fail> {
@@ -165,7 +166,7 @@ const PREFIXES: &str = r"
     ayb'x' | 4 Array y -:
     (ss)( | 1 Tuple - -:ss/
     | none
-    ~1× ~i | none
+    @{1: }i | none
     (s | none
     {vs} | none
 ";
@@ -173,9 +174,9 @@ const PREFIXES: &str = r"
 #[test]
 fn types_are_taken_apart(rt: HostRuntime) -> Result<(), Fail> {
     let alloc = rt.alloc();
-    TableOf::Type.each_gives(alloc, TYPES)?;
-    TableOf::Type.each_gives(alloc, PREFIXES)?;
-    TableOf::CopiedType.each_gives(alloc, TYPES)?;
+    table(alloc, &mut TableOf::Type, TYPES)?;
+    table(alloc, &mut TableOf::Type, PREFIXES)?;
+    table(alloc, &mut TableOf::CopiedType, TYPES)?;
     let inherited = is_inherited(TypeStr::parse("(((as))y)")?);
     assert!(rt; inherited && split(b"a{sv}i\xff") == Some(("a{sv}", 2)));
     assert!(rt; Class::of_letter(b')').is_none() && Class::of_letter(b'r').is_none());

@@ -4,6 +4,7 @@ use gv_types::TypeStr;
 use gv_view::{View, held_in_variant, parts_are_lent, text_in, utf8_of};
 use std::fmt::Write;
 use std::test::Fail;
+use test_rows::table;
 
 /// The number that the one call for a view's type reads, and the first of several that read one.
 fn number(of: View<'_>) -> Option<i128> {
@@ -154,8 +155,8 @@ fn held(bytes: &[u8]) -> Option<(&str, &[u8])> {
 #[test]
 fn numbers_are_read_and_texts_are_lent(rt: HostRuntime) -> Result<(), Fail> {
     parts_are_lent();
-    TableOf::Read.each_gives(rt.alloc(), READ)?;
-    TableOf::Texts.each_gives(rt.alloc(), TEXTS)?;
+    table(rt.alloc(), &mut TableOf::Read, READ)?;
+    table(rt.alloc(), &mut TableOf::Texts, TEXTS)?;
     let (whole, short, none) = (held(b"\x05\0\0\0\0i"), held(b"\x05\0i"), held(b"i"));
     assert!(rt;
         whole == Some(("i", b"\x05\0\0\0".as_slice())) && short == Some(("i", b"\x05".as_slice()))

@@ -1,14 +1,14 @@
 //! A folder in memory: files that grow, and what a replacement leaves where each of its calls fails once.
 use super::steps::{answered, calls};
-use crate::questions::Question;
-use crate::rows::hold;
+use crate::questions::TableOf;
 use dconf_disk::MemoryFolder;
 use std::alloc::{AllocError, Global};
 use std::test::Fail;
+use test_rows::table;
 
 const AFTER: &str = "
-replace me.user => done
-read me.user => done
+replace me.user | done
+read me.user | done
 ";
 
 /// How a replacement of `old` by `new` is answered, and the read of `new` after it; whether one call failed
@@ -35,7 +35,7 @@ fn show_replaced(
 /// What a replacement leaves whose call of this number fails.
 pub(crate) fn replaced_so(alloc: Global, asked: &str, found: &mut String) -> Result<(), Fail> {
     let mut folder = MemoryFolder::new(alloc);
-    calls(alloc, &mut folder, "replace me.user old => done\n")?;
+    calls(alloc, &mut folder, "replace me.user old | done")?;
     folder.fail_at(asked.parse()?);
     show_replaced(alloc, &mut folder, found)?;
     calls(alloc, &mut folder, AFTER)
@@ -44,33 +44,33 @@ pub(crate) fn replaced_so(alloc: Global, asked: &str, found: &mut String) -> Res
 // The fourth is the rename, which is done though it fails; the fifth is the sync of the folder. The
 // sixth is the first one after the replacement.
 const ROWS: &str = "
-0 => done done other done other missing
-1 => device other done other done missing
-2 => device other done other done missing
-3 => device other done other done missing
-4 => device done done done other missing
-5 => device done done done other missing
-6 => done device done done other missing
+0 | done done other done other missing
+1 | device other done other done missing
+2 | device other done other done missing
+3 | device other done other done missing
+4 | device done done done other missing
+5 | device done done done other missing
+6 | done device done done other missing
 ";
 
 const GROWN: &str = "
-read me.user => missing
-create me.user => done
-append me.user one  => done
-append me.user two => done
-read me.user one two => done
-sync me.user => done
-settle => done
-create me.user => done
-read me.user => done
-remove me.user => done
-read me.user => missing
-failures 0 => done
+read me.user | missing
+create me.user | done
+append me.user one  | done
+append me.user two | done
+read me.user one two | done
+sync me.user | done
+settle | done
+create me.user | done
+read me.user | done
+remove me.user | done
+read me.user | missing
+failures 0 | done
 ";
 
 #[test]
 fn files_grow_and_each_call_fails_once(rt: HostRuntime) -> Result<(), Fail> {
     let alloc = rt.alloc();
     calls(alloc, &mut MemoryFolder::new(alloc), GROWN)?;
-    hold(alloc, Question::Replaced, ROWS)
+    table(alloc, &mut TableOf::Replaced, ROWS)
 }

@@ -1,8 +1,8 @@
-//! Calls of a folder as lines of a text, and how each is answered.
-use crate::rows::{cut, is_found};
+//! Calls of a folder as rows of a table, and how each is answered.
 use dconf_disk::{Folder, FolderFault, replace};
 use std::alloc::Global;
 use std::test::Fail;
+use test_rows::{Question, table};
 
 /// The bytes of a word; `ff` is the byte 255.
 fn bytes_of(word: &str) -> &[u8] {
@@ -68,13 +68,19 @@ pub(crate) fn answered<F: Folder>(alloc: Global, folder: &mut F, call: &str) -> 
     })
 }
 
-/// Makes the calls of lines. An error names the first that is answered otherwise.
-pub(crate) fn calls<F: Folder>(alloc: Global, folder: &mut F, lines: &str) -> Result<(), Fail> {
-    for line in lines.split_terminator('\n') {
-        if !line.is_empty() {
-            let (call, wanted) = cut(line)?;
-            is_found(alloc, call, answered(alloc, folder, call), wanted.trim())?;
-        }
+/// The folder of which a table asks calls.
+#[derive(Drop)]
+struct CallsOf<'a, F: Folder> {
+    folder: &'a mut F,
+}
+
+impl<F: Folder> Question for CallsOf<'_, F> {
+    fn answer(&mut self, alloc: Global, asked: &str, found: &mut String) -> Result<(), Fail> {
+        Ok(found.push_str(answered(alloc, self.folder, asked))?)
     }
-    Ok(())
+}
+
+/// Makes the calls of a table.
+pub(crate) fn calls<F: Folder>(alloc: Global, folder: &mut F, rows: &str) -> Result<(), Fail> {
+    table(alloc, &mut CallsOf { folder }, rows)
 }

@@ -1,10 +1,10 @@
 //! The paths of keys, of directories and of locks. Which keys a lock covers is in tests/program.d.
-use crate::questions::Question;
-use crate::rows::hold;
+use crate::questions::TableOf;
 use dconf_path::{DirPath, KeyPath, LockPath};
 use std::alloc::{AllocError, Global};
 use std::fmt::Write;
 use std::test::Fail;
+use test_rows::table;
 
 /// Whether bytes are a key's path, which is this text.
 fn is_key(bytes: &[u8], text: &str) -> bool {
@@ -23,41 +23,41 @@ pub(crate) fn path_read(asked: &str, found: &mut String) -> Result<(), AllocErro
 }
 
 const PATHS: &str = "
-/k => None Some(NoEndSlash) None true
-/a => None Some(NoEndSlash) None true
-/a/k => None Some(NoEndSlash) None true
-/org/gnome/desktop/cursor-size => None Some(NoEndSlash) None true
-/a b/ü => None Some(NoEndSlash) None true
-/./.. => None Some(NoEndSlash) None true
-/ => Some(EndsInSlash) None None false
-/a/ => Some(EndsInSlash) None None false
-/org/gnome/ => Some(EndsInSlash) None None false
- => Some(NotAbsolute) Some(NotAbsolute) Some(NotAbsolute) false
-a/ => Some(NotAbsolute) Some(NotAbsolute) Some(NotAbsolute) false
-a/k => Some(NotAbsolute) Some(NotAbsolute) Some(NotAbsolute) false
-a//\0/ => Some(NotAbsolute) Some(NotAbsolute) Some(NotAbsolute) false
-/a//k\0 => Some(HasNul) Some(HasNul) Some(HasNul) false
-/\0a//k => Some(HasNul) Some(HasNul) Some(HasNul) false
-/a\0// => Some(HasNul) Some(HasNul) Some(HasNul) false
-/a//k => Some(DoubleSlash) Some(DoubleSlash) Some(DoubleSlash) false
-// => Some(DoubleSlash) Some(DoubleSlash) Some(DoubleSlash) false
-/a// => Some(DoubleSlash) Some(DoubleSlash) Some(DoubleSlash) false
-/org/gnome/desktop/settings/ => Some(EndsInSlash) None None false
-/org/gnome/desktop/ü => None Some(NoEndSlash) None true
-/org/gnome/desktop/cursor-sizeü => None Some(NoEndSlash) None true
-/org/gnome/desktop/k\0 => Some(HasNul) Some(HasNul) Some(HasNul) false
-/org/gnome/desktop/cursor-size\0 => Some(HasNul) Some(HasNul) Some(HasNul) false
-/org/gnome/desktop/cursor-size/ => Some(EndsInSlash) None None false
-/org/gnome/desktop//cursor-size => Some(DoubleSlash) Some(DoubleSlash) Some(DoubleSlash) false
-org/gnome/desktop/cursor-size => Some(NotAbsolute) Some(NotAbsolute) Some(NotAbsolute) false
-/45678901234567//k => Some(DoubleSlash) Some(DoubleSlash) Some(DoubleSlash) false
-/456789012345678//k => Some(DoubleSlash) Some(DoubleSlash) Some(DoubleSlash) false
-/4567890123456789/k/ => Some(EndsInSlash) None None false
+/k | None Some(NoEndSlash) None true
+/a | None Some(NoEndSlash) None true
+/a/k | None Some(NoEndSlash) None true
+/org/gnome/desktop/cursor-size | None Some(NoEndSlash) None true
+/a b/ü | None Some(NoEndSlash) None true
+/./.. | None Some(NoEndSlash) None true
+/ | Some(EndsInSlash) None None false
+/a/ | Some(EndsInSlash) None None false
+/org/gnome/ | Some(EndsInSlash) None None false
+ | Some(NotAbsolute) Some(NotAbsolute) Some(NotAbsolute) false
+a/ | Some(NotAbsolute) Some(NotAbsolute) Some(NotAbsolute) false
+a/k | Some(NotAbsolute) Some(NotAbsolute) Some(NotAbsolute) false
+a//\0/ | Some(NotAbsolute) Some(NotAbsolute) Some(NotAbsolute) false
+/a//k\0 | Some(HasNul) Some(HasNul) Some(HasNul) false
+/\0a//k | Some(HasNul) Some(HasNul) Some(HasNul) false
+/a\0// | Some(HasNul) Some(HasNul) Some(HasNul) false
+/a//k | Some(DoubleSlash) Some(DoubleSlash) Some(DoubleSlash) false
+// | Some(DoubleSlash) Some(DoubleSlash) Some(DoubleSlash) false
+/a// | Some(DoubleSlash) Some(DoubleSlash) Some(DoubleSlash) false
+/org/gnome/desktop/settings/ | Some(EndsInSlash) None None false
+/org/gnome/desktop/ü | None Some(NoEndSlash) None true
+/org/gnome/desktop/cursor-sizeü | None Some(NoEndSlash) None true
+/org/gnome/desktop/k\0 | Some(HasNul) Some(HasNul) Some(HasNul) false
+/org/gnome/desktop/cursor-size\0 | Some(HasNul) Some(HasNul) Some(HasNul) false
+/org/gnome/desktop/cursor-size/ | Some(EndsInSlash) None None false
+/org/gnome/desktop//cursor-size | Some(DoubleSlash) Some(DoubleSlash) Some(DoubleSlash) false
+org/gnome/desktop/cursor-size | Some(NotAbsolute) Some(NotAbsolute) Some(NotAbsolute) false
+/45678901234567//k | Some(DoubleSlash) Some(DoubleSlash) Some(DoubleSlash) false
+/456789012345678//k | Some(DoubleSlash) Some(DoubleSlash) Some(DoubleSlash) false
+/4567890123456789/k/ | Some(EndsInSlash) None None false
 ";
 
 #[test]
 fn tells_keys_and_directories(rt: HostRuntime) -> Result<(), Fail> {
-    hold(rt.alloc(), Question::Path, PATHS)?;
+    table(rt.alloc(), &mut TableOf::Path, PATHS)?;
     assert!(rt; KeyPath::of_bytes(b"/org/gnome/desktop/\xff").is_none());
     Ok(())
 }

@@ -1,6 +1,4 @@
 //! Files by hand: a header, a table and its items, keys, a list, values, in this order.
-use std::alloc::Global;
-use std::test::Fail;
 
 /// The key `/k`, worth 5, in a table of one bucket and no bloom words.
 const PLAIN: &[u8] = &[
@@ -30,33 +28,12 @@ const LOCKED: &[u8] = &[
     47, 107, 0, 0, 5, 0, 0, 0, 0, 105, 0, 0, 0, 0, 115,
 ];
 
-/// The file of this name: `plain` has the key `/k`, worth 5; `buckets` is the same with buckets and
-/// a bloom word, and `locked` with a lock. A number is so many bytes of the plain one.
-pub(crate) fn sample(name: &str) -> &'static [u8] {
+/// The file of this name, of which there are no others.
+pub fn sample(name: &str) -> &'static [u8] {
     match name {
         "plain" => PLAIN,
         "buckets" => BUCKETS,
         "locked" => LOCKED,
-        _ => PLAIN.get(..name.parse().unwrap_or(0)).unwrap_or(&[]),
+        _ => &[],
     }
-}
-
-/// Sets bytes, as `32=1 36=190` says.
-fn set_all(file: &mut [u8], changes: &str) -> Result<(), Fail> {
-    for change in changes.split_terminator(' ') {
-        let (at, byte) = change.split_once('=').unwrap_or((change, ""));
-        match file.get_mut(at.parse().unwrap_or(usize::MAX)) {
-            Some(there) => *there = byte.parse()?,
-            None => return Err(Fail::new("a byte past the end")),
-        }
-    }
-    Ok(())
-}
-
-/// A copy of the file of this name, and of the bytes that are set in it: `plain 32=1 36=190`.
-pub(crate) fn file_of(alloc: Global, text: &str) -> Result<Vec<u8>, Fail> {
-    let (name, changes) = text.split_once(' ').unwrap_or((text, ""));
-    let mut file = sample(name).to_vec(alloc)?;
-    set_all(&mut file, changes)?;
-    Ok(file)
 }
