@@ -1,11 +1,12 @@
 //! Runs where the k-th call of the folder fails, or where the folder refuses every read.
 use crate::layers::{settle, two_layers};
-use crate::sample::{EMPTY, HASH};
-use crate::script::{halves, have_lengths, put, put_all, runs};
-use crate::streams::Refusing;
+use crate::script::{add_line, bytes_of, left_on, put, put_all, runs};
+use crate::streams::{Refusing, Source, Streams};
 use dconf_disk::{Folder, FolderFault, MemoryFolder};
 use std::alloc::Global;
+use std::fmt::Write;
 use std::test::Fail;
+use test_rows::{Question, bytes_of as words, table};
 
 const FILES: [(&str, &str); 5] = [
     ("k", "[/]\nk=5\n"),
@@ -21,156 +22,108 @@ pub(crate) fn store(alloc: Global) -> Result<MemoryFolder, Fail> {
     let mut folder = two_layers(alloc, "/x\n")?;
     put(&mut folder, "v", b"\x01\0\0\0\x02\0\0\0")?;
     put_all(&mut folder, &FILES)?;
-    put(&mut folder, "hash", &HASH)?;
-    put(&mut folder, "empty", &EMPTY)?;
+    put(&mut folder, "hash", &words(alloc, "%plain 60=190")?)?;
+    put(&mut folder, "empty", &words(alloc, "%plain :32 20=32 27=40 28=0")?)?;
     runs(alloc, "$ compile out.db k => 0\n", &mut folder)?;
     settle(&mut folder, &FILES)?;
     settle(&mut folder, &[("v", ""), ("hash", ""), ("empty", "")])?;
     Ok(folder)
 }
 
-/// Does the run in such a folder whose k-th call fails. An error says that it leaves something else, that not so many calls failed, or that the
-/// database has another length or isn't sound.
-fn leaves_at(
-    alloc: Global,
-    k: u64,
-    row: &str,
-    failures: u64,
-    (database, length): (&str, usize),
-) -> Result<(), Fail> {
-    let mut folder = store(alloc)?;
-    folder.fail_at(k);
-    runs(alloc, row, &mut folder)?;
-    if folder.failures() != failures {
-        return Err(Fail::new(format!(in alloc; "another failure at {k}: {row}")?));
+/// A run in such a folder, of which a call fails, and a database.
+#[derive(Clone, Copy)]
+struct RunFailing<'a> {
+    asked: &'a str,
+    database: &'a str,
+}
+
+impl Question for RunFailing<'_> {
+    /// What the run leaves whose call of this number fails, the first counted as 1; how many failed, and how many bytes the database then
+    /// has, which must be sound.
+    fn answer(&mut self, alloc: Global, asked: &str, found: &mut String) -> Result<(), Fail> {
+        let mut folder = store(alloc)?;
+        folder.fail_at(asked.parse()?);
+        let mut streams = Streams::calm(alloc, Source::bytes(b""));
+        add_line(&left_on(alloc, self.asked, &mut folder, &mut streams)?, found)?;
+        let failures = folder.failures();
+        folder.fail_at(0);
+        let length = bytes_of(alloc, &mut folder, self.database)?.len();
+        write!(found, ", {failures} failed, {length} bytes")?;
+        let sound = format!(in alloc; "$ check {} => 0\nsound\n", self.database)?;
+        runs(alloc, &sound, &mut folder)
     }
-    folder.fail_at(0);
-    have_lengths(alloc, &mut folder, &[(database, length)])?;
-    let sound = format!(in alloc; "$ check {database} => 0\nsound\n")?;
-    runs(alloc, &sound, &mut folder)
 }
-
-/// A line has the call that fails, the first counted as 1, the file that is named, and how many bytes the database then has.
-fn device_at(alloc: Global, asked: &str, database: &str, lines: &str) -> Result<(), Fail> {
-    for line in lines.split('\n') {
-        if let Some((k, left)) = halves(line, " ")? {
-            names_device(alloc, asked, database, k, left)?;
-        }
-    }
-    Ok(())
-}
-
-/// Does the run with such a call that fails.
-fn names_device(
-    alloc: Global,
-    asked: &str,
-    database: &str,
-    k: &str,
-    left: &str,
-) -> Result<(), Fail> {
-    let (name, length) = left.split_once(' ').unwrap_or((left, ""));
-    let row = format!(in alloc; "$ {asked} => 1\n! error: Device {name}\n")?;
-    leaves_at(alloc, k.parse()?, &row, 1, (database, length.parse()?))
-}
-
-/// What reads each database of the profile.
-const READS: &str = "
-read /a/k
-read -d /a/k
-origin /a/k
-explain /a/k
-list /a/
-list-locks /
-dump /
-dump /b/
-";
-
-const READ: &str = "
-1 profile 110
-2 me.user 110
-3 site.db 110
-";
-
-/// What reads the file `v` alone.
-const READS_OF_FILE: &str = "
-show q v
-show au v
-check v
-";
 
 /// A rename that fails is done all the same.
 const COMPILED: &str = "
-1 k 110
-2 g 110
-3 locks 110
-4 out.db 110
-5 out.db 110
-6 out.db 110
-7 out.db 187
-8 out.db 187
+0 | 0, 0 failed, 187 bytes
+1 | 1 ! error: Device k, 1 failed, 110 bytes
+2 | 1 ! error: Device g, 1 failed, 110 bytes
+3 | 1 ! error: Device locks, 1 failed, 110 bytes
+4 | 1 ! error: Device out.db, 1 failed, 110 bytes
+5 | 1 ! error: Device out.db, 1 failed, 110 bytes
+6 | 1 ! error: Device out.db, 1 failed, 110 bytes
+7 | 1 ! error: Device out.db, 1 failed, 187 bytes
+8 | 1 ! error: Device out.db, 1 failed, 187 bytes
 ";
 
 const REPAIRED: &str = "
-1 hash 32
-2 empty 32
-3 empty 32
-4 empty 32
-5 empty 110
-6 empty 110
+0 | 0 kept 1 keys, 0 locks, 0 failed, 110 bytes
+1 | 1 ! error: Device hash, 1 failed, 32 bytes
+2 | 1 ! error: Device empty, 1 failed, 32 bytes
+3 | 1 ! error: Device empty, 1 failed, 32 bytes
+4 | 1 ! error: Device empty, 1 failed, 32 bytes
+5 | 1 ! error: Device empty, 1 failed, 110 bytes
+6 | 1 ! error: Device empty, 1 failed, 110 bytes
 ";
 
-/// Where no call fails, and where the one that would isn't made: its number, the database and its bytes, and the run.
-const CALM: &str = "
-% 0 out.db 110
-$ show au v => 0
-[uint32 1, 2]
-% 2 out.db 110
-$ show au v => 0
-[uint32 1, 2]
-% 3 out.db 110
-$ show au v => 0
-[uint32 1, 2]
-% 0 out.db 110
-$ check v => 1
-! error: Short
-% 2 out.db 110
-$ check v => 1
-! error: Short
-% 3 out.db 110
-$ check v => 1
-! error: Short
-% 0 out.db 187
-$ compile --locks locks out.db k g => 0
-% 0 empty 110
-$ repair hash empty => 0
-kept 1 keys, 0 locks
+/// Of a run that reads the file `v` alone.
+const ONE_FILE: &str = "1 | 1 ! error: Device v, 1 failed, 110 bytes";
+
+const SHOWN: &str = "
+0 | 0 [uint32 1, 2], 0 failed, 110 bytes
+2 | 0 [uint32 1, 2], 0 failed, 110 bytes
+3 | 0 [uint32 1, 2], 0 failed, 110 bytes
 ";
 
-/// Does a run whose call of that number isn't made.
-fn leaves_calmly(alloc: Global, at: &str, row: &str) -> Result<(), Fail> {
-    let (k, left) = at.split_once(' ').unwrap_or((at, ""));
-    let (database, length) = left.split_once(' ').unwrap_or((left, ""));
-    leaves_at(alloc, k.parse()?, row, 0, (database, length.parse()?))
-}
+const CHECKED: &str = "
+0 | 1 ! error: Short, 0 failed, 110 bytes
+2 | 1 ! error: Short, 0 failed, 110 bytes
+3 | 1 ! error: Short, 0 failed, 110 bytes
+";
+
+/// Of a run that reads each database of the profile.
+const READ: &str = "
+1 | 1 ! error: Device profile, 1 failed, 110 bytes
+2 | 1 ! error: Device me.user, 1 failed, 110 bytes
+3 | 1 ! error: Device site.db, 1 failed, 110 bytes
+";
+
+/// All databases are read before one is opened.
+const LATE: &str = "3 | 1 ! error: Device site.db, 1 failed, 110 bytes";
 
 #[test]
 fn calls_of_the_folder_that_fail(rt: HostRuntime) -> Result<(), Fail> {
-    let alloc = rt.alloc();
-    let compile = "compile --locks locks out.db k g";
-    device_at(alloc, compile, "out.db", COMPILED)?;
-    device_at(alloc, "repair hash empty", "empty", REPAIRED)?;
-    // All databases are read before one is opened.
-    device_at(alloc, "load / -p late", "out.db", "3 site.db 110")?;
-    for asked in READS_OF_FILE.trim().split('\n') {
-        device_at(alloc, asked, "out.db", "1 v 110")?;
-    }
-    for asked in READS.trim().split('\n') {
-        device_at(alloc, asked, "out.db", READ)?;
-    }
-    for row in CALM.trim_start().split('%') {
-        if let Some((at, run)) = halves(row, "\n")? {
-            leaves_calmly(alloc, at.trim(), run)?;
-        }
+    let tables = [
+        ("compile --locks locks out.db k g", "out.db", COMPILED),
+        ("repair hash empty", "empty", REPAIRED),
+        ("load / -p late", "out.db", LATE),
+        ("show q v", "out.db", ONE_FILE),
+        ("show au v", "out.db", ONE_FILE),
+        ("show au v", "out.db", SHOWN),
+        ("check v", "out.db", ONE_FILE),
+        ("check v", "out.db", CHECKED),
+        ("read /a/k", "out.db", READ),
+        ("read -d /a/k", "out.db", READ),
+        ("origin /a/k", "out.db", READ),
+        ("explain /a/k", "out.db", READ),
+        ("list /a/", "out.db", READ),
+        ("list-locks /", "out.db", READ),
+        ("dump /", "out.db", READ),
+        ("dump /b/", "out.db", READ),
+    ];
+    for (asked, database, rows) in tables {
+        table(rt.alloc(), &mut RunFailing { asked, database }, rows)?;
     }
     Ok(())
 }

@@ -1,9 +1,9 @@
 //! A folder whose profile has a database of the user's and one of the site's, for runs that change settings.
-use crate::sample::HASH;
 use crate::script::{folder_of, put, runs};
 use dconf_disk::{Folder, MemoryFolder};
 use std::alloc::Global;
 use std::test::Fail;
+use test_rows::bytes_of;
 
 const MADE: &str = "
 $ compile me.user u => 0
@@ -22,7 +22,7 @@ pub(crate) fn two_layers(alloc: Global, locks: &str) -> Result<MemoryFolder, Fai
         ("late", "system-db:bad\nsystem-db:site\n"),
     ];
     let mut folder = folder_of(alloc, &files)?;
-    put(&mut folder, "bad.db", HASH.get(..23).unwrap_or(&HASH))?;
+    put(&mut folder, "bad.db", &bytes_of(alloc, "%plain :23")?)?;
     runs(alloc, MADE, &mut folder)?;
     settle(&mut folder, &files)?;
     settle(&mut folder, &[("bad.db", "")])?;

@@ -21,8 +21,6 @@ mod loading;
 #[cfg(test)]
 mod long_type;
 #[cfg(test)]
-mod sample;
-#[cfg(test)]
 mod script;
 #[cfg(test)]
 mod streams;

@@ -1,10 +1,11 @@
 //! `show` of a type's text that is longer than a word of a command line may be.
-use crate::script::{is_left, left_by};
+use crate::script::left_by;
 use crate::streams::{Source, Streams};
 use dconf_cli::Command;
 use dconf_disk::MemoryFolder;
 use std::alloc::Global;
 use std::test::Fail;
+use test_rows::is_so;
 
 const LETTERS: &str = "rrrrrrrrrrrrrrrrrrrrrrrrrrrrrrrrrrrrrrrrrrrrrrrrrrrrrrrrrrrrrrrr";
 
@@ -16,7 +17,7 @@ fn leaves(alloc: Global, after: &str, wanted: &str) -> Result<(), Fail> {
     let mut streams = Streams::calm(alloc, Source::bytes(b""));
     let asked = Command::Show { type_text, file };
     let left = left_by(alloc, asked, &mut MemoryFolder::new(alloc), &mut streams)?;
-    is_left(alloc, "a long type", &left, wanted)
+    is_so(alloc, "a long type", &left, wanted)
 }
 
 /// The length is looked at before all else.

@@ -1,31 +1,30 @@
-//! Scripts: runs of the program in one folder, and what each of them leaves.
-//!
-//! A run begins with `$ ` and the words after the program's name. Its input follows from the next line on, if it has any; then `=> ` and the
-//! status, the lines on out, and after `! ` what is on err. No text of a script has a `$` or a `=> ` of its own.
+//! Runs of the program in one folder, and what each of them leaves: its status, the lines on out, and after `! ` what is on err.
 use crate::streams::{Source, Streams};
 use dconf_cli::{Asked, Command, command, run};
 use dconf_disk::{Folder, MemoryFolder};
 use std::alloc::{AllocError, Global};
 use std::test::Fail;
+use test_rows::{Question, script};
 
-/// Does the runs of a script. An error names the first that leaves something else.
-pub(crate) fn runs<F: Folder>(alloc: Global, script: &str, folder: &mut F) -> Result<(), Fail> {
-    for row in script.split('$') {
-        if let Some((asked, wanted)) = row.split_once("=> ") {
-            leaves(alloc, asked, folder, wanted)?;
-        } else if !row.trim().is_empty() {
-            return Err(Fail::new("a run without its status"));
-        }
-    }
-    Ok(())
+/// The folder in which the runs of a script are done.
+#[derive(Drop)]
+struct RunsIn<'a, F: Folder> {
+    folder: &'a mut F,
 }
 
-/// Runs the words, which stand before their input, on streams that don't fail.
-fn leaves<F: Folder>(alloc: Global, asked: &str, folder: &mut F, wanted: &str) -> Result<(), Fail> {
-    let (words, input) = asked.split_once('\n').unwrap_or((asked, ""));
-    let mut streams = Streams::calm(alloc, Source::bytes(input.as_bytes()));
-    let left = left_on(alloc, words.trim(), folder, &mut streams)?;
-    is_left(alloc, words, &left, wanted)
+impl<F: Folder> Question for RunsIn<'_, F> {
+    /// Runs the words, which stand before their input, on streams that don't fail.
+    fn answer(&mut self, alloc: Global, asked: &str, found: &mut String) -> Result<(), Fail> {
+        let (words, input) = asked.split_once('\n').unwrap_or((asked, ""));
+        let mut streams = Streams::calm(alloc, Source::bytes(input.as_bytes()));
+        let left = left_on(alloc, words, self.folder, &mut streams)?;
+        Ok(found.push_str(&left)?)
+    }
+}
+
+/// Does the runs of a script. An error names the first that leaves something else.
+pub(crate) fn runs<F: Folder>(alloc: Global, rows: &str, folder: &mut F) -> Result<(), Fail> {
+    script(alloc, &mut RunsIn { folder }, rows)
 }
 
 /// Runs the words on these streams, and says what they leave.
@@ -77,24 +76,13 @@ pub(crate) fn left_by<F: Folder>(
     format!(in alloc; "{status}\n{out}{mark}{err}")
 }
 
-/// An error says what the words left, if it isn't this.
-pub(crate) fn is_left(alloc: Global, words: &str, left: &str, wanted: &str) -> Result<(), Fail> {
-    if left == wanted {
-        Ok(())
-    } else {
-        Err(Fail::new(format!(in alloc; "{words} => {left}")?))
+/// Adds what a run leaves as words of a line.
+pub(crate) fn add_line(left: &str, found: &mut String) -> Result<(), AllocError> {
+    for line in left.split_terminator('\n') {
+        found.push(' ')?;
+        found.push_str(line)?;
     }
-}
-
-/// The two parts of a row of a table, with this mark between them, or None of a row that is empty.
-pub(crate) fn halves<'a>(line: &'a str, mark: &str) -> Result<Option<(&'a str, &'a str)>, Fail> {
-    if line.is_empty() {
-        return Ok(None);
-    }
-    match line.split_once(mark) {
-        Some(parts) => Ok(Some(parts)),
-        None => Err(Fail::new("a line without its mark")),
-    }
+    Ok(())
 }
 
 pub(crate) fn put(folder: &mut MemoryFolder, name: &str, bytes: &[u8]) -> Result<(), Fail> {
@@ -128,19 +116,4 @@ pub(crate) fn bytes_of(
         Some(bytes) => Ok(bytes),
         None => Err(Fail::new(format!(in alloc; "{name} is missing")?)),
     }
-}
-
-/// An error names the first file that hasn't so many bytes.
-pub(crate) fn have_lengths(
-    alloc: Global,
-    folder: &mut MemoryFolder,
-    files: &[(&str, usize)],
-) -> Result<(), Fail> {
-    for (name, wanted) in files {
-        let length = bytes_of(alloc, folder, name)?.len();
-        if length != *wanted {
-            return Err(Fail::new(format!(in alloc; "{name} has {length} bytes")?));
-        }
-    }
-    Ok(())
 }

@@ -1,11 +1,12 @@
 //! Runs where the k-th write to out or to err fails.
 use crate::failing::store;
-use crate::script::{halves, have_lengths, is_left, left_on, runs};
+use crate::script::{bytes_of, left_on};
 use crate::streams::{Source, Streams, Writes};
 use dconf_disk::MemoryFolder;
 use std::alloc::Global;
 use std::io::ErrorKind;
 use std::test::Fail;
+use test_rows::{Question, is_so, script};
 
 /// How many bytes a write takes, and in which way the k-th write fails.
 #[derive(Clone, Copy)]
@@ -42,75 +43,7 @@ impl Failing {
     }
 }
 
-/// What each command writes to out; those that change a file write nothing, but for `repair`.
-const TEXTS: &str = "
-$ show au v =>
-[uint32 1, 2]
-$ read /a/k =>
-1
-$ read -d /a/k =>
-2
-$ read /none =>
-$ list / =>
-a/
-$ list-locks / =>
-/x
-$ dump / =>
-[a]
-k=1
-$ origin /a/k =>
-0 user-db:me
-$ explain /a/k =>
-0 user-db:me\t1\t
-1 system-db:site\t2\t
-seen\t1\t0 user-db:me
-writable\tyes\t
-$ check site.db =>
-sound
-$ repair hash empty =>
-kept 1 keys, 0 locks
-$ compile out.db k =>
-$ write /a/k 1 =>
-$ reset /a/j =>
-$ reset -f /b/ =>
-$ load / =>
-";
-
-/// What each command writes to err.
-const LINES: &str = "
-$ show au missing =>
-error: NoFile missing
-$ read a =>
-error: NotAbsolute
-$ read -d /a/ =>
-error: EndsInSlash
-$ list a =>
-error: NotAbsolute
-$ list-locks /a =>
-error: NoEndSlash
-$ dump /a =>
-error: NoEndSlash
-$ origin a =>
-error: NotAbsolute
-$ explain /a/ =>
-error: EndsInSlash
-$ check v =>
-error: Short
-$ compile out.db v =>
-error: v:1: BadLine
-$ repair v empty =>
-error: Short
-$ write /x 3 =>
-error: Locked /x
-$ reset /x =>
-error: Locked /x
-$ reset -f /a =>
-error: NoEndSlash
-$ load /a =>
-error: NoEndSlash
-";
-
-/// Runs the words on streams of which one fails. An error says that they leave something else, or that another number of writes failed.
+/// Runs the words on such streams. An error says that they leave something else, or that another number of writes failed.
 fn leaves_with(
     alloc: Global,
     words: &str,
@@ -120,7 +53,7 @@ fn leaves_with(
 ) -> Result<(), Fail> {
     let mut streams = Streams::new(alloc, Source::bytes(b""), out, err);
     let left = left_on(alloc, words, folder, &mut streams)?;
-    is_left(alloc, words, &left, wanted)?;
+    is_so(alloc, words, &left, wanted)?;
     let failed = streams
         .out
         .failures()
@@ -132,62 +65,119 @@ fn leaves_with(
     }
 }
 
-/// Each write of the text to out fails once: the status is 1 then, and nothing is on err.
-fn each_to_out(
-    alloc: Global,
-    folder: &mut MemoryFolder,
+/// The folder in which each write of a run fails once.
+#[derive(Drop)]
+struct FailingIn<'a> {
+    folder: &'a mut MemoryFolder,
     failing: Failing,
-    words: &str,
-    text: &str,
-) -> Result<(), Fail> {
-    let calm = failing.at(0);
-    let writes = failing.writes_of(text);
-    for k in 1..=writes {
-        let left = format!(in alloc; "1\n{}", failing.before(k, text))?;
-        leaves_with(alloc, words, folder, (failing.at(k), calm), (&left, 1))?;
-    }
-    let left = format!(in alloc; "0\n{text}")?;
-    let after = failing.at(writes.saturating_add(1));
-    leaves_with(alloc, words, folder, (after, calm), (&left, 0))
 }
 
-/// Each write of the line to err fails once: that changes no status.
-fn each_to_err(
-    alloc: Global,
-    folder: &mut MemoryFolder,
-    failing: Failing,
-    words: &str,
-    line: &str,
-) -> Result<(), Fail> {
-    let calm = failing.at(0);
-    let writes = failing.writes_of(line);
-    leaves_with(alloc, words, folder, (calm, failing.at(1)), ("1\n", 1))?;
-    for k in 2..=writes {
-        let left = format!(in alloc; "1\n! {}", failing.before(k, line))?;
-        leaves_with(alloc, words, folder, (calm, failing.at(k)), (&left, 1))?;
+impl FailingIn<'_> {
+    /// Streams of which the one that this mark is for fails at its k-th write.
+    fn streams_at(&self, k: usize, mark: &str) -> (Writes, Writes) {
+        let (failing, calm) = (self.failing.at(k), self.failing.at(0));
+        if mark.is_empty() {
+            (failing, calm)
+        } else {
+            (calm, failing)
+        }
     }
-    let left = format!(in alloc; "1\n! {line}")?;
-    let after = failing.at(writes.saturating_add(1));
-    leaves_with(alloc, words, folder, (calm, after), (&left, 0))
+
+    /// Each write of what a run leaves fails once: the status is 1 then, and what was written before it is left, and no more.
+    fn each(&mut self, alloc: Global, words: &str, left: &str) -> Result<(), Fail> {
+        let (_, text) = left.split_once('\n').unwrap_or((left, ""));
+        let (mark, text) = match text.strip_prefix("! ") {
+            Some(line) => ("! ", line),
+            None => ("", text),
+        };
+        let writes = self.failing.writes_of(text);
+        for k in 1..=writes {
+            let part = self.failing.before(k, text);
+            let before = if part.is_empty() { "" } else { mark };
+            let wanted = format!(in alloc; "1\n{before}{part}")?;
+            let streams = self.streams_at(k, mark);
+            leaves_with(alloc, words, self.folder, streams, (&wanted, 1))?;
+        }
+        let after = self.streams_at(writes.saturating_add(1), mark);
+        leaves_with(alloc, words, self.folder, after, (left, 0))
+    }
 }
 
-/// Runs each command of both tables, with each of its writes failing once.
-fn each_write(alloc: Global, folder: &mut MemoryFolder, failing: Failing) -> Result<(), Fail> {
-    for row in TEXTS.trim_start().split('$') {
-        if let Some((words, text)) = halves(row, " =>\n")? {
-            each_to_out(alloc, folder, failing, words.trim(), text)?;
-        }
+impl Question for FailingIn<'_> {
+    /// What a run leaves where no write fails.
+    fn answer(&mut self, alloc: Global, asked: &str, found: &mut String) -> Result<(), Fail> {
+        let mut streams = Streams::calm(alloc, Source::bytes(b""));
+        let left = left_on(alloc, asked, self.folder, &mut streams)?;
+        self.each(alloc, asked, &left)?;
+        Ok(found.push_str(&left)?)
     }
-    // The database was replaced before its line was written.
-    have_lengths(alloc, folder, &[("empty", 110)])?;
-    runs(alloc, "$ check empty => 0\nsound\n", folder)?;
-    for row in LINES.trim_start().split('$') {
-        if let Some((words, line)) = halves(row, " =>\n")? {
-            each_to_err(alloc, folder, failing, words.trim(), line)?;
-        }
-    }
-    Ok(())
 }
+
+/// What each command writes to out; those that change a file write nothing, but for `repair`. Then what each writes to err.
+const RUNS: &str = "
+$ show au v => 0
+[uint32 1, 2]
+$ read /a/k => 0
+1
+$ read -d /a/k => 0
+2
+$ read /none => 0
+$ list / => 0
+a/
+$ list-locks / => 0
+/x
+$ dump / => 0
+[a]
+k=1
+$ origin /a/k => 0
+0 user-db:me
+$ explain /a/k => 0
+0 user-db:me\t1\t
+1 system-db:site\t2\t
+seen\t1\t0 user-db:me
+writable\tyes\t
+$ check site.db => 0
+sound
+$ repair hash empty => 0
+kept 1 keys, 0 locks
+$ compile out.db k => 0
+$ write /a/k 1 => 0
+$ reset /a/j => 0
+$ reset -f /b/ => 0
+$ load / => 0
+$ check empty => 0
+sound
+$ show au missing => 1
+! error: NoFile missing
+$ read a => 1
+! error: NotAbsolute
+$ read -d /a/ => 1
+! error: EndsInSlash
+$ list a => 1
+! error: NotAbsolute
+$ list-locks /a => 1
+! error: NoEndSlash
+$ dump /a => 1
+! error: NoEndSlash
+$ origin a => 1
+! error: NotAbsolute
+$ explain /a/ => 1
+! error: EndsInSlash
+$ check v => 1
+! error: Short
+$ compile out.db v => 1
+! error: v:1: BadLine
+$ repair v empty => 1
+! error: Short
+$ write /x 3 => 1
+! error: Locked /x
+$ reset /x => 1
+! error: Locked /x
+$ reset -f /a => 1
+! error: NoEndSlash
+$ load /a => 1
+! error: NoEndSlash
+";
 
 #[test]
 fn writes_that_fail(rt: HostRuntime) -> Result<(), Fail> {
@@ -199,12 +189,18 @@ fn writes_that_fail(rt: HostRuntime) -> Result<(), Fail> {
     ];
     for kind in kinds {
         for (most, lasting) in [(4, false), (4, true), (1, false), (100, true)] {
+            let mut folder = store(alloc)?;
             let failing = Failing {
                 most,
                 kind,
                 lasting,
             };
-            each_write(alloc, &mut store(alloc)?, failing)?;
+            let mut runs = FailingIn {
+                folder: &mut folder,
+                failing,
+            };
+            script(alloc, &mut runs, RUNS)?;
+            assert!(rt; bytes_of(alloc, &mut folder, "empty")?.len() == 110);
         }
     }
     Ok(())
