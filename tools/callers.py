@@ -370,22 +370,18 @@ class Reader:
                 _, at = self.chain(found.start(), end)
 
     def until(self, at, end, marks):
-        """Where one of these marks stands that is in no brackets."""
+        """Where one of these characters stands that is in no brackets, and no part of another sign."""
         while at < end:
-            if self.text.startswith(marks, at) and self.text[at : at + 2] not in ("==", "::", "=>"[:2] if "=" in marks and "=>" not in marks else "  "):
+            char = self.text[at]
+            if char in marks and self.text[at : at + 2] not in ("==", "=>"):
                 return at
-            if self.text[at] in "([{" and self.text[at] not in marks:
-                at = closing(self.text, at)
-            at += 1
+            at = closing(self.text, at) + 1 if char in "([{" else at + 1
         return end
 
     def read_let(self, at, end):
-        equals = self.until(at, end, ("=", ";"))
-        head = self.text[at:equals]
-        parts = split(head, ":") if "::" not in head.split("=")[0].split(":")[0] + ":" else [head]
-        declared = re.match(r"\s*((?:mut )?\w+|\([^)]*\))\s*:(?!:)(.*)", head, re.S)
-        pattern, of = (declared[1], self.scope.type(declared[2], self.node.params, self.node.own)) if declared else (head, None)
-        del parts
+        equals = self.until(at, end, "=;")
+        declared = re.match(r"\s*((?:mut )?\w+|\([^)]*\))\s*:(?!:)(.*)", self.text[at:equals], re.S)
+        pattern, of = (declared[1], self.scope.type(declared[2], self.node.params, self.node.own)) if declared else (self.text[at:equals], None)
         if self.text[equals : equals + 1] != "=":
             self.bind(pattern, of)
             return equals
@@ -401,7 +397,7 @@ class Reader:
 
     def read_match(self, at, end):
         of, _ = self.expression(at, end)
-        opened = self.until(at, end, ("{",))
+        opened = self.until(at, end, "{")
         self.walk(at, opened)
         closed, at = closing(self.text, opened), opened + 1
         arms = []
@@ -413,7 +409,7 @@ class Reader:
             if self.text[start] == "{":
                 stop = closing(self.text, start) + 1
             else:
-                stop = self.until(start, closed, (",",))
+                stop = self.until(start, closed, ",")
             arms.append((self.text[at:arrow].strip(" ,\n"), start, stop))
             at = stop + (self.text[stop : stop + 1] == ",")
         self.read_arms(of, arms)
@@ -451,7 +447,7 @@ class Reader:
             closed = closing(self.text, at)
             parts, place = [], at + 1
             while place < closed:
-                stop = self.until(place, closed, (",", ";"))
+                stop = self.until(place, closed, ",;")
                 parts.append(self.whole(place, stop))
                 place = stop + 1
             if self.text[at] == "(" and len(parts) == 1:
@@ -495,7 +491,7 @@ class Reader:
         """The types of arguments, all of which are read."""
         closed, at, types = closing(self.text, opened), opened + 1, []
         while at < closed:
-            stop = self.until(at, closed, (",",))
+            stop = self.until(at, closed, ",")
             types.append(self.whole(at, stop))
             at = stop + 1
         return types

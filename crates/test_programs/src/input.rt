@@ -1,11 +1,12 @@
 //! The input of a command, read to its end, to its first failure, or until it is too long.
+use crate::questions::RowsOf;
 use crate::streams::Source;
 use dconf_cli::{Counted, read_input};
 use std::alloc::{AllocError, Global};
 use std::fmt::Write;
 use std::io::ErrorKind;
 use std::test::Fail;
-use test_rows::{Question, table};
+use test_rows::table;
 
 /// The input of so many `#`, of which a read fails: `4100 2 Interrupted`.
 pub(crate) fn source_of(text: &str) -> Result<Source<'static>, Fail> {
@@ -26,17 +27,13 @@ pub(crate) fn add_rest(input: &Counted<Source<'_>>, found: &mut String) -> Resul
 }
 
 /// What comes of reading an input.
-struct Inputs;
-
-impl Question for Inputs {
-    fn answer(&mut self, alloc: Global, asked: &str, found: &mut String) -> Result<(), Fail> {
-        let mut input = Counted::new(source_of(asked)?);
-        match read_input(alloc, &mut input) {
-            Ok(bytes) => write!(found, "{}", bytes.len())?,
-            Err(fault) => write!(found, "{fault}")?,
-        }
-        Ok(add_rest(&input, found)?)
+pub(crate) fn input_read(alloc: Global, asked: &str, found: &mut String) -> Result<(), Fail> {
+    let mut input = Counted::new(source_of(asked)?);
+    match read_input(alloc, &mut input) {
+        Ok(bytes) => write!(found, "{}", bytes.len())?,
+        Err(fault) => write!(found, "{fault}")?,
     }
+    Ok(add_rest(&input, found)?)
 }
 
 /// How many `#` an input has, which of its reads fails, and how; then how many are read, or why none is. The first read gives 4,096 bytes,
@@ -63,5 +60,5 @@ fn reads_the_input_as_far_as_it_may(rt: HostRuntime) -> Result<(), Fail> {
     let mut words = Counted::new(Source::bytes(b"[/]\nk=5\n"));
     assert!(rt; read_input(alloc, &mut words)?.as_slice() == b"[/]\nk=5\n".as_slice());
     assert!(rt; read_input(alloc, &mut words)?.is_empty() && words.failures() == 0);
-    table(alloc, &mut Inputs, INPUTS)
+    table(alloc, &mut RowsOf::Input, INPUTS)
 }

@@ -21,6 +21,8 @@ mod loading;
 #[cfg(test)]
 mod long_type;
 #[cfg(test)]
+mod questions;
+#[cfg(test)]
 mod script;
 #[cfg(test)]
 mod streams;

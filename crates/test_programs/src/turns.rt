@@ -1,5 +1,6 @@
 //! Runs one after another in one folder, and runs some of which a crash stops.
 use crate::layers::two_layers;
+use crate::questions::RowsOf;
 use crate::script::words_of;
 use crate::streams::{Source, Streams};
 use dconf_cli::{Asked, Command, command};
@@ -7,7 +8,7 @@ use dconf_disk::{FolderFault, MemoryFolder};
 use dconf_runs::{Attempt, End, Request, Statuses, run_after, run_through_crashes};
 use std::alloc::{AllocError, Global};
 use std::test::Fail;
-use test_rows::{Question, script};
+use test_rows::script;
 
 /// The request of these words, which stand before their input.
 fn request(alloc: Global, asked: &str) -> Result<Request, Fail> {
@@ -77,19 +78,15 @@ $ write /b 1;list-locks / => [0] 0
 ";
 
 /// What runs leave in a folder of two layers.
-struct Programs;
-
-impl Question for Programs {
-    fn answer(&mut self, alloc: Global, asked: &str, found: &mut String) -> Result<(), Fail> {
-        let mut folder = two_layers(alloc, "/x\n")?;
-        let left = left_after(alloc, &mut folder, asked)?;
-        Ok(found.push_str(&left)?)
-    }
+pub(crate) fn program_left(alloc: Global, asked: &str, found: &mut String) -> Result<(), Fail> {
+    let mut folder = two_layers(alloc, "/x\n")?;
+    let left = left_after(alloc, &mut folder, asked)?;
+    Ok(found.push_str(&left)?)
 }
 
 #[test]
 fn a_program_gives_what_was_written(rt: HostRuntime) -> Result<(), Fail> {
-    script(rt.alloc(), &mut Programs, PROGRAMS)
+    script(rt.alloc(), &mut RowsOf::Program, PROGRAMS)
 }
 
 /// Writes that come to their end, one that a crash stops at its call of that number, one before which a crash comes, and another.

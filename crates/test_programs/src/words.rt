@@ -1,33 +1,30 @@
 //! What the command of a line replaces, where its store is, the user's file of a profile, and what an update makes.
+use crate::questions::RowsOf;
 use crate::script::words_of;
 use dconf_command::{Asked, SourceFile, SourceFolder, command, updates, user_file};
 use std::alloc::{AllocError, Global};
 use std::fmt::Write;
 use std::test::Fail;
-use test_rows::{Question, is_so, table};
+use test_rows::{is_so, table};
 
-/// What a table asks of the command of a line.
-enum Words {
-    /// What it replaces.
-    Replaced,
-    /// Where its store is, and what it replaces by another profile.
-    Placed,
+/// What the command of a line replaces.
+pub(crate) fn replaced(alloc: Global, line: &str, found: &mut String) -> Result<(), Fail> {
+    match command(alloc, &words_of(alloc, line)?) {
+        Ok(Asked::Run { command, .. }) => write!(found, "{:?}", command.replaced())?,
+        Ok(Asked::Update { folder }) => write!(found, "{folder:?}")?,
+        Err(_) => return Err(Fail::new("the words are refused")),
+    }
+    Ok(())
 }
 
-impl Question for Words {
-    fn answer(&mut self, alloc: Global, asked: &str, found: &mut String) -> Result<(), Fail> {
-        match (self, command(alloc, &words_of(alloc, asked)?)) {
-            (Words::Replaced, Ok(Asked::Run { command, .. })) => {
-                write!(found, "{:?}", command.replaced())?
-            }
-            (Words::Placed, Ok(Asked::Run { command, place })) => {
-                let other = command.with_profile(String::from_str(alloc, "other")?);
-                write!(found, "{place:?} {:?}", other.replaced())?
-            }
-            (_, Ok(Asked::Update { folder })) => write!(found, "{folder:?}")?,
-            (_, Err(_)) => return Err(Fail::new("the words are refused")),
+/// Where the store of a line's command is, and what it replaces by another profile.
+pub(crate) fn placed(alloc: Global, line: &str, found: &mut String) -> Result<(), Fail> {
+    match command(alloc, &words_of(alloc, line)?) {
+        Ok(Asked::Run { command, place }) => {
+            let other = command.with_profile(String::from_str(alloc, "other")?);
+            Ok(write!(found, "{place:?} {:?}", other.replaced())?)
         }
-        Ok(())
+        _ => Err(Fail::new("the words are refused")),
     }
 }
 
@@ -64,8 +61,8 @@ check -- --user | Place { is_users: false, folder: None, profile: None } None
 
 #[test]
 fn names_what_a_command_replaces_and_where(rt: HostRuntime) -> Result<(), Fail> {
-    table(rt.alloc(), &mut Words::Replaced, REPLACED)?;
-    table(rt.alloc(), &mut Words::Placed, PLACES)
+    table(rt.alloc(), &mut RowsOf::Replaced, REPLACED)?;
+    table(rt.alloc(), &mut RowsOf::Place, PLACES)
 }
 
 const PROFILES: [(&str, &str); 7] = [

@@ -2,8 +2,8 @@
 //! `/k`, and the second locks it.
 use dconf_engine::Layer;
 use dconfdb_calls::{
-    DconfdbChange, DconfdbFound, Fault, differing_keys, directory_locks, directory_names, hand_out,
-    is_key_locked, is_key_writable, keys_differing_first, open_layer, open_layer_after,
+    DconfdbChange, DconfdbFound, Fault, differing_keys, directory_locks, directory_names,
+    first_changed_since, hand_out, is_key_locked, is_key_writable, keys_differing_first, open_layer, open_layer_after,
     profile_databases, read, read_default, read_own, user_file,
 };
 use std::alloc::Global;
@@ -83,6 +83,17 @@ fn are_told_apart(alloc: Global, layers: &[Layer<'_>]) -> bool {
 /// The first bytes of a file.
 fn first_of_plain(len: usize) -> &'static [u8] {
     sample("plain").get(..len).unwrap_or(&[])
+}
+
+/// Whether it is told at which of two changes something else is seen, here by a lock.
+fn are_told_since(alloc: Global, layers: &[Layer<'_>]) -> bool {
+    let changes = [change(b"/j", false), change(b"/k", false)];
+    let since = match layers {
+        [user, _] => first_changed_since(alloc, &[*user], layers, &changes),
+        _ => Ok(None),
+    };
+    matches!(since, Ok(Some(1)))
+        && matches!(first_changed_since(alloc, layers, layers, &changes), Ok(None))
 }
 
 /// Whether a file opens alike with the help of a layer and without.
@@ -218,7 +229,7 @@ fn first_wrong(alloc: Global, user: Layer<'_>, site: Layer<'_>) -> &'static str 
     if !are_read(user, site) || !are_locked(user, site) {
         return "values or locks";
     }
-    if !are_listed(alloc, &layers) || !is_handed_out() {
+    if !are_listed(alloc, &layers) || !are_told_since(alloc, &layers) || !is_handed_out() {
         return "lists";
     }
     if !are_profiles(alloc) || !are_faults() || !open_alike(user, site) {
