@@ -23,7 +23,11 @@ pub(crate) fn store(alloc: Global) -> Result<MemoryFolder, Fail> {
     put(&mut folder, "v", b"\x01\0\0\0\x02\0\0\0")?;
     put_all(&mut folder, &FILES)?;
     put(&mut folder, "hash", &words(alloc, "%plain 60=190")?)?;
-    put(&mut folder, "empty", &words(alloc, "%plain :32 20=32 27=40 28=0")?)?;
+    put(
+        &mut folder,
+        "empty",
+        &words(alloc, "%plain :32 20=32 27=40 28=0")?,
+    )?;
     runs(alloc, "$ compile out.db k => 0\n", &mut folder)?;
     settle(&mut folder, &FILES)?;
     settle(&mut folder, &[("v", ""), ("hash", ""), ("empty", "")])?;
@@ -44,7 +48,10 @@ impl Question for RunFailing<'_> {
         let mut folder = store(alloc)?;
         folder.fail_at(asked.parse()?);
         let mut streams = Streams::calm(alloc, Source::bytes(b""));
-        add_line(&left_on(alloc, self.asked, &mut folder, &mut streams)?, found)?;
+        add_line(
+            &left_on(alloc, self.asked, &mut folder, &mut streams)?,
+            found,
+        )?;
         let failures = folder.failures();
         folder.fail_at(0);
         let length = bytes_of(alloc, &mut folder, self.database)?.len();

@@ -63,7 +63,13 @@ fn looks_at_the_input_before_any_file(rt: HostRuntime) -> Result<(), Fail> {
     let mut folder = two_layers(alloc, "/a/k\n")?;
     let before = bytes_of(alloc, &mut folder, "me.user")?;
     folder.fail_at(1);
-    table(alloc, &mut OnInput { folder: &mut folder }, REFUSED)?;
+    table(
+        alloc,
+        &mut OnInput {
+            folder: &mut folder,
+        },
+        REFUSED,
+    )?;
     runs(alloc, BAD_LINE, &mut folder)?;
     // So far no call of the folder was made.
     assert_eq!(rt; folder.failures(), 0);
@@ -71,5 +77,11 @@ fn looks_at_the_input_before_any_file(rt: HostRuntime) -> Result<(), Fail> {
     let after = bytes_of(alloc, &mut folder, "me.user")?;
     assert!(rt; before.as_slice() == after.as_slice());
     let calm = "4100 4 Other; load / | 0, 0 left, 0 failed";
-    table(alloc, &mut OnInput { folder: &mut folder }, calm)
+    table(
+        alloc,
+        &mut OnInput {
+            folder: &mut folder,
+        },
+        calm,
+    )
 }

@@ -3,8 +3,8 @@
 use dconf_engine::Layer;
 use dconfdb_calls::{
     DconfdbChange, DconfdbFound, Fault, differing_keys, directory_locks, directory_names,
-    first_changed_since, hand_out, is_key_locked, is_key_writable, keys_differing_first, open_layer, open_layer_after,
-    profile_databases, read, read_default, read_own, user_file,
+    first_changed_since, hand_out, is_key_locked, is_key_writable, keys_differing_first,
+    open_layer, open_layer_after, profile_databases, read, read_default, read_own, user_file,
 };
 use std::alloc::Global;
 use std::test::Fail;
@@ -93,7 +93,10 @@ fn are_told_since(alloc: Global, layers: &[Layer<'_>]) -> bool {
         _ => Ok(None),
     };
     matches!(since, Ok(Some(1)))
-        && matches!(first_changed_since(alloc, layers, layers, &changes), Ok(None))
+        && matches!(
+            first_changed_since(alloc, layers, layers, &changes),
+            Ok(None)
+        )
 }
 
 /// Whether a file opens alike with the help of a layer and without.

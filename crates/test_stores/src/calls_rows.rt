@@ -71,7 +71,10 @@ pub(crate) fn names(alloc: Global, asked: &str, found: &mut String) -> Result<()
     let text = bytes_of(alloc, asked)?;
     match good_lines(alloc, &text) {
         Ok(lines) => {
-            let last = lines.names.last().and_then(|it| str::from_utf8(it.name).ok());
+            let last = lines
+                .names
+                .last()
+                .and_then(|it| str::from_utf8(it.name).ok());
             let bad = lines.fault.as_ref().map(place);
             Ok(write!(found, "{} {last:?} {bad:?}", lines.names.len())?)
         }

@@ -9,10 +9,7 @@ use test_rows::{bytes_of, table};
 /// What a part is, as its type's text and its first byte.
 fn head<'a>(part: Option<DconfdbPart<'a>>) -> Option<(&'a str, u8)> {
     let part = part?;
-    Some((
-        str::from_utf8(part.type_text).ok()?,
-        *part.value.first()?,
-    ))
+    Some((str::from_utf8(part.type_text).ok()?, *part.value.first()?))
 }
 
 /// Pushes what is read of a type's bytes.
