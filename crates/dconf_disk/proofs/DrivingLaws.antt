@@ -1,6 +1,7 @@
 -- A turn that is driven on a folder: what each step does, and what is so after it.
 use Rattle.std.proofs.Common.{ℕ, ◌+◌, ◌<◌, ◌≤◌, ◌≡◌, ◌≢◌, ◌⊎◌, Bool, true, false, Result, OnOk, OnErr, List, ◌∷◌, length, take, drop, Some, None, refl, sym, ◌∙◌, ap, subst, arith, inl, inr, ⊎_elim}
 use Rattle.std.proofs.lemmas.List.{take_all}
+use Rattle.std.proofs.lemmas.Bool.{true_from_ne_false}
 use Rattle.dconf_model.specs.Folders.{Event}
 use Rattle.dconf_model.specs.Folders.Event.{create, append, sync, touch, rename, remove, sync_folder}
 use Rattle.dconf_model.specs.Replacing.{new_name, MaybeReplaced, Replaced}
@@ -18,6 +19,7 @@ use Rattle.dconf_turn.specs.Sayings.{IsMade, Says}
 use Rattle.dconf_turn.specs.Sayings.{IsWhole as IsWholeFile}
 use Rattle.dconf_turn.specs.Steps.{place, step_at, step_of, GoesOn, Follows, IsSaid, IsDone, KnowsAfter}
 use Rattle.dconf_turn.specs.Progress.{Stands}
+use Rattle.dconf_turn.proofs.HistoryLaws.{done_is}
 use Rattle.dconf_turn.specs.Hosts.{DidStep, IsLockMade, IsNoted}
 use Rattle.dconf_turn.proofs.ApartLaws.{nothing_yet}
 use Rattle.dconf_turn.proofs.SayingLaws.{kept, kept_whole, whole_of}
@@ -390,38 +392,18 @@ module _ (t : Turn) (keeps : t.keeps ≡ false) (next : Step) (o p : Outcome) (b
 
 -- ---- without the turn to replace files
 
-said_at : (t : Turn) (state : State) (outcome : Outcome) → step_at state t ≡ Done outcome → t.outcome ≡ outcome
-said_at t Locking outcome e = cc
-said_at t Reading outcome e = cc
-said_at t Making outcome e = cc
-said_at t Creating outcome e = cc
-said_at t Writing outcome e = cc
-said_at t Syncing outcome e = cc
-said_at t SettingAside outcome e = cc
-said_at t Exchanging outcome e = cc
-said_at t Renaming outcome e = cc
-said_at t SyncingFolder outcome e = cc
-said_at t Removing outcome e = cc
-said_at t Noting outcome e = cc
-said_at t Unlocking outcome e = cc
-said_at t Over outcome e = cc
-
 pub not_idle : (t : Turn) (outcome : Outcome) → step_of t ≡ Done outcome → outcome ≡ Made → IsIdle (step_of t) t.outcome → ⊥
 not_idle t outcome over made idle =
     let end : IsIdle (Done outcome) t.outcome = subst (λ s. IsIdle s t.outcome) over idle in
-    end (said_at t t.state outcome over ∙ made)
-
-pub held_if : (holds : Bool) → (holds ≡ false → ⊥) → holds ≡ true
-held_if true not_so = refl
-held_if false not_so = absurd (not_so refl)
+    end (done_is t t.state outcome over ∙ made)
 
 pub able_if : (holds : Bool) (step : Step) (o : Outcome) → (holds ≡ false → IsIdle step o) → IsAble holds step
 able_if holds Lock o h = tt
 able_if holds Read o h = tt
 able_if holds Make o h = tt
 able_if holds (Create m) o h = tt
-able_if holds (Append at) o h = held_if holds h
-able_if holds (Sync b) o h = held_if holds h
+able_if holds (Append at) o h = true_from_ne_false holds h
+able_if holds (Sync b) o h = true_from_ne_false holds h
 able_if holds SetAside o h = tt
 able_if holds Exchange o h = tt
 able_if holds Rename o h = tt

@@ -48,7 +48,7 @@ IsWhole Make (Yes n) size = n ≡ size
 IsWhole (Append at) (Yes n) size = at + n ≡ size
 IsWhole step answer size = Unit {0}
 
--- one failure more, up to the greatest number
+-- one failure more, as far as a count can tell
 abbrev pub IsOneMore : ℕ → ℕ → Type 0
 IsOneMore before now = (now ≡ before + 1) ⊎ ((now ≡ before) × (now ≡ 2 ^ 64 - 1))
 

@@ -1,6 +1,7 @@
 -- Edits that wait, after one of them was left out, or its change refused.
 use Rattle.std.proofs.Common.{ℕ, zero, suc, ◌+◌, ◌≡◌, ◌≢◌, ◌⊎◌, Bool, true, false, not, ◌&&◌, cond, List, [], ◌∷◌, length, map, Option, Some, None, refl, sym, ◌∙◌, ap, subst, arith, ⊎_elim, inl, inr}
 use Rattle.std.specs.Prelude.{slice_get, slice_set}
+use Rattle.std.proofs.lemmas.Bool.{and_parts, cases_Bool, cases_eq, not-true}
 use Rattle.dconf_steps.specs.declared.queue.QueuedEdit.{QueuedEdit}
 use Rattle.dconf_steps.specs.declared.queue.QueueStep.{QueueStep}
 use Rattle.dconf_steps.specs.declared.queue.QueueStep.TheVariants.{Take, Pass, Write, Ask, Done}
@@ -8,28 +9,6 @@ use Rattle.dconf_steps.specs.declared.queue.QueueAnswer.{QueueAnswer}
 use Rattle.dconf_steps.specs.declared.queue.QueueAnswer.TheVariants.{Yes, Locked, Fault, Later}
 use Rattle.dconf_steps.specs.Queues.{is_open_by, is_open, goes_by, goes, refused, refused_by, unmade, unmade_by, faulted_by, refused_for, marked}
 use Rattle.dconf_steps.specs.QueueLaws.{is_refused_by, is_refused, is_left_out_by, is_left_out, IsOf, Sets, IsOwnFault, IsLockedReset, flag, unmarked, asked_of}
-
-pub true_or_false : (b : Bool) → (b ≡ true) ⊎ (b ≡ false)
-true_or_false true = inl refl
-true_or_false false = inr refl
-
-eq_or_not : (a b : ℕ) → (a ≡ b) ⊎ (a ≢ b)
-eq_or_not zero zero = inl refl
-eq_or_not zero (suc b) = inr (λ e. omega arith)
-eq_or_not (suc a) zero = inr (λ e. omega arith)
-eq_or_not (suc a) (suc b) = ⊎_elim (λ (e : a ≡ b). inl (ap suc e)) (λ (n : a ≢ b). inr (λ (e : suc a ≡ suc b). n (omega arith))) (eq_or_not a b)
-
-not_true : (b : Bool) → not b ≡ true → b ≡ false
-not_true false e = refl
-not_true true e = let bad : false ≡ true = e in cc
-
-both_left : (a b : Bool) → (a && b) ≡ true → a ≡ true
-both_left true b e = refl
-both_left false b e = let bad : false ≡ true = e in cc
-
-both_right : (a b : Bool) → (a && b) ≡ true → b ≡ true
-both_right true b e = e
-both_right false b e = let bad : false ≡ true = e in cc
 
 -- ---- an element that is set
 
@@ -84,13 +63,13 @@ pub record Going (es : List QueuedEdit) (at : ℕ) : Type 0 where
 
 open_first : (o : Option QueuedEdit) → is_open_by o ≡ true → (first : QueuedEdit) × (o ≡ Some first) × (first.is_refused ≡ false)
 open_first None e = let bad : false ≡ true = e in cc
-open_first (Some first) e = (first, refl, not_true first.is_refused e)
+open_first (Some first) e = (first, refl, not-true first.is_refused e)
 
 going_by : (es : List QueuedEdit) (at : ℕ) (o : Option QueuedEdit) → slice_get es at ≡ o → goes_by es o ≡ true → Going es at
 going_by es at None e g = let bad : false ≡ true = g in cc
 going_by es at (Some edit) e g =
-    let f = open_first (slice_get es edit.change) (both_right (not edit.is_left_out) (is_open es edit.change) g) in
-    record { edit = edit; is = e; left_in = not_true edit.is_left_out (both_left (not edit.is_left_out) (is_open es edit.change) g); first = f.0; first_is = f.1; kept = f.2 }
+    let f = open_first (slice_get es edit.change) (and_parts (not edit.is_left_out) (is_open es edit.change) g).1 in
+    record { edit = edit; is = e; left_in = not-true edit.is_left_out (and_parts (not edit.is_left_out) (is_open es edit.change) g).0; first = f.0; first_is = f.1; kept = f.2 }
 
 pub going_is : (es : List QueuedEdit) (at : ℕ) → goes es at ≡ true → Going es at
 going_is es at g = going_by es at (slice_get es at) refl g
@@ -116,7 +95,7 @@ module _ (es : List QueuedEdit) (at : ℕ) (g : Going es at) where
   unmade_fewer =
       ⊎_elim (λ (t : g.edit.sets ≡ true). ap (λ l. unmarked l + 1) (unmade_is es at g.edit g.is ∙ ap (λ b. cond b (refused es g.edit.change) (slice_set es at (without_it g.edit))) t) ∙ refused_fewer)
       (λ (f : g.edit.sets ≡ false). ap (λ l. unmarked l + 1) (unmade_is es at g.edit g.is ∙ ap (λ b. cond b (refused es g.edit.change) (slice_set es at (without_it g.edit))) f) ∙ left_out_fewer)
-      (true_or_false g.edit.sets)
+      (cases_Bool g.edit.sets)
 
   pub refused_for_fewer : goes es at ≡ true → unmarked (refused_for es at) + 1 ≡ unmarked es
   refused_for_fewer t =
@@ -156,13 +135,13 @@ module _ (es : List QueuedEdit) where
   refused_only change k None e r = inl r
   refused_only change k (Some first) e r =
       ⊎_elim (λ (same : k ≡ change). inr (sym same))
-      (λ (other : k ≢ change). inl (sym (ap is_refused_by (set_other es change k (with_refusal first) other)) ∙ r)) (eq_or_not k change)
+      (λ (other : k ≢ change). inl (sym (ap is_refused_by (set_other es change k (with_refusal first) other)) ∙ r)) (cases_eq k change)
 
   left_out_refuses : (at k : ℕ) (edit : QueuedEdit) → slice_get es at ≡ Some edit → is_refused (slice_set es at (without_it edit)) k ≡ true → is_refused es k ≡ true
   left_out_refuses at k edit e r =
       ⊎_elim (λ (same : k ≡ at). (let is : is_refused es at ≡ edit.is_refused = ap is_refused_by e in let now : is_refused (slice_set es at (without_it edit)) at ≡ edit.is_refused = ap is_refused_by (set_same es at edit (without_it edit) e) in
       subst (λ i. is_refused es i ≡ true) (sym same) (is ∙ sym now ∙ subst (λ i. is_refused (slice_set es at (without_it edit)) i ≡ true) same r)))
-      (λ (other : k ≢ at). sym (ap is_refused_by (set_other es at k (without_it edit) other)) ∙ r) (eq_or_not k at)
+      (λ (other : k ≢ at). sym (ap is_refused_by (set_other es at k (without_it edit) other)) ∙ r) (cases_eq k at)
 
   unmade_own : (at k : ℕ) (o : Option QueuedEdit) → slice_get es at ≡ o → is_refused (unmade_by es at o) k ≡ true → (is_refused es k ≡ true) ⊎ (IsOf o k × Sets o true)
   unmade_own at k None e r = inl r
@@ -200,7 +179,7 @@ module _ (es : List QueuedEdit) where
   refused_leaves change k (Some first) e r =
       ⊎_elim (λ (same : k ≡ change). (let is : is_left_out es change ≡ first.is_left_out = ap is_left_out_by e in let now : is_left_out (slice_set es change (with_refusal first)) change ≡ first.is_left_out = ap is_left_out_by (set_same es change first (with_refusal first) e) in
       subst (λ i. is_left_out es i ≡ true) (sym same) (is ∙ sym now ∙ subst (λ i. is_left_out (slice_set es change (with_refusal first)) i ≡ true) same r)))
-      (λ (other : k ≢ change). sym (ap is_left_out_by (set_other es change k (with_refusal first) other)) ∙ r) (eq_or_not k change)
+      (λ (other : k ≢ change). sym (ap is_left_out_by (set_other es change k (with_refusal first) other)) ∙ r) (cases_eq k change)
 
   unmade_reset : (at k : ℕ) (o : Option QueuedEdit) → slice_get es at ≡ o → is_left_out (unmade_by es at o) k ≡ true → (is_left_out es k ≡ true) ⊎ ((k ≡ at) × Sets o false)
   unmade_reset at k None e r = inl r
@@ -209,7 +188,7 @@ module _ (es : List QueuedEdit) where
       either : (b : Bool) → edit.sets ≡ b → is_left_out (cond b (refused es edit.change) (slice_set es at (without_it edit))) k ≡ true → (is_left_out es k ≡ true) ⊎ ((k ≡ at) × (edit.sets ≡ false))
       either true s r = inl (refused_leaves edit.change k (slice_get es edit.change) refl r)
       either false s r =
-          ⊎_elim (λ (same : k ≡ at). inr (same, s)) (λ (other : k ≢ at). inl (sym (ap is_left_out_by (set_other es at k (without_it edit) other)) ∙ r)) (eq_or_not k at)
+          ⊎_elim (λ (same : k ≡ at). inr (same, s)) (λ (other : k ≢ at). inl (sym (ap is_left_out_by (set_other es at k (without_it edit) other)) ∙ r)) (cases_eq k at)
 
   faulted_leaves : (k : ℕ) (o : Option QueuedEdit) → is_left_out (faulted_by es o) k ≡ true → is_left_out es k ≡ true
   faulted_leaves k None r = r

@@ -1,6 +1,7 @@
 -- What holds of a look at the files of a store after any answers.
 use Rattle.std.proofs.Common.{ℕ, zero, suc, ◌+◌, ◌*◌, ◌-◌, ◌<◌, ◌≤◌, ◌≡◌, ◌⊎◌, Bool, true, false, not, ◌&&◌, List, [], ◌∷◌, length, Option, Some, None, refl, sym, ◌∙◌, ap, subst, arith, ⊎_elim, inl, inr}
 use Rattle.std.specs.Prelude.{if◌then◌else◌, ◌==◌, IsTrue}
+use Rattle.std.proofs.lemmas.Bool.{cases_Bool, cases_lt, not-true, not-false}
 use Rattle.dconf_steps.specs.declared.refresh.Refresh.{Refresh}
 use Rattle.dconf_steps.specs.declared.refresh.LookStage.TheVariants.{Asking, Reading}
 use Rattle.dconf_steps.specs.declared.refresh.LookEnd.{LookEnd}
@@ -9,15 +10,6 @@ use Rattle.dconf_steps.specs.declared.refresh.LookStep.{LookStep}
 use Rattle.dconf_steps.specs.declared.refresh.LookStep.TheVariants.{Stat, Read, Compare, Keep, Open, Done}
 use Rattle.dconf_steps.specs.Looks.{look_step_at, look_step, IsLookDone, first_look, after_reading, end_of, AreNext, LookGoes, newer_after, IsRefreshBegun, IsLookAnswered}
 use Rattle.dconf_steps.specs.RefreshLaws.{Looked, RanLook, HasLooked, SaysSame, IsKeptWell, AreKeptWell, had_by, had_of, numbers_from, IsOpening, HasOpened, IsRefusal, HasRefused, Files, StatTells, IsTrueOf, AreTrueOf, WhateverIsSeen}
-
-lt_or_le : (a b : ℕ) → (a < b) ⊎ (b ≤ a)
-lt_or_le a zero = inr (omega arith)
-lt_or_le zero (suc b) = inl (omega arith)
-lt_or_le (suc a) (suc b) = ⊎_elim (λ (l : a < b). inl (omega arith)) (λ (l : b ≤ a). inr (omega arith)) (lt_or_le a b)
-
-true_or_false : (b : Bool) → (b ≡ true) ⊎ (b ≡ false)
-true_or_false true = inl refl
-true_or_false false = inr refl
 
 -- ---- which step comes
 
@@ -37,7 +29,7 @@ IsNext r at newer next = ((at + 1 < r.count) × IsFirst next (at + 1)) ⊎ ((r.c
 next_is : (r : Refresh) (at : ℕ) (newer : Bool) (next : LookStep) → AreNext r at newer next → IsNext r at newer next
 next_is r at newer next n =
     ⊎_elim (λ (l : at + 1 < r.count). inl (l, subst (λ x. IsFirst x (at + 1)) (sym (n.more l)) (first_is r.has_old r.in_turn (at + 1))))
-    (λ (l : r.count ≤ at + 1). inr (l, n.last l)) (lt_or_le (at + 1) r.count)
+    (λ (l : r.count ≤ at + 1). inr (l, n.last l)) (cases_lt (at + 1) r.count)
 
 abbrev IsReadOn : LookStep → ℕ → Type 0
 IsReadOn next at = (next ≡ Compare at) ⊎ (next ≡ Open at)
@@ -135,7 +127,7 @@ first_read [] r u h e g = absurd (not_read (look_step u) 0 g (ap look_step h ∙
 first_read (s ∷ more) r u h e g =
     ⊎_elim (λ (y : s.said ≡ true). inl (h.0 ∙ e, y))
     (λ (y : s.said ≡ false). absurd (not_failed (look_step u) g (ended_at more h.2.0 u Failed h.2.2 (failed_read r h.2.0 (look_step r) s.said e y h.2.1.goes)).0))
-    (true_or_false s.said)
+    (cases_Bool s.said)
 
 -- ---- which parts are had
 
@@ -477,14 +469,6 @@ module _ (count : ℕ) (has_old in_turn : Bool) (r : Refresh) (b : IsRefreshBegu
   in_turn_not_asked t e =
       ⊎_elim (λ none. (let bad : Done (end_of (not has_old)) ≡ Stat 0 = sym (b.none none) ∙ e in cc)) (λ some. (let bad : Read 0 ≡ Stat 0 = sym (in_turn_read t some) ∙ e in cc)) (none_or_some count)
 
-not_true : (x : Bool) → not x ≡ true → x ≡ false
-not_true false e = refl
-not_true true e = let bad : false ≡ true = e in cc
-
-not_false : (x : Bool) → not x ≡ false → x ≡ true
-not_false true e = refl
-not_false false e = let bad : true ≡ false = e in cc
-
 pub whatever_is_seen : WhateverIsSeen
 whatever_is_seen count has_old in_turn taken r u b ran =
     let kept : AreKeptWell None taken = kept_well None taken r u ran (first_kept count has_old in_turn r b) in
@@ -496,13 +480,13 @@ whatever_is_seen count has_old in_turn taken r u b ran =
       read = λ t some g. first_read taken r u ran (in_turn_read count has_old in_turn r b t some) g;
       same = λ e. (
         parts (inl e),
-        ⊎_elim (λ was. not_false has_old (end_same (not has_old) (first_end count has_old in_turn r b Same was).1)) (λ it. not_false has_old (sym b.newer ∙ it.0)) (same_end taken r u ran e),
+        ⊎_elim (λ was. not-false has_old (end_same (not has_old) (first_end count has_old in_turn r b Same was).1)) (λ it. not-false has_old (sym b.newer ∙ it.0)) (same_end taken r u ran e),
         λ o. ⊎_elim (λ was. subst HasOpened (ended_at taken r u Same ran was).1 o) (λ it. it.1 o) (same_end taken r u ran e),
       );
       newer = λ e. (
         parts (inr e),
-        ⊎_elim (λ was. inl (not_true has_old (end_newer (not has_old) (first_end count has_old in_turn r b Newer was).1)))
-            (λ it. ⊎_elim (λ n. inl (not_true has_old (sym b.newer ∙ n))) (λ o. inr o) it) (newer_end taken r u ran e),
+        ⊎_elim (λ was. inl (not-true has_old (end_newer (not has_old) (first_end count has_old in_turn r b Newer was).1)))
+            (λ it. ⊎_elim (λ n. inl (not-true has_old (sym b.newer ∙ n))) (λ o. inr o) it) (newer_end taken r u ran e),
       );
       failed = λ e. ⊎_elim (λ was. absurd (end_failed (not has_old) (first_end count has_old in_turn r b Failed was).1)) (λ x. x) (failed_end taken r u ran e);
       count_is = (let c = counted taken r u ran range in let l = first_left count has_old in_turn r b in omega arith);

@@ -1,6 +1,7 @@
 -- What holds of the changes that wait after any answers.
 use Rattle.std.proofs.Common.{ℕ, suc, ◌+◌, ◌*◌, ◌-◌, ◌<◌, ◌≤◌, ◌≡◌, ◌⊎◌, Bool, true, false, ◌&&◌, ◌||◌, cond, List, [], ◌∷◌, ◌++◌, length, map, Some, None, refl, sym, ◌∙◌, ap, subst, arith, ⊎_elim, inl, inr, ltb}
 use Rattle.std.proofs.lemmas.Bool.{ltb-true, ltb-false}
+use Rattle.std.proofs.lemmas.Bool.{cases_Bool, or_parts}
 use Rattle.dconf_steps.specs.declared.queue.QueuedEdit.{QueuedEdit}
 use Rattle.dconf_steps.specs.declared.queue.Queue.{Queue}
 use Rattle.dconf_steps.specs.declared.queue.QueueStage.{QueueStage}
@@ -13,7 +14,7 @@ use Rattle.dconf_steps.specs.declared.queue.QueueAnswer.{QueueAnswer}
 use Rattle.dconf_steps.specs.declared.queue.QueueAnswer.TheVariants.{Yes, Locked, Fault, Later}
 use Rattle.dconf_steps.specs.Queues.{goes, is_locked, unmade, refused_for, marked, taking_step, asking_step, queue_step_at, queue_step, at_first, taking, after_key, after_write, queue_after_at, IsQueueAnswered}
 use Rattle.dconf_steps.specs.QueueLaws.{TakenStep, IsQueueDone, RanQueue, is_refused, is_left_out, IsOwnFault, HasOwnFault, IsLockedReset, HasLockedReset, with_edit, going_first, going, written_of, written_by, unmarked, rounds, IsHeld, HasHeld, asked_of, WhateverIsWritten}
-use Rattle.dconf_steps.proofs.EditLaws.{true_or_false, going_is, unmade_fewer, refused_for_fewer, unmade_length, refused_for_length, own_by, reset_by, marked_asked}
+use Rattle.dconf_steps.proofs.EditLaws.{going_is, unmade_fewer, refused_for_fewer, unmade_length, refused_for_length, own_by, reset_by, marked_asked}
 
 -- ---- what is refused, and what is left out
 
@@ -133,7 +134,7 @@ module _ (s : TakenStep) (more : List TakenStep) (q u next : Queue) (es then_are
       (λ (g : goes es q.at ≡ false).
       let is : s.step ≡ Pass q.at = stepped ∙ ap (λ x. cond x (Take q.at) (Pass q.at)) g in
       written_at held (Pass q.at) is ∙ ap (λ l. written_of more l) (sym (no_more held)) ∙ ap (λ x. written_of more (held ++ with_edit x q.at)) (sym g) ∙ moved held t h lt n (then_by (Pass q.at) is))
-      (true_or_false (goes es q.at))
+      (cases_Bool (goes es q.at))
 
   -- it goes on from the first edit, or the first key
   anew : (stage : QueueStage) → next ≡ at_first stage → Holds stage (at_first stage) then_are [] → written_of more [] ≡ Some (going after)
@@ -150,7 +151,7 @@ module _ (s : TakenStep) (more : List TakenStep) (q u next : Queue) (es then_are
   one_written held (Fault at) e h w n =
       written_at held Write w ∙ ap (λ x. written_by Write x (written_of more) held) e
       ∙ ⊎_elim (λ (g : goes es at ≡ true). anew Taking (n ∙ ap (λ x. cond x (at_first Taking) (at_first (Over Waiting))) g) (refl, omega arith))
-      (λ (g : goes es at ≡ false). absurd (gave_up (n ∙ ap (λ x. cond x (at_first Taking) (at_first (Over Waiting))) g))) (true_or_false (goes es at))
+      (λ (g : goes es at ≡ false). absurd (gave_up (n ∙ ap (λ x. cond x (at_first Taking) (at_first (Over Waiting))) g))) (cases_Bool (goes es at))
   one_written held Later e h w n = absurd (gave_up n)
 
   last_taken : (held : List ℕ) → q.stage ≡ Taking → held ≡ going_first q.at es → q.at ≤ length es → length es ≤ q.at → ltb q.at (length es) ≡ false → Goal held
@@ -178,12 +179,12 @@ module _ (s : TakenStep) (more : List TakenStep) (q u next : Queue) (es then_are
       let rest = asked_on (q.has_marked || (goes es q.at && is_locked s.answer)) t (next_is Asking t) in
       ⊎_elim (λ (g : goes es q.at ≡ true). written_at held (Ask q.at) (stepped ∙ ap (λ x. cond x (Ask q.at) (Pass q.at)) g) ∙ ap (λ l. written_of more l) h ∙ rest)
       (λ (g : goes es q.at ≡ false). written_at held (Pass q.at) (stepped ∙ ap (λ x. cond x (Ask q.at) (Pass q.at)) g) ∙ ap (λ l. written_of more l) h ∙ rest)
-      (true_or_false (goes es q.at))
+      (cases_Bool (goes es q.at))
 
   written_one : (stage : QueueStage) (held : List ℕ) → q.stage ≡ stage → Holds stage q es held → Goal held
   written_one Taking held t h =
       ⊎_elim (λ (b : ltb q.at (length es) ≡ true). one_taken held t h.0 (ltb-true q.at (length es) b) b)
-      (λ (b : ltb q.at (length es) ≡ false). last_taken held t h.0 h.1 (ltb-false q.at (length es) b) b) (true_or_false (ltb q.at (length es)))
+      (λ (b : ltb q.at (length es) ≡ false). last_taken held t h.0 h.1 (ltb-false q.at (length es) b) b) (cases_Bool (ltb q.at (length es)))
   written_one Asking held t h = one_asked held t h
   written_one (Over end) held t h = absurd h
 
@@ -243,14 +244,6 @@ Waits Taking q es after taken = HasHeld after taken
 Waits Asking q es after taken = HasHeld after taken ⊎ ((q.has_marked ≡ false) × (after ≡ es))
 Waits (Over end) q es after taken = Unit {0}
 
-or_left : (a b : Bool) → (a || b) ≡ false → a ≡ false
-or_left false b e = refl
-or_left true b e = let bad : true ≡ false = e in cc
-
-or_right : (a b : Bool) → (a || b) ≡ false → b ≡ false
-or_right false b e = e
-or_right true b e = let bad : true ≡ false = e in cc
-
 nothing_marked : (es : List QueuedEdit) (at : ℕ) (answer : QueueAnswer) → (goes es at && is_locked answer) ≡ false → marked es (asking_step at es) answer ≡ es
 nothing_marked es at answer e = by (goes es at) answer e
   where
@@ -281,7 +274,7 @@ module _ (s : TakenStep) (more : List TakenStep) (q u next : Queue) (es then_are
       ⊎_elim (λ found. inr found) (λ (none : (next.has_marked ≡ false) × (after ≡ then_are)). here Locked w e (none.1 ∙ t)) (again Asking (ap (λ x. x.stage) n))
   by_answer (Fault at) e w n t =
       ⊎_elim (λ (g : goes es at ≡ true). inr (again Taking (ap (λ x. x.stage) (n ∙ ap (λ x. cond x (at_first Taking) (at_first (Over Waiting))) g))))
-      (λ (g : goes es at ≡ false). here (Fault at) w e g) (true_or_false (goes es at))
+      (λ (g : goes es at ≡ false). here (Fault at) w e g) (cases_Bool (goes es at))
 
   held_taking : q.stage ≡ Taking → Held
   held_taking t = by (ltb q.at (length es)) refl
@@ -307,8 +300,8 @@ module _ (s : TakenStep) (more : List TakenStep) (q u next : Queue) (es then_are
 
       none : (q.has_marked || (goes es q.at && is_locked s.answer)) ≡ false → after ≡ then_are → Held ⊎ ((q.has_marked ≡ false) × (after ≡ es))
       none m e = inr (
-        or_left q.has_marked (goes es q.at && is_locked s.answer) m,
-        e ∙ a.edits_are ∙ ap (λ x. marked es (queue_step_at x q.at es) s.answer) t ∙ nothing_marked es q.at s.answer (or_right q.has_marked (goes es q.at && is_locked s.answer) m),
+        (or_parts q.has_marked (goes es q.at && is_locked s.answer) m).0,
+        e ∙ a.edits_are ∙ ap (λ x. marked es (queue_step_at x q.at es) s.answer) t ∙ nothing_marked es q.at s.answer (or_parts q.has_marked (goes es q.at && is_locked s.answer) m).1,
       )
 
       by : (b k : Bool) → (q.has_marked || (goes es q.at && is_locked s.answer)) ≡ k
@@ -407,7 +400,7 @@ module _ (q : Queue) (es : List QueuedEdit) where
       ⊎_elim (λ (g : goes es at ≡ true). subst (λ x. Less x (refused_for es at) Taking) (sym (ap (λ x. cond x (at_first Taking) (at_first (Over Waiting))) g))
       (fault_less q es (refused_for es at) (refused_for_length es at) (refused_for_fewer es at (going_is es at g) g)))
       (λ (g : goes es at ≡ false). subst (λ x. Less x (refused_for es at) Taking) (sym (ap (λ x. cond x (at_first Taking) (at_first (Over Waiting))) g))
-      (over_less q es (refused_for es at) Waiting)) (true_or_false (goes es at))
+      (over_less q es (refused_for es at) Waiting)) (cases_Bool (goes es at))
 
   taking_less : (answer : QueueAnswer) → q.stage ≡ Taking → Less (queue_after_at Taking q es answer) (marked es (taking_step q.at es) answer) Taking
   taking_less answer t = by (ltb q.at (length es)) (goes es q.at) refl

@@ -10,6 +10,7 @@ use Rattle.std.proofs.lemmas.List.{append_assoc, append-nil}
 use Rattle.std.proofs.lemmas.Option.{none-some, same_Some}
 use Rattle.std.proofs.lemmas.List.Folds.{list_any-append}
 use Rattle.std.proofs.lemmas.Slice.Eq.{starts_is}
+use Rattle.std.proofs.Math.Bool.{or_assoc}
 use Rattle.dconf_model.proofs.ParentLaws.{by_bool}
 use Rattle.dconf_model.proofs.PathMaps.{no_truth}
 use Rattle.dconf_model.proofs.SameBytes.{same_path}
@@ -119,10 +120,6 @@ said_on n m (x ∷ ns) h any = elim (or_cases (is_said_by m x) (list_any (is_sai
 
 -- ---- edits
 
-or_group : (a b c : Bool) → ((a || b) || c) ≡ (a || (b || c))
-or_group true b c = refl
-or_group false b c = refl
-
 abbrev notes_of : List Edit → List Note
 notes_of es = map (λ e. e.note) es
 
@@ -180,7 +177,7 @@ each_among (x ∷ xs) = (
 
 among_both : (n : Note) (xs ys : List Edit) → is_among n (notes_of (xs ++ ys)) ≡ (is_among n (notes_of xs) || is_among n (notes_of ys))
 among_both n [] ys = refl
-among_both n (x ∷ xs) ys = ap (λ b. is_note n x.note || b) (among_both n xs ys) ∙ sym (or_group (is_note n x.note) (is_among n (notes_of xs)) (is_among n (notes_of ys)))
+among_both n (x ∷ xs) ys = ap (λ b. is_note n x.note || b) (among_both n xs ys) ∙ sym (or_assoc (is_note n x.note) (is_among n (notes_of xs)) (is_among n (notes_of ys)))
 
 -- ---- what stands
 

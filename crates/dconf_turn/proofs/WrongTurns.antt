@@ -2,6 +2,7 @@
 -- one byte, or whatever the folder.
 use Rattle.std.proofs.Common.{ℕ, ◌≡◌, ◌⊎◌, true, false, List, [], ◌∷◌, Some, None, refl, sym, ◌∙◌, ap, arith, ⊎_elim, inl, inr}
 use Rattle.std.specs.Bool.{IsTrue}
+use Rattle.std.proofs.lemmas.Option.{none-some}
 use Rattle.dconf_model.specs.Folders.{Event, file_of, content, is_synced, MayLeave}
 use Rattle.dconf_model.specs.Folders.Event.{create, append, sync, touch, rename}
 use Rattle.dconf_model.specs.Replacing.{new_name}
@@ -81,9 +82,6 @@ not_cleared es there h =
     let gone : ¬ (file_of es anew ≡ None) = λ e. (let bad : Some 0 ≡ None = sym there ∙ e in cc) in
     ⊎_elim gone (λ r. ⊎_elim gone (λ (f : IsTrue false). (let bad : false ≡ true = f in cc)) r) h
 
-none_is_not : (n : ℕ) → None ≡ Some n → ⊥
-none_is_not n e = cc
-
 -- ---- the wrong machines
 
 -- the sync is left out
@@ -136,7 +134,7 @@ no_lock h = h.ends
 
 -- it forgets the permission bits
 pub no_bits : IsAnswered (turn Reading) (Yes 384) (turn Making) → ⊥
-no_bits h = none_is_not 384 (h.knows.file (omega arith)).0
+no_bits h = none-some 384 (h.knows.file (omega arith)).0
 
 -- it forgets that the old file is to be set aside
 pub no_aside : IsAnswered (record (turn Syncing) { keeps = true }) (Yes 0) (record (turn Renaming) { keeps = true }) → ⊥

@@ -5,10 +5,6 @@ use Rattle.std.proofs.lemmas.List.{drop-drop, drop_min}
 use Rattle.std.proofs.Math.Seq.{drop-nil}
 use Rattle.gv_model.proofs.ListLaws.{nil_no_cons}
 
-pub none_if : {X : Type 0} (o : Option X) → is_some o ≡ false → o ≡ None
-none_if None e = refl
-none_if (Some x) e = cc
-
 pub one_less : (w left m : ℕ) → 1 ≤ left → m ≡ left - 1 → w * left ≡ w * m + w
 one_less w zero m h e = absurd (omega arith)
 one_less w (suc k) m h e = let same : m ≡ k = omega arith in rw same (omega arith)

@@ -1,6 +1,7 @@
 -- A member of a basic type at the start of a text.
 use Rattle.std.proofs.Common.{◌≡◌, ℕ, List, [], ◌∷◌, Some, None, true, false, refl, sym, ap, ◌∙◌}
 use Rattle.std.proofs.lemmas.Bool.{and_parts}
+use Rattle.std.proofs.lemmas.Option.{same_Some}
 use Rattle.gv_model.specs.Ty.{Ty, spelling}
 use Rattle.gv_model.specs.Ty.Ty.{basic, variant, array, maybe, tuple, entry}
 use Rattle.gv_model.specs.Texts.{are_types}
@@ -13,11 +14,8 @@ use Rattle.gv_types.specs.Classes.{basic_in, basic_of, class_of_mark}
 use Rattle.gv_types.specs.Members.{begins_with_basic, types_in}
 use Rattle.gv_types.proofs.ClassLaws.{basic_class}
 
-some_parts : (a b : BasicType) → Some a ≡ Some b → a ≡ b
-some_parts a b e = cc
-
 cut_letter : (m : TypeMark) (s : Seen) (b : BasicType) → basic_in (class_of_mark m) ≡ Some b → mark_before m s ≡ type (basic (basic_of b)) s
-cut_letter (letter k) s b e = ap (λ (t : Ty). type t s) (basic_class (basic k) b (ap classes.Basic (some_parts _ _ (sym e))))
+cut_letter (letter k) s b e = ap (λ (t : Ty). type t s) (basic_class (basic k) b (ap classes.Basic (same_Some _ _ (sym e))))
 cut_letter of_variant s b e = absurd cc
 cut_letter of_array s b e = absurd cc
 cut_letter of_maybe s b e = absurd cc

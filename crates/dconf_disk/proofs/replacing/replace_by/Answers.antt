@@ -1,4 +1,5 @@
 use Rattle.std.proofs.Common.{◌≡◌, ◌<◌, false, true, ℕ, List, [], length, subst, sym, ◌∙◌, ⊎_elim}
+use Rattle.std.proofs.lemmas.Bool.{true_from_ne_false}
 use Rattle.dconf_model.specs.Folders.{Event}
 use Rattle.dconf_model.specs.Replacing.{Replaced, MaybeReplaced}
 use Rattle.dconf_turn.specs.declared.step.Step.TheVariants.{Append}
@@ -6,7 +7,7 @@ use Rattle.dconf_turn.specs.Steps.{step_of, steps_left, IsDone}
 use Rattle.dconf_turn.specs.Hosts.{DidStep}
 use Rattle.dconf_turn.proofs.HistoryLaws.{len_at}
 use Rattle.dconf_disk.specs.Driving.{IsCounted, IsRefused, IsWhole, job_of}
-use Rattle.dconf_disk.proofs.DrivingLaws.{can, keeps_on, straight_on, counts_on, idle_on, not_idle, held_if, lock_apart, end_replaced, end_maybe, ok_of, err_of, is_done}
+use Rattle.dconf_disk.proofs.DrivingLaws.{can, keeps_on, straight_on, counts_on, idle_on, not_idle, lock_apart, end_replaced, end_maybe, ok_of, err_of, is_done}
 use Rattle.dconf_disk.proofs.replacing.replace_by.Goals as goal
 
 pub steps-preserved : goal.steps-preserved
@@ -76,7 +77,7 @@ returns-in-Done-clause-held g c =
     let holds = g.F.Folder.holds_turn c.args.folder.now in
     let over = sym c.next-step.ensures ∙ c.in-Done.is in
     ok_of (holds ≡ true) c.in-Done.outcome c.result_of.result c.result_of.ensures
-    (λ made. held_if holds (λ no_turn. not_idle c.steps.turn c.in-Done.outcome over made (i.idle no_turn).0))
+    (λ made. true_from_ne_false holds (λ no_turn. not_idle c.steps.turn c.in-Done.outcome over made (i.idle no_turn).0))
 
 pub returns-in-Done-clause-untouched : goal.returns-in-Done-clause-untouched
 returns-in-Done-clause-untouched g c = λ no_turn. (c.steps.invariant.idle no_turn).1

@@ -1,7 +1,7 @@
 use Rattle.std.proofs.Common.{◌⊎◌, ◌∷◌, inl}
+use Rattle.std.proofs.lemmas.Result.{on_err_weaker}
 use Rattle.dconf_model.specs.Folders.Event.{append, touch}
 use Rattle.dconf_disk.specs.MemoryFolders.{events_of, AddsTouches, IsPast}
-use Rattle.dconf_disk.proofs.Results.{on_err}
 use Rattle.dconf_disk.proofs.Untouched.{noted, same_calls, touched}
 use Rattle.dconf_disk.proofs.memory.MemoryFolderFolder.append.Goals as goal
 
@@ -9,9 +9,9 @@ pub returns-then-is_err-clause-err : goal.returns-then-is_err-clause-err
 returns-then-is_err-clause-err c _ es past =
     let name = c.args.name.now in
     let mid = c.note-noted.new.self.calls.items in
-    on_err c.note-noted.result (AddsTouches (events_of mid) es) (IsPast c.touch.new.self (touch name ∷ es) ⊎ IsPast c.touch.new.self (append name c.args.bytes.now ∷ es))
+    on_err_weaker c.note-noted.result
+    (λ (a : AddsTouches (events_of mid) es). inl (touched (events_of mid) (events_of c.touch.new.self.calls.items) es name c.touch.ensures.events a))
     (same_calls c.note-noted.result c.args.self.now.calls.items mid c.note-noted.ensures.err es past)
-    (λ a. inl (touched (events_of mid) (events_of c.touch.new.self.calls.items) es name c.touch.ensures.events a))
 
 pub returns-else-is_err-clause-ok : goal.returns-else-is_err-clause-ok
 returns-else-is_err-clause-ok c es past =
