@@ -1,10 +1,12 @@
 -- The subcommand that the words name, and what clap gives its arguments where it finds no fault in the words.
-use Rattle.std.proofs.Common.{◌≡◌, ◌∙◌, ◌||◌, ◌&&◌, ◌⊎◌, inl, inr, not, ℕ, Bool, true, false, List, [], ◌∷◌, refl, sym, ap, subst, Option, Some, None, Result, Ok, Err, is_some, codes}
+use Rattle.std.proofs.Common.{◌≡◌, ◌∙◌, ◌||◌, ◌&&◌, ◌⊎◌, inl, inr, not, ℕ, Bool, true, false, List, [], ◌∷◌, refl, sym, ap, subst, subst₂, Option, Some, None, Result, Ok, Err, is_some, codes}
+use mathlib.Core.Path.{fun_ext}
 use Rattle.std.specs.Prelude.{◌≢◌, ⊤, IfOk, IfSome, IsSome, cond, find, option_map, slice_get, string_bytes, unwrap_or}
 use Rattle.std.specs.List.{list_any}
 use Rattle.std.specs.Option.{option_map_or}
 use Rattle.std.specs.Str.{bytes_eq}
 use Rattle.std.proofs.lemmas.Slice.Eq.{bytes_eq-Decides}
+use Rattle.std.proofs.lemmas.Option.{same_Some}
 use Rattle.clap.specs.Kinds.{FailsBy, Kinds, check_kinds}
 use Rattle.clap.specs.Simple.{App, Shape, argument_words, built, entered, label_of, names_of, rows_at}
 use Rattle.clap.specs.Walk.{Names, Row, Rule, Text, answers_to, has_long, has_short, nothing_held, rows_after, stop_after, walk_from}
@@ -16,7 +18,8 @@ use Rattle.std.specs.Box.{box_value}
 use Rattle.clap.specs.declared.ArgMatches.{ArgMatches}
 use Rattle.clap.specs.declared.error.Error.{Error}
 use Rattle.clap.proofs.WalkLemmas.{first_value-rows, raw_values-rows}
-use Rattle.dconf_command.specs.Asked.{AreWordsOf, AsksToLoad, HasValue, IsParsedBy, AsksToCheck, AsksToCompile, AsksToRead, AsksToRepair, AsksToShow, AsksToUpdate, IsPlacedBy, is_set, profile_file, AsksOfDirectory, AsksOfKey, AsksToDump, AsksToReset, AsksToWrite}
+use Rattle.dconf_command.specs.Asked.{AreWordsOf, AsksToUpdate, HasValue, IsAskedBy, IsOf, IsParsedBy, IsPlacedBy, Takes, is_set, profile_file}
+use Rattle.dconf_command.specs.declared.asked.Command.{Command}
 use Rattle.dconf_command.specs.CommandLine.{command_line, show_line}
 use Rattle.dconf_command.specs.declared.place.Place.{Place}
 use Rattle.dconf_command.proofs.Stops.{IsNotHelp, or_else_nil, walk_not_help}
@@ -312,9 +315,6 @@ simple_line = refl
 free_line : is_simple_and_free command_line ≡ true
 free_line = refl
 
-some_same : {X : Type 0} {x y : X} → Some x ≡ Some y → x ≡ y
-some_same {X} {x} {y} e = ap (λ (o : Option X). unwrap_or o x) e
-
 module _ (a : App) (words : List Text) (r : Result ArgMatches Error) (same : a ≡ command_line) (kinds : is_simple_and_free a ≡ true → FailsBy (fault_of a words) r) where
   pub fails : FailsBy (fault_of command_line words) r
   fails = subst (λ (x : App). FailsBy (fault_of x words) r) same (kinds (ap is_simple_and_free same ∙ free_line))
@@ -384,123 +384,20 @@ pub is_sub : (words : List Text) (name : Text) (m sub : ArgMatches) → IsParsed
 is_sub words name m sub p names rows =
     let met = enters words p.sound in
     let found = found_of sub in
-    let same : rows_of found ≡ met.rows = some_same (sym rows ∙ ap (option_map (λ q. q.1)) (p.met ∙ met.named)) in
-    let is : met.name ≡ name = some_same (sym (met_name words m p) ∙ names) in
+    let same : rows_of found ≡ met.rows = same_Some _ _ (sym rows ∙ ap (option_map (λ q. q.1)) (p.met ∙ met.named)) in
+    let is : met.name ≡ name = same_Some _ _ (sym (met_name words m p) ∙ names) in
     record {
       named = met.named ∙ ap (λ (n : Text). Some (n, met.rows)) is ∙ ap (λ (rs : List Row). Some (name, rs)) (sym same);
       given = λ id other wanted. rw (first_value-rows found id, same) (met.given id other (subst (λ (n : Text). wants (sub_named n).rules id ≡ true) (sym is) wanted));
     }
 
-pub asks_to_show : (words : List Text) (sub : ArgMatches) (type_text file : Text) → AreWordsOf words (codes "show") sub
-    → first_value (found_of sub) (codes "TYPE") ≡ Some type_text → first_value (found_of sub) (codes "FILE") ≡ Some file → AsksToShow words type_text file
-asks_to_show words sub type_text file named t f = record {
+-- what clap found says the same as the rows of the words
+pub is_asked : (words : List Text) (name : Text) (m sub : ArgMatches) (command : Command) → IsParsedBy words m → subcommand_name_of m ≡ Some name
+    → option_map (λ p. p.1) (subcommand_rows_of m) ≡ Some (rows_of (found_of sub)) → IsOf name sub command → IsAskedBy words command
+is_asked words name m sub command p names rows of = record {
   rows = rows_of (found_of sub);
-  named = named;
-  type_value = sym (first_value-rows (found_of sub) (codes "TYPE")) ∙ t;
-  file_value = sym (first_value-rows (found_of sub) (codes "FILE")) ∙ f;
-}
-
-pub asks_to_check : (words : List Text) (sub : ArgMatches) (file : Text) → AreWordsOf words (codes "check") sub
-    → first_value (found_of sub) (codes "FILE") ≡ Some file → AsksToCheck words file
-asks_to_check words sub file named f = record {
-  rows = rows_of (found_of sub);
-  named = named;
-  file_value = sym (first_value-rows (found_of sub) (codes "FILE")) ∙ f;
-}
-
-pub asks_to_compile : (words : List Text) (sub : ArgMatches) (out : Text) (locks keyfiles : List Text) → AreWordsOf words (codes "compile") sub
-    → first_value (found_of sub) (codes "OUT") ≡ Some out → locks ≡ unwrap_or (option_map raw_values (matched_of (found_of sub) (codes "locks"))) []
-    → keyfiles ≡ unwrap_or (option_map raw_values (matched_of (found_of sub) (codes "KEYFILE"))) [] → AsksToCompile words out locks keyfiles
-asks_to_compile words sub out locks keyfiles named o l k = record {
-  rows = rows_of (found_of sub);
-  named = named;
-  out_value = sym (first_value-rows (found_of sub) (codes "OUT")) ∙ o;
-  locks_values = sym (l ∙ ap (λ (o : Option (List Text)). unwrap_or o []) (raw_values-rows (found_of sub) (codes "locks")));
-  keyfile_values = sym (k ∙ ap (λ (o : Option (List Text)). unwrap_or o []) (raw_values-rows (found_of sub) (codes "KEYFILE")));
-}
-
-pub asks_to_read : (words : List Text) (sub : ArgMatches) (default : Bool) (key profile : Text) → AreWordsOf words (codes "read") sub
-    → default ≡ is_set (first_value (found_of sub) (codes "default")) → first_value (found_of sub) (codes "KEY") ≡ Some key
-    → profile ≡ profile_file (first_value (found_of sub) (codes "profile")) → AsksToRead words default key profile
-asks_to_read words sub default key profile named d k p = record {
-  rows = rows_of (found_of sub);
-  named = named;
-  default_value = ap is_set (sym (first_value-rows (found_of sub) (codes "default"))) ∙ sym d;
-  key_value = sym (first_value-rows (found_of sub) (codes "KEY")) ∙ k;
-  profile_value = ap profile_file (sym (first_value-rows (found_of sub) (codes "profile"))) ∙ sym p;
-}
-
-pub asks_of_key : (name : Text) (words : List Text) (sub : ArgMatches) (key profile : Text) → AreWordsOf words name sub
-    → first_value (found_of sub) (codes "KEY") ≡ Some key → profile ≡ profile_file (first_value (found_of sub) (codes "profile")) → AsksOfKey name words key profile
-asks_of_key name words sub key profile named k p = record {
-  rows = rows_of (found_of sub);
-  named = named;
-  key_value = sym (first_value-rows (found_of sub) (codes "KEY")) ∙ k;
-  profile_value = ap profile_file (sym (first_value-rows (found_of sub) (codes "profile"))) ∙ sym p;
-}
-
-pub asks_to_repair : (words : List Text) (sub : ArgMatches) (file out : Text) → AreWordsOf words (codes "repair") sub
-    → first_value (found_of sub) (codes "FILE") ≡ Some file → first_value (found_of sub) (codes "OUT") ≡ Some out → AsksToRepair words file out
-asks_to_repair words sub file out named f o = record {
-  rows = rows_of (found_of sub);
-  named = named;
-  file_value = sym (first_value-rows (found_of sub) (codes "FILE")) ∙ f;
-  out_value = sym (first_value-rows (found_of sub) (codes "OUT")) ∙ o;
-}
-
-pub asks_of_directory : (name : Text) (words : List Text) (sub : ArgMatches) (directory profile : Text) → AreWordsOf words name sub
-    → first_value (found_of sub) (codes "DIR") ≡ Some directory → profile ≡ profile_file (first_value (found_of sub) (codes "profile")) → AsksOfDirectory name words directory profile
-asks_of_directory name words sub directory profile named d p = record {
-  rows = rows_of (found_of sub);
-  named = named;
-  directory_value = sym (first_value-rows (found_of sub) (codes "DIR")) ∙ d;
-  profile_value = ap profile_file (sym (first_value-rows (found_of sub) (codes "profile"))) ∙ sym p;
-}
-
-pub asks_to_dump : (words : List Text) (sub : ArgMatches) (skip_doubles : Bool) (directory profile : Text) → AreWordsOf words (codes "dump") sub
-    → skip_doubles ≡ is_set (first_value (found_of sub) (codes "skip-doubles")) → first_value (found_of sub) (codes "DIR") ≡ Some directory
-    → profile ≡ profile_file (first_value (found_of sub) (codes "profile")) → AsksToDump words skip_doubles directory profile
-asks_to_dump words sub skip_doubles directory profile named s d p = record {
-  rows = rows_of (found_of sub);
-  named = named;
-  skip_doubles_value = ap is_set (sym (first_value-rows (found_of sub) (codes "skip-doubles"))) ∙ sym s;
-  directory_value = sym (first_value-rows (found_of sub) (codes "DIR")) ∙ d;
-  profile_value = ap profile_file (sym (first_value-rows (found_of sub) (codes "profile"))) ∙ sym p;
-}
-
-pub asks_to_write : (words : List Text) (sub : ArgMatches) (key value profile : Text) → AreWordsOf words (codes "write") sub
-    → first_value (found_of sub) (codes "KEY") ≡ Some key → first_value (found_of sub) (codes "VALUE") ≡ Some value
-    → profile ≡ profile_file (first_value (found_of sub) (codes "profile")) → AsksToWrite words key value profile
-asks_to_write words sub key value profile named k v p = record {
-  rows = rows_of (found_of sub);
-  named = named;
-  key_value = sym (first_value-rows (found_of sub) (codes "KEY")) ∙ k;
-  value_value = sym (first_value-rows (found_of sub) (codes "VALUE")) ∙ v;
-  profile_value = ap profile_file (sym (first_value-rows (found_of sub) (codes "profile"))) ∙ sym p;
-}
-
-pub asks_to_reset : (words : List Text) (sub : ArgMatches) (force : Bool) (path profile : Text) → AreWordsOf words (codes "reset") sub
-    → force ≡ is_set (first_value (found_of sub) (codes "force")) → first_value (found_of sub) (codes "PATH") ≡ Some path
-    → profile ≡ profile_file (first_value (found_of sub) (codes "profile")) → AsksToReset words force path profile
-asks_to_reset words sub force path profile named f k p = record {
-  rows = rows_of (found_of sub);
-  named = named;
-  force_value = ap is_set (sym (first_value-rows (found_of sub) (codes "force"))) ∙ sym f;
-  path_value = sym (first_value-rows (found_of sub) (codes "PATH")) ∙ k;
-  profile_value = ap profile_file (sym (first_value-rows (found_of sub) (codes "profile"))) ∙ sym p;
-}
-
-pub asks_to_load : (words : List Text) (sub : ArgMatches) (force skip_doubles : Bool) (directory profile : Text) → AreWordsOf words (codes "load") sub
-    → force ≡ is_set (first_value (found_of sub) (codes "force")) → skip_doubles ≡ is_set (first_value (found_of sub) (codes "skip-doubles"))
-    → first_value (found_of sub) (codes "DIR") ≡ Some directory → profile ≡ profile_file (first_value (found_of sub) (codes "profile"))
-    → AsksToLoad words force skip_doubles directory profile
-asks_to_load words sub force skip_doubles directory profile named f s d p = record {
-  rows = rows_of (found_of sub);
-  named = named;
-  force_value = ap is_set (sym (first_value-rows (found_of sub) (codes "force"))) ∙ sym f;
-  skip_doubles_value = ap is_set (sym (first_value-rows (found_of sub) (codes "skip-doubles"))) ∙ sym s;
-  directory_value = sym (first_value-rows (found_of sub) (codes "DIR")) ∙ d;
-  profile_value = ap profile_file (sym (first_value-rows (found_of sub) (codes "profile"))) ∙ sym p;
+  named = (is_sub words name m sub p names rows).named ∙ ap (λ (n : Text). Some (n, rows_of (found_of sub))) (sym of.0);
+  values = subst₂ (λ f g. Takes f g command) (fun_ext (first_value-rows (found_of sub))) (fun_ext (raw_values-rows (found_of sub))) of.1;
 }
 
 pub asks_to_update : (words : List Text) (sub : ArgMatches) (folder : Option Text) → AreWordsOf words (codes "update") sub
@@ -528,7 +425,7 @@ pub is_placed : (words : List Text) (m sub : ArgMatches) (place : Place) → IsP
     → option_map string_bytes place.profile ≡ first_value (found_of sub) (codes "profile") → IsPlacedBy words place
 is_placed words m sub place p rows u f q =
     let met = enters words p.sound in
-    let same : rows_of (found_of sub) ≡ met.rows = some_same (rows ∙ ap (option_map (λ q. q.1)) (p.met ∙ met.named)) in
+    let same : rows_of (found_of sub) ≡ met.rows = same_Some _ _ (rows ∙ ap (option_map (λ q. q.1)) (p.met ∙ met.named)) in
     record {
       name = met.name;
       rows = rows_of (found_of sub);

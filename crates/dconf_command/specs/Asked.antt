@@ -1,7 +1,7 @@
 -- What the words of a command line ask for.
 use Rattle.std.specs.Prelude.{◌≡◌, IsSome, Bool, false, List, None, [], Option, Some, codes, map, option_map, string_bytes, unwrap_or, vec_items}
 use Rattle.std.specs.Str.{bytes_eq}
-use Rattle.clap.specs.Words.{Row, Text, all_of, fault_of, first_of, first_value, found_of, rows_of, subcommand_of, subcommand_rows_of}
+use Rattle.clap.specs.Words.{Row, Text, all_of, fault_of, first_of, first_value, found_of, matched_of, raw_values, rows_of, subcommand_of, subcommand_rows_of}
 use Rattle.clap.specs.declared.ArgMatches.{ArgMatches}
 use Rattle.dconf_command.specs.CommandLine.{command_line}
 use Rattle.dconf_command.specs.declared.asked.Command.{Command}
@@ -23,27 +23,6 @@ AreWordsOf words name m = subcommand_of command_line words ≡ Some (name, rows_
 abbrev pub HasValue : ArgMatches → Text → Type 0
 HasValue m id = IsSome (first_value (found_of m) id)
 
--- the words name `show`, and clap gives its arguments these values
-pub record AsksToShow (words : List Text) (type_text file : Text) : Type 0 where
-  pub rows : List Row
-  pub named : subcommand_of command_line words ≡ Some (codes "show", rows)
-  pub type_value : first_of (codes "TYPE") rows ≡ Some type_text
-  pub file_value : first_of (codes "FILE") rows ≡ Some file
-
--- the words name `check`, and clap gives its argument this value
-pub record AsksToCheck (words : List Text) (file : Text) : Type 0 where
-  pub rows : List Row
-  pub named : subcommand_of command_line words ≡ Some (codes "check", rows)
-  pub file_value : first_of (codes "FILE") rows ≡ Some file
-
--- the words name `compile`, and clap gives its arguments these values, and `--locks` each of these
-pub record AsksToCompile (words : List Text) (out : Text) (locks keyfiles : List Text) : Type 0 where
-  pub rows : List Row
-  pub named : subcommand_of command_line words ≡ Some (codes "compile", rows)
-  pub out_value : first_of (codes "OUT") rows ≡ Some out
-  pub locks_values : unwrap_or (all_of (codes "locks") rows) [] ≡ locks
-  pub keyfile_values : unwrap_or (all_of (codes "KEYFILE") rows) [] ≡ keyfiles
-
 -- a flag was given
 abbrev pub is_set : Option Text → Bool
 is_set None = false
@@ -53,84 +32,62 @@ is_set (Some text) = bytes_eq text (codes "true")
 abbrev pub profile_file : Option Text → Text
 profile_file given = unwrap_or given (codes "profile")
 
--- the words name `read`, and clap gives its arguments these values
-pub record AsksToRead (words : List Text) (default : Bool) (key profile : Text) : Type 0 where
-  pub rows : List Row
-  pub named : subcommand_of command_line words ≡ Some (codes "read", rows)
-  pub default_value : is_set (first_of (codes "default") rows) ≡ default
-  pub key_value : first_of (codes "KEY") rows ≡ Some key
-  pub profile_value : profile_file (first_of (codes "profile") rows) ≡ profile
+-- the subcommand that asks for a command
+abbrev pub name_of : Command → Text
+name_of (Show type_text file) = codes "show"
+name_of (Read default key profile) = codes "read"
+name_of (Origin key profile) = codes "origin"
+name_of (Explain key profile) = codes "explain"
+name_of (ListIt directory profile) = codes "list"
+name_of (ListLocks directory profile) = codes "list-locks"
+name_of (Dump skip_doubles directory profile) = codes "dump"
+name_of (Check file) = codes "check"
+name_of (Compile out locks keyfiles) = codes "compile"
+name_of (Repair file out) = codes "repair"
+name_of (Write key value profile) = codes "write"
+name_of (Reset force path profile) = codes "reset"
+name_of (Load force skip_doubles directory profile) = codes "load"
 
--- the words name this command of a key, and clap gives its arguments these values
-pub record AsksOfKey (name : Text) (words : List Text) (key profile : Text) : Type 0 where
-  pub rows : List Row
-  pub named : subcommand_of command_line words ≡ Some (name, rows)
-  pub key_value : first_of (codes "KEY") rows ≡ Some key
-  pub profile_value : profile_file (first_of (codes "profile") rows) ≡ profile
+-- what a command takes of the values of its arguments: the first of each, and all of those that may have several
+module _ (first : Text → Option Text) (all : Text → Option (List Text)) where
+  abbrev Has : Text → Text → Type 0
+  Has id text = first id ≡ Some text
 
--- the words name `repair`, and clap gives its arguments these values
-pub record AsksToRepair (words : List Text) (file out : Text) : Type 0 where
-  pub rows : List Row
-  pub named : subcommand_of command_line words ≡ Some (codes "repair", rows)
-  pub file_value : first_of (codes "FILE") rows ≡ Some file
-  pub out_value : first_of (codes "OUT") rows ≡ Some out
+  abbrev HasFlag : Text → Bool → Type 0
+  HasFlag id given = given ≡ is_set (first id)
 
--- the words name this command of a directory, and clap gives its arguments these values
-pub record AsksOfDirectory (name : Text) (words : List Text) (directory profile : Text) : Type 0 where
-  pub rows : List Row
-  pub named : subcommand_of command_line words ≡ Some (name, rows)
-  pub directory_value : first_of (codes "DIR") rows ≡ Some directory
-  pub profile_value : profile_file (first_of (codes "profile") rows) ≡ profile
+  abbrev HasAll : Text → List Text → Type 0
+  HasAll id texts = texts ≡ unwrap_or (all id) []
 
--- the words name `dump`, and clap gives its arguments these values
-pub record AsksToDump (words : List Text) (skip_doubles : Bool) (directory profile : Text) : Type 0 where
-  pub rows : List Row
-  pub named : subcommand_of command_line words ≡ Some (codes "dump", rows)
-  pub skip_doubles_value : is_set (first_of (codes "skip-doubles") rows) ≡ skip_doubles
-  pub directory_value : first_of (codes "DIR") rows ≡ Some directory
-  pub profile_value : profile_file (first_of (codes "profile") rows) ≡ profile
+  abbrev HasProfile : Text → Type 0
+  HasProfile profile = profile ≡ profile_file (first (codes "profile"))
 
--- the words name `write`, and clap gives its arguments these values
-pub record AsksToWrite (words : List Text) (key value profile : Text) : Type 0 where
-  pub rows : List Row
-  pub named : subcommand_of command_line words ≡ Some (codes "write", rows)
-  pub key_value : first_of (codes "KEY") rows ≡ Some key
-  pub value_value : first_of (codes "VALUE") rows ≡ Some value
-  pub profile_value : profile_file (first_of (codes "profile") rows) ≡ profile
+  abbrev pub Takes : Command → Type 0
+  Takes (Show type_text file) = Has (codes "TYPE") (string_bytes type_text) × Has (codes "FILE") (string_bytes file)
+  Takes (Read default key profile) = HasFlag (codes "default") default × Has (codes "KEY") (string_bytes key) × HasProfile (string_bytes profile)
+  Takes (Origin key profile) = Has (codes "KEY") (string_bytes key) × HasProfile (string_bytes profile)
+  Takes (Explain key profile) = Has (codes "KEY") (string_bytes key) × HasProfile (string_bytes profile)
+  Takes (ListIt directory profile) = Has (codes "DIR") (string_bytes directory) × HasProfile (string_bytes profile)
+  Takes (ListLocks directory profile) = Has (codes "DIR") (string_bytes directory) × HasProfile (string_bytes profile)
+  Takes (Dump skip_doubles directory profile) = HasFlag (codes "skip-doubles") skip_doubles × Has (codes "DIR") (string_bytes directory) × HasProfile (string_bytes profile)
+  Takes (Check file) = Has (codes "FILE") (string_bytes file)
+  Takes (Compile out locks keyfiles) = Has (codes "OUT") (string_bytes out) × HasAll (codes "locks") (map string_bytes (vec_items locks)) × HasAll (codes "KEYFILE") (map string_bytes (vec_items keyfiles))
+  Takes (Repair file out) = Has (codes "FILE") (string_bytes file) × Has (codes "OUT") (string_bytes out)
+  Takes (Write key value profile) = Has (codes "KEY") (string_bytes key) × Has (codes "VALUE") (string_bytes value) × HasProfile (string_bytes profile)
+  Takes (Reset force path profile) = HasFlag (codes "force") force × Has (codes "PATH") (string_bytes path) × HasProfile (string_bytes profile)
+  Takes (Load force skip_doubles directory profile) =
+      HasFlag (codes "force") force × HasFlag (codes "skip-doubles") skip_doubles × Has (codes "DIR") (string_bytes directory) × HasProfile (string_bytes profile)
 
--- the words name `reset`, and clap gives its arguments these values
-pub record AsksToReset (words : List Text) (force : Bool) (path profile : Text) : Type 0 where
+-- the words name the command, and clap gives its arguments the values that it takes
+pub record IsAskedBy (words : List Text) (command : Command) : Type 0 where
   pub rows : List Row
-  pub named : subcommand_of command_line words ≡ Some (codes "reset", rows)
-  pub force_value : is_set (first_of (codes "force") rows) ≡ force
-  pub path_value : first_of (codes "PATH") rows ≡ Some path
-  pub profile_value : profile_file (first_of (codes "profile") rows) ≡ profile
+  pub named : subcommand_of command_line words ≡ Some (name_of command, rows)
+  pub values : Takes (λ id. first_of id rows) (λ id. all_of id rows) command
 
--- the words name `load`, and clap gives its arguments these values
-pub record AsksToLoad (words : List Text) (force skip_doubles : Bool) (directory profile : Text) : Type 0 where
-  pub rows : List Row
-  pub named : subcommand_of command_line words ≡ Some (codes "load", rows)
-  pub force_value : is_set (first_of (codes "force") rows) ≡ force
-  pub skip_doubles_value : is_set (first_of (codes "skip-doubles") rows) ≡ skip_doubles
-  pub directory_value : first_of (codes "DIR") rows ≡ Some directory
-  pub profile_value : profile_file (first_of (codes "profile") rows) ≡ profile
-
--- clap gives the command's values to the words
-abbrev pub IsAskedBy : List Text → Command → Type 0
-IsAskedBy words (Show type_text file) = AsksToShow words (string_bytes type_text) (string_bytes file)
-IsAskedBy words (Read default key profile) = AsksToRead words default (string_bytes key) (string_bytes profile)
-IsAskedBy words (Origin key profile) = AsksOfKey (codes "origin") words (string_bytes key) (string_bytes profile)
-IsAskedBy words (Explain key profile) = AsksOfKey (codes "explain") words (string_bytes key) (string_bytes profile)
-IsAskedBy words (ListIt directory profile) = AsksOfDirectory (codes "list") words (string_bytes directory) (string_bytes profile)
-IsAskedBy words (ListLocks directory profile) = AsksOfDirectory (codes "list-locks") words (string_bytes directory) (string_bytes profile)
-IsAskedBy words (Dump skip_doubles directory profile) = AsksToDump words skip_doubles (string_bytes directory) (string_bytes profile)
-IsAskedBy words (Check file) = AsksToCheck words (string_bytes file)
-IsAskedBy words (Compile out locks keyfiles) =
-    AsksToCompile words (string_bytes out) (map string_bytes (vec_items locks)) (map string_bytes (vec_items keyfiles))
-IsAskedBy words (Repair file out) = AsksToRepair words (string_bytes file) (string_bytes out)
-IsAskedBy words (Write key value profile) = AsksToWrite words (string_bytes key) (string_bytes value) (string_bytes profile)
-IsAskedBy words (Reset force path profile) = AsksToReset words force (string_bytes path) (string_bytes profile)
-IsAskedBy words (Load force skip_doubles directory profile) = AsksToLoad words force skip_doubles (string_bytes directory) (string_bytes profile)
+-- it is the command of this name, by what clap found
+abbrev pub IsOf : Text → ArgMatches → Command → Type 0
+IsOf name m command =
+    (name_of command ≡ name) × Takes (first_value (found_of m)) (λ id. option_map raw_values (matched_of (found_of m) id)) command
 
 -- the words name `update`, and clap gives its argument this value, where it is there
 pub record AsksToUpdate (words : List Text) (folder : Option Text) : Type 0 where

@@ -1,7 +1,7 @@
 //! The words of a command line: the command that they ask for, by what clap gives its arguments.
 ghost use Rattle.std.specs.Prelude.{◌≡◌, ◌≢◌, [], codes, List, IfOk, Some, map, option_map, string_bytes, unwrap_or, vec_items};
 ghost use Rattle.clap.specs.Words.{FailsBy, Text, fault_of, first_value, found_of, matched_of, raw_values, subcommand_name_of};
-ghost use Rattle.dconf_command.specs.Asked.{AreWordsOf, Asks, AsksToUpdate, HasValue, IsAskedBy, IsParsedBy, IsPlacedBy, is_set, profile_file};
+ghost use Rattle.dconf_command.specs.Asked.{Asks, AsksToUpdate, HasValue, IsAskedBy, IsOf, IsParsedBy, IsPlacedBy, is_set, profile_file};
 ghost use Rattle.dconf_command.specs.CommandLine.{command_line};
 
 use crate::asked::Command;
@@ -111,7 +111,7 @@ fn asked(alloc: Global, matches: &ArgMatches<'_>) -> Result<Command, AllocError>
 /// `check FILE`.
 fn check_asked(alloc: Global, check: &ArgMatches<'_>) -> Result<Command, AllocError>
     requires { HasValue check.now (codes "FILE") }
-    ensures { IfOk result (λ command. (words : List Text) → AreWordsOf words (codes "check") check.now → IsAskedBy words command) }
+    ensures { IfOk result (IsOf (codes "check") check.now) }
 {
     Ok(Command::Check {
         file: value(alloc, check, "FILE")?,
@@ -121,7 +121,7 @@ fn check_asked(alloc: Global, check: &ArgMatches<'_>) -> Result<Command, AllocEr
 /// `compile OUT [--locks FILE].. [KEYFILE..]`.
 fn compile_asked(alloc: Global, compile: &ArgMatches<'_>) -> Result<Command, AllocError>
     requires { HasValue compile.now (codes "OUT") }
-    ensures { IfOk result (λ command. (words : List Text) → AreWordsOf words (codes "compile") compile.now → IsAskedBy words command) }
+    ensures { IfOk result (IsOf (codes "compile") compile.now) }
 {
     Ok(Command::Compile {
         out: value(alloc, compile, "OUT")?,
@@ -133,7 +133,7 @@ fn compile_asked(alloc: Global, compile: &ArgMatches<'_>) -> Result<Command, All
 /// `read [-d] [-p FILE] KEY`.
 fn read_asked(alloc: Global, read: &ArgMatches<'_>) -> Result<Command, AllocError>
     requires { HasValue read.now (codes "KEY") }
-    ensures { IfOk result (λ command. (words : List Text) → AreWordsOf words (codes "read") read.now → IsAskedBy words command) }
+    ensures { IfOk result (IsOf (codes "read") read.now) }
 {
     let (key, profile) = value_and_profile(alloc, read, "KEY")?;
     Ok(Command::Read {
@@ -146,7 +146,7 @@ fn read_asked(alloc: Global, read: &ArgMatches<'_>) -> Result<Command, AllocErro
 /// `origin [-p FILE] KEY`.
 fn origin_asked(alloc: Global, origin: &ArgMatches<'_>) -> Result<Command, AllocError>
     requires { HasValue origin.now (codes "KEY") }
-    ensures { IfOk result (λ command. (words : List Text) → AreWordsOf words (codes "origin") origin.now → IsAskedBy words command) }
+    ensures { IfOk result (IsOf (codes "origin") origin.now) }
 {
     let (key, profile) = value_and_profile(alloc, origin, "KEY")?;
     Ok(Command::Origin { key, profile })
@@ -155,7 +155,7 @@ fn origin_asked(alloc: Global, origin: &ArgMatches<'_>) -> Result<Command, Alloc
 /// `explain [-p FILE] KEY`.
 fn explain_asked(alloc: Global, explain: &ArgMatches<'_>) -> Result<Command, AllocError>
     requires { HasValue explain.now (codes "KEY") }
-    ensures { IfOk result (λ command. (words : List Text) → AreWordsOf words (codes "explain") explain.now → IsAskedBy words command) }
+    ensures { IfOk result (IsOf (codes "explain") explain.now) }
 {
     let (key, profile) = value_and_profile(alloc, explain, "KEY")?;
     Ok(Command::Explain { key, profile })
@@ -165,7 +165,7 @@ fn explain_asked(alloc: Global, explain: &ArgMatches<'_>) -> Result<Command, All
 fn repair_asked(alloc: Global, repair: &ArgMatches<'_>) -> Result<Command, AllocError>
     requires file { HasValue repair.now (codes "FILE") }
     requires out { HasValue repair.now (codes "OUT") }
-    ensures { IfOk result (λ command. (words : List Text) → AreWordsOf words (codes "repair") repair.now → IsAskedBy words command) }
+    ensures { IfOk result (IsOf (codes "repair") repair.now) }
 {
     Ok(Command::Repair {
         file: value(alloc, repair, "FILE")?,
@@ -176,7 +176,7 @@ fn repair_asked(alloc: Global, repair: &ArgMatches<'_>) -> Result<Command, Alloc
 /// `list [-p FILE] DIR`.
 fn list_asked(alloc: Global, list: &ArgMatches<'_>) -> Result<Command, AllocError>
     requires { HasValue list.now (codes "DIR") }
-    ensures { IfOk result (λ command. (words : List Text) → AreWordsOf words (codes "list") list.now → IsAskedBy words command) }
+    ensures { IfOk result (IsOf (codes "list") list.now) }
 {
     let (directory, profile) = value_and_profile(alloc, list, "DIR")?;
     Ok(Command::List { directory, profile })
@@ -185,7 +185,7 @@ fn list_asked(alloc: Global, list: &ArgMatches<'_>) -> Result<Command, AllocErro
 /// `list-locks [-p FILE] DIR`.
 fn list_locks_asked(alloc: Global, list_locks: &ArgMatches<'_>) -> Result<Command, AllocError>
     requires { HasValue list_locks.now (codes "DIR") }
-    ensures { IfOk result (λ command. (words : List Text) → AreWordsOf words (codes "list-locks") list_locks.now → IsAskedBy words command) }
+    ensures { IfOk result (IsOf (codes "list-locks") list_locks.now) }
 {
     let (directory, profile) = value_and_profile(alloc, list_locks, "DIR")?;
     Ok(Command::ListLocks { directory, profile })
@@ -194,7 +194,7 @@ fn list_locks_asked(alloc: Global, list_locks: &ArgMatches<'_>) -> Result<Comman
 /// `dump [--skip-doubles] [-p FILE] DIR`.
 fn dump_asked(alloc: Global, dump: &ArgMatches<'_>) -> Result<Command, AllocError>
     requires { HasValue dump.now (codes "DIR") }
-    ensures { IfOk result (λ command. (words : List Text) → AreWordsOf words (codes "dump") dump.now → IsAskedBy words command) }
+    ensures { IfOk result (IsOf (codes "dump") dump.now) }
 {
     let (directory, profile) = value_and_profile(alloc, dump, "DIR")?;
     Ok(Command::Dump {
@@ -208,7 +208,7 @@ fn dump_asked(alloc: Global, dump: &ArgMatches<'_>) -> Result<Command, AllocErro
 fn write_asked(alloc: Global, write: &ArgMatches<'_>) -> Result<Command, AllocError>
     requires key { HasValue write.now (codes "KEY") }
     requires value { HasValue write.now (codes "VALUE") }
-    ensures { IfOk result (λ command. (words : List Text) → AreWordsOf words (codes "write") write.now → IsAskedBy words command) }
+    ensures { IfOk result (IsOf (codes "write") write.now) }
 {
     let text = value(alloc, write, "VALUE")?;
     let (key, profile) = value_and_profile(alloc, write, "KEY")?;
@@ -222,7 +222,7 @@ fn write_asked(alloc: Global, write: &ArgMatches<'_>) -> Result<Command, AllocEr
 /// `reset [-f] [-p FILE] PATH`.
 fn reset_asked(alloc: Global, reset: &ArgMatches<'_>) -> Result<Command, AllocError>
     requires { HasValue reset.now (codes "PATH") }
-    ensures { IfOk result (λ command. (words : List Text) → AreWordsOf words (codes "reset") reset.now → IsAskedBy words command) }
+    ensures { IfOk result (IsOf (codes "reset") reset.now) }
 {
     let (path, profile) = value_and_profile(alloc, reset, "PATH")?;
     Ok(Command::Reset {
@@ -235,7 +235,7 @@ fn reset_asked(alloc: Global, reset: &ArgMatches<'_>) -> Result<Command, AllocEr
 /// `load [-f] [--skip-doubles] [-p FILE] DIR`.
 fn load_asked(alloc: Global, load: &ArgMatches<'_>) -> Result<Command, AllocError>
     requires { HasValue load.now (codes "DIR") }
-    ensures { IfOk result (λ command. (words : List Text) → AreWordsOf words (codes "load") load.now → IsAskedBy words command) }
+    ensures { IfOk result (IsOf (codes "load") load.now) }
 {
     let (directory, profile) = value_and_profile(alloc, load, "DIR")?;
     Ok(Command::Load {
@@ -250,7 +250,7 @@ fn load_asked(alloc: Global, load: &ArgMatches<'_>) -> Result<Command, AllocErro
 fn show_asked(alloc: Global, show: &ArgMatches<'_>) -> Result<Command, AllocError>
     requires type_text { HasValue show.now (codes "TYPE") }
     requires file { HasValue show.now (codes "FILE") }
-    ensures { IfOk result (λ command. (words : List Text) → AreWordsOf words (codes "show") show.now → IsAskedBy words command) }
+    ensures { IfOk result (IsOf (codes "show") show.now) }
 {
     Ok(Command::Show {
         type_text: value(alloc, show, "TYPE")?,

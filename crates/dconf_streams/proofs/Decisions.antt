@@ -2,6 +2,7 @@
 use Rattle.std.proofs.Common.{◌≡◌, ◌≤◌, inl, inr, ℕ, List, [], length, true, false, Option, Some, None, Err, refl, sym, ◌∙◌, arith}
 use Rattle.std.specs.Prelude.{◌≢◌, IfSome, IsTrue, codes, nat_lt, option_map, vec_items}
 use Rattle.std.specs.declared.vec.Vec.{Vec}
+use Rattle.std.proofs.lemmas.Option.{IfSome_then}
 use Rattle.dconf_disk.specs.declared.folder.Folder.{Ghosts}
 use Rattle.dconf_model.specs.Bytes.{longest_file}
 use Rattle.dconf_model.specs.Folders.{Event, read_content}
@@ -12,16 +13,12 @@ use Rattle.dconf_model.specs.Reads.FileRead.{no_file, holds, over_size, failed}
 use Rattle.dconf_streams.specs.declared.refusal.Refusal.TheVariants.{NoMemory}
 use Rattle.dconf_streams.specs.Answers.{Answered, GivesOutcome, RefusesFor, outcome_of}
 use Rattle.dconf_streams.specs.Readings.{Decides, HasRead, IsKept, Nothing, NothingIfAny, found_read, one_read}
-use Rattle.dconf_streams.specs.Streams.{Rose}
+use Rattle.dconf_disk.specs.Driving.{IsOneMore}
 
 -- ---- answers
 
-also_some : (o : Option Outcome) (Makes Also : Outcome → Type 0) → ((x : Outcome) → Makes x → Also x) → IfSome o Makes → IfSome o Also
-also_some None Makes Also also h = tt
-also_some (Some x) Makes Also also h = also x h
-
 pub answers_also : (answer : Answered) (Makes Also : Outcome → Type 0) → ((o : Outcome) → Makes o → Also o) → GivesOutcome answer Makes → GivesOutcome answer Also
-answers_also answer Makes Also also h = also_some (outcome_of answer) Makes Also also h
+answers_also answer Makes Also also h = IfSome_then (outcome_of answer) h also
 
 -- ---- what a read gave
 
@@ -111,7 +108,7 @@ module _ {F : Type 0} (ghosts : Ghosts F) (old new : F) (name : List ℕ) (keeps
     none_failed = same;
   }
 
-  pub decides_broken : (n : ℕ) (answer : Answered) → Rose (ghosts.failed old) (ghosts.failed new) → RefusesFor answer (device_text name)
+  pub decides_broken : (n : ℕ) (answer : Answered) → IsOneMore (ghosts.failed old) (ghosts.failed new) → RefusesFor answer (device_text name)
       → Decides ghosts old new n (λ reads. OrNoDatabase name (reads n name) NothingIfAny) answer
   decides_broken n answer rose refuses = record {
     log = one_read name failed;

@@ -10,7 +10,7 @@ use Rattle.dconf_model.specs.Reads.FileRead.{no_file, holds, failed}
 use Rattle.dconf_model.specs.Sources.{Source}
 use Rattle.dconf_streams.specs.declared.folder_files.NamedFile.{NamedFile}
 use Rattle.dconf_streams.specs.Answers.{Answered, GivesOutcome, RefusesFor}
-use Rattle.dconf_streams.specs.Streams.{Rose}
+use Rattle.dconf_disk.specs.Driving.{IsOneMore}
 
 -- a read of a file, and what it gave
 pub record Reading : Type 0 where
@@ -54,7 +54,7 @@ pub record HasRead {F : Type 0} (ghosts : Ghosts F) (old new : F) (log : List Re
 -- the device failed at a read, and the answer says of which file; or it failed at none
 abbrev pub Tells : ℕ → ℕ → List Reading → Answered → Type 0
 Tells old new log answered =
-    (AllRead log × (new ≡ old)) ⊎ ((name : List ℕ) × BreaksAt log name × Rose old new × RefusesFor answered (device_text name))
+    (AllRead log × (new ≡ old)) ⊎ ((name : List ℕ) × BreaksAt log name × IsOneMore old new × RefusesFor answered (device_text name))
 
 -- What a command decides by its reads, the first of which has that number: whatever reads gave the same, its answer is one of the
 -- outcomes that they make.

@@ -9,7 +9,3 @@ one_more n = min (n + 1) (2 ^ 64 - 1)
 pub record NoneFailed (old new : ℕ) : Type 0 where
   pub same : new ≡ old
   pub told : new < 2 ^ 64 - 1
-
--- there was one failure more, as far as a count can tell
-abbrev pub Rose : ℕ → ℕ → Type 0
-Rose old new = (new ≡ old + 1) ⊎ ((new ≡ old) × (new ≡ 2 ^ 64 - 1))
