@@ -79,7 +79,7 @@ const TYPED: &str = r#"
 /// Pushes the size of a text's value and its bytes, and those of its type after them; or the number of its fault, and its place. For
 /// `NO_TEXT` stands a byte that is no UTF-8.
 pub(crate) fn push_handed(alloc: Global, to: &mut String, text: &str) -> Result<(), Fail> {
-    let bytes = match text {
+    let bytes: &[u8] = match text {
         "NO_TEXT" => b"\xff",
         _ => text.as_bytes(),
     };
