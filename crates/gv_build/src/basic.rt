@@ -6,7 +6,7 @@ ghost use Rattle.gv_model.specs.BasicValue.{number_in};
 ghost use Rattle.gv_tree.specs.Basics.{basic_tree};
 ghost use Rattle.gv_build.specs.Faults.{limit, IsOverLimit};
 
-use crate::buffer::{push_bytes, push_number};
+use crate::buffer::{push_byte, push_bytes, push_number};
 use crate::fault::BuildFault;
 use gv_tree::Basic;
 
@@ -53,5 +53,5 @@ fn write_text(text: &str, out: &mut Vec<u8>) -> Result<(), BuildFault>
     ensures fault { IfErr result (IsOverLimit (length out.old.items + length (text.now ++ 0 ∷ []))) }
 {
     push_bytes(out, text.as_bytes())?;
-    push_bytes(out, &[0])
+    push_byte(out, 0)
 }

@@ -1,5 +1,5 @@
 //! The buffer that is written, which is never grown past the limit.
-ghost use Rattle.std.specs.Prelude.{◌≡◌, ◌+◌, ◌<◌, ◌≤◌, ◌^◌, ◌++◌, length, OnOk, IfErr};
+ghost use Rattle.std.specs.Prelude.{◌≡◌, ◌+◌, ◌<◌, ◌≤◌, ◌^◌, [], ◌∷◌, ◌++◌, length, OnOk, IfErr};
 ghost use Rattle.gv_model.specs.Encode.{zeros, number_bytes};
 ghost use Rattle.gv_build.specs.Faults.{limit, IsOverLimit};
 
@@ -19,6 +19,20 @@ pub(crate) fn push_bytes(out: &mut Vec<u8>, bytes: &[u8]) -> Result<(), BuildFau
         return Err(BuildFault::TooLarge);
     }
     out.extend_from_slice(bytes)?;
+    Ok(())
+}
+
+/// Appends a byte, unless there would be too many.
+pub(crate) fn push_byte(out: &mut Vec<u8>, byte: u8) -> Result<(), BuildFault>
+    requires { length out.old.items ≤ limit }
+    ensures bytes { OnOk result (out.new.items ≡ out.old.items ++ byte ∷ []) }
+    ensures fits { OnOk result (length out.new.items ≤ limit) }
+    ensures fault { IfErr result (IsOverLimit (length out.old.items + length (byte ∷ []))) }
+{
+    if out.len() == MAX_LEN {
+        return Err(BuildFault::TooLarge);
+    }
+    out.push(byte)?;
     Ok(())
 }
 

@@ -6,7 +6,7 @@ ghost use Rattle.gv_types.specs.TypeStr.{ty};
 ghost use Rattle.gv_build.specs.Faults.{limit, IsOverLimit};
 ghost use Rattle.gv_build.specs.Writing.{just_end};
 
-use crate::buffer::push_bytes;
+use crate::buffer::push_byte;
 use crate::fault::BuildFault;
 use gv_layout::fixed_size;
 use gv_types::TypeStr;
@@ -20,6 +20,6 @@ pub(crate) fn end_just(of: TypeStr<'_>, out: &mut Vec<u8>) -> Result<(), BuildFa
 {
     match fixed_size(of) {
         Some(_) => Ok(()),
-        None => push_bytes(out, &[0]),
+        None => push_byte(out, 0),
     }
 }

@@ -4,7 +4,7 @@ ghost use Rattle.gv_model.specs.Ty.{spelling};
 ghost use Rattle.gv_types.specs.TypeStr.{ty};
 ghost use Rattle.gv_build.specs.Faults.{limit, IsOverLimit};
 
-use crate::buffer::push_bytes;
+use crate::buffer::{push_byte, push_bytes};
 use crate::fault::BuildFault;
 use gv_types::TypeStr;
 
@@ -15,6 +15,6 @@ pub(crate) fn end_variant(of: TypeStr<'_>, out: &mut Vec<u8>) -> Result<(), Buil
     ensures fits { OnOk result (length out.new.items ≤ limit) }
     ensures fault { IfErr result (IsOverLimit (length out.old.items + length (0 ∷ spelling (ty of.entry)))) }
 {
-    push_bytes(out, &[0])?;
+    push_byte(out, 0)?;
     push_bytes(out, of.as_str().as_bytes())
 }
