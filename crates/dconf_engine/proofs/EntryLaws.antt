@@ -28,8 +28,9 @@ use Rattle.dconf_model.proofs.KeyNames.{values_are_keys}
 use Rattle.dconf_model.proofs.ParentLaws.{by_bool}
 use Rattle.dconf_model.proofs.PathMaps.{no_truth}
 use Rattle.dconf_model.proofs.SoundLaws.{sound_is_searchable}
-use Rattle.gvdb_read.specs.declared.item.Item.{Item as Shown}
-use Rattle.gvdb_read.specs.Tables.{region, IsShownAs, LendsWhere}
+use Rattle.gvdb_format.specs.declared.item.Item.{Item as Shown}
+use Rattle.gvdb_read.specs.Tables.{region}
+use Rattle.gvdb_format.specs.Tables.{IsShownAs, LendsWhere}
 use Rattle.gvdb_write.specs.Salvaged.{HasNoShortText}
 use Rattle.dconf_engine.specs.declared.layer.Layer.{Layer}
 use Rattle.dconf_engine.specs.Entries.{items_of, layer_paths, path_at, paths_in, value_in}

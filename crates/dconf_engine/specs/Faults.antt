@@ -4,8 +4,8 @@ use Rattle.dconf_model.specs.Databases.{Verdict}
 use Rattle.dconf_model.specs.Databases.Verdict.{no_database, unsound}
 use Rattle.dconf_model.specs.FaultTexts.{bad_database_text}
 use Rattle.dconf_model.specs.Outcomes.{verdict_text}
-use Rattle.gvdb_read.specs.Faults.{open_fault_of}
-use Rattle.gvdb_read.specs.Unsounds.{rule_of}
+use Rattle.gvdb_format.specs.Faults.{open_fault_of}
+use Rattle.gvdb_check.specs.Unsounds.{rule_of}
 use Rattle.dconf_engine.specs.declared.fault.DatabaseFault.{DatabaseFault}
 use Rattle.dconf_engine.specs.declared.fault.DatabaseFault.TheVariants.{NoDatabase, Unsound}
 use Rattle.dconf_engine.specs.declared.fault.EngineFault.{EngineFault}

@@ -6,7 +6,7 @@ ghost use Rattle.dconf_path.specs.Paths.{key_text};
 
 use crate::layer::Layer;
 use dconf_path::KeyPath;
-use gvdb_read::format::Kind;
+use gvdb_format::Kind;
 use std::alloc::{AllocError, Global};
 
 /// A path at which a layer has a value, and the value's bytes.

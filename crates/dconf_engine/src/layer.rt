@@ -9,14 +9,14 @@ ghost use Rattle.dconf_model.specs.Sound.{IsFirstFault, IsSound};
 ghost use Rattle.dconf_path.specs.Paths.{key_text};
 ghost use Rattle.gvdb_read.specs.Directories.{HasDirectoryValue};
 ghost use Rattle.gvdb_read.specs.Tables.{region};
-ghost use Rattle.gvdb_read.specs.Unsounds.{rule_of};
+ghost use Rattle.gvdb_check.specs.Unsounds.{rule_of};
 ghost use Rattle.dconf_engine.specs.Faults.{verdict_of};
 ghost use Rattle.dconf_engine.specs.SoundTables.{AreOfSoundDatabase, IsSoundRoot, IsTableOfLocks, locks_if};
 
 use crate::fault::DatabaseFault;
 use dconf_path::KeyPath;
 use gvdb_alike::is_shaped_as;
-use gvdb_read::format::LOCKS;
+use gvdb_format::LOCKS;
 use gvdb_read::{HashedName, Table, Unsound};
 
 /// A database without items.

@@ -10,7 +10,7 @@ use Rattle.dconf_model.specs.Opening.{IsDatabase, root_of}
 use Rattle.dconf_model.specs.Table.{Table, item_count, items_start}
 use Rattle.dconf_model.proofs.OpenLaws as opens
 use Rattle.dconf_model.proofs.SoundLaws.{sound_has_no_fault}
-use Rattle.gvdb_read.proofs.Numbers.{number_there}
+use Rattle.gvdb_format.proofs.Numbers.{number_there}
 use Rattle.dconfdb_calls.specs.Keyless.{IsFirstRoot, IsKeyless, IsRootItem, IsRootPlace, with_empty_list}
 
 pub not_bad : (file : List ℕ) (v : Verdict) → IsGood (Some file) → IsBad (Some file) v → ⊥

@@ -5,8 +5,8 @@ ghost use Rattle.dconf_engine.specs.LayerSettings.{settings_of};
 ghost use Rattle.dconf_engine.specs.Files.{bytes_of_file};
 ghost use Rattle.dconf_engine.specs.Faults.{verdict_of};
 ghost use Rattle.dconf_model.specs.Sound.{rule_number};
-ghost use Rattle.gvdb_read.specs.Faults.{open_fault_of};
-ghost use Rattle.gvdb_read.specs.Unsounds.{rule_of};
+ghost use Rattle.gvdb_format.specs.Faults.{open_fault_of};
+ghost use Rattle.gvdb_check.specs.Unsounds.{rule_of};
 ghost use Rattle.dconfdb_calls.specs.Numbers.{number_of};
 ghost use Rattle.dconfdb_calls.specs.Opened.{IsToldOf, SaysRule, bytes_if, item_told, open_number, verdict_number};
 

@@ -3,7 +3,7 @@ use Rattle.std.proofs.Common.{ℕ, ◌+◌, ◌-◌, ◌*◌, ◌/◌, ◌<◌, 
 use Rattle.gv_model.specs.BasicValue.{number_in}
 use Rattle.dconf_model.specs.Table.{Table, HasBytes, bytes_of, item}
 use Rattle.dconf_model.specs.Sound.{list_length, listed}
-use Rattle.gvdb_read.proofs.ListNumbers.{number_at}
+use Rattle.gvdb_check.proofs.ListNumbers.{number_at}
 
 size_of : (t : Table) (i : ℕ) → HasBytes t i → length (bytes_of t i) ≡ (item t i).end - (item t i).start
 size_of t i valid =

@@ -6,7 +6,7 @@ use Rattle.std.proofs.lemmas.Slice.{between_is}
 use Rattle.gv_model.specs.BasicValue.{number_in}
 use Rattle.dconf_model.specs.Bytes.{u16_at, u32_at, u8_at}
 use Rattle.dconf_model.specs.Table.{Item, Opens, Table, bloom_shift, bloom_word, bloom_words, bucket, bucket_count, bytes_of, item, item_at, item_count, items_start, key, list_kind, value_kind}
-use Rattle.gvdb_read.specs.declared.format.record.ItemRecord.{ItemRecord}
+use Rattle.gvdb_format.specs.declared.record.ItemRecord.{ItemRecord}
 use Rattle.gvdb_alike.specs.NamesAlike.{AreStepsAlike}
 use Rattle.gvdb_alike.specs.SameBytes.{HasSameHead, HasSameList, HasSameRecord, HaveSameRecords, IsSameRecord}
 use Rattle.gvdb_alike.specs.ValuesAlike.{value_at}

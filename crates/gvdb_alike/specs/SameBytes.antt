@@ -2,8 +2,8 @@
 use Rattle.std.specs.Prelude.{◌≡◌, ◌<◌, ◌≤◌, ◌⊎◌, ℕ, length}
 use Rattle.dconf_model.specs.Searchable.{HasBuckets}
 use Rattle.dconf_model.specs.Table.{Table, bloom_shift, bloom_word, bloom_words, bucket, bucket_count, bytes_of, item, item_count}
-use Rattle.gvdb_read.specs.declared.format.record.ItemRecord.{ItemRecord}
-use Rattle.gvdb_read.specs.Tables.{item_of}
+use Rattle.gvdb_format.specs.declared.record.ItemRecord.{ItemRecord}
+use Rattle.gvdb_format.specs.Tables.{item_of}
 use Rattle.gvdb_alike.specs.ItemsAlike.{HasLikeBytes, IsItemAlike}
 use Rattle.gvdb_alike.specs.NamesAlike.{AreStepsAlike}
 use Rattle.gvdb_alike.specs.Spans.{AreSameOutside}

@@ -20,7 +20,7 @@ pub fn has_elsewhere(table: Table<'_>, i: u32, other: Table<'_>) -> bool
     let Some(item) = table.item(i) else {
         return false;
     };
-    let (first, end) = other.span(item.hash);
+    let (first, end) = other.raw.span(item.hash);
     for j in first..end {
         if other.item(j).is_some_and(|it| it.hash == item.hash) && is_same(table, i, other, j) {
             return true;

@@ -8,8 +8,9 @@ ghost use Rattle.gvdb_alike.specs.Spans.{AreSameOutside, LiesOutside};
 ghost use Rattle.gvdb_alike.specs.ValuesAlike.{value_at};
 
 use crate::span::{DifferingSpan, differing_span};
+use gvdb_check::has_buckets;
 use gvdb_read::Table;
-use gvdb_read::format::{ItemRecord, Kind, RECORD_LEN};
+use gvdb_format::{ItemRecord, Kind, RECORD_LEN};
 
 /// Two tables, and what of them has the same bytes: the head; the records, but for those of some items; and the files, but
 /// for a span.
@@ -35,7 +36,7 @@ impl<'a> Patch<'a> {
             return Patch::of_nothing(table, other);
         }
         let span = differing(table.file(), other.file());
-        let (start, end) = table.bounds();
+        let (start, end) = table.raw.bounds();
         let items = end - RECORD_LEN * table.n_items() as usize;
         if !is_outside(span, start, items) {
             return Patch::of_nothing(table, other);
@@ -70,7 +71,7 @@ impl<'a> Patch<'a> {
     pub(crate) fn has_buckets(self) -> bool
         ensures { IsTrue result → AreBucketsKept (region self.entry.table) (region self.entry.other) }
     {
-        self.has_same_head || self.table.has_buckets()
+        self.has_same_head || has_buckets(self.table.raw)
     }
 
     /// The numbers of item `i`, if its record is the same.
@@ -82,7 +83,7 @@ impl<'a> Patch<'a> {
         if i >= self.first_item && i < self.end_item {
             return None;
         }
-        Some(self.table.stored(i))
+        Some(self.table.raw.stored(i))
     }
 
     /// Whether the record of item `i` is the same, and its key.
@@ -141,8 +142,8 @@ impl<'a> Patch<'a> {
 fn have_one_place(table: Table<'_>, other: Table<'_>) -> bool
     ensures { IsTrue result → HaveOnePlace (region table.entry) (region other.entry) }
 {
-    let (start, end) = table.bounds();
-    let (other_start, other_end) = other.bounds();
+    let (start, end) = table.raw.bounds();
+    let (other_start, other_end) = other.raw.bounds();
     start == other_start && end == other_end && table.file().len() == other.file().len()
 }
 

@@ -9,8 +9,9 @@ ghost use Rattle.gvdb_alike.specs.SameBytes.{IsShapeKept};
 
 use crate::differing::is_step_alike;
 use crate::patch::Patch;
+use gvdb_check::{is_in_bloom, is_in_span};
 use gvdb_read::Table;
-use gvdb_read::format::Kind;
+use gvdb_format::Kind;
 
 /// Whether a table is seen to be sound if the other one is: both have as many items, and at each place one of the same
 /// name, kind and hash, in good buckets; and lists have the same numbers. False says nothing, and is the answer to each
@@ -58,8 +59,8 @@ fn is_item_alike(table: Table<'_>, sound: Table<'_>, i: u32) -> bool
 {
     is_step_alike(table, sound, i)
         && has_like_content(table, sound, i)
-        && table.is_in_span(i)
-        && table.is_in_bloom(i)
+        && is_in_span(table.raw, i)
+        && is_in_bloom(table.raw, i)
 }
 
 /// Whether item `i` of both has the same hash and kind and a valid pointer, and is a value, or a list of the same bytes.

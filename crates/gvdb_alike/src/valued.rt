@@ -4,7 +4,7 @@ ghost use Rattle.gvdb_read.specs.Tables.{region};
 ghost use Rattle.gvdb_alike.specs.ValuesAlike.{value_at};
 
 use gvdb_read::Table;
-use gvdb_read::format::Kind;
+use gvdb_format::Kind;
 
 /// Whether item `i` of a table and item `j` of the other one are values of the same bytes, or both are none.
 #[inline(always)]

@@ -6,9 +6,9 @@ ghost use Rattle.dconf_model.specs.Table.{item_count, value_kind};
 ghost use Rattle.gvdb_read.specs.Directories.{HasDirectoryValue, IsDirectoryValue};
 ghost use Rattle.gvdb_read.specs.Lookups.{IsFound};
 
-use crate::format::{HASH_OF_NOTHING, Kind, hash_with};
 use crate::table::Table;
 use gv_types::Steps;
+use gvdb_format::{HASH_OF_NOTHING, Kind, hash_with};
 
 impl Table<'_> {
     ghost use Rattle.gvdb_read.specs.Tables.{region};
@@ -37,7 +37,7 @@ impl Table<'_> {
     pub fn has_directory_value(self) -> bool
         ensures { IsTrue result ↔ HasDirectoryValue (region self.entry) }
     {
-        for i in 0..self.items {
+        for i in 0..self.n_items() {
             if self.is_directory_value(i) {
                 return true;
             }
@@ -50,10 +50,10 @@ impl Table<'_> {
         requires { i < item_count (region self) }
         ensures { IsTrue result ↔ IsDirectoryValue (region self.entry) i }
     {
-        if !self.has_kind(i, Kind::Value) {
+        if !self.raw.has_kind(i, Kind::Value) {
             return false;
         }
-        match self.link_at(i) {
+        match self.raw.link_at(i) {
             Some(link) => link.key.ends_with(b"/"),
             None => false,
         }
@@ -75,7 +75,7 @@ impl Table<'_> {
     {
         let mut steps = Steps::new();
         match self.find_hashed(hash, name, Kind::Value, &mut steps) {
-            Some(i) => self.pointed_at(i, Kind::Value).is_some(),
+            Some(i) => self.raw.pointed_at(i, Kind::Value).is_some(),
             None => false,
         }
     }

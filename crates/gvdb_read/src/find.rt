@@ -5,12 +5,12 @@ ghost use Rattle.dconf_model.specs.Table.{Table as Region, list_kind, value_kind
 ghost use Rattle.dconf_model.specs.Search.{Finds, PassesBloom, span_size};
 ghost use Rattle.gvdb_read.specs.Lookups.{IsFound, IsListOf, IsTableAt, IsValueOf, IsViewOf};
 
-use crate::format::{Kind, NUMBER_LEN};
 use crate::hashed_name::HashedName;
 use crate::names::Names;
 use crate::table::Table;
 use gv_types::Steps;
 use gv_view::View;
+use gvdb_format::{Kind, NUMBER_LEN};
 
 impl<'a> Table<'a> {
     ghost use Rattle.gvdb_read.specs.HashedNames.{name_text};
@@ -46,7 +46,7 @@ impl<'a> Table<'a> {
     {
         let mut steps = Steps::new();
         let i = self.find_hashed(name.hash, name.bytes, Kind::Value, &mut steps)?;
-        self.pointed_at(i, Kind::Value)
+        self.raw.pointed_at(i, Kind::Value)
     }
 
     /// As `find`. Each item that is looked at along a chain of parents is a step: at most as many for each item of the
@@ -80,8 +80,8 @@ impl<'a> Table<'a> {
     {
         let mut steps = Steps::new();
         let i = self.find_item(name.as_bytes(), Kind::List, &mut steps)?;
-        let stored = self.stored(i);
-        let numbers = self.pointed(stored)?;
+        let stored = self.raw.stored(i);
+        let numbers = self.raw.pointed(stored)?;
         Some(Names {
             table: self,
             at: stored.start as usize,
@@ -112,6 +112,6 @@ impl<'a> Table<'a> {
         ensures spared { ¬ PassesBloom (region self.entry) (hash_of name.now) → steps.new ≡ steps.old }
     {
         let i = self.find_item(name.as_bytes(), Kind::Value, steps)?;
-        self.pointed_at(i, Kind::Value)
+        self.raw.pointed_at(i, Kind::Value)
     }
 }

@@ -2,7 +2,7 @@
 ghost use Rattle.std.specs.Prelude.{◌≡◌};
 ghost use Rattle.dconf_model.specs.Bytes.{hash_of};
 
-use crate::format::hash;
+use gvdb_format::hash;
 
 /// A name, lent, and its hash.
 #[derive(Clone, Copy, Debug)]

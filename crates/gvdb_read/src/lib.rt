@@ -14,26 +14,15 @@
 //! ```
 #![tactic(auto)]
 
-mod checking;
 mod covering;
-mod fault;
-mod fields;
 mod find;
-pub mod format;
-mod full_name;
 mod hashed_name;
-mod item;
 mod names;
 mod search;
-mod suffix;
 mod table;
-mod unsound;
 
-pub use checking::MAX_NAME_LEN;
-pub use fault::OpenFault;
-pub use format::{hash, hash_with};
+pub use gvdb_check::{MAX_NAME_LEN, Rule, Unsound};
+pub use gvdb_format::{Item, OpenFault, hash, hash_with};
 pub use hashed_name::HashedName;
-pub use item::Item;
 pub use names::Names;
 pub use table::Table;
-pub use unsound::{Rule, Unsound};

@@ -1,9 +1,10 @@
 //! The keys of the items that a list names.
 ghost use Rattle.std.specs.Prelude.{◌≡◌, ◌+◌, ◌*◌, ◌≤◌, [], ◌∷◌, MatchOption, length};
 ghost use Rattle.dconf_model.specs.Listed.{listed_keys};
+ghost use Rattle.gvdb_read.specs.Tables.{region};
 
-use crate::format::{NUMBER_LEN, read_u32};
 use crate::table::Table;
+use gvdb_format::{NUMBER_LEN, read_u32};
 use std::iter::FusedIterator;
 
 /// The keys of the items that a list names, in its order. The number of no item is passed over, and so is an item
@@ -13,7 +14,7 @@ pub struct Names<'a> {
     pub(crate) table: Table<'a>,
     pub(crate) at: usize,
     pub(crate) left: usize,
-    ghost inside: { at + 4 * left ≤ length table.file.now },
+    ghost inside: { at + 4 * left ≤ length (region table).file },
 }
 
 impl<'a> Iterator for Names<'a> {
@@ -37,11 +38,9 @@ impl<'a> Iterator for Names<'a> {
 impl FusedIterator for Names<'_> {}
 
 impl<'a> Table<'a> {
-    ghost use Rattle.gvdb_read.specs.Tables.{region};
-
     /// The first key of the items whose numbers occur from there on, so many of them, and what is left of the numbers.
     fn first_key(self, at: usize, left: usize) -> (Option<&'a [u8]>, usize, usize)
-        requires { at + 4 * left ≤ length self.file.now }
+        requires { at + 4 * left ≤ length (region self).file }
         ensures key { MatchOption result.0
             ((listed_keys (region self.entry) at left ≡ []) × (result.2 ≡ 0))
             (λ key. listed_keys (region self.entry) at left
@@ -51,7 +50,7 @@ impl<'a> Table<'a> {
         let mut at = at;
         let mut left = left;
         while left > 0 {
-            let found = self.link_at(read_u32(self.file, at));
+            let found = self.raw.link_at(read_u32(self.file(), at));
             at += NUMBER_LEN;
             left -= 1;
             if let Some(link) = found {

@@ -1,36 +1,26 @@
-//! A table of a file: where it opens, and its items.
-ghost use Rattle.std.specs.Prelude.{◌≡◌, ◌+◌, ◌<◌, ◌≤◌, ◌^◌, ◌↔◌, length, slice_range};
-ghost use Rattle.std.specs.Prelude.{IsOk, IsSome, IsTrue, IfErr, IfNone, IfOk, IfSome};
-ghost use Rattle.dconf_model.specs.Table.{HasHead, HasItems, IsValidPointer, Opens, alignment_of, item, item_count, table_of};
+//! A table, as callers see it.
+ghost use Rattle.std.specs.Prelude.{◌≡◌, ◌<◌, ◌≤◌, ◌↔◌, ℕ, List, length, IsOk, IsSome, IsTrue, IfErr, IfNone, IfOk, IfSome};
+ghost use Rattle.dconf_model.specs.Table.{item_count, table_of};
+ghost use Rattle.dconf_model.specs.Names.{HasName};
 ghost use Rattle.dconf_model.specs.Opening.{IsDatabase, IsOpenFault, root_of};
-ghost use Rattle.gvdb_read.specs.Faults.{open_fault_of};
-ghost use Rattle.gvdb_read.specs.Opened.{IsOpened};
+ghost use Rattle.dconf_model.specs.Sound.{IsFirstFault, IsSound};
+ghost use Rattle.gvdb_format.specs.Faults.{open_fault_of};
+ghost use Rattle.gvdb_format.specs.Tables.{IsShownAs, PointsToTable};
+ghost use Rattle.gvdb_check.specs.Unsounds.{rule_of};
 
-use crate::fault::OpenFault;
-use crate::format::{
-    HEAD_LEN, HEADER_LEN, ItemRecord, Kind, RECORD_LEN, SIGNATURE, WORD_LEN, read_u32,
-};
-use crate::item::Item;
+use gvdb_check::Unsound;
+use gvdb_format::{Item, OpenFault, RawTable};
 
 /// A table that opened, in the file where it was found. It may be handed to C and back.
 #[repr(C)]
 #[derive(Clone, Copy, Debug)]
 pub struct Table<'a> {
-    pub(crate) file: &'a [u8],
-    pub(crate) start: usize,
-    pub(crate) end: usize,
-    pub(crate) bloom_words: u32,
-    pub(crate) bloom_shift: u32,
-    pub(crate) buckets: u32,
-    pub(crate) first_item: usize,
-    pub(crate) items: u32,
-    ghost opened: { IsOpened (record { file = file.now; start = start; end = end })
-        bloom_words bloom_shift buckets first_item items },
+    /// The same table, by its numbers and records.
+    pub raw: RawTable<'a>,
 }
 
 impl<'a> Table<'a> {
-    ghost use Rattle.gvdb_read.specs.Tables.{region, item_of, key_at, content_at};
-    ghost use Rattle.gvdb_read.specs.Tables.{IsKeyInside, IsPointer, IsShownAs, PointsToTable};
+    ghost use Rattle.gvdb_read.specs.Tables.{region};
 
     /// Opens a database: gives its root table.
     ///
@@ -41,38 +31,16 @@ impl<'a> Table<'a> {
         ensures root { IfOk result (λ t. region t ≡ root_of file.entry.now) }
         ensures fault { IfErr result (λ e. IsOpenFault file.entry.now (open_fault_of e)) }
     {
-        if file.len() < HEADER_LEN {
-            return Err(OpenFault::Short);
-        }
-        if !file.starts_with(SIGNATURE) {
-            return Err(OpenFault::BadSignature);
-        }
-        if read_u32(file, 8) != 0 {
-            return Err(OpenFault::BadVersion);
-        }
-        let start = read_u32(file, 16) as usize;
-        let end = read_u32(file, 20) as usize;
-        if !has_head(file, start, end) {
-            return Err(OpenFault::BadRoot);
-        }
-        Table::within(file, start, end).ok_or(OpenFault::BadTable)
+        let raw = RawTable::open(file)?;
+        Ok(Table { raw })
     }
 
     /// The bytes of the file that the table is in.
+    #[inline(always)]
     pub fn file(self) -> &'a [u8]
         ensures { result.now ≡ (region self.entry).file }
     {
-        self.file
-    }
-
-    /// Where in its file the table starts and ends.
-    #[inline(always)]
-    pub fn bounds(self) -> (usize, usize)
-        ensures start { result.0 ≡ (region self.entry).start }
-        ensures end { result.1 ≡ (region self.entry).end }
-        ensures opens { Opens (region self.entry) }
-    {
-        (self.start, self.end)
+        self.raw.file()
     }
 
     /// How many items the table has.
@@ -80,7 +48,7 @@ impl<'a> Table<'a> {
     pub fn n_items(self) -> u32
         ensures { result ≡ item_count (region self.entry) }
     {
-        self.items
+        self.raw.n_items()
     }
 
     /// Item `i`, which counts from 0. None exactly where there are not so many.
@@ -89,17 +57,7 @@ impl<'a> Table<'a> {
         ensures some { IsSome result ↔ (i < item_count (region self.entry)) }
         ensures shows { IfSome result (IsShownAs (region self.entry) i) }
     {
-        if i >= self.n_items() {
-            return None;
-        }
-        let stored = self.stored(i);
-        Some(Item {
-            hash: stored.hash,
-            parent: stored.parent,
-            key: self.key_of(stored),
-            kind: stored.kind,
-            bytes: self.pointed(stored),
-        })
+        self.raw.item(i)
     }
 
     /// The table that item `i` points to. None where there is no such item, where it is of another kind than `H`, and
@@ -108,107 +66,52 @@ impl<'a> Table<'a> {
         ensures some { IsSome result ↔ PointsToTable (region self.entry) i }
         ensures table { IfSome result (λ t. region t ≡ table_of (region self.entry) i) }
     {
-        if i >= self.n_items() {
-            return None;
-        }
-        let stored = self.stored(i);
-        let (start, end) = (stored.start as usize, stored.end as usize);
-        if stored.kind != Kind::Table.letter() || !has_head(self.file, start, end) {
-            return None;
-        }
-        Table::within(self.file, start, end)
+        let raw = self.raw.table_at(i)?;
+        Some(Table { raw })
     }
 
-    /// The table between two places where a table's head lies. None where no table opens there.
-    fn within(file: &'a [u8], start: usize, end: usize) -> Option<Table<'a>>
-        requires small { end < 2 ^ 32 }
-        requires head { HasHead (record { file = file.now; start = start; end = end }) }
-        ensures some { IsSome result ↔ HasItems (record { file = file.entry.now; start = start; end = end }) }
-        ensures table { IfSome result (λ t. region t ≡ record { file = file.entry.now; start = start; end = end }) }
-    {
-        let head = read_u32(file, start);
-        let bloom_words = head % 0x800_0000;
-        let buckets = read_u32(file, start + 4);
-        let first_item = start
-            + HEAD_LEN
-            + WORD_LEN * bloom_words as usize
-            + WORD_LEN * buckets as usize;
-        if first_item > end || (end - first_item) % RECORD_LEN != 0 {
-            return None;
-        }
-        Some(Table {
-            file,
-            start,
-            end,
-            bloom_words,
-            bloom_shift: head / 0x800_0000,
-            buckets,
-            first_item,
-            items: ((end - first_item) / RECORD_LEN) as u32,
-        })
-    }
-
-    /// The numbers of item `i`, as they are stored.
+    /// How many bytes item `i`'s full name has. None where it has none, and where it has more than `longest`.
+    ///
+    /// It looks at the item and at its parents, at `longest + 1` items at most.
     #[inline(always)]
-    pub fn stored(self, i: u32) -> ItemRecord
-        requires { i < item_count (region self) }
-        ensures { item_of result ≡ item (region self.entry) i }
+    pub fn name_len(self, i: u32, longest: usize) -> Option<usize>
+        ensures some { IfSome result (λ n. (name : List ℕ)
+            × HasName (region self.entry) i name × (length name ≡ n)) }
+        ensures short { IfSome result (λ n. n ≤ longest) }
+        ensures none { IfNone result ((name : List ℕ) → HasName (region self.entry) i name → longest < length name) }
     {
-        ItemRecord::read(self.file, self.first_item + RECORD_LEN * i as usize)
+        self.raw.name_len(i, longest)
     }
 
-    /// An item's key. None where its bytes don't lie in the file.
+    /// Writes item `i`'s full name. True exactly where it has one of as many bytes as the room; else what is in the
+    /// room afterwards says nothing.
+    ///
+    /// It looks at one item more than the room has bytes at most.
     #[inline(always)]
-    pub(crate) fn key_of(self, stored: ItemRecord) -> Option<&'a [u8]>
-        ensures lent { IfSome result (λ key. IsKeyInside self.entry.file.now (item_of stored)
-            × (key.now ≡ key_at self.entry.file.now (item_of stored))) }
-        ensures none { IfNone result (¬ IsKeyInside self.entry.file.now (item_of stored)) }
+    pub fn write_name(self, i: u32, room: &mut [u8]) -> bool
+        ensures fits { IsTrue result ↔ ((name : List ℕ)
+            × HasName (region self.entry) i name × (length name ≡ length room.old)) }
+        ensures name { IsTrue result → HasName (region self.entry) i room.new }
     {
-        self.cut_key(stored.key_start, stored.key_size)
+        self.raw.write_name(i, room)
     }
 
-    /// So many bytes from there on: the one place where a key is cut out of the file. None where they don't lie there.
+    /// Whether item `i` has this full name.
+    ///
+    /// It looks at one item more than the name has bytes at most, from the name's end up along the parents.
     #[inline(always)]
-    pub(crate) fn cut_key(self, start: u32, size: u16) -> Option<&'a [u8]>
-        ensures lent { IfSome result (λ key. (start + size ≤ length self.entry.file.now)
-            × (key.now ≡ slice_range self.entry.file.now start (start + size))) }
-        ensures none { IfNone result (¬ (start + size ≤ length self.entry.file.now)) }
+    pub fn has_name(self, i: u32, name: &str) -> bool
+        ensures { IsTrue result ↔ HasName (region self.entry) i name.now }
     {
-        let start = start as usize;
-        self.file.get(start..start + usize::from(size))
+        self.raw.has_name(i, name)
     }
 
-    /// What an item points to. None where the pointer isn't valid.
+    /// Whether the table, as the root of a database, is sound, as [`gvdb_check::check`] says.
     #[inline(always)]
-    pub(crate) fn pointed(self, stored: ItemRecord) -> Option<&'a [u8]>
-        ensures lent { IfSome result (λ bytes. IsPointer self.entry.file.now (item_of stored)
-            × (bytes.now ≡ content_at self.entry.file.now (item_of stored))) }
-        ensures none { IfNone result (¬ IsPointer self.entry.file.now (item_of stored)) }
+    pub fn check(self) -> Result<(), Unsound>
+        ensures sound { IfOk result (λ _. IsSound (region self.entry)) }
+        ensures fault { IfErr result (λ e. IsFirstFault (region self.entry) (rule_of e.rule) e.item) }
     {
-        self.follow(stored.kind, stored.start, stored.end)
+        gvdb_check::check(self.raw)
     }
-
-    /// The bytes to which an item of this kind points: the one place where one is followed to a content. None where it
-    /// isn't valid.
-    #[inline(always)]
-    pub(crate) fn follow(self, kind: u8, start: u32, end: u32) -> Option<&'a [u8]>
-        ensures lent { IfSome result (λ bytes. IsValidPointer self.entry.file.now (alignment_of kind) start end
-            × (bytes.now ≡ slice_range self.entry.file.now start end)) }
-        ensures none { IfNone result (¬ IsValidPointer self.entry.file.now (alignment_of kind) start end) }
-    {
-        let alignment = if kind == Kind::Value.letter() { 8 } else { 4 };
-        if start % alignment != 0 {
-            return None;
-        }
-        self.file.get(start as usize..end as usize)
-    }
-}
-
-/// Whether a pointer to a table is valid, and spans its head.
-fn has_head(file: &[u8], start: usize, end: usize) -> bool
-    requires end_small { end < 2 ^ 32 }
-    requires start_small { start < 2 ^ 32 }
-    ensures { IsTrue result ↔ HasHead (record { file = file.now; start = start; end = end }) }
-{
-    end <= file.len() && start % 4 == 0 && start + HEAD_LEN <= end
 }

@@ -5,8 +5,8 @@ use Rattle.std.proofs.lemmas.List.{append-nil, map-append}
 use Rattle.std.proofs.lemmas.List.Concat.{flat_map-append}
 use Rattle.dconf_model.specs.Table.{value_kind, list_kind, table_kind}
 use Rattle.dconf_model.specs.TableBytes.{record_bytes, records_bytes}
-use Rattle.gvdb_read.specs.ItemRecords.{record_of}
-use Rattle.gvdb_read.specs.declared.format.record.ItemRecord.{ItemRecord as Numbers}
+use Rattle.gvdb_format.specs.ItemRecords.{record_of}
+use Rattle.gvdb_format.specs.declared.record.ItemRecord.{ItemRecord as Numbers}
 use Rattle.gvdb_write.specs.declared.contents.Contents.{Contents}
 use Rattle.gvdb_write.specs.declared.layout.Pointer.{Pointer}
 use Rattle.gvdb_write.specs.declared.names.Content.{Content}

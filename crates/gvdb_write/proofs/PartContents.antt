@@ -9,7 +9,7 @@ use Rattle.dconf_model.specs.TableBytes.{OccursAt, words_bytes}
 use Rattle.dconf_model.proofs.Occurrences.{occurs_at, occurs_inside}
 use Rattle.dconf_model.proofs.LaidGroups.{firsts_rise}
 use Rattle.dconf_model.proofs.PlanLocks.{table_has_locks}
-use Rattle.gvdb_read.specs.declared.format.record.ItemRecord.{ItemRecord as Numbers}
+use Rattle.gvdb_format.specs.declared.record.ItemRecord.{ItemRecord as Numbers}
 use Rattle.gvdb_write.specs.declared.layout.Layout.{Layout}
 use Rattle.gvdb_write.specs.declared.table.TablePlan.{TablePlan}
 use Rattle.gvdb_write.specs.PlanWords.{children_of, plan_of}

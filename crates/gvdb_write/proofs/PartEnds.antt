@@ -9,7 +9,7 @@ use Rattle.dconf_model.specs.Plans.{Plan, size_of_table, keys_end, values_end, r
 use Rattle.dconf_model.specs.TableBytes.{words_bytes, header_bytes}
 use Rattle.dconf_model.proofs.HeaderBytes.{length-header}
 use Rattle.dconf_model.proofs.PlanEnds.{keys_rise, lists_rise, all_lists_end, locks_rise, some_locks_end, no_locks_end}
-use Rattle.gvdb_read.specs.declared.format.record.ItemRecord.{ItemRecord as Numbers}
+use Rattle.gvdb_format.specs.declared.record.ItemRecord.{ItemRecord as Numbers}
 use Rattle.gvdb_write.specs.declared.contents.Contents.{Contents}
 use Rattle.gvdb_write.specs.declared.layout.Layout.{Layout}
 use Rattle.gvdb_write.specs.declared.table.TablePlan.{TablePlan}
@@ -17,7 +17,7 @@ use Rattle.gvdb_write.specs.PlanWords.{entries_of, plan_of}
 use Rattle.gvdb_write.specs.Values.{bytes_of_each}
 use Rattle.gvdb_write.specs.LayoutParts.{AreRecords, root_keys_at, lists_at, locks_at, lock_keys_at, values_at}
 use Rattle.gvdb_write.specs.Layouts.{IsLayoutOf}
-use Rattle.gvdb_write.specs.WrittenParts.{HaveNumbers, HasLocksOf, HasTable, HasTableOf, HasTableOfLocks, numbers_of, with_padding}
+use Rattle.gvdb_write.specs.WrittenParts.{HaveNumbers, HasItsTable, HasTable, HasTableOfLocks, numbers_of, with_padding}
 use Rattle.gvdb_write.specs.PlannedTables.{AreTables}
 use Rattle.gvdb_write.proofs.WithValues.{values_rise}
 use Rattle.gvdb_write.proofs.TableWritten.{length-padded_4, length-words, table_length, few_items}
@@ -148,7 +148,7 @@ module _ (root locks : TablePlan) (layout : Layout) (tables : AreTables root loc
 
   -- ---- as the code gives it
 
-  module _ (c : Contents) (with_root : List ℕ) (has : HasTableOf root layout.root.end c (header_bytes layout.root.start layout.root.end) with_root) where
+  module _ (c : Contents) (with_root : List ℕ) (has : HasItsTable HasTable root layout.root.end c (header_bytes layout.root.start layout.root.end) with_root) where
     root_records : AreRecords root.items.items (root_keys_at P) has.rows
     root_records = subst (λ (n : ℕ). AreRecords root.items.items n has.rows) laid.end_is has.are.are
 
@@ -158,6 +158,6 @@ module _ (root locks : TablePlan) (layout : Layout) (tables : AreTables root loc
     pub lists_given : (listed : List ℕ) → listed ≡ with_lists root with_root → length listed ≡ root_end (plan_of root locks)
     lists_given listed is = ap length is ∙ lists_long with_root (root_long has.rows root_records with_root has.written)
 
-  pub locks_given : (c : Contents) (listed with_locks : List ℕ) → length listed ≡ root_end (plan_of root locks) → HasLocksOf locks layout.locks.end c listed with_locks → length with_locks ≡ values_at (plan_of root locks)
+  pub locks_given : (c : Contents) (listed with_locks : List ℕ) → length listed ≡ root_end (plan_of root locks) → HasItsTable HasTableOfLocks locks layout.locks.end c listed with_locks → length with_locks ≡ values_at (plan_of root locks)
   locks_given c listed with_locks long has =
       locks_long has.rows (λ some. subst (λ (n : ℕ). AreRecords locks.items.items n has.rows) (laid.locks_end_is some) has.are.are) listed with_locks long has.written

@@ -5,14 +5,14 @@ use Rattle.gv_model.specs.Layout.{round_up}
 use Rattle.dconf_model.specs.Plans.{Plan, keys_end, root_end, length_of, all_values, once_each}
 use Rattle.dconf_model.specs.TableBytes.{OccursAt, words_bytes, header_bytes, table_bytes}
 use Rattle.dconf_model.proofs.Occurrences.{occurs_at, occurs_last}
-use Rattle.gvdb_read.specs.declared.format.record.ItemRecord.{ItemRecord as Numbers}
+use Rattle.gvdb_format.specs.declared.record.ItemRecord.{ItemRecord as Numbers}
 use Rattle.gvdb_write.specs.declared.contents.Contents.{Contents}
 use Rattle.gvdb_write.specs.declared.layout.Layout.{Layout}
 use Rattle.gvdb_write.specs.declared.table.TablePlan.{TablePlan}
 use Rattle.gvdb_write.specs.PlanWords.{plan_of}
 use Rattle.gvdb_write.specs.Values.{bytes_of_each}
 use Rattle.gvdb_write.specs.LayoutParts.{root_keys_at, lists_at, locks_at, values_at, value_start}
-use Rattle.gvdb_write.specs.WrittenParts.{HasTable, HasTableOf, HasTableOfLocks, keys_bytes, records_of, numbers_of, with_padding, with_values}
+use Rattle.gvdb_write.specs.WrittenParts.{HasTable, HasItsTable, HasTableOfLocks, keys_bytes, records_of, numbers_of, with_padding, with_values}
 use Rattle.gvdb_write.specs.PlannedTables.{AreTables}
 use Rattle.gvdb_write.proofs.WithValues.{length-with_values, occurs_before, value_occurs}
 use Rattle.gvdb_write.proofs.TableWritten.{length-padded_4, table_occurs}
@@ -31,9 +31,9 @@ pub record AreParts (root locks : TablePlan) (layout : Layout) (root_rows lock_r
 
 -- ---- as the code gives it
 
-pub root_there : (root : TablePlan) (keys_at : ℕ) (c : Contents) (first header bytes with_root : List ℕ) → first ≡ [] → header ≡ first ++ bytes → HasTableOf root keys_at c header with_root → HasTableOf root keys_at c bytes with_root
+pub root_there : (root : TablePlan) (keys_at : ℕ) (c : Contents) (first header bytes with_root : List ℕ) → first ≡ [] → header ≡ first ++ bytes → HasItsTable HasTable root keys_at c header with_root → HasItsTable HasTable root keys_at c bytes with_root
 root_there root keys_at c first header bytes with_root none is has =
-    subst (λ (l : List ℕ). HasTableOf root keys_at c l with_root) (is ∙ ap (λ (l : List ℕ). l ++ bytes) none) has
+    subst (λ (l : List ℕ). HasItsTable HasTable root keys_at c l with_root) (is ∙ ap (λ (l : List ℕ). l ++ bytes) none) has
 
 pub lists_there : (root : TablePlan) (children : List (ℕ × ℕ)) (with_root after : List ℕ) → children ≡ root.children.items → after ≡ with_padding 4 with_root ++ words_bytes (numbers_of children) → after ≡ with_lists root with_root
 lists_there root children with_root after same is = is ∙ ap (λ (cs : List (ℕ × ℕ)). with_padding 4 with_root ++ words_bytes (numbers_of cs)) same

@@ -11,7 +11,7 @@ use Rattle.dconf_model.proofs.HeaderBytes.{same_table, root_is, is_database}
 use Rattle.dconf_model.proofs.TableNumbers.{item_of_row, has_items}
 use Rattle.dconf_model.proofs.EncodedTable.{row_at, written_is_laid, bytes_are, list_is_laid}
 use Rattle.dconf_model.proofs.PlanLocks.{locks_kind, table_has_locks}
-use Rattle.gvdb_read.specs.declared.format.record.ItemRecord.{ItemRecord as Numbers}
+use Rattle.gvdb_format.specs.declared.record.ItemRecord.{ItemRecord as Numbers}
 use Rattle.gvdb_write.specs.declared.layout.Layout.{Layout}
 use Rattle.gvdb_write.specs.declared.table.TablePlan.{TablePlan}
 use Rattle.gvdb_write.specs.PlanWords.{plan_of}

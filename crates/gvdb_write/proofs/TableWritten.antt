@@ -16,10 +16,10 @@ use Rattle.dconf_model.specs.TableEncoding.{EncodesItem, HasBits, IsWritten, no_
 use Rattle.dconf_model.proofs.Occurrences.{occurs_at, occurs_last, occurs_prefix, occurs_next, length-pieces, occurs_suffix}
 use Rattle.dconf_model.proofs.TableNumbers.{length-row}
 use Rattle.dconf_model.proofs.PlanEnds.{not_below}
-use Rattle.gvdb_read.specs.declared.format.record.ItemRecord.{ItemRecord as Numbers}
+use Rattle.gvdb_format.specs.declared.record.ItemRecord.{ItemRecord as Numbers}
 use Rattle.gvdb_write.specs.declared.names.Named.{Named}
 use Rattle.gvdb_write.specs.declared.table.TablePlan.{TablePlan}
-use Rattle.gvdb_read.specs.ItemRecords.{record_of}
+use Rattle.gvdb_format.specs.ItemRecords.{record_of}
 use Rattle.gvdb_write.specs.PlanWords.{entries_of}
 use Rattle.gvdb_write.specs.Names.{named, name_at, kind_at}
 use Rattle.gvdb_write.specs.LayoutParts.{AreRecords, IsRecordOf, row, no_numbers}

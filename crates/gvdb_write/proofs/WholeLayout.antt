@@ -2,7 +2,7 @@
 use Rattle.std.proofs.Common.{ℕ, ◌≡◌, ◌<◌, ◌+◌, ◌*◌, List, length, get_or, ap, ap₂, ◌∙◌, subst}
 use Rattle.dconf_model.specs.Plans.{Plan, nothing_bytes, all_values, once_each}
 use Rattle.dconf_model.specs.Table.{value_kind, list_kind, table_kind}
-use Rattle.gvdb_read.specs.declared.format.record.ItemRecord.{ItemRecord as Numbers}
+use Rattle.gvdb_format.specs.declared.record.ItemRecord.{ItemRecord as Numbers}
 use Rattle.gvdb_write.specs.declared.contents.Contents.{Contents}
 use Rattle.gvdb_write.specs.declared.layout.Layout.{Layout}
 use Rattle.gvdb_write.specs.declared.layout.Pointer.{Pointer}

@@ -1,6 +1,6 @@
 -- Where the content of each item is: the bytes of its value, its list, or the table of locks.
 use Rattle.std.specs.Prelude.{ℕ, ◌+◌, ◌*◌, ◌<◌, List, length, slice_index}
-use Rattle.gvdb_read.specs.declared.format.record.ItemRecord.{ItemRecord as Numbers}
+use Rattle.gvdb_format.specs.declared.record.ItemRecord.{ItemRecord as Numbers}
 use Rattle.gvdb_write.specs.declared.contents.Contents.{Contents}
 use Rattle.gvdb_write.specs.declared.layout.Pointer.{Pointer}
 use Rattle.gvdb_write.specs.declared.names.Content.{Content}

@@ -3,7 +3,7 @@ use Rattle.std.specs.Prelude.{ℕ, ◌+◌, ◌-◌, ◌<◌, ◌≤◌, ◌≡�
 use Rattle.gv_model.specs.Layout.{round_up}
 use Rattle.dconf_model.specs.Table.{value_kind}
 use Rattle.dconf_model.specs.Plans.{Plan, size_of_table, keys_end, locks_end, values_end, root_end, nothing_bytes}
-use Rattle.gvdb_read.specs.declared.format.record.ItemRecord.{ItemRecord as Numbers}
+use Rattle.gvdb_format.specs.declared.record.ItemRecord.{ItemRecord as Numbers}
 use Rattle.gvdb_write.specs.declared.names.Named.{Named}
 use Rattle.gvdb_write.specs.Names.{named, name_at, kind_at}
 use Rattle.gvdb_write.specs.PlanWords.{content_bytes, entries_of, kind_of}

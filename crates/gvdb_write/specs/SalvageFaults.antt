@@ -1,7 +1,7 @@
 -- How a refusal to salvage is printed.
 use Rattle.std.specs.Prelude.{ℕ, List, codes}
 use Rattle.dconf_model.specs.FaultTexts.{open_fault_text}
-use Rattle.gvdb_read.specs.Faults.{open_fault_of}
+use Rattle.gvdb_format.specs.Faults.{open_fault_of}
 use Rattle.gvdb_write.specs.declared.salvage_fault.SalvageFault.{SalvageFault}
 use Rattle.gvdb_write.specs.declared.salvage_fault.SalvageFault.TheVariants.{Open, Memory}
 

@@ -6,7 +6,7 @@ use Rattle.dconf_model.specs.Table.{Table, item, item_count, HasBytes, bytes_of,
 use Rattle.dconf_model.specs.Names.{HasName, IsRow}
 use Rattle.dconf_model.specs.Opening.{IsDatabase, IsOpenFault}
 use Rattle.dconf_model.specs.Salvaging.{IsKeyText, IsPathText, IsLowest, IsLowestValue, IsOpenLocks}
-use Rattle.gvdb_read.specs.Faults.{open_fault_of}
+use Rattle.gvdb_format.specs.Faults.{open_fault_of}
 use Rattle.gvdb_write.specs.declared.salvage_fault.SalvageFault.{SalvageFault}
 use Rattle.gvdb_write.specs.declared.salvage_fault.SalvageFault.TheVariants.{Open, Memory}
 

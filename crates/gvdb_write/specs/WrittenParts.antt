@@ -5,11 +5,11 @@ use Rattle.gv_model.specs.Layout.{round_up}
 use Rattle.gv_model.specs.Limits.{limit}
 use Rattle.dconf_model.specs.TableBytes.{ItemRecord, records_bytes, table_bytes}
 use Rattle.dconf_model.specs.TableEncoding.{HasBits}
-use Rattle.gvdb_read.specs.declared.format.record.ItemRecord.{ItemRecord as Numbers}
+use Rattle.gvdb_format.specs.declared.record.ItemRecord.{ItemRecord as Numbers}
 use Rattle.gvdb_write.specs.declared.contents.Contents.{Contents}
 use Rattle.gvdb_write.specs.declared.names.Named.{Named}
 use Rattle.gvdb_write.specs.declared.table.TablePlan.{TablePlan}
-use Rattle.gvdb_read.specs.ItemRecords.{record_of}
+use Rattle.gvdb_format.specs.ItemRecords.{record_of}
 use Rattle.gvdb_write.specs.ContentPlaces.{ArePointed, CanPoint}
 use Rattle.gvdb_write.specs.CursorPlaces.{all_keys_end}
 use Rattle.gvdb_write.specs.LayoutParts.{AreRecords, CanBeLaid}
@@ -77,16 +77,11 @@ HasTableOfLocks locks rows before after =
     (0 < length locks.items.items) × HasTable locks rows before after
     ⊎ (length locks.items.items ≡ 0) × (after ≡ before)
 
--- a table of these records
-pub record HasTableOf (table : TablePlan) (keys_at : ℕ) (c : Contents) (before after : List ℕ) : Type 0 where
+-- either of them, of records that are the items'
+pub record HasItsTable (Has : TablePlan → List Numbers → List ℕ → List ℕ → Type 0) (table : TablePlan) (keys_at : ℕ) (c : Contents) (before after : List ℕ) : Type 0 where
   pub rows : List Numbers
   pub are : AreRowsOf table.items.items keys_at c rows
-  pub written : HasTable table rows before after
-
-pub record HasLocksOf (locks : TablePlan) (keys_at : ℕ) (c : Contents) (before after : List ℕ) : Type 0 where
-  pub rows : List Numbers
-  pub are : AreRowsOf locks.items.items keys_at c rows
-  pub written : HasTableOfLocks locks rows before after
+  pub written : Has table rows before after
 
 -- values after what was there, each at a multiple of 8
 abbrev pub with_values : List ℕ → List (List ℕ) → List ℕ

@@ -8,7 +8,7 @@ ghost use Rattle.gvdb_write.specs.ContentPlaces.{CanPointAt, content_pointer};
 
 use crate::layout::Pointer;
 use crate::names::{Content, Named};
-use gvdb_read::format::{ItemRecord, Kind};
+use gvdb_format::{ItemRecord, Kind};
 
 /// Where the contents of a table's items are.
 #[derive(Clone, Copy)]

@@ -1,7 +1,6 @@
 //! The bytes of a database: header, tables, keys, lists and values, each where the layout says, with zero bytes between
 //! them.
 ghost use Rattle.std.specs.Prelude.{ℕ, ◌≡◌, ◌++◌, ◌+◌, ◌-◌, ◌*◌, ◌/◌, ◌%◌, ◌^◌, ◌≤◌, ◌<◌, length, OnOk, IfOk, IfErr, replicate, IsBitSet};
-ghost use Rattle.gv_model.specs.Encode.{number_bytes};
 ghost use Rattle.dconf_model.specs.Settings.{Settings};
 ghost use Rattle.dconf_model.specs.TableBytes.{words_bytes, head_bytes, header_bytes};
 ghost use Rattle.dconf_model.specs.Opening.{IsDatabase, root_of};
@@ -14,7 +13,7 @@ ghost use Rattle.gvdb_write.specs.CursorPlaces.{all_keys_end};
 ghost use Rattle.gvdb_write.specs.LayoutParts.{CanBeLaid};
 ghost use Rattle.gvdb_write.specs.Layouts.{IsLayoutOf};
 ghost use Rattle.gvdb_write.specs.PlannedTables.{AreReady, IsFileOf};
-ghost use Rattle.gvdb_write.specs.WrittenParts.{CanBeWritten, HaveFourBytes, HaveNumbers, HaveKeys, HaveBits, HasLocksOf, HasRecords, HasTableOf, keys_bytes, numbers_of, with_padding, with_values};
+ghost use Rattle.gvdb_write.specs.WrittenParts.{CanBeWritten, HaveFourBytes, HaveNumbers, HaveKeys, HaveBits, HasItsTable, HasRecords, keys_bytes, numbers_of, with_padding, with_values, HasTable, HasTableOfLocks};
 ghost use Rattle.gvdb_write.specs.declared.write_fault.WriteFault.TheVariants.{Memory};
 
 use crate::contents::Contents;
@@ -23,7 +22,7 @@ use crate::map::Map;
 use crate::names::{Named, lock_names, root_names};
 use crate::table::TablePlan;
 use crate::write_fault::WriteFault;
-use gvdb_read::format::SIGNATURE;
+use gvdb_format::{SIGNATURE, head_number, push_u32};
 use std::alloc::Global;
 
 /// The second hash of a bloom word is the hash after so many bits.
@@ -89,10 +88,11 @@ fn write_header(root: Pointer, out: &mut Vec<u8>) -> Result<(), WriteFault>
     ensures fault { IfErr result (λ e. e ≡ Memory) }
 {
     out.extend_from_slice(SIGNATURE)?;
-    push(0, out)?;
-    push(0, out)?;
-    push(root.start as u32, out)?;
-    push(root.end as u32, out)
+    push_u32(0, out)?;
+    push_u32(0, out)?;
+    push_u32(root.start as u32, out)?;
+    push_u32(root.end as u32, out)?;
+    Ok(())
 }
 
 /// Appends a table and its keys, which come from there on, at a multiple of 4.
@@ -104,7 +104,7 @@ fn write_table(
 ) -> Result<(), WriteFault>
     requires out { length out.old.items ≤ limit }
     requires table { CanBeWritten table.now keys_at contents }
-    ensures bytes { OnOk result (HasTableOf table.now keys_at contents.entry out.old.items out.new.items) }
+    ensures bytes { OnOk result (HasItsTable HasTable table.now keys_at contents.entry out.old.items out.new.items) }
     ensures fault { IfErr result (λ e. e ≡ Memory) }
 {
     pad(out.len().next_multiple_of(4), out)?;
@@ -125,7 +125,7 @@ fn write_locks(
 ) -> Result<(), WriteFault>
     requires out { length out.old.items ≤ limit }
     requires table { CanBeWritten locks.now keys_at contents }
-    ensures bytes { OnOk result (HasLocksOf locks.now keys_at contents.entry out.old.items out.new.items) }
+    ensures bytes { OnOk result (HasItsTable HasTableOfLocks locks.now keys_at contents.entry out.old.items out.new.items) }
     ensures fault { IfErr result (λ e. e ≡ Memory) }
 {
     if locks.items.is_empty() {
@@ -141,8 +141,9 @@ fn write_head(words: usize, buckets: usize, out: &mut Vec<u8>) -> Result<(), Wri
     ensures bytes { OnOk result (out.new.items ≡ out.old.items ++ head_bytes words buckets) }
     ensures fault { IfErr result (λ e. e ≡ Memory) }
 {
-    push(words as u32 + (BLOOM_SHIFT << 27), out)?;
-    push(buckets as u32, out)
+    push_u32(head_number(words as u32, BLOOM_SHIFT), out)?;
+    push_u32(buckets as u32, out)?;
+    Ok(())
 }
 
 /// The bloom words: each hash sets two bits of the word that it chooses.
@@ -175,7 +176,7 @@ fn write_words(words: &[u32], out: &mut Vec<u8>) -> Result<(), WriteFault>
     ensures fault { IfErr result (λ e. e ≡ Memory) }
 {
     for word in words {
-        push(*word, out)?;
+        push_u32(*word, out)?;
     }
     Ok(())
 }
@@ -187,7 +188,7 @@ fn write_numbers(numbers: &[usize], out: &mut Vec<u8>) -> Result<(), WriteFault>
     ensures fault { IfErr result (λ e. e ≡ Memory) }
 {
     for number in numbers {
-        push(*number as u32, out)?;
+        push_u32(*number as u32, out)?;
     }
     Ok(())
 }
@@ -236,7 +237,7 @@ fn write_children(children: &[(usize, usize)], out: &mut Vec<u8>) -> Result<(), 
 {
     pad(out.len().next_multiple_of(4), out)?;
     for (_, child) in children {
-        push(*child as u32, out)?;
+        push_u32(*child as u32, out)?;
     }
     Ok(())
 }
@@ -262,14 +263,5 @@ fn pad(to: usize, out: &mut Vec<u8>) -> Result<(), WriteFault>
     if out.len() < to {
         out.resize(to, 0)?;
     }
-    Ok(())
-}
-
-/// Appends a number, the lowest byte first.
-fn push(number: u32, out: &mut Vec<u8>) -> Result<(), WriteFault>
-    ensures bytes { OnOk result (out.new.items ≡ out.old.items ++ number_bytes 4 number) }
-    ensures fault { IfErr result (λ e. e ≡ Memory) }
-{
-    out.extend_from_slice(&number.to_le_bytes())?;
     Ok(())
 }

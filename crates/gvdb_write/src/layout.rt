@@ -19,11 +19,14 @@ use crate::names::Named;
 use crate::table::TablePlan;
 use crate::values::PlacedValues;
 use crate::write_fault::WriteFault;
-use gvdb_read::format::HEADER_LEN;
+use gvdb_format::{HEAD_LEN, HEADER_LEN, NUMBER_LEN, RECORD_LEN, WORD_LEN};
 use std::alloc::Global;
 
 /// How many bytes a database has at most.
 pub const MAX_DATABASE_LEN: usize = 4_294_967_295;
+
+/// How many bytes a table has for each item: its record, and a bucket.
+const ITEM_LEN: usize = RECORD_LEN + WORD_LEN;
 
 /// From where to where something is.
 #[derive(Clone, Copy)]
@@ -86,11 +89,11 @@ fn lay_table(cursor: &mut Cursor, items: usize) -> Result<Pointer, WriteFault>
     ensures at { OnOk result (cursor.new.at ≡ table_end cursor.old.at items) }
     ensures fault { IfErr result (IsPast (table_end cursor.old.at items)) }
 {
-    if items > MAX_DATABASE_LEN / 28 {
+    if items > MAX_DATABASE_LEN / ITEM_LEN {
         return Err(WriteFault::TooBig);
     }
     cursor.align(4)?;
-    cursor.lay(8 + 4 * bloom_words(items) + 28 * items)
+    cursor.lay(HEAD_LEN + WORD_LEN * bloom_words(items) + ITEM_LEN * items)
 }
 
 /// Lays the keys of items, one after another.
@@ -129,10 +132,10 @@ fn lay_lists(cursor: &mut Cursor, numbers: usize) -> Result<usize, WriteFault>
     ensures fault { IfErr result (IsPast (round_up 4 cursor.old.at + 4 * numbers)) }
 {
     cursor.align(4)?;
-    if numbers > MAX_DATABASE_LEN / 4 {
+    if numbers > MAX_DATABASE_LEN / NUMBER_LEN {
         return Err(WriteFault::TooBig);
     }
-    let all = cursor.lay(4 * numbers)?;
+    let all = cursor.lay(NUMBER_LEN * numbers)?;
     Ok(all.start)
 }
 

@@ -11,8 +11,7 @@ ghost use Rattle.gvdb_write.specs.declared.write_fault.WriteFault.TheVariants.{M
 
 use crate::map::Map;
 use crate::write_fault::WriteFault;
-use gvdb_read::format::LOCKS;
-use gvdb_read::{hash, hash_with};
+use gvdb_format::{LOCKS, hash, hash_with};
 use std::alloc::Global;
 
 /// What occurs at a name.

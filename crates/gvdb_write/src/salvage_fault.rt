@@ -2,7 +2,7 @@
 ghost use Rattle.std.specs.Prelude.{◌≡◌};
 ghost use Rattle.gvdb_write.specs.declared.salvage_fault.SalvageFault.TheVariants.{Memory, Open};
 
-use gvdb_read::OpenFault;
+use gvdb_format::OpenFault;
 use std::alloc::AllocError;
 use std::error::Error;
 use std::fmt;

@@ -13,7 +13,7 @@ use crate::map::Map;
 use crate::salvage_fault::SalvageFault;
 use dconf_path::{KeyPath, LockPath, MAX_PATH_LEN};
 use gvdb_read::Table;
-use gvdb_read::format::{Kind, LOCKS};
+use gvdb_format::{Kind, LOCKS};
 use std::alloc::{AllocError, Global};
 
 /// What can be saved of a database, sound or not.

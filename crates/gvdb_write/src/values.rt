@@ -9,7 +9,7 @@ ghost use Rattle.gvdb_write.specs.declared.write_fault.WriteFault.TheVariants.{M
 
 use crate::names::{Content, Named};
 use crate::write_fault::WriteFault;
-use gvdb_read::hash;
+use gvdb_format::hash;
 use std::alloc::Global;
 use std::collections::BTreeMap;
 

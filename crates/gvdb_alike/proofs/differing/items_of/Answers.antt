@@ -1,6 +1,6 @@
 use Rattle.std.proofs.Common.{◌≡◌, ◌<◌, ◌≤◌, ◌⊎◌, arith, rules}
 use Rattle.gvdb_read.specs.Tables.{region}
-use Rattle.gvdb_read.proofs.Below.{below_next}
+use Rattle.gvdb_check.proofs.Below.{below_next}
 use Rattle.gvdb_alike.specs.NamesAlike.{AreStepsAlike}
 use Rattle.gvdb_alike.specs.ValuesAlike.{value_at}
 use Rattle.gvdb_alike.proofs.differing.items_of.Goals as goal

@@ -1,7 +1,7 @@
 use Rattle.std.proofs.Common.{◌<◌, ◌≡◌, rules, subst, sym}
 use Rattle.dconf_model.specs.Table.{item_count}
 use Rattle.gvdb_read.specs.Tables.{region}
-use Rattle.gvdb_read.proofs.Below.{below_next}
+use Rattle.gvdb_check.proofs.Below.{below_next}
 use Rattle.gvdb_alike.specs.SameBytes.{IsShapeKept}
 use Rattle.gvdb_alike.proofs.shaped.are_items_alike.Goals as goal
 

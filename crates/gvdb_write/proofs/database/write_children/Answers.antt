@@ -16,8 +16,8 @@ loop-child-init c =
 
 pub loop-child-preserved : goal.loop-child-preserved
 loop-child-preserved c =
-    mapped_appended (λ (m : ℕ × ℕ). m.1) (number_bytes 4) c.args.children.now c.loop-child.child-index (0, 0) (with_padding 4 c.args.out.now.items) c.loop-child.out.items c.push.new.out.items
-    c.loop-child-test.true c.loop-child.invariant c.in_ok-push.ensures.bytes
+    mapped_appended (λ (m : ℕ × ℕ). m.1) (number_bytes 4) c.args.children.now c.loop-child.child-index (0, 0) (with_padding 4 c.args.out.now.items) c.loop-child.out.items c.push_u32.new.out.items
+    c.loop-child-test.true c.loop-child.invariant c.in_ok-push_u32.ensures
 
 pub returns-clause-bytes : goal.returns-clause-bytes
 returns-clause-bytes c =

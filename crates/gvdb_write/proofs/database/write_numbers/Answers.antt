@@ -10,8 +10,8 @@ loop-number-init c = sym (append-nil c.args.out.now.items)
 
 pub loop-number-preserved : goal.loop-number-preserved
 loop-number-preserved c =
-    piece_appended (number_bytes 4) c.args.numbers.now c.loop-number.number-index 0 c.args.out.now.items c.loop-number.out.items c.push.new.out.items
-    c.loop-number-test.true c.loop-number.invariant c.in_ok-push.ensures.bytes
+    piece_appended (number_bytes 4) c.args.numbers.now c.loop-number.number-index 0 c.args.out.now.items c.loop-number.out.items c.push_u32.new.out.items
+    c.loop-number-test.true c.loop-number.invariant c.in_ok-push_u32.ensures
 
 pub returns-clause-bytes : goal.returns-clause-bytes
 returns-clause-bytes c =

@@ -9,7 +9,7 @@ use Rattle.gvdb_write.specs.LayoutParts.{CanBeLaid}
 use Rattle.gvdb_write.specs.WrittenParts.{AreRowsOf, HaveBits, HaveKeys, keys_bytes, records_of}
 use Rattle.gvdb_write.proofs.Pieces.{appended_of}
 use Rattle.gvdb_write.proofs.WithValues.{next_4, padded_is}
-use Rattle.gvdb_read.proofs.AppendedBytes.{then_append}
+use Rattle.gvdb_format.proofs.AppendedBytes.{then_append}
 use Rattle.gvdb_write.proofs.database.write_table.Goals as goal
 
 in_one : (h w b r k : List ℕ) → h ++ (w ++ (b ++ (r ++ k))) ≡ (h ++ (w ++ (b ++ r))) ++ k

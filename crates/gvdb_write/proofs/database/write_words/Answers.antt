@@ -10,8 +10,8 @@ loop-word-init c = sym (append-nil c.args.out.now.items)
 
 pub loop-word-preserved : goal.loop-word-preserved
 loop-word-preserved c =
-    piece_appended (number_bytes 4) c.args.words.now c.loop-word.word-index 0 c.args.out.now.items c.loop-word.out.items c.push.new.out.items
-    c.loop-word-test.true c.loop-word.invariant c.in_ok-push.ensures.bytes
+    piece_appended (number_bytes 4) c.args.words.now c.loop-word.word-index 0 c.args.out.now.items c.loop-word.out.items c.push_u32.new.out.items
+    c.loop-word-test.true c.loop-word.invariant c.in_ok-push_u32.ensures
 
 pub returns-clause-bytes : goal.returns-clause-bytes
 returns-clause-bytes c =

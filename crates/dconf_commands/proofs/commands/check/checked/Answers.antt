@@ -1,7 +1,7 @@
 use Rattle.std.proofs.Common.{Err, refl, subst}
 use Rattle.dconf_model.specs.Sound.{IsFirstFault}
-use Rattle.gvdb_read.specs.Faults.{open_fault_of}
-use Rattle.gvdb_read.specs.Unsounds.{rule_of}
+use Rattle.gvdb_format.specs.Faults.{open_fault_of}
+use Rattle.gvdb_check.specs.Unsounds.{rule_of}
 use Rattle.dconf_model.specs.Databases.Verdict.{no_database, unsound}
 use Rattle.dconf_commands.proofs.Shows.{checks_as}
 use Rattle.dconf_commands.proofs.commands.check.checked.Goals as goal

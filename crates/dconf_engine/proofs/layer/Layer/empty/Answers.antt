@@ -2,7 +2,7 @@ use Rattle.std.proofs.Common.{◌≡◌, IfOk, Result, subst}
 use Rattle.dconf_model.specs.Opening.{root_of}
 use Rattle.dconf_model.proofs.PathMaps.{no_truth}
 use Rattle.gvdb_read.specs.declared.table.Table.{Table}
-use Rattle.gvdb_read.specs.declared.fault.OpenFault.{OpenFault}
+use Rattle.gvdb_format.specs.declared.fault.OpenFault.{OpenFault}
 use Rattle.gvdb_read.specs.Tables.{region}
 use Rattle.dconf_engine.proofs.EmptyDatabase.{empty_file, empty_opens, empty_settings, empty_tables}
 use Rattle.dconf_engine.proofs.layer.Layer.empty.Goals as goal

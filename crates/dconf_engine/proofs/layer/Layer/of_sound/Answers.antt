@@ -4,7 +4,7 @@ use Rattle.dconf_model.specs.Opening.{root_of}
 use Rattle.dconf_model.specs.Sound.{IsSound}
 use Rattle.dconf_model.specs.Table.{Table as Region}
 use Rattle.gvdb_read.specs.declared.table.Table.{Table}
-use Rattle.gvdb_read.specs.declared.fault.OpenFault.{OpenFault}
+use Rattle.gvdb_format.specs.declared.fault.OpenFault.{OpenFault}
 use Rattle.gvdb_read.specs.Tables.{region}
 use Rattle.dconf_engine.proofs.SoundLayers.{sound_root}
 use Rattle.dconf_engine.proofs.layer.Layer.of_sound.Goals as goal

@@ -1,7 +1,7 @@
 use Rattle.std.proofs.Common.{◌+◌, ◌*◌, ◌-◌, ◌<◌, ◌≤◌, ℕ, length}
 use Rattle.dconf_model.specs.Bytes.{hash_of}
 use Rattle.dconf_model.specs.Search.{Fits, span_start, span_size}
-use Rattle.gvdb_read.specs.Kinds.{letter_of}
+use Rattle.gvdb_format.specs.Kinds.{letter_of}
 use Rattle.gvdb_read.specs.Tables.{region}
 use Rattle.gvdb_read.proofs.table.Table.find_in_span.Given as goal
 

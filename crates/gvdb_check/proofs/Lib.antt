@@ -1,0 +1,16 @@
+pub mod RuleOrder
+pub mod ChainSteps
+pub mod Yielded
+pub mod BackwardSteps
+pub mod NameChecks
+pub mod CountedLists
+pub mod HashAbove
+pub mod Places
+pub mod ListWalks
+pub mod Below
+pub mod KeyTexts
+pub mod ListNumbers
+pub mod NameLengths
+pub mod NotedWalks
+pub mod PlainKey
+pub mod OnePass

@@ -1,0 +1,60 @@
+-- What plain parts keep: they are texts without a zero byte, and the last parts of paths.
+use Rattle.std.proofs.Common.{ℕ, zero, suc, List, [], ◌∷◌, ◌++◌, Some, true, false, ◌≡◌, ◌<◌, ◌≤◌, length, get_or, refl, sym, ◌∙◌, ap, subst, arith, inl, inr}
+use Rattle.std.specs.Prelude.{Contains, IfSome, ◌==◌, not, fold}
+use Rattle.std.specs.List.{list_all}
+use Rattle.std.proofs.lemmas.Bool.{and_parts}
+use Rattle.std.proofs.lemmas.List.Folds.{list_all-append}
+use Rattle.gv_view.specs.Texts.{is_ascii_char}
+use Rattle.gv_view.proofs.ShortTexts.{ascii_chars_are_utf8}
+use Rattle.dconf_model.specs.Bytes.{hash_step}
+use Rattle.dconf_model.specs.Table.{Table, item, item_count, key, list_kind}
+use Rattle.dconf_model.specs.Sound.{HasParent, IsPart}
+use Rattle.gvdb_check.specs.HashAbove.{hash_above}
+use Rattle.gvdb_check.specs.PlainKey.{IsPlainPart, KeyKeeps, is_plain}
+use Rattle.gvdb_check.proofs.KeyTexts.{no_zero}
+
+plain_is_ascii : (s : List ℕ) → list_all is_plain s ≡ true → list_all is_ascii_char s ≡ true
+plain_is_ascii [] h = refl
+plain_is_ascii (c ∷ cs) h =
+    let parts = and_parts (is_plain c) (list_all is_plain cs) h in
+    let first = and_parts (is_ascii_char c) (not (c == 47)) parts.0 in
+    let ascii : is_ascii_char c ≡ true = first.0 in
+    let rest : list_all is_ascii_char cs ≡ true = plain_is_ascii cs parts.1 in
+    rw (ascii, rest) refl
+
+not_slash : (c : ℕ) → is_plain c ≡ true → c ≡ 47 → ⊥
+not_slash c h e = let bad : false ≡ true = subst (λ (x : ℕ). is_plain x ≡ true) e h in cc
+
+no_slash_at : (s : List ℕ) → list_all is_plain s ≡ true → (k : ℕ) → k < length s → get_or s k 47 ≡ 47 → ⊥
+no_slash_at [] h k inside e = omega (arith, inside)
+no_slash_at (c ∷ cs) h zero inside e = not_slash c (and_parts (is_plain c) (list_all is_plain cs) h).0 e
+no_slash_at (c ∷ cs) h (suc k) inside e = no_slash_at cs (and_parts (is_plain c) (list_all is_plain cs) h).1 k (omega (arith, inside)) e
+
+no_slash : (s : List ℕ) → list_all is_plain s ≡ true → Contains s 47 → ⊥
+no_slash s h there = no_slash_at s h there.0 there.1 there.2
+
+part_is_ascii : (kind : ℕ) (part : List ℕ) → IsPlainPart kind part → list_all is_ascii_char part ≡ true
+part_is_ascii kind part (inl key) = plain_is_ascii part key.1
+part_is_ascii kind part (inr dir) =
+    let ascii : list_all is_ascii_char dir.1.0 ≡ true = plain_is_ascii dir.1.0 dir.1.3 in
+    let both : list_all is_ascii_char (dir.1.0 ++ 47 ∷ []) ≡ true = list_all-append is_ascii_char dir.1.0 (47 ∷ []) ∙ rw ascii refl in
+    subst (λ (k : List ℕ). list_all is_ascii_char k ≡ true) (sym dir.1.1) both
+
+is_part : (t : Table) (i : ℕ) → IsPlainPart (item t i).kind (key t i) → IsPart t i
+is_part t i (inl own) = inl (own.0, no_slash (key t i) own.1)
+is_part t i (inr dir) = inr (dir.0, record { name = dir.1.0; whole = dir.1.1; some = dir.1.2; plain = no_slash dir.1.0 dir.1.3 })
+
+pub plain_keeps : (t : Table) (i p : ℕ) → (item t i).parent ≡ Some p → p < item_count t → (item t p).kind ≡ list_kind → (item t i).key_end ≤ length t.file → IsPlainPart (item t i).kind (key t i)
+    → (item t i).hash ≡ fold hash_step (item t p).hash (key t i) → KeyKeeps t i
+plain_keeps t i p up counted of_list inside plain hash =
+    let ascii = part_is_ascii (item t i).kind (key t i) plain in
+    record {
+      good_key = record {
+        inside = inside;
+        utf8 = ascii_chars_are_utf8 (key t i) ascii;
+        no_nul = no_zero (key t i) ascii;
+        parent = subst (λ o. IfSome o (λ q. q < item_count t)) (sym up) counted;
+      };
+      goes_on = hash ∙ ap (λ o. fold hash_step (hash_above t o) (key t i)) (sym up);
+      has_parent = subst (HasParent t i) (sym up) (of_list, is_part t i plain);
+    }

@@ -1,0 +1,10 @@
+pub mod Unsounds
+pub mod Joined
+pub mod Backwards
+pub mod Flags
+pub mod Counted
+pub mod HashAbove
+pub mod ListNumbers
+pub mod NotedItems
+pub mod PlainKey
+pub mod OnePass

@@ -1,0 +1,5 @@
+use Rattle.std.proofs.Common.{rules}
+use Rattle.gvdb_format.proofs.hashing.hash_in_lanes.Goals as goal
+
+pub loop-four-init : goal.loop-four-init
+loop-four-init c = search rules

@@ -1,0 +1,7 @@
+pub mod Faults
+pub mod Opened
+pub mod Tables
+pub mod Kinds
+pub mod ItemRecords
+pub mod NameLinks
+pub mod HashLanes

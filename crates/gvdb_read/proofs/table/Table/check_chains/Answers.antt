@@ -1,8 +1,0 @@
-use Rattle.std.proofs.Common.{arith}
-use Rattle.gvdb_read.specs.NotedItems.{Ends}
-use Rattle.gvdb_read.specs.Tables.{region}
-use Rattle.gvdb_read.proofs.NotedWalks.{none_are}
-use Rattle.gvdb_read.proofs.table.Table.check_chains.Goals as goal
-
-pub loop-i-init : goal.loop-i-init
-loop-i-init c = record { kept = λ j lt. absurd (omega (arith, lt)); noted = none_are (Ends (region c.args.self)) _ c.none-noted.ensures }

@@ -1,8 +1,0 @@
-use Rattle.std.proofs.Common.{ℕ, ◌<◌}
-use Rattle.gvdb_read.specs.HashAbove.{GoesOn}
-use Rattle.gvdb_read.specs.Tables.{region}
-use Rattle.gvdb_read.proofs.table.Table.hashes_go_on.Given as goal
-
--- the hash of each item before this one goes on from its parent's
-abbrev pub invariant-loop-i : goal.invariant-loop-i
-invariant-loop-i l = (j : ℕ) → j < l.i → GoesOn (region l.fn.self) j

@@ -1,8 +1,0 @@
-use Rattle.std.proofs.Common.{ℕ, ◌<◌}
-use Rattle.dconf_model.specs.Sound.{IsLock}
-use Rattle.gvdb_read.specs.Tables.{region}
-use Rattle.gvdb_read.proofs.table.Table.holds_locks.Given as goal
-
--- each item before this one is a lock
-abbrev pub invariant-loop-i : goal.invariant-loop-i
-invariant-loop-i l = (j : ℕ) → j < l.i → IsLock (region l.fn.self) j

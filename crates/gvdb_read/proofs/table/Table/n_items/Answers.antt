@@ -1,5 +1,0 @@
-use Rattle.std.proofs.Common.{rules}
-use Rattle.gvdb_read.proofs.table.Table.n_items.Goals as goal
-
-pub returns : goal.returns
-returns c = search rules

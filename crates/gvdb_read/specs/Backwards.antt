@@ -1,8 +1,0 @@
--- The bytes of a full name that are left, from its end.
-use Rattle.std.specs.Prelude.{ℕ, List, ◌++◌, reverse}
-use Rattle.gvdb_read.specs.Tables.{region}
-use Rattle.gvdb_read.specs.Joined.{above}
-use Rattle.gvdb_read.specs.declared.checking.backwards.Backwards.{Backwards}
-
-abbrev pub backwards_left : Backwards → List ℕ
-backwards_left b = reverse (above (region b.table) b.parent ++ b.key.now)

@@ -1,8 +1,0 @@
-use Rattle.std.proofs.Common.{List, ◌++◌, ap, sym, ◌∙◌, ℕ}
-use Rattle.gvdb_write.proofs.database.push.Goals as goal
-use Rattle.gv_model.proofs.NumberBytes.{low_bytes}
-
-pub returns-clause-bytes : goal.returns-clause-bytes
-returns-clause-bytes c =
-    c.in_ok-extend_from_slice.ensures.items
-    ∙ ap (λ (b : List ℕ). c.args.out.now.items ++ b) (c.to_le_bytes.ensures ∙ sym (low_bytes 4 c.args.number c.ranges.number.fits))
