@@ -6,8 +6,8 @@ use Rattle.std.specs.Prelude.{IfSome, option_map, nat_lt, nat_le, cond}
 use Rattle.std.proofs.lemmas.Bool.{lt-ltb, le-leb, lt-leb}
 use Rattle.gv_model.specs.Tree.{Tree, depth}
 use Rattle.gv_model.specs.Literals.{ValueFault as TheFault}
-use Rattle.gv_text.specs.ModelTokens.{fault_at_span}
-use Rattle.gv_text.specs.declared.fault.TextFault.TheVariants.{Refused, Memory}
+use Rattle.gv_syntax.specs.ModelTokens.{fault_at_span}
+use Rattle.gv_syntax.specs.declared.fault.TextFault.TheVariants.{Refused, Memory}
 use Rattle.gv_infer.specs.Reads.{Reads, HasTypingFault, IsReadFault}
 use Rattle.gv_infer.specs.ValueFaults.{fault_of}
 use Rattle.gv_infer.specs.declared.fault.TypingFault.{TypingFault}

@@ -2,9 +2,9 @@
 use Rattle.std.specs.Prelude.{Option, Some, None, option_map}
 use Rattle.dconf_model.specs.Causes.{SettingsCause}
 use Rattle.dconf_model.specs.Causes.SettingsCause.{text_fault, value_fault}
-use Rattle.gv_text.specs.ModelTokens.{fault_at_span}
-use Rattle.gv_text.specs.declared.fault.TextFault.{TextFault}
-use Rattle.gv_text.specs.declared.fault.TextFault.TheVariants as texts
+use Rattle.gv_syntax.specs.ModelTokens.{fault_at_span}
+use Rattle.gv_syntax.specs.declared.fault.TextFault.{TextFault}
+use Rattle.gv_syntax.specs.declared.fault.TextFault.TheVariants as texts
 use Rattle.gv_infer.specs.TypingValues.{value_fault as typing_as_value}
 use Rattle.gv_infer.specs.ValueFaults.{fault_of as value_fault_of}
 use Rattle.gv_infer.specs.declared.read_fault.ReadFault.{ReadFault}

@@ -4,7 +4,7 @@ ghost use Rattle.dconf_model.specs.Doubles.{is_double_cause_if_any};
 ghost use Rattle.dconf_compile.specs.ReadCauses.{read_cause_of};
 
 use gv_infer::{ReadFault, TypingFault, ValueFault};
-use gv_text::{TextCause, TextFault};
+use gv_syntax::{TextCause, TextFault};
 use std::error::Error;
 use std::fmt;
 

@@ -6,10 +6,10 @@ use Rattle.gv_model.specs.Decode.{decode}
 use Rattle.gv_model.specs.Encode.{encode}
 use Rattle.gv_model.specs.Limits.{limit}
 use Rattle.gv_model.specs.Normal.{IsNormal}
-use Rattle.gv_text.specs.declared.token.Span.{Span}
-use Rattle.gv_text.specs.declared.fault.TextCause.{TextCause}
-use Rattle.gv_text.specs.declared.fault.TextCause.TheVariants as causes
-use Rattle.gv_text.specs.declared.fault.TextFault.TheVariants as texts
+use Rattle.gv_syntax.specs.declared.token.Span.{Span}
+use Rattle.gv_syntax.specs.declared.fault.TextCause.{TextCause}
+use Rattle.gv_syntax.specs.declared.fault.TextCause.TheVariants as causes
+use Rattle.gv_syntax.specs.declared.fault.TextFault.TheVariants as texts
 use Rattle.gv_infer.specs.Reads.{IsReadFault, Reads}
 use Rattle.gv_infer.specs.TypingValues.{value_fault}
 use Rattle.gv_infer.specs.declared.read_fault.ReadFault.{ReadFault}

@@ -7,7 +7,7 @@ ghost use Rattle.dconfdb_values.specs.declared.parsing.Unparsed.TheVariants.{Mem
 
 use gv_build::{BuildFault, serialise};
 use gv_infer::{ReadFault, ValueFault, read_value};
-use gv_text::{Span, TextCause, TextFault};
+use gv_syntax::{Span, TextCause, TextFault};
 use gv_tree::Tree;
 use gv_types::TypeStr;
 use std::alloc::Global;

@@ -12,9 +12,9 @@ use Rattle.gv_model.proofs.PatternLaws.{choice_right}
 use Rattle.gv_model.proofs.ListLaws.{drop_item}
 use Rattle.gv_infer.specs.declared.fault.TypingFault.{TypingFault}
 use Rattle.gv_infer.specs.declared.fault.TypingFault.TheVariants.{NoCommonType, Ambiguous, Memory}
-use Rattle.gv_text.specs.TypeTexts.{type_of_owned}
-use Rattle.gv_text.specs.declared.type_text.TypeText.{TypeText}
-use Rattle.gv_text.specs.SyntaxNodes.{nodes_of, pairs_of}
+use Rattle.gv_syntax.specs.TypeTexts.{type_of_owned}
+use Rattle.gv_syntax.specs.declared.type_text.TypeText.{TypeText}
+use Rattle.gv_syntax.specs.SyntaxNodes.{nodes_of, pairs_of}
 use Rattle.gv_infer.specs.Typings.{IsTypingFault, IsChoiceFault, AreTyped, IsFirstChoiceFault}
 
 first_append : (choose : Syntax → Choice) (xs ys : List Syntax) (last : Choice) → first_choice choose (xs ++ ys) last ≡ first_choice choose xs (first_choice choose ys last)

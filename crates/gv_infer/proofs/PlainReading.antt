@@ -10,8 +10,8 @@ use Rattle.std.proofs.lemmas.Str.Parse.{tells_digits, numerals_by_value, parse_p
 use Rattle.gv_model.specs.Tree.{Tree, type_of}
 use Rattle.gv_model.specs.Quoted.{quoted}
 use Rattle.gv_tree.specs.Wholes.{IsWhole}
-use Rattle.gv_text.specs.Printing.{is_printable}
-use Rattle.gv_text.proofs.PlainTexts.{chars_alone}
+use Rattle.gv_syntax.specs.Printable.{is_printable}
+use Rattle.gv_syntax.proofs.PlainTexts.{chars_alone}
 use Rattle.gv_infer.specs.PrintedTexts.{IsPrintedFor}
 use Rattle.gv_infer.specs.Reads.{Reads}
 use Rattle.gv_infer.proofs.PrintedReading.{printed_read}

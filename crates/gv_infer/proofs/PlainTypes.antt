@@ -14,7 +14,7 @@ use Rattle.gv_model.specs.Patterns.Bare.{basics, array_of}
 use Rattle.gv_model.specs.Patterns.BasicSet.{numbers, texts, only}
 use Rattle.gv_model.specs.LeastTypes.{choice, choice_from, least_in}
 use Rattle.gv_model.specs.Chosen.Choice.{is}
-use Rattle.gv_text.specs.SyntaxNodes.{nodes_of}
+use Rattle.gv_syntax.specs.SyntaxNodes.{nodes_of}
 use Rattle.gv_model.proofs.ListLaws.{drop_item}
 use Rattle.gv_model.proofs.TypeTextParts.{IsTextOfType, text_of_type}
 

@@ -13,8 +13,8 @@ use Rattle.gv_model.specs.TextValues.{HasChoice, HasValue}
 use Rattle.gv_model.specs.PrintedLaws.{ReadsBack}
 use Rattle.gv_model.proofs.TextOutcomes.{one_outcome, tree_no_fault}
 use Rattle.gv_model.proofs.PrintedReadBack.{reads_back}
-use Rattle.gv_text.specs.declared.fault.TextFault.TheVariants as texts
-use Rattle.gv_text.specs.ModelTokens.{fault_at_span}
+use Rattle.gv_syntax.specs.declared.fault.TextFault.TheVariants as texts
+use Rattle.gv_syntax.specs.ModelTokens.{fault_at_span}
 use Rattle.gv_infer.specs.declared.fault.TypingFault.TheVariants as types
 use Rattle.gv_infer.specs.declared.value_fault.ValueFault.TheVariants as values
 use Rattle.gv_infer.specs.declared.read_fault.ReadFault.{ReadFault}

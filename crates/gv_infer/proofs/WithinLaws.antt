@@ -7,7 +7,7 @@ use Rattle.gv_model.specs.Syntax.Syntaxes.{none, first}
 use Rattle.gv_model.specs.Syntax.Pairs.{no_pair, pair}
 use Rattle.gv_model.specs.Grammar.{tokens_bytes, tokens_of}
 use Rattle.gv_model.specs.PlainTexts.{ArePlain, PairsPlain}
-use Rattle.gv_text.specs.Parsed.{IsWithin}
+use Rattle.gv_syntax.specs.Parsed.{IsWithin}
 use Rattle.gv_model.specs.Grammar.{syntaxes_bytes, pairs_bytes}
 use Rattle.gv_infer.specs.Within.{AreWithin, PairsWithin}
 use Rattle.gv_patterns.proofs.Levels.{list_levels, tuple_levels, dictionary_levels, lone_levels, boxed_levels, just_levels, of_type_levels, keyword_levels}

@@ -1,7 +1,7 @@
 -- How faults are printed: as the model's fault that each one is, or else as running out of memory.
 use Rattle.std.specs.Prelude.{ℕ, List, codes, option_map, unwrap_or}
 use Rattle.gv_model.specs.FaultTexts.{value_fault_text as fault_text}
-use Rattle.gv_text.specs.FaultTexts.{text_fault_text}
+use Rattle.gv_syntax.specs.FaultTexts.{text_fault_text}
 use Rattle.gv_infer.specs.ValueFaults.{fault_of}
 use Rattle.gv_infer.specs.TypingValues.{value_fault}
 use Rattle.gv_infer.specs.declared.fault.TypingFault.{TypingFault}

@@ -7,7 +7,7 @@ use Rattle.gv_model.specs.Parsing.{IsTree}
 use Rattle.gv_model.specs.Chosen.Choice.{is}
 use Rattle.gv_model.specs.Literals.{ValueFault}
 use Rattle.gv_model.specs.TextValues.{HasChoice, HasValue}
-use Rattle.gv_text.specs.Parsed.{IsTextFault}
+use Rattle.gv_syntax.specs.Parsed.{IsTextFault}
 use Rattle.gv_infer.specs.Typings.{IsTypingFault}
 use Rattle.gv_infer.specs.ValueFaults.{FaultIs}
 use Rattle.gv_infer.specs.declared.fault.TypingFault.{TypingFault}

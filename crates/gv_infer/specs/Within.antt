@@ -2,7 +2,7 @@
 use Rattle.gv_model.specs.Syntax.{Syntaxes, Pairs}
 use Rattle.gv_model.specs.Syntax.Syntaxes.{none, first}
 use Rattle.gv_model.specs.Syntax.Pairs.{no_pair, pair}
-use Rattle.gv_text.specs.Parsed.{IsWithin}
+use Rattle.gv_syntax.specs.Parsed.{IsWithin}
 
 abbrev pub AreWithin : Syntaxes → Type 0
 AreWithin none = Unit {0}

@@ -2,10 +2,10 @@
 ghost use Rattle.std.specs.Prelude.{◌↔◌, IsTrue};
 ghost use Rattle.gv_model.specs.Admits.{Admits, AllAdmit, Admit, KeysAdmit, ValuesAdmit, IsNumberType, IsTextType, IsArrayOf, IsTupleOf, IsEntryOf};
 ghost use Rattle.gv_types.specs.TypeStr.{ty};
-ghost use Rattle.gv_text.specs.SyntaxNodes.{nodes_of, pairs_of};
+ghost use Rattle.gv_syntax.specs.SyntaxNodes.{nodes_of, pairs_of};
 
 use crate::bare::{bare, entry_types};
-use gv_text::{SyntaxKind, SyntaxNode};
+use gv_syntax::{SyntaxKind, SyntaxNode};
 use gv_types::{BasicType, Class, TypeStr};
 
 /// Whether the syntax admits the type. It looks at each node once, and takes no memory.

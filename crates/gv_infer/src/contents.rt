@@ -4,13 +4,13 @@
 ghost use Rattle.std.specs.Prelude.{◌≤◌, IfOk, IfErr};
 ghost use Rattle.gv_model.specs.Grammar.{text_bytes};
 ghost use Rattle.gv_model.specs.TextValues.{contents, all_contents, pairs_contents};
-ghost use Rattle.gv_text.specs.SyntaxNodes.{nodes_of, pairs_of};
+ghost use Rattle.gv_syntax.specs.SyntaxNodes.{nodes_of, pairs_of};
 ghost use Rattle.gv_model.specs.Grammar.{syntaxes_bytes, pairs_bytes};
 ghost use Rattle.gv_infer.specs.Typings.{AreTyped, IsFirstChoiceFault};
 
 use crate::fault::TypingFault;
 use crate::typing::type_of_node;
-use gv_text::{SyntaxKind, SyntaxNode};
+use gv_syntax::{SyntaxKind, SyntaxNode};
 use std::alloc::Global;
 
 /// Finds the first of the contents of `<..>` that has no type, in the order of their closing.

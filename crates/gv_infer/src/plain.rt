@@ -8,9 +8,9 @@ ghost use Rattle.gv_model.specs.LeastTypes.{choice};
 ghost use Rattle.gv_model.specs.Patterns.{all_common, pattern, Pattern.loose, Bare.basics, BasicSet.texts, BasicSet.numbers};
 ghost use Rattle.gv_types.specs.Classes.{basic_of};
 ghost use Rattle.gv_types.specs.TypeStr.{ty};
-ghost use Rattle.gv_text.specs.SyntaxNodes.{nodes_of};
+ghost use Rattle.gv_syntax.specs.SyntaxNodes.{nodes_of};
 
-use gv_text::{SyntaxKind, SyntaxNode};
+use gv_syntax::{SyntaxKind, SyntaxNode};
 use gv_types::{BasicType, TypeStr};
 
 /// The type of a truth value, a number, a string, a word before a number, or an array of strings;

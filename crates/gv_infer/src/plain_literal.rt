@@ -9,7 +9,7 @@ ghost use Rattle.gv_infer.specs.Reads.{Reads};
 ghost use Rattle.gv_infer.specs.declared.value_fault.ValueFault.TheVariants.{Memory};
 
 use crate::value_fault::ValueFault;
-use gv_text::is_plain;
+use gv_syntax::is_plain;
 use gv_tree::{Basic, Tree};
 use std::alloc::Global;
 

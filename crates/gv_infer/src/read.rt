@@ -4,7 +4,7 @@ ghost use Rattle.gv_model.specs.Chosen.{Choice.is};
 ghost use Rattle.gv_model.specs.LeastTypes.{choice};
 ghost use Rattle.gv_model.specs.Parsing.{IsTree};
 ghost use Rattle.gv_types.specs.TypeStr.{ty};
-ghost use Rattle.gv_text.specs.Parsed.{IsWithin};
+ghost use Rattle.gv_syntax.specs.Parsed.{IsWithin};
 ghost use Rattle.gv_infer.specs.Reads.{Reads, IsReadFault};
 
 use crate::build::build;
@@ -14,7 +14,7 @@ use crate::plain_literal::read_plain;
 use crate::read_fault::ReadFault;
 use crate::typing::type_of_root;
 use crate::value_fault::ValueFault;
-use gv_text::{SyntaxNode, parse};
+use gv_syntax::{SyntaxNode, parse};
 use gv_tree::Tree;
 use gv_types::TypeStr;
 use std::alloc::Global;

@@ -4,7 +4,7 @@ ghost use Rattle.gv_infer.specs.declared.read_fault.ReadFault.TheVariants.{Text,
 
 use crate::fault::TypingFault;
 use crate::value_fault::ValueFault;
-use gv_text::TextFault;
+use gv_syntax::TextFault;
 use std::error::Error;
 use std::fmt;
 

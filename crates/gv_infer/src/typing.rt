@@ -4,13 +4,13 @@ ghost use Rattle.gv_model.specs.Grammar.{text_bytes};
 ghost use Rattle.gv_model.specs.Chosen.{Choice.is};
 ghost use Rattle.gv_model.specs.LeastTypes.{choice};
 ghost use Rattle.gv_model.specs.TextValues.{HasChoice};
-ghost use Rattle.gv_text.specs.TypeTexts.{type_of_owned};
+ghost use Rattle.gv_syntax.specs.TypeTexts.{type_of_owned};
 ghost use Rattle.gv_infer.specs.Typings.{IsTypingFault, IsChoiceFault};
 
 use crate::contents::check_contents;
 use crate::fault::TypingFault;
 use gv_patterns::{Found, write_least_type};
-use gv_text::{Syntax, SyntaxNode, TypeText};
+use gv_syntax::{Syntax, SyntaxNode, TypeText};
 use gv_types::TypeStr;
 use std::alloc::Global;
 

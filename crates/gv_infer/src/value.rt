@@ -8,7 +8,7 @@ use crate::admits::admits;
 use crate::build::build;
 use crate::contents::check_contents;
 use crate::value_fault::ValueFault;
-use gv_text::Syntax;
+use gv_syntax::Syntax;
 use gv_tree::Tree;
 use gv_types::TypeStr;
 use std::alloc::Global;

@@ -3,7 +3,7 @@ use Rattle.std.proofs.Common.{ℕ, zero, suc, ◌+◌, ◌<◌, ◌≤◌, ◌�
 use Rattle.gv_model.specs.Ty.{Ty, Basic}
 use Rattle.gv_model.specs.Syntax.{Syntax, Syntaxes, Pairs, levels, greatest_levels, pairs_levels}
 use Rattle.gv_model.specs.Syntax.Syntax.{list, tuple_of, dictionary, lone, boxed, just, at_type, keyword}
-use Rattle.gv_text.specs.SyntaxNodes.{nodes_of, pairs_of}
+use Rattle.gv_syntax.specs.SyntaxNodes.{nodes_of, pairs_of}
 
 pub list_levels : (xs : Syntaxes) → levels (list xs) ≡ greatest_levels xs + 1
 unfolding levels

@@ -6,13 +6,13 @@ ghost use Rattle.gv_model.specs.Patterns.{pattern, common, exactly, all_common, 
 ghost use Rattle.gv_model.specs.Patterns.{Pattern.maybe_of, Pattern.loose, Pattern.strict, Bare.basics, Bare.array_of, Bare.entry_of, BasicSet.only};
 ghost use Rattle.gv_types.specs.Classes.{basic_of};
 ghost use Rattle.gv_types.specs.TypeStr.{ty};
-ghost use Rattle.gv_text.specs.SyntaxNodes.{nodes_of, pairs_of};
+ghost use Rattle.gv_syntax.specs.SyntaxNodes.{nodes_of, pairs_of};
 ghost use Rattle.gv_patterns.specs.BasicSets.{basic_set_of as set_of};
 ghost use Rattle.gv_patterns.specs.Forms.{bare_of, patterns_of};
 
 use crate::basic_set::BasicSet;
 use crate::pattern::{Bare, Pattern, PatternForm};
-use gv_text::{SyntaxKind, SyntaxNode};
+use gv_syntax::{SyntaxKind, SyntaxNode};
 use gv_types::{BasicType, TypeStr};
 use std::alloc::{AllocError, Global};
 

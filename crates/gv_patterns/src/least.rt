@@ -12,7 +12,7 @@ ghost use Rattle.gv_patterns.specs.LeastTexts.{Written, WrittenEach, both_found}
 use crate::admitted::pattern_of;
 use crate::basic_set::BasicSet;
 use crate::pattern::{Bare, Pattern, PatternForm};
-use gv_text::SyntaxNode;
+use gv_syntax::SyntaxNode;
 use std::alloc::{AllocError, Global};
 
 /// What is found in a set of types.

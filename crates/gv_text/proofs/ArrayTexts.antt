@@ -1,7 +1,6 @@
 -- The texts of arrays: byte strings, and elements in their brackets.
-use Rattle.std.proofs.Common.{◌≡◌, ◌≤◌, ℕ, List, [], ◌∷◌, ◌++◌, Bool, true, false, ◌&&◌, Option, Some, None, IfSome, Bor, Result, MatchResult, refl, sym, ap, ◌∙◌, arith, nat_eq, ne_eqb}
+use Rattle.std.proofs.Common.{◌≡◌, ◌≤◌, ℕ, List, [], ◌∷◌, ◌++◌, Bool, true, false, ◌&&◌, Option, Some, None, IfSome, Bor, refl, sym, ap, ◌∙◌, arith, nat_eq, ne_eqb}
 use Rattle.std.specs.Prelude.{option_map}
-use Rattle.std.proofs.lemmas.Result.{MatchResult-weaker}
 use Rattle.std.proofs.lemmas.Option.{none-some}
 use Rattle.gv_model.specs.Ty.{Ty, Basic}
 use Rattle.gv_model.specs.Ty.Ty.{basic, variant, array, maybe, tuple, entry}
@@ -16,10 +15,8 @@ use Rattle.gv_model.specs.Printed.{Text, comma, holds_double, hold_double, is_em
 use Rattle.gv_types.specs.Classes.{class_of}
 use Rattle.gv_types.specs.TypeStr.{element_of}
 use Rattle.gv_types.specs.declared.class.Class.TheVariants as classes
-use Rattle.gv_text.specs.declared.print_fault.PrintFault.{PrintFault}
-use Rattle.gv_text.specs.Printing.{AreFaultOf, brackets_of, byte_string_of, child_texts}
-use Rattle.gv_text.proofs.Containers.{fault_of_children, value_node}
-use Rattle.gv_text.proofs.ContainerTexts.{IsWritten, array_doubles, marked_text}
+use Rattle.gv_text.specs.Printing.{brackets_of, byte_string_of, child_texts}
+use Rattle.gv_text.proofs.Containers.{value_node}
 use Rattle.gv_text.proofs.Figures.{of_basic}
 
 -- ---- as a byte string
@@ -101,7 +98,7 @@ string_levels v (x ∷ b) (Some y) e h = ap depth e ∙ some_level x b
 -- ---- as a list
 
 -- elements in the brackets of an array of this type
-abbrev list_text : Ty → Trees → Bool → Text
+abbrev pub list_text : Ty → Trees → Bool → Text
 list_text t vs annotated = between (brackets_of (element_of t)).0 (joined_by comma (child_texts vs annotated true)) (brackets_of (element_of t)).1
 
 abbrev marked : Ty → Trees → Bool → Text
@@ -122,7 +119,7 @@ array_text (maybe t) vs annotated in_array e = refl
 array_text (tuple ts) vs annotated in_array e = refl
 
 -- another array is printed as its elements in their brackets, after its type if it has none
-value_array_text : (t : Ty) (b : List ℕ) (annotated in_array : Bool) → class_of t ≡ classes.Array → byte_string_of (decode t b) ≡ None
+pub value_array_text : (t : Ty) (b : List ℕ) (annotated in_array : Bool) → class_of t ≡ classes.Array → byte_string_of (decode t b) ≡ None
     → text_of (decode t b) annotated in_array ≡ when (annotated && is_empty (children (decode t b))) (type_mark t) ++ list_text t (children (decode t b)) annotated
 value_array_text (array t) b annotated in_array h e =
     let is = value_node (array t) b tt in
@@ -133,19 +130,12 @@ value_array_text (maybe t) b annotated in_array h e = absurd cc
 value_array_text (tuple ts) b annotated in_array h e = absurd cc
 value_array_text (entry k t) b annotated in_array h e = absurd cc
 
-pub empty_by_count : (vs : Trees) (n : ℕ) → n ≡ trees_len vs → nat_eq n 0 ≡ is_empty vs
+pub no_child : (vs : Trees) (n : ℕ) → n ≡ trees_len vs → n ≡ 0 → is_empty vs ≡ true
 unfolding trees_len
-empty_by_count none n e = rw e refl
-empty_by_count (first v vs) n e = ne_eqb n 0 (omega arith)
+no_child none n e z = refl
+no_child (first v vs) n e z = absurd (omega (arith, e, z))
 
-pub array_written : {X : Type 0} (result : Result X PrintFault) (t : Ty) (b : List ℕ) (annotated : Bool) (brackets : ℕ × ℕ) (old mid new : Text) → class_of t ≡ classes.Array → byte_string_of (decode t b) ≡ None → brackets ≡ brackets_of (element_of t)
-    → mid ≡ old ++ when (annotated && is_empty (children (decode t b))) (type_mark t)
-    → MatchResult result (λ _. (hold_double (children (decode t b)) ≡ false) × (new ≡ mid ++ between brackets.0 (joined_by comma (child_texts (children (decode t b)) annotated true)) brackets.1)) (AreFaultOf (children (decode t b)))
-    → IsWritten result (decode t b) (text_of (decode t b) annotated false) old new
-array_written result t b annotated brackets old mid new h e is marks wrote =
-    let vs = children (decode t b) in
-    MatchResult-weaker result wrote (λ x p. (
-      array_doubles t b h ∙ p.0,
-      marked_text (list_text t vs annotated) (text_of (decode t b) annotated false) (when (annotated && is_empty vs) (type_mark t)) old mid new (value_array_text t b annotated false h e) marks
-          (p.1 ∙ ap (λ (q : ℕ × ℕ). mid ++ between q.0 (joined_by comma (child_texts vs annotated true)) q.1) is),
-    )) (λ f q. fault_of_children (decode t b) f (array_doubles t b h) q)
+pub some_child : (vs : Trees) (n : ℕ) → n ≡ trees_len vs → (n ≡ 0 → ⊥) → is_empty vs ≡ false
+unfolding trees_len
+some_child none n e h = absurd (h e)
+some_child (first v vs) n e h = refl

@@ -1,14 +1,11 @@
 -- The texts of a container's children, one after the other.
-use Rattle.std.proofs.Common.{◌≡◌, ◌<◌, ◌≤◌, ℕ, suc, List, [], ◌∷◌, ◌++◌, Bool, false, ◌||◌, length, refl, sym, ap, ◌∙◌, arith, append_assoc, append-nil}
+use Rattle.std.proofs.Common.{◌≡◌, ◌<◌, ◌≤◌, ℕ, suc, List, [], ◌∷◌, ◌++◌, Bool, true, false, ◌||◌, length, refl, sym, ap, ◌∙◌, arith, append_assoc, append-nil}
 use Rattle.std.proofs.lemmas.Bool.{or_left}
 use Rattle.gv_model.specs.Tree.{Tree, Trees, children, trees_len, depth, greatest_depth}
 use Rattle.gv_model.specs.Tree.Trees.{none, first}
 use Rattle.gv_model.specs.Quoted.{between}
 use Rattle.gv_model.specs.Printed.{Text, comma, holds_double, hold_double, joined_by, text_of, texts, tuple_text}
-use Rattle.gv_text.specs.declared.print_fault.PrintFault.{PrintFault}
-use Rattle.gv_text.specs.declared.print_fault.PrintFault.TheVariants.{TooLarge, DoubleText, Memory}
-use Rattle.gv_text.specs.Printing.{AreFaultOf, IsElementFault, child_texts, following, rest_annotated}
-use Rattle.gv_text.proofs.Containers.{deeper}
+use Rattle.gv_text.specs.Printing.{child_texts, following, rest_annotated}
 
 joined_first : (mark s : Text) (ss : List Text) → joined_by mark (s ∷ ss) ≡ s ++ following mark ss
 joined_first mark s [] = sym (append-nil s)
@@ -81,22 +78,9 @@ childless_text mark annotated in_array start = (refl, sym (append-nil start))
 
 -- ---- faults
 
-pub first_fault : (u : Tree) (left : Trees) (e : PrintFault) → IsElementFault u e → AreFaultOf (first u left) e
+pub first_double : (u : Tree) (left : Trees) → holds_double u ≡ true → hold_double (first u left) ≡ true
 unfolding holds_double
-first_fault u left TooLarge h = h
-first_fault u left DoubleText h = or_left (holds_double u) (hold_double left) h
-first_fault u left Memory h = tt
-
-pub same_faults : (vs left : Trees) (e : PrintFault) → hold_double vs ≡ hold_double left → AreFaultOf left e → AreFaultOf vs e
-same_faults vs left TooLarge same h = h
-same_faults vs left DoubleText same h = same ∙ h
-same_faults vs left Memory same h = tt
-
--- the next one is less deep than the container
-pub left_deeper : {mark start now : Text} {annotated in_array : Bool} {left : Trees} (v u : Tree) (after : Trees) → left ≡ first u after → IsLeft mark (children v) left annotated in_array start now → depth u < depth v
-left_deeper v u after e was =
-    let bound : greatest_depth (first u after) ≤ greatest_depth (children v) = rw (sym e) was.depth in
-    omega (arith, (less_deep u after (greatest_depth (children v)) bound).0, deeper v)
+first_double u left h = or_left (holds_double u) (hold_double left) h
 
 -- ---- brackets
 

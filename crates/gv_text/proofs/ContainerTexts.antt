@@ -1,5 +1,5 @@
 -- The texts of variants, tuples and entries, and what the text of a container rests on.
-use Rattle.std.proofs.Common.{◌≡◌, ◌++◌, List, Bool, true, false, Result, MatchResult, refl, sym, ap, ◌∙◌, append-nil, append_assoc}
+use Rattle.std.proofs.Common.{◌≡◌, ◌<◌, ◌++◌, List, Bool, true, false, Result, MatchResult, refl, sym, ap, ◌∙◌, arith, append-nil, append_assoc}
 use Rattle.std.specs.Prelude.{ℕ, codes}
 use Rattle.std.proofs.lemmas.Result.{MatchResult-weaker}
 use Rattle.gv_model.specs.Ty.{Ty}
@@ -14,8 +14,9 @@ use Rattle.gv_types.specs.Classes.{class_of, basic_type}
 use Rattle.gv_types.specs.declared.class.BasicType.{BasicType}
 use Rattle.gv_types.specs.declared.class.Class.TheVariants as classes
 use Rattle.gv_text.specs.declared.print_fault.PrintFault.{PrintFault}
-use Rattle.gv_text.specs.Printing.{AreFaultOf, IsElementFault, child_texts}
-use Rattle.gv_text.proofs.Containers.{doubles_in, fault_of_children, value_node}
+use Rattle.gv_text.specs.declared.print_fault.PrintFault.TheVariants.{TooLarge, DoubleText, Memory}
+use Rattle.gv_text.specs.Printing.{IsRefused, IsWritten, child_texts}
+use Rattle.gv_text.proofs.Containers.{doubles_in, value_node}
 use Rattle.gv_text.proofs.Figures.{of_basic}
 
 -- ---- classes differ
@@ -69,10 +70,6 @@ variant_text (array t) b annotated in_array h = absurd cc
 variant_text (maybe t) b annotated in_array h = absurd cc
 variant_text (tuple ts) b annotated in_array h = absurd cc
 variant_text (entry k t) b annotated in_array h = absurd cc
-
--- it is always annotated
-pub variant_alike : (t : Ty) (b : List ℕ) (annotated in_array : Bool) → class_of t ≡ classes.Variant → text_of (decode t b) true false ≡ text_of (decode t b) annotated in_array
-variant_alike t b annotated in_array h = variant_text t b true false h ∙ sym (variant_text t b annotated in_array h)
 
 -- ---- tuples
 
@@ -143,17 +140,21 @@ same_in_array (entry k t) b annotated in_array h = absurd (h refl)
 
 -- ---- what the code wrote
 
--- v is written as r, or refused
-abbrev pub IsWritten : {X : Type 0} → Result X PrintFault → Tree → Text → Text → Text → Type 0
-IsWritten result v r old new = MatchResult result (λ _. (holds_double v ≡ false) × (new ≡ old ++ r)) (IsElementFault v)
+-- what the children's doubles and text are to a value
+pub written_as : {X : Type 0} (result : Result X PrintFault) (d e : Bool) (deep levels : ℕ) (s r old new : Text) → e ≡ d → r ≡ s
+    → MatchResult result (λ _. IsWritten d deep levels s old new) (IsRefused d deep levels) → MatchResult result (λ _. IsWritten e deep levels r old new) (IsRefused e deep levels)
+written_as result d e deep levels s r old new doubles same h = rw (doubles, same) h
 
-pub written_as : {X : Type 0} (result : Result X PrintFault) (v : Tree) (s r old new : Text) → s ≡ r → IsWritten result v s old new → IsWritten result v r old new
-written_as result v s r old new same h = MatchResult-weaker result h (λ x p. (p.0, p.1 ∙ ap (λ (l : Text). old ++ l) same)) (λ e q. q)
+flat_refused : (d : Bool) (deep levels : ℕ) (f : PrintFault) → deep ≡ 1 → IsRefused d deep 1 f → IsRefused d deep levels f
+flat_refused d deep levels TooLarge flat h = absurd (omega (arith, flat, h))
+flat_refused d deep levels DoubleText flat h = h
+flat_refused d deep levels Memory flat h = tt
 
-pub written_by_children : {X : Type 0} (result : Result X PrintFault) (v : Tree) (s r old new : Text) → holds_double v ≡ hold_double (children v) → s ≡ r
-    → MatchResult result (λ _. (hold_double (children v) ≡ false) × (new ≡ old ++ s)) (AreFaultOf (children v)) → IsWritten result v r old new
-written_by_children result v s r old new doubles same h =
-    MatchResult-weaker result h (λ x p. (doubles ∙ p.0, p.1 ∙ ap (λ (l : Text). old ++ l) same)) (λ e q. fault_of_children v e doubles q)
+-- what has one level has no more than others
+pub flat_written : {X : Type 0} (result : Result X PrintFault) (d : Bool) (deep levels : ℕ) (s r old new : Text) → deep ≡ 1 → 0 < levels → r ≡ s
+    → MatchResult result (λ _. IsWritten d deep 1 s old new) (IsRefused d deep 1) → MatchResult result (λ _. IsWritten d deep levels r old new) (IsRefused d deep levels)
+flat_written result d deep levels s r old new flat some same h =
+    MatchResult-weaker result h (λ x w. record { plain = w.plain; text = w.text ∙ ap (λ (l : Text). old ++ l) (sym same); fits = omega (arith, flat, some) }) (λ f q. flat_refused d deep levels f flat q)
 
 -- a mark that is wanted is written, another left out
 pub wanted_mark : (wanted : Bool) (mark old new : Text) → wanted ≡ true → new ≡ old ++ mark → new ≡ old ++ when wanted mark

@@ -13,9 +13,6 @@ use Rattle.gv_model.proofs.ChildLaws.{children_count}
 use Rattle.gv_model.proofs.ValueBound.{length-ordered, length_just}
 use Rattle.gv_model.proofs.NormalLaws.{decode_node}
 use Rattle.gv_model.specs.Normal.{IsContainer}
-use Rattle.gv_text.specs.declared.print_fault.PrintFault.{PrintFault}
-use Rattle.gv_text.specs.declared.print_fault.PrintFault.TheVariants.{TooLarge, DoubleText, Memory}
-use Rattle.gv_text.specs.Printing.{AreFaultOf, IsElementFault}
 
 -- ---- a value and its children
 
@@ -30,11 +27,6 @@ node_double t vs = refl
 
 pub doubles_in : (t : Ty) (b : List ℕ) → IsContainer t → holds_double (decode t b) ≡ hold_double (children (decode t b))
 doubles_in t b h = ap holds_double (value_node t b h) ∙ node_double t (children (decode t b))
-
-pub fault_of_children : (v : Tree) (e : PrintFault) → holds_double v ≡ hold_double (children v) → AreFaultOf (children v) e → IsElementFault v e
-fault_of_children v TooLarge same h = h
-fault_of_children v DoubleText same h = same ∙ h
-fault_of_children v Memory same h = tt
 
 -- ---- depth
 

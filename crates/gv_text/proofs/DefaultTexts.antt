@@ -24,16 +24,16 @@ use Rattle.gv_types.specs.declared.class.Class.{Class}
 use Rattle.gv_types.specs.declared.class.Class.TheVariants as classes
 use Rattle.gv_types.specs.Classes.{basic_of, class_of}
 use Rattle.gv_types.specs.TypeStr.{element_of}
-use Rattle.gv_text.specs.Printing.{IsElementFault, brackets_of, child_texts, figures_of}
+use Rattle.gv_text.specs.Printing.{IsLevelFault, IsPrinted, brackets_of, child_texts, figures_of}
 use Rattle.gv_model.specs.TypeText.{seen}
 use Rattle.gv_types.specs.FirstTypes.{after, after_close, first_type, types_inside, BeginsInside, IsAfterFirst}
 use Rattle.gv_types.proofs.FirstTypes.{HasInside, HasMember, HasPair, inside_end, inside_first_type, inside_more, inside_next, inside_types, key_type, value_type}
 use Rattle.gv_text.specs.declared.print_fault.PrintFault.{PrintFault}
 use Rattle.gv_text.specs.declared.print_fault.PrintFault.TheVariants.{TooLarge, DoubleText, Memory}
-use Rattle.gv_text.specs.Defaults.{default_in, AreFigures, IsEmptied, IsLevelFault, Writes, WritesJoined}
+use Rattle.gv_text.specs.Defaults.{default_in, AreFigures, IsEmptied, WritesJoined}
 use Rattle.gv_text.proofs.Containers.{child_deeper, first_deep}
 use Rattle.gv_text.proofs.ContainerTexts.{marked_text}
-use Rattle.gv_text.proofs.ChildTexts.{IsLeft, between_written, left_first, left_next, left_none, one_member, other_members}
+use Rattle.gv_text.proofs.ChildTexts.{IsLeft, between_written, first_double, left_first, left_next, left_none, one_member, other_members}
 use Rattle.gv_text.proofs.Levels.{AreLevels, begin_levels, next_levels, all_fit}
 use Rattle.gv_view.proofs.Depths.{depth_children}
 
@@ -84,14 +84,6 @@ basic_text Basic.signature annotated in_array = refl
 basic_text Basic.boolean annotated in_array = refl
 basic_text _ annotated in_array = refl
 
-pub basic_written : (k : Basic) (annotated : Bool) (s old mid new : Text) → s ≡ figures_of (basic_default k) → mid ≡ old ++ when annotated (word k) → new ≡ mid ++ s → new ≡ old ++ text_of (basic_default k) annotated false
-basic_written k annotated s old mid new is marks wrote =
-    wrote ∙ (ap (λ (l : Text). l ++ s) marks ∙ (append_assoc old (when annotated (word k)) s ∙ (ap (λ (l : Text). old ++ (when annotated (word k) ++ l)) is ∙ ap (λ (l : Text). old ++ l) (sym (basic_text k annotated false)))))
-
-pub after_comma_written : (k : Basic) (alone after_comma old new : Text) → AreFigures k alone after_comma → new ≡ old ++ after_comma → new ≡ (old ++ comma) ++ text_of (basic_default k) false false
-after_comma_written k alone after_comma old new are wrote =
-    wrote ∙ (ap (λ (l : Text). old ++ l) (are.joined ∙ ap (λ (l : Text). comma ++ l) (are.are ∙ sym (basic_text k false false))) ∙ sym (append_assoc old comma (text_of (basic_default k) false false)))
-
 basic_level : (k : Basic) → depth (basic_default k) ≡ 1
 unfolding depth
 basic_level Basic.string = refl
@@ -99,6 +91,20 @@ basic_level Basic.path = refl
 basic_level Basic.signature = refl
 basic_level Basic.boolean = refl
 basic_level _ = refl
+
+pub basic_written : (k : Basic) (annotated : Bool) (s old mid new : Text) → holds_double (basic_default k) ≡ false → s ≡ figures_of (basic_default k) → mid ≡ old ++ when annotated (word k) → new ≡ mid ++ s → IsPrinted (basic_default k) 1 annotated false old new
+basic_written k annotated s old mid new plain is marks wrote = record {
+  plain = plain;
+  text = wrote ∙ (ap (λ (l : Text). l ++ s) marks ∙ (append_assoc old (when annotated (word k)) s ∙ (ap (λ (l : Text). old ++ (when annotated (word k) ++ l)) is ∙ ap (λ (l : Text). old ++ l) (sym (basic_text k annotated false)))));
+  fits = omega (arith, basic_level k);
+}
+
+pub after_comma_written : (k : Basic) (alone after_comma old new : Text) → AreFigures k alone after_comma → new ≡ old ++ after_comma → IsPrinted (basic_default k) 1 false false (old ++ comma) new
+after_comma_written k alone after_comma old new are wrote = record {
+  plain = are.plain;
+  text = wrote ∙ (ap (λ (l : Text). old ++ l) (are.joined ∙ ap (λ (l : Text). comma ++ l) (are.are ∙ sym (basic_text k false false))) ∙ sym (append_assoc old comma (text_of (basic_default k) false false)));
+  fits = omega (arith, basic_level k);
+}
 
 default_of_basic : (k : Basic) → default (basic k) ≡ basic_default k
 unfolding default
@@ -119,13 +125,12 @@ basic_default_of t k e =
       text = λ a i. ap (λ v. text_of v a i) is ∙ (basic_text k a i ∙ sym (basic_text k a false));
     }
 
-pub basic_writes : (t : Ty) (k : Basic) (levels : ℕ) (annotated in_array : Bool) (old new : Text) → t ≡ basic k → 0 < levels
-    → (holds_double (basic_default k) ≡ false) × (new ≡ old ++ text_of (basic_default k) annotated false) → Writes (default t) levels annotated in_array old new
+pub basic_writes : (t : Ty) (k : Basic) (levels : ℕ) (annotated in_array : Bool) (old new : Text) → t ≡ basic k → 0 < levels → IsPrinted (basic_default k) 1 annotated false old new → IsPrinted (default t) levels annotated in_array old new
 basic_writes t k levels annotated in_array old new e some h =
     let b = basic_default_of t k e in
     record {
-      plain = ap holds_double b.is ∙ h.0;
-      text = h.1 ∙ ap (λ (l : Text). old ++ l) (sym (b.text annotated in_array));
+      plain = ap holds_double b.is ∙ h.plain;
+      text = h.text ∙ ap (λ (l : Text). old ++ l) (sym (b.text annotated in_array));
       fits = omega (arith, some, b.level);
     }
 
@@ -135,11 +140,11 @@ pub variant_depth : depth (default variant) ≡ 2
 unfolding default depth
 variant_depth = refl
 
-pub variant_writes : (levels : ℕ) (old new : Text) → 2 ≤ levels → new ≡ old ++ codes "<()>" → Writes (default variant) levels true false old new
+pub variant_writes : (levels : ℕ) (old new : Text) → 2 ≤ levels → new ≡ old ++ codes "<()>" → IsPrinted (default variant) levels true false old new
 unfolding default depth text_of holds_double
 variant_writes levels old new some wrote = record { plain = refl; text = wrote; fits = omega (arith, some) }
 
-pub variant_alike : (t : Ty) (levels : ℕ) (annotated in_array : Bool) (old new : Text) → t ≡ variant → Writes (default variant) levels true false old new → Writes (default t) levels annotated in_array old new
+pub variant_alike : (t : Ty) (levels : ℕ) (annotated in_array : Bool) (old new : Text) → t ≡ variant → IsPrinted (default variant) levels true false old new → IsPrinted (default t) levels annotated in_array old new
 unfolding default text_of
 variant_alike t levels annotated in_array old new e w = rw e (record { plain = w.plain; text = w.text; fits = w.fits })
 
@@ -187,7 +192,7 @@ pub two_marks : (left right : ℕ) (mid opened new : Text) → opened ≡ mid ++
 two_marks left right mid opened new opens closes = closes ∙ (ap (λ (l : Text). l ++ right ∷ []) opens ∙ append_assoc mid (left ∷ []) (right ∷ []))
 
 -- in an array they are alike, and have one level
-pub emptied_writes : (t : Ty) (levels : ℕ) (annotated in_array : Bool) (old new : Text) → IsEmptied t → 0 < levels → new ≡ old ++ text_of (default t) annotated false → Writes (default t) levels annotated in_array old new
+pub emptied_writes : (t : Ty) (levels : ℕ) (annotated in_array : Bool) (old new : Text) → IsEmptied t → 0 < levels → new ≡ old ++ text_of (default t) annotated false → IsPrinted (default t) levels annotated in_array old new
 unfolding default depth text_of holds_double
 emptied_writes (array t) levels annotated in_array old new e some wrote = record { plain = refl; text = wrote; fits = omega (arith, some) }
 emptied_writes (maybe t) levels annotated in_array old new e some wrote = record { plain = refl; text = wrote; fits = omega (arith, some) }
@@ -211,10 +216,10 @@ child_fault v u levels Memory some deep double h = tt
 pub no_level : (v : Tree) → 0 < depth v
 no_level v = omega (arith, depth_children v)
 
-pub basic_fault : (t : Ty) (k : Basic) (levels : ℕ) (f : PrintFault) → t ≡ basic k → (f ≡ TooLarge → ⊥) → IsElementFault (basic_default k) f → IsLevelFault (default t) levels f
-basic_fault t k levels TooLarge e h is = absurd (h refl)
-basic_fault t k levels DoubleText e h is = ap holds_double (basic_default_of t k e).is ∙ is
-basic_fault t k levels Memory e h is = tt
+pub basic_fault : (t : Ty) (k : Basic) (levels : ℕ) (f : PrintFault) → t ≡ basic k → IsLevelFault (basic_default k) 1 f → IsLevelFault (default t) levels f
+basic_fault t k levels TooLarge e h = absurd (omega (arith, basic_level k, h))
+basic_fault t k levels DoubleText e h = ap holds_double (basic_default_of t k e).is ∙ h
+basic_fault t k levels Memory e h = tt
 
 pub variant_fault : (t : Ty) (levels : ℕ) (f : PrintFault) → t ≡ variant → IsLevelFault (default variant) levels f → IsLevelFault (default t) levels f
 variant_fault t levels f e h = subst (λ (u : Ty). IsLevelFault (default u) levels f) (sym e) h
@@ -246,9 +251,9 @@ abbrev pub inside_of : List ℕ → Types
 inside_of w = types_inside (seen (drop 1 w))
 
 written_tuple : (w : List ℕ) (h : HasInside w) (levels : ℕ) (annotated : Bool) (old new : Text) → hold_double (defaults (inside_of w)) ≡ false
-    → new ≡ old ++ tuple_text (child_texts (defaults (inside_of w)) annotated false) → depth (default (tuple (inside_of w))) ≤ levels → Writes (default_in w) levels annotated false old new
+    → new ≡ old ++ tuple_text (child_texts (defaults (inside_of w)) annotated false) → depth (default (tuple (inside_of w))) ≤ levels → IsPrinted (default_in w) levels annotated false old new
 written_tuple w h levels annotated old new plain wrote fits =
-    subst (λ (t : Ty). Writes (default t) levels annotated false old new) (sym h.type) (record {
+    subst (λ (t : Ty). IsPrinted (default t) levels annotated false old new) (sym h.type) (record {
       plain = tuple_doubles (inside_of w) ∙ plain;
       text = wrote ∙ ap (λ (l : Text). old ++ l) (sym (tuple_text_is (inside_of w) annotated));
       fits = fits;
@@ -270,7 +275,7 @@ unfolding default text_of holds_double
 unit_text annotated = (refl, refl)
 
 pub unit_written : (w : List ℕ) (h : HasInside w) (levels : ℕ) (annotated : Bool) (old opened new : Text) → 0 < levels → get_or (drop 1 w) 0 0 ≡ 41 → opened ≡ old ++ 40 ∷ [] → new ≡ opened ++ 41 ∷ []
-    → IsAfterFirst w (drop 1 (drop 1 w)) × Writes (default_in w) levels annotated false old new
+    → IsAfterFirst w (drop 1 (drop 1 w)) × IsPrinted (default_in w) levels annotated false old new
 unit_written w h levels annotated old opened new some close opens closes =
     let none = (inside_end (drop 1 w) h.begins close).none in
     let is = unit_text annotated in (
@@ -292,7 +297,7 @@ members_are : (w rest : List ℕ) → HasMember w rest → defaults (types_insid
 members_are w rest m = ap defaults m.types ∙ first_default (first_type (seen w)) (types_inside (seen rest))
 
 pub first_part : (w rest : List ℕ) (h : HasInside w) (levels : ℕ) (annotated : Bool) (opened now : Text) → 0 < levels → (get_or (drop 1 w) 0 0 ≡ 41 → ⊥) → IsAfterFirst (drop 1 w) rest
-    → Writes (default_in (drop 1 w)) (levels - 1) annotated false opened now → IsTuplePart w rest levels annotated opened now
+    → IsPrinted (default_in (drop 1 w)) (levels - 1) annotated false opened now → IsTuplePart w rest levels annotated opened now
 first_part w rest h levels annotated opened now some begun a wrote =
     let m = inside_next (drop 1 w) rest h.begins (inside_first_type (drop 1 w) h.begins begun) a in
     let is = members_are (drop 1 w) rest m in
@@ -306,7 +311,7 @@ first_part w rest h levels annotated opened now some begun a wrote =
     }
 
 pub next_part : (w rest more : List ℕ) (levels : ℕ) (annotated : Bool) (opened now mid new : Text) → 0 < levels → IsTuplePart w rest levels annotated opened now → (get_or rest 0 0 ≡ 41 → ⊥) → IsAfterFirst rest more
-    → mid ≡ now ++ comma → Writes (default_in rest) (levels - 1) annotated false mid new → IsTuplePart w more levels annotated opened new
+    → mid ≡ now ++ comma → IsPrinted (default_in rest) (levels - 1) annotated false mid new → IsTuplePart w more levels annotated opened new
 next_part w rest more levels annotated opened now mid new some p begun a marks wrote =
     let m = inside_next rest more p.begins (inside_first_type rest p.begins begun) a in
     let is = members_are rest more m in
@@ -327,8 +332,8 @@ unfolding trees_len
 one_long v = refl
 
 pub one_written : (w rest : List ℕ) (h : HasInside w) (levels : ℕ) (annotated : Bool) (old opened now new : Text) → 0 < levels → (get_or (drop 1 w) 0 0 ≡ 41 → ⊥) → IsAfterFirst (drop 1 w) rest
-    → Writes (default_in (drop 1 w)) (levels - 1) annotated false opened now → get_or rest 0 0 ≡ 41 → opened ≡ old ++ 40 ∷ [] → new ≡ now ++ 44 ∷ 41 ∷ []
-    → IsAfterFirst w (drop 1 rest) × Writes (default_in w) levels annotated false old new
+    → IsPrinted (default_in (drop 1 w)) (levels - 1) annotated false opened now → get_or rest 0 0 ≡ 41 → opened ≡ old ++ 40 ∷ [] → new ≡ now ++ 44 ∷ 41 ∷ []
+    → IsAfterFirst w (drop 1 rest) × IsPrinted (default_in w) levels annotated false old new
 one_written w rest h levels annotated old opened now new some begun a wrote close opens closes =
     let p = first_part w rest h levels annotated opened now some begun a wrote in
     let last = none_left rest p.begins close in
@@ -355,7 +360,7 @@ several w rest h levels annotated opened now begun a more b one =
     not_one (default_in (drop 1 w)) (types_inside (seen rest)) (inside_more rest b more) (sym is ∙ one)
 
 pub tuple_written : (w rest : List ℕ) (h : HasInside w) (levels : ℕ) (annotated : Bool) (old opened now new : Text) → 0 < levels → (trees_len (defaults (inside_of w)) ≡ 1 → ⊥) → IsTuplePart w rest levels annotated opened now
-    → get_or rest 0 0 ≡ 41 → opened ≡ old ++ 40 ∷ [] → new ≡ now ++ 41 ∷ [] → IsAfterFirst w (drop 1 rest) × Writes (default_in w) levels annotated false old new
+    → get_or rest 0 0 ≡ 41 → opened ≡ old ++ 40 ∷ [] → new ≡ now ++ 41 ∷ [] → IsAfterFirst w (drop 1 rest) × IsPrinted (default_in w) levels annotated false old new
 tuple_written w rest h levels annotated old opened now new some others p close opens closes =
     let last = none_left rest p.begins close in
     let texts = left_none comma (defaults (inside_of w)) annotated false opened now (subst (λ (vs : Trees). IsLeft comma (defaults (inside_of w)) vs annotated false opened now) last p.texts) in (
@@ -366,10 +371,6 @@ tuple_written w rest h levels annotated old opened now new some others p close o
 
 tuple_fault : (w : List ℕ) (h : HasInside w) (levels : ℕ) (f : PrintFault) → IsLevelFault (default (tuple (inside_of w))) levels f → IsLevelFault (default_in w) levels f
 tuple_fault w h levels f is = subst (λ (t : Ty). IsLevelFault (default t) levels f) (sym h.type) is
-
-first_double : (v : Tree) (vs : Trees) → holds_double v ≡ true → hold_double (first v vs) ≡ true
-unfolding holds_double
-first_double v vs h = or_left (holds_double v) (hold_double vs) h
 
 pub first_member_fault : (w : List ℕ) (h : HasInside w) (levels : ℕ) (f : PrintFault) → 0 < levels → (get_or (drop 1 w) 0 0 ≡ 41 → ⊥) → IsLevelFault (default_in (drop 1 w)) (levels - 1) f → IsLevelFault (default_in w) levels f
 first_member_fault w h levels f some begun is =
@@ -425,8 +426,8 @@ pair_text : (mark : Text) (a b : Tree) (annotated : Bool) → joined_by mark (ch
 unfolding text_of
 pair_text mark a b annotated = refl
 
-pub pair_written : (w value : List ℕ) (levels : ℕ) (mark : Text) (annotated : Bool) (old keyed marked new : Text) → 0 < levels → ArePair w value (default_in w) → Writes (default_in (drop 1 w)) (levels - 1) annotated false old keyed → marked ≡ keyed ++ mark
-    → Writes (default_in value) (levels - 1) annotated false marked new → WritesJoined (default_in w) levels mark annotated old new
+pub pair_written : (w value : List ℕ) (levels : ℕ) (mark : Text) (annotated : Bool) (old keyed marked new : Text) → 0 < levels → ArePair w value (default_in w) → IsPrinted (default_in (drop 1 w)) (levels - 1) annotated false old keyed → marked ≡ keyed ++ mark
+    → IsPrinted (default_in value) (levels - 1) annotated false marked new → WritesJoined (default_in w) levels mark annotated old new
 pair_written w value levels mark annotated old keyed marked new some are k marks v =
     let a = text_of (default_in (drop 1 w)) annotated false in
     let b = text_of (default_in value) annotated false in
@@ -455,13 +456,13 @@ entry_text : (k : Basic) (t : Ty) (annotated : Bool) → (text_of (default (entr
 unfolding default text_of
 entry_text k t annotated = (refl, refl)
 
-pub element_written : (w : List ℕ) (p : HasPair w) (levels : ℕ) (annotated : Bool) (old new : Text) → WritesJoined (default_in w) levels (codes ": ") annotated old new → Writes (default_in w) levels annotated true old new
+pub element_written : (w : List ℕ) (p : HasPair w) (levels : ℕ) (annotated : Bool) (old new : Text) → WritesJoined (default_in w) levels (codes ": ") annotated old new → IsPrinted (default_in w) levels annotated true old new
 element_written w p levels annotated old new j =
     let is = subst (λ (t : Ty). text_of (default t) annotated true ≡ joined_by (codes ": ") (child_texts (children (default t)) annotated false)) (sym p.type) (entry_text p.key p.value annotated).0 in
     record { plain = j.plain; text = j.text ∙ ap (λ (l : Text). old ++ l) (sym is); fits = j.fits }
 
 pub braced_written : (w : List ℕ) (p : HasPair w) (levels : ℕ) (annotated : Bool) (old opened now new : Text) → opened ≡ old ++ 123 ∷ [] → WritesJoined (default_in w) levels comma annotated opened now → new ≡ now ++ 125 ∷ []
-    → Writes (default_in w) levels annotated false old new
+    → IsPrinted (default_in w) levels annotated false old new
 braced_written w p levels annotated old opened now new opens j closes =
     let is = subst (λ (t : Ty). text_of (default t) annotated false ≡ between 123 (joined_by comma (child_texts (children (default t)) annotated false)) 125) (sym p.type) (entry_text p.key p.value annotated).1 in
     record { plain = j.plain; text = between_written 123 125 _ old opened now new opens j.text closes ∙ ap (λ (l : Text). old ++ l) (sym is); fits = j.fits }
@@ -503,31 +504,13 @@ tuple_no_entry (maybe t) annotated in_array e = absurd cc
 tuple_no_entry (entry k t) annotated in_array e = absurd cc
 
 -- a tuple is alike in an array
-pub tuple_alike : (t : Ty) (levels : ℕ) (annotated in_array : Bool) (old new : Text) → class_of t ≡ classes.Tuple → Writes (default t) levels annotated false old new → Writes (default t) levels annotated in_array old new
+pub tuple_alike : (t : Ty) (levels : ℕ) (annotated in_array : Bool) (old new : Text) → class_of t ≡ classes.Tuple → IsPrinted (default t) levels annotated false old new → IsPrinted (default t) levels annotated in_array old new
 tuple_alike t levels annotated in_array old new e h = record { plain = h.plain; text = h.text ∙ ap (λ (l : Text). old ++ l) (tuple_no_entry t annotated in_array e); fits = h.fits }
 
 -- ---- values of no bytes
 
 pub empty_value : (t : Ty) (b : List ℕ) → eqb (length b) 0 ≡ true → decode t b ≡ default t
 empty_value t b e = ap (decode t) (nil_from_length b (eqb-true (length b) 0 e)) ∙ decode-nil t
-
-pub empty_written : {X : Type 0} (r : Result X PrintFault) (t : Ty) (v : Tree) (levels : ℕ) (annotated in_array : Bool) (old new : Text) → v ≡ default t → MatchResult r (λ _. Writes (default t) levels annotated in_array old new) (IsLevelFault (default t) levels)
-    → MatchResult r (λ _. (holds_double v ≡ false) × (new ≡ old ++ text_of v annotated in_array)) (IsElementFault v)
-empty_written (Ok x) t v levels annotated in_array old new e h = (ap holds_double e ∙ h.plain, h.text ∙ ap (λ (u : Tree). old ++ text_of u annotated in_array) (sym e))
-empty_written (Err TooLarge) t v levels annotated in_array old new e h = tt
-empty_written (Err DoubleText) t v levels annotated in_array old new e h = ap holds_double e ∙ h
-empty_written (Err Memory) t v levels annotated in_array old new e h = tt
-
-pub empty_fits : {X : Type 0} (r : Result X PrintFault) (t : Ty) (v : Tree) (levels : ℕ) (annotated in_array : Bool) (old new : Text) → v ≡ default t → MatchResult r (λ _. Writes (default t) levels annotated in_array old new) (IsLevelFault (default t) levels) → OnOk r (depth v ≤ levels)
-empty_fits (Ok x) t v levels annotated in_array old new e h = omega (arith, ap depth e, h.fits)
-empty_fits (Err f) t v levels annotated in_array old new e h = tt
-
-pub empty_deep : {X : Type 0} (r : Result X PrintFault) (t : Ty) (v : Tree) (levels : ℕ) (annotated in_array : Bool) (old new : Text) → v ≡ default t → MatchResult r (λ _. Writes (default t) levels annotated in_array old new) (IsLevelFault (default t) levels)
-    → IfErr r (λ f. f ≡ TooLarge → levels < depth v)
-empty_deep (Ok x) t v levels annotated in_array old new e h = tt
-empty_deep (Err TooLarge) t v levels annotated in_array old new e h = λ is. omega (arith, ap depth e, h)
-empty_deep (Err DoubleText) t v levels annotated in_array old new e h = λ is. absurd cc
-empty_deep (Err Memory) t v levels annotated in_array old new e h = λ is. absurd cc
 
 -- what is alike of two trees
 pub same_fault : (v u : Tree) (levels : ℕ) (f : PrintFault) → v ≡ u → IsLevelFault u levels f → IsLevelFault v levels f

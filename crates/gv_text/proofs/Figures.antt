@@ -1,5 +1,5 @@
 -- The texts of basic values.
-use Rattle.std.proofs.Common.{◌≡◌, ◌++◌, ℕ, List, [], Option, Some, None, Bool, true, false, cond, refl, sym, ap, ◌∙◌, append_assoc, length, ◌==◌, subst}
+use Rattle.std.proofs.Common.{◌≡◌, ◌++◌, ℕ, List, [], Option, Some, None, Bool, true, false, cond, refl, sym, ap, ◌∙◌, append_assoc, length, ◌==◌, subst, arith}
 use Rattle.std.proofs.lemmas.Option.{none-some}
 use Rattle.gv_model.specs.Ty.{Ty, Basic}
 use Rattle.gv_model.specs.Ty.Ty.{basic}
@@ -13,7 +13,7 @@ use Rattle.gv_model.specs.BasicValue.{basic_value, basic_of_size, text_or_defaul
 use Rattle.gv_model.specs.Decode.{decode}
 use Rattle.gv_model.specs.Printed.{text_of, word, when, ends_in_nothing, figures, holds_double, is_double_type}
 use Rattle.gv_model.proofs.DecodeLaws.{decode_children}
-use Rattle.gv_text.specs.Printing.{byte_string_of, figures_of}
+use Rattle.gv_text.specs.Printing.{IsWritten, byte_string_of, figures_of}
 
 -- ---- a value of a basic type
 
@@ -75,13 +75,17 @@ of_basic t k b e = subst (λ (u : Ty). IsOf k (decode u b)) (sym e) (of_decoded 
 
 -- ---- what the code wrote
 
-pub wrote_number : (k : Basic) (n : ℕ) (v : Tree) (old new s : List ℕ) → v ≡ number k n → is_double_type k ≡ false → new ≡ old ++ s → s ≡ figures k n → (holds_double v ≡ false) × (new ≡ old ++ figures_of v)
-unfolding holds_double
-wrote_number k n v old new s e plain wrote is = (ap holds_double e ∙ plain, wrote ∙ ap (λ (r : List ℕ). old ++ r) (is ∙ sym (ap figures_of e)))
+pub wrote_number : (k : Basic) (n : ℕ) (v : Tree) (old new s : List ℕ) → v ≡ number k n → is_double_type k ≡ false → new ≡ old ++ s → s ≡ figures k n → IsWritten (holds_double v) (depth v) 1 (figures_of v) old new
+unfolding holds_double depth
+wrote_number k n v old new s e plain wrote is =
+    let flat : depth v ≡ 1 = ap depth e in
+    record { plain = ap holds_double e ∙ plain; text = wrote ∙ ap (λ (r : List ℕ). old ++ r) (is ∙ sym (ap figures_of e)); fits = omega (arith, flat) }
 
-pub wrote_text : (k : Basic) (s : List ℕ) (v : Tree) (old new : List ℕ) → v ≡ text k s → new ≡ old ++ figures_of (text k s) → (holds_double v ≡ false) × (new ≡ old ++ figures_of v)
-unfolding holds_double
-wrote_text k s v old new e wrote = (ap holds_double e, wrote ∙ ap (λ (u : Tree). old ++ figures_of u) (sym e))
+pub wrote_text : (k : Basic) (s : List ℕ) (v : Tree) (old new : List ℕ) → v ≡ text k s → new ≡ old ++ figures_of (text k s) → IsWritten (holds_double v) (depth v) 1 (figures_of v) old new
+unfolding holds_double depth
+wrote_text k s v old new e wrote =
+    let flat : depth v ≡ 1 = ap depth e in
+    record { plain = ap holds_double e; text = wrote ∙ ap (λ (u : Tree). old ++ figures_of u) (sym e); fits = omega (arith, flat) }
 
 pub wrote_basic : (k : Basic) (v : Tree) (annotated : Bool) (old mid new : List ℕ) → IsOf k v → mid ≡ old ++ when annotated (word k) → new ≡ mid ++ figures_of v → new ≡ old ++ text_of v annotated false
 wrote_basic k v annotated old mid new is before wrote =

@@ -1,5 +1,5 @@
 -- The texts of maybes.
-use Rattle.std.proofs.Common.{◌≡◌, ◌≤◌, ◌<◌, ℕ, suc, List, ◌++◌, Bool, true, false, Some, None, Result, refl, sym, ap, ◌∙◌, arith, append_assoc}
+use Rattle.std.proofs.Common.{◌≡◌, ◌≤◌, ◌<◌, ◌+◌, ℕ, suc, List, ◌++◌, Bool, true, false, Some, None, Result, refl, sym, ap, ◌∙◌, arith, append_assoc}
 use Rattle.std.specs.Prelude.{codes}
 use Rattle.std.proofs.lemmas.Result.{MatchResult-weaker}
 use Rattle.std.proofs.lemmas.Option.{none-some, same_Some}
@@ -16,9 +16,9 @@ use Rattle.gv_types.specs.Classes.{class_of}
 use Rattle.gv_types.specs.declared.class.Class.TheVariants as classes
 use Rattle.gv_text.specs.declared.print_fault.PrintFault.{PrintFault}
 use Rattle.gv_text.specs.declared.print_fault.PrintFault.TheVariants.{TooLarge, DoubleText, Memory}
-use Rattle.gv_text.specs.Printing.{IsElementFault, IsNothing, IsPrintedAs}
+use Rattle.gv_text.specs.Printing.{IsLevelFault, IsNothing, IsPrintedAs, Prints}
 use Rattle.gv_text.proofs.Containers.{one_or_none, value_node}
-use Rattle.gv_text.proofs.ContainerTexts.{IsWritten, marked_text}
+use Rattle.gv_text.proofs.ContainerTexts.{marked_text}
 use Rattle.gv_text.proofs.Figures.{of_basic}
 
 no_tree : (vs : Trees) → tree_at vs 0 ≡ None → vs ≡ none
@@ -182,13 +182,23 @@ maybe_text (array t) b annotated h = absurd cc
 maybe_text (tuple ts) b annotated h = absurd cc
 maybe_text (entry k t) b annotated h = absurd cc
 
-same_fault : (v u : Tree) (e : PrintFault) → holds_double v ≡ holds_double u → IsElementFault u e → IsElementFault v e
-same_fault v u TooLarge same h = h
-same_fault v u DoubleText same h = same ∙ h
-same_fault v u Memory same h = tt
+within_refused : (v u : Tree) (levels left : ℕ) (f : PrintFault) → IsPrintedAs v u → left + depth v ≡ levels + depth u → IsLevelFault u left f → IsLevelFault v levels f
+within_refused v u levels left TooLarge w deeper h = omega (arith, deeper, h)
+within_refused v u levels left DoubleText w deeper h = w.double ∙ h
+within_refused v u levels left Memory w deeper h = tt
 
 -- the value inside is written after the type
-pub within_written : {X : Type 0} (result : Result X PrintFault) (v u : Tree) (r mark old mid new : Text) → IsPrintedAs v u → r ≡ mark ++ text_of v false false → mid ≡ old ++ mark
-    → IsWritten result u (text_of u false false) mid new → IsWritten result v r old new
-within_written result v u r mark old mid new w same marks h =
-    MatchResult-weaker result h (λ x p. (w.double ∙ p.0, marked_text (text_of u false false) r mark old mid new (same ∙ ap (λ (l : Text). mark ++ l) w.text) marks p.1)) (λ e q. same_fault v u e w.double q)
+pub within_written : {X : Type 0} (result : Result X PrintFault) (v u : Tree) (levels left : ℕ) (annotated : Bool) (mark old mid new : Text) → IsPrintedAs v u → left + depth v ≡ levels + depth u
+    → text_of v annotated false ≡ mark ++ text_of v false false → mid ≡ old ++ mark → Prints result u left false false mid new → Prints result v levels annotated false old new
+within_written result v u levels left annotated mark old mid new w deeper same marks h =
+    MatchResult-weaker result h (λ x p. record {
+      plain = w.double ∙ p.plain;
+      text = marked_text (text_of u false false) (text_of v annotated false) mark old mid new (same ∙ ap (λ (l : Text). mark ++ l) w.text) marks p.text;
+      fits = omega (arith, deeper, p.fits);
+    }) (λ f q. within_refused v u levels left f w deeper q)
+
+-- nothing inside has levels left
+pub too_deep : (v : Tree) (levels : ℕ) (f : PrintFault) → f ≡ TooLarge → levels < depth v → IsLevelFault v levels f
+too_deep v levels TooLarge e h = h
+too_deep v levels DoubleText e h = absurd cc
+too_deep v levels Memory e h = absurd cc

@@ -2,6 +2,9 @@
 use Rattle.std.proofs.Common.{◌≡◌, ◌≢◌, ◌<◌, ℕ, List, [], ◌∷◌, ◌++◌, Bool, true, false, ◌==◌, ◌||◌, length, Option, Some, None, refl, sym, ap, ◌∙◌, arith, append_assoc, ne_eqb, chars, cond}
 use Rattle.std.specs.Prelude.{flat_map, option_map, encode_utf8, IsUtf8}
 use Rattle.std.specs.List.{list_any}
+use Rattle.std.specs.Result.{is_ok, OnOk}
+use Rattle.std.specs.declared.result.Result.{Result}
+use Rattle.std.specs.declared.result.Result.TheVariants.{Ok, Err}
 use Rattle.std.proofs.lemmas.Str.{chars_past_char, chars-nil}
 use Rattle.std.proofs.lemmas.List.{nil_from_length}
 use Rattle.std.proofs.lemmas.Bool.{true≢false, or_parts}
@@ -75,3 +78,8 @@ pub bytes_whole : (old first start loop new inner : List ℕ) (q : ℕ) → firs
 bytes_whole old first start loop new inner q marked opened written closed =
     between_whole first start loop new inner q opened written closed
     ∙ (ap (λ (l : List ℕ). l ++ between q inner q) marked ∙ append_assoc old (98 ∷ []) (between q inner q))
+
+-- what a push that succeeds writes, by another name
+pub written_as : {T E : Type 0} (r : Result T E) (old new a b : List ℕ) → new ≡ cond (is_ok r) (old ++ a) old → a ≡ b → OnOk r (new ≡ old ++ b)
+written_as (Ok x) old new a b e same = e ∙ ap (λ (l : List ℕ). old ++ l) same
+written_as (Err x) old new a b e same = tt

@@ -3,15 +3,15 @@ use Rattle.std.proofs.Common.{◌≡◌, ◌≤◌, ◌<◌, ◌-◌, ℕ, List,
 use Rattle.std.specs.Prelude.{◌↔◌, IsTrue}
 use Rattle.std.proofs.lemmas.Bool.{false≢true}
 use Rattle.gv_model.specs.Ty.{Ty, types_from}
-use Rattle.gv_model.specs.Tree.{Tree, Trees, default, defaults, depth, greatest_depth, trees_len}
+use Rattle.gv_model.specs.Tree.{Tree, Trees, children, default, defaults, depth, greatest_depth, trees_len}
 use Rattle.gv_model.specs.Tree.Trees.{none, first}
 use Rattle.gv_model.specs.Printed.{Text, joined_by, hold_double, text_of, texts}
 use Rattle.gv_text.specs.declared.print_fault.PrintFault.{PrintFault}
 use Rattle.gv_text.specs.declared.print_fault.PrintFault.TheVariants.{TooLarge, DoubleText, Memory}
-use Rattle.gv_text.specs.Printing.{AreFaultOf, child_texts, following, rest_annotated}
-use Rattle.gv_text.specs.Defaults.{rest_text, AreLeft, AreLevelFault, IsLevelFault, WriteRest, Writes}
+use Rattle.gv_text.specs.Printing.{IsLevelFault, IsPrinted, IsRefused, IsWritten, child_texts, following, rest_annotated}
+use Rattle.gv_text.specs.Defaults.{rest_text, AreLeft, AreLevelFault, WriteRest}
 use Rattle.gv_text.proofs.ChildCounts.{IsAlone}
-use Rattle.gv_text.proofs.ChildTexts.{IsLeft, first_fault, no_doubles, plain_first}
+use Rattle.gv_text.proofs.ChildTexts.{IsLeft, first_double, no_doubles, plain_first}
 use Rattle.gv_text.proofs.Levels.{AreLevels, first_depth, no_depth}
 use Rattle.gv_view.proofs.Depths.{depth_children}
 
@@ -23,7 +23,7 @@ unfolding text_of
 texts_first u vs annotated = refl
 
 pub one_less : (mark : Text) (vs us left : Trees) (u : Tree) (levels : ℕ) (annotated : Bool) (start now mid new : Text) → us ≡ first u left → AreLeft mark vs us levels annotated start now
-    → mid ≡ now ++ mark → Writes u levels annotated false mid new → AreLeft mark vs left levels annotated start new
+    → mid ≡ now ++ mark → IsPrinted u levels annotated false mid new → AreLeft mark vs left levels annotated start new
 one_less mark vs us left u levels annotated start now mid new is was marks wrote =
     let s = text_of u annotated false in
     let more = rest_text mark left annotated in
@@ -67,7 +67,7 @@ all_written mark vs us levels annotated start now is was = record {
 pub fault_in_rest : (mark : Text) (vs us left : Trees) (u : Tree) (levels : ℕ) (annotated : Bool) (start now : Text) (f : PrintFault) → us ≡ first u left → AreLeft mark vs us levels annotated start now
     → IsLevelFault u levels f → AreLevelFault vs levels f
 fault_in_rest mark vs us left u levels annotated start now TooLarge is was h = omega (arith, h, was.deeper, ap greatest_depth is ∙ first_depth u left)
-fault_in_rest mark vs us left u levels annotated start now DoubleText is was h = was.doubles ∙ (ap hold_double is ∙ first_fault u left DoubleText h)
+fault_in_rest mark vs us left u levels annotated start now DoubleText is was h = was.doubles ∙ (ap hold_double is ∙ first_double u left h)
 fault_in_rest mark vs us left u levels annotated start now Memory is was h = tt
 
 pub no_levels : (mark : Text) (vs us left : Trees) (u : Tree) (levels : ℕ) (annotated : Bool) (start now : Text) → levels ≡ 0 → us ≡ first u left → AreLeft mark vs us levels annotated start now → levels < greatest_depth vs
@@ -83,25 +83,19 @@ types_none us e = ap (λ (ws : List Ty). defaults (types_from ws)) e
 
 -- ---- the children that are left are such members
 
-pub rest_written : (mark : Text) (vs left ds : Trees) (levels : ℕ) (annotated later : Bool) (start now new : Text) → IsLeft mark vs left annotated false start now → left ≡ ds → later ≡ rest_annotated annotated false
-    → WriteRest ds levels mark later now new → (hold_double vs ≡ false) × (new ≡ start ++ joined_by mark (child_texts vs annotated false))
-rest_written mark vs left ds levels annotated later start now new was is same wrote = (
-  was.doubles ∙ (ap hold_double is ∙ wrote.plain),
-  wrote.text ∙ (ap (λ (ws : Trees). now ++ rest_text mark ws later) (sym is) ∙ (ap (λ (a : Bool). now ++ rest_text mark left a) same ∙ was.texts)),
-)
+pub rest_written : (mark : Text) (v : Tree) (left ds : Trees) (levels : ℕ) (annotated later : Bool) (start now new : Text) → IsLeft mark (children v) left annotated false start now → AreLevels v left levels → left ≡ ds → 0 < levels
+    → later ≡ rest_annotated annotated false → WriteRest ds (levels - 1) mark later now new → IsWritten (hold_double (children v)) (depth v) levels (joined_by mark (child_texts (children v) annotated false)) start new
+rest_written mark v left ds levels annotated later start now new was are is some same wrote = record {
+  plain = was.doubles ∙ (ap hold_double is ∙ wrote.plain);
+  text = wrote.text ∙ (ap (λ (ws : Trees). now ++ rest_text mark ws later) (sym is) ∙ (ap (λ (a : Bool). now ++ rest_text mark left a) same ∙ was.texts));
+  fits = omega (arith, are.known, ap greatest_depth is, some, wrote.fits);
+}
 
-pub rest_faults : (mark : Text) (vs left ds : Trees) (levels : ℕ) (annotated : Bool) (start now : Text) (f : PrintFault) → IsLeft mark vs left annotated false start now → left ≡ ds → AreLevelFault ds levels f → AreFaultOf vs f
-rest_faults mark vs left ds levels annotated start now TooLarge was is h = tt
-rest_faults mark vs left ds levels annotated start now DoubleText was is h = was.doubles ∙ (ap hold_double is ∙ h)
-rest_faults mark vs left ds levels annotated start now Memory was is h = tt
-
-pub rest_fits : (v : Tree) (left ds : Trees) (levels : ℕ) → AreLevels v left levels → left ≡ ds → 0 < levels → greatest_depth ds ≤ levels - 1 → depth v ≤ levels
-rest_fits v left ds levels are is some h = omega (arith, are.known, ap greatest_depth is, some, h)
-
-pub rest_too_deep : (v : Tree) (left ds : Trees) (levels : ℕ) (f : PrintFault) → AreLevels v left levels → left ≡ ds → AreLevelFault ds (levels - 1) f → f ≡ TooLarge → levels < depth v
-rest_too_deep v left ds levels TooLarge are is h e = omega (arith, are.deeper, ap greatest_depth is, h)
-rest_too_deep v left ds levels DoubleText are is h e = absurd cc
-rest_too_deep v left ds levels Memory are is h e = absurd cc
+pub rest_refused : (mark : Text) (v : Tree) (left ds : Trees) (levels : ℕ) (annotated : Bool) (start now : Text) (f : PrintFault) → IsLeft mark (children v) left annotated false start now → AreLevels v left levels → left ≡ ds
+    → AreLevelFault ds (levels - 1) f → IsRefused (hold_double (children v)) (depth v) levels f
+rest_refused mark v left ds levels annotated start now TooLarge was are is h = omega (arith, are.deeper, ap greatest_depth is, h)
+rest_refused mark v left ds levels annotated start now DoubleText was are is h = was.doubles ∙ (ap hold_double is ∙ h)
+rest_refused mark v left ds levels annotated start now Memory was are is h = tt
 
 -- two or more children are not one alone
 pub not_alone : (vs left : Trees) → IsAlone false vs left → IsTrue false ↔ (trees_len vs ≡ 1)

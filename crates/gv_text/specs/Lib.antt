@@ -1,15 +1,3 @@
 pub mod Printing
 pub mod PrintFaults
-pub mod TypeTexts
-pub mod ModelTokens
-pub mod FaultTexts
-pub mod ByteClasses
-pub mod NumberChars
-pub mod LexSteps
-pub mod SyntaxCodes
-pub mod SyntaxNodes
-pub mod SyntaxFalls
-pub mod Parsed
-pub mod Expectations
-pub mod ParseSteps
 pub mod Defaults

@@ -1,9 +1,9 @@
 -- What printing answers.
-use Rattle.std.specs.Prelude.{◌≡◌, ◌<◌, ◌≤◌, ◌+◌, length, get_or, ℕ, List, [], ◌∷◌, ◌++◌, Option, Some, None, Bool, true, false, nat_le, ◌==◌, ◌&&◌, ◌||◌, not}
+use Rattle.std.specs.Prelude.{◌≡◌, ◌<◌, ◌≤◌, ◌+◌, length, get_or, ℕ, List, [], ◌∷◌, ◌++◌, Option, Some, None, Bool, true, false, Result, MatchResult}
 use Rattle.gv_model.specs.Ty.{Ty}
 use Rattle.gv_model.specs.Ty.Ty.{basic, array, entry}
 use Rattle.gv_model.specs.Ty.Basic.{byte}
-use Rattle.gv_model.specs.Tree.{Tree, Trees, default, depth}
+use Rattle.gv_model.specs.Tree.{Tree, Trees, children, default, depth}
 use Rattle.gv_model.specs.Tree.Tree.{number, text, node}
 use Rattle.gv_model.specs.BasicValue.{text_in}
 use Rattle.gv_model.specs.Quoted.{quoted}
@@ -17,17 +17,33 @@ IsUnprintable v TooLarge = is_too_large v ≡ true
 IsUnprintable v DoubleText = (is_too_large v ≡ false) × (holds_double v ≡ true)
 IsUnprintable v Memory = Unit {0}
 
--- why a value isn't printed, but for its depth
-abbrev pub IsElementFault : Tree → PrintFault → Type 0
-IsElementFault v TooLarge = Unit {0}
-IsElementFault v DoubleText = holds_double v ≡ true
-IsElementFault v Memory = Unit {0}
+-- ---- what a call writes
 
--- the same of values
-abbrev pub AreFaultOf : Trees → PrintFault → Type 0
-AreFaultOf vs TooLarge = Unit {0}
-AreFaultOf vs DoubleText = hold_double vs ≡ true
-AreFaultOf vs Memory = Unit {0}
+-- It has no double and no more than these levels, and this text comes after the old one.
+pub record IsWritten (double : Bool) (deep levels : ℕ) (s old new : Text) : Type 0 where
+  pub plain : double ≡ false
+  pub text : new ≡ old ++ s
+  pub fits : deep ≤ levels
+
+-- why it isn't written
+abbrev pub IsRefused : Bool → ℕ → ℕ → PrintFault → Type 0
+IsRefused double deep levels TooLarge = levels < deep
+IsRefused double deep levels DoubleText = double ≡ true
+IsRefused double deep levels Memory = Unit {0}
+
+-- a value is written, as an element of an array or not
+abbrev pub IsPrinted : Tree → ℕ → Bool → Bool → Text → Text → Type 0
+IsPrinted v levels annotated in_array old new = IsWritten (holds_double v) (depth v) levels (text_of v annotated in_array) old new
+
+abbrev pub IsLevelFault : Tree → ℕ → PrintFault → Type 0
+IsLevelFault v levels = IsRefused (holds_double v) (depth v) levels
+
+abbrev pub Prints : {X : Type 0} → Result X PrintFault → Tree → ℕ → Bool → Bool → Text → Text → Type 0
+Prints result v levels annotated in_array old new = MatchResult result (λ _. IsPrinted v levels annotated in_array old new) (IsLevelFault v levels)
+
+-- this text of a value's children is written
+abbrev pub PrintsChildren : {X : Type 0} → Result X PrintFault → Tree → ℕ → Text → Text → Text → Type 0
+PrintsChildren result v levels s old new = MatchResult result (λ _. IsWritten (hold_double (children v)) (depth v) levels s old new) (IsRefused (hold_double (children v)) (depth v) levels)
 
 -- the text of a basic value without its type's word
 abbrev pub figures_of : Tree → List ℕ
@@ -87,7 +103,3 @@ pub record IsPrintedAs (v u : Tree) : Type 0 where
   pub text : text_of v false false ≡ text_of u false false
   pub double : holds_double v ≡ holds_double u
   pub deeper : depth u < depth v
-
--- the byte is a character that stands for itself in this quote
-abbrev pub is_printable : ℕ → ℕ → Bool
-is_printable quote c = nat_le 32 c && nat_le c 126 && not (c == quote || c == 92)

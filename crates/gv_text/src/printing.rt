@@ -1,10 +1,8 @@
 //! The text of a value (GLib, "GVariant Text Format"), annotated so that its type can be read back.
-ghost use Rattle.std.specs.Prelude.{◌≡◌, ◌≤◌, ◌<◌, ◌++◌, true, false, IfOk, IfErr, MatchResult, OnOk, string_bytes};
-ghost use Rattle.gv_text.specs.declared.print_fault.PrintFault.TheVariants.{TooLarge, Memory};
-ghost use Rattle.gv_model.specs.Tree.{depth};
-ghost use Rattle.gv_model.specs.Printed.{printed, text_of, is_too_large, holds_double};
+ghost use Rattle.std.specs.Prelude.{◌≡◌, true, false, IfOk, IfErr, OnOk, string_bytes};
+ghost use Rattle.gv_model.specs.Printed.{printed, is_too_large, holds_double};
 ghost use Rattle.gv_view.specs.Views.{value};
-ghost use Rattle.gv_text.specs.Printing.{IsUnprintable, IsElementFault};
+ghost use Rattle.gv_text.specs.Printing.{IsUnprintable, Prints};
 
 mod array;
 mod basic;
@@ -14,19 +12,17 @@ mod maybe;
 mod quoted;
 mod tuple;
 mod type_mark;
-mod variant;
 
 use crate::print_fault::PrintFault;
 use array::push_array;
 use basic::push_basic;
+use children::push_between;
 use default::push_default;
 use gv_types::Class;
 use gv_view::View;
 use maybe::push_maybe;
-pub use quoted::is_plain;
 use std::alloc::Global;
 use tuple::{push_entry, push_tuple};
-use variant::push_variant;
 
 /// How many bytes a text has room for at first: as many as most settings have.
 const ROOM: usize = 24;
@@ -59,12 +55,7 @@ fn push_value(
     annotated: bool,
     in_array: bool,
 ) -> Result<(), PrintFault>
-    ensures text { MatchResult result
-        (λ _. (holds_double (value view.entry) ≡ false)
-        × (string_bytes to.new ≡ string_bytes to.old ++ text_of (value view.entry) annotated in_array))
-        (IsElementFault (value view.entry)) }
-    ensures fits { OnOk result (depth (value view.entry) ≤ levels) }
-    ensures deep { IfErr result (λ f. f ≡ TooLarge → levels < depth (value view.entry)) }
+    ensures { Prints result (value view.entry) levels annotated in_array (string_bytes to.old) (string_bytes to.new) }
 {
     if levels == 0 {
         return Err(PrintFault::TooLarge);
@@ -75,7 +66,8 @@ fn push_value(
     }
     match view.type_str().class() {
         Class::Basic(basic) => push_basic(to, view, basic, annotated),
-        Class::Variant => push_variant(to, view, levels),
+        // A variant's child is always annotated.
+        Class::Variant => push_between(to, view, levels, ('<', '>'), true),
         Class::Array => push_array(to, view, levels, annotated),
         Class::Maybe => push_maybe(to, view, levels, annotated),
         Class::Tuple => push_tuple(to, view, levels, annotated),

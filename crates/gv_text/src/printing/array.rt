@@ -5,17 +5,15 @@
 //!
 //! The elements have one type, so those without bytes are alike. A file can have millions of them, each with a long text. From
 //! the second element on that text is written once, and then copied.
-ghost use Rattle.std.specs.Prelude.{◌≡◌, ◌≤◌, IfErr, IfOk, OnOk, ◌<◌, ◌++◌, true, false, IfSome, MatchResult, option_map, string_bytes};
+ghost use Rattle.std.specs.Prelude.{◌≡◌, IfOk, ◌<◌, ◌++◌, true, false, IfSome, option_map, string_bytes};
 ghost use Rattle.gv_model.specs.Tree.{children, depth};
 ghost use Rattle.gv_model.specs.BasicValue.{text_in};
-ghost use Rattle.gv_model.specs.Printed.{text_of, comma, joined_by, hold_double, holds_double, is_empty};
-ghost use Rattle.gv_model.specs.Quoted.{between};
+ghost use Rattle.gv_model.specs.Printed.{comma, joined_by, holds_double};
 ghost use Rattle.gv_types.specs.Classes.{class_of};
 ghost use Rattle.gv_types.specs.TypeStr.{ty, element_of};
 ghost use Rattle.gv_types.specs.declared.class.Class.TheVariants.{Array};
-ghost use Rattle.gv_text.specs.declared.print_fault.PrintFault.TheVariants.{TooLarge};
 ghost use Rattle.gv_view.specs.Views.{value, view_ty};
-ghost use Rattle.gv_text.specs.Printing.{AreFaultOf, IsElementFault, IsNoted, brackets_of, byte_string_of, child_texts};
+ghost use Rattle.gv_text.specs.Printing.{IsNoted, Prints, PrintsChildren, brackets_of, byte_string_of, child_texts};
 
 use super::push_value;
 use super::quoted::push_byte_string;
@@ -34,12 +32,7 @@ pub(super) fn push_array(
 ) -> Result<(), PrintFault>
     requires kind { class_of (view_ty view) ≡ Array }
     requires some { 0 < levels }
-    ensures text { MatchResult result
-        (λ _. (holds_double (value view.entry) ≡ false)
-        × (string_bytes to.new ≡ string_bytes to.old ++ text_of (value view.entry) annotated false))
-        (IsElementFault (value view.entry)) }
-    ensures fits { OnOk result (depth (value view.entry) ≤ levels) }
-    ensures deep { IfErr result (λ f. f ≡ TooLarge → levels < depth (value view.entry)) }
+    ensures { Prints result (value view.entry) levels annotated false (string_bytes to.old) (string_bytes to.new) }
 {
     if let Some(body) = byte_string(view) {
         // The bytes are a level below.
@@ -48,36 +41,13 @@ pub(super) fn push_array(
         }
         return Ok(push_byte_string(to, body)?);
     }
-    if annotated && is_empty(view) {
+    if annotated && view.n_children() == 0 {
         push_type_mark(to, view.type_str())?;
     }
-    push_list(to, view, levels, brackets(view.type_str()), annotated)
-}
-
-/// Writes an array's elements with commas between them, in brackets.
-#[cycle(values)]
-fn push_list(
-    to: &mut String,
-    view: View<'_>,
-    levels: u8,
-    brackets: (char, char),
-    annotated: bool,
-) -> Result<(), PrintFault>
-    requires kind { class_of (view_ty view) ≡ Array }
-    requires left { brackets.0 < 128 }
-    requires right { brackets.1 < 128 }
-    requires some { 0 < levels }
-    ensures text { MatchResult result
-        (λ _. (hold_double (children (value view.entry)) ≡ false)
-        × (string_bytes to.new ≡ string_bytes to.old
-        ++ between brackets.0 (joined_by comma (child_texts (children (value view.entry)) annotated true)) brackets.1))
-        (AreFaultOf (children (value view.entry))) }
-    ensures fits { OnOk result (depth (value view.entry) ≤ levels) }
-    ensures deep { IfErr result (λ f. f ≡ TooLarge → levels < depth (value view.entry)) }
-{
-    to.push(brackets.0)?;
+    let (left, right) = brackets(view.type_str());
+    to.push(left)?;
     push_elements(to, view, levels, annotated)?;
-    to.push(brackets.1)?;
+    to.push(right)?;
     Ok(())
 }
 
@@ -91,13 +61,8 @@ fn push_elements(
 ) -> Result<(), PrintFault>
     requires kind { class_of (view_ty view) ≡ Array }
     requires some { 0 < levels }
-    ensures text { MatchResult result
-        (λ _. (hold_double (children (value view.entry)) ≡ false)
-        × (string_bytes to.new ≡ string_bytes to.old
-        ++ joined_by comma (child_texts (children (value view.entry)) annotated true)))
-        (AreFaultOf (children (value view.entry))) }
-    ensures fits { OnOk result (depth (value view.entry) ≤ levels) }
-    ensures deep { IfErr result (λ f. f ≡ TooLarge → levels < depth (value view.entry)) }
+    ensures { PrintsChildren result (value view.entry) levels
+        (joined_by comma (child_texts (children (value view.entry)) annotated true)) (string_bytes to.old) (string_bytes to.new) }
 {
     let mut children = view.children();
     let Some(first) = children.next() else {
@@ -122,12 +87,7 @@ fn push_element(
     noted: Option<(usize, usize)>,
 ) -> Result<Option<(usize, usize)>, PrintFault>
     requires { IfSome noted (λ r. IsNoted (view_ty child) levels r.0 r.1 (string_bytes to.now)) }
-    ensures text { MatchResult result
-        (λ _. (holds_double (value child.entry) ≡ false)
-        × (string_bytes to.new ≡ (string_bytes to.old ++ comma) ++ text_of (value child.entry) false true))
-        (IsElementFault (value child.entry)) }
-    ensures fits { OnOk result (depth (value child.entry) ≤ levels) }
-    ensures deep { IfErr result (λ f. f ≡ TooLarge → levels < depth (value child.entry)) }
+    ensures text { Prints result (value child.entry) levels false true (string_bytes to.old ++ comma) (string_bytes to.new) }
     ensures noted { IfOk result (λ n. IfSome n (λ r. IsNoted (view_ty child.entry) levels r.0 r.1 (string_bytes to.new))) }
 {
     let is_empty = child.bytes().is_empty();
@@ -166,13 +126,6 @@ fn byte_string_body(bytes: &[u8]) -> Option<&[u8]>
     } else {
         None
     }
-}
-
-/// Whether an array has no element.
-fn is_empty(view: View<'_>) -> bool
-    ensures { result ≡ is_empty (children (value view.entry)) }
-{
-    view.n_children() == 0
 }
 
 /// The brackets around the elements of an array of this type.

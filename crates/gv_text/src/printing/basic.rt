@@ -1,11 +1,11 @@
 //! Values of basic types as text (GLib, "GVariant Text Format": "Numbers" and "Strings").
-ghost use Rattle.std.specs.Prelude.{◌≡◌, ◌≢◌, IfErr, ◌++◌, false, MatchResult, OnOk, string_bytes};
+ghost use Rattle.std.specs.Prelude.{◌≡◌, ◌++◌, false, MatchResult, OnOk, string_bytes};
 ghost use Rattle.gv_model.specs.Ty.{Ty.basic};
-ghost use Rattle.gv_model.specs.Printed.{word, hex_byte, text_of, holds_double};
+ghost use Rattle.gv_model.specs.Tree.{depth};
+ghost use Rattle.gv_model.specs.Printed.{word, hex_byte, holds_double};
 ghost use Rattle.gv_types.specs.Classes.{basic_of};
-ghost use Rattle.gv_text.specs.declared.print_fault.PrintFault.TheVariants.{TooLarge};
 ghost use Rattle.gv_view.specs.Views.{value, view_ty};
-ghost use Rattle.gv_text.specs.Printing.{IsElementFault, figures_of};
+ghost use Rattle.gv_text.specs.Printing.{IsLevelFault, IsWritten, Prints, figures_of};
 
 use super::quoted::{digit, push_quoted};
 use crate::print_fault::PrintFault;
@@ -42,11 +42,7 @@ pub(crate) fn push_basic(
     annotated: bool,
 ) -> Result<(), PrintFault>
     requires { view_ty view ≡ basic (basic_of of) }
-    ensures text { MatchResult result
-        (λ _. (holds_double (value view.entry) ≡ false)
-        × (string_bytes to.new ≡ string_bytes to.old ++ text_of (value view.entry) annotated false))
-        (IsElementFault (value view.entry)) }
-    ensures shallow { IfErr result (λ f. f ≢ TooLarge) }
+    ensures { Prints result (value view.entry) 1 annotated false (string_bytes to.old) (string_bytes to.new) }
 {
     if annotated {
         push_word(to, of)?;
@@ -57,11 +53,9 @@ pub(crate) fn push_basic(
 /// Writes a value of a basic type without its type's word.
 fn push_figures(to: &mut String, view: View<'_>, of: BasicType) -> Result<(), PrintFault>
     requires { view_ty view ≡ basic (basic_of of) }
-    ensures text { MatchResult result
-        (λ _. (holds_double (value view.entry) ≡ false)
-        × (string_bytes to.new ≡ string_bytes to.old ++ figures_of (value view.entry)))
-        (IsElementFault (value view.entry)) }
-    ensures shallow { IfErr result (λ f. f ≢ TooLarge) }
+    ensures { MatchResult result
+        (λ _. IsWritten (holds_double (value view.entry)) (depth (value view.entry)) 1 (figures_of (value view.entry)) (string_bytes to.old) (string_bytes to.new))
+        (IsLevelFault (value view.entry) 1) }
 {
     match of {
         BasicType::Boolean => to.push_str(if view.as_bool().unwrap() {

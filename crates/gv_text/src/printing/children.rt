@@ -1,11 +1,10 @@
 //! The children of a container as text, one after the other; the elements of an array are in `array`.
-ghost use Rattle.std.specs.Prelude.{◌≡◌, ◌↔◌, ◌<◌, ◌≤◌, ◌++◌, false, IsTrue, IfOk, IfErr, MatchResult, OnOk, string_bytes};
-ghost use Rattle.gv_model.specs.Tree.{children, depth, trees_len};
-ghost use Rattle.gv_model.specs.Printed.{comma, joined_by, hold_double};
+ghost use Rattle.std.specs.Prelude.{◌≡◌, ◌↔◌, ◌<◌, false, IsTrue, IfOk, string_bytes};
+ghost use Rattle.gv_model.specs.Tree.{children, trees_len};
+ghost use Rattle.gv_model.specs.Printed.{comma, joined_by};
 ghost use Rattle.gv_model.specs.Quoted.{between};
-ghost use Rattle.gv_text.specs.declared.print_fault.PrintFault.TheVariants.{TooLarge};
 ghost use Rattle.gv_view.specs.Views.{value};
-ghost use Rattle.gv_text.specs.Printing.{AreFaultOf, child_texts};
+ghost use Rattle.gv_text.specs.Printing.{PrintsChildren, child_texts};
 
 use super::default::push_rest;
 use super::push_value;
@@ -24,13 +23,9 @@ pub(super) fn push_between(
     requires left { brackets.0 < 128 }
     requires right { brackets.1 < 128 }
     requires some { 0 < levels }
-    ensures text { MatchResult result
-        (λ _. (hold_double (children (value view.entry)) ≡ false)
-        × (string_bytes to.new ≡ string_bytes to.old
-        ++ between brackets.0 (joined_by comma (child_texts (children (value view.entry)) annotated false)) brackets.1))
-        (AreFaultOf (children (value view.entry))) }
-    ensures fits { OnOk result (depth (value view.entry) ≤ levels) }
-    ensures deep { IfErr result (λ f. f ≡ TooLarge → levels < depth (value view.entry)) }
+    ensures { PrintsChildren result (value view.entry) levels
+        (between brackets.0 (joined_by comma (child_texts (children (value view.entry)) annotated false)) brackets.1)
+        (string_bytes to.old) (string_bytes to.new) }
 {
     to.push(brackets.0)?;
     push_children(to, view, levels, ", ", annotated)?;
@@ -48,14 +43,10 @@ pub(super) fn push_children(
     annotated: bool,
 ) -> Result<bool, PrintFault>
     requires { 0 < levels }
-    ensures text { MatchResult result
-        (λ _. (hold_double (children (value view.entry)) ≡ false)
-        × (string_bytes to.new ≡ string_bytes to.old
-        ++ joined_by mark.now (child_texts (children (value view.entry)) annotated false)))
-        (AreFaultOf (children (value view.entry))) }
+    ensures text { PrintsChildren result (value view.entry) levels
+        (joined_by mark.now (child_texts (children (value view.entry)) annotated false))
+        (string_bytes to.old) (string_bytes to.new) }
     ensures alone { IfOk result (λ alone. IsTrue alone ↔ (trees_len (children (value view.entry)) ≡ 1)) }
-    ensures fits { OnOk result (depth (value view.entry) ≤ levels) }
-    ensures deep { IfErr result (λ f. f ≡ TooLarge → levels < depth (value view.entry)) }
 {
     let mut children = view.children();
     let Some(first) = children.next() else {

@@ -12,9 +12,9 @@ ghost use Rattle.gv_types.specs.TypeStr.{ty};
 ghost use Rattle.gv_types.specs.Members.{members_left};
 ghost use Rattle.gv_types.specs.FirstTypes.{first_type, HasFirstType, IsAfterFirst};
 ghost use Rattle.gv_types.specs.declared.class.Class.TheVariants.{Tuple, Entry};
-ghost use Rattle.gv_text.specs.declared.print_fault.PrintFault.TheVariants.{TooLarge, Memory};
-ghost use Rattle.gv_text.specs.Printing.{IsElementFault};
-ghost use Rattle.gv_text.specs.Defaults.{default_in, defaults_left, AreFigures, AreLeft, AreLevelFault, IsEmptied, IsLevelFault, WriteRest, Writes, WritesJoined};
+ghost use Rattle.gv_text.specs.declared.print_fault.PrintFault.TheVariants.{Memory};
+ghost use Rattle.gv_text.specs.Printing.{IsLevelFault, IsPrinted, Prints};
+ghost use Rattle.gv_text.specs.Defaults.{default_in, defaults_left, AreFigures, AreLeft, AreLevelFault, IsEmptied, WriteRest, WritesJoined};
 
 use super::array::brackets;
 use super::basic::push_word;
@@ -32,9 +32,7 @@ pub(super) fn push_default(
     in_array: bool,
 ) -> Result<(), PrintFault>
     requires { 0 < levels }
-    ensures { MatchResult result
-        (λ _. Writes (default (ty of.entry)) levels annotated in_array (string_bytes to.old) (string_bytes to.new))
-        (IsLevelFault (default (ty of.entry)) levels) }
+    ensures { Prints result (default (ty of.entry)) levels annotated in_array (string_bytes to.old) (string_bytes to.new) }
 {
     match of.class() {
         Class::Basic(basic) => push_basic_default(to, basic, annotated)?,
@@ -106,7 +104,7 @@ fn push_first<'a>(
     requires { HasFirstType text.now }
     ensures { MatchResult result
         (λ rest. IsAfterFirst text.entry.now rest.now
-        × Writes (default_in text.entry.now) levels annotated in_array (string_bytes to.old) (string_bytes to.new))
+        × IsPrinted (default_in text.entry.now) levels annotated in_array (string_bytes to.old) (string_bytes to.new))
         (IsLevelFault (default_in text.entry.now) levels) }
 {
     if levels == 0 {
@@ -148,7 +146,7 @@ fn push_tuple_default<'a>(
     requires some { 0 < levels }
     ensures { MatchResult result
         (λ rest. IsAfterFirst text.entry.now rest.now
-        × Writes (default_in text.entry.now) levels annotated false (string_bytes to.old) (string_bytes to.new))
+        × IsPrinted (default_in text.entry.now) levels annotated false (string_bytes to.old) (string_bytes to.new))
         (IsLevelFault (default_in text.entry.now) levels) }
 {
     to.push('(')?;
@@ -181,7 +179,7 @@ fn push_next<'a>(
     requires { HasFirstType text.now }
     ensures { MatchResult result
         (λ rest. IsAfterFirst text.entry.now rest.now
-        × Writes (default_in text.entry.now) levels annotated false (string_bytes to.old ++ comma) (string_bytes to.new))
+        × IsPrinted (default_in text.entry.now) levels annotated false (string_bytes to.old ++ comma) (string_bytes to.new))
         (IsLevelFault (default_in text.entry.now) levels) }
 {
     match Class::of_letter(text[0]).unwrap() {
@@ -210,7 +208,7 @@ fn push_entry_default<'a>(
     requires some { 0 < levels }
     ensures { MatchResult result
         (λ rest. IsAfterFirst text.entry.now rest.now
-        × Writes (default_in text.entry.now) levels annotated in_array (string_bytes to.old) (string_bytes to.new))
+        × IsPrinted (default_in text.entry.now) levels annotated in_array (string_bytes to.old) (string_bytes to.new))
         (IsLevelFault (default_in text.entry.now) levels) }
 {
     if in_array {
@@ -282,9 +280,7 @@ fn push_emptied(to: &mut String, of: TypeStr<'_>, annotated: bool) -> Result<(),
 
 /// Writes the default of a variant, which has two levels.
 fn push_variant_default(to: &mut String, levels: u8) -> Result<(), PrintFault>
-    ensures { MatchResult result
-        (λ _. Writes (default variant) levels true false (string_bytes to.old) (string_bytes to.new))
-        (IsLevelFault (default variant) levels) }
+    ensures { Prints result (default variant) levels true false (string_bytes to.old) (string_bytes to.new) }
 {
     if levels < 2 {
         return Err(PrintFault::TooLarge);
@@ -294,10 +290,7 @@ fn push_variant_default(to: &mut String, levels: u8) -> Result<(), PrintFault>
 
 /// Writes the default of a basic type, after the type's word if it is annotated.
 fn push_basic_default(to: &mut String, of: BasicType, annotated: bool) -> Result<(), PrintFault>
-    ensures { MatchResult result
-        (λ _. (holds_double (basic_default (basic_of of)) ≡ false)
-        × (string_bytes to.new ≡ string_bytes to.old ++ text_of (basic_default (basic_of of)) annotated false))
-        (λ f. (f ≡ TooLarge → ⊥) × IsElementFault (basic_default (basic_of of)) f) }
+    ensures { Prints result (basic_default (basic_of of)) 1 annotated false (string_bytes to.old) (string_bytes to.new) }
 {
     let Some((figures, _)) = default_figures(of) else {
         return Err(PrintFault::DoubleText);
@@ -311,10 +304,7 @@ fn push_basic_default(to: &mut String, of: BasicType, annotated: bool) -> Result
 /// Writes a comma and then the default of a basic type, in one piece.
 #[inline(always)]
 fn push_basic_after(to: &mut String, of: BasicType) -> Result<(), PrintFault>
-    ensures { MatchResult result
-        (λ _. (holds_double (basic_default (basic_of of)) ≡ false)
-        × (string_bytes to.new ≡ (string_bytes to.old ++ comma) ++ text_of (basic_default (basic_of of)) false false))
-        (λ f. (f ≡ TooLarge → ⊥) × IsElementFault (basic_default (basic_of of)) f) }
+    ensures { Prints result (basic_default (basic_of of)) 1 false false (string_bytes to.old ++ comma) (string_bytes to.new) }
 {
     let Some((_, after_comma)) = default_figures(of) else {
         return Err(PrintFault::DoubleText);

@@ -2,14 +2,14 @@
 //!
 //! Levels of Just around a value are not written, and those around Nothing are, each as `just `. The type that
 //! comes before an annotated maybe says the rest, so that nothing inside is annotated.
-ghost use Rattle.std.specs.Prelude.{◌≡◌, ◌+◌, IfOk, ◌<◌, IfErr, ◌≤◌, ◌++◌, true, false, MatchOption, MatchResult, OnOk, string_bytes};
+ghost use Rattle.std.specs.Prelude.{◌≡◌, ◌+◌, IfOk, ◌<◌, IfErr, ◌≤◌, ◌++◌, true, false, MatchOption, OnOk, string_bytes};
 ghost use Rattle.gv_model.specs.Tree.{depth};
-ghost use Rattle.gv_model.specs.Printed.{text_of, holds_double, ends_in_nothing};
+ghost use Rattle.gv_model.specs.Printed.{text_of, ends_in_nothing};
 ghost use Rattle.gv_types.specs.Classes.{class_of};
 ghost use Rattle.gv_types.specs.declared.class.Class.TheVariants.{Maybe};
 ghost use Rattle.gv_text.specs.declared.print_fault.PrintFault.TheVariants.{TooLarge};
 ghost use Rattle.gv_view.specs.Views.{value, view_ty};
-ghost use Rattle.gv_text.specs.Printing.{IsElementFault, IsNothing, IsPrintedAs};
+ghost use Rattle.gv_text.specs.Printing.{IsNothing, IsPrintedAs, Prints};
 
 use super::push_value;
 use super::type_mark::push_type_mark;
@@ -28,12 +28,7 @@ pub(super) fn push_maybe(
 ) -> Result<(), PrintFault>
     requires kind { class_of (view_ty view) ≡ Maybe }
     requires some { 0 < levels }
-    ensures text { MatchResult result
-        (λ _. (holds_double (value view.entry) ≡ false)
-        × (string_bytes to.new ≡ string_bytes to.old ++ text_of (value view.entry) annotated false))
-        (IsElementFault (value view.entry)) }
-    ensures fits { OnOk result (depth (value view.entry) ≤ levels) }
-    ensures deep { IfErr result (λ f. f ≡ TooLarge → levels < depth (value view.entry)) }
+    ensures { Prints result (value view.entry) levels annotated false (string_bytes to.old) (string_bytes to.new) }
 {
     if annotated {
         push_type_mark(to, view.type_str())?;

@@ -3,11 +3,10 @@
 //! Printable ASCII and all from U+00A0 stand for themselves; the quote in use and the backslash have a
 //! backslash before them; the others are escaped by a letter or by their number.
 ghost use Rattle.std.specs.Prelude.{◌≡◌, ◌<◌, ◌++◌, OnOk, string_bytes, chars, flat_map};
-ghost use Rattle.std.specs.List.{list_all};
-ghost use Rattle.gv_text.specs.Printing.{is_printable};
 ghost use Rattle.gv_model.specs.Quoted.{digit, escape_letter, four_hex, three_octal, plain, char_text, byte_text, quote_for, quoted, byte_string};
 ghost use Rattle.std.specs.Prelude.{encode_utf8};
 
+use gv_syntax::is_plain;
 use gv_view::utf8_of;
 use std::alloc::AllocError;
 
@@ -72,21 +71,6 @@ fn push_each_byte(to: &mut String, quote: char, bytes: &[u8]) -> Result<(), Allo
         push_byte(to, quote, *byte)?;
     }
     Ok(())
-}
-
-/// Whether each byte of a text is a character that stands for itself in this quote: printable ASCII, but for the backslash and the
-/// quote. It looks at each byte once, up to the first that isn't.
-pub fn is_plain(text: &[u8], quote: char) -> bool
-    ensures { result ≡ list_all (is_printable quote) text.now }
-{
-    text.iter().all(|byte| is_printable(*byte, quote))
-}
-
-/// Whether a byte is a character that stands for itself in this quote.
-fn is_printable(byte: u8, quote: char) -> bool
-    ensures { result ≡ is_printable quote byte }
-{
-    byte >= b' ' && byte <= b'~' && byte != b'\\' && char::from(byte) != quote
 }
 
 /// The quote for a text: `'`, or `"` where the text has a `'`.

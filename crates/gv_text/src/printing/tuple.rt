@@ -1,14 +1,11 @@
 //! Tuples and entries as text (GLib, "GVariant Text Format": "Tuples" and "Dictionaries").
 //!
 //! A tuple of one has a comma after its member. An entry that is an element of an array is written without braces.
-ghost use Rattle.std.specs.Prelude.{◌≡◌, ◌≤◌, IfErr, OnOk, ◌<◌, ◌++◌, false, MatchResult, string_bytes};
-ghost use Rattle.gv_model.specs.Tree.{depth};
-ghost use Rattle.gv_model.specs.Printed.{text_of, holds_double};
+ghost use Rattle.std.specs.Prelude.{◌≡◌, ◌<◌, false, string_bytes};
 ghost use Rattle.gv_types.specs.Classes.{class_of};
 ghost use Rattle.gv_types.specs.declared.class.Class.TheVariants.{Tuple, Entry};
-ghost use Rattle.gv_text.specs.declared.print_fault.PrintFault.TheVariants.{TooLarge};
 ghost use Rattle.gv_view.specs.Views.{value, view_ty};
-ghost use Rattle.gv_text.specs.Printing.{IsElementFault};
+ghost use Rattle.gv_text.specs.Printing.{Prints};
 
 use super::children::{push_between, push_children};
 use crate::print_fault::PrintFault;
@@ -24,12 +21,7 @@ pub(super) fn push_tuple(
 ) -> Result<(), PrintFault>
     requires kind { class_of (view_ty view) ≡ Tuple }
     requires some { 0 < levels }
-    ensures text { MatchResult result
-        (λ _. (holds_double (value view.entry) ≡ false)
-        × (string_bytes to.new ≡ string_bytes to.old ++ text_of (value view.entry) annotated false))
-        (IsElementFault (value view.entry)) }
-    ensures fits { OnOk result (depth (value view.entry) ≤ levels) }
-    ensures deep { IfErr result (λ f. f ≡ TooLarge → levels < depth (value view.entry)) }
+    ensures { Prints result (value view.entry) levels annotated false (string_bytes to.old) (string_bytes to.new) }
 {
     to.push('(')?;
     let alone = push_children(to, view, levels, ", ", annotated)?;
@@ -48,12 +40,7 @@ pub(super) fn push_entry(
 ) -> Result<(), PrintFault>
     requires kind { class_of (view_ty view) ≡ Entry }
     requires some { 0 < levels }
-    ensures text { MatchResult result
-        (λ _. (holds_double (value view.entry) ≡ false)
-        × (string_bytes to.new ≡ string_bytes to.old ++ text_of (value view.entry) annotated in_array))
-        (IsElementFault (value view.entry)) }
-    ensures fits { OnOk result (depth (value view.entry) ≤ levels) }
-    ensures deep { IfErr result (λ f. f ≡ TooLarge → levels < depth (value view.entry)) }
+    ensures { Prints result (value view.entry) levels annotated in_array (string_bytes to.old) (string_bytes to.new) }
 {
     if !in_array {
         return push_between(to, view, levels, ('{', '}'), annotated);

@@ -7,7 +7,7 @@ use Rattle.gv_model.specs.Admits.{Admits, IsNumberType, IsTextType, AllAdmit, Ad
 use Rattle.gv_types.specs.TypeStr.{ty}
 use Rattle.gv_types.specs.declared.class.Class.TheVariants as classes
 use Rattle.gv_types.specs.declared.class.BasicType.TheVariants as basics
-use Rattle.gv_text.specs.SyntaxNodes.{nodes_of, pairs_of, syntax_of}
+use Rattle.gv_syntax.specs.SyntaxNodes.{nodes_of, pairs_of, syntax_of}
 use Rattle.gv_patterns.proofs.Levels.{list_levels, tuple_levels, dictionary_levels, levels_at, pair_levels_at}
 use Rattle.gv_infer.proofs.AdmitLaws.{also_where_bare, is_boolean, is_variant, is_byte_array, admit_listed}
 use Rattle.gv_infer.proofs.admits.+admits.Goals as goal

@@ -4,7 +4,7 @@ use Rattle.gv_model.specs.Syntax.{levels, greatest_levels, pairs_levels}
 use Rattle.gv_model.specs.Admits.{AllAdmit, Admit, KeysAdmit, ValuesAdmit}
 use Rattle.gv_types.specs.TypeStr.{ty}
 use Rattle.gv_types.specs.Members.{members_left}
-use Rattle.gv_text.specs.SyntaxNodes.{nodes_of, pairs_of}
+use Rattle.gv_syntax.specs.SyntaxNodes.{nodes_of, pairs_of}
 use Rattle.gv_infer.proofs.admits.+admits.Given as goal
 
 abbrev pub decreases-admits : goal.decreases-admits

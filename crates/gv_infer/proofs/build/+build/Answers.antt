@@ -18,8 +18,8 @@ use Rattle.gv_model.specs.BasicValue.{truth_bits}
 use Rattle.gv_model.proofs.ListLaws.{types_from-listed, drop_item}
 use Rattle.gv_types.specs.TypeStr.{ty}
 use Rattle.gv_types.specs.Members.{members_left}
-use Rattle.gv_text.specs.SyntaxNodes.{nodes_of, pairs_of, syntax_of}
-use Rattle.gv_text.specs.Parsed.{IsWithin as IsInLimits}
+use Rattle.gv_syntax.specs.SyntaxNodes.{nodes_of, pairs_of, syntax_of}
+use Rattle.gv_syntax.specs.Parsed.{IsWithin as IsInLimits}
 use Rattle.gv_infer.specs.BareTypes.{bare_type}
 use Rattle.gv_infer.specs.Building.{IsBuilt, IsOfType, IsWithinLimits}
 use Rattle.gv_infer.specs.Within.{AreWithin, PairsWithin}

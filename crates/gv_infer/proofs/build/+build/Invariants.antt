@@ -6,7 +6,7 @@ use Rattle.gv_model.specs.LeastTypes.{choice}
 use Rattle.gv_model.specs.TextValues.{elements, members_of, entries}
 use Rattle.gv_types.specs.TypeStr.{ty}
 use Rattle.gv_types.specs.Members.{members_left}
-use Rattle.gv_text.specs.SyntaxNodes.{nodes_of, pairs_of}
+use Rattle.gv_syntax.specs.SyntaxNodes.{nodes_of, pairs_of}
 use Rattle.gv_infer.specs.Children.{IsBuiltSoFar}
 use Rattle.gv_infer.specs.Within.{AreWithin, PairsWithin}
 use Rattle.gv_infer.proofs.build.+build.Given as goal

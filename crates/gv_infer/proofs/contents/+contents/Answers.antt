@@ -1,7 +1,7 @@
 use Rattle.std.proofs.Common.{ap, sym, arith, ◌∙◌, refl}
 use Rattle.gv_model.specs.Syntax.{levels, greatest_levels, pairs_levels}
 use Rattle.gv_model.proofs.ListLaws.{drop_item}
-use Rattle.gv_text.specs.SyntaxNodes.{syntax_of, nodes_of, pairs_of}
+use Rattle.gv_syntax.specs.SyntaxNodes.{syntax_of, nodes_of, pairs_of}
 use Rattle.gv_model.specs.Grammar.{syntaxes_bytes, pairs_bytes}
 use Rattle.gv_infer.proofs.ContentLaws.{stops_in_key, stops_in_value, stops_inside, stops_itself, stops_at, left_after, next_node, next_pair}
 use Rattle.gv_infer.proofs.contents.+contents.Goals as goal

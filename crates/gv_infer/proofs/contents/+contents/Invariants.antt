@@ -3,7 +3,7 @@ use Rattle.gv_model.specs.Syntax.{levels, greatest_levels, pairs_levels}
 use Rattle.gv_model.specs.Chosen.{Choice}
 use Rattle.gv_model.specs.LeastTypes.{choice}
 use Rattle.gv_model.specs.TextValues.{first_choice, all_contents, pairs_contents}
-use Rattle.gv_text.specs.SyntaxNodes.{nodes_of, pairs_of}
+use Rattle.gv_syntax.specs.SyntaxNodes.{nodes_of, pairs_of}
 use Rattle.gv_model.specs.Grammar.{syntaxes_bytes, pairs_bytes}
 use Rattle.gv_infer.proofs.contents.+contents.Given as goal
 

@@ -3,7 +3,7 @@ use Rattle.gv_model.specs.Patterns.{all_common}
 use Rattle.gv_model.specs.Patterns.Pattern.{loose}
 use Rattle.gv_model.specs.Patterns.Bare.{basics}
 use Rattle.gv_model.specs.Patterns.BasicSet.{texts}
-use Rattle.gv_text.specs.SyntaxNodes.{nodes_of}
+use Rattle.gv_syntax.specs.SyntaxNodes.{nodes_of}
 use Rattle.gv_infer.proofs.plain.are_strings.Given as goal
 
 abbrev pub invariant-loop-len : goal.invariant-loop-len

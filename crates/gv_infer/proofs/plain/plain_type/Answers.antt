@@ -4,7 +4,7 @@ use Rattle.gv_model.specs.Patterns.{all_common, pattern}
 use Rattle.gv_model.specs.Patterns.Pattern.{loose}
 use Rattle.gv_model.specs.Patterns.Bare.{basics}
 use Rattle.gv_model.specs.Patterns.BasicSet.{numbers, texts}
-use Rattle.gv_text.specs.SyntaxNodes.{nodes_of, syntax_of}
+use Rattle.gv_syntax.specs.SyntaxNodes.{nodes_of, syntax_of}
 use Rattle.gv_infer.proofs.PlainTypes.{strings_text, chosen_as, truth_choice, integer_choice, string_choice, word_choice, strings_choice}
 use Rattle.gv_infer.proofs.plain.plain_type.Goals as goal
 

@@ -2,7 +2,7 @@ use Rattle.std.proofs.Common.{arith, ◌∙◌, ap, sym}
 use Rattle.std.proofs.lemmas.List.{drop_all}
 use Rattle.gv_model.specs.Patterns.{patterns, pattern}
 use Rattle.gv_model.proofs.ListLaws.{drop_item}
-use Rattle.gv_text.specs.SyntaxNodes.{nodes_of}
+use Rattle.gv_syntax.specs.SyntaxNodes.{nodes_of}
 use Rattle.gv_patterns.proofs.PatternLists.{before}
 use Rattle.gv_patterns.proofs.ExactLaws.{before_more, before_stop}
 use Rattle.gv_patterns.proofs.Levels.{levels_at, pair_levels_at}

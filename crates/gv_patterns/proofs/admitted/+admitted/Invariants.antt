@@ -1,7 +1,7 @@
 use Rattle.std.proofs.Common.{◌≡◌, ◌+◌, ◌*◌, ◌-◌, drop, length, max}
 use Rattle.gv_model.specs.Syntax.{levels, greatest_levels, pairs_levels}
 use Rattle.gv_model.specs.Patterns.{all_common, patterns, common_key, common_value}
-use Rattle.gv_text.specs.SyntaxNodes.{nodes_of, pairs_of}
+use Rattle.gv_syntax.specs.SyntaxNodes.{nodes_of, pairs_of}
 use Rattle.gv_patterns.proofs.PatternLists.{before}
 use Rattle.gv_patterns.proofs.admitted.+admitted.Given as goal
 

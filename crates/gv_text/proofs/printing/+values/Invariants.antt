@@ -28,17 +28,11 @@ decreases-tuple::push_entry l = 5 * l.levels + 2
 abbrev pub decreases-tuple::push_tuple : goal.decreases-tuple::push_tuple
 decreases-tuple::push_tuple l = 5 * l.levels + 2
 
-abbrev pub decreases-variant::push_variant : goal.decreases-variant::push_variant
-decreases-variant::push_variant l = 5 * l.levels + 2
-
 abbrev pub decreases-children::push_between : goal.decreases-children::push_between
 decreases-children::push_between l = 5 * l.levels + 1
 
 abbrev pub decreases-children::push_children : goal.decreases-children::push_children
 decreases-children::push_children l = 5 * l.levels
-
-abbrev pub decreases-array::push_list : goal.decreases-array::push_list
-decreases-array::push_list l = 5 * l.levels + 1
 
 abbrev pub decreases-array::push_element : goal.decreases-array::push_element
 decreases-array::push_element l = 5 * l.levels + 4

@@ -7,12 +7,12 @@ use Rattle.gv_text.proofs.Figures.{of_basic, wrote_basic}
 use Rattle.gv_text.proofs.printing.basic.push_basic.Goals as goal
 use Rattle.gv_text.proofs.printing.basic.push_basic.Goals.{then-annotated+in_ok-push_word, else-annotated}
 
-pub returns-clause-text : goal.returns-clause-text
-returns-clause-text c =
+pub returns : goal.returns
+returns c =
     let k = basic_of c.args.of in
     let is = of_basic (view_ty c.args.view) k (view_bytes c.args.view) c.requires in
     let mid : string_bytes c.if-annotated.to ≡ string_bytes c.args.to.now ++ when c.args.annotated (word k) = elim c.if-annotated.branch [
       | then-annotated+in_ok-push_word w ↦ ap string_bytes w.to-is ∙ (w.in_ok-push_word.ensures ∙ ap (λ a. string_bytes c.args.to.now ++ when a (word k)) (sym w.if-annotated.true))
       | else-annotated w ↦ ap string_bytes w.to-is ∙ (sym (append-nil (string_bytes c.args.to.now)) ∙ ap (λ a. string_bytes c.args.to.now ++ when a (word k)) (sym w.if-annotated.false))
     ] in
-    MatchResult-weaker c.push_figures.result c.push_figures.ensures.text (λ x p. (p.0, wrote_basic k (value c.args.view) c.args.annotated (string_bytes c.args.to.now) (string_bytes c.if-annotated.to) (string_bytes c.push_figures.new.to) is mid p.1)) (λ e q. q)
+    MatchResult-weaker c.push_figures.result c.push_figures.ensures (λ x w. record { plain = w.plain; text = wrote_basic k (value c.args.view) c.args.annotated (string_bytes c.args.to.now) (string_bytes c.if-annotated.to) (string_bytes c.push_figures.new.to) is mid w.text; fits = w.fits }) (λ e q. q)

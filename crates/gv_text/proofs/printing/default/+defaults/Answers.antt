@@ -51,7 +51,7 @@ push_first-returns-in_err-push_basic_default-in-Basic t c =
     let class = same_Some _ _ (sym (first_type_class w c.requires) ∙ (sym c.of_letter.ensures ∙ c.unwrap.ensures)) ∙ c.in-Basic.is in
     let one = basic_first_type w c.in-Basic.of c.requires class in
     let p = err_from_is_err_and c.from_residual.result c.from_residual.ensures.1 in
-    rw (p.1, p.2) (basic_fault (first_type (seen w)) (basic_of c.in-Basic.of) c.args.levels c.in_err-push_basic_default-in-Basic.field-0.0 one.type c.in_err-push_basic_default-in-Basic.ensures.0 c.in_err-push_basic_default-in-Basic.ensures.1)
+    rw (p.1, p.2) (basic_fault (first_type (seen w)) (basic_of c.in-Basic.of) c.args.levels c.in_err-push_basic_default-in-Basic.field-0.0 one.type c.in_err-push_basic_default-in-Basic.ensures)
 
 pub push_first-returns-in_ok-push_basic_default-in-Basic : goal.push_first-returns-in_ok-push_basic_default-in-Basic
 push_first-returns-in_ok-push_basic_default-in-Basic t c =
@@ -300,7 +300,7 @@ push_next-returns-in_err-push_basic_after-in-Basic t c =
     let class = same_Some _ _ (sym (first_type_class w c.requires) ∙ (sym c.of_letter.ensures ∙ c.unwrap.ensures)) ∙ c.in-Basic.is in
     let one = basic_first_type w c.in-Basic.of c.requires class in
     let p = err_from_is_err_and c.from_residual.result c.from_residual.ensures.1 in
-    rw (p.1, p.2) (basic_fault (first_type (seen w)) (basic_of c.in-Basic.of) c.args.levels c.in_err-push_basic_after-in-Basic.field-0.0 one.type c.in_err-push_basic_after-in-Basic.ensures.0 c.in_err-push_basic_after-in-Basic.ensures.1)
+    rw (p.1, p.2) (basic_fault (first_type (seen w)) (basic_of c.in-Basic.of) c.args.levels c.in_err-push_basic_after-in-Basic.field-0.0 one.type c.in_err-push_basic_after-in-Basic.ensures)
 
 pub push_next-returns-in_ok-push_basic_after-in-Basic : goal.push_next-returns-in_ok-push_basic_after-in-Basic
 push_next-returns-in_ok-push_basic_after-in-Basic t c =

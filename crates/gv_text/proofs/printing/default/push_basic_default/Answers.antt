@@ -15,4 +15,4 @@ returns c =
       | else-annotated w ↦ ap string_bytes w.to-is ∙ unwanted_mark c.args.annotated (word k) old w.if-annotated.false
     ] in
     let are = c.in-Some.ensures in
-    (are.plain, basic_written k c.args.annotated c.in-Some.figures.now old (string_bytes c.if-annotated.to) (string_bytes c.push_str.new.self) are.are mid c.in_ok-push_str.ensures.bytes)
+    basic_written k c.args.annotated c.in-Some.figures.now old (string_bytes c.if-annotated.to) (string_bytes c.push_str.new.self) are.plain are.are mid c.in_ok-push_str.ensures.bytes

@@ -32,7 +32,7 @@ returns-in_err-push_basic_after-clause-written c =
     let next = types_first (basic k) (members_left c.next_basic.new.self) (members_left c.loop-of.members) c.in-Some.ensures.taken in
     let e = err_from_is_err_and c.from_residual.result c.from_residual.ensures.1 in
     rw (e.1, e.2) (fault_in_rest c.args.mark.now (defaults_left c.args.members.now) (defaults_left c.loop-of.members) (defaults_left c.next_basic.new.self) (default (basic k)) c.args.levels c.args.annotated (string_bytes c.args.to.now) (string_bytes c.loop-of.to)
-    c.in_err-push_basic_after.field-0.0 next c.loop-of.invariant.0 (basic_fault (basic k) k c.args.levels c.in_err-push_basic_after.field-0.0 refl c.in_err-push_basic_after.ensures.0 c.in_err-push_basic_after.ensures.1))
+    c.in_err-push_basic_after.field-0.0 next c.loop-of.invariant.0 (basic_fault (basic k) k c.args.levels c.in_err-push_basic_after.field-0.0 refl c.in_err-push_basic_after.ensures))
 
 pub returns-clause-written : goal.returns-clause-written
 returns-clause-written c =

@@ -5,7 +5,7 @@ use Rattle.gv_types.specs.Classes.{basic_of}
 use Rattle.gv_types.specs.TypeStr.{ty}
 use Rattle.gv_types.proofs.ClassLaws.{basic_class}
 use Rattle.gv_types.proofs.FirstTypes.{whole_first_type, whole_type}
-use Rattle.gv_text.specs.Defaults.{Writes}
+use Rattle.gv_text.specs.Printing.{IsPrinted}
 use Rattle.gv_text.proofs.DefaultTexts.{basic_fault, basic_writes, emptied_writes, is_emptied, same_fault}
 use Rattle.gv_text.proofs.printing.default.push_default.Goals as goal
 
@@ -13,7 +13,7 @@ pub returns-in_err-push_basic_default-in-Basic : goal.returns-in_err-push_basic_
 returns-in_err-push_basic_default-in-Basic c =
     let type = basic_class (ty c.args.of) c.in-Basic.basic c.in-Basic.ensures in
     let e = err_from_is_err_and c.from_residual.result c.from_residual.ensures.1 in
-    rw (e.1, e.2) (basic_fault (ty c.args.of) (basic_of c.in-Basic.basic) c.args.levels c.in_err-push_basic_default-in-Basic.field-0.0 type c.in_err-push_basic_default-in-Basic.ensures.0 c.in_err-push_basic_default-in-Basic.ensures.1)
+    rw (e.1, e.2) (basic_fault (ty c.args.of) (basic_of c.in-Basic.basic) c.args.levels c.in_err-push_basic_default-in-Basic.field-0.0 type c.in_err-push_basic_default-in-Basic.ensures)
 
 pub returns-in_ok-push_basic_default-in-Basic : goal.returns-in_ok-push_basic_default-in-Basic
 returns-in_ok-push_basic_default-in-Basic c =
@@ -35,4 +35,4 @@ returns-in_ok-push_emptied-in-Array c =
 pub returns-in_ok-push_first-in_default : goal.returns-in_ok-push_first-in_default
 returns-in_ok-push_first-in_default c =
     let read = rw (c.as_bytes.ensures.value, c.as_str.ensures.text) at c.in_ok-push_first-in_default.ensures in
-    subst (λ t. Writes (default t) c.args.levels c.args.annotated c.args.in_array (string_bytes c.args.to.now) (string_bytes c.push_first.new.to)) (whole_type c.args.of.text.now c.args.of.spells_type) read.1
+    subst (λ t. IsPrinted (default t) c.args.levels c.args.annotated c.args.in_array (string_bytes c.args.to.now) (string_bytes c.push_first.new.to)) (whole_type c.args.of.text.now c.args.of.spells_type) read.1

@@ -1,7 +1,8 @@
 use Rattle.std.proofs.Common.{◌≡◌, sym, ◌∙◌, Bool, true, false, cond, List, ℕ, Some, None, string_bytes}
 use Rattle.std.specs.Str.{is_utf8}
 use Rattle.gv_view.specs.Texts.{utf8_of}
-use Rattle.gv_text.proofs.PlainTexts.{bytes_alone, written_as}
+use Rattle.gv_syntax.proofs.PlainTexts.{bytes_alone}
+use Rattle.gv_text.proofs.Quotes.{written_as}
 use Rattle.gv_text.proofs.printing.quoted.push_bytes.Goals as goal
 
 -- a text has the bytes that it was made of

@@ -1,7 +1,8 @@
 use Rattle.std.proofs.Common.{ap, sym, ◌∙◌, string_bytes}
 use Rattle.std.specs.List.{list_all}
-use Rattle.gv_text.specs.Printing.{is_printable}
-use Rattle.gv_text.proofs.PlainTexts.{chars_alone, written_as}
+use Rattle.gv_syntax.specs.Printable.{is_printable}
+use Rattle.gv_syntax.proofs.PlainTexts.{chars_alone}
+use Rattle.gv_text.proofs.Quotes.{written_as}
 use Rattle.gv_text.proofs.printing.quoted.push_chars.Goals as goal
 
 pub returns-then-is_plain : goal.returns-then-is_plain

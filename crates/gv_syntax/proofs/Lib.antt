@@ -1,0 +1,15 @@
+pub mod PlainTexts
+pub mod Lists
+pub mod QuotedLaws
+pub mod NumeralLaws
+pub mod EscapeLaws
+pub mod TokenSteps
+pub mod WordLaws
+pub mod TypePrefixes
+pub mod TokenKinds
+pub mod SyntaxLaws
+pub mod ExpectationLaws
+pub mod SequenceLaws
+pub mod ParseStepLaws
+pub mod BracketLaws
+pub mod NumberedFaults

@@ -1,0 +1,13 @@
+pub mod Printable
+pub mod TypeTexts
+pub mod ModelTokens
+pub mod FaultTexts
+pub mod ByteClasses
+pub mod NumberChars
+pub mod LexSteps
+pub mod SyntaxCodes
+pub mod SyntaxNodes
+pub mod SyntaxFalls
+pub mod Parsed
+pub mod Expectations
+pub mod ParseSteps

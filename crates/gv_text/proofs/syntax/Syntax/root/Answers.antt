@@ -1,9 +1,0 @@
-use Rattle.std.proofs.Common.{subst}
-use Rattle.gv_text.specs.Parsed.{IsWithin}
-use Rattle.gv_text.proofs.syntax.Syntax.root.Goals as goal
-
-pub returns-clause-within : goal.returns-clause-within
-returns-clause-within c = subst IsWithin c.self.view_is c.self.invariant
-
-pub returns-clause-root : goal.returns-clause-root
-returns-clause-root c = c.self.view_is
