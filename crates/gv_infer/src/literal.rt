@@ -21,7 +21,7 @@ use gv_types::{BasicType, Class, TypeStr};
 use std::alloc::Global;
 
 /// The number that an integer is at a number type. It is never wrapped.
-pub(crate) fn number_at(of: BasicType, negative: bool, magnitude: u128) -> Result<Basic, ValueFault>
+fn number_at(of: BasicType, negative: bool, magnitude: u128) -> Result<Basic, ValueFault>
     requires { IsNumberType (basic (basic_of of)) }
     ensures { MatchResult result
         (λ value. integer_at (basic_of of) negative magnitude ≡ Ok (basic_tree value))

@@ -58,7 +58,7 @@ pub fn write_least_type(
 impl Pattern {
     /// Writes the text of the least type after a text, if there is one. It takes time linear in the pattern.
     #[cycle(least)]
-    pub(crate) fn write_least(&self, text: &mut String) -> Result<Found, AllocError>
+    fn write_least(&self, text: &mut String) -> Result<Found, AllocError>
         ensures { IfOk result (λ f. Written (least_in self.now) (string_bytes text.old) (string_bytes text.new) f) }
     {
         match &self.form {

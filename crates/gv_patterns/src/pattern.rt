@@ -75,7 +75,7 @@ impl Pattern {
     }
 
     /// The empty set.
-    pub(crate) fn never() -> Pattern
+    fn never() -> Pattern
         ensures { result ≡ never }
     {
         Pattern {

@@ -45,25 +45,6 @@ impl TextFault {
     }
 }
 
-impl TextCause {
-    ghost use Rattle.gv_model.specs.FaultTexts.{text_cause_text};
-    ghost use Rattle.gv_syntax.specs.ModelTokens.{cause_of};
-
-    /// How the fault is printed.
-    fn name(self) -> &'static str
-        ensures { result.now ≡ text_cause_text (cause_of self) }
-    {
-        match self {
-            TextCause::BadToken => "BadToken",
-            TextCause::Unclosed => "Unclosed",
-            TextCause::BadEscape => "BadEscape",
-            TextCause::DoubleText => "DoubleText",
-            TextCause::Unexpected => "Unexpected",
-            TextCause::TooDeep => "TooDeep",
-        }
-    }
-}
-
 impl fmt::Display for TextCause {
     ghost use Rattle.std.specs.Prelude.{Some};
     ghost use Rattle.gv_model.specs.FaultTexts.{text_cause_text};
@@ -72,7 +53,14 @@ impl fmt::Display for TextCause {
     ghost output = { λ fault. Some (text_cause_text (cause_of fault)) };
 
     fn fmt<W: fmt::Write>(&self, f: &mut fmt::Formatter<W>) -> fmt::Result {
-        f.write_str(self.name())
+        f.write_str(match self {
+            TextCause::BadToken => "BadToken",
+            TextCause::Unclosed => "Unclosed",
+            TextCause::BadEscape => "BadEscape",
+            TextCause::DoubleText => "DoubleText",
+            TextCause::Unexpected => "Unexpected",
+            TextCause::TooDeep => "TooDeep",
+        })
     }
 }
 

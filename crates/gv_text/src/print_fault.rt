@@ -17,21 +17,6 @@ pub enum PrintFault {
     Memory,
 }
 
-impl PrintFault {
-    ghost use Rattle.gv_text.specs.PrintFaults.{print_fault_name};
-
-    /// How the fault is printed.
-    fn name(self) -> &'static str
-        ensures { result.now ≡ print_fault_name self }
-    {
-        match self {
-            PrintFault::TooLarge => "TooLarge",
-            PrintFault::DoubleText => "DoubleText",
-            PrintFault::Memory => "Memory",
-        }
-    }
-}
-
 impl fmt::Display for PrintFault {
     ghost use Rattle.std.specs.Prelude.{Some};
     ghost use Rattle.gv_text.specs.PrintFaults.{print_fault_name};
@@ -39,7 +24,11 @@ impl fmt::Display for PrintFault {
     ghost output = { λ fault. Some (print_fault_name fault) };
 
     fn fmt<W: fmt::Write>(&self, f: &mut fmt::Formatter<W>) -> fmt::Result {
-        f.write_str(self.name())
+        f.write_str(match self {
+            PrintFault::TooLarge => "TooLarge",
+            PrintFault::DoubleText => "DoubleText",
+            PrintFault::Memory => "Memory",
+        })
     }
 }
 

@@ -6,7 +6,7 @@ ghost use Rattle.gv_syntax.specs.ParseSteps.{IsBraced, IsEntryAfter, ArePairs, H
 
 use crate::fault::{TextCause, TextFault};
 use crate::parsing::marks::{is_mark, more_follow, next, refused};
-use crate::parsing::value::{boxed_before, value, value_before, value_from};
+use crate::parsing::value::{value, value_before, value_from};
 use crate::syntax::{SyntaxKind, SyntaxNode};
 use crate::token::{Mark, Span, Token};
 use std::alloc::Global;
@@ -51,8 +51,8 @@ fn entry_of(
     ensures fault { IfErr result (Stops (a_value depth ∷ inside lone_end depth opened ∷ []) (left rest.old)) }
 {
     let key = Box::new(alloc, key)?;
-    let value = boxed_before(alloc, rest, depth, Mark::CloseBrace, opened)?;
-    Ok(SyntaxKind::Entry(key, value))
+    let value = value_before(alloc, rest, depth, Mark::CloseBrace, opened)?;
+    Ok(SyntaxKind::Entry(key, Box::new(alloc, value)?))
 }
 
 /// The pairs of the dictionary that was opened there, the first of which has that key, whose `:` was read.

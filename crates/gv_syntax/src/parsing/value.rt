@@ -32,22 +32,6 @@ pub(crate) fn value(
     value_from(alloc, first, rest, depth, ended)
 }
 
-/// The same in a box.
-#[cycle(parsing)]
-fn boxed(
-    alloc: Global,
-    rest: &mut IntoIter<Token>,
-    depth: u8,
-    ended: TextFault,
-) -> Result<Box<SyntaxNode>, TextFault>
-    requires { depth ≤ 129 }
-    ensures value { IfOk result (λ x. IsValue depth (left rest.old) (left rest.new) x.value) }
-    ensures fault { IfErr result (StopsWith ended (a_value depth ∷ []) (left rest.old)) }
-{
-    let value = value(alloc, rest, depth, ended)?;
-    Ok(Box::new(alloc, value)?)
-}
-
 /// The value at the start of the tokens, which is so deep, in a bracket that was opened there. It
 /// takes the mark after it, too.
 #[cycle(parsing)]
@@ -65,24 +49,6 @@ pub(crate) fn value_before(
 {
     let value = value(alloc, rest, depth, refused(TextCause::Unclosed, opened))?;
     expect(rest, mark, opened).and(Ok(value))
-}
-
-/// The same in a box.
-#[cycle(parsing)]
-pub(crate) fn boxed_before(
-    alloc: Global,
-    rest: &mut IntoIter<Token>,
-    depth: u8,
-    mark: Mark,
-    opened: Span,
-) -> Result<Box<SyntaxNode>, TextFault>
-    requires depth { depth ≤ 129 }
-    requires ends { EndsValue mark }
-    ensures value { IfOk result (λ x. IsValueBefore (mark_of mark) depth (left rest.old) (left rest.new) x.value) }
-    ensures fault { IfErr result (Stops (a_value depth ∷ inside (end_stage mark) depth opened ∷ []) (left rest.old)) }
-{
-    let value = value_before(alloc, rest, depth, mark, opened)?;
-    Ok(Box::new(alloc, value)?)
 }
 
 /// The value that begins with that token.
@@ -153,7 +119,10 @@ fn after_first(
             negative,
             magnitude,
         }),
-        TokenKind::Type(of) => Ok(SyntaxKind::OfType(of, boxed(alloc, rest, depth + 1, ended)?)),
+        TokenKind::Type(of) => {
+            let inner = value(alloc, rest, depth + 1, ended)?;
+            Ok(SyntaxKind::OfType(of, Box::new(alloc, inner)?))
+        }
         TokenKind::Word(word) => after_word(alloc, word, rest, depth, ended),
         TokenKind::Mark(mark) => after_mark(alloc, mark, first.span, rest, depth),
     }
@@ -175,8 +144,14 @@ fn after_word(
     match word {
         Word::Truth(truth) => Ok(SyntaxKind::Truth(truth)),
         Word::Nothing => Ok(SyntaxKind::Nothing),
-        Word::Just => Ok(SyntaxKind::Just(boxed(alloc, rest, depth + 1, ended)?)),
-        Word::Type(of) => Ok(SyntaxKind::Keyword(of, boxed(alloc, rest, depth + 1, ended)?)),
+        Word::Just => {
+            let inner = value(alloc, rest, depth + 1, ended)?;
+            Ok(SyntaxKind::Just(Box::new(alloc, inner)?))
+        }
+        Word::Type(of) => {
+            let inner = value(alloc, rest, depth + 1, ended)?;
+            Ok(SyntaxKind::Keyword(of, Box::new(alloc, inner)?))
+        }
     }
 }
 
@@ -199,8 +174,8 @@ fn after_mark(
         Mark::OpenTuple => Ok(SyntaxKind::Tuple(members(alloc, rest, depth + 1, opened)?)),
         Mark::OpenBrace => braces(alloc, rest, depth + 1, opened),
         Mark::OpenVariant => {
-            let inner = boxed_before(alloc, rest, depth + 1, Mark::CloseVariant, opened)?;
-            Ok(SyntaxKind::Variant(inner))
+            let inner = value_before(alloc, rest, depth + 1, Mark::CloseVariant, opened)?;
+            Ok(SyntaxKind::Variant(Box::new(alloc, inner)?))
         }
         _ => unreachable!(),
     }

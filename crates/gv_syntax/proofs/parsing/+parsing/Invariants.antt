@@ -33,12 +33,6 @@ decreases-value::after_mark l = 8 * (129 - l.depth) + 1
 abbrev pub decreases-value::after_word : goal.decreases-value::after_word
 decreases-value::after_word l = 8 * (129 - l.depth) + 1
 
-abbrev pub decreases-value::boxed : goal.decreases-value::boxed
-decreases-value::boxed l = 8 * (129 - l.depth) + 5
-
-abbrev pub decreases-value::boxed_before : goal.decreases-value::boxed_before
-decreases-value::boxed_before l = 8 * (129 - l.depth) + 6
-
 abbrev pub decreases-value::value : goal.decreases-value::value
 decreases-value::value l = 8 * (129 - l.depth) + 4
 
