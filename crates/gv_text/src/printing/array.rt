@@ -7,7 +7,6 @@
 //! the second element on that text is written once, and then copied.
 ghost use Rattle.std.specs.Prelude.{◌≡◌, IfOk, ◌<◌, ◌++◌, true, false, IfSome, option_map, string_bytes};
 ghost use Rattle.gv_model.specs.Tree.{children, depth};
-ghost use Rattle.gv_model.specs.BasicValue.{text_in};
 ghost use Rattle.gv_model.specs.Printed.{comma, joined_by, holds_double};
 ghost use Rattle.gv_types.specs.Classes.{class_of};
 ghost use Rattle.gv_types.specs.TypeStr.{ty, element_of};
@@ -113,14 +112,7 @@ fn byte_string<'a>(view: View<'a>) -> Option<&'a [u8]>
     ensures plain { IfSome result (λ _. holds_double (value view.entry) ≡ false) }
     ensures levels { IfSome result (λ _. depth (value view.entry) ≡ 2) }
 {
-    byte_string_body(view.as_bytes()?)
-}
-
-/// The bytes before a zero byte that is the last and the only one.
-fn byte_string_body(bytes: &[u8]) -> Option<&[u8]>
-    ensures { option_map (λ b. b.now) result ≡ text_in bytes.now }
-{
-    let (last, body) = bytes.split_last()?;
+    let (last, body) = view.as_bytes()?.split_last()?;
     if *last == 0 && !body.contains(&0) {
         Some(body)
     } else {

@@ -16,19 +16,14 @@ pub(crate) fn push_quoted(to: &mut String, text: &str) -> Result<(), AllocError>
 {
     let quote = quote_for(text.as_bytes());
     to.push(quote)?;
-    push_chars(to, quote, text)?;
+    // All at once where each character stands for itself.
+    if is_plain(text.as_bytes(), quote) {
+        to.push_str(text)?;
+    } else {
+        push_each_char(to, quote, text)?;
+    }
     to.push(quote)?;
     Ok(())
-}
-
-/// Writes the characters of a text, all at once where each stands for itself.
-fn push_chars(to: &mut String, quote: char, text: &str) -> Result<(), AllocError>
-    ensures { OnOk result (string_bytes to.new ≡ string_bytes to.old ++ flat_map (char_text quote) (chars text.now)) }
-{
-    if is_plain(text.as_bytes(), quote) {
-        return to.push_str(text);
-    }
-    push_each_char(to, quote, text)
 }
 
 fn push_each_char(to: &mut String, quote: char, text: &str) -> Result<(), AllocError>
