@@ -17,7 +17,7 @@ use Rattle.dconf_model.specs.Sources.{Loaded, and_rows, loaded, rows_taken}
 use Rattle.dconf_path.specs.Paths.{key_text}
 use Rattle.dconf_path.specs.declared.path.KeyPath.{KeyPath}
 use Rattle.dconf_compile.specs.LineStops.{at_line}
-use Rattle.dconf_engine.specs.Rows.{rows_of}
+use Rattle.dconf_engine.specs.Loads.{rows_of}
 use Rattle.dconf_streams.specs.Answers.{Answered, GivesOutcome, RefusesFor}
 use Rattle.dconf_streams.specs.Inputs.{SameText}
 use Rattle.dconf_commands.specs.Loads.{RefusedLine}

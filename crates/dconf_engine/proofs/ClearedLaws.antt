@@ -9,14 +9,14 @@ use Rattle.dconf_model.specs.Changes.Change.{reset_below_directory}
 use Rattle.dconf_model.specs.Changes.Refusal.{not_writable}
 use Rattle.dconf_model.specs.Layers.{Layers}
 use Rattle.dconf_model.proofs.PathMaps.{key_in, no_truth}
-use Rattle.dconf_engine.specs.declared.layer.Layer.{Layer}
+use Rattle.dconf_layers.specs.declared.layer.Layer.{Layer}
 use Rattle.dconf_engine.specs.Cleared.{keeps, cleared, changed_paths, first_paths}
-use Rattle.dconf_engine.specs.Entries.{layer_paths}
-use Rattle.dconf_engine.specs.LayerSettings.{settings_of}
+use Rattle.dconf_layers.specs.LayerRows.{layer_paths}
+use Rattle.dconf_layers.specs.LayerSettings.{settings_of}
 use Rattle.dconf_engine.specs.Unsaved.{Unsaved, and_resets, with_changes}
-use Rattle.dconf_engine.proofs.EntryLaws.{each_is_there}
-use Rattle.dconf_engine.proofs.PathTests.{any_passing}
-use Rattle.dconf_engine.proofs.TextSetLaws.{get_with_all}
+use Rattle.dconf_layers.proofs.EntryLaws.{each_is_there}
+use Rattle.dconf_layers.proofs.PathTests.{any_passing}
+use Rattle.dconf_layers.proofs.TextSetLaws.{get_with_all}
 use Rattle.dconf_engine.proofs.UnsavedLaws.{kept_of}
 
 -- ---- all below a directory

@@ -1,15 +1,15 @@
 -- A first layer with changed values: it has other values, and nothing else is other.
-use Rattle.std.proofs.Common.{◌≡◌, ◌∙◌, ℕ, zero, suc, List, [], ◌∷◌, drop, Option, Some, None, refl, sym, ap, map, option_map, slice_get, subst}
+use Rattle.std.proofs.Common.{◌≡◌, ◌∙◌, ℕ, zero, suc, Bool, true, List, [], ◌∷◌, drop, Option, Some, None, refl, sym, ap, map, option_map, slice_get, subst}
 use Rattle.std.specs.Prelude.{option_and_then}
 use Rattle.std.proofs.lemmas.Option.{slice_get-map}
 use Rattle.std.specs.Option.{unwrap_or}
 use Rattle.std.specs.FinMap.{empty, get}
 use Rattle.dconf_model.specs.Changes.{Values, with_first_layer}
 use Rattle.dconf_model.specs.Explains.{lock_in, lock_of}
-use Rattle.dconf_model.specs.Layers.{Layers, first_from, place_or}
+use Rattle.dconf_model.specs.Layers.{Layers, first_from, place_or, without_user}
 use Rattle.dconf_model.specs.Settings.{Settings}
-use Rattle.dconf_engine.specs.declared.layer.Layer.{Layer}
-use Rattle.dconf_engine.specs.LayerSettings.{settings_of}
+use Rattle.dconf_layers.specs.declared.layer.Layer.{Layer}
+use Rattle.dconf_layers.specs.LayerSettings.{settings_of}
 use Rattle.dconf_engine.specs.Unsaved.{Unsaved, with_changes}
 use Rattle.dconf_engine.proofs.UnsavedLaws.{none_changed}
 
@@ -24,12 +24,34 @@ unchanged (s ∷ xs) = ap (λ (v : Values). record { values = v; locks = s.locks
 
 -- ---- where a value is
 
-pub place_first : (c : Unsaved) (items : List Layer) (first : Layer) (path : List ℕ) (ls : List Settings) → slice_get items 0 ≡ Some first → with_first_layer (with_changes c) (map settings_of items) ≡ ls →
-    place_or 0 (get (with_changes c (settings_of first).values) path) (first_from 1 (drop 1 ls) path) ≡ first_from 0 ls path
-place_first c [] first path ls e are = absurd cc
-place_first c (x ∷ items) first path ls e are =
-    subst (λ ls. place_or 0 (get (with_changes c (settings_of first).values) path) (first_from 1 (drop 1 ls) path) ≡ first_from 0 ls path) are
-    (ap (λ (o : Option Layer). place_or 0 (get (with_changes c (settings_of (unwrap_or o x)).values) path) (first_from 1 (map settings_of items) path)) (sym e))
+-- where the first layer has what was changed, else what its file says
+module _ (c : Unsaved) (path : List ℕ) (ls : List Settings) where
+  first_is : (x : Layer) (items : List Layer) (o : Option (Option (List ℕ))) → with_first_layer (with_changes c) (map settings_of (x ∷ items)) ≡ ls → get c path ≡ o →
+      first_from 0 ls path ≡ place_or 0 (unwrap_or o (get (settings_of x).values path)) (first_from 1 (map settings_of items) path)
+  first_is x items o are is =
+      sym (ap (λ ls. first_from 0 ls path) are)
+      ∙ ap (λ b. place_or 0 b (first_from 1 (map settings_of items) path)) (get_changed c (settings_of x).values path ∙ ap (λ o. unwrap_or o (get (settings_of x).values path)) is)
+
+  pub place_unchanged : (items : List Layer) → with_first_layer (with_changes c) (map settings_of items) ≡ ls → get c path ≡ None → first_from 0 (map settings_of items) path ≡ first_from 0 ls path
+  place_unchanged [] are none = ap (λ ls. first_from 0 ls path) are
+  place_unchanged (x ∷ items) are none = sym (first_is x items None are none)
+
+  pub place_reset : (items : List Layer) → with_first_layer (with_changes c) (map settings_of items) ≡ ls → get c path ≡ Some None → first_from 1 (drop 1 (map settings_of items)) path ≡ first_from 0 ls path
+  place_reset [] are reset = ap (λ ls. first_from 0 ls path) are
+  place_reset (x ∷ items) are reset = sym (first_is x items (Some None) are reset)
+
+  pub place_set : (items : List Layer) (bytes : List ℕ) → with_first_layer (with_changes c) (map settings_of items) ≡ ls → get c path ≡ Some (Some bytes) → ¬ (items ≡ []) → Some (0, bytes) ≡ first_from 0 ls path
+  place_set [] bytes are is some = absurd (some refl)
+  place_set (x ∷ items) bytes are is some = sym (first_is x items (Some (Some bytes)) are is)
+
+  pub place_nowhere : (items : List Layer) → with_first_layer (with_changes c) (map settings_of items) ≡ ls → items ≡ [] → None ≡ first_from 0 ls path
+  place_nowhere items are none = ap (λ ls. first_from 0 ls path) (sym (ap (λ (items : List Layer). with_first_layer (with_changes c) (map settings_of items)) none) ∙ are)
+
+-- without the user's values nothing is changed
+pub default_same : (change : Values → Values) (xs : List Settings) (writable : Bool) → writable ≡ true →
+    without_user (record { layers = xs; writable = writable }) ≡ without_user (record { layers = with_first_layer change xs; writable = writable })
+default_same change [] writable e = refl
+default_same change (s ∷ xs) writable e = rw e refl
 
 -- a later layer has what its file says
 pub bytes_later : (c : Unsaved) (items : List Layer) (i : ℕ) (layer : Layer) (path : List ℕ) (ls : List Settings) → (i ≡ 0 → ⊥) → slice_get items i ≡ Some layer →
@@ -55,7 +77,3 @@ no_lock_later c [] (suc i) path l later e are = ap (λ ls. option_and_then (lock
 no_lock_later c (x ∷ items) (suc i) path l later e are =
     subst (λ ls. None ≡ option_and_then (lock_of path) (slice_get ls (suc i))) are
     (sym (ap (option_and_then (lock_of path)) (slice_get-map settings_of items i ∙ ap (option_map settings_of) e)))
-
-pub place_nowhere : (c : Unsaved) (items : List Layer) (path : List ℕ) (ls : List Settings) → slice_get items 0 ≡ None → with_first_layer (with_changes c) (map settings_of items) ≡ ls → None ≡ first_from 0 ls path
-place_nowhere c [] path ls e are = ap (λ (ls : List Settings). first_from 0 ls path) are
-place_nowhere c (x ∷ items) path ls e are = absurd cc

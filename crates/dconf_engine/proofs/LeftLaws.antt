@@ -19,16 +19,16 @@ use Rattle.dconf_model.proofs.ParentLaws.{by_bool}
 use Rattle.dconf_model.proofs.PathMaps.{key_in, no_truth}
 use Rattle.dconf_model.proofs.SameBytes.{same_path}
 use Rattle.gvdb_write.proofs.KeysRise.{from_true}
-use Rattle.dconf_engine.specs.declared.layer.Layer.{Layer}
-use Rattle.dconf_engine.specs.Entries.{layer_paths}
-use Rattle.dconf_engine.specs.LayerSettings.{settings_of}
+use Rattle.dconf_layers.specs.declared.layer.Layer.{Layer}
+use Rattle.dconf_layers.specs.LayerRows.{layer_paths}
+use Rattle.dconf_layers.specs.LayerSettings.{settings_of}
 use Rattle.dconf_engine.specs.LeftPaths.{base_paths, has_reset_below, is_reset_below, unchanged_of, with_set_child, with_set_children}
-use Rattle.dconf_engine.specs.TextSets.{TextSet, with_child, with_children}
+use Rattle.dconf_layers.specs.TextSets.{TextSet, with_child, with_children}
 use Rattle.dconf_engine.specs.Unsaved.{Unsaved, with_changes}
-use Rattle.dconf_engine.proofs.EntryLaws.{has_path}
-use Rattle.dconf_engine.proofs.PathTests.{any_passing}
+use Rattle.dconf_layers.proofs.EntryLaws.{has_path}
+use Rattle.dconf_layers.proofs.PathTests.{any_passing}
 use Rattle.dconf_engine.proofs.SavedLaws.{find_below}
-use Rattle.dconf_engine.proofs.TextSetLaws.{children_alike}
+use Rattle.dconf_layers.proofs.TextSetLaws.{children_alike}
 use Rattle.dconf_engine.proofs.UnsavedLaws.{get_changed}
 
 abbrev pub Entries : Type 0

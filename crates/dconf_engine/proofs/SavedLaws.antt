@@ -1,6 +1,6 @@
 -- The settings that are put together of what a layer has and what was set are the user's, without locks.
-use Rattle.std.proofs.Common.{◌≡◌, ℕ, Bool, true, false, cond, List, [], ◌∷◌, Option, Some, None, is_some, refl, sym, ap, ◌∙◌, subst, ◌||◌}
-use Rattle.std.specs.List.{fold, list_any}
+use Rattle.std.proofs.Common.{◌≡◌, ℕ, suc, arith, Bool, true, false, cond, List, [], ◌∷◌, Option, Some, None, is_some, refl, sym, ap, ◌∙◌, subst, ◌||◌}
+use Rattle.std.specs.List.{All, fold, list_any}
 use Rattle.std.specs.Option.{option_or, unwrap_or}
 use Rattle.std.specs.Str.{bytes_eq}
 use Rattle.std.specs.Cmp.Lexicographic.{slice_cmp}
@@ -12,18 +12,17 @@ use Rattle.std.proofs.lemmas.Bool.{and_parts}
 use Rattle.dconf_model.specs.Settings.{Settings, no_settings}
 use Rattle.dconf_model.specs.Changes.{Values, saved, with_first_layer}
 use Rattle.std.proofs.Common.{◌≤◌, length, slice_get, map, Result, Ok, Err, Vec}
-use Rattle.std.specs.Prelude.{IfOk, IfSome, string_bytes}
+use Rattle.std.specs.Prelude.{IfOk}
 use Rattle.std.specs.declared.alloc.Global.{Global}
 use Rattle.dconf_model.specs.Bytes.{longest_file}
 use Rattle.dconf_model.specs.Databases.{IsDatabaseOf}
 use Rattle.dconf_model.specs.Opening.{IsDatabase, root_of}
 use Rattle.dconf_model.specs.Plans.{HoldsValues, HoldsLocks, HasLength}
 use Rattle.dconf_model.specs.Sound.{IsSound}
-use Rattle.dconf_engine.specs.declared.entry.Entry.{Entry}
-use Rattle.dconf_engine.specs.declared.layer.Layer.{Layer}
-use Rattle.dconf_engine.specs.Entries.{layer_paths, path_of_entry}
-use Rattle.dconf_engine.specs.LayerSettings.{settings_of}
-use Rattle.dconf_engine.proofs.EntryLaws.{each_is_there}
+use Rattle.dconf_layers.specs.declared.layer.Layer.{Layer}
+use Rattle.dconf_layers.specs.LayerRows.{layer_rows, paths_of}
+use Rattle.dconf_layers.specs.LayerSettings.{settings_of}
+use Rattle.dconf_layers.proofs.EntryLaws.{each_is_there, rows_are}
 use Rattle.dconf_model.proofs.ParentLaws.{by_bool}
 use Rattle.dconf_model.proofs.PathMaps.{get_inserted, eq_turned}
 use Rattle.dconf_model.proofs.SameBytes.{same_path}
@@ -123,12 +122,21 @@ together None None true each = refl
 together None None false each = refl
 together None (Some bytes) listed each = ap (λ b. cond b (Some bytes) None) (each bytes refl)
 
-pub put_together : (base : Values) (u : Unsaved) (ps : List (List ℕ)) → ((p bytes : List ℕ) → get base p ≡ Some bytes → list_any (bytes_eq p) ps ≡ true) →
-    with_sets (entries u) (with_unchanged base u ps no_settings) ≡ record { values = with_changes u base; locks = empty }
-put_together base u ps each =
-    let s = with_unchanged base u ps no_settings in
-    let whole = with_sets (entries u) s in
+-- rows that the values have, by their paths
+by_paths : (base : Values) (u : Unsaved) (rows : List (List ℕ × List ℕ)) (s : Settings) → All (λ row. get base row.0 ≡ Some row.1) rows →
+    with_unchanged u rows s ≡ fold (λ s p. set_if s p (cond (contains_key u p) None (get base p))) s (paths_of rows)
+by_paths base u [] s are = refl
+by_paths base u (row ∷ rows) s are =
+    by_paths base u rows (unless_changed u s row.0 (Some row.1)) (λ k d lt. are (suc k) d (omega (arith, lt)))
+    ∙ ap (λ o. fold (λ s p. set_if s p (cond (contains_key u p) None (get base p))) (unless_changed u s row.0 o) (paths_of rows)) (sym (are 0 row (omega arith)))
+
+pub put_together : (base : Values) (u : Unsaved) (rows : List (List ℕ × List ℕ)) → All (λ row. get base row.0 ≡ Some row.1) rows → ((p bytes : List ℕ) → get base p ≡ Some bytes → list_any (bytes_eq p) (paths_of rows) ≡ true) →
+    with_sets (entries u) (with_unchanged u rows no_settings) ≡ record { values = with_changes u base; locks = empty }
+put_together base u rows are each =
+    let ps = paths_of rows in
     let left : List ℕ → Option (List ℕ) = (λ p. cond (contains_key u p) None (get base p)) in
+    let s : Settings = fold (λ s p. set_if s p (left p)) no_settings ps in
+    let whole = with_sets (entries u) s in
     let values : whole.values ≡ with_changes u base = at_paths whole.values (with_changes u base) (λ q.
     get_sets (entries u) s q (from_true _ (fin.entries_sorted u))
     ∙ ap (λ c. set_or c (get s.values q)) (sym (fin.get-entries u q))
@@ -136,28 +144,21 @@ put_together base u ps each =
     ∙ together (get u q) (get base q) (list_any (bytes_eq q) ps) (λ bytes e. each q bytes e)
     ∙ sym (get_changed u base q)) in
     let locks : whole.locks ≡ empty = sets_locks (entries u) s ∙ valued_locks left ps no_settings in
-    λ i. record { values = values i; locks = locks i }
+    ap (with_sets (entries u)) (by_paths base u rows no_settings are) ∙ (λ i. record { values = values i; locks = locks i })
 
 -- ---- the first layer
 
 pub saved_first : (c : Unsaved) (items : List Layer) (item : Layer) → slice_get items 0 ≡ Some item →
-    with_sets (entries c) (with_unchanged (settings_of item).values c (layer_paths item) no_settings)
+    with_sets (entries c) (with_unchanged c (layer_rows item) no_settings)
     ≡ saved (with_first_layer (with_changes c) (map settings_of items))
 saved_first c [] item e = absurd cc
 saved_first c (x ∷ items) item e =
-    put_together (settings_of item).values c (layer_paths item) (each_is_there item)
+    put_together (settings_of item).values c (layer_rows item) (rows_are item) (each_is_there item)
     ∙ ap (λ (o : Option Layer). saved_values o) (sym e)
   where
     saved_values : Option Layer → Settings
     saved_values (Some i) = record { values = with_changes c (settings_of i).values; locks = empty }
     saved_values None = no_settings
-
--- an entry
-pub entry_taken : (values : Values) (u : Unsaved) (s : Settings) (found : Option Entry) (e : Entry) (ps : List (List ℕ)) → found ≡ Some e → path_of_entry found ≡ ps →
-    IfSome found (λ e. get values (string_bytes e.text) ≡ Some e.bytes.now) → unless_changed u s (string_bytes e.text) (Some e.bytes.now) ≡ with_unchanged values u ps s
-entry_taken values u s found e ps is path bytes =
-    let there : get values (string_bytes e.text) ≡ Some e.bytes.now = subst (λ (o : Option Entry). IfSome o (λ e. get values (string_bytes e.text) ≡ Some e.bytes.now)) is bytes in
-    ap (unless_changed u s (string_bytes e.text)) (sym there) ∙ ap (λ (ps : List (List ℕ)). with_unchanged values u ps s) (ap path_of_entry (sym is) ∙ path)
 
 -- ---- the file
 

@@ -10,14 +10,14 @@ use Rattle.dconf_model.specs.Changes.Change.{set_value, reset_value, load_values
 use Rattle.dconf_model.specs.Changes.Refusal.{not_writable, locked, too_large}
 use Rattle.dconf_model.proofs.ParentLaws.{by_bool}
 use Rattle.dconf_engine.specs.declared.change_fault.ChangeFault.{ChangeFault}
-use Rattle.dconf_engine.specs.declared.layer.Layer.{Layer}
+use Rattle.dconf_layers.specs.declared.layer.Layer.{Layer}
 use Rattle.dconf_engine.specs.EngineLayers.{layers_of}
-use Rattle.dconf_engine.specs.LayerSettings.{settings_of}
+use Rattle.dconf_layers.specs.LayerSettings.{settings_of}
 use Rattle.dconf_engine.specs.ChangeFaults.{refusal_of, Refuses, path_refusal, rows_refusal}
 use Rattle.std.specs.List.{position_from}
 use Rattle.dconf_path.specs.declared.path.KeyPath.{KeyPath}
 use Rattle.dconf_path.specs.Paths.{key_text}
-use Rattle.dconf_engine.specs.Rows.{rows_of, not_locked}
+use Rattle.dconf_engine.specs.Loads.{rows_of, not_locked}
 use Rattle.dconf_engine.specs.Unsaved.{Unsaved, with_changes}
 
 -- ---- the first layer's values

@@ -2,8 +2,8 @@
 use Rattle.std.specs.Prelude.{ℕ, List, [], ◌∷◌, Option, Bool, true, filter, not, map, if◌then◌else◌}
 use Rattle.dconf_model.specs.Layers.{Layers, is_locked}
 use Rattle.dconf_model.specs.Locks.{is_below}
-use Rattle.dconf_engine.specs.declared.layer.Layer.{Layer}
-use Rattle.dconf_engine.specs.Entries.{layer_paths}
+use Rattle.dconf_layers.specs.declared.layer.Layer.{Layer}
+use Rattle.dconf_layers.specs.LayerRows.{layer_paths}
 
 -- one elsewhere keeps its value, and a locked one does
 abbrev pub keeps : Layers → List ℕ → List ℕ → Bool

@@ -2,8 +2,8 @@
 use Rattle.std.specs.Prelude.{List, Bool, map}
 use Rattle.dconf_model.specs.Changes.{with_first_layer}
 use Rattle.dconf_model.specs.Layers.{Layers}
-use Rattle.dconf_engine.specs.declared.layer.Layer.{Layer}
-use Rattle.dconf_engine.specs.LayerSettings.{settings_of}
+use Rattle.dconf_layers.specs.declared.layer.Layer.{Layer}
+use Rattle.dconf_layers.specs.LayerSettings.{settings_of}
 use Rattle.dconf_engine.specs.Unsaved.{Unsaved, with_changes}
 
 abbrev pub layers_of : Unsaved → List Layer → Bool → Layers

@@ -1,8 +1,7 @@
 -- The settings that are saved, as they are put together: what a layer has at paths that were not changed, and what was set.
 use Rattle.std.specs.Prelude.{ℕ, List, Option, Some, None, fold, cond}
-use Rattle.std.specs.FinMap.{get, contains_key}
+use Rattle.std.specs.FinMap.{contains_key}
 use Rattle.dconf_model.specs.Settings.{Settings, with_value}
-use Rattle.dconf_model.specs.Changes.{Values}
 use Rattle.dconf_engine.specs.Unsaved.{Unsaved}
 
 abbrev pub set_if : Settings → List ℕ → Option (List ℕ) → Settings
@@ -13,13 +12,9 @@ set_if s path None = s
 abbrev pub unless_changed : Unsaved → Settings → List ℕ → Option (List ℕ) → Settings
 unless_changed changes s path bytes = set_if s path (cond (contains_key changes path) None bytes)
 
--- with what the values have at a path, unless it was changed
-abbrev pub and_unchanged : Values → Unsaved → Settings → List ℕ → Settings
-and_unchanged values changes s path = unless_changed changes s path (get values path)
-
--- with what they have at these paths
-abbrev pub with_unchanged : Values → Unsaved → List (List ℕ) → Settings → Settings
-with_unchanged values changes paths s = fold (and_unchanged values changes) s paths
+-- with these rows, paths and bytes, of which those are left out that were changed
+abbrev pub with_unchanged : Unsaved → List (List ℕ × List ℕ) → Settings → Settings
+with_unchanged changes rows s = fold (λ s row. unless_changed changes s row.0 (Some row.1)) s rows
 
 -- with each path set that was set
 abbrev pub with_sets : List (List ℕ × Option (List ℕ)) → Settings → Settings

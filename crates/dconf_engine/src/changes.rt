@@ -1,7 +1,7 @@
 //! Changes of the first layer that are not saved yet: at each path that was changed the bytes that it was set to, or
 //! that it was reset.
 ghost use Rattle.std.specs.Prelude.{◌≡◌, ◌↔◌, IsTrue, Some, None, OnOk, OnErr, IfOk, option_map, string_bytes};
-ghost use Rattle.std.specs.FinMap.{empty, entries, get, insert};
+ghost use Rattle.std.specs.FinMap.{contains_key, empty, entries, get, insert};
 ghost use Rattle.dconf_model.specs.Paths.{is_key_path};
 ghost use Rattle.dconf_path.specs.Paths.{key_text};
 ghost use Rattle.dconf_engine.specs.Edits.{edit_bytes};
@@ -89,18 +89,18 @@ impl Changes {
         Changes { alloc, edits }
     }
 
-    /// Whether nothing was changed.
-    pub(crate) fn is_empty(&self) -> bool
-        ensures { IsTrue result ↔ (self.now ≡ empty) }
-    {
-        self.edits.is_empty()
-    }
-
     /// What was done at a path, if anything was. It compares as many paths as the map is deep.
     pub(crate) fn get(&self, path: &str) -> Option<&Edit>
         ensures { option_map (λ edit. edit_bytes edit.now) result ≡ get self.now path.now }
     {
         self.edits.get(path)
+    }
+
+    /// Whether a path was changed.
+    pub(crate) fn has(&self, path: &str) -> bool
+        ensures { result ≡ contains_key self.now path.now }
+    {
+        self.get(path).is_some()
     }
 
     /// Sets a path to these bytes, whatever was changed there before.

@@ -1,22 +1,19 @@
 //! The layers of a profile's databases, and what is seen through them.
-ghost use Rattle.std.specs.Prelude.{◌≡◌, IfErr, IfOk, IfSome, List, None, Some, length, map, option_map, drop, ℕ};
-ghost use Rattle.std.specs.FinMap.{get};
+ghost use Rattle.std.specs.Prelude.{◌≡◌, IfErr, IfOk, IfSome, List, None, Some, length, map, option_map, drop, true, ℕ};
 ghost use Rattle.gv_view.specs.Views.{value};
 ghost use Rattle.gvdb_read.specs.Lookups.{ShowsHeld};
 ghost use Rattle.dconf_model.specs.Databases.{AreLayers, IsFirstBad};
-ghost use Rattle.dconf_model.specs.Layers.{first_from, is_locked, level, origin, place_of, visible, visible_bytes, without_user};
+ghost use Rattle.dconf_model.specs.Layers.{first_from, is_locked, origin, place_of, visible, visible_bytes, without_user};
 ghost use Rattle.dconf_model.specs.Profiles.{has_writable};
 ghost use Rattle.dconf_path.specs.Paths.{key_text};
 ghost use Rattle.dconf_path.specs.Profiles.{databases_of};
 ghost use Rattle.dconf_engine.specs.Faults.{bad_of};
-ghost use Rattle.dconf_engine.specs.Files.{bytes_of_files};
-ghost use Rattle.dconf_engine.specs.LayerSettings.{settings_of};
-ghost use Rattle.dconf_engine.specs.Unsaved.{with_changes};
+ghost use Rattle.dconf_layers.specs.Files.{bytes_of_files};
+ghost use Rattle.dconf_layers.specs.LayerSettings.{settings_of};
 
 use crate::changes::Changes;
 use crate::fault::EngineFault;
-use crate::layer::Layer;
-use crate::lent::LentLayers;
+use dconf_layers::{Layer, LentLayers};
 use dconf_path::{DatabaseKind, KeyPath, Profile};
 use gv_view::View;
 use std::alloc::{AllocError, Global};
@@ -59,7 +56,7 @@ impl<'a> fmt::Debug for Engine<'a> {
 }
 
 impl<'a> Engine<'a> {
-    ghost use Rattle.dconf_engine.specs.LentSettings.{seen_in};
+    ghost use Rattle.dconf_layers.specs.LentSettings.{seen_in};
 
     /// Opens the databases of a profile. For each there is the bytes of its file, or None where there is no file: that is
     /// an empty database.
@@ -132,7 +129,7 @@ impl<'a> Engine<'a> {
     pub fn is_locked(&self, path: KeyPath<'_>) -> bool
         ensures { result ≡ is_locked self.now (key_text path.entry) }
     {
-        self.level(path) > 0
+        self.lent().is_locked(path)
     }
 
     /// The index of the database whose value is seen at a path, or None where none is.
@@ -150,57 +147,50 @@ impl<'a> Engine<'a> {
         self.writable
     }
 
-    /// Where the value that is seen at a path is: its layer, and its bytes.
+    /// Where the value that is seen at a path is: its layer, and its bytes. For the values of all layers the path is
+    /// hashed once.
     fn place(&self, path: KeyPath<'_>) -> Option<(usize, &[u8])>
         ensures { option_map {U = ℕ × List ℕ} (λ p. (p.0, p.1.now)) result ≡ place_of self.now (key_text path.entry) }
     {
-        self.place_from(self.level(path), path)
+        let lent = self.lent();
+        let level = lent.level(path);
+        if level == 0 {
+            return self.first_place(path);
+        }
+        lent.place_from(level, path)
     }
 
     /// The same without the values of the user's database.
     fn default_place(&self, path: KeyPath<'_>) -> Option<(usize, &[u8])>
         ensures { option_map {U = ℕ × List ℕ} (λ p. (p.0, p.1.now)) result ≡ place_of (without_user self.now) (key_text path.entry) }
     {
-        let level = self.level(path);
-        if self.writable && level == 0 {
-            return self.place_from(1, path);
+        if self.writable {
+            return self.lent().default_place(path);
         }
-        self.place_from(level, path)
-    }
-
-    /// The greatest index of at least 1 whose layer locks the path; else 0.
-    fn level(&self, path: KeyPath<'_>) -> usize
-        ensures { result ≡ level self.now (key_text path.entry) }
-    {
-        self.lent().level(path)
-    }
-
-    /// The first layer from that one on that has the path, and the bytes of its value.
-    fn place_from(&self, from: usize, path: KeyPath<'_>) -> Option<(usize, &[u8])>
-        ensures { option_map {U = ℕ × List ℕ} (λ p. (p.0, p.1.now)) result ≡ first_from from (drop from self.now.layers) (key_text path.entry) }
-    {
-        if from == 0 {
-            return self.first_place(path);
-        }
-        self.lent().place_from(from, path)
+        self.place(path)
     }
 
     /// The first layer of all that has the path, and the bytes of its value.
     fn first_place(&self, path: KeyPath<'_>) -> Option<(usize, &[u8])>
         ensures { option_map {U = ℕ × List ℕ} (λ p. (p.0, p.1.now)) result ≡ first_from 0 self.now.layers (key_text path.entry) }
     {
-        let Some(first) = self.layers.first() else {
-            return None;
+        let lent = LentLayers::new(self.writable, &self.layers);
+        let Some(edit) = self.changes.get(path.as_str()) else {
+            return lent.place_from(0, path);
         };
-        match changed_bytes(&self.changes, *first, path) {
-            Some(bytes) => Some((0, bytes)),
-            None => self.lent().place_from(1, path),
+        let Some(bytes) = edit.bytes() else {
+            return lent.place_from(1, path);
+        };
+        if self.layers.is_empty() {
+            return None;
         }
+        Some((0, bytes))
     }
 
-    /// The layers as their files have them: from the second on they are its own.
+    /// The layers as their files have them.
     fn lent(&self) -> LentLayers<'a, '_>
-        ensures { drop 1 (seen_in result).layers ≡ drop 1 self.now.layers }
+        ensures later { drop 1 (seen_in result).layers ≡ drop 1 self.now.layers }
+        ensures default { self.now.writable ≡ true → without_user (seen_in result) ≡ without_user self.now }
     {
         LentLayers::new(self.writable, &self.layers)
     }
@@ -210,20 +200,6 @@ impl<'a> Engine<'a> {
         ensures { result ≡ length self.now.layers }
     {
         self.layers.len()
-    }
-}
-
-/// The bytes of a layer's value at a path: those of a change where there is one, else those of its file.
-pub(crate) fn changed_bytes<'l>(
-    changes: &'l Changes,
-    layer: Layer<'l>,
-    path: KeyPath<'_>,
-) -> Option<&'l [u8]>
-    ensures { option_map (λ bytes. bytes.now) result ≡ get (with_changes changes.now (settings_of layer.entry).values) (key_text path.entry) }
-{
-    match changes.get(path.as_str()) {
-        Some(edit) => edit.bytes(),
-        None => layer.get(path.as_str()),
     }
 }
 

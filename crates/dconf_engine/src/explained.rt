@@ -1,14 +1,15 @@
 //! What each layer has for a key, locked or not: what explains the value that is seen.
-ghost use Rattle.std.specs.Prelude.{◌≡◌, ◌<◌, ◌≤◌, ◌&&◌, IsTrue, None, Some, if◌then◌else◌, length, option_and_then, option_map, slice_get, take};
-ghost use Rattle.std.specs.FinMap.{contains_key, get};
+ghost use Rattle.std.specs.Prelude.{◌≡◌, option_and_then, option_map, slice_get};
+ghost use Rattle.std.specs.FinMap.{get};
 ghost use Rattle.gv_view.specs.Views.{value};
-ghost use Rattle.dconf_model.specs.Explains.{lock_in, lock_of, value_in};
-ghost use Rattle.dconf_model.specs.Locks.{covers};
-ghost use Rattle.dconf_model.specs.Paths.{is_key_path, is_path};
+ghost use Rattle.dconf_model.specs.Explains.{lock_in, value_in};
 ghost use Rattle.dconf_path.specs.Paths.{key_text};
+ghost use Rattle.dconf_layers.specs.LayerSettings.{settings_of};
+ghost use Rattle.dconf_engine.specs.Unsaved.{with_changes};
 
-use crate::engine::{Engine, changed_bytes};
-use crate::layer::Layer;
+use crate::changes::Changes;
+use crate::engine::Engine;
+use dconf_layers::Layer;
 use dconf_path::KeyPath;
 use gv_view::View;
 
@@ -52,59 +53,16 @@ impl Engine<'_> {
     }
 }
 
-impl Layer<'_> {
-    ghost use Rattle.dconf_engine.specs.LayerSettings.{settings_of};
-
-    /// The lock that covers a key: its own path where that is locked, else the nearest directory that is.
-    pub(crate) fn lock_of<'p>(self, path: KeyPath<'p>) -> Option<&'p str>
-        ensures { option_map (λ lock. lock.now) result ≡ lock_of (key_text path.entry) (settings_of self.entry) }
-    {
-        let path = path.as_str();
-        let mut n = path.len();
-        while n > 0 {
-            if let Some(lock) = self.lock_of_length(path, n) {
-                return Some(lock);
-            }
-            n -= 1;
-        }
-        None
-    }
-
-    /// The first `n` bytes of a key's path, where they are a lock that covers it.
-    fn lock_of_length(self, path: &str, n: usize) -> Option<&str>
-        requires key { IsTrue (is_key_path path.now) }
-        requires some { 0 < n }
-        requires within { n ≤ length path.now }
-        ensures { option_map (λ lock. lock.now) result ≡ (if contains_key (settings_of self.entry).locks (take n path.entry.now) && covers (take n path.entry.now) path.entry.now then Some (take n path.entry.now) else None) }
-    {
-        if !covers_at(path, n) {
-            return None;
-        }
-        let start = &path[..n];
-        if self.has_lock(start) {
-            Some(start)
-        } else {
-            None
-        }
-    }
-
-    /// Whether a path is a lock of the layer.
-    fn has_lock(self, path: &str) -> bool
-        requires { IsTrue (is_path path.now) }
-        ensures { result ≡ contains_key (settings_of self.entry).locks path.now }
-    {
-        match self.locks() {
-            Some(locks) => locks.has(path),
-            None => false,
-        }
-    }
-}
-
-/// Whether the first `n` bytes of a path cover it, as the path of a lock does: they are all, or end in `/`.
-fn covers_at(path: &str, n: usize) -> bool
-    requires some { 0 < n }
-    requires within { n ≤ length path.now }
-    ensures { result ≡ covers (take n path.now) path.now }
+/// The bytes of a layer's value at a path: those of a change where there is one, else those of its file.
+fn changed_bytes<'l>(
+    changes: &'l Changes,
+    layer: Layer<'l>,
+    path: KeyPath<'_>,
+) -> Option<&'l [u8]>
+    ensures { option_map (λ bytes. bytes.now) result ≡ get (with_changes changes.now (settings_of layer.entry).values) (key_text path.entry) }
 {
-    n == path.len() || path.as_bytes()[n - 1] == b'/'
+    match changes.get(path.as_str()) {
+        Some(edit) => edit.bytes(),
+        None => layer.get(path.as_str()),
+    }
 }

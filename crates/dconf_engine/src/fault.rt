@@ -1,38 +1,11 @@
-//! Why databases are refused, and why a call has no answer.
+//! Why an engine doesn't open.
 ghost use Rattle.std.specs.Prelude.{◌≡◌};
 ghost use Rattle.dconf_engine.specs.declared.fault.EngineFault.TheVariants.{Memory};
 
-use gvdb_read::{OpenFault, Unsound};
+use dconf_layers::DatabaseFault;
 use std::alloc::{AllocError, AllocFailed};
 use std::error::Error;
 use std::fmt;
-
-/// Why bytes are refused as a database of a profile. A fault is printed as that of the two which it is, with `unsound: `
-/// before a broken rule.
-#[derive(Clone, Copy, Debug, PartialEq, Eq)]
-pub enum DatabaseFault {
-    /// The bytes open as no database.
-    NoDatabase(OpenFault),
-    /// They open, and break a rule of sound databases.
-    Unsound(Unsound),
-}
-
-impl fmt::Display for DatabaseFault {
-    ghost use Rattle.std.specs.Prelude.{Some};
-    ghost use Rattle.dconf_model.specs.Outcomes.{verdict_text};
-    ghost use Rattle.dconf_engine.specs.Faults.{verdict_of};
-
-    ghost output = { λ fault. Some (verdict_text (verdict_of fault)) };
-
-    fn fmt<W: fmt::Write>(&self, f: &mut fmt::Formatter<W>) -> fmt::Result {
-        match self {
-            DatabaseFault::NoDatabase(fault) => write!(f, "{fault}"),
-            DatabaseFault::Unsound(unsound) => write!(f, "unsound: {unsound}"),
-        }
-    }
-}
-
-impl Error for DatabaseFault {}
 
 /// Why an engine doesn't open. A bad database is printed with its index and its fault, and want of memory as `Memory`.
 #[derive(Clone, Copy, Debug, PartialEq, Eq)]

@@ -21,27 +21,16 @@
 
 mod change_fault;
 mod changes;
-mod differences;
 mod engine;
-mod entry;
 mod explained;
 mod fault;
-mod layer;
-mod layer_lists;
-mod lent;
 mod listing;
 mod remaining;
 mod reset;
-mod same_values;
 mod stored_bytes;
-mod texts;
-mod twins;
 mod user_database;
 mod write;
 
 pub use change_fault::ChangeFault;
 pub use engine::Engine;
-pub use fault::{DatabaseFault, EngineFault};
-pub use layer::Layer;
-pub use lent::LentLayers;
-pub use same_values::show_same;
+pub use fault::EngineFault;

@@ -2,14 +2,13 @@
 ghost use Rattle.std.specs.Prelude.{◌≡◌, IfOk, OnOk, drop, map, string_bytes};
 ghost use Rattle.dconf_model.specs.Layers.{all_locks, all_paths, child_names, locks_below};
 ghost use Rattle.dconf_path.specs.Paths.{directory_text};
-ghost use Rattle.dconf_engine.specs.LayerSettings.{settings_of};
-ghost use Rattle.dconf_engine.specs.LockNames.{locks_under};
-ghost use Rattle.dconf_engine.specs.TextSets.{with_children, with_texts};
+ghost use Rattle.dconf_layers.specs.LayerSettings.{settings_of};
+ghost use Rattle.dconf_layers.specs.LockNames.{locks_under};
+ghost use Rattle.dconf_layers.specs.TextSets.{with_children, with_texts};
 
 use crate::engine::Engine;
-use crate::layer::Layer;
 use crate::remaining::add_with_changes;
-use crate::texts::Texts;
+use dconf_layers::{Layer, Texts};
 use dconf_path::DirPath;
 use std::alloc::{AllocError, Global};
 

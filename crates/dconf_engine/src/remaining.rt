@@ -1,18 +1,16 @@
 //! What a directory has in the first layer, with what was changed there.
 ghost use Rattle.std.specs.Prelude.{◌≡◌, OnOk};
-ghost use Rattle.std.specs.FinMap.{contains_key, entries, keys};
+ghost use Rattle.std.specs.FinMap.{entries, keys};
 ghost use Rattle.dconf_path.specs.Paths.{directory_text};
-ghost use Rattle.dconf_engine.specs.Entries.{layer_paths};
-ghost use Rattle.dconf_engine.specs.LayerSettings.{settings_of};
+ghost use Rattle.dconf_layers.specs.LayerRows.{layer_paths};
+ghost use Rattle.dconf_layers.specs.LayerSettings.{settings_of};
 ghost use Rattle.dconf_engine.specs.LeftPaths.{base_paths, has_reset_below, is_reset_below, unchanged_of, with_set_child, with_set_children};
-ghost use Rattle.dconf_engine.specs.TextSets.{with_child, with_children};
+ghost use Rattle.dconf_layers.specs.TextSets.{with_child, with_children};
 ghost use Rattle.dconf_engine.specs.Unsaved.{with_changes};
 ghost use Rattle.dconf_engine.specs.UnsavedLeft.{entry_changed};
 
 use crate::changes::{Changed, Changes};
-use crate::layer::Layer;
-use crate::layer_lists::is_under;
-use crate::texts::Texts;
+use dconf_layers::{Layer, Texts, is_under};
 use dconf_path::DirPath;
 use std::alloc::{AllocError, Global};
 
@@ -59,21 +57,13 @@ fn add_unchanged(
 ) -> Result<(), AllocError>
     ensures { OnOk result (names.new ≡ with_children (directory_text directory.entry) (unchanged_of changes.now (layer_paths layer.entry)) names.old) }
 {
-    for i in 0..layer.n_items() {
-        if let Some(entry) = layer.entry_at(alloc, i)? {
-            if !is_changed(changes, entry.as_str()) {
-                names.add_child(directory.as_str(), entry.as_str())?;
-            }
+    for entry in layer.entries() {
+        let path = entry.path(alloc)?;
+        if !changes.has(path.as_str()) {
+            names.add_child(directory.as_str(), path.as_str())?;
         }
     }
     Ok(())
-}
-
-/// Whether a path was changed.
-fn is_changed(changes: &Changes, path: &str) -> bool
-    ensures { result ≡ contains_key changes.now path.now }
-{
-    changes.get(path).is_some()
 }
 
 /// Adds the names of what a directory has of what was set.

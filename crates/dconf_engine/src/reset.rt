@@ -1,19 +1,17 @@
 //! Resetting all keys below a directory.
-ghost use Rattle.std.specs.Prelude.{◌≡◌, [], ◌∷◌, Ok, IfErr, OnErr, OnOk, string_bytes};
+ghost use Rattle.std.specs.Prelude.{◌≡◌, [], ◌∷◌, Ok, IfErr, OnErr, OnOk};
 ghost use Rattle.std.specs.FinMap.{entries};
 ghost use Rattle.dconf_path.specs.Paths.{directory_text, key_text};
 ghost use Rattle.dconf_model.specs.Changes.{apply, Change.reset_below_directory};
 ghost use Rattle.dconf_engine.specs.ChangeFaults.{Refuses};
 ghost use Rattle.dconf_engine.specs.Cleared.{changed_paths, cleared, first_paths, keeps};
-ghost use Rattle.dconf_engine.specs.Entries.{layer_paths};
+ghost use Rattle.dconf_layers.specs.LayerRows.{layer_paths};
 ghost use Rattle.dconf_engine.specs.Unsaved.{and_resets};
 
 use crate::change_fault::ChangeFault;
 use crate::changes::Changes;
 use crate::engine::Engine;
-use crate::entry::Entry;
-use crate::layer::Layer;
-use crate::layer_lists::is_under;
+use dconf_layers::{Layer, is_under};
 use dconf_path::{DirPath, KeyPath};
 use std::alloc::AllocError;
 
@@ -76,27 +74,11 @@ impl<'a> Engine<'a> {
     ) -> Result<(), AllocError>
         ensures { OnOk result (changes.new ≡ and_resets (cleared self.now (directory_text directory.entry) (layer_paths layer.entry)) changes.old) }
     {
-        for i in 0..layer.n_items() {
-            if let Some(entry) = layer.entry_at(self.alloc, i)? {
-                self.reset_entry(&entry, directory, changes)?;
-            }
+        for entry in layer.entries() {
+            let path = entry.path(self.alloc)?;
+            self.reset_below(KeyPath::parse(path.as_str()).unwrap(), directory, changes)?;
         }
         Ok(())
-    }
-
-    /// Resets an entry's path that is below a directory and not locked.
-    fn reset_entry(
-        &self,
-        entry: &Entry<'_>,
-        directory: DirPath<'_>,
-        changes: &mut Changes,
-    ) -> Result<(), AllocError>
-        ensures { OnOk result (changes.new ≡ and_resets (cleared self.now (directory_text directory.entry) (string_bytes entry.now.text ∷ [])) changes.old) }
-    {
-        match entry.path() {
-            Some(path) => self.reset_below(path, directory, changes),
-            None => Ok(()),
-        }
     }
 
     /// Resets a path that is below a directory and not locked.

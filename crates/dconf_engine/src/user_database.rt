@@ -1,18 +1,17 @@
 //! The user's database.
-ghost use Rattle.std.specs.Prelude.{◌≡◌, ◌<◌, IfOk, IfErr, OnOk, Some, map, string_bytes};
+ghost use Rattle.std.specs.Prelude.{◌≡◌, IfOk, IfErr, map};
 ghost use Rattle.dconf_model.specs.Changes.{saved, with_first_layer};
 ghost use Rattle.dconf_model.specs.Databases.{IsDatabaseOf, IsTooBig};
 ghost use Rattle.gvdb_write.specs.Limits.{IsRefusal};
 ghost use Rattle.dconf_model.specs.Settings.{no_settings};
-ghost use Rattle.dconf_engine.specs.Entries.{items_of, layer_paths, path_at};
-ghost use Rattle.dconf_engine.specs.LayerSettings.{settings_of};
-ghost use Rattle.dconf_engine.specs.Saved.{unless_changed, with_unchanged};
+ghost use Rattle.dconf_layers.specs.LayerRows.{layer_rows};
+ghost use Rattle.dconf_layers.specs.LayerSettings.{settings_of};
+ghost use Rattle.dconf_engine.specs.Saved.{with_unchanged};
 ghost use Rattle.dconf_engine.specs.Unsaved.{with_changes};
 
 use crate::changes::Changes;
 use crate::engine::Engine;
-use crate::entry::Entry;
-use crate::layer::Layer;
+use dconf_layers::Layer;
 use gvdb_write::{Map, MapBuilder, WriteFault, write};
 use std::alloc::{AllocError, Global};
 
@@ -61,43 +60,14 @@ fn user_map(alloc: Global, layers: &[Layer<'_>], changes: Changes) -> Result<Map
 
 /// The values of a layer at paths that were not changed.
 fn unchanged(alloc: Global, layer: Layer<'_>, changes: &Changes) -> Result<MapBuilder, AllocError>
-    ensures { IfOk result (λ values. values ≡ with_unchanged (settings_of layer.entry).values changes.now (layer_paths layer.entry) no_settings) }
+    ensures { IfOk result (λ values. values ≡ with_unchanged changes.now (layer_rows layer.entry) no_settings) }
 {
     let mut values = MapBuilder::new(alloc);
-    for i in 0..layer.n_items() {
-        add_item(alloc, layer, i, changes, &mut values)?;
+    for entry in layer.entries() {
+        let path = entry.path(alloc)?;
+        if !changes.has(path.as_str()) {
+            values.insert_text(path, entry.bytes().to_vec(alloc)?)?;
+        }
     }
     Ok(values)
-}
-
-/// Adds the value of an item, if it is an entry that was not changed.
-fn add_item(
-    alloc: Global,
-    layer: Layer<'_>,
-    i: u32,
-    changes: &Changes,
-    values: &mut MapBuilder,
-) -> Result<(), AllocError>
-    requires { i < items_of layer }
-    ensures { OnOk result (values.new ≡ with_unchanged (settings_of layer.entry).values changes.now (path_at layer.entry i) values.old) }
-{
-    match layer.entry_at(alloc, i)? {
-        Some(entry) => add_unchanged(alloc, entry, changes, values),
-        None => Ok(()),
-    }
-}
-
-/// Adds the value of an entry, if it was not changed.
-fn add_unchanged(
-    alloc: Global,
-    entry: Entry<'_>,
-    changes: &Changes,
-    values: &mut MapBuilder,
-) -> Result<(), AllocError>
-    ensures { OnOk result (values.new ≡ unless_changed changes.now values.old (string_bytes entry.entry.text) (Some entry.entry.bytes.now)) }
-{
-    if changes.get(entry.as_str()).is_some() {
-        return Ok(());
-    }
-    values.insert_text(entry.text, entry.bytes.to_vec(alloc)?)
 }

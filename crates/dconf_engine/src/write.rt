@@ -4,7 +4,7 @@ ghost use Rattle.gv_tree.specs.Wholes.{IsWhole};
 ghost use Rattle.dconf_path.specs.Paths.{key_text, directory_text};
 ghost use Rattle.dconf_model.specs.Changes.{apply, Change.set_value, Change.reset_value, Change.load_values, Change.reset_below_directory, first_locked, paths_of, all_storable, Refusal.too_large};
 ghost use Rattle.dconf_engine.specs.ChangeFaults.{refusal_of, Refuses, path_refusal, rows_refusal};
-ghost use Rattle.dconf_engine.specs.Rows.{rows_of, not_locked};
+ghost use Rattle.dconf_engine.specs.Loads.{rows_of, not_locked};
 ghost use Rattle.dconf_engine.specs.Unsaved.{and_rows};
 
 use crate::change_fault::ChangeFault;

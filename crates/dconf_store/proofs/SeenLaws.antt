@@ -13,7 +13,8 @@ use Rattle.dconf_model.specs.Stores.{Deed, DidDeeds, Does, FilesGive, changes_of
 use Rattle.dconf_model.specs.Stores.Deed.{changed, reopened}
 use Rattle.dconf_engine.specs.declared.fault.EngineFault.{EngineFault}
 use Rattle.dconf_engine.specs.declared.fault.EngineFault.TheVariants as opened_as
-use Rattle.dconf_engine.specs.Faults.{bad_of, verdict_of}
+use Rattle.dconf_layers.specs.Verdicts.{verdict_of}
+use Rattle.dconf_engine.specs.Faults.{bad_of}
 use Rattle.dconf_store.specs.declared.fault.StoreFault.{StoreFault}
 use Rattle.dconf_store.specs.declared.fault.StoreFault.TheVariants.{BadDatabase, Refused, TooBig, TooLarge, Memory}
 use Rattle.dconf_store.specs.Faults.{IsNoValue, IsReadFault, fault_of_engine}

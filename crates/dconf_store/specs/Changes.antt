@@ -1,7 +1,7 @@
 -- What changes are, as dconf_model has them.
 use Rattle.std.specs.Prelude.{List, map}
 use Rattle.dconf_path.specs.Paths.{key_text, directory_text}
-use Rattle.dconf_engine.specs.Rows.{rows_of}
+use Rattle.dconf_engine.specs.Loads.{rows_of}
 use Rattle.dconf_model.specs.Changes.{Change as ModelChange}
 use Rattle.dconf_model.specs.Changes.Change.{set_value, reset_value, reset_below_directory, load_values}
 use Rattle.dconf_store.specs.declared.change.Change.{Change}

@@ -16,7 +16,7 @@ use Rattle.dconf_engine.specs.declared.fault.EngineFault.{EngineFault}
 use Rattle.dconf_engine.specs.declared.fault.EngineFault.TheVariants as opened
 use Rattle.dconf_engine.specs.declared.change_fault.ChangeFault.{ChangeFault}
 use Rattle.dconf_engine.specs.declared.change_fault.ChangeFault.TheVariants as refused
-use Rattle.dconf_engine.specs.Faults.{verdict_of}
+use Rattle.dconf_layers.specs.Verdicts.{verdict_of}
 use Rattle.dconf_engine.specs.ChangeFaults.{refusal_of, change_fault_text}
 use Rattle.dconf_store.specs.declared.fault.StoreFault.{StoreFault}
 use Rattle.dconf_store.specs.declared.fault.StoreFault.TheVariants.{BadDatabase, Refused, TooBig, TooLarge, Memory}

@@ -4,7 +4,7 @@ ghost use Rattle.std.specs.List.{AllByRecursion};
 ghost use Rattle.dconf_model.specs.Changes.{apply};
 ghost use Rattle.dconf_model.specs.Stores.{IsLimitedValue, IsWholeChange};
 ghost use Rattle.dconf_engine.specs.ChangeFaults.{Refuses};
-ghost use Rattle.dconf_engine.specs.Rows.{rows_of};
+ghost use Rattle.dconf_engine.specs.Loads.{rows_of};
 ghost use Rattle.dconf_store.specs.Changes.{change_of};
 
 use dconf_engine::{ChangeFault, Engine};

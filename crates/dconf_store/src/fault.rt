@@ -2,7 +2,8 @@
 ghost use Rattle.std.specs.Prelude.{◌≡◌};
 ghost use Rattle.dconf_store.specs.declared.fault.StoreFault.TheVariants.{Memory};
 
-use dconf_engine::{ChangeFault, DatabaseFault, EngineFault};
+use dconf_engine::{ChangeFault, EngineFault};
+use dconf_layers::DatabaseFault;
 use gv_view::ViewFault;
 use gvdb_write::WriteFault;
 use std::alloc::{AllocError, AllocFailed};

@@ -4,7 +4,7 @@ ghost use Rattle.dconfdb_calls.specs.Changed.{IsChanged, IsNoChangeTold};
 ghost use Rattle.dconfdb_calls.specs.Given.{HandsOut};
 ghost use Rattle.dconfdb_calls.specs.Seen.{layers_of};
 
-use dconf_engine::Layer;
+use dconf_layers::Layer;
 use dconfdb_calls::{DconfdbChange, hand_out, user_file};
 use std::alloc::Global;
 

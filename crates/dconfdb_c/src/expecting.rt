@@ -3,7 +3,7 @@ ghost use Rattle.std.specs.Prelude.{◌≡◌, ◌≢◌, IsTrue, None, Some, fa
 ghost use Rattle.dconfdb_calls.specs.Seen.{layers_of};
 ghost use Rattle.dconfdb_calls.specs.Since.{IsFirstSince};
 
-use dconf_engine::Layer;
+use dconf_layers::Layer;
 use dconfdb_calls::{DconfdbChange, first_changed_since};
 use std::alloc::Global;
 

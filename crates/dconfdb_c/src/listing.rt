@@ -2,13 +2,13 @@
 ghost use Rattle.std.specs.Prelude.{◌≡◌, ◌≢◌, ◌++◌, ℕ, List, true};
 ghost use Rattle.dconf_model.specs.Layers.{child_names, locks_below};
 ghost use Rattle.std.specs.FinMap.{keys};
-ghost use Rattle.dconf_engine.specs.Differing.{AreDiffering, first_keys, with_first};
-ghost use Rattle.dconf_engine.specs.LayerSettings.{settings_of};
+ghost use Rattle.dconf_differences.specs.Differing.{AreDiffering, first_keys, with_first};
+ghost use Rattle.dconf_layers.specs.LayerSettings.{settings_of};
 ghost use Rattle.dconfdb_calls.specs.Given.{HandsOut, IsDirectory};
 ghost use Rattle.dconfdb_calls.specs.Listed.{IsNoListingTold, ended};
 ghost use Rattle.dconfdb_calls.specs.Seen.{layers_of};
 
-use dconf_engine::Layer;
+use dconf_layers::Layer;
 use dconfdb_calls::{
     differing_keys, directory_locks, directory_names, hand_out, keys_differing_first,
 };

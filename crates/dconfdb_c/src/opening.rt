@@ -1,13 +1,13 @@
 //! Opening the layers of a store, reading its profile, and what the numbers of faults say.
 ghost use Rattle.std.specs.Prelude.{◌≡◌, ◌≢◌, IsTrue, false, option_map};
 ghost use Rattle.dconf_model.specs.Databases.{IsLayer};
-ghost use Rattle.dconf_engine.specs.LayerSettings.{settings_of};
+ghost use Rattle.dconf_layers.specs.LayerSettings.{settings_of};
 ghost use Rattle.dconfdb_calls.specs.GoodLines.{AreGoodNames, first_fault, line_fault, or_none};
 ghost use Rattle.dconfdb_calls.specs.Named.{AreNamed, IsNoProfile};
 ghost use Rattle.dconfdb_calls.specs.Numbers.{IsNumber, IsTextOf};
 ghost use Rattle.dconfdb_calls.specs.Opened.{IsToldOf, bytes_if};
 
-use dconf_engine::Layer;
+use dconf_layers::Layer;
 use dconfdb_calls::{
     BadProfile, DconfdbName, DconfdbUnsound, Fault, good_lines, hand_out, open_layer,
     open_layer_after, profile_databases,

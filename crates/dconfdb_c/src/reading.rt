@@ -4,11 +4,11 @@ ghost use Rattle.std.specs.FinMap.{get};
 ghost use Rattle.dconf_model.specs.Layers.{is_locked, origin, place_of, visible, visible_bytes, without_user};
 ghost use Rattle.dconf_model.specs.Salvaging.{IsKeyText};
 ghost use Rattle.dconf_model.specs.Values.{held_value};
-ghost use Rattle.dconf_engine.specs.LayerSettings.{settings_of};
+ghost use Rattle.dconf_layers.specs.LayerSettings.{settings_of};
 ghost use Rattle.dconfdb_calls.specs.Seen.{IsHeldIn, found_value, layers_of};
 ghost use Rattle.dconfdb_calls.specs.Stored.{IsStored};
 
-use dconf_engine::Layer;
+use dconf_layers::Layer;
 use dconfdb_calls::{
     DconfdbFound, is_key_locked, is_key_writable, is_stored, read, read_default, read_own,
 };

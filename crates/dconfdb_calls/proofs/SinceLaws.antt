@@ -18,10 +18,10 @@ use Rattle.dconf_model.specs.Salvaging.{IsKeyText}
 use Rattle.dconf_model.proofs.ListingOrder.{find_text, found_text}
 use Rattle.dconf_model.proofs.Listings.{first_or_later, has_first, has_later, listing_from, listing_has, none_of_none}
 use Rattle.dconf_model.proofs.PathMaps.{no_truth}
-use Rattle.dconf_engine.specs.Differing.{AreDiffering, Differs, first_keys}
-use Rattle.dconf_engine.specs.LayerSettings.{settings_of}
-use Rattle.dconf_engine.specs.declared.layer.Layer.{Layer}
-use Rattle.dconf_engine.proofs.PathTests.{any_passing}
+use Rattle.dconf_differences.specs.Differing.{AreDiffering, Differs, first_keys}
+use Rattle.dconf_layers.specs.LayerSettings.{settings_of}
+use Rattle.dconf_layers.specs.declared.layer.Layer.{Layer}
+use Rattle.dconf_layers.proofs.PathTests.{any_passing}
 use Rattle.dconfdb_calls.specs.declared.changes.DconfdbChange.{DconfdbChange}
 use Rattle.dconfdb_calls.specs.Given.{IsDirectory}
 use Rattle.dconfdb_calls.specs.Seen.{layers_of}
@@ -82,25 +82,27 @@ any_mapped f [] = refl
 any_mapped f (text ∷ texts) = ap (λ b. f (string_bytes text) || b) (any_mapped f texts)
 
 -- the same of what is found, in the words of the code
-pub below_answer : (one other : List Layer) (count : ℕ) (paths : List (String Global)) (directory place : List ℕ) (is : Bool) → count ≡ max (length one) (length other) →
-    AreDiffering (layers_of one true) (layers_of other true) (first_keys count (layers_of one true) ++ first_keys count (layers_of other true)) (map string_bytes paths) →
-    place ≡ directory → IsDirectory directory → is ≡ list_any (λ text. is_below (string_bytes text) place) paths →
-    IsTrue is ↔ (IsDirectory directory × IsChangedBelow (layers_of one true) (layers_of other true) directory)
-below_answer one other count paths directory place is most d same path e =
-    let l = layers_of one true in
-    let m = layers_of other true in
-    let first : length l.layers ≤ count = subst₂ (λ (x y : ℕ). x ≤ y) (sym (length-map one settings_of)) (sym most) (le-max_left (length one) (length other)) in
-    let second : length m.layers ≤ count = subst₂ (λ (x y : ℕ). x ≤ y) (sym (length-map other settings_of)) (sym most) (le-max_right (length one) (length other)) in
-    let told = below_told l m (first_keys count l ++ first_keys count m) (map string_bytes paths) directory (keys_of_all l m count first second) d in
-    let answer : is ≡ list_any (λ text. is_below text directory) (map string_bytes paths) =
-    e ∙ (any_mapped (λ text. is_below text place) paths ∙ ap (λ (p : List ℕ). list_any (λ text. is_below text p) (map string_bytes paths)) same) in
-    (λ yes. (path, told.0 (sym answer ∙ yes)), λ h. answer ∙ told.1 h.1)
+pub found_below : (one other : List Layer) (count : ℕ) (paths : List (List ℕ)) (l m : Layers) → count ≡ max (length one) (length other) → l ≡ layers_of one true → m ≡ layers_of other true →
+    AreDiffering l m (first_keys count l ++ first_keys count m) paths →
+    AreDiffering (layers_of one true) (layers_of other true) (all_paths (layers_of one true).layers ++ all_paths (layers_of other true).layers) paths
+found_below one other count paths l m most one_is other_is d =
+    let a = layers_of one true in
+    let b = layers_of other true in
+    let first : length a.layers ≤ count = subst₂ (λ (x y : ℕ). x ≤ y) (sym (length-map one settings_of)) (sym most) (le-max_left (length one) (length other)) in
+    let second : length b.layers ≤ count = subst₂ (λ (x y : ℕ). x ≤ y) (sym (length-map other settings_of)) (sym most) (le-max_right (length one) (length other)) in
+    subst (λ ks. AreDiffering a b ks paths) (keys_of_all a b count first second)
+    (subst₂ (λ (x y : Layers). AreDiffering x y (first_keys count x ++ first_keys count y) paths) one_is other_is d)
+
+pub below_answer : (l m : Layers) (paths : List (String Global)) (directory : List ℕ) (is : Bool) → ends_with_slash directory ≡ true →
+    AreDiffering l m (all_paths l.layers ++ all_paths m.layers) (map string_bytes paths) →
+    IsTrue is ↔ (IsDirectory directory × IsTrue (list_any (λ path. is_below (string_bytes path) directory) paths)) → IsTrue is ↔ IsChangedSince l m directory
+below_answer l m paths directory is e d h =
+    let told = below_told l m (all_paths l.layers ++ all_paths m.layers) (map string_bytes paths) directory refl d in
+    let mapped = any_mapped (λ path. is_below path directory) paths in
+    subst (λ (b : Bool). IsTrue is ↔ IsChangedAt b l m directory) (sym e)
+    (λ yes. ((h.0 yes).0, told.0 (sym mapped ∙ (h.0 yes).1)), λ changed. h.1 (changed.0, mapped ∙ told.1 changed.1))
 
 -- ---- a path of either kind
-
-pub as_directory : (r : Result Bool AllocError) (l m : Layers) (path : List ℕ) → ends_with_slash path ≡ true →
-    IfOk r (λ is. IsTrue is ↔ (IsDirectory path × IsChangedBelow l m path)) → IfOk r (λ is. IsTrue is ↔ IsChangedSince l m path)
-as_directory r l m path e h = subst (λ (b : Bool). IfOk r (λ is. IsTrue is ↔ IsChangedAt b l m path)) (sym e) h
 
 pub as_key : (r : Result Bool AllocError) (l m k n : Layers) (path : List ℕ) → k ≡ l → n ≡ m → ends_with_slash path ≡ false →
     IfOk r (λ is. IsTrue is ↔ (IsKeyText path × Differs k n path)) → IfOk r (λ is. IsTrue is ↔ IsChangedSince l m path)

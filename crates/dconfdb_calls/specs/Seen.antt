@@ -7,8 +7,8 @@ use Rattle.gv_model.specs.Ty.Ty.{variant}
 use Rattle.gv_model.specs.Children.{Child, child_bytes}
 use Rattle.gv_model.specs.Decode.{cut, decode}
 use Rattle.dconf_model.specs.Layers.{Layers}
-use Rattle.dconf_engine.specs.declared.layer.Layer.{Layer}
-use Rattle.dconf_engine.specs.LayerSettings.{settings_of}
+use Rattle.dconf_layers.specs.declared.layer.Layer.{Layer}
+use Rattle.dconf_layers.specs.LayerSettings.{settings_of}
 use Rattle.dconfdb_calls.specs.declared.values.DconfdbFound.{DconfdbFound}
 
 abbrev pub layers_of : List Layer → Bool → Layers

@@ -1,10 +1,11 @@
 -- Whether something else is seen by now at the paths of changes.
 use Rattle.std.specs.Prelude.{◌≡◌, ◌<◌, ◌++◌, ℕ, List, Bool, true, false, Contains, IsTrue, Option, None, Some, slice_get}
+use Rattle.std.specs.List.{list_any}
 use Rattle.dconf_model.specs.Layers.{Layers, all_paths}
 use Rattle.dconf_model.specs.Locks.{is_below}
 use Rattle.dconf_model.specs.Paths.{ends_with_slash}
 use Rattle.dconf_model.specs.Salvaging.{IsKeyText}
-use Rattle.dconf_engine.specs.Differing.{Differs}
+use Rattle.dconf_differences.specs.Differing.{AreDiffering, Differs}
 use Rattle.dconfdb_calls.specs.declared.changes.DconfdbChange.{DconfdbChange}
 use Rattle.dconfdb_calls.specs.Given.{IsDirectory}
 
@@ -22,6 +23,14 @@ IsChangedAt false l m path = IsKeyText path × Differs l m path
 -- what is seen at a key's path differs, or whether it is locked; of a path that ends in `/`, at some key below it
 abbrev pub IsChangedSince : Layers → Layers → List ℕ → Type 0
 IsChangedSince l m path = IsChangedAt (ends_with_slash path) l m path
+
+-- one of the changes is of a directory
+abbrev pub has_directory : List DconfdbChange → Bool
+has_directory changes = list_any (λ c. ends_with_slash c.path.now) changes
+
+-- the keys that differ, if a change asks for them
+abbrev pub AreDifferingIfAsked : Layers → Layers → List DconfdbChange → List (List ℕ) → Type 0
+AreDifferingIfAsked l m changes paths = has_directory changes ≡ true → AreDiffering l m (all_paths l.layers ++ all_paths m.layers) paths
 
 -- the change of that index is the first at whose path something else is seen
 pub record IsFirstAt (l m : Layers) (changes : List DconfdbChange) (at : ℕ) : Type 0 where

@@ -13,7 +13,8 @@ ghost use Rattle.dconfdb_calls.specs.Seen.{layers_of};
 
 use crate::fault::Fault;
 use crate::given::{directory_path, key_path, view_of};
-use dconf_engine::{ChangeFault, Engine, Layer};
+use dconf_engine::{ChangeFault, Engine};
+use dconf_layers::Layer;
 use dconf_path::{DirPath, KeyPath};
 use gv_normal::is_normal;
 use gv_view::{View, ViewFault};

@@ -3,13 +3,14 @@ ghost use Rattle.std.specs.Prelude.{◌≡◌, ◌↔◌, IfErr, IfOk, IsSome, I
 ghost use Rattle.std.specs.FinMap.{get};
 ghost use Rattle.gv_view.specs.Views.{value};
 ghost use Rattle.dconf_model.specs.Salvaging.{IsKeyText};
-ghost use Rattle.dconf_engine.specs.LayerSettings.{settings_of};
+ghost use Rattle.dconf_layers.specs.LayerSettings.{settings_of};
 ghost use Rattle.dconfdb_calls.specs.Stored.{IsStored, own_value};
 ghost use Rattle.dconfdb_calls.specs.declared.fault.Fault.TheVariants.{Memory};
 
 use crate::fault::Fault;
 use crate::given::{key_path, view_of};
-use dconf_engine::{Layer, show_same};
+use dconf_differences::show_same;
+use dconf_layers::Layer;
 use gv_view::View;
 use std::alloc::Global;
 

@@ -1,15 +1,15 @@
 //! The keys that are seen otherwise through other layers.
 ghost use Rattle.std.specs.Prelude.{◌≡◌, ◌++◌, ℕ, IfErr, IfOk, List, true};
 ghost use Rattle.std.specs.FinMap.{keys};
-ghost use Rattle.dconf_engine.specs.Differing.{AreDiffering, first_keys, with_first};
-ghost use Rattle.dconf_engine.specs.LayerSettings.{settings_of};
+ghost use Rattle.dconf_differences.specs.Differing.{AreDiffering, first_keys, with_first};
+ghost use Rattle.dconf_layers.specs.LayerSettings.{settings_of};
 ghost use Rattle.dconfdb_calls.specs.Listed.{ended};
 ghost use Rattle.dconfdb_calls.specs.Seen.{layers_of};
 ghost use Rattle.dconfdb_calls.specs.declared.fault.Fault.TheVariants.{Memory};
 
 use crate::fault::Fault;
 use crate::names::texts_of;
-use dconf_engine::{Layer, LentLayers};
+use dconf_layers::{Layer, LentLayers};
 use std::alloc::{AllocError, Global};
 
 /// The paths of the keys that are seen otherwise through other layers, a zero byte after each:
@@ -44,8 +44,9 @@ fn differing(
     ensures { IfOk result (λ all. (paths : List (List ℕ)) × AreDiffering (layers_of layers.now true) (layers_of other.now true)
         (first_keys count (layers_of layers.now true) ++ first_keys count (layers_of other.now true)) paths × (all.items ≡ ended paths)) }
 {
+    let layers = LentLayers::new(true, layers);
     let other = LentLayers::new(true, other);
-    let paths = LentLayers::new(true, layers).differing(alloc, other, count)?;
+    let paths = dconf_differences::differing(alloc, layers, other, count)?;
     texts_of(alloc, paths.as_slice())
 }
 
@@ -78,6 +79,7 @@ fn differing_first<'a>(
     ensures { IfOk result (λ all. (paths : List (List ℕ)) × AreDiffering (layers_of layers.now true) (with_first (layers_of layers.now true) (settings_of first.entry))
         (first_keys 1 (layers_of layers.now true) ++ keys (settings_of first.entry).values) paths × (all.items ≡ ended paths)) }
 {
-    let paths = LentLayers::new(true, layers).differing_first(alloc, first)?;
+    let layers = LentLayers::new(true, layers);
+    let paths = dconf_differences::differing_first(alloc, layers, first)?;
     texts_of(alloc, paths.as_slice())
 }

@@ -8,7 +8,8 @@ ghost use Rattle.dconfdb_calls.specs.Seen.{layers_of};
 
 use crate::fault::Fault;
 use crate::given::directory_path;
-use dconf_engine::{Engine, Layer};
+use dconf_engine::Engine;
+use dconf_layers::Layer;
 use dconf_path::DirPath;
 use std::alloc::{AllocError, Global};
 

@@ -1,9 +1,9 @@
 //! Opening the layers of a store.
 ghost use Rattle.std.specs.Prelude.{◌≡◌, IfErr, IfOk};
 ghost use Rattle.dconf_model.specs.Databases.{IsLayer};
-ghost use Rattle.dconf_engine.specs.LayerSettings.{settings_of};
-ghost use Rattle.dconf_engine.specs.Files.{bytes_of_file};
-ghost use Rattle.dconf_engine.specs.Faults.{verdict_of};
+ghost use Rattle.dconf_layers.specs.LayerSettings.{settings_of};
+ghost use Rattle.dconf_layers.specs.Files.{bytes_of_file};
+ghost use Rattle.dconf_layers.specs.Verdicts.{verdict_of};
 ghost use Rattle.dconf_model.specs.Sound.{rule_number};
 ghost use Rattle.gvdb_format.specs.Faults.{open_fault_of};
 ghost use Rattle.gvdb_check.specs.Unsounds.{rule_of};
@@ -11,7 +11,7 @@ ghost use Rattle.dconfdb_calls.specs.Numbers.{number_of};
 ghost use Rattle.dconfdb_calls.specs.Opened.{IsToldOf, SaysRule, bytes_if, item_told, open_number, verdict_number};
 
 use crate::fault::Fault;
-use dconf_engine::{DatabaseFault, Layer};
+use dconf_layers::{DatabaseFault, Layer};
 use gvdb_read::{OpenFault, Rule, Unsound};
 
 /// The rule that a database breaks, by its number, and the item that breaks it, if the rule is one

@@ -4,11 +4,11 @@ ghost use Rattle.std.specs.FinMap.{get};
 ghost use Rattle.dconf_model.specs.Layers.{is_locked, origin, place_of, visible, visible_bytes, without_user};
 ghost use Rattle.dconf_model.specs.Salvaging.{IsKeyText};
 ghost use Rattle.dconf_model.specs.Values.{held_value};
-ghost use Rattle.dconf_engine.specs.LayerSettings.{settings_of};
+ghost use Rattle.dconf_layers.specs.LayerSettings.{settings_of};
 ghost use Rattle.dconfdb_calls.specs.Seen.{IsHeldIn, found_value, layers_of};
 
 use crate::given::key_path;
-use dconf_engine::{Layer, LentLayers};
+use dconf_layers::{Layer, LentLayers};
 use gv_view::View;
 
 /// A value that was found: the index of its layer, its bytes and the text of its type, both lent

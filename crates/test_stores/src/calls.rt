@@ -1,6 +1,6 @@
 //! The calls of the library for C, answered and refused, over two layers by hand: both have 5 at
 //! `/k`, and the second locks it.
-use dconf_engine::Layer;
+use dconf_layers::Layer;
 use dconfdb_calls::{
     DconfdbChange, DconfdbFound, Fault, differing_keys, directory_locks, directory_names,
     first_changed_since, hand_out, is_key_locked, is_key_writable, keys_differing_first,

@@ -1,6 +1,8 @@
 //! Each call of an engine and of layers, where there is memory enough: over a user's database of one key, and a site's that locks it. What
 //! is seen through layers is in tests/program.d.
-use dconf_engine::{ChangeFault, Engine, Layer, LentLayers, show_same};
+use dconf_differences::{differing, show_same};
+use dconf_engine::{ChangeFault, Engine};
+use dconf_layers::{Layer, LentLayers};
 use dconf_path::{DirPath, KeyPath, Profile, read_profile};
 use gv_tree::{Basic, Tree};
 use gv_types::TypeStr;
@@ -106,8 +108,8 @@ fn are_told_apart(
     some: LentLayers<'_, '_>,
     none: LentLayers<'_, '_>,
 ) -> Result<bool, AllocError> {
-    let apart = some.differing(alloc, none, 1)?.len();
-    Ok(apart == 1 && some.differing(alloc, some.prefix(1), 1)?.is_empty())
+    let apart = differing(alloc, some, none, 1)?.len();
+    Ok(apart == 1 && differing(alloc, some, some.prefix(1), 1)?.is_empty())
 }
 
 /// Whether a value shows the same as itself, and another than a longer one.

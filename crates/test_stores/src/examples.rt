@@ -1,7 +1,8 @@
 //! The examples at the heads of the crates: `tools/guarantees --check` sees that the two are alike.
 use dconf_compile::{Source, compile};
 use dconf_disk::{Folder, MemoryFolder, replace};
-use dconf_engine::{Engine, Layer};
+use dconf_engine::Engine;
+use dconf_layers::Layer;
 use dconf_path::{KeyPath, LockPath, read_profile};
 use dconf_store::{Change, value_after};
 use dconf_times::{DconfdbTime as Time, is_overtaken, note_times};

@@ -10,7 +10,7 @@ ghost use Rattle.dconf_path.specs.Paths.{directory_text};
 ghost use Rattle.dconf_compile.specs.Loading.{rows_loaded};
 ghost use Rattle.dconf_compile.specs.LineStops.{line_fault_of};
 ghost use Rattle.dconf_engine.specs.ChangeFaults.{refusal_of};
-ghost use Rattle.dconf_engine.specs.Rows.{rows_of};
+ghost use Rattle.dconf_engine.specs.Loads.{rows_of};
 ghost use Rattle.dconf_streams.specs.Answers.{GivesOutcome, RefusesFor};
 ghost use Rattle.dconf_streams.specs.Counted.{CameToEnd, failures_of};
 ghost use Rattle.dconf_streams.specs.Inputs.{ReadsText, Took};

@@ -1,7 +1,7 @@
 use Rattle.std.proofs.Common.{take, map}
 use Rattle.dconf_model.specs.Databases.{AreLayers}
-use Rattle.dconf_engine.specs.Files.{bytes_of_files}
-use Rattle.dconf_engine.specs.LayerSettings.{settings_of}
+use Rattle.dconf_layers.specs.Files.{bytes_of_files}
+use Rattle.dconf_layers.specs.LayerSettings.{settings_of}
 use Rattle.dconf_engine.proofs.engine.open_layers.Given as goal
 
 -- the layers are those of the files before this one

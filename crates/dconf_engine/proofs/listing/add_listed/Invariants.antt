@@ -1,8 +1,8 @@
 use Rattle.std.proofs.Common.{◌≡◌, drop, map}
 use Rattle.dconf_model.specs.Layers.{all_paths}
 use Rattle.dconf_path.specs.Paths.{directory_text}
-use Rattle.dconf_engine.specs.LayerSettings.{settings_of}
-use Rattle.dconf_engine.specs.TextSets.{with_children}
+use Rattle.dconf_layers.specs.LayerSettings.{settings_of}
+use Rattle.dconf_layers.specs.TextSets.{with_children}
 use Rattle.dconf_engine.proofs.listing.add_listed.Given as goal
 
 -- what is left to add gives what all layers give

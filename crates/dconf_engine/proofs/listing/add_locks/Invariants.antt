@@ -1,9 +1,9 @@
 use Rattle.std.proofs.Common.{◌≡◌, drop, map}
 use Rattle.dconf_model.specs.Layers.{all_locks}
 use Rattle.dconf_path.specs.Paths.{directory_text}
-use Rattle.dconf_engine.specs.LayerSettings.{settings_of}
-use Rattle.dconf_engine.specs.LockNames.{locks_under}
-use Rattle.dconf_engine.specs.TextSets.{with_texts}
+use Rattle.dconf_layers.specs.LayerSettings.{settings_of}
+use Rattle.dconf_layers.specs.LockNames.{locks_under}
+use Rattle.dconf_layers.specs.TextSets.{with_texts}
 use Rattle.dconf_engine.proofs.listing.add_locks.Given as goal
 
 -- what is left to add gives what all layers give

@@ -2,10 +2,10 @@ use Rattle.std.proofs.Common.{◌≡◌, cond, sym, true, false, rules, subst}
 use Rattle.std.specs.Prelude.{OnOk}
 use Rattle.std.specs.FinMap.{keys}
 use Rattle.dconf_path.specs.Paths.{directory_text}
-use Rattle.dconf_engine.specs.Entries.{layer_paths}
-use Rattle.dconf_engine.specs.LayerSettings.{settings_of}
+use Rattle.dconf_layers.specs.LayerRows.{layer_paths}
+use Rattle.dconf_layers.specs.LayerSettings.{settings_of}
 use Rattle.dconf_engine.specs.LeftPaths.{has_reset_below, unchanged_of}
-use Rattle.dconf_engine.specs.TextSets.{with_children}
+use Rattle.dconf_layers.specs.TextSets.{with_children}
 use Rattle.dconf_engine.proofs.remaining.add_file.Goals as goal
 
 pub returns-then-has_reset_below : goal.returns-then-has_reset_below

@@ -3,7 +3,7 @@ use Rattle.std.proofs.lemmas.Result.{IfOk-weaker}
 use Rattle.std.specs.FinMap.{entries}
 use Rattle.dconf_model.specs.Changes.{saved, with_first_layer}
 use Rattle.dconf_model.specs.Settings.{Settings}
-use Rattle.dconf_engine.specs.LayerSettings.{settings_of}
+use Rattle.dconf_layers.specs.LayerSettings.{settings_of}
 use Rattle.dconf_engine.specs.Saved.{with_sets}
 use Rattle.dconf_engine.specs.Unsaved.{with_changes}
 use Rattle.dconf_engine.proofs.SavedLaws.{saved_first}

@@ -1,7 +1,7 @@
 use Rattle.std.proofs.Common.{drop}
 use Rattle.std.specs.List.{AllByRecursion}
 use Rattle.dconf_model.specs.Stores.{IsLimitedValue}
-use Rattle.dconf_engine.specs.Rows.{rows_of}
+use Rattle.dconf_engine.specs.Loads.{rows_of}
 use Rattle.dconf_store.proofs.change.are_whole.Given as goal
 
 -- if what is left is whole, all are

@@ -4,7 +4,7 @@ use Rattle.dconf_model.specs.Databases.{IsFirstBad, AreLayers}
 use Rattle.dconf_model.specs.Profiles.{has_writable}
 use Rattle.dconf_path.specs.Paths.{directory_text}
 use Rattle.dconf_path.specs.Profiles.{databases_of}
-use Rattle.dconf_engine.specs.Files.{bytes_of_files}
+use Rattle.dconf_layers.specs.Files.{bytes_of_files}
 use Rattle.dconf_engine.specs.Faults.{bad_of}
 use Rattle.dconf_store.specs.Changes.{asked_of}
 use Rattle.dconf_store.specs.Faults.{IsFaultOf}

@@ -1,4 +1,7 @@
 use Rattle.std.proofs.Common.{◌≡◌, false, true, arith}
+use Rattle.std.proofs.lemmas.List.Folds.{list_any_at}
+use Rattle.dconf_model.specs.Paths.{ends_with_slash}
+use Rattle.dconfdb_calls.specs.declared.changes.DconfdbChange.{DconfdbChange}
 use Rattle.dconfdb_calls.proofs.SinceLaws.{none_at_all, one_more}
 use Rattle.dconfdb_calls.proofs.since.first_changed_since.Goals as goal
 
@@ -11,3 +14,6 @@ loop-at-preserved c =
 
 pub returns-clause-first : goal.returns-clause-first
 returns-clause-first c = none_at_all _ _ c.args.changes.now c.loop-at.at (omega (arith, c.loop-at-test.false)) c.loop-at.invariant
+
+pub is_changed_since-requires : goal.is_changed_since-requires
+is_changed_since-requires c slash = c.in_ok-paths.ensures (list_any_at (λ (change : DconfdbChange). ends_with_slash change.path.now) c.args.changes.now c.loop-at.at _ c.loop-at-test.true slash)

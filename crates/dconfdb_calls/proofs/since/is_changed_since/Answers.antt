@@ -1,9 +1,11 @@
 use Rattle.std.proofs.Common.{◌∙◌, sym}
-use Rattle.dconfdb_calls.proofs.SinceLaws.{as_directory, as_key}
+use Rattle.dconfdb_calls.proofs.SinceLaws.{as_key, below_answer}
 use Rattle.dconfdb_calls.proofs.since.is_changed_since.Goals as goal
 
 pub returns-then-ends_with : goal.returns-then-ends_with
-returns-then-ends_with c = as_directory c.is_changed_below.result _ _ c.args.path.now (sym c.ends_with.ensures.value ∙ c.if-ends_with.true) c.is_changed_below.ensures
+returns-then-ends_with c =
+    let slash = sym c.ends_with.ensures.value ∙ c.if-ends_with.true in
+    below_answer _ _ c.args.paths.now c.args.path.now c.is_changed_below.result slash (c.requires slash) c.is_changed_below.ensures
 
 pub returns-else-ends_with : goal.returns-else-ends_with
 returns-else-ends_with c =

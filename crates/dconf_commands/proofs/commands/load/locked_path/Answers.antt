@@ -2,7 +2,7 @@ use Rattle.std.proofs.Common.{◌∙◌, [], length, refl, sym, subst}
 use Rattle.std.proofs.lemmas.Option.{slice_get_past, slice_get_read}
 use Rattle.dconf_model.specs.Changes.{paths_of}
 use Rattle.dconf_engine.specs.ChangeFaults.{refusal_of}
-use Rattle.dconf_engine.specs.Rows.{rows_of}
+use Rattle.dconf_engine.specs.Loads.{rows_of}
 use Rattle.dconf_engine.specs.declared.change_fault.ChangeFault.{ChangeFault}
 use Rattle.dconf_commands.specs.Refusals.{IsLockedPath}
 use Rattle.dconf_commands.proofs.LoadLaws.{load_path, no_load_path}

@@ -5,9 +5,9 @@ use Rattle.std.proofs.lemmas.Result.{on_ok_weaker}
 use Rattle.dconf_model.specs.Changes.{with_first_layer}
 use Rattle.dconf_model.specs.Layers.{Layers, all_paths}
 use Rattle.dconf_path.specs.Paths.{directory_text}
-use Rattle.dconf_engine.specs.declared.layer.Layer.{Layer}
-use Rattle.dconf_engine.specs.LayerSettings.{settings_of}
-use Rattle.dconf_engine.specs.TextSets.{with_child, with_children}
+use Rattle.dconf_layers.specs.declared.layer.Layer.{Layer}
+use Rattle.dconf_layers.specs.LayerSettings.{settings_of}
+use Rattle.dconf_layers.specs.TextSets.{with_child, with_children}
 use Rattle.dconf_engine.specs.Unsaved.{with_changes}
 use Rattle.dconf_engine.proofs.engine.Engine.add_children.Goals as goal
 

@@ -3,10 +3,10 @@ use Rattle.std.proofs.lemmas.Result.{on_ok_weaker}
 use Rattle.dconf_model.specs.Changes.{with_first_layer}
 use Rattle.dconf_model.specs.Layers.{Layers, all_locks}
 use Rattle.dconf_path.specs.Paths.{directory_text}
-use Rattle.dconf_engine.specs.declared.layer.Layer.{Layer}
-use Rattle.dconf_engine.specs.LayerSettings.{settings_of}
-use Rattle.dconf_engine.specs.LockNames.{locks_under}
-use Rattle.dconf_engine.specs.TextSets.{with_texts}
+use Rattle.dconf_layers.specs.declared.layer.Layer.{Layer}
+use Rattle.dconf_layers.specs.LayerSettings.{settings_of}
+use Rattle.dconf_layers.specs.LockNames.{locks_under}
+use Rattle.dconf_layers.specs.TextSets.{with_texts}
 use Rattle.dconf_engine.specs.Unsaved.{with_changes}
 use Rattle.dconf_engine.proofs.engine.Engine.add_locks.Goals as goal
 

@@ -3,8 +3,8 @@ use Rattle.std.specs.FinMap.{get}
 use Rattle.std.proofs.lemmas.Option.{slice_get_read}
 use Rattle.dconf_model.specs.Layers.{Layers}
 use Rattle.dconf_path.specs.Paths.{key_text}
-use Rattle.dconf_engine.specs.declared.layer.Layer.{Layer}
-use Rattle.dconf_engine.specs.LayerSettings.{settings_of}
+use Rattle.dconf_layers.specs.declared.layer.Layer.{Layer}
+use Rattle.dconf_layers.specs.LayerSettings.{settings_of}
 use Rattle.dconf_engine.proofs.FirstLayer.{bytes_later}
 use Rattle.dconf_engine.proofs.engine.Engine.bytes_in.Goals as goal
 

@@ -1,7 +1,12 @@
-use Rattle.std.proofs.Common.{◌∙◌, rules}
+use Rattle.std.proofs.Common.{◌≡◌, ◌∙◌, ap, rules, sym, false}
+use Rattle.dconf_model.specs.Layers.{Layers, place_of, without_user}
 use Rattle.dconf_path.specs.Paths.{key_text}
-use Rattle.dconf_engine.proofs.Levels.{default_low}
 use Rattle.dconf_engine.proofs.engine.Engine.default_place.Goals as goal
 
-pub returns-then-level-eq0 : goal.returns-then-level-eq0
-returns-then-level-eq0 c = c.place_from.ensures ∙ default_low c.args.self.now (key_text c.args.path) c.level-level.result (search rules) (search rules) c.level-level.ensures
+pub returns-then-self : goal.returns-then-self
+returns-then-self c = c.default_place.ensures ∙ ap (λ (l : Layers). place_of l (key_text c.args.path)) (c.lent.ensures.default (search rules))
+
+pub returns : goal.returns
+returns c =
+    let fixed : c.args.self.now.writable ≡ false = search rules in
+    c.place.ensures ∙ rw fixed refl

@@ -5,9 +5,9 @@ use Rattle.dconf_model.specs.Databases.{IsDatabaseOf}
 use Rattle.dconf_model.specs.Layers.{Layers}
 use Rattle.dconf_model.specs.Settings.{Settings}
 use Rattle.gvdb_write.specs.Limits.{IsRefusal}
-use Rattle.dconf_engine.specs.LayerSettings.{settings_of}
+use Rattle.dconf_layers.specs.LayerSettings.{settings_of}
 use Rattle.dconf_engine.specs.Unsaved.{with_changes}
-use Rattle.dconf_engine.specs.declared.layer.Layer.{Layer}
+use Rattle.dconf_layers.specs.declared.layer.Layer.{Layer}
 use Rattle.dconf_engine.proofs.SavedLaws.{whole}
 use Rattle.dconf_engine.proofs.engine.Engine.into_saved.Goals as goal
 

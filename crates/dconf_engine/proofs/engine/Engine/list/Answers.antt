@@ -3,8 +3,8 @@ use Rattle.std.specs.FinMap.{empty, keys}
 use Rattle.std.proofs.lemmas.Result.{IfOk-weaker}
 use Rattle.dconf_model.specs.Layers.{all_paths, parts_below}
 use Rattle.dconf_path.specs.Paths.{directory_text}
-use Rattle.dconf_engine.specs.TextSets.{TextSet, with_children, with_texts}
-use Rattle.dconf_engine.proofs.TextSetLaws.{children_are, keys_are_listed}
+use Rattle.dconf_layers.specs.TextSets.{TextSet, with_children, with_texts}
+use Rattle.dconf_layers.proofs.TextSetLaws.{children_are, keys_are_listed}
 use Rattle.dconf_engine.proofs.engine.Engine.list.Goals as goal
 
 pub returns : goal.returns

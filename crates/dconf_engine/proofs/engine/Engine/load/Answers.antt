@@ -2,7 +2,7 @@ use Rattle.std.proofs.Common.{◌∙◌, ap, Ok}
 use Rattle.std.proofs.lemmas.Result.{err_from_is_err_and}
 use Rattle.dconf_model.specs.Changes.{with_all}
 use Rattle.dconf_model.specs.Layers.{Layers}
-use Rattle.dconf_engine.specs.Rows.{rows_of, not_locked}
+use Rattle.dconf_engine.specs.Loads.{rows_of, not_locked}
 use Rattle.dconf_engine.specs.Unsaved.{Unsaved, and_rows, with_changes}
 use Rattle.dconf_engine.proofs.UnsavedLaws.{rows_more}
 use Rattle.dconf_engine.proofs.WritingLaws.{load_accepted, load_too_large_as, changed_beside}

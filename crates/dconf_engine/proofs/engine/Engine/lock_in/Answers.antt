@@ -2,7 +2,7 @@ use Rattle.std.proofs.Common.{◌∙◌, List, ap, length, refl, slice_get, sym}
 use Rattle.std.proofs.lemmas.Option.{slice_get_past, slice_get_read}
 use Rattle.dconf_model.specs.Layers.{Layers}
 use Rattle.dconf_path.specs.Paths.{key_text}
-use Rattle.dconf_engine.specs.declared.layer.Layer.{Layer}
+use Rattle.dconf_layers.specs.declared.layer.Layer.{Layer}
 use Rattle.dconf_engine.proofs.FirstLayer.{lock_later, no_lock_later}
 use Rattle.dconf_engine.proofs.engine.Engine.lock_in.Goals as goal
 

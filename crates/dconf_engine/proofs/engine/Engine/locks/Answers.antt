@@ -3,9 +3,9 @@ use Rattle.std.specs.FinMap.{empty, keys}
 use Rattle.std.proofs.lemmas.Result.{IfOk-weaker}
 use Rattle.dconf_model.specs.Layers.{all_locks}
 use Rattle.dconf_path.specs.Paths.{directory_text}
-use Rattle.dconf_engine.specs.LockNames.{locks_under}
-use Rattle.dconf_engine.specs.TextSets.{TextSet, with_texts}
-use Rattle.dconf_engine.proofs.TextSetLaws.{keys_are_listed}
+use Rattle.dconf_layers.specs.LockNames.{locks_under}
+use Rattle.dconf_layers.specs.TextSets.{TextSet, with_texts}
+use Rattle.dconf_layers.proofs.TextSetLaws.{keys_are_listed}
 use Rattle.dconf_engine.proofs.engine.Engine.locks.Goals as goal
 
 pub returns : goal.returns

@@ -1,6 +1,6 @@
 use Rattle.std.proofs.Common.{◌∙◌, ap, map}
 use Rattle.dconf_model.specs.Changes.{with_first_layer}
-use Rattle.dconf_engine.specs.LayerSettings.{settings_of}
+use Rattle.dconf_layers.specs.LayerSettings.{settings_of}
 use Rattle.dconf_engine.specs.Unsaved.{Unsaved, with_changes}
 use Rattle.dconf_engine.proofs.FirstLayer.{unchanged}
 use Rattle.dconf_engine.proofs.engine.Engine.of_opened.Goals as goal

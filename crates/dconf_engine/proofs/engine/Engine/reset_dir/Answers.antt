@@ -4,9 +4,9 @@ use Rattle.dconf_path.specs.Paths.{directory_text}
 use Rattle.dconf_model.specs.Changes.{Values, changed, with_first_layer}
 use Rattle.dconf_model.specs.Layers.{Layers}
 use Rattle.dconf_model.specs.Settings.{Settings}
-use Rattle.dconf_engine.specs.declared.layer.Layer.{Layer}
+use Rattle.dconf_layers.specs.declared.layer.Layer.{Layer}
 use Rattle.dconf_engine.specs.Cleared.{keeps, cleared, changed_paths, first_paths}
-use Rattle.dconf_engine.specs.LayerSettings.{settings_of}
+use Rattle.dconf_layers.specs.LayerSettings.{settings_of}
 use Rattle.dconf_engine.specs.Unsaved.{Unsaved, and_resets, with_changes}
 use Rattle.dconf_engine.proofs.ClearedLaws.{reset_all, reset_layers, reset_dir_accepted}
 use Rattle.dconf_engine.proofs.engine.Engine.reset_dir.Goals as goal

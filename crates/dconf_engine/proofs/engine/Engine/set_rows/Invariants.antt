@@ -1,6 +1,6 @@
 use Rattle.std.proofs.Common.{◌≡◌, drop}
 use Rattle.dconf_model.specs.Changes.{all_storable}
-use Rattle.dconf_engine.specs.Rows.{rows_of, not_locked}
+use Rattle.dconf_engine.specs.Loads.{rows_of, not_locked}
 use Rattle.dconf_engine.specs.Unsaved.{and_rows}
 use Rattle.dconf_engine.proofs.engine.Engine.set_rows.Given as goal
 

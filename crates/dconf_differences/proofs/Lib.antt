@@ -1,0 +1,3 @@
+pub mod SameValueLaws
+pub mod DifferingLaws
+pub mod TwinLaws

@@ -1,0 +1,4 @@
+pub mod SameValues
+pub mod Compared
+pub mod Differing
+pub mod Twins

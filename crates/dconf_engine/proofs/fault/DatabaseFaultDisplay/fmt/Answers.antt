@@ -1,5 +1,0 @@
-use Rattle.std.proofs.Common.{rules}
-use Rattle.dconf_engine.proofs.fault.DatabaseFaultDisplay.fmt.Goals as goal
-
-pub returns-in-Unsound-clause-writes : goal.returns-in-Unsound-clause-writes
-returns-in-Unsound-clause-writes c = search rules

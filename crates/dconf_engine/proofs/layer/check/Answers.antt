@@ -1,6 +1,0 @@
-use Rattle.std.proofs.Common.{rules}
-use Rattle.std.proofs.Math.Logic.{∥∥₁_map}
-use Rattle.dconf_engine.proofs.layer.check.Goals as goal
-
-pub returns-then-is_shaped_as-clause-sound : goal.returns-then-is_shaped_as-clause-sound
-returns-then-is_shaped_as-clause-sound c = c.is_shaped_as.ensures (search rules) (∥∥₁_map c.in-Some.like.sound (λ o. o.sound))

@@ -1,5 +1,0 @@
-use Rattle.std.proofs.Common.{rules}
-use Rattle.dconf_engine.proofs.lent.LentLayers.place.Goals as goal
-
-pub returns : goal.returns
-returns c = search rules

@@ -1,0 +1,12 @@
+pub mod CoveringPaths
+pub mod SoundLayers
+pub mod NearestLocks
+pub mod EmptyDatabase
+pub mod Levels
+pub mod EntryLaws
+pub mod LocksLaws
+pub mod PathTests
+pub mod TextSetLaws
+pub mod ChildNames
+pub mod ListedNames
+pub mod LockNameLaws

@@ -1,0 +1,9 @@
+pub mod Verdicts
+pub mod SoundTables
+pub mod LayerSettings
+pub mod Files
+pub mod LentSettings
+pub mod LayerRows
+pub mod Entries
+pub mod TextSets
+pub mod LockNames
