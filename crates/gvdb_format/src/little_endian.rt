@@ -53,11 +53,3 @@ pub fn push_u32(number: u32, out: &mut Vec<u8>) -> Result<(), AllocError>
 {
     out.extend_from_slice(&number.to_le_bytes())
 }
-
-/// Appends a number of two bytes, the lowest byte first.
-#[tactic(auto, using(crate::proofs::Numbers::appended, gv_model::proofs::NumberBytes::low_bytes))]
-pub(crate) fn push_u16(number: u16, out: &mut Vec<u8>) -> Result<(), AllocError>
-    ensures { OnOk result (out.new.items ≡ out.old.items ++ number_bytes 2 number) }
-{
-    out.extend_from_slice(&number.to_le_bytes())
-}

@@ -4,7 +4,7 @@ ghost use Rattle.dconf_model.specs.Table.{item_at};
 ghost use Rattle.dconf_model.specs.TableBytes.{parent_number as number_of_parent, record_bytes};
 ghost use Rattle.gvdb_format.specs.ItemRecords.{parent_of};
 
-use crate::little_endian::{push_u16, push_u32, read_u8, read_u16, read_u32};
+use crate::little_endian::{read_u8, read_u16, read_u32};
 use std::alloc::AllocError;
 
 /// How many bytes a record has.
@@ -64,16 +64,28 @@ impl ItemRecord {
     }
 
     /// Appends the 24 bytes of a record. What is appended where a growth is refused is not said.
+    #[tactic(auto, using(crate::proofs::Numbers::appended))]
     pub fn push(self, out: &mut Vec<u8>) -> Result<(), AllocError>
         ensures { OnOk result (out.new.items ≡ out.old.items ++ record_bytes (record_of self)) }
     {
-        push_u32(self.hash, out)?;
-        push_u32(parent_number(self.parent), out)?;
-        push_u32(self.key_start, out)?;
-        push_u16(self.key_size, out)?;
-        out.extend_from_slice(&[self.kind, 0])?;
-        push_u32(self.start, out)?;
-        push_u32(self.end, out)
+        out.extend_from_slice(&self.bytes())
+    }
+
+    /// Its 24 bytes, so that a buffer grows once for all of them.
+    fn bytes(self) -> [u8; RECORD_LEN]
+        ensures { result ≡ record_bytes (record_of self) }
+    {
+        let hash = self.hash.to_le_bytes();
+        let parent = parent_number(self.parent).to_le_bytes();
+        let key = self.key_start.to_le_bytes();
+        let size = self.key_size.to_le_bytes();
+        let start = self.start.to_le_bytes();
+        let end = self.end.to_le_bytes();
+        [
+            hash[0], hash[1], hash[2], hash[3], parent[0], parent[1], parent[2], parent[3], key[0],
+            key[1], key[2], key[3], size[0], size[1], self.kind, 0, start[0], start[1], start[2],
+            start[3], end[0], end[1], end[2], end[3],
+        ]
     }
 }
 
