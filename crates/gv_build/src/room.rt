@@ -2,17 +2,16 @@
 
 use crate::array::element_size;
 use crate::buffer::MAX_LEN;
-use gv_layout::fixed_size;
 use gv_tree::{Basic, Shape, Tree};
 
 /// How many of an array's texts are looked at.
 const MEASURED: usize = 16;
 
-/// So many bytes at least: all of a value of a fixed size, of a text and of an array of values of a
-/// fixed size, and those of the first texts of an array; of other values none.
+/// About so many bytes: all of a basic value and of an array of values of a fixed size, and those of
+/// the first texts of an array; of other values none.
 pub(crate) fn room(tree: &Tree) -> usize {
     let room = match tree.shape() {
-        Shape::Basic(value) => basic_room(value, tree),
+        Shape::Basic(value) => basic_room(value),
         Shape::Array(elements) => match element_size(tree.type_text()) {
             Some(size) => size.saturating_mul(elements.len()),
             None => texts_room(elements),
@@ -22,13 +21,13 @@ pub(crate) fn room(tree: &Tree) -> usize {
     room.min(MAX_LEN)
 }
 
-/// The bytes of a basic value.
-fn basic_room(value: &Basic, tree: &Tree) -> usize {
+/// The bytes of a text, or as many as any number has at most.
+fn basic_room(value: &Basic) -> usize {
     match value {
         Basic::Text(text) | Basic::ObjectPath(text) | Basic::Signature(text) => {
             text.len().saturating_add(1)
         }
-        _ => fixed_size(tree.type_text()).unwrap_or(0),
+        _ => 8,
     }
 }
 
@@ -39,9 +38,7 @@ fn texts_room(elements: &[Tree]) -> usize {
     let mut room: usize = 0;
     for element in first {
         if let Shape::Basic(value) = element.shape() {
-            room = room
-                .saturating_add(basic_room(value, element))
-                .saturating_add(1);
+            room = room.saturating_add(basic_room(value)).saturating_add(1);
         }
     }
     room

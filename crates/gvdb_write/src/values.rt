@@ -31,8 +31,8 @@ impl<'a> Values<'a> {
         ensures fault { IfErr result (λ e. e ≡ Memory) }
     {
         let mut slots = Vec::new(alloc);
-        // With two slots for each value, one value in six comes to a slot that is taken.
-        slots.resize(many.saturating_mul(2).max(1), 0usize)?;
+        // With four slots for each item, one value in nine or less comes to a slot that is taken.
+        slots.resize(many.saturating_mul(4).max(1), 0usize)?;
         Ok(Values {
             distinct: Vec::with_capacity(alloc, many)?,
             slots,
