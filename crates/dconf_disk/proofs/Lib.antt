@@ -6,6 +6,5 @@ pub mod ReadLemmas
 pub mod Crashes
 pub mod Made
 pub mod MadeAgain
-pub mod Wholes
 pub mod WorkedFolders
 pub mod DrivingLaws

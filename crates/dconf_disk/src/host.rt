@@ -1,5 +1,6 @@
 //! The current folder of the host.
 ghost use Rattle.std.specs.Prelude.{◌≡◌, ◌≢◌, ◌<◌, ◌≤◌, ◌↔◌, None, Ok, Err, IfSome, IfOk, IfErr, IsOk, IsTrue, IsErrOf, IsErrAnd, ◌∷◌, OnOk, OnErr, true, false, length};
+ghost use Rattle.std.specs.Io.KnownBytes.{Consumes};
 ghost use Rattle.std.specs.IoError.{error_kind};
 ghost use Rattle.dconf_disk.specs.Failures.{HasCause};
 ghost use Rattle.dconf_disk.specs.SystemCalls.{folder_of, given_mode, made, removed, renamed, synced, with_its_folder};
@@ -7,7 +8,7 @@ ghost use Rattle.dconf_disk.specs.SystemCalls.{folder_of, given_mode, made, remo
 use crate::modes::{keep_mode, open_new};
 use crate::record::Record;
 use crate::{Folder, FolderFault, FolderLock, LARGEST_FILE};
-use std::alloc::Global;
+use std::alloc::{AllocError, Global};
 use std::fs::{OpenFile, OpenOptions};
 use std::io::{ErrorKind, Read, Write};
 use std::path::Path;
@@ -31,6 +32,9 @@ const SYNC_FOLDER: u64 = 6;
 const FAILED: u64 = 0;
 
 const DONE: u64 = 1;
+
+/// Zeros that are written at once.
+const PIECE: &[u8] = &[0; 1024];
 
 /// The files of the current folder, by `rt`.
 ///
@@ -337,13 +341,36 @@ fn whole<F: OpenFile + Read + Drop>(alloc: Global, file: F) -> Result<Vec<u8>, F
     if is_too_big(length) {
         return Err(FolderFault::TooBig);
     }
-    // Room for one byte more, so that the end is seen without growing.
-    let mut bytes = Vec::with_capacity(alloc, length as usize + 1)?;
-    match file.take(LARGEST_FILE + 1).read_to_end(&mut bytes) {
-        Ok(length) if is_too_big(length as u64) => Err(FolderFault::TooBig),
+    let mut file = file.take(LARGEST_FILE + 1);
+    let mut bytes = first_bytes(alloc, &mut file, length as usize)?;
+    match file.read_to_end(&mut bytes) {
+        Ok(_) if is_too_big(bytes.len() as u64) => Err(FolderFault::TooBig),
         Ok(_) => Ok(bytes),
         Err(error) => Err(fault_of(error)),
     }
+}
+
+/// What one read gives, of so many bytes at most. After an error the next read tells why.
+fn first_bytes<R: Read>(alloc: Global, reader: &mut R, most: usize) -> Result<Vec<u8>, AllocError>
+    ensures { IfOk result (λ v. Consumes (R.remaining reader.old) (R.remaining reader.new) v.items) }
+{
+    let mut bytes = zeros(alloc, most)?;
+    match reader.read(&mut bytes) {
+        Ok(n) => bytes.truncate(n),
+        Err(_) => bytes.clear(),
+    }
+    Ok(bytes)
+}
+
+/// So many zeros, for a read to write over, and room for one byte more, so that the end is seen without growing. Short pieces
+/// are written by wide stores, and a long one a byte at a time.
+fn zeros(alloc: Global, count: usize) -> Result<Vec<u8>, AllocError> {
+    let mut zeros = Vec::with_capacity(alloc, count.saturating_add(1))?;
+    for _ in 0..count / PIECE.len() {
+        zeros.extend_from_slice(PIECE)?;
+    }
+    zeros.resize(count, 0)?;
+    Ok(zeros)
 }
 
 fn is_too_big(length: u64) -> bool
