@@ -1,12 +1,12 @@
 -- The path of a keyfile's row is that of a key, unless it is too long.
 use Rattle.std.proofs.Common.{◌≡◌, ◌<◌, ◌-◌, ℕ, Bool, true, false, ◌&&◌, ◌||◌, not, List, [], ◌∷◌, ◌++◌, length, codes, refl, sym, ap, ◌∙◌, arith, append_assoc, cond, zero, suc, get_or, subst, Option, Some, None, Result, Err, take}
-use Rattle.std.specs.Prelude.{IfSome, Contains, nat_lt, nat_eq, ◌==◌, IsTrue}
+use Rattle.std.specs.Prelude.{◌≤◌, IfSome, Contains, nat_lt, nat_eq, ◌==◌, IsTrue}
 use Rattle.std.specs.List.{list_any, ends_with, starts_with}
 use Rattle.std.specs.Str.{bytes_eq}
 use Rattle.std.proofs.lemmas.Bool.{and_parts, not-true, or_parts, ltb-true, eqb-true}
 use Rattle.dconf_model.specs.Paths.{has_two_slashes, has_zero_byte, starts_with_slash, ends_with_slash, is_short, is_path, is_key_path, is_directory_path}
 use Rattle.dconf_model.specs.Keyfiles.{Row, has_slash_end, is_group, is_key, is_plain, path_of}
-use Rattle.std.proofs.lemmas.Bool.Decides.{Decides-eqb}
+use Rattle.std.proofs.lemmas.Bool.Decides.{Decides-eqb, nat_tests}
 use Rattle.std.proofs.lemmas.Slice.Eq.{ends_is}
 use Rattle.gv_model.specs.Tree.{Tree}
 use Rattle.dconf_model.proofs.KeyNames.{has, in_neither, after_slash, plain_single, starts_on, open_end}
@@ -190,8 +190,11 @@ module _ (r : Row) (h : IsReadRow r) (p : List ℕ) (same : p ≡ path_of (codes
   by_path : row_compiled r ≡ row_read text_compiled p r.text
   by_path = ap (λ (x : List ℕ). row_read text_compiled x r.text) (sym same)
 
-  pub too_long_row : (IsTrue (is_key_path p) → false ≡ true) → row_compiled r ≡ wrong (path_fault too_long)
-  too_long_row refuted = by_path ∙ long_row text_compiled p r.text key refuted
+  pub too_long_row : 65535 < length p → row_compiled r ≡ wrong (path_fault too_long)
+  too_long_row long = let is : is_short p ≡ false = grind (arith, nat_tests) in by_path ∙ long_row text_compiled p r.text key (λ path. sym is ∙ (sym key ∙ path))
+
+  pub short_key : length p ≤ 65535 → IsTrue (is_key_path p)
+  short_key short = let is : is_short p ≡ true = grind (arith, nat_tests) in key ∙ is
 
   pub row_refused : (o : Option SettingsCause) → IsTrue (is_key_path p) → IfSome o (λ c. text_compiled r.text ≡ Err c) → IfSome o (λ c. row_compiled r ≡ wrong c)
   row_refused None is k = tt

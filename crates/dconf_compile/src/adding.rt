@@ -39,9 +39,8 @@ fn add_keyfile(alloc: Global, bytes: &[u8], settings: &mut MapBuilder) -> Result
     ensures fault { IfErr result (λ stop. IfSome (line_fault_of stop) (λ fault. compiled bytes.now ≡ Err fault)) }
 {
     let rows = read(alloc, bytes)?;
-    let mut path = String::new(alloc);
     for row in &rows {
-        if let Err(cause) = add_row(alloc, row, &mut path, settings) {
+        if let Err(cause) = add_row(alloc, row, settings) {
             return Err(LineStop {
                 line: row.line,
                 cause,

@@ -8,34 +8,30 @@ ghost use Rattle.dconf_compile.specs.CompileFaults.{cause_of};
 
 use crate::fault::CompileCause;
 use crate::value::value_of_text;
-use dconf_path::KeyPath;
+use dconf_path::MAX_PATH_LEN;
 use gv_build::variant_bytes;
 use gvdb_write::MapBuilder;
 use keyfile_core::Row;
 use std::alloc::{AllocError, Global};
 
-/// Puts a row's value among settings, in the place of the one that its path had. The path is written
-/// over a text, so that many rows need room for one path.
+/// Puts a row's value among settings, in the place of the one that its path had.
 pub(crate) fn add_row(
     alloc: Global,
     row: &Row<'_>,
-    path: &mut String,
     settings: &mut MapBuilder,
 ) -> Result<(), CompileCause>
     requires { IsReadRow (row_meant row.now) }
     ensures added { OnOk result (AddsRow (row_compiled (row_meant row.now)) settings.old settings.new) }
     ensures fault { IfErr result (λ cause. IfSome (cause_of cause) (λ c. row_compiled (row_meant row.now) ≡ wrong c)) }
 {
-    write_path("/", row, path)?;
-    match KeyPath::parse(path.as_str()) {
-        Ok(path) => {
-            let value = stored(alloc, row.text)?;
-            settings.insert_owned(path, value)?;
-            Ok(())
-        }
-        // The rules of keyfiles leave no other fault.
-        Err(_) => Err(CompileCause::TooLong),
+    let path = path_of(alloc, "/", row)?;
+    // The rules of keyfiles leave no other fault of a path.
+    if path.len() > MAX_PATH_LEN {
+        return Err(CompileCause::TooLong);
     }
+    let value = stored(alloc, row.text)?;
+    settings.insert_text(path, value)?;
+    Ok(())
 }
 
 /// The path of a row's key below a directory.
@@ -47,22 +43,13 @@ pub(crate) fn path_of(alloc: Global, directory: &str, row: &Row<'_>) -> Result<S
         .saturating_add(row.group.len())
         .saturating_add(row.key.len());
     let mut path = String::with_capacity(alloc, len.saturating_add(1))?;
-    write_path(directory, row, &mut path)?;
-    Ok(path)
-}
-
-/// Writes the path of a row's key below a directory over a text.
-fn write_path(directory: &str, row: &Row<'_>, path: &mut String) -> Result<(), AllocError>
-    ensures { OnOk result (string_bytes path.new ≡ path_of directory.now (row_meant row.now)) }
-{
-    path.clear();
     path.push_str(directory)?;
     if row.group != "/" {
         path.push_str(row.group)?;
-        path.push_str("/")?;
+        path.push('/')?;
     }
     path.push_str(row.key)?;
-    Ok(())
+    Ok(path)
 }
 
 /// The bytes that are stored for the value of a text.

@@ -76,17 +76,6 @@ impl Map {
         ensures err { OnErr result (self.new ≡ self.old) }
     {
         let value = value.to_vec(self.alloc)?;
-        self.insert_owned(path, value)
-    }
-
-    /// Sets the bytes of the value at a path, in the place of those that it had, and keeps them where they are.
-    ///
-    /// An error comes where a growth is refused, and then the map stays as it was. It copies the path, and compares as
-    /// many paths as the map is deep.
-    pub fn insert_owned(&mut self, path: KeyPath<'_>, value: Vec<u8>) -> Result<(), AllocError>
-        ensures ok { OnOk result (self.new ≡ with_value self.old (key_text path.entry) value.items) }
-        ensures err { OnErr result (self.new ≡ self.old) }
-    {
         let path = String::from_str(self.alloc, path.as_str())?;
         self.put(path, value)
     }

@@ -2,10 +2,8 @@
 ghost use Rattle.std.specs.Prelude.{◌≡◌, IsTrue, IfOk, OnOk, OnErr, string_bytes};
 ghost use Rattle.dconf_model.specs.Paths.{is_key_path};
 ghost use Rattle.dconf_model.specs.Settings.{no_settings, with_value};
-ghost use Rattle.dconf_path.specs.Paths.{key_text};
 
 use crate::map::Map;
-use dconf_path::KeyPath;
 use std::alloc::{AllocError, Global};
 use std::marker::Model;
 
@@ -39,28 +37,6 @@ impl MapBuilder {
     {
         let rows = Vec::new(alloc);
         MapBuilder { alloc, rows }
-    }
-
-    /// Sets the bytes of the value at a path, in the place of those that it had.
-    ///
-    /// An error comes where a growth is refused, and then all stays as it was. It copies the path and the bytes.
-    pub fn insert(&mut self, path: KeyPath<'_>, value: &[u8]) -> Result<(), AllocError>
-        ensures ok { OnOk result (self.new ≡ with_value self.old (key_text path.entry) value.now) }
-        ensures err { OnErr result (self.new ≡ self.old) }
-    {
-        let value = value.to_vec(self.alloc)?;
-        self.insert_owned(path, value)
-    }
-
-    /// Sets the bytes of the value at a path, in the place of those that it had, and keeps them where they are.
-    ///
-    /// An error comes where a growth is refused, and then all stays as it was. It copies the path.
-    pub fn insert_owned(&mut self, path: KeyPath<'_>, value: Vec<u8>) -> Result<(), AllocError>
-        ensures ok { OnOk result (self.new ≡ with_value self.old (key_text path.entry) value.items) }
-        ensures err { OnErr result (self.new ≡ self.old) }
-    {
-        let path = String::from_str(self.alloc, path.as_str())?;
-        self.insert_text(path, value)
     }
 
     /// Sets the bytes of the value at the path of a key, in the place of those that it had, and keeps both where they are.

@@ -9,14 +9,9 @@ use std::test::Fail;
 const FIVE: &[u8] = b"\x05\0\0\0\0i";
 
 /// Puts a value, another one at the same path, which counts, and a lock into a map.
-fn fill(
-    alloc: Global,
-    map: &mut Map,
-    path: KeyPath<'_>,
-    lock: LockPath<'_>,
-) -> Result<(), AllocError> {
+fn fill(map: &mut Map, path: KeyPath<'_>, lock: LockPath<'_>) -> Result<(), AllocError> {
     map.insert(path, b"\x06\0b")?;
-    map.insert_owned(path, FIVE.to_vec(alloc)?)?;
+    map.insert(path, FIVE)?;
     map.lock(lock)
 }
 
@@ -59,25 +54,25 @@ fn is_written(
     Ok(has_five(map, path, lock) && has_five(&kept, path, lock) && locks_a_directory(&file))
 }
 
-/// Puts values among those that a map is built of, in no order. Of one path the last counts.
+/// Puts a value among those that a map is built of. Of one path the last counts.
 fn add(
     alloc: Global,
     values: &mut MapBuilder,
-    first: KeyPath<'_>,
-    last: KeyPath<'_>,
+    path: KeyPath<'_>,
+    value: &[u8],
 ) -> Result<(), AllocError> {
-    values.insert_owned(last, FIVE.to_vec(alloc)?)?;
-    values.insert(first, b"\x06\0b")?;
     values.insert_text(
-        String::from_str(alloc, first.as_str())?,
-        FIVE.to_vec(alloc)?,
+        String::from_str(alloc, path.as_str())?,
+        value.to_vec(alloc)?,
     )
 }
 
-/// Whether a map is built of values.
+/// Whether a map is built of values in no order.
 fn is_built(alloc: Global, first: KeyPath<'_>, last: KeyPath<'_>) -> Result<bool, AllocError> {
     let mut values = MapBuilder::new(alloc);
-    add(alloc, &mut values, first, last)?;
+    add(alloc, &mut values, last, FIVE)?;
+    add(alloc, &mut values, first, b"\x06\0b")?;
+    add(alloc, &mut values, first, FIVE)?;
     let map = values.build()?;
     Ok(
         map.get(first) == Some(FIVE)
@@ -93,7 +88,7 @@ fn maps_are_written_and_read_back(rt: HostRuntime) -> Result<(), Fail> {
     let lock = LockPath::parse("/a/")?;
     assert!(rt; is_built(alloc, first, last)?);
     let mut map = Map::new(alloc);
-    fill(alloc, &mut map, last, lock)?;
+    fill(&mut map, last, lock)?;
     assert!(rt; is_written(alloc, &map, last, lock)?);
     Ok(())
 }
