@@ -7,6 +7,7 @@ ghost use Rattle.dconf_disk.specs.Crashes.{was_named};
 
 use std::alloc::{AllocError, Global};
 
+/// A call of a folder in memory that changed something, with its names and bytes.
 #[derive(Drop)]
 pub(crate) enum Call {
     Create(String),

@@ -89,10 +89,6 @@ pub err_both : {T E : Type 0} (r s : Result T E) (P P' Q : Type 0) → r ≡ s �
 err_both (Ok x) s P P' Q e p p' f = tt
 err_both (Err x) s P P' Q e p p' f = f (subst (λ y. OnErr y P) (sym e) p) (subst (λ y. OnErr y P') (sym e) p')
 
-pub err_always : {T E : Type 0} (r : Result T E) (Q : Type 0) → Q → OnErr r Q
-err_always (Ok x) Q q = tt
-err_always (Err x) Q q = q
-
 pub written : (b : Bool) → true ≡ false → b ≡ false
 written b e = cc
 

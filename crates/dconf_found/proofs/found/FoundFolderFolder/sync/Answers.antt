@@ -1,11 +1,12 @@
 use Rattle.std.proofs.Common.{◌++◌, refl}
+use Rattle.dconf_disk.proofs.Results.{always_err}
 use Rattle.dconf_model.specs.Folders.Event.{sync, touch}
 use Rattle.dconf_found.specs.FoundFolders.{held_of}
-use Rattle.dconf_found.proofs.PastLaws.{did, err_always, err_from, ok_from, refused}
+use Rattle.dconf_found.proofs.PastLaws.{did, err_from, ok_from, refused}
 use Rattle.dconf_found.proofs.found.FoundFolderFolder.sync.Goals as goal
 
 pub returns-then-not-is_name-clause-err : goal.returns-then-not-is_name-clause-err
-returns-then-not-is_name-clause-err g c turn es past = err_always c.with_count.result _ (refused g.F.Folder.past c.args.self.now _ es (record { lookup = refl; shown = refl; held = refl }) past c.args.name.now past.inner refl past.own)
+returns-then-not-is_name-clause-err g c turn es past = always_err c.with_count.result _ (refused g.F.Folder.past c.args.self.now _ es (record { lookup = refl; shown = refl; held = refl }) past c.args.name.now past.inner refl past.own)
 
 pub returns-clause-ok : goal.returns-clause-ok
 returns-clause-ok g c es past =
