@@ -1,22 +1,18 @@
 -- What a file says of settings.
-use Rattle.std.specs.Prelude.{◌≡◌, ℕ, List, Option, Some, None, true, false, IsTrue, is_some, refl}
+use Rattle.std.specs.Prelude.{◌≡◌, ℕ, List, Option, Some, None, IsTrue, is_some, refl}
 use Rattle.std.proofs.Common.{sym}
 use Rattle.std.specs.FinMap.{get, same_map, slice_cmp-IsAntisymmetric, nat_cmp-IsAntisymmetric}
 use Rattle.std.specs.Cmp.Lexicographic.{nat_list_cmp_total}
+use Rattle.std.proofs.lemmas.Option.{none-some}
+use Rattle.dconf_model.proofs.PathMaps.{no_truth}
 use Rattle.dconf_model.specs.Settings.{AtPaths, Lock}
 use Rattle.dconf_model.specs.Databases.{SaysOneThing, WrittenSaysSettings}
-
-not_some : {X : Type 0} (x : X) → None ≡ Some x → ⊥
-not_some x e = cc
 
 -- options that are the same wherever one of them is there
 pub same_option : {X : Type 0} (p q : Option X) → ((x : X) → p ≡ Some x → q ≡ Some x) → ((x : X) → q ≡ Some x → p ≡ Some x) → p ≡ q
 same_option None None f g = refl
-same_option None (Some y) f g = absurd (not_some y (g y refl))
+same_option None (Some y) f g = absurd (none-some y (g y refl))
 same_option (Some x) q f g = sym (f x refl)
-
-no_truth : false ≡ true → ⊥
-no_truth e = cc
 
 pub same_lock : (p q : Option Lock) → (IsTrue (is_some p) → IsTrue (is_some q)) → (IsTrue (is_some q) → IsTrue (is_some p)) → p ≡ q
 same_lock None None f g = refl

@@ -8,7 +8,7 @@ use Rattle.std.specs.Str.{bytes_eq}
 use Rattle.std.specs.FinMap.{empty, get-empty, keys}
 use Rattle.std.specs.Cmp.Lexicographic.{slice_cmp}
 use Rattle.std.specs.Ordering.{nat_cmp}
-use Rattle.std.proofs.lemmas.Bool.{or_left, or_right}
+use Rattle.std.proofs.lemmas.Bool.{or_cases, or_left, or_right}
 use Rattle.std.proofs.lemmas.List.Elements.{Contains-append_left, Contains-append_right, Contains-append_cases}
 use Rattle.gv_model.specs.Tree.{Tree}
 use Rattle.dconf_model.specs.Bytes.{MaybeBytes}
@@ -25,7 +25,7 @@ use Rattle.dconf_model.proofs.HeldLaws.{held_there}
 use Rattle.dconf_model.proofs.Listings.{listing_has, listing_from, none_of_none}
 use Rattle.dconf_model.proofs.RisingTexts.{kept_is_there, there_is_kept}
 use Rattle.dconf_model.proofs.WalkedSettings.{both_tests}
-use Rattle.dconf_model.proofs.StoreListings.{key_of, of_key, or_cases, listed}
+use Rattle.dconf_model.proofs.StoreListings.{key_of, of_key, listed}
 use Rattle.dconf_model.proofs.StoreValues.{value_seen}
 
 -- ---- locks

@@ -1,10 +1,10 @@
 -- A listing of a store names the first parts of what its files give and of what the user has, and nothing else.
-use Rattle.std.specs.Prelude.{◌≡◌, ◌⊎◌, ℕ, Bool, true, false, ◌||◌, List, [], ◌∷◌, ◌++◌, refl, is_some, Contains}
+use Rattle.std.specs.Prelude.{◌≡◌, ℕ, true, List, [], ◌∷◌, ◌++◌, is_some, Contains}
 use Rattle.std.proofs.Common.{ap, sym, ◌∙◌, subst, inl, inr}
 use Rattle.std.specs.Str.{bytes_eq}
 use Rattle.std.specs.Cmp.{decided}
 use Rattle.std.specs.FinMap.{get, keys}
-use Rattle.std.proofs.lemmas.Bool.{or_left, or_right}
+use Rattle.std.proofs.lemmas.Bool.{or_cases, or_left, or_right}
 use Rattle.std.proofs.lemmas.Slice.Eq.{bytes_eq-Decides}
 use Rattle.std.proofs.lemmas.Map.Views.{list_any-from_Contains, Contains-from_any}
 use Rattle.std.proofs.lemmas.List.Elements.{Contains-append_left, Contains-append_right, Contains-append_cases}
@@ -29,10 +29,6 @@ key_of m p e = Contains-from_any same_path p (keys m) (sym (key_in m p) ∙ e)
 
 pub of_key : {X : Type 0} (m : AtPaths X) (p : List ℕ) → Contains (keys m) p → is_some (get m p) ≡ true
 of_key m p h = key_in m p ∙ list_any-from_Contains (decided bytes_eq bytes_eq-Decides) p (keys m) h
-
-pub or_cases : (a b : Bool) → (a || b) ≡ true → (a ≡ true) ⊎ (b ≡ true)
-or_cases true b e = inl refl
-or_cases false b e = inr e
 
 pub given_path : (ss : List Settings) (gs : List Given) (p : List ℕ) → AllGive ss gs → Contains (all_paths ss) p → is_given gs p ≡ true
 given_path [] [] p h k = absurd (none_of_none p k)

@@ -6,7 +6,7 @@ use lib.Utf8.{scalar, scalars, encode as encode_char, encodes, next}
 use Rattle.std.proofs.Common.{sym, ap, subst, ◌∙◌, inl, inr, arith, get_or, append-nil, append_assoc, ltb-true, ne_eqb, drop_at}
 use Rattle.std.proofs.lemmas.Bool.{and_parts, cases_lt, eqb-true}
 use Rattle.std.proofs.lemmas.Str.{IsUtf8-append, IsUtf8-nil, IsUtf8-encode, IsUtf8-from_ascii}
-use Rattle.gv_model.specs.Characters.{is_digit_of, prefix_of}
+use Rattle.gv_model.specs.Characters.{is_digit_of, prefix_of, tail}
 use Rattle.gv_model.specs.Numerals.{number_after}
 use Rattle.gv_model.specs.TextFault.Cause.{bad_token, bad_escape}
 use Rattle.gv_model.specs.Strings.{StringStep, part, escape_in, escape, octal_escape, number_escape, letter_or_self, letter_meaning, at_most, is_scalar}
@@ -14,7 +14,6 @@ use Rattle.gv_model.specs.Strings.StringStep.{denotes, closes, faulty}
 use Rattle.gv_model.specs.TextLaws.{StringPart, meant, written, AreParts}
 use Rattle.gv_model.proofs.ListLaws.{no_bytes}
 use Rattle.gv_model.proofs.LowBytes.{digit_is_low}
-use Rattle.gv_model.proofs.PrintedStrings.{pick_list}
 use Rattle.gv_model.proofs.StringParts.{choose}
 use Rattle.dconf_model.proofs.AsciiParts.{after_ascii, drop_ascii}
 
@@ -34,11 +33,11 @@ short_or_long c =
     let three = (224 + c / 4096) ∷ next (c / 64) ∷ next c ∷ [] in
     let four = (240 + c / 262144) ∷ next (c / 4096) ∷ next (c / 64) ∷ next c ∷ [] in
     let high : (n : ℕ) → 128 ≤ next n = λ n. omega arith in
-    pick_list (λ xs. ((c < 128) × (xs ≡ c ∷ [])) ⊎ IsLong c xs) (nat_lt c 128) (c ∷ []) (cond (nat_lt c 2048) two (cond (nat_lt c 65536) three four))
+    choose (λ xs. ((c < 128) × (xs ≡ c ∷ [])) ⊎ IsLong c xs) (nat_lt c 128) (c ∷ []) (cond (nat_lt c 2048) two (cond (nat_lt c 65536) three four))
     (λ e. inl (ltb-true c 128 e, refl))
-    (λ e. inr (pick_list (IsLong c) (nat_lt c 2048) two (cond (nat_lt c 65536) three four)
+    (λ e. inr (choose (IsLong c) (nat_lt c 2048) two (cond (nat_lt c 65536) three four)
     (λ f. (192 + c / 64, next c ∷ [], refl, (high c, tt)))
-    (λ f. pick_list (IsLong c) (nat_lt c 65536) three four
+    (λ f. choose (IsLong c) (nat_lt c 65536) three four
     (λ g. (224 + c / 4096, next (c / 64) ∷ next c ∷ [], refl, (high (c / 64), (high c, tt))))
     (λ g. (240 + c / 262144, next (c / 4096) ∷ next (c / 64) ∷ next c ∷ [], refl, (high (c / 4096), (high (c / 64), (high c, tt))))))))
 
@@ -55,10 +54,6 @@ abbrev head_of : List ℕ → ℕ
 head_of [] = 0
 head_of (x ∷ xs) = x
 
-abbrev rest_of : List ℕ → List ℕ
-rest_of [] = []
-rest_of (x ∷ xs) = xs
-
 high_char : (c : ℕ) (xs : List ℕ) → 128 ≤ c → IsUtf8 (c ∷ xs) → Rest c xs
 high_char c xs h ([], (ok, e)) = let long = ap length e in absurd (omega (arith, long))
 high_char c xs h (d ∷ ds, (ok, e)) = elim (short_or_long d) [
@@ -73,7 +68,7 @@ high_char c xs h (d ∷ ds, (ok, e)) = elim (short_or_long d) [
         bs = long.1;
         ys = encodes ds;
         high = long.3;
-        splits = sym (ap rest_of all);
+        splits = sym (ap tail all);
         whole = (d ∷ [], (ap (λ b. b && true) scalar_is.0, append-nil (encode_char d) ∙ (long.2 ∙ ap (λ b. b ∷ long.1) same)));
         later = (ds, (scalar_is.1, refl));
       }
@@ -117,7 +112,7 @@ high_parts quote (b ∷ bs) (p ∷ ps) after ys l h parts e =
     let one : 1 ≡ length p.0 = ap size_of is in
     let size = ap length parts.0.2 in
     let no_cs : cs ≡ [] = no_bytes cs (omega (arith, one, size)) in
-    let rest = high_parts quote bs ps after ys l h.1 parts.1 (sym (ap (λ l. l ++ (written ps ++ quote ∷ after)) no_cs) ∙ ap rest_of spelled) in
+    let rest = high_parts quote bs ps after ys l h.1 parts.1 (sym (ap (λ l. l ++ (written ps ++ quote ∷ after)) no_cs) ∙ ap tail spelled) in
     record {
       qs = rest.qs;
       each = rest.each;
@@ -295,11 +290,11 @@ encoded_bytes c ok =
     let four = (240 + c / 262144) ∷ next (c / 4096) ∷ next (c / 64) ∷ next c ∷ [] in
     let low : (n : ℕ) → next n < 256 = λ n. omega arith in
     let top : c < 1114112 = grind arith in
-    pick_list AreBytes (nat_lt c 128) (c ∷ []) (cond (nat_lt c 2048) two (cond (nat_lt c 65536) three four))
+    choose AreBytes (nat_lt c 128) (c ∷ []) (cond (nat_lt c 2048) two (cond (nat_lt c 65536) three four))
     (λ e. (let l = ltb-true c 128 e in (omega (arith, l), tt)))
-    (λ e. pick_list AreBytes (nat_lt c 2048) two (cond (nat_lt c 65536) three four)
+    (λ e. choose AreBytes (nat_lt c 2048) two (cond (nat_lt c 65536) three four)
     (λ f. (let l = ltb-true c 2048 f in (omega (arith, l), (low c, tt))))
-    (λ f. pick_list AreBytes (nat_lt c 65536) three four
+    (λ f. choose AreBytes (nat_lt c 65536) three four
     (λ g. (let l = ltb-true c 65536 g in (omega (arith, l), (low (c / 64), (low c, tt)))))
     (λ g. (omega (arith, top), (low (c / 4096), (low (c / 64), (low c, tt)))))))
 

@@ -1,11 +1,12 @@
 -- A walk over the names of directories finds each key, in order, and ends.
 use Rattle.std.specs.Prelude.{Contains, filter, flat_map}
-use Rattle.std.proofs.Common.{◌≡◌, ◌⊎◌, ◌<◌, ◌≤◌, ◌+◌, ◌*◌, ◌-◌, ℕ, Bool, true, false, List, [], ◌∷◌, ◌++◌, ◌&&◌, not, cond, length, map, drop, refl, sym, ap, ◌∙◌, subst, inl, inr, arith, append_assoc, append-nil, length-append}
+use Rattle.std.proofs.Common.{◌≡◌, ◌⊎◌, ◌<◌, ◌≤◌, ◌+◌, ◌*◌, ◌-◌, ℕ, true, false, List, [], ◌∷◌, ◌++◌, not, cond, length, map, drop, refl, sym, ap, ◌∙◌, subst, inl, inr, arith, append_assoc, append-nil, length-append}
 use Rattle.std.specs.List.{sum_by}
 use Rattle.std.proofs.lemmas.Bool.{and_parts}
 use Rattle.std.proofs.lemmas.List.Concat.{flat_map-cons}
 use Rattle.std.proofs.lemmas.List.Elements.{Contains-append_left, Contains-append_right, Contains-append_cases}
 use Rattle.std.proofs.lemmas.List.Sums.{sum_by-cons, sum_by-append}
+use Rattle.std.proofs.lemmas.Bool.{and_from}
 use Rattle.dconf_model.specs.Layers.{parts_below}
 use Rattle.dconf_model.specs.Locks.{is_below}
 use Rattle.dconf_model.specs.Paths.{is_path, is_key_path, is_directory_path, ends_with_slash, first_part}
@@ -26,9 +27,6 @@ at_directory paths place e = ap (λ b. cond b (keys_below paths place) (place �
 
 at_key : (paths : Texts) (place : List ℕ) → is_directory_path place ≡ false → keys_at paths place ≡ place ∷ []
 at_key paths place e = ap (λ b. cond b (keys_below paths place) (place ∷ [])) e
-
-both : (a b : Bool) → a ≡ true → b ≡ true → (a && b) ≡ true
-both a b e f = rw (e, f) refl
 
 -- the place that a directory leads to on the way to a path below it: a directory, or the path itself
 abbrev IsPlace : List ℕ → List ℕ → Type 0
@@ -52,7 +50,7 @@ is_place paths directory rest are there =
           let whole : directory ++ rest ≡ (directory ++ part) ++ h.1.0 = ap (λ (l : List ℕ). directory ++ l) h.1.1 ∙ sym (append_assoc directory part h.1.0) in
           let path : is_path (directory ++ rest) ≡ true = (and_parts (is_path (directory ++ rest)) (not (ends_with_slash (directory ++ rest))) key).0 in
           let before : is_path (directory ++ part) ≡ true = prefix_is_path (directory ++ part) h.1.0 slash (sym (ap is_path whole) ∙ path) in
-          inl (both (is_path (directory ++ part)) (ends_with_slash (directory ++ part)) before slash, h.0, h.1))
+          inl (and_from (is_path (directory ++ part)) (ends_with_slash (directory ++ part)) before slash, h.0, h.1))
     ]
 
 -- ---- what is found at a place

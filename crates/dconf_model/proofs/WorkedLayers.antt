@@ -24,7 +24,7 @@ use Rattle.dconf_model.specs.Locks.{is_below}
 use Rattle.dconf_model.specs.Changes.{Refusal, apply, changed, with_all, RunsInParts, or_as_before}
 use Rattle.dconf_model.specs.Changes.Change.{set_value, reset_value, reset_below_directory, load_values}
 use Rattle.dconf_model.specs.Changes.Refusal.{too_large, not_writable, locked}
-use Rattle.dconf_model.proofs.PathMaps.{get_retained}
+use Rattle.dconf_model.proofs.PathMaps.{no_truth, get_retained}
 use Rattle.dconf_model.proofs.WorkedSources.{meaning, a, b, given_of}
 
 abbrev Entries : Type 0
@@ -312,9 +312,6 @@ gone k v p away = same_map nat_list_cmp_total (slice_cmp-IsAntisymmetric nat_cmp
   where
     by : (q : List ℕ) (o : Ordering) → slice_cmp nat_cmp q k ≡ o → (b : Bool) → p q ≡ b → cond b (cond (is_eq o) (Some v) None) None ≡ None
     by q Equal e true h = absurd (no_truth (sym away ∙ ap p (sym (slice_cmp-IsAntisymmetric nat_cmp-IsAntisymmetric q k e)) ∙ h))
-      where
-        no_truth : false ≡ true → ⊥
-        no_truth f = cc
     by q Equal e false h = refl
     by q Less e true h = refl
     by q Less e false h = refl

@@ -1,6 +1,7 @@
 -- The first fault of tokens is where the longest prefix ends that begins some tree's tokens.
 use Rattle.std.proofs.Common.{◌≡◌, ◌≤◌, ℕ, suc, ◌+◌, Bool, true, false, cond, List, [], ◌∷◌, ◌++◌, Option, Some, None, Ok, Err, refl, sym, ap, ◌∙◌, subst, arith, nat_le, append_assoc, append-nil}
 use Rattle.std.proofs.lemmas.Option.{none-some, same_Some}
+use Rattle.std.proofs.lemmas.Bool.{le-leb}
 use Rattle.gv_model.specs.TextFault.Cause.{bad_token, unclosed, bad_escape, double_text, unexpected, too_deep}
 use Rattle.gv_model.specs.Syntax.{Syntax, levels}
 use Rattle.gv_model.specs.Tokens.{Token}
@@ -245,9 +246,6 @@ endings [] = []
 endings (a_value d ∷ ws) = one_value ∷ endings ws
 endings (inside s d at ∷ ws) = ending s ++ endings ws
 
-within : (d m : ℕ) → d ≤ m → nat_le d m ≡ true
-within d m h = grind arith
-
 -- a value that is wanted is within the limit, and so is each that a bracket may still want before it is closed
 abbrev pub Settled : ℕ → Want ℕ → Type 0
 Settled m (a_value d) = d ≤ m
@@ -276,7 +274,7 @@ shallow_settled m (inside s d at ∷ ws) h = (inside_settled m s d at h.0, shall
 ended : (m : ℕ) (ws : List (Want ℕ)) (n : ℕ) → AllSettled m ws → fault_to m n ws (endings ws) ≡ None
 unfolding fault_to
 ended m [] n h = refl
-ended m (a_value d ∷ ws) n h = rw (within d m h.0) (ended m ws (suc n) h.1)
+ended m (a_value d ∷ ws) n h = rw (le-leb d m h.0) (ended m ws (suc n) h.1)
 ended m (inside list_start d at ∷ ws) n h = ended m ws (suc n) h.1
 ended m (inside list_more d at ∷ ws) n h = ended m ws (suc n) h.1
 ended m (inside tuple_start d at ∷ ws) n h = ended m ws (suc n) h.1
@@ -284,9 +282,9 @@ ended m (inside tuple_one d at ∷ ws) n h = ended m ws (suc (suc n)) h.1
 ended m (inside tuple_two d at ∷ ws) n h = ended m ws (suc n) h.1
 ended m (inside tuple_more d at ∷ ws) n h = ended m ws (suc n) h.1
 ended m (inside brace_start d at ∷ ws) n h = ended m ws (suc n) h.1
-ended m (inside brace_first d at ∷ ws) n h = rw (within d m h.0) (ended m ws (suc (suc (suc n))) h.1)
+ended m (inside brace_first d at ∷ ws) n h = rw (le-leb d m h.0) (ended m ws (suc (suc (suc n))) h.1)
 ended m (inside pair_more d at ∷ ws) n h = ended m ws (suc n) h.1
-ended m (inside pair_colon d at ∷ ws) n h = rw (within d m h.0) (ended m ws (suc (suc (suc n))) h.1)
+ended m (inside pair_colon d at ∷ ws) n h = rw (le-leb d m h.0) (ended m ws (suc (suc (suc n))) h.1)
 ended m (inside lone_end d at ∷ ws) n h = ended m ws (suc n) h.1
 ended m (inside box_end d at ∷ ws) n h = ended m ws (suc n) h.1
 

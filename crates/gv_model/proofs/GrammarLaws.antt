@@ -1,6 +1,7 @@
 -- The tokens of a syntax tree are of no other tree, and have no fault within the depth.
 use Rattle.std.proofs.Common.{◌≡◌, ◌≤◌, ℕ, suc, ◌+◌, true, List, [], ◌∷◌, ◌++◌, None, refl, sym, ap, ◌∙◌, subst, arith, append_assoc, append-nil, nat_le}
 use Rattle.std.proofs.lemmas.List.{append_cancel_left}
+use Rattle.std.proofs.lemmas.Bool.{le-leb}
 use Rattle.gv_model.specs.Syntax.{Syntax, Syntaxes, Pairs, levels, greatest_levels, pairs_levels}
 use Rattle.gv_model.specs.Syntax.Syntax.{truth, integer, quoted, bytes, list, tuple_of, dictionary, lone, boxed, just, nothing, at_type, keyword}
 use Rattle.gv_model.specs.Syntax.Syntaxes.{none, first}
@@ -128,11 +129,8 @@ unfolding levels
 levels_pos (truth b) = omega arith
 levels_pos _ = omega arith
 
-within : (l : ℕ) (d : ℕ) → d ≤ l → nat_le d l ≡ true
-within l d h = grind arith
-
 shallow : (l : ℕ) (x : Syntax) (d : ℕ) → levels x + d ≤ suc l → nat_le d l ≡ true
-shallow l x d h = within l d (omega (arith, levels_pos x))
+shallow l x d h = le-leb d l (omega (arith, levels_pos x))
 
 abbrev Passes : ℕ → ℕ → List (Want ℕ) → List Token → List (Want ℕ) → List Token → Type 0
 Passes l n ws ts vs us = (m : ℕ) × (fault_to l n ws ts ≡ fault_to l m vs us)
@@ -170,35 +168,35 @@ mutual
   unfolding tokens_of fault_to levels
 
   pub passes_to : (l : ℕ) (x : Syntax) (d n : ℕ) (ws : List (Want ℕ)) (ts : List Token) → levels x + d ≤ suc l → Passes l n (a_value d ∷ ws) (tokens_of x ++ ts) ws ts
-  passes_to l (truth b) d n ws ts h = (suc n, rw (within l d (omega arith)) refl)
-  passes_to l (integer negative i) d n ws ts h = (suc n, rw (within l d (omega arith)) refl)
-  passes_to l (quoted s) d n ws ts h = (suc n, rw (within l d (omega arith)) refl)
-  passes_to l (bytes s) d n ws ts h = (suc n, rw (within l d (omega arith)) refl)
-  passes_to l nothing d n ws ts h = (suc n, rw (within l d (omega arith)) refl)
-  passes_to l (just x) d n ws ts h = let rest = passes_to l x (suc d) (suc n) ws ts (omega arith) in (rest.0, rw (within l d (omega arith)) rest.1)
-  passes_to l (at_type t x) d n ws ts h = let rest = passes_to l x (suc d) (suc n) ws ts (omega arith) in (rest.0, rw (within l d (omega arith)) rest.1)
-  passes_to l (keyword k x) d n ws ts h = let rest = passes_to l x (suc d) (suc n) ws ts (omega arith) in (rest.0, rw (within l d (omega arith)) rest.1)
+  passes_to l (truth b) d n ws ts h = (suc n, rw (le-leb d l (omega arith)) refl)
+  passes_to l (integer negative i) d n ws ts h = (suc n, rw (le-leb d l (omega arith)) refl)
+  passes_to l (quoted s) d n ws ts h = (suc n, rw (le-leb d l (omega arith)) refl)
+  passes_to l (bytes s) d n ws ts h = (suc n, rw (le-leb d l (omega arith)) refl)
+  passes_to l nothing d n ws ts h = (suc n, rw (le-leb d l (omega arith)) refl)
+  passes_to l (just x) d n ws ts h = let rest = passes_to l x (suc d) (suc n) ws ts (omega arith) in (rest.0, rw (le-leb d l (omega arith)) rest.1)
+  passes_to l (at_type t x) d n ws ts h = let rest = passes_to l x (suc d) (suc n) ws ts (omega arith) in (rest.0, rw (le-leb d l (omega arith)) rest.1)
+  passes_to l (keyword k x) d n ws ts h = let rest = passes_to l x (suc d) (suc n) ws ts (omega arith) in (rest.0, rw (le-leb d l (omega arith)) rest.1)
   passes_to l (list xs) d n ws ts h =
       let rest = list_passes l xs (suc d) n (suc n) ws ts (omega arith) in
-      (rest.0, rw (within l d (omega arith)) (ap (fault_to l (suc n) (inside list_start (suc d) n ∷ ws)) (append_assoc (commas xs) (mark close_list ∷ []) ts) ∙ rest.1))
+      (rest.0, rw (le-leb d l (omega arith)) (ap (fault_to l (suc n) (inside list_start (suc d) n ∷ ws)) (append_assoc (commas xs) (mark close_list ∷ []) ts) ∙ rest.1))
   passes_to l (tuple_of xs) d n ws ts h =
       let rest = tuple_passes l xs (suc d) n (suc n) ws ts (omega arith) in
-      (rest.0, rw (within l d (omega arith)) (ap (fault_to l (suc n) (inside tuple_start (suc d) n ∷ ws)) (append_assoc (members_tokens xs) (mark close_tuple ∷ []) ts) ∙ rest.1))
+      (rest.0, rw (le-leb d l (omega arith)) (ap (fault_to l (suc n) (inside tuple_start (suc d) n ∷ ws)) (append_assoc (members_tokens xs) (mark close_tuple ∷ []) ts) ∙ rest.1))
   passes_to l (dictionary ps) d n ws ts h =
       let rest = pairs_pass l ps (suc d) n (suc n) ws ts (omega arith) in
-      (rest.0, rw (within l d (omega arith)) (ap (fault_to l (suc n) (inside brace_start (suc d) n ∷ ws)) (append_assoc (pairs_tokens ps) (mark close_brace ∷ []) ts) ∙ rest.1))
+      (rest.0, rw (le-leb d l (omega arith)) (ap (fault_to l (suc n) (inside brace_start (suc d) n ∷ ws)) (append_assoc (pairs_tokens ps) (mark close_brace ∷ []) ts) ∙ rest.1))
   passes_to l (lone k v) d n ws ts h =
       let tail = tokens_of v ++ mark close_brace ∷ [] in
       let key = passes_to l k (suc d) (suc n) (inside brace_first (suc d) n ∷ ws) (mark comma ∷ (tail ++ ts)) (omega arith) in
       let rest = passes_to l v (suc d) (suc key.0) (inside lone_end (suc d) n ∷ ws) (mark close_brace ∷ ts) (omega arith) in (
         suc rest.0,
-        rw (within l d (omega arith)) (ap (fault_to l (suc n) (inside brace_start (suc d) n ∷ ws)) (append_assoc (tokens_of k) (mark comma ∷ tail) ts)
+        rw (le-leb d l (omega arith)) (ap (fault_to l (suc n) (inside brace_start (suc d) n ∷ ws)) (append_assoc (tokens_of k) (mark comma ∷ tail) ts)
             ∙ (enter_brace l k (suc d) n (suc n) ws (mark comma ∷ (tail ++ ts)) (shallow l k (suc d) (omega arith))
             ∙ (key.1 ∙ (ap (fault_to l (suc key.0) (a_value (suc d) ∷ inside lone_end (suc d) n ∷ ws)) (append_assoc (tokens_of v) (mark close_brace ∷ []) ts) ∙ rest.1)))),
       )
   passes_to l (boxed x) d n ws ts h =
       let rest = passes_to l x (suc d) (suc n) (inside box_end (suc d) n ∷ ws) (mark close_box ∷ ts) (omega arith) in
-      (suc rest.0, rw (within l d (omega arith)) (ap (fault_to l (suc n) (a_value (suc d) ∷ inside box_end (suc d) n ∷ ws)) (append_assoc (tokens_of x) (mark close_box ∷ []) ts) ∙ rest.1))
+      (suc rest.0, rw (le-leb d l (omega arith)) (ap (fault_to l (suc n) (a_value (suc d) ∷ inside box_end (suc d) n ∷ ws)) (append_assoc (tokens_of x) (mark close_box ∷ []) ts) ∙ rest.1))
 
   -- elements of a list, the first of them wanted
   list_more_pass : (l : ℕ) (xs : Syntaxes) (d at n : ℕ) (ws : List (Want ℕ)) (ts : List Token) → greatest_levels xs + d ≤ suc l → IsSome_first xs → Passes l n (a_value d ∷ inside list_more d at ∷ ws) (commas xs ++ mark close_list ∷ ts) ws ts

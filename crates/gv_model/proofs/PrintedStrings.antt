@@ -1,6 +1,7 @@
 -- Strings and byte strings in a printed text.
 use Rattle.std.proofs.Common.{◌≡◌, ◌≤◌, ◌<◌, ◌⊎◌, ◌+◌, ◌-◌, ◌/◌, ◌%◌, ℕ, suc, Bool, true, false, cond, List, [], ◌∷◌, ◌++◌, length}
 use Rattle.std.proofs.Common.{Option, Some, None, Result, Ok, Err, refl, sym, ap, ◌∙◌, subst, arith, append_assoc, append-nil, ◌==◌, ◌||◌, ◌&&◌, nat_lt, nat_le}
+use Rattle.gv_model.proofs.StringParts.{choose, pick}
 use mathlib.Core.Logic.{inl, inr}
 use lib.Utf8.{encode, encodes}
 use Rattle.std.specs.Prelude.{chars, flat_map}
@@ -111,21 +112,17 @@ high_pieces of_bytes quote (c ∷ cs) m h =
     (as_it_is of_bytes quote c (ne_eqb c quote (λ e. omega (arith, e, l, g))) (omega (arith, g)) (ne_eqb c 92 (λ e. omega (arith, e, g))))
     (high_pieces of_bytes quote cs m h.1)
 
-pub pick_list : (P : List ℕ → Type 0) (b : Bool) (x y : List ℕ) → (b ≡ true → P x) → (b ≡ false → P y) → P (cond b x y)
-pick_list P true x y h g = h refl
-pick_list P false x y h g = g refl
-
 encode_high : (c : ℕ) → 128 ≤ c → AreHigh (encode c)
 unfolding encode
 encode_high c h =
-    pick_list AreHigh (nat_lt c 128) _ _ (λ e. let l = ltb-true c 128 e in absurd (omega (arith, h, l)))
-    (λ e. pick_list AreHigh (nat_lt c 2048) _ _ (λ f. (omega arith, (omega arith, tt)))
-    (λ f. pick_list AreHigh (nat_lt c 65536) _ _ (λ g. (omega arith, (omega arith, (omega arith, tt)))) (λ g. (omega arith, (omega arith, (omega arith, (omega arith, tt)))))))
+    choose AreHigh (nat_lt c 128) _ _ (λ e. let l = ltb-true c 128 e in absurd (omega (arith, h, l)))
+    (λ e. choose AreHigh (nat_lt c 2048) _ _ (λ f. (omega arith, (omega arith, tt)))
+    (λ f. choose AreHigh (nat_lt c 65536) _ _ (λ g. (omega arith, (omega arith, (omega arith, tt)))) (λ g. (omega arith, (omega arith, (omega arith, (omega arith, tt)))))))
 
 -- a character of one byte, with a backslash where it wants one
 one_plain : (of_bytes : Bool) (quote c : ℕ) → IsMark quote → 0 < c → IsPiece of_bytes quote (plain quote c (c ∷ [])) (c ∷ [])
 one_plain of_bytes quote c m p =
-    pick_list (λ x. IsPiece of_bytes quote x (c ∷ [])) (c == quote || c == 92) (92 ∷ c ∷ []) (c ∷ [])
+    choose (λ x. IsPiece of_bytes quote x (c ∷ [])) (c == quote || c == 92) (92 ∷ c ∷ []) (c ∷ [])
     (λ e. itself of_bytes quote c (c == quote) m refl e)
     (λ e. apart (c == quote) refl e)
   where
@@ -135,32 +132,28 @@ one_plain of_bytes quote c m p =
 
 -- ---- escapes
 
-pick_letter : (P : Option ℕ → Type 0) (b : Bool) (x y : Option ℕ) → (b ≡ true → P x) → P y → P (cond b x y)
-pick_letter P true x y h g = h refl
-pick_letter P false x y h g = g
-
 letter_piece : (of_bytes : Bool) (quote c l n : ℕ) → IsMark quote → c ≡ n → ((more : List ℕ) → escape_in of_bytes (l ∷ more) ≡ denotes (n ∷ []) 2) → IsPiece of_bytes quote (92 ∷ l ∷ []) (c ∷ [])
 letter_piece of_bytes quote c l n m e h = one_piece of_bytes quote 92 (l ∷ []) (c ∷ []) (λ more. backslash of_bytes quote (l ∷ more) m ∙ (h more ∙ ap (λ (d : ℕ). denotes (d ∷ []) 2) (sym e)))
 
 letter_or : (of_bytes : Bool) (quote c : ℕ) (digits : List ℕ) → IsMark quote → IsPiece of_bytes quote (92 ∷ digits) (c ∷ []) → IsPiece of_bytes quote (escaped (escape_letter c) digits) (c ∷ [])
 letter_or true quote c digits m h =
     let P = λ (o : Option ℕ). IsPiece true quote (escaped o digits) (c ∷ []) in
-    pick_letter P (c == 7) (Some 97) _ (λ e. letter_piece true quote c 97 7 m (eqb-true c 7 e) (λ more. refl))
-    (pick_letter P (c == 8) (Some 98) _ (λ e. letter_piece true quote c 98 8 m (eqb-true c 8 e) (λ more. refl))
-    (pick_letter P (c == 9) (Some 116) _ (λ e. letter_piece true quote c 116 9 m (eqb-true c 9 e) (λ more. refl))
-    (pick_letter P (c == 10) (Some 110) _ (λ e. letter_piece true quote c 110 10 m (eqb-true c 10 e) (λ more. refl))
-    (pick_letter P (c == 11) (Some 118) _ (λ e. letter_piece true quote c 118 11 m (eqb-true c 11 e) (λ more. refl))
-    (pick_letter P (c == 12) (Some 102) _ (λ e. letter_piece true quote c 102 12 m (eqb-true c 12 e) (λ more. refl))
-    (pick_letter P (c == 13) (Some 114) None (λ e. letter_piece true quote c 114 13 m (eqb-true c 13 e) (λ more. refl)) h))))))
+    pick P (c == 7) (Some 97) _ (λ e. letter_piece true quote c 97 7 m (eqb-true c 7 e) (λ more. refl))
+    (pick P (c == 8) (Some 98) _ (λ e. letter_piece true quote c 98 8 m (eqb-true c 8 e) (λ more. refl))
+    (pick P (c == 9) (Some 116) _ (λ e. letter_piece true quote c 116 9 m (eqb-true c 9 e) (λ more. refl))
+    (pick P (c == 10) (Some 110) _ (λ e. letter_piece true quote c 110 10 m (eqb-true c 10 e) (λ more. refl))
+    (pick P (c == 11) (Some 118) _ (λ e. letter_piece true quote c 118 11 m (eqb-true c 11 e) (λ more. refl))
+    (pick P (c == 12) (Some 102) _ (λ e. letter_piece true quote c 102 12 m (eqb-true c 12 e) (λ more. refl))
+    (pick P (c == 13) (Some 114) None (λ e. letter_piece true quote c 114 13 m (eqb-true c 13 e) (λ more. refl)) h))))))
 letter_or false quote c digits m h =
     let P = λ (o : Option ℕ). IsPiece false quote (escaped o digits) (c ∷ []) in
-    pick_letter P (c == 7) (Some 97) _ (λ e. letter_piece false quote c 97 7 m (eqb-true c 7 e) (λ more. refl))
-    (pick_letter P (c == 8) (Some 98) _ (λ e. letter_piece false quote c 98 8 m (eqb-true c 8 e) (λ more. refl))
-    (pick_letter P (c == 9) (Some 116) _ (λ e. letter_piece false quote c 116 9 m (eqb-true c 9 e) (λ more. refl))
-    (pick_letter P (c == 10) (Some 110) _ (λ e. letter_piece false quote c 110 10 m (eqb-true c 10 e) (λ more. refl))
-    (pick_letter P (c == 11) (Some 118) _ (λ e. letter_piece false quote c 118 11 m (eqb-true c 11 e) (λ more. refl))
-    (pick_letter P (c == 12) (Some 102) _ (λ e. letter_piece false quote c 102 12 m (eqb-true c 12 e) (λ more. refl))
-    (pick_letter P (c == 13) (Some 114) None (λ e. letter_piece false quote c 114 13 m (eqb-true c 13 e) (λ more. refl)) h))))))
+    pick P (c == 7) (Some 97) _ (λ e. letter_piece false quote c 97 7 m (eqb-true c 7 e) (λ more. refl))
+    (pick P (c == 8) (Some 98) _ (λ e. letter_piece false quote c 98 8 m (eqb-true c 8 e) (λ more. refl))
+    (pick P (c == 9) (Some 116) _ (λ e. letter_piece false quote c 116 9 m (eqb-true c 9 e) (λ more. refl))
+    (pick P (c == 10) (Some 110) _ (λ e. letter_piece false quote c 110 10 m (eqb-true c 10 e) (λ more. refl))
+    (pick P (c == 11) (Some 118) _ (λ e. letter_piece false quote c 118 11 m (eqb-true c 11 e) (λ more. refl))
+    (pick P (c == 12) (Some 102) _ (λ e. letter_piece false quote c 102 12 m (eqb-true c 12 e) (λ more. refl))
+    (pick P (c == 13) (Some 114) None (λ e. letter_piece false quote c 114 13 m (eqb-true c 13 e) (λ more. refl)) h))))))
 
 hex_step : (c d1 d2 d3 d4 : ℕ) (more : List ℕ) → IsHex (c / 4096) d1 → IsHex (c / 256 % 16) d2 → IsHex (c / 16 % 16) d3 → IsHex (c % 16) d4 → 0 < c → c < 55296
     → escape_in false (117 ∷ d1 ∷ d2 ∷ d3 ∷ d4 ∷ more) ≡ denotes (encode c) 6
@@ -202,7 +195,7 @@ octal_piece quote c m l =
 
 byte_piece : (quote c : ℕ) → IsMark quote → 0 < c → c < 256 → IsPiece true quote (byte_text quote c) (c ∷ [])
 byte_piece quote c m p l =
-    pick_list (λ x. IsPiece true quote x (c ∷ [])) (nat_le 32 c && nat_le c 126) (plain quote c (c ∷ [])) (escaped (escape_letter c) (three_octal c))
+    choose (λ x. IsPiece true quote x (c ∷ [])) (nat_le 32 c && nat_le c 126) (plain quote c (c ∷ [])) (escaped (escape_letter c) (three_octal c))
     (λ e. one_plain true quote c m p)
     (λ e. letter_or true quote c (three_octal c) m (octal_piece quote c m l))
 
@@ -245,7 +238,7 @@ letter_piece_or quote c m p l = go (nat_lt c 128) refl
 
 char_piece : (quote c : ℕ) → IsMark quote → 0 < c → IsPiece false quote (char_text quote c) (encode c)
 char_piece quote c m p =
-    pick_list (λ x. IsPiece false quote x (encode c)) ((nat_le 32 c && nat_le c 126) || nat_le 160 c) (plain quote c (encode c)) (escaped (escape_letter c) (four_hex c))
+    choose (λ x. IsPiece false quote x (encode c)) ((nat_le 32 c && nat_le c 126) || nat_le 160 c) (plain quote c (encode c)) (escaped (escape_letter c) (four_hex c))
     (λ e. plain_piece quote c _ _ m p refl refl e)
     (λ e. let l = leb-false 160 c ((or_parts (nat_le 32 c && nat_le c 126) (nat_le 160 c) e).1) in letter_piece_or quote c m p l)
 

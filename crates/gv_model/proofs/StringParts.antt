@@ -19,7 +19,7 @@ use Rattle.gv_model.specs.TextLaws.{StringPart, written, meant, IsStringPart, Ar
 
 -- A part takes a byte at least, and only the quote closes
 
-pub choose : (P : StringStep → Type 0) (b : Bool) (x y : StringStep) → (b ≡ true → P x) → (b ≡ false → P y) → P (cond b x y)
+pub choose : {X : Type 0} (P : X → Type 0) (b : Bool) (x y : X) → (b ≡ true → P x) → (b ≡ false → P y) → P (cond b x y)
 choose P true x y h g = h refl
 choose P false x y h g = g refl
 
@@ -256,7 +256,7 @@ Begun c cs of_string = is_quote c ≡ true
 Begun c cs of_byte_string = (c ≡ 98) × (begins is_quote cs ≡ true)
 Begun c cs k = Unit {0}
 
-pick : (P : Start → Type 0) (b : Bool) (x y : Start) → (b ≡ true → P x) → P y → P (cond b x y)
+pub pick : {X : Type 0} (P : X → Type 0) (b : Bool) (x y : X) → (b ≡ true → P x) → P y → P (cond b x y)
 pick P true x y h g = h refl
 pick P false x y h g = g
 

@@ -1,8 +1,9 @@
 -- The type that a checked text spells, and what lies within its limits.
-use Rattle.std.proofs.Common.{ℕ, zero, suc, ◌≤◌, ◌<◌, ◌≡◌, List, [], ◌∷◌, ◌++◌, length, Option, Some, None, true, refl, ap, subst, arith}
+use Rattle.std.proofs.Common.{ℕ, ◌≤◌, ◌<◌, ◌≡◌, List, [], ◌∷◌, ◌++◌, length, Option, Some, None, true, refl, ap, subst, arith}
 use Rattle.std.specs.Prelude.{is_some, unwrap_or}
 use Rattle.std.specs.Str.{IsAscii}
 use Rattle.std.proofs.lemmas.Str.{IsAscii-append}
+use Rattle.std.proofs.lemmas.Str.Ascii.{IsAscii-nil, IsAscii-cons}
 use Rattle.std.proofs.lemmas.Bool.{false≢true}
 use Rattle.gv_model.specs.Ty.{Ty, Types, Basic, letter, spelling, spellings, nesting}
 use Rattle.gv_model.specs.Ty.Ty.{basic, variant, array, maybe, tuple, entry}
@@ -33,13 +34,6 @@ pub limits_down : (t u : Ty) (w v : List ℕ) → nesting u ≤ nesting t → le
 limits_down t u w v h g k = grind arith
 
 -- ---- a type's text is ASCII
-
-IsAscii-cons : (c : ℕ) (bs : List ℕ) → c < 128 → IsAscii bs → IsAscii (c ∷ bs)
-IsAscii-cons c bs low h zero = low
-IsAscii-cons c bs low h (suc i) = h i
-
-IsAscii-nil : IsAscii []
-IsAscii-nil i = omega arith
 
 letter_low : (k : Basic) → letter k < 128
 letter_low Basic.boolean = omega arith
