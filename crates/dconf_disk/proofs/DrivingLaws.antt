@@ -6,8 +6,6 @@ use Rattle.dconf_model.specs.Folders.{Event}
 use Rattle.dconf_model.specs.Folders.Event.{create, append, sync, touch, rename, remove, sync_folder}
 use Rattle.dconf_model.specs.Replacing.{new_name, MaybeReplaced, Replaced}
 use Rattle.dconf_turn.specs.declared.turn.Turn.{Turn}
-use Rattle.dconf_turn.specs.declared.turn.State.{State}
-use Rattle.dconf_turn.specs.declared.turn.State.TheVariants.{Locking, Reading, Making, Creating, Writing, Syncing, SettingAside, Exchanging, Renaming, SyncingFolder, Removing, Noting, Unlocking, Over}
 use Rattle.dconf_turn.specs.declared.step.Outcome.{Outcome}
 use Rattle.dconf_turn.specs.declared.step.Outcome.TheVariants.{Made, Kept, Either, Unsettled}
 use Rattle.dconf_turn.specs.declared.step.Step.{Step}
@@ -17,7 +15,7 @@ use Rattle.dconf_turn.specs.declared.step.Answer.TheVariants.{Yes, No}
 use Rattle.dconf_turn.specs.Jobs.{IsFree, IsLockApart, IsOwn}
 use Rattle.dconf_turn.specs.Sayings.{IsMade, Says}
 use Rattle.dconf_turn.specs.Sayings.{IsWhole as IsWholeFile}
-use Rattle.dconf_turn.specs.Steps.{place, step_at, step_of, GoesOn, Follows, IsSaid, IsDone, KnowsAfter}
+use Rattle.dconf_turn.specs.Steps.{place, step_of, GoesOn, Follows, IsSaid, IsDone, KnowsAfter}
 use Rattle.dconf_turn.specs.Progress.{Stands}
 use Rattle.dconf_turn.proofs.HistoryLaws.{done_is}
 use Rattle.dconf_turn.specs.Hosts.{DidStep, IsLockMade, IsNoted}

@@ -1,5 +1,5 @@
 -- Counts of failures.
-use Rattle.std.specs.Prelude.{◌≡◌, ◌<◌, ◌+◌, ◌-◌, ◌^◌, ◌⊎◌, ℕ, min}
+use Rattle.std.specs.Prelude.{◌≡◌, ◌<◌, ◌+◌, ◌-◌, ◌^◌, ℕ, min}
 
 -- one more, which stops at u64::MAX
 abbrev pub one_more : ℕ → ℕ

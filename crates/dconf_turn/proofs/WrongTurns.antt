@@ -13,9 +13,8 @@ use Rattle.dconf_turn.specs.declared.step.Outcome.TheVariants.{Made, Kept}
 use Rattle.dconf_turn.specs.declared.step.Answer.TheVariants.{Yes, No}
 use Rattle.dconf_turn.specs.declared.step.Step.TheVariants.{Rename, SetAside}
 use Rattle.dconf_turn.specs.Jobs.{Job, IsOwn, IsLockApart}
-use Rattle.dconf_turn.specs.Hosts.{IsLockMade}
 use Rattle.dconf_turn.specs.Sayings.{IsKept, IsMade}
-use Rattle.dconf_turn.specs.Progress.{Holds, Staged, Placed, IsEarly, IsAnswered}
+use Rattle.dconf_turn.specs.Progress.{Holds, Staged, Placed, IsAnswered}
 use Rattle.dconf_turn.proofs.ApartLaws.{nothing_yet, made, appended, synced}
 use Rattle.dconf_turn.proofs.OwnNames.{new_own, name_not_own}
 use Rattle.dconf_turn.proofs.PlacedLaws.{by_rename}

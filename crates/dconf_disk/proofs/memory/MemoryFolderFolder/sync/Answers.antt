@@ -1,7 +1,7 @@
-use Rattle.std.proofs.Common.{◌≡◌, ◌∷◌, IfSome, rules}
+use Rattle.std.proofs.Common.{◌≡◌, IfSome, rules}
 use Rattle.std.proofs.lemmas.Result.{on_err_weaker}
 use Rattle.dconf_model.specs.Folders.Event.{sync, touch}
-use Rattle.dconf_disk.specs.MemoryFolders.{event_of, events_of, AddsTouches, IsPast}
+use Rattle.dconf_disk.specs.MemoryFolders.{event_of, events_of, AddsTouches}
 use Rattle.dconf_disk.proofs.Untouched.{noted, same_calls, touched}
 use Rattle.dconf_disk.proofs.memory.MemoryFolderFolder.sync.Goals as goal
 
