@@ -88,15 +88,17 @@ fn first_of_plain(len: usize) -> &'static [u8] {
 /// Whether it is told at which of two changes something else is seen, here by a lock.
 fn are_told_since(alloc: Global, layers: &[Layer<'_>]) -> bool {
     let changes = [change(b"/j", false), change(b"/k", false)];
-    let since = match layers {
-        [user, _] => first_changed_since(alloc, &[*user], layers, &changes),
-        _ => Ok(None),
+    let [user, site] = layers else {
+        return false;
     };
-    matches!(since, Ok(Some(1)))
-        && matches!(
-            first_changed_since(alloc, layers, layers, &changes),
-            Ok(None)
-        )
+    let (alone, same) = ([*user], [*user, *site]);
+    matches!(
+        first_changed_since(alloc, &alone, layers, &changes),
+        Ok(Some(1))
+    ) && matches!(
+        first_changed_since(alloc, &same, layers, &changes),
+        Ok(None)
+    )
 }
 
 /// Whether a file opens alike with the help of a layer and without.
