@@ -13,14 +13,14 @@
 //! ```
 #![tactic(auto)]
 
-mod differing;
 mod elsewhere;
+mod items;
 mod patch;
 mod shaped;
 mod span;
 mod valued;
 
-pub use differing::{ItemSpan, differing_items};
 pub use elsewhere::has_elsewhere;
+pub use items::{ItemSpan, differing_items};
 pub use shaped::is_shaped_as;
 pub use span::{DifferingSpan, differing_span};

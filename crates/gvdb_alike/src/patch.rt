@@ -9,8 +9,8 @@ ghost use Rattle.gvdb_alike.specs.ValuesAlike.{value_at};
 
 use crate::span::{DifferingSpan, differing_span};
 use gvdb_check::has_buckets;
-use gvdb_read::Table;
 use gvdb_format::{ItemRecord, Kind, RECORD_LEN};
+use gvdb_read::Table;
 
 /// Two tables, and what of them has the same bytes: the head; the records, but for those of some items; and the files, but
 /// for a span.

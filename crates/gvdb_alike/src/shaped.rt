@@ -7,11 +7,11 @@ ghost use Rattle.gvdb_read.specs.Tables.{region};
 ghost use Rattle.gvdb_alike.specs.ItemsAlike.{HasLikeBytes, HasLikeContent, IsItemAlike};
 ghost use Rattle.gvdb_alike.specs.SameBytes.{IsShapeKept};
 
-use crate::differing::is_step_alike;
+use crate::items::is_step_alike;
 use crate::patch::Patch;
 use gvdb_check::{is_in_bloom, is_in_span};
-use gvdb_read::Table;
 use gvdb_format::Kind;
+use gvdb_read::Table;
 
 /// Whether a table is seen to be sound if the other one is: both have as many items, and at each place one of the same
 /// name, kind and hash, in good buckets; and lists have the same numbers. False says nothing, and is the answer to each

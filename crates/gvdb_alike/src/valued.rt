@@ -3,8 +3,8 @@ ghost use Rattle.std.specs.Prelude.{◌≡◌, IsTrue};
 ghost use Rattle.gvdb_read.specs.Tables.{region};
 ghost use Rattle.gvdb_alike.specs.ValuesAlike.{value_at};
 
-use gvdb_read::Table;
 use gvdb_format::Kind;
+use gvdb_read::Table;
 
 /// Whether item `i` of a table and item `j` of the other one are values of the same bytes, or both are none.
 #[inline(always)]

@@ -14,7 +14,7 @@
 //! ```
 #![tactic(auto)]
 
-mod covering;
+mod covers;
 mod find;
 mod hashed_name;
 mod names;

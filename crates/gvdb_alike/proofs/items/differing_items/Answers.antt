@@ -5,7 +5,7 @@ use Rattle.gvdb_read.specs.declared.table.Table.{Table}
 use Rattle.gvdb_read.specs.Tables.{region}
 use Rattle.gvdb_alike.specs.NamesAlike.{AreStepsAlike}
 use Rattle.gvdb_alike.proofs.NamedLaws.{steps_name}
-use Rattle.gvdb_alike.proofs.differing.differing_items.Goals as goal
+use Rattle.gvdb_alike.proofs.items.differing_items.Goals as goal
 
 pub returns-clause-named : goal.returns-clause-named
 returns-clause-named c is =

@@ -2,7 +2,7 @@ use Rattle.std.proofs.Common.{◌≡◌, ◌<◌, ◌≤◌, ◌⊎◌, ℕ}
 use Rattle.gvdb_read.specs.Tables.{region}
 use Rattle.gvdb_alike.specs.NamesAlike.{AreStepsAlike}
 use Rattle.gvdb_alike.specs.ValuesAlike.{value_at}
-use Rattle.gvdb_alike.proofs.differing.items_of.Given as goal
+use Rattle.gvdb_alike.proofs.items.items_of.Given as goal
 
 -- those before this one are named alike, and outside of the span they have the same values
 abbrev pub invariant-loop-i : goal.invariant-loop-i

@@ -3,7 +3,7 @@ use Rattle.gvdb_read.specs.Tables.{region}
 use Rattle.gvdb_check.proofs.Below.{below_next}
 use Rattle.gvdb_alike.specs.NamesAlike.{AreStepsAlike}
 use Rattle.gvdb_alike.specs.ValuesAlike.{value_at}
-use Rattle.gvdb_alike.proofs.differing.items_of.Goals as goal
+use Rattle.gvdb_alike.proofs.items.items_of.Goals as goal
 
 pub loop-i-preserved-then-has_like_value_at : goal.loop-i-preserved-then-has_like_value_at
 loop-i-preserved-then-has_like_value_at c =
