@@ -112,11 +112,7 @@ basics_text _ vs annotated in_array e = refl
 array_text : (t : Ty) (vs : Trees) (annotated in_array : Bool) → byte_string_of (node (array t) vs) ≡ None → text_of (node (array t) vs) annotated in_array ≡ marked (array t) vs annotated
 unfolding text_of
 array_text (basic k) vs annotated in_array e = basics_text k vs annotated in_array e
-array_text (entry k t) vs annotated in_array e = refl
-array_text variant vs annotated in_array e = refl
-array_text (array t) vs annotated in_array e = refl
-array_text (maybe t) vs annotated in_array e = refl
-array_text (tuple ts) vs annotated in_array e = refl
+array_text _ vs annotated in_array e = refl
 
 -- another array is printed as its elements in their brackets, after its type if it has none
 pub value_array_text : (t : Ty) (b : List ℕ) (annotated in_array : Bool) → class_of t ≡ classes.Array → byte_string_of (decode t b) ≡ None
@@ -124,11 +120,7 @@ pub value_array_text : (t : Ty) (b : List ℕ) (annotated in_array : Bool) → c
 value_array_text (array t) b annotated in_array h e =
     let is = value_node (array t) b tt in
     ap (λ v. text_of v annotated in_array) is ∙ array_text t (children (decode (array t) b)) annotated in_array (sym (ap byte_string_of is) ∙ e)
-value_array_text (basic k) b annotated in_array h e = absurd cc
-value_array_text variant b annotated in_array h e = absurd cc
-value_array_text (maybe t) b annotated in_array h e = absurd cc
-value_array_text (tuple ts) b annotated in_array h e = absurd cc
-value_array_text (entry k t) b annotated in_array h e = absurd cc
+value_array_text _ b annotated in_array h e = absurd cc
 
 pub no_child : (vs : Trees) (n : ℕ) → n ≡ trees_len vs → n ≡ 0 → is_empty vs ≡ true
 unfolding trees_len

@@ -19,27 +19,9 @@ use Rattle.gv_text.specs.Printing.{IsRefused, IsWritten, child_texts}
 use Rattle.gv_text.proofs.Containers.{doubles_in, value_node}
 use Rattle.gv_text.proofs.Figures.{of_basic}
 
--- ---- classes differ
-
-pub basic_no_entry : (k : BasicType) → classes.Basic k ≡ classes.Entry → ⊥
-basic_no_entry k e = cc
-
-pub array_no_entry : classes.Array ≡ classes.Entry → ⊥
-array_no_entry e = cc
-
-pub maybe_no_entry : classes.Maybe ≡ classes.Entry → ⊥
-maybe_no_entry e = cc
-
-pub tuple_no_entry : classes.Tuple ≡ classes.Entry → ⊥
-tuple_no_entry e = cc
-
 contained : (t : Ty) → ((k : BasicType) → class_of t ≡ classes.Basic k → ⊥) → IsContainer t
 contained (basic k) h = h (basic_type k) refl
-contained variant h = tt
-contained (array t) h = tt
-contained (maybe t) h = tt
-contained (tuple ts) h = tt
-contained (entry k t) h = tt
+contained _ h = tt
 
 -- the doubles of a container are those of its children
 doubles_by_class : (t : Ty) (b : List ℕ) → ((k : BasicType) → class_of t ≡ classes.Basic k → ⊥) → holds_double (decode t b) ≡ hold_double (children (decode t b))
@@ -65,22 +47,14 @@ variant_node vs annotated in_array = refl
 
 pub variant_text : (t : Ty) (b : List ℕ) (annotated in_array : Bool) → class_of t ≡ classes.Variant → text_of (decode t b) annotated in_array ≡ between 60 (joined_by comma (child_texts (children (decode t b)) true false)) 62
 variant_text variant b annotated in_array h = ap (λ v. text_of v annotated in_array) (value_node variant b tt) ∙ variant_node (children (decode variant b)) annotated in_array
-variant_text (basic k) b annotated in_array h = absurd cc
-variant_text (array t) b annotated in_array h = absurd cc
-variant_text (maybe t) b annotated in_array h = absurd cc
-variant_text (tuple ts) b annotated in_array h = absurd cc
-variant_text (entry k t) b annotated in_array h = absurd cc
+variant_text _ b annotated in_array h = absurd cc
 
 -- ---- tuples
 
 tuple_node : (t : Ty) (vs : Trees) (annotated : Bool) → class_of t ≡ classes.Tuple → text_of (node t vs) annotated false ≡ tuple_text (child_texts vs annotated false)
 unfolding text_of
 tuple_node (tuple ts) vs annotated h = refl
-tuple_node (basic k) vs annotated h = absurd cc
-tuple_node variant vs annotated h = absurd cc
-tuple_node (array t) vs annotated h = absurd cc
-tuple_node (maybe t) vs annotated h = absurd cc
-tuple_node (entry k t) vs annotated h = absurd cc
+tuple_node _ vs annotated h = absurd cc
 
 pub tuple_text_of : (t : Ty) (b : List ℕ) (annotated : Bool) → class_of t ≡ classes.Tuple → text_of (decode t b) annotated false ≡ tuple_text (child_texts (children (decode t b)) annotated false)
 tuple_text_of t b annotated h =
@@ -91,20 +65,12 @@ tuple_text_of t b annotated h =
 alone_node : (t : Ty) (vs : Trees) (annotated : Bool) → class_of t ≡ classes.Entry → text_of (node t vs) annotated false ≡ between 123 (joined_by comma (child_texts vs annotated false)) 125
 unfolding text_of
 alone_node (entry k t) vs annotated h = refl
-alone_node (basic k) vs annotated h = absurd cc
-alone_node variant vs annotated h = absurd cc
-alone_node (array t) vs annotated h = absurd cc
-alone_node (maybe t) vs annotated h = absurd cc
-alone_node (tuple ts) vs annotated h = absurd cc
+alone_node _ vs annotated h = absurd cc
 
 element_node : (t : Ty) (vs : Trees) (annotated : Bool) → class_of t ≡ classes.Entry → text_of (node t vs) annotated true ≡ joined_by (codes ": ") (child_texts vs annotated false)
 unfolding text_of
 element_node (entry k t) vs annotated h = refl
-element_node (basic k) vs annotated h = absurd cc
-element_node variant vs annotated h = absurd cc
-element_node (array t) vs annotated h = absurd cc
-element_node (maybe t) vs annotated h = absurd cc
-element_node (tuple ts) vs annotated h = absurd cc
+element_node _ vs annotated h = absurd cc
 
 pub entry_alone : (t : Ty) (b : List ℕ) (annotated : Bool) → class_of t ≡ classes.Entry → text_of (decode t b) annotated false ≡ between 123 (joined_by comma (child_texts (children (decode t b)) annotated false)) 125
 entry_alone t b annotated h =
@@ -119,11 +85,7 @@ entry_in_array t b annotated h =
 same_node : (t : Ty) (vs : Trees) (annotated in_array : Bool) → (class_of t ≡ classes.Entry → ⊥) → text_of (node t vs) annotated in_array ≡ text_of (node t vs) annotated false
 unfolding text_of
 same_node (entry k t) vs annotated in_array h = absurd (h refl)
-same_node (basic k) vs annotated in_array h = refl
-same_node variant vs annotated in_array h = refl
-same_node (array t) vs annotated in_array h = refl
-same_node (maybe t) vs annotated in_array h = refl
-same_node (tuple ts) vs annotated in_array h = refl
+same_node _ vs annotated in_array h = refl
 
 same_container : (t : Ty) (b : List ℕ) (annotated in_array : Bool) → IsContainer t → (class_of t ≡ classes.Entry → ⊥) → text_of (decode t b) annotated false ≡ text_of (decode t b) annotated in_array
 same_container t b annotated in_array c h =

@@ -68,13 +68,7 @@ zero_figures basics.Text h1 h2 h3 h4 h5 h6 = absurd (h3 refl)
 zero_figures basics.Signature h1 h2 h3 h4 h5 h6 = absurd (h4 refl)
 zero_figures basics.ObjectPath h1 h2 h3 h4 h5 h6 = absurd (h5 refl)
 zero_figures basics.Double h1 h2 h3 h4 h5 h6 = absurd (h6 refl)
-zero_figures basics.Int16 h1 h2 h3 h4 h5 h6 = record { plain = refl; are = refl; joined = refl }
-zero_figures basics.Uint16 h1 h2 h3 h4 h5 h6 = record { plain = refl; are = refl; joined = refl }
-zero_figures basics.Int32 h1 h2 h3 h4 h5 h6 = record { plain = refl; are = refl; joined = refl }
-zero_figures basics.Uint32 h1 h2 h3 h4 h5 h6 = record { plain = refl; are = refl; joined = refl }
-zero_figures basics.Int64 h1 h2 h3 h4 h5 h6 = record { plain = refl; are = refl; joined = refl }
-zero_figures basics.Uint64 h1 h2 h3 h4 h5 h6 = record { plain = refl; are = refl; joined = refl }
-zero_figures basics.Handle h1 h2 h3 h4 h5 h6 = record { plain = refl; are = refl; joined = refl }
+zero_figures _ h1 h2 h3 h4 h5 h6 = record { plain = refl; are = refl; joined = refl }
 
 basic_text : (k : Basic) (annotated in_array : Bool) → text_of (basic_default k) annotated in_array ≡ when annotated (word k) ++ figures_of (basic_default k)
 unfolding text_of
@@ -153,11 +147,7 @@ variant_alike t levels annotated in_array old new e w = rw e (record { plain = w
 pub nothing_text : (t : Ty) (annotated : Bool) → class_of t ≡ classes.Maybe → text_of (default t) annotated false ≡ when annotated (type_mark t) ++ codes "nothing"
 unfolding default text_of
 nothing_text (maybe t) annotated e = refl
-nothing_text (basic k) annotated e = absurd cc
-nothing_text variant annotated e = absurd cc
-nothing_text (array t) annotated e = absurd cc
-nothing_text (tuple ts) annotated e = absurd cc
-nothing_text (entry k t) annotated e = absurd cc
+nothing_text _ annotated e = absurd cc
 
 bracket_text : (t : Ty) (annotated : Bool) → text_of (default (array t)) annotated false ≡ when annotated (type_mark (array t)) ++ ((brackets_of (Some t)).0 ∷ (brackets_of (Some t)).1 ∷ [])
 unfolding default text_of text_in
@@ -165,28 +155,14 @@ bracket_text (basic Basic.byte) true = refl
 bracket_text (basic Basic.byte) false = refl
 bracket_text (basic _) true = refl
 bracket_text (basic _) false = refl
-bracket_text variant true = refl
-bracket_text variant false = refl
-bracket_text (array t) true = refl
-bracket_text (array t) false = refl
-bracket_text (maybe t) true = refl
-bracket_text (maybe t) false = refl
-bracket_text (tuple ts) true = refl
-bracket_text (tuple ts) false = refl
-bracket_text (entry k t) true = refl
-bracket_text (entry k t) false = refl
+bracket_text _ true = refl
+bracket_text _ false = refl
 
 pub brackets_text : (t : Ty) (annotated : Bool) → IsEmptied t → (class_of t ≡ classes.Maybe → ⊥) → text_of (default t) annotated false ≡ when annotated (type_mark t) ++ ((brackets_of (element_of t)).0 ∷ (brackets_of (element_of t)).1 ∷ [])
 brackets_text (array t) annotated e h = bracket_text t annotated
 brackets_text (maybe t) annotated e h = absurd (h refl)
-brackets_text (basic k) annotated (inl e) h = absurd cc
-brackets_text (basic k) annotated (inr e) h = absurd cc
-brackets_text variant annotated (inl e) h = absurd cc
-brackets_text variant annotated (inr e) h = absurd cc
-brackets_text (tuple ts) annotated (inl e) h = absurd cc
-brackets_text (tuple ts) annotated (inr e) h = absurd cc
-brackets_text (entry k t) annotated (inl e) h = absurd cc
-brackets_text (entry k t) annotated (inr e) h = absurd cc
+brackets_text _ annotated (inl e) h = absurd cc
+brackets_text _ annotated (inr e) h = absurd cc
 
 pub two_marks : (left right : ℕ) (mid opened new : Text) → opened ≡ mid ++ left ∷ [] → new ≡ opened ++ right ∷ [] → new ≡ mid ++ left ∷ right ∷ []
 two_marks left right mid opened new opens closes = closes ∙ (ap (λ (l : Text). l ++ right ∷ []) opens ∙ append_assoc mid (left ∷ []) (right ∷ []))
@@ -196,14 +172,8 @@ pub emptied_writes : (t : Ty) (levels : ℕ) (annotated in_array : Bool) (old ne
 unfolding default depth text_of holds_double
 emptied_writes (array t) levels annotated in_array old new e some wrote = record { plain = refl; text = wrote; fits = omega (arith, some) }
 emptied_writes (maybe t) levels annotated in_array old new e some wrote = record { plain = refl; text = wrote; fits = omega (arith, some) }
-emptied_writes (basic k) levels annotated in_array old new (inl e) some wrote = absurd cc
-emptied_writes (basic k) levels annotated in_array old new (inr e) some wrote = absurd cc
-emptied_writes variant levels annotated in_array old new (inl e) some wrote = absurd cc
-emptied_writes variant levels annotated in_array old new (inr e) some wrote = absurd cc
-emptied_writes (tuple ts) levels annotated in_array old new (inl e) some wrote = absurd cc
-emptied_writes (tuple ts) levels annotated in_array old new (inr e) some wrote = absurd cc
-emptied_writes (entry k t) levels annotated in_array old new (inl e) some wrote = absurd cc
-emptied_writes (entry k t) levels annotated in_array old new (inr e) some wrote = absurd cc
+emptied_writes _ levels annotated in_array old new (inl e) some wrote = absurd cc
+emptied_writes _ levels annotated in_array old new (inr e) some wrote = absurd cc
 
 -- ---- faults
 
@@ -497,11 +467,7 @@ emptied_result t levels Memory e = tt
 tuple_no_entry : (t : Ty) (annotated in_array : Bool) → class_of t ≡ classes.Tuple → text_of (default t) annotated false ≡ text_of (default t) annotated in_array
 unfolding text_of default
 tuple_no_entry (tuple ts) annotated in_array e = refl
-tuple_no_entry (basic k) annotated in_array e = absurd cc
-tuple_no_entry variant annotated in_array e = absurd cc
-tuple_no_entry (array t) annotated in_array e = absurd cc
-tuple_no_entry (maybe t) annotated in_array e = absurd cc
-tuple_no_entry (entry k t) annotated in_array e = absurd cc
+tuple_no_entry _ annotated in_array e = absurd cc
 
 -- a tuple is alike in an array
 pub tuple_alike : (t : Ty) (levels : ℕ) (annotated in_array : Bool) (old new : Text) → class_of t ≡ classes.Tuple → IsPrinted (default t) levels annotated false old new → IsPrinted (default t) levels annotated in_array old new

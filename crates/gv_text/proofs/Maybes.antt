@@ -1,5 +1,5 @@
 -- The texts of maybes.
-use Rattle.std.proofs.Common.{◌≡◌, ◌≤◌, ◌<◌, ◌+◌, ℕ, suc, List, ◌++◌, Bool, true, false, Some, None, Result, refl, sym, ap, ◌∙◌, arith, append_assoc}
+use Rattle.std.proofs.Common.{◌≡◌, ◌≤◌, ◌<◌, ◌+◌, ◌⊎◌, inl, inr, ℕ, suc, List, ◌++◌, Bool, true, false, Some, None, Result, refl, sym, ap, ◌∙◌, arith, append_assoc}
 use Rattle.std.specs.Prelude.{codes}
 use Rattle.std.proofs.lemmas.Result.{MatchResult-weaker}
 use Rattle.std.proofs.lemmas.Option.{none-some, same_Some}
@@ -41,11 +41,7 @@ pub record IsJust (v u : Tree) : Type 0 where
 
 pub is_just : (t : Ty) (b : List ℕ) (u : Tree) → class_of t ≡ classes.Maybe → tree_at (children (decode t b)) 0 ≡ Some u → IsJust (decode t b) u
 is_just (maybe t) b u h e = record { of = t; is = value_node (maybe t) b tt ∙ ap (node (maybe t)) (one_tree (children (decode (maybe t) b)) u (one_or_none t b) e) }
-is_just (basic k) b u h e = absurd cc
-is_just variant b u h e = absurd cc
-is_just (array t) b u h e = absurd cc
-is_just (tuple ts) b u h e = absurd cc
-is_just (entry k t) b u h e = absurd cc
+is_just _ b u h e = absurd cc
 
 just_of : (t : Ty) (u : Tree) → text_of (node (maybe t) (first u none)) false false ≡ when (ends_in_nothing u) (codes "just ") ++ text_of u false false
 unfolding text_of
@@ -86,11 +82,7 @@ node_nothing t = record { ends = refl; plain = refl }
 
 pub is_nothing : (t : Ty) (b : List ℕ) → class_of t ≡ classes.Maybe → tree_at (children (decode t b)) 0 ≡ None → IsNothing (decode t b)
 is_nothing (maybe t) b h e = rw (value_node (maybe t) b tt, no_tree (children (decode (maybe t) b)) e) (node_nothing t)
-is_nothing (basic k) b h e = absurd cc
-is_nothing variant b h e = absurd cc
-is_nothing (array t) b h e = absurd cc
-is_nothing (tuple ts) b h e = absurd cc
-is_nothing (entry k t) b h e = absurd cc
+is_nothing _ b h e = absurd cc
 
 -- only maybes end in Nothing
 pub other_ends : (t : Ty) (b : List ℕ) → (class_of t ≡ classes.Maybe → ⊥) → ends_in_nothing (decode t b) ≡ false
@@ -101,13 +93,16 @@ other_ends (array t) b h = ap ends_in_nothing (value_node (array t) b tt)
 other_ends (tuple ts) b h = ap ends_in_nothing (value_node (tuple ts) b tt)
 other_ends (entry k t) b h = ap ends_in_nothing (value_node (entry k t) b tt)
 
+maybe_or_not : (t : Ty) → (class_of t ≡ classes.Maybe) ⊎ (class_of t ≡ classes.Maybe → ⊥)
+maybe_or_not (maybe t) = inl refl
+maybe_or_not _ = inr (λ e. absurd cc)
+
 pub ends_class : (t : Ty) (b : List ℕ) → ends_in_nothing (decode t b) ≡ true → class_of t ≡ classes.Maybe
-ends_class (maybe t) b h = refl
-ends_class (basic k) b h = absurd (false≢true (sym (other_ends (basic k) b (λ e. absurd cc)) ∙ h))
-ends_class variant b h = absurd (false≢true (sym (other_ends variant b (λ e. absurd cc)) ∙ h))
-ends_class (array t) b h = absurd (false≢true (sym (other_ends (array t) b (λ e. absurd cc)) ∙ h))
-ends_class (tuple ts) b h = absurd (false≢true (sym (other_ends (tuple ts) b (λ e. absurd cc)) ∙ h))
-ends_class (entry k t) b h = absurd (false≢true (sym (other_ends (entry k t) b (λ e. absurd cc)) ∙ h))
+ends_class t b h = go (maybe_or_not t)
+  where
+    go : (class_of t ≡ classes.Maybe) ⊎ (class_of t ≡ classes.Maybe → ⊥) → class_of t ≡ classes.Maybe
+    go (inl is) = is
+    go (inr other) = absurd (false≢true (sym (other_ends t b other) ∙ h))
 
 node_level : (t : Ty) → depth (node (maybe t) none) ≡ 1
 unfolding depth greatest_depth
@@ -116,23 +111,15 @@ node_level t = refl
 -- Nothing has one level
 pub nothing_level : (t : Ty) (b : List ℕ) → class_of t ≡ classes.Maybe → tree_at (children (decode t b)) 0 ≡ None → depth (decode t b) ≡ 1
 nothing_level (maybe t) b h e = rw (value_node (maybe t) b tt, no_tree (children (decode (maybe t) b)) e) (node_level t)
-nothing_level (basic k) b h e = absurd cc
-nothing_level variant b h e = absurd cc
-nothing_level (array t) b h e = absurd cc
-nothing_level (tuple ts) b h e = absurd cc
-nothing_level (entry k t) b h e = absurd cc
+nothing_level _ b h e = absurd cc
 
 nothing_node : (t : Ty) → text_of (node (maybe t) none) false false ≡ codes "nothing"
 unfolding text_of
 nothing_node t = refl
 
-pub nothing_text : (t : Ty) (b : List ℕ) → ends_in_nothing (decode t b) ≡ true → tree_at (children (decode t b)) 0 ≡ None → text_of (decode t b) false false ≡ codes "nothing"
+pub nothing_text : (t : Ty) (b : List ℕ) → class_of t ≡ classes.Maybe → tree_at (children (decode t b)) 0 ≡ None → text_of (decode t b) false false ≡ codes "nothing"
 nothing_text (maybe t) b h e = rw (value_node (maybe t) b tt, no_tree (children (decode (maybe t) b)) e) (nothing_node t)
-nothing_text (basic k) b h e = absurd (false≢true (sym (other_ends (basic k) b (λ e. absurd cc)) ∙ h))
-nothing_text variant b h e = absurd (false≢true (sym (other_ends variant b (λ e. absurd cc)) ∙ h))
-nothing_text (array t) b h e = absurd (false≢true (sym (other_ends (array t) b (λ e. absurd cc)) ∙ h))
-nothing_text (tuple ts) b h e = absurd (false≢true (sym (other_ends (tuple ts) b (λ e. absurd cc)) ∙ h))
-nothing_text (entry k t) b h e = absurd (false≢true (sym (other_ends (entry k t) b (λ e. absurd cc)) ∙ h))
+nothing_text _ b h e = absurd cc
 
 -- ---- the walk inwards
 
@@ -176,11 +163,7 @@ marked t vs annotated = refl
 
 pub maybe_text : (t : Ty) (b : List ℕ) (annotated : Bool) → class_of t ≡ classes.Maybe → text_of (decode t b) annotated false ≡ when annotated (type_mark t) ++ text_of (decode t b) false false
 maybe_text (maybe t) b annotated h = rw (value_node (maybe t) b tt) (marked t (children (decode (maybe t) b)) annotated)
-maybe_text (basic k) b annotated h = absurd cc
-maybe_text variant b annotated h = absurd cc
-maybe_text (array t) b annotated h = absurd cc
-maybe_text (tuple ts) b annotated h = absurd cc
-maybe_text (entry k t) b annotated h = absurd cc
+maybe_text _ b annotated h = absurd cc
 
 within_refused : (v u : Tree) (levels left : ℕ) (f : PrintFault) → IsPrintedAs v u → left + depth v ≡ levels + depth u → IsLevelFault u left f → IsLevelFault v levels f
 within_refused v u levels left TooLarge w deeper h = omega (arith, deeper, h)

@@ -1,20 +1,26 @@
 -- What writing a value of no bytes answers.
-use Rattle.std.specs.Prelude.{◌≡◌, ◌≤◌, ◌++◌, ◌⊎◌, ℕ, max, List, Bool, false}
+use Rattle.std.specs.Prelude.{◌≡◌, ◌≤◌, ◌++◌, ◌⊎◌, ℕ, max, List, Bool, Result, MatchResult, false}
+use Rattle.std.specs.Borrow.{Bor}
 use Rattle.gv_model.specs.Ty.{Basic, Ty, types_from}
 use Rattle.gv_model.specs.TypeText.{seen}
 use Rattle.gv_model.specs.Tree.{Tree, Trees, basic_default, children, default, defaults, depth, greatest_depth}
 use Rattle.gv_model.specs.Printed.{Text, comma, joined_by, texts, holds_double, hold_double}
 use Rattle.gv_types.specs.Classes.{class_of}
 use Rattle.gv_types.specs.declared.class.Class.TheVariants as classes
-use Rattle.gv_types.specs.FirstTypes.{first_type}
+use Rattle.gv_types.specs.FirstTypes.{first_type, IsAfterFirst}
 use Rattle.gv_types.specs.declared.members.Members.{Members}
 use Rattle.gv_types.specs.Members.{members_left}
 use Rattle.gv_text.specs.declared.print_fault.PrintFault.{PrintFault}
-use Rattle.gv_text.specs.Printing.{IsRefused, IsWritten, child_texts, figures_of, following}
+use Rattle.gv_text.specs.Printing.{IsLevelFault, IsPrinted, IsRefused, IsWritten, child_texts, figures_of, following}
 
 -- the default of the type at the start of a text
 abbrev pub default_in : List ℕ → Tree
 default_in text = default (first_type (seen text))
+
+-- the default of the type at the start of a text is written, and what comes after the type is answered
+abbrev pub PrintsFirst : Result (Bor (List ℕ)) PrintFault → List ℕ → ℕ → Bool → Bool → Text → Text → Type 0
+PrintsFirst result text levels annotated in_array old new =
+    MatchResult result (λ rest. IsAfterFirst text rest.now × IsPrinted (default_in text) levels annotated in_array old new) (IsLevelFault (default_in text) levels)
 
 -- the default is no double, and these are its text without annotation by itself and behind a comma
 pub record AreFigures (k : Basic) (alone after_comma : Text) : Type 0 where

@@ -13,8 +13,8 @@ ghost use Rattle.gv_types.specs.Members.{members_left};
 ghost use Rattle.gv_types.specs.FirstTypes.{first_type, HasFirstType, IsAfterFirst};
 ghost use Rattle.gv_types.specs.declared.class.Class.TheVariants.{Tuple, Entry};
 ghost use Rattle.gv_text.specs.declared.print_fault.PrintFault.TheVariants.{Memory};
-ghost use Rattle.gv_text.specs.Printing.{IsLevelFault, IsPrinted, Prints};
-ghost use Rattle.gv_text.specs.Defaults.{default_in, defaults_left, AreFigures, AreLeft, AreLevelFault, IsEmptied, WriteRest, WritesJoined};
+ghost use Rattle.gv_text.specs.Printing.{IsLevelFault, Prints};
+ghost use Rattle.gv_text.specs.Defaults.{default_in, defaults_left, AreFigures, AreLeft, AreLevelFault, IsEmptied, PrintsFirst, WriteRest, WritesJoined};
 
 use super::array::brackets;
 use super::basic::push_word;
@@ -102,10 +102,7 @@ fn push_first<'a>(
     in_array: bool,
 ) -> Result<&'a [u8], PrintFault>
     requires { HasFirstType text.now }
-    ensures { MatchResult result
-        (λ rest. IsAfterFirst text.entry.now rest.now
-        × IsPrinted (default_in text.entry.now) levels annotated in_array (string_bytes to.old) (string_bytes to.new))
-        (IsLevelFault (default_in text.entry.now) levels) }
+    ensures { PrintsFirst result text.entry.now levels annotated in_array (string_bytes to.old) (string_bytes to.new) }
 {
     if levels == 0 {
         return Err(PrintFault::TooLarge);
@@ -144,10 +141,7 @@ fn push_tuple_default<'a>(
     requires first_type { HasFirstType text.now }
     requires kind { class_of (first_type (seen text.now)) ≡ Tuple }
     requires some { 0 < levels }
-    ensures { MatchResult result
-        (λ rest. IsAfterFirst text.entry.now rest.now
-        × IsPrinted (default_in text.entry.now) levels annotated false (string_bytes to.old) (string_bytes to.new))
-        (IsLevelFault (default_in text.entry.now) levels) }
+    ensures { PrintsFirst result text.entry.now levels annotated false (string_bytes to.old) (string_bytes to.new) }
 {
     to.push('(')?;
     let inside = after_letter(text);
@@ -177,10 +171,7 @@ fn push_next<'a>(
     annotated: bool,
 ) -> Result<&'a [u8], PrintFault>
     requires { HasFirstType text.now }
-    ensures { MatchResult result
-        (λ rest. IsAfterFirst text.entry.now rest.now
-        × IsPrinted (default_in text.entry.now) levels annotated false (string_bytes to.old ++ comma) (string_bytes to.new))
-        (IsLevelFault (default_in text.entry.now) levels) }
+    ensures { PrintsFirst result text.entry.now levels annotated false (string_bytes to.old ++ comma) (string_bytes to.new) }
 {
     match Class::of_letter(text[0]).unwrap() {
         Class::Basic(of) if !annotated && levels > 0 => {
@@ -206,10 +197,7 @@ fn push_entry_default<'a>(
     requires first_type { HasFirstType text.now }
     requires kind { class_of (first_type (seen text.now)) ≡ Entry }
     requires some { 0 < levels }
-    ensures { MatchResult result
-        (λ rest. IsAfterFirst text.entry.now rest.now
-        × IsPrinted (default_in text.entry.now) levels annotated in_array (string_bytes to.old) (string_bytes to.new))
-        (IsLevelFault (default_in text.entry.now) levels) }
+    ensures { PrintsFirst result text.entry.now levels annotated in_array (string_bytes to.old) (string_bytes to.new) }
 {
     if in_array {
         return push_pair(to, text, levels, ": ", annotated);

@@ -7,6 +7,7 @@ use Rattle.gv_model.specs.Quoted.{between}
 use Rattle.gv_model.specs.Parts.{part_trees}
 use Rattle.gv_model.proofs.ChildLaws.{children_are_parts}
 use Rattle.gv_types.specs.Classes.{class_of, basic_of}
+use Rattle.gv_types.specs.declared.class.Class.TheVariants as classes
 use Rattle.gv_types.proofs.ClassLaws.{basic_class}
 use Rattle.gv_types.specs.TypeStr.{element_of, ty}
 use Rattle.gv_view.specs.Views.{value, shown, view_ty, view_bytes}
@@ -18,17 +19,13 @@ use Rattle.gv_view.proofs.Copies.{always_ok}
 use Rattle.gv_text.specs.Printing.{IsNoted, IsNothing, IsPrintedAs, Prints, brackets_of, child_texts}
 use Rattle.gv_text.proofs.ContainerTexts.{
   array_doubles,
-  array_no_entry,
-  basic_no_entry,
   entry_alone,
   entry_doubles,
   entry_in_array,
   flat_written,
-  maybe_no_entry,
   marked_text,
   same_in_array,
   tuple_doubles,
-  tuple_no_entry,
   tuple_text_of,
   unwanted_mark,
   variant_doubles,
@@ -74,7 +71,7 @@ push_value-returns-in-Basic t c =
     let kind = c.in-Basic.ensures ∙ ap (λ s. class_of (ty s)) c.type_str-2.ensures in
     let flat = (of_basic of (basic_of c.in-Basic.basic) (view_bytes c.args.view) (basic_class of c.in-Basic.basic kind)).flat in
     flat_written c.push_basic.result _ _ c.args.levels _ _ (string_bytes c.args.to.now) (string_bytes c.push_basic.new.to) flat (omega (arith, c.if-levels-eq0.false))
-    (sym (same_in_array of (view_bytes c.args.view) c.args.annotated c.args.in_array (λ e. basic_no_entry c.in-Basic.basic (kind ∙ e)))) c.push_basic.ensures
+    (sym (same_in_array of (view_bytes c.args.view) c.args.annotated c.args.in_array (λ e. let no : classes.Basic c.in-Basic.basic ≡ classes.Entry = kind ∙ e in cc))) c.push_basic.ensures
 
 pub push_value-returns-in-Variant : goal.push_value-returns-in-Variant
 push_value-returns-in-Variant t c =
@@ -86,17 +83,17 @@ push_value-returns-in-Variant t c =
 pub push_value-returns-in-Array : goal.push_value-returns-in-Array
 push_value-returns-in-Array t c =
     let kind = c.in-Array.ensures ∙ ap (λ s. class_of (ty s)) c.type_str-2.ensures in
-    written_as c.push_array.result _ _ _ c.args.levels _ _ (string_bytes c.args.to.now) (string_bytes c.push_array.new.to) refl (sym (same_in_array (view_ty c.args.view) (view_bytes c.args.view) c.args.annotated c.args.in_array (λ e. array_no_entry (kind ∙ e)))) c.push_array.ensures
+    written_as c.push_array.result _ _ _ c.args.levels _ _ (string_bytes c.args.to.now) (string_bytes c.push_array.new.to) refl (sym (same_in_array (view_ty c.args.view) (view_bytes c.args.view) c.args.annotated c.args.in_array (λ e. let no : classes.Array ≡ classes.Entry = kind ∙ e in cc))) c.push_array.ensures
 
 pub push_value-returns-in-Maybe : goal.push_value-returns-in-Maybe
 push_value-returns-in-Maybe t c =
     let kind = c.in-Maybe.ensures ∙ ap (λ s. class_of (ty s)) c.type_str-2.ensures in
-    written_as c.push_maybe.result _ _ _ c.args.levels _ _ (string_bytes c.args.to.now) (string_bytes c.push_maybe.new.to) refl (sym (same_in_array (view_ty c.args.view) (view_bytes c.args.view) c.args.annotated c.args.in_array (λ e. maybe_no_entry (kind ∙ e)))) c.push_maybe.ensures
+    written_as c.push_maybe.result _ _ _ c.args.levels _ _ (string_bytes c.args.to.now) (string_bytes c.push_maybe.new.to) refl (sym (same_in_array (view_ty c.args.view) (view_bytes c.args.view) c.args.annotated c.args.in_array (λ e. let no : classes.Maybe ≡ classes.Entry = kind ∙ e in cc))) c.push_maybe.ensures
 
 pub push_value-returns-in-Tuple : goal.push_value-returns-in-Tuple
 push_value-returns-in-Tuple t c =
     let kind = c.in-Tuple.ensures ∙ ap (λ s. class_of (ty s)) c.type_str-2.ensures in
-    written_as c.push_tuple.result _ _ _ c.args.levels _ _ (string_bytes c.args.to.now) (string_bytes c.push_tuple.new.to) refl (sym (same_in_array (view_ty c.args.view) (view_bytes c.args.view) c.args.annotated c.args.in_array (λ e. tuple_no_entry (kind ∙ e)))) c.push_tuple.ensures
+    written_as c.push_tuple.result _ _ _ c.args.levels _ _ (string_bytes c.args.to.now) (string_bytes c.push_tuple.new.to) refl (sym (same_in_array (view_ty c.args.view) (view_bytes c.args.view) c.args.annotated c.args.in_array (λ e. let no : classes.Tuple ≡ classes.Entry = kind ∙ e in cc))) c.push_tuple.ensures
 
 -- ---- tuples and entries
 

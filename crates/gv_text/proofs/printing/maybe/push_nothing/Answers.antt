@@ -14,5 +14,5 @@ loop-child-preserved c =
 
 pub returns : goal.returns
 returns c =
-    let text = nothing_text (view_ty c.loop-child.level) (view_bytes c.loop-child.level) c.loop-child.invariant.0 (sym c.in_default.ensures.value) in
+    let text = nothing_text (view_ty c.loop-child.level) (view_bytes c.loop-child.level) (ends_class (view_ty c.loop-child.level) (view_bytes c.loop-child.level) c.loop-child.invariant.0) (sym c.in_default.ensures.value) in
     c.in_ok-push_str-2.ensures.bytes ∙ (ap (λ s. string_bytes c.loop-child.to ++ s) (sym text) ∙ c.loop-child.invariant.1)
