@@ -17,8 +17,6 @@ IsUnprintable v TooLarge = is_too_large v ≡ true
 IsUnprintable v DoubleText = (is_too_large v ≡ false) × (holds_double v ≡ true)
 IsUnprintable v Memory = Unit {0}
 
--- ---- what a call writes
-
 -- It has no double and no more than these levels, and this text comes after the old one.
 pub record IsWritten (double : Bool) (deep levels : ℕ) (s old new : Text) : Type 0 where
   pub plain : double ≡ false
@@ -51,8 +49,6 @@ figures_of (number k n) = figures k n
 figures_of (text k s) = quoted s
 figures_of (node t vs) = []
 
--- ---- children
-
 -- whether the children after the first are annotated where it is: not in an array
 abbrev pub rest_annotated : Bool → Bool → Bool
 rest_annotated annotated true = false
@@ -66,8 +62,6 @@ child_texts vs annotated in_array = texts vs annotated (rest_annotated annotated
 abbrev pub following : Text → List Text → Text
 following mark [] = []
 following mark (s ∷ ss) = mark ++ (s ++ following mark ss)
-
--- ---- arrays
 
 -- the brackets of an array whose elements have this type
 abbrev pub brackets_of : Option Ty → ℕ × ℕ
@@ -90,8 +84,6 @@ pub record IsNoted (t : Ty) (levels start end : ℕ) (now : Text) : Type 0 where
   pub parted : 0 < length after → get_or after 0 0 ≡ 44
   pub plain : holds_double (default t) ≡ false
   pub fits : depth (default t) ≤ levels
-
--- ---- maybes
 
 -- Nothing, or levels of Just around it
 pub record IsNothing (v : Tree) : Type 0 where
