@@ -44,58 +44,34 @@ pub exactly_array : (t : Ty) (c : Class) (o : Option TypeStr) (e : TypeStr) → 
 unfolding exactly
 exactly_array t c None e a b h g = absurd cc
 exactly_array (array t) c (Some x) e a b h g = ap (λ u. strict (array_of (exactly u))) (element t x e h g)
-exactly_array (maybe t) c (Some x) e a b h g = absurd cc
-exactly_array (basic k) c (Some x) e a b h g = absurd cc
-exactly_array variant c (Some x) e a b h g = absurd cc
-exactly_array (tuple t) c (Some x) e a b h g = absurd cc
-exactly_array (entry k t) c (Some x) e a b h g = absurd cc
+exactly_array _ c (Some x) e a b h g = absurd cc
 
 pub exactly_maybe : (t : Ty) (c : Class) (o : Option TypeStr) (e : TypeStr) → c ≡ class_of t → c ≡ classes.Maybe → option_map ty o ≡ element_of t → o ≡ Some e → maybe_of (exactly (ty e)) ≡ exactly t
 unfolding exactly
 exactly_maybe t c None e a b h g = absurd cc
 exactly_maybe (maybe t) c (Some x) e a b h g = ap (λ u. maybe_of (exactly u)) (element t x e h g)
-exactly_maybe (array t) c (Some x) e a b h g = absurd cc
-exactly_maybe (basic k) c (Some x) e a b h g = absurd cc
-exactly_maybe variant c (Some x) e a b h g = absurd cc
-exactly_maybe (tuple t) c (Some x) e a b h g = absurd cc
-exactly_maybe (entry k t) c (Some x) e a b h g = absurd cc
+exactly_maybe _ c (Some x) e a b h g = absurd cc
 
 pub exactly_tuple : (t : Ty) (c : Class) → c ≡ class_of t → c ≡ classes.Tuple → strict (tuple_with (exactly_each (members t))) ≡ exactly t
 unfolding exactly
 exactly_tuple (tuple ts) c a b = refl
-exactly_tuple (array t) c a b = absurd cc
-exactly_tuple (maybe t) c a b = absurd cc
-exactly_tuple (basic k) c a b = absurd cc
-exactly_tuple variant c a b = absurd cc
-exactly_tuple (entry k t) c a b = absurd cc
+exactly_tuple _ c a b = absurd cc
 
 pub tuple_nesting : (t : Ty) (c : Class) → c ≡ class_of t → c ≡ classes.Tuple → nesting t ≡ greatest_nesting (members t) + 1
 unfolding nesting
 tuple_nesting (tuple ts) c a b = omega arith
-tuple_nesting (array t) c a b = absurd cc
-tuple_nesting (maybe t) c a b = absurd cc
-tuple_nesting (basic k) c a b = absurd cc
-tuple_nesting variant c a b = absurd cc
-tuple_nesting (entry k t) c a b = absurd cc
+tuple_nesting _ c a b = absurd cc
 
 -- an entry's key and value, as its members
 pub exactly_entry : (t k v : Ty) (rest : List Ty) (c : Class) → c ≡ class_of t → c ≡ classes.Entry → type_list (members t) ≡ k ∷ v ∷ rest → strict (entry_of (basics_of (exactly k)) (exactly v)) ≡ exactly t
 unfolding exactly type_list
 exactly_entry (entry j u) k v rest c a b e = sym (ap₂ (λ x y. strict (entry_of (basics_of (exactly x)) (exactly y))) (same_head e) (same_head (same_tail e)))
-exactly_entry (array t) k v rest c a b e = absurd cc
-exactly_entry (maybe t) k v rest c a b e = absurd cc
-exactly_entry (basic j) k v rest c a b e = absurd cc
-exactly_entry variant k v rest c a b e = absurd cc
-exactly_entry (tuple ts) k v rest c a b e = absurd cc
+exactly_entry _ k v rest c a b e = absurd cc
 
 pub entry_nesting : (t k v : Ty) (rest : List Ty) (c : Class) → c ≡ class_of t → c ≡ classes.Entry → type_list (members t) ≡ k ∷ v ∷ rest → nesting t ≡ nesting v + 1
 unfolding nesting type_list
 entry_nesting (entry j u) k v rest c a b e = omega (arith, ap nesting (same_head (same_tail e)))
-entry_nesting (array t) k v rest c a b e = absurd cc
-entry_nesting (maybe t) k v rest c a b e = absurd cc
-entry_nesting (basic j) k v rest c a b e = absurd cc
-entry_nesting variant k v rest c a b e = absurd cc
-entry_nesting (tuple ts) k v rest c a b e = absurd cc
+entry_nesting _ k v rest c a b e = absurd cc
 
 -- a tuple's members are all read
 pub all_exact : (ts : Types) (ps : List Pattern) (left : List Ty) → left ≡ [] → before ps (exactly_all left) ≡ exactly_each ts → patterns_of ps ≡ exactly_each ts
@@ -105,11 +81,7 @@ all_exact ts ps left e h = sym (before_stop ps) ∙ ap (λ l. before ps (exactly
 pub entry_members : (t : Ty) (c : Class) → c ≡ class_of t → c ≡ classes.Entry → (k : Ty) × ((v : Ty) × (type_list (members t) ≡ k ∷ v ∷ []))
 unfolding type_list
 entry_members (entry j u) c a b = (basic j, (u, refl))
-entry_members (array t) c a b = absurd cc
-entry_members (maybe t) c a b = absurd cc
-entry_members (basic j) c a b = absurd cc
-entry_members variant c a b = absurd cc
-entry_members (tuple ts) c a b = absurd cc
+entry_members _ c a b = absurd cc
 
 pub is_some_next : (o : Option TypeStr) (left rest : List Ty) (P : Type 0) (t : Ty) (ts : List Ty) → MatchOption o ((left ≡ []) × P) (λ x. left ≡ ty x ∷ rest) → left ≡ t ∷ ts → IsSome o
 is_some_next None left rest P t ts h e = let none : left ≡ [] = h.0 in absurd cc
