@@ -20,9 +20,8 @@ use Rattle.gv_view.specs.Views.{shown, value, view_bytes, view_ty}
 use Rattle.gv_view.proofs.Depths.{depth_children}
 use Rattle.gv_view.proofs.PartValues.{basic_is_leaf}
 use Rattle.dconf_model.proofs.PathMaps.{no_truth}
-use Rattle.dconf_differences.specs.SameValues.{same_code, same_tree, same_value}
+use Rattle.dconf_differences.specs.SameValues.{same_code, same_tree, same_value, AreSame, IsSame, work}
 use Rattle.dconf_differences.specs.declared.same_values.Compared.{Compared}
-use Rattle.dconf_differences.specs.Compared.{AreSame, IsSame, work}
 
 -- ---- values, by what they are coded as
 

@@ -5,6 +5,8 @@ use Rattle.std.specs.FinMap.{get}
 use Rattle.std.proofs.lemmas.Bool.{false_from_ne_true}
 use Rattle.std.proofs.lemmas.List.Elements.{filter-append}
 use Rattle.std.proofs.lemmas.List.{map-append}
+use Rattle.std.proofs.lemmas.List.Sums.{fold-append}
+use Rattle.dconf_layers.specs.TextSets.{TextSet, with_text, with_texts}
 use Rattle.dconf_model.specs.Layers.{Layers, Place, first_from, greatest_from, level, locks_path, place_of, place_or}
 use Rattle.dconf_model.specs.Names.{full_name}
 use Rattle.dconf_model.specs.Settings.{Settings}
@@ -15,7 +17,7 @@ use Rattle.dconf_model.proofs.ComputedNames.{name_of_named, named_of_name}
 use Rattle.gvdb_read.specs.Tables.{region}
 use Rattle.dconf_layers.specs.declared.layer.Layer.{Layer}
 use Rattle.dconf_differences.specs.Differing.{differs}
-use Rattle.dconf_layers.specs.LayerRows.{items_of, layer_paths, paths_of, row_at, rows_from, value_in}
+use Rattle.dconf_layers.specs.LayerRows.{AreOf, items_of, layer_paths, paths_of, row_at, rows_from, value_in}
 use Rattle.dconf_layers.specs.LayerSettings.{settings_of}
 use Rattle.dconf_differences.specs.Twins.{AreTwins, HaveAlike, HaveAlikeOutside, PassesAlike}
 use Rattle.gvdb_alike.specs.NamesAlike.{AreNamedAlike}
@@ -152,3 +154,26 @@ module _ (f : List ℕ → Bool) (layer other : Layer) (passes : PassesAlike f (
       ∙ both_filtered asked after
       ∙ ap (λ ps. filter f (paths_of asked) ++ ps) (sym (none_in end (n - end) (omega (arith, high)) (λ j ge lt. outside.alike j (omega (arith, lt, high)) (inr ge))))
       ∙ append-nil (filter f (paths_of asked)))
+
+-- ---- row by row
+
+-- a row that the other has, too
+pub passed_over : (f : List ℕ → Bool) (layer other : Layer) (row : List ℕ × List ℕ) (rows rest : List (List ℕ × List ℕ)) →
+    PassesAlike f (settings_of layer) (settings_of other) → rows ≡ row ∷ rest → AreOf layer rows → get (settings_of other).values row.0 ≡ Some row.1 →
+    filter f (paths_of rest) ≡ filter f (paths_of rows)
+passed_over f layer other row rows rest passes is of there =
+    let here : get (settings_of layer).values row.0 ≡ Some row.1 = (subst (AreOf layer) is of) 0 row (omega arith) in
+    ap (λ b. cond b (row.0 ∷ filter f (paths_of rest)) (filter f (paths_of rest))) (sym (passes row.0 (here ∙ sym there)))
+    ∙ ap (λ rows. filter f (paths_of rows)) (sym is)
+
+pub rest_are_of : (layer : Layer) (row : List ℕ × List ℕ) (rows rest : List (List ℕ × List ℕ)) → rows ≡ row ∷ rest → AreOf layer rows → AreOf layer rest
+rest_are_of layer row rows rest is of k d lt = (subst (AreOf layer) is of) (suc k) d (omega (arith, lt))
+
+-- a row that was asked for
+pub one_added : (f : List ℕ → Bool) (row : List ℕ × List ℕ) (rows rest : List (List ℕ × List ℕ)) (before after : TextSet) → rows ≡ row ∷ rest →
+    after ≡ with_texts (filter f (row.0 ∷ [])) before → with_texts (filter f (paths_of rest)) after ≡ with_texts (filter f (paths_of rows)) before
+one_added f row rows rest before after is e =
+    ap (with_texts (filter f (paths_of rest))) e
+    ∙ sym (fold-append with_text before (filter f (row.0 ∷ [])) (filter f (paths_of rest)))
+    ∙ ap (λ ps. with_texts ps before) (sym (filter-append f (row.0 ∷ []) (paths_of rest)))
+    ∙ ap (λ (rows : List (List ℕ × List ℕ)). with_texts (filter f (paths_of rows)) before) (sym is)

@@ -1,4 +1,3 @@
 pub mod SameValues
-pub mod Compared
 pub mod Differing
 pub mod Twins

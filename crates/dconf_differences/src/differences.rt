@@ -192,9 +192,16 @@ impl<'a, 'l> Pair<'a, 'l> {
     {
         let path = entry.path(alloc)?;
         let key = KeyPath::parse(path.as_str()).unwrap();
-        if !differs(alloc, self.first, self.second, key)? {
+        if !self.differs(alloc, key)? {
             return Ok(());
         }
         paths.add(path.as_str())
+    }
+
+    /// Whether a key is seen otherwise.
+    fn differs(self, alloc: Global, key: KeyPath<'_>) -> Result<bool, AllocError>
+        ensures { IfOk result (λ is. is ≡ differs (seen_in self.entry.first) (seen_in self.entry.second) (key_text key.entry)) }
+    {
+        differs(alloc, self.first, self.second, key)
     }
 }

@@ -41,7 +41,7 @@ pub fn show_same(alloc: Global, first: View<'_>, second: View<'_>) -> Result<boo
 }
 
 impl<'a, 'b> Compared<'a, 'b> {
-    ghost use Rattle.dconf_differences.specs.Compared.{AreSame, IsSame, work};
+    ghost use Rattle.dconf_differences.specs.SameValues.{AreSame, IsSame, work};
 
     /// Whether they are the same bytes at one type.
     fn are_alike(self) -> bool

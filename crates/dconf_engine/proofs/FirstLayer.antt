@@ -11,7 +11,7 @@ use Rattle.dconf_model.specs.Settings.{Settings}
 use Rattle.dconf_layers.specs.declared.layer.Layer.{Layer}
 use Rattle.dconf_layers.specs.LayerSettings.{settings_of}
 use Rattle.dconf_engine.specs.Unsaved.{Unsaved, with_changes}
-use Rattle.dconf_engine.proofs.UnsavedLaws.{none_changed}
+use Rattle.dconf_engine.proofs.UnsavedLaws.{get_changed, none_changed}
 
 pub same_later : (change : Values → Values) (xs : List Settings) → drop 1 (with_first_layer change xs) ≡ drop 1 xs
 same_later change [] = refl

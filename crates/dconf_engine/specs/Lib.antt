@@ -1,8 +1,6 @@
 pub mod Faults
-pub mod LayersCode
 pub mod EngineLayers
 pub mod ChangeFaults
-pub mod Edits
 pub mod Rows
 pub mod TextMaps
 pub mod Unsaved

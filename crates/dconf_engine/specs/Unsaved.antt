@@ -6,6 +6,13 @@ use Rattle.dconf_model.specs.Settings.{AtPaths}
 use Rattle.dconf_model.specs.Changes.{Values}
 use Rattle.dconf_model.specs.Sources.{Assigned}
 use Rattle.dconf_model.specs.Values.{stored}
+use Rattle.dconf_engine.specs.declared.changes.Edit.{Edit}
+use Rattle.dconf_engine.specs.declared.changes.Edit.TheVariants.{Set, Reset}
+
+-- what was done at a path: the bytes that it was set to, or none where it was reset
+abbrev pub edit_bytes : Edit → Option (List ℕ)
+edit_bytes (Set bytes) = Some bytes.items
+edit_bytes Reset = None
 
 -- at each path that was changed the bytes that it was set to, or none where it was reset
 abbrev pub Unsaved : Type 0

@@ -4,7 +4,7 @@ use Rattle.dconf_path.specs.Paths.{key_text}
 use Rattle.dconf_engine.specs.declared.changes.Changed.{Changed}
 use Rattle.dconf_engine.specs.declared.changes.ChangesLeft.{ChangesLeft}
 use Rattle.dconf_engine.specs.TextMaps.{entries_by}
-use Rattle.dconf_engine.specs.Edits.{edit_bytes}
+use Rattle.dconf_engine.specs.Unsaved.{edit_bytes}
 
 -- a path, and the bytes that it was set to, or none
 abbrev pub entry_changed : Changed → List ℕ × Option (List ℕ)

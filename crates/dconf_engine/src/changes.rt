@@ -4,7 +4,7 @@ ghost use Rattle.std.specs.Prelude.{◌≡◌, ◌↔◌, IsTrue, Some, None, On
 ghost use Rattle.std.specs.FinMap.{contains_key, empty, entries, get, insert};
 ghost use Rattle.dconf_model.specs.Paths.{is_key_path};
 ghost use Rattle.dconf_path.specs.Paths.{key_text};
-ghost use Rattle.dconf_engine.specs.Edits.{edit_bytes};
+ghost use Rattle.dconf_engine.specs.Unsaved.{edit_bytes};
 ghost use Rattle.dconf_engine.specs.Saved.{set_if, with_sets};
 ghost use Rattle.dconf_engine.specs.TextMaps.{entries_by, AreAtKeyPaths};
 
@@ -65,9 +65,8 @@ pub(crate) struct Changes {
 }
 
 impl Model for Changes {
-    ghost use Rattle.dconf_engine.specs.Edits.{edit_bytes};
     ghost use Rattle.dconf_engine.specs.TextMaps.{at_texts, IsAtKeys};
-    ghost use Rattle.dconf_engine.specs.Unsaved.{Unsaved, unsaved_code};
+    ghost use Rattle.dconf_engine.specs.Unsaved.{Unsaved, edit_bytes, unsaved_code};
 
     ghost Value = { Unsaved };
 

@@ -33,13 +33,11 @@ pub struct Engine<'a> {
 
 impl<'a> Model for Engine<'a> {
     ghost use Rattle.dconf_model.specs.Layers.{Layers};
-    ghost use Rattle.dconf_engine.specs.LayersCode.{layers_code};
+    ghost use Rattle.dconf_engine.specs.EngineLayers.{layers_code, layers_of};
 
     ghost Value = { Layers };
 
     ghost coded = { layers_code };
-
-    ghost use Rattle.dconf_engine.specs.EngineLayers.{layers_of};
 
     ghost view = { λ e. layers_of e.changes e.layers.items e.writable };
 }

@@ -1,8 +1,7 @@
 use Rattle.std.proofs.Common.{◌≡◌, ◌∙◌, ap, sym, refl, Option, Some, None, option_map}
 use Rattle.std.specs.Borrow.{Bor}
 use Rattle.dconf_engine.specs.declared.changes.Edit.{Edit}
-use Rattle.dconf_engine.specs.Edits.{edit_bytes}
-use Rattle.dconf_engine.specs.Unsaved.{Unsaved}
+use Rattle.dconf_engine.specs.Unsaved.{edit_bytes, Unsaved}
 use Rattle.std.specs.FinMap.{get}
 use Rattle.dconf_engine.proofs.TextMapLaws.{get_at_texts}
 use Rattle.dconf_engine.proofs.changes.Changes.get.Goals as goal

@@ -1,8 +1,7 @@
 use Rattle.std.proofs.Common.{◌≡◌, ◌∙◌, ap, sym, subst, List, ℕ, Option}
 use Rattle.std.specs.FinMap.{entries}
-use Rattle.dconf_engine.specs.Edits.{edit_bytes}
+use Rattle.dconf_engine.specs.Unsaved.{edit_bytes, Unsaved}
 use Rattle.dconf_engine.specs.TextMaps.{entries_by, at_texts, AreAtKeyPaths}
-use Rattle.dconf_engine.specs.Unsaved.{Unsaved}
 use Rattle.dconf_engine.proofs.TextMapLaws.{entries_at_texts, each_at_keys}
 use Rattle.dconf_engine.proofs.changes.Changes.iter.Goals as goal
 

@@ -4,10 +4,9 @@ use Rattle.std.specs.String.{string_bytes}
 use Rattle.std.specs.declared.string.String.{String}
 use Rattle.std.specs.declared.alloc.Global.{Global}
 use Rattle.dconf_model.specs.Settings.{Settings}
-use Rattle.dconf_engine.specs.Edits.{edit_bytes}
+use Rattle.dconf_engine.specs.Unsaved.{edit_bytes, Unsaved}
 use Rattle.dconf_engine.specs.Saved.{set_if, with_sets}
 use Rattle.dconf_engine.specs.TextMaps.{entries_by, at_texts, AreAtKeyPaths}
-use Rattle.dconf_engine.specs.Unsaved.{Unsaved}
 use Rattle.dconf_engine.specs.declared.changes.Edit.{Edit}
 use Rattle.dconf_engine.proofs.TextMapLaws.{entries_at_texts, each_at_keys, first_at_key, rest_after}
 use Rattle.dconf_engine.proofs.changes.Changes.move_sets.Goals as goal

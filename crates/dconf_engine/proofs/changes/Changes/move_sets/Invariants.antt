@@ -1,6 +1,6 @@
 use Rattle.std.proofs.Common.{◌≡◌}
 use Rattle.std.specs.FinMap.{entries}
-use Rattle.dconf_engine.specs.Edits.{edit_bytes}
+use Rattle.dconf_engine.specs.Unsaved.{edit_bytes}
 use Rattle.dconf_engine.specs.Saved.{with_sets}
 use Rattle.dconf_engine.specs.TextMaps.{entries_by, AreAtKeyPaths}
 use Rattle.dconf_engine.proofs.changes.Changes.move_sets.Given as goal

@@ -3,7 +3,7 @@ use Rattle.std.specs.declared.alloc.Global.{Global}
 use Rattle.std.specs.declared.string.String.{String}
 use Rattle.std.specs.FinMap.{from_entries}
 use Rattle.dconf_engine.specs.declared.changes.Edit.{Edit}
-use Rattle.dconf_engine.specs.Edits.{edit_bytes}
+use Rattle.dconf_engine.specs.Unsaved.{edit_bytes}
 use Rattle.dconf_engine.specs.TextMaps.{entries_by, IsAtKeys}
 use Rattle.dconf_engine.proofs.TextMapLaws.{nothing_at_keys}
 use Rattle.dconf_engine.proofs.changes.Changes.new.Goals as goal

@@ -2,9 +2,8 @@ use Rattle.std.proofs.Common.{◌≡◌, ◌∙◌, ap, sym, subst, rules}
 use Rattle.std.specs.FinMap.{insert}
 use Rattle.std.specs.String.{string_bytes}
 use Rattle.dconf_path.specs.Paths.{key_text}
-use Rattle.dconf_engine.specs.Edits.{edit_bytes}
+use Rattle.dconf_engine.specs.Unsaved.{edit_bytes, Unsaved}
 use Rattle.dconf_engine.specs.TextMaps.{IsAtKeys}
-use Rattle.dconf_engine.specs.Unsaved.{Unsaved}
 use Rattle.dconf_engine.proofs.TextMapLaws.{taken_at, taken_at_key}
 use Rattle.dconf_engine.proofs.changes.Changes.put.Goals as goal
 

@@ -1,6 +1,6 @@
 use Rattle.std.proofs.Common.{◌∙◌, ap, sym, subst, List, ℕ, Option}
 use Rattle.std.specs.FinMap.{from_entries}
-use Rattle.dconf_engine.specs.Edits.{edit_bytes}
+use Rattle.dconf_engine.specs.Unsaved.{edit_bytes}
 use Rattle.dconf_engine.specs.TextMaps.{IsAtKeys}
 use Rattle.dconf_engine.proofs.TextMapLaws.{same_clones}
 use Rattle.dconf_engine.proofs.changes.Changes.try_copy.Goals as goal

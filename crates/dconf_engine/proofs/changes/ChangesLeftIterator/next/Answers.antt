@@ -2,7 +2,7 @@ use Rattle.std.proofs.Common.{◌≡◌, sym, subst, List, ℕ, None, Result, Ok
 use Rattle.std.specs.Result.{IsOk, result_ok}
 use Rattle.std.proofs.lemmas.Bool.{true≢false}
 use Rattle.dconf_model.specs.Paths.{is_key_path}
-use Rattle.dconf_engine.specs.Edits.{edit_bytes}
+use Rattle.dconf_engine.specs.Unsaved.{edit_bytes}
 use Rattle.dconf_engine.proofs.TextMapLaws.{rest_at_keys, first_at_key}
 use Rattle.dconf_engine.proofs.changes.ChangesLeftIterator.next.Goals as goal
 
