@@ -182,12 +182,7 @@ impl<'a, 'l> Pair<'a, 'l> {
     }
 
     /// Adds an entry's path, if it is such a key.
-    fn add_entry(
-        self,
-        alloc: Global,
-        entry: Entry<'_>,
-        paths: &mut Texts,
-    ) -> Result<(), AllocError>
+    fn add_entry(self, alloc: Global, entry: Entry<'_>, paths: &mut Texts) -> Result<(), AllocError>
         ensures { OnOk result (paths.new ≡ with_texts (filter (differs (seen_in self.entry.first) (seen_in self.entry.second)) ((entry_row entry.entry).0 ∷ [])) paths.old) }
     {
         let path = entry.path(alloc)?;

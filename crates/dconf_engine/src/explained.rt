@@ -54,11 +54,7 @@ impl Engine<'_> {
 }
 
 /// The bytes of a layer's value at a path: those of a change where there is one, else those of its file.
-fn changed_bytes<'l>(
-    changes: &'l Changes,
-    layer: Layer<'l>,
-    path: KeyPath<'_>,
-) -> Option<&'l [u8]>
+fn changed_bytes<'l>(changes: &'l Changes, layer: Layer<'l>, path: KeyPath<'_>) -> Option<&'l [u8]>
     ensures { option_map (λ bytes. bytes.now) result ≡ get (with_changes changes.now (settings_of layer.entry).values) (key_text path.entry) }
 {
     match changes.get(path.as_str()) {

@@ -27,11 +27,7 @@ impl<'a> Layer<'a> {
     /// that isn't long.
     ///
     /// An error comes where a growth is refused. It is one search, and then it looks at these names alone.
-    pub fn add_listed(
-        self,
-        directory: DirPath<'_>,
-        names: &mut Texts,
-    ) -> Result<(), AllocError>
+    pub fn add_listed(self, directory: DirPath<'_>, names: &mut Texts) -> Result<(), AllocError>
         ensures { OnOk result (names.new ≡ with_children (directory_text directory.entry) (keys (settings_of self.entry).values) names.old) }
     {
         match self.values.list(directory.as_str()) {

@@ -12,6 +12,6 @@ abbrev pub invariant-loop-entry : goal.invariant-loop-entry
 invariant-loop-entry l = record {
   of : AreOf l.twins.layer (entries_left l.entry-iterator);
   all :
-    with_texts (filter (differs (seen_in l.self.first) (seen_in l.self.second)) (paths_of (entries_left l.entry-iterator))) l.paths
-    ≡ with_texts (filter (differs (seen_in l.self.first) (seen_in l.self.second)) (layer_paths l.twins.layer)) l.initial.paths;
+      with_texts (filter (differs (seen_in l.self.first) (seen_in l.self.second)) (paths_of (entries_left l.entry-iterator))) l.paths
+      ≡ with_texts (filter (differs (seen_in l.self.first) (seen_in l.self.second)) (layer_paths l.twins.layer)) l.initial.paths;
 }
