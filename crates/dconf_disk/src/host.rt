@@ -33,8 +33,8 @@ const FAILED: u64 = 0;
 
 const DONE: u64 = 1;
 
-/// Zeros that are written at once.
-const PIECE: &[u8] = &[0; 1024];
+/// Zeros that are written at once: as many as the C library writes by wide stores, and not a byte at a time.
+const PIECE: &[u8] = &[0; 2000];
 
 /// The files of the current folder, by `rt`.
 ///
@@ -362,8 +362,7 @@ fn first_bytes<R: Read>(alloc: Global, reader: &mut R, most: usize) -> Result<Ve
     Ok(bytes)
 }
 
-/// So many zeros, for a read to write over, and room for one byte more, so that the end is seen without growing. Short pieces
-/// are written by wide stores, and a long one a byte at a time.
+/// So many zeros, for a read to write over, and room for one byte more, so that the end is seen without growing.
 fn zeros(alloc: Global, count: usize) -> Result<Vec<u8>, AllocError> {
     let mut zeros = Vec::with_capacity(alloc, count.saturating_add(1))?;
     for _ in 0..count / PIECE.len() {
