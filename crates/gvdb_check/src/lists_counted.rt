@@ -9,9 +9,7 @@ ghost use Rattle.dconf_model.specs.Sound.Rule.{content, lists};
 ghost use Rattle.gvdb_check.specs.Counted.{HasListOnceIfAny, IsOnce, ListsOnce, found_count};
 ghost use Rattle.gvdb_format.specs.Tables.{region};
 
-use crate::lists::{
-    is_empty_at_root_alone, lists_children_alone, lists_rising_children, numbers,
-};
+use crate::lists::{is_empty_at_root_alone, lists_children_alone, lists_rising_children, numbers};
 use crate::lists_flagged::is_once;
 use gvdb_format::{Kind, RawTable};
 

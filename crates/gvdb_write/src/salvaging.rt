@@ -12,8 +12,8 @@ ghost use Rattle.gvdb_write.specs.Salvaged.{HasLowestValues, HasNoShortText, IsL
 use crate::map::Map;
 use crate::salvage_fault::SalvageFault;
 use dconf_path::{KeyPath, LockPath, MAX_PATH_LEN};
-use gvdb_read::Table;
 use gvdb_format::{Kind, LOCKS};
+use gvdb_read::Table;
 use std::alloc::{AllocError, Global};
 
 /// What can be saved of a database, sound or not.

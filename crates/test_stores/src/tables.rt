@@ -187,7 +187,12 @@ fn lies_there(file: &[u8]) -> Result<bool, Fail> {
         return Ok(false);
     }
     let item = table.raw.stored(1);
-    Ok(table.raw.bounds() == (24, 84) && item.key_start == 85 && item.key_size == 1 && item.end == 102)
+    Ok(
+        table.raw.bounds() == (24, 84)
+            && item.key_start == 85
+            && item.key_size == 1
+            && item.end == 102,
+    )
 }
 
 /// Whether bytes are hashed as signed numbers, in one call and byte by byte.
