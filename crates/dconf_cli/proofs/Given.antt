@@ -10,7 +10,7 @@ use Rattle.dconf_streams.specs.declared.counted.Counted.{Counted}
 use Rattle.dconf_streams.specs.Answers.{Answered, line_of, outcome_of}
 use Rattle.dconf_cli.specs.Outputs.{Leaves, PrintsLine, PrintsText}
 use Rattle.dconf_cli.specs.Endings.{Ends}
-use Rattle.dconf_streams.specs.Streams.{Rose}
+use Rattle.dconf_disk.specs.Driving.{IsOneMore}
 use Rattle.dconf_cli.proofs.StreamsLeft.{leaves_line, leaves_text}
 use Rattle.std.specs.Prelude.{OnOk, codes, string_bytes}
 use Rattle.dconf_disk.specs.declared.folder.Folder.{Ghosts}
@@ -62,7 +62,7 @@ module _ {F O E : Type 0} (ghosts : Ghosts F) (contents : O → Option (List ℕ
       leaves_text contents err_contents out_old out_new err text status (subst (λ t. PrintsText contents out_old out_new t status) is h),
     )
 
-    pub gives_device : (called held : List ℕ) → called ≡ name → held ≡ bytes → Rose (ghosts.failed old) (ghosts.failed new)
+    pub gives_device : (called held : List ℕ) → called ≡ name → held ≡ bytes → IsOneMore (ghosts.failed old) (ghosts.failed new)
         → ((es : List Event) → ghosts.past old es → (now : List Event) × ghosts.past new now × MaybeReplaced es now called held)
         → (out : Counted O) (err_old err_new : Counted E) (put : List ℕ) (status : ℕ) → put ≡ codes "error: Device " ++ (name ++ 10 ∷ []) → status ≡ 1
         → Wrote err_old err_new put → Gives old new out out err_old err_new (Some (changing name bytes text)) status

@@ -3,14 +3,15 @@ use Rattle.std.proofs.Common.{◌≡◌, ◌⊎◌, inl, inr, ℕ, List, [], Opt
 use Rattle.std.specs.Prelude.{OnErr, OnOk}
 use Rattle.std.proofs.lemmas.List.{take_all}
 use Rattle.dconf_model.specs.Outcomes.{done_output}
+use Rattle.dconf_disk.specs.Driving.{IsOneMore}
 use Rattle.dconf_streams.specs.declared.counted.Counted.{Counted}
 use Rattle.dconf_streams.specs.Counted.{Grew, failures_of}
 use Rattle.dconf_cli.specs.Outputs.{GrewByPart, Leaves, PrintsLine, PrintsText}
 use Rattle.dconf_streams.proofs.TransferLaws.{Grew-nil}
-use Rattle.dconf_streams.specs.Streams.{NoneFailed, Rose, one_more}
+use Rattle.dconf_streams.specs.Streams.{NoneFailed, one_more}
 
 -- no count rises where nothing failed
-pub not_rose : (old new : ℕ) → NoneFailed old new → Rose old new → ⊥
+pub not_rose : (old new : ℕ) → NoneFailed old new → IsOneMore old new → ⊥
 not_rose old new none (inl one) = let same = none.same in omega arith
 not_rose old new none (inr most) = let told = none.told in let is = most.1 in omega arith
 
