@@ -1,21 +1,13 @@
 -- What is told where there is no answer.
-use Rattle.std.proofs.Common.{◌≡◌, ◌↔◌, ℕ, Bool, true, false, cond, List, Option, Some, None, inl, inr, refl, ap, sym, subst, subst₂, arith}
+use Rattle.std.proofs.Common.{◌≡◌, ◌↔◌, ℕ, Bool, true, false, List, Option, Some, None, inl, inr, refl, ap, sym, subst, arith}
 use Rattle.std.specs.Option.{unwrap_or}
 use Rattle.std.specs.Prelude.{IfNone, IfSome, IsSome, Err, option_map}
-use Rattle.gv_model.specs.Decode.{decode}
-use Rattle.gv_model.specs.Normal.{IsNormal}
-use Rattle.gv_model.specs.Printed.{is_too_large}
-use Rattle.gv_model.specs.Ty.{Ty}
-use Rattle.gv_model.specs.TypeText.{type_at}
-use Rattle.dconf_model.specs.Changes.{Change}
-use Rattle.dconf_model.specs.Changes.Change.{set_value}
 use Rattle.dconf_model.specs.Lines.{LineFault}
 use Rattle.dconf_model.specs.Paths.{ends_with_slash}
 use Rattle.dconf_model.specs.Profiles.{databases_in}
 use Rattle.dconf_model.specs.Salvaging.{IsKeyText}
 use Rattle.dconf_model.proofs.PathMaps.{no_truth}
-use Rattle.dconfdb_calls.specs.Changed.{IsBadPathOf, IsBadResetOf, SetsNormal, SetsShallow, change_meant, value_of}
-use Rattle.dconfdb_calls.specs.declared.changes.DconfdbChange.{DconfdbChange}
+use Rattle.dconfdb_calls.specs.Changed.{IsBadPathOf, IsBadResetOf}
 use Rattle.dconfdb_calls.specs.Given.{IsDirectory}
 use Rattle.dconfdb_calls.specs.GoodLines.{IsLineFault, of_profile, own_line}
 use Rattle.dconfdb_calls.specs.Named.{IsNoProfile, cause_number}
@@ -33,19 +25,6 @@ bad_directory sets path s e bad = subst (λ (b : Bool). IsBadPathOf b path) (sym
 pub bad_key : (sets : Bool) (path : List ℕ) → (sets ≡ false → ends_with_slash path ≡ false) → ¬ IsKeyText path → IsBadPathOf sets path
 bad_key true path e bad = bad
 bad_key false path e bad = subst (λ (b : Bool). IsBadResetOf b path) (sym (e refl)) bad
-
--- ---- what is set
-
-shallow_set : (sets : Bool) (set other : Change) → sets ≡ true → SetsShallow (cond sets set other) → SetsShallow set
-shallow_set true set other e h = h
-shallow_set false set other e h = absurd (no_truth e)
-
-pub normal_asked : (c : DconfdbChange) (t : Ty) (b : List ℕ) → t ≡ type_at c.type_text.now → b ≡ c.value.now → (is_too_large (decode t b) ≡ false → IsNormal t b) →
-    SetsShallow (change_meant c) → SetsNormal c
-normal_asked c t b typed same good shallow sets =
-    let set = set_value c.path.now (value_of c) in
-    let fits : is_too_large (value_of c) ≡ false = shallow_set c.sets set _ sets shallow in
-    subst₂ IsNormal typed same (good (subst₂ (λ (u : Ty) (d : List ℕ). is_too_large (decode u d) ≡ false) (sym typed) (sym same) fits))
 
 -- ---- numbers
 

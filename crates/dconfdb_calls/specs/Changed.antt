@@ -1,11 +1,7 @@
 -- The changes that C asks for, and the user's database with them.
 use Rattle.std.specs.Prelude.{◌≡◌, ◌⊎◌, ℕ, List, [], ◌∷◌, Result, Ok, Err, Some, Bool, true, false, IsTrue, slice_get, take, if◌then◌else◌}
-use Rattle.gv_view.specs.Views.{value}
-use Rattle.dconf_path.specs.Paths.{directory_text, key_text}
 use Rattle.dconf_engine.specs.declared.change_fault.ChangeFault.{ChangeFault}
 use Rattle.dconf_engine.specs.declared.change_fault.ChangeFault.TheVariants as refused
-use Rattle.dconfdb_calls.specs.declared.changes.ParsedChange.{ParsedChange}
-use Rattle.dconfdb_calls.specs.declared.changes.ParsedChange.TheVariants.{Set, Reset, ResetBelow}
 use Rattle.gv_model.specs.Printed.{is_too_large}
 use Rattle.gv_model.specs.Tree.{Tree}
 use Rattle.gv_model.specs.TypeText.{type_at}
@@ -53,12 +49,6 @@ pub record IsChanged (l : Layers) (changes : List DconfdbChange) (file : List �
   pub changed : AreMadeInTurn changes l after
   pub saved_is : IsDatabaseOf (saved after.layers) file
 
--- what is asked
-abbrev pub parsed_change : ParsedChange → Change
-parsed_change (Set path v) = set_value (key_text path) (value v)
-parsed_change (Reset path) = reset_value (key_text path)
-parsed_change (ResetBelow directory) = reset_below_directory (directory_text directory)
-
 -- ---- refusals
 
 -- the fault of a change that the engine refuses
@@ -93,14 +83,6 @@ IsSetInVain l path v fault = IsRefusal (apply l (set_value path v)) fault
 abbrev pub IsChangedInVain : Layers → Change → Fault → Type 0
 IsChangedInVain l (set_value path v) fault = IsSetInVain l path v fault
 IsChangedInVain l change fault = IsRefusal (apply l change) fault
-
--- a value that is set is not too deep to be copied
-abbrev pub SetsShallow : Change → Type 0
-SetsShallow (set_value path v) = is_too_large v ≡ false
-SetsShallow change = Unit {0}
-
-abbrev pub IsAskedInVain : Layers → ParsedChange → Fault → Type 0
-IsAskedInVain l asked fault = IsChangedInVain l (parsed_change asked) fault
 
 -- the path of what is reset is no directory's, if it ends in `/`, and else no key's
 abbrev pub IsBadResetOf : Bool → List ℕ → Type 0

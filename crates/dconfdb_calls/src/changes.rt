@@ -8,14 +8,14 @@ ghost use Rattle.dconf_model.specs.Changes.{apply, Change.set_value};
 ghost use Rattle.dconf_path.specs.Paths.{key_text};
 ghost use Rattle.dconf_model.specs.Databases.{IsDatabaseOf};
 ghost use Rattle.dconf_model.specs.Stores.{IsLimitedValue, IsWholeChange};
-ghost use Rattle.dconfdb_calls.specs.Changed.{AreMadeInTurn, IsAskedInVain, IsBadValue, IsChanged, IsMalformed, IsNoChange, IsRefusedFor, IsSetInVain, SetsNormal, SetsShallow, at_of, change_meant, parsed_change, with_fault};
+ghost use Rattle.dconfdb_calls.specs.Changed.{AreMadeInTurn, IsBadValue, IsChanged, IsNoChange, IsRefusedFor, IsSetInVain, SetsNormal, at_of, change_meant, with_fault};
 ghost use Rattle.dconfdb_calls.specs.Seen.{layers_of};
 
 use crate::fault::Fault;
 use crate::given::{directory_path, key_path, view_of};
 use dconf_engine::{ChangeFault, Engine};
 use dconf_layers::Layer;
-use dconf_path::{DirPath, KeyPath};
+use dconf_path::KeyPath;
 use gv_normal::is_normal;
 use gv_view::{View, ViewFault};
 use gvdb_write::WriteFault;
@@ -107,45 +107,7 @@ fn make_all(
     Ok(())
 }
 
-/// A change that can be made.
-#[derive(Clone, Copy)]
-enum ParsedChange<'a> {
-    /// A key gets a value.
-    Set(KeyPath<'a>, View<'a>),
-    /// A key's value of the user's goes.
-    Reset(KeyPath<'a>),
-    /// The user's values of all keys below a directory go, except those that are locked.
-    ResetBelow(DirPath<'a>),
-}
-
-impl<'a> DconfdbChange<'a> {
-    /// What is asked, or why it can't be.
-    fn asked(&self) -> Result<ParsedChange<'a>, Fault>
-        ensures asked { IfOk result (λ asked. parsed_change asked ≡ change_meant self.now) }
-        ensures normal { IfOk result (λ asked. SetsShallow (change_meant self.now) → SetsNormal self.now) }
-        ensures fault { IfErr result (IsMalformed self.now) }
-    {
-        if !self.sets && self.path.ends_with(b"/") {
-            return match directory_path(self.path) {
-                Some(directory) => Ok(ParsedChange::ResetBelow(directory)),
-                None => Err(Fault::BadPath),
-            };
-        }
-        let Some(path) = key_path(self.path) else {
-            return Err(Fault::BadPath);
-        };
-        if !self.sets {
-            return Ok(ParsedChange::Reset(path));
-        }
-        let Some(value) = view_of(self.type_text, self.value) else {
-            return Err(Fault::BadType);
-        };
-        if is_bad(value) {
-            return Err(Fault::BadValue);
-        }
-        Ok(ParsedChange::Set(path, value))
-    }
-
+impl DconfdbChange<'_> {
     /// Makes the change, or leaves the engine as it was.
     fn make(self, alloc: Global, engine: &mut Engine<'_>) -> Result<(), Fault>
         ensures ok { OnOk result (apply engine.old (change_meant self.entry) ≡ Ok engine.new) }
@@ -153,24 +115,25 @@ impl<'a> DconfdbChange<'a> {
         ensures normal { OnOk result (SetsNormal self.entry) }
         ensures fault { IfErr result (IsRefusedFor engine.old self.entry) }
     {
-        let asked = self.asked()?;
-        asked.make(alloc, engine)
-    }
-}
-
-impl ParsedChange<'_> {
-    /// Makes the change, or leaves the engine as it was.
-    fn make(self, alloc: Global, engine: &mut Engine<'_>) -> Result<(), Fault>
-        ensures ok { OnOk result (apply engine.old (parsed_change self.entry) ≡ Ok engine.new) }
-        ensures whole { OnOk result (IsWholeChange (parsed_change self.entry)) }
-        ensures shallow { OnOk result (SetsShallow (parsed_change self.entry)) }
-        ensures fault { IfErr result (IsAskedInVain engine.old self.entry) }
-    {
-        match self {
-            ParsedChange::Set(path, value) => set(alloc, path, value, engine),
-            ParsedChange::Reset(path) => or_fault(engine.reset(path)),
-            ParsedChange::ResetBelow(directory) => or_fault(engine.reset_dir(directory)),
+        if !self.sets && self.path.ends_with(b"/") {
+            return match directory_path(self.path) {
+                Some(directory) => or_fault(engine.reset_dir(directory)),
+                None => Err(Fault::BadPath),
+            };
         }
+        let Some(path) = key_path(self.path) else {
+            return Err(Fault::BadPath);
+        };
+        if !self.sets {
+            return or_fault(engine.reset(path));
+        }
+        let Some(value) = view_of(self.type_text, self.value) else {
+            return Err(Fault::BadType);
+        };
+        if is_bad(value) {
+            return Err(Fault::BadValue);
+        }
+        set(alloc, path, value, engine)
     }
 }
 
