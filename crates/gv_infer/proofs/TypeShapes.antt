@@ -14,20 +14,12 @@ use Rattle.gv_infer.specs.BareTypes.{bare_type, AreEntryTypes}
 -- a maybe holds its element
 pub maybe_of : (t : Ty) (c : Class) (e : Option TypeStr) (u : TypeStr) → c ≡ class_of t → c ≡ classes.Maybe → option_map ty e ≡ element_of t → e ≡ Some u → t ≡ maybe (ty u)
 maybe_of (maybe t) c e u h g m s = cc
-maybe_of (basic k) c e u h g m s = absurd cc
-maybe_of variant c e u h g m s = absurd cc
-maybe_of (array t) c e u h g m s = absurd cc
-maybe_of (tuple ts) c e u h g m s = absurd cc
-maybe_of (entry k t) c e u h g m s = absurd cc
+maybe_of _ c e u h g m s = absurd cc
 
 -- and so does an array
 pub array_of : (t : Ty) (c : Class) (e : Option TypeStr) (u : TypeStr) → c ≡ class_of t → c ≡ classes.Array → option_map ty e ≡ element_of t → e ≡ Some u → t ≡ array (ty u)
 array_of (array t) c e u h g m s = cc
-array_of (basic k) c e u h g m s = absurd cc
-array_of variant c e u h g m s = absurd cc
-array_of (maybe t) c e u h g m s = absurd cc
-array_of (tuple ts) c e u h g m s = absurd cc
-array_of (entry k t) c e u h g m s = absurd cc
+array_of _ c e u h g m s = absurd cc
 
 pub bare_none : (t : Ty) → class_of t ≢ classes.Maybe → t ≡ bare_type t
 bare_none (maybe t) h = absurd (h refl)
@@ -54,17 +46,9 @@ less_than_maybe t u e = rw e (omega arith)
 pub entry_types_of : (t : Ty) (o : Option TypeStr) (key a b : TypeStr) (left rest : List Ty) → option_map ty o ≡ key_of t → o ≡ Some key → type_list (members t) ≡ ty a ∷ left → left ≡ ty b ∷ rest → AreEntryTypes t (Some (key, b))
 unfolding type_list
 entry_types_of (entry k t) o key a b left rest h e g f = (cc, cc)
-entry_types_of (basic k) o key a b left rest h e g f = absurd cc
-entry_types_of variant o key a b left rest h e g f = absurd cc
-entry_types_of (array t) o key a b left rest h e g f = absurd cc
-entry_types_of (maybe t) o key a b left rest h e g f = absurd cc
-entry_types_of (tuple ts) o key a b left rest h e g f = absurd cc
+entry_types_of _ o key a b left rest h e g f = absurd cc
 
 pub entry_has_two : (t : Ty) (o : Option TypeStr) (key : TypeStr) → option_map ty o ≡ key_of t → o ≡ Some key → (type_list (members t) ≡ [] → ⊥) × ((a : TypeStr) (left : List Ty) → type_list (members t) ≡ ty a ∷ left → left ≡ [] → ⊥)
 unfolding type_list
 entry_has_two (entry k t) o key h e = (λ f. absurd cc, λ a left g f. absurd cc)
-entry_has_two (basic k) o key h e = absurd cc
-entry_has_two variant o key h e = absurd cc
-entry_has_two (array t) o key h e = absurd cc
-entry_has_two (maybe t) o key h e = absurd cc
-entry_has_two (tuple ts) o key h e = absurd cc
+entry_has_two _ o key h e = absurd cc
