@@ -1,5 +1,5 @@
 -- The texts of maybes.
-use Rattle.std.proofs.Common.{◌≡◌, ◌≤◌, ◌<◌, ◌+◌, ◌⊎◌, inl, inr, ℕ, suc, List, ◌++◌, Bool, true, false, Some, None, Result, refl, sym, ap, ◌∙◌, arith, append_assoc}
+use Rattle.std.proofs.Common.{◌≡◌, ◌≤◌, ◌<◌, ◌+◌, ℕ, suc, List, ◌++◌, Bool, true, false, Some, None, Result, refl, sym, ap, ◌∙◌, arith, append_assoc}
 use Rattle.std.specs.Prelude.{codes}
 use Rattle.std.proofs.lemmas.Result.{MatchResult-weaker}
 use Rattle.std.proofs.lemmas.Option.{none-some, same_Some}
@@ -93,16 +93,13 @@ other_ends (array t) b h = ap ends_in_nothing (value_node (array t) b tt)
 other_ends (tuple ts) b h = ap ends_in_nothing (value_node (tuple ts) b tt)
 other_ends (entry k t) b h = ap ends_in_nothing (value_node (entry k t) b tt)
 
-maybe_or_not : (t : Ty) → (class_of t ≡ classes.Maybe) ⊎ (class_of t ≡ classes.Maybe → ⊥)
-maybe_or_not (maybe t) = inl refl
-maybe_or_not _ = inr (λ e. absurd cc)
-
 pub ends_class : (t : Ty) (b : List ℕ) → ends_in_nothing (decode t b) ≡ true → class_of t ≡ classes.Maybe
-ends_class t b h = go (maybe_or_not t)
-  where
-    go : (class_of t ≡ classes.Maybe) ⊎ (class_of t ≡ classes.Maybe → ⊥) → class_of t ≡ classes.Maybe
-    go (inl is) = is
-    go (inr other) = absurd (false≢true (sym (other_ends t b other) ∙ h))
+ends_class (maybe t) b h = refl
+ends_class (basic k) b h = absurd (false≢true (sym (other_ends (basic k) b (λ e. absurd cc)) ∙ h))
+ends_class variant b h = absurd (false≢true (sym (other_ends variant b (λ e. absurd cc)) ∙ h))
+ends_class (array t) b h = absurd (false≢true (sym (other_ends (array t) b (λ e. absurd cc)) ∙ h))
+ends_class (tuple ts) b h = absurd (false≢true (sym (other_ends (tuple ts) b (λ e. absurd cc)) ∙ h))
+ends_class (entry k t) b h = absurd (false≢true (sym (other_ends (entry k t) b (λ e. absurd cc)) ∙ h))
 
 node_level : (t : Ty) → depth (node (maybe t) none) ≡ 1
 unfolding depth greatest_depth
