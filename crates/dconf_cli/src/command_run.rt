@@ -4,7 +4,7 @@ ghost use Rattle.dconf_model.specs.Folders.{Event};
 ghost use Rattle.dconf_model.specs.Outcomes.{Output};
 ghost use Rattle.dconf_model.specs.Reads.{Input};
 ghost use Rattle.dconf_model.specs.Runs.{Ran, RanCalmly};
-ghost use Rattle.dconf_command.specs.Commands.{command_of};
+ghost use Rattle.dconf_args.specs.Commands.{command_of};
 ghost use Rattle.dconf_streams.specs.Counted.{CameToEnd, failures_of};
 ghost use Rattle.dconf_streams.specs.Inputs.{ReadsText, Took};
 ghost use Rattle.dconf_streams.specs.Streams.{NoneFailed};
@@ -13,7 +13,7 @@ ghost use Rattle.dconf_cli.specs.Outputs.{Leaves};
 ghost use Rattle.dconf_cli.specs.Runs.{KeepsFiles, RanAnywhere, SaysFailedInput};
 
 use crate::outcome::give;
-use dconf_command::Command;
+use dconf_args::Command;
 use dconf_commands::answered;
 use dconf_disk::Folder;
 use dconf_streams::Counted;

@@ -1,5 +1,5 @@
 //! A run of a command of `dconfdb` on a folder and three streams. What the words of a command line ask for is
-//! dconf_command's, what a command answers is dconf_commands', and how it reads and writes is dconf_streams'.
+//! dconf_args's, what a command answers is dconf_commands', and how it reads and writes is dconf_streams'.
 //!
 //! A command reads, decides what it answers, and then writes: a file first, where it changes one, and then a text to
 //! out, or one line to err.
@@ -14,5 +14,5 @@ mod command_run;
 mod outcome;
 
 pub use command_run::run;
-pub use dconf_command::{Asked, Command, command};
+pub use dconf_args::{Asked, Command, command};
 pub use dconf_streams::{Counted, InputFault, read_input};

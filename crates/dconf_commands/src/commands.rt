@@ -3,7 +3,7 @@ ghost use Rattle.std.specs.Prelude.{◌≡◌, ◌≢◌, OnOk, codes, false, tr
 ghost use Rattle.dconf_model.specs.FaultTexts.{device_text};
 ghost use Rattle.dconf_model.specs.Outcomes.{IsOutcome};
 ghost use Rattle.dconf_model.specs.Reads.{Input};
-ghost use Rattle.dconf_command.specs.Commands.{command_of};
+ghost use Rattle.dconf_args.specs.Commands.{command_of};
 ghost use Rattle.dconf_streams.specs.Answers.{RefusesFor};
 ghost use Rattle.dconf_streams.specs.Counted.{CameToEnd, failures_of};
 ghost use Rattle.dconf_streams.specs.Inputs.{ReadsText, Took};
@@ -25,7 +25,7 @@ mod write;
 
 use check::check;
 use compile::compile;
-use dconf_command::Command;
+use dconf_args::Command;
 use dconf_disk::Folder;
 use dconf_streams::{Answer, Counted, Refusal};
 use dump::dump;

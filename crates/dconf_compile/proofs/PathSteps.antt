@@ -16,7 +16,7 @@ use Rattle.keyfile_core.specs.Rows.{row_meant}
 use Rattle.dconf_compile.specs.Added.{IsReadRow}
 use Rattle.dconf_compile.specs.LineStops.{at_line}
 use Rattle.dconf_compile.specs.PathedRows.{AtPath, IsPathed, at_path, pathed_meant, row_loaded, rows_given}
-use Rattle.dconf_compile.specs.declared.loading.PathedRow.{PathedRow}
+use Rattle.dconf_compile.specs.declared.load.PathedRow.{PathedRow}
 use Rattle.dconf_compile.proofs.RowPaths.{key_where_short}
 
 -- ---- paths

@@ -2,8 +2,8 @@
 use Rattle.std.specs.Prelude.{Bool, map, Result}
 use Rattle.dconf_model.specs.Lines.{LineFault}
 use Rattle.dconf_model.specs.Sources.{Loaded as TheLoaded}
-use Rattle.dconf_compile.specs.declared.loading.RowsBelow.{RowsBelow}
-use Rattle.dconf_compile.specs.declared.loading.Loaded.{Loaded}
+use Rattle.dconf_compile.specs.declared.load.RowsBelow.{RowsBelow}
+use Rattle.dconf_compile.specs.declared.load.Loaded.{Loaded}
 use Rattle.dconf_compile.specs.PathedRows.{pathed_meant, rows_given, values_of}
 
 -- what they give, or the first line at fault

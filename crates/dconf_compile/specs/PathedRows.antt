@@ -8,7 +8,7 @@ use Rattle.dconf_model.specs.Sources.{Assigned, Loaded, nothing_loaded, row_read
 use Rattle.dconf_model.specs.Values.{value_of_text}
 use Rattle.dconf_path.specs.declared.path.KeyPath.{KeyPath}
 use Rattle.dconf_path.specs.Paths.{key_text}
-use Rattle.dconf_compile.specs.declared.loading.PathedRow.{PathedRow}
+use Rattle.dconf_compile.specs.declared.load.PathedRow.{PathedRow}
 
 -- a row by the path of its key
 pub record AtPath : Type 0 where

@@ -10,22 +10,22 @@
 //! ```
 #![tactic(auto)]
 
-mod adding;
-mod compiling;
+mod database;
 mod fault;
+mod keyfiles;
 mod line_stop;
-mod loading;
-mod locking;
+mod load;
+mod locks;
 mod order;
 mod rows;
 mod source;
 mod value;
 mod value_cause;
 
-pub use compiling::compile;
+pub use database::compile;
 pub use fault::{CompileCause, CompileFault, FileRef};
 pub use line_stop::LineStop;
-pub use loading::{Loaded, RowsBelow};
+pub use load::{Loaded, RowsBelow};
 pub use source::Source;
 pub use value::value_of_text;
 pub use value_cause::ValueCause;

@@ -37,7 +37,7 @@ mod lock;
 mod memory;
 mod modes;
 mod record;
-mod replacing;
+mod replacement;
 
 pub use fault::FolderFault;
 pub use folder::{Folder, LARGEST_FILE};
@@ -45,4 +45,4 @@ pub use host::{StdFolder, folder_of};
 pub use lock::{FolderLock, LockFault};
 pub use memory::MemoryFolder;
 pub use record::Record;
-pub use replacing::replace;
+pub use replacement::replace;

@@ -14,7 +14,7 @@ use Rattle.dconfdb_calls.specs.declared.fault.Fault.{Fault}
 use Rattle.dconfdb_calls.specs.declared.fault.Fault.TheVariants.{Memory, TooBig, Unsound}
 use Rattle.dconfdb_calls.specs.declared.opened.BadFile.{BadFile}
 use Rattle.dconf_found.specs.Counts.{CountsBad, IsOfNoDatabase, SoundCountsAsItself, nothing_of}
-use Rattle.dconf_found.specs.declared.counting.Loss.{Loss}
+use Rattle.dconf_found.specs.declared.bad_databases.Loss.{Loss}
 
 pub not_keyless : (file : List ℕ) → IsNotKeyless file Unsound → (mended : List ℕ) → ¬ IsKeyless file mended
 not_keyless file (inl e) = cc

@@ -10,7 +10,7 @@ use Rattle.dconfdb_calls.specs.Salvaged.{IsSalvageOf}
 use Rattle.dconfdb_calls.specs.declared.fault.Fault.{Fault}
 use Rattle.dconfdb_calls.specs.declared.fault.Fault.TheVariants.{Memory, TooBig}
 use Rattle.dconfdb_calls.specs.declared.opened.BadFile.{BadFile}
-use Rattle.dconf_found.specs.declared.counting.Loss.{Loss}
+use Rattle.dconf_found.specs.declared.bad_databases.Loss.{Loss}
 
 -- dconf made it of no key: the sound database that it stands for
 abbrev pub CountsKeyless : List ℕ → Option (List ℕ) → Option Loss → Type 0

@@ -6,7 +6,7 @@ use Rattle.dconf_model.specs.Paths.{starts_with_slash}
 use Rattle.dconf_model.specs.Reads.{IsOverSize}
 use Rattle.dconf_found.specs.Counts.{Counts, IsTooBigToCount}
 use Rattle.dconf_found.specs.declared.bad.BadDatabase.{BadDatabase}
-use Rattle.dconf_found.specs.declared.counting.Loss.{Loss}
+use Rattle.dconf_found.specs.declared.bad_databases.Loss.{Loss}
 use Rattle.dconf_found.specs.declared.lookup.Lookup.{Lookup}
 
 -- ---- what is lost of databases

@@ -2,7 +2,7 @@
 ghost use Rattle.std.specs.Prelude.{◌≡◌, ◌∷◌, ◌++◌, [], OnErr, OnOk};
 ghost use Rattle.dconf_found.specs.Lookups.{losses};
 
-use crate::counting::Loss;
+use crate::bad_databases::Loss;
 use std::alloc::{AllocError, Global};
 
 /// A database that was bad when it was read.

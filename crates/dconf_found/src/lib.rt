@@ -12,10 +12,10 @@
 #![tactic(auto)]
 
 mod bad;
-mod counting;
+mod bad_databases;
 mod found;
 mod lookup;
 
 pub use bad::BadDatabase;
-pub use counting::{Counting, Loss, counted};
+pub use bad_databases::{Counting, Loss, counted};
 pub use found::FoundFolder;

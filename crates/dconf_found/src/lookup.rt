@@ -4,10 +4,10 @@ ghost use Rattle.dconf_model.specs.Folders.{Event, read_content};
 ghost use Rattle.dconf_model.specs.Reads.{IsOverSize};
 ghost use Rattle.dconf_found.specs.Counts.{Counts, IsTooBigToCount};
 ghost use Rattle.dconf_found.specs.Lookups.{IsDatabaseGiven, IsLookedUp, IsProfile, IsTooBigAt, IsTooBigDatabase, IsTooBigProfile, is_nowhere, losses, losses_of};
-ghost use Rattle.dconf_found.specs.declared.counting.Loss.{Loss};
+ghost use Rattle.dconf_found.specs.declared.bad_databases.Loss.{Loss};
 
 use crate::bad::{BadDatabase, note};
-use crate::counting::counted;
+use crate::bad_databases::counted;
 use dconf_disk::{Folder, FolderFault, LARGEST_FILE};
 use std::alloc::Global;
 

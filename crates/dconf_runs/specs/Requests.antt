@@ -1,7 +1,7 @@
 -- The model's command and input of a request.
 use Rattle.std.specs.Prelude.{false}
 use Rattle.dconf_model.specs.Survivals.{AskedCommand}
-use Rattle.dconf_command.specs.Commands.{command_of}
+use Rattle.dconf_args.specs.Commands.{command_of}
 use Rattle.dconf_runs.specs.declared.request.Request.{Request}
 
 abbrev pub asked_of : Request → AskedCommand

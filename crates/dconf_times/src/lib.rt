@@ -15,9 +15,9 @@
 #![tactic(auto)]
 
 mod laws;
-mod noting;
+mod notes;
 mod times;
 
 pub use laws::the_latest_stands;
-pub use noting::note_times;
+pub use notes::note_times;
 pub use times::{DconfdbTime, is_overtaken};

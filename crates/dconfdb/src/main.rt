@@ -1,20 +1,20 @@
 //! The program `dconfdb`: the words, the streams and the folder of the store, handed to dconf_cli, when it is this program's turn.
 #![tactic(auto)]
 
-mod finding;
-mod keeping;
-mod running;
-mod saying;
+mod find;
+mod keep;
+mod messages;
+mod runs;
 mod sources;
-mod updating;
+mod updates;
 
-use dconf_command::{Asked, command};
-use running::run_at;
-use saying::{NO_MEMORY, USAGE, refuse};
+use dconf_args::{Asked, command};
+use messages::{NO_MEMORY, USAGE, refuse};
+use runs::run_at;
 use std::env;
 use std::io::ErrorKind;
 use std::process::ExitCode;
-use updating::update;
+use updates::update;
 
 /// Runs the command that the words ask for, and ends with its status.
 ///

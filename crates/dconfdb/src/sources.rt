@@ -1,5 +1,5 @@
 //! The sources in the current folder, of which `update` makes databases.
-use dconf_command::{SourceFile, SourceFolder};
+use dconf_args::{SourceFile, SourceFolder};
 use std::alloc::{AllocError, Global};
 use std::fs::{self, Metadata};
 use std::io::{self, ErrorKind};

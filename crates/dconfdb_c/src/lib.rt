@@ -4,18 +4,18 @@
 //! C owns all memory. A call keeps nothing and frees nothing of the caller's.
 #![tactic(auto)]
 
-mod changing;
+mod change;
 mod due;
-mod expecting;
-mod getting;
-mod listing;
-mod looking;
-mod opening;
-mod ordering;
+mod get;
+mod list;
+mod look;
+mod open;
+mod order;
 mod parsing;
 mod printing;
-mod queueing;
-mod reading;
-mod repairing;
-mod turning;
-mod waiting;
+mod queue;
+mod read;
+mod repair;
+mod since;
+mod turn;
+mod wait;

@@ -16,7 +16,7 @@
 #![tactic(auto)]
 
 mod changes;
-mod comparing;
+mod compare;
 mod differences;
 mod fault;
 mod given;
@@ -32,7 +32,7 @@ mod since;
 mod values;
 
 pub use changes::{DconfdbChange, Refused, user_file};
-pub use comparing::is_stored;
+pub use compare::is_stored;
 pub use differences::{differing_keys, keys_differing_first};
 pub use fault::Fault;
 pub use given::hand_out;

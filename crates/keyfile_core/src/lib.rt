@@ -18,9 +18,9 @@ mod keys;
 mod lines;
 mod rows;
 mod rows_fault;
-mod writing;
+mod write;
 
 pub use fault::{KeyfileCause, KeyfileFault};
 pub use rows::{Row, read};
 pub use rows_fault::{RowsCause, RowsFault};
-pub use writing::write_rows;
+pub use write::write_rows;

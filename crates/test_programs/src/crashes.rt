@@ -1,5 +1,5 @@
 //! Crashes after a run, and after one whose k-th call of the folder failed.
-use crate::failing::store;
+use crate::failures::store;
 use crate::script::{left_on, runs};
 use crate::streams::{Source, Streams};
 use dconf_disk::Folder;

@@ -7,7 +7,7 @@ mod counted;
 #[cfg(test)]
 mod crashes;
 #[cfg(test)]
-mod failing;
+mod failures;
 #[cfg(test)]
 mod faults;
 #[cfg(test)]
@@ -17,7 +17,7 @@ mod input;
 #[cfg(test)]
 mod layers;
 #[cfg(test)]
-mod loading;
+mod loads;
 #[cfg(test)]
 mod long_type;
 #[cfg(test)]

@@ -1,7 +1,7 @@
 //! What the command of a line replaces, where its store is, the user's file of a profile, and what an update makes.
 use crate::questions::RowsOf;
 use crate::script::words_of;
-use dconf_command::{Asked, SourceFile, SourceFolder, command, updates, user_file};
+use dconf_args::{Asked, SourceFile, SourceFolder, command, updates, user_file};
 use std::alloc::{AllocError, Global};
 use std::fmt::Write;
 use std::test::Fail;

@@ -1,5 +1,5 @@
 //! Runs where the k-th write to out or to err fails.
-use crate::failing::store;
+use crate::failures::store;
 use crate::script::{bytes_of, left_on};
 use crate::streams::{Source, Streams, Writes};
 use dconf_disk::MemoryFolder;

@@ -17,7 +17,7 @@ ghost use Rattle.dconf_streams.specs.Answers.{GivesOutcome};
 ghost use Rattle.dconf_streams.specs.Readings.{Decides};
 ghost use Rattle.dconf_commands.specs.Dumps.{with_earlier};
 
-use crate::argument::directory_path;
+use crate::arguments::directory_argument;
 use crate::store_files::StoreFiles;
 use crate::walk::keys_below;
 use dconf_disk::Folder;
@@ -40,7 +40,7 @@ pub(crate) fn dump<F: Folder>(
     ensures { (input : Input) → Decides F.Folder folder.old folder.new 0
         (λ reads. IsOutcome (dump_of_directory skip_doubles directory.now profile.now) reads input) result }
 {
-    let directory = directory_path(alloc, directory)?;
+    let directory = directory_argument(alloc, directory)?;
     let profile = named_file(alloc, folder, profile)?;
     let files = StoreFiles::read(alloc, folder, &profile)?;
     let engine = files.open(alloc)?;

@@ -12,7 +12,7 @@ ghost use Rattle.dconf_streams.specs.Answers.{GivesOutcome};
 ghost use Rattle.dconf_streams.specs.Readings.{Decides};
 
 use super::origin::place_name;
-use crate::argument::key_path;
+use crate::arguments::key_argument;
 use crate::printed_value::told_value;
 use crate::store_files::StoreFiles;
 use dconf_disk::Folder;
@@ -31,7 +31,7 @@ pub(crate) fn explain<F: Folder>(
     ensures { (input : Input) → Decides F.Folder folder.old folder.new 0
         (λ reads. IsOutcome (explain_of_key key.now profile.now) reads input) result }
 {
-    let key = key_path(alloc, key)?;
+    let key = key_argument(alloc, key)?;
     let profile = named_file(alloc, folder, profile)?;
     let files = StoreFiles::read(alloc, folder, &profile)?;
     let engine = files.open(alloc)?;

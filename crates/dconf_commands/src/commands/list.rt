@@ -8,7 +8,7 @@ ghost use Rattle.dconf_path.specs.Paths.{directory_text};
 ghost use Rattle.dconf_streams.specs.Answers.{GivesOutcome};
 ghost use Rattle.dconf_streams.specs.Readings.{Decides};
 
-use crate::argument::directory_path;
+use crate::arguments::directory_argument;
 use crate::store_files::StoreFiles;
 use dconf_disk::Folder;
 use dconf_engine::Engine;
@@ -26,7 +26,7 @@ pub(crate) fn list<F: Folder>(
     ensures { (input : Input) → Decides F.Folder folder.old folder.new 0
         (λ reads. IsOutcome (list_of directory.now profile.now) reads input) result }
 {
-    let directory = directory_path(alloc, directory)?;
+    let directory = directory_argument(alloc, directory)?;
     let profile = named_file(alloc, folder, profile)?;
     let files = StoreFiles::read(alloc, folder, &profile)?;
     let engine = files.open(alloc)?;
@@ -43,7 +43,7 @@ pub(crate) fn list_locks<F: Folder>(
     ensures { (input : Input) → Decides F.Folder folder.old folder.new 0
         (λ reads. IsOutcome (list_locks_of directory.now profile.now) reads input) result }
 {
-    let directory = directory_path(alloc, directory)?;
+    let directory = directory_argument(alloc, directory)?;
     let profile = named_file(alloc, folder, profile)?;
     let files = StoreFiles::read(alloc, folder, &profile)?;
     let engine = files.open(alloc)?;

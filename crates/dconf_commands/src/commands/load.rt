@@ -18,7 +18,7 @@ ghost use Rattle.dconf_streams.specs.Readings.{Decides};
 ghost use Rattle.dconf_commands.specs.Refusals.{IsLockedPath};
 ghost use Rattle.dconf_commands.specs.Loads.{RefusedLine};
 
-use crate::argument::directory_path;
+use crate::arguments::directory_argument;
 use crate::store_files::StoreFiles;
 use crate::user_database::{change_refused, saved_saying};
 use dconf_compile::{CompileCause, LineStop, Loaded, RowsBelow};
@@ -48,7 +48,7 @@ pub(crate) fn load<F: Folder, I: Read>(
     ensures limit { ReadsText I.remaining input.old input.new }
     ensures end { OnOk result (CameToEnd input.old input.new) }
 {
-    let directory = directory_path(alloc, directory)?;
+    let directory = directory_argument(alloc, directory)?;
     load_below(
         alloc,
         force,

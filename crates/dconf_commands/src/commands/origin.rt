@@ -9,7 +9,7 @@ ghost use Rattle.dconf_path.specs.Profiles.{databases_of, kind_of};
 ghost use Rattle.dconf_streams.specs.Answers.{GivesOutcome};
 ghost use Rattle.dconf_streams.specs.Readings.{Decides};
 
-use crate::argument::key_path;
+use crate::arguments::key_argument;
 use crate::store_files::StoreFiles;
 use dconf_disk::Folder;
 use dconf_path::{DatabaseKind, Profile};
@@ -26,7 +26,7 @@ pub(crate) fn origin<F: Folder>(
     ensures { (input : Input) → Decides F.Folder folder.old folder.new 0
         (λ reads. IsOutcome (origin_of_key key.now profile.now) reads input) result }
 {
-    let key = key_path(alloc, key)?;
+    let key = key_argument(alloc, key)?;
     let profile = named_file(alloc, folder, profile)?;
     let files = StoreFiles::read(alloc, folder, &profile)?;
     let engine = files.open(alloc)?;

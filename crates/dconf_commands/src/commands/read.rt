@@ -8,7 +8,7 @@ ghost use Rattle.dconf_path.specs.Paths.{key_text};
 ghost use Rattle.dconf_streams.specs.Answers.{GivesOutcome};
 ghost use Rattle.dconf_streams.specs.Readings.{Decides};
 
-use crate::argument::key_path;
+use crate::arguments::key_argument;
 use crate::printed_value::printed;
 use crate::store_files::StoreFiles;
 use dconf_disk::Folder;
@@ -28,7 +28,7 @@ pub(crate) fn read<F: Folder>(
     ensures { (input : Input) → Decides F.Folder folder.old folder.new 0
         (λ reads. IsOutcome (read_of default key.now profile.now) reads input) result }
 {
-    let key = key_path(alloc, key)?;
+    let key = key_argument(alloc, key)?;
     let profile = named_file(alloc, folder, profile)?;
     let files = StoreFiles::read(alloc, folder, &profile)?;
     let engine = files.open(alloc)?;

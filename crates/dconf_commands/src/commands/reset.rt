@@ -5,13 +5,13 @@ ghost use Rattle.dconf_model.specs.Commands.Command.{reset as reset_of_key, rese
 ghost use Rattle.dconf_model.specs.Outcomes.{IsOutcome, Saves};
 ghost use Rattle.dconf_model.specs.Profiles.{user_file};
 ghost use Rattle.dconf_model.specs.Reads.{Input};
-ghost use Rattle.dconf_command.specs.Commands.{resetting};
+ghost use Rattle.dconf_args.specs.Commands.{resetting};
 ghost use Rattle.dconf_path.specs.Paths.{directory_text, key_text};
 ghost use Rattle.dconf_path.specs.Profiles.{databases_of};
 ghost use Rattle.dconf_streams.specs.Answers.{GivesOutcome};
 ghost use Rattle.dconf_streams.specs.Readings.{Decides};
 
-use crate::argument::{directory_path, key_path};
+use crate::arguments::{directory_argument, key_argument};
 use crate::store_files::StoreFiles;
 use crate::user_database::{change_refused, saved};
 use dconf_disk::Folder;
@@ -48,7 +48,7 @@ fn reset_key<F: Folder>(
     ensures { (input : Input) → Decides F.Folder folder.old folder.new 0
         (λ reads. IsOutcome (reset_of_key key.now profile.now) reads input) result }
 {
-    let key = key_path(alloc, key)?;
+    let key = key_argument(alloc, key)?;
     let profile = named_file(alloc, folder, profile)?;
     let files = StoreFiles::read(alloc, folder, &profile)?;
     let engine = files.open(alloc)?;
@@ -65,7 +65,7 @@ fn reset_below<F: Folder>(
     ensures { (input : Input) → Decides F.Folder folder.old folder.new 0
         (λ reads. IsOutcome (reset_of_directory directory.now profile.now) reads input) result }
 {
-    let directory = directory_path(alloc, directory)?;
+    let directory = directory_argument(alloc, directory)?;
     let profile = named_file(alloc, folder, profile)?;
     let files = StoreFiles::read(alloc, folder, &profile)?;
     let engine = files.open(alloc)?;

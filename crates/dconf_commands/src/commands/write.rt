@@ -10,7 +10,7 @@ ghost use Rattle.dconf_path.specs.Profiles.{databases_of};
 ghost use Rattle.dconf_streams.specs.Answers.{GivesOutcome};
 ghost use Rattle.dconf_streams.specs.Readings.{Decides};
 
-use crate::argument::{key_path, word_value};
+use crate::arguments::{key_argument, value_argument};
 use crate::store_files::StoreFiles;
 use crate::user_database::{change_refused, saved};
 use dconf_disk::Folder;
@@ -31,8 +31,8 @@ pub(crate) fn write<F: Folder>(
     ensures { (input : Input) → Decides F.Folder folder.old folder.new 0
         (λ reads. IsOutcome (write_of key.now value.now profile.now) reads input) result }
 {
-    let key = key_path(alloc, key)?;
-    let value = word_value(alloc, value)?;
+    let key = key_argument(alloc, key)?;
+    let value = value_argument(alloc, value)?;
     let profile = named_file(alloc, folder, profile)?;
     let files = StoreFiles::read(alloc, folder, &profile)?;
     let engine = files.open(alloc)?;

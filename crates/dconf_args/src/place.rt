@@ -1,0 +1,23 @@
+//! Where the store of a command is, and what a whole command line asks for.
+
+use crate::commands::Command;
+
+/// Where the store of a command is, as the words say. None of them: it is the current folder, and its profile.
+#[derive(Debug, Drop)]
+pub struct Place {
+    /// It is the user's own, `--user`.
+    pub is_users: bool,
+    /// The folder that it is in, `--store`.
+    pub folder: Option<String>,
+    /// The file of its profile, `-p`.
+    pub profile: Option<String>,
+}
+
+/// What a command line asks for.
+#[derive(Debug, Drop)]
+pub enum Asked {
+    /// A command, and where its store is, if it is one on a store.
+    Run { command: Command, place: Place },
+    /// To make the databases of a folder whose sources are newer; if none is named, of the one for all users.
+    Update { folder: Option<String> },
+}

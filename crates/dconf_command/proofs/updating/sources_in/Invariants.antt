@@ -1,7 +1,0 @@
-use Rattle.std.proofs.Common.{◌≡◌, map, string_bytes, take}
-use Rattle.dconf_model.specs.Updates.{sources_in}
-use Rattle.dconf_command.specs.Updates.{file_of}
-use Rattle.dconf_command.proofs.updating.sources_in.Given as goal
-
-abbrev pub invariant-loop-file : goal.invariant-loop-file
-invariant-loop-file l = map string_bytes l.names.items ≡ sources_in l.start (map file_of (take l.file-index l.files))

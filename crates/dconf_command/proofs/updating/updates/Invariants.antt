@@ -1,8 +1,0 @@
-use Rattle.std.proofs.Common.{◌≡◌, map, take}
-use Rattle.dconf_model.specs.Updates.{updates}
-use Rattle.dconf_command.specs.Commands.{command_of}
-use Rattle.dconf_command.specs.Updates.{folder_of}
-use Rattle.dconf_command.proofs.updating.updates.Given as goal
-
-abbrev pub invariant-loop-folder : goal.invariant-loop-folder
-invariant-loop-folder l = map command_of l.commands.items ≡ updates (map folder_of (take l.folder-index l.folders))

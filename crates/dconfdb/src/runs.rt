@@ -1,0 +1,206 @@
+//! A run of a command where its store is, when it is this program's turn.
+ghost use Rattle.std.specs.Prelude.{◌≡◌, ◌&&◌, List, IsTrue, false};
+ghost use Rattle.dconf_model.specs.Folders.{Event};
+ghost use Rattle.dconf_model.specs.Outcomes.{Output};
+ghost use Rattle.dconf_model.specs.Reads.{Input};
+ghost use Rattle.dconf_model.specs.Runs.{Ran, RanCalmly};
+ghost use Rattle.dconf_args.specs.Commands.{command_of};
+ghost use Rattle.dconf_disk.specs.StdFolders.{can_write, events_of, failures_of, is_honest};
+ghost use Rattle.dconf_streams.specs.Streams.{NoneFailed};
+ghost use Rattle.dconf_found.specs.FoundFolders as found;
+ghost use Rattle.dconf_found.specs.FoundFolders.{IsPast, agrees, inner_of};
+
+use crate::find::{Found, NotFound, enter};
+use crate::keep::{forget, keep};
+use crate::messages::{REFUSED, refuse, refuse_device, refuse_memory, refuse_place, say_bad};
+use dconf_args::{Command, Place, Replaced, user_file};
+use dconf_cli::{Counted, run};
+use dconf_disk::{Folder, FolderFault, FolderLock, LockFault, StdFolder, folder_of};
+use dconf_found::FoundFolder;
+use std::alloc::AllocError;
+
+/// Runs the command where its store is.
+pub(crate) fn run_at(rt: &HostRuntime, asked: Command, place: Place) -> u8 {
+    if !place.is_users && place.folder.is_none() {
+        return run_in_turn(rt, asked);
+    }
+    match found_for(rt, asked, place) {
+        Ok((asked, found)) => run_found(rt, asked, found),
+        Err(fault) => refuse_place(rt, fault),
+    }
+}
+
+/// The command by the profile of its store, which is found.
+fn found_for(rt: &HostRuntime, asked: Command, place: Place) -> Result<(Command, Found), NotFound> {
+    let found = enter(rt, place, asked.replaced().is_some())?;
+    let profile = String::from_str(rt.alloc(), found.profile.as_str())?;
+    Ok((asked.with_profile(profile), found))
+}
+
+/// Runs the command. A folder in which files can be replaced is had by its lock alone, and holds it until it is dropped: so a command that
+/// replaces one has its turn from before its first read until it ends.
+pub(crate) fn run_in_turn(rt: &HostRuntime, asked: Command) -> u8 {
+    let Some(replaced) = asked.replaced() else {
+        return run_on(rt, asked, &mut StdFolder::read_only(rt));
+    };
+    let folder = match replaced {
+        Replaced::File(name) => folder_of(name),
+        Replaced::UserOf(_) => ".",
+    };
+    match FolderLock::take(rt, rt.alloc(), folder) {
+        Ok(lock) => run_on(rt, asked, &mut StdFolder::in_turn(rt, lock)),
+        Err(LockFault::Busy) => refuse_busy(rt, replaced),
+        Err(LockFault::Memory) => refuse_memory(rt),
+        // Without the lock nothing may be replaced, but what else is wrong is said first.
+        Err(LockFault::Device(_)) => run_on(rt, asked, &mut StdFolder::read_only(rt)),
+    }
+}
+
+/// Runs a command on a store that was found. Its folder is the current one.
+fn run_found(rt: &HostRuntime, asked: Command, found: Found) -> u8 {
+    if asked.replaced().is_none() {
+        return read_found(rt, asked, StdFolder::read_only(rt), &found);
+    }
+    match FolderLock::take(rt, rt.alloc(), ".") {
+        Ok(lock) => change_found(rt, asked, StdFolder::in_turn(rt, lock), &found),
+        Err(LockFault::Busy) => match users_file(rt, &found) {
+            Ok(name) => refuse_busy_file(rt, name.as_str()),
+            Err(_) => refuse_memory(rt),
+        },
+        Err(LockFault::Memory) => refuse_memory(rt),
+        Err(LockFault::Device(_)) => read_found(rt, asked, StdFolder::read_only(rt), &found),
+    }
+}
+
+/// Runs a command in a folder in which bad databases count as what can be saved of them, and says of each what was wrong.
+fn read_found(
+    rt: &HostRuntime,
+    asked: Command,
+    folder: StdFolder<&HostRuntime>,
+    found: &Found,
+) -> u8 {
+    let Ok(mut folder) = found_folder(rt, folder, found) else {
+        return refuse_memory(rt);
+    };
+    let status = run_within(rt, asked, &mut folder);
+    for bad in folder.bad() {
+        say_bad(rt, found.folder.as_str(), bad);
+    }
+    status
+}
+
+fn found_folder<'a>(
+    rt: &'a HostRuntime,
+    folder: StdFolder<&'a HostRuntime>,
+    found: &Found,
+) -> Result<FoundFolder<StdFolder<&'a HostRuntime>>, AllocError> {
+    let profile = String::from_str(rt.alloc(), found.profile.as_str())?;
+    Ok(FoundFolder::new(
+        rt.alloc(),
+        folder,
+        profile,
+        found.has_profile,
+        found.has_folder,
+    ))
+}
+
+/// The same of a command that changes the user's file, which is kept under another name if it is bad.
+fn change_found(
+    rt: &HostRuntime,
+    asked: Command,
+    folder: StdFolder<&HostRuntime>,
+    found: &Found,
+) -> u8 {
+    let Ok(name) = users_file(rt, found) else {
+        return refuse_memory(rt);
+    };
+    if name == found.profile {
+        return read_found(rt, asked, folder, found);
+    }
+    let kept = match keep(rt, name.as_str()) {
+        Ok(kept) => kept,
+        Err(FolderFault::Memory) => return refuse_memory(rt),
+        Err(_) => return refuse_device(rt, name.as_str()),
+    };
+    let status = read_found(rt, asked, folder, found);
+    if let Some(other) = kept {
+        forget(rt, name.as_str(), other.as_str());
+    }
+    status
+}
+
+/// The name of the user's file of a store, or of its profile where it has none.
+fn users_file(rt: &HostRuntime, found: &Found) -> Result<String, AllocError> {
+    let alloc = rt.alloc();
+    let mut folder = found_folder(rt, StdFolder::read_only(rt), found)?;
+    let read = folder.read(alloc, found.profile.as_str());
+    let bytes = read.ok().flatten().unwrap_or(Vec::new(alloc));
+    user_file(alloc, found.profile.as_str(), &bytes)
+}
+
+/// Runs the command on a folder and the streams of the process.
+///
+/// If the host's answers were those of a folder that held what this one did, the run did to it, and gave, exactly what that, the words and an
+/// input say.
+fn run_on(rt: &HostRuntime, asked: Command, folder: &mut StdFolder<&HostRuntime>) -> u8
+    ensures calm { IsTrue (is_honest folder.new) → NoneFailed (failures_of folder.old) (failures_of folder.new)
+        → (i : Input) × ((output : Output) × RanCalmly (command_of asked) i (events_of folder.old) (events_of folder.new) output) }
+    ensures ran { IsTrue (is_honest folder.new)
+        → (i : Input) × ((output : Output) × Ran (command_of asked) i (events_of folder.old) (events_of folder.new) output) }
+    // Without the turn to replace files nothing was done to it.
+    ensures untouched { can_write folder.old ≡ false → events_of folder.new ≡ events_of folder.old }
+{
+    let mut input = Counted::new(rt.stdin());
+    let mut out = Counted::new(rt.stdout());
+    let mut err = Counted::new(rt.stderr());
+    run(rt.alloc(), asked, folder, &mut input, &mut out, &mut err)
+}
+
+/// The same on a store that was found.
+///
+/// What the run is said to have done, it did to a folder of files that hold what counts of the host's, of which its reads gave what it holds.
+/// The same it did to the host's, but for an append or a sync that was refused.
+fn run_within(
+    rt: &HostRuntime,
+    asked: Command,
+    folder: &mut FoundFolder<StdFolder<&HostRuntime>>,
+) -> u8
+    ensures calm { IsTrue (is_honest (inner_of folder.new) && agrees folder.new) → NoneFailed (found.failures_of folder.old) (found.failures_of folder.new)
+        → (old : List Event) → IsPast (λ f es. es ≡ events_of f) folder.old old
+        → (i : Input) × ((new : List Event) × IsPast (λ f es. es ≡ events_of f) folder.new new
+        × ((output : Output) × RanCalmly (command_of asked) i old new output)) }
+    ensures ran { IsTrue (is_honest (inner_of folder.new) && agrees folder.new)
+        → (old : List Event) → IsPast (λ f es. es ≡ events_of f) folder.old old
+        → (i : Input) × ((new : List Event) × IsPast (λ f es. es ≡ events_of f) folder.new new
+        × ((output : Output) × Ran (command_of asked) i old new output)) }
+    // Without the turn to replace files nothing was done to it.
+    ensures untouched { can_write (inner_of folder.old) ≡ false → (old : List Event) → IsPast (λ f es. es ≡ events_of f) folder.old old
+        → IsPast (λ f es. es ≡ events_of f) folder.new old }
+{
+    let mut input = Counted::new(rt.stdin());
+    let mut out = Counted::new(rt.stdout());
+    let mut err = Counted::new(rt.stderr());
+    run(rt.alloc(), asked, folder, &mut input, &mut out, &mut err)
+}
+
+/// Says on err which file others have been replacing all the time.
+fn refuse_busy(rt: &HostRuntime, replaced: Replaced<'_>) -> u8 {
+    let alloc = rt.alloc();
+    let name = match replaced {
+        Replaced::File(name) => String::from_str(alloc, name),
+        Replaced::UserOf(profile) => {
+            let found = StdFolder::read_only(rt).read(alloc, profile);
+            let bytes = found.ok().flatten().unwrap_or(Vec::new(alloc));
+            user_file(alloc, profile, &bytes)
+        }
+    };
+    match name {
+        Ok(name) => refuse_busy_file(rt, name.as_str()),
+        Err(_) => refuse_memory(rt),
+    }
+}
+
+fn refuse_busy_file(rt: &HostRuntime, name: &str) -> u8 {
+    refuse(rt, format_args!("Busy {name}"));
+    REFUSED
+}

@@ -1,0 +1,73 @@
+//! `update [FOLDER]`: the databases whose sources are newer, each made by `compile`.
+use crate::messages::{REFUSED, refuse, refuse_device, refuse_memory};
+use crate::runs::run_in_turn;
+use crate::sources::{Unread, is_folder, names_in, source_folder};
+use dconf_args::{Command, updates};
+use std::env;
+use std::io::ErrorKind;
+
+/// The folder where none is named.
+const EVERYONES: &str = "/etc/dconfdb";
+
+/// Makes the databases of a folder that are due.
+pub(crate) fn update(rt: &HostRuntime, folder: Option<String>) -> u8 {
+    let folder = folder.as_deref().unwrap_or(EVERYONES);
+    match env::set_current_dir(rt, folder) {
+        Ok(()) => update_here(rt, folder),
+        Err(error) if error.kind() == ErrorKind::NotFound => {
+            refuse(rt, format_args!("NoFile {folder}"));
+            REFUSED
+        }
+        Err(_) => refuse_device(rt, folder),
+    }
+}
+
+/// Makes those of the current folder, which was given as `folder`.
+fn update_here(rt: &HostRuntime, folder: &str) -> u8 {
+    match names_in(rt, ".") {
+        Ok(names) => update_each(rt, &names),
+        Err(Unread::Folder(_)) => refuse_device(rt, folder),
+        Err(Unread::Memory) => refuse_memory(rt),
+    }
+}
+
+/// Makes those of the folders with these names. A fault of one leaves the others.
+fn update_each(rt: &HostRuntime, names: &[String]) -> u8 {
+    let mut status = 0;
+    for name in names {
+        if let Some(database) = database_of(rt, name.as_str()) {
+            status |= update_one(rt, database);
+        }
+    }
+    status
+}
+
+/// The NAME of a folder NAME.d.
+fn database_of<'a>(rt: &HostRuntime, name: &'a str) -> Option<&'a str> {
+    let database = name.strip_suffix(".d")?;
+    if database.is_empty() || !is_folder(rt, name) {
+        return None;
+    }
+    Some(database)
+}
+
+/// Makes the database of one folder, if it is due.
+fn update_one(rt: &HostRuntime, name: &str) -> u8 {
+    match source_folder(rt, name) {
+        Ok(folder) => match updates(rt.alloc(), &[folder]) {
+            Ok(commands) => run_each(rt, commands),
+            Err(_) => refuse_memory(rt),
+        },
+        Err(Unread::Folder(folder)) => refuse_device(rt, folder.as_str()),
+        Err(Unread::Memory) => refuse_memory(rt),
+    }
+}
+
+/// Runs commands one after another, each in its turn.
+fn run_each(rt: &HostRuntime, commands: Vec<Command>) -> u8 {
+    let mut status = 0;
+    for command in commands {
+        status |= run_in_turn(rt, command);
+    }
+    status
+}

@@ -1,5 +1,0 @@
-use Rattle.std.proofs.Common.{rules}
-use Rattle.gvdb_write.proofs.salvaging.pointed_value.Goals as goal
-
-pub returns-then-item-letter-clause-some : goal.returns-then-item-letter-clause-some
-returns-then-item-letter-clause-some c = search rules
