@@ -32,5 +32,6 @@ mod user_database;
 mod write;
 
 pub use change_fault::ChangeFault;
+pub use dconf_layers::DatabaseFault;
 pub use engine::Engine;
 pub use fault::EngineFault;
