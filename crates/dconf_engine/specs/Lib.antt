@@ -1,7 +1,7 @@
 pub mod Faults
 pub mod EngineLayers
 pub mod ChangeFaults
-pub mod Rows
+pub mod Loads
 pub mod TextMaps
 pub mod Unsaved
 pub mod UnsavedLeft
