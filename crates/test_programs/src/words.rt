@@ -9,12 +9,19 @@ use test_rows::{is_so, table};
 
 /// What the command of a line replaces.
 pub(crate) fn replaced(alloc: Global, line: &str, found: &mut String) -> Result<(), Fail> {
+    let text = replaced_text(alloc, line)?;
+    Ok(found.push_str(text.as_str())?)
+}
+
+fn replaced_text(alloc: Global, line: &str) -> Result<String, Fail> {
     match command(alloc, &words_of(alloc, line)?) {
-        Ok(Asked::Run { command, .. }) => write!(found, "{:?}", command.replaced())?,
-        Ok(Asked::Update { folder }) => write!(found, "{folder:?}")?,
-        Err(_) => return Err(Fail::new("the words are refused")),
+        Ok(Asked::Run { command, .. }) => {
+            let replaced = command.replaced();
+            Ok(format!(in alloc; "{replaced:?}")?)
+        }
+        Ok(Asked::Update { folder }) => Ok(format!(in alloc; "{folder:?}")?),
+        Err(_) => Err(Fail::new("the words are refused")),
     }
-    Ok(())
 }
 
 /// Where the store of a line's command is, and what it replaces by another profile.
