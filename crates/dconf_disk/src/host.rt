@@ -350,14 +350,15 @@ fn whole<F: OpenFile + Read + Drop>(alloc: Global, file: F) -> Result<Vec<u8>, F
     }
 }
 
-/// What one read gives, of so many bytes at most. After an error the next read tells why.
-fn first_bytes<R: Read>(alloc: Global, reader: &mut R, most: usize) -> Result<Vec<u8>, AllocError>
+/// What one read gives, of so many bytes at most; nothing if a signal interrupts it.
+fn first_bytes<R: Read>(alloc: Global, reader: &mut R, most: usize) -> Result<Vec<u8>, FolderFault>
     ensures { IfOk result (λ v. Consumes (R.remaining reader.old) (R.remaining reader.new) v.items) }
 {
     let mut bytes = zeros(alloc, most)?;
     match reader.read(&mut bytes) {
         Ok(n) => bytes.truncate(n),
-        Err(_) => bytes.clear(),
+        Err(error) if error.kind() == ErrorKind::Interrupted => bytes.clear(),
+        Err(error) => return Err(fault_of(error)),
     }
     Ok(bytes)
 }
