@@ -3,6 +3,7 @@ use Rattle.std.proofs.Common.{List, ◌≡◌, ◌<◌, ◌≤◌, ◌+◌, ℕ,
 use Rattle.std.specs.Prelude.{IfNone, IfSome, IsSome}
 use Rattle.dconf_model.specs.Table.{Table, item, item_count, key}
 use Rattle.dconf_model.specs.Names.{HasName, full_name}
+use Rattle.dconf_model.specs.Searchable.{HasGoodKey}
 use Rattle.dconf_model.specs.Sound.{HasParent, HasPlace, KeepsAll}
 use Rattle.dconf_model.specs.Sound.Rule.{keys, chain}
 use Rattle.dconf_model.proofs.FullNames.{has_full_name, full_name_is, full_name_at_root, full_name_below, parent_counted}
@@ -14,26 +15,26 @@ pub record IsLeft (t : Table) (i at left : ℕ) : Type 0 where
   pub counted : at < item_count t
   pub whole : length (full_name t i) + left ≡ length (full_name t at) + 65535
 
-pub key_long : (t : Table) (i size : ℕ) → KeepsAll t keys → i < item_count t → (item t i).key_start + size ≡ (item t i).key_end → length (key t i) ≡ size
-key_long t i size good counted e =
-    let is = range_length t.file (item t i).key_start (item t i).key_end (omega (arith, e)) (good i counted).inside in
+pub key_long : (t : Table) (i size : ℕ) → HasGoodKey t i → (item t i).key_start + size ≡ (item t i).key_end → length (key t i) ≡ size
+key_long t i size good e =
+    let is = range_length t.file (item t i).key_start (item t i).key_end (omega (arith, e)) good.inside in
     omega (arith, is, e)
 
 -- each key takes a byte
 pub some_key : (t : Table) (i size : ℕ) → KeepsAll t keys → KeepsAll t chain → i < item_count t → (item t i).key_start + size ≡ (item t i).key_end → 0 < size
-some_key t i size good ends counted e = let some = (ends i counted).key in let is = key_long t i size good counted e in omega (arith, some, is)
+some_key t i size good ends counted e = let some = (ends i counted).key in let is = key_long t i size (good i counted) e in omega (arith, some, is)
 
 -- the parent's name is shorter by the item's key
 pub above_is : (t : Table) (i p size : ℕ) → KeepsAll t keys → KeepsAll t chain → i < item_count t → (item t i).key_start + size ≡ (item t i).key_end → (item t i).parent ≡ Some p → length (full_name t i) ≡ length (full_name t p) + size
 above_is t i p size good ends counted key_size up =
     let e = ap length (full_name_below t i p good ends counted up) in
     let l = length-append (full_name t p) (key t i) in
-    let own = key_long t i size good counted key_size in
+    let own = key_long t i size (good i counted) key_size in
     omega (arith, e, l, own)
 
 module _ (t : Table) (i at left size rest : ℕ) (good : KeepsAll t keys) (ends : KeepsAll t chain) (walk : IsLeft t i at left) (key_size : (item t at).key_start + size ≡ (item t at).key_end) (taken : rest + size ≡ left) where
   long : length (key t at) ≡ size
-  long = key_long t at size good walk.counted key_size
+  long = key_long t at size (good at walk.counted) key_size
 
   pub ends_here : (item t at).parent ≡ None → length (full_name t i) + rest ≡ 65535
   ends_here none =
@@ -53,7 +54,7 @@ ends_noted t i at left known last walk is e = let w = walk.whole in omega (arith
 
 -- a name holds its key
 name_holds_key : (t : Table) (i size : ℕ) (up : Option ℕ) → KeepsAll t keys → KeepsAll t chain → i < item_count t → (item t i).key_start + size ≡ (item t i).key_end → (item t i).parent ≡ up → size ≤ length (full_name t i)
-name_holds_key t i size None good ends counted e top = omega (arith, ap length (full_name_at_root t i good counted top), key_long t i size good counted e)
+name_holds_key t i size None good ends counted e top = omega (arith, ap length (full_name_at_root t i good counted top), key_long t i size (good i counted) e)
 name_holds_key t i size (Some p) good ends counted e up = omega (arith, above_is t i p size good ends counted e up)
 
 -- no bytes are left for the key at hand

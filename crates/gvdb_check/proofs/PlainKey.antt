@@ -1,8 +1,10 @@
 -- What plain parts keep: they are texts without a zero byte, and the last parts of paths.
-use Rattle.std.proofs.Common.{ℕ, zero, suc, List, [], ◌∷◌, ◌++◌, Some, true, false, ◌≡◌, ◌<◌, ◌≤◌, length, get_or, refl, sym, ◌∙◌, ap, subst, arith, inl, inr}
+use Rattle.std.proofs.Common.{ℕ, zero, suc, List, [], ◌∷◌, ◌++◌, ◌*◌, ◌/◌, Some, true, false, ◌≡◌, ◌<◌, ◌≤◌, length, get_or, take, drop, refl, sym, ◌∙◌, ap, subst, arith, inl, inr}
 use Rattle.std.specs.Prelude.{Contains, IfSome, ◌==◌, not, fold}
 use Rattle.std.specs.List.{list_all}
+use Rattle.std.specs.Simd.{first_chunks}
 use Rattle.std.proofs.lemmas.Bool.{and_parts}
+use Rattle.std.proofs.lemmas.List.{take-append-drop, drop-drop}
 use Rattle.std.proofs.lemmas.List.Folds.{list_all-append}
 use Rattle.gv_view.specs.Texts.{is_ascii_char}
 use Rattle.gv_view.proofs.ShortTexts.{ascii_chars_are_utf8}
@@ -43,6 +45,21 @@ part_is_ascii kind part (inr dir) =
 is_part : (t : Table) (i : ℕ) → IsPlainPart (item t i).kind (key t i) → IsPart t i
 is_part t i (inl own) = inl (own.0, no_slash (key t i) own.1)
 is_part t i (inr dir) = inr (dir.0, record { name = dir.1.0; whole = dir.1.1; some = dir.1.2; plain = no_slash dir.1.0 dir.1.3 })
+
+-- bytes whose groups of four are plain, and the rest of them
+by_fours : (count : ℕ) (s : List ℕ) → list_all (list_all is_plain) (first_chunks 4 count s) ≡ true → list_all is_plain (drop (4 * count) s) ≡ true → list_all is_plain s ≡ true
+by_fours zero s fours rest = rest
+by_fours (suc n) s fours rest =
+    let parts = and_parts (list_all is_plain (take 4 s)) (list_all (list_all is_plain) (first_chunks 4 n (drop 4 s))) fours in
+    let further : drop (4 * n) (drop 4 s) ≡ drop (4 * suc n) s = drop-drop (4 * n) 4 s ∙ ap (λ (m : ℕ). drop m s) (omega arith) in
+    let first : list_all is_plain (take 4 s) ≡ true = parts.0 in
+    let others : list_all is_plain (drop 4 s) ≡ true = by_fours n (drop 4 s) parts.1 (ap (list_all is_plain) further ∙ rest) in
+    ap (list_all is_plain) (sym (take-append-drop 4 s)) ∙ (list_all-append is_plain (take 4 s) (drop 4 s) ∙ rw (first, others) refl)
+
+pub plain_by_fours : (s rest : List ℕ) (fours : List (List ℕ)) → fours ≡ first_chunks 4 (length s / 4) s → rest ≡ drop (length s / 4 * 4) s → list_all (list_all is_plain) fours ≡ true → list_all is_plain rest ≡ true → list_all is_plain s ≡ true
+plain_by_fours s rest fours cut behind first last =
+    let turned : length s / 4 * 4 ≡ 4 * (length s / 4) = omega arith in
+    by_fours (length s / 4) s (sym (ap (list_all (list_all is_plain)) cut) ∙ first) (sym (ap (list_all is_plain) (behind ∙ ap (λ (n : ℕ). drop n s) turned)) ∙ last)
 
 pub plain_keeps : (t : Table) (i p : ℕ) → (item t i).parent ≡ Some p → p < item_count t → (item t p).kind ≡ list_kind → (item t i).key_end ≤ length t.file → IsPlainPart (item t i).kind (key t i)
     → (item t i).hash ≡ fold hash_step (item t p).hash (key t i) → KeyKeeps t i

@@ -7,11 +7,11 @@ ghost use Rattle.dconf_model.specs.Table.{HasBytes, item, item_count, list_kind}
 ghost use Rattle.dconf_model.specs.Sound.{IsChild, KeepsAll, list_length, listed};
 ghost use Rattle.dconf_model.specs.Sound.Rule.{content, lists};
 ghost use Rattle.gvdb_check.specs.Counted.{HasListOnceIfAny, IsOnce, ListsOnce, found_count};
-ghost use Rattle.gvdb_format.specs.Tables.{region};
+ghost use Rattle.gvdb_format.specs.Tables.{item_of, region};
 
 use crate::lists::{is_empty_at_root_alone, lists_children_alone, lists_rising_children, numbers};
 use crate::lists_flagged::is_once;
-use gvdb_format::{Kind, RawTable};
+use gvdb_format::{ItemRecord, Kind, RawTable};
 
 /// Whether the lists are seen to be right. It looks at each item once, and at the numbers of each list as `is_once`
 /// does.
@@ -21,7 +21,7 @@ pub(crate) fn lists_hold_all(table: RawTable<'_>) -> bool
 {
     let mut left = table.n_items() as usize;
     for i in 0..table.n_items() {
-        let Some(found) = found_at(table, i) else {
+        let Some(found) = found_at(table, i, table.stored(i)) else {
             return false;
         };
         let Some(fewer) = left.checked_sub(found) else {
@@ -35,13 +35,14 @@ pub(crate) fn lists_hold_all(table: RawTable<'_>) -> bool
 /// How many items are found by item `i`: those in its list, and itself where it has no parent. None where its list
 /// isn't seen to hold children of it alone, once each, and some but at `/`.
 #[inline(always)]
-pub(crate) fn found_at(table: RawTable<'_>, i: u32) -> Option<usize>
+pub(crate) fn found_at(table: RawTable<'_>, i: u32, stored: ItemRecord) -> Option<usize>
     requires counted { i < item_count (region table) }
+    requires read { item_of stored ≡ item (region table) i }
     requires valid { HasBytes (region table) i }
     ensures { IfSome result (λ n. HasListOnceIfAny (region table.entry) i × (n ≡ found_count (region table.entry) i)) }
 {
-    let own = usize::from(table.parent_at(i).is_none());
-    if !table.has_kind(i, Kind::List) {
+    let own = usize::from(stored.parent.is_none());
+    if stored.kind != Kind::List.letter() {
         return Some(own);
     }
     Some(found_in_list(table, i)? + own)

@@ -14,7 +14,8 @@ use gvdb_format::{RawTable, number};
 const SHORT_LIST: usize = 64;
 
 /// Whether no number is seen to occur twice in the list. Of a long one it looks at each once for each 32,768 items of the
-/// table.
+/// table. It is kept apart, with its flags on the stack.
+#[inline(never)]
 pub(crate) fn is_once(table: RawTable<'_>, i: u32) -> bool
     requires counted { i < item_count (region table) }
     requires valid { HasBytes (region table) i }

@@ -4,11 +4,11 @@ ghost use Rattle.dconf_model.specs.Table.{item, item_count, table_kind, table_of
 ghost use Rattle.dconf_model.specs.Searchable.{EachItem};
 ghost use Rattle.dconf_model.specs.Sound.{HasLocksIfAny, IsLock, IsLockTable, KeepsAll};
 ghost use Rattle.dconf_model.specs.Sound.Rule.{keys, place};
-ghost use Rattle.gvdb_format.specs.Tables.{region};
+ghost use Rattle.gvdb_format.specs.Tables.{item_of, region};
 
 use crate::place::key;
 use crate::rules::is_searchable;
-use gvdb_format::{Kind, LOCKS, RawTable};
+use gvdb_format::{ItemRecord, Kind, LOCKS, RawTable};
 
 /// Whether item `i` keeps the rule. Of an item that is no table it looks at the kind alone, of one that is at no more
 /// than the last seven bytes of its name. It checks the table of locks where it comes upon it.
@@ -31,11 +31,12 @@ fn has_locks_if_named(table: RawTable<'_>, i: u32) -> bool
 
 /// Whether item `i`, if it is a table, is a sound table of locks.
 #[inline(always)]
-pub(crate) fn has_locks_if_table(table: RawTable<'_>, i: u32) -> bool
-    requires { i < item_count (region table) }
+pub(crate) fn has_locks_if_table(table: RawTable<'_>, i: u32, stored: ItemRecord) -> bool
+    requires counted { i < item_count (region table) }
+    requires read { item_of stored ≡ item (region table) i }
     ensures { IsTrue result → (item (region table.entry) i).kind ≡ table_kind → IsLockTable (table_of (region table.entry) i) }
 {
-    !table.has_kind(i, Kind::Table) || points_to_locks(table, i)
+    stored.kind != Kind::Table.letter() || points_to_locks(table, i)
 }
 
 /// Whether item `i`, which is a table, points to a sound table of locks. It is kept out of the loops over all items.

@@ -4,22 +4,19 @@
 //! its name is as short as the list's and its key.
 ghost use Rattle.std.specs.Prelude.{◌≡◌, ◌≤◌, ◌<◌, IfSome, IsTrue, length};
 ghost use Rattle.dconf_model.specs.Table.{item_count, item, key, list_kind};
-ghost use Rattle.dconf_model.specs.Searchable.{HasBuckets, HasGoodKey};
+ghost use Rattle.dconf_model.specs.Searchable.{HasBuckets, HasGoodKey, IsInSpan};
 ghost use Rattle.dconf_model.specs.Sound.{IsSound};
 ghost use Rattle.gvdb_check.specs.Counted.{HasListOnceIfAny, found_count};
 ghost use Rattle.gvdb_check.specs.OnePass.{HasNameWithin, HasOwnHash, ItemKeeps};
-ghost use Rattle.gvdb_format.specs.Tables.{region};
+ghost use Rattle.gvdb_format.specs.Tables.{item_of, region};
 
-use crate::bloom::is_in_bloom;
 use crate::buckets::has_buckets;
 use crate::content::has_content;
 use crate::length::MAX_NAME_LEN;
 use crate::lists_counted::found_at;
 use crate::locks::has_locks_if_table;
-use crate::place::key;
 use crate::plain_key::key_keeps;
-use crate::span::is_in_span;
-use gvdb_format::{Kind, RawTable};
+use gvdb_format::{ItemRecord, Kind, RawTable};
 
 /// How many bytes the name of a directory has here at most: more than in practice.
 const MOST_OF_DIRECTORY: usize = 1023;
@@ -64,48 +61,51 @@ fn found_where_kept(table: RawTable<'_>, i: u32) -> Option<usize>
     ensures kept { IfSome result (λ _. ItemKeeps (region table.entry) i) }
     ensures listed { IfSome result (λ n. HasListOnceIfAny (region table.entry) i × (n ≡ found_count (region table.entry) i)) }
 {
-    if !item_keeps(table, i) {
+    let stored = table.stored(i);
+    if !item_keeps(table, i, stored) {
         return None;
     }
-    found_at(table, i)
+    found_at(table, i, stored)
 }
 
 /// Whether item `i` is seen to keep the rules but S10, where the items above it do.
 #[inline(always)]
-fn item_keeps(table: RawTable<'_>, i: u32) -> bool
-    requires { i < item_count (region table) }
+fn item_keeps(table: RawTable<'_>, i: u32, stored: ItemRecord) -> bool
+    requires counted { i < item_count (region table) }
+    requires read { item_of stored ≡ item (region table) i }
     ensures { IsTrue result → ItemKeeps (region table.entry) i }
 {
-    key_keeps(table, i)
-        && is_in_span(table, i)
-        && is_in_bloom(table, i)
-        && has_content(table, i)
-        && has_locks_if_table(table, i)
-        && has_usual_key(table, i)
-        && has_own_hash(table, i)
-        && is_near_top(table, i)
+    key_keeps(table, i, stored)
+        && has_own_hash(table, i, stored.hash)
+        && table.passes_bloom(stored.hash)
+        && has_content(table, i, stored)
+        && has_locks_if_table(table, i, stored)
+        && has_usual_key(table, i, stored)
+        && is_near_top(table, i, stored)
 }
 
 /// Whether item `i`'s key has bytes, and not too many of them.
+#[tactic(auto, using(crate::proofs::NameLengths::key_long))]
 #[inline(always)]
-fn has_usual_key(table: RawTable<'_>, i: u32) -> bool
+fn has_usual_key(table: RawTable<'_>, i: u32, stored: ItemRecord) -> bool
     requires good { HasGoodKey (region table) i }
-    requires counted { i < item_count (region table) }
+    requires read { item_of stored ≡ item (region table) i }
     ensures some { IsTrue result → 0 < length (key (region table.entry) i) }
     ensures short { IsTrue result → length (key (region table.entry) i) ≤ 64512 }
 {
-    (1..=MOST_OF_KEY).contains(&key(table, i).len())
+    (1..=MOST_OF_KEY).contains(&usize::from(stored.key_size))
 }
 
-/// Whether no lower item of its bucket has the hash of item `i`. Where the bucket is long it doesn't look.
+/// Whether item `i` lies in its hash's bucket, and no lower item of the bucket has its hash. Where the bucket is long it doesn't look.
 #[inline(always)]
-fn has_own_hash(table: RawTable<'_>, i: u32) -> bool
-    requires { i < item_count (region table) }
-    ensures { IsTrue result → HasOwnHash (region table.entry) i }
+fn has_own_hash(table: RawTable<'_>, i: u32, hash: u32) -> bool
+    requires counted { i < item_count (region table) }
+    requires of_item { (item (region table) i).hash ≡ hash }
+    ensures in_span { IsTrue result → IsInSpan (region table.entry) i }
+    ensures own { IsTrue result → HasOwnHash (region table.entry) i }
 {
-    let hash = table.hash_at(i);
-    let (first, _) = table.span(hash);
-    if i.saturating_sub(first) > SHORT_BUCKET {
+    let (first, end) = table.span(hash);
+    if i < first || i >= end || i - first > SHORT_BUCKET {
         return false;
     }
     for j in first..i {
@@ -119,9 +119,10 @@ fn has_own_hash(table: RawTable<'_>, i: u32) -> bool
 /// Whether item `i`, if it is a list, has a full name, and not too long a one.
 #[tactic(auto, using(crate::proofs::OnePass::within_where_some))]
 #[inline(always)]
-fn is_near_top(table: RawTable<'_>, i: u32) -> bool
-    requires { i < item_count (region table) }
+fn is_near_top(table: RawTable<'_>, i: u32, stored: ItemRecord) -> bool
+    requires counted { i < item_count (region table) }
+    requires read { item_of stored ≡ item (region table) i }
     ensures { IsTrue result → (item (region table.entry) i).kind ≡ list_kind → HasNameWithin 1023 (region table.entry) i }
 {
-    !table.has_kind(i, Kind::List) || table.name_len(i, MOST_OF_DIRECTORY).is_some()
+    stored.kind != Kind::List.letter() || table.name_len(i, MOST_OF_DIRECTORY).is_some()
 }

@@ -167,7 +167,7 @@ fn keeps(table: RawTable<'_>, rule: Rule, i: u32) -> bool
         Rule::Hash => has_hash_of_name(table, i),
         Rule::Span => is_in_span(table, i),
         Rule::Bloom => is_in_bloom(table, i),
-        Rule::Content => has_content(table, i),
+        Rule::Content => has_content(table, i, table.stored(i)),
         Rule::Lists => has_list_if_any(table, i),
         // No other rule is asked so.
         Rule::Buckets => true,

@@ -128,7 +128,7 @@ fn hash_one_by_one(hash: u32, bytes: &[u8]) -> u32
 
 /// The hash of some bytes and four more: each counts 33 times as much as the one after it.
 #[inline(always)]
-fn hash_with_four(hash: u32, four: &[u8; 4]) -> u32
+pub fn hash_with_four(hash: u32, four: &[u8; 4]) -> u32
     ensures { result ≡ fold hash_step hash four.now }
 {
     hash.wrapping_mul(FOUR_STEPS)

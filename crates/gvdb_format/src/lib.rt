@@ -20,7 +20,7 @@ mod suffix;
 
 pub use fault::OpenFault;
 pub use fields::Link;
-pub use hashing::{HASH_OF_NOTHING, hash, hash_on, hash_with, signed};
+pub use hashing::{HASH_OF_NOTHING, hash, hash_on, hash_with, hash_with_four, signed};
 pub use header::{HEAD_LEN, HEADER_LEN, LOCKS, SIGNATURE, WORD_LEN, head_number};
 pub use item::Item;
 pub use kind::Kind;

@@ -1,8 +1,8 @@
 use Rattle.std.proofs.Common.{rules}
 use Rattle.gvdb_check.proofs.one_pass.item_keeps.Goals as goal
 
-pub returns-then-has_own_hash : goal.returns-then-has_own_hash
-returns-then-has_own_hash c = search rules
+pub returns-then-has_usual_key : goal.returns-then-has_usual_key
+returns-then-has_usual_key c = search rules
 
-pub returns-else-has_own_hash : goal.returns-else-has_own_hash
-returns-else-has_own_hash c = search rules
+pub returns-else-has_usual_key : goal.returns-else-has_usual_key
+returns-else-has_usual_key c = search rules

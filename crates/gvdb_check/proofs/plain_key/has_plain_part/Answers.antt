@@ -14,14 +14,14 @@ returns c =
     let i = c.args.i in
     let p = c.in-Some.parent in
     let own = c.in-Some-key_of.key.now in
-    let is : item_of c.stored-stored.result ≡ item t i = c.stored-stored.ensures in
+    let is : item_of c.args.stored ≡ item t i = c.requires.read in
     let up : (item t i).parent ≡ Some p = sym (ap (λ (it : Item). it.parent) is) ∙ c.in-Some.is in
     let counted : p < item_count t = omega (arith, c.n_items.ensures, c.if-parent-n_items.false) in
     let of_list : (item t p).kind ≡ list_kind = c.has_kind.ensures.0 c.if-not-has_kind.false in
     let lent = c.in-Some-key_of.ensures.lent in
     let inside : (item t i).key_end ≤ length t.file = subst (λ (it : Item). it.key_end ≤ length t.file) is lent.0 in
     let keyed : own ≡ key t i = lent.1 ∙ ap (λ (it : Item). key_at t.file it) is in
-    let part = subst (λ (l : List ℕ). IsPlainPart c.stored-stored.result.kind l) keyed c.in-Some-hash_of_part.ensures.part in
+    let part = subst (λ (l : List ℕ). IsPlainPart c.args.stored.kind l) keyed c.in-Some-hash_of_part.ensures.part in
     let plain : IsPlainPart (item t i).kind (key t i) = subst (λ (it : Item). IsPlainPart it.kind (key t i)) is part in
     λ e. plain_keeps t i p up counted of_list inside plain
     (sym (ap (λ (it : Item). it.hash) is) ∙ (sym (eqb-true _ _ e) ∙ (c.in-Some-hash_of_part.ensures.hash

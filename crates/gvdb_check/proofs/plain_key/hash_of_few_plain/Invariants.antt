@@ -3,7 +3,7 @@ use Rattle.std.specs.Prelude.{fold}
 use Rattle.std.specs.List.{list_all}
 use Rattle.dconf_model.specs.Bytes.{hash_step}
 use Rattle.gvdb_check.specs.PlainKey.{is_plain}
-use Rattle.gvdb_check.proofs.plain_key.hash_of_plain.Given as goal
+use Rattle.gvdb_check.proofs.plain_key.hash_of_few_plain.Given as goal
 
 -- the hash so far, and what is left
 abbrev pub invariant-loop-byte : goal.invariant-loop-byte
