@@ -61,8 +61,8 @@ hash_goes_on left rest b s factor sum product new_factor new_sum whole e step ti
     ∙ (ap (λ x. (hash_of (reverse rest) * (factor * 33 % 2 ^ 32) + x) % 2 ^ 32) (more ∙ ap (λ p. (sum + p) % 2 ^ 32) times)
     ∙ (sym (byte_is_gone (2 ^ 32) (hash_of (reverse rest)) s factor sum) ∙ (ap (λ h. (h * factor + sum) % 2 ^ 32) (sym hash) ∙ before)))
 
-pub hash_ends : (left : List ℕ) (factor sum start result whole : ℕ) → left ≡ [] → start ≡ factor * 5381 % 2 ^ 32 → result ≡ (start + sum) % 2 ^ 32 → (hash_of (reverse left) * factor + sum) % 2 ^ 32 ≡ whole → result ≡ whole
+pub hash_ends : (left : List ℕ) (factor sum start result whole : ℕ) → left ≡ [] → start ≡ factor * hash_of [] % 2 ^ 32 → result ≡ (start + sum) % 2 ^ 32 → (hash_of (reverse left) * factor + sum) % 2 ^ 32 ≡ whole → result ≡ whole
 hash_ends left factor sum start result whole e begin is before =
-    let same : 5381 * factor ≡ factor * 5381 = omega arith in
-    is ∙ (ap (λ x. (x + sum) % 2 ^ 32) begin ∙ (mod-add-mod (factor * 5381) (2 ^ 32) sum
+    let same : hash_of [] * factor ≡ factor * hash_of [] = omega arith in
+    is ∙ (ap (λ x. (x + sum) % 2 ^ 32) begin ∙ (mod-add-mod (factor * hash_of []) (2 ^ 32) sum
     ∙ (ap (λ x. (x + sum) % 2 ^ 32) (sym same) ∙ (ap (λ (l : List ℕ). (hash_of (reverse l) * factor + sum) % 2 ^ 32) (sym e) ∙ before))))

@@ -20,7 +20,7 @@ along t good ends each (p ∷ ps) i counted up =
     let above : (item t p).hash ≡ hash_of (full_name t p) = along t good ends each ps p (parent_counted t i p good counted up.0) up.1 in
     each i counted ∙ (ap (λ (o : Option ℕ). fold hash_step (hash_above t o) (key t i)) up.0
     ∙ (ap (λ h. fold hash_step h (key t i)) above
-    ∙ (sym (fold-append hash_step 5381 (full_name t p) (key t i)) ∙ sym (ap hash_of (full_name_below t i p good ends counted up.0)))))
+    ∙ (sym (fold-append hash_step (hash_of []) (full_name t p) (key t i)) ∙ sym (ap hash_of (full_name_below t i p good ends counted up.0)))))
 
 pub hashes_kept : (t : Table) → KeepsAll t keys → KeepsAll t chain → EachItem t (GoesOn t) → KeepsAll t hash
 hashes_kept t good ends each i counted =

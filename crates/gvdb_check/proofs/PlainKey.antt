@@ -5,7 +5,9 @@ use Rattle.std.specs.List.{list_all}
 use Rattle.std.specs.Simd.{first_chunks}
 use Rattle.std.proofs.lemmas.Bool.{and_parts}
 use Rattle.std.proofs.lemmas.List.{take-append-drop, drop-drop}
+use Rattle.std.proofs.lemmas.List.Elements.{All-weaker}
 use Rattle.std.proofs.lemmas.List.Folds.{list_all-append}
+use Rattle.std.proofs.lemmas.List.Sums.{AllPass-from_list_all, list_all-from_AllPass}
 use Rattle.gv_view.specs.Texts.{is_ascii_char}
 use Rattle.gv_view.proofs.ShortTexts.{ascii_chars_are_utf8}
 use Rattle.dconf_model.specs.Bytes.{hash_step}
@@ -13,27 +15,11 @@ use Rattle.dconf_model.specs.Table.{Table, item, item_count, key, list_kind}
 use Rattle.dconf_model.specs.Sound.{HasParent, IsPart}
 use Rattle.gvdb_check.specs.HashAbove.{hash_above}
 use Rattle.gvdb_check.specs.PlainKey.{IsPlainPart, KeyKeeps, is_plain}
-use Rattle.gvdb_check.proofs.KeyTexts.{no_zero}
+use Rattle.gvdb_check.proofs.KeyTexts.{no_zero, none_of}
 
 plain_is_ascii : (s : List ℕ) → list_all is_plain s ≡ true → list_all is_ascii_char s ≡ true
-plain_is_ascii [] h = refl
-plain_is_ascii (c ∷ cs) h =
-    let parts = and_parts (is_plain c) (list_all is_plain cs) h in
-    let first = and_parts (is_ascii_char c) (not (c == 47)) parts.0 in
-    let ascii : is_ascii_char c ≡ true = first.0 in
-    let rest : list_all is_ascii_char cs ≡ true = plain_is_ascii cs parts.1 in
-    rw (ascii, rest) refl
-
-not_slash : (c : ℕ) → is_plain c ≡ true → c ≡ 47 → ⊥
-not_slash c h e = let bad : false ≡ true = subst (λ (x : ℕ). is_plain x ≡ true) e h in cc
-
-no_slash_at : (s : List ℕ) → list_all is_plain s ≡ true → (k : ℕ) → k < length s → get_or s k 47 ≡ 47 → ⊥
-no_slash_at [] h k inside e = omega (arith, inside)
-no_slash_at (c ∷ cs) h zero inside e = not_slash c (and_parts (is_plain c) (list_all is_plain cs) h).0 e
-no_slash_at (c ∷ cs) h (suc k) inside e = no_slash_at cs (and_parts (is_plain c) (list_all is_plain cs) h).1 k (omega (arith, inside)) e
-
-no_slash : (s : List ℕ) → list_all is_plain s ≡ true → Contains s 47 → ⊥
-no_slash s h there = no_slash_at s h there.0 there.1 there.2
+plain_is_ascii s h =
+    list_all-from_AllPass is_ascii_char s (All-weaker _ _ (λ c plain. (and_parts (is_ascii_char c) (not (c == 47)) plain).0) s (AllPass-from_list_all is_plain s h))
 
 part_is_ascii : (kind : ℕ) (part : List ℕ) → IsPlainPart kind part → list_all is_ascii_char part ≡ true
 part_is_ascii kind part (inl key) = plain_is_ascii part key.1
@@ -43,8 +29,8 @@ part_is_ascii kind part (inr dir) =
     subst (λ (k : List ℕ). list_all is_ascii_char k ≡ true) (sym dir.1.1) both
 
 is_part : (t : Table) (i : ℕ) → IsPlainPart (item t i).kind (key t i) → IsPart t i
-is_part t i (inl own) = inl (own.0, no_slash (key t i) own.1)
-is_part t i (inr dir) = inr (dir.0, record { name = dir.1.0; whole = dir.1.1; some = dir.1.2; plain = no_slash dir.1.0 dir.1.3 })
+is_part t i (inl own) = inl (own.0, none_of is_plain (key t i) 47 refl own.1)
+is_part t i (inr dir) = inr (dir.0, record { name = dir.1.0; whole = dir.1.1; some = dir.1.2; plain = none_of is_plain dir.1.0 47 refl dir.1.3 })
 
 -- bytes whose groups of four are plain, and the rest of them
 by_fours : (count : ℕ) (s : List ℕ) → list_all (list_all is_plain) (first_chunks 4 count s) ≡ true → list_all is_plain (drop (4 * count) s) ≡ true → list_all is_plain s ≡ true

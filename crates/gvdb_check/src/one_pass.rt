@@ -76,7 +76,7 @@ fn item_keeps(table: RawTable<'_>, i: u32, stored: ItemRecord) -> bool
     ensures { IsTrue result → ItemKeeps (region table.entry) i }
 {
     key_keeps(table, i, stored)
-        && has_own_hash(table, i, stored.hash)
+        && is_first_of_hash(table, i, stored.hash)
         && table.passes_bloom(stored.hash)
         && has_content(table, i, stored)
         && has_locks_if_table(table, i, stored)
@@ -96,9 +96,9 @@ fn has_usual_key(table: RawTable<'_>, i: u32, stored: ItemRecord) -> bool
     (1..=MOST_OF_KEY).contains(&usize::from(stored.key_size))
 }
 
-/// Whether item `i` lies in its hash's bucket, and no lower item of the bucket has its hash. Where the bucket is long it doesn't look.
+/// Whether item `i` is the first of its hash's bucket that has the hash. Where the bucket is long it doesn't look.
 #[inline(always)]
-fn has_own_hash(table: RawTable<'_>, i: u32, hash: u32) -> bool
+fn is_first_of_hash(table: RawTable<'_>, i: u32, hash: u32) -> bool
     requires counted { i < item_count (region table) }
     requires of_item { (item (region table) i).hash ≡ hash }
     ensures in_span { IsTrue result → IsInSpan (region table.entry) i }
