@@ -1,4 +1,4 @@
-use Rattle.std.proofs.Common.{◌+◌, ◌<◌, ◌≤◌, ◌≡◌, ◌∙◌, ℕ, [], arith, subst}
+use Rattle.std.proofs.Common.{◌+◌, ◌<◌, ◌≡◌, ◌∙◌, ℕ, [], arith, subst}
 use Rattle.dconf_model.specs.Sound.{IsChild, listed}
 use Rattle.gvdb_format.specs.Tables.{region}
 use Rattle.gvdb_check.proofs.Below.{below_next}
