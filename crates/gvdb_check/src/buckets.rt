@@ -7,7 +7,7 @@ ghost use Rattle.gvdb_format.specs.Tables.{region};
 
 use gvdb_format::RawTable;
 
-/// Whether the buckets keep the rule. It looks at each once.
+/// Whether the buckets keep the rule. It looks at each once, to the end in any case: so a processor looks at several at once.
 pub fn has_buckets(table: RawTable<'_>) -> bool
     ensures { IsTrue result ↔ HasBuckets (region table.entry) }
 {
@@ -18,12 +18,11 @@ pub fn has_buckets(table: RawTable<'_>) -> bool
         return false;
     }
     let mut last = 0;
+    let mut falls = false;
     for k in 0..table.n_buckets() {
         let first = table.bucket(k);
-        if first < last {
-            return false;
-        }
+        falls |= first < last;
         last = first;
     }
-    last <= table.n_items()
+    !falls && last <= table.n_items()
 }
