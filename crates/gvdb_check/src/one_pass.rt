@@ -120,8 +120,7 @@ fn is_first_of_hash(table: RawTable<'_>, i: u32, hash: u32) -> bool
 #[tactic(auto, using(crate::proofs::OnePass::within_where_some))]
 #[inline(always)]
 fn is_near_top(table: RawTable<'_>, i: u32, stored: ItemRecord) -> bool
-    requires counted { i < item_count (region table) }
-    requires read { item_of stored ≡ item (region table) i }
+    requires { item_of stored ≡ item (region table) i }
     ensures { IsTrue result → (item (region table.entry) i).kind ≡ list_kind → HasNameWithin 1023 (region table.entry) i }
 {
     stored.kind != Kind::List.letter() || table.name_len(i, MOST_OF_DIRECTORY).is_some()

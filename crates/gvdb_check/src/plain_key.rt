@@ -34,8 +34,7 @@ fn other_key_keeps(table: RawTable<'_>, i: u32) -> bool
 /// Whether item `i` lies in a list, and its key is a plain part by which its hash goes on from the list's.
 #[inline(always)]
 fn has_plain_part(table: RawTable<'_>, i: u32, stored: ItemRecord) -> bool
-    requires counted { i < item_count (region table) }
-    requires read { item_of stored ≡ item (region table) i }
+    requires { item_of stored ≡ item (region table) i }
     ensures { IsTrue result → KeyKeeps (region table.entry) i }
 {
     let Some(parent) = stored.parent else {
