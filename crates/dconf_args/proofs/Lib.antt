@@ -2,3 +2,4 @@ pub mod Filled
 pub mod Subcommands
 pub mod Lines
 pub mod Stops
+pub mod Told

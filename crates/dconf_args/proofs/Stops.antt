@@ -1,11 +1,11 @@
--- Where clap finds no fault in the words, they don't ask for help by its subcommand.
+-- At which subcommands a walk over words stops.
 use Rattle.std.proofs.Common.{◌≡◌, ◌∷◌, ◌&&◌, ◌∙◌, ℕ, Bool, true, false, List, [], refl, sym, Option, Some, None, is_some, if◌then◌else◌, codes}
-use Rattle.std.specs.Prelude.{◌≢◌, ⊤, fold}
+use Rattle.std.specs.Prelude.{◌≢◌, ⊤, IfSome, fold}
 use Rattle.std.specs.Str.{bytes_eq}
 use Rattle.std.proofs.lemmas.Slice.Eq.{bytes_eq-Decides}
 use Rattle.clap.specs.Kinds.{Kinds, or_else}
 use Rattle.clap.specs.Simple.{Shape}
-use Rattle.clap.specs.Faults.{other_fault, turn_fault, walk_fault, word_fault}
+use Rattle.clap.specs.Faults.{other_fault, walk_fault}
 use Rattle.clap.specs.Lexer.{long_of, short_of}
 use Rattle.clap.specs.Walk.{Held, Names, Outcome, Rule, Step, Text, Waiting, Walk, done, waits, plain, refused, idle, option, positional, next, trailing, subcommand, value}
 use Rattle.clap.specs.Walk.{after_flag, after_step, arg_by_index, arg_by_long, bundle, long_met, long_or_other, plain_word, short_or_plain, subcommand_met, subcommand_or_other, to_positional, walk_from, walked, walked_from, word_met}
@@ -42,74 +42,95 @@ module _ (c : List Rule) (word : Text) where
   long_or_other_stays waiting None h = short_or_plain_stays waiting (short_of word) h
   long_or_other_stays waiting (Some p) h = after_flag_stays waiting (long_met c (arg_by_long c p.0) p.1 h).0 (long_met c (arg_by_long c p.0) p.1 h).1
 
--- the step is not into `help`
-abbrev PassesHelp : Step → Type 0
-PassesHelp (next waiting) = ⊤
-PassesHelp (trailing place) = ⊤
-PassesHelp (subcommand name) = name ≢ codes "help"
-PassesHelp value = ⊤
+-- the step is into none but these subcommands
+abbrev Passes : (Text → Type 0) → Step → Type 0
+Passes P (next waiting) = ⊤
+Passes P (trailing place) = ⊤
+Passes P (subcommand name) = P name
+Passes P value = ⊤
 
-stays_passes : (step : Step) → StaysHere step → PassesHelp step
-stays_passes (next waiting) h = tt
-stays_passes (trailing place) h = tt
-stays_passes (subcommand name) h = absurd h
-stays_passes value h = tt
+stays_passes : (P : Text → Type 0) (step : Step) → StaysHere step → Passes P step
+stays_passes P (next waiting) h = tt
+stays_passes P (trailing place) h = tt
+stays_passes P (subcommand name) h = absurd h
+stays_passes P value h = tt
 
--- where a walk stopped it is not at `help`
-abbrev pub IsNotHelp : Option (Text × List Text) → Type 0
-IsNotHelp None = ⊤
-IsNotHelp (Some p) = p.0 ≢ codes "help"
+-- where a walk stopped it is at one of these
+abbrev pub StopsAt : (Text → Type 0) → Option (Text × List Text) → Type 0
+StopsAt P stop = IfSome stop (λ p. P p.0)
+
+-- a walk that goes on meets no others at a word
+abbrev pub Meets : (Text → Type 0) → Names → Walk → Text → Type 0
+Meets P names w word = w.stopped ≡ None → w.is_trailing ≡ false → IfSome (subcommand_met names w.waiting word) P
+
+module _ (P : Text → Type 0) (c : List Rule) (names : Names) where
+  trailing_or : (t : Bool) (place : ℕ) (h : Held) (other : Held × Step) → StaysHere other.1 → StaysHere (if t then (h, trailing place) else other).1
+  trailing_or true place h other stays = tt
+  trailing_or false place h other stays = stays
+
+  other_passes : (name : Option Text) (waiting : Waiting) (place : ℕ) (word : Text) (h : Held) → IfSome name P
+      → Passes P (subcommand_or_other c name waiting place word h).1
+  other_passes None waiting place word h met =
+      stays_passes P _ (trailing_or (bytes_eq word (45 ∷ 45 ∷ [])) place h (long_or_other c waiting word (long_of word) h) (long_or_other_stays c word waiting (long_of word) h))
+  other_passes (Some name) waiting place word h met = met
+
+  word_passes : (is_trailing : Bool) (waiting : Waiting) (place : ℕ) (word : Text) (h : Held)
+      → (is_trailing ≡ false → IfSome (subcommand_met names waiting word) P) → Passes P (word_met c names is_trailing waiting place word h).1
+  word_passes true waiting place word h met = tt
+  word_passes false waiting place word h met = other_passes (subcommand_met names waiting word) waiting place word h (met refl)
+
+  to_positional_stops : (a : Option Rule) (word : Text) (w : Walk) (h : Held) → StopsAt P w.stopped → StopsAt P (to_positional c a word w h).stopped
+  to_positional_stops None word w h i = i
+  to_positional_stops (Some a) word w h i = tt
+
+  after_step_stops : (word : Text) (w : Walk) (h : Held) (step : Step) → StopsAt P w.stopped → Passes P step
+      → StopsAt P (after_step c word w h step).stopped
+  after_step_stops word w h (next waiting) i p = i
+  after_step_stops word w h (trailing place) i p = i
+  after_step_stops word w h (subcommand name) i p = p
+  after_step_stops word w h value i p = to_positional_stops (arg_by_index c w.position) word w h i
+
+  walked_from_stops : (stop : Option (Text × List Text)) (w : Walk) (word : Text) → StopsAt P w.stopped → StopsAt P stop
+      → (stop ≡ None → w.is_trailing ≡ false → IfSome (subcommand_met names w.waiting word) P) → StopsAt P (walked_from c names stop w word).stopped
+  walked_from_stops None w word i j met =
+      let step = word_met c names w.is_trailing w.waiting w.position word w.held in
+      after_step_stops word w step.0 step.1 i (word_passes w.is_trailing w.waiting w.position word w.held (met refl))
+  walked_from_stops (Some p) w word i j met = j
+
+  -- the walk stops at these, if it meets no others at each word
+  pub fold_stops : (Fine : Walk → List Text → Type 0)
+      → ((w : Walk) (word : Text) (rest : List Text) → Fine w (word ∷ rest) → Meets P names w word × Fine (walked c names w word) rest)
+      → (words : List Text) (w : Walk) → StopsAt P w.stopped → Fine w words → StopsAt P (fold (walked c names) w words).stopped
+  unfolding walked
+  fold_stops Fine each [] w i f = i
+  fold_stops Fine each (word ∷ rest) w i f =
+      let met = each w word rest f in fold_stops Fine each rest (walked c names w word) (walked_from_stops w.stopped w word i i met.0) met.1
 
 no_help : (name : Text) (same : Bool) → bytes_eq name (codes "help") ≡ same
     → (if same && true then kind.DisplayHelp ∷ kind.InvalidSubcommand ∷ [] else []) ≡ [] → name ≢ codes "help"
 no_help name true is e = cc
 no_help name false is e = λ help. let other : true ≡ false = sym ((bytes_eq-Decides name (codes "help")).1 help) ∙ is in cc
 
+abbrev pub IsNotHelp : Text → Type 0
+IsNotHelp name = name ≢ codes "help"
+
 module _ (s : Shape) (names : Names) (offers : s.disable_help_subcommand ≡ false) where
-  trailing_or : (t : Bool) (place : ℕ) (h : Held) (other : Held × Step) → StaysHere other.1 → StaysHere (if t then (h, trailing place) else other).1
-  trailing_or true place h other stays = tt
-  trailing_or false place h other stays = stays
+  turn_not_help : (stop : Option (Text × List Text)) (is_trailing : Bool) (met : Option Text) (word : Text) (h : Held) (later : Kinds)
+      → (if is_some stop then [] else or_else (if is_trailing then [] else other_fault s met word h) later) ≡ []
+      → stop ≡ None → is_trailing ≡ false → IfSome met IsNotHelp
+  turn_not_help (Some p) is_trailing met word h later e going near = cc
+  turn_not_help None true met word h later e going near = cc
+  turn_not_help None false None word h later e going near = tt
+  turn_not_help None false (Some name) word h later e going near =
+      no_help name (bytes_eq name (codes "help")) refl (rw offers at (or_else_nil (other_fault s (Some name) word h) later e).0)
 
-  other_passes_help : (name : Option Text) (waiting : Waiting) (place : ℕ) (word : Text) (h : Held) → other_fault s name word h ≡ []
-      → PassesHelp (subcommand_or_other s.rules name waiting place word h).1
-  other_passes_help None waiting place word h e =
-      stays_passes _ (trailing_or (bytes_eq word (45 ∷ 45 ∷ [])) place h (long_or_other s.rules waiting word (long_of word) h) (long_or_other_stays s.rules word waiting (long_of word) h))
-  other_passes_help (Some name) waiting place word h e = no_help name (bytes_eq name (codes "help")) refl (rw offers at e)
-
-  word_passes_help : (is_trailing : Bool) (waiting : Waiting) (place : ℕ) (word : Text) (h : Held) → word_fault s names is_trailing waiting word h ≡ []
-      → PassesHelp (word_met s.rules names is_trailing waiting place word h).1
-  word_passes_help true waiting place word h e = tt
-  word_passes_help false waiting place word h e = other_passes_help (subcommand_met names waiting word) waiting place word h e
-
-  to_positional_not_help : (a : Option Rule) (word : Text) (w : Walk) (h : Held) → IsNotHelp w.stopped → IsNotHelp (to_positional s.rules a word w h).stopped
-  to_positional_not_help None word w h i = i
-  to_positional_not_help (Some a) word w h i = tt
-
-  after_step_not_help : (word : Text) (w : Walk) (h : Held) (step : Step) → IsNotHelp w.stopped → PassesHelp step
-      → IsNotHelp (after_step s.rules word w h step).stopped
-  after_step_not_help word w h (next waiting) i p = i
-  after_step_not_help word w h (trailing place) i p = i
-  after_step_not_help word w h (subcommand name) i p = p
-  after_step_not_help word w h value i p = to_positional_not_help (arg_by_index s.rules w.position) word w h i
-
-  walked_from_not_help : (stop : Option (Text × List Text)) (w : Walk) (word : Text) (later : Kinds) → IsNotHelp w.stopped → IsNotHelp stop
-      → (if is_some stop then [] else or_else (word_fault s names w.is_trailing w.waiting word w.held) later) ≡ []
-      → IsNotHelp (walked_from s.rules names stop w word).stopped
-  walked_from_not_help None w word later i j e =
-      let met = word_met s.rules names w.is_trailing w.waiting w.position word w.held in
-      after_step_not_help word w met.0 met.1 i (word_passes_help w.is_trailing w.waiting w.position word w.held (or_else_nil _ _ e).0)
-  walked_from_not_help (Some p) w word later i j e = j
-
-  walked_not_help : (w : Walk) (word : Text) → IsNotHelp w.stopped → turn_fault s names w word ≡ [] → IsNotHelp (walked s.rules names w word).stopped
-  unfolding walked
-  walked_not_help w word i e = walked_from_not_help w.stopped w word _ i i e
-
-  fold_not_help : (words : List Text) (w : Walk) → IsNotHelp w.stopped → walk_fault s names w words ≡ [] → IsNotHelp (fold (walked s.rules names) w words).stopped
+  each_not_help : (w : Walk) (word : Text) (rest : List Text) → walk_fault s names w (word ∷ rest) ≡ []
+      → Meets IsNotHelp names w word × (walk_fault s names (walked s.rules names w word) rest ≡ [])
   unfolding walk_fault
-  fold_not_help [] w i e = i
-  fold_not_help (word ∷ rest) w i e =
-      let each = or_else_nil _ _ e in fold_not_help rest (walked s.rules names w word) (walked_not_help w word i each.0) each.1
+  each_not_help w word rest e =
+      let parts = or_else_nil _ _ e in (turn_not_help w.stopped w.is_trailing (subcommand_met names w.waiting word) word w.held _ parts.0, parts.1)
 
   -- the words are without a fault, so the walk over them didn't stop at `help`
-  pub walk_not_help : (h : Held) (words : List Text) → walk_fault s names (walk_from h) words ≡ [] → IsNotHelp (fold (walked s.rules names) (walk_from h) words).stopped
-  walk_not_help h words e = fold_not_help words (walk_from h) tt e
+  pub walk_not_help : (h : Held) (words : List Text) → walk_fault s names (walk_from h) words ≡ []
+      → StopsAt IsNotHelp (fold (walked s.rules names) (walk_from h) words).stopped
+  walk_not_help h words e = fold_stops IsNotHelp s.rules names (λ w rest. walk_fault s names w rest ≡ []) each_not_help words (walk_from h) tt e

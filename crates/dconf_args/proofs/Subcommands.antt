@@ -22,7 +22,7 @@ use Rattle.dconf_args.specs.Asked.{AreWordsOf, AsksToUpdate, HasValue, IsAskedBy
 use Rattle.dconf_args.specs.declared.commands.Command.{Command}
 use Rattle.dconf_args.specs.CommandLine.{command_line, show_line}
 use Rattle.dconf_args.specs.declared.place.Place.{Place}
-use Rattle.dconf_args.proofs.Stops.{IsNotHelp, or_else_nil, walk_not_help}
+use Rattle.dconf_args.proofs.Stops.{IsNotHelp, StopsAt, or_else_nil, walk_not_help}
 use Rattle.dconf_args.proofs.Filled.{OnlyAsks, walk_filled, given_first, is_option}
 
 -- no fault of a level
@@ -70,7 +70,7 @@ check_gives s rows id e w =
 
 -- ---- the subcommands
 
-abbrev line : App
+abbrev pub line : App
 line = built command_line
 
 abbrev IsRunName : Text → Type 0
@@ -81,7 +81,7 @@ IsRunName name =
 abbrev IsCommandName : Text → Type 0
 IsCommandName name = IsRunName name ⊎ (name ≡ codes "update")
 
-abbrev Each : {X : Type 0} → (X → Type 0) → List X → Type 0
+abbrev pub Each : {X : Type 0} → (X → Type 0) → List X → Type 0
 Each P [] = ⊤
 Each P (x ∷ rest) = P x × Each P rest
 
@@ -108,8 +108,8 @@ record IsPlainSub (s : Shape) : Type 0 where
   name : IsCommandName s.name
 
 -- it is one of ours or, after ours, clap's own `help`
-record IsOffered (s : Shape) : Type 0 where
-  alone : s.aliases ≡ []
+pub record IsOffered (s : Shape) : Type 0 where
+  pub alone : s.aliases ≡ []
   ours : s.name ≢ codes "help" → IsPlainSub s
 
 each_found : (P : Shape → Type 0) (test : Shape → Bool) (subs : List Shape) → Each P subs → IfSome (find test subs) (λ s. P s × (test s ≡ true))
@@ -208,7 +208,7 @@ show_is_plain = record {
   name = inl (inr (inr (inr (inr (inr (inr (inr (inr (inr (inr (inr (inl refl))))))))))));
 }
 
-offered_subs : Each IsOffered line.subs
+pub offered_subs : Each IsOffered line.subs
 offered_subs = (
   record { alone = refl; ours = λ _. read_is_plain },
   (
@@ -254,7 +254,7 @@ offered_subs = (
 abbrev pub sub_named : Text → Shape
 sub_named name = unwrap_or (find (λ s. answers_to name (label_of s)) line.subs) show_line.top
 
-answers_alone : (name asked : Text) (aliases : List Text) → aliases ≡ [] → answers_to asked (name, aliases) ≡ true → name ≡ asked
+pub answers_alone : (name asked : Text) (aliases : List Text) → aliases ≡ [] → answers_to asked (name, aliases) ≡ true → name ≡ asked
 answers_alone name asked aliases none e = go (bytes_eq name asked) refl (rw none at e)
   where
     go : (t : Bool) → bytes_eq name asked ≡ t → (t || false) ≡ true → name ≡ asked
@@ -290,7 +290,7 @@ sub_entered asked words (Some s) other found offered fault met =
       given = λ id other wanted. given_first id rows other filled (check_gives s rows id checked (subst (λ (x : Shape). wants x.rules id ≡ true) same wanted));
     }
 
-entered_gives : (stop : Option (Text × List Text)) → IsNotHelp stop → entered_fault line stop ≡ [] → is_some (entered line stop) ≡ true → Enters (entered line stop)
+entered_gives : (stop : Option (Text × List Text)) → StopsAt IsNotHelp stop → entered_fault line stop ≡ [] → is_some (entered line stop) ≡ true → Enters (entered line stop)
 entered_gives None other fault met = cc
 entered_gives (Some p) other fault met =
     sub_entered p.0 p.1 _ other refl (each_found IsOffered (λ s. answers_to p.0 (label_of s)) line.subs offered_subs) fault met
@@ -304,28 +304,10 @@ enters words e =
     let args = argument_words command_line words in
     let stop = stop_after line.top.rules (names_of line) args in
     let level = no_fault line.top (names_of line) args (is_some (entered line stop)) (entered_fault line stop) e in
-    let other : IsNotHelp stop = walk_not_help line.top (names_of line) refl nothing_held args level.0 in
+    let other : StopsAt IsNotHelp stop = walk_not_help line.top (names_of line) refl nothing_held args level.0 in
     entered_gives stop other level.1 (met_below (rows_after line.top.rules (names_of line) args) (is_some (entered line stop)) level.2)
 
--- ---- a parse by a command that is built as the command line
-
-simple_line : is_simple command_line ≡ true
-simple_line = refl
-
-free_line : is_simple_and_free command_line ≡ true
-free_line = refl
-
-module _ (a : App) (words : List Text) (r : Result ArgMatches Error) (same : a ≡ command_line) (kinds : is_simple_and_free a ≡ true → FailsBy (fault_of a words) r) where
-  pub fails : FailsBy (fault_of command_line words) r
-  fails = subst (λ (x : App). FailsBy (fault_of x words) r) same (kinds (ap is_simple_and_free same ∙ free_line))
-
-pub parsed : (a : App) (words : List Text) (r : Result ArgMatches Error) → a ≡ command_line → (is_simple_and_free a ≡ true → FailsBy (fault_of a words) r)
-    → IfOk r (HasMatchesOf a words) → IfOk r (IsParsedBy words)
-parsed a words (Err e) same kinds matches = tt
-parsed a words (Ok m) same kinds matches = record {
-  sound = fails a words (Ok m) same kinds;
-  met = (matches (ap is_simple same ∙ simple_line)).1 ∙ ap (λ (x : App). subcommand_of x words) same;
-}
+-- ---- what a parse gave
 
 name_by_rows : (m : ArgMatches) → subcommand_name_of m ≡ option_map (λ p. p.0) (subcommand_rows_of m)
 name_by_rows m = elim (out-ArgMatches m).subcommand as (λ o. option_map (λ b. (out-SubCommand (box_value b)).name.now) o ≡ option_map (λ p. p.0) (subcommand_rows o)) [

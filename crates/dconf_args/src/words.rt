@@ -30,7 +30,7 @@ fn parsed<'a>(alloc: Global, words: &'a [String]) -> Result<ArgMatches<'a>, clap
     ensures ok { IfOk result (IsParsedBy (map string_bytes words.now)) }
     ensures err { FailsBy (fault_of command_line (map string_bytes words.now)) result }
 {
-    dconfdb(alloc)?.try_get_matches_from(words)
+    dconfdb(alloc, words)?.try_get_matches_from(words)
 }
 
 /// What was asked for, with its values.

@@ -1,16 +1,17 @@
-use Rattle.std.proofs.Common.{◌≡◌, ◌∙◌, ap, true}
+use Rattle.std.proofs.Common.{◌≡◌, ◌∙◌, ap, map, string_bytes, true}
 use Rattle.std.proofs.lemmas.Result.{IfOk-weaker}
 use Rattle.std.proofs.lemmas.Bool.{and_parts}
-use Rattle.clap.specs.Words.{App, app_of, new_app, with_subcommand}
-use Rattle.dconf_args.specs.Taken.{with_words}
-use Rattle.dconf_args.proofs.Lines.{first_not, plain_words}
+use Rattle.clap.specs.Words.{App, Shape, app_of, new_app, with_subcommand}
+use Rattle.dconf_args.specs.Taken.{told_of, with_words}
+use Rattle.dconf_args.proofs.Lines.{first_not, only_rules}
 use Rattle.dconf_args.proofs.command_line.with.Goals as goal
 
 pub returns : goal.returns
 returns c =
-    let made : App = with_words (new_app c.args.command.now.name.now) c.args.command.now.words.now in
-    let is_made : app_of c.in_ok-named.field-0 ≡ made = c.in_ok-named.ensures in
-    let plain : made.top.is_plain ≡ true = plain_words (new_app c.args.command.now.name.now) c.args.command.now.words.now in
+    let start : App = new_app c.args.command.now.name.now in
+    let whole : App = with_words start c.args.command.now.words.now in
+    let made : (app_of c.in_ok-made.field-0).top ≡ told_of (map string_bytes c.args.given.now) whole.top = c.in_ok-made.ensures in
+    let plain : whole.top.is_plain ≡ true = ap (λ (s : Shape). s.is_plain) (only_rules start c.args.command.now.words.now) in
     IfOk-weaker c.subcommand.result _ _ (λ r h.
-    h.shape (first_not _ _ (and_parts _ _ (and_parts _ _ (ap (λ (a : App). a.top.is_plain) is_made ∙ plain)).1).1)
-    ∙ ap (λ (a : App). with_subcommand (app_of c.args.line) a.top) is_made) c.subcommand.ensures
+    h.shape (first_not _ _ (and_parts _ _ (and_parts _ _ (ap (λ (s : Shape). s.is_plain) made ∙ plain)).1).1)
+    ∙ ap (with_subcommand (app_of c.args.line)) made) c.subcommand.ensures
